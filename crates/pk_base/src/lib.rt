@@ -1,13 +1,23 @@
-// A library with one function.
+//! What every crate of the dissector stands on: shared bytes, spans, numbers in bytes, the reasons for damage in a
+//! capture file, and the limits.
 #![tactic(auto)]
 
-ghost use Rattle.std.specs.Prelude.{◌≡◌};
-ghost use Rattle.pk_base.specs.Echo.{echo_of};
+mod endian;
+mod found;
+mod limits;
+mod memory;
+mod number_list;
+mod octets;
+mod span;
 
-// The `ensures` clause is the contract: what `echo` returns is `echo_of` of its argument, a definition
-// in `specs/Echo.antt`, which a caller's clause can cite too.
-pub fn echo(x: usize) -> usize
-    ensures { result ≡ echo_of x }
-{
-    x
-}
+pub use endian::{u16_at, u32_at};
+pub use found::{Found, Reason};
+pub use limits::{
+    BODY_LIMIT, CAPTURED_LIMIT, CHUNK_LINE_LIMIT, DATAGRAM_LIMIT, FILE_LIMIT, FILTER_DEPTH_LIMIT,
+    FILTER_LIMIT, GENERATED_LIMIT, HTTP_FIELD_LIMIT, HTTP_HEAD_LIMIT, LABEL_LIMIT, LAYER_LIMIT,
+    NAME_LIMIT, TRAILER_LIMIT, WINDOW, file_limit,
+};
+pub use memory::NoMemory;
+pub use number_list::Numbers;
+pub use octets::Octets;
+pub use span::Span;

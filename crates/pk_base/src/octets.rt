@@ -1,0 +1,69 @@
+ghost use Rattle.std.specs.Prelude.{◌≡◌, ◌≤◌, ◌^◌, ◌<◌, length, slice_range, IfOk};
+
+use crate::memory::NoMemory;
+use bytes::Bytes;
+use std::alloc::Global;
+use std::marker::Model;
+
+/// A list of bytes. Its clones and parts share one block of memory.
+#[derive(Drop)]
+pub struct Octets {
+    shared: Bytes,
+}
+
+impl Model for Octets {
+    ghost use Rattle.std.specs.Prelude.{ℕ, List};
+
+    ghost Value = { List ℕ };
+
+    ghost view = { λ o. o.shared };
+}
+
+impl Octets {
+    /// Takes over the bytes of a vector, which it doesn't copy.
+    pub fn from_vec(bytes: Vec<u8>) -> Result<Octets, NoMemory>
+        ensures { IfOk result (λ octets. octets ≡ bytes.items) }
+    {
+        Ok(Octets {
+            shared: Bytes::from_vec(bytes)?,
+        })
+    }
+
+    /// Makes a list of its own from bytes.
+    pub fn copy(alloc: Global, bytes: &[u8]) -> Result<Octets, NoMemory>
+        ensures { IfOk result (λ octets. octets ≡ bytes.now) }
+    {
+        Ok(Octets {
+            shared: Bytes::copy_from_slice(alloc, bytes)?,
+        })
+    }
+
+    /// The bytes from place `from` up to and without `to`.
+    pub fn part(&self, from: usize, to: usize) -> Result<Octets, NoMemory>
+        requires order { from ≤ to }
+        requires inside { to ≤ length self.now }
+        ensures { IfOk result (λ octets. octets ≡ slice_range self.now from to) }
+    {
+        Ok(Octets {
+            shared: self.shared.slice(from..to)?,
+        })
+    }
+
+    pub fn bytes(&self) -> &[u8]
+        ensures { result.now ≡ self.now }
+    {
+        self.shared.as_slice()
+    }
+}
+
+impl Clone for Octets {
+    ghost use Rattle.std.specs.Prelude.{◌≡◌};
+
+    ghost is_clone = { λ octets copy. copy ≡ octets };
+
+    fn clone(&self) -> Result<Octets, std::alloc::AllocError> {
+        Ok(Octets {
+            shared: self.shared.clone()?,
+        })
+    }
+}

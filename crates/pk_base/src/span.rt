@@ -1,0 +1,7 @@
+/// A run of bytes in one of a tree's buffers: the buffer's number, the first byte's place, and how many bytes.
+#[derive(Clone, Copy, Debug, PartialEq, Eq)]
+pub struct Span {
+    pub buffer: u32,
+    pub start: u32,
+    pub len: u32,
+}
