@@ -4,8 +4,13 @@
 //! that it came only where a count rose.
 #![tactic(auto)]
 
+mod calls;
 mod capture;
+mod memory_sink;
 mod sink;
+mod sure_sink;
 
 pub use capture::{Capture, Failed};
+pub use memory_sink::MemorySink;
 pub use sink::{Sink, SinkFault, write_whole};
+pub use sure_sink::SureSink;
