@@ -7,10 +7,13 @@
 mod calls;
 mod capture;
 mod memory_sink;
+mod moves;
 mod sink;
+mod sure_capture;
 mod sure_sink;
 
 pub use capture::{Capture, Failed};
 pub use memory_sink::MemorySink;
 pub use sink::{Sink, SinkFault, write_whole};
+pub use sure_capture::SureCapture;
 pub use sure_sink::SureSink;
