@@ -1,0 +1,19 @@
+-- Digits in a radix, the highest first, and the number that they write.
+use Rattle.std.specs.Prelude.{ℕ, ◌^◌, Bool, ◌&&◌, nat_lt, if◌then◌else◌, List, length, Option, Some, None}
+use Rattle.std.specs.List.{list_all}
+use Rattle.std.specs.Char.{is_digit}
+use Rattle.std.specs.Str.Parse.{digits_value}
+use Rattle.pk_text.specs.declared.number.Wide.{Wide}
+use Rattle.pk_text.specs.declared.number.Wide.TheVariants.{Fits, Beyond}
+
+-- a number as far as it fits 64 bits
+abbrev pub wide : ℕ → Wide
+wide n = if nat_lt n (2 ^ 64) then Fits n else Beyond
+
+-- each byte is a digit
+abbrev pub are_digits : ℕ → List ℕ → Bool
+are_digits radix ds = list_all (λ c. is_digit c radix) ds
+
+-- the number that a text of digits writes, which has at least one and nothing else
+unfoldable pub digits_read : ℕ → List ℕ → Option Wide
+digits_read radix ds = if nat_lt 0 (length ds) && are_digits radix ds then Some (wide (digits_value radix ds)) else None

@@ -1,0 +1,8 @@
+//! The texts of single values, and the readers of such texts: numbers, times, Ethernet, IPv4 and IPv6 addresses,
+//! and bytes.
+#![tactic(auto)]
+
+mod digits;
+mod number;
+
+pub use number::{Wide, number_text, read_number};
