@@ -6,6 +6,7 @@
 
 mod calls;
 mod capture;
+mod memory_capture;
 mod memory_sink;
 mod moves;
 mod sink;
@@ -13,6 +14,7 @@ mod sure_capture;
 mod sure_sink;
 
 pub use capture::{Capture, Failed};
+pub use memory_capture::{MemoryCapture, NamedFile};
 pub use memory_sink::MemorySink;
 pub use sink::{Sink, SinkFault, write_whole};
 pub use sure_capture::SureCapture;
