@@ -1,5 +1,5 @@
 // A capture over the files of the system.
-ghost use Rattle.std.specs.Prelude.{◌≡◌, [], None, false};
+ghost use Rattle.std.specs.Prelude.{◌≡◌, ◌<◌, ◌≤◌, [], None, false, length, string_bytes, is_err, IsSome, IfOk, OnOk, OnErr};
 
 use crate::capture::{Capture, Failed};
 use std::fs;
@@ -20,7 +20,13 @@ pub struct FileCapture<'a, R: Files> {
 
 impl<'a, R: Files> FileCapture<'a, R> {
     /// A capture that has begun no file.
-    pub fn new(rt: &'a R) -> Self {
+    pub fn new(rt: &'a R) -> Self
+        ensures asked { ⟦<FileCapture<'a, R> as Capture>⟧.asked result ≡ [] }
+        ensures refused { ⟦<FileCapture<'a, R> as Capture>⟧.refused result ≡ false }
+        ensures begun { ⟦<FileCapture<'a, R> as Capture>⟧.begun result ≡ 0 }
+        ensures missed { ⟦<FileCapture<'a, R> as Capture>⟧.missed result ≡ 0 }
+        ensures faults { ⟦<FileCapture<'a, R> as Capture>⟧.faults result ≡ 0 }
+    {
         FileCapture {
             rt,
             file: None,
@@ -35,6 +41,8 @@ impl<'a, R: Files> FileCapture<'a, R> {
 
 impl<'a, R: Files> Capture for FileCapture<'a, R> {
     ghost use Rattle.pk_outside.specs.InMemory.{asked_bytes};
+    ghost use Rattle.pk_outside.specs.Outside.{counted};
+    ghost use Rattle.pk_outside.specs.Streams.{ReadsFile};
 
     ghost file = { λ _ _. None };
 
@@ -50,7 +58,19 @@ impl<'a, R: Files> Capture for FileCapture<'a, R> {
 
     ghost faults = { λ s. s.faults };
 
-    fn begin(&mut self, name: String) -> Result<(), Failed> {
+    fn begin(&mut self, name: String) -> Result<(), Failed>
+        ensures asked { asked_bytes self.new.asked ≡ string_bytes name }
+        ensures refused { self.new.refused ≡ is_err result }
+        ensures faults { self.new.faults ≡ self.old.faults }
+
+        ensures opened { OnOk result (IsSome self.new.file) }
+        ensures begun { OnOk result (self.new.begun ≡ counted self.old.begun) }
+        ensures not_missed { OnOk result (self.new.missed ≡ self.old.missed) }
+
+        ensures kept { OnErr result (self.new.file ≡ self.old.file) }
+        ensures not_begun { OnErr result (self.new.begun ≡ self.old.begun) }
+        ensures missed { OnErr result (self.new.missed ≡ counted self.old.missed) }
+    {
         let opened = fs::open(self.rt, name.as_str());
         self.asked = Some(name);
         match opened {
@@ -68,7 +88,16 @@ impl<'a, R: Files> Capture for FileCapture<'a, R> {
         }
     }
 
-    fn read(&mut self, to: &mut [u8]) -> Result<usize, Failed> {
+    fn read(&mut self, to: &mut [u8]) -> Result<usize, Failed>
+        ensures given { ReadsFile R.File.remaining self.old.file self.new.file result to.new }
+        ensures within { IfOk result (λ n. n ≤ length to.old) }
+        ensures asked { self.new.asked ≡ self.old.asked }
+        ensures refused { self.new.refused ≡ self.old.refused }
+        ensures begun { self.new.begun ≡ self.old.begun }
+        ensures missed { self.new.missed ≡ self.old.missed }
+        ensures no_fault { OnOk result (self.new.faults ≡ self.old.faults) }
+        ensures fault { OnErr result (self.new.faults ≡ counted self.old.faults) }
+    {
         let Some(file) = &mut self.file else {
             return Ok(0);
         };
