@@ -1,5 +1,5 @@
 -- What contracts see of the sinks and captures in memory.
-use Rattle.std.specs.Prelude.{ℕ, Bool, List, [], ◌==◌, Option, None, Some, String, string_bytes}
+use Rattle.std.specs.Prelude.{ℕ, Bool, List, [], ◌==◌, Option, None, Some, String, string_bytes, bytes_eq, option_map, find}
 use Rattle.std.specs.List.{list_any}
 
 -- whether the call of this number is one of those that are to fail
@@ -30,3 +30,21 @@ pub record SureCaptureState : Type 0 where
 abbrev pub asked_bytes : {A : Type 0} → Option (String A) → List ℕ
 asked_bytes None = []
 asked_bytes (Some name) = string_bytes name
+
+-- the bytes of the first file of this name
+abbrev pub file_named : List (List ℕ × List ℕ) → List ℕ → Option (List ℕ)
+file_named files name = option_map (λ file. file.1) (find (λ file. bytes_eq file.0 name) files)
+
+-- a capture in memory: its files, each a name and its bytes, the numbers of the calls that are to fail,
+-- how many bytes a read gives at most, how many calls there were, and what the calls left
+pub record MemoryCaptureState : Type 0 where
+  pub files : List (List ℕ × List ℕ)
+  pub failing : List ℕ
+  pub step : ℕ
+  pub calls : ℕ
+  pub left : List ℕ
+  pub asked : List ℕ
+  pub refused : Bool
+  pub begun : ℕ
+  pub missed : ℕ
+  pub faults : ℕ

@@ -6,14 +6,20 @@
 
 mod calls;
 mod capture;
+mod file_capture;
+mod memory_capture;
 mod memory_sink;
 mod moves;
 mod sink;
+mod std_sink;
 mod sure_capture;
 mod sure_sink;
 
 pub use capture::{Capture, Failed};
+pub use file_capture::FileCapture;
+pub use memory_capture::{MemoryCapture, NamedFile};
 pub use memory_sink::MemorySink;
 pub use sink::{Sink, SinkFault, write_whole};
+pub use std_sink::StdSink;
 pub use sure_capture::SureCapture;
 pub use sure_sink::SureSink;
