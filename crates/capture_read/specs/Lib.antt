@@ -1,0 +1,4 @@
+pub mod Capture
+pub mod Ending
+pub mod NextFrame
+pub mod State

@@ -1,0 +1,21 @@
+//! Reads a capture file: its frames in order, and how the file ends. Files in the pcap format are read. Any other file
+//! of at least four bytes is damaged at its first byte, by `UnknownMagic`.
+#![tactic(auto)]
+
+mod ending;
+mod frame;
+mod frame_list;
+mod held_frames;
+mod held_part;
+mod next_frame;
+mod reading;
+mod state;
+#[cfg(test)]
+mod tests;
+
+pub use ending::{Damage, Ending};
+pub use frame::Frame;
+pub use frame_list::FrameList;
+pub use held_frames::HeldFrames;
+pub use next_frame::NextFrame;
+pub use reading::frames;

@@ -1,0 +1,25 @@
+ghost use Rattle.std.specs.Prelude.{◌≡◌, IfOk};
+ghost use Rattle.capture_read.specs.Capture.{capture_of};
+
+use crate::ending::Ending;
+use crate::frame_list::FrameList;
+use crate::held_frames::HeldFrames;
+use crate::held_part::telling_bytes;
+use crate::next_frame::NextFrame;
+use pk_base::{NoMemory, Octets};
+use std::alloc::Global;
+
+/// The frames of a capture file in order, and how the file ends. The bytes are copied once, and all frames share them.
+pub fn frames(alloc: Global, bytes: &[u8]) -> Result<(FrameList, Ending), NoMemory>
+    ensures frames { IfOk result (λ r. r.0 ≡ (capture_of bytes.now).frames) }
+    ensures ending { IfOk result (λ r. r.1 ≡ (capture_of bytes.now).ending) }
+{
+    let mut held = HeldFrames::new(Octets::copy(alloc, telling_bytes(bytes))?);
+    let mut list = Vec::new(alloc);
+    loop {
+        match held.next_frame()? {
+            NextFrame::Frame(frame) => list.push(frame)?,
+            NextFrame::End(ending) => return Ok((FrameList::from_vec(list), ending)),
+        }
+    }
+}
