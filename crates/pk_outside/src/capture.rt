@@ -60,3 +60,44 @@ pub trait Capture {
         ensures left_err { OnErr result (left self.new ≡ left self.old) }
         ensures fault { OnErr result (faults self.new ≡ counted (faults self.old)) };
 }
+
+#[cfg(test)]
+mod tests {
+    use super::*;
+    use crate::{MemoryCapture, NamedFile, SureCapture};
+    use std::test::Fail;
+
+    #[test]
+    fn calls_are_counted_together_and_the_named_ones_fail(rt: HostRuntime) -> Result<(), Fail> {
+        let alloc = rt.alloc();
+        let mut files = Vec::new(alloc);
+        for bytes in [b"abcde", b"later"] {
+            let name = String::from_str(alloc, "f")?;
+            files.push(NamedFile::new(name, Vec::from_slice(alloc, bytes)?))?;
+        }
+        let mut capture = MemoryCapture::new(files, Vec::from_slice(alloc, &[3])?, 2);
+        let mut room = *b"........";
+        assert_eq!(rt; capture.begin(String::from_str(alloc, "f")?), Ok(()));
+        assert_eq!(rt; capture.read(&mut room), Ok(2));
+        assert_eq!(rt; capture.read(&mut room), Err(Failed));
+        assert_eq!(rt; capture.read(&mut room[2..]), Ok(2));
+        assert_eq!(rt; capture.read(&mut room[4..]), Ok(1));
+        assert_eq!(rt; capture.read(&mut room), Ok(0));
+        assert_eq!(rt; room.as_slice(), b"abcde...".as_slice());
+        assert_eq!(rt; capture.begin(String::from_str(alloc, "g")?), Err(Failed));
+        Ok(())
+    }
+
+    #[test]
+    fn a_sure_capture_begins_with_any_name(rt: HostRuntime) -> Result<(), Fail> {
+        let alloc = rt.alloc();
+        let mut capture = SureCapture::new(Vec::from_slice(alloc, b"abcde")?);
+        let mut room = *b"........";
+        assert_eq!(rt; capture.read(&mut room), Ok(0));
+        assert_eq!(rt; capture.begin(String::from_str(alloc, "g")?), Ok(()));
+        assert_eq!(rt; capture.read(&mut room[..3]), Ok(3));
+        assert_eq!(rt; capture.read(&mut room[3..]), Ok(2));
+        assert_eq!(rt; room.as_slice(), b"abcde...".as_slice());
+        Ok(())
+    }
+}

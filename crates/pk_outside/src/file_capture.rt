@@ -110,3 +110,43 @@ impl<'a, R: Files> Capture for FileCapture<'a, R> {
         }
     }
 }
+
+#[cfg(test)]
+mod tests {
+    use super::*;
+    use std::test::Fail;
+
+    #[test]
+    fn a_file_is_read_to_its_end(rt: HostRuntime) -> Result<(), Fail> {
+        let mut files = FileCapture::new(&rt);
+        // The tests run in the crate's folder, or in one that holds what is in data/.
+        for name in ["data/letters.txt", "letters.txt"] {
+            if files.begin(String::from_str(rt.alloc(), name)?).is_ok() {
+                break;
+            }
+        }
+        let mut room = [0; 8];
+        assert_eq!(rt; files.read(&mut room), Ok(8));
+        assert_eq!(rt; room.as_slice(), b"twelve b".as_slice());
+        assert_eq!(rt; files.read(&mut room), Ok(4));
+        assert_eq!(rt; room.as_slice(), b"ytesve b".as_slice());
+        assert_eq!(rt; files.read(&mut room), Ok(0));
+        assert_eq!(rt; files.faults, 0);
+        Ok(())
+    }
+
+    #[test]
+    fn a_missing_file_is_missed_and_a_directory_does_not_read(rt: HostRuntime) -> Result<(), Fail> {
+        let mut files = FileCapture::new(&rt);
+        let missing = String::from_str(rt.alloc(), "/no/such/file")?;
+        assert_eq!(rt; files.begin(missing), Err(Failed));
+        let mut room = [0; 8];
+        assert_eq!(rt; files.read(&mut room), Ok(0));
+
+        let folder = String::from_str(rt.alloc(), "/")?;
+        assert_eq!(rt; files.begin(folder), Ok(()));
+        assert_eq!(rt; files.read(&mut room), Err(Failed));
+        assert_eq!(rt; (files.begun, files.missed, files.faults), (1, 1, 1));
+        Ok(())
+    }
+}
