@@ -69,31 +69,3 @@ pub fn write_whole<S: Sink>(sink: &mut S, from: &[u8]) -> Result<(), SinkFault>
     }
     Ok(())
 }
-
-#[cfg(test)]
-mod tests {
-    use super::*;
-    use crate::{MemorySink, SureSink};
-    use std::test::Fail;
-
-    #[test]
-    fn a_piece_is_one_write(rt: HostRuntime) -> Result<(), Fail> {
-        let alloc = rt.alloc();
-        let mut sink = MemorySink::new(alloc, Vec::from_slice(alloc, &[2])?);
-        assert_eq!(rt; write_whole(&mut sink, b"first\n"), Ok(()));
-        assert_eq!(rt; write_whole(&mut sink, b"second\n"), Err(SinkFault::Failed));
-        assert_eq!(rt; write_whole(&mut sink, b"third\n"), Ok(()));
-        assert_eq!(rt; sink.bytes(), b"first\nthird\n".as_slice());
-        Ok(())
-    }
-
-    #[test]
-    fn a_sure_sink_takes_all(rt: HostRuntime) -> Result<(), Fail> {
-        let mut sink = SureSink::new(rt.alloc());
-        assert_eq!(rt; write_whole(&mut sink, b"first\n"), Ok(()));
-        assert_eq!(rt; write_whole(&mut sink, b""), Ok(()));
-        assert_eq!(rt; write_whole(&mut sink, b"second\n"), Ok(()));
-        assert_eq!(rt; sink.bytes(), b"first\nsecond\n".as_slice());
-        Ok(())
-    }
-}

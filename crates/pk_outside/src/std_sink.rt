@@ -55,27 +55,3 @@ impl<W: Write + Drop> Sink for StdSink<W> {
         }
     }
 }
-
-#[cfg(test)]
-mod tests {
-    use super::*;
-    use crate::sink::write_whole;
-    use std::fs;
-    use std::test::Fail;
-
-    #[test]
-    fn a_full_device_fails(rt: HostRuntime) -> Result<(), Fail> {
-        let mut full = StdSink::new(fs::create(&rt, "/dev/full")?);
-        assert_eq!(rt; write_whole(&mut full, b"bytes"), Err(SinkFault::Failed));
-        assert_eq!(rt; full.faults, 1);
-        Ok(())
-    }
-
-    #[test]
-    fn a_good_stream_takes_all(rt: HostRuntime) -> Result<(), Fail> {
-        let mut out = StdSink::new(rt.stdout());
-        assert_eq!(rt; write_whole(&mut out, b"a good stream\n"), Ok(()));
-        assert_eq!(rt; out.faults, 0);
-        Ok(())
-    }
-}
