@@ -1,5 +1,5 @@
 // A capture over the files of the system.
-ghost use Rattle.std.specs.Prelude.{◌≡◌, ◌<◌, ◌≤◌, [], None, false, length, string_bytes, is_err, IsSome, IfOk, OnOk, OnErr};
+ghost use Rattle.std.specs.Prelude.{◌≡◌, ◌≤◌, [], None, false, length, string_bytes, is_err, IsSome, IfOk, OnOk, OnErr};
 
 use crate::capture::{Capture, Failed};
 use std::fs;

@@ -1,6 +1,8 @@
 // A capture in memory that refuses chosen calls.
-ghost use Rattle.std.specs.Prelude.{◌≡◌, ◌<◌, ◌≤◌, ◌++◌, ◌||◌, ◌↔◌, ℕ, position, bytes_eq, [], Some, None, OnSome, false, length, take, drop, min, string_bytes, IfOk, IfSome, IfNone, IsOk, OnOk, OnErr, is_err, is_none};
-ghost use Rattle.pk_outside.specs.InMemory.{file_named};
+ghost use Rattle.std.specs.Prelude.{◌≡◌, ◌<◌, ◌≤◌, ◌++◌, ◌||◌, ◌↔◌, ℕ, position, bytes_eq, [], Some, None, OnSome, false, length, take, drop, min, string_bytes, IfOk, IfSome, IfNone, OnOk, OnErr, is_err, is_none};
+ghost use Rattle.pk_outside.specs.InMemory.{file_named, is_to_fail};
+ghost use Rattle.pk_outside.specs.Outside.{counted};
+ghost use Rattle.pk_outside.specs.Place.{bytes_from, IsInFiles};
 
 use crate::calls::Calls;
 use crate::capture::{Capture, Failed};
@@ -97,8 +99,6 @@ impl MemoryCapture {
     }
 }
 
-ghost use Rattle.pk_outside.specs.Place.{bytes_of, bytes_from, IsInFiles};
-
 // The index of the first file of this name.
 fn index_of(files: &[NamedFile], name: &str) -> Option<usize>
     ensures within { IfSome result (λ index. index < length files.now) }
@@ -132,9 +132,6 @@ fn read_on(files: &[NamedFile], place: &mut Place, most: usize, to: &mut [u8]) -
 }
 
 impl Capture for MemoryCapture {
-    ghost use Rattle.pk_outside.specs.InMemory.{is_to_fail, file_named};
-    ghost use Rattle.pk_outside.specs.Outside.{counted};
-
     ghost file = { λ s name. file_named s.files name };
 
     ghost left = { λ s. Some s.left };

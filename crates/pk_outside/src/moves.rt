@@ -1,5 +1,5 @@
 // How the captures in memory fill a reader's room.
-ghost use Rattle.std.specs.Prelude.{◌≡◌, ◌++◌, ◌≤◌, length, take, drop, min};
+ghost use Rattle.std.specs.Prelude.{◌≡◌, ◌++◌, length, take, drop, min};
 
 /// Moves bytes of `from` to the front of `to`, as many as both hold and at most `most`.
 pub(crate) fn move_front(from: &[u8], most: usize, to: &mut [u8]) -> usize

@@ -1,5 +1,5 @@
 // A capture in memory that fails nowhere.
-ghost use Rattle.std.specs.Prelude.{◌≡◌, ◌<◌, ◌≤◌, ◌++◌, [], Some, false, length, take, drop, min, string_bytes, IfOk, IsOk, OnOk};
+ghost use Rattle.std.specs.Prelude.{◌≡◌, ◌≤◌, ◌++◌, [], Some, false, length, take, drop, min, string_bytes, IfOk, IsOk};
 
 use crate::capture::{Capture, Failed};
 use crate::moves::move_front;

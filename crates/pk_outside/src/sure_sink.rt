@@ -1,5 +1,5 @@
 // A sink in memory that refuses nothing.
-ghost use Rattle.std.specs.Prelude.{◌≡◌, ◌<◌, ◌≤◌, ◌++◌, [], Some, length, take, IfOk, IfErr, OnOk, OnErr, IsErrOf};
+ghost use Rattle.std.specs.Prelude.{◌≡◌, ◌≤◌, ◌++◌, [], Some, length, IfOk, IfErr, OnOk, OnErr};
 
 use crate::sink::{Sink, SinkFault};
 use std::alloc::Global;
@@ -40,8 +40,8 @@ impl SureSink {
 }
 
 impl Sink for SureSink {
-    ghost use Rattle.std.specs.Io.KnownBytes.{Appends, Keeps};
-    ghost use Rattle.pk_outside.specs.Outside.{Rose, CountsFault, counted};
+    ghost use Rattle.std.specs.Io.KnownBytes.{};
+    ghost use Rattle.pk_outside.specs.Outside.{counted};
 
     ghost written = { λ s. Some s.taken };
 
