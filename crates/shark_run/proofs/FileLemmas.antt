@@ -1,5 +1,5 @@
 -- Bytes that were read are a front of those that were left.
-use Rattle.std.proofs.Common.{◌≡◌, ℕ, List, ◌++◌, length, take, Option, None, Some, sym}
+use Rattle.std.proofs.Common.{◌≡◌, ℕ, List, length, take, Option, None, Some, sym}
 use Rattle.std.specs.Prelude.{IfSome}
 use Rattle.std.specs.Io.KnownBytes.{Consumes}
 use Rattle.std.proofs.lemmas.List.{take_at}

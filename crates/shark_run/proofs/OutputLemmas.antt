@@ -1,9 +1,9 @@
 -- The lines of the frames so far, and those that are still to come.
-use Rattle.std.proofs.Common.{◌≡◌, ℕ, List, [], ◌∷◌, ◌++◌, Option, refl, sym, ap, ◌∙◌, subst, append_assoc, append-nil}
+use Rattle.std.proofs.Common.{◌≡◌, ℕ, List, [], ◌∷◌, ◌++◌, Option, refl, sym, ◌∙◌, subst, append_assoc, append-nil}
 use Rattle.std.specs.Io.KnownBytes.{Appends}
 use Rattle.std.proofs.KnownBytes.{Appends-nil, Appends-trans}
 use Rattle.pk_outside.specs.Outside.{AppendsPart}
-use Rattle.pk_outside.proofs.Parts.{part_none, part_whole, part_after, part_more}
+use Rattle.pk_outside.proofs.Parts.{part_after, part_more}
 use Rattle.capture_read.specs.Capture.{Reading, ended, with_frame}
 use Rattle.capture_read.specs.declared.frame.Frame.{Frame}
 use Rattle.capture_read.specs.declared.ending.Ending.{Ending}

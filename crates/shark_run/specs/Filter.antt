@@ -1,6 +1,6 @@
 -- The display filters that are read so far: `eth.type == N`, and filters of separators alone, which are as none.
 -- The tokens are those of the filter language: separators may stand between any two, and the longest token counts.
-use Rattle.std.specs.Prelude.{ℕ, ◌==◌, ◌≤◌, ◌-◌, ◌^◌, nat_lt, nat_le, suc, Bool, true, false, ◌&&◌, ◌||◌, not, List, [], ◌∷◌, length, take, drop, codes, Option, Some, None, option_and_then, if◌then◌else◌}
+use Rattle.std.specs.Prelude.{ℕ, ◌==◌, ◌^◌, nat_lt, suc, Bool, true, false, ◌||◌, List, [], ◌∷◌, length, take, drop, codes, Option, Some, None, option_and_then, if◌then◌else◌}
 use Rattle.std.specs.Char.{is_ascii_alphanumeric}
 use Rattle.std.specs.Str.{bytes_eq}
 use Rattle.pk_text.specs.Number.{number_of}

@@ -1,5 +1,5 @@
 -- What a list of words asks for: `-r NAME`, then `-Y FILTER` or nothing, then `-T fields`, then `-e NAME` once or more.
-use Rattle.std.specs.Prelude.{◌≡◌, ℕ, String, string_bytes, map, nat_lt, Bool, true, false, ◌&&◌, not, List, [], ◌∷◌, length, codes, Option, Some, None, Result, Ok, Err, option_map, option_and_then, if◌then◌else◌}
+use Rattle.std.specs.Prelude.{◌≡◌, ℕ, String, string_bytes, map, nat_lt, ◌&&◌, List, [], ◌∷◌, length, codes, Option, Some, None, Result, Ok, Err, option_map, option_and_then, if◌then◌else◌}
 use Rattle.std.specs.Str.{bytes_eq}
 use Rattle.shark_run.specs.declared.plan.Field.{Field}
 use Rattle.shark_run.specs.declared.plan.Field.TheVariants.{FrameNumber, EtherType}

@@ -1,4 +1,4 @@
-use Rattle.std.proofs.Common.{◌≡◌, ◌+◌, suc, length, arith}
+use Rattle.std.proofs.Common.{◌≡◌, suc, length, arith}
 use Rattle.pk_base.specs.Limits.{file_limit}
 use Rattle.shark_run.proofs.FileLemmas.{front_of_left}
 use Rattle.shark_run.proofs.file.read_rest.Goals as goal

@@ -1,4 +1,3 @@
-use Rattle.std.proofs.Common.{◌≡◌, take}
 use Rattle.shark_run.proofs.FilterLemmas.{word_is_utf8}
 use Rattle.shark_run.proofs.filter.last_number.Goals as goal
 

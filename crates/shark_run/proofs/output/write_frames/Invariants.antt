@@ -1,4 +1,4 @@
-use Rattle.std.proofs.Common.{◌≤◌, ℕ, length}
+use Rattle.std.proofs.Common.{◌≤◌, length}
 use Rattle.shark_run.proofs.OutputLemmas.{IsOnTheWay}
 use Rattle.shark_run.proofs.output.write_frames.Given as goal
 
