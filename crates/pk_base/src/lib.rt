@@ -2,6 +2,7 @@
 //! capture file, and the limits.
 #![tactic(auto)]
 
+mod bits;
 mod endian;
 mod found;
 mod limits;
@@ -10,6 +11,7 @@ mod number_list;
 mod octets;
 mod span;
 
+pub use bits::be_bits;
 pub use endian::{u16_at, u32_at};
 pub use found::{Found, Reason};
 pub use limits::{

@@ -1,0 +1,45 @@
+ghost use Rattle.std.specs.Prelude.{◌≡◌, ◌+◌, ◌*◌, ◌/◌, ◌%◌, ◌^◌, ◌<◌, ◌≤◌, length, slice_index};
+ghost use Rattle.pk_base.specs.Bits.{number_of_bits, bit_of};
+
+/// The number that `width` bits from `first_bit` on spell, the most significant bit of a byte first.
+pub fn be_bits(bytes: &[u8], first_bit: usize, width: u32) -> u64
+    requires some { 1 ≤ width }
+    requires most { width ≤ 64 }
+    requires inside { first_bit + width ≤ 8 * length bytes.now }
+    ensures value { result ≡ number_of_bits bytes.now first_bit width }
+    ensures bound { result < 2 ^ width }
+{
+    let first = first_bit / 8;
+    let offset = first_bit % 8;
+    let mut number: u64 = 0;
+    let mut done: u32 = 0;
+    while done < width {
+        let place = offset + done as usize;
+        let byte = u64::from(bytes[first + place / 8]);
+        if place % 8 == 0 && width - done >= 8 {
+            number = 256 * number + byte;
+            done += 8;
+        } else {
+            number = 2 * number + (byte >> (7 - place % 8)) % 2;
+            done += 1;
+        }
+    }
+    number
+}
+
+#[cfg(test)]
+mod tests {
+    use super::*;
+
+    // The first bytes of an IPv4 header (RFC 791, 3.1): version 4, five words, total length 60, don't fragment.
+    #[test]
+    fn fields_of_an_internet_header_are_read(rt: HostRuntime) {
+        let header = [0x45, 0x00, 0x00, 0x3c, 0x1c, 0x46, 0x40, 0x00];
+        assert_eq!(rt; be_bits(&header, 0, 4), 4);
+        assert_eq!(rt; be_bits(&header, 4, 4), 5);
+        assert_eq!(rt; be_bits(&header, 16, 16), 60);
+        assert_eq!(rt; be_bits(&header, 49, 1), 1);
+        assert_eq!(rt; be_bits(&header, 51, 13), 0);
+        assert_eq!(rt; be_bits(&header, 0, 64), 0x4500_003c_1c46_4000);
+    }
+}
