@@ -40,83 +40,168 @@ fn texts(alloc: Global, words: &[&str]) -> Result<Vec<String>, AllocError> {
     Ok(all)
 }
 
-/// The file under the name `f`, of which a read gives at most a thousand bytes; the calls of these numbers fail.
-fn holding(alloc: Global, file: Vec<u8>, failing: Vec<u64>) -> Result<MemoryCapture, AllocError> {
-    let mut files = Vec::new(alloc);
-    files.push(NamedFile::new(String::from_str(alloc, "f")?, file))?;
-    Ok(MemoryCapture::new(files, failing, 1000))
+/// A run over one file of requests, and what must come of it.
+struct Row {
+    shows: &'static str,
+    words: &'static [&'static str],
+    /// The name under which the capture has its file.
+    name: &'static str,
+    requests: usize,
+    /// The bytes cut from the file's end.
+    cut: usize,
+    /// The calls of the capture that fail, counted from 1, and the writes.
+    failing_calls: &'static [u64],
+    failing_writes: &'static [u64],
+    status: Status,
+    out: &'static str,
 }
 
-/// Runs the words over a file, and says whether the status and the output are those that are wanted.
-fn comes_to(
+static ROWS: [Row; 8] = [
+    Row {
+        shows: "a request is shown with its type",
+        words: &[
+            "-r",
+            "f",
+            "-Y",
+            "eth.type == 0x0806",
+            "-T",
+            "fields",
+            "-e",
+            "frame.number",
+            "-e",
+            "eth.type",
+        ],
+        name: "f",
+        requests: 1,
+        cut: 0,
+        failing_calls: &[],
+        failing_writes: &[],
+        status: Status::Done,
+        out: "1\t2054\n",
+    },
+    Row {
+        shows: "an empty file is damaged",
+        words: &NUMBERS,
+        name: "f",
+        requests: 0,
+        cut: 24,
+        failing_calls: &[],
+        failing_writes: &[],
+        status: Status::Damaged,
+        out: "",
+    },
+    Row {
+        shows: "a header alone has no lines",
+        words: &NUMBERS,
+        name: "f",
+        requests: 0,
+        cut: 0,
+        failing_calls: &[],
+        failing_writes: &[],
+        status: Status::Done,
+        out: "",
+    },
+    Row {
+        shows: "the lines of the frames before a cut record are written",
+        words: &NUMBERS,
+        name: "f",
+        requests: 3,
+        cut: 1,
+        failing_calls: &[],
+        failing_writes: &[],
+        status: Status::Damaged,
+        out: "1\n2\n",
+    },
+    Row {
+        shows: "nothing is written after a write that failed",
+        words: &NUMBERS,
+        name: "f",
+        requests: 3,
+        cut: 0,
+        failing_calls: &[],
+        failing_writes: &[2],
+        status: Status::WriteFault,
+        out: "1\n",
+    },
+    Row {
+        shows: "a file that is not there can't be opened",
+        words: &NUMBERS,
+        name: "g",
+        requests: 1,
+        cut: 0,
+        failing_calls: &[],
+        failing_writes: &[],
+        status: Status::CannotOpen,
+        out: "",
+    },
+    Row {
+        shows: "a failed read is not the end of the file",
+        words: &NUMBERS,
+        name: "f",
+        requests: 30,
+        cut: 0,
+        failing_calls: &[3],
+        failing_writes: &[],
+        status: Status::ReadFault,
+        out: "",
+    },
+    Row {
+        shows: "another type is not shown",
+        words: &[
+            "-r",
+            "f",
+            "-Y",
+            "eth.type==2048",
+            "-T",
+            "fields",
+            "-e",
+            "frame.number",
+        ],
+        name: "f",
+        requests: 2,
+        cut: 0,
+        failing_calls: &[],
+        failing_writes: &[],
+        status: Status::Done,
+        out: "",
+    },
+];
+
+/// Whether a run over a file in memory, of which a read gives at most a thousand bytes, comes to this status and output.
+fn comes_to(alloc: Global, row: &Row, file: Vec<u8>) -> Result<bool, AllocError> {
+    let words = texts(alloc, row.words)?;
+    let mut files = Vec::new(alloc);
+    files.push(NamedFile::new(String::from_str(alloc, row.name)?, file))?;
+    let mut capture = MemoryCapture::new(files, Vec::from_slice(alloc, row.failing_calls)?, 1000);
+    let mut out = MemorySink::new(alloc, Vec::from_slice(alloc, row.failing_writes)?);
+    let mut err = MemorySink::new(alloc, Vec::new(alloc));
+    let status = run(alloc, words.as_slice(), &mut capture, &mut out, &mut err);
+    Ok(status == row.status && out.bytes() == row.out.as_bytes() && err.bytes().is_empty())
+}
+
+#[test]
+fn runs_over_requests_come_to_their_rows(rt: HostRuntime) -> Result<(), Fail> {
+    let alloc = rt.alloc();
+    for row in &ROWS {
+        let mut file = requests(alloc, row.requests)?;
+        file.truncate(file.len().saturating_sub(row.cut));
+        assert!(rt; comes_to(alloc, row, file)?, "{}", row.shows);
+    }
+    Ok(())
+}
+
+/// A run that no call fails.
+fn shown(
     alloc: Global,
     words: &[&str],
     file: Vec<u8>,
     status: Status,
-    out: &str,
+    lines: &str,
 ) -> Result<bool, AllocError> {
     let words = texts(alloc, words)?;
-    let mut capture = holding(alloc, file, Vec::new(alloc))?;
-    let mut sink = MemorySink::new(alloc, Vec::new(alloc));
-    let mut err = MemorySink::new(alloc, Vec::new(alloc));
-    let found = run(alloc, words.as_slice(), &mut capture, &mut sink, &mut err);
-    Ok(found == status && sink.bytes() == out.as_bytes() && err.bytes().is_empty())
-}
-
-#[test]
-fn whole_and_damaged_files_come_to_their_lines(rt: HostRuntime) -> Result<(), Fail> {
-    let alloc = rt.alloc();
-    let typed = [
-        "-r",
-        "f",
-        "-Y",
-        "eth.type == 0x0806",
-        "-T",
-        "fields",
-        "-e",
-        "frame.number",
-        "-e",
-        "eth.type",
-    ];
-    assert!(rt;
-        comes_to(
-            alloc,
-            &typed,
-            requests(alloc, 1)?,
-            Status::Done,
-            "1\t2054\n"
-        )?,
-        "one request is shown"
-    );
-    assert!(rt;
-        comes_to(alloc, &NUMBERS, requests(alloc, 0)?, Status::Done, "")?,
-        "a header alone has no lines"
-    );
-    assert!(rt;
-        comes_to(alloc, &NUMBERS, Vec::new(alloc), Status::Damaged, "")?,
-        "an empty file is damaged"
-    );
-    let mut cut = requests(alloc, 3)?;
-    cut.truncate(251);
-    assert!(rt;
-        comes_to(alloc, &NUMBERS, cut, Status::Damaged, "1\n2\n")?,
-        "lines stand before a cut record"
-    );
-    let other = [
-        "-r",
-        "f",
-        "-Y",
-        "eth.type==2048",
-        "-T",
-        "fields",
-        "-e",
-        "frame.number",
-    ];
-    assert!(rt;
-        comes_to(alloc, &other, requests(alloc, 2)?, Status::Done, "")?,
-        "another type is not shown"
-    );
-    Ok(())
+    let mut out = SureSink::new(alloc);
+    let found = sure_run(alloc, words.as_slice(), file, &mut out);
+    Ok(found == status && out.bytes() == lines.as_bytes())
 }
 
 #[test]
@@ -124,23 +209,23 @@ fn damage_is_told_after_the_frames_before_it(rt: HostRuntime) -> Result<(), Fail
     let alloc = rt.alloc();
     let short = Vec::from_slice(alloc, &[0xd4, 0xc3, 0xb2])?;
     assert!(rt;
-        comes_to(alloc, &NUMBERS, short, Status::Damaged, "")?,
+        shown(alloc, &NUMBERS, short, Status::Damaged, "")?,
         "three bytes"
     );
     let unknown = Vec::from_slice(alloc, b"not a capture file, whatever its length may be")?;
     assert!(rt;
-        comes_to(alloc, &NUMBERS, unknown, Status::Damaged, "")?,
+        shown(alloc, &NUMBERS, unknown, Status::Damaged, "")?,
         "an unknown magic number"
     );
     let header = Vec::from_slice(alloc, &HEADER[..20])?;
     assert!(rt;
-        comes_to(alloc, &NUMBERS, header, Status::Damaged, "")?,
+        shown(alloc, &NUMBERS, header, Status::Damaged, "")?,
         "a cut header"
     );
     let mut long = requests(alloc, 1)?;
     long.extend_from_slice(&[0, 0, 0, 0, 0, 0, 0, 0, 1, 0, 4, 0, 1, 0, 4, 0])?;
     assert!(rt;
-        comes_to(alloc, &NUMBERS, long, Status::Damaged, "1\n")?,
+        shown(alloc, &NUMBERS, long, Status::Damaged, "1\n")?,
         "a captured length above the limit"
     );
     Ok(())
@@ -150,13 +235,10 @@ fn damage_is_told_after_the_frames_before_it(rt: HostRuntime) -> Result<(), Fail
 fn words_and_filters_outside_the_grammar_are_refused(rt: HostRuntime) -> Result<(), Fail> {
     let alloc = rt.alloc();
     let file = requests(alloc, 1)?;
-    assert!(rt;
-        comes_to(alloc, &[], file, Status::BadWords, "")?,
-        "no words"
-    );
+    assert!(rt; shown(alloc, &[], file, Status::BadWords, "")?, "no words");
     let words = ["-r", "f", "-T", "json", "-e", "frame.number"];
     assert!(rt;
-        comes_to(alloc, &words, requests(alloc, 1)?, Status::BadWords, "")?,
+        shown(alloc, &words, requests(alloc, 1)?, Status::BadWords, "")?,
         "another kind of line"
     );
     let filter = [
@@ -170,12 +252,12 @@ fn words_and_filters_outside_the_grammar_are_refused(rt: HostRuntime) -> Result<
         "frame.number",
     ];
     assert!(rt;
-        comes_to(alloc, &filter, requests(alloc, 1)?, Status::BadFilter, "")?,
+        shown(alloc, &filter, requests(alloc, 1)?, Status::BadFilter, "")?,
         "another sign"
     );
     let blank = ["-r", "f", "-Y", " \t", "-T", "fields", "-e", "frame.number"];
     assert!(rt;
-        comes_to(alloc, &blank, requests(alloc, 1)?, Status::Done, "1\n")?,
+        shown(alloc, &blank, requests(alloc, 1)?, Status::Done, "1\n")?,
         "a blank filter is as none"
     );
     let great = [
@@ -189,39 +271,9 @@ fn words_and_filters_outside_the_grammar_are_refused(rt: HostRuntime) -> Result<
         "frame.number",
     ];
     assert!(rt;
-        comes_to(alloc, &great, requests(alloc, 1)?, Status::BadFilter, "")?,
+        shown(alloc, &great, requests(alloc, 1)?, Status::BadFilter, "")?,
         "a number that does not fit"
     );
-    Ok(())
-}
-
-#[test]
-fn faults_of_the_outside_are_told_apart(rt: HostRuntime) -> Result<(), Fail> {
-    let alloc = rt.alloc();
-    let words = texts(alloc, &NUMBERS)?;
-    let mut sink = MemorySink::new(alloc, Vec::new(alloc));
-    let mut err = MemorySink::new(alloc, Vec::new(alloc));
-    let mut nothing = MemoryCapture::new(Vec::new(alloc), Vec::new(alloc), 1);
-    assert_eq!(rt;
-        run(alloc, words.as_slice(), &mut nothing, &mut sink, &mut err),
-        Status::CannotOpen
-    );
-    let mut broken = holding(alloc, requests(alloc, 30)?, [3].to_vec(alloc)?)?;
-    assert_eq!(rt;
-        run(alloc, words.as_slice(), &mut broken, &mut sink, &mut err),
-        Status::ReadFault
-    );
-    assert!(rt;
-        sink.bytes().is_empty(),
-        "a failed read is not taken for the end"
-    );
-    let mut full = MemorySink::new(alloc, [2].to_vec(alloc)?);
-    let mut capture = holding(alloc, requests(alloc, 3)?, Vec::new(alloc))?;
-    assert_eq!(rt;
-        run(alloc, words.as_slice(), &mut capture, &mut full, &mut err),
-        Status::WriteFault
-    );
-    assert_eq!(rt; full.bytes(), b"1\n".as_slice());
     Ok(())
 }
 
