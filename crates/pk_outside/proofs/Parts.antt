@@ -1,13 +1,21 @@
 -- Lemmas on known bytes that grow by a front of a whole.
 use Rattle.std.proofs.Common.{◌≡◌, ℕ, List, [], ◌++◌, refl, sym, ap, ◌∙◌, append_assoc, append-nil, subst}
-use Rattle.std.proofs.KnownBytes.{Appends-nil, Appends-trans}
-use Rattle.std.specs.Io.KnownBytes.{Appends}
+use Rattle.std.proofs.KnownBytes.{Appends-nil, Appends-trans, Appends-kept}
+use Rattle.std.specs.Io.KnownBytes.{Appends, Keeps}
 use Rattle.std.specs.Prelude.{Option}
 use Rattle.pk_outside.specs.Outside.{AppendsPart}
 
 -- nothing written is a part
 pub part_none : (a : Option (List ℕ)) (whole : List ℕ) → AppendsPart a a whole
 part_none a whole = ([], whole, refl, Appends-nil a)
+
+-- where the known bytes stay, nothing was written
+pub part_kept : (a b : Option (List ℕ)) (whole : List ℕ) → Keeps a b → AppendsPart a b whole
+part_kept a b whole kept = ([], whole, refl, Appends-kept a a b [] (Appends-nil a) kept)
+
+-- a front is a part
+pub part_front : (a b : Option (List ℕ)) (front rest whole : List ℕ) → Appends a b front → front ++ rest ≡ whole → AppendsPart a b whole
+part_front a b front rest whole all joined = (front, rest, joined, all)
 
 -- the whole is a part
 pub part_whole : (a b : Option (List ℕ)) (whole : List ℕ) → Appends a b whole → AppendsPart a b whole

@@ -42,7 +42,11 @@ pub trait Capture {
 
         ensures left_err { OnErr result (left self.new ≡ left self.old) }
         ensures not_begun { OnErr result (begun self.new ≡ begun self.old) }
-        ensures missed { OnErr result (missed self.new ≡ counted (missed self.old)) };
+        ensures missed { OnErr result (missed self.new ≡ counted (missed self.old)) }
+
+        // However the call ends.
+        ensures begun_stay { begun self.old ≤ begun self.new }
+        ensures missed_stay { missed self.old ≤ missed self.new };
 
     /// Moves bytes of the begun file to the front of `to`, and answers how many: 0 only at the end.
     fn read(&mut self, to: &mut [u8]) -> Result<usize, Failed>
@@ -58,5 +62,6 @@ pub trait Capture {
         ensures no_fault { OnOk result (faults self.new ≡ faults self.old) }
 
         ensures left_err { OnErr result (left self.new ≡ left self.old) }
-        ensures fault { OnErr result (faults self.new ≡ counted (faults self.old)) };
+        ensures fault { OnErr result (faults self.new ≡ counted (faults self.old)) }
+        ensures faults_stay { faults self.old ≤ faults self.new };
 }

@@ -70,6 +70,9 @@ impl<'a, R: Files> Capture for FileCapture<'a, R> {
         ensures kept { OnErr result (self.new.file ≡ self.old.file) }
         ensures not_begun { OnErr result (self.new.begun ≡ self.old.begun) }
         ensures missed { OnErr result (self.new.missed ≡ counted self.old.missed) }
+
+        ensures begun_stay { self.old.begun ≤ self.new.begun }
+        ensures missed_stay { self.old.missed ≤ self.new.missed }
     {
         let opened = fs::open(self.rt, name.as_str());
         self.asked = Some(name);
@@ -97,6 +100,7 @@ impl<'a, R: Files> Capture for FileCapture<'a, R> {
         ensures missed { self.new.missed ≡ self.old.missed }
         ensures no_fault { OnOk result (self.new.faults ≡ self.old.faults) }
         ensures fault { OnErr result (self.new.faults ≡ counted self.old.faults) }
+        ensures faults_stay { self.old.faults ≤ self.new.faults }
     {
         let Some(file) = &mut self.file else {
             return Ok(0);

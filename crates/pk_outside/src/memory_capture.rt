@@ -83,7 +83,18 @@ impl MemoryCapture {
     /// Of two files of one name the first counts.
     pub fn new(files: Vec<NamedFile>, failing: Vec<u64>, step: usize) -> Self
         requires { 1 ≤ step }
-        ensures { result ≡ record { files = files.items; failing = failing.items; step = step; calls = 0; left = []; asked = []; refused = false; begun = 0; missed = 0; faults = 0 } }
+        ensures { result ≡ record {
+          files = files.items;
+          failing = failing.items;
+          step = step;
+          calls = 0;
+          left = [];
+          asked = [];
+          refused = false;
+          begun = 0;
+          missed = 0;
+          faults = 0;
+        } }
     {
         MemoryCapture {
             files,
@@ -120,7 +131,8 @@ fn start_of(files: &[NamedFile], name: &str) -> Option<Place>
 // Moves bytes from this place on to the front of `to`, at most `most` of them, and goes behind them.
 fn read_on(files: &[NamedFile], place: &mut Place, most: usize, to: &mut [u8]) -> usize
     requires { IsInFiles files.now (Some place.old) }
-    ensures count { result ≡ min most (min (length to.old) (length (bytes_from files.now (Some place.old)))) }
+    ensures count { result
+        ≡ min most (min (length to.old) (length (bytes_from files.now (Some place.old)))) }
     ensures moved { to.new ≡ take result (bytes_from files.now (Some place.old)) ++ drop result to.old }
     ensures left { bytes_from files.now (Some place.new) ≡ drop result (bytes_from files.now (Some place.old)) }
     ensures within { IsInFiles files.now (Some place.new) }
@@ -148,7 +160,8 @@ impl Capture for MemoryCapture {
 
     fn begin(&mut self, name: String) -> Result<(), Failed>
         // It fails where its number is one of those that are to fail, or no file has the name, and nowhere else.
-        ensures failed { is_err result ≡ (is_to_fail self.old.failing self.new.calls || is_none (file_named self.old.files (string_bytes name))) }
+        ensures failed { is_err result ≡ (is_to_fail self.old.failing self.new.calls
+            || is_none (file_named self.old.files (string_bytes name))) }
         ensures calls { self.new.calls ≡ counted self.old.calls }
         ensures files { self.new.files ≡ self.old.files }
         ensures failing { self.new.failing ≡ self.old.failing }
@@ -164,6 +177,8 @@ impl Capture for MemoryCapture {
         ensures left_err { OnErr result (self.new.left ≡ self.old.left) }
         ensures not_begun { OnErr result (self.new.begun ≡ self.old.begun) }
         ensures missed { OnErr result (self.new.missed ≡ counted self.old.missed) }
+        ensures begun_stay { self.old.begun ≤ self.new.begun }
+        ensures missed_stay { self.old.missed ≤ self.new.missed }
     {
         let is_to_fail = self.calls.next_fails();
         let start = start_of(&self.files, name.as_str());
@@ -187,8 +202,11 @@ impl Capture for MemoryCapture {
         ensures count { IfOk result (λ n. n ≡ min self.old.step (min (length to.old) (length self.old.left))) }
         ensures moved { IfOk result (λ n. to.new ≡ take n self.old.left ++ drop n to.old) }
         ensures at_end { IfOk result (λ n. (n ≡ 0) ↔ (self.old.left ≡ [])) }
-        ensures left { IfOk result (λ n. self.new ≡ record self.old { calls = self.new.calls; left = drop n self.old.left }) }
-        ensures fault { OnErr result (self.new ≡ record self.old { calls = self.new.calls; faults = counted self.old.faults }) }
+        ensures left { IfOk result (λ n. self.new
+            ≡ record self.old { calls = self.new.calls; left = drop n self.old.left }) }
+        ensures fault { OnErr result (self.new
+            ≡ record self.old { calls = self.new.calls; faults = counted self.old.faults }) }
+        ensures faults_stay { self.old.faults ≤ self.new.faults }
         ensures room { OnErr result (to.new ≡ to.old) }
     {
         if self.calls.next_fails() {

@@ -20,14 +20,21 @@ impl Model for MemorySink {
 
     ghost Value = { MemorySinkState };
 
-    ghost view = { λ s. record { taken = s.bytes.items; failing = s.calls.failing.items; calls = s.calls.made; faults = s.faults; starved = s.starved } };
+    ghost view = { λ s. record {
+      taken = s.bytes.items;
+      failing = s.calls.failing.items;
+      calls = s.calls.made;
+      faults = s.faults;
+      starved = s.starved;
+    } };
 }
 
 impl MemorySink {
     /// A sink that has taken nothing. Its writes are counted from 1, and those whose number is
     /// in `failing` fail. It takes no memory until the first write.
     pub fn new(alloc: Global, failing: Vec<u64>) -> Self
-        ensures { result ≡ record { taken = []; failing = failing.items; calls = 0; faults = 0; starved = 0 } }
+        ensures { result
+            ≡ record { taken = []; failing = failing.items; calls = 0; faults = 0; starved = 0 } }
     {
         MemorySink {
             bytes: Vec::new(alloc),
@@ -59,7 +66,8 @@ impl Sink for MemorySink {
         // A write of a number that was named fails, and no other does.
         ensures calls { self.new.calls ≡ counted self.old.calls }
         ensures failing { self.new.failing ≡ self.old.failing }
-        ensures failed { IsErrOf result SinkFault.Failed ↔ IsTrue (is_to_fail self.old.failing self.new.calls) }
+        ensures failed { IsErrOf result SinkFault.Failed
+            ↔ IsTrue (is_to_fail self.old.failing self.new.calls) }
 
         ensures whole { IfOk result (λ n. n ≡ length from.now) }
         ensures taken { OnOk result (self.new.taken ≡ self.old.taken ++ from.now) }
@@ -67,7 +75,8 @@ impl Sink for MemorySink {
         ensures not_starved { OnOk result (self.new.starved ≡ self.old.starved) }
 
         ensures kept { OnErr result (self.new.taken ≡ self.old.taken) }
-        ensures counts { IfErr result (λ fault. CountsFault fault self.old.faults self.new.faults self.old.starved self.new.starved) }
+        ensures counts { IfErr result (λ fault.
+            CountsFault fault self.old.faults self.new.faults self.old.starved self.new.starved) }
         ensures faults_stay { self.old.faults ≤ self.new.faults }
         ensures starved_stay { self.old.starved ≤ self.new.starved }
     {

@@ -33,7 +33,8 @@ pub trait Sink {
         ensures not_starved { OnOk result (starved self.new ≡ starved self.old) }
 
         ensures kept { OnErr result (Keeps (written self.old) (written self.new)) }
-        ensures counts { IfErr result (λ fault. CountsFault fault (faults self.old) (faults self.new) (starved self.old) (starved self.new)) }
+        ensures counts { IfErr result (λ fault.
+            CountsFault fault (faults self.old) (faults self.new) (starved self.old) (starved self.new)) }
         ensures fault { IsErrOf result SinkFault.Failed → Rose (faults self.old) (faults self.new) }
         ensures starve { IsErrOf result SinkFault.NoMemory → Rose (starved self.old) (starved self.new) }
 
@@ -49,7 +50,8 @@ pub fn write_whole<S: Sink>(sink: &mut S, from: &[u8]) -> Result<(), SinkFault>
     ensures no_fault { OnOk result (S.faults sink.new ≡ S.faults sink.old) }
     ensures not_starved { OnOk result (S.starved sink.new ≡ S.starved sink.old) }
 
-    ensures counts { IfErr result (λ fault. CountsFault fault (S.faults sink.old) (S.faults sink.new) (S.starved sink.old) (S.starved sink.new)) }
+    ensures counts { IfErr result (λ fault.
+        CountsFault fault (S.faults sink.old) (S.faults sink.new) (S.starved sink.old) (S.starved sink.new)) }
     ensures fault { IsErrOf result SinkFault.Failed → Rose (S.faults sink.old) (S.faults sink.new) }
     ensures starve { IsErrOf result SinkFault.NoMemory → Rose (S.starved sink.old) (S.starved sink.new) }
 

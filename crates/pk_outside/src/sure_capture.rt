@@ -21,7 +21,12 @@ impl Model for SureCapture {
 
     ghost Value = { SureCaptureState };
 
-    ghost view = { λ s. record { bytes = s.bytes.items; left = drop s.at s.bytes.items; asked = asked_bytes s.asked; begun = s.begun } };
+    ghost view = { λ s. record {
+      bytes = s.bytes.items;
+      left = drop s.at s.bytes.items;
+      asked = asked_bytes s.asked;
+      begun = s.begun;
+    } };
 
     ghost invariant = { λ s. s.at ≤ vec_len s.bytes };
 }
@@ -63,6 +68,7 @@ impl Capture for SureCapture {
         ensures left { self.new.left ≡ self.old.bytes }
         ensures asked { self.new.asked ≡ string_bytes name }
         ensures begun { self.new.begun ≡ counted self.old.begun }
+        ensures begun_stay { self.old.begun ≤ self.new.begun }
     {
         self.at = 0;
         self.asked = Some(name);

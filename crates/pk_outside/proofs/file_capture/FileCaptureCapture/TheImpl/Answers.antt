@@ -22,6 +22,8 @@ begin-tells g c = record {
   left_err = on_err c.result refl;
   not_begun = search rules;
   missed = search rules;
+  begun_stay = search rules;
+  missed_stay = search rules;
 }
 
 pub read-tells : goal.read-tells
@@ -36,4 +38,5 @@ read-tells g c = record {
   no_fault = search rules;
   left_err = on_err c.result refl;
   fault = search rules;
+  faults_stay = search rules;
 }
