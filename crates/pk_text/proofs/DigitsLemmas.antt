@@ -1,13 +1,15 @@
 -- What `digits_read` answers, in the words of std's `parse`.
-use Rattle.std.proofs.Common.{◌≡◌, ℕ, ◌+◌, ◌<◌, true, ◌&&◌, List, [], ◌∷◌, ltb, length, get_or, take, Some, refl, sym, arith}
+use Rattle.std.proofs.Common.{◌≡◌, ℕ, ◌+◌, ◌-◌, ◌^◌, ◌<◌, true, false, ◌&&◌, List, [], ◌∷◌, ltb, length, get_or, take, Some, refl, sym, arith}
 use Rattle.std.specs.Char.{is_digit, digit_value}
 use Rattle.std.specs.Str.Parse.{AllDigits, IsNumeral, digits_value}
 use Rattle.std.proofs.lemmas.Bool.{and_parts, ltb-true}
 use Rattle.std.proofs.lemmas.Bool.Decides.{nat_tests}
+use Rattle.std.specs.Fmt.{digits, padded_integral, format_spec}
+use Rattle.std.proofs.lemmas.Fmt.{hex_byte}
 use Rattle.std.proofs.lemmas.Option.{cond_some}
 use Rattle.std.proofs.lemmas.List.Folds.{list_all_more}
 use Rattle.pk_text.specs.declared.number.Wide.{Wide}
-use Rattle.pk_text.specs.Digits.{wide, are_digits, digits_read}
+use Rattle.pk_text.specs.Digits.{wide, are_digits, digits_read, hex_pair}
 
 are_digits-from_AllDigits : (radix : ℕ) (ds : List ℕ) → AllDigits radix ds → are_digits radix ds ≡ true
 are_digits-from_AllDigits radix [] h = refl
@@ -36,3 +38,7 @@ IsNumeral-digits_read radix ds w h =
 pub are_digits_more : (radix : ℕ) (ds : List ℕ) (i : ℕ) → i < length ds → are_digits radix (take i ds) ≡ true → digit_value (get_or ds i 0) < radix → are_digits radix (take (i + 1) ds) ≡ true
 are_digits_more radix ds i h front digit =
     let e = list_all_more (λ c. is_digit c radix) ds i 0 h in grind (arith, nat_tests)
+
+-- what `{:02x}` writes of a byte
+pub hex_written : (byte : ℕ) → byte < 256 → padded_integral (format_spec 32 0 4 2 (2 ^ 64 - 1)) false [] (digits 16 false byte) ≡ hex_pair byte
+hex_written byte small = hex_byte false byte small

@@ -3,6 +3,8 @@
 #![tactic(auto)]
 
 mod digits;
+mod escape;
 mod number;
 
+pub use escape::escape_text;
 pub use number::{Wide, number_text, read_number};
