@@ -1,2 +1,4 @@
+pub mod CutLemmas
 pub mod DigitsLemmas
 pub mod NumberLemmas
+pub mod TimeLemmas

@@ -5,6 +5,8 @@
 mod digits;
 mod escape;
 mod number;
+mod time;
 
 pub use escape::escape_text;
 pub use number::{Wide, number_text, read_number};
+pub use time::{read_time, time_text};
