@@ -1,4 +1,7 @@
 pub mod CutLemmas
 pub mod DigitsLemmas
+pub mod EtherLemmas
 pub mod NumberLemmas
+pub mod OptionLemmas
+pub mod PairsLemmas
 pub mod TimeLemmas

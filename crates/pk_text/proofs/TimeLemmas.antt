@@ -8,7 +8,7 @@ use Rattle.std.specs.Int.{is_negative}
 use Rattle.std.specs.Int.RustNames.{unsigned_abs}
 use Rattle.std.specs.Str.Parse.{starts_with_minus, AllDigits, IsNumeral, digits_value}
 use Rattle.std.proofs.lemmas.Bool.{ne_eqb, cond-false, le-ltb, false≢true, eqb-true}
-use Rattle.std.proofs.lemmas.Option.{none-some, same_Some, option_and_then_some}
+use Rattle.std.proofs.lemmas.Option.{option_and_then_some}
 use Rattle.std.proofs.lemmas.Nat.{pow-add}
 use Rattle.std.proofs.lemmas.Str.Ascii.{encode_ascii}
 use Rattle.std.proofs.lemmas.Fmt.{decimal_is_IsNumeral, length-decimal-le}
@@ -17,6 +17,7 @@ use Rattle.std.proofs.Math.Nat.{mul-lt-mul_of_pos_right, one-le-pow}
 use Rattle.pk_text.specs.Cut.{cut_at}
 use Rattle.pk_text.specs.Digits.{short_read}
 use Rattle.pk_text.specs.Time.{TimeForm, IsTimeForm, time_form_text, time_form_value, fraction_text, fraction_value, signed, time_of, time_shown, whole_seconds, nanoseconds_over, decimal_in, size_read, size_from, seconds_read, fraction_read}
+use Rattle.pk_text.proofs.OptionLemmas.{option_map_some}
 use Rattle.pk_text.proofs.CutLemmas.{Lacks-from_AllDigits, cut_at-first, cut_at-none, cut_parts}
 use Rattle.pk_text.proofs.DigitsLemmas.{short_read-IsNumeral, IsNumeral-short_read}
 
@@ -56,10 +57,6 @@ size_read-form whole (Some ds) h short f =
     ap (size_from _) (cut_at-first 46 whole ds (Lacks-from_AllDigits 46 10 whole (lit≤ tt) h.1))
     ∙ ap (option_and_then (λ s. option_map (λ n. s + n) (fraction_read ds))) (seconds_read-IsNumeral whole h short)
     ∙ ap (option_map (λ n. digits_value 10 whole * 10 ^ 9 + n)) (fraction_read-IsNumeral ds f.0 f.1)
-
-option_map_some : {A B : Type 0} (f : A → B) (o : Option A) (y : B) → option_map f o ≡ Some y → (x : A) × (o ≡ Some x) × (y ≡ f x)
-option_map_some f None y h = absurd (none-some y h)
-option_map_some f (Some x) y h = (x, refl, sym (same_Some (f x) y h))
 
 time_of-form : (negative : Bool) (whole : List ℕ) (o : Option (List ℕ)) → IsNumeral 10 whole → length whole ≤ 18 → IsFraction o → time_of (sign_text negative ++ (whole ++ fraction_text o)) ≡ Some (signed negative (digits_value 10 whole * 10 ^ 9 + fraction_value o))
 unfolding time_of

@@ -1,5 +1,7 @@
 pub mod Cut
 pub mod Digits
 pub mod Escape
+pub mod Ether
 pub mod Number
+pub mod Pairs
 pub mod Time

@@ -4,9 +4,12 @@
 
 mod digits;
 mod escape;
+mod ether;
 mod number;
+mod pairs;
 mod time;
 
 pub use escape::escape_text;
+pub use ether::{ether_text, read_ether};
 pub use number::{Wide, number_text, read_number};
 pub use time::{read_time, time_text};
