@@ -1,11 +1,11 @@
 -- What `digits_read` answers, in the words of std's `parse`.
-use Rattle.std.proofs.Common.{◌≡◌, ℕ, ◌+◌, ◌-◌, ◌^◌, ◌<◌, ◌≤◌, true, false, ◌&&◌, List, [], ◌∷◌, ltb, leb, length, get_or, take, Option, Some, None, option_and_then, refl, sym, ap, ◌∙◌, arith}
+use Rattle.std.proofs.Common.{◌≡◌, ℕ, ◌+◌, ◌-◌, ◌^◌, ◌<◌, ◌≤◌, true, false, ◌&&◌, List, [], ◌∷◌, ltb, leb, length, get_or, take, Option, Some, None, option_and_then, refl, sym, ap, ◌∙◌, arith, inl, inr}
 use Rattle.std.specs.Char.{is_digit, digit_value}
 use Rattle.std.specs.Str.Parse.{AllDigits, IsNumeral, digits_value}
-use Rattle.std.proofs.lemmas.Bool.{and_parts, ltb-true, leb-true, le-leb, lt-ltb, cond_both, cond-true}
+use Rattle.std.proofs.lemmas.Bool.{cases_lt, and_parts, ltb-true, leb-true, le-leb, lt-ltb, cond_both, cond-true}
 use Rattle.std.proofs.lemmas.Bool.Decides.{nat_tests}
-use Rattle.std.specs.Fmt.{digits, padded_integral, format_spec}
-use Rattle.std.proofs.lemmas.Fmt.{hex_byte}
+use Rattle.std.specs.Fmt.{decimal, digits, padded_integral, format_spec}
+use Rattle.std.proofs.lemmas.Fmt.{hex_byte, decimal_digit, first_decimal}
 use Rattle.std.proofs.lemmas.Option.{cond_some, none-some, same_Some}
 use Rattle.std.proofs.lemmas.Int.Digits.{digits_value-lt}
 use Rattle.std.proofs.Math.Nat.{pow-le-pow_right}
@@ -86,3 +86,11 @@ are_digits_more radix ds i h front digit =
 -- what `{:02x}` writes of a byte
 pub hex_written : (byte : ℕ) → byte < 256 → padded_integral (format_spec 32 0 4 2 (2 ^ 64 - 1)) false [] (digits 16 false byte) ≡ hex_pair byte
 hex_written byte small = hex_byte false byte small
+
+-- a number that is written with a leading zero is the zero
+pub decimal_leading : (n : ℕ) → n < 2 ^ 64 → get_or (decimal n) 0 0 ≡ 48 → length (decimal n) ≡ 1
+decimal_leading n small e =
+    elim (cases_lt 0 n) [
+      | inl above ↦ absurd (omega (arith, e, first_decimal n above small))
+      | inr zero ↦ ap length (decimal_digit n (omega arith))
+    ]
