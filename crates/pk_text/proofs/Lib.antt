@@ -3,6 +3,7 @@ pub mod DigitsLemmas
 pub mod EtherLemmas
 pub mod Ip4Lemmas
 pub mod NumberLemmas
+pub mod OctetsLemmas
 pub mod OptionLemmas
 pub mod PairsLemmas
 pub mod TimeLemmas

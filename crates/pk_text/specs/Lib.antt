@@ -4,5 +4,6 @@ pub mod Escape
 pub mod Ether
 pub mod Ip4
 pub mod Number
+pub mod Octets
 pub mod Pairs
 pub mod Time
