@@ -1,14 +1,14 @@
 -- `number_of` reads the texts of a number's forms, and no other.
-use Rattle.std.proofs.Common.{◌≡◌, ◌≢◌, ℕ, ◌^◌, ◌<◌, cond, eqb, ltb, List, [], ◌∷◌, ◌++◌, codes, length, get_or, Option, Some, None, IfSome, refl, sym, ◌∙◌, ap, subst, arith, inl, inr}
+use Rattle.std.proofs.Common.{◌≡◌, ◌≢◌, ℕ, ◌^◌, ◌<◌, cond, eqb, ltb, List, [], ◌∷◌, ◌++◌, codes, length, get_or, Option, Some, None, IfSome, refl, sym, ◌∙◌, ap, subst, arith}
 use Rattle.std.specs.Fmt.{decimal}
-use Rattle.std.proofs.lemmas.Bool.{cases_lt, cond_both, cond-false, cond-true, lt-ltb, ne_eqb, eqb-true, eqb-false}
+use Rattle.std.proofs.lemmas.Bool.{cond_both, cond-false, cond-true, lt-ltb, ne_eqb, eqb-true, eqb-false}
 use Rattle.std.proofs.lemmas.Option.{none-some}
-use Rattle.std.proofs.lemmas.Fmt.{decimal_is_IsNumeral, decimal_digit, first_decimal}
+use Rattle.std.proofs.lemmas.Fmt.{decimal_is_IsNumeral}
 use Rattle.pk_text.specs.declared.number.Wide.{Wide}
 use Rattle.pk_text.specs.declared.number.Wide.TheVariants.{Fits}
 use Rattle.pk_text.specs.Digits.{wide, digits_read}
 use Rattle.pk_text.specs.Number.{NumberForm, Decimal, Hexadecimal, IsNumberForm, number_form_text, number_form_value, number_of}
-use Rattle.pk_text.proofs.DigitsLemmas.{digits_read-IsNumeral, IsNumeral-digits_read}
+use Rattle.pk_text.proofs.DigitsLemmas.{digits_read-IsNumeral, IsNumeral-digits_read, decimal_leading}
 
 number_of-form : (f : NumberForm) → IsNumberForm f → number_of (number_form_text f) ≡ Some (wide (number_form_value f))
 unfolding number_of
@@ -56,9 +56,4 @@ number_only t (Some w) e = number_reading t w (sym e)
 pub number_from_decimal : (n : ℕ) → n < 2 ^ 64 → number_of (decimal n) ≡ Some (Fits n)
 number_from_decimal n small =
     let digits = decimal_is_IsNumeral n small in
-    let one : get_or (decimal n) 0 0 ≡ 48 → length (decimal n) ≡ 1 =
-    elim (cases_lt 0 n) [
-      | inl above ↦ (λ e. absurd (omega (arith, first_decimal n above small)))
-      | inr zero ↦ (λ _. ap length (decimal_digit n (omega arith)))
-    ] in
-    number_of-form (Decimal (decimal n)) (digits.0, one) ∙ ap (λ v. Some (wide v)) digits.1 ∙ ap Some (cond-true (ltb n (2 ^ 64)) _ _ (lt-ltb n (2 ^ 64) small))
+    number_of-form (Decimal (decimal n)) (digits.0, decimal_leading n small) ∙ ap (λ v. Some (wide v)) digits.1 ∙ ap Some (cond-true (ltb n (2 ^ 64)) _ _ (lt-ltb n (2 ^ 64) small))

@@ -1,10 +1,12 @@
-ghost use Rattle.std.specs.Prelude.{◌≡◌, ℕ, ◌+◌, ◌*◌, ◌≤◌};
-ghost use Rattle.pk_text.specs.Digits.{digits_read, wide};
+ghost use Rattle.std.specs.Prelude.{◌≡◌, ℕ, ◌+◌, ◌*◌, ◌≤◌, ◌++◌, ◌<◌, ◌^◌, length, OnOk, IfSome};
+ghost use Rattle.std.specs.String.{string_bytes};
+ghost use Rattle.pk_text.specs.Digits.{digits_read, hex_pair, short_read, wide};
 
 use crate::number::Wide;
+use std::alloc::AllocError;
 
-#[tactic(auto, unfolding(crate::specs::Digits::digits_read))]
 /// The number that digits in a radix write, the highest first; None where there is no digit, or a byte that is none.
+#[tactic(auto, unfolding(crate::specs::Digits::digits_read))]
 pub fn read_digits(digits: &[u8], radix: u32) -> Option<Wide>
     requires low { 2 ≤ radix }
     requires high { radix ≤ 36 }
@@ -19,6 +21,26 @@ pub fn read_digits(digits: &[u8], radix: u32) -> Option<Wide>
         number = with_digit(number, radix, digit);
     }
     Some(number)
+}
+
+/// The number of digits in a radix, the highest first; None where there are more than `most`, no digit, a byte that is
+/// none, or the number is beyond 64 bits.
+#[tactic(auto, using(crate::proofs::DigitsLemmas::fits_below), unfolding(crate::specs::Digits::short_read))]
+pub fn read_short(digits: &[u8], radix: u32, most: usize) -> Option<u64>
+    requires low { 2 ≤ radix }
+    requires high { radix ≤ 36 }
+    ensures value { result ≡ short_read radix most digits.now }
+    ensures short { IfSome result (λ _. length digits.now ≤ most) }
+    ensures below { IfSome result (λ n. n < radix ^ length digits.now) }
+    ensures fits { IfSome result (λ n. n < radix ^ most) }
+{
+    if digits.len() > most {
+        return None;
+    }
+    match read_digits(digits, radix)? {
+        Wide::Fits(n) => Some(n),
+        Wide::Beyond => None,
+    }
 }
 
 /// A number with one more digit at its end.
@@ -36,4 +58,13 @@ fn with_digit(number: Wide, radix: u32, digit: u32) -> Wide
         Some(n) => Wide::Fits(n),
         None => Wide::Beyond,
     }
+}
+
+/// Adds a byte as two lower-case hexadecimal digits.
+#[tactic(auto, using(crate::proofs::DigitsLemmas::hex_written))]
+pub fn push_hex(text: &mut String, byte: u8) -> Result<(), AllocError>
+    ensures { OnOk result (string_bytes text.new ≡ string_bytes text.old ++ hex_pair byte) }
+{
+    write!(text, "{byte:02x}")?;
+    Ok(())
 }
