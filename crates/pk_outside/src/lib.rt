@@ -1,13 +1,27 @@
-// A library with one function.
+//! The outside world as contracts see it: a capture that gives the bytes of files, and a sink that takes bytes.
+//!
+//! Each fault is counted by the object that met it, so that a caller's contract can say of an answer
+//! that it came only where a count rose.
 #![tactic(auto)]
 
-ghost use Rattle.std.specs.Prelude.{◌≡◌};
-ghost use Rattle.pk_outside.specs.Echo.{echo_of};
+mod calls;
+mod capture;
+mod file_capture;
+mod memory_capture;
+mod memory_sink;
+mod moves;
+mod sink;
+mod std_sink;
+mod sure_capture;
+mod sure_sink;
+#[cfg(test)]
+mod tests;
 
-// The `ensures` clause is the contract: what `echo` returns is `echo_of` of its argument, a definition
-// in `specs/Echo.antt`, which a caller's clause can cite too.
-pub fn echo(x: usize) -> usize
-    ensures { result ≡ echo_of x }
-{
-    x
-}
+pub use capture::{Capture, Failed};
+pub use file_capture::FileCapture;
+pub use memory_capture::{MemoryCapture, NamedFile};
+pub use memory_sink::MemorySink;
+pub use sink::{Sink, SinkFault, write_whole};
+pub use std_sink::StdSink;
+pub use sure_capture::SureCapture;
+pub use sure_sink::SureSink;

@@ -1,0 +1,813 @@
+-- The fields' numbers by name. Written by tools/make_fields from tools/fields.txt.
+use Rattle.std.specs.Prelude.{ℕ}
+
+-- how many fields there are
+abbrev pub field_count : ℕ
+field_count = 269
+
+abbrev pub FRAME : ℕ
+FRAME = 0
+
+abbrev pub FRAME_NUMBER : ℕ
+FRAME_NUMBER = 1
+
+abbrev pub FRAME_TIME_EPOCH : ℕ
+FRAME_TIME_EPOCH = 2
+
+abbrev pub FRAME_TIME_RELATIVE : ℕ
+FRAME_TIME_RELATIVE = 3
+
+abbrev pub FRAME_TIME_DELTA : ℕ
+FRAME_TIME_DELTA = 4
+
+abbrev pub FRAME_LEN : ℕ
+FRAME_LEN = 5
+
+abbrev pub FRAME_CAP_LEN : ℕ
+FRAME_CAP_LEN = 6
+
+abbrev pub ETH : ℕ
+ETH = 7
+
+abbrev pub ETH_DST : ℕ
+ETH_DST = 8
+
+abbrev pub ETH_ADDR : ℕ
+ETH_ADDR = 9
+
+abbrev pub ETH_SRC : ℕ
+ETH_SRC = 10
+
+abbrev pub ETH_TYPE : ℕ
+ETH_TYPE = 11
+
+abbrev pub ETH_LEN : ℕ
+ETH_LEN = 12
+
+abbrev pub NULL : ℕ
+NULL = 13
+
+abbrev pub NULL_FAMILY : ℕ
+NULL_FAMILY = 14
+
+abbrev pub SLL : ℕ
+SLL = 15
+
+abbrev pub SLL_PKTTYPE : ℕ
+SLL_PKTTYPE = 16
+
+abbrev pub SLL_HATYPE : ℕ
+SLL_HATYPE = 17
+
+abbrev pub SLL_HALEN : ℕ
+SLL_HALEN = 18
+
+abbrev pub SLL_SRC : ℕ
+SLL_SRC = 19
+
+abbrev pub SLL_ETYPE : ℕ
+SLL_ETYPE = 20
+
+abbrev pub SLL2 : ℕ
+SLL2 = 21
+
+abbrev pub SLL2_ETYPE : ℕ
+SLL2_ETYPE = 22
+
+abbrev pub SLL2_IFINDEX : ℕ
+SLL2_IFINDEX = 23
+
+abbrev pub SLL2_HATYPE : ℕ
+SLL2_HATYPE = 24
+
+abbrev pub SLL2_PKTTYPE : ℕ
+SLL2_PKTTYPE = 25
+
+abbrev pub SLL2_HALEN : ℕ
+SLL2_HALEN = 26
+
+abbrev pub SLL2_SRC : ℕ
+SLL2_SRC = 27
+
+abbrev pub VLAN : ℕ
+VLAN = 28
+
+abbrev pub VLAN_PRIORITY : ℕ
+VLAN_PRIORITY = 29
+
+abbrev pub VLAN_DEI : ℕ
+VLAN_DEI = 30
+
+abbrev pub VLAN_ID : ℕ
+VLAN_ID = 31
+
+abbrev pub VLAN_ETYPE : ℕ
+VLAN_ETYPE = 32
+
+abbrev pub VLAN_LEN : ℕ
+VLAN_LEN = 33
+
+abbrev pub ARP : ℕ
+ARP = 34
+
+abbrev pub ARP_HW_TYPE : ℕ
+ARP_HW_TYPE = 35
+
+abbrev pub ARP_PROTO_TYPE : ℕ
+ARP_PROTO_TYPE = 36
+
+abbrev pub ARP_HW_SIZE : ℕ
+ARP_HW_SIZE = 37
+
+abbrev pub ARP_PROTO_SIZE : ℕ
+ARP_PROTO_SIZE = 38
+
+abbrev pub ARP_OPCODE : ℕ
+ARP_OPCODE = 39
+
+abbrev pub ARP_SRC_HW_MAC : ℕ
+ARP_SRC_HW_MAC = 40
+
+abbrev pub ARP_SRC_PROTO_IPV4 : ℕ
+ARP_SRC_PROTO_IPV4 = 41
+
+abbrev pub ARP_DST_HW_MAC : ℕ
+ARP_DST_HW_MAC = 42
+
+abbrev pub ARP_DST_PROTO_IPV4 : ℕ
+ARP_DST_PROTO_IPV4 = 43
+
+abbrev pub ARP_SRC_HW : ℕ
+ARP_SRC_HW = 44
+
+abbrev pub ARP_SRC_PROTO : ℕ
+ARP_SRC_PROTO = 45
+
+abbrev pub ARP_DST_HW : ℕ
+ARP_DST_HW = 46
+
+abbrev pub ARP_DST_PROTO : ℕ
+ARP_DST_PROTO = 47
+
+abbrev pub IP : ℕ
+IP = 48
+
+abbrev pub IP_VERSION : ℕ
+IP_VERSION = 49
+
+abbrev pub IP_HDR_LEN : ℕ
+IP_HDR_LEN = 50
+
+abbrev pub IP_DSFIELD : ℕ
+IP_DSFIELD = 51
+
+abbrev pub IP_DSFIELD_DSCP : ℕ
+IP_DSFIELD_DSCP = 52
+
+abbrev pub IP_DSFIELD_ECN : ℕ
+IP_DSFIELD_ECN = 53
+
+abbrev pub IP_LEN : ℕ
+IP_LEN = 54
+
+abbrev pub IP_ID : ℕ
+IP_ID = 55
+
+abbrev pub IP_FLAGS_RB : ℕ
+IP_FLAGS_RB = 56
+
+abbrev pub IP_FLAGS_DF : ℕ
+IP_FLAGS_DF = 57
+
+abbrev pub IP_FLAGS_MF : ℕ
+IP_FLAGS_MF = 58
+
+abbrev pub IP_FRAG_OFFSET : ℕ
+IP_FRAG_OFFSET = 59
+
+abbrev pub IP_TTL : ℕ
+IP_TTL = 60
+
+abbrev pub IP_PROTO : ℕ
+IP_PROTO = 61
+
+abbrev pub IP_CHECKSUM : ℕ
+IP_CHECKSUM = 62
+
+abbrev pub IP_SRC : ℕ
+IP_SRC = 63
+
+abbrev pub IP_ADDR : ℕ
+IP_ADDR = 64
+
+abbrev pub IP_DST : ℕ
+IP_DST = 65
+
+abbrev pub IP_OPTIONS : ℕ
+IP_OPTIONS = 66
+
+abbrev pub IP_FRAGMENT : ℕ
+IP_FRAGMENT = 67
+
+abbrev pub IP_REASSEMBLED_LENGTH : ℕ
+IP_REASSEMBLED_LENGTH = 68
+
+abbrev pub IP_FRAGMENT_ERROR : ℕ
+IP_FRAGMENT_ERROR = 69
+
+abbrev pub IP_REASSEMBLED_IN : ℕ
+IP_REASSEMBLED_IN = 70
+
+abbrev pub IPV6 : ℕ
+IPV6 = 71
+
+abbrev pub IPV6_VERSION : ℕ
+IPV6_VERSION = 72
+
+abbrev pub IPV6_TCLASS : ℕ
+IPV6_TCLASS = 73
+
+abbrev pub IPV6_FLOW : ℕ
+IPV6_FLOW = 74
+
+abbrev pub IPV6_PLEN : ℕ
+IPV6_PLEN = 75
+
+abbrev pub IPV6_NXT : ℕ
+IPV6_NXT = 76
+
+abbrev pub IPV6_HLIM : ℕ
+IPV6_HLIM = 77
+
+abbrev pub IPV6_SRC : ℕ
+IPV6_SRC = 78
+
+abbrev pub IPV6_ADDR : ℕ
+IPV6_ADDR = 79
+
+abbrev pub IPV6_DST : ℕ
+IPV6_DST = 80
+
+abbrev pub IPV6_HOPOPTS : ℕ
+IPV6_HOPOPTS = 81
+
+abbrev pub IPV6_HOPOPTS_NXT : ℕ
+IPV6_HOPOPTS_NXT = 82
+
+abbrev pub IPV6_HOPOPTS_LEN : ℕ
+IPV6_HOPOPTS_LEN = 83
+
+abbrev pub IPV6_HOPOPTS_OPTIONS : ℕ
+IPV6_HOPOPTS_OPTIONS = 84
+
+abbrev pub IPV6_DSTOPTS : ℕ
+IPV6_DSTOPTS = 85
+
+abbrev pub IPV6_DSTOPTS_NXT : ℕ
+IPV6_DSTOPTS_NXT = 86
+
+abbrev pub IPV6_DSTOPTS_LEN : ℕ
+IPV6_DSTOPTS_LEN = 87
+
+abbrev pub IPV6_DSTOPTS_OPTIONS : ℕ
+IPV6_DSTOPTS_OPTIONS = 88
+
+abbrev pub IPV6_ROUTING : ℕ
+IPV6_ROUTING = 89
+
+abbrev pub IPV6_ROUTING_NXT : ℕ
+IPV6_ROUTING_NXT = 90
+
+abbrev pub IPV6_ROUTING_LEN : ℕ
+IPV6_ROUTING_LEN = 91
+
+abbrev pub IPV6_ROUTING_TYPE : ℕ
+IPV6_ROUTING_TYPE = 92
+
+abbrev pub IPV6_ROUTING_SEGLEFT : ℕ
+IPV6_ROUTING_SEGLEFT = 93
+
+abbrev pub IPV6_ROUTING_REST : ℕ
+IPV6_ROUTING_REST = 94
+
+abbrev pub IPV6_FRAGHDR : ℕ
+IPV6_FRAGHDR = 95
+
+abbrev pub IPV6_FRAGHDR_NXT : ℕ
+IPV6_FRAGHDR_NXT = 96
+
+abbrev pub IPV6_FRAGHDR_OFFSET : ℕ
+IPV6_FRAGHDR_OFFSET = 97
+
+abbrev pub IPV6_FRAGHDR_MORE : ℕ
+IPV6_FRAGHDR_MORE = 98
+
+abbrev pub IPV6_FRAGHDR_IDENT : ℕ
+IPV6_FRAGHDR_IDENT = 99
+
+abbrev pub IPV6_FRAGMENT : ℕ
+IPV6_FRAGMENT = 100
+
+abbrev pub IPV6_REASSEMBLED_LENGTH : ℕ
+IPV6_REASSEMBLED_LENGTH = 101
+
+abbrev pub IPV6_FRAGMENT_ERROR : ℕ
+IPV6_FRAGMENT_ERROR = 102
+
+abbrev pub IPV6_REASSEMBLED_IN : ℕ
+IPV6_REASSEMBLED_IN = 103
+
+abbrev pub ICMP : ℕ
+ICMP = 104
+
+abbrev pub ICMP_TYPE : ℕ
+ICMP_TYPE = 105
+
+abbrev pub ICMP_CODE : ℕ
+ICMP_CODE = 106
+
+abbrev pub ICMP_CHECKSUM : ℕ
+ICMP_CHECKSUM = 107
+
+abbrev pub ICMP_IDENT : ℕ
+ICMP_IDENT = 108
+
+abbrev pub ICMP_SEQ : ℕ
+ICMP_SEQ = 109
+
+abbrev pub ICMP_REST : ℕ
+ICMP_REST = 110
+
+abbrev pub ICMPV6 : ℕ
+ICMPV6 = 111
+
+abbrev pub ICMPV6_TYPE : ℕ
+ICMPV6_TYPE = 112
+
+abbrev pub ICMPV6_CODE : ℕ
+ICMPV6_CODE = 113
+
+abbrev pub ICMPV6_CHECKSUM : ℕ
+ICMPV6_CHECKSUM = 114
+
+abbrev pub ICMPV6_ECHO_IDENTIFIER : ℕ
+ICMPV6_ECHO_IDENTIFIER = 115
+
+abbrev pub ICMPV6_ECHO_SEQUENCE_NUMBER : ℕ
+ICMPV6_ECHO_SEQUENCE_NUMBER = 116
+
+abbrev pub ICMPV6_REST : ℕ
+ICMPV6_REST = 117
+
+abbrev pub UDP : ℕ
+UDP = 118
+
+abbrev pub UDP_SRCPORT : ℕ
+UDP_SRCPORT = 119
+
+abbrev pub UDP_PORT : ℕ
+UDP_PORT = 120
+
+abbrev pub UDP_DSTPORT : ℕ
+UDP_DSTPORT = 121
+
+abbrev pub UDP_LENGTH : ℕ
+UDP_LENGTH = 122
+
+abbrev pub UDP_CHECKSUM : ℕ
+UDP_CHECKSUM = 123
+
+abbrev pub UDP_STREAM : ℕ
+UDP_STREAM = 124
+
+abbrev pub UDP_PAYLOAD : ℕ
+UDP_PAYLOAD = 125
+
+abbrev pub TCP : ℕ
+TCP = 126
+
+abbrev pub TCP_SRCPORT : ℕ
+TCP_SRCPORT = 127
+
+abbrev pub TCP_PORT : ℕ
+TCP_PORT = 128
+
+abbrev pub TCP_DSTPORT : ℕ
+TCP_DSTPORT = 129
+
+abbrev pub TCP_SEQ_RAW : ℕ
+TCP_SEQ_RAW = 130
+
+abbrev pub TCP_ACK_RAW : ℕ
+TCP_ACK_RAW = 131
+
+abbrev pub TCP_HDR_LEN : ℕ
+TCP_HDR_LEN = 132
+
+abbrev pub TCP_FLAGS : ℕ
+TCP_FLAGS = 133
+
+abbrev pub TCP_FLAGS_CWR : ℕ
+TCP_FLAGS_CWR = 134
+
+abbrev pub TCP_FLAGS_ECE : ℕ
+TCP_FLAGS_ECE = 135
+
+abbrev pub TCP_FLAGS_URG : ℕ
+TCP_FLAGS_URG = 136
+
+abbrev pub TCP_FLAGS_ACK : ℕ
+TCP_FLAGS_ACK = 137
+
+abbrev pub TCP_FLAGS_PUSH : ℕ
+TCP_FLAGS_PUSH = 138
+
+abbrev pub TCP_FLAGS_RESET : ℕ
+TCP_FLAGS_RESET = 139
+
+abbrev pub TCP_FLAGS_SYN : ℕ
+TCP_FLAGS_SYN = 140
+
+abbrev pub TCP_FLAGS_FIN : ℕ
+TCP_FLAGS_FIN = 141
+
+abbrev pub TCP_WINDOW_SIZE_VALUE : ℕ
+TCP_WINDOW_SIZE_VALUE = 142
+
+abbrev pub TCP_CHECKSUM : ℕ
+TCP_CHECKSUM = 143
+
+abbrev pub TCP_URGENT_POINTER : ℕ
+TCP_URGENT_POINTER = 144
+
+abbrev pub TCP_OPTIONS : ℕ
+TCP_OPTIONS = 145
+
+abbrev pub TCP_OPTION_KIND : ℕ
+TCP_OPTION_KIND = 146
+
+abbrev pub TCP_OPTION_LEN : ℕ
+TCP_OPTION_LEN = 147
+
+abbrev pub TCP_OPTIONS_MSS_VAL : ℕ
+TCP_OPTIONS_MSS_VAL = 148
+
+abbrev pub TCP_OPTIONS_WSCALE_SHIFT : ℕ
+TCP_OPTIONS_WSCALE_SHIFT = 149
+
+abbrev pub TCP_OPTIONS_SACK_PERM : ℕ
+TCP_OPTIONS_SACK_PERM = 150
+
+abbrev pub TCP_OPTIONS_SACK_LE : ℕ
+TCP_OPTIONS_SACK_LE = 151
+
+abbrev pub TCP_OPTIONS_SACK_RE : ℕ
+TCP_OPTIONS_SACK_RE = 152
+
+abbrev pub TCP_OPTIONS_TIMESTAMP_TSVAL : ℕ
+TCP_OPTIONS_TIMESTAMP_TSVAL = 153
+
+abbrev pub TCP_OPTIONS_TIMESTAMP_TSECR : ℕ
+TCP_OPTIONS_TIMESTAMP_TSECR = 154
+
+abbrev pub TCP_OPTIONS_BAD : ℕ
+TCP_OPTIONS_BAD = 155
+
+abbrev pub TCP_STREAM : ℕ
+TCP_STREAM = 156
+
+abbrev pub TCP_SEQ : ℕ
+TCP_SEQ = 157
+
+abbrev pub TCP_ACK : ℕ
+TCP_ACK = 158
+
+abbrev pub TCP_LEN : ℕ
+TCP_LEN = 159
+
+abbrev pub TCP_PAYLOAD : ℕ
+TCP_PAYLOAD = 160
+
+abbrev pub TCP_SEGMENT : ℕ
+TCP_SEGMENT = 161
+
+abbrev pub TCP_REASSEMBLED_IN : ℕ
+TCP_REASSEMBLED_IN = 162
+
+abbrev pub DNS : ℕ
+DNS = 163
+
+abbrev pub DNS_LENGTH : ℕ
+DNS_LENGTH = 164
+
+abbrev pub DNS_ID : ℕ
+DNS_ID = 165
+
+abbrev pub DNS_FLAGS : ℕ
+DNS_FLAGS = 166
+
+abbrev pub DNS_FLAGS_RESPONSE : ℕ
+DNS_FLAGS_RESPONSE = 167
+
+abbrev pub DNS_FLAGS_OPCODE : ℕ
+DNS_FLAGS_OPCODE = 168
+
+abbrev pub DNS_FLAGS_AUTHORITATIVE : ℕ
+DNS_FLAGS_AUTHORITATIVE = 169
+
+abbrev pub DNS_FLAGS_TRUNCATED : ℕ
+DNS_FLAGS_TRUNCATED = 170
+
+abbrev pub DNS_FLAGS_RECDESIRED : ℕ
+DNS_FLAGS_RECDESIRED = 171
+
+abbrev pub DNS_FLAGS_RECAVAIL : ℕ
+DNS_FLAGS_RECAVAIL = 172
+
+abbrev pub DNS_FLAGS_Z : ℕ
+DNS_FLAGS_Z = 173
+
+abbrev pub DNS_FLAGS_AUTHENTICATED : ℕ
+DNS_FLAGS_AUTHENTICATED = 174
+
+abbrev pub DNS_FLAGS_CHECKDISABLE : ℕ
+DNS_FLAGS_CHECKDISABLE = 175
+
+abbrev pub DNS_FLAGS_RCODE : ℕ
+DNS_FLAGS_RCODE = 176
+
+abbrev pub DNS_COUNT_QUERIES : ℕ
+DNS_COUNT_QUERIES = 177
+
+abbrev pub DNS_COUNT_ANSWERS : ℕ
+DNS_COUNT_ANSWERS = 178
+
+abbrev pub DNS_COUNT_AUTH_RR : ℕ
+DNS_COUNT_AUTH_RR = 179
+
+abbrev pub DNS_COUNT_ADD_RR : ℕ
+DNS_COUNT_ADD_RR = 180
+
+abbrev pub DNS_QRY_NAME : ℕ
+DNS_QRY_NAME = 181
+
+abbrev pub DNS_QRY_TYPE : ℕ
+DNS_QRY_TYPE = 182
+
+abbrev pub DNS_QRY_CLASS : ℕ
+DNS_QRY_CLASS = 183
+
+abbrev pub DNS_RESP_NAME : ℕ
+DNS_RESP_NAME = 184
+
+abbrev pub DNS_RESP_TYPE : ℕ
+DNS_RESP_TYPE = 185
+
+abbrev pub DNS_RESP_CLASS : ℕ
+DNS_RESP_CLASS = 186
+
+abbrev pub DNS_RESP_TTL : ℕ
+DNS_RESP_TTL = 187
+
+abbrev pub DNS_RESP_LEN : ℕ
+DNS_RESP_LEN = 188
+
+abbrev pub DNS_A : ℕ
+DNS_A = 189
+
+abbrev pub DNS_AAAA : ℕ
+DNS_AAAA = 190
+
+abbrev pub DNS_NS : ℕ
+DNS_NS = 191
+
+abbrev pub DNS_CNAME : ℕ
+DNS_CNAME = 192
+
+abbrev pub DNS_PTR_DOMAIN_NAME : ℕ
+DNS_PTR_DOMAIN_NAME = 193
+
+abbrev pub DNS_MX_PREFERENCE : ℕ
+DNS_MX_PREFERENCE = 194
+
+abbrev pub DNS_MX_MAIL_EXCHANGE : ℕ
+DNS_MX_MAIL_EXCHANGE = 195
+
+abbrev pub DNS_SOA_MNAME : ℕ
+DNS_SOA_MNAME = 196
+
+abbrev pub DNS_SOA_RNAME : ℕ
+DNS_SOA_RNAME = 197
+
+abbrev pub DNS_SOA_SERIAL_NUMBER : ℕ
+DNS_SOA_SERIAL_NUMBER = 198
+
+abbrev pub DNS_SOA_REFRESH_INTERVAL : ℕ
+DNS_SOA_REFRESH_INTERVAL = 199
+
+abbrev pub DNS_SOA_RETRY_INTERVAL : ℕ
+DNS_SOA_RETRY_INTERVAL = 200
+
+abbrev pub DNS_SOA_EXPIRE_LIMIT : ℕ
+DNS_SOA_EXPIRE_LIMIT = 201
+
+abbrev pub DNS_SOA_MINIMUM_TTL : ℕ
+DNS_SOA_MINIMUM_TTL = 202
+
+abbrev pub DNS_TXT : ℕ
+DNS_TXT = 203
+
+abbrev pub DNS_DATA : ℕ
+DNS_DATA = 204
+
+abbrev pub DNS_RESPONSE_TO : ℕ
+DNS_RESPONSE_TO = 205
+
+abbrev pub DNS_RESPONSE_IN : ℕ
+DNS_RESPONSE_IN = 206
+
+abbrev pub DHCP : ℕ
+DHCP = 207
+
+abbrev pub DHCP_TYPE : ℕ
+DHCP_TYPE = 208
+
+abbrev pub DHCP_HW_TYPE : ℕ
+DHCP_HW_TYPE = 209
+
+abbrev pub DHCP_HW_LEN : ℕ
+DHCP_HW_LEN = 210
+
+abbrev pub DHCP_HOPS : ℕ
+DHCP_HOPS = 211
+
+abbrev pub DHCP_ID : ℕ
+DHCP_ID = 212
+
+abbrev pub DHCP_SECS : ℕ
+DHCP_SECS = 213
+
+abbrev pub DHCP_FLAGS : ℕ
+DHCP_FLAGS = 214
+
+abbrev pub DHCP_FLAGS_BC : ℕ
+DHCP_FLAGS_BC = 215
+
+abbrev pub DHCP_IP_CLIENT : ℕ
+DHCP_IP_CLIENT = 216
+
+abbrev pub DHCP_IP_YOUR : ℕ
+DHCP_IP_YOUR = 217
+
+abbrev pub DHCP_IP_SERVER : ℕ
+DHCP_IP_SERVER = 218
+
+abbrev pub DHCP_IP_RELAY : ℕ
+DHCP_IP_RELAY = 219
+
+abbrev pub DHCP_HW_MAC_ADDR : ℕ
+DHCP_HW_MAC_ADDR = 220
+
+abbrev pub DHCP_HW_ADDR : ℕ
+DHCP_HW_ADDR = 221
+
+abbrev pub DHCP_SERVER : ℕ
+DHCP_SERVER = 222
+
+abbrev pub DHCP_FILE : ℕ
+DHCP_FILE = 223
+
+abbrev pub DHCP_COOKIE : ℕ
+DHCP_COOKIE = 224
+
+abbrev pub DHCP_OPTION_TYPE : ℕ
+DHCP_OPTION_TYPE = 225
+
+abbrev pub DHCP_OPTION_LENGTH : ℕ
+DHCP_OPTION_LENGTH = 226
+
+abbrev pub DHCP_OPTION_VALUE : ℕ
+DHCP_OPTION_VALUE = 227
+
+abbrev pub DHCP_OPTION_SUBNET_MASK : ℕ
+DHCP_OPTION_SUBNET_MASK = 228
+
+abbrev pub DHCP_OPTION_ROUTER : ℕ
+DHCP_OPTION_ROUTER = 229
+
+abbrev pub DHCP_OPTION_DOMAIN_NAME_SERVER : ℕ
+DHCP_OPTION_DOMAIN_NAME_SERVER = 230
+
+abbrev pub DHCP_OPTION_HOSTNAME : ℕ
+DHCP_OPTION_HOSTNAME = 231
+
+abbrev pub DHCP_OPTION_REQUESTED_IP_ADDRESS : ℕ
+DHCP_OPTION_REQUESTED_IP_ADDRESS = 232
+
+abbrev pub DHCP_OPTION_IP_ADDRESS_LEASE_TIME : ℕ
+DHCP_OPTION_IP_ADDRESS_LEASE_TIME = 233
+
+abbrev pub DHCP_OPTION_DHCP : ℕ
+DHCP_OPTION_DHCP = 234
+
+abbrev pub DHCP_OPTION_DHCP_SERVER_ID : ℕ
+DHCP_OPTION_DHCP_SERVER_ID = 235
+
+abbrev pub HTTP : ℕ
+HTTP = 236
+
+abbrev pub HTTP_REQUEST : ℕ
+HTTP_REQUEST = 237
+
+abbrev pub HTTP_REQUEST_METHOD : ℕ
+HTTP_REQUEST_METHOD = 238
+
+abbrev pub HTTP_REQUEST_URI : ℕ
+HTTP_REQUEST_URI = 239
+
+abbrev pub HTTP_REQUEST_VERSION : ℕ
+HTTP_REQUEST_VERSION = 240
+
+abbrev pub HTTP_RESPONSE : ℕ
+HTTP_RESPONSE = 241
+
+abbrev pub HTTP_RESPONSE_VERSION : ℕ
+HTTP_RESPONSE_VERSION = 242
+
+abbrev pub HTTP_RESPONSE_CODE : ℕ
+HTTP_RESPONSE_CODE = 243
+
+abbrev pub HTTP_RESPONSE_PHRASE : ℕ
+HTTP_RESPONSE_PHRASE = 244
+
+abbrev pub HTTP_HEADER_NAME : ℕ
+HTTP_HEADER_NAME = 245
+
+abbrev pub HTTP_HEADER_VALUE : ℕ
+HTTP_HEADER_VALUE = 246
+
+abbrev pub HTTP_HOST : ℕ
+HTTP_HOST = 247
+
+abbrev pub HTTP_USER_AGENT : ℕ
+HTTP_USER_AGENT = 248
+
+abbrev pub HTTP_CONTENT_TYPE : ℕ
+HTTP_CONTENT_TYPE = 249
+
+abbrev pub HTTP_CONTENT_LENGTH_HEADER : ℕ
+HTTP_CONTENT_LENGTH_HEADER = 250
+
+abbrev pub HTTP_TRANSFER_ENCODING : ℕ
+HTTP_TRANSFER_ENCODING = 251
+
+abbrev pub HTTP_CONTENT_ENCODING : ℕ
+HTTP_CONTENT_ENCODING = 252
+
+abbrev pub HTTP_SERVER : ℕ
+HTTP_SERVER = 253
+
+abbrev pub HTTP_LOCATION : ℕ
+HTTP_LOCATION = 254
+
+abbrev pub HTTP_CONNECTION : ℕ
+HTTP_CONNECTION = 255
+
+abbrev pub HTTP_COOKIE : ℕ
+HTTP_COOKIE = 256
+
+abbrev pub HTTP_SET_COOKIE : ℕ
+HTTP_SET_COOKIE = 257
+
+abbrev pub HTTP_REFERER : ℕ
+HTTP_REFERER = 258
+
+abbrev pub HTTP_ACCEPT : ℕ
+HTTP_ACCEPT = 259
+
+abbrev pub HTTP_DATE : ℕ
+HTTP_DATE = 260
+
+abbrev pub HTTP_FILE_DATA : ℕ
+HTTP_FILE_DATA = 261
+
+abbrev pub HTTP_REQUEST_IN : ℕ
+HTTP_REQUEST_IN = 262
+
+abbrev pub HTTP_RESPONSE_IN : ℕ
+HTTP_RESPONSE_IN = 263
+
+abbrev pub DATA : ℕ
+DATA = 264
+
+abbrev pub DATA_DATA : ℕ
+DATA_DATA = 265
+
+abbrev pub DATA_LEN : ℕ
+DATA_LEN = 266
+
+abbrev pub WS_SHORT : ℕ
+WS_SHORT = 267
+
+abbrev pub WS_MALFORMED : ℕ
+WS_MALFORMED = 268

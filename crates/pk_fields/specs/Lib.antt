@@ -1,0 +1,4 @@
+pub mod Fields
+pub mod Ids
+pub mod Rows
+pub mod Table

@@ -1,0 +1,18 @@
+use std::marker::Model;
+
+/// A field or a protocol: its place in the table.
+#[derive(Clone, Copy, Debug, PartialEq, Eq)]
+pub struct FieldId(pub(crate) u16);
+
+impl Model for FieldId {
+    ghost use Rattle.std.specs.Prelude.{ℕ};
+    ghost use Rattle.pk_fields.specs.Fields.{IsField};
+
+    ghost Value = { ℕ };
+
+    ghost view = { λ field. field.0 };
+
+    ghost invariant = { λ field. IsField field.0 };
+
+    ghost inverse = { λ number. record { 0 = number } };
+}

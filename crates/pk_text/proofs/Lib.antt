@@ -1,0 +1,9 @@
+pub mod CutLemmas
+pub mod DigitsLemmas
+pub mod EtherLemmas
+pub mod Ip4Lemmas
+pub mod NumberLemmas
+pub mod OctetsLemmas
+pub mod OptionLemmas
+pub mod PairsLemmas
+pub mod TimeLemmas

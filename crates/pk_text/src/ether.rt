@@ -1,0 +1,64 @@
+ghost use Rattle.std.specs.Prelude.{◌≡◌, ℕ, ◌<◌, length, slice_index, IfOk, IfSome};
+ghost use Rattle.std.specs.String.{string_bytes};
+ghost use Rattle.pk_text.specs.Ether.{IsEtherForm, ether_of, ether_separator, ether_shown};
+ghost use Rattle.pk_text.specs.Pairs.{PairsForm, pairs_text, pairs_value};
+
+use crate::digits::push_hex;
+use crate::pairs::read_pairs;
+use pk_base::NoMemory;
+use std::alloc::Global;
+
+/// An Ethernet address as six pairs of lower-case hexadecimal digits, joined by `:`.
+#[tactic(auto, using(crate::proofs::EtherLemmas::ether_from_shown))]
+pub fn ether_text(alloc: Global, v: [u8; 6]) -> Result<String, NoMemory>
+    ensures text { IfOk result (λ text. string_bytes text ≡ ether_shown v) }
+    ensures reads_back { IfOk result (λ text. ether_of (string_bytes text) ≡ Some v) }
+{
+    joined(alloc, &v)
+}
+
+#[tactic(auto, using(crate::proofs::EtherLemmas::shown_from_front))]
+fn joined(alloc: Global, bytes: &[u8]) -> Result<String, NoMemory>
+    requires { length bytes.now ≡ 6 }
+    ensures text { IfOk result (λ text. string_bytes text ≡ ether_shown bytes.now) }
+    ensures bytes { (i : ℕ) → slice_index bytes.now i < 256 }
+{
+    let mut text = String::with_capacity(alloc, 3 * bytes.len() - 1)?;
+    push_hex(&mut text, bytes[0])?;
+    for byte in &bytes[1..] {
+        text.push(':')?;
+        push_hex(&mut text, *byte)?;
+    }
+    Ok(text)
+}
+
+/// Reads an Ethernet address: six pairs of hexadecimal digits, joined by `:` throughout or by `-` throughout.
+#[tactic(auto, using(crate::proofs::EtherLemmas::ether_found, crate::proofs::EtherLemmas::ether_only))]
+pub fn read_ether(text: &str) -> Option<[u8; 6]>
+    ensures computed { result ≡ ether_of text.now }
+    ensures found { (f : PairsForm) → IsEtherForm f → text.now ≡ pairs_text f → result ≡ Some (pairs_value f) }
+    ensures only { IfSome result (λ address. (f : PairsForm) × IsEtherForm f
+        × (text.now ≡ pairs_text f) × (address ≡ pairs_value f)) }
+{
+    ether_in(text.as_bytes())
+}
+
+#[tactic(auto, unfolding(crate::specs::Ether::ether_of))]
+fn ether_in(text: &[u8]) -> Option<[u8; 6]>
+    ensures { result ≡ ether_of text.now }
+{
+    let separator = separator_in(text)?;
+    let mut address = [0; 6];
+    read_pairs(text, Some(separator), &mut address)?;
+    Some(address)
+}
+
+/// The separator behind the first pair.
+fn separator_in(text: &[u8]) -> Option<u8>
+    ensures { result ≡ ether_separator text.now }
+{
+    match text {
+        [_, _, c @ (b':' | b'-'), ..] => Some(*c),
+        _ => None,
+    }
+}

@@ -1,0 +1,57 @@
+ghost use Rattle.std.specs.Prelude.{◌≡◌, ℕ, ◌^◌, ◌<◌, IfOk, IfSome};
+ghost use Rattle.std.specs.String.{string_bytes};
+ghost use Rattle.pk_text.specs.Ip4.{ip4_of, ip4_shown, part_read};
+
+use crate::digits::read_short;
+use pk_base::NoMemory;
+use std::alloc::Global;
+
+/// The digits of a number from 0 to 255, at most.
+const PART_DIGITS: usize = 3;
+
+/// An IPv4 address as four decimal numbers, joined by `.`.
+#[tactic(auto, unfolding(crate::specs::Ip4::ip4_shown))]
+pub fn ip4_text(alloc: Global, v: u32) -> Result<String, NoMemory>
+    ensures text { IfOk result (λ text. string_bytes text ≡ ip4_shown v) }
+    ensures reads_back { IfOk result (λ text. ip4_of (string_bytes text) ≡ Some v) }
+{
+    let [a, b, c, d] = v.to_be_bytes();
+    Ok(format!(in alloc; "{a}.{b}.{c}.{d}")?)
+}
+
+/// Reads an IPv4 address: four decimal numbers from 0 to 255 without leading zeros, joined by `.`.
+#[tactic(auto, using(crate::proofs::Ip4Lemmas::ip4_found, crate::proofs::Ip4Lemmas::ip4_only))]
+pub fn read_ip4(text: &str) -> Option<u32>
+    ensures computed { result ≡ ip4_of text.now }
+    ensures found { (v : ℕ) → v < 2 ^ 32 → text.now ≡ ip4_shown v → result ≡ Some v }
+    ensures only { IfSome result (λ v. text.now ≡ ip4_shown v) }
+{
+    ip4_in(text)
+}
+
+#[tactic(auto, unfolding(crate::specs::Ip4::ip4_of))]
+fn ip4_in(text: &str) -> Option<u32>
+    ensures { result ≡ ip4_of text.now }
+{
+    let (first, rest) = text.split_once('.')?;
+    let (second, rest) = rest.split_once('.')?;
+    let (third, fourth) = rest.split_once('.')?;
+    Some(u32::from_be_bytes([
+        read_part(first)?,
+        read_part(second)?,
+        read_part(third)?,
+        read_part(fourth)?,
+    ]))
+}
+
+/// A decimal number from 0 to 255, without a leading zero.
+#[tactic(auto, unfolding(crate::specs::Ip4::part_read))]
+fn read_part(digits: &str) -> Option<u8>
+    ensures { result ≡ part_read digits.now }
+{
+    let digits = digits.as_bytes();
+    if digits.len() > 1 && digits[0] == b'0' {
+        return None;
+    }
+    u8::try_from(read_short(digits, 10, PART_DIGITS)?).ok()
+}

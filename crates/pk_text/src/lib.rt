@@ -1,0 +1,19 @@
+//! The texts of single values, and the readers of such texts: numbers, times, Ethernet, IPv4 and IPv6 addresses,
+//! and bytes.
+#![tactic(auto)]
+
+mod digits;
+mod escape;
+mod ether;
+mod ip4;
+mod number;
+mod octets;
+mod pairs;
+mod time;
+
+pub use escape::escape_text;
+pub use ether::{ether_text, read_ether};
+pub use ip4::{ip4_text, read_ip4};
+pub use number::{Wide, number_text, read_number};
+pub use octets::read_bytes;
+pub use time::{read_time, time_text};

@@ -1,0 +1,6 @@
+mod FileLemmas
+mod FilterLemmas
+mod OutputLemmas
+mod ReadingLemmas
+mod ToldLemmas
+mod WordLemmas

@@ -1,0 +1,9 @@
+use Rattle.std.proofs.Common.{◌≡◌, suc, length, arith}
+use Rattle.pk_base.specs.Limits.{file_limit}
+use Rattle.shark_run.proofs.FileLemmas.{front_of_left}
+use Rattle.shark_run.proofs.file.read_rest.Goals as goal
+
+pub returns-clause-bytes : goal.returns-clause-bytes
+returns-clause-bytes g c =
+    let full : length c.loop-bytes.bytes.items ≡ suc file_limit = omega (arith, c.file_limit-most.ensures.value) in
+    front_of_left _ _ _ _ c.loop-bytes.invariant.2 full

@@ -1,0 +1,64 @@
+-- How a run ends, and what standard error is told of it.
+use Rattle.std.specs.Prelude.{ℕ, List, Option, Result}
+use Rattle.std.specs.Io.KnownBytes.{Keeps}
+use Rattle.capture_read.specs.declared.ending.Ending.{Ending}
+use Rattle.capture_read.specs.declared.ending.Ending.TheVariants as ending
+use Rattle.shark_run.specs.declared.plan.Plan.{Plan}
+use Rattle.shark_run.specs.declared.plan.Refused.{Refused}
+use Rattle.shark_run.specs.declared.plan.Refused.TheVariants as refused
+use Rattle.shark_run.specs.declared.status.Status.{Status}
+use Rattle.shark_run.specs.declared.status.Status.TheVariants.{Done, BadWords, BadFilter, BadField, CannotOpen, ReadFault, Damaged, TooLarge, WriteFault, NoMemory}
+
+-- the number with which the program ends
+abbrev pub exit_number : Status → ℕ
+exit_number Done = 0
+exit_number BadWords = 1
+exit_number BadFilter = 2
+exit_number BadField = 3
+exit_number CannotOpen = 4
+exit_number ReadFault = 5
+exit_number Damaged = 6
+exit_number TooLarge = 7
+exit_number WriteFault = 8
+exit_number NoMemory = 9
+
+-- the status of a whole output, by how the frames that were read end
+abbrev pub status_of : Ending → Status
+status_of ending.Whole = Done
+status_of (ending.Damaged damage) = Damaged
+status_of ending.TooLarge = TooLarge
+
+-- the status of a refusal
+abbrev pub refusal_status : Refused → Status
+refusal_status refused.Words = BadWords
+refusal_status refused.Filter = BadFilter
+
+-- the status of words that aren't refused
+abbrev pub IsNoRefusal : Status → Type 0
+IsNoRefusal BadWords = ⊥
+IsNoRefusal BadFilter = ⊥
+IsNoRefusal BadField = ⊥
+IsNoRefusal Done = Unit {0}
+IsNoRefusal CannotOpen = Unit {0}
+IsNoRefusal ReadFault = Unit {0}
+IsNoRefusal Damaged = Unit {0}
+IsNoRefusal TooLarge = Unit {0}
+IsNoRefusal WriteFault = Unit {0}
+IsNoRefusal NoMemory = Unit {0}
+
+-- P, where the file was read and the output written to its end
+abbrev pub WhenEnded : Status → Type 0 → Type 0
+WhenEnded Done P = P
+WhenEnded Damaged P = P
+WhenEnded TooLarge P = P
+WhenEnded BadWords P = Unit {0}
+WhenEnded BadFilter P = Unit {0}
+WhenEnded BadField P = Unit {0}
+WhenEnded CannotOpen P = Unit {0}
+WhenEnded ReadFault P = Unit {0}
+WhenEnded WriteFault P = Unit {0}
+WhenEnded NoMemory P = Unit {0}
+
+-- what standard error is told of the answer to these words over these files. Nothing is written to it yet
+unfoldable pub Told : Result Plan Refused → (List ℕ → Option (List ℕ)) → Status → Option (List ℕ) → Option (List ℕ) → Type 0
+Told plan files status old new = Keeps old new

@@ -1,0 +1,109 @@
+// The top call.
+ghost use Rattle.std.specs.Prelude.{◌≡◌, ◌≤◌, ◌⊎◌, IfOk, IfErr, IfSome};
+ghost use Rattle.pk_outside.specs.Outside.{Rose};
+ghost use Rattle.shark_run.specs.Plan.{plan_of, texts};
+ghost use Rattle.shark_run.specs.Reading.{name_of, file_of, frames_read};
+ghost use Rattle.shark_run.specs.Statuses.{status_of, refusal_status, IsNoRefusal, WhenEnded, Told};
+ghost use Rattle.shark_run.specs.Causes.{IsUnopened, IsUnread};
+ghost use Rattle.shark_run.specs.Wrote.{WroteAll, WrotePart};
+
+use crate::file::{FileFault, open_frames};
+use crate::output::write_output;
+use crate::plan::{Plan, PlanError};
+use crate::status::{Status, status_of_ending, status_of_refusal};
+use crate::words::read_plan;
+use pk_outside::{Capture, Sink, SinkFault};
+use std::alloc::Global;
+
+/// Does what a plan says: reads its capture file, and writes the output over its frames to `out`.
+#[tactic(auto, using(crate::proofs::ToldLemmas::told_nothing))]
+pub fn run_plan<C: Capture, O: Sink, E: Sink>(
+    alloc: Global,
+    plan: &Plan,
+    capture: &mut C,
+    out: &mut O,
+    err: &mut E,
+) -> Status
+    ensures no_refusal { IsNoRefusal result }
+
+    // The whole output, where the run came to an end, and never anything but a front of it.
+    ensures ended { WhenEnded result (IfSome (file_of plan.now (C.file capture.old)) (λ file.
+        WroteAll plan.now (frames_read plan.now file) (O.written out.old) (O.written out.new)
+        × (result ≡ status_of (frames_read plan.now file).ending))) }
+    ensures part { IfSome (file_of plan.now (C.file capture.old)) (λ file.
+        WrotePart plan.now (frames_read plan.now file) (O.written out.old) (O.written out.new)) }
+
+    // The causes of the other answers.
+    ensures unopened { result ≡ Status.CannotOpen
+        → IsUnopened (C.missed capture.old) (C.missed capture.new) (C.begun capture.old) (C.begun capture.new)
+        (C.asked capture.new) (name_of plan.now) × (out.new ≡ out.old) }
+    ensures unread { result ≡ Status.ReadFault
+        → IsUnread (C.faults capture.old) (C.faults capture.new) (C.begun capture.old) (C.begun capture.new)
+        (C.missed capture.old) (C.missed capture.new) (C.asked capture.new) (name_of plan.now) }
+    ensures write_fault { result ≡ Status.WriteFault → Rose (O.faults out.old) (O.faults out.new) }
+
+    // Where no fault rose, the run comes to an end or finds no memory.
+    ensures complete { IfSome (file_of plan.now (C.file capture.old)) (λ file.
+        ¬ Rose (C.missed capture.old) (C.missed capture.new) → ¬ Rose (C.faults capture.old) (C.faults capture.new)
+        → ¬ Rose (O.faults out.old) (O.faults out.new)
+        → (result ≡ status_of (frames_read plan.now file).ending) ⊎ (result ≡ Status.NoMemory)) }
+    ensures told { Told (Ok plan.now) (C.file capture.old) result (E.written err.old) (E.written err.new) }
+{
+    let frames = match open_frames(alloc, plan, capture) {
+        Ok(frames) => frames,
+        Err(FileFault::CannotOpen) => return Status::CannotOpen,
+        Err(FileFault::ReadFault) => return Status::ReadFault,
+        Err(FileFault::NoMemory) => return Status::NoMemory,
+    };
+    match write_output(alloc, plan, frames, out) {
+        Ok(ending) => status_of_ending(ending),
+        Err(SinkFault::Failed) => Status::WriteFault,
+        Err(SinkFault::NoMemory) => Status::NoMemory,
+    }
+}
+
+/// Reads the words of a command line and does what they ask for, or refuses them.
+///
+/// `out` gets the lines of the frames that the filter lets through, in the order of the file; the status says how the
+/// run ended. Where the words are refused nothing is read and nothing is written.
+#[tactic(auto, using(crate::proofs::ToldLemmas::told_nothing))]
+pub fn run<C: Capture, O: Sink, E: Sink>(
+    alloc: Global,
+    words: &[String],
+    capture: &mut C,
+    out: &mut O,
+    err: &mut E,
+) -> Status
+    ensures refused { IfErr (plan_of (texts words.now)) (λ reason. (result ≡ refusal_status reason) ⊎ (result ≡ Status.NoMemory)) }
+    ensures refused_only { IfOk (plan_of (texts words.now)) (λ _. IsNoRefusal result) }
+    ensures untouched { IfErr (plan_of (texts words.now)) (λ _. (capture.new ≡ capture.old) × (out.new ≡ out.old)) }
+
+    // The whole output, where the run came to an end, and never anything but a front of it.
+    ensures ended { IfOk (plan_of (texts words.now)) (λ plan. WhenEnded result (IfSome (file_of plan (C.file capture.old)) (λ file.
+        WroteAll plan (frames_read plan file) (O.written out.old) (O.written out.new)
+        × (result ≡ status_of (frames_read plan file).ending)))) }
+    ensures part { IfOk (plan_of (texts words.now)) (λ plan. IfSome (file_of plan (C.file capture.old)) (λ file.
+        WrotePart plan (frames_read plan file) (O.written out.old) (O.written out.new))) }
+
+    // The causes of the other answers.
+    ensures unopened { result ≡ Status.CannotOpen → IfOk (plan_of (texts words.now)) (λ plan.
+        IsUnopened (C.missed capture.old) (C.missed capture.new) (C.begun capture.old) (C.begun capture.new)
+        (C.asked capture.new) (name_of plan) × (out.new ≡ out.old)) }
+    ensures unread { result ≡ Status.ReadFault → IfOk (plan_of (texts words.now)) (λ plan.
+        IsUnread (C.faults capture.old) (C.faults capture.new) (C.begun capture.old) (C.begun capture.new)
+        (C.missed capture.old) (C.missed capture.new) (C.asked capture.new) (name_of plan)) }
+    ensures write_fault { result ≡ Status.WriteFault → Rose (O.faults out.old) (O.faults out.new) }
+
+    // Where no fault rose, the run comes to an end or finds no memory.
+    ensures complete { IfOk (plan_of (texts words.now)) (λ plan. IfSome (file_of plan (C.file capture.old)) (λ file.
+        ¬ Rose (C.missed capture.old) (C.missed capture.new) → ¬ Rose (C.faults capture.old) (C.faults capture.new)
+        → ¬ Rose (O.faults out.old) (O.faults out.new)
+        → (result ≡ status_of (frames_read plan file).ending) ⊎ (result ≡ Status.NoMemory))) }
+    ensures told { Told (plan_of (texts words.now)) (C.file capture.old) result (E.written err.old) (E.written err.new) }
+{
+    match read_plan(alloc, words) {
+        Ok(plan) => run_plan(alloc, &plan, capture, out, err),
+        Err(PlanError::Refused(refused)) => status_of_refusal(refused),
+        Err(PlanError::NoMemory) => Status::NoMemory,
+    }
+}
