@@ -27,9 +27,9 @@ nat_lt-min : (limit n m : ℕ) → limit < n → nat_lt limit (min n m) ≡ nat_
 nat_lt-min limit n m h = grind (arith, nat_tests)
 
 -- the bytes behind any place past the limit don't change what a file stands for
-pub capture_of_front : (n : ℕ) (file : List ℕ) → file_limit < n → capture_of (take n file) ≡ capture_of file
+pub capture_of-take : (n : ℕ) (file : List ℕ) → file_limit < n → capture_of (take n file) ≡ capture_of file
 unfolding capture_of
-capture_of_front n file h =
+capture_of-take n file h =
     let same : take file_limit (take n file) ≡ take file_limit file = take-take file_limit n file (omega arith) in
     let large : is_large (take n file) ≡ is_large file = rw length-take (nat_lt-min file_limit n (length file) h) in
     rw (large, same) refl

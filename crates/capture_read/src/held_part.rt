@@ -23,7 +23,6 @@ pub fn is_large(file: &[u8]) -> bool
 }
 
 /// The bytes that the reading of a file rests on: those that are looked at, and one that tells that there are more.
-#[tactic(auto, using(crate::proofs::Limit::capture_of_front))]
 pub fn telling_bytes(file: &[u8]) -> &[u8]
     ensures same { capture_of result.now ≡ capture_of file.now }
     ensures few { length result.now ≤ limit_of_file + 1 }
