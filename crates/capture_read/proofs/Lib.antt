@@ -1,2 +1,3 @@
-pub mod Records
+pub mod FrameBounds
 pub mod Limit
+mod Records

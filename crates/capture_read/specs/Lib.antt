@@ -1,4 +1,5 @@
 pub mod Capture
 pub mod Ending
+pub mod FrameList
 pub mod NextFrame
 pub mod State
