@@ -2,6 +2,8 @@ pub mod CutLemmas
 pub mod DigitsLemmas
 pub mod EtherLemmas
 pub mod Ip4Lemmas
+pub mod Ip6Lemmas
+pub mod Ip6FormLemmas
 pub mod NumberLemmas
 pub mod OctetsLemmas
 pub mod OptionLemmas
