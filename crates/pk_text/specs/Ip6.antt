@@ -9,7 +9,7 @@ use Rattle.pk_text.specs.declared.ip6.Side.{Side}
 use Rattle.pk_text.specs.Digits.{short_read}
 
 -- the eight groups of 16 bits of an address, the highest first
-abbrev pub groups_of : ℕ → List ℕ
+unfoldable pub groups_of : ℕ → List ℕ
 groups_of address = map (λ place. address / 2 ^ place % 2 ^ 16) (112 ∷ 96 ∷ 80 ∷ 64 ∷ 48 ∷ 32 ∷ 16 ∷ 0 ∷ [])
 
 -- groups in lower case without leading zeros (RFC 5952, 4.1 and 4.3), joined by `:`

@@ -1,8 +1,9 @@
-ghost use Rattle.std.specs.Prelude.{◌≡◌, ℕ, ◌+◌, ◌-◌, ◌*◌, ◌^◌, ◌<◌, ◌≤◌, ◌++◌, IfOk, IfSome, OnOk, option_and_then, length, drop};
+ghost use Rattle.std.specs.Prelude.{◌≡◌, ℕ, ◌+◌, ◌-◌, ◌*◌, ◌^◌, ◌<◌, ◌≤◌, ◌++◌, ◌/◌, ◌%◌, ◌==◌, IfOk, IfSome, OnOk, option_and_then, nat_lt, if◌then◌else◌};
 ghost use Rattle.std.specs.String.{string_bytes};
 ghost use Rattle.std.specs.Option.{option_map};
+ghost use Rattle.std.specs.List.{prefix_len};
 ghost use Rattle.pk_text.specs.Digits.{short_read};
-ghost use Rattle.pk_text.specs.Ip6.{Ip6Form, IsIp6Form, ip6_form_text, ip6_form_value, ip6_of, gap_in, side_of, side_more, shortened_of, whole_of};
+ghost use Rattle.pk_text.specs.Ip6.{Ip6Form, IsIp6Form, IsIp6Text, IsBestRun, groups_of, groups_shown, ip6_form_text, ip6_form_value, ip6_of, gap_in, side_of, side_more, shortened_of, whole_of};
 
 use crate::digits::read_short;
 use pk_base::NoMemory;
@@ -17,11 +18,108 @@ const GROUP_DIGITS: usize = 4;
 /// One more than the greatest group.
 const GROUP: u128 = 0x1_0000;
 
+/// The bytes of a text, at most: eight groups of four digits, and seven colons.
+const TEXT_LEN: usize = 39;
+
+/// Zero groups that stand side by side: the place of the first, and how many.
+#[derive(Clone, Copy)]
+struct Run {
+    start: usize,
+    count: usize,
+}
+
 /// Groups that stand side by side: how many, and the number that they make.
 #[derive(Clone, Copy)]
 struct Side {
     count: usize,
     number: u128,
+}
+
+/// An IPv6 address as RFC 5952 recommends, without the dotted form.
+pub fn ip6_text(alloc: Global, v: u128) -> Result<String, NoMemory>
+    ensures text { IfOk result (λ text. IsIp6Text (groups_of v) (string_bytes text)) }
+    ensures reads_back { IfOk result (λ text. ip6_of (string_bytes text) ≡ Some v) }
+{
+    let groups = groups_of(v);
+    let text = groups_text(alloc, &groups)?;
+    Ok(text)
+}
+
+/// The groups of an address, the highest first.
+#[tactic(auto, unfolding(crate::specs::Ip6::groups_of))]
+fn groups_of(address: u128) -> [u16; 8]
+    ensures { result ≡ groups_of address }
+{
+    [
+        group_at(address, 112),
+        group_at(address, 96),
+        group_at(address, 80),
+        group_at(address, 64),
+        group_at(address, 48),
+        group_at(address, 32),
+        group_at(address, 16),
+        group_at(address, 0),
+    ]
+}
+
+fn group_at(address: u128, place: u32) -> u16
+    requires { place < 128 }
+    ensures { result ≡ address / 2 ^ place % 2 ^ 16 }
+{
+    ((address >> place) % GROUP) as u16
+}
+
+#[tactic(auto, using(crate::proofs::Ip6RunLemmas::plain_text, crate::proofs::Ip6RunLemmas::shortened_text))]
+fn groups_text(alloc: Global, groups: &[u16]) -> Result<String, NoMemory>
+    ensures { IfOk result (λ text. IsIp6Text groups.now (string_bytes text)) }
+{
+    let mut text = String::with_capacity(alloc, TEXT_LEN)?;
+    let run = best_run(groups);
+    if run.count < 2 {
+        push_groups(&mut text, groups)?;
+        return Ok(text);
+    }
+    push_groups(&mut text, &groups[..run.start])?;
+    text.push_str("::")?;
+    push_groups(&mut text, &groups[run.start + run.count..])?;
+    Ok(text)
+}
+
+fn push_groups(text: &mut String, groups: &[u16]) -> Result<(), NoMemory>
+    ensures { OnOk result (string_bytes text.new ≡ string_bytes text.old ++ groups_shown groups.now) }
+{
+    let [first, rest @ ..] = groups else {
+        return Ok(());
+    };
+    write!(text, "{first:x}")?;
+    for group in rest {
+        write!(text, ":{group:x}")?;
+    }
+    Ok(())
+}
+
+/// The longest run of zeros, and the first of those as long.
+fn best_run(groups: &[u16]) -> Run
+    ensures { IsBestRun groups.now result.start result.count }
+{
+    let mut best = Run { start: 0, count: 0 };
+    for start in 0..groups.len() {
+        let count = zeros_in_front(&groups[start..]);
+        best = longer(best, Run { start, count });
+    }
+    best
+}
+
+fn longer(best: Run, next: Run) -> Run
+    ensures { result ≡ (if nat_lt best.count next.count then next else best) }
+{
+    if best.count < next.count { next } else { best }
+}
+
+fn zeros_in_front(groups: &[u16]) -> usize
+    ensures { result ≡ prefix_len (λ group. group == 0) groups.now }
+{
+    groups.iter().take_while(|group| **group == 0).count()
 }
 
 /// Reads an IPv6 address: eight groups of one to four hexadecimal digits joined by `:`, with at most one `::` in place of

@@ -15,7 +15,7 @@ mod time;
 pub use escape::escape_text;
 pub use ether::{ether_text, read_ether};
 pub use ip4::{ip4_text, read_ip4};
-pub use ip6::read_ip6;
+pub use ip6::{ip6_text, read_ip6};
 pub use number::{Wide, number_text, read_number};
 pub use octets::read_bytes;
 pub use time::{read_time, time_text};
