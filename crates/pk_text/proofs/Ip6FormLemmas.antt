@@ -13,7 +13,6 @@ use Rattle.std.proofs.lemmas.List.Splits.{slice_split_at, slice_split_none, join
 use Rattle.std.proofs.lemmas.Int.Digits.{number_after_append}
 use Rattle.std.proofs.lemmas.Nat.{pow-add}
 use Rattle.std.proofs.Math.Nat.{pow-zero, pow-succ', mul_assoc}
-use Rattle.pk_text.specs.declared.ip6.Side.{Side}
 use Rattle.pk_text.specs.Digits.{short_read}
 use Rattle.pk_text.specs.Ip6.{Ip6Form, Whole, Shortened, IsWord, IsIp6Form, joined, ip6_form_text, ip6_form_value, words_values, gap_in, side_more, side_after, words_in, side_of, shortened_of, whole_of, ip6_from, ip6_of}
 use Rattle.pk_text.proofs.CutLemmas.{Lacks, Lacks-from_AllDigits}
@@ -113,8 +112,8 @@ joined-words_in : (t : List ℕ) → joined (words_in t) ≡ t
 joined-words_in t = joined-bytes (words_in t) ∙ join_with_byte-slice_split 58 t
 
 -- the groups of a side
-abbrev side_with : ℕ → ℕ → Side
-side_with count number = record { count = count; number = number }
+abbrev side_with : ℕ → ℕ → ℕ × ℕ
+side_with count number = (count, number)
 
 side_after-words : (count number : ℕ) (words : List (List ℕ)) → AreWords words → count + length words ≤ 8 → side_after (side_with count number) words ≡ Some (side_with (count + length words) (number_from_digits_after (2 ^ 16) number (words_values words)))
 side_after-words count number [] all most =
@@ -129,22 +128,22 @@ side_after-words count number (word ∷ words) all most =
     ∙ side_after-words (count + 1) (number * 2 ^ 16 + group) words all.1 (omega arith)
     ∙ ap (λ n. Some (side_with n last)) same
 
-side_after-reading : (side r : Side) (words : List (List ℕ)) → side_after side words ≡ Some r → AreWords words × (r.count ≡ side.count + length words) × (r.number ≡ number_from_digits_after (2 ^ 16) side.number (words_values words))
+side_after-reading : (side r : ℕ × ℕ) (words : List (List ℕ)) → side_after side words ≡ Some r → AreWords words × (r.0 ≡ side.0 + length words) × (r.1 ≡ number_from_digits_after (2 ^ 16) side.1 (words_values words))
 side_after-reading side r [] h =
-    let same = ap (λ s. s.count) (same_Some side r h) in
-    (tt, omega (arith, same), ap (λ s. s.number) (sym (same_Some side r h)))
+    let same = ap (λ s. s.0) (same_Some side r h) in
+    (tt, omega (arith, same), ap (λ s. s.1) (sym (same_Some side r h)))
 side_after-reading side r (word ∷ words) h =
-    let later : (more : Side) → side_after more words ≡ Some r → AreWords words × (r.count ≡ more.count + length words) × (r.number ≡ number_from_digits_after (2 ^ 16) more.number (words_values words)) = λ more. side_after-reading more r words in
+    let later : (more : ℕ × ℕ) → side_after more words ≡ Some r → AreWords words × (r.0 ≡ more.0 + length words) × (r.1 ≡ number_from_digits_after (2 ^ 16) more.1 (words_values words)) = λ more. side_after-reading more r words in
     option_and_then_some (λ more. side_after more words) (option_and_then (side_more side) (short_read 16 4 word)) r h (λ more found rest.
     option_and_then_some (side_more side) (short_read 16 4 word) more found (λ group read added.
     let digits = IsNumeral-short_read 16 4 word group read in
-    let (room, same) = cond_some (ltb side.count 8) (side_with (side.count + 1) (side.number * 2 ^ 16 + group)) more added in
+    let (room, same) = cond_some (ltb side.0 8) (side_with (side.0 + 1) (side.1 * 2 ^ 16 + group)) more added in
     let (all, count, number) = later more rest in
-    let counted = ap (λ s. s.count) same in (
+    let counted = ap (λ s. s.0) same in (
       ((digits.0, digits.1), all),
       omega (arith, count, counted),
       number ∙ ap (λ n. number_from_digits_after (2 ^ 16) n (words_values words))
-          (sym (ap (λ s. s.number) same) ∙ ap (λ g. side.number * 2 ^ 16 + g) digits.2),
+          (sym (ap (λ s. s.1) same) ∙ ap (λ g. side.1 * 2 ^ 16 + g) digits.2),
     )))
 
 side_of-joined : (words : List (List ℕ)) → AreWords words → length words ≤ 8 → side_of (joined words) ≡ Some (side_with (length words) (number_from_digits (2 ^ 16) (words_values words)))
@@ -158,13 +157,13 @@ side_of-joined (word ∷ words) all most =
     ∙ side_after-words 0 0 (word ∷ words) all (omega arith)
     ∙ ap (λ n. Some (side_with n total)) same
 
-abbrev IsSide : List ℕ → Side → Type 0
-IsSide t side = (words : List (List ℕ)) × AreWords words × (t ≡ joined words) × (side.count ≡ length words) × (side.number ≡ number_from_digits (2 ^ 16) (words_values words))
+abbrev IsSide : List ℕ → ℕ × ℕ → Type 0
+IsSide t side = (words : List (List ℕ)) × AreWords words × (t ≡ joined words) × (side.0 ≡ length words) × (side.1 ≡ number_from_digits (2 ^ 16) (words_values words))
 
-side_reading : (t : List ℕ) (side : Side) → side_of t ≡ Some side → IsSide t side
+side_reading : (t : List ℕ) (side : ℕ × ℕ) → side_of t ≡ Some side → IsSide t side
 unfolding side_of
 side_reading [] side h =
-    let same = sym (same_Some _ side h) in ([], tt, refl, ap (λ s. s.count) same, ap (λ s. s.number) same)
+    let same = sym (same_Some _ side h) in ([], tt, refl, ap (λ s. s.0) same, ap (λ s. s.1) same)
 side_reading (c ∷ cs) side h =
     let read = sym (side_of-some (c ∷ cs) (λ none. absurd (omega (arith, none)))) ∙ h in
     let (all, count, number) = side_after-reading (side_with 0 0) side (words_in (c ∷ cs)) read in
@@ -204,7 +203,7 @@ ip6_of-form : (f : Ip6Form) → IsIp6Form f → ip6_of (ip6_form_text f) ≡ Som
 unfolding ip6_of whole_of shortened_of
 ip6_of-form (Whole words) h =
     ap (ip6_from (joined words)) (no_gap_joined words h.0)
-    ∙ ap (option_and_then (λ (side : Side). cond (eqb side.count 8) (Some side.number) None)) (side_of-joined words h.0 (omega (arith, h.1)))
+    ∙ ap (option_and_then (λ (side : ℕ × ℕ). cond (eqb side.0 8) (Some side.1) None)) (side_of-joined words h.0 (omega (arith, h.1)))
     ∙ cond-true (eqb (length words) 8) _ _ (eq-eqb (length words) 8 h.1)
 ip6_of-form (Shortened front back) h =
     let few = h.2 in
@@ -229,21 +228,21 @@ ip6_reading t v h = from (gap_in t) refl h
     from None e r =
         option_and_then_some _ (side_of t) v r (λ side read eight.
         let (words, all, text, count, number) = side_reading t side read in
-        let (known, same) = cond_some (eqb side.count 8) side.number v eight in
-        (Whole words, (all, sym count ∙ eqb-true side.count 8 known), text, sym same ∙ number))
+        let (known, same) = cond_some (eqb side.0 8) side.1 v eight in
+        (Whole words, (all, sym count ∙ eqb-true side.0 8 known), text, sym same ∙ number))
     from (Some p) e r =
         option_and_then_some _ (side_of p.0) v r (λ front read1 r1.
         option_and_then_some _ (side_of p.1) v r1 (λ back read2 r2.
         let (fw, fall, ftext, fcount, fnumber) = side_reading p.0 front read1 in
         let (bw, ball, btext, bcount, bnumber) = side_reading p.1 back read2 in
-        let (few, same) = cond_some (leb (front.count + back.count) 7) _ v r2 in
-        let seven = leb-true (front.count + back.count) 7 few in
+        let (few, same) = cond_some (leb (front.0 + back.0) 7) _ v r2 in
+        let seven = leb-true (front.0 + back.0) 7 few in
         let most : length fw + length bw ≤ 7 = omega (arith, seven, fcount, bcount) in (
           Shortened fw bw,
           (fall, ball, most),
           gap_parts t p e ∙ ap₂ (λ (a b : List ℕ). a ++ (58 ∷ 58 ∷ b)) ftext btext,
           sym same
-              ∙ ap (λ n. n * (2 ^ 16) ^ (8 - front.count) + back.number) fnumber
+              ∙ ap (λ n. n * (2 ^ 16) ^ (8 - front.0) + back.1) fnumber
               ∙ ap₂ (λ c n. number_from_digits (2 ^ 16) (words_values fw) * (2 ^ 16) ^ (8 - c) + n) fcount bnumber
               ∙ sides_value (words_values fw) (words_values bw) (length fw) (length bw) (length-map fw (digits_value 16)) (length-map bw (digits_value 16)) most,
         )))

@@ -7,7 +7,6 @@ use Rattle.std.specs.Str.Pattern.{FindsText, LacksTextAt, SplitsAroundMatch}
 use Rattle.std.proofs.lemmas.List.{at_drop_more}
 use Rattle.std.proofs.Math.ListN.{drop_of_length-le}
 use Rattle.std.proofs.lemmas.Nat.{pow-add}
-use Rattle.pk_text.specs.declared.ip6.Side.{Side}
 use Rattle.pk_text.specs.Digits.{short_read}
 use Rattle.std.proofs.lemmas.Bool.{cond-false, cond_both, eqb-true, ne_eqb, and_parts}
 use Rattle.std.proofs.Math.Nat.{pow-le-pow_right, pow-suc, mul_assoc, suc-mul, mul-le-mul_right, mul-lt-mul_of_pos_right, one-le-pow}
@@ -84,34 +83,34 @@ gap_split t (Some sides) h =
     sym (gap_at t i (drop j t) found.0 found.1.split ∙ ap₂ (λ (a b : List ℕ). Some (a, b)) (sym front) (sym back))
 
 -- a loop has read n words of a text, and the groups of the whole are those of the side so far and of the words behind
-abbrev pub IsSideFront : List ℕ → Side → ℕ → Type 0
-IsSideFront t side n = side_after (record { count = 0; number = 0 }) (words_in t) ≡ side_after side (drop n (words_in t))
+abbrev pub IsSideFront : List ℕ → ℕ × ℕ → ℕ → Type 0
+IsSideFront t side n = side_after (0, 0) (words_in t) ≡ side_after side (drop n (words_in t))
 
-side_turn : (t : List ℕ) (side : Side) (n : ℕ) (word : List ℕ) → IsSideFront t side n → n < length (words_in t) → word ≡ get_or (words_in t) n word → side_after (record { count = 0; number = 0 }) (words_in t) ≡ option_and_then (λ more. side_after more (drop (n + 1) (words_in t))) (option_and_then (side_more side) (short_read 16 4 word))
+side_turn : (t : List ℕ) (side : ℕ × ℕ) (n : ℕ) (word : List ℕ) → IsSideFront t side n → n < length (words_in t) → word ≡ get_or (words_in t) n word → side_after (0, 0) (words_in t) ≡ option_and_then (λ more. side_after more (drop (n + 1) (words_in t))) (option_and_then (side_more side) (short_read 16 4 word))
 side_turn t side n word front inside here =
     front
     ∙ at_drop_more (side_after side) (words_in t) n word inside
     ∙ ap (λ w. side_after side (w ∷ drop (n + 1) (words_in t))) (sym here)
 
 -- one more word
-pub side_step : (t : List ℕ) (side : Side) (n : ℕ) (word : List ℕ) (more : Side) (m : ℕ) → IsSideFront t side n → (n < length (words_in t)) × (word ≡ get_or (words_in t) n word) → Some more ≡ option_and_then (side_more side) (short_read 16 4 word) → m ≡ n + 1 → IsSideFront t more m
+pub side_step : (t : List ℕ) (side : ℕ × ℕ) (n : ℕ) (word : List ℕ) (more : ℕ × ℕ) (m : ℕ) → IsSideFront t side n → (n < length (words_in t)) × (word ≡ get_or (words_in t) n word) → Some more ≡ option_and_then (side_more side) (short_read 16 4 word) → m ≡ n + 1 → IsSideFront t more m
 side_step t side n word more m front turn read next =
     side_turn t side n word front turn.0 turn.1
     ∙ ap (option_and_then (λ side'. side_after side' (drop (n + 1) (words_in t)))) (sym read)
     ∙ ap (λ k. side_after more (drop k (words_in t))) (sym next)
 
-pub side_of-some : (t : List ℕ) → length t ≢ 0 → side_of t ≡ side_after (record { count = 0; number = 0 }) (words_in t)
+pub side_of-some : (t : List ℕ) → length t ≢ 0 → side_of t ≡ side_after (0, 0) (words_in t)
 unfolding side_of
 side_of-some t some = cond-false (eqb (length t) 0) _ _ (ne_eqb (length t) 0 some)
 
 -- a word that is no group, or one too many
-pub side_stop : (t : List ℕ) (side : Side) (n : ℕ) (word : List ℕ) → IsSideFront t side n → (n < length (words_in t)) × (word ≡ get_or (words_in t) n word) → None ≡ option_and_then (side_more side) (short_read 16 4 word) → length t ≢ 0 → side_of t ≡ None
+pub side_stop : (t : List ℕ) (side : ℕ × ℕ) (n : ℕ) (word : List ℕ) → IsSideFront t side n → (n < length (words_in t)) × (word ≡ get_or (words_in t) n word) → None ≡ option_and_then (side_more side) (short_read 16 4 word) → length t ≢ 0 → side_of t ≡ None
 side_stop t side n word front turn read some =
     side_of-some t some
     ∙ side_turn t side n word front turn.0 turn.1
     ∙ ap (option_and_then (λ side'. side_after side' (drop (n + 1) (words_in t)))) (sym read)
 
 -- all words are read
-pub side_done : (t : List ℕ) (side : Side) (n : ℕ) → IsSideFront t side n → n ≡ length (words_in t) → length t ≢ 0 → side_of t ≡ Some side
+pub side_done : (t : List ℕ) (side : ℕ × ℕ) (n : ℕ) → IsSideFront t side n → n ≡ length (words_in t) → length t ≢ 0 → side_of t ≡ Some side
 side_done t side n front end some =
     side_of-some t some ∙ front ∙ ap (side_after side) (drop_of_length-le (words_in t) (omega arith))

@@ -5,7 +5,6 @@ use Rattle.std.specs.List.{AllByRecursion, join_by, slice_split}
 use Rattle.std.specs.Fmt.{digits}
 use Rattle.std.specs.Int.Digits.{number_from_digits}
 use Rattle.std.specs.Str.Parse.{IsNumeral, digits_value}
-use Rattle.pk_text.specs.declared.ip6.Side.{Side}
 use Rattle.pk_text.specs.Digits.{short_read}
 
 -- the eight groups of 16 bits of an address, the highest first
@@ -71,12 +70,11 @@ gap_in [] = None
 gap_in (c ∷ []) = None
 gap_in (c ∷ d ∷ rest) = if c == 58 && d == 58 then Some ([], rest) else option_map (λ p. (c ∷ p.0, p.1)) (gap_in (d ∷ rest))
 
--- one more group behind those of a side, which has eight at most
-abbrev pub side_more : Side → ℕ → Option Side
-side_more side group =
-    if nat_lt side.count 8 then Some (record { count = side.count + 1; number = side.number * 2 ^ 16 + group }) else None
+-- one more group behind those of a side, which are eight at most; a side is how many groups, and the number that they make
+abbrev pub side_more : ℕ × ℕ → ℕ → Option (ℕ × ℕ)
+side_more side group = if nat_lt side.0 8 then Some (side.0 + 1, side.1 * 2 ^ 16 + group) else None
 
-abbrev pub side_after : Side → List (List ℕ) → Option Side
+abbrev pub side_after : ℕ × ℕ → List (List ℕ) → Option (ℕ × ℕ)
 side_after side [] = Some side
 side_after side (word ∷ words) =
     option_and_then (λ more. side_after more words) (option_and_then (side_more side) (short_read 16 4 word))
@@ -86,20 +84,18 @@ abbrev pub words_in : List ℕ → List (List ℕ)
 words_in text = slice_split (λ c. c == 58) text
 
 -- the groups of a text without `::`
-unfoldable pub side_of : List ℕ → Option Side
-side_of text =
-    if length text == 0 then Some (record { count = 0; number = 0 })
-    else side_after (record { count = 0; number = 0 }) (words_in text)
+unfoldable pub side_of : List ℕ → Option (ℕ × ℕ)
+side_of text = if length text == 0 then Some (0, 0) else side_after (0, 0) (words_in text)
 
 -- the address that the text before and behind a `::` write, or the whole text
 unfoldable pub shortened_of : List ℕ × List ℕ → Option ℕ
 shortened_of sides =
     option_and_then (λ front. option_and_then (λ back.
-    if nat_le (front.count + back.count) 7 then Some (front.number * (2 ^ 16) ^ (8 - front.count) + back.number) else None)
+    if nat_le (front.0 + back.0) 7 then Some (front.1 * (2 ^ 16) ^ (8 - front.0) + back.1) else None)
     (side_of sides.1)) (side_of sides.0)
 
 unfoldable pub whole_of : List ℕ → Option ℕ
-whole_of text = option_and_then (λ side. if side.count == 8 then Some side.number else None) (side_of text)
+whole_of text = option_and_then (λ side. if side.0 == 8 then Some side.1 else None) (side_of text)
 
 abbrev pub ip6_from : List ℕ → Option (List ℕ × List ℕ) → Option ℕ
 ip6_from text None = whole_of text

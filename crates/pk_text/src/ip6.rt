@@ -190,7 +190,7 @@ fn placed_first(side: Side) -> u128
 /// The groups of a text without `::`; None where there are more than eight.
 #[tactic(auto, unfolding(crate::specs::Ip6::side_of))]
 fn read_side(text: &str) -> Option<Side>
-    ensures value { result ≡ side_of text.now }
+    ensures value { option_map (λ side. (side.count, side.number)) result ≡ side_of text.now }
     ensures count { IfSome result (λ side. side.count ≤ 8) }
     ensures below { IfSome result (λ side. side.number < (2 ^ 16) ^ side.count) }
 {
@@ -210,7 +210,8 @@ fn read_side(text: &str) -> Option<Side>
 fn with_word(side: Side, word: &str) -> Option<Side>
     requires count { side.count ≤ 8 }
     requires below { side.number < (2 ^ 16) ^ side.count }
-    ensures value { result ≡ option_and_then (side_more side) (short_read 16 4 word.now) }
+    ensures value { option_map (λ more. (more.count, more.number)) result
+        ≡ option_and_then (side_more (side.count, side.number)) (short_read 16 4 word.now) }
     ensures count { IfSome result (λ more. more.count ≤ 8) }
     ensures below { IfSome result (λ more. more.number < (2 ^ 16) ^ more.count) }
 {

@@ -6,5 +6,5 @@ abbrev pub invariant-loop-word : goal.invariant-loop-word
 invariant-loop-word l = record {
   count : l.side.count ≤ 8;
   below : l.side.number < (2 ^ 16) ^ l.side.count;
-  front : IsSideFront l.text l.side (length l.yielded);
+  front : IsSideFront l.text (l.side.count, l.side.number) (length l.yielded);
 }
