@@ -10,6 +10,8 @@ mod ip6;
 mod number;
 mod octets;
 mod pairs;
+#[cfg(test)]
+mod tests;
 mod time;
 
 pub use escape::escape_text;
