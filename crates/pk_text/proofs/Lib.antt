@@ -2,6 +2,10 @@ pub mod CutLemmas
 pub mod DigitsLemmas
 pub mod EtherLemmas
 pub mod Ip4Lemmas
+pub mod Ip6Lemmas
+pub mod Ip6FormLemmas
+pub mod Ip6RunLemmas
+pub mod Ip6TextLemmas
 pub mod NumberLemmas
 pub mod OctetsLemmas
 pub mod OptionLemmas

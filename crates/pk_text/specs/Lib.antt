@@ -3,6 +3,7 @@ pub mod Digits
 pub mod Escape
 pub mod Ether
 pub mod Ip4
+pub mod Ip6
 pub mod Number
 pub mod Octets
 pub mod Pairs

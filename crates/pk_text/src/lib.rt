@@ -6,14 +6,18 @@ mod digits;
 mod escape;
 mod ether;
 mod ip4;
+mod ip6;
 mod number;
 mod octets;
 mod pairs;
+#[cfg(test)]
+mod tests;
 mod time;
 
 pub use escape::escape_text;
 pub use ether::{ether_text, read_ether};
 pub use ip4::{ip4_text, read_ip4};
+pub use ip6::{ip6_text, read_ip6};
 pub use number::{Wide, number_text, read_number};
 pub use octets::read_bytes;
 pub use time::{read_time, time_text};
