@@ -1,0 +1,2 @@
+pub mod OptionList
+pub mod Powers

@@ -1,0 +1,4 @@
+pub mod Blocks
+pub mod Interface
+pub mod Options
+pub mod Ticks

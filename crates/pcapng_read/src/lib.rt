@@ -1,0 +1,12 @@
+//! Reads the blocks of a capture file in the pcapng format, from bytes that the caller holds:
+//! draft-ietf-opsawg-pcapng. Sections of both byte orders, interfaces of any resolution, and enhanced, simple and
+//! obsolete packets; other blocks are passed over.
+#![tactic(auto)]
+
+mod block;
+mod interface;
+mod options;
+mod rate;
+mod step;
+
+pub use step::BlockStep;
