@@ -7,6 +7,8 @@ mod block;
 mod interface;
 mod options;
 mod rate;
+mod sections;
 mod step;
 
+pub use sections::Sections;
 pub use step::BlockStep;
