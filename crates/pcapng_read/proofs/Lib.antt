@@ -1,2 +1,3 @@
 pub mod OptionList
 pub mod Powers
+pub mod FirstSection

@@ -79,6 +79,13 @@ scope_after (read.Bad reason) scope = scope
 abbrev pub IsReady : Scope → List ℕ → Type 0
 IsReady scope bytes = scope.order ≡ None → take 4 bytes ≡ 0x0A ∷ 0x0D ∷ 0x0D ∷ 0x0A ∷ []
 
+-- where a block was taken
+abbrev pub WhenTaken : BlockStep → Type 0 → Type 0
+WhenTaken (step.Need n) P = Unit {0}
+WhenTaken (step.Item found) P = P
+WhenTaken (step.Skipped n) P = P
+WhenTaken (step.Bad reason) P = Unit {0}
+
 -- where no block was taken
 abbrev pub WhenUntaken : BlockStep → Type 0 → Type 0
 WhenUntaken (step.Need n) P = P

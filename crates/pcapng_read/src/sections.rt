@@ -1,5 +1,5 @@
-ghost use Rattle.std.specs.Prelude.{◌≡◌, List, [], length, IfOk, OnOk, OnErr};
-ghost use Rattle.pcapng_read.specs.Sections.{block_in, block_of, blocks_after, scope_after, scope_with, step_of, step_over, IsReady, IsStepWithin, Stands, WhenUntaken};
+ghost use Rattle.std.specs.Prelude.{◌≡◌, ◌≢◌, None, List, [], length, IfOk, OnOk, OnErr};
+ghost use Rattle.pcapng_read.specs.Sections.{block_in, block_of, blocks_after, scope_after, scope_with, step_of, step_over, IsReady, IsStepWithin, Stands, WhenTaken, WhenUntaken};
 ghost use Rattle.pcapng_read.specs.declared.block.Block.{Block};
 
 use crate::block::{Block, BlockRead, read_block};
@@ -44,6 +44,7 @@ impl Sections {
         ensures scope_step { IfOk result (λ step. step ≡ step_of (block_in self.old rest.now)) }
         ensures scope { OnOk result (self.new ≡ scope_after (block_in self.old rest.now) self.old) }
         ensures untaken { IfOk result (λ step. WhenUntaken step (self.new ≡ self.old)) }
+        ensures begun { IfOk result (λ step. WhenTaken step (self.new.order ≢ None)) }
         ensures kept { OnErr result (self.new ≡ self.old) }
         ensures within { IfOk result (λ step. IsStepWithin step (length rest.now)) }
     {
