@@ -75,7 +75,7 @@ begun-held scope false n read h = h
 begun-first : (scope : Scope) (interfaces : List Interface) (rest : List ℕ)
     → Begun scope (block_at None interfaces (0x0A ∷ 0x0D ∷ 0x0D ∷ 0x0A ∷ rest))
 unfolding block_at
-begun-first scope interfaces rest = 
+begun-first scope interfaces rest =
     begun-held scope (nat_lt (length (0x0A ∷ 0x0D ∷ 0x0D ∷ 0x0A ∷ rest)) 12) 12
     (ordered_block interfaces (0x0A ∷ 0x0D ∷ 0x0D ∷ 0x0A ∷ rest) (told_order (0x0A ∷ 0x0D ∷ 0x0D ∷ 0x0A ∷ rest)))
     (begun-ordered scope interfaces rest (told_order (0x0A ∷ 0x0D ∷ 0x0D ∷ 0x0A ∷ rest)))

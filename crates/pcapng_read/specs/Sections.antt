@@ -54,9 +54,13 @@ step_of (read.Need n) = step.Need n
 step_of (read.Whole b end) = step_over b end
 step_of (read.Bad reason) = step.Bad reason
 
+-- what is known of the blocks before
+abbrev pub scope_of : List Block → Scope
+scope_of before = record { order = order_of before; interfaces = interfaces_of before }
+
 -- the blocks that a byte order and interfaces stand for
 abbrev pub Stands : Scope → List Block → Type 0
-Stands scope before = scope ≡ record { order = order_of before; interfaces = interfaces_of before }
+Stands scope before = scope ≡ scope_of before
 
 -- what the bytes are, where only that much is known of the blocks before
 abbrev pub block_in : Scope → List ℕ → BlockRead
