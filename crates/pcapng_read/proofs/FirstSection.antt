@@ -1,5 +1,5 @@
 -- The first block of a file is a section, so that a block behind it has a byte order.
-use Rattle.std.proofs.Common.{take-append-drop, drop, ◌++◌, ◌≡◌, ◌≢◌, ℕ, suc, Bool, true, false, Option, Some, None, List, [], ◌∷◌, take, refl, sym, ap, ◌∙◌, subst}
+use Rattle.std.proofs.Common.{take-append-drop, drop, ◌++◌, ◌≡◌, ◌≢◌, ℕ, Bool, true, false, Option, Some, None, List, [], ◌∷◌, take, refl, sym, ap, ◌∙◌, subst}
 use Rattle.std.specs.Prelude.{if◌then◌else◌, not, ◌||◌, ◌==◌, nat_lt, length, ◌-◌, ◌%◌}
 use Rattle.std.proofs.lemmas.Option.{none-some}
 use Rattle.pk_base.specs.declared.found.Reason.{Reason}
@@ -9,7 +9,6 @@ use Rattle.pcapng_read.specs.Options.{number_at}
 use Rattle.pcapng_read.specs.Sections.{Scope, scope_with, WhenTaken}
 use Rattle.pcapng_read.specs.declared.step.BlockStep.{BlockStep}
 use Rattle.pcapng_read.specs.declared.step.BlockStep.TheVariants as step
-use Rattle.pcapng_read.specs.declared.block.Block.{Block}
 use Rattle.pcapng_read.specs.declared.block.Block.TheVariants as block
 use Rattle.pcapng_read.specs.declared.block.BlockRead.{BlockRead}
 use Rattle.pcapng_read.specs.declared.block.BlockRead.TheVariants.{Need, Whole, Bad}
