@@ -1,0 +1,4 @@
+pub mod OptionList
+pub mod Powers
+pub mod FirstSection
+pub mod Known

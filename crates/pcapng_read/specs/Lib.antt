@@ -1,0 +1,5 @@
+pub mod Blocks
+pub mod Interface
+pub mod Options
+pub mod Sections
+pub mod Ticks
