@@ -1,0 +1,3 @@
+pub mod LayersFit
+pub mod Numbers
+pub mod Readable

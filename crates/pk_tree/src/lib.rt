@@ -1,0 +1,21 @@
+//! The tree of a dissected frame: layers and their items, over the buffers that hold their bytes.
+#![tactic(auto)]
+
+mod builder;
+mod chosen;
+mod heads;
+mod item;
+mod layer;
+mod reading;
+mod tree;
+mod value;
+
+pub use builder::TreeBuilder;
+pub use chosen::{LayerRange, LayerRanges, Layers};
+pub use heads::{
+    Address, After, Endpoint, FragmentHead, Mode, Next, PacketHead, PortsHead, TcpHead,
+};
+pub use item::{Item, Items, Place};
+pub use layer::{Layer, LayerList};
+pub use tree::Tree;
+pub use value::Value;
