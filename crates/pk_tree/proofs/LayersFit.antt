@@ -37,13 +37,13 @@ same_before buffers before others (layer ∷ layers) same fit =
       same_before buffers (before ++ layer ∷ []) (others ++ layer ∷ []) layers more fit.1,
     )
 
--- the number of a layer counts those of its protocol up to it
-pub nth_at : (buffers : List (List ℕ)) (before layers : List Layer) (at : ℕ) (d : Layer) → LayersFit buffers before layers → at < length layers →
-    (get_or layers at d).nth ≡ layers_of (get_or layers at d).proto (before ++ take at layers) + 1
-nth_at buffers before [] at d fit inside = absurd (omega arith)
-nth_at buffers before (layer ∷ layers) zero d fit inside = rw append-nil fit.0.nth
-nth_at buffers before (layer ∷ layers) (suc at) d fit inside =
-    rw (← append_assoc before (layer ∷ []) (take at layers)) (nth_at buffers (before ++ layer ∷ []) layers at d fit.1 (omega arith))
+-- each layer fits behind those before it
+pub fits_at : (buffers : List (List ℕ)) (before layers : List Layer) (at : ℕ) (d : Layer) → LayersFit buffers before layers → at < length layers →
+    LayerFits buffers (before ++ take at layers) (get_or layers at d)
+fits_at buffers before [] at d fit inside = absurd (omega arith)
+fits_at buffers before (layer ∷ layers) zero d fit inside = rw append-nil fit.0
+fits_at buffers before (layer ∷ layers) (suc at) d fit inside =
+    rw (← append_assoc before (layer ∷ []) (take at layers)) (fits_at buffers (before ++ layer ∷ []) layers at d fit.1 (omega arith))
 
 -- the last layer of a protocol has the number of all
 pub last_number : (buffers : List (List ℕ)) (layers : List Layer) (proto at : ℕ) (layer : Layer) → LayersFit buffers [] layers → 0 < at → at ≤ length layers →
@@ -51,7 +51,7 @@ pub last_number : (buffers : List (List ℕ)) (layers : List Layer) (proto at : 
 last_number buffers layers proto at layer fit some inside is same none =
     let here : at - 1 < length layers = omega arith in
     let next : at - 1 + 1 ≡ at = omega arith in
-    let found : layer.nth ≡ layers_of layer.proto (take (at - 1) layers) + 1 = rw (← is) at (nth_at buffers [] layers (at - 1) layer fit here) in
+    let found : layer.nth ≡ layers_of layer.proto (take (at - 1) layers) + 1 = rw (← is) at (fits_at buffers [] layers (at - 1) layer fit here).nth in
     let passes : (layer.proto == proto) ≡ true = eq-eqb layer.proto proto same in
     let one : (((get_or layers (at - 1) layer).proto) == proto) ≡ true = rw (← is) passes in
     let more : layers_of proto (take (at - 1 + 1) layers) ≡ layers_of proto (take (at - 1) layers) + 1 = count_by_more_yes (λ (l : Layer). l.proto == proto) layers (at - 1) layer here one in

@@ -1,3 +1,4 @@
+pub mod FieldLemmas
 pub mod LayersFit
 pub mod Numbers
 pub mod Readable

@@ -1,3 +1,4 @@
 pub mod Chosen
+pub mod FieldValues
 pub mod Trees
 pub mod Values
