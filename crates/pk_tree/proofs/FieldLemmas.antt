@@ -47,9 +47,9 @@ layer_values_kind : (buffers : List (List ℕ)) (field : ℕ) (layer : Layer) �
 unfolding layer_values
 layer_values_kind buffers field layer each = by_test (is_proto (row_of field).kind) refl
   where
-  by_test : (test : Truth) → is_proto (row_of field).kind ≡ test → Each (IsOfKind (row_of field).kind) (cond test (proto_values buffers field layer) (item_values field layer.items))
-  by_test true is = proto_values_kind (row_of field).kind (bytes_of buffers layer.span) (layer.proto == field) is
-  by_test false is = item_values_kind buffers layer.proto field layer.items each
+    by_test : (test : Truth) → is_proto (row_of field).kind ≡ test → Each (IsOfKind (row_of field).kind) (cond test (proto_values buffers field layer) (item_values field layer.items))
+    by_test true is = proto_values_kind (row_of field).kind (bytes_of buffers layer.span) (layer.proto == field) is
+    by_test false is = item_values_kind buffers layer.proto field layer.items each
 
 chosen_kind : (buffers : List (List ℕ)) (field : ℕ) (layer : Layer) (test : Truth) → Each (ItemFits buffers layer.proto) layer.items →
     Each (IsOfKind (row_of field).kind) (cond test (layer_values buffers field layer) [])

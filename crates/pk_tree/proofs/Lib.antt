@@ -1,4 +1,5 @@
 pub mod FieldLemmas
 pub mod LayersFit
+pub mod LayoutLemmas
 pub mod Numbers
 pub mod Readable

@@ -1,4 +1,5 @@
 pub mod Chosen
 pub mod FieldValues
+pub mod Layouts
 pub mod Trees
 pub mod Values

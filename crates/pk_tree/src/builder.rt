@@ -63,11 +63,30 @@ impl TreeBuilder {
         ensures count { OnOk result (length self.new.layers ≡ length self.old.layers + 1) }
         ensures last { OnOk result (last_proto self.new.layers ≡ proto) }
     {
+        self.open_with_room(proto, span, 0)
+    }
+
+    /// As `open_layer`, with room for so many items.
+    pub(crate) fn open_with_room(
+        &mut self,
+        proto: FieldId,
+        span: Span,
+        items: usize,
+    ) -> Result<(), NoMemory>
+        requires inside { IsInside self.old.buffers span }
+        requires proto { IsProtocol proto }
+        requires room { length self.old.layers + 1 < 2 ^ 32 }
+        ensures ok { OnOk result (self.new ≡ with_layer self.old proto span []) }
+        ensures err { OnErr result (self.new ≡ self.old) }
+        ensures buffers { self.new.buffers ≡ self.old.buffers }
+        ensures count { OnOk result (length self.new.layers ≡ length self.old.layers + 1) }
+        ensures last { OnOk result (last_proto self.new.layers ≡ proto) }
+    {
         let layer = Layer {
             proto,
             nth: next_number(&self.layers, proto),
             span,
-            items: Items::new(self.alloc),
+            items: Items::with_room(self.alloc, items)?,
         };
         self.layers.push(layer)?;
         Ok(())

@@ -1,4 +1,4 @@
-ghost use Rattle.std.specs.Prelude.{◌≡◌, [], ◌∷◌, ◌++◌, OnOk, OnErr};
+ghost use Rattle.std.specs.Prelude.{◌≡◌, [], ◌∷◌, ◌++◌, IfOk, OnOk, OnErr};
 
 use crate::value::Value;
 use pk_base::{NoMemory, Span};
@@ -53,20 +53,13 @@ impl Items {
         self.all.as_slice()
     }
 
-    pub(crate) fn new(alloc: Global) -> Items
-        ensures { result ≡ [] }
+    /// An empty list with room for so many items.
+    pub(crate) fn with_room(alloc: Global, room: usize) -> Result<Items, NoMemory>
+        ensures { IfOk result (λ items. items ≡ []) }
     {
-        Items {
-            all: Vec::new(alloc),
-        }
-    }
-
-    /// Makes room for so many more.
-    pub(crate) fn reserve(&mut self, more: usize) -> Result<(), NoMemory>
-        ensures { self.new ≡ self.old }
-    {
-        self.all.reserve(more)?;
-        Ok(())
+        Ok(Items {
+            all: Vec::with_capacity(alloc, room)?,
+        })
     }
 
     pub(crate) fn push(&mut self, item: Item) -> Result<(), NoMemory>

@@ -6,6 +6,7 @@ mod chosen;
 mod heads;
 mod item;
 mod layer;
+mod layout;
 mod reading;
 mod tree;
 mod value;
@@ -17,5 +18,6 @@ pub use heads::{
 };
 pub use item::{Item, Items, Place};
 pub use layer::{Layer, LayerList};
+pub use layout::{Reach, Step, peek, read_layer};
 pub use tree::Tree;
 pub use value::Value;

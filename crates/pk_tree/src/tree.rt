@@ -100,7 +100,12 @@ impl Tree {
 
 /// Adds a layer's values of a field.
 #[tactic(auto, unfolding(crate::specs::FieldValues::layer_values))]
-fn push_values(values: &mut Vec<Value>, buffers: &Buffers, field: FieldId, layer: &Layer) -> Result<(), NoMemory>
+fn push_values(
+    values: &mut Vec<Value>,
+    buffers: &Buffers,
+    field: FieldId,
+    layer: &Layer,
+) -> Result<(), NoMemory>
     requires { (before : List Layer) × LayerFits buffers.now before layer.now }
     ensures { OnOk result (values.new.items ≡ values.old.items ++ layer_values buffers.now field layer.now) }
 {
@@ -119,7 +124,12 @@ fn is_protocol(field: FieldId) -> bool
     matches!(kind(field), ValueKind::Proto)
 }
 
-fn push_layer(values: &mut Vec<Value>, buffers: &Buffers, proto: FieldId, layer: &Layer) -> Result<(), NoMemory>
+fn push_layer(
+    values: &mut Vec<Value>,
+    buffers: &Buffers,
+    proto: FieldId,
+    layer: &Layer,
+) -> Result<(), NoMemory>
     requires { IsInside buffers.now layer.now.span }
     ensures { OnOk result (values.new.items ≡ values.old.items ++ proto_values buffers.now proto layer.now) }
 {
