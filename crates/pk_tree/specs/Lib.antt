@@ -1,4 +1,5 @@
 pub mod Chosen
+pub mod Entries
 pub mod FieldValues
 pub mod Layouts
 pub mod Trees
