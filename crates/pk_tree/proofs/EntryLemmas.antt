@@ -1,6 +1,5 @@
 -- Adding entries to steps one by one.
 use Rattle.std.proofs.Common.{◌≡◌, ℕ, zero, suc, ◌+◌, ◌-◌, ◌<◌, ◌≤◌, List, [], ◌∷◌, ◌++◌, Option, Some, None, refl, sym, ap, ◌∙◌, arith, append_assoc, append-nil}
-use Rattle.std.specs.List.{AllByRecursion as Each}
 use Rattle.pk_tree.specs.declared.layout.Step.{Step}
 use Rattle.pk_tree.specs.Entries.{Entry, goes_on, ends, behind, then_at, then_on, repeated, Adds}
 use Rattle.pk_tree.specs.Layouts.{StepFits, StepsFit}

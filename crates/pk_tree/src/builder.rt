@@ -1,4 +1,4 @@
-ghost use Rattle.std.specs.Prelude.{◌≡◌, ℕ, List, ◌+◌, ◌-◌, ◌<◌, ◌^◌, [], ◌∷◌, length, vec_len, IfOk, IsTrue, OnErr, OnOk};
+ghost use Rattle.std.specs.Prelude.{◌≡◌, ℕ, List, ◌+◌, ◌-◌, ◌<◌, ◌^◌, [], ◌∷◌, ◌++◌, length, vec_len, IfOk, IsTrue, OnErr, OnOk};
 ghost use Rattle.pk_buffer.specs.Buffers.{IsInside, bytes_of, buffer_of};
 ghost use Rattle.pk_fields.specs.Fields.{row_of};
 ghost use Rattle.pk_tree.specs.Trees.{IsTree, ItemFits, LayersFit, layers_of, layer_gets, proto_at, last_proto, with_layer, with_item, with_buffer, read_of, derived_of, made_of};
@@ -161,6 +161,7 @@ impl TreeBuilder {
         ensures ok { OnOk result (self.new ≡ with_buffer self.old b) }
         ensures err { OnErr result (self.new ≡ self.old) }
         ensures layers { self.new.layers ≡ self.old.layers }
+        ensures buffers { OnOk result (self.new.buffers ≡ self.old.buffers ++ b ∷ []) }
     {
         let number = self.buffers.add(b)?;
         Ok(number)

@@ -9,6 +9,8 @@ mod layer;
 mod layout;
 mod reading;
 mod tree;
+#[cfg(test)]
+mod tests;
 mod value;
 
 pub use builder::TreeBuilder;
