@@ -1,0 +1,63 @@
+-- Adding entries to steps one by one.
+use Rattle.std.proofs.Common.{◌≡◌, ℕ, zero, suc, ◌+◌, ◌-◌, ◌<◌, ◌≤◌, List, [], ◌∷◌, ◌++◌, Option, Some, None, refl, sym, ap, ◌∙◌, arith, append_assoc, append-nil}
+use Rattle.pk_tree.specs.declared.layout.Step.{Step}
+use Rattle.pk_tree.specs.Entries.{Entry, goes_on, ends, behind, then_at, then_on, repeated, Adds}
+use Rattle.pk_tree.specs.Layouts.{StepFits, StepsFit}
+
+repeated-suc : (n : ℕ) (one : ℕ → Entry) (at : ℕ) → repeated (suc n) one at ≡ then_on (one at) (repeated n one)
+unfolding repeated
+repeated-suc n one at = refl
+
+-- an entry that was added, then what follows it
+pub adds_on : (old new : List Step) (entry : Entry) (at : ℕ) (more : ℕ → Entry) → Adds old new entry (Some at) → behind old (then_on entry more) ≡ behind new (more at)
+adds_on old new entry at more adds =
+    rw (adds.steps, ← adds.next) (ap (λ (steps : List Step). record { steps = steps; next = (more at).next }) (sym (append_assoc old entry.steps (more at).steps)))
+
+pub adds_end : (old new : List Step) (entry : Entry) (more : ℕ → Entry) → Adds old new entry None → behind old (then_on entry more) ≡ ends new
+adds_end old new entry more adds = rw (adds.steps, ← adds.next) refl
+
+-- a loop that adds entries: one more, after which reading goes on
+pub repeat_step : (one : ℕ → Entry) (count done at next : ℕ) (old new : List Step) (whole : Entry) → behind old (repeated (count - done) one at) ≡ whole → done < count → Adds old new (one at) (Some next) →
+    behind new (repeated (count - (done + 1)) one next) ≡ whole
+repeat_step one count done at next old new whole goes more adds =
+    let left : count - done ≡ suc (count - (done + 1)) = omega arith in
+    let step : behind old (repeated (count - done) one at) ≡ behind new (repeated (count - (done + 1)) one next) =
+    rw (left, repeated-suc (count - (done + 1)) one at) (adds_on old new (one at) next (repeated (count - (done + 1)) one) adds) in
+    sym step ∙ goes
+
+-- one more, after which it ends
+pub repeat_stop : (one : ℕ → Entry) (count done at : ℕ) (first old new : List Step) (whole : Entry) → behind old (repeated (count - done) one at) ≡ behind first whole → done < count → Adds old new (one at) None →
+    Adds first new whole None
+repeat_stop one count done at first old new whole goes more adds =
+    let left : count - done ≡ suc (count - (done + 1)) = omega arith in
+    let stop : behind old (repeated (count - done) one at) ≡ ends new =
+    rw (left, repeated-suc (count - (done + 1)) one at) (adds_end old new (one at) (repeated (count - (done + 1)) one) adds) in
+    let same : ends new ≡ behind first whole = sym stop ∙ goes in
+    record { steps = ap (λ (e : Entry). e.steps) same; next = ap (λ (e : Entry). e.next) same }
+
+-- as many as there may be
+pub repeat_done : (one : ℕ → Entry) (count done at : ℕ) (first new : List Step) (whole : Entry) → behind new (repeated (count - done) one at) ≡ behind first whole → count ≤ done →
+    Adds first new whole (Some at)
+unfolding repeated
+repeat_done one count done at first new whole goes most =
+    let none : count - done ≡ 0 = omega arith in
+    let same : goes_on new at ≡ behind first whole = ap (λ (steps : List Step). goes_on steps at) (sym (append-nil new)) ∙ rw none at goes in
+    record { steps = ap (λ (e : Entry). e.steps) same; next = ap (λ (e : Entry). e.next) same }
+
+-- the steps of an entry fit where each part's do
+pub fit_append : (proto : ℕ) (xs ys : List Step) → StepsFit proto xs → StepsFit proto ys → StepsFit proto (xs ++ ys)
+unfolding StepsFit
+fit_append proto [] ys front back = back
+fit_append proto (x ∷ xs) ys front back = (front.0, fit_append proto xs ys front.1 back)
+
+fit_at : (proto : ℕ) (steps : List Step) (next : Option ℕ) (more : ℕ → Entry) → StepsFit proto steps → ((at : ℕ) → StepsFit proto (more at).steps) → StepsFit proto (then_at steps next more).steps
+fit_at proto steps None more front back = front
+fit_at proto steps (Some at) more front back = fit_append proto steps (more at).steps front (back at)
+
+pub fit_then : (proto : ℕ) (entry : Entry) (more : ℕ → Entry) → StepsFit proto entry.steps → ((at : ℕ) → StepsFit proto (more at).steps) → StepsFit proto (then_on entry more).steps
+fit_then proto entry more front back = fit_at proto entry.steps entry.next more front back
+
+pub fit_repeated : (proto count : ℕ) (one : ℕ → Entry) → ((at : ℕ) → StepsFit proto (one at).steps) → (at : ℕ) → StepsFit proto (repeated count one at).steps
+unfolding repeated StepsFit
+fit_repeated proto zero one each at = tt
+fit_repeated proto (suc count) one each at = fit_then proto (one at) (repeated count one) (each at) (λ next. fit_repeated proto count one each next)

@@ -1,0 +1,6 @@
+pub mod EntryLemmas
+pub mod FieldLemmas
+pub mod LayersFit
+pub mod LayoutLemmas
+pub mod Numbers
+pub mod Readable

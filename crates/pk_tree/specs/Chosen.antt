@@ -1,0 +1,17 @@
+-- Which layers of a protocol are chosen.
+use Rattle.std.specs.Prelude.{ℕ, Bool, true, ◌&&◌, List, nat_le}
+use Rattle.std.specs.List.{list_any}
+use Rattle.pk_tree.specs.declared.chosen.LayerRange.{LayerRange}
+use Rattle.pk_tree.specs.declared.chosen.Layers.{Layers}
+use Rattle.pk_tree.specs.declared.chosen.Layers.TheVariants.{All, These}
+
+-- both ends are among the range
+abbrev pub holds : LayerRange → ℕ → Bool
+holds range nth = nat_le range.from nth && nat_le nth range.to
+
+abbrev pub some_holds : List LayerRange → ℕ → Bool
+some_holds ranges nth = list_any (λ range. holds range nth) ranges
+
+abbrev pub is_chosen : Layers → ℕ → Bool
+is_chosen All nth = true
+is_chosen (These ranges) nth = some_holds ranges nth

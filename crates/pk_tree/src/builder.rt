@@ -1,0 +1,208 @@
+ghost use Rattle.std.specs.Prelude.{◌≡◌, ℕ, List, ◌+◌, ◌-◌, ◌<◌, ◌^◌, [], ◌∷◌, ◌++◌, length, vec_len, IfOk, IsTrue, OnErr, OnOk};
+ghost use Rattle.pk_buffer.specs.Buffers.{IsInside, bytes_of, buffer_of};
+ghost use Rattle.pk_fields.specs.Fields.{row_of};
+ghost use Rattle.pk_tree.specs.Trees.{IsTree, ItemFits, LayersFit, layers_of, layer_gets, proto_at, last_proto, with_layer, with_item, with_buffer, read_of, derived_of, made_of};
+ghost use Rattle.pk_tree.specs.Values.{IsOfKind, IsProtocol, HasSize, is_read};
+
+use crate::item::{Item, Items, Place};
+use crate::layer::{Layer, next_number, push_last};
+use crate::reading::read_value;
+use crate::tree::Tree;
+use crate::value::Value;
+use pk_base::{NoMemory, Octets, Span};
+use pk_buffer::Buffers;
+use pk_fields::FieldId;
+use std::alloc::Global;
+use std::marker::Model;
+
+/// How many layers a tree has room for from the start. Most frames have fewer.
+const FEW_LAYERS: usize = 8;
+
+/// A tree that is being built. Items are added to the last layer.
+#[derive(Drop)]
+pub struct TreeBuilder {
+    layers: Vec<Layer>,
+    buffers: Buffers,
+    alloc: Global,
+}
+
+impl Model for TreeBuilder {
+    ghost use Rattle.pk_tree.specs.Trees.{TreeShown, IsTree};
+
+    ghost Value = { TreeShown };
+
+    ghost view = { λ t. record { layers = t.layers.items; buffers = t.buffers } };
+
+    ghost invariant = { λ t. IsTree (record { layers = t.layers.items; buffers = t.buffers }) };
+}
+
+impl TreeBuilder {
+    /// A tree without layers, whose first buffer is the frame's bytes.
+    pub fn new(alloc: Global, frame: Octets) -> Result<TreeBuilder, NoMemory>
+        requires { length frame < 2 ^ 32 }
+        ensures { IfOk result (λ t. t ≡ record { layers = []; buffers = frame ∷ [] }) }
+    {
+        let mut buffers = Buffers::new(alloc);
+        buffers.add(frame)?;
+        let layers = Vec::with_capacity(alloc, FEW_LAYERS)?;
+        Ok(TreeBuilder {
+            layers,
+            buffers,
+            alloc,
+        })
+    }
+
+    /// Adds a layer without items behind the others.
+    pub fn open_layer(&mut self, proto: FieldId, span: Span) -> Result<(), NoMemory>
+        requires inside { IsInside self.old.buffers span }
+        requires proto { IsProtocol proto }
+        requires room { length self.old.layers + 1 < 2 ^ 32 }
+        ensures ok { OnOk result (self.new ≡ with_layer self.old proto span []) }
+        ensures err { OnErr result (self.new ≡ self.old) }
+        ensures buffers { self.new.buffers ≡ self.old.buffers }
+        ensures count { OnOk result (length self.new.layers ≡ length self.old.layers + 1) }
+        ensures last { OnOk result (last_proto self.new.layers ≡ proto) }
+    {
+        self.open_with_room(proto, span, 0)
+    }
+
+    /// As `open_layer`, with room for so many items.
+    pub(crate) fn open_with_room(
+        &mut self,
+        proto: FieldId,
+        span: Span,
+        items: usize,
+    ) -> Result<(), NoMemory>
+        requires inside { IsInside self.old.buffers span }
+        requires proto { IsProtocol proto }
+        requires room { length self.old.layers + 1 < 2 ^ 32 }
+        ensures ok { OnOk result (self.new ≡ with_layer self.old proto span []) }
+        ensures err { OnErr result (self.new ≡ self.old) }
+        ensures buffers { self.new.buffers ≡ self.old.buffers }
+        ensures count { OnOk result (length self.new.layers ≡ length self.old.layers + 1) }
+        ensures last { OnOk result (last_proto self.new.layers ≡ proto) }
+    {
+        let layer = Layer {
+            proto,
+            nth: next_number(&self.layers, proto),
+            span,
+            items: Items::with_room(self.alloc, items)?,
+        };
+        self.layers.push(layer)?;
+        Ok(())
+    }
+
+    /// Adds the item that a field's row reads in a span.
+    pub fn read_item(&mut self, field: FieldId, span: Span) -> Result<(), NoMemory>
+        requires inside { IsInside self.old.buffers span }
+        requires read { IsTrue (is_read (row_of field)) }
+        requires size { HasSize (row_of field).bits span.len }
+        requires layer { 0 < length self.old.layers }
+        requires belongs { (row_of field).proto ≡ last_proto self.old.layers }
+        ensures ok { OnOk result (self.new ≡ with_item self.old (read_of self.old.buffers field span)) }
+        ensures err { OnErr result (self.new ≡ self.old) }
+        ensures buffers { self.new.buffers ≡ self.old.buffers }
+        ensures count { length self.new.layers ≡ length self.old.layers }
+        ensures last { last_proto self.new.layers ≡ last_proto self.old.layers }
+    {
+        let value = read_value(&self.buffers, field, span)?;
+        let item = Item {
+            field,
+            value,
+            place: Place::Read(span),
+        };
+        self.push_item(item)
+    }
+
+    /// Adds an item whose value a rule works out from a span.
+    pub fn derived_item(&mut self, field: FieldId, value: Value, span: Span) -> Result<(), NoMemory>
+        requires inside { IsInside self.old.buffers span }
+        requires kind { IsOfKind (row_of field).kind value }
+        requires layer { 0 < length self.old.layers }
+        requires belongs { (row_of field).proto ≡ last_proto self.old.layers }
+        ensures ok { OnOk result (self.new ≡ with_item self.old (derived_of field value span)) }
+        ensures err { OnErr result (self.new ≡ self.old) }
+        ensures buffers { self.new.buffers ≡ self.old.buffers }
+        ensures count { length self.new.layers ≡ length self.old.layers }
+        ensures last { last_proto self.new.layers ≡ last_proto self.old.layers }
+    {
+        let item = Item {
+            field,
+            value,
+            place: Place::Derived(span),
+        };
+        self.push_item(item)
+    }
+
+    /// Adds an item whose value has no place.
+    pub fn made_item(&mut self, field: FieldId, value: Value) -> Result<(), NoMemory>
+        requires kind { IsOfKind (row_of field).kind value }
+        requires layer { 0 < length self.old.layers }
+        requires belongs { (row_of field).proto ≡ last_proto self.old.layers }
+        ensures ok { OnOk result (self.new ≡ with_item self.old (made_of field value)) }
+        ensures err { OnErr result (self.new ≡ self.old) }
+        ensures buffers { self.new.buffers ≡ self.old.buffers }
+        ensures count { length self.new.layers ≡ length self.old.layers }
+        ensures last { last_proto self.new.layers ≡ last_proto self.old.layers }
+    {
+        let item = Item {
+            field,
+            value,
+            place: Place::Made,
+        };
+        self.push_item(item)
+    }
+
+    /// Adds a buffer behind the others and answers its number.
+    pub fn add_buffer(&mut self, b: Octets) -> Result<u32, NoMemory>
+        requires room { length self.old.buffers + 1 < 2 ^ 32 }
+        requires short { length b < 2 ^ 32 }
+        ensures number { IfOk result (λ number. number ≡ length self.old.buffers) }
+        ensures ok { OnOk result (self.new ≡ with_buffer self.old b) }
+        ensures err { OnErr result (self.new ≡ self.old) }
+        ensures layers { self.new.layers ≡ self.old.layers }
+        ensures buffers { OnOk result (self.new.buffers ≡ self.old.buffers ++ b ∷ []) }
+    {
+        let number = self.buffers.add(b)?;
+        Ok(number)
+    }
+
+    /// The bytes of a span.
+    pub fn bytes(&self, s: Span) -> &[u8]
+        requires { IsInside self.now.buffers s }
+        ensures bytes { result.now ≡ bytes_of self.now.buffers s }
+        ensures len { length result.now ≡ s.len }
+        ensures end { s.start + s.len < 2 ^ 32 }
+    {
+        self.buffers.bytes(s)
+    }
+
+    /// How many bytes a buffer has.
+    pub fn size(&self, buffer: u32) -> u32
+        requires { buffer < length self.now.buffers }
+        ensures { result ≡ length (buffer_of self.now.buffers buffer) }
+    {
+        self.buffers.size(buffer)
+    }
+
+    /// The tree, to which no more layers are added.
+    pub fn finish(self) -> Tree
+        ensures tree { result ≡ self }
+        ensures fits { IsTree result }
+    {
+        Tree::from_parts(self.layers, self.buffers, self.alloc)
+    }
+
+    fn push_item(&mut self, item: Item) -> Result<(), NoMemory>
+        requires fits { ItemFits self.old.buffers (last_proto self.old.layers) item }
+        requires layer { 0 < length self.old.layers }
+        ensures ok { OnOk result (self.new ≡ with_item self.old item) }
+        ensures err { OnErr result (self.new ≡ self.old) }
+        ensures buffers { self.new.buffers ≡ self.old.buffers }
+        ensures count { length self.new.layers ≡ length self.old.layers }
+        ensures last { last_proto self.new.layers ≡ last_proto self.old.layers }
+    {
+        push_last(&mut self.layers, item)?;
+        Ok(())
+    }
+}
