@@ -8,9 +8,9 @@ mod item;
 mod layer;
 mod layout;
 mod reading;
-mod tree;
 #[cfg(test)]
 mod tests;
+mod tree;
 mod value;
 
 pub use builder::TreeBuilder;

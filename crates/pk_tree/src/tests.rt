@@ -52,7 +52,12 @@ fn layers_of_a_protocol_are_numbered_from_one(rt: HostRuntime) -> Result<(), NoM
 fn values_are_those_of_the_chosen_layers(rt: HostRuntime) -> Result<(), NoMemory> {
     let tree = tunnel(&rt)?;
     let all = tree.values(ids::IP_SRC, &Layers::All)?;
-    assert!(rt; matches!(all.as_slice(), [Value::Ip4(0x0a00_0001), Value::Ip4(0xc0a8_0001)]));
+    assert!(rt;
+        matches!(
+            all.as_slice(),
+            [Value::Ip4(0x0a00_0001), Value::Ip4(0xc0a8_0001)]
+        )
+    );
     let second = LayerRanges::from_vec([LayerRange { from: 2, to: 3 }].to_vec(rt.alloc())?);
     let inner = tree.values(ids::IP_SRC, &Layers::These(second))?;
     assert!(rt; matches!(inner.as_slice(), [Value::Ip4(0xc0a8_0001)]));
@@ -72,7 +77,10 @@ fn values_are_those_of_the_chosen_layers(rt: HostRuntime) -> Result<(), NoMemory
 #[tactic(auto, unfolding(pk_fields::specs::Fields::row_of, pk_fields::specs::Table::rows))]
 fn places_say_where_values_come_from(rt: HostRuntime) -> Result<(), NoMemory> {
     let mut builder = TreeBuilder::new(rt.alloc(), Octets::copy(rt.alloc(), b"frame")?)?;
-    assert_eq!(rt; builder.add_buffer(Octets::copy(rt.alloc(), b"\x01h\x04test\0")?)?, 1);
+    assert_eq!(rt;
+        builder.add_buffer(Octets::copy(rt.alloc(), b"\x01h\x04test\0")?)?,
+        1
+    );
     assert_eq!(rt; builder.size(1), 8);
     let name = Span {
         buffer: 1,
@@ -127,7 +135,9 @@ fn read_rows(
 }
 
 #[test]
-fn a_layer_that_is_read_whole_has_the_items_of_all_its_steps(rt: HostRuntime) -> Result<(), NoMemory> {
+fn a_layer_that_is_read_whole_has_the_items_of_all_its_steps(
+    rt: HostRuntime,
+) -> Result<(), NoMemory> {
     let (reach, tree) = read_rows(&rt, 20, true, Mode::Plain, true)?;
     assert!(rt; reach.is_all());
     let read = match tree.layers() {
@@ -156,7 +166,11 @@ fn what_ended_a_reading_is_told_by_the_fault_layer(rt: HostRuntime) -> Result<()
         (20, false, Mode::Embedded, true, ids::WS_MALFORMED),
     ] {
         let (_, tree) = read_rows(&rt, len, version, mode, cut)?;
-        assert!(rt; tree.layers().last().is_some_and(|layer| layer.proto == fault));
+        assert!(rt;
+            tree.layers()
+                .last()
+                .is_some_and(|layer| layer.proto == fault)
+        );
     }
     Ok(())
 }
