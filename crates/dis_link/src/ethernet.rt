@@ -1,0 +1,71 @@
+ghost use Rattle.std.specs.Prelude.{◌≡◌, ℕ, ◌+◌, ◌<◌, ◌≤◌, ◌^◌, List, length, IfOk, OnOk};
+ghost use Rattle.pk_buffer.specs.Buffers.{IsInside, bytes_of};
+ghost use Rattle.pk_fields.specs.Ids.{ETH};
+ghost use Rattle.pk_tree.specs.Layouts.{layer_read};
+ghost use Rattle.dis_link.specs.Ethernet.{eth_type, eth_layout, eth_span, eth_after};
+ghost use Rattle.dis_link.specs.Following.{LeadsInside};
+
+use crate::ether_type::{is_length, next_of_type};
+use crate::following::{carried, first_of};
+use pk_base::{NoMemory, Span};
+use pk_fields::ids;
+use pk_tree::{After, Mode, Step, TreeBuilder, peek, read_layer};
+
+/// The bytes of an Ethernet header.
+const HEADER: u32 = 14;
+
+/// Reads an Ethernet header (IEEE 802.3, 3.1.1). A length in it ends the layer.
+#[tactic(auto, unfolding(crate::specs::Ethernet::eth_layout, crate::specs::Ethernet::eth_after, pk_tree::specs::Layouts::StepsFit, pk_fields::specs::Fields::row_of, pk_fields::specs::Table::rows))]
+pub(crate) fn read_ethernet(
+    span: Span,
+    cut: bool,
+    mode: Mode,
+    b: &mut TreeBuilder,
+) -> Result<After, NoMemory>
+    requires inside { IsInside b.old.buffers span }
+    requires room { length b.old.layers + 2 < 2 ^ 32 }
+    ensures layer { IfOk result (λ _. b.new ≡ layer_read b.old ETH (eth_span span (bytes_of b.old.buffers span)) (eth_layout (bytes_of b.old.buffers span)) mode cut) }
+    ensures after { IfOk result (λ after. after ≡ eth_after span (bytes_of b.old.buffers span)) }
+    ensures inside { IfOk result (LeadsInside b.old.buffers) }
+    ensures buffers { b.new.buffers ≡ b.old.buffers }
+    ensures most { OnOk result (length b.new.layers ≤ length b.old.layers + 2) }
+{
+    let bytes = b.bytes(span);
+    let number = peek(bytes, 96, 16);
+    let steps = eth_steps(bytes);
+    let layer = eth_span(span, number);
+    read_layer(b, ids::ETH, layer, &steps, mode, cut)?;
+    Ok(carried(next_of_type(number), layer, HEADER))
+}
+
+#[tactic(auto, unfolding(crate::specs::Ethernet::eth_layout))]
+fn eth_steps(bytes: &[u8]) -> [Step; 5]
+    ensures { result ≡ eth_layout bytes.now }
+{
+    [
+        Step::Row(ids::ETH_DST, 0),
+        Step::Row(ids::ETH_ADDR, 0),
+        Step::Row(ids::ETH_SRC, 6),
+        Step::Row(ids::ETH_ADDR, 6),
+        if is_length(peek(bytes, 96, 16)) {
+            Step::Row(ids::ETH_LEN, 12)
+        } else {
+            Step::Row(ids::ETH_TYPE, 12)
+        },
+    ]
+}
+
+/// The layer's span, by the length or type in its header.
+#[tactic(auto, unfolding(crate::specs::Ethernet::eth_span))]
+fn eth_span(span: Span, number: u64) -> Span
+    requires { number < 2 ^ 16 }
+    ensures span { (bytes : List ℕ) → number ≡ eth_type bytes → result ≡ eth_span span bytes }
+    ensures inside { (buffers : List (List ℕ)) → IsInside buffers span → IsInside buffers result }
+    ensures end { result.start + result.len ≤ span.start + span.len }
+{
+    if is_length(number) {
+        first_of(span, HEADER + number as u32)
+    } else {
+        span
+    }
+}
