@@ -43,3 +43,12 @@ link_after Raw little span bytes = carried (next_of_version (peeked bytes 0 4)) 
 link_after LinuxCooked little span bytes = sll_after span bytes
 link_after LinuxCooked2 little span bytes = sll2_after span bytes
 link_after Unknown little span bytes = carried nexts.Rest span 0
+
+-- the protocol of the tree's last layer behind a whole header, by the one before
+abbrev pub last_behind : Link → ℕ → ℕ
+last_behind Null before = NULL
+last_behind Ethernet before = ETH
+last_behind Raw before = before
+last_behind LinuxCooked before = SLL
+last_behind LinuxCooked2 before = SLL2
+last_behind Unknown before = before

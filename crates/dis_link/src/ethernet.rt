@@ -1,7 +1,9 @@
-ghost use Rattle.std.specs.Prelude.{◌≡◌, ℕ, ◌+◌, ◌<◌, ◌≤◌, ◌^◌, List, length, IfOk, OnOk};
+ghost use Rattle.std.specs.Prelude.{◌≡◌, ◌≢◌, ℕ, ◌+◌, ◌<◌, ◌≤◌, ◌^◌, List, length, IfOk, OnOk};
 ghost use Rattle.pk_buffer.specs.Buffers.{IsInside, bytes_of};
 ghost use Rattle.pk_fields.specs.Ids.{ETH};
-ghost use Rattle.pk_tree.specs.Layouts.{layer_read};
+ghost use Rattle.pk_tree.specs.declared.heads.Mode.TheVariants.{Plain};
+ghost use Rattle.pk_tree.specs.Layouts.{layer_read, reach};
+ghost use Rattle.pk_tree.specs.Trees.{last_proto};
 ghost use Rattle.dis_link.specs.Ethernet.{eth_type, eth_layout, eth_span, eth_after};
 ghost use Rattle.dis_link.specs.Following.{LeadsInside};
 
@@ -9,7 +11,7 @@ use crate::ether_type::{is_length, next_of_type};
 use crate::following::{carried, first_of};
 use pk_base::{NoMemory, Span};
 use pk_fields::ids;
-use pk_tree::{After, Mode, Step, TreeBuilder, peek, read_layer};
+use pk_tree::{After, Mode, Reach, Step, TreeBuilder, peek, read_layer};
 
 /// The bytes of an Ethernet header.
 const HEADER: u32 = 14;
@@ -19,14 +21,14 @@ const HEADER: u32 = 14;
 pub(crate) fn read_ethernet(
     span: Span,
     cut: bool,
-    mode: Mode,
     b: &mut TreeBuilder,
 ) -> Result<After, NoMemory>
     requires inside { IsInside b.old.buffers span }
     requires room { length b.old.layers + 2 < 2 ^ 32 }
-    ensures layer { IfOk result (λ _. b.new ≡ layer_read b.old ETH (eth_span span (bytes_of b.old.buffers span)) (eth_layout (bytes_of b.old.buffers span)) mode cut) }
+    ensures layer { IfOk result (λ _. b.new ≡ layer_read b.old ETH (eth_span span (bytes_of b.old.buffers span)) (eth_layout (bytes_of b.old.buffers span)) Plain cut) }
     ensures after { IfOk result (λ after. after ≡ eth_after span (bytes_of b.old.buffers span)) }
     ensures inside { IfOk result (LeadsInside b.old.buffers) }
+    ensures whole { IfOk result (λ after. after ≢ After.End → last_proto b.new.layers ≡ ETH) }
     ensures buffers { b.new.buffers ≡ b.old.buffers }
     ensures most { OnOk result (length b.new.layers ≤ length b.old.layers + 2) }
 {
@@ -34,13 +36,14 @@ pub(crate) fn read_ethernet(
     let number = peek(bytes, 96, 16);
     let steps = eth_steps(bytes);
     let layer = eth_span(span, number);
-    read_layer(b, ids::ETH, layer, &steps, mode, cut)?;
+    read_layer(b, ids::ETH, layer, &steps, Mode::Plain, cut)?;
     Ok(carried(next_of_type(number), layer, HEADER))
 }
 
-#[tactic(auto, unfolding(crate::specs::Ethernet::eth_layout))]
+#[tactic(auto, unfolding(crate::specs::Ethernet::eth_layout, pk_tree::specs::Layouts::reach, pk_tree::specs::Layouts::step_reach, pk_fields::specs::Fields::row_of, pk_fields::specs::Table::rows))]
 fn eth_steps(bytes: &[u8]) -> [Step; 5]
-    ensures { result ≡ eth_layout bytes.now }
+    ensures layout { result ≡ eth_layout bytes.now }
+    ensures whole { (end : ℕ) → 14 ≤ end → reach end result ≡ Reach.All }
 {
     [
         Step::Row(ids::ETH_DST, 0),

@@ -1,14 +1,15 @@
-ghost use Rattle.std.specs.Prelude.{◌≡◌, ◌+◌, ◌<◌, ◌≤◌, ◌^◌, length, IfOk, OnOk};
+ghost use Rattle.std.specs.Prelude.{◌≡◌, ◌≢◌, ◌+◌, ◌<◌, ◌≤◌, ◌^◌, length, IfOk, OnOk};
 ghost use Rattle.pk_buffer.specs.Buffers.{IsInside, bytes_of};
+ghost use Rattle.pk_tree.specs.Trees.{last_proto};
 ghost use Rattle.dis_link.specs.Following.{LeadsInside};
-ghost use Rattle.dis_link.specs.Link.{link_of, link_read, link_after, next_of_version};
+ghost use Rattle.dis_link.specs.Link.{link_of, link_read, link_after, next_of_version, last_behind};
 
 use crate::ethernet::read_ethernet;
 use crate::following::carried;
 use crate::linux_cooked::{read_sll, read_sll2};
 use crate::null::read_null;
 use pk_base::{NoMemory, Span};
-use pk_tree::{After, Mode, Next, TreeBuilder, peek};
+use pk_tree::{After, Next, TreeBuilder, peek};
 
 /// The link types that are read (the LINKTYPE registry of tcpdump.org).
 const LINKTYPE_NULL: u16 = 0;
@@ -44,18 +45,19 @@ pub fn read_link(
     ensures tree { IfOk result (λ _. b.new ≡ link_read (link_of link) little b.old span cut) }
     ensures after { IfOk result (λ after. after ≡ link_after (link_of link) little span (bytes_of b.old.buffers span)) }
     ensures inside { IfOk result (LeadsInside b.old.buffers) }
+    ensures whole { IfOk result (λ after. after ≢ After.End → last_proto b.new.layers ≡ last_behind (link_of link) (last_proto b.old.layers)) }
     ensures buffers { b.new.buffers ≡ b.old.buffers }
     ensures most { OnOk result (length b.new.layers ≤ length b.old.layers + 2) }
 {
     match link_of(link) {
-        Link::Null => read_null(little, span, cut, Mode::Plain, b),
-        Link::Ethernet => read_ethernet(span, cut, Mode::Plain, b),
+        Link::Null => read_null(little, span, cut, b),
+        Link::Ethernet => read_ethernet(span, cut, b),
         Link::Raw => {
             let version = peek(b.bytes(span), 0, 4);
             Ok(carried(next_of_version(version), span, 0))
         }
-        Link::LinuxCooked => read_sll(span, cut, Mode::Plain, b),
-        Link::LinuxCooked2 => read_sll2(span, cut, Mode::Plain, b),
+        Link::LinuxCooked => read_sll(span, cut, b),
+        Link::LinuxCooked2 => read_sll2(span, cut, b),
         Link::Unknown => {
             let _bytes = b.bytes(span);
             Ok(carried(Next::Rest, span, 0))

@@ -1,7 +1,9 @@
-ghost use Rattle.std.specs.Prelude.{◌≡◌, ◌+◌, ◌<◌, ◌≤◌, ◌^◌, length, IfOk, OnOk};
+ghost use Rattle.std.specs.Prelude.{◌≡◌, ◌≢◌, ℕ, ◌+◌, ◌<◌, ◌≤◌, ◌^◌, length, IfOk, OnOk};
 ghost use Rattle.pk_buffer.specs.Buffers.{IsInside, bytes_of};
 ghost use Rattle.pk_fields.specs.Ids.{SLL, SLL2};
-ghost use Rattle.pk_tree.specs.Layouts.{layer_read};
+ghost use Rattle.pk_tree.specs.declared.heads.Mode.TheVariants.{Plain};
+ghost use Rattle.pk_tree.specs.Layouts.{layer_read, reach};
+ghost use Rattle.pk_tree.specs.Trees.{last_proto};
 ghost use Rattle.dis_link.specs.Following.{LeadsInside};
 ghost use Rattle.dis_link.specs.LinuxCooked.{sll_layout, sll_after, sll2_layout, sll2_after};
 
@@ -9,7 +11,7 @@ use crate::ether_type::next_of_type;
 use crate::following::carried;
 use pk_base::{NoMemory, Span};
 use pk_fields::ids;
-use pk_tree::{After, Mode, Step, TreeBuilder, peek, read_layer};
+use pk_tree::{After, Mode, Reach, Step, TreeBuilder, peek, read_layer};
 
 /// The bytes of a header of the first version.
 const HEADER: u32 = 16;
@@ -23,27 +25,28 @@ const ADDRESS: usize = 8;
 pub(crate) fn read_sll(
     span: Span,
     cut: bool,
-    mode: Mode,
     b: &mut TreeBuilder,
 ) -> Result<After, NoMemory>
     requires inside { IsInside b.old.buffers span }
     requires room { length b.old.layers + 2 < 2 ^ 32 }
-    ensures layer { IfOk result (λ _. b.new ≡ layer_read b.old SLL span (sll_layout (bytes_of b.old.buffers span)) mode cut) }
+    ensures layer { IfOk result (λ _. b.new ≡ layer_read b.old SLL span (sll_layout (bytes_of b.old.buffers span)) Plain cut) }
     ensures after { IfOk result (λ after. after ≡ sll_after span (bytes_of b.old.buffers span)) }
     ensures inside { IfOk result (LeadsInside b.old.buffers) }
+    ensures whole { IfOk result (λ after. after ≢ After.End → last_proto b.new.layers ≡ SLL) }
     ensures buffers { b.new.buffers ≡ b.old.buffers }
     ensures most { OnOk result (length b.new.layers ≤ length b.old.layers + 2) }
 {
     let bytes = b.bytes(span);
     let next = next_of_type(peek(bytes, 112, 16));
     let steps = sll_steps(bytes);
-    read_layer(b, ids::SLL, span, &steps, mode, cut)?;
+    read_layer(b, ids::SLL, span, &steps, Mode::Plain, cut)?;
     Ok(carried(next, span, HEADER))
 }
 
-#[tactic(auto, unfolding(crate::specs::LinuxCooked::sll_layout))]
+#[tactic(auto, unfolding(crate::specs::LinuxCooked::sll_layout, pk_tree::specs::Layouts::reach, pk_tree::specs::Layouts::step_reach, pk_fields::specs::Fields::row_of, pk_fields::specs::Table::rows))]
 fn sll_steps(bytes: &[u8]) -> [Step; 5]
-    ensures { result ≡ sll_layout bytes.now }
+    ensures layout { result ≡ sll_layout bytes.now }
+    ensures whole { (end : ℕ) → 16 ≤ end → reach end result ≡ Reach.All }
 {
     let size = (peek(bytes, 32, 16) as usize).min(ADDRESS);
     [
@@ -60,27 +63,28 @@ fn sll_steps(bytes: &[u8]) -> [Step; 5]
 pub(crate) fn read_sll2(
     span: Span,
     cut: bool,
-    mode: Mode,
     b: &mut TreeBuilder,
 ) -> Result<After, NoMemory>
     requires inside { IsInside b.old.buffers span }
     requires room { length b.old.layers + 2 < 2 ^ 32 }
-    ensures layer { IfOk result (λ _. b.new ≡ layer_read b.old SLL2 span (sll2_layout (bytes_of b.old.buffers span)) mode cut) }
+    ensures layer { IfOk result (λ _. b.new ≡ layer_read b.old SLL2 span (sll2_layout (bytes_of b.old.buffers span)) Plain cut) }
     ensures after { IfOk result (λ after. after ≡ sll2_after span (bytes_of b.old.buffers span)) }
     ensures inside { IfOk result (LeadsInside b.old.buffers) }
+    ensures whole { IfOk result (λ after. after ≢ After.End → last_proto b.new.layers ≡ SLL2) }
     ensures buffers { b.new.buffers ≡ b.old.buffers }
     ensures most { OnOk result (length b.new.layers ≤ length b.old.layers + 2) }
 {
     let bytes = b.bytes(span);
     let next = next_of_type(peek(bytes, 0, 16));
     let steps = sll2_steps(bytes);
-    read_layer(b, ids::SLL2, span, &steps, mode, cut)?;
+    read_layer(b, ids::SLL2, span, &steps, Mode::Plain, cut)?;
     Ok(carried(next, span, HEADER_2))
 }
 
-#[tactic(auto, unfolding(crate::specs::LinuxCooked::sll2_layout))]
+#[tactic(auto, unfolding(crate::specs::LinuxCooked::sll2_layout, pk_tree::specs::Layouts::reach, pk_tree::specs::Layouts::step_reach, pk_fields::specs::Fields::row_of, pk_fields::specs::Table::rows))]
 fn sll2_steps(bytes: &[u8]) -> [Step; 7]
-    ensures { result ≡ sll2_layout bytes.now }
+    ensures layout { result ≡ sll2_layout bytes.now }
+    ensures whole { (20 ≤ length bytes.now) → reach (length bytes.now) result ≡ Reach.All }
 {
     let size = (peek(bytes, 88, 8) as usize).min(ADDRESS);
     [

@@ -1,7 +1,9 @@
-ghost use Rattle.std.specs.Prelude.{◌≡◌, ◌+◌, ◌<◌, ◌≤◌, ◌^◌, length, IfOk, OnOk};
+ghost use Rattle.std.specs.Prelude.{◌≡◌, ◌≢◌, ℕ, ◌+◌, ◌<◌, ◌≤◌, ◌^◌, length, IfOk, OnOk};
 ghost use Rattle.pk_buffer.specs.Buffers.{IsInside, bytes_of};
 ghost use Rattle.pk_fields.specs.Ids.{NULL};
+ghost use Rattle.pk_tree.specs.declared.heads.Mode.TheVariants.{Plain};
 ghost use Rattle.pk_tree.specs.Layouts.{layer_read};
+ghost use Rattle.pk_tree.specs.Trees.{last_proto};
 ghost use Rattle.dis_link.specs.Following.{LeadsInside};
 ghost use Rattle.dis_link.specs.Null.{family, next_of_family, null_layout, null_after};
 
@@ -20,19 +22,19 @@ const INET6_FREEBSD: u32 = 28;
 const INET6_MACOS: u32 = 30;
 
 /// Reads a BSD loopback header, whose family is in the byte order of the file or section (LINKTYPE_NULL).
-#[tactic(auto, unfolding(crate::specs::Null::null_layout, crate::specs::Null::null_after, pk_tree::specs::Layouts::StepsFit, pk_fields::specs::Fields::row_of, pk_fields::specs::Table::rows))]
+#[tactic(auto, unfolding(crate::specs::Null::null_layout, crate::specs::Null::null_after, pk_tree::specs::Layouts::reach, pk_tree::specs::Layouts::step_reach, pk_tree::specs::Layouts::StepsFit, pk_fields::specs::Fields::row_of, pk_fields::specs::Table::rows))]
 pub(crate) fn read_null(
     little: bool,
     span: Span,
     cut: bool,
-    mode: Mode,
     b: &mut TreeBuilder,
 ) -> Result<After, NoMemory>
     requires inside { IsInside b.old.buffers span }
     requires room { length b.old.layers + 2 < 2 ^ 32 }
-    ensures layer { IfOk result (λ _. b.new ≡ layer_read b.old NULL span (null_layout little (bytes_of b.old.buffers span)) mode cut) }
+    ensures layer { IfOk result (λ _. b.new ≡ layer_read b.old NULL span (null_layout little (bytes_of b.old.buffers span)) Plain cut) }
     ensures after { IfOk result (λ after. after ≡ null_after little span (bytes_of b.old.buffers span)) }
     ensures inside { IfOk result (LeadsInside b.old.buffers) }
+    ensures whole { IfOk result (λ after. after ≢ After.End → last_proto b.new.layers ≡ NULL) }
     ensures buffers { b.new.buffers ≡ b.old.buffers }
     ensures most { OnOk result (length b.new.layers ≤ length b.old.layers + 2) }
 {
@@ -43,7 +45,7 @@ pub(crate) fn read_null(
         0,
         HEADER as usize,
     )];
-    read_layer(b, ids::NULL, span, &steps, mode, cut)?;
+    read_layer(b, ids::NULL, span, &steps, Mode::Plain, cut)?;
     Ok(carried(next_of_family(family), span, HEADER))
 }
 

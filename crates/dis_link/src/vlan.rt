@@ -1,7 +1,8 @@
-ghost use Rattle.std.specs.Prelude.{◌≡◌, ℕ, ◌+◌, ◌<◌, ◌≤◌, ◌^◌, List, length, IfOk, OnOk};
+ghost use Rattle.std.specs.Prelude.{◌≡◌, ◌≢◌, ℕ, ◌+◌, ◌<◌, ◌≤◌, ◌^◌, List, length, IfOk, OnOk};
 ghost use Rattle.pk_buffer.specs.Buffers.{IsInside, bytes_of};
 ghost use Rattle.pk_fields.specs.Ids.{VLAN};
-ghost use Rattle.pk_tree.specs.Layouts.{layer_read};
+ghost use Rattle.pk_tree.specs.Layouts.{layer_read, reach};
+ghost use Rattle.pk_tree.specs.Trees.{last_proto};
 ghost use Rattle.dis_link.specs.Following.{LeadsInside};
 ghost use Rattle.dis_link.specs.Vlan.{vlan_type, vlan_layout, vlan_span, vlan_after};
 
@@ -9,7 +10,7 @@ use crate::ether_type::{is_length, next_of_type};
 use crate::following::{carried, first_of};
 use pk_base::{NoMemory, Span};
 use pk_fields::ids;
-use pk_tree::{After, Mode, Step, TreeBuilder, peek, read_layer};
+use pk_tree::{After, Mode, Reach, Step, TreeBuilder, peek, read_layer};
 
 /// The bytes of a VLAN tag, without the type before it and with the one behind it.
 const HEADER: u32 = 4;
@@ -27,6 +28,7 @@ pub fn read_vlan(
     ensures layer { IfOk result (λ _. b.new ≡ layer_read b.old VLAN (vlan_span span (bytes_of b.old.buffers span)) (vlan_layout (bytes_of b.old.buffers span)) mode cut) }
     ensures after { IfOk result (λ after. after ≡ vlan_after span (bytes_of b.old.buffers span)) }
     ensures inside { IfOk result (LeadsInside b.old.buffers) }
+    ensures whole { IfOk result (λ after. after ≢ After.End → last_proto b.new.layers ≡ VLAN) }
     ensures buffers { b.new.buffers ≡ b.old.buffers }
     ensures most { OnOk result (length b.new.layers ≤ length b.old.layers + 2) }
 {
@@ -38,9 +40,10 @@ pub fn read_vlan(
     Ok(carried(next_of_type(number), layer, HEADER))
 }
 
-#[tactic(auto, unfolding(crate::specs::Vlan::vlan_layout))]
+#[tactic(auto, unfolding(crate::specs::Vlan::vlan_layout, pk_tree::specs::Layouts::reach, pk_tree::specs::Layouts::step_reach, pk_fields::specs::Fields::row_of, pk_fields::specs::Table::rows))]
 fn vlan_steps(bytes: &[u8]) -> [Step; 4]
-    ensures { result ≡ vlan_layout bytes.now }
+    ensures layout { result ≡ vlan_layout bytes.now }
+    ensures whole { (end : ℕ) → 4 ≤ end → reach end result ≡ Reach.All }
 {
     [
         Step::Row(ids::VLAN_PRIORITY, 0),
