@@ -10,19 +10,16 @@ use pk_tree::{After, Mode, Step, TreeBuilder, peek, read_layer};
 
 /// The hardware address space of Ethernet (RFC 826, "Definitions").
 const ETHERNET: u64 = 1;
+
 const ETHERNET_SIZE: u64 = 6;
 /// The protocol address space of IPv4: its type in an Ethernet frame.
 const IP4: u64 = 0x0800;
+
 const IP4_SIZE: u64 = 4;
 
 /// Reads an ARP packet (RFC 826). Nothing follows it.
 #[tactic(auto, unfolding(crate::specs::Arp::arp_layout, pk_tree::specs::Layouts::StepsFit, pk_fields::specs::Fields::row_of, pk_fields::specs::Table::rows))]
-pub fn read_arp(
-    span: Span,
-    cut: bool,
-    mode: Mode,
-    b: &mut TreeBuilder,
-) -> Result<After, NoMemory>
+pub fn read_arp(span: Span, cut: bool, mode: Mode, b: &mut TreeBuilder) -> Result<After, NoMemory>
     requires inside { IsInside b.old.buffers span }
     requires room { length b.old.layers + 2 < 2 ^ 32 }
     ensures layer { IfOk result (λ _. b.new ≡ layer_read b.old ARP span (arp_layout (bytes_of b.old.buffers span)) mode cut) }
@@ -49,9 +46,27 @@ fn arp_steps(bytes: &[u8]) -> [Step; 9]
         Step::Row(ids::ARP_PROTO_SIZE, 5),
         Step::Row(ids::ARP_OPCODE, 6),
         address(known, ids::ARP_SRC_HW_MAC, ids::ARP_SRC_HW, 8, hw),
-        address(known, ids::ARP_SRC_PROTO_IPV4, ids::ARP_SRC_PROTO, 8 + hw, proto),
-        address(known, ids::ARP_DST_HW_MAC, ids::ARP_DST_HW, 8 + hw + proto, hw),
-        address(known, ids::ARP_DST_PROTO_IPV4, ids::ARP_DST_PROTO, 8 + hw + proto + hw, proto),
+        address(
+            known,
+            ids::ARP_SRC_PROTO_IPV4,
+            ids::ARP_SRC_PROTO,
+            8 + hw,
+            proto,
+        ),
+        address(
+            known,
+            ids::ARP_DST_HW_MAC,
+            ids::ARP_DST_HW,
+            8 + hw + proto,
+            hw,
+        ),
+        address(
+            known,
+            ids::ARP_DST_PROTO_IPV4,
+            ids::ARP_DST_PROTO,
+            8 + hw + proto + hw,
+            proto,
+        ),
     ]
 }
 

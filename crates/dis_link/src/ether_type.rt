@@ -6,9 +6,13 @@ use pk_tree::Next;
 const LENGTH_MOST: u64 = 1_500;
 
 const IP4: u64 = 0x0800;
+
 const ARP: u64 = 0x0806;
+
 const CUSTOMER_TAG: u64 = 0x8100;
+
 const IP6: u64 = 0x86DD;
+
 const SERVICE_TAG: u64 = 0x88A8;
 
 /// Whether the two bytes of a length or type are a length (IEEE 802.3, 3.2.6).

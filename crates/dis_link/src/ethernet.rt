@@ -18,11 +18,7 @@ const HEADER: u32 = 14;
 
 /// Reads an Ethernet header (IEEE 802.3, 3.1.1). A length in it ends the layer.
 #[tactic(auto, unfolding(crate::specs::Ethernet::eth_layout, crate::specs::Ethernet::eth_after, pk_tree::specs::Layouts::StepsFit, pk_fields::specs::Fields::row_of, pk_fields::specs::Table::rows))]
-pub(crate) fn read_ethernet(
-    span: Span,
-    cut: bool,
-    b: &mut TreeBuilder,
-) -> Result<After, NoMemory>
+pub(crate) fn read_ethernet(span: Span, cut: bool, b: &mut TreeBuilder) -> Result<After, NoMemory>
     requires inside { IsInside b.old.buffers span }
     requires room { length b.old.layers + 2 < 2 ^ 32 }
     ensures layer { IfOk result (λ _. b.new ≡ layer_read b.old ETH (eth_span span (bytes_of b.old.buffers span)) (eth_layout (bytes_of b.old.buffers span)) Plain cut) }

@@ -8,6 +8,8 @@ mod following;
 mod link;
 mod linux_cooked;
 mod null;
+#[cfg(test)]
+mod tests;
 mod vlan;
 
 pub use arp::read_arp;

@@ -13,9 +13,13 @@ use pk_tree::{After, Next, TreeBuilder, peek};
 
 /// The link types that are read (the LINKTYPE registry of tcpdump.org).
 const LINKTYPE_NULL: u16 = 0;
+
 const LINKTYPE_ETHERNET: u16 = 1;
+
 const LINKTYPE_RAW: u16 = 101;
+
 const LINKTYPE_LINUX_SLL: u16 = 113;
+
 const LINKTYPE_LINUX_SLL2: u16 = 276;
 
 /// What a frame begins with.

@@ -22,11 +22,7 @@ const ADDRESS: usize = 8;
 
 /// Reads a header of a cooked capture (LINKTYPE_LINUX_SLL).
 #[tactic(auto, unfolding(crate::specs::LinuxCooked::sll_layout, crate::specs::LinuxCooked::sll_after, pk_tree::specs::Layouts::StepsFit, pk_fields::specs::Fields::row_of, pk_fields::specs::Table::rows))]
-pub(crate) fn read_sll(
-    span: Span,
-    cut: bool,
-    b: &mut TreeBuilder,
-) -> Result<After, NoMemory>
+pub(crate) fn read_sll(span: Span, cut: bool, b: &mut TreeBuilder) -> Result<After, NoMemory>
     requires inside { IsInside b.old.buffers span }
     requires room { length b.old.layers + 2 < 2 ^ 32 }
     ensures layer { IfOk result (λ _. b.new ≡ layer_read b.old SLL span (sll_layout (bytes_of b.old.buffers span)) Plain cut) }
@@ -60,11 +56,7 @@ fn sll_steps(bytes: &[u8]) -> [Step; 5]
 
 /// Reads a header of a cooked capture of the second version (LINKTYPE_LINUX_SLL2).
 #[tactic(auto, unfolding(crate::specs::LinuxCooked::sll2_layout, crate::specs::LinuxCooked::sll2_after, pk_tree::specs::Layouts::StepsFit, pk_fields::specs::Fields::row_of, pk_fields::specs::Table::rows))]
-pub(crate) fn read_sll2(
-    span: Span,
-    cut: bool,
-    b: &mut TreeBuilder,
-) -> Result<After, NoMemory>
+pub(crate) fn read_sll2(span: Span, cut: bool, b: &mut TreeBuilder) -> Result<After, NoMemory>
     requires inside { IsInside b.old.buffers span }
     requires room { length b.old.layers + 2 < 2 ^ 32 }
     ensures layer { IfOk result (λ _. b.new ≡ layer_read b.old SLL2 span (sll2_layout (bytes_of b.old.buffers span)) Plain cut) }

@@ -17,8 +17,11 @@ const HEADER: u32 = 4;
 
 /// The families of the protocols that are read, by the systems that use them.
 const INET: u32 = 2;
+
 const INET6_NETBSD_AND_OPENBSD: u32 = 24;
+
 const INET6_FREEBSD: u32 = 28;
+
 const INET6_MACOS: u32 = 30;
 
 /// Reads a BSD loopback header, whose family is in the byte order of the file or section (LINKTYPE_NULL).

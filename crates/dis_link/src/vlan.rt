@@ -17,12 +17,7 @@ const HEADER: u32 = 4;
 
 /// Reads a VLAN tag (IEEE 802.1Q, 9.3). A length behind it ends the layer.
 #[tactic(auto, unfolding(crate::specs::Vlan::vlan_layout, crate::specs::Vlan::vlan_after, pk_tree::specs::Layouts::StepsFit, pk_fields::specs::Fields::row_of, pk_fields::specs::Table::rows))]
-pub fn read_vlan(
-    span: Span,
-    cut: bool,
-    mode: Mode,
-    b: &mut TreeBuilder,
-) -> Result<After, NoMemory>
+pub fn read_vlan(span: Span, cut: bool, mode: Mode, b: &mut TreeBuilder) -> Result<After, NoMemory>
     requires inside { IsInside b.old.buffers span }
     requires room { length b.old.layers + 2 < 2 ^ 32 }
     ensures layer { IfOk result (λ _. b.new ≡ layer_read b.old VLAN (vlan_span span (bytes_of b.old.buffers span)) (vlan_layout (bytes_of b.old.buffers span)) mode cut) }
