@@ -4,15 +4,15 @@
 --         +-------------+-------------+-------+----------------
 --         | destination |   source    | type  | what follows ..
 --         +-------------+-------------+-------+----------------
-use Rattle.std.specs.Prelude.{ℕ, ◌+◌, List, [], ◌∷◌, if◌then◌else◌}
+use Rattle.std.specs.Prelude.{ℕ, List, [], ◌∷◌, if◌then◌else◌}
 use Rattle.pk_base.specs.declared.span.Span.{Span}
 use Rattle.pk_fields.specs.Ids.{ETH_DST, ETH_SRC, ETH_ADDR, ETH_TYPE, ETH_LEN}
 use Rattle.pk_tree.specs.declared.heads.After.{After}
 use Rattle.pk_tree.specs.declared.layout.Step.{Step}
 use Rattle.pk_tree.specs.declared.layout.Step.TheVariants.{Row}
 use Rattle.pk_tree.specs.Layouts.{peeked}
-use Rattle.dis_link.specs.EtherTypes.{is_length, next_of_type}
-use Rattle.dis_link.specs.Following.{carried, first_of}
+use Rattle.dis_link.specs.EtherTypes.{is_length, ended, next_of_type}
+use Rattle.dis_link.specs.Following.{carried}
 
 -- the length or type
 abbrev pub eth_type : List ℕ → ℕ
@@ -27,9 +27,8 @@ eth_layout bytes =
     (if is_length (eth_type bytes) then Row ETH_LEN 12 else Row ETH_TYPE 12) ∷
     []
 
--- a length ends the layer, where the bytes don't end before; what is behind that is padding
-unfoldable pub eth_span : Span → List ℕ → Span
-eth_span span bytes = if is_length (eth_type bytes) then first_of span (14 + eth_type bytes) else span
+abbrev pub eth_span : Span → List ℕ → Span
+eth_span span bytes = ended span 14 (eth_type bytes)
 
 unfoldable pub eth_after : Span → List ℕ → After
 eth_after span bytes = carried (next_of_type (eth_type bytes)) (eth_span span bytes) 14

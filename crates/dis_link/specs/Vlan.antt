@@ -5,15 +5,15 @@
 --    +-----+-+-----------------------+-------------------------------+
 --    | PCP |D|    VLAN identifier    |        type or length         |
 --    +-----+-+-----------------------+-------------------------------+
-use Rattle.std.specs.Prelude.{ℕ, ◌+◌, List, [], ◌∷◌, if◌then◌else◌}
+use Rattle.std.specs.Prelude.{ℕ, List, [], ◌∷◌, if◌then◌else◌}
 use Rattle.pk_base.specs.declared.span.Span.{Span}
 use Rattle.pk_fields.specs.Ids.{VLAN_PRIORITY, VLAN_DEI, VLAN_ID, VLAN_ETYPE, VLAN_LEN}
 use Rattle.pk_tree.specs.declared.heads.After.{After}
 use Rattle.pk_tree.specs.declared.layout.Step.{Step}
 use Rattle.pk_tree.specs.declared.layout.Step.TheVariants.{Row}
 use Rattle.pk_tree.specs.Layouts.{peeked}
-use Rattle.dis_link.specs.EtherTypes.{is_length, next_of_type}
-use Rattle.dis_link.specs.Following.{carried, first_of}
+use Rattle.dis_link.specs.EtherTypes.{is_length, ended, next_of_type}
+use Rattle.dis_link.specs.Following.{carried}
 
 -- the length or type
 abbrev pub vlan_type : List ℕ → ℕ
@@ -27,9 +27,8 @@ vlan_layout bytes =
     (if is_length (vlan_type bytes) then Row VLAN_LEN 2 else Row VLAN_ETYPE 2) ∷
     []
 
--- a length ends the layer as in an Ethernet header
-unfoldable pub vlan_span : Span → List ℕ → Span
-vlan_span span bytes = if is_length (vlan_type bytes) then first_of span (4 + vlan_type bytes) else span
+abbrev pub vlan_span : Span → List ℕ → Span
+vlan_span span bytes = ended span 4 (vlan_type bytes)
 
 unfoldable pub vlan_after : Span → List ℕ → After
 vlan_after span bytes = carried (next_of_type (vlan_type bytes)) (vlan_span span bytes) 4

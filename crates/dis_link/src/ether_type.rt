@@ -1,6 +1,9 @@
-ghost use Rattle.std.specs.Prelude.{◌≡◌};
-ghost use Rattle.dis_link.specs.EtherTypes.{is_length, next_of_type};
+ghost use Rattle.std.specs.Prelude.{◌≡◌, ℕ, ◌+◌, ◌≤◌, ◌<◌, ◌^◌, List};
+ghost use Rattle.pk_buffer.specs.Buffers.{IsInside};
+ghost use Rattle.dis_link.specs.EtherTypes.{is_length, ended, next_of_type};
 
+use crate::following::first_of;
+use pk_base::Span;
 use pk_tree::Next;
 
 const LENGTH_MOST: u64 = 1_500;
@@ -32,5 +35,21 @@ pub(crate) fn next_of_type(number: u64) -> Next
         IP6 => Next::Ip6,
         CUSTOMER_TAG | SERVICE_TAG => Next::Vlan,
         _ => Next::Rest,
+    }
+}
+
+/// A layer's span by the length or type that ends its header of so many bytes. A length ends the layer.
+#[tactic(auto, unfolding(crate::specs::EtherTypes::ended))]
+pub(crate) fn ended(span: Span, header: u32, number: u64) -> Span
+    requires header { header < 2 ^ 8 }
+    requires number { number < 2 ^ 16 }
+    ensures span { result ≡ ended span header number }
+    ensures inside { (buffers : List (List ℕ)) → IsInside buffers span → IsInside buffers result }
+    ensures end { result.start + result.len ≤ span.start + span.len }
+{
+    if is_length(number) {
+        first_of(span, header + number as u32)
+    } else {
+        span
     }
 }

@@ -1,14 +1,14 @@
-ghost use Rattle.std.specs.Prelude.{◌≡◌, ◌≢◌, ℕ, ◌+◌, ◌<◌, ◌≤◌, ◌^◌, List, length, IfOk, OnOk};
+ghost use Rattle.std.specs.Prelude.{◌≡◌, ◌≢◌, ℕ, ◌+◌, ◌<◌, ◌≤◌, ◌^◌, length, IfOk, OnOk};
 ghost use Rattle.pk_buffer.specs.Buffers.{IsInside, bytes_of};
 ghost use Rattle.pk_fields.specs.Ids.{ETH};
 ghost use Rattle.pk_tree.specs.declared.heads.Mode.TheVariants.{Plain};
 ghost use Rattle.pk_tree.specs.Layouts.{layer_read, reach};
 ghost use Rattle.pk_tree.specs.Trees.{last_proto};
-ghost use Rattle.dis_link.specs.Ethernet.{eth_type, eth_layout, eth_span, eth_after};
+ghost use Rattle.dis_link.specs.Ethernet.{eth_layout, eth_span, eth_after};
 ghost use Rattle.dis_link.specs.Following.{LeadsInside};
 
-use crate::ether_type::{is_length, next_of_type};
-use crate::following::{carried, first_of};
+use crate::ether_type::{ended, is_length, next_of_type};
+use crate::following::carried;
 use pk_base::{NoMemory, Span};
 use pk_fields::ids;
 use pk_tree::{After, Mode, Reach, Step, TreeBuilder, peek, read_layer};
@@ -31,7 +31,7 @@ pub(crate) fn read_ethernet(span: Span, cut: bool, b: &mut TreeBuilder) -> Resul
     let bytes = b.bytes(span);
     let number = peek(bytes, 96, 16);
     let steps = eth_steps(bytes);
-    let layer = eth_span(span, number);
+    let layer = ended(span, HEADER, number);
     read_layer(b, ids::ETH, layer, &steps, Mode::Plain, cut)?;
     Ok(carried(next_of_type(number), layer, HEADER))
 }
@@ -52,19 +52,4 @@ fn eth_steps(bytes: &[u8]) -> [Step; 5]
             Step::Row(ids::ETH_TYPE, 12)
         },
     ]
-}
-
-/// The layer's span, by the length or type in its header.
-#[tactic(auto, unfolding(crate::specs::Ethernet::eth_span))]
-fn eth_span(span: Span, number: u64) -> Span
-    requires { number < 2 ^ 16 }
-    ensures span { (bytes : List ℕ) → number ≡ eth_type bytes → result ≡ eth_span span bytes }
-    ensures inside { (buffers : List (List ℕ)) → IsInside buffers span → IsInside buffers result }
-    ensures end { result.start + result.len ≤ span.start + span.len }
-{
-    if is_length(number) {
-        first_of(span, HEADER + number as u32)
-    } else {
-        span
-    }
 }

@@ -1,13 +1,13 @@
-ghost use Rattle.std.specs.Prelude.{◌≡◌, ◌≢◌, ℕ, ◌+◌, ◌<◌, ◌≤◌, ◌^◌, List, length, IfOk, OnOk};
+ghost use Rattle.std.specs.Prelude.{◌≡◌, ◌≢◌, ℕ, ◌+◌, ◌<◌, ◌≤◌, ◌^◌, length, IfOk, OnOk};
 ghost use Rattle.pk_buffer.specs.Buffers.{IsInside, bytes_of};
 ghost use Rattle.pk_fields.specs.Ids.{VLAN};
 ghost use Rattle.pk_tree.specs.Layouts.{layer_read, reach};
 ghost use Rattle.pk_tree.specs.Trees.{last_proto};
 ghost use Rattle.dis_link.specs.Following.{LeadsInside};
-ghost use Rattle.dis_link.specs.Vlan.{vlan_type, vlan_layout, vlan_span, vlan_after};
+ghost use Rattle.dis_link.specs.Vlan.{vlan_layout, vlan_span, vlan_after};
 
-use crate::ether_type::{is_length, next_of_type};
-use crate::following::{carried, first_of};
+use crate::ether_type::{ended, is_length, next_of_type};
+use crate::following::carried;
 use pk_base::{NoMemory, Span};
 use pk_fields::ids;
 use pk_tree::{After, Mode, Reach, Step, TreeBuilder, peek, read_layer};
@@ -30,7 +30,7 @@ pub fn read_vlan(span: Span, cut: bool, mode: Mode, b: &mut TreeBuilder) -> Resu
     let bytes = b.bytes(span);
     let number = peek(bytes, 16, 16);
     let steps = vlan_steps(bytes);
-    let layer = vlan_span(span, number);
+    let layer = ended(span, HEADER, number);
     read_layer(b, ids::VLAN, layer, &steps, mode, cut)?;
     Ok(carried(next_of_type(number), layer, HEADER))
 }
@@ -50,19 +50,4 @@ fn vlan_steps(bytes: &[u8]) -> [Step; 4]
             Step::Row(ids::VLAN_ETYPE, 2)
         },
     ]
-}
-
-/// The layer's span, by the length or type behind the tag.
-#[tactic(auto, unfolding(crate::specs::Vlan::vlan_span))]
-fn vlan_span(span: Span, number: u64) -> Span
-    requires { number < 2 ^ 16 }
-    ensures span { (bytes : List ℕ) → number ≡ vlan_type bytes → result ≡ vlan_span span bytes }
-    ensures inside { (buffers : List (List ℕ)) → IsInside buffers span → IsInside buffers result }
-    ensures end { result.start + result.len ≤ span.start + span.len }
-{
-    if is_length(number) {
-        first_of(span, HEADER + number as u32)
-    } else {
-        span
-    }
 }
