@@ -1,0 +1,8 @@
+pub mod Arp
+pub mod EtherTypes
+pub mod Ethernet
+pub mod Following
+pub mod Link
+pub mod LinuxCooked
+pub mod Null
+pub mod Vlan

@@ -1,0 +1,39 @@
+ghost use Rattle.std.specs.Prelude.{◌≡◌, ℕ, ◌+◌, ◌^◌, ◌<◌, ◌≤◌, List};
+ghost use Rattle.pk_buffer.specs.Buffers.{IsInside};
+ghost use Rattle.dis_link.specs.Following.{carried, first_of, LeadsInside};
+
+use pk_base::Span;
+use pk_tree::{After, Next};
+
+/// The bytes behind a header of so many bytes, as a protocol's, or the end where there are none.
+pub(crate) fn carried(next: Next, span: Span, header: u32) -> After
+    requires end { span.start + span.len < 2 ^ 32 }
+    ensures after { result ≡ carried next span header }
+    ensures inside { (buffers : List (List ℕ)) → IsInside buffers span → LeadsInside buffers result }
+{
+    if header < span.len {
+        After::Next(
+            next,
+            Span {
+                buffer: span.buffer,
+                start: span.start + header,
+                len: span.len - header,
+            },
+        )
+    } else {
+        After::End
+    }
+}
+
+/// A span's first bytes, as many as that or as there are.
+pub(crate) fn first_of(span: Span, most: u32) -> Span
+    ensures first { result ≡ first_of span most }
+    ensures inside { (buffers : List (List ℕ)) → IsInside buffers span → IsInside buffers result }
+    ensures end { result.start + result.len ≤ span.start + span.len }
+{
+    Span {
+        buffer: span.buffer,
+        start: span.start,
+        len: span.len.min(most),
+    }
+}

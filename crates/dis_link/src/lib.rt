@@ -1,0 +1,17 @@
+//! The headers below the network layer: Ethernet, VLAN tags, the BSD loopback header, Linux's cooked headers, and ARP.
+#![tactic(auto)]
+
+mod arp;
+mod ether_type;
+mod ethernet;
+mod following;
+mod link;
+mod linux_cooked;
+mod null;
+#[cfg(test)]
+mod tests;
+mod vlan;
+
+pub use arp::read_arp;
+pub use link::read_link;
+pub use vlan::read_vlan;

@@ -1,0 +1,74 @@
+ghost use Rattle.std.specs.Prelude.{◌≡◌, ◌≢◌, ℕ, ◌+◌, ◌<◌, ◌≤◌, ◌^◌, length, IfOk, OnOk};
+ghost use Rattle.pk_buffer.specs.Buffers.{IsInside, bytes_of};
+ghost use Rattle.pk_fields.specs.Ids.{NULL};
+ghost use Rattle.pk_tree.specs.declared.heads.Mode.TheVariants.{Plain};
+ghost use Rattle.pk_tree.specs.Layouts.{layer_read};
+ghost use Rattle.pk_tree.specs.Trees.{last_proto};
+ghost use Rattle.dis_link.specs.Following.{LeadsInside};
+ghost use Rattle.dis_link.specs.Null.{family, next_of_family, null_layout, null_after};
+
+use crate::following::carried;
+use pk_base::{NoMemory, Span, u32_at};
+use pk_fields::ids;
+use pk_tree::{After, Mode, Next, Step, TreeBuilder, Value, read_layer};
+
+/// The bytes of a loopback header.
+const HEADER: u32 = 4;
+
+/// The families of the protocols that are read, by the systems that use them.
+const INET: u32 = 2;
+
+const INET6_NETBSD_AND_OPENBSD: u32 = 24;
+
+const INET6_FREEBSD: u32 = 28;
+
+const INET6_MACOS: u32 = 30;
+
+/// Reads a BSD loopback header, whose family is in the byte order of the file or section (LINKTYPE_NULL).
+#[tactic(auto, unfolding(crate::specs::Null::null_layout, crate::specs::Null::null_after, pk_tree::specs::Layouts::reach, pk_tree::specs::Layouts::step_reach, pk_tree::specs::Layouts::StepsFit, pk_fields::specs::Fields::row_of, pk_fields::specs::Table::rows))]
+pub(crate) fn read_null(
+    little: bool,
+    span: Span,
+    cut: bool,
+    b: &mut TreeBuilder,
+) -> Result<After, NoMemory>
+    requires inside { IsInside b.old.buffers span }
+    requires room { length b.old.layers + 2 < 2 ^ 32 }
+    ensures layer { IfOk result (λ _. b.new ≡ layer_read b.old NULL span (null_layout little (bytes_of b.old.buffers span)) Plain cut) }
+    ensures after { IfOk result (λ after. after ≡ null_after little span (bytes_of b.old.buffers span)) }
+    ensures inside { IfOk result (LeadsInside b.old.buffers) }
+    ensures whole { IfOk result (λ after. after ≢ After.End → last_proto b.new.layers ≡ NULL) }
+    ensures buffers { b.new.buffers ≡ b.old.buffers }
+    ensures most { OnOk result (length b.new.layers ≤ length b.old.layers + 2) }
+{
+    let family = family(little, b.bytes(span));
+    let steps = [Step::Derived(
+        ids::NULL_FAMILY,
+        Value::Uint(u64::from(family)),
+        0,
+        HEADER as usize,
+    )];
+    read_layer(b, ids::NULL, span, &steps, Mode::Plain, cut)?;
+    Ok(carried(next_of_family(family), span, HEADER))
+}
+
+/// The family, or 0 where its bytes aren't all there.
+fn family(little: bool, bytes: &[u8]) -> u32
+    ensures { result ≡ family little bytes.now }
+{
+    if bytes.len() >= HEADER as usize {
+        u32_at(little, bytes, 0)
+    } else {
+        0
+    }
+}
+
+fn next_of_family(family: u32) -> Next
+    ensures { result ≡ next_of_family family }
+{
+    match family {
+        INET => Next::Ip4,
+        INET6_NETBSD_AND_OPENBSD | INET6_FREEBSD | INET6_MACOS => Next::Ip6,
+        _ => Next::Rest,
+    }
+}
