@@ -1,7 +1,6 @@
 pub mod Arp
 pub mod EtherTypes
 pub mod Ethernet
-pub mod Following
 pub mod Link
 pub mod LinuxCooked
 pub mod Null

@@ -12,7 +12,7 @@ use Rattle.pk_tree.specs.Trees.{TreeShown}
 use Rattle.dis_link.specs.declared.link.Link.{Link}
 use Rattle.dis_link.specs.declared.link.Link.TheVariants.{Null, Ethernet, Raw, LinuxCooked, LinuxCooked2, Unknown}
 use Rattle.dis_link.specs.Ethernet.{eth_layout, eth_span, eth_after}
-use Rattle.dis_link.specs.Following.{carried}
+use Rattle.pk_tree.specs.Following.{carried}
 use Rattle.dis_link.specs.LinuxCooked.{sll_layout, sll_after, sll2_layout, sll2_after}
 use Rattle.dis_link.specs.Null.{null_layout, null_after}
 

@@ -20,7 +20,7 @@ use Rattle.pk_tree.specs.declared.layout.Step.{Step}
 use Rattle.pk_tree.specs.declared.layout.Step.TheVariants.{Row, Part, Room}
 use Rattle.pk_tree.specs.Layouts.{peeked}
 use Rattle.dis_link.specs.EtherTypes.{next_of_type}
-use Rattle.dis_link.specs.Following.{carried}
+use Rattle.pk_tree.specs.Following.{carried}
 
 unfoldable pub sll_layout : List ℕ → List Step
 sll_layout bytes =

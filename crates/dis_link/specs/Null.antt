@@ -15,7 +15,7 @@ use Rattle.pk_tree.specs.declared.heads.Next.TheVariants.{Ip4, Ip6, Rest}
 use Rattle.pk_tree.specs.declared.layout.Step.{Step}
 use Rattle.pk_tree.specs.declared.layout.Step.TheVariants.{Derived}
 use Rattle.pk_tree.specs.declared.value.Value.TheVariants as values
-use Rattle.dis_link.specs.Following.{carried}
+use Rattle.pk_tree.specs.Following.{carried}
 
 -- the family, or 0 where its four bytes aren't there
 abbrev pub family : Bool → List ℕ → ℕ

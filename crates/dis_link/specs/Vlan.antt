@@ -13,7 +13,7 @@ use Rattle.pk_tree.specs.declared.layout.Step.{Step}
 use Rattle.pk_tree.specs.declared.layout.Step.TheVariants.{Row}
 use Rattle.pk_tree.specs.Layouts.{peeked}
 use Rattle.dis_link.specs.EtherTypes.{is_length, ended, next_of_type}
-use Rattle.dis_link.specs.Following.{carried}
+use Rattle.pk_tree.specs.Following.{carried}
 
 -- the length or type
 abbrev pub vlan_type : List ℕ → ℕ

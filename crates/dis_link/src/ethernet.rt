@@ -5,13 +5,12 @@ ghost use Rattle.pk_tree.specs.declared.heads.Mode.TheVariants.{Plain};
 ghost use Rattle.pk_tree.specs.Layouts.{layer_read, reach};
 ghost use Rattle.pk_tree.specs.Trees.{last_proto};
 ghost use Rattle.dis_link.specs.Ethernet.{eth_layout, eth_span, eth_after};
-ghost use Rattle.dis_link.specs.Following.{LeadsInside};
+ghost use Rattle.pk_tree.specs.Following.{LeadsInside};
 
 use crate::ether_type::{ended, is_length, next_of_type};
-use crate::following::carried;
 use pk_base::{NoMemory, Span};
 use pk_fields::ids;
-use pk_tree::{After, Mode, Reach, Step, TreeBuilder, peek, read_layer};
+use pk_tree::{After, Mode, Reach, Step, TreeBuilder, carried, peek, read_layer};
 
 /// The bytes of an Ethernet header.
 const HEADER: u32 = 14;

@@ -4,7 +4,6 @@
 mod arp;
 mod ether_type;
 mod ethernet;
-mod following;
 mod link;
 mod linux_cooked;
 mod null;

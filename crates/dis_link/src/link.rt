@@ -1,15 +1,14 @@
 ghost use Rattle.std.specs.Prelude.{◌≡◌, ◌≢◌, ◌+◌, ◌<◌, ◌≤◌, ◌^◌, length, IfOk, OnOk};
 ghost use Rattle.pk_buffer.specs.Buffers.{IsInside, bytes_of};
 ghost use Rattle.pk_tree.specs.Trees.{last_proto};
-ghost use Rattle.dis_link.specs.Following.{LeadsInside};
+ghost use Rattle.pk_tree.specs.Following.{LeadsInside};
 ghost use Rattle.dis_link.specs.Link.{link_of, link_read, link_after, next_of_version, last_behind};
 
 use crate::ethernet::read_ethernet;
-use crate::following::carried;
 use crate::linux_cooked::{read_sll, read_sll2};
 use crate::null::read_null;
 use pk_base::{NoMemory, Span};
-use pk_tree::{After, Next, TreeBuilder, peek};
+use pk_tree::{After, Next, TreeBuilder, carried, peek};
 
 /// The link types that are read (the LINKTYPE registry of tcpdump.org).
 const LINKTYPE_NULL: u16 = 0;

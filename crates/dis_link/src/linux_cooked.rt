@@ -4,14 +4,13 @@ ghost use Rattle.pk_fields.specs.Ids.{SLL, SLL2};
 ghost use Rattle.pk_tree.specs.declared.heads.Mode.TheVariants.{Plain};
 ghost use Rattle.pk_tree.specs.Layouts.{layer_read, reach};
 ghost use Rattle.pk_tree.specs.Trees.{last_proto};
-ghost use Rattle.dis_link.specs.Following.{LeadsInside};
+ghost use Rattle.pk_tree.specs.Following.{LeadsInside};
 ghost use Rattle.dis_link.specs.LinuxCooked.{sll_layout, sll_after, sll2_layout, sll2_after};
 
 use crate::ether_type::next_of_type;
-use crate::following::carried;
 use pk_base::{NoMemory, Span};
 use pk_fields::ids;
-use pk_tree::{After, Mode, Reach, Step, TreeBuilder, peek, read_layer};
+use pk_tree::{After, Mode, Reach, Step, TreeBuilder, carried, peek, read_layer};
 
 /// The bytes of a header of the first version.
 const HEADER: u32 = 16;

@@ -4,13 +4,12 @@ ghost use Rattle.pk_fields.specs.Ids.{NULL};
 ghost use Rattle.pk_tree.specs.declared.heads.Mode.TheVariants.{Plain};
 ghost use Rattle.pk_tree.specs.Layouts.{layer_read};
 ghost use Rattle.pk_tree.specs.Trees.{last_proto};
-ghost use Rattle.dis_link.specs.Following.{LeadsInside};
+ghost use Rattle.pk_tree.specs.Following.{LeadsInside};
 ghost use Rattle.dis_link.specs.Null.{family, next_of_family, null_layout, null_after};
 
-use crate::following::carried;
 use pk_base::{NoMemory, Span, u32_at};
 use pk_fields::ids;
-use pk_tree::{After, Mode, Next, Step, TreeBuilder, Value, read_layer};
+use pk_tree::{After, Mode, Next, Step, TreeBuilder, Value, carried, read_layer};
 
 /// The bytes of a loopback header.
 const HEADER: u32 = 4;

@@ -1,5 +1,5 @@
 ghost use Rattle.std.specs.Prelude.{◌≡◌, ◌+◌, ◌<◌, ◌≤◌, length, IfOk, OnOk};
-ghost use Rattle.dis_link.specs.Following.{LeadsInside};
+ghost use Rattle.pk_tree.specs.Following.{LeadsInside};
 
 use crate::{read_arp, read_link, read_vlan};
 use pk_base::{NoMemory, Octets, Span};

@@ -3,14 +3,13 @@ ghost use Rattle.pk_buffer.specs.Buffers.{IsInside, bytes_of};
 ghost use Rattle.pk_fields.specs.Ids.{VLAN};
 ghost use Rattle.pk_tree.specs.Layouts.{layer_read, reach};
 ghost use Rattle.pk_tree.specs.Trees.{last_proto};
-ghost use Rattle.dis_link.specs.Following.{LeadsInside};
+ghost use Rattle.pk_tree.specs.Following.{LeadsInside};
 ghost use Rattle.dis_link.specs.Vlan.{vlan_layout, vlan_span, vlan_after};
 
 use crate::ether_type::{ended, is_length, next_of_type};
-use crate::following::carried;
 use pk_base::{NoMemory, Span};
 use pk_fields::ids;
-use pk_tree::{After, Mode, Reach, Step, TreeBuilder, peek, read_layer};
+use pk_tree::{After, Mode, Reach, Step, TreeBuilder, carried, peek, read_layer};
 
 /// The bytes of a VLAN tag, without the type before it and with the one behind it.
 const HEADER: u32 = 4;

@@ -56,7 +56,7 @@ below_or_at P a i less below here =
       | inr later ↦ let same : i ≡ a = omega arith in subst P same here
     ]
 
-best_taken : (groups : List ℕ) (i at count : ℕ) → i < length groups → IsBestBefore groups i at count → count < zeros_from i groups → IsBestBefore groups (i + 1) i (zeros_from i groups)
+pub best_taken : (groups : List ℕ) (i at count : ℕ) → i < length groups → IsBestBefore groups i at count → count < zeros_from i groups → IsBestBefore groups (i + 1) i (zeros_from i groups)
 best_taken groups i at count inside best more = record {
   run = run_here groups i (omega arith);
   before = omega arith;
@@ -68,7 +68,7 @@ best_taken groups i at count inside best more = record {
       (λ earlier run some. absurd (omega (arith, best.longest a _ earlier run, more))) (λ run some. omega arith);
 }
 
-best_kept : (groups : List ℕ) (i at count : ℕ) → IsBestBefore groups i at count → zeros_from i groups ≤ count → IsBestBefore groups (i + 1) at count
+pub best_kept : (groups : List ℕ) (i at count : ℕ) → IsBestBefore groups i at count → zeros_from i groups ≤ count → IsBestBefore groups (i + 1) at count
 best_kept groups i at count best most = record {
   run = best.run;
   before = omega (arith, best.before);

@@ -5,6 +5,7 @@ pub mod Ip4Lemmas
 pub mod Ip6Lemmas
 pub mod Ip6FormLemmas
 pub mod Ip6RunLemmas
+pub mod Ip6ShownLemmas
 pub mod Ip6TextLemmas
 pub mod NumberLemmas
 pub mod OctetsLemmas

@@ -1,7 +1,7 @@
 -- The texts of an IPv6 address: the one that RFC 5952 recommends, and all that RFC 4291, 2.2 allows but the dotted ones.
 use Rattle.std.specs.Prelude.{◌≡◌, ◌⊎◌, ℕ, ◌+◌, ◌-◌, ◌*◌, ◌/◌, ◌%◌, ◌^◌, ◌<◌, ◌≤◌, ◌==◌, ◌&&◌, false, nat_lt, nat_le, if◌then◌else◌, List, [], ◌∷◌, ◌++◌, codes, length, take, drop, map, replicate, slice_index, Option, Some, None, option_and_then}
 use Rattle.std.specs.Option.{option_map}
-use Rattle.std.specs.List.{AllByRecursion, join_by, slice_split}
+use Rattle.std.specs.List.{AllByRecursion, join_by, prefix_len, slice_split}
 use Rattle.std.specs.Fmt.{digits}
 use Rattle.std.specs.Int.Digits.{number_from_digits}
 use Rattle.std.specs.Str.Parse.{IsNumeral, digits_value}
@@ -32,6 +32,22 @@ IsIp6Text groups text =
     ((at : ℕ) × (count : ℕ) × IsBestRun groups at count × (2 ≤ count)
     × (text ≡ groups_shown (take at groups) ++ (codes "::" ++ groups_shown (drop (at + count) groups))))
     ⊎ (((at count : ℕ) → IsRun groups at count → count < 2) × (text ≡ groups_shown groups))
+
+-- the best run, computed: its place and how many groups; best is the best of those before place at, from which groups stand
+abbrev pub best_run_from : ℕ → ℕ × ℕ → List ℕ → ℕ × ℕ
+best_run_from at best [] = best
+best_run_from at best (group ∷ groups) =
+    let count = prefix_len (λ g. g == 0) (group ∷ groups) in
+    best_run_from (at + 1) (if nat_lt best.1 count then (at, count) else best) groups
+
+abbrev pub groups_written : List ℕ → ℕ × ℕ → List ℕ
+groups_written groups run =
+    if nat_lt run.1 2 then groups_shown groups
+    else groups_shown (take run.0 groups) ++ (codes "::" ++ groups_shown (drop (run.0 + run.1) groups))
+
+-- that text, computed
+unfoldable pub ip6_shown : ℕ → List ℕ
+ip6_shown address = groups_written (groups_of address) (best_run_from 0 (0, 0) (groups_of address))
 
 -- an address as it is written: eight words, or the words before and behind `::`
 pub data Ip6Form : Type 0 where

@@ -6,6 +6,9 @@ use crate::digits::read_short;
 use pk_base::NoMemory;
 use std::alloc::Global;
 
+/// The bytes of an address's text, at most.
+const TEXT_LEN: usize = 15;
+
 /// The digits of a number from 0 to 255, at most.
 const PART_DIGITS: usize = 3;
 
@@ -16,7 +19,9 @@ pub fn ip4_text(alloc: Global, v: u32) -> Result<String, NoMemory>
     ensures reads_back { IfOk result (λ text. ip4_of (string_bytes text) ≡ Some v) }
 {
     let [a, b, c, d] = v.to_be_bytes();
-    Ok(format!(in alloc; "{a}.{b}.{c}.{d}")?)
+    let mut text = String::with_capacity(alloc, TEXT_LEN)?;
+    write!(text, "{a}.{b}.{c}.{d}")?;
+    Ok(text)
 }
 
 /// Reads an IPv4 address: four decimal numbers from 0 to 255 without leading zeros, joined by `.`.

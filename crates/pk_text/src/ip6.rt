@@ -3,7 +3,7 @@ ghost use Rattle.std.specs.String.{string_bytes};
 ghost use Rattle.std.specs.Option.{option_map};
 ghost use Rattle.std.specs.List.{prefix_len};
 ghost use Rattle.pk_text.specs.Digits.{short_read};
-ghost use Rattle.pk_text.specs.Ip6.{Ip6Form, IsIp6Form, IsIp6Text, IsBestRun, groups_of, groups_shown, ip6_form_text, ip6_form_value, ip6_of, gap_in, side_of, side_more, shortened_of, whole_of};
+ghost use Rattle.pk_text.specs.Ip6.{Ip6Form, IsIp6Form, IsIp6Text, IsBestRun, groups_of, groups_shown, ip6_form_text, ip6_form_value, ip6_of, ip6_shown, gap_in, side_of, side_more, shortened_of, whole_of};
 
 use crate::digits::read_short;
 use pk_base::NoMemory;
@@ -37,7 +37,9 @@ struct Side {
 
 /// An IPv6 address as RFC 5952 recommends, without the dotted form.
 pub fn ip6_text(alloc: Global, v: u128) -> Result<String, NoMemory>
-    ensures text { IfOk result (λ text. IsIp6Text (groups_of v) (string_bytes text)) }
+    ensures recommended { IfOk result (λ text. IsIp6Text (groups_of v) (string_bytes text)) }
+    // RFC 5952 recommends one text, and a definition computes it.
+    ensures text { IfOk result (λ text. string_bytes text ≡ ip6_shown v) }
     ensures reads_back { IfOk result (λ text. ip6_of (string_bytes text) ≡ Some v) }
 {
     let groups = groups_of(v);

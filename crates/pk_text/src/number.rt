@@ -8,6 +8,9 @@ use crate::digits::read_digits;
 use pk_base::NoMemory;
 use std::alloc::Global;
 
+/// The bytes of a number's text, at most.
+const TEXT_LEN: usize = 20;
+
 /// A number that a text writes, as far as it fits 64 bits.
 #[derive(Clone, Copy, Debug, PartialEq, Eq)]
 pub enum Wide {
@@ -23,7 +26,9 @@ pub fn number_text(alloc: Global, n: u64) -> Result<String, NoMemory>
     ensures text { IfOk result (λ text. string_bytes text ≡ decimal n) }
     ensures reads_back { IfOk result (λ text. number_of (string_bytes text) ≡ Some (Wide.Fits n)) }
 {
-    Ok(n.to_string(alloc)?)
+    let mut text = String::with_capacity(alloc, TEXT_LEN)?;
+    write!(text, "{n}")?;
+    Ok(text)
 }
 
 /// Reads a number: decimal digits without a leading zero, or `0x` and hexadecimal digits.

@@ -10,6 +10,9 @@ use std::alloc::Global;
 /// The nanoseconds of a second.
 const SECOND: u128 = 1_000_000_000;
 
+/// The bytes of a time's text, at most: a sign, 30 digits of whole seconds, a point and nine digits.
+const TEXT_LEN: usize = 41;
+
 /// The digits of a second's fraction, and those of whole seconds that are read.
 const FRACTION_DIGITS: usize = 9;
 
@@ -26,7 +29,9 @@ pub fn time_text(alloc: Global, ns: i128) -> Result<String, NoMemory>
     let size = ns.unsigned_abs();
     let whole = size / SECOND;
     let over = size % SECOND;
-    Ok(format!(in alloc; "{sign}{whole}.{over:09}")?)
+    let mut text = String::with_capacity(alloc, TEXT_LEN)?;
+    write!(text, "{sign}{whole}.{over:09}")?;
+    Ok(text)
 }
 
 fn sign(negative: bool) -> &'static str

@@ -2,7 +2,7 @@
 use Rattle.std.proofs.Common.{◌≡◌, ℕ, zero, suc, ◌+◌, ◌-◌, ◌<◌, ◌≤◌, List, [], ◌∷◌, ◌++◌, Option, Some, None, refl, sym, ap, ◌∙◌, arith, append_assoc, append-nil}
 use Rattle.pk_tree.specs.declared.layout.Step.{Step}
 use Rattle.pk_tree.specs.Entries.{Entry, goes_on, ends, behind, then_at, then_on, repeated, Adds}
-use Rattle.pk_tree.specs.Layouts.{StepFits, StepsFit}
+use Rattle.pk_tree.specs.Layouts.{StepsFit}
 
 repeated-suc : (n : ℕ) (one : ℕ → Entry) (at : ℕ) → repeated (suc n) one at ≡ then_on (one at) (repeated n one)
 unfolding repeated

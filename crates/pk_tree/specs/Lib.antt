@@ -1,6 +1,7 @@
 pub mod Chosen
 pub mod Entries
 pub mod FieldValues
+pub mod Following
 pub mod Layouts
 pub mod Trees
 pub mod Values

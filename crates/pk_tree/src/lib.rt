@@ -3,6 +3,7 @@
 
 mod builder;
 mod chosen;
+mod following;
 mod heads;
 mod item;
 mod layer;
@@ -15,6 +16,7 @@ mod value;
 
 pub use builder::TreeBuilder;
 pub use chosen::{LayerRange, LayerRanges, Layers};
+pub use following::{carried, first_of};
 pub use heads::{
     Address, After, Endpoint, FragmentHead, Mode, Next, PacketHead, PortsHead, TcpHead,
 };

@@ -7,5 +7,5 @@ use Rattle.pk_text.proofs.ip4.ip4_text.Goals as goal
 pub returns-clause-reads_back : goal.returns-clause-reads_back
 unfolding ip4_shown
 returns-clause-reads_back c =
-    let written : string_bytes c.in_ok-format.field-0 ≡ ip4_shown c.args.v = search rules in
+    let written : string_bytes c.write.new.self ≡ ip4_shown c.args.v = search rules in
     ap ip4_of written ∙ ip4_from_shown c.args.v (omega arith)

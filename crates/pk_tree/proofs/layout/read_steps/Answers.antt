@@ -1,4 +1,4 @@
-use Rattle.std.proofs.Common.{◌≡◌, ◌+◌, ◌<◌, [], ◌∷◌, length, drop, refl, sym, arith, ap, ◌∙◌, rules}
+use Rattle.std.proofs.Common.{◌<◌, length, sym, arith, ◌∙◌, rules}
 use Rattle.std.proofs.lemmas.List.{drop_all}
 use Rattle.pk_tree.specs.Layouts.{StepsFit}
 use Rattle.pk_tree.proofs.LayoutLemmas.{tree-on, tree-off, reach-on, reach-off, reach-none, steps_left, none_read}

@@ -1,4 +1,4 @@
-use Rattle.std.proofs.Common.{◌≡◌, ◌<◌, length, drop}
+use Rattle.std.proofs.Common.{◌≡◌, length, drop}
 use Rattle.std.specs.List.{AllByRecursion as Each}
 use Rattle.pk_tree.specs.Layouts.{items_read, reach, StepFits, with_items}
 use Rattle.pk_tree.specs.Trees.{last_proto}

@@ -1,6 +1,6 @@
-use Rattle.std.proofs.Common.{◌≡◌, ◌==◌, ◌++◌, [], append-nil, false, refl, sym, ◌∙◌, ap}
+use Rattle.std.proofs.Common.{◌≡◌, ◌==◌, append-nil, false, refl, sym, ◌∙◌, ap}
 use Rattle.pk_fields.specs.Fields.{row_of}
-use Rattle.pk_tree.specs.FieldValues.{layer_values, item_values}
+use Rattle.pk_tree.specs.FieldValues.{layer_values}
 use Rattle.pk_tree.specs.Values.{is_proto}
 use Rattle.pk_tree.proofs.FieldLemmas.{no_items}
 use Rattle.pk_tree.proofs.tree.push_values.Goals as goal

@@ -1,12 +1,12 @@
 ghost use Rattle.std.specs.Prelude.{◌≡◌, ℕ, ◌+◌, ◌^◌, ◌<◌, ◌≤◌, List};
 ghost use Rattle.pk_buffer.specs.Buffers.{IsInside};
-ghost use Rattle.dis_link.specs.Following.{carried, first_of, LeadsInside};
+ghost use Rattle.pk_tree.specs.Following.{carried, first_of, LeadsInside};
 
+use crate::heads::{After, Next};
 use pk_base::Span;
-use pk_tree::{After, Next};
 
 /// The bytes behind a header of so many bytes, as a protocol's, or the end where there are none.
-pub(crate) fn carried(next: Next, span: Span, header: u32) -> After
+pub fn carried(next: Next, span: Span, header: u32) -> After
     requires end { span.start + span.len < 2 ^ 32 }
     ensures after { result ≡ carried next span header }
     ensures inside { (buffers : List (List ℕ)) → IsInside buffers span → LeadsInside buffers result }
@@ -26,7 +26,7 @@ pub(crate) fn carried(next: Next, span: Span, header: u32) -> After
 }
 
 /// A span's first bytes, as many as that or as there are.
-pub(crate) fn first_of(span: Span, most: u32) -> Span
+pub fn first_of(span: Span, most: u32) -> Span
     ensures first { result ≡ first_of span most }
     ensures inside { (buffers : List (List ℕ)) → IsInside buffers span → IsInside buffers result }
     ensures end { result.start + result.len ≤ span.start + span.len }

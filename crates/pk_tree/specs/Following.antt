@@ -17,8 +17,11 @@ carried next span header =
 abbrev pub first_of : Span → ℕ → Span
 first_of span most = record { buffer = span.buffer; start = span.start; len = min span.len most }
 
--- what follows is the end, or a protocol with at least one byte, which lies in its buffer
+-- what follows lies in its buffer; a protocol and what an IP header carries have at least one byte
 abbrev pub LeadsInside : List (List ℕ) → After → Type 0
 LeadsInside buffers (afters.Next next span) = IsInside buffers span × (0 < span.len)
+LeadsInside buffers (afters.Packet next span packet) = IsInside buffers span × (0 < span.len)
+LeadsInside buffers (afters.Fragment head span) = IsInside buffers span
+LeadsInside buffers (afters.Datagram head span) = IsInside buffers span
+LeadsInside buffers (afters.Segment head span) = IsInside buffers span
 LeadsInside buffers afters.End = Unit {0}
-LeadsInside buffers after = ⊥
