@@ -29,13 +29,17 @@ abbrev pub value_fault : ℕ → Letter → Option Value → Option WordFault
 value_fault word letter None = Some (fault word MissingValue)
 value_fault word letter (Some value) = if is_value letter value.text then None else Some (fault value.word BadValue)
 
+-- what is wrong with an option, given the uses before it
+abbrev pub given_fault : List Use → Given → Option WordFault
+given_fault before given =
+    if not (may_repeat given.letter) && is_given given.letter before then Some (fault given.word Repeated)
+    else value_fault given.word given.letter given.value
+
 -- what is wrong with a use, given those before it
 abbrev pub fault_of : List Use → Use → Option WordFault
 fault_of before (use_.Unknown word) = Some (fault word UnknownOption)
 fault_of before (use_.Stray word) = Some (fault word StrayWord)
-fault_of before (use_.Given given) =
-    if not (may_repeat given.letter) && is_given given.letter before then Some (fault given.word Repeated)
-    else value_fault given.word given.letter given.value
+fault_of before (use_.Given given) = given_fault before given
 
 -- the first fault of uses that follow others
 unfoldable pub first_fault : List Use → List Use → Option WordFault

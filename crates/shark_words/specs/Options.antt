@@ -3,7 +3,6 @@ use Rattle.std.specs.Prelude.{◌≡◌, ℕ, suc, ◌&&◌, List, [], ◌∷◌
 use Rattle.shark_words.specs.declared.letter.Letter.{Letter}
 use Rattle.shark_words.specs.declared.letter.Letter.TheVariants.{Capture, Filter, Kind, Name, Most}
 use Rattle.shark_words.specs.declared.uses.Value.{Value}
-use Rattle.shark_words.specs.declared.uses.Given.{Given}
 use Rattle.shark_words.specs.declared.uses.Use.{Use}
 use Rattle.shark_words.specs.declared.uses.Use.TheVariants as use_
 use Rattle.shark_words.specs.declared.fault.WordFault.{WordFault}

@@ -1,5 +1,5 @@
 -- What an option's value may be.
-use Rattle.std.specs.Prelude.{ℕ, ◌==◌, ◌^◌, nat_lt, Bool, true, ◌&&◌, ◌||◌, List, [], ◌∷◌, length, codes, Option, Some, None, is_some, if◌then◌else◌}
+use Rattle.std.specs.Prelude.{ℕ, ◌==◌, ◌^◌, ◌-◌, min, nat_lt, Bool, true, ◌&&◌, ◌||◌, List, [], ◌∷◌, length, codes, Option, Some, None, is_some, if◌then◌else◌}
 use Rattle.std.specs.List.{list_all}
 use Rattle.std.specs.Char.{is_digit}
 use Rattle.std.specs.Str.{bytes_eq}
@@ -11,6 +11,10 @@ use Rattle.shark_words.specs.declared.options.LineKind.TheVariants.{Fields}
 
 abbrev pub are_digits : List ℕ → Bool
 are_digits text = list_all (λ b. is_digit b 10) text
+
+-- the number of decimal digits, as far as 64 bits hold it
+abbrev pub digits_read : List ℕ → Option ℕ
+digits_read text = if are_digits text then Some (min (digits_value 10 text) (2 ^ 64 - 1)) else None
 
 -- a number from 1 to 4,294,967,295, in decimal digits without a leading zero; 48 is `0`
 unfoldable pub count_of : List ℕ → Option ℕ

@@ -2,10 +2,12 @@
 #![tactic(auto)]
 
 mod fault;
+mod faults;
 mod letter;
 mod options;
 mod read;
 mod uses;
+mod values;
 
 pub use fault::{WordFault, WordReason, WordsError};
 pub use options::{LineKind, NameList, Options, Source};
