@@ -6,6 +6,8 @@ mod faults;
 mod letter;
 mod options;
 mod read;
+#[cfg(test)]
+mod tests;
 mod uses;
 mod values;
 
