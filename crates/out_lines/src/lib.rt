@@ -1,0 +1,10 @@
+//! The lines that frames are printed as: the values of chosen fields, or a summary.
+#![tactic(auto)]
+
+mod column;
+mod lines;
+mod style;
+mod value_text;
+
+pub use lines::field_line;
+pub use style::{Occurrence, Quote, Style};

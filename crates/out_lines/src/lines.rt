@@ -1,0 +1,105 @@
+// The line of a frame's fields, and the line of their names.
+ghost use Rattle.std.specs.Prelude.{◌≡◌, ℕ, List, ◌++◌, ◌∷◌, [], IfOk, OnOk};
+ghost use Rattle.std.specs.List.{join_by, flat_map};
+ghost use Rattle.out_lines.specs.Lines.{column_text, doubled, field_line_of, header_of, in_quotes, quoted};
+
+use crate::column::{Column, add_layers};
+use crate::style::{Quote, Style};
+use pk_base::NoMemory;
+use pk_fields::{FieldId, name};
+use pk_tree::Tree;
+use std::alloc::Global;
+
+/// How many bytes a line has room for from the start. Most lines are shorter.
+const LINE_ROOM: usize = 128;
+
+/// The line of a tree: the fields' columns, joined by the separator, and a line feed. A column has the field's values
+/// that the style chooses, joined by the aggregator, and stands in quotes, where the style has some; a quote inside is
+/// doubled. A column without values is empty.
+#[tactic(auto, unfolding(crate::specs::Lines::field_line_of))]
+pub fn field_line(
+    alloc: Global,
+    tree: &Tree,
+    fields: &[FieldId],
+    style: &Style,
+) -> Result<Vec<u8>, NoMemory>
+    ensures { IfOk result (λ line. line.items ≡ field_line_of fields.now tree.now style.now) }
+{
+    let mut line = Vec::with_capacity(alloc, LINE_ROOM)?;
+    put_columns(alloc, &mut line, tree, fields, style)?;
+    line.push(b'\n')?;
+    Ok(line)
+}
+
+fn put_columns(
+    alloc: Global,
+    line: &mut Vec<u8>,
+    tree: &Tree,
+    fields: &[FieldId],
+    style: &Style,
+) -> Result<(), NoMemory>
+    ensures { OnOk result (line.new.items ≡ line.old.items ++ join_by (column_text tree.now style.now) (style.now.separator ∷ []) fields.now) }
+{
+    let [first, others @ ..] = fields else {
+        return Ok(());
+    };
+    let mut column = Column::new(alloc);
+    put_column(line, &mut column, tree, *first, style)?;
+    for field in others {
+        line.push(style.separator)?;
+        put_column(line, &mut column, tree, *field, style)?;
+    }
+    Ok(())
+}
+
+#[tactic(auto, unfolding(crate::specs::Lines::column_text))]
+fn put_column(
+    line: &mut Vec<u8>,
+    column: &mut Column,
+    tree: &Tree,
+    field: FieldId,
+    style: &Style,
+) -> Result<(), NoMemory>
+    ensures { OnOk result (line.new.items ≡ line.old.items ++ column_text tree.now style.now field) }
+{
+    column.clear();
+    add_layers(column, style, field, tree.layers())?;
+    if column.is_filled() {
+        put_quoted(line, column.text(), style.quote)?;
+    }
+    Ok(())
+}
+
+fn put_quoted(line: &mut Vec<u8>, text: &[u8], quote: Quote) -> Result<(), NoMemory>
+    ensures { OnOk result (line.new.items ≡ line.old.items ++ in_quotes quote text.now) }
+{
+    match quote {
+        Quote::Double => put_between(line, text, b'"'),
+        Quote::Single => put_between(line, text, b'\''),
+        Quote::None => {
+            line.extend_from_slice(text)?;
+            Ok(())
+        }
+    }
+}
+
+fn put_between(line: &mut Vec<u8>, text: &[u8], quote: u8) -> Result<(), NoMemory>
+    ensures { OnOk result (line.new.items ≡ line.old.items ++ quoted quote text.now) }
+{
+    line.push(quote)?;
+    put_doubled(line, text, quote)?;
+    line.push(quote)?;
+    Ok(())
+}
+
+fn put_doubled(line: &mut Vec<u8>, text: &[u8], quote: u8) -> Result<(), NoMemory>
+    ensures { OnOk result (line.new.items ≡ line.old.items ++ flat_map (doubled quote) text.now) }
+{
+    for byte in text {
+        if *byte == quote {
+            line.push(quote)?;
+        }
+        line.push(*byte)?;
+    }
+    Ok(())
+}
