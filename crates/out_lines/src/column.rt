@@ -3,9 +3,9 @@ ghost use Rattle.std.specs.Prelude.{◌≡◌, ℕ, List, ◌++◌, [], ◌∷�
 ghost use Rattle.std.specs.List.{flat_map};
 ghost use Rattle.pk_fields.specs.Fields.{row_of};
 ghost use Rattle.pk_tree.specs.declared.layer.Layer.{Layer};
-ghost use Rattle.pk_tree.specs.FieldValues.{item_values, proto_values};
+ghost use Rattle.pk_tree.specs.FieldValues.{item_values, layer_values, proto_values};
 ghost use Rattle.pk_tree.specs.Values.{is_proto};
-ghost use Rattle.out_lines.specs.Columns.{is_wanted, front_of, with_text, with_value, with_values, with_layers};
+ghost use Rattle.out_lines.specs.Columns.{is_wanted, front_of, with_text, with_value, with_values};
 
 use crate::style::{Occurrence, Style};
 use crate::value_text::put_value;
@@ -90,7 +90,7 @@ impl Column {
 
     #[tactic(auto, unfolding(crate::specs::Columns::with_value))]
     fn add_value(&mut self, style: &Style, field: FieldId, value: &Value) -> Result<(), NoMemory>
-        ensures { OnOk result (self.new ≡ with_value style.now field self.old value.now) }
+        ensures { OnOk result (self.new ≡ with_value style.now.occurrence style.now.aggregator field self.old value.now) }
     {
         if !self.wants(style.occurrence) {
             return Ok(());
@@ -100,7 +100,7 @@ impl Column {
     }
 
     fn add_text(&mut self, style: &Style, text: &str) -> Result<(), NoMemory>
-        ensures { OnOk result (self.new ≡ with_text style.now self.old text.now) }
+        ensures { OnOk result (self.new ≡ with_text style.now.occurrence style.now.aggregator self.old text.now) }
     {
         if !self.wants(style.occurrence) {
             return Ok(());
@@ -112,14 +112,14 @@ impl Column {
 }
 
 /// Adds the values of a field among layers: of a protocol one for each of its layers, of another field its items.
-#[tactic(auto, unfolding(crate::specs::Columns::with_layers))]
+#[tactic(auto, using(crate::proofs::ColumnLemmas::layers_of_protocol, crate::proofs::ColumnLemmas::layers_of_field))]
 pub(crate) fn add_layers(
     column: &mut Column,
     style: &Style,
     field: FieldId,
     layers: &[Layer],
 ) -> Result<(), NoMemory>
-    ensures { (buffers : List (List ℕ)) → OnOk result (column.new ≡ with_layers style.now field column.old buffers layers.now) }
+    ensures { (buffers : List (List ℕ)) → OnOk result (column.new ≡ with_values style.now field column.old (flat_map (layer_values buffers field) layers.now)) }
 {
     if is_protocol(field) {
         add_protocol(column, style, field, layers)

@@ -1,6 +1,7 @@
 // The line of a frame's fields, and the line of their names.
 ghost use Rattle.std.specs.Prelude.{◌≡◌, ℕ, List, ◌++◌, ◌∷◌, [], IfOk, OnOk};
 ghost use Rattle.std.specs.List.{join_by, flat_map};
+ghost use Rattle.out_lines.specs.Columns.{written};
 ghost use Rattle.out_lines.specs.Lines.{column_text, doubled, field_line_of, header_of, in_quotes, quoted};
 
 use crate::column::{Column, add_layers};
@@ -40,19 +41,33 @@ fn put_columns(
 ) -> Result<(), NoMemory>
     ensures { OnOk result (line.new.items ≡ line.old.items ++ join_by (column_text tree.now style.now) (style.now.separator ∷ []) fields.now) }
 {
-    let [first, others @ ..] = fields else {
-        return Ok(());
-    };
     let mut column = Column::new(alloc);
-    put_column(line, &mut column, tree, *first, style)?;
-    for field in others {
+    match fields {
+        [] => Ok(()),
+        [first, others @ ..] => {
+            put_column(line, &mut column, tree, *first, style)?;
+            put_further(line, &mut column, tree, others, style)
+        }
+    }
+}
+
+/// Columns behind the first, each behind a separator.
+fn put_further(
+    line: &mut Vec<u8>,
+    column: &mut Column,
+    tree: &Tree,
+    fields: &[FieldId],
+    style: &Style,
+) -> Result<(), NoMemory>
+    ensures { OnOk result (line.new.items ≡ line.old.items ++ flat_map (λ field. style.now.separator ∷ column_text tree.now style.now field) fields.now) }
+{
+    for field in fields {
         line.push(style.separator)?;
-        put_column(line, &mut column, tree, *field, style)?;
+        put_column(line, column, tree, *field, style)?;
     }
     Ok(())
 }
 
-#[tactic(auto, unfolding(crate::specs::Lines::column_text))]
 fn put_column(
     line: &mut Vec<u8>,
     column: &mut Column,
@@ -62,12 +77,25 @@ fn put_column(
 ) -> Result<(), NoMemory>
     ensures { OnOk result (line.new.items ≡ line.old.items ++ column_text tree.now style.now field) }
 {
+    fill(column, tree, field, style)?;
+    put_filled(line, column, style.quote)
+}
+
+fn fill(column: &mut Column, tree: &Tree, field: FieldId, style: &Style) -> Result<(), NoMemory>
+    ensures { OnOk result (written style.now.quote column.new ≡ column_text tree.now style.now field) }
+{
     column.clear();
     add_layers(column, style, field, tree.layers())?;
-    if column.is_filled() {
-        put_quoted(line, column.text(), style.quote)?;
-    }
     Ok(())
+}
+
+fn put_filled(line: &mut Vec<u8>, column: &Column, quote: Quote) -> Result<(), NoMemory>
+    ensures { OnOk result (line.new.items ≡ line.old.items ++ written quote column.now) }
+{
+    if !column.is_filled() {
+        return Ok(());
+    }
+    put_quoted(line, column.text(), quote)
 }
 
 fn put_quoted(line: &mut Vec<u8>, text: &[u8], quote: Quote) -> Result<(), NoMemory>
