@@ -1,9 +1,10 @@
 -- A column that grows value by value holds the chosen values, joined.
 use Rattle.std.proofs.Common.{◌≡◌, ℕ, suc, ◌-◌, true, false, List, [], ◌∷◌, ◌++◌, length, drop, refl, ap, ◌∙◌, arith, append-nil}
-use Rattle.std.specs.List.{flat_map, fold, join_by}
+use Rattle.std.specs.List.{flat_map, fold}
 use Rattle.pk_fields.specs.Fields.{row_of}
 use Rattle.pk_tree.specs.declared.value.Value.{Value}
 use Rattle.pk_tree.specs.declared.layer.Layer.{Layer}
+use Rattle.pk_tree.specs.declared.chosen.Layers.TheVariants.{All as AllLayers}
 use Rattle.pk_tree.specs.FieldValues.{item_values, proto_values, layer_values, values_of}
 use Rattle.pk_tree.specs.Trees.{TreeShown}
 use Rattle.pk_tree.specs.Values.{is_proto}
@@ -26,6 +27,11 @@ pub layers_of_field : (buffers : List (List ℕ)) (field : ℕ) (layers : List L
 unfolding layer_values
 layers_of_field buffers field [] is = refl
 layers_of_field buffers field (layer ∷ layers) is = rw (is, layers_of_field buffers field layers is) refl
+
+pub tree_values_of_field : (t : TreeShown) (field : ℕ) → is_proto (row_of field).kind ≡ false →
+    values_of t field AllLayers ≡ flat_map (λ (layer : Layer). item_values field layer.items) t.layers
+unfolding values_of
+tree_values_of_field t field is = layers_of_field t.buffers field t.layers is
 
 abbrev filled_with : List ℕ → ColumnShown
 filled_with text = record { text = text; filled = true }

@@ -1,5 +1,5 @@
 -- The line of a frame's fields, and the line of their names.
-use Rattle.std.specs.Prelude.{ℕ, ◌==◌, ◌-◌, List, [], ◌∷◌, ◌++◌, length, take, drop, if◌then◌else◌}
+use Rattle.std.specs.Prelude.{ℕ, ◌==◌, ◌-◌, false, List, [], ◌∷◌, ◌++◌, length, take, drop, if◌then◌else◌}
 use Rattle.std.specs.List.{flat_map, join_by}
 use Rattle.pk_fields.specs.Fields.{row_of}
 use Rattle.pk_tree.specs.declared.value.Value.{Value}
@@ -49,3 +49,8 @@ field_line_of fields t style = join_by (column_text t style) (style.separator �
 -- the line of the fields' names
 unfoldable pub header_of : List ℕ → Style → List ℕ
 header_of fields style = join_by (λ field. (row_of field).name) (style.separator ∷ []) fields ++ 10 ∷ []
+
+-- the style where none is asked for: a tab, 9, between columns, a comma, 44, between values
+abbrev pub default_style : Style
+default_style =
+    record { header = false; separator = 9; occurrence = occurrences.All; aggregator = 44; quote = quotes.None }

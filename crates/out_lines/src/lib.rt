@@ -4,7 +4,9 @@
 mod column;
 mod lines;
 mod style;
+mod summary;
 mod value_text;
 
-pub use lines::field_line;
+pub use lines::{field_line, header_line};
 pub use style::{Occurrence, Quote, Style};
+pub use summary::summary_line;

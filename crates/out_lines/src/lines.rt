@@ -1,18 +1,20 @@
 // The line of a frame's fields, and the line of their names.
 ghost use Rattle.std.specs.Prelude.{◌≡◌, ℕ, List, ◌++◌, ◌∷◌, [], IfOk, OnOk};
 ghost use Rattle.std.specs.List.{join_by, flat_map};
+ghost use Rattle.pk_fields.specs.Fields.{row_of};
 ghost use Rattle.out_lines.specs.Columns.{written};
 ghost use Rattle.out_lines.specs.Lines.{column_text, doubled, field_line_of, header_of, in_quotes, quoted};
 
 use crate::column::{Column, add_layers};
 use crate::style::{Quote, Style};
+use crate::value_text::put_text;
 use pk_base::NoMemory;
 use pk_fields::{FieldId, name};
 use pk_tree::Tree;
 use std::alloc::Global;
 
 /// How many bytes a line has room for from the start. Most lines are shorter.
-const LINE_ROOM: usize = 128;
+pub(crate) const LINE_ROOM: usize = 128;
 
 /// The line of a tree: the fields' columns, joined by the separator, and a line feed. A column has the field's values
 /// that the style chooses, joined by the aggregator, and stands in quotes, where the style has some; a quote inside is
@@ -30,6 +32,40 @@ pub fn field_line(
     put_columns(alloc, &mut line, tree, fields, style)?;
     line.push(b'\n')?;
     Ok(line)
+}
+
+/// The line of the fields' names, joined by the separator, and a line feed.
+#[tactic(auto, unfolding(crate::specs::Lines::header_of))]
+pub fn header_line(alloc: Global, fields: &[FieldId], style: &Style) -> Result<Vec<u8>, NoMemory>
+    ensures { IfOk result (λ line. line.items ≡ header_of fields.now style.now) }
+{
+    let mut line = Vec::with_capacity(alloc, LINE_ROOM)?;
+    put_names(&mut line, fields, style.separator)?;
+    line.push(b'\n')?;
+    Ok(line)
+}
+
+fn put_names(line: &mut Vec<u8>, fields: &[FieldId], separator: u8) -> Result<(), NoMemory>
+    ensures { OnOk result (line.new.items ≡ line.old.items ++ join_by (λ field. (row_of field).name) (separator ∷ []) fields.now) }
+{
+    match fields {
+        [] => Ok(()),
+        [first, others @ ..] => {
+            put_text(line, name(*first))?;
+            put_further_names(line, others, separator)
+        }
+    }
+}
+
+/// Names behind the first, each behind a separator.
+fn put_further_names(line: &mut Vec<u8>, fields: &[FieldId], separator: u8) -> Result<(), NoMemory>
+    ensures { OnOk result (line.new.items ≡ line.old.items ++ flat_map (λ field. separator ∷ (row_of field).name) fields.now) }
+{
+    for field in fields {
+        line.push(separator)?;
+        put_text(line, name(*field))?;
+    }
+    Ok(())
 }
 
 fn put_columns(

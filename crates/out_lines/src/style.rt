@@ -28,7 +28,12 @@ pub struct Style {
 }
 
 impl Default for Style {
-    fn default() -> Style {
+    ghost use Rattle.std.specs.Prelude.{◌≡◌};
+    ghost use Rattle.out_lines.specs.Lines.{default_style};
+
+    fn default() -> Style
+        ensures { result ≡ default_style }
+    {
         Style {
             header: false,
             separator: b'\t',

@@ -35,7 +35,8 @@ pub(crate) fn put_value(
     }
 }
 
-fn put_text(line: &mut Vec<u8>, text: &str) -> Result<(), NoMemory>
+/// Appends a text.
+pub(crate) fn put_text(line: &mut Vec<u8>, text: &str) -> Result<(), NoMemory>
     ensures { OnOk result (line.new.items ≡ line.old.items ++ text.now) }
 {
     line.extend_from_slice(text.as_bytes())?;
