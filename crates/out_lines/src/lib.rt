@@ -5,6 +5,8 @@ mod column;
 mod lines;
 mod style;
 mod summary;
+#[cfg(test)]
+mod tests;
 mod value_text;
 
 pub use lines::{field_line, header_line};
