@@ -33,9 +33,12 @@ pub record Walk : Type 0 where
   pub events : List Event
   pub todo : Todo
 
+abbrev pub going : TreeShown → List Event → Todo → Walk
+going t es todo = record { tree = t; events = es; todo = todo }
+
 -- nothing more is read
 abbrev pub stop : TreeShown → List Event → Walk
-stop t es = record { tree = t; events = es; todo = todos.Done }
+stop t es = going t es todos.Done
 
 -- the rest is shown as data
 abbrev pub rest_met : TreeShown → List Event → Span → Walk
@@ -43,7 +46,7 @@ rest_met t es span = stop (data_over t span) es
 
 -- a header is read next
 abbrev pub go_on : TreeShown → List Event → Head → Walk
-go_on t es head = record { tree = t; events = es; todo = todos.Head head }
+go_on t es head = going t es (todos.Head head)
 
 -- what stands for the IP header where none was met; only headers behind an IP header ask for it
 abbrev pub no_packet : PacketHead

@@ -46,6 +46,7 @@ impl Model for Dissector {
 
 impl Dissector {
     /// A dissector that has taken no frame yet.
+    #[tactic(auto, unfolding(crate::specs::Stands::Stands, crate::specs::Stands::StandsAt, crate::specs::Trees::times_of, crate::specs::Trees::events_of))]
     pub fn new(alloc: Global, decode: DecodeAs) -> Dissector
         requires rules { AreRules decode.rules }
         ensures stands { Stands [] result }
