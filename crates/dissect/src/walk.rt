@@ -213,7 +213,8 @@ impl State {
     {
         let first = self.link(frame, tree)?;
         let left = LAYER_LIMIT - tree.layer_count();
-        self.chain(frame, left, first, tree)
+        self.chain(frame, left, first, tree)?;
+        Ok(())
     }
 }
 
