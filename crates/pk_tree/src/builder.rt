@@ -185,6 +185,13 @@ impl TreeBuilder {
         self.buffers.size(buffer)
     }
 
+    /// How many layers there are.
+    pub fn layer_count(&self) -> usize
+        ensures { result ≡ length self.now.layers }
+    {
+        self.layers.len()
+    }
+
     /// The tree, to which no more layers are added.
     pub fn finish(self) -> Tree
         ensures tree { result ≡ self }

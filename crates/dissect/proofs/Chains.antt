@@ -1,0 +1,82 @@
+-- The chain of headers, met one by one.
+use Rattle.std.proofs.Common.{◌≡◌, ℕ, zero, suc, ◌-◌, ◌<◌, List, length, refl, sym, ◌∙◌, ap, subst, arith}
+use Rattle.pk_tree.specs.Trees.{TreeShown}
+use Rattle.capture_read.specs.declared.frame.Frame.{Frame}
+use Rattle.dissect.specs.declared.state.State.{State}
+use Rattle.dissect.specs.declared.todo.Head.{Head}
+use Rattle.dissect.specs.declared.todo.Todo.{Todo}
+use Rattle.dissect.specs.declared.todo.Todo.TheVariants as todos
+use Rattle.dissect.specs.Events.{Event}
+use Rattle.dissect.specs.Stands.{StandsAt, IsWalked}
+use Rattle.dissect.specs.Walks.{Walk, going, stop, rest_met, head_met, chain, link_met, all_met, layers_left}
+
+-- after some headers the chain of those that are left is that of all of them
+abbrev pub Goes : Frame → ℕ → State → TreeShown → Todo → ℕ → State → TreeShown → Todo → Type 0
+Goes frame most before t0 first left state t todo =
+    (es : List Event) → StandsAt es before → (w : Walk) × IsWalked w state t todo × (chain left frame w ≡ chain most frame (going t0 es first))
+
+pub goes-first : (frame : Frame) (most : ℕ) (state : State) (t : TreeShown) (first : Todo) → Goes frame most state t first most state t first
+goes-first frame most state t first =
+    λ es stands. (going t es first, record { stands = stands; tree = refl; todo = refl }, refl)
+
+-- a walk is told by its parts
+is_walk : (w : Walk) (state : State) (t : TreeShown) (todo : Todo) → IsWalked w state t todo → w ≡ going t w.events todo
+is_walk w state t todo walked =
+    ap (λ (u : TreeShown). going u w.events w.todo) (sym walked.tree) ∙ ap (λ (x : Todo). going t w.events x) (sym walked.todo)
+
+chain-head : (frame : Frame) (left : ℕ) (t : TreeShown) (es : List Event) (head : Head) → 0 < left
+    → chain left frame (going t es (todos.Head head)) ≡ chain (left - 1) frame (head_met frame head t es)
+unfolding chain
+chain-head frame zero t es head some = search arith
+chain-head frame (suc left) t es head some =
+    let one : left ≡ suc left - 1 = omega arith in
+    ap (λ (n : ℕ). chain n frame (head_met frame head t es)) one
+
+pub goes-on : (frame : Frame) (most : ℕ) (before : State) (t0 : TreeShown) (first : Todo) (left : ℕ) (state : State) (t : TreeShown) (now : Todo) (head : Head) (after : State) (t1 : TreeShown) (todo : Todo)
+    → 0 < left → now ≡ todos.Head head → Goes frame most before t0 first left state t now
+    → ((es : List Event) → StandsAt es state → IsWalked (head_met frame head t es) after t1 todo)
+    → Goes frame most before t0 first (left - 1) after t1 todo
+goes-on frame most before t0 first left state t now head after t1 todo some is_head goes met = λ es stands.
+    let (w, walked, is) = goes es stands in
+    let one : going t w.events (todos.Head head) ≡ w =
+        ap (λ (x : Todo). going t w.events x) (sym is_head) ∙ sym (is_walk w state t now walked) in
+    (head_met frame head t w.events, met w.events walked.stands,
+     sym (chain-head frame left t w.events head some) ∙ ap (chain left frame) one ∙ is)
+
+chain-stop : (n : ℕ) (frame : Frame) (t : TreeShown) (es : List Event) → chain n frame (stop t es) ≡ stop t es
+unfolding chain
+chain-stop zero frame t es = refl
+chain-stop (suc n) frame t es = chain-stop n frame t es
+
+pub goes-done : (frame : Frame) (most : ℕ) (before : State) (t0 : TreeShown) (first : Todo) (left : ℕ) (state : State) (t : TreeShown) (now : Todo)
+    → now ≡ todos.Done → Goes frame most before t0 first left state t now
+    → (es : List Event) → StandsAt es before → IsWalked (chain most frame (going t0 es first)) state t todos.Done
+goes-done frame most before t0 first left state t now done goes = λ es stands.
+    let (w, walked, is) = goes es stands in
+    let ended : w ≡ stop t w.events = is_walk w state t now walked ∙ ap (λ (x : Todo). going t w.events x) done in
+    let end : w ≡ chain most frame (going t0 es first) =
+        ended ∙ sym (chain-stop left frame t w.events) ∙ ap (chain left frame) (sym ended) ∙ is in
+    subst (λ (v : Walk). IsWalked v state t todos.Done) end (record { stands = walked.stands; tree = walked.tree; todo = sym done ∙ walked.todo })
+
+pub goes-rest : (frame : Frame) (most : ℕ) (before : State) (t0 : TreeShown) (first : Todo) (left : ℕ) (state : State) (t : TreeShown) (now : Todo) (head : Head) (after : State) (t1 : TreeShown) (todo : Todo)
+    → left ≡ 0 → now ≡ todos.Head head → Goes frame most before t0 first left state t now
+    → ((es : List Event) → StandsAt es state → IsWalked (rest_met t es head.span) after t1 todo)
+    → (es : List Event) → StandsAt es before → IsWalked (chain most frame (going t0 es first)) after t1 todos.Done
+unfolding chain
+goes-rest frame most before t0 first left state t now head after t1 todo none is_head goes met = λ es stands.
+    let (w, walked, is) = goes es stands in
+    let rest : IsWalked (rest_met t w.events head.span) after t1 todo = met w.events walked.stands in
+    let one : going t w.events (todos.Head head) ≡ w =
+        ap (λ (x : Todo). going t w.events x) (sym is_head) ∙ sym (is_walk w state t now walked) in
+    let end : rest_met t w.events head.span ≡ chain most frame (going t0 es first) =
+        ap (chain zero frame) one ∙ ap (λ (n : ℕ). chain n frame w) (sym none) ∙ is in
+    subst (λ (v : Walk). IsWalked v after t1 todos.Done) end (record { stands = rest.stands; tree = rest.tree; todo = refl })
+
+-- the first header, and then the others
+pub all-met : (frame : Frame) (w : Walk) (state : State) (t : TreeShown) (todo : Todo) (after : State) (t1 : TreeShown)
+    → IsWalked w state t todo
+    → IsWalked (chain (layers_left t) frame (going t w.events todo)) after t1 todos.Done
+    → IsWalked (all_met frame w) after t1 todos.Done
+unfolding all_met
+all-met frame w state t todo after t1 walked rest =
+    subst (λ (v : Walk). IsWalked (chain (layers_left v.tree) frame v) after t1 todos.Done) (sym (is_walk w state t todo walked)) rest

@@ -1,0 +1,15 @@
+use Rattle.std.proofs.Common.{◌+◌, ◌*◌, ◌≤◌, length}
+use Rattle.dissect.specs.Walks.{IsTodoInside}
+use Rattle.dissect.proofs.Chains.{Goes}
+use Rattle.dissect.proofs.state.State.chain.Given as goal
+
+-- the headers that are left lead where all of them do, and each adds few layers
+abbrev pub invariant-loop-todo : goal.invariant-loop-todo
+invariant-loop-todo l = record {
+  goes : Goes l.frame l.fn.most l.initial.self l.initial.tree l.fn.first l.left l.self l.tree l.todo;
+  inside : IsTodoInside l.tree.buffers l.todo;
+  few : length l.tree.layers + 4 * l.left ≤ length l.initial.tree.layers + 4 * l.fn.most;
+}
+
+abbrev pub decreases-loop-todo : goal.decreases-loop-todo
+decreases-loop-todo l = l.left

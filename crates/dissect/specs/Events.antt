@@ -1,0 +1,13 @@
+-- What of a frame can bear on how later frames are read: its fragments, and its packets of conversations. So far no frame
+-- is read by the frames before it but for the times.
+use Rattle.std.specs.Prelude.{ℕ, List}
+use Rattle.pk_tree.specs.declared.heads.FragmentHead.{FragmentHead}
+use Rattle.pk_tree.specs.declared.heads.PacketHead.{PacketHead}
+use Rattle.pk_tree.specs.declared.heads.PortsHead.{PortsHead}
+use Rattle.pk_tree.specs.declared.heads.TcpHead.{TcpHead}
+
+-- the frame's number, what the headers say, and the captured bytes behind them
+pub data Event : Type 0 where
+  Piece : ℕ → FragmentHead → List ℕ → Event
+  Udp : ℕ → PacketHead → PortsHead → Event
+  Tcp : ℕ → PacketHead → TcpHead → List ℕ → Event

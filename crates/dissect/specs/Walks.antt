@@ -1,0 +1,134 @@
+-- The way through a frame's headers, one behind the other.
+use Rattle.std.specs.Prelude.{◌==◌, ℕ, zero, suc, ◌-◌, ◌<◌, false, List, length, if◌then◌else◌}
+use Rattle.pk_base.specs.declared.span.Span.{Span}
+use Rattle.pk_buffer.specs.Buffers.{IsInside, bytes_of}
+use Rattle.pk_fields.specs.Ids.{ARP, VLAN}
+use Rattle.pk_tree.specs.declared.heads.Address.TheVariants.{Four}
+use Rattle.pk_tree.specs.declared.heads.After.{After}
+use Rattle.pk_tree.specs.declared.heads.After.TheVariants as afters
+use Rattle.pk_tree.specs.declared.heads.FragmentHead.{FragmentHead}
+use Rattle.pk_tree.specs.declared.heads.Mode.{Mode}
+use Rattle.pk_tree.specs.declared.heads.Mode.TheVariants.{Plain}
+use Rattle.pk_tree.specs.declared.heads.Next.{Next}
+use Rattle.pk_tree.specs.declared.heads.Next.TheVariants as nexts
+use Rattle.pk_tree.specs.declared.heads.PacketHead.{PacketHead}
+use Rattle.pk_tree.specs.declared.heads.PortsHead.{PortsHead}
+use Rattle.pk_tree.specs.declared.heads.TcpHead.{TcpHead}
+use Rattle.pk_tree.specs.Layouts.{layer_read}
+use Rattle.pk_tree.specs.Trees.{TreeShown}
+use Rattle.dis_link.specs.Arp.{arp_layout}
+use Rattle.dis_link.specs.Link.{link_of, link_read, link_after}
+use Rattle.dis_link.specs.Vlan.{vlan_layout, vlan_span, vlan_after}
+use Rattle.capture_read.specs.declared.frame.Frame.{Frame}
+use Rattle.dissect.specs.declared.todo.Head.{Head}
+use Rattle.dissect.specs.declared.todo.Todo.{Todo}
+use Rattle.dissect.specs.declared.todo.Todo.TheVariants as todos
+use Rattle.dissect.specs.DataLayer.{data_over}
+use Rattle.dissect.specs.Events.{Event}
+use Rattle.dissect.specs.FrameLayer.{frame_span, is_cut}
+
+-- how far a frame is read: the tree so far, all events up to here, the newest first, and what is to be read next
+pub record Walk : Type 0 where
+  pub tree : TreeShown
+  pub events : List Event
+  pub todo : Todo
+
+abbrev pub going : TreeShown → List Event → Todo → Walk
+going t es todo = record { tree = t; events = es; todo = todo }
+
+-- nothing more is read
+abbrev pub stop : TreeShown → List Event → Walk
+stop t es = going t es todos.Done
+
+-- the rest is shown as data
+abbrev pub rest_met : TreeShown → List Event → Span → Walk
+rest_met t es span = stop (data_over t span) es
+
+-- a header is read next
+abbrev pub go_on : TreeShown → List Event → Head → Walk
+go_on t es head = going t es (todos.Head head)
+
+-- what stands for the IP header where none was met; only headers behind an IP header ask for it
+abbrev pub no_packet : PacketHead
+no_packet = record { source = Four 0; target = Four 0; whole = false }
+
+-- a part of a datagram; so far its bytes are shown as data
+unfoldable pub fragment_met : Frame → PacketHead → TreeShown → List Event → FragmentHead → Span → Walk
+fragment_met frame packet t es head span = rest_met t es span
+
+-- what a UDP header carries; so far it is shown as data
+unfoldable pub datagram_met : Frame → PacketHead → TreeShown → List Event → PortsHead → Span → Walk
+datagram_met frame packet t es head span = rest_met t es span
+
+-- what a TCP header carries; so far it is shown as data
+unfoldable pub segment_met : Frame → PacketHead → TreeShown → List Event → TcpHead → Span → Walk
+segment_met frame packet t es head span = rest_met t es span
+
+-- what follows a header, given the IP header of the packet that it is in
+unfoldable pub followed : Frame → PacketHead → Mode → TreeShown → List Event → After → Walk
+followed frame packet mode t es (afters.Next which span) =
+    go_on t es (record { which = which; span = span; packet = packet; mode = mode })
+followed frame packet mode t es (afters.Packet which span inner) =
+    go_on t es (record { which = which; span = span; packet = inner; mode = mode })
+followed frame packet mode t es (afters.Fragment head span) = fragment_met frame packet t es head span
+followed frame packet mode t es (afters.Datagram head span) = datagram_met frame packet t es head span
+followed frame packet mode t es (afters.Segment head span) = segment_met frame packet t es head span
+followed frame packet mode t es afters.End = stop t es
+
+-- a header by its protocol: its layer, and what follows it
+unfoldable pub head_by : Next → Frame → Head → TreeShown → List Event → Walk
+head_by nexts.Ip4 frame head t es = rest_met t es head.span
+head_by nexts.Ip6 frame head t es = rest_met t es head.span
+head_by nexts.Arp frame head t es =
+    followed frame head.packet head.mode (layer_read t ARP head.span (arp_layout (bytes_of t.buffers head.span)) head.mode (is_cut frame)) es afters.End
+head_by nexts.Vlan frame head t es =
+    followed frame head.packet head.mode (layer_read t VLAN (vlan_span head.span (bytes_of t.buffers head.span)) (vlan_layout (bytes_of t.buffers head.span)) head.mode (is_cut frame)) es (vlan_after head.span (bytes_of t.buffers head.span))
+head_by nexts.Icmp frame head t es = rest_met t es head.span
+head_by nexts.Icmp6 frame head t es = rest_met t es head.span
+head_by nexts.Udp frame head t es = rest_met t es head.span
+head_by nexts.Tcp frame head t es = rest_met t es head.span
+head_by nexts.HopOpts frame head t es = rest_met t es head.span
+head_by nexts.Routing frame head t es = rest_met t es head.span
+head_by nexts.DstOpts frame head t es = rest_met t es head.span
+head_by nexts.FragHdr frame head t es = rest_met t es head.span
+head_by nexts.Rest frame head t es = rest_met t es head.span
+
+abbrev pub head_met : Frame → Head → TreeShown → List Event → Walk
+head_met frame head t es = head_by head.which frame head t es
+
+-- one header more
+abbrev pub step_on : Frame → TreeShown → List Event → Todo → Walk
+step_on frame t es todos.Done = stop t es
+step_on frame t es (todos.Head head) = head_met frame head t es
+
+abbrev pub step : Frame → Walk → Walk
+step frame w = step_on frame w.tree w.events w.todo
+
+-- the end of the way: where a header is still to be read, its bytes are shown as data
+abbrev pub rest_on : TreeShown → List Event → Todo → Walk
+rest_on t es todos.Done = stop t es
+rest_on t es (todos.Head head) = rest_met t es head.span
+
+-- at most so many headers, and then the rest
+unfoldable pub chain : ℕ → Frame → Walk → Walk
+chain zero frame w = rest_on w.tree w.events w.todo
+chain (suc n) frame w = chain n frame (step frame w)
+
+-- the layers before data are at most 32
+abbrev pub layers_left : TreeShown → ℕ
+layers_left t = 32 - length t.layers
+
+-- the frame's first header, by the capture's link type; a frame of no bytes has none
+unfoldable pub link_met : Frame → TreeShown → List Event → Walk
+link_met frame t es = if length frame.bytes == 0 then stop t es else
+    followed frame no_packet Plain (link_read (link_of frame.link) frame.little t (frame_span frame) (is_cut frame)) es
+    (link_after (link_of frame.link) frame.little (frame_span frame) (bytes_of t.buffers (frame_span frame)))
+
+-- all headers behind the first
+unfoldable pub all_met : Frame → Walk → Walk
+all_met frame w = chain (layers_left w.tree) frame w
+
+-- what is still to be read lies in its buffer, and has at least one byte
+abbrev pub IsTodoInside : List (List ℕ) → Todo → Type 0
+IsTodoInside buffers todos.Done = Unit {0}
+IsTodoInside buffers (todos.Head head) = IsInside buffers head.span × (0 < head.span.len)

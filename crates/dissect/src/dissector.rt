@@ -1,0 +1,120 @@
+ghost use Rattle.std.specs.Prelude.{◌≡◌, ◌↔◌, ◌+◌, ◌≤◌, ◌<◌, ◌^◌, ◌||◌, List, [], ◌∷◌, true, false, length, Err, is_err, IfOk, IfSome, OnOk, OnErr};
+ghost use Rattle.capture_read.specs.declared.frame.Frame.{Frame as FrameValue};
+ghost use Rattle.dissect.specs.DecodeRules.{AreRules};
+ghost use Rattle.dissect.specs.Events.{Event};
+ghost use Rattle.dissect.specs.Stands.{Stands, StandsAt, IsWalked};
+ghost use Rattle.dissect.specs.Times.{IsTime, AreTimes};
+ghost use Rattle.dissect.specs.Trees.{tree_at, walk_of};
+
+use crate::decode::DecodeAs;
+use crate::state::State;
+use crate::times::Times;
+use crate::frame_layer::{begin_tree, captured};
+use crate::todo::Todo;
+use capture_read::Frame;
+use pk_base::NoMemory;
+use std::alloc::Global;
+use std::marker::Model;
+use pk_tree::Tree;
+
+/// Why a frame has no tree.
+#[derive(Clone, Copy, Debug, PartialEq, Eq)]
+pub enum TakeFault {
+    NoMemory,
+    /// The dissector answered an error before.
+    Spent,
+}
+
+/// Reads the frames of a capture in order. After an error it is spent.
+#[derive(Drop)]
+pub struct Dissector {
+    alloc: Global,
+    decode: DecodeAs,
+    spent: bool,
+    taken: u32,
+    captured: u32,
+    times: Times,
+    state: State,
+}
+
+impl Model for Dissector {
+    ghost use Rattle.dissect.specs.Stands.{DissectorShown};
+    ghost use Rattle.dissect.specs.Times.{AreTimes};
+
+    ghost Value = { DissectorShown };
+
+    ghost view = { λ d. record { decode = d.decode; spent = d.spent; taken = d.taken; captured = d.captured; times = d.times; state = d.state } };
+
+    ghost invariant = { λ d. AreTimes d.times };
+}
+
+impl Dissector {
+    /// A dissector that has taken no frame yet.
+    #[tactic(auto, unfolding(crate::specs::Stands::Stands, crate::specs::Stands::StandsAt, crate::specs::Trees::times_of, crate::specs::Trees::events_of))]
+    pub fn new(alloc: Global, decode: DecodeAs) -> Dissector
+        requires rules { AreRules decode.rules }
+        ensures stands { Stands [] result }
+        ensures counted { (result.taken ≡ 0) × (result.captured ≡ 0) }
+        ensures spent { result.spent ≡ false }
+        ensures rules { result.decode ≡ decode }
+    {
+        Dissector {
+            alloc,
+            decode,
+            spent: false,
+            taken: 0,
+            captured: 0,
+            times: Times::none(),
+            state: State {},
+        }
+    }
+
+    /// The tree of the next frame, given those that were taken before. Frames are taken in the order of their numbers,
+    /// from 1.
+    pub fn take(&mut self, frame: &Frame) -> Result<Tree, TakeFault>
+        requires number { frame.now.number ≡ self.old.taken + 1 }
+        requires time { IfSome frame.now.time IsTime }
+        requires captured { self.old.captured + length frame.now.bytes ≤ 2 ^ 28 }
+        ensures spent { result ≡ Err TakeFault.Spent ↔ self.old.spent ≡ true }
+        ensures spent_after { self.new.spent ≡ self.old.spent || is_err result }
+        ensures counted { OnOk result ((self.new.taken ≡ self.old.taken + 1) × (self.new.captured ≡ self.old.captured + length frame.now.bytes)) }
+        ensures uncounted { OnErr result ((self.new.taken ≡ self.old.taken) × (self.new.captured ≡ self.old.captured)) }
+        ensures rules { self.new.decode ≡ self.old.decode }
+        ensures tree { IfOk result (λ tree. (past : List FrameValue) → Stands past self.old → tree ≡ tree_at past frame.now) }
+        ensures stands { OnOk result ((past : List FrameValue) → Stands past self.old → Stands (frame.now ∷ past) self.new) }
+    {
+        if self.spent {
+            return Err(TakeFault::Spent);
+        }
+        match make_tree(self.alloc, &mut self.state, self.times, frame) {
+            Ok(tree) => {
+                self.taken = frame.number;
+                self.captured += captured(frame);
+                self.times = self.times.with(frame.time);
+                Ok(tree)
+            }
+            Err(NoMemory) => {
+                self.spent = true;
+                Err(TakeFault::NoMemory)
+            }
+        }
+    }
+}
+
+/// The tree of a frame, given what is kept of the frames before it.
+#[tactic(auto, unfolding(crate::specs::Trees::walk_of))]
+fn make_tree(
+    alloc: Global,
+    state: &mut State,
+    before: Times,
+    frame: &Frame,
+) -> Result<Tree, NoMemory>
+    requires bytes { length frame.now.bytes < 2 ^ 32 }
+    requires before { AreTimes before }
+    requires time { IfSome frame.now.time IsTime }
+    ensures { IfOk result (λ tree. (es : List Event) → StandsAt es state.old → IsWalked (walk_of before es frame.now) state.new tree Todo.Done) }
+{
+    let mut tree = begin_tree(alloc, before, frame)?;
+    state.read_frame(frame, &mut tree)?;
+    Ok(tree.finish())
+}

@@ -1,0 +1,114 @@
+ghost use Rattle.std.specs.Prelude.{◌≡◌, ◌+◌, ◌<◌, ◌≤◌, ◌^◌, ◌∷◌, ◌++◌, [], length, Some, None, IfOk, IfSome, OnOk};
+ghost use Rattle.pk_fields.specs.Ids.{FRAME};
+ghost use Rattle.pk_tree.specs.declared.heads.Mode.TheVariants.{Plain};
+ghost use Rattle.pk_tree.specs.Layouts.{StepsFit, layer_read};
+ghost use Rattle.dissect.specs.FrameLayer.{is_cut, frame_span, frame_layout, frame_tree};
+ghost use Rattle.dissect.specs.Times.{IsTime, AreTimes};
+
+use crate::times::{Times, since};
+use capture_read::Frame;
+use pk_base::{NoMemory, Span};
+use pk_fields::{FieldId, ids};
+use pk_tree::{Mode, Step, TreeBuilder, Value, read_layer};
+use std::alloc::Global;
+
+/// Whether fewer bytes were captured than the frame had.
+pub(crate) fn is_cut(frame: &Frame) -> bool
+    requires { length frame.now.bytes < 2 ^ 32 }
+    ensures { result ≡ is_cut frame.now }
+{
+    captured(frame) < frame.original
+}
+
+/// How many bytes were captured.
+pub(crate) fn captured(frame: &Frame) -> u32
+    requires { length frame.now.bytes < 2 ^ 32 }
+    ensures { result ≡ length frame.now.bytes }
+{
+    frame.bytes.bytes().len() as u32
+}
+
+/// All of the frame's bytes, which are its tree's first buffer.
+pub(crate) fn frame_span(frame: &Frame) -> Span
+    requires { length frame.now.bytes < 2 ^ 32 }
+    ensures { result ≡ frame_span frame.now }
+{
+    Span {
+        buffer: 0,
+        start: 0,
+        len: captured(frame),
+    }
+}
+
+/// A tree with the layer that tells of the frame itself, given the times of the frames before.
+#[tactic(auto, unfolding(crate::specs::FrameLayer::frame_tree))]
+pub(crate) fn begin_tree(alloc: Global, before: Times, frame: &Frame) -> Result<TreeBuilder, NoMemory>
+    requires bytes { length frame.now.bytes < 2 ^ 32 }
+    requires before { AreTimes before }
+    requires time { IfSome frame.now.time IsTime }
+    ensures tree { IfOk result (λ tree. tree ≡ frame_tree before frame.now) }
+    ensures buffers { IfOk result (λ tree. tree.buffers ≡ frame.now.bytes ∷ []) }
+    ensures most { IfOk result (λ tree. length tree.layers ≤ 2) }
+{
+    let mut tree = TreeBuilder::new(alloc, frame.bytes.clone()?)?;
+    match frame.time {
+        Some(time) => add_frame(frame, &timed_steps(before, frame, time), &mut tree)?,
+        None => add_frame(frame, &untimed_steps(before, frame), &mut tree)?,
+    }
+    Ok(tree)
+}
+
+#[tactic(auto, unfolding(pk_fields::specs::Fields::row_of, pk_fields::specs::Table::rows))]
+fn add_frame(frame: &Frame, steps: &[Step], tree: &mut TreeBuilder) -> Result<(), NoMemory>
+    requires bytes { length frame.now.bytes < 2 ^ 32 }
+    requires fits { StepsFit FRAME steps.now }
+    requires tree { tree.old ≡ record { layers = []; buffers = frame.now.bytes ∷ [] } }
+    ensures tree { IfOk result (λ _. tree.new ≡ layer_read tree.old FRAME (frame_span frame.now) steps.now Plain (is_cut frame.now)) }
+    ensures buffers { tree.new.buffers ≡ tree.old.buffers }
+    ensures most { OnOk result (length tree.new.layers ≤ 2) }
+{
+    read_layer(tree, ids::FRAME, frame_span(frame), steps, Mode::Plain, is_cut(frame))?;
+    Ok(())
+}
+
+/// The items of a frame that has a time.
+#[tactic(auto, unfolding(crate::specs::FrameLayer::frame_layout, pk_tree::specs::Layouts::StepsFit, pk_fields::specs::Fields::row_of, pk_fields::specs::Table::rows))]
+fn timed_steps(before: Times, frame: &Frame, time: i128) -> [Step; 6]
+    requires bytes { length frame.now.bytes < 2 ^ 32 }
+    requires before { AreTimes before }
+    requires is_time { IsTime time }
+    requires time { frame.now.time ≡ Some time }
+    ensures layout { result ≡ frame_layout before frame.now }
+    ensures fits { StepsFit FRAME result }
+{
+    [
+        number_step(ids::FRAME_NUMBER, frame.number),
+        Step::Made(ids::FRAME_TIME_EPOCH, Value::Time(time)),
+        Step::Made(ids::FRAME_TIME_RELATIVE, Value::Time(since(before.first, time))),
+        Step::Made(ids::FRAME_TIME_DELTA, Value::Time(since(before.latest, time))),
+        number_step(ids::FRAME_LEN, frame.original),
+        number_step(ids::FRAME_CAP_LEN, captured(frame)),
+    ]
+}
+
+/// The items of a frame that has no time.
+#[tactic(auto, unfolding(crate::specs::FrameLayer::frame_layout, pk_tree::specs::Layouts::StepsFit, pk_fields::specs::Fields::row_of, pk_fields::specs::Table::rows))]
+fn untimed_steps(before: Times, frame: &Frame) -> [Step; 3]
+    requires bytes { length frame.now.bytes < 2 ^ 32 }
+    requires time { frame.now.time ≡ None }
+    ensures layout { result ≡ frame_layout before frame.now }
+    ensures fits { StepsFit FRAME result }
+{
+    [
+        number_step(ids::FRAME_NUMBER, frame.number),
+        number_step(ids::FRAME_LEN, frame.original),
+        number_step(ids::FRAME_CAP_LEN, captured(frame)),
+    ]
+}
+
+fn number_step(field: FieldId, number: u32) -> Step
+    ensures step { result ≡ Step.Made field (Value.Uint number) }
+    ensures kind { number < 2 ^ 32 }
+{
+    Step::Made(field, Value::Uint(u64::from(number)))
+}

@@ -1,0 +1,16 @@
+//! Reads a capture's frames into trees, one frame after the other: the frame itself, its headers, and what they carry.
+#![tactic(auto)]
+
+mod walk;
+mod data_layer;
+mod decode;
+mod dissector;
+mod frame_layer;
+mod state;
+#[cfg(test)]
+mod tests;
+mod times;
+mod todo;
+
+pub use decode::{App, DecodeAs, PortRule, PortRules};
+pub use dissector::{Dissector, TakeFault};

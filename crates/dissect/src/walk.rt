@@ -1,0 +1,230 @@
+ghost use Rattle.std.specs.Prelude.{◌≡◌, ◌+◌, ◌*◌, ◌-◌, ◌<◌, ◌≤◌, ◌^◌, List, [], ◌∷◌, length, IfOk, OnOk};
+ghost use Rattle.pk_buffer.specs.Buffers.{IsInside};
+ghost use Rattle.pk_tree.specs.Following.{LeadsInside};
+ghost use Rattle.dissect.specs.Events.{Event};
+ghost use Rattle.dissect.specs.Stands.{StandsAt, IsWalked};
+ghost use Rattle.dissect.specs.Walks.{IsTodoInside, fragment_met, datagram_met, segment_met, rest_met, followed, head_met, head_by, step_on, rest_on, chain, going, link_met, all_met, no_packet};
+
+use crate::data_layer::add_data;
+use crate::frame_layer::{captured, frame_span, is_cut};
+use crate::state::State;
+use crate::todo::{Head, Todo};
+use capture_read::Frame;
+use dis_link::{read_arp, read_link, read_vlan};
+use pk_base::{LAYER_LIMIT, NoMemory, Span};
+use pk_tree::{Address, After, FragmentHead, Mode, Next, PacketHead, PortsHead, TcpHead, TreeBuilder};
+
+impl State {
+    /// Shows the rest as data.
+    fn rest(&mut self, span: Span, tree: &mut TreeBuilder) -> Result<Todo, NoMemory>
+        requires inside { IsInside tree.old.buffers span }
+        requires room { length tree.old.layers + 2 < 2 ^ 32 }
+        ensures inside { IfOk result (λ todo. IsTodoInside tree.new.buffers todo) }
+        ensures walked { IfOk result (λ todo. (es : List Event) → StandsAt es self.old → IsWalked (rest_met tree.old es span) self.new tree.new todo) }
+        ensures buffers { tree.new.buffers ≡ tree.old.buffers }
+        ensures most { OnOk result (length tree.new.layers ≤ length tree.old.layers + 2) }
+    {
+        add_data(span, tree)?;
+        Ok(Todo::Done)
+    }
+
+    /// Takes a part of a datagram. So far its bytes are shown as data.
+    #[tactic(auto, unfolding(crate::specs::Walks::fragment_met))]
+    fn fragment(
+        &mut self,
+        frame: &Frame,
+        packet: PacketHead,
+        head: FragmentHead,
+        span: Span,
+        tree: &mut TreeBuilder,
+    ) -> Result<Todo, NoMemory>
+        requires inside { IsInside tree.old.buffers span }
+        requires room { length tree.old.layers + 2 < 2 ^ 32 }
+        ensures inside { IfOk result (λ todo. IsTodoInside tree.new.buffers todo) }
+        ensures walked { IfOk result (λ todo. (es : List Event) → StandsAt es self.old → IsWalked (fragment_met frame.now packet tree.old es head span) self.new tree.new todo) }
+        ensures buffers { tree.new.buffers ≡ tree.old.buffers }
+        ensures most { OnOk result (length tree.new.layers ≤ length tree.old.layers + 2) }
+    {
+        self.rest(span, tree)
+    }
+
+    /// Takes what a UDP header carries. So far it is shown as data.
+    #[tactic(auto, unfolding(crate::specs::Walks::datagram_met))]
+    fn datagram(
+        &mut self,
+        frame: &Frame,
+        packet: PacketHead,
+        head: PortsHead,
+        span: Span,
+        tree: &mut TreeBuilder,
+    ) -> Result<Todo, NoMemory>
+        requires inside { IsInside tree.old.buffers span }
+        requires room { length tree.old.layers + 2 < 2 ^ 32 }
+        ensures inside { IfOk result (λ todo. IsTodoInside tree.new.buffers todo) }
+        ensures walked { IfOk result (λ todo. (es : List Event) → StandsAt es self.old → IsWalked (datagram_met frame.now packet tree.old es head span) self.new tree.new todo) }
+        ensures buffers { tree.new.buffers ≡ tree.old.buffers }
+        ensures most { OnOk result (length tree.new.layers ≤ length tree.old.layers + 2) }
+    {
+        self.rest(span, tree)
+    }
+
+    /// Takes what a TCP header carries. So far it is shown as data.
+    #[tactic(auto, unfolding(crate::specs::Walks::segment_met))]
+    fn segment(
+        &mut self,
+        frame: &Frame,
+        packet: PacketHead,
+        head: TcpHead,
+        span: Span,
+        tree: &mut TreeBuilder,
+    ) -> Result<Todo, NoMemory>
+        requires inside { IsInside tree.old.buffers span }
+        requires room { length tree.old.layers + 2 < 2 ^ 32 }
+        ensures inside { IfOk result (λ todo. IsTodoInside tree.new.buffers todo) }
+        ensures walked { IfOk result (λ todo. (es : List Event) → StandsAt es self.old → IsWalked (segment_met frame.now packet tree.old es head span) self.new tree.new todo) }
+        ensures buffers { tree.new.buffers ≡ tree.old.buffers }
+        ensures most { OnOk result (length tree.new.layers ≤ length tree.old.layers + 2) }
+    {
+        self.rest(span, tree)
+    }
+
+    /// What is to be read behind a header.
+    #[tactic(auto, unfolding(crate::specs::Walks::followed))]
+    fn follow(
+        &mut self,
+        frame: &Frame,
+        packet: PacketHead,
+        mode: Mode,
+        after: After,
+        tree: &mut TreeBuilder,
+    ) -> Result<Todo, NoMemory>
+        requires inside { LeadsInside tree.old.buffers after }
+        requires room { length tree.old.layers + 2 < 2 ^ 32 }
+        ensures inside { IfOk result (λ todo. IsTodoInside tree.new.buffers todo) }
+        ensures walked { IfOk result (λ todo. (es : List Event) → StandsAt es self.old → IsWalked (followed frame.now packet mode tree.old es after) self.new tree.new todo) }
+        ensures buffers { tree.new.buffers ≡ tree.old.buffers }
+        ensures most { OnOk result (length tree.new.layers ≤ length tree.old.layers + 2) }
+    {
+        match after {
+            After::Next(which, span) => Ok(Todo::Head(Head {
+                which,
+                span,
+                packet,
+                mode,
+            })),
+            After::Packet(which, span, packet) => Ok(Todo::Head(Head {
+                which,
+                span,
+                packet,
+                mode,
+            })),
+            After::Fragment(head, span) => self.fragment(frame, packet, head, span, tree),
+            After::Datagram(head, span) => self.datagram(frame, packet, head, span, tree),
+            After::Segment(head, span) => self.segment(frame, packet, head, span, tree),
+            After::End => Ok(Todo::Done),
+        }
+    }
+
+    /// Reads a header by its protocol. The protocols that aren't read so far are shown as data.
+    #[tactic(auto, unfolding(crate::specs::Walks::head_by))]
+    fn head(&mut self, frame: &Frame, head: Head, tree: &mut TreeBuilder) -> Result<Todo, NoMemory>
+        requires inside { IsInside tree.old.buffers head.span }
+        requires bytes { length frame.now.bytes < 2 ^ 32 }
+        requires room { length tree.old.layers + 4 < 2 ^ 32 }
+        ensures inside { IfOk result (λ todo. IsTodoInside tree.new.buffers todo) }
+        ensures walked { IfOk result (λ todo. (es : List Event) → StandsAt es self.old → IsWalked (head_met frame.now head tree.old es) self.new tree.new todo) }
+        ensures buffers { tree.new.buffers ≡ tree.old.buffers }
+        ensures most { OnOk result (length tree.new.layers ≤ length tree.old.layers + 4) }
+    {
+        match head.which {
+            Next::Arp => {
+                let after = read_arp(head.span, is_cut(frame), head.mode, tree)?;
+                self.follow(frame, head.packet, head.mode, after, tree)
+            }
+            Next::Vlan => {
+                let after = read_vlan(head.span, is_cut(frame), head.mode, tree)?;
+                self.follow(frame, head.packet, head.mode, after, tree)
+            }
+            Next::Ip4
+            | Next::Ip6
+            | Next::Icmp
+            | Next::Icmp6
+            | Next::Udp
+            | Next::Tcp
+            | Next::HopOpts
+            | Next::Routing
+            | Next::DstOpts
+            | Next::FragHdr
+            | Next::Rest => self.rest(head.span, tree),
+        }
+    }
+
+    /// Reads at most so many headers, one behind the other. What is left then is shown as data.
+    fn chain(
+        &mut self,
+        frame: &Frame,
+        most: usize,
+        first: Todo,
+        tree: &mut TreeBuilder,
+    ) -> Result<(), NoMemory>
+        requires inside { IsTodoInside tree.old.buffers first }
+        requires bytes { length frame.now.bytes < 2 ^ 32 }
+        requires most { most ≤ 32 }
+        requires room { length tree.old.layers ≤ 32 }
+        ensures walked { OnOk result ((es : List Event) → StandsAt es self.old → IsWalked (chain most frame.now (going tree.old es first)) self.new tree.new Todo.Done) }
+    {
+        let mut left = most;
+        let mut todo = first;
+        while let Todo::Head(head) = todo {
+            if left == 0 {
+                self.rest(head.span, tree)?;
+                return Ok(());
+            }
+            left -= 1;
+            todo = self.head(frame, head, tree)?;
+        }
+        Ok(())
+    }
+
+    /// Reads a frame's first header, by the link type of its capture.
+    #[tactic(auto, unfolding(crate::specs::Walks::link_met))]
+    fn link(&mut self, frame: &Frame, tree: &mut TreeBuilder) -> Result<Todo, NoMemory>
+        requires frame { tree.old.buffers ≡ frame.now.bytes ∷ [] }
+        requires bytes { length frame.now.bytes < 2 ^ 32 }
+        requires room { length tree.old.layers ≤ 2 }
+        ensures inside { IfOk result (λ todo. IsTodoInside tree.new.buffers todo) }
+        ensures walked { IfOk result (λ todo. (es : List Event) → StandsAt es self.old → IsWalked (link_met frame.now tree.old es) self.new tree.new todo) }
+        ensures most { OnOk result (length tree.new.layers ≤ 32) }
+    {
+        if captured(frame) == 0 {
+            return Ok(Todo::Done);
+        }
+        let span = frame_span(frame);
+        let after = read_link(frame.link, frame.little, is_cut(frame), span, tree)?;
+        self.follow(frame, no_packet(), Mode::Plain, after, tree)
+    }
+
+    /// Reads all of a frame's headers behind the layer of the frame itself.
+    pub fn read_frame(&mut self, frame: &Frame, tree: &mut TreeBuilder) -> Result<(), NoMemory>
+        requires frame { tree.old.buffers ≡ frame.now.bytes ∷ [] }
+        requires bytes { length frame.now.bytes < 2 ^ 32 }
+        requires room { length tree.old.layers ≤ 2 }
+        ensures walked { OnOk result ((es : List Event) → StandsAt es self.old → IsWalked (all_met frame.now (link_met frame.now tree.old es)) self.new tree.new Todo.Done) }
+    {
+        let first = self.link(frame, tree)?;
+        let left = LAYER_LIMIT - tree.layer_count();
+        self.chain(frame, left, first, tree)?;
+        Ok(())
+    }
+}
+
+/// What stands for the IP header where none was met.
+fn no_packet() -> PacketHead
+    ensures { result ≡ no_packet }
+{
+    PacketHead {
+        source: Address::Four(0),
+        target: Address::Four(0),
+        whole: false,
+    }
+}
