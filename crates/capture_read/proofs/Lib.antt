@@ -1,3 +1,2 @@
-pub mod FrameBounds
 pub mod Limit
-mod Records
+pub mod PieceSteps
