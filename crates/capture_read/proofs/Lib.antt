@@ -1,2 +1,4 @@
+mod FormatSteps
+mod KnownBlocks
 pub mod Limit
-pub mod PieceSteps
+mod PieceSteps

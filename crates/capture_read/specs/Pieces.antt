@@ -1,5 +1,5 @@
 -- What stands at a place of a capture file where a record or block may begin, and what is known behind it.
-use Rattle.std.specs.Prelude.{◌<◌, ◌≤◌, ℕ, ◌+◌, Bool, List}
+use Rattle.std.specs.Prelude.{◌<◌, ◌≤◌, ℕ, ◌+◌, Bool, List, [], ◌∷◌}
 use Rattle.pk_base.specs.declared.found.Reason.TheVariants.{RecordCut, BlockCut}
 use Rattle.pcap_read.specs.Pcap.{pcap_item}
 use Rattle.pcap_read.specs.declared.header.PcapHead.{PcapHead}
@@ -9,7 +9,7 @@ use Rattle.pcapng_read.specs.Sections.{block_of, blocks_after, step_of}
 use Rattle.pcapng_read.specs.declared.block.Block.{Block}
 use Rattle.pcapng_read.specs.declared.step.BlockStep.{BlockStep}
 use Rattle.pcapng_read.specs.declared.step.BlockStep.TheVariants as step
-use Rattle.capture_read.specs.Ending.{unfinished, damage_at}
+use Rattle.capture_read.specs.Ending.{end_of_bytes, unfinished, damage_at}
 use Rattle.capture_read.specs.declared.piece.Piece.{Piece}
 use Rattle.capture_read.specs.declared.piece.Piece.TheVariants.{End, Packet, Passed}
 
@@ -39,6 +39,11 @@ block_at large before at bytes = of_block large at (step_of (block_of before byt
 
 abbrev pub blocks_behind : List Block → List ℕ → List Block
 blocks_behind before bytes = blocks_after (block_of before bytes) before
+
+-- a record or block where a byte is left, and else the end
+abbrev pub where_left : Bool → List ℕ → Piece → Piece
+where_left large [] piece = End (end_of_bytes large)
+where_left large (b ∷ rest) piece = piece
 
 -- a record or block ends within so many bytes, and its packet within it
 abbrev pub IsPieceWithin : Piece → ℕ → Type 0

@@ -1,14 +1,13 @@
 use crate::ending::Ending;
 use pcap_read::PcapHead;
-use pcapng_read::Sections;
 
 /// How the next record or block of a file is read.
-#[derive(Drop)]
+#[derive(Clone, Copy)]
 pub enum Format {
     /// A record, behind a pcap file's header.
     Pcap(PcapHead),
     /// A block of a pcapng file, behind those that were read.
-    Pcapng(Sections),
+    Pcapng,
     /// None, since the file's header isn't read.
     Ended(Ending),
 }

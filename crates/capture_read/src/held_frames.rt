@@ -5,6 +5,7 @@ ghost use Rattle.capture_read.specs.NextFrame.{Gives};
 use crate::format::{Format, Place};
 use crate::next_frame::NextFrame;
 use crate::state::{first_place, take_frame};
+use pcapng_read::Sections;
 use pk_base::{NoMemory, Octets};
 use std::alloc::Global;
 use std::marker::Model;
@@ -15,6 +16,7 @@ use std::marker::Model;
 pub struct HeldFrames {
     file: Octets,
     format: Format,
+    sections: Sections,
     place: Place,
 }
 
@@ -25,9 +27,9 @@ impl Model for HeldFrames {
 
     ghost use Rattle.capture_read.specs.State.{rest_of, IsReached};
 
-    ghost view = { λ h. rest_of h.file h.format h.place.number h.place.at };
+    ghost view = { λ h. rest_of h.file h.format h.sections h.place };
 
-    ghost invariant = { λ h. IsReached h.file h.format h.place.number h.place.at };
+    ghost invariant = { λ h. IsReached h.file h.format h.sections h.place };
 }
 
 impl HeldFrames {
@@ -35,10 +37,11 @@ impl HeldFrames {
     pub fn new(alloc: Global, file: Octets) -> HeldFrames
         ensures { result ≡ capture_of file }
     {
-        let (format, place) = first_place(alloc, file.bytes());
+        let (format, place) = first_place(file.bytes());
         HeldFrames {
             file,
             format,
+            sections: Sections::new(alloc),
             place,
         }
     }
@@ -48,6 +51,6 @@ impl HeldFrames {
     pub fn next_frame(&mut self) -> Result<NextFrame, NoMemory>
         ensures { MatchResult result (λ next. Gives next self.old self.new) (λ _. self.new ≡ self.old) }
     {
-        take_frame(&self.file, &mut self.format, &mut self.place)
+        take_frame(&self.file, self.format, &mut self.sections, &mut self.place)
     }
 }

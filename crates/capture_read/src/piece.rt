@@ -1,9 +1,9 @@
-ghost use Rattle.std.specs.Prelude.{◌≡◌, length, IfOk, OnOk, OnErr};
-ghost use Rattle.pcapng_read.specs.Sections.{IsReady, WhenTaken};
-ghost use Rattle.capture_read.specs.Pieces.{record_at, IsPieceWithin};
-ghost use Rattle.capture_read.specs.State.{scoped_block, scope_behind};
+ghost use Rattle.std.specs.Prelude.{◌≡◌, ◌≢◌, None, length, IfOk, OnErr};
+ghost use Rattle.pcapng_read.specs.Sections.{IsReady};
+ghost use Rattle.capture_read.specs.Pieces.{record_at, where_left, IsPieceWithin};
+ghost use Rattle.capture_read.specs.State.{scoped_block, scope_behind, UnlessPassed, WhenRead};
 
-use crate::ending::{Ending, damage_at, unfinished};
+use crate::ending::{Ending, damage_at, end_of_bytes, unfinished};
 use pcap_read::{ItemStep, PcapHead, next_item};
 use pcapng_read::{BlockStep, Sections};
 use pk_base::{Found, NoMemory, Reason};
@@ -19,11 +19,14 @@ pub enum Piece {
     Passed(usize),
 }
 
-/// Reads the record of a pcap file that begins with the first of these bytes, at a place of the file.
+/// Reads the record of a pcap file that begins with the first of these bytes, which are those from a place of the file on.
 pub fn read_record(large: bool, head: &PcapHead, at: usize, rest: &[u8]) -> Piece
-    ensures value { result ≡ record_at large head.now at rest.now }
+    ensures value { result ≡ where_left large rest.now (record_at large head.now at rest.now) }
     ensures within { IsPieceWithin result (length rest.now) }
 {
+    if rest.is_empty() {
+        return Piece::End(end_of_bytes(large));
+    }
     match next_item(head, rest) {
         ItemStep::Need(_) => Piece::End(unfinished(large, at, Reason::RecordCut)),
         ItemStep::Bad(reason) => Piece::End(damage_at(at, reason)),
@@ -31,7 +34,8 @@ pub fn read_record(large: bool, head: &PcapHead, at: usize, rest: &[u8]) -> Piec
     }
 }
 
-/// Reads the block of a pcapng file that begins with the first of these bytes, at a place of the file.
+/// Reads the block of a pcapng file that begins with the first of these bytes, which are those from a place of the file on.
+#[tactic(auto, using(crate::proofs::KnownBlocks::packet_stays))]
 pub fn read_block(
     large: bool,
     sections: &mut Sections,
@@ -39,11 +43,16 @@ pub fn read_block(
     rest: &[u8],
 ) -> Result<Piece, NoMemory>
     requires { IsReady sections.old rest.now }
-    ensures value { IfOk result (λ piece. piece ≡ scoped_block large sections.old at rest.now) }
-    ensures behind { OnOk result (sections.new ≡ scope_behind sections.old rest.now) }
+    ensures value { IfOk result (λ piece. piece ≡ where_left large rest.now (scoped_block large sections.old at rest.now)) }
+    ensures behind { IfOk result (λ piece. WhenRead piece (sections.new ≡ scope_behind sections.old rest.now)) }
+    ensures stays { IfOk result (λ piece. UnlessPassed piece (sections.new ≡ sections.old)) }
+    ensures begun { IfOk result (λ piece. WhenRead piece (sections.new.order ≢ None)) }
     ensures kept { OnErr result (sections.new ≡ sections.old) }
     ensures within { IfOk result (λ piece. IsPieceWithin piece (length rest.now)) }
 {
+    if rest.is_empty() {
+        return Ok(Piece::End(end_of_bytes(large)));
+    }
     Ok(match sections.next_block(rest)? {
         BlockStep::Need(_) => Piece::End(unfinished(large, at, Reason::BlockCut)),
         BlockStep::Bad(reason) => Piece::End(damage_at(at, reason)),

@@ -1,4 +1,5 @@
-ghost use Rattle.std.specs.Prelude.{◌≡◌, ◌≤◌, ◌+◌, length, drop, IfOk, OnErr};
+ghost use Rattle.std.specs.Prelude.{◌≡◌, ◌≤◌, ◌+◌, length, drop, [], IfOk, OnErr};
+ghost use Rattle.pcapng_read.specs.Sections.{scope_of};
 ghost use Rattle.capture_read.specs.Capture.{capture_of, frame_of, held_part, is_pcapng};
 ghost use Rattle.capture_read.specs.NextFrame.{Gives};
 ghost use Rattle.capture_read.specs.State.{rest_of, IsReached};
@@ -13,7 +14,6 @@ use crate::piece::Piece;
 use pcap_read::{HeadStep, head};
 use pcapng_read::Sections;
 use pk_base::{Found, NoMemory, Octets, Reason};
-use std::alloc::Global;
 
 const PCAP_HEADER_SIZE: usize = 24;
 
@@ -22,25 +22,29 @@ const PCAPNG_MARK: [u8; 4] = [0x0A, 0x0D, 0x0D, 0x0A];
 
 /// How a file is read, and the place of its first record or block.
 #[tactic(auto, unfolding(crate::specs::Capture::capture_of))]
-pub fn first_place(alloc: Global, file: &[u8]) -> (Format, Place)
-    ensures value { rest_of file.now result.0 result.1.number result.1.at ≡ capture_of file.now }
-    ensures reached { IsReached file.now result.0 result.1.number result.1.at }
+pub fn first_place(file: &[u8]) -> (Format, Place)
+    ensures value { rest_of file.now result.0 (scope_of []) result.1 ≡ capture_of file.now }
+    ensures reached { IsReached file.now result.0 (scope_of []) result.1 }
 {
     let held = held_bytes(file);
     if begins_pcapng(held) {
-        let place = Place { number: 1, at: 0 };
-        return (Format::Pcapng(Sections::new(alloc)), place);
+        return (Format::Pcapng, place_at(0));
     }
-    let place = Place {
-        number: 1,
-        at: PCAP_HEADER_SIZE,
-    };
-    let format = match head(held) {
-        HeadStep::Need(_) => Format::Ended(unfinished(is_large(file), 0, Reason::ShortHeader)),
-        HeadStep::Bad(reason) => Format::Ended(damage_at(0, reason)),
-        HeadStep::Head(head) => Format::Pcap(head),
-    };
-    (format, place)
+    match head(held) {
+        HeadStep::Need(_) => {
+            let ending = unfinished(is_large(file), 0, Reason::ShortHeader);
+            (Format::Ended(ending), place_at(0))
+        }
+        HeadStep::Bad(reason) => (Format::Ended(damage_at(0, reason)), place_at(0)),
+        HeadStep::Head(head) => (Format::Pcap(head), place_at(PCAP_HEADER_SIZE)),
+    }
+}
+
+/// The place of a file's first record or block.
+fn place_at(at: usize) -> Place
+    ensures { result ≡ record { number = 1; at = at } }
+{
+    Place { number: 1, at }
 }
 
 fn begins_pcapng(bytes: &[u8]) -> bool
@@ -52,17 +56,18 @@ fn begins_pcapng(bytes: &[u8]) -> bool
 /// Reads from a place of a file on up to the next frame.
 pub fn take_frame(
     file: &Octets,
-    format: &mut Format,
+    format: Format,
+    sections: &mut Sections,
     place: &mut Place,
 ) -> Result<NextFrame, NoMemory>
-    requires { IsReached file.now format.old place.old.number place.old.at }
-    ensures gives { IfOk result (λ next. Gives next (rest_of file.now format.old place.old.number place.old.at) (rest_of file.now format.new place.new.number place.new.at)) }
-    ensures kept { OnErr result (rest_of file.now format.new place.new.number place.new.at ≡ rest_of file.now format.old place.old.number place.old.at) }
-    ensures reached { IsReached file.now format.new place.new.number place.new.at }
+    requires { IsReached file.now format sections.old place.old }
+    ensures gives { IfOk result (λ next. Gives next (rest_of file.now format sections.old place.old) (rest_of file.now format sections.new place.new)) }
+    ensures kept { OnErr result (rest_of file.now format sections.new place.new ≡ rest_of file.now format sections.old place.old) }
+    ensures reached { IsReached file.now format sections.new place.new }
 {
     let large = is_large(file.bytes());
     loop {
-        match next_piece(large, held_bytes(file.bytes()), format, place.at)? {
+        match next_piece(large, held_bytes(file.bytes()), format, sections, place.at)? {
             Piece::End(ending) => return Ok(NextFrame::End(ending)),
             Piece::Packet(found) => {
                 let frame = frame_at(file, *place, &found)?;
