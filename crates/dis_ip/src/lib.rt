@@ -10,6 +10,8 @@ mod options;
 mod packet;
 mod protocol;
 mod routing;
+#[cfg(test)]
+mod tests;
 
 pub use extension::read_extension;
 pub use ip4::read_ip4;
