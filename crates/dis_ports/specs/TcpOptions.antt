@@ -24,7 +24,7 @@
 --    +---------+---------+-----------------------------+-----------------------------+
 --    |    8    |   10    |     timestamp's value       |         echo reply          |
 --    +---------+---------+-----------------------------+-----------------------------+
-use Rattle.std.specs.Prelude.{◌==◌, ℕ, ◌+◌, ◌-◌, ◌/◌, ◌%◌, Bool, ◌&&◌, if◌then◌else◌, List, [], ◌∷◌, length, nat_le, nat_lt, slice_index}
+use Rattle.std.specs.Prelude.{◌==◌, ℕ, ◌+◌, ◌-◌, ◌/◌, ◌%◌, ◌&&◌, if◌then◌else◌, List, [], ◌∷◌, length, nat_le, slice_index}
 use Rattle.pk_fields.specs.Ids.{TCP_OPTION_KIND, TCP_OPTION_LEN, TCP_OPTIONS_MSS_VAL, TCP_OPTIONS_WSCALE_SHIFT, TCP_OPTIONS_SACK_PERM, TCP_OPTIONS_SACK_LE, TCP_OPTIONS_SACK_RE, TCP_OPTIONS_TIMESTAMP_TSVAL, TCP_OPTIONS_TIMESTAMP_TSECR, TCP_OPTIONS_BAD}
 use Rattle.pk_tree.specs.declared.layout.Step.{Step}
 use Rattle.pk_tree.specs.declared.layout.Step.TheVariants.{Row, Part}

@@ -20,6 +20,7 @@ const ROWS: usize = 21;
 
 /// Reads a TCP header with its options (RFC 9293, 3.1). What it carries is handed on also where it is no byte; in an embedded
 /// packet it is data.
+#[tactic(auto, unfolding(crate::specs::Tcp::tcp_after))]
 pub fn read_tcp(span: Span, cut: bool, mode: Mode, b: &mut TreeBuilder) -> Result<After, NoMemory>
     requires inside { IsInside b.old.buffers span }
     requires room { length b.old.layers + 2 < 2 ^ 32 }
@@ -39,6 +40,7 @@ pub fn read_tcp(span: Span, cut: bool, mode: Mode, b: &mut TreeBuilder) -> Resul
 }
 
 /// Opens the layer and reads its rows and options.
+#[tactic(auto, unfolding(pk_fields::specs::Fields::row_of, pk_fields::specs::Table::rows))]
 fn read_header(span: Span, cut: bool, mode: Mode, b: &mut TreeBuilder) -> Result<Reach, NoMemory>
     requires inside { IsInside b.old.buffers span }
     requires room { length b.old.layers + 2 < 2 ^ 32 }
@@ -51,23 +53,25 @@ fn read_header(span: Span, cut: bool, mode: Mode, b: &mut TreeBuilder) -> Result
     ensures most { OnOk result (length b.new.layers ≤ length b.old.layers + 2) }
 {
     let bytes = b.bytes(span);
-    let rows = tcp_rows(bytes);
-    let header = front(bytes, header_len(bytes) as usize);
-    if header.len() <= FIXED {
-        return read_layer(b, ids::TCP, span, &rows, mode, cut);
+    if header_len(bytes) as usize <= FIXED {
+        let steps = tcp_rows(bytes);
+        return read_layer(b, ids::TCP, span, &steps, mode, cut);
     }
-    let steps = tcp_steps(b.alloc(), rows, header)?;
+    let steps = tcp_steps(b.alloc(), bytes)?;
     read_layer(b, ids::TCP, span, &steps, mode, cut)
 }
 
-/// The rows, and the options behind them.
-fn tcp_steps(alloc: Global, rows: [Step; ROWS], header: &[u8]) -> Result<Vec<Step>, NoMemory>
-    requires { 20 < length header.now }
-    ensures { IfOk result (λ steps. steps.items ≡ rows ++ (tcp_options header.now).steps) }
+/// The rows, with the options behind them.
+#[tactic(auto, unfolding(crate::specs::Tcp::tcp_layout))]
+fn tcp_steps(alloc: Global, bytes: &[u8]) -> Result<Vec<Step>, NoMemory>
+    ensures layout { IfOk result (λ steps. steps.items ≡ tcp_layout bytes.now) }
+    ensures fits { IfOk result (λ steps. StepsFit TCP steps.items) }
+    ensures header { IfOk result (λ steps. (end : ℕ) → reach end steps.items ≡ Reach.All → header_len bytes.now ≤ end) }
 {
-    let mut steps = Vec::from_array(alloc, rows)?;
+    let header = front(bytes, header_len(bytes) as usize);
+    let mut steps = Vec::from_array(alloc, tcp_rows(bytes))?;
     // An option has at most three steps for two bytes.
-    steps.reserve((header.len() - FIXED) / 2 * 3)?;
+    steps.reserve(header.len().saturating_sub(FIXED) / 2 * 3)?;
     push_options(&mut steps, header)?;
     Ok(steps)
 }

@@ -8,7 +8,9 @@ ghost use Rattle.dis_ports.specs.Udp.{is_udp_length, udp_after, udp_carries, udp
 
 use pk_base::{NoMemory, Span};
 use pk_fields::ids;
-use pk_tree::{After, Mode, Next, PortsHead, Reach, Step, TreeBuilder, carried, first_of, peek, read_layer};
+use pk_tree::{
+    After, Mode, Next, PortsHead, Reach, Step, TreeBuilder, carried, first_of, peek, read_layer,
+};
 
 /// The bytes of a UDP header.
 const HEADER: u32 = 8;

@@ -1,5 +1,5 @@
 use Rattle.std.proofs.Common.{refl, arith, append_assoc, ◌+◌}
-use Rattle.pk_tree.specs.Entries.{behind, repeated}
+use Rattle.pk_tree.specs.Entries.{repeated}
 use Rattle.pk_tree.proofs.EntryLemmas.{repeat_step, repeat_done}
 use Rattle.dis_ports.specs.TcpOptions.{sack_block}
 use Rattle.dis_ports.proofs.tcp_options.push_blocks.Goals as goal

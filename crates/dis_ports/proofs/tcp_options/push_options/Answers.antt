@@ -11,7 +11,7 @@ pub returns-in-None : goal.returns-in-None
 unfolding tcp_options
 returns-in-None c =
     (repeat_stop (option_at c.args.header.now) 40 c.loop-option._option c.loop-option.at c.args.steps.now.items c.loop-option.steps.items c.push_option.new.steps.items (repeated 40 (option_at c.args.header.now) 20) c.loop-option.invariant c.loop-option-test.true
-      (rw c.in-None.is at c.in_ok-next.ensures)).steps
+    (rw c.in-None.is at c.in_ok-next.ensures)).steps
 
 pub returns : goal.returns
 unfolding tcp_options
