@@ -4,3 +4,4 @@ pub mod Options
 pub mod Uses
 pub mod Values
 pub mod Words
+pub mod Utf8

@@ -2,6 +2,7 @@ ghost use Rattle.std.specs.Prelude.{◌≡◌, IfOk, option_and_then, option_to_
 ghost use Rattle.std.specs.Option.{option_copied};
 ghost use Rattle.shark_words.specs.Words.{texts};
 ghost use Rattle.shark_words.specs.Values.{count_of, shown_filter as filter_shown};
+ghost use Rattle.shark_words.specs.Utf8.{AreUtf8};
 ghost use Rattle.shark_words.specs.Options.{value_in as value_in_use, value_of as value_given, values_of as values_given, options_of, Gives};
 
 use crate::fault::{WordFault, WordReason, WordsError};
@@ -67,13 +68,9 @@ fn read_most(most: Option<&Octets>) -> Option<u32>
     read_count(most?.bytes())
 }
 
-/// Reads the options that the words of a command line give, or refuses them.
-///
-/// A word that begins with `-` and has more is an option: `-r`, `-Y`, `-T`, `-e` or `-c`. Its value is what is left of the
-/// word, or the next word where nothing is left. Words are numbered from 1, and the first fault in their order is told.
 #[tactic(auto, unfolding(crate::specs::Options::options_of))]
-pub fn read_words(alloc: Global, words: &[String]) -> Result<Options, WordsError>
-    ensures computed { Gives result (options_of (texts words.now)) }
+fn read_options(alloc: Global, words: &[String]) -> Result<Options, WordsError>
+    ensures { Gives result (options_of (texts words.now)) }
 {
     let uses = uses_of(alloc, words)?;
     if let Some(fault) = first_fault(&uses) {
@@ -99,4 +96,16 @@ pub fn read_words(alloc: Global, words: &[String]) -> Result<Options, WordsError
         names: NameList::from_vec(values_of(alloc, &uses, Letter::Name)?),
         most: read_most(value_of(&uses, Letter::Most)),
     })
+}
+
+/// Reads the options that the words of a command line give, or refuses them.
+///
+/// A word that begins with `-` and has more is an option: `-r`, `-Y`, `-T`, `-e` or `-c`. Its value is what is left of the
+/// word, or the next word where nothing is left. Words are numbered from 1, and the first fault in their order is told.
+#[tactic(auto, using(crate::proofs::Utf8Lemmas::answered_are_utf8))]
+pub fn read_words(alloc: Global, words: &[String]) -> Result<Options, WordsError>
+    ensures computed { Gives result (options_of (texts words.now)) }
+    ensures utf8 { IfOk result AreUtf8 }
+{
+    read_options(alloc, words)
 }

@@ -1,0 +1,138 @@
+-- What follows an option's letter in a word is a text.
+use Rattle.std.proofs.Common.{◌≡◌, ◌≢◌, ◌<◌, ◌≤◌, ◌==◌, ◌++◌, ℕ, suc, Bool, true, false, List, [], ◌∷◌, length, drop, map, Option, None, Some, Result, Ok, Err, String, refl, arith, subst, sym, ◌∙◌, ⊎_elim, if◌then◌else◌}
+use Rattle.std.specs.Prelude.{◌&&◌, IfSome, IfOk, string_bytes, All, option_and_then}
+use Rattle.std.specs.List.{AllByRecursion as Each}
+use Rattle.std.specs.Str.{IsUtf8}
+use Rattle.std.proofs.lemmas.Bool.{cases_lt}
+use Rattle.std.proofs.lemmas.Bool.Decides.{nat_tests}
+use Rattle.std.proofs.lemmas.List.Elements.{All-nil, All-cons}
+use Rattle.std.proofs.lemmas.Str.{IsUtf8-string_bytes, IsUtf8-drop, IsCharBoundary-after_ascii}
+use Rattle.shark_words.specs.declared.fault.WordFault.{WordFault}
+use Rattle.shark_words.specs.declared.letter.Letter.{Letter}
+use Rattle.shark_words.specs.declared.letter.Letter.TheVariants.{Capture, Filter, Kind, Name, Most}
+use Rattle.shark_words.specs.declared.options.Options.{Options}
+use Rattle.shark_words.specs.declared.uses.Value.{Value}
+use Rattle.shark_words.specs.declared.uses.Given.{Given}
+use Rattle.shark_words.specs.declared.uses.Use.{Use}
+use Rattle.shark_words.specs.declared.uses.Use.TheVariants as use_
+use Rattle.shark_words.specs.declared.fault.WordReason.TheVariants.{NoFields}
+use Rattle.shark_words.specs.declared.fault.WordsError.{WordsError}
+use Rattle.shark_words.specs.declared.options.LineKind.TheVariants.{Fields}
+use Rattle.shark_words.specs.declared.options.Source.TheVariants.{Named}
+use Rattle.shark_words.specs.Faults.{fault, is_given, first_fault}
+use Rattle.shark_words.specs.Values.{count_of, shown_filter}
+use Rattle.shark_words.specs.Letters.{is_same, letter_of}
+use Rattle.shark_words.specs.Options.{asked, judged, head_of, value_in, value_of, value_text, values_of, options_of, Gives}
+use Rattle.shark_words.specs.Uses.{option_at, uses_at, uses_from, uses_of}
+use Rattle.shark_words.specs.Utf8.{AreUtf8}
+use Rattle.shark_words.specs.Words.{texts}
+
+-- the value of a use is a text
+abbrev pub HasText : Use → Type 0
+HasText (use_.Given given) = IfSome given.value (λ value. IsUtf8 value.text)
+HasText (use_.Unknown word) = Unit {0}
+HasText (use_.Stray word) = Unit {0}
+
+letter_is_ascii : (b : ℕ) → 128 ≤ b → letter_of b ≡ None
+letter_is_ascii b large = grind (arith, nat_tests)
+
+abbrev IsNothing : Option Letter → Type 0
+IsNothing None = Unit {0}
+IsNothing (Some letter) = ⊥
+
+ascii_of_letter : (b : ℕ) (letter : Letter) → letter_of b ≡ Some letter → b < 128
+ascii_of_letter b letter is = ⊎_elim (λ less. less) (λ large. absurd (subst IsNothing (sym (letter_is_ascii b large) ∙ is) tt)) (cases_lt b 128)
+
+behind_letter : (first second : ℕ) (rest : List ℕ) → second < 128 → IsUtf8 (first ∷ second ∷ rest) → IsUtf8 rest
+behind_letter first second rest small utf8 =
+    IsUtf8-drop (first ∷ second ∷ rest) 2 utf8 (IsCharBoundary-after_ascii (first ∷ second ∷ rest) 1 utf8 (omega arith) small)
+
+option_has_text : (number first second : ℕ) (rest : List ℕ) (behind : Option Letter → List Use) (letter : Option Letter) → letter_of second ≡ letter
+    → IsUtf8 (first ∷ second ∷ rest) → ((waiting : Option Letter) → Each HasText (behind waiting)) → Each HasText (option_at number letter rest behind)
+option_has_text number first second rest behind None is utf8 others = (tt, others None)
+option_has_text number first second [] behind (Some letter) is utf8 others = others (Some letter)
+option_has_text number first second (b ∷ rest) behind (Some letter) is utf8 others =
+    (behind_letter first second (b ∷ rest) (ascii_of_letter second letter is) utf8, others None)
+
+dashed_has_text : (dash : Bool) (number first second : ℕ) (rest : List ℕ) (behind : Option Letter → List Use)
+    → IsUtf8 (first ∷ second ∷ rest) → ((waiting : Option Letter) → Each HasText (behind waiting))
+    → Each HasText (if dash then option_at number (letter_of second) rest behind else use_.Stray number ∷ behind None)
+dashed_has_text true number first second rest behind utf8 others = option_has_text number first second rest behind (letter_of second) refl utf8 others
+dashed_has_text false number first second rest behind utf8 others = (tt, others None)
+
+word_has_text : (number : ℕ) (word : List ℕ) (behind : Option Letter → List Use) → IsUtf8 word → ((waiting : Option Letter) → Each HasText (behind waiting))
+    → Each HasText (uses_at number word behind)
+word_has_text number [] behind utf8 others = (tt, others None)
+word_has_text number (first ∷ []) behind utf8 others = (tt, others None)
+word_has_text number (first ∷ second ∷ rest) behind utf8 others = dashed_has_text (first == 45) number first second rest behind utf8 others
+
+uses_have_texts : (before : ℕ) (waiting : Option Letter) (words : List (List ℕ)) → Each IsUtf8 words → Each HasText (uses_from before waiting words)
+unfolding uses_from
+uses_have_texts before None [] utf8 = tt
+uses_have_texts before (Some letter) [] utf8 = (tt, tt)
+uses_have_texts before (Some letter) (word ∷ words) utf8 = (utf8.0, uses_have_texts (suc before) None words utf8.1)
+uses_have_texts before None (word ∷ words) utf8 =
+    word_has_text (suc before) word (λ waiting. uses_from (suc before) waiting words) utf8.0 (λ waiting. uses_have_texts (suc before) waiting words utf8.1)
+
+each_append : (xs ys : List (List ℕ)) → Each IsUtf8 xs → Each IsUtf8 ys → Each IsUtf8 (xs ++ ys)
+each_append [] ys left right = right
+each_append (x ∷ xs) ys left right = (left.0, each_append xs ys left.1 right)
+
+value_has_text : (value : Option Value) → IfSome value (λ v. IsUtf8 v.text) → Each IsUtf8 (value_text value)
+value_has_text None has = tt
+value_has_text (Some value) has = (has, tt)
+
+chosen_has_text : (same : Bool) (value : Option Value) → IfSome value (λ v. IsUtf8 v.text) → Each IsUtf8 (if same then value_text value else [])
+chosen_has_text true value has = value_has_text value has
+chosen_has_text false value has = tt
+
+use_has_text : (letter : Letter) (used : Use) → HasText used → Each IsUtf8 (value_in letter used)
+use_has_text letter (use_.Given given) has = chosen_has_text (is_same letter given.letter) given.value has
+use_has_text letter (use_.Unknown word) has = tt
+use_has_text letter (use_.Stray word) has = tt
+
+values_are_texts : (letter : Letter) (uses : List Use) → Each HasText uses → Each IsUtf8 (values_of letter uses)
+values_are_texts letter [] have = tt
+values_are_texts letter (used ∷ uses) have =
+    each_append (value_in letter used) (values_of letter uses) (use_has_text letter used have.0) (values_are_texts letter uses have.1)
+
+head_is_text : (values : List (List ℕ)) → Each IsUtf8 values → IfSome (head_of values) IsUtf8
+head_is_text [] are = tt
+head_is_text (value ∷ values) are = are.0
+
+all_from_each : (xs : List (List ℕ)) → Each IsUtf8 xs → All IsUtf8 xs
+all_from_each [] each = All-nil IsUtf8
+all_from_each (x ∷ xs) each = All-cons IsUtf8 x xs each.0 (all_from_each xs each.1)
+
+asked_is_utf8 : (behind : ℕ) (uses : List Use) (name : Option (List ℕ)) → Each HasText uses → IfSome name IsUtf8 → IfOk (asked behind uses name) AreUtf8
+asked_is_utf8 behind uses None have named = tt
+asked_is_utf8 behind uses (Some name) have named = by_names (is_given Kind uses && is_given Name uses)
+  where
+    by_names : (both : Bool) → IfOk (if both then Ok (record {
+      source = Named name;
+      filter = shown_filter (value_of Filter uses);
+      kind = Fields;
+      names = values_of Name uses;
+      most = option_and_then count_of (value_of Most uses);
+    }) else Err (fault behind NoFields)) AreUtf8
+    by_names true = record { source = named; names = all_from_each (values_of Name uses) (values_are_texts Name uses have) }
+    by_names false = tt
+
+judged_is_utf8 : (behind : ℕ) (uses : List Use) (first : Option WordFault) → Each HasText uses → IfOk (judged behind uses first) AreUtf8
+judged_is_utf8 behind uses None have = asked_is_utf8 behind uses (value_of Capture uses) have (head_is_text (values_of Capture uses) (values_are_texts Capture uses have))
+judged_is_utf8 behind uses (Some first) have = tt
+
+words_are_utf8 : {A : Type 0} (words : List (String A)) → Each IsUtf8 (texts words)
+words_are_utf8 [] = tt
+words_are_utf8 (word ∷ words) = (IsUtf8-string_bytes word, words_are_utf8 words)
+
+pub options_are_utf8 : {A : Type 0} (words : List (String A)) → IfOk (options_of (texts words)) AreUtf8
+unfolding options_of
+options_are_utf8 words =
+    judged_is_utf8 (suc (length (texts words))) (uses_of (texts words)) (first_fault [] (uses_of (texts words)))
+    (uses_have_texts 0 None (texts words) (words_are_utf8 words))
+
+-- the options that are answered
+pub answered_are_utf8 : {A : Type 0} (words : List (String A)) (answer : Result Options WordsError) → Gives answer (options_of (texts words)) → IfOk answer AreUtf8
+answered_are_utf8 words (Ok options) gives = subst (λ (r : Result Options WordFault). IfOk r AreUtf8) gives (options_are_utf8 words)
+answered_are_utf8 words (Err e) gives = tt
