@@ -42,7 +42,11 @@ pub(crate) fn frame_span(frame: &Frame) -> Span
 
 /// A tree with the layer that tells of the frame itself, given the times of the frames before.
 #[tactic(auto, unfolding(crate::specs::FrameLayer::frame_tree))]
-pub(crate) fn begin_tree(alloc: Global, before: Times, frame: &Frame) -> Result<TreeBuilder, NoMemory>
+pub(crate) fn begin_tree(
+    alloc: Global,
+    before: Times,
+    frame: &Frame,
+) -> Result<TreeBuilder, NoMemory>
     requires bytes { length frame.now.bytes < 2 ^ 32 }
     requires before { AreTimes before }
     requires time { IfSome frame.now.time IsTime }
@@ -67,7 +71,14 @@ fn add_frame(frame: &Frame, steps: &[Step], tree: &mut TreeBuilder) -> Result<()
     ensures buffers { tree.new.buffers ≡ tree.old.buffers }
     ensures most { OnOk result (length tree.new.layers ≤ 2) }
 {
-    read_layer(tree, ids::FRAME, frame_span(frame), steps, Mode::Plain, is_cut(frame))?;
+    read_layer(
+        tree,
+        ids::FRAME,
+        frame_span(frame),
+        steps,
+        Mode::Plain,
+        is_cut(frame),
+    )?;
     Ok(())
 }
 
@@ -84,8 +95,14 @@ fn timed_steps(before: Times, frame: &Frame, time: i128) -> [Step; 6]
     [
         number_step(ids::FRAME_NUMBER, frame.number),
         Step::Made(ids::FRAME_TIME_EPOCH, Value::Time(time)),
-        Step::Made(ids::FRAME_TIME_RELATIVE, Value::Time(since(before.first, time))),
-        Step::Made(ids::FRAME_TIME_DELTA, Value::Time(since(before.latest, time))),
+        Step::Made(
+            ids::FRAME_TIME_RELATIVE,
+            Value::Time(since(before.first, time)),
+        ),
+        Step::Made(
+            ids::FRAME_TIME_DELTA,
+            Value::Time(since(before.latest, time)),
+        ),
         number_step(ids::FRAME_LEN, frame.original),
         number_step(ids::FRAME_CAP_LEN, captured(frame)),
     ]
