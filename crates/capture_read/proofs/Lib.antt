@@ -1,3 +1,4 @@
-pub mod FrameBounds
+mod FormatSteps
+mod KnownBlocks
 pub mod Limit
-mod Records
+mod PieceSteps

@@ -2,9 +2,12 @@ ghost use Rattle.std.specs.Prelude.{◌≡◌, MatchResult};
 ghost use Rattle.capture_read.specs.Capture.{capture_of};
 ghost use Rattle.capture_read.specs.NextFrame.{Gives};
 
+use crate::format::{Format, Place};
 use crate::next_frame::NextFrame;
-use crate::state::{State, first_state, next_record};
+use crate::state::{first_place, take_frame};
+use pcapng_read::Sections;
 use pk_base::{NoMemory, Octets};
+use std::alloc::Global;
 use std::marker::Model;
 
 /// The frames of a capture file whose bytes are in memory, one after the other. Contracts see what is still to come:
@@ -12,7 +15,9 @@ use std::marker::Model;
 #[derive(Drop)]
 pub struct HeldFrames {
     file: Octets,
-    state: State,
+    format: Format,
+    sections: Sections,
+    place: Place,
 }
 
 impl Model for HeldFrames {
@@ -22,18 +27,23 @@ impl Model for HeldFrames {
 
     ghost use Rattle.capture_read.specs.State.{rest_of, IsReached};
 
-    ghost view = { λ h. rest_of h.file h.state };
+    ghost view = { λ h. rest_of h.file h.format h.sections h.place };
 
-    ghost invariant = { λ h. IsReached h.file h.state };
+    ghost invariant = { λ h. IsReached h.file h.format h.sections h.place };
 }
 
 impl HeldFrames {
     /// Begins before the first frame of a file. At most its first 2^28 bytes are looked at.
-    pub fn new(file: Octets) -> HeldFrames
+    pub fn new(alloc: Global, file: Octets) -> HeldFrames
         ensures { result ≡ capture_of file }
     {
-        let state = first_state(file.bytes());
-        HeldFrames { file, state }
+        let (format, place) = first_place(file.bytes());
+        HeldFrames {
+            file,
+            format,
+            sections: Sections::new(alloc),
+            place,
+        }
     }
 
     /// The next frame, whose bytes share the file's memory, or how the file ends, which is then answered again and
@@ -41,13 +51,6 @@ impl HeldFrames {
     pub fn next_frame(&mut self) -> Result<NextFrame, NoMemory>
         ensures { MatchResult result (λ next. Gives next self.old self.new) (λ _. self.new ≡ self.old) }
     {
-        match self.state {
-            State::Ended(ending) => Ok(NextFrame::End(ending)),
-            State::Records(place) => {
-                let (next, state) = next_record(&self.file, place)?;
-                self.state = state;
-                Ok(next)
-            }
-        }
+        take_frame(&self.file, self.format, &mut self.sections, &mut self.place)
     }
 }

@@ -1,13 +1,16 @@
-//! Reads a capture file: its frames in order, and how the file ends. Files in the pcap format are read. Any other file
-//! of at least four bytes is damaged at its first byte, by `UnknownMagic`.
+//! Reads a capture file in the pcap or pcapng format: its frames in order, and how the file ends. Any other file of at
+//! least four bytes is damaged at its first byte, by `UnknownMagic`.
 #![tactic(auto)]
 
 mod ending;
+mod format;
 mod frame;
 mod frame_list;
 mod held_frames;
 mod held_part;
 mod next_frame;
+mod next_piece;
+mod piece;
 mod reading;
 mod state;
 #[cfg(test)]

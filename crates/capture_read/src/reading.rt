@@ -14,7 +14,7 @@ pub fn frames(alloc: Global, bytes: &[u8]) -> Result<(FrameList, Ending), NoMemo
     ensures frames { IfOk result (λ r. r.0 ≡ (capture_of bytes.now).frames) }
     ensures ending { IfOk result (λ r. r.1 ≡ (capture_of bytes.now).ending) }
 {
-    let mut held = HeldFrames::new(Octets::copy(alloc, telling_bytes(bytes))?);
+    let mut held = HeldFrames::new(alloc, Octets::copy(alloc, telling_bytes(bytes))?);
     let mut list = Vec::new(alloc);
     loop {
         match held.next_frame()? {

@@ -1,95 +1,97 @@
-ghost use Rattle.std.specs.Prelude.{◌≡◌, ◌≤◌, length, drop, IfOk};
-ghost use Rattle.capture_read.specs.Capture.{capture_of};
+ghost use Rattle.std.specs.Prelude.{◌≡◌, ◌≤◌, ◌+◌, length, drop, [], IfOk, OnErr};
+ghost use Rattle.pcapng_read.specs.Sections.{scope_of};
+ghost use Rattle.capture_read.specs.Capture.{capture_of, frame_of, held_part, is_pcapng};
 ghost use Rattle.capture_read.specs.NextFrame.{Gives};
 ghost use Rattle.capture_read.specs.State.{rest_of, IsReached};
 
-use crate::ending::{Ending, damage_at, end_of_bytes, unfinished};
+use crate::ending::{damage_at, unfinished};
+use crate::format::{Format, Place};
 use crate::frame::Frame;
 use crate::held_part::{held_bytes, is_large};
 use crate::next_frame::NextFrame;
-use pcap_read::{HeadStep, ItemStep, PcapHead, head, next_item};
-use pk_base::{NoMemory, Octets, Reason};
+use crate::next_piece::next_piece;
+use crate::piece::Piece;
+use pcap_read::{HeadStep, head};
+use pcapng_read::Sections;
+use pk_base::{Found, NoMemory, Octets, Reason};
 
 const PCAP_HEADER_SIZE: usize = 24;
 
-/// The place of the next record of a pcap file.
-#[derive(Clone, Copy)]
-pub struct Place {
-    pub head: PcapHead,
-    /// The number of the record's frame.
-    pub number: u32,
-    /// The place of the record's first byte.
-    pub at: usize,
-}
+/// A section's type, with which a pcapng file begins.
+const PCAPNG_MARK: [u8; 4] = [0x0A, 0x0D, 0x0D, 0x0A];
 
-/// How far a capture file is read.
-#[derive(Clone, Copy)]
-pub enum State {
-    Records(Place),
-    Ended(Ending),
-}
-
-/// Before the first frame of a file.
+/// How a file is read, and the place of its first record or block.
 #[tactic(auto, unfolding(crate::specs::Capture::capture_of))]
-pub fn first_state(file: &[u8]) -> State
-    ensures value { rest_of file.now result ≡ capture_of file.now }
-    ensures reached { IsReached file.now result }
+pub fn first_place(file: &[u8]) -> (Format, Place)
+    ensures value { rest_of file.now result.0 (scope_of []) result.1 ≡ capture_of file.now }
+    ensures reached { IsReached file.now result.0 (scope_of []) result.1 }
 {
-    match head(held_bytes(file)) {
-        HeadStep::Need(_) => State::Ended(unfinished(is_large(file), 0, Reason::ShortHeader)),
-        HeadStep::Bad(reason) => State::Ended(damage_at(0, reason)),
-        HeadStep::Head(head) => State::Records(Place {
-            head,
-            number: 1,
-            at: PCAP_HEADER_SIZE,
-        }),
+    let held = held_bytes(file);
+    if begins_pcapng(held) {
+        return (Format::Pcapng, place_at(0));
+    }
+    match head(held) {
+        HeadStep::Need(_) => {
+            let ending = unfinished(is_large(file), 0, Reason::ShortHeader);
+            (Format::Ended(ending), place_at(0))
+        }
+        HeadStep::Bad(reason) => (Format::Ended(damage_at(0, reason)), place_at(0)),
+        HeadStep::Head(head) => (Format::Pcap(head), place_at(PCAP_HEADER_SIZE)),
     }
 }
 
-/// Reads the record at a place of a file, and says how far the file is read then.
-pub fn next_record(file: &Octets, place: Place) -> Result<(NextFrame, State), NoMemory>
-    requires { IsReached file.now (State.Records place) }
-    ensures gives { IfOk result (λ r. Gives r.0 (rest_of file.now (State.Records place)) (rest_of file.now r.1)) }
-    ensures reached { IfOk result (λ r. IsReached file.now r.1) }
+/// The place of a file's first record or block.
+fn place_at(at: usize) -> Place
+    ensures { result ≡ record { number = 1; at = at } }
 {
-    let bytes = file.bytes();
-    let large = is_large(bytes);
-    let rest = bytes_from(held_bytes(bytes), place.at);
-    if rest.is_empty() {
-        return Ok(ended(end_of_bytes(large)));
-    }
-    match next_item(&place.head, rest) {
-        ItemStep::Need(_) => Ok(ended(unfinished(large, place.at, Reason::RecordCut))),
-        ItemStep::Bad(reason) => Ok(ended(damage_at(place.at, reason))),
-        ItemStep::Item(found) => {
-            let start = place.at + found.start;
-            let frame = Frame {
-                number: place.number,
-                time: found.time,
-                link: found.link,
-                little: found.little,
-                bytes: file.part(start, start + found.len)?,
-                original: found.original,
-            };
-            let next = Place {
-                head: place.head,
-                number: place.number + 1,
-                at: place.at + found.end,
-            };
-            Ok((NextFrame::Frame(frame), State::Records(next)))
+    Place { number: 1, at }
+}
+
+fn begins_pcapng(bytes: &[u8]) -> bool
+    ensures { result ≡ is_pcapng bytes.now }
+{
+    bytes.starts_with(&PCAPNG_MARK)
+}
+
+/// Reads from a place of a file on up to the next frame.
+pub fn take_frame(
+    file: &Octets,
+    format: Format,
+    sections: &mut Sections,
+    place: &mut Place,
+) -> Result<NextFrame, NoMemory>
+    requires { IsReached file.now format sections.old place.old }
+    ensures gives { IfOk result (λ next. Gives next (rest_of file.now format sections.old place.old) (rest_of file.now format sections.new place.new)) }
+    ensures kept { OnErr result (rest_of file.now format sections.new place.new ≡ rest_of file.now format sections.old place.old) }
+    ensures reached { IsReached file.now format sections.new place.new }
+{
+    let large = is_large(file.bytes());
+    loop {
+        match next_piece(large, held_bytes(file.bytes()), format, sections, place.at)? {
+            Piece::End(ending) => return Ok(NextFrame::End(ending)),
+            Piece::Packet(found) => {
+                let frame = frame_at(file, *place, &found)?;
+                place.number += 1;
+                place.at += found.end;
+                return Ok(NextFrame::Frame(frame));
+            }
+            Piece::Passed(size) => place.at += size,
         }
     }
 }
 
-fn ended(ending: Ending) -> (NextFrame, State)
-    ensures { result ≡ (NextFrame.End ending, State.Ended ending) }
+/// The frame found in the record or block at a place of a file.
+fn frame_at(file: &Octets, place: Place, found: &Found) -> Result<Frame, NoMemory>
+    requires { place.at + found.now.start + found.now.len ≤ length (held_part file.now) }
+    ensures { IfOk result (λ frame. frame ≡ frame_of place.number found.now (drop place.at (held_part file.now))) }
 {
-    (NextFrame::End(ending), State::Ended(ending))
-}
-
-fn bytes_from(bytes: &[u8], at: usize) -> &[u8]
-    requires { at ≤ length bytes.now }
-    ensures { result.now ≡ drop at bytes.now }
-{
-    &bytes[at..]
+    let start = place.at + found.start;
+    Ok(Frame {
+        number: place.number,
+        time: found.time,
+        link: found.link,
+        little: found.little,
+        bytes: file.part(start, start + found.len)?,
+        original: found.original,
+    })
 }

@@ -91,7 +91,7 @@ fn longer_record_than_the_limit_is_damage(rt: HostRuntime) -> Result<(), Fail> {
 #[test]
 fn big_endian_frames_come_one_by_one(rt: HostRuntime) -> Result<(), Fail> {
     let file = joined(rt.alloc(), &[&BIG, &BIG_RECORD])?;
-    let mut held = HeldFrames::new(Octets::from_vec(file)?);
+    let mut held = HeldFrames::new(rt.alloc(), Octets::from_vec(file)?);
     let NextFrame::Frame(first) = held.next_frame()? else {
         return Err("no frame".into());
     };

@@ -1,4 +1,5 @@
-pub mod OptionList
-pub mod Powers
 pub mod FirstSection
 pub mod Known
+pub mod OptionList
+pub mod Powers
+pub mod Within

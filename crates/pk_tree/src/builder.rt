@@ -177,6 +177,11 @@ impl TreeBuilder {
         self.buffers.bytes(s)
     }
 
+    /// Where the tree takes its memory from, for what the reading of a layer needs beside the tree.
+    pub fn alloc(&self) -> Global {
+        self.alloc
+    }
+
     /// How many bytes a buffer has.
     pub fn size(&self, buffer: u32) -> u32
         requires { buffer < length self.now.buffers }

@@ -119,5 +119,5 @@ pub(crate) fn open_frames<C: Capture>(
         Err(Failed) => return Err(FileFault::CannotOpen),
     }
     let bytes = read_rest(alloc, capture)?;
-    Ok(HeldFrames::new(Octets::from_vec(bytes)?))
+    Ok(HeldFrames::new(alloc, Octets::from_vec(bytes)?))
 }

@@ -1,0 +1,9 @@
+pub mod Extensions
+pub mod FragmentHeader
+pub mod Fragments
+pub mod Ip4
+pub mod Ip6
+pub mod Options
+pub mod Packets
+pub mod Protocols
+pub mod Routing

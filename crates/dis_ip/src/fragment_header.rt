@@ -1,0 +1,75 @@
+ghost use Rattle.std.specs.Prelude.{◌≡◌, ◌≢◌, ℕ, ◌+◌, ◌<◌, ◌≤◌, ◌^◌, length, IfOk, OnOk};
+ghost use Rattle.pk_buffer.specs.Buffers.{IsInside, bytes_of};
+ghost use Rattle.pk_fields.specs.Ids.{IPV6_FRAGHDR};
+ghost use Rattle.pk_tree.specs.Following.{LeadsInside};
+ghost use Rattle.pk_tree.specs.Layouts.{layer_read, reach};
+ghost use Rattle.pk_tree.specs.Trees.{last_proto};
+ghost use Rattle.dis_ip.specs.FragmentHeader.{fragment_layout, fragment_part, fragment_after};
+
+use crate::fragment::part_after;
+use crate::options::next_header;
+use pk_base::{NoMemory, Span};
+use pk_fields::ids;
+use pk_tree::{After, FragmentHead, Mode, PacketHead, Reach, Step, TreeBuilder, peek, read_layer};
+
+/// The bytes of a header.
+const HEADER: u32 = 8;
+
+/// Reads a fragment header (RFC 8200, 4.5). Where it says that its packet is all of the datagram, the chain goes on.
+#[tactic(auto, unfolding(crate::specs::FragmentHeader::fragment_layout, crate::specs::FragmentHeader::fragment_after, pk_tree::specs::Layouts::StepsFit, pk_fields::specs::Fields::row_of, pk_fields::specs::Table::rows))]
+pub(crate) fn read_fragment_header(
+    packet: &PacketHead,
+    span: Span,
+    cut: bool,
+    mode: Mode,
+    b: &mut TreeBuilder,
+) -> Result<After, NoMemory>
+    requires inside { IsInside b.old.buffers span }
+    requires room { length b.old.layers + 2 < 2 ^ 32 }
+    ensures layer { IfOk result (λ _. b.new ≡ layer_read b.old IPV6_FRAGHDR span fragment_layout mode cut) }
+    ensures after { IfOk result (λ after. after ≡ fragment_after mode packet.now span (bytes_of b.old.buffers span)) }
+    ensures inside { IfOk result (LeadsInside b.old.buffers) }
+    ensures whole { IfOk result (λ after. after ≢ After.End → last_proto b.new.layers ≡ IPV6_FRAGHDR) }
+    ensures buffers { b.new.buffers ≡ b.old.buffers }
+    ensures some { OnOk result (0 < length b.new.layers) }
+    ensures most { OnOk result (length b.new.layers ≤ length b.old.layers + 2) }
+{
+    let bytes = b.bytes(span);
+    let steps = fragment_steps();
+    let part = part_of(packet, bytes);
+    read_layer(b, ids::IPV6_FRAGHDR, span, &steps, mode, cut)?;
+    Ok(if span.len < HEADER {
+        After::End
+    } else {
+        part_after(mode, part, span, HEADER)
+    })
+}
+
+#[tactic(auto, unfolding(crate::specs::FragmentHeader::fragment_layout, pk_tree::specs::Layouts::reach, pk_tree::specs::Layouts::step_reach, pk_fields::specs::Fields::row_of, pk_fields::specs::Table::rows))]
+fn fragment_steps() -> [Step; 4]
+    ensures layout { result ≡ fragment_layout }
+    ensures whole { (end : ℕ) → 8 ≤ end → reach end result ≡ Reach.All }
+{
+    [
+        Step::Row(ids::IPV6_FRAGHDR_NXT, 0),
+        Step::Row(ids::IPV6_FRAGHDR_OFFSET, 2),
+        Step::Row(ids::IPV6_FRAGHDR_MORE, 3),
+        Step::Row(ids::IPV6_FRAGHDR_IDENT, 4),
+    ]
+}
+
+/// The fragment's place in a datagram, with the addresses of its packet.
+fn part_of(packet: &PacketHead, bytes: &[u8]) -> FragmentHead
+    ensures { result ≡ fragment_part packet.now bytes.now }
+{
+    FragmentHead {
+        six: true,
+        source: packet.source,
+        target: packet.target,
+        next: next_header(bytes),
+        ident: peek(bytes, 32, 32) as u32,
+        offset: 8 * peek(bytes, 16, 13) as u32,
+        more: peek(bytes, 31, 1) == 1,
+        whole: packet.whole,
+    }
+}

@@ -1,0 +1,99 @@
+ghost use Rattle.std.specs.Prelude.{◌≡◌, ◌≢◌, ℕ, ◌+◌, ◌*◌, ◌<◌, ◌≤◌, ◌^◌, length, List, IfOk, OnOk, IfSome, IsTrue};
+ghost use Rattle.pk_buffer.specs.Buffers.{IsInside, bytes_of};
+ghost use Rattle.pk_fields.specs.Ids.{IPV6};
+ghost use Rattle.pk_tree.specs.Following.{LeadsInside};
+ghost use Rattle.pk_tree.specs.Layouts.{layer_read, peeked, reach, is_all};
+ghost use Rattle.pk_tree.specs.Trees.{last_proto};
+ghost use Rattle.dis_ip.specs.Ip6.{ip6_layout, ip6_size, ip6_span, ip6_after};
+
+use crate::packet::{in_packet, is_whole, packet_span};
+use crate::protocol::carried_by;
+use pk_base::{NoMemory, Span, be_bits};
+use pk_fields::ids;
+use pk_tree::{Address, After, Mode, PacketHead, Reach, Step, TreeBuilder, peek, read_layer};
+
+/// The bytes of a header.
+const HEADER: u32 = 40;
+
+const VERSION: u64 = 6;
+
+/// Reads an IPv6 header (RFC 8200, 3). The payload length ends the layer.
+#[tactic(auto, unfolding(crate::specs::Ip6::ip6_layout, crate::specs::Ip6::ip6_span, crate::specs::Ip6::ip6_after, pk_tree::specs::Layouts::StepsFit, pk_fields::specs::Fields::row_of, pk_fields::specs::Table::rows))]
+pub fn read_ip6(span: Span, cut: bool, mode: Mode, b: &mut TreeBuilder) -> Result<After, NoMemory>
+    requires inside { IsInside b.old.buffers span }
+    requires room { length b.old.layers + 2 < 2 ^ 32 }
+    ensures layer { IfOk result (λ _. b.new ≡ layer_read b.old IPV6 (ip6_span span (bytes_of b.old.buffers span)) (ip6_layout (bytes_of b.old.buffers span)) mode cut) }
+    ensures after { IfOk result (λ after. after ≡ ip6_after cut span (bytes_of b.old.buffers span)) }
+    ensures inside { IfOk result (LeadsInside b.old.buffers) }
+    ensures whole { IfOk result (λ after. after ≢ After.End → last_proto b.new.layers ≡ IPV6) }
+    ensures buffers { b.new.buffers ≡ b.old.buffers }
+    ensures some { OnOk result (0 < length b.new.layers) }
+    ensures most { OnOk result (length b.new.layers ≤ length b.old.layers + 2) }
+{
+    let bytes = b.bytes(span);
+    let steps = ip6_steps(bytes);
+    if !is_read(bytes) {
+        read_layer(b, ids::IPV6, span, &steps, mode, cut)?;
+        return Ok(After::End);
+    }
+    let size = size(bytes);
+    let next = peek(bytes, 48, 8) as u8;
+    let layer = packet_span(span, size);
+    let packet = PacketHead {
+        source: Address::Six(address(bytes, 64)),
+        target: Address::Six(address(bytes, 192)),
+        whole: is_whole(cut, span, size),
+    };
+    read_layer(b, ids::IPV6, layer, &steps, mode, cut)?;
+    Ok(in_packet(packet, carried_by(true, next, layer, HEADER)))
+}
+
+#[tactic(auto, unfolding(crate::specs::Ip6::ip6_layout))]
+fn ip6_steps(bytes: &[u8]) -> [Step; 11]
+    ensures { result ≡ ip6_layout bytes.now }
+{
+    [
+        Step::Row(ids::IPV6_VERSION, 0),
+        Step::Check(peek(bytes, 0, 4) == VERSION),
+        Step::Row(ids::IPV6_TCLASS, 0),
+        Step::Row(ids::IPV6_FLOW, 1),
+        Step::Row(ids::IPV6_PLEN, 4),
+        Step::Row(ids::IPV6_NXT, 6),
+        Step::Row(ids::IPV6_HLIM, 7),
+        Step::Row(ids::IPV6_SRC, 8),
+        Step::Row(ids::IPV6_ADDR, 8),
+        Step::Row(ids::IPV6_DST, 24),
+        Step::Row(ids::IPV6_ADDR, 24),
+    ]
+}
+
+/// Whether no row and no condition ends the reading.
+#[tactic(auto, unfolding(crate::specs::Ip6::ip6_layout, pk_tree::specs::Layouts::reach, pk_tree::specs::Layouts::step_reach, pk_fields::specs::Fields::row_of, pk_fields::specs::Table::rows))]
+fn is_read(bytes: &[u8]) -> bool
+    ensures read { result ≡ is_all (reach (length bytes.now) (ip6_layout bytes.now)) }
+    ensures whole { IsTrue result → (end : ℕ) → 40 ≤ end → reach end (ip6_layout bytes.now) ≡ Reach.All }
+    ensures header { IsTrue result → 40 ≤ length bytes.now }
+{
+    bytes.len() >= HEADER as usize && peek(bytes, 0, 4) == VERSION
+}
+
+/// The packet's bytes with its header, where its payload length names them.
+fn size(bytes: &[u8]) -> Option<u32>
+    ensures size { result ≡ ip6_size bytes.now }
+    ensures least { IfSome result (λ size. 40 ≤ size) }
+{
+    match peek(bytes, 32, 16) as u32 {
+        0 => None,
+        payload => Some(HEADER + payload),
+    }
+}
+
+/// The number of an address, whose bytes must be there.
+fn address(bytes: &[u8], first_bit: usize) -> u128
+    requires inside { first_bit + 128 ≤ 8 * length bytes.now }
+    requires small { first_bit < 2 ^ 16 }
+    ensures { result ≡ peeked bytes.now first_bit 128 }
+{
+    (u128::from(be_bits(bytes, first_bit, 64)) << 64)
+        + u128::from(be_bits(bytes, first_bit + 64, 64))
+}

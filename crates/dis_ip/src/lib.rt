@@ -1,0 +1,18 @@
+//! The network layer: IPv4, IPv6, and the extension headers of IPv6.
+#![tactic(auto)]
+
+mod extension;
+mod fragment;
+mod fragment_header;
+mod ip4;
+mod ip6;
+mod options;
+mod packet;
+mod protocol;
+mod routing;
+#[cfg(test)]
+mod tests;
+
+pub use extension::read_extension;
+pub use ip4::read_ip4;
+pub use ip6::read_ip6;

@@ -1,0 +1,3 @@
+pub mod Tcp
+pub mod TcpOptions
+pub mod Udp

@@ -1,0 +1,158 @@
+// The line that sums up a frame.
+ghost use Rattle.std.specs.Prelude.{◌≡◌, ◌++◌, codes, false, IfOk, OnOk};
+ghost use Rattle.std.specs.Option.{option_copied, option_map};
+ghost use Rattle.std.specs.List.{find, flat_map};
+ghost use Rattle.pk_fields.specs.Fields.{row_of};
+ghost use Rattle.pk_fields.specs.Ids.{FRAME_LEN};
+ghost use Rattle.pk_tree.specs.FieldValues.{item_values};
+ghost use Rattle.pk_tree.specs.Values.{is_proto};
+ghost use Rattle.pk_tree.specs.declared.layer.Layer.{Layer};
+ghost use Rattle.out_lines.specs.Summary.{first_value, first_in_tree, ip_address, is_ip as is_ip_layer, is_told as is_told_layer, last_told, or_dash, address_in, addresses_of, protocol_of, times_of, summary_of};
+
+use crate::lines::LINE_ROOM;
+use crate::value_text::{put_text, put_value};
+use pk_base::NoMemory;
+use pk_fields::{FieldId, ids, name};
+use pk_tree::{Item, Layer, Tree, Value};
+use std::alloc::Global;
+
+/// What stands for a value that the frame doesn't have.
+const NONE: &str = "-";
+
+/// The line that sums up a frame, with a line feed: its number, its time from the first frame's, source, target, the last
+/// protocol, and its length. The addresses are those of the first IP header, where it has them, else the first ones of
+/// Ethernet; `-` stands for what the frame doesn't have.
+#[tactic(auto, unfolding(crate::specs::Summary::summary_of))]
+pub fn summary_line(alloc: Global, tree: &Tree) -> Result<Vec<u8>, NoMemory>
+    ensures { IfOk result (λ line. line.items ≡ summary_of tree.now) }
+{
+    let mut line = Vec::with_capacity(alloc, LINE_ROOM)?;
+    put_times(alloc, &mut line, tree)?;
+    put_addresses(alloc, &mut line, tree)?;
+    put_protocol(&mut line, tree)?;
+    line.push(b' ')?;
+    put_length(alloc, &mut line, tree)?;
+    line.push(b'\n')?;
+    Ok(line)
+}
+
+#[tactic(auto, unfolding(pk_fields::specs::Fields::row_of, pk_fields::specs::Table::rows))]
+fn put_times(alloc: Global, line: &mut Vec<u8>, tree: &Tree) -> Result<(), NoMemory>
+    ensures { OnOk result (line.new.items ≡ line.old.items ++ times_of tree.now) }
+{
+    put_first(alloc, line, tree, ids::FRAME_NUMBER)?;
+    line.push(b' ')?;
+    put_first(alloc, line, tree, ids::FRAME_TIME_RELATIVE)?;
+    line.push(b' ')?;
+    Ok(())
+}
+
+#[tactic(auto, unfolding(pk_fields::specs::Fields::row_of, pk_fields::specs::Table::rows))]
+fn put_addresses(alloc: Global, line: &mut Vec<u8>, tree: &Tree) -> Result<(), NoMemory>
+    ensures { OnOk result (line.new.items ≡ line.old.items ++ addresses_of tree.now) }
+{
+    put_address(alloc, line, tree, ids::IP_SRC, ids::IPV6_SRC, ids::ETH_SRC)?;
+    put_text(line, " -> ")?;
+    put_address(alloc, line, tree, ids::IP_DST, ids::IPV6_DST, ids::ETH_DST)?;
+    line.push(b' ')?;
+    Ok(())
+}
+
+#[tactic(auto, unfolding(pk_fields::specs::Fields::row_of, pk_fields::specs::Table::rows))]
+fn put_length(alloc: Global, line: &mut Vec<u8>, tree: &Tree) -> Result<(), NoMemory>
+    ensures { OnOk result (line.new.items ≡ line.old.items ++ or_dash (first_in_tree tree.now FRAME_LEN)) }
+{
+    put_first(alloc, line, tree, ids::FRAME_LEN)
+}
+
+/// The first value of a field in a tree.
+#[tactic(auto, using(crate::proofs::ColumnLemmas::tree_values_of_field), unfolding(crate::specs::Summary::first_in_tree))]
+fn put_first(alloc: Global, line: &mut Vec<u8>, tree: &Tree, field: FieldId) -> Result<(), NoMemory>
+    requires { is_proto (row_of field).kind ≡ false }
+    ensures { OnOk result (line.new.items ≡ line.old.items ++ or_dash (first_in_tree tree.now field)) }
+{
+    match first_value(tree.layers(), field) {
+        Some(value) => put_value(alloc, line, field, value),
+        None => put_text(line, NONE),
+    }
+}
+
+fn first_value(layers: &[Layer], field: FieldId) -> Option<&Value>
+    ensures { option_copied result ≡ first_value (flat_map (λ (layer : Layer). item_values field layer.items) layers.now) }
+{
+    for layer in layers {
+        if let Some(value) = first_item(layer.items.slice(), field) {
+            return Some(value);
+        }
+    }
+    None
+}
+
+fn first_item(items: &[Item], field: FieldId) -> Option<&Value>
+    ensures { option_copied result ≡ first_value (item_values field items.now) }
+{
+    for item in items {
+        if item.field == field {
+            return Some(&item.value);
+        }
+    }
+    None
+}
+
+/// An address of the first IP header, in the field of its version, else the first of the link.
+#[tactic(auto, unfolding(crate::specs::Summary::address_in))]
+fn put_address(
+    alloc: Global,
+    line: &mut Vec<u8>,
+    tree: &Tree,
+    four: FieldId,
+    six: FieldId,
+    link: FieldId,
+) -> Result<(), NoMemory>
+    requires { is_proto (row_of link).kind ≡ false }
+    ensures { OnOk result (line.new.items ≡ line.old.items ++ address_in tree.now four six link) }
+{
+    if let Some(layer) = first_ip(tree.layers()) {
+        let field = if layer.proto == ids::IP { four } else { six };
+        if let Some(value) = first_item(layer.items.slice(), field) {
+            return put_value(alloc, line, field, value);
+        }
+    }
+    put_first(alloc, line, tree, link)
+}
+
+fn first_ip(layers: &[Layer]) -> Option<&Layer>
+    ensures { option_copied result ≡ find is_ip_layer layers.now }
+{
+    layers.iter().find(|layer| is_ip(layer))
+}
+
+fn is_ip(layer: &Layer) -> bool
+    ensures { result ≡ is_ip_layer layer.now }
+{
+    layer.proto == ids::IP || layer.proto == ids::IPV6
+}
+
+/// The name of the last protocol.
+#[tactic(auto, unfolding(crate::specs::Summary::protocol_of))]
+fn put_protocol(line: &mut Vec<u8>, tree: &Tree) -> Result<(), NoMemory>
+    ensures { OnOk result (line.new.items ≡ line.old.items ++ protocol_of tree.now) }
+{
+    match last_told(tree.layers()) {
+        Some(layer) => put_text(line, name(layer.proto)),
+        None => put_text(line, NONE),
+    }
+}
+
+fn last_told(layers: &[Layer]) -> Option<&Layer>
+    ensures { option_copied result ≡ last_told layers.now }
+{
+    layers.iter().rev().find(|layer| is_told(layer))
+}
+
+/// Data and faults are no protocols to tell.
+fn is_told(layer: &Layer) -> bool
+    ensures { result ≡ is_told_layer layer.now }
+{
+    !matches!(layer.proto, ids::DATA | ids::WS_SHORT | ids::WS_MALFORMED)
+}

@@ -1,0 +1,6 @@
+pub mod Faults
+pub mod Letters
+pub mod Options
+pub mod Uses
+pub mod Values
+pub mod Words

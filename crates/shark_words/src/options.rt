@@ -1,0 +1,59 @@
+ghost use Rattle.std.specs.Prelude.{◌≡◌};
+
+use pk_base::Octets;
+use std::marker::Model;
+
+/// Where the frames come from.
+#[derive(Drop)]
+pub enum Source {
+    /// The capture file of this name.
+    Named(Octets),
+}
+
+/// What kind of line a frame has.
+#[derive(Clone, Copy, Debug, PartialEq, Eq)]
+pub enum LineKind {
+    /// The values of the named fields.
+    Fields,
+}
+
+/// The names of fields, in the order of the words.
+#[derive(Drop)]
+pub struct NameList {
+    all: Vec<Octets>,
+}
+
+impl Model for NameList {
+    ghost use Rattle.std.specs.Prelude.{ℕ, List};
+
+    ghost Value = { List (List ℕ) };
+
+    ghost view = { λ l. l.all.items };
+}
+
+impl NameList {
+    pub fn from_vec(v: Vec<Octets>) -> NameList
+        ensures { result ≡ v.items }
+    {
+        NameList { all: v }
+    }
+
+    pub fn slice(&self) -> &[Octets]
+        ensures { result.now ≡ self.now }
+    {
+        self.all.as_slice()
+    }
+}
+
+/// What the words ask for.
+#[derive(Drop)]
+pub struct Options {
+    pub source: Source,
+    /// The display filter; none without `-Y`, and for a text of separators alone.
+    pub filter: Option<Octets>,
+    pub kind: LineKind,
+    /// The names after `-e`. Whether there are such fields isn't asked here.
+    pub names: NameList,
+    /// How many frames are read at most.
+    pub most: Option<u32>,
+}

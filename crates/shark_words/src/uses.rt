@@ -1,0 +1,123 @@
+// The uses of options in the words.
+ghost use Rattle.std.specs.Prelude.{◌≡◌, ◌<◌, ◌+◌, ◌-◌, ◌^◌, ◌++◌, ◌∷◌, ℕ, List, Option, IfOk};
+ghost use Rattle.shark_words.specs.Words.{texts};
+ghost use Rattle.shark_words.specs.declared.letter.Letter.{Letter as IsLetter};
+ghost use Rattle.shark_words.specs.declared.uses.Use.{Use as IsUse};
+ghost use Rattle.shark_words.specs.Uses.{uses_at, uses_from, with_value, without_value, uses_of as uses_of_words};
+
+use crate::letter::Letter;
+use pk_base::{NoMemory, Octets};
+use std::alloc::Global;
+
+/// An option's value, and the number of the word that it stands in.
+#[derive(Drop)]
+pub(crate) struct Value {
+    pub(crate) word: u64,
+    pub(crate) text: Octets,
+}
+
+/// An option that is given: the number of its word, and its value, if it has one.
+#[derive(Drop)]
+pub(crate) struct Given {
+    pub(crate) word: u64,
+    pub(crate) letter: Letter,
+    pub(crate) value: Option<Value>,
+}
+
+/// What one or two words are used for.
+#[derive(Drop)]
+pub(crate) enum Use {
+    /// The word of this number is neither an option nor a value.
+    Stray(u64),
+    /// The word of this number is an option that isn't known.
+    Unknown(u64),
+    Given(Given),
+}
+
+impl Use {
+    fn with_value(word: u64, letter: Letter, place: u64, text: Octets) -> Use
+        ensures { result ≡ with_value word letter place text }
+    {
+        Use::Given(Given {
+            word,
+            letter,
+            value: Some(Value { word: place, text }),
+        })
+    }
+
+    fn without_value(word: u64, letter: Letter) -> Use
+        ensures { result ≡ without_value word letter }
+    {
+        Use::Given(Given {
+            word,
+            letter,
+            value: None,
+        })
+    }
+}
+
+// Adds the use of a word that is no option's value. Answers the option whose value the next word is.
+fn take_option(
+    alloc: Global,
+    uses: &mut Vec<Use>,
+    number: u64,
+    word: &[u8],
+) -> Result<Option<Letter>, NoMemory>
+    ensures { IfOk result (λ waiting. (behind : Option IsLetter → List IsUse) →
+        uses.old.items ++ uses_at number word.now behind ≡ uses.new.items ++ behind waiting) }
+{
+    let [b'-', byte, rest @ ..] = word else {
+        uses.push(Use::Stray(number))?;
+        return Ok(None);
+    };
+    let Some(letter) = Letter::of_byte(*byte) else {
+        uses.push(Use::Unknown(number))?;
+        return Ok(None);
+    };
+    if rest.is_empty() {
+        return Ok(Some(letter));
+    }
+    let text = Octets::copy(alloc, rest)?;
+    uses.push(Use::with_value(number, letter, number, text))?;
+    Ok(None)
+}
+
+// Adds the use of the word behind so many others, which is the value of the option that waits for one.
+#[tactic(auto, unfolding(crate::specs::Uses::uses_from))]
+fn take_word(
+    alloc: Global,
+    uses: &mut Vec<Use>,
+    before: u64,
+    waiting: Option<Letter>,
+    word: &[u8],
+) -> Result<Option<Letter>, NoMemory>
+    requires { before < 2 ^ 64 - 1 }
+    ensures { IfOk result (λ next. (words : List (List ℕ)) →
+        uses.old.items ++ uses_from before waiting (word.now ∷ words) ≡ uses.new.items ++ uses_from (before + 1) next words) }
+{
+    let number = before + 1;
+    match waiting {
+        Some(letter) => {
+            let text = Octets::copy(alloc, word)?;
+            uses.push(Use::with_value(before, letter, number, text))?;
+            Ok(None)
+        }
+        None => take_option(alloc, uses, number, word),
+    }
+}
+
+/// What the words are used for, in their order.
+#[tactic(auto, unfolding(crate::specs::Uses::uses_from))]
+pub(crate) fn uses_of(alloc: Global, words: &[String]) -> Result<Vec<Use>, NoMemory>
+    ensures { IfOk result (λ uses. uses.items ≡ uses_of_words (texts words.now)) }
+{
+    let mut uses = Vec::new(alloc);
+    let mut waiting = None;
+    for (before, word) in words.iter().enumerate() {
+        waiting = take_word(alloc, &mut uses, before as u64, waiting, word.as_bytes())?;
+    }
+    if let Some(letter) = waiting {
+        uses.push(Use::without_value(words.len() as u64, letter))?;
+    }
+    Ok(uses)
+}
