@@ -39,9 +39,11 @@ pub goes-on : (frame : Frame) (most : ℕ) (before : State) (t0 : TreeShown) (fi
 goes-on frame most before t0 first left state t now head after t1 todo some is_head goes met = λ es stands.
     let (w, walked, is) = goes es stands in
     let one : going t w.events (todos.Head head) ≡ w =
-        ap (λ (x : Todo). going t w.events x) (sym is_head) ∙ sym (is_walk w state t now walked) in
-    (head_met frame head t w.events, met w.events walked.stands,
-     sym (chain-head frame left t w.events head some) ∙ ap (chain left frame) one ∙ is)
+    ap (λ (x : Todo). going t w.events x) (sym is_head) ∙ sym (is_walk w state t now walked) in (
+      head_met frame head t w.events,
+      met w.events walked.stands,
+      sym (chain-head frame left t w.events head some) ∙ ap (chain left frame) one ∙ is,
+    )
 
 chain-stop : (n : ℕ) (frame : Frame) (t : TreeShown) (es : List Event) → chain n frame (stop t es) ≡ stop t es
 unfolding chain
@@ -55,7 +57,7 @@ goes-done frame most before t0 first left state t now done goes = λ es stands.
     let (w, walked, is) = goes es stands in
     let ended : w ≡ stop t w.events = is_walk w state t now walked ∙ ap (λ (x : Todo). going t w.events x) done in
     let end : w ≡ chain most frame (going t0 es first) =
-        ended ∙ sym (chain-stop left frame t w.events) ∙ ap (chain left frame) (sym ended) ∙ is in
+    ended ∙ sym (chain-stop left frame t w.events) ∙ ap (chain left frame) (sym ended) ∙ is in
     subst (λ (v : Walk). IsWalked v state t todos.Done) end (record { stands = walked.stands; tree = walked.tree; todo = sym done ∙ walked.todo })
 
 pub goes-rest : (frame : Frame) (most : ℕ) (before : State) (t0 : TreeShown) (first : Todo) (left : ℕ) (state : State) (t : TreeShown) (now : Todo) (head : Head) (after : State) (t1 : TreeShown) (todo : Todo)
@@ -67,9 +69,9 @@ goes-rest frame most before t0 first left state t now head after t1 todo none is
     let (w, walked, is) = goes es stands in
     let rest : IsWalked (rest_met t w.events head.span) after t1 todo = met w.events walked.stands in
     let one : going t w.events (todos.Head head) ≡ w =
-        ap (λ (x : Todo). going t w.events x) (sym is_head) ∙ sym (is_walk w state t now walked) in
+    ap (λ (x : Todo). going t w.events x) (sym is_head) ∙ sym (is_walk w state t now walked) in
     let end : rest_met t w.events head.span ≡ chain most frame (going t0 es first) =
-        ap (chain zero frame) one ∙ ap (λ (n : ℕ). chain n frame w) (sym none) ∙ is in
+    ap (chain zero frame) one ∙ ap (λ (n : ℕ). chain n frame w) (sym none) ∙ is in
     subst (λ (v : Walk). IsWalked v after t1 todos.Done) end (record { stands = rest.stands; tree = rest.tree; todo = refl })
 
 -- the first header, and then the others

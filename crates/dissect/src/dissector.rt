@@ -7,15 +7,15 @@ ghost use Rattle.dissect.specs.Times.{IsTime, AreTimes};
 ghost use Rattle.dissect.specs.Trees.{tree_at, walk_of};
 
 use crate::decode::DecodeAs;
+use crate::frame_layer::{begin_tree, captured};
 use crate::state::State;
 use crate::times::Times;
-use crate::frame_layer::{begin_tree, captured};
 use crate::todo::Todo;
 use capture_read::Frame;
 use pk_base::NoMemory;
+use pk_tree::Tree;
 use std::alloc::Global;
 use std::marker::Model;
-use pk_tree::Tree;
 
 /// Why a frame has no tree.
 #[derive(Clone, Copy, Debug, PartialEq, Eq)]

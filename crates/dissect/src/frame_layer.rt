@@ -1,7 +1,7 @@
 ghost use Rattle.std.specs.Prelude.{◌≡◌, ◌+◌, ◌<◌, ◌≤◌, ◌^◌, ◌∷◌, ◌++◌, [], length, Some, None, IfOk, IfSome, OnOk};
-ghost use Rattle.pk_fields.specs.Ids.{FRAME};
+ghost use Rattle.pk_fields.specs.Ids.{FRAME, FRAME_NUMBER, FRAME_LEN, FRAME_CAP_LEN};
 ghost use Rattle.pk_tree.specs.declared.heads.Mode.TheVariants.{Plain};
-ghost use Rattle.pk_tree.specs.Layouts.{StepsFit, layer_read};
+ghost use Rattle.pk_tree.specs.Layouts.{StepFits, StepsFit, layer_read};
 ghost use Rattle.dissect.specs.FrameLayer.{is_cut, frame_span, frame_layout, frame_tree};
 ghost use Rattle.dissect.specs.Times.{IsTime, AreTimes};
 
@@ -42,7 +42,11 @@ pub(crate) fn frame_span(frame: &Frame) -> Span
 
 /// A tree with the layer that tells of the frame itself, given the times of the frames before.
 #[tactic(auto, unfolding(crate::specs::FrameLayer::frame_tree))]
-pub(crate) fn begin_tree(alloc: Global, before: Times, frame: &Frame) -> Result<TreeBuilder, NoMemory>
+pub(crate) fn begin_tree(
+    alloc: Global,
+    before: Times,
+    frame: &Frame,
+) -> Result<TreeBuilder, NoMemory>
     requires bytes { length frame.now.bytes < 2 ^ 32 }
     requires before { AreTimes before }
     requires time { IfSome frame.now.time IsTime }
@@ -67,7 +71,14 @@ fn add_frame(frame: &Frame, steps: &[Step], tree: &mut TreeBuilder) -> Result<()
     ensures buffers { tree.new.buffers ≡ tree.old.buffers }
     ensures most { OnOk result (length tree.new.layers ≤ 2) }
 {
-    read_layer(tree, ids::FRAME, frame_span(frame), steps, Mode::Plain, is_cut(frame))?;
+    read_layer(
+        tree,
+        ids::FRAME,
+        frame_span(frame),
+        steps,
+        Mode::Plain,
+        is_cut(frame),
+    )?;
     Ok(())
 }
 
@@ -82,12 +93,18 @@ fn timed_steps(before: Times, frame: &Frame, time: i128) -> [Step; 6]
     ensures fits { StepsFit FRAME result }
 {
     [
-        number_step(ids::FRAME_NUMBER, frame.number),
+        number(frame),
         Step::Made(ids::FRAME_TIME_EPOCH, Value::Time(time)),
-        Step::Made(ids::FRAME_TIME_RELATIVE, Value::Time(since(before.first, time))),
-        Step::Made(ids::FRAME_TIME_DELTA, Value::Time(since(before.latest, time))),
-        number_step(ids::FRAME_LEN, frame.original),
-        number_step(ids::FRAME_CAP_LEN, captured(frame)),
+        Step::Made(
+            ids::FRAME_TIME_RELATIVE,
+            Value::Time(since(before.first, time)),
+        ),
+        Step::Made(
+            ids::FRAME_TIME_DELTA,
+            Value::Time(since(before.latest, time)),
+        ),
+        wire_length(frame),
+        captured_length(frame),
     ]
 }
 
@@ -99,11 +116,32 @@ fn untimed_steps(before: Times, frame: &Frame) -> [Step; 3]
     ensures layout { result ≡ frame_layout before frame.now }
     ensures fits { StepsFit FRAME result }
 {
-    [
-        number_step(ids::FRAME_NUMBER, frame.number),
-        number_step(ids::FRAME_LEN, frame.original),
-        number_step(ids::FRAME_CAP_LEN, captured(frame)),
-    ]
+    [number(frame), wire_length(frame), captured_length(frame)]
+}
+
+#[tactic(auto, unfolding(pk_fields::specs::Fields::row_of, pk_fields::specs::Table::rows))]
+fn number(frame: &Frame) -> Step
+    ensures step { result ≡ Step.Made FRAME_NUMBER (Value.Uint frame.now.number) }
+    ensures fits { StepFits FRAME result }
+{
+    number_step(ids::FRAME_NUMBER, frame.number)
+}
+
+#[tactic(auto, unfolding(pk_fields::specs::Fields::row_of, pk_fields::specs::Table::rows))]
+fn wire_length(frame: &Frame) -> Step
+    ensures step { result ≡ Step.Made FRAME_LEN (Value.Uint frame.now.original) }
+    ensures fits { StepFits FRAME result }
+{
+    number_step(ids::FRAME_LEN, frame.original)
+}
+
+#[tactic(auto, unfolding(pk_fields::specs::Fields::row_of, pk_fields::specs::Table::rows))]
+fn captured_length(frame: &Frame) -> Step
+    requires { length frame.now.bytes < 2 ^ 32 }
+    ensures step { result ≡ Step.Made FRAME_CAP_LEN (Value.Uint (length frame.now.bytes)) }
+    ensures fits { StepFits FRAME result }
+{
+    number_step(ids::FRAME_CAP_LEN, captured(frame))
 }
 
 fn number_step(field: FieldId, number: u32) -> Step

@@ -1,7 +1,6 @@
 //! Reads a capture's frames into trees, one frame after the other: the frame itself, its headers, and what they carry.
 #![tactic(auto)]
 
-mod walk;
 mod data_layer;
 mod decode;
 mod dissector;
@@ -11,6 +10,7 @@ mod state;
 mod tests;
 mod times;
 mod todo;
+mod walk;
 
 pub use decode::{App, DecodeAs, PortRule, PortRules};
 pub use dissector::{Dissector, TakeFault};

@@ -12,7 +12,9 @@ use crate::todo::{Head, Todo};
 use capture_read::Frame;
 use dis_link::{read_arp, read_link, read_vlan};
 use pk_base::{LAYER_LIMIT, NoMemory, Span};
-use pk_tree::{Address, After, FragmentHead, Mode, Next, PacketHead, PortsHead, TcpHead, TreeBuilder};
+use pk_tree::{
+    Address, After, FragmentHead, Mode, Next, PacketHead, PortsHead, TcpHead, TreeBuilder,
+};
 
 impl State {
     /// Shows the rest as data.

@@ -8,10 +8,10 @@ use Rattle.dissect.proofs.state.State.read_frame.Goals as goal
 pub returns : goal.returns
 returns c = record {
   walked = λ es stands.
-    let frame = c.args.frame.now in
-    let w = link_met frame c.args.tree.now es in
-    let first = c.in_ok-first.ensures.walked es stands in
-    let rest = c.in_ok-chain.ensures.walked w.events first.stands in
-    all-met frame w c.link.new.self c.link.new.tree c.in_ok-first.first c.chain.new.self c.chain.new.tree first
-    (subst (λ (n : ℕ). IsWalked (chain (32 - n) frame (going c.link.new.tree w.events c.in_ok-first.first)) c.chain.new.self c.chain.new.tree todos.Done) c.layer_count-left.ensures rest);
+      let frame = c.args.frame.now in
+      let w = link_met frame c.args.tree.now es in
+      let first = c.in_ok-first.ensures.walked es stands in
+      let rest = c.in_ok-chain.ensures.walked w.events first.stands in
+      all-met frame w c.link.new.self c.link.new.tree c.in_ok-first.first c.chain.new.self c.chain.new.tree first
+      (subst (λ (n : ℕ). IsWalked (chain (32 - n) frame (going c.link.new.tree w.events c.in_ok-first.first)) c.chain.new.self c.chain.new.tree todos.Done) c.layer_count-left.ensures rest);
 }

@@ -1,0 +1,355 @@
+ghost use Rattle.std.specs.Prelude.{◌≡◌, ◌+◌, ◌≤◌, ◌<◌, ◌^◌, length, nat_abs, IfSome, IfOk, OnOk};
+ghost use Rattle.dissect.specs.DecodeRules.{AreRules};
+ghost use Rattle.dissect.specs.Times.{IsTime};
+
+use crate::{App, DecodeAs, Dissector, PortRule, PortRules, TakeFault};
+use capture_read::Frame;
+use pk_base::{NoMemory, Octets};
+use pk_fields::name;
+use pk_tree::{Layer, Tree, Value};
+use std::alloc::{AllocError, Global};
+use std::process::Abort;
+use std::test::Fail;
+
+const ETHERNET: u16 = 1;
+
+const RAW: u16 = 101;
+
+const USB: u16 = 189;
+
+/// From 02:00:00:00:00:01 to everyone.
+const ADDRESSES: &[u8] = b"\xff\xff\xff\xff\xff\xff\x02\0\0\0\0\x01";
+
+/// Who has 10.0.0.2? Tell 10.0.0.1. (RFC 826)
+const REQUEST: &[u8] =
+    b"\0\x01\x08\0\x06\x04\0\x01\x02\0\0\0\0\x01\x0a\0\0\x01\0\0\0\0\0\0\x0a\0\0\x02";
+
+/// The rules that stand for no option.
+#[tactic(auto, using(crate::proofs::NoRules::no_rules))]
+fn no_rules(alloc: Global) -> DecodeAs
+    ensures { AreRules result.rules }
+{
+    DecodeAs {
+        rules: PortRules::from_vec(Vec::new(alloc)),
+    }
+}
+
+/// A layer's name, first byte and size, and its items.
+fn layer_text(alloc: Global, layer: &Layer) -> Result<String, AllocError> {
+    let span = layer.span;
+    let mut text = format!(in alloc; "{} {}+{}:", name(layer.proto), span.start, span.len)?;
+    for item in layer.items.slice() {
+        text.push_str(" ")?;
+        text.push_str(name(item.field))?;
+        text.push_str(&value_text(alloc, &item.value)?)?;
+    }
+    text.push_str("\n")?;
+    Ok(text)
+}
+
+fn value_text(alloc: Global, value: &Value) -> Result<String, AllocError> {
+    match value {
+        Value::Uint(number) => format!(in alloc; "={number}"),
+        Value::Bool(truth) => format!(in alloc; "={truth}"),
+        Value::Ip4(address) => format!(in alloc; "={address}"),
+        Value::Ether(address) => format!(in alloc; "={address:?}"),
+        Value::Bytes(bytes) => format!(in alloc; "={:?}", bytes.bytes()),
+        Value::Time(time) => format!(in alloc; "={time}"),
+        _ => format!(in alloc; "=?"),
+    }
+}
+
+fn tree_text(alloc: Global, tree: &Tree) -> Result<String, AllocError> {
+    let mut text = String::new(alloc);
+    for layer in tree.layers() {
+        text.push_str(&layer_text(alloc, layer)?)?;
+    }
+    Ok(text)
+}
+
+fn joined(alloc: Global, parts: &[&[u8]]) -> Result<Octets, NoMemory> {
+    let mut bytes = Vec::new(alloc);
+    for part in parts {
+        bytes.extend_from_slice(part)?;
+    }
+    Octets::from_vec(bytes)
+}
+
+/// Reads a frame without a time, the first of a capture, and compares its layers, a line for each.
+fn check(
+    rt: &impl Abort,
+    alloc: Global,
+    link: u16,
+    original: u32,
+    parts: &[&[u8]],
+    layers: &[&str],
+) -> Result<(), Fail> {
+    let frame = Frame {
+        number: 1,
+        time: None,
+        link,
+        little: true,
+        bytes: joined(alloc, parts)?,
+        original,
+    };
+    assert!(rt; frame.bytes.bytes().len() <= 1_000);
+    let tree = Dissector::new(alloc, no_rules(alloc)).take(&frame)?;
+    let mut wanted = String::new(alloc);
+    for layer in layers {
+        wanted.push_str(layer)?;
+    }
+    assert_eq!(rt; tree_text(alloc, &tree)?.as_str(), wanted.as_str());
+    Ok(())
+}
+
+#[test]
+fn an_arp_request_is_read_to_its_end(rt: HostRuntime) -> Result<(), Fail> {
+    check(
+        &rt,
+        rt.alloc(),
+        ETHERNET,
+        42,
+        &[ADDRESSES, b"\x08\x06", REQUEST],
+        &[
+            "frame 0+42: frame.number=1 frame.len=42 frame.cap_len=42\n",
+            "eth 0+42: eth.dst=[255, 255, 255, 255, 255, 255] eth.addr=[255, 255, 255, 255, 255, 255] ",
+            "eth.src=[2, 0, 0, 0, 0, 1] eth.addr=[2, 0, 0, 0, 0, 1] eth.type=2054\n",
+            "arp 14+28: arp.hw.type=1 arp.proto.type=2048 arp.hw.size=6 arp.proto.size=4 arp.opcode=1 ",
+            "arp.src.hw_mac=[2, 0, 0, 0, 0, 1] arp.src.proto_ipv4=167772161 ",
+            "arp.dst.hw_mac=[0, 0, 0, 0, 0, 0] arp.dst.proto_ipv4=167772162\n",
+        ],
+    )
+}
+
+#[test]
+fn bytes_that_no_protocol_reads_are_data(rt: HostRuntime) -> Result<(), Fail> {
+    let rt = &rt;
+    check(
+        rt,
+        rt.alloc(),
+        USB,
+        3,
+        &[b"\x01\x02\x03"],
+        &[
+            "frame 0+3: frame.number=1 frame.len=3 frame.cap_len=3\n",
+            "data 0+3: data.data=[1, 2, 3] data.len=3\n",
+        ],
+    )?;
+    check(
+        rt,
+        rt.alloc(),
+        RAW,
+        2,
+        &[b"\x50\x00"],
+        &[
+            "frame 0+2: frame.number=1 frame.len=2 frame.cap_len=2\n",
+            "data 0+2: data.data=[80, 0] data.len=2\n",
+        ],
+    )?;
+    check(
+        rt,
+        rt.alloc(),
+        ETHERNET,
+        14,
+        &[ADDRESSES, b"\x12\x34"],
+        &[
+            "frame 0+14: frame.number=1 frame.len=14 frame.cap_len=14\n",
+            "eth 0+14: eth.dst=[255, 255, 255, 255, 255, 255] eth.addr=[255, 255, 255, 255, 255, 255] ",
+            "eth.src=[2, 0, 0, 0, 0, 1] eth.addr=[2, 0, 0, 0, 0, 1] eth.type=4660\n",
+        ],
+    )
+}
+
+#[test]
+fn a_frame_of_no_bytes_has_one_layer(rt: HostRuntime) -> Result<(), Fail> {
+    check(
+        &rt,
+        rt.alloc(),
+        ETHERNET,
+        60,
+        &[],
+        &["frame 0+0: frame.number=1 frame.len=60 frame.cap_len=0\n"],
+    )
+}
+
+#[test]
+fn a_header_that_ends_early_is_short_where_the_frame_was_cut(rt: HostRuntime) -> Result<(), Fail> {
+    for (original, first, last) in [
+        (
+            60,
+            "frame 0+13: frame.number=1 frame.len=60 frame.cap_len=13\n",
+            "_ws.short 13+0:\n",
+        ),
+        (
+            13,
+            "frame 0+13: frame.number=1 frame.len=13 frame.cap_len=13\n",
+            "_ws.malformed 13+0:\n",
+        ),
+    ] {
+        check(
+            &rt,
+            rt.alloc(),
+            ETHERNET,
+            original,
+            &[ADDRESSES, b"\x08"],
+            &[
+                first,
+                "eth 0+13: eth.dst=[255, 255, 255, 255, 255, 255] eth.addr=[255, 255, 255, 255, 255, 255] ",
+                "eth.src=[2, 0, 0, 0, 0, 1] eth.addr=[2, 0, 0, 0, 0, 1]\n",
+                last,
+            ],
+        )?;
+    }
+    Ok(())
+}
+
+/// A frame of one byte, of nine on the wire.
+fn small_frame(alloc: Global, number: u32, time: Option<i128>) -> Result<Frame, NoMemory>
+    ensures { IfOk result (λ frame. (frame.number ≡ number) × (frame.time ≡ time) × (length frame.bytes ≡ 1)) }
+{
+    Ok(Frame {
+        number,
+        time,
+        link: USB,
+        little: true,
+        bytes: Octets::copy(alloc, &[7])?,
+        original: 9,
+    })
+}
+
+/// Takes a small frame and compares its first layer.
+fn take(
+    rt: &impl Abort,
+    alloc: Global,
+    dissector: &mut Dissector,
+    number: u32,
+    time: Option<i128>,
+    wanted: &str,
+) -> Result<(), Fail>
+    requires number { number ≡ dissector.old.taken + 1 }
+    requires time { IfSome time IsTime }
+    requires captured { dissector.old.captured ≡ dissector.old.taken }
+    requires few { number < 100 }
+    ensures counted { OnOk result ((dissector.new.taken ≡ number) × (dissector.new.captured ≡ number)) }
+{
+    let tree = dissector.take(&small_frame(alloc, number, time)?)?;
+    let mut text = String::new(alloc);
+    if let [first, ..] = tree.layers() {
+        text = layer_text(alloc, first)?;
+    }
+    assert_eq!(rt; text.as_str(), wanted);
+    Ok(())
+}
+
+#[test]
+fn times_are_told_from_the_first_and_the_latest_that_are_there(
+    rt: HostRuntime,
+) -> Result<(), Fail> {
+    let alloc = rt.alloc();
+    let mut dissector = Dissector::new(alloc, no_rules(alloc));
+    take(
+        &rt,
+        alloc,
+        &mut dissector,
+        1,
+        None,
+        "frame 0+1: frame.number=1 frame.len=9 frame.cap_len=1\n",
+    )?;
+    take(
+        &rt,
+        alloc,
+        &mut dissector,
+        2,
+        Some(5_000_000_000),
+        "frame 0+1: frame.number=2 frame.time_epoch=5000000000 frame.time_relative=0 \
+        frame.time_delta=0 frame.len=9 frame.cap_len=1\n",
+    )?;
+    take(
+        &rt,
+        alloc,
+        &mut dissector,
+        3,
+        Some(3_000_000_000),
+        "frame 0+1: frame.number=3 frame.time_epoch=3000000000 frame.time_relative=-2000000000 \
+        frame.time_delta=-2000000000 frame.len=9 frame.cap_len=1\n",
+    )?;
+    take(
+        &rt,
+        alloc,
+        &mut dissector,
+        4,
+        None,
+        "frame 0+1: frame.number=4 frame.len=9 frame.cap_len=1\n",
+    )?;
+    take(
+        &rt,
+        alloc,
+        &mut dissector,
+        5,
+        Some(6_000_000_000),
+        "frame 0+1: frame.number=5 frame.time_epoch=6000000000 frame.time_relative=1000000000 \
+        frame.time_delta=3000000000 frame.len=9 frame.cap_len=1\n",
+    )
+}
+
+/// The layers of a frame with so many VLAN tags, each of which announces another (IEEE 802.1Q, 9.3).
+fn tagged(
+    rt: &impl Abort,
+    alloc: Global,
+    tags: usize,
+    layers: usize,
+    last: &str,
+) -> Result<(), Fail>
+    requires { tags ≤ 100 }
+{
+    let mut bytes = Vec::new(alloc);
+    bytes.extend_from_slice(ADDRESSES)?;
+    bytes.extend_from_slice(b"\x81\0")?;
+    for _ in 0..tags {
+        bytes.extend_from_slice(b"\0\x01\x81\0")?;
+    }
+    assert!(rt; bytes.len() <= 1_000);
+    let frame = Frame {
+        number: 1,
+        time: None,
+        link: ETHERNET,
+        little: true,
+        original: 1_000,
+        bytes: Octets::from_vec(bytes)?,
+    };
+    let tree = Dissector::new(alloc, no_rules(alloc)).take(&frame)?;
+    assert_eq!(rt; tree.layers().len(), layers);
+    let mut text = String::new(alloc);
+    for layer in tree.layers() {
+        text = format!(in alloc;
+            "{} {} {}+{}",
+            name(layer.proto),
+            layer.nth,
+            layer.span.start,
+            layer.span.len
+        )?;
+    }
+    assert_eq!(rt; text.as_str(), last);
+    Ok(())
+}
+
+#[test]
+fn behind_32_layers_all_is_data(rt: HostRuntime) -> Result<(), Fail> {
+    let rt = &rt;
+    tagged(rt, rt.alloc(), 2, 4, "vlan 2 18+4")?;
+    tagged(rt, rt.alloc(), 30, 32, "vlan 30 130+4")?;
+    tagged(rt, rt.alloc(), 31, 33, "data 1 134+4")?;
+    tagged(rt, rt.alloc(), 40, 33, "data 1 134+40")
+}
+
+#[test]
+fn rules_are_kept_as_they_are_named(rt: HostRuntime) -> Result<(), Fail> {
+    let rule = PortRule {
+        tcp: true,
+        port: 8000,
+        app: App::Http,
+    };
+    let rules = PortRules::from_vec([rule].to_vec(rt.alloc())?);
+    assert_eq!(rt; rules.slice(), [rule].as_slice());
+    Ok(())
+}
