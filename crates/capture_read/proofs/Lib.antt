@@ -1,4 +1,7 @@
 mod FormatSteps
+pub mod FrameBounds
 mod KnownBlocks
 pub mod Limit
+mod PieceBounds
 mod PieceSteps
+mod SmallTimes

@@ -1,5 +1,6 @@
 ghost use Rattle.std.specs.Prelude.{◌≡◌, MatchResult};
 ghost use Rattle.capture_read.specs.Capture.{capture_of};
+ghost use Rattle.capture_read.specs.FrameList.{AreTimesSmall};
 ghost use Rattle.capture_read.specs.NextFrame.{Gives};
 
 use crate::format::{Format, Place};
@@ -35,7 +36,8 @@ impl Model for HeldFrames {
 impl HeldFrames {
     /// Begins before the first frame of a file. At most its first 2^28 bytes are looked at.
     pub fn new(alloc: Global, file: Octets) -> HeldFrames
-        ensures { result ≡ capture_of file }
+        ensures value { result ≡ capture_of file }
+        ensures times { AreTimesSmall result.frames }
     {
         let (format, place) = first_place(file.bytes());
         HeldFrames {

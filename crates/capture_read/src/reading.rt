@@ -1,5 +1,6 @@
 ghost use Rattle.std.specs.Prelude.{◌≡◌, IfOk};
 ghost use Rattle.capture_read.specs.Capture.{capture_of};
+ghost use Rattle.capture_read.specs.FrameList.{AreTimesSmall};
 
 use crate::ending::Ending;
 use crate::frame_list::FrameList;
@@ -13,6 +14,7 @@ use std::alloc::Global;
 pub fn frames(alloc: Global, bytes: &[u8]) -> Result<(FrameList, Ending), NoMemory>
     ensures frames { IfOk result (λ r. r.0 ≡ (capture_of bytes.now).frames) }
     ensures ending { IfOk result (λ r. r.1 ≡ (capture_of bytes.now).ending) }
+    ensures times { IfOk result (λ r. AreTimesSmall r.0) }
 {
     let mut held = HeldFrames::new(alloc, Octets::copy(alloc, telling_bytes(bytes))?);
     let mut list = Vec::new(alloc);

@@ -1,6 +1,7 @@
 ghost use Rattle.std.specs.Prelude.{◌≡◌, ◌≤◌, ◌+◌, length, drop, [], IfOk, OnErr};
 ghost use Rattle.pcapng_read.specs.Sections.{scope_of};
 ghost use Rattle.capture_read.specs.Capture.{capture_of, frame_of, held_part, is_pcapng};
+ghost use Rattle.capture_read.specs.FrameList.{AreTimesSmall};
 ghost use Rattle.capture_read.specs.NextFrame.{Gives};
 ghost use Rattle.capture_read.specs.State.{rest_of, IsReached};
 
@@ -25,6 +26,7 @@ const PCAPNG_MARK: [u8; 4] = [0x0A, 0x0D, 0x0D, 0x0A];
 pub fn first_place(file: &[u8]) -> (Format, Place)
     ensures value { rest_of file.now result.0 (scope_of []) result.1 ≡ capture_of file.now }
     ensures reached { IsReached file.now result.0 (scope_of []) result.1 }
+    ensures times { AreTimesSmall (capture_of file.now).frames }
 {
     let held = held_bytes(file);
     if begins_pcapng(held) {

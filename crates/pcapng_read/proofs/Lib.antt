@@ -1,5 +1,6 @@
 pub mod FirstSection
 pub mod Known
+pub mod Numbers
 pub mod OptionList
 pub mod Powers
 pub mod Within
