@@ -181,7 +181,11 @@ fn follow(after: After, how: How, b: &mut TreeBuilder) -> Result<After, NoMemory
     }
 }
 
-fn part(start: u32, len: u32) -> Span {
+fn part(start: u32, len: u32) -> Span
+    ensures buffer { result.buffer ≡ 0 }
+    ensures start { result.start ≡ start }
+    ensures len { result.len ≡ len }
+{
     Span {
         buffer: 0,
         start,
