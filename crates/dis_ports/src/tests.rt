@@ -27,6 +27,9 @@ const QUERY_ITEMS: [&str; 6] = [
     " udp.checksum=48879",
 ];
 
+const QUERY_TEXT: &str =
+    " udp.srcport=53124 udp.port=53124 udp.dstport=53 udp.port=53 udp.length=12 udp.checksum=48879\n";
+
 /// Where the rows of a UDP header end.
 const QUERY_ENDS: [usize; 6] = [2, 2, 4, 4, 6, 8];
 
@@ -209,13 +212,12 @@ const QUOTED_TCP: (Transport, Mode, bool) = (Transport::Tcp, Mode::Embedded, tru
 
 #[test]
 fn a_udp_header_hands_its_datagram_on(rt: HostRuntime) -> Result<(), NoMemory> {
-    let items = items_within(rt.alloc(), &QUERY_ITEMS, &QUERY_ENDS, 8)?;
     check(
         &rt,
         rt.alloc(),
         UDP,
         &[&QUERY],
-        &["udp 0+12:", items.as_str(), "\n"],
+        &["udp 0+12:", QUERY_TEXT],
         After::Datagram(QUERY_PORTS, span(8, 4)),
     )
 }
@@ -297,22 +299,30 @@ fn a_udp_header_cut_anywhere_has_the_items_that_fit(rt: HostRuntime) -> Result<(
 }
 
 #[test]
-fn what_an_embedded_header_carries_is_data(rt: HostRuntime) -> Result<(), NoMemory> {
-    let query = items_within(rt.alloc(), &QUERY_ITEMS, &QUERY_ENDS, 8)?;
-    for (len, layer, after) in [
-        (12, "udp 0+12:", After::Next(Next::Rest, span(8, 4))),
-        (9, "udp 0+9:", After::Next(Next::Rest, span(8, 1))),
-        (8, "udp 0+8:", After::End),
+fn what_an_embedded_udp_header_carries_is_data(rt: HostRuntime) -> Result<(), NoMemory> {
+    for (bytes, layer, after) in [
+        (
+            QUERY.as_slice(),
+            "udp 0+12:",
+            After::Next(Next::Rest, span(8, 4)),
+        ),
+        (&QUERY[..9], "udp 0+9:", After::Next(Next::Rest, span(8, 1))),
+        (&QUERY[..8], "udp 0+8:", After::End),
     ] {
         check(
             &rt,
             rt.alloc(),
             QUOTED_UDP,
-            &[&QUERY[..len]],
-            &[layer, query.as_str(), "\n"],
+            &[bytes],
+            &[layer, QUERY_TEXT],
             after,
         )?;
     }
+    Ok(())
+}
+
+#[test]
+fn what_an_embedded_tcp_header_carries_is_data(rt: HostRuntime) -> Result<(), NoMemory> {
     for (rest, layer, after) in [
         (
             b"\x01\x02\x03".as_slice(),
@@ -545,25 +555,31 @@ fn options_of_other_kinds_and_lengths_have_no_values(rt: HostRuntime) -> Result<
 
 #[test]
 fn a_sack_option_has_one_to_four_blocks(rt: HostRuntime) -> Result<(), NoMemory> {
-    let blocks =
-        b"\0\0\0\x01\0\0\0\x02\0\0\0\x03\0\0\0\x04\0\0\0\x05\0\0\0\x06\0\0\0\x07\xff\xff\xff\xff".as_slice();
-    let edges = [
-        " tcp.options.sack_le=1 tcp.options.sack_re=2",
-        " tcp.options.sack_le=3 tcp.options.sack_re=4",
-        " tcp.options.sack_le=5 tcp.options.sack_re=6",
-        " tcp.options.sack_le=7 tcp.options.sack_re=4294967295",
-    ];
-    let mut items = String::new(rt.alloc());
-    for (block, count) in edges.iter().zip(1..5u8) {
-        items.push_str(block)?;
-        let mut options = [1, 1, 5, 2 + 8 * count].to_vec(rt.alloc())?;
-        options.extend_from_slice(&blocks[..8 * usize::from(count)])?;
-        let text = format!(in rt.alloc();
-            " tcp.option_kind=1 tcp.option_kind=1 tcp.option_kind=5 tcp.option_len={}{}",
-            2 + 8 * count,
-            items.as_str()
-        )?;
-        check_options(&rt, rt.alloc(), &options, text.as_str())?;
+    for (options, items) in [
+        (
+            b"\x05\x0a\0\0\0\x01\0\0\0\x02\x01\x01".as_slice(),
+            " tcp.option_kind=5 tcp.option_len=10 tcp.options.sack_le=1 tcp.options.sack_re=2 \
+            tcp.option_kind=1 tcp.option_kind=1",
+        ),
+        (
+            b"\x01\x01\x05\x12\0\0\0\x01\0\0\0\x02\0\0\0\x03\xff\xff\xff\xff",
+            " tcp.option_kind=1 tcp.option_kind=1 tcp.option_kind=5 tcp.option_len=18 \
+            tcp.options.sack_le=1 tcp.options.sack_re=2 tcp.options.sack_le=3 tcp.options.sack_re=4294967295",
+        ),
+        (
+            b"\x01\x01\x05\x1a\0\0\0\x01\0\0\0\x02\0\0\0\x03\0\0\0\x04\0\0\0\x05\0\0\0\x06",
+            " tcp.option_kind=1 tcp.option_kind=1 tcp.option_kind=5 tcp.option_len=26 \
+            tcp.options.sack_le=1 tcp.options.sack_re=2 tcp.options.sack_le=3 tcp.options.sack_re=4 \
+            tcp.options.sack_le=5 tcp.options.sack_re=6",
+        ),
+        (
+            b"\x01\x01\x05\x22\0\0\0\x01\0\0\0\x02\0\0\0\x03\0\0\0\x04\0\0\0\x05\0\0\0\x06\0\0\0\x07\0\0\0\x08",
+            " tcp.option_kind=1 tcp.option_kind=1 tcp.option_kind=5 tcp.option_len=34 \
+            tcp.options.sack_le=1 tcp.options.sack_re=2 tcp.options.sack_le=3 tcp.options.sack_re=4 \
+            tcp.options.sack_le=5 tcp.options.sack_re=6 tcp.options.sack_le=7 tcp.options.sack_re=8",
+        ),
+    ] {
+        check_options(&rt, rt.alloc(), options, items)?;
     }
     Ok(())
 }
