@@ -1,3 +1,4 @@
+pub mod Carries
 pub mod Tcp
 pub mod TcpOptions
 pub mod Udp

@@ -30,7 +30,8 @@ use Rattle.pk_tree.specs.declared.layout.Reach.TheVariants.{All, Short, Failed}
 use Rattle.pk_tree.specs.declared.layout.Step.{Step}
 use Rattle.pk_tree.specs.declared.layout.Step.TheVariants.{Row, Part, Check}
 use Rattle.pk_tree.specs.Following.{carried}
-use Rattle.pk_tree.specs.Layouts.{peeked, reach, within}
+use Rattle.pk_tree.specs.Layouts.{peeked, reach}
+use Rattle.dis_ports.specs.Carries.{payload}
 use Rattle.dis_ports.specs.TcpOptions.{tcp_options}
 
 -- the header's bytes, options among them
@@ -65,7 +66,7 @@ tcp_rows bytes =
 unfoldable pub tcp_layout : List ℕ → List Step
 tcp_layout bytes = tcp_rows bytes ++ (tcp_options (take (header_len bytes) bytes)).steps
 
--- a flag of the header's second last byte .. by its place among the header's bits
+-- what the streams need of a header; the acknowledgment number counts where ACK is set
 abbrev pub tcp_head : List ℕ → TcpHead
 tcp_head bytes = record {
   source = peeked bytes 0 16;
@@ -79,7 +80,7 @@ tcp_head bytes = record {
 -- what follows a header of so many bytes that was read so far; what an embedded packet carries belongs to no conversation
 -- and is data
 abbrev pub tcp_carries : Reach → Mode → TcpHead → ℕ → Span → After
-tcp_carries All Plain head header span = afters.Segment head (within span header (span.len - header))
+tcp_carries All Plain head header span = afters.Segment head (payload span header)
 tcp_carries All Embedded head header span = carried Rest span header
 tcp_carries Short mode head header span = afters.End
 tcp_carries Failed mode head header span = afters.End

@@ -1,8 +1,12 @@
-//! The headers of the transport layer, which name ports: UDP and TCP.
+//! The headers of the transport layer, which name ports: UDP and TCP. A reader that finds no memory leaves its layer
+//! unfinished, and the tree is given up.
 #![tactic(auto)]
 
+mod carries;
 mod tcp;
 mod tcp_options;
+#[cfg(test)]
+mod tests;
 mod udp;
 
 pub use tcp::read_tcp;

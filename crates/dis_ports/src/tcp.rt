@@ -7,19 +7,19 @@ ghost use Rattle.pk_tree.specs.Trees.{last_proto};
 ghost use Rattle.dis_ports.specs.Tcp.{header_len, tcp_after, tcp_carries, tcp_head, tcp_layout, tcp_rows};
 ghost use Rattle.dis_ports.specs.TcpOptions.{tcp_options};
 
-use crate::tcp_options::push_options;
+use crate::carries::payload;
+use crate::tcp_options::{FIXED, push_options};
 use pk_base::{NoMemory, Span};
 use pk_fields::ids;
 use pk_tree::{After, Mode, Next, Reach, Step, TcpHead, TreeBuilder, carried, peek, read_layer};
 use std::alloc::Global;
 
-/// The bytes of a header before its options.
-const FIXED: usize = 20;
-/// The rows and conditions of these.
+/// The rows and conditions before the options.
 const ROWS: usize = 21;
 
-/// Reads a TCP header with its options (RFC 9293, 3.1). What it carries is handed on also where it is no byte; in an embedded
-/// packet it is data.
+/// Reads a TCP header with its options (RFC 9293, 3.1). Behind a whole header comes its segment, also where it has no
+/// bytes; in an embedded packet the bytes are data. Nothing follows a header that can't be read whole. `cut` says that
+/// the frame was captured only in part.
 #[tactic(auto, unfolding(crate::specs::Tcp::tcp_after))]
 pub fn read_tcp(span: Span, cut: bool, mode: Mode, b: &mut TreeBuilder) -> Result<After, NoMemory>
     requires inside { IsInside b.old.buffers span }
@@ -146,14 +146,7 @@ fn tcp_carries(reach: Reach, mode: Mode, head: TcpHead, header: u32, span: Span)
 {
     match reach {
         Reach::All => match mode {
-            Mode::Plain => After::Segment(
-                head,
-                Span {
-                    buffer: span.buffer,
-                    start: span.start + header,
-                    len: span.len - header,
-                },
-            ),
+            Mode::Plain => After::Segment(head, payload(span, header)),
             Mode::Embedded => carried(Next::Rest, span, header),
         },
         Reach::Short | Reach::Failed => After::End,

@@ -7,7 +7,7 @@ use pk_fields::ids;
 use pk_tree::Step;
 
 /// The bytes of a header before its options.
-const FIXED: usize = 20;
+pub(crate) const FIXED: usize = 20;
 /// The most options that a header has room for.
 const MOST_OPTIONS: u32 = 40;
 
@@ -26,6 +26,8 @@ const SACK: u8 = 5;
 
 const TIMESTAMPS: u8 = 8;
 
+/// The bytes of an option's kind and length.
+const HEAD: usize = 2;
 /// The bytes of a SACK option's block.
 const BLOCK: usize = 8;
 
@@ -92,7 +94,7 @@ fn push_with_length(
     ensures { IfOk result (Adds steps.old.items steps.new.items (option_with_length kind len at end)) }
 {
     let left = end - at;
-    if len < 2 || left < len {
+    if len < HEAD || left < len {
         steps.push(Step::Part(ids::TCP_OPTIONS_BAD, at, left))?;
         return Ok(None);
     }
@@ -112,7 +114,7 @@ fn push_data(steps: &mut Vec<Step>, kind: u8, len: usize, at: usize) -> Result<(
         (MAXIMUM_SEGMENT_SIZE, 4) => steps.push(Step::Row(ids::TCP_OPTIONS_MSS_VAL, at + 2))?,
         (WINDOW_SCALE, 3) => steps.push(Step::Row(ids::TCP_OPTIONS_WSCALE_SHIFT, at + 2))?,
         (SACK_PERMITTED, 2) => steps.push(Step::Part(ids::TCP_OPTIONS_SACK_PERM, at, 2))?,
-        (SACK, _) if len % BLOCK == 2 => push_blocks(steps, len / BLOCK, at + 2)?,
+        (SACK, _) if len % BLOCK == HEAD => push_blocks(steps, len / BLOCK, at + 2)?,
         (TIMESTAMPS, 10) => {
             steps.push(Step::Row(ids::TCP_OPTIONS_TIMESTAMP_TSVAL, at + 2))?;
             steps.push(Step::Row(ids::TCP_OPTIONS_TIMESTAMP_TSECR, at + 6))?;

@@ -6,6 +6,7 @@ ghost use Rattle.pk_tree.specs.Layouts.{layer_read, reach};
 ghost use Rattle.pk_tree.specs.Trees.{last_proto};
 ghost use Rattle.dis_ports.specs.Udp.{is_udp_length, udp_after, udp_carries, udp_layout, udp_ports, udp_span};
 
+use crate::carries::payload;
 use pk_base::{NoMemory, Span};
 use pk_fields::ids;
 use pk_tree::{
@@ -15,8 +16,9 @@ use pk_tree::{
 /// The bytes of a UDP header.
 const HEADER: u32 = 8;
 
-/// Reads a UDP header (RFC 768). Its length ends the layer. What it carries is handed on also where it is no byte; in an
-/// embedded packet it is data.
+/// Reads a UDP header (RFC 768), whose length ends the layer. Behind a whole header comes its datagram, also where it has
+/// no bytes; in an embedded packet the bytes are data. Nothing follows a header that can't be read whole. `cut` says that
+/// the frame was captured only in part.
 #[tactic(auto, unfolding(crate::specs::Udp::udp_layout, crate::specs::Udp::udp_after, pk_tree::specs::Layouts::StepsFit, pk_fields::specs::Fields::row_of, pk_fields::specs::Table::rows))]
 pub fn read_udp(span: Span, cut: bool, mode: Mode, b: &mut TreeBuilder) -> Result<After, NoMemory>
     requires inside { IsInside b.old.buffers span }
@@ -93,14 +95,7 @@ fn udp_carries(reach: Reach, mode: Mode, ports: PortsHead, span: Span) -> After
 {
     match reach {
         Reach::All => match mode {
-            Mode::Plain => After::Datagram(
-                ports,
-                Span {
-                    buffer: span.buffer,
-                    start: span.start + HEADER,
-                    len: span.len - HEADER,
-                },
-            ),
+            Mode::Plain => After::Datagram(ports, payload(span, HEADER)),
             Mode::Embedded => carried(Next::Rest, span, HEADER),
         },
         Reach::Short | Reach::Failed => After::End,
