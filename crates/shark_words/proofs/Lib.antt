@@ -1,2 +1,3 @@
 mod Examples
+mod Spelling
 mod Utf8Lemmas
