@@ -1,6 +1,9 @@
 mod FileLemmas
 mod FilterLemmas
+mod FrontLemmas
 mod OutputLemmas
 mod ReadingLemmas
-mod ToldLemmas
+mod RuleLemmas
+mod TakeableLemmas
 mod WordLemmas
+mod ToldLemmas

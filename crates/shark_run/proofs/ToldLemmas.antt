@@ -1,16 +1,76 @@
 -- What standard error is told.
-use Rattle.std.proofs.Common.{ℕ, List, Option, None, Some, Result, refl}
-use Rattle.std.specs.Io.KnownBytes.{Keeps}
+use Rattle.std.proofs.Common.{◌≡◌, ℕ, List, [], Option, None, Some, Result, Ok, Err, refl, sym, subst}
+use Rattle.std.specs.Prelude.{IfSome}
+use Rattle.std.specs.Io.KnownBytes.{Appends}
+use Rattle.std.proofs.KnownBytes.{Appends-nil}
+use Rattle.pk_outside.specs.Outside.{AppendsPart}
+use Rattle.pk_outside.proofs.Parts.{part_none}
+use Rattle.capture_read.specs.declared.ending.Ending.{Ending}
+use Rattle.capture_read.specs.declared.ending.Ending.TheVariants as ending
+use Rattle.shark_run.specs.declared.outcome.Outcome.{Outcome}
+use Rattle.shark_run.specs.declared.outcome.Outcome.TheVariants as outcome
 use Rattle.shark_run.specs.declared.plan.Plan.{Plan}
 use Rattle.shark_run.specs.declared.plan.Refused.{Refused}
+use Rattle.shark_run.specs.declared.plan.Refused.TheVariants as refused
 use Rattle.shark_run.specs.declared.status.Status.{Status}
-use Rattle.shark_run.specs.Statuses.{Told}
+use Rattle.shark_run.specs.declared.status.Status.TheVariants as status
+use Rattle.shark_run.specs.FaultTexts.{refusal_text, ending_text, outcome_text, EndsSo, IsFaultText, Told, ToldWhole}
+use Rattle.shark_run.specs.Outcomes.{outcome_status, IfEnded}
+use Rattle.shark_run.specs.Reading.{file_of, frames_read}
+use Rattle.shark_run.specs.Statuses.{refusal_status}
 
-keeps_itself : (a : Option (List ℕ)) → Keeps a a
-keeps_itself None = tt
-keeps_itself (Some bytes) = refl
-
--- nothing is written to it
-pub told_nothing : (plan : Result Plan Refused) (files : List ℕ → Option (List ℕ)) (status : Status) (a : Option (List ℕ)) → Told plan files status a a
+pub told : (plan : Result Plan Refused) (files : List ℕ → Option (List ℕ)) (answer : Status) (text : List ℕ) (old new : Option (List ℕ)) →
+    IsFaultText plan files answer text → AppendsPart old new text → Told plan files answer old new
 unfolding Told
-told_nothing plan files status a = keeps_itself a
+told plan files answer text old new is part = (text, is, part)
+
+pub told_whole : (plan : Result Plan Refused) (files : List ℕ → Option (List ℕ)) (answer : Status) (text : List ℕ) (old new : Option (List ℕ)) →
+    IsFaultText plan files answer text → Appends old new text → ToldWhole plan files answer old new
+unfolding ToldWhole
+told_whole plan files answer text old new is whole = (text, is, whole)
+
+-- for want of memory nothing is told
+pub told_nothing : (plan : Result Plan Refused) (files : List ℕ → Option (List ℕ)) (a : Option (List ℕ)) → Told plan files status.NoMemory a a
+told_nothing plan files a = told plan files status.NoMemory [] a a refl (part_none a [])
+
+pub whole_nothing : (plan : Result Plan Refused) (files : List ℕ → Option (List ℕ)) (a : Option (List ℕ)) → ToldWhole plan files status.NoMemory a a
+whole_nothing plan files a = told_whole plan files status.NoMemory [] a a refl (Appends-nil a)
+
+refusal_as_told : (refused : Refused) (files : List ℕ → Option (List ℕ)) (text : List ℕ) → text ≡ refusal_text refused
+    → IsFaultText (Err refused) files (refusal_status refused) text
+refusal_as_told (refused.Words fault) files text is = is
+refusal_as_told refused.Filter files text is = is
+refusal_as_told (refused.Field name) files text is = is
+
+pub refusal_told : (refused : Refused) (files : List ℕ → Option (List ℕ)) (answer : Status) (text : List ℕ) → answer ≡ refusal_status refused
+    → text ≡ refusal_text refused → IsFaultText (Err refused) files answer text
+refusal_told refused files answer text same is =
+    subst (λ (a : Status). IsFaultText (Err refused) files a text) (sym same) (refusal_as_told refused files text is)
+
+second : (file : Option (List ℕ)) (W P : List ℕ → Type 0) → IfSome file (λ f. W f × P f) → IfSome file P
+second None W P both = tt
+second (Some file) W P both = both.1
+
+outcome_as_told : (plan : Plan) (files : List ℕ → Option (List ℕ)) (o : Outcome) (text : List ℕ) (W : List ℕ → Type 0) → text ≡ outcome_text plan o
+    → IfEnded o (λ end. IfSome (file_of plan files) (λ file. W file × (end ≡ (frames_read plan file).ending)))
+    → IsFaultText (Ok plan) files (outcome_status o) text
+unfolding outcome_text ending_text
+outcome_as_told plan files (outcome.Ended ending.Whole) text W is ended = is
+outcome_as_told plan files (outcome.Ended (ending.Damaged damage)) text W is ended = record {
+  ending = ending.Damaged damage;
+  status = refl;
+  read = second (file_of plan files) W (λ file. ending.Damaged damage ≡ (frames_read plan file).ending) ended;
+  text = is;
+}
+outcome_as_told plan files (outcome.Ended ending.TooLarge) text W is ended = is
+outcome_as_told plan files outcome.CannotOpen text W is ended = is
+outcome_as_told plan files outcome.ReadFault text W is ended = is
+outcome_as_told plan files outcome.WriteFault text W is ended = is
+outcome_as_told plan files outcome.NoMemory text W is ended = is
+
+pub outcome_told : (plan : Plan) (files : List ℕ → Option (List ℕ)) (o : Outcome) (answer : Status) (text : List ℕ) (W : List ℕ → Type 0) →
+    answer ≡ outcome_status o → text ≡ outcome_text plan o
+    → IfEnded o (λ end. IfSome (file_of plan files) (λ file. W file × (end ≡ (frames_read plan file).ending)))
+    → IsFaultText (Ok plan) files answer text
+outcome_told plan files o answer text W same is ended =
+    subst (λ (a : Status). IsFaultText (Ok plan) files a text) (sym same) (outcome_as_told plan files o text W is ended)

@@ -1,7 +1,10 @@
 pub mod Causes
+pub mod FaultTexts
 pub mod Filter
 pub mod Lines
+pub mod Outcomes
 pub mod Plan
 pub mod Reading
 pub mod Statuses
+pub mod Takeable
 pub mod Wrote

@@ -1,87 +1,88 @@
--- What a list of words asks for: `-r NAME`, then `-Y FILTER` or nothing, then `-T fields`, then `-e NAME` once or more.
-use Rattle.std.specs.Prelude.{◌≡◌, ℕ, String, string_bytes, map, nat_lt, ◌&&◌, List, [], ◌∷◌, length, codes, Option, Some, None, Result, Ok, Err, option_map, option_and_then, if◌then◌else◌}
-use Rattle.std.specs.Str.{bytes_eq}
-use Rattle.shark_run.specs.declared.plan.Field.{Field}
-use Rattle.shark_run.specs.declared.plan.Field.TheVariants.{FrameNumber, EtherType}
+-- What a list of words asks for: its options, then the filter's test, then the fields of its names.
+use Rattle.std.specs.Prelude.{◌≡◌, ℕ, nat_lt, List, [], ◌∷◌, length, Option, Some, None, Result, Ok, Err, if◌then◌else◌}
+use Rattle.pk_fields.specs.Fields.{field_named}
+use Rattle.shark_words.specs.declared.fault.WordFault.{WordFault}
+use Rattle.shark_words.specs.declared.options.Options.{Options}
+use Rattle.shark_words.specs.declared.options.Source.{Source}
+use Rattle.shark_words.specs.declared.options.Source.TheVariants.{Named}
+use Rattle.shark_words.specs.Options.{options_of}
+use Rattle.shark_run.specs.declared.filter.Test.{Test}
 use Rattle.shark_run.specs.declared.plan.Plan.{Plan}
 use Rattle.shark_run.specs.declared.plan.Refused.{Refused}
 use Rattle.shark_run.specs.declared.plan.Refused.TheVariants as refused
 use Rattle.shark_run.specs.declared.plan.PlanError.{PlanError}
 use Rattle.shark_run.specs.declared.plan.PlanError.TheVariants as error
-use Rattle.shark_run.specs.Filter.{is_nothing, after_separators, compared_number}
+use Rattle.shark_run.specs.Filter.{after_separators, test_of}
 
 -- the longest text of a filter, in bytes
 abbrev pub longest_filter : ℕ
 longest_filter = 4096
 
--- the field of a name
-abbrev pub field_named : List ℕ → Option Field
-field_named name =
-    if bytes_eq name (codes "frame.number") then Some FrameNumber
-    else if bytes_eq name (codes "eth.type") then Some EtherType
-    else None
+abbrev pub tested : Option Test → Result Test Refused
+tested None = Err refused.Filter
+tested (Some test) = Ok test
 
--- the fields of words of the form `-e NAME`, again and again
-abbrev pub fields_named : List (List ℕ) → Option (List Field)
-fields_named [] = Some []
-fields_named (option ∷ []) = None
-fields_named (option ∷ name ∷ words) =
-    if bytes_eq option (codes "-e")
-    then option_and_then (λ field. option_map (λ fields. field ∷ fields) (fields_named words)) (field_named name)
-    else None
+-- the test of a filter's text
+unfoldable pub filter_read : List ℕ → Result Test Refused
+filter_read text = if nat_lt longest_filter (length text) then Err refused.Filter else tested (test_of (after_separators text))
 
--- the fields, from `-T fields` on
-abbrev pub fields_asked : List (List ℕ) → Option (List Field)
-fields_asked (option ∷ kind ∷ words) =
-    if bytes_eq option (codes "-T") && (bytes_eq kind (codes "fields") && nat_lt 0 (length words))
-    then fields_named words else None
-fields_asked words = None
+-- the same where there may be no filter
+abbrev pub some_test : Result Test Refused → Result (Option Test) Refused
+some_test (Err refused) = Err refused
+some_test (Ok test) = Ok (Some test)
 
--- the number that a filter compares `eth.type` with, or none for a filter of separators alone
-abbrev pub compared : Option ℕ → Result (Option ℕ) Refused
-compared None = Err refused.Filter
-compared (Some n) = Ok (Some n)
+abbrev pub filter_asked : Option (List ℕ) → Result (Option Test) Refused
+filter_asked None = Ok None
+filter_asked (Some text) = some_test (filter_read text)
 
-unfoldable pub filter_read : List ℕ → Result (Option ℕ) Refused
-filter_read text =
-    if is_nothing (after_separators text) then Ok None
-    else if nat_lt longest_filter (length text) then Err refused.Filter
-    else compared (compared_number text)
+-- the field of a name, or the refusal of a name that isn't known
+abbrev pub known : List ℕ → Option ℕ → Result ℕ Refused
+known name None = Err (refused.Field name)
+known name (Some field) = Ok field
 
--- the plan of a name, a filter and fields, where these can be read
-abbrev pub filtered : List ℕ → List Field → Result (Option ℕ) Refused → Result Plan Refused
-filtered name fields (Err e) = Err e
-filtered name fields (Ok filter) = Ok (record { name = name; filter = filter; fields = fields })
+abbrev pub field_or_refusal : List ℕ → Result ℕ Refused
+field_or_refusal name = known name (field_named name)
 
-abbrev pub planned : List ℕ → Result (Option ℕ) Refused → Option (List Field) → Result Plan Refused
-planned name filter None = Err refused.Words
-planned name filter (Some fields) = filtered name fields filter
+abbrev pub with_others : ℕ → Result (List ℕ) Refused → Result (List ℕ) Refused
+with_others field (Err refused) = Err refused
+with_others field (Ok fields) = Ok (field ∷ fields)
 
--- from `-Y FILTER` on, or from `-T` where there is none
-abbrev pub plan_named : List ℕ → List (List ℕ) → Result Plan Refused
-plan_named name (option ∷ text ∷ words) =
-    if bytes_eq option (codes "-Y") then planned name (filter_read text) (fields_asked words)
-    else planned name (Ok None) (fields_asked (option ∷ text ∷ words))
-plan_named name words = Err refused.Words
+abbrev pub with_first : Result ℕ Refused → Result (List ℕ) Refused → Result (List ℕ) Refused
+with_first (Err refused) others = Err refused
+with_first (Ok field) others = with_others field others
 
--- the plan of the words, or the reason to refuse them: first the words, then the filter
+-- the fields of names, in order, or the refusal of the first that isn't known
+abbrev pub fields_named : List (List ℕ) → Result (List ℕ) Refused
+fields_named [] = Ok []
+fields_named (name ∷ names) = with_first (field_or_refusal name) (fields_named names)
+
+-- the name of the capture file
+abbrev pub name_in : Source → List ℕ
+name_in (Named name) = name
+
+abbrev pub with_fields : Options → Option Test → Result (List ℕ) Refused → Result Plan Refused
+with_fields options filter (Err refused) = Err refused
+with_fields options filter (Ok fields) =
+    Ok (record { name = name_in options.source; filter = filter; fields = fields; most = options.most })
+
+abbrev pub with_filter : Options → Result (Option Test) Refused → Result Plan Refused
+with_filter options (Err refused) = Err refused
+with_filter options (Ok filter) = with_fields options filter (fields_named options.names)
+
+-- the plan of options: first the filter is judged, then the names in order
+abbrev pub with_options : Options → Result Plan Refused
+with_options options = with_filter options (filter_asked options.filter)
+
+abbrev pub planned : Result Options WordFault → Result Plan Refused
+planned (Err fault) = Err (refused.Words fault)
+planned (Ok options) = with_options options
+
+-- the plan of the words, or the reason to refuse them: first the words, then the filter, then the names
 unfoldable pub plan_of : List (List ℕ) → Result Plan Refused
-plan_of (option ∷ name ∷ words) =
-    if bytes_eq option (codes "-r") && nat_lt 0 (length name) then plan_named name words else Err refused.Words
-plan_of words = Err refused.Words
+plan_of words = planned (options_of words)
 
--- the texts of the words
-abbrev pub texts : {A : Type 0} → List (String A) → List (List ℕ)
-texts words = map string_bytes words
-
--- an answer is the plan of the words, or refuses them for its reason, or had no memory
-abbrev pub Gives : Result Plan PlanError → Result Plan Refused → Type 0
-Gives (Ok plan) expected = expected ≡ Ok plan
+-- an answer is the plan that is wanted, or refuses for the same reason, or had no memory
+abbrev pub Gives : {A : Type 0} → Result A PlanError → Result A Refused → Type 0
+Gives (Ok answer) expected = expected ≡ Ok answer
 Gives (Err (error.Refused reason)) expected = expected ≡ Err reason
 Gives (Err error.NoMemory) expected = Unit {0}
-
--- the same for the fields, which fail only by the words
-abbrev pub GivesFields : Result (List Field) PlanError → Option (List Field) → Type 0
-GivesFields (Ok fields) expected = expected ≡ Some fields
-GivesFields (Err (error.Refused reason)) expected = (expected ≡ None) × (reason ≡ refused.Words)
-GivesFields (Err error.NoMemory) expected = Unit {0}

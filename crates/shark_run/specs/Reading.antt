@@ -1,6 +1,7 @@
 -- The file that a plan reads, and what is read of it.
-use Rattle.std.specs.Prelude.{ℕ, List, Option}
+use Rattle.std.specs.Prelude.{ℕ, List, length, take, Option, None, Some, Bool, true, false, nat_le}
 use Rattle.capture_read.specs.Capture.{Reading, capture_of}
+use Rattle.capture_read.specs.declared.ending.Ending.TheVariants.{Whole}
 use Rattle.shark_run.specs.declared.plan.Plan.{Plan}
 
 -- the name of the file
@@ -11,6 +12,16 @@ name_of plan = plan.name
 abbrev pub file_of : Plan → (List ℕ → Option (List ℕ)) → Option (List ℕ)
 file_of plan files = files (name_of plan)
 
+-- the first so many frames, and what follows them isn't looked at
+abbrev pub front_if : Bool → ℕ → Reading → Reading
+front_if true most reading = record { frames = take most reading.frames; ending = Whole }
+front_if false most reading = reading
+
+-- so many frames at most
+abbrev pub limited : Option ℕ → Reading → Reading
+limited None reading = reading
+limited (Some most) reading = front_if (nat_le most (length reading.frames)) most reading
+
 -- the frames that are read, and how the reading ends
 unfoldable pub frames_read : Plan → List ℕ → Reading
-frames_read plan file = capture_of file
+frames_read plan file = limited plan.most (capture_of file)

@@ -1,9 +1,7 @@
--- How a run ends, and what standard error is told of it.
-use Rattle.std.specs.Prelude.{ℕ, List, Option, Result}
-use Rattle.std.specs.Io.KnownBytes.{Keeps}
+-- How a run ends.
+use Rattle.std.specs.Prelude.{ℕ}
 use Rattle.capture_read.specs.declared.ending.Ending.{Ending}
 use Rattle.capture_read.specs.declared.ending.Ending.TheVariants as ending
-use Rattle.shark_run.specs.declared.plan.Plan.{Plan}
 use Rattle.shark_run.specs.declared.plan.Refused.{Refused}
 use Rattle.shark_run.specs.declared.plan.Refused.TheVariants as refused
 use Rattle.shark_run.specs.declared.status.Status.{Status}
@@ -30,8 +28,9 @@ status_of ending.TooLarge = TooLarge
 
 -- the status of a refusal
 abbrev pub refusal_status : Refused → Status
-refusal_status refused.Words = BadWords
+refusal_status (refused.Words fault) = BadWords
 refusal_status refused.Filter = BadFilter
+refusal_status (refused.Field name) = BadField
 
 -- the status of words that aren't refused
 abbrev pub IsNoRefusal : Status → Type 0
@@ -58,7 +57,3 @@ WhenEnded CannotOpen P = Unit {0}
 WhenEnded ReadFault P = Unit {0}
 WhenEnded WriteFault P = Unit {0}
 WhenEnded NoMemory P = Unit {0}
-
--- what standard error is told of the answer to these words over these files. Nothing is written to it yet
-unfoldable pub Told : Result Plan Refused → (List ℕ → Option (List ℕ)) → Status → Option (List ℕ) → Option (List ℕ) → Type 0
-Told plan files status old new = Keeps old new

@@ -5,8 +5,10 @@ ghost use Rattle.pk_base.specs.Limits.{file_limit as limit_of_file};
 ghost use Rattle.pk_outside.specs.Outside.{Rose, counted};
 ghost use Rattle.shark_run.specs.Causes.{IsUnopened, IsUnread};
 ghost use Rattle.shark_run.specs.Reading.{name_of, file_of, frames_read};
+ghost use Rattle.shark_run.specs.Takeable.{AreTakeable};
 
 use crate::plan::Plan;
+use crate::read_frames::ReadFrames;
 use capture_read::HeldFrames;
 use pk_base::{NoMemory, Octets, file_limit};
 use pk_outside::{Capture, Failed};
@@ -104,7 +106,8 @@ pub(crate) fn open_frames<C: Capture>(
     alloc: Global,
     plan: &Plan,
     capture: &mut C,
-) -> Result<HeldFrames, FileFault>
+) -> Result<ReadFrames, FileFault>
+    ensures takeable { IfOk result (λ frames. AreTakeable 0 0 frames.frames) }
     ensures frames { IfOk result (λ frames. IfSome (file_of plan.now (C.file capture.old)) (λ file. frames ≡ frames_read plan.now file)) }
     ensures unopened { IsErrOf result FileFault.CannotOpen
         → IsUnopened (C.missed capture.old) (C.missed capture.new) (C.begun capture.old) (C.begun capture.new)
@@ -119,5 +122,6 @@ pub(crate) fn open_frames<C: Capture>(
         Err(Failed) => return Err(FileFault::CannotOpen),
     }
     let bytes = read_rest(alloc, capture)?;
-    Ok(HeldFrames::new(alloc, Octets::from_vec(bytes)?))
+    let held = HeldFrames::new(alloc, Octets::from_vec(bytes)?);
+    Ok(ReadFrames::new(held, plan.most))
 }

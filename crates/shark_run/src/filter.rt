@@ -1,13 +1,23 @@
 // The display filter's text.
 ghost use Rattle.std.specs.Prelude.{◌≡◌, ◌≤◌, length};
 ghost use Rattle.std.specs.Option.{option_copied};
-ghost use Rattle.shark_run.specs.Filter.{is_separator as separates, is_word_byte as is_in_word, after_separators as behind_separators, word_len as len_of_word, after_token as behind_token, sixteen_bits, last_number as number_last, compared_number as number_compared};
+ghost use Rattle.pk_fields.specs.Fields.{row_of};
+ghost use Rattle.pk_fields.specs.Rows.{IsKind};
+ghost use Rattle.shark_run.specs.Filter.{is_separator as separates, is_word_byte as is_in_word, after_separators as behind_separators, word_len as len_of_word, word as word_of, behind_word as rest_behind_word, after_token as behind_token, of_width as number_of_width, of_kind as number_of_kind, compared_number as number_compared, test_behind as test_of_rest, test_of};
 ghost use Rattle.shark_run.specs.Plan.{filter_read};
 
 use crate::plan::Refused;
 use pk_base::FILTER_LIMIT;
+use pk_fields::{FieldId, ValueKind, by_name, kind};
 use pk_text::{Wide, read_number};
 use std::str;
+
+/// What a filter asks of a tree: that a field or protocol has a value, or that one of a field's values is a number.
+#[derive(Clone, Copy, Debug, PartialEq, Eq)]
+pub struct Test {
+    pub field: FieldId,
+    pub number: Option<u64>,
+}
 
 fn is_separator(byte: u8) -> bool
     ensures { result ≡ separates byte }
@@ -46,13 +56,22 @@ fn word_len(bytes: &[u8]) -> usize
     bytes.len()
 }
 
-fn sixteen_bits_of(number: Option<Wide>) -> Option<u16>
-    ensures { result ≡ sixteen_bits number }
+// The word in front.
+fn word(bytes: &[u8]) -> &str
+    ensures { result.now ≡ word_of bytes.now }
 {
-    match number {
-        Some(Wide::Fits(n)) if n < 1 << 16 => Some(n as u16),
-        Some(Wide::Fits(_)) | Some(Wide::Beyond) | None => None,
+    let len = word_len(bytes);
+    match str::from_utf8(&bytes[..len]) {
+        Ok(word) => word,
+        Err(_) => "",
     }
+}
+
+// What follows the word in front, and the separators behind it.
+fn behind_word(bytes: &[u8]) -> &[u8]
+    ensures { result.now ≡ rest_behind_word bytes.now }
+{
+    after_separators(&bytes[word_len(bytes)..])
 }
 
 // What follows a token that stands in front.
@@ -62,43 +81,79 @@ fn after_token<'a>(token: &[u8], bytes: &'a [u8]) -> Option<&'a [u8]>
     bytes.strip_prefix(token)
 }
 
-// The number whose text is the word in front, behind which only separators stand.
-#[tactic(auto, unfolding(crate::specs::Filter::last_number))]
-fn last_number(bytes: &[u8]) -> Option<u16>
-    ensures { result ≡ number_last bytes.now }
+fn of_width(width: u8, number: Option<Wide>) -> Option<u64>
+    requires { width ≤ 64 }
+    ensures { result ≡ number_of_width width number }
 {
-    let len = word_len(bytes);
-    if !after_separators(&bytes[len..]).is_empty() {
-        return None;
+    match number {
+        Some(Wide::Fits(n)) if u128::from(n) < 1 << width => Some(n),
+        Some(Wide::Fits(_)) | Some(Wide::Beyond) | None => None,
     }
-    match str::from_utf8(&bytes[..len]) {
-        Ok(word) => sixteen_bits_of(read_number(word)),
-        Err(_) => None,
+}
+
+fn of_kind(kind: ValueKind, number: Option<Wide>) -> Option<u64>
+    requires { IsKind kind }
+    ensures { result ≡ number_of_kind kind number }
+{
+    match kind {
+        ValueKind::Uint(width) => of_width(width, number),
+        ValueKind::Bool
+        | ValueKind::Bytes
+        | ValueKind::Text
+        | ValueKind::Ether
+        | ValueKind::Ip4
+        | ValueKind::Ip6
+        | ValueKind::Time
+        | ValueKind::Proto => None,
     }
 }
 
 #[tactic(auto, unfolding(crate::specs::Filter::compared_number))]
-fn compared_number(text: &[u8]) -> Option<u16>
-    ensures { result ≡ number_compared text.now }
+fn compared_number(field: FieldId, bytes: &[u8]) -> Option<u64>
+    ensures { result ≡ number_compared field bytes.now }
 {
-    let behind_name = after_token(b"eth.type", after_separators(text))?;
-    let behind_sign = after_token(b"==", after_separators(behind_name))?;
-    last_number(after_separators(behind_sign))
+    if !behind_word(bytes).is_empty() {
+        return None;
+    }
+    of_kind(kind(field), read_number(word(bytes)))
 }
 
-/// The number that a filter compares `eth.type` with, or none for a filter of separators alone.
+#[tactic(auto, unfolding(crate::specs::Filter::test_behind))]
+fn test_behind(field: FieldId, bytes: &[u8]) -> Option<Test>
+    ensures { result ≡ test_of_rest field bytes.now }
+{
+    if bytes.is_empty() {
+        return Some(Test {
+            field,
+            number: None,
+        });
+    }
+    let behind = after_token(b"==", bytes)?;
+    let number = compared_number(field, after_separators(behind))?;
+    Some(Test {
+        field,
+        number: Some(number),
+    })
+}
+
+#[tactic(auto, unfolding(crate::specs::Filter::test_of))]
+fn read_test(text: &[u8]) -> Option<Test>
+    ensures { result ≡ test_of text.now }
+{
+    let field = by_name(word(text))?;
+    test_behind(field, behind_word(text))
+}
+
+/// The test that a filter asks for.
 #[tactic(auto, unfolding(crate::specs::Plan::filter_read))]
-pub(crate) fn read_filter(text: &str) -> Result<Option<u16>, Refused>
+pub(crate) fn read_filter(text: &[u8]) -> Result<Test, Refused>
     ensures { result ≡ filter_read text.now }
 {
-    if after_separators(text.as_bytes()).is_empty() {
-        return Ok(None);
-    }
     if text.len() > FILTER_LIMIT {
         return Err(Refused::Filter);
     }
-    match compared_number(text.as_bytes()) {
-        Some(number) => Ok(Some(number)),
+    match read_test(after_separators(text)) {
+        Some(test) => Ok(test),
         None => Err(Refused::Filter),
     }
 }

@@ -2,18 +2,21 @@
 //! and the lines of the frames that the filter lets through are written.
 #![tactic(auto)]
 
+mod fault_text;
 mod file;
 mod filter;
 mod lines;
+mod outcome;
 mod output;
 mod plan;
+mod read_frames;
 mod status;
 mod text;
 mod top;
-mod tree;
 mod words;
 
-pub use plan::{Field, FieldList, Plan, Refused};
+pub use filter::Test;
+pub use plan::{FieldList, Plan, Refused};
 pub use status::Status;
 pub use text::Text;
 pub use top::{run, run_plan};

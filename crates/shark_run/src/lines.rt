@@ -1,73 +1,53 @@
-// The line of a frame.
-ghost use Rattle.std.specs.Prelude.{◌≡◌, ◌++◌, decimal, OnOk, string_bytes};
-ghost use Rattle.shark_run.specs.Lines.{column, columns, further_columns, field_line, satisfies as is_satisfied};
+// Which frames are shown.
+ghost use Rattle.std.specs.Prelude.{◌≡◌, IfOk};
+ghost use Rattle.std.specs.List.{list_any};
+ghost use Rattle.shark_run.specs.Lines.{satisfies as is_satisfied, pass as values_pass, is_number as is_this_number};
 
-use crate::plan::Field;
-use crate::tree::Tree;
+use crate::filter::Test;
 use pk_base::NoMemory;
+use pk_tree::{Layers, Tree, Value};
 
 /// Whether a tree satisfies a filter.
 #[tactic(auto, unfolding(crate::specs::Lines::satisfies))]
-pub(crate) fn satisfies(filter: Option<u16>, tree: &Tree) -> bool
-    ensures { result ≡ is_satisfied filter tree.now }
+pub(crate) fn satisfies(filter: &Option<Test>, tree: &Tree) -> Result<bool, NoMemory>
+    ensures { IfOk result (λ holds. holds ≡ is_satisfied filter.now tree.now) }
 {
     match filter {
-        None => true,
-        Some(wanted) => match tree.ether_type {
-            Some(found) => found == wanted,
-            None => false,
-        },
-    }
-}
-
-fn put_number(line: &mut String, number: u32) -> Result<(), NoMemory>
-    ensures { OnOk result (string_bytes line.new ≡ string_bytes line.old ++ decimal number) }
-{
-    write!(line, "{number}")?;
-    Ok(())
-}
-
-fn put_column(line: &mut String, tree: &Tree, field: Field) -> Result<(), NoMemory>
-    ensures { OnOk result (string_bytes line.new ≡ string_bytes line.old ++ column tree.now field) }
-{
-    match field {
-        Field::FrameNumber => put_number(line, tree.number),
-        Field::EtherType => match tree.ether_type {
-            Some(number) => put_number(line, u32::from(number)),
-            None => Ok(()),
-        },
-    }
-}
-
-// Columns behind the first, each behind a tab.
-fn put_further(line: &mut String, fields: &[Field], tree: &Tree) -> Result<(), NoMemory>
-    ensures { OnOk result (string_bytes line.new ≡ string_bytes line.old ++ further_columns tree.now fields.now) }
-{
-    for field in fields {
-        line.push('\t')?;
-        put_column(line, tree, *field)?;
-    }
-    Ok(())
-}
-
-fn put_columns(line: &mut String, fields: &[Field], tree: &Tree) -> Result<(), NoMemory>
-    ensures { OnOk result (string_bytes line.new ≡ string_bytes line.old ++ columns tree.now fields.now) }
-{
-    match fields {
-        [] => Ok(()),
-        [first, others @ ..] => {
-            put_column(line, tree, *first)?;
-            put_further(line, others, tree)
+        None => Ok(true),
+        Some(test) => {
+            let values = tree.values(test.field, &Layers::All)?;
+            Ok(pass(test.number, &values))
         }
     }
 }
 
-/// Appends the line of a tree: its columns, tabs between them, and a line feed.
-#[tactic(auto, unfolding(crate::specs::Lines::field_line))]
-pub(crate) fn put_line(line: &mut String, fields: &[Field], tree: &Tree) -> Result<(), NoMemory>
-    ensures { OnOk result (string_bytes line.new ≡ string_bytes line.old ++ field_line fields.now tree.now) }
+fn pass(number: Option<u64>, values: &[Value]) -> bool
+    ensures { result ≡ values_pass number values.now }
 {
-    put_columns(line, fields, tree)?;
-    line.push('\n')?;
-    Ok(())
+    match number {
+        None => !values.is_empty(),
+        Some(number) => some_is(values, number),
+    }
+}
+
+fn some_is(values: &[Value], number: u64) -> bool
+    ensures { result ≡ list_any (is_this_number number) values.now }
+{
+    values.iter().any(|value| is_number(value, number))
+}
+
+fn is_number(value: &Value, number: u64) -> bool
+    ensures { result ≡ is_this_number number value.now }
+{
+    match value {
+        Value::Uint(found) => *found == number,
+        Value::Bool(_)
+        | Value::Bytes(_)
+        | Value::Text(_)
+        | Value::Ether(_)
+        | Value::Ip4(_)
+        | Value::Ip6(_)
+        | Value::Time(_)
+        | Value::Proto(_) => false,
+    }
 }

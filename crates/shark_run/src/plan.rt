@@ -1,42 +1,35 @@
 ghost use Rattle.std.specs.Prelude.{◌≡◌};
 
+use crate::filter::Test;
 use crate::text::Text;
-use pk_base::NoMemory;
-use std::alloc::AllocFailed;
+use pk_base::{NoMemory, Octets};
+use pk_fields::FieldId;
+use shark_words::WordFault;
+use std::alloc::{AllocError, AllocFailed};
 use std::marker::Model;
-
-/// A field that a column can show.
-#[derive(Clone, Copy, Debug, PartialEq, Eq)]
-pub enum Field {
-    /// `frame.number`: the frame's number in the file, from 1.
-    FrameNumber,
-    /// `eth.type`: the type of an Ethernet frame's payload.
-    EtherType,
-}
 
 /// A list of fields.
 #[derive(Drop)]
 pub struct FieldList {
-    all: Vec<Field>,
+    all: Vec<FieldId>,
 }
 
 impl Model for FieldList {
-    ghost use Rattle.std.specs.Prelude.{List};
-    ghost use Rattle.shark_run.specs.declared.plan.Field.{Field};
+    ghost use Rattle.std.specs.Prelude.{List, ℕ};
 
-    ghost Value = { List Field };
+    ghost Value = { List ℕ };
 
     ghost view = { λ f. f.all.items };
 }
 
 impl FieldList {
-    pub fn from_vec(v: Vec<Field>) -> FieldList
+    pub fn from_vec(v: Vec<FieldId>) -> FieldList
         ensures { result ≡ v.items }
     {
         FieldList { all: v }
     }
 
-    pub fn slice(&self) -> &[Field]
+    pub fn slice(&self) -> &[FieldId]
         ensures { result.now ≡ self.now }
     {
         self.all.as_slice()
@@ -48,23 +41,27 @@ impl FieldList {
 pub struct Plan {
     /// The name of the capture file.
     pub name: Text,
-    /// The number that `eth.type` is to equal, where there is a filter.
-    pub filter: Option<u16>,
+    /// What a frame's tree is tested for, where there is a filter.
+    pub filter: Option<Test>,
     /// The columns, in order.
     pub fields: FieldList,
+    /// How many frames are read at most, where there is a limit.
+    pub most: Option<u32>,
 }
 
 /// Why words are refused.
-#[derive(Clone, Copy, Debug, PartialEq, Eq)]
+#[derive(Drop)]
 pub enum Refused {
     /// They are outside the command line's grammar.
-    Words,
+    Words(WordFault),
     /// Their filter can't be read.
     Filter,
+    /// The name of a column isn't that of a field or protocol.
+    Field(Octets),
 }
 
 /// Why there is no plan.
-#[derive(Clone, Copy, Debug, PartialEq, Eq)]
+#[derive(Drop)]
 pub(crate) enum PlanError {
     Refused(Refused),
     NoMemory,
@@ -86,6 +83,16 @@ impl From<NoMemory> for PlanError {
     ghost from_gives = { λ _ e. e ≡ error.NoMemory };
 
     fn from(_error: NoMemory) -> PlanError {
+        PlanError::NoMemory
+    }
+}
+
+impl From<AllocError> for PlanError {
+    ghost use Rattle.shark_run.specs.declared.plan.PlanError.TheVariants as error;
+
+    ghost from_gives = { λ _ e. e ≡ error.NoMemory };
+
+    fn from(_error: AllocError) -> PlanError {
         PlanError::NoMemory
     }
 }

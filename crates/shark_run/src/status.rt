@@ -1,8 +1,7 @@
 ghost use Rattle.std.specs.Prelude.{◌≡◌};
-ghost use Rattle.shark_run.specs.Statuses.{exit_number, status_of, refusal_status};
+ghost use Rattle.shark_run.specs.Statuses.{exit_number, refusal_status};
 
 use crate::plan::Refused;
-use capture_read::Ending;
 
 /// How a run ended. The program ends with the number of this variant, 0 for `Done`.
 #[derive(Clone, Copy, Debug, PartialEq, Eq)]
@@ -49,21 +48,12 @@ impl Status {
     }
 }
 
-pub(crate) fn status_of_ending(ending: Ending) -> Status
-    ensures { result ≡ status_of ending }
-{
-    match ending {
-        Ending::Whole => Status::Done,
-        Ending::Damaged(_) => Status::Damaged,
-        Ending::TooLarge => Status::TooLarge,
-    }
-}
-
-pub(crate) fn status_of_refusal(refused: Refused) -> Status
-    ensures { result ≡ refusal_status refused }
+pub(crate) fn status_of_refusal(refused: &Refused) -> Status
+    ensures { result ≡ refusal_status refused.now }
 {
     match refused {
-        Refused::Words => Status::BadWords,
+        Refused::Words(_) => Status::BadWords,
         Refused::Filter => Status::BadFilter,
+        Refused::Field(_) => Status::BadField,
     }
 }

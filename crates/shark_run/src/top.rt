@@ -1,22 +1,60 @@
 // The top call.
-ghost use Rattle.std.specs.Prelude.{◌≡◌, ◌≤◌, ◌⊎◌, IfOk, IfErr, IfSome};
+ghost use Rattle.std.specs.Prelude.{◌≡◌, ◌≤◌, ◌⊎◌, ℕ, List, Option, Ok, Err, IfOk, IfErr, IfSome};
 ghost use Rattle.pk_outside.specs.Outside.{Rose};
-ghost use Rattle.shark_run.specs.Plan.{plan_of, texts};
+ghost use Rattle.shark_words.specs.Words.{texts};
+ghost use Rattle.shark_run.specs.Plan.{plan_of};
 ghost use Rattle.shark_run.specs.Reading.{name_of, file_of, frames_read};
-ghost use Rattle.shark_run.specs.Statuses.{status_of, refusal_status, IsNoRefusal, WhenEnded, Told};
+ghost use Rattle.shark_run.specs.Statuses.{status_of, refusal_status, IsNoRefusal, WhenEnded};
+ghost use Rattle.shark_run.specs.FaultTexts.{Told, ToldWhole};
+ghost use Rattle.shark_run.specs.Outcomes.{IfEnded};
 ghost use Rattle.shark_run.specs.Causes.{IsUnopened, IsUnread};
 ghost use Rattle.shark_run.specs.Wrote.{WroteAll, WrotePart};
 
+use crate::fault_text::{outcome_text, refusal_text, tell};
 use crate::file::{FileFault, open_frames};
+use crate::outcome::Outcome;
 use crate::output::write_output;
-use crate::plan::{Plan, PlanError};
-use crate::status::{Status, status_of_ending, status_of_refusal};
+use crate::plan::{Plan, PlanError, Refused};
+use crate::status::{Status, status_of_refusal};
 use crate::words::read_plan;
+use pk_base::NoMemory;
 use pk_outside::{Capture, Sink, SinkFault};
 use std::alloc::Global;
 
+// Reads a plan's capture file and writes the output over its frames.
+fn carry_out<C: Capture, O: Sink>(
+    alloc: Global,
+    plan: &Plan,
+    capture: &mut C,
+    out: &mut O,
+) -> Outcome
+    ensures ended { IfEnded result (λ ending. IfSome (file_of plan.now (C.file capture.old)) (λ file.
+        WroteAll plan.now (frames_read plan.now file) (O.written out.old) (O.written out.new)
+        × (ending ≡ (frames_read plan.now file).ending))) }
+    ensures part { IfSome (file_of plan.now (C.file capture.old)) (λ file.
+        WrotePart plan.now (frames_read plan.now file) (O.written out.old) (O.written out.new)) }
+    ensures unopened { result ≡ Outcome.CannotOpen
+        → IsUnopened (C.missed capture.old) (C.missed capture.new) (C.begun capture.old) (C.begun capture.new)
+        (C.asked capture.new) (name_of plan.now) × (out.new ≡ out.old) }
+    ensures unread { result ≡ Outcome.ReadFault
+        → IsUnread (C.faults capture.old) (C.faults capture.new) (C.begun capture.old) (C.begun capture.new)
+        (C.missed capture.old) (C.missed capture.new) (C.asked capture.new) (name_of plan.now) }
+    ensures write_fault { result ≡ Outcome.WriteFault → Rose (O.faults out.old) (O.faults out.new) }
+{
+    let frames = match open_frames(alloc, plan, capture) {
+        Ok(frames) => frames,
+        Err(FileFault::CannotOpen) => return Outcome::CannotOpen,
+        Err(FileFault::ReadFault) => return Outcome::ReadFault,
+        Err(FileFault::NoMemory) => return Outcome::NoMemory,
+    };
+    match write_output(alloc, plan, frames, out) {
+        Ok(ending) => Outcome::Ended(ending),
+        Err(SinkFault::Failed) => Outcome::WriteFault,
+        Err(SinkFault::NoMemory) => Outcome::NoMemory,
+    }
+}
+
 /// Does what a plan says: reads its capture file, and writes the output over its frames to `out`.
-#[tactic(auto, using(crate::proofs::ToldLemmas::told_nothing))]
 pub fn run_plan<C: Capture, O: Sink, E: Sink>(
     alloc: Global,
     plan: &Plan,
@@ -47,18 +85,35 @@ pub fn run_plan<C: Capture, O: Sink, E: Sink>(
         ¬ Rose (C.missed capture.old) (C.missed capture.new) → ¬ Rose (C.faults capture.old) (C.faults capture.new)
         → ¬ Rose (O.faults out.old) (O.faults out.new)
         → (result ≡ status_of (frames_read plan.now file).ending) ⊎ (result ≡ Status.NoMemory)) }
+
+    // What standard error is told, whatever becomes of it.
     ensures told { Told (Ok plan.now) (C.file capture.old) result (E.written err.old) (E.written err.new) }
+    ensures told_whole { ¬ Rose (E.faults err.old) (E.faults err.new) → ¬ Rose (E.starved err.old) (E.starved err.new)
+        → ToldWhole (Ok plan.now) (C.file capture.old) result (E.written err.old) (E.written err.new) }
 {
-    let frames = match open_frames(alloc, plan, capture) {
-        Ok(frames) => frames,
-        Err(FileFault::CannotOpen) => return Status::CannotOpen,
-        Err(FileFault::ReadFault) => return Status::ReadFault,
-        Err(FileFault::NoMemory) => return Status::NoMemory,
-    };
-    match write_output(alloc, plan, frames, out) {
-        Ok(ending) => status_of_ending(ending),
-        Err(SinkFault::Failed) => Status::WriteFault,
-        Err(SinkFault::NoMemory) => Status::NoMemory,
+    let outcome = carry_out(alloc, plan, capture, out);
+    match outcome_text(alloc, plan, outcome) {
+        Ok(text) => {
+            tell(err, text.as_bytes());
+            outcome.status()
+        }
+        Err(NoMemory) => Status::NoMemory,
+    }
+}
+
+// Tells of a refusal.
+fn refuse<E: Sink>(alloc: Global, refused: &Refused, err: &mut E) -> Status
+    ensures status { (result ≡ refusal_status refused.now) ⊎ (result ≡ Status.NoMemory) }
+    ensures told { (files : List ℕ → Option (List ℕ)) → Told (Err refused.now) files result (E.written err.old) (E.written err.new) }
+    ensures told_whole { (files : List ℕ → Option (List ℕ)) → ¬ Rose (E.faults err.old) (E.faults err.new)
+        → ¬ Rose (E.starved err.old) (E.starved err.new) → ToldWhole (Err refused.now) files result (E.written err.old) (E.written err.new) }
+{
+    match refusal_text(alloc, refused) {
+        Ok(text) => {
+            tell(err, text.as_bytes());
+            status_of_refusal(refused)
+        }
+        Err(NoMemory) => Status::NoMemory,
     }
 }
 
@@ -66,7 +121,6 @@ pub fn run_plan<C: Capture, O: Sink, E: Sink>(
 ///
 /// `out` gets the lines of the frames that the filter lets through, in the order of the file; the status says how the
 /// run ended. Where the words are refused nothing is read and nothing is written.
-#[tactic(auto, using(crate::proofs::ToldLemmas::told_nothing))]
 pub fn run<C: Capture, O: Sink, E: Sink>(
     alloc: Global,
     words: &[String],
@@ -99,11 +153,15 @@ pub fn run<C: Capture, O: Sink, E: Sink>(
         ¬ Rose (C.missed capture.old) (C.missed capture.new) → ¬ Rose (C.faults capture.old) (C.faults capture.new)
         → ¬ Rose (O.faults out.old) (O.faults out.new)
         → (result ≡ status_of (frames_read plan file).ending) ⊎ (result ≡ Status.NoMemory))) }
+
+    // What standard error is told, whatever becomes of it.
     ensures told { Told (plan_of (texts words.now)) (C.file capture.old) result (E.written err.old) (E.written err.new) }
+    ensures told_whole { ¬ Rose (E.faults err.old) (E.faults err.new) → ¬ Rose (E.starved err.old) (E.starved err.new)
+        → ToldWhole (plan_of (texts words.now)) (C.file capture.old) result (E.written err.old) (E.written err.new) }
 {
     match read_plan(alloc, words) {
         Ok(plan) => run_plan(alloc, &plan, capture, out, err),
-        Err(PlanError::Refused(refused)) => status_of_refusal(refused),
+        Err(PlanError::Refused(refused)) => refuse(alloc, &refused, err),
         Err(PlanError::NoMemory) => Status::NoMemory,
     }
 }

@@ -1,116 +1,93 @@
-// The words of the command line.
-ghost use Rattle.std.specs.Prelude.{◌≡◌};
-ghost use Rattle.shark_run.specs.Plan.{field_named as field_of_name, fields_named, fields_asked, planned, plan_named as plan_of_name, plan_of, filter_read, texts, Gives, GivesFields};
+// The plan that words ask for.
+ghost use Rattle.std.specs.Prelude.{◌≡◌, ◌++◌, IfOk, All};
+ghost use Rattle.std.specs.Str.{IsUtf8};
+ghost use Rattle.shark_words.specs.Utf8.{AreUtf8};
+ghost use Rattle.shark_words.specs.Words.{texts};
+ghost use Rattle.shark_run.specs.Plan.{field_or_refusal, fields_named, filter_asked as filter_of_text, with_options, plan_of, name_in as name_of_source, Gives};
 
-use crate::filter::read_filter;
-use crate::plan::{Field, FieldList, Plan, PlanError, Refused};
+use crate::filter::{Test, read_filter};
+use crate::plan::{FieldList, Plan, PlanError, Refused};
 use crate::text::Text;
+use pk_base::{NoMemory, Octets};
+use pk_fields::{FieldId, by_name};
+use shark_words::{Options, Source, WordsError, read_words};
 use std::alloc::Global;
+use std::str;
 
-fn field_named(name: &str) -> Option<Field>
-    ensures { result ≡ field_of_name name.now }
+// The text of bytes that are one.
+fn text_of(bytes: &Octets) -> &str
+    requires { IsUtf8 bytes.now }
+    ensures { result.now ≡ bytes.now }
 {
-    match name {
-        "frame.number" => Some(Field::FrameNumber),
-        "eth.type" => Some(Field::EtherType),
-        _ => None,
+    match str::from_utf8(bytes.bytes()) {
+        Ok(text) => text,
+        Err(_) => "",
     }
 }
 
-// The fields of words of the form `-e NAME`, again and again.
-#[tactic(auto, using(crate::proofs::WordLemmas::one_word))]
-fn read_names(alloc: Global, words: &[String]) -> Result<FieldList, PlanError>
-    ensures { GivesFields result (fields_named (texts words.now)) }
+// The field of a name, or the refusal of the name.
+fn find_field(name: &Octets) -> Result<FieldId, PlanError>
+    requires { IsUtf8 name.now }
+    ensures { Gives result (field_or_refusal name.now) }
+{
+    match by_name(text_of(name)) {
+        Some(field) => Ok(field),
+        None => Err(PlanError::Refused(Refused::Field(name.clone()?))),
+    }
+}
+
+// The fields of the names.
+fn find_fields(alloc: Global, names: &[Octets]) -> Result<FieldList, PlanError>
+    requires { All IsUtf8 names.now }
+    ensures { Gives result (fields_named names.now) }
 {
     let mut fields = Vec::new(alloc);
-    let mut rest = words;
-    loop {
-        match rest {
-            [] => return Ok(FieldList::from_vec(fields)),
-            [_] => return Err(PlanError::Refused(Refused::Words)),
-            [option, name, behind @ ..] => {
-                if option.as_str() != "-e" {
-                    return Err(PlanError::Refused(Refused::Words));
-                }
-                match field_named(name.as_str()) {
-                    Some(field) => fields.push(field)?,
-                    None => return Err(PlanError::Refused(Refused::Words)),
-                }
-                rest = behind;
-            }
-        }
+    for name in names {
+        fields.push(find_field(name)?)?;
+    }
+    Ok(FieldList::from_vec(fields))
+}
+
+fn filter_asked(filter: &Option<Octets>) -> Result<Option<Test>, Refused>
+    ensures { result ≡ filter_of_text filter.now }
+{
+    match filter {
+        None => Ok(None),
+        Some(text) => Ok(Some(read_filter(text.bytes())?)),
     }
 }
 
-fn read_fields(alloc: Global, words: &[String]) -> Result<FieldList, PlanError>
-    ensures { GivesFields result (fields_asked (texts words.now)) }
+fn name_in(alloc: Global, source: &Source) -> Result<Text, NoMemory>
+    requires { IsUtf8 (name_of_source source.now) }
+    ensures { IfOk result (λ name. name ≡ name_of_source source.now) }
 {
-    match words {
-        [option, kind, names @ ..] => {
-            if option.as_str() == "-T" && kind.as_str() == "fields" && !names.is_empty() {
-                read_names(alloc, names)
-            } else {
-                Err(PlanError::Refused(Refused::Words))
-            }
-        }
-        [_] | [] => Err(PlanError::Refused(Refused::Words)),
+    match source {
+        Source::Named(name) => Text::copy(alloc, text_of(name)),
     }
 }
 
-fn plan_filtered(alloc: Global, name: &str, text: &str, words: &[String]) -> Result<Plan, PlanError>
-    ensures { Gives result (planned name.now (filter_read text.now) (fields_asked (texts words.now))) }
+fn plan_with(alloc: Global, options: &Options) -> Result<Plan, PlanError>
+    requires { AreUtf8 options.now }
+    ensures { Gives result (with_options options.now) }
 {
-    let fields = read_fields(alloc, words)?;
-    let filter = read_filter(text)?;
-    let name = Text::copy(alloc, name)?;
+    let filter = filter_asked(&options.filter)?;
+    let fields = find_fields(alloc, options.names.slice())?;
     Ok(Plan {
-        name,
+        name: name_in(alloc, &options.source)?,
         filter,
         fields,
+        most: options.most,
     })
 }
 
-fn plan_unfiltered(alloc: Global, name: &str, words: &[String]) -> Result<Plan, PlanError>
-    ensures { Gives result (planned name.now (Ok None) (fields_asked (texts words.now))) }
-{
-    let fields = read_fields(alloc, words)?;
-    let name = Text::copy(alloc, name)?;
-    Ok(Plan {
-        name,
-        filter: None,
-        fields,
-    })
-}
-
-#[tactic(auto, using(crate::proofs::WordLemmas::few_words))]
-fn plan_named(alloc: Global, name: &str, words: &[String]) -> Result<Plan, PlanError>
-    ensures { Gives result (plan_of_name name.now (texts words.now)) }
-{
-    match words {
-        [option, text, rest @ ..] if option.as_str() == "-Y" => plan_filtered(
-            alloc,
-            name,
-            text.as_str(),
-            rest,
-        ),
-        [_, _, ..] => plan_unfiltered(alloc, name, words),
-        [_] | [] => Err(PlanError::Refused(Refused::Words)),
-    }
-}
-
-/// Reads the plan that the words ask for, or refuses them.
+/// Reads the plan that the words ask for, or refuses them: first the words, then the filter, then the names.
 #[tactic(auto, unfolding(crate::specs::Plan::plan_of))]
 pub(crate) fn read_plan(alloc: Global, words: &[String]) -> Result<Plan, PlanError>
     ensures { Gives result (plan_of (texts words.now)) }
 {
-    match words {
-        [option, name, rest @ ..] => {
-            if option.as_str() == "-r" && !name.is_empty() {
-                plan_named(alloc, name.as_str(), rest)
-            } else {
-                Err(PlanError::Refused(Refused::Words))
-            }
-        }
-        [_] | [] => Err(PlanError::Refused(Refused::Words)),
+    match read_words(alloc, words) {
+        Ok(options) => plan_with(alloc, &options),
+        Err(WordsError::Fault(fault)) => Err(PlanError::Refused(Refused::Words(fault))),
+        Err(WordsError::NoMemory) => Err(PlanError::NoMemory),
     }
 }

@@ -1,0 +1,22 @@
+-- How carrying out a plan ends.
+use Rattle.capture_read.specs.declared.ending.Ending.{Ending}
+use Rattle.shark_run.specs.declared.outcome.Outcome.{Outcome}
+use Rattle.shark_run.specs.declared.outcome.Outcome.TheVariants as outcome
+use Rattle.shark_run.specs.declared.status.Status.{Status}
+use Rattle.shark_run.specs.declared.status.Status.TheVariants as status
+use Rattle.shark_run.specs.Statuses.{status_of}
+
+abbrev pub outcome_status : Outcome → Status
+outcome_status (outcome.Ended ending) = status_of ending
+outcome_status outcome.CannotOpen = status.CannotOpen
+outcome_status outcome.ReadFault = status.ReadFault
+outcome_status outcome.WriteFault = status.WriteFault
+outcome_status outcome.NoMemory = status.NoMemory
+
+-- P of the ending, where the output was written to its end
+abbrev pub IfEnded : Outcome → (Ending → Type 0) → Type 0
+IfEnded (outcome.Ended ending) P = P ending
+IfEnded outcome.CannotOpen P = Unit {0}
+IfEnded outcome.ReadFault P = Unit {0}
+IfEnded outcome.WriteFault P = Unit {0}
+IfEnded outcome.NoMemory P = Unit {0}

@@ -1,0 +1,105 @@
+// What standard error is told.
+ghost use Rattle.std.specs.Prelude.{◌≡◌, ◌++◌, IfOk, OnOk, string_bytes};
+ghost use Rattle.std.specs.Io.KnownBytes.{Appends};
+ghost use Rattle.pk_outside.specs.Outside.{Rose, AppendsPart};
+ghost use Rattle.shark_run.specs.FaultTexts.{reason_text as text_of_reason, word_reason_text as text_of_word_reason, ending_text as text_of_ending, outcome_text as text_of_outcome, refusal_text as text_of_refusal};
+
+use crate::outcome::Outcome;
+use crate::plan::{Plan, Refused};
+use capture_read::Ending;
+use pk_base::{NoMemory, Reason};
+use pk_outside::{Sink, write_whole};
+use pk_text::escape_text;
+use shark_words::WordReason;
+use std::alloc::Global;
+
+/// Writes a text, as far as the sink takes it.
+pub(crate) fn tell<E: Sink>(err: &mut E, text: &[u8])
+    ensures part { AppendsPart (E.written err.old) (E.written err.new) text.now }
+    ensures whole { ¬ Rose (E.faults err.old) (E.faults err.new) → ¬ Rose (E.starved err.old) (E.starved err.new)
+        → Appends (E.written err.old) (E.written err.new) text.now }
+{
+    let _ = write_whole(err, text);
+}
+
+fn reason_text(reason: Reason) -> &'static str
+    ensures { result.now ≡ text_of_reason reason }
+{
+    match reason {
+        Reason::ShortHeader => "B1 ShortHeader",
+        Reason::UnknownMagic => "B2 UnknownMagic",
+        Reason::BadVersion => "B3 BadVersion",
+        Reason::RecordCut => "B4 RecordCut",
+        Reason::TooLong => "B5 TooLong",
+        Reason::BlockLength => "B6 BlockLength",
+        Reason::BlockCut => "B7 BlockCut",
+        Reason::BadInterface => "B8 BadInterface",
+        Reason::BadOption => "B9 BadOption",
+        Reason::BadResolution => "B10 BadResolution",
+    }
+}
+
+fn word_reason_text(reason: WordReason) -> &'static str
+    ensures { result.now ≡ text_of_word_reason reason }
+{
+    match reason {
+        WordReason::UnknownOption => "A1 UnknownOption",
+        WordReason::MissingValue => "A2 MissingValue",
+        WordReason::StrayWord => "A3 StrayWord",
+        WordReason::NoFile => "A4 NoFile",
+        WordReason::Repeated => "A5 Repeated",
+        WordReason::BadValue => "A6 BadValue",
+        WordReason::NoFields => "A7 NoFields",
+        WordReason::Unused => "A8 Unused",
+    }
+}
+
+#[tactic(auto, unfolding(crate::specs::FaultTexts::ending_text))]
+fn ending_text(alloc: Global, ending: Ending) -> Result<String, NoMemory>
+    ensures { IfOk result (λ text. string_bytes text ≡ text_of_ending ending) }
+{
+    match ending {
+        Ending::Whole => Ok(String::new(alloc)),
+        Ending::Damaged(damage) => {
+            let at = damage.at;
+            let reason = reason_text(damage.reason);
+            Ok(format!(in alloc; "shark: damaged at byte {at}: {reason}\n")?)
+        }
+        Ending::TooLarge => Ok(String::from_str(alloc, "shark: capture too large\n")?),
+    }
+}
+
+/// What is told of carrying out a plan.
+#[tactic(auto, unfolding(crate::specs::FaultTexts::outcome_text))]
+pub(crate) fn outcome_text(alloc: Global, plan: &Plan, outcome: Outcome) -> Result<String, NoMemory>
+    ensures { IfOk result (λ text. string_bytes text ≡ text_of_outcome plan.now outcome) }
+{
+    match outcome {
+        Outcome::Ended(ending) => ending_text(alloc, ending),
+        Outcome::CannotOpen => {
+            let name = escape_text(alloc, plan.name.as_str().as_bytes())?;
+            Ok(format!(in alloc; "shark: cannot open {name}\n")?)
+        }
+        Outcome::ReadFault => Ok(String::from_str(alloc, "shark: read fault\n")?),
+        Outcome::WriteFault | Outcome::NoMemory => Ok(String::new(alloc)),
+    }
+}
+
+/// What is told of a refusal. A filter's fault has no text yet.
+#[tactic(auto, unfolding(crate::specs::FaultTexts::refusal_text))]
+pub(crate) fn refusal_text(alloc: Global, refused: &Refused) -> Result<String, NoMemory>
+    ensures { IfOk result (λ text. string_bytes text ≡ text_of_refusal refused.now) }
+{
+    match refused {
+        Refused::Words(fault) => {
+            let word = fault.word;
+            let reason = word_reason_text(fault.reason);
+            Ok(format!(in alloc; "shark: word {word}: {reason}\n")?)
+        }
+        Refused::Filter => Ok(String::new(alloc)),
+        Refused::Field(name) => {
+            let name = escape_text(alloc, name.bytes())?;
+            Ok(format!(in alloc; "shark: field {name}: unknown\n")?)
+        }
+    }
+}
