@@ -11,21 +11,23 @@ use std::process::ExitCode;
 const HELP: &str = "\
 shark reads a capture file and prints a line for each frame that satisfies a display filter.
 
-Usage: shark -r FILE [-Y FILTER] -T fields -e FIELD [-e FIELD]...
+Usage: shark -r FILE [-Y FILTER] [-c N] -T fields -e FIELD [-e FIELD]...
 
-  -r FILE      the capture, a pcap file
-  -Y FILTER    eth.type == NUMBER, decimal or 0x and hexadecimal digits
+  -r FILE      the capture, a pcap or pcapng file
+  -Y FILTER    a field or protocol that is to be there, or FIELD == NUMBER
+  -c N         read at most N frames
   -T fields    lines of fields, tabs between them
-  -e FIELD     a column: frame.number or eth.type
+  -e FIELD     a column, such as frame.number or eth.src
 
   --help       this text, where it is the only word
   --version    the version, where it is the only word
 
 The exit status is 0 where the whole file was read and the whole output written, and else says what went wrong:
-1 bad words, 2 bad filter, 4 can't open, 5 read fault, 6 damaged file, 7 file too large, 8 write fault, 9 no memory.
+1 bad words, 2 bad filter, 3 unknown field, 4 can't open, 5 read fault, 6 damaged file, 7 file too large, 8 write fault,
+9 no memory. A line on standard error says more.
 ";
 
-const VERSION: &str = "shark 0.1.0\n";
+const VERSION: &str = "shark 0.2.0\n";
 
 const NOT_UTF8: &str = "shark: words are not UTF-8\n";
 

@@ -1,9 +1,17 @@
-//! Whole runs of the program over captures in memory: the contract that they have where nothing outside fails, and a
-//! table of runs with what they write.
+//! Whole runs of the program over captures in memory: the contract that they have where nothing outside fails, and
+//! tables of runs with what they write.
 #![tactic(auto)]
 
+#[cfg(test)]
+mod file_rows;
+#[cfg(test)]
+mod layer_rows;
+#[cfg(test)]
+mod outside_rows;
+#[cfg(test)]
+mod runs;
 mod sure;
 #[cfg(test)]
-mod table;
+mod word_rows;
 
 pub use sure::sure_run;

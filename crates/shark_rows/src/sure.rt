@@ -1,5 +1,6 @@
 ghost use Rattle.std.specs.Prelude.{◌≡◌, ◌⊎◌, IfOk, IfErr};
-ghost use Rattle.shark_run.specs.Plan.{plan_of, texts};
+ghost use Rattle.shark_words.specs.Words.{texts};
+ghost use Rattle.shark_run.specs.Plan.{plan_of};
 ghost use Rattle.shark_run.specs.Reading.{frames_read};
 ghost use Rattle.shark_run.specs.Statuses.{status_of, refusal_status};
 

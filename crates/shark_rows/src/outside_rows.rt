@@ -1,0 +1,149 @@
+// Runs that something outside fails, and files of the greatest size.
+use crate::file_rows::{HEADER, PADDING, REQUEST, REQUEST_HEAD};
+use crate::runs::{Faults, NO_FAULTS, Run, bytes_of, comes_to};
+use crate::sure::sure_run;
+use pk_outside::SureSink;
+use shark_run::Status;
+use std::alloc::{AllocError, Global};
+use std::test::Fail;
+
+const NUMBERS: &str = "-r f -T fields -e frame.number";
+
+/// Two requests.
+static REQUESTS: [&str; 7] = [
+    HEADER,
+    REQUEST_HEAD,
+    REQUEST,
+    PADDING,
+    REQUEST_HEAD,
+    REQUEST,
+    PADDING,
+];
+
+/// Whether a run over two requests, of which something fails, comes to this.
+fn fails(
+    alloc: Global,
+    faults: &Faults,
+    name: &str,
+    status: Status,
+    out: &'static str,
+    err: &'static str,
+) -> Result<bool, AllocError> {
+    let row = Run {
+        shows: "a fault outside",
+        words: NUMBERS,
+        filter: "",
+        file: &[],
+        status,
+        out,
+        err,
+    };
+    comes_to(alloc, &row, name, bytes_of(alloc, &REQUESTS)?, faults)
+}
+
+#[test]
+fn a_file_that_is_not_there_cannot_be_opened(rt: HostRuntime) -> Result<(), Fail> {
+    let told = "shark: cannot open f\n";
+    assert!(rt; fails(rt.alloc(), &NO_FAULTS, "g", Status::CannotOpen, "", told)?);
+    Ok(())
+}
+
+#[test]
+fn a_read_that_fails_is_no_end_of_the_file(rt: HostRuntime) -> Result<(), Fail> {
+    let faults = Faults {
+        capture: &[3],
+        out: &[],
+        err: &[],
+        step: 100,
+    };
+    let told = "shark: read fault\n";
+    assert!(rt; fails(rt.alloc(), &faults, "f", Status::ReadFault, "", told)?);
+    Ok(())
+}
+
+#[test]
+fn nothing_is_written_after_a_write_that_failed(rt: HostRuntime) -> Result<(), Fail> {
+    let faults = Faults {
+        capture: &[],
+        out: &[2],
+        err: &[],
+        step: 1,
+    };
+    assert!(rt; fails(rt.alloc(), &faults, "f", Status::WriteFault, "1\n", "")?);
+    Ok(())
+}
+
+#[test]
+fn a_failure_of_standard_error_changes_nothing_else(rt: HostRuntime) -> Result<(), Fail> {
+    let faults = Faults {
+        capture: &[1],
+        out: &[],
+        err: &[1],
+        step: 1000,
+    };
+    assert!(rt; fails(rt.alloc(), &faults, "f", Status::CannotOpen, "", "")?);
+    Ok(())
+}
+
+#[test]
+fn the_bytes_of_a_name_are_escaped(rt: HostRuntime) -> Result<(), Fail> {
+    let row = Run {
+        shows: "a name with a backslash and a letter outside ASCII",
+        words: "-r a\\\u{e9} -T fields -e frame.number",
+        filter: "",
+        file: &[],
+        status: Status::CannotOpen,
+        out: "",
+        err: "shark: cannot open a\\\\\\xc3\\xa9\n",
+    };
+    assert!(rt; comes_to(rt.alloc(), &row, "f", Vec::new(rt.alloc()), &NO_FAULTS)?);
+    Ok(())
+}
+
+/// A run that nothing outside fails, and that writes no line.
+fn ends_without_a_line(alloc: Global, file: Vec<u8>, status: Status) -> Result<bool, AllocError> {
+    let mut words = Vec::new(alloc);
+    for word in NUMBERS.split(' ') {
+        words.push(String::from_str(alloc, word)?)?;
+    }
+    let mut out = SureSink::new(alloc);
+    let found = sure_run(alloc, words.as_slice(), file, &mut out);
+    Ok(found == status && out.bytes().is_empty())
+}
+
+/// A block that isn't known and ends past byte 2^28, behind a section.
+const SECTION_AND_BLOCK: [&str; 2] = [
+    "0a0d0d0a 1c000000 4d3c2b1a 01000000 ffffffffffffffff 1c000000",
+    "0b000000 00000010",
+];
+
+// The file has 2^28 + 1 bytes.
+#[test]
+fn a_file_above_the_limit_is_too_large(rt: HostRuntime) -> Result<(), Fail> {
+    let alloc = rt.alloc();
+    let mut file = bytes_of(alloc, &SECTION_AND_BLOCK)?;
+    let room = vec![in alloc; 0; 65_536]?;
+    while file.len() < 268_435_457 {
+        let more = room.len().min(268_435_457 - file.len());
+        file.extend_from_slice(&room[..more])?;
+    }
+    assert!(rt; ends_without_a_line(alloc, file, Status::TooLarge)?);
+    Ok(())
+}
+
+#[test]
+fn the_same_file_cut_at_a_hundred_bytes_is_damaged(rt: HostRuntime) -> Result<(), Fail> {
+    let alloc = rt.alloc();
+    let mut file = bytes_of(alloc, &SECTION_AND_BLOCK)?;
+    file.extend_from_slice(&[0; 64])?;
+    assert!(rt; ends_without_a_line(alloc, file, Status::Damaged)?);
+    Ok(())
+}
+
+#[test]
+fn nothing_fails_where_nothing_outside_fails(rt: HostRuntime) -> Result<(), Fail> {
+    let alloc = rt.alloc();
+    let file = bytes_of(alloc, &[HEADER])?;
+    assert!(rt; ends_without_a_line(alloc, file, Status::Done)?);
+    Ok(())
+}
