@@ -1,7 +1,8 @@
-ghost use Rattle.std.specs.Prelude.{◌≡◌, IfOk, option_and_then, option_to_list};
+ghost use Rattle.std.specs.Prelude.{◌≡◌, ℕ, List, Ok, IfOk, option_and_then, option_to_list};
 ghost use Rattle.std.specs.Option.{option_copied};
 ghost use Rattle.shark_words.specs.Words.{texts};
 ghost use Rattle.shark_words.specs.Values.{count_of, shown_filter as filter_shown};
+ghost use Rattle.shark_words.specs.Spelled.{Spelled, spelled_words, asked_by, IsCommand, IsAsked};
 ghost use Rattle.shark_words.specs.Options.{value_in as value_in_use, value_of as value_given, values_of as values_given, options_of, Gives};
 
 use crate::fault::{WordFault, WordReason, WordsError};
@@ -71,9 +72,20 @@ fn read_most(most: Option<&Octets>) -> Option<u32>
 ///
 /// A word that begins with `-` and has more is an option: `-r`, `-Y`, `-T`, `-e` or `-c`. Its value is what is left of the
 /// word, or the next word where nothing is left. Words are numbered from 1, and the first fault in their order is told.
-#[tactic(auto, unfolding(crate::specs::Options::options_of))]
+#[tactic(auto, using(crate::proofs::Spelling::options_found, crate::proofs::Spelling::options_only))]
 pub fn read_words(alloc: Global, words: &[String]) -> Result<Options, WordsError>
     ensures computed { Gives result (options_of (texts words.now)) }
+    ensures found { (name : List ℕ) → (all : List Spelled) → texts words.now ≡ spelled_words all → IsCommand name all
+        → Gives result (Ok (asked_by name all)) }
+    ensures only { IfOk result (λ options. IsAsked (texts words.now) options) }
+{
+    options_in(alloc, words)
+}
+
+// First the faults word by word, then what is missing in all.
+#[tactic(auto, unfolding(crate::specs::Options::options_of))]
+fn options_in(alloc: Global, words: &[String]) -> Result<Options, WordsError>
+    ensures { Gives result (options_of (texts words.now)) }
 {
     let uses = uses_of(alloc, words)?;
     if let Some(fault) = first_fault(&uses) {
