@@ -1,6 +1,6 @@
 -- Words without a fault are options as they are written, and the values that are looked up are those that were written.
-use Rattle.std.proofs.Common.{◌≡◌, ℕ, ◌+◌, ◌<◌, ◌≤◌, length, suc, Bool, true, false, not, ◌||◌, ◌&&◌, ◌==◌, List, [], ◌∷◌, ◌++◌, Option, Some, None, refl, sym, ap, subst, ◌∙◌, arith, append-nil, eqb-true, eq-eqb, if◌then◌else◌}
-use Rattle.std.specs.Prelude.{nat_lt, option_and_then, Result, Ok, Err}
+use Rattle.std.proofs.Common.{◌≡◌, ℕ, ◌+◌, ◌≤◌, length, suc, Bool, true, false, not, ◌||◌, ◌&&◌, ◌==◌, List, [], ◌∷◌, ◌++◌, Option, Some, None, refl, sym, ap, subst, ◌∙◌, arith, eqb-true, eq-eqb, if◌then◌else◌}
+use Rattle.std.specs.Prelude.{nat_lt, option_and_then, Ok, Err}
 use Rattle.std.specs.Option.{option_or}
 use Rattle.std.proofs.lemmas.Option.{none-some, same_Some}
 use Rattle.std.proofs.lemmas.Bool.{both_ways, and_parts, ltb-true, lt-ltb}
@@ -14,7 +14,7 @@ use Rattle.shark_words.specs.declared.uses.Use.TheVariants.{Stray as stray}
 use Rattle.shark_words.specs.declared.fault.WordFault.{WordFault}
 use Rattle.shark_words.specs.Letters.{letter_of, letter_byte, is_same, may_repeat}
 use Rattle.shark_words.specs.Values.{is_value, count_of, shown_filter}
-use Rattle.shark_words.specs.Uses.{uses_from, option_at, uses_at, with_value, without_value}
+use Rattle.shark_words.specs.Uses.{uses_from, option_at, with_value}
 use Rattle.shark_words.specs.Faults.{first_fault, fault_of, is_given, is_use_of}
 use Rattle.shark_words.specs.declared.options.Options.{Options}
 use Rattle.shark_words.specs.declared.options.LineKind.TheVariants.{Fields}
@@ -161,18 +161,20 @@ one_sound : (word place number : ℕ) (other : Letter) (text : List ℕ) (before
     → first_fault before (with_value word other place text ∷ uses_from number None (spelled_words all)) ≡ None
     → ((is_value other text && are_values all) ≡ true)
     × ((letter : Letter) → may_repeat letter ≡ false
-        → taken (is_given letter before) + length ((if is_same letter other then text ∷ [] else []) ++ spelled_values letter all) ≤ 1)
+    → taken (is_given letter before) + length ((if is_same letter other then text ∷ [] else []) ++ spelled_values letter all) ≤ 1)
 unfolding first_fault
 one_sound word place number other text before all further h =
     let used = with_value word other place text in
     let parts = neither (fault_of before used) _ h in
     let here = no_fault (not (may_repeat other) && is_given other before) (is_value other text) _ _ parts.0 in
-    let more = further (before ++ used ∷ []) parts.1 in
-    (both_true here.1 more.0, λ letter once.
-        let counts : taken (is_given letter before || is_same letter other) + length (spelled_values letter all) ≤ 1
-            = rw (given_more letter other before word place text) at (more.1 letter once) in
-        taken_more (is_given letter before) (is_same letter other) text (spelled_values letter all)
-        (λ same. fresh (may_repeat letter) (is_given letter before) once (rw (same_letter letter other same) here.0)) counts)
+    let more = further (before ++ used ∷ []) parts.1 in (
+      both_true here.1 more.0,
+      λ letter once.
+          let counts : taken (is_given letter before || is_same letter other) + length (spelled_values letter all) ≤ 1
+          = rw (given_more letter other before word place text) at (more.1 letter once) in
+          taken_more (is_given letter before) (is_same letter other) text (spelled_values letter all)
+          (λ same. fresh (may_repeat letter) (is_given letter before) once (rw (same_letter letter other same) here.0)) counts,
+    )
 
 sound : (number : ℕ) (before : List Use) (all : List Spelled) → first_fault before (uses_from number None (spelled_words all)) ≡ None → IsSound before all
 unfolding uses_from
@@ -202,7 +204,7 @@ one_faultless : (word place number : ℕ) (other : Letter) (text : List ℕ) (be
     → ((before : List Use) → IsSound before all → first_fault before (uses_from number None (spelled_words all)) ≡ None)
     → (is_value other text && are_values all) ≡ true
     → ((letter : Letter) → may_repeat letter ≡ false
-        → taken (is_given letter before) + length ((if is_same letter other then text ∷ [] else []) ++ spelled_values letter all) ≤ 1)
+    → taken (is_given letter before) + length ((if is_same letter other then text ∷ [] else []) ++ spelled_values letter all) ≤ 1)
     → first_fault before (with_value word other place text ∷ uses_from number None (spelled_words all)) ≡ None
 unfolding first_fault
 one_faultless word place number other text before all further good once =
@@ -210,9 +212,12 @@ one_faultless word place number other text before all further good once =
     let both = and_parts (is_value other text) (are_values all) good in
     let new = not_again (may_repeat other) (is_given other before) (is_same other other) text (spelled_values other all) (is_same_itself other) (once other) in
     first_of_none (fault_of before used) _ (clean _ _ _ _ new both.0)
-    (further (before ++ used ∷ []) (both.1, λ letter may.
-        rw (given_more letter other before word place text)
-        (taken_less (is_given letter before) (is_same letter other) text (spelled_values letter all) (once letter may))))
+    (further (before ++ used ∷ []) (
+      both.1,
+      λ letter may.
+          rw (given_more letter other before word place text)
+          (taken_less (is_given letter before) (is_same letter other) text (spelled_values letter all) (once letter may)),
+    ))
 
 faultless : (number : ℕ) (before : List Use) (all : List Spelled) → IsSound before all → first_fault before (uses_from number None (spelled_words all)) ≡ None
 unfolding uses_from first_fault
@@ -287,16 +292,17 @@ only_spelled all options h =
     let asked = asked_ok (suc (length (spelled_words all))) (uses_from 0 None (spelled_words all)) (value_of Capture (uses_from 0 None (spelled_words all))) options judged.1 in
     let both = and_parts (is_given Kind (uses_from 0 None (spelled_words all))) (is_given Name (uses_from 0 None (spelled_words all))) asked.2 in
     let once : (letter : Letter) → may_repeat letter ≡ false → length (spelled_values letter all) ≤ 1
-        = λ letter may. let few = fine.1 letter may in omega arith in
-    (asked.0,
-    record {
+    = λ letter may. let few = fine.1 letter may in omega arith in (
+      asked.0,
+      record {
         values = fine.0;
         once = once;
         named = single (spelled_values Capture all) asked.0 (ap head_of (sym (values_spelled Capture 0 all)) ∙ asked.1) (once Capture refl);
         kind = ltb-true 0 _ (sym (given_spelled Kind 0 all) ∙ both.0);
         names = ltb-true 0 _ (sym (given_spelled Name 0 all) ∙ both.1);
-    },
-    rw (← values_spelled Filter 0 all) (rw (← values_spelled Name 0 all) (rw (← values_spelled Most 0 all) asked.3)))
+      },
+      rw (← values_spelled Filter 0 all) (rw (← values_spelled Name 0 all) (rw (← values_spelled Most 0 all) asked.3)),
+    )
 
 -- what is read is spelled
 pub options_only : (words : List (List ℕ)) (options : Options) → options_of words ≡ Ok options → IsAsked words options

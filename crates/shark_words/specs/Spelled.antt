@@ -1,5 +1,5 @@
 -- Options as they are written: a letter and its value, in one word or in two.
-use Rattle.std.specs.Prelude.{◌≡◌, ℕ, ◌<◌, ◌≤◌, Bool, true, false, ◌&&◌, length, List, [], ◌∷◌, ◌++◌, option_and_then, Option, Some, None, if◌then◌else◌}
+use Rattle.std.specs.Prelude.{◌≡◌, ℕ, ◌<◌, ◌≤◌, Bool, true, false, ◌&&◌, length, List, [], ◌∷◌, ◌++◌, option_and_then, if◌then◌else◌}
 use Rattle.shark_words.specs.declared.letter.Letter.{Letter}
 use Rattle.shark_words.specs.declared.letter.Letter.TheVariants.{Capture, Filter, Kind, Name, Most}
 use Rattle.shark_words.specs.declared.options.LineKind.TheVariants.{Fields}
