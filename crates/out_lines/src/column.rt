@@ -4,16 +4,20 @@ ghost use Rattle.std.specs.List.{flat_map};
 ghost use Rattle.pk_fields.specs.Fields.{row_of};
 ghost use Rattle.pk_tree.specs.declared.layer.Layer.{Layer};
 ghost use Rattle.pk_tree.specs.FieldValues.{item_values, layer_values, proto_values};
+ghost use Rattle.pk_tree.specs.Trees.{LayerFits, LayersFit};
 ghost use Rattle.pk_tree.specs.Values.{is_proto};
 ghost use Rattle.out_lines.specs.Columns.{is_wanted, front_of, with_text, with_value, with_values};
 
 use crate::style::{Occurrence, Style};
 use crate::value_text::put_value;
 use pk_base::NoMemory;
-use pk_fields::{FieldId, ValueKind, kind, name};
+use pk_fields::{FieldId, ValueKind, kind, name, proto};
 use pk_tree::{Item, Layer, Value};
 use std::alloc::Global;
 use std::marker::Model;
+
+/// How many bytes a column has room for from the start. Most are shorter.
+const COLUMN_ROOM: usize = 64;
 
 /// The text of a column so far, without quotes, and whether it has a value.
 #[derive(Drop)]
@@ -32,14 +36,14 @@ impl Model for Column {
 }
 
 impl Column {
-    pub(crate) fn new(alloc: Global) -> Column
-        ensures { result ≡ record { text = []; filled = false } }
+    pub(crate) fn new(alloc: Global) -> Result<Column, NoMemory>
+        ensures { IfOk result (λ column. column ≡ record { text = []; filled = false }) }
     {
-        Column {
-            text: Vec::new(alloc),
+        Ok(Column {
+            text: Vec::with_capacity(alloc, COLUMN_ROOM)?,
             filled: false,
             alloc,
-        }
+        })
     }
 
     pub(crate) fn clear(&mut self)
@@ -119,6 +123,7 @@ pub(crate) fn add_layers(
     field: FieldId,
     layers: &[Layer],
 ) -> Result<(), NoMemory>
+    requires { (buffers : List (List ℕ)) × LayersFit buffers [] layers.now }
     ensures { (buffers : List (List ℕ)) → OnOk result (column.new ≡ with_values style.now field column.old (flat_map (layer_values buffers field) layers.now)) }
 {
     if is_protocol(field) {
@@ -137,13 +142,13 @@ fn is_protocol(field: FieldId) -> bool
 fn add_protocol(
     column: &mut Column,
     style: &Style,
-    proto: FieldId,
+    field: FieldId,
     layers: &[Layer],
 ) -> Result<(), NoMemory>
-    ensures { (buffers : List (List ℕ)) → OnOk result (column.new ≡ with_values style.now proto column.old (flat_map (proto_values buffers proto) layers.now)) }
+    ensures { (buffers : List (List ℕ)) → OnOk result (column.new ≡ with_values style.now field column.old (flat_map (proto_values buffers field) layers.now)) }
 {
     for layer in layers {
-        add_layer_name(column, style, proto, layer)?;
+        add_layer_name(column, style, field, layer)?;
     }
     Ok(())
 }
@@ -152,13 +157,13 @@ fn add_protocol(
 fn add_layer_name(
     column: &mut Column,
     style: &Style,
-    proto: FieldId,
+    field: FieldId,
     layer: &Layer,
 ) -> Result<(), NoMemory>
-    ensures { (buffers : List (List ℕ)) → OnOk result (column.new ≡ with_values style.now proto column.old (proto_values buffers proto layer.now)) }
+    ensures { (buffers : List (List ℕ)) → OnOk result (column.new ≡ with_values style.now field column.old (proto_values buffers field layer.now)) }
 {
-    if layer.proto == proto {
-        column.add_text(style, name(proto))?;
+    if layer.proto == field {
+        column.add_text(style, name(field))?;
     }
     Ok(())
 }
@@ -169,15 +174,35 @@ fn add_items(
     field: FieldId,
     layers: &[Layer],
 ) -> Result<(), NoMemory>
+    requires { (buffers : List (List ℕ)) × LayersFit buffers [] layers.now }
     ensures { OnOk result (column.new ≡ with_values style.now field column.old (flat_map (λ (layer : Layer). item_values field layer.items) layers.now)) }
 {
+    let home = proto(field);
     for layer in layers {
-        add_layer_items(column, style, field, layer.items.slice())?;
+        add_layer_items(column, style, field, home, layer)?;
     }
     Ok(())
 }
 
+/// A layer's items of a field, which stand only in layers of the field's protocol.
 fn add_layer_items(
+    column: &mut Column,
+    style: &Style,
+    field: FieldId,
+    home: FieldId,
+    layer: &Layer,
+) -> Result<(), NoMemory>
+    requires fits { (buffers : List (List ℕ)) × (before : List Layer) × LayerFits buffers before layer.now }
+    requires home { home ≡ (row_of field).proto }
+    ensures { OnOk result (column.new ≡ with_values style.now field column.old (item_values field layer.now.items)) }
+{
+    if home != layer.proto {
+        return Ok(());
+    }
+    add_each(column, style, field, layer.items.slice())
+}
+
+fn add_each(
     column: &mut Column,
     style: &Style,
     field: FieldId,

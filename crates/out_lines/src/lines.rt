@@ -77,7 +77,7 @@ fn put_columns(
 ) -> Result<(), NoMemory>
     ensures { OnOk result (line.new.items ≡ line.old.items ++ join_by (column_text tree.now style.now) (style.now.separator ∷ []) fields.now) }
 {
-    let mut column = Column::new(alloc);
+    let mut column = Column::new(alloc)?;
     match fields {
         [] => Ok(()),
         [first, others @ ..] => {

@@ -1,10 +1,12 @@
-ghost use Rattle.std.specs.Prelude.{◌≡◌, length, IfOk};
+ghost use Rattle.std.specs.Prelude.{◌≡◌, ◌+◌, ◌≤◌, ◌<◌, ◌^◌, length, IfOk, OnOk};
 ghost use Rattle.pk_buffer.specs.Buffers.{IsInside};
+ghost use Rattle.pk_tree.specs.Layouts.{StepsFit};
+ghost use Rattle.pk_tree.specs.Values.{IsProtocol};
 
 use crate::{Occurrence, Quote, Style, field_line, header_line, summary_line};
 use pk_base::{NoMemory, Octets, Span};
 use pk_fields::{FieldId, ids};
-use pk_tree::{Tree, TreeBuilder, Value};
+use pk_tree::{Mode, Step, Tree, TreeBuilder, Value, read_layer};
 use std::alloc::Global;
 use std::process::Abort;
 
@@ -25,23 +27,40 @@ const SENDER: [u8; 6] = [0x02, 0, 0, 0, 0, 1];
 
 const EVERYONE: [u8; 6] = [0xff; 6];
 
+/// Adds a layer with these items.
+fn add(builder: &mut TreeBuilder, proto: FieldId, items: &[Step]) -> Result<(), NoMemory>
+    requires inside { IsInside builder.old.buffers (record { buffer = 0; start = 0; len = 5 }) }
+    requires proto { IsProtocol proto }
+    requires room { length builder.old.layers + 2 < 2 ^ 32 }
+    requires fits { StepsFit proto items.now }
+    ensures inside { IsInside builder.new.buffers (record { buffer = 0; start = 0; len = 5 }) }
+    ensures most { OnOk result (length builder.new.layers ≤ length builder.old.layers + 2) }
+{
+    read_layer(builder, proto, span(), items, Mode::Plain, false)?;
+    Ok(())
+}
+
 /// An ARP request of 60 bytes, of which `captured` were captured, to everyone on an Ethernet.
-#[tactic(auto, unfolding(pk_fields::specs::Fields::row_of, pk_fields::specs::Table::rows))]
+#[tactic(auto, unfolding(pk_tree::specs::Layouts::StepsFit, pk_fields::specs::Fields::row_of, pk_fields::specs::Table::rows))]
 fn request(rt: &HostRuntime, captured: u32) -> Result<TreeBuilder, NoMemory>
-    ensures count { IfOk result (λ builder. length builder.layers ≡ 3) }
-    ensures buffers { IfOk result (λ builder. IsInside builder.buffers (record { buffer = 0; start = 0; len = 5 })) }
+    ensures inside { IfOk result (λ builder. IsInside builder.buffers (record { buffer = 0; start = 0; len = 5 })) }
+    ensures most { IfOk result (λ builder. length builder.layers ≤ 6) }
 {
     let mut builder = TreeBuilder::new(rt.alloc(), Octets::copy(rt.alloc(), BYTES)?)?;
-    builder.open_layer(ids::FRAME, span())?;
-    builder.made_item(ids::FRAME_NUMBER, Value::Uint(1))?;
-    builder.made_item(ids::FRAME_TIME_RELATIVE, Value::Time(0))?;
-    builder.made_item(ids::FRAME_LEN, Value::Uint(60))?;
-    builder.made_item(ids::FRAME_CAP_LEN, Value::Uint(u64::from(captured)))?;
-    builder.open_layer(ids::ETH, span())?;
-    builder.made_item(ids::ETH_DST, Value::Ether(EVERYONE))?;
-    builder.made_item(ids::ETH_SRC, Value::Ether(SENDER))?;
-    builder.open_layer(ids::ARP, span())?;
-    builder.made_item(ids::ARP_OPCODE, Value::Uint(1))?;
+    let frame = [
+        Step::Made(ids::FRAME_NUMBER, Value::Uint(1)),
+        Step::Made(ids::FRAME_TIME_RELATIVE, Value::Time(0)),
+        Step::Made(ids::FRAME_LEN, Value::Uint(60)),
+        Step::Made(ids::FRAME_CAP_LEN, Value::Uint(u64::from(captured))),
+    ];
+    let eth = [
+        Step::Made(ids::ETH_DST, Value::Ether(EVERYONE)),
+        Step::Made(ids::ETH_SRC, Value::Ether(SENDER)),
+    ];
+    let arp = [Step::Made(ids::ARP_OPCODE, Value::Uint(1))];
+    add(&mut builder, ids::FRAME, &frame)?;
+    add(&mut builder, ids::ETH, &eth)?;
+    add(&mut builder, ids::ARP, &arp)?;
     Ok(builder)
 }
 
@@ -97,25 +116,38 @@ const KINDS: [(FieldId, &str); 12] = [
     (ids::DNS, "\n"),
 ];
 
-#[tactic(auto, unfolding(pk_fields::specs::Fields::row_of, pk_fields::specs::Table::rows))]
+#[tactic(auto, unfolding(pk_tree::specs::Layouts::StepsFit, pk_fields::specs::Fields::row_of, pk_fields::specs::Table::rows))]
 fn all_kinds(rt: &HostRuntime) -> Result<Tree, NoMemory> {
     let mut builder = TreeBuilder::new(rt.alloc(), Octets::copy(rt.alloc(), BYTES)?)?;
-    builder.open_layer(ids::FRAME, span())?;
-    builder.made_item(ids::FRAME_NUMBER, Value::Uint(4_294_967_295))?;
-    builder.made_item(ids::FRAME_TIME_DELTA, Value::Time(-1))?;
-    builder.open_layer(ids::SLL, span())?;
     let address = Octets::copy(rt.alloc(), b"\x00\xff\x7a")?;
-    builder.made_item(ids::SLL_SRC, Value::Bytes(address))?;
-    builder.open_layer(ids::IP, span())?;
-    builder.made_item(ids::IP_FLAGS_DF, Value::Bool(true))?;
-    builder.made_item(ids::IP_FLAGS_MF, Value::Bool(false))?;
-    builder.made_item(ids::IP_SRC, Value::Ip4(0xc633_6407))?;
-    builder.open_layer(ids::IPV6, span())?;
-    let six = 0x2001_0db8_0000_0000_0000_0000_0000_0001;
-    builder.made_item(ids::IPV6_SRC, Value::Ip6(six))?;
-    builder.open_layer(ids::HTTP, span())?;
     let host = Octets::copy(rt.alloc(), b"a\\b\x00\"")?;
-    builder.made_item(ids::HTTP_HOST, Value::Text(host))?;
+    let six = 0x2001_0db8_0000_0000_0000_0000_0000_0001;
+    let frame = [
+        Step::Made(ids::FRAME_NUMBER, Value::Uint(4_294_967_295)),
+        Step::Made(ids::FRAME_TIME_DELTA, Value::Time(-1)),
+    ];
+    let ip = [
+        Step::Made(ids::IP_FLAGS_DF, Value::Bool(true)),
+        Step::Made(ids::IP_FLAGS_MF, Value::Bool(false)),
+        Step::Made(ids::IP_SRC, Value::Ip4(0xc633_6407)),
+    ];
+    add(&mut builder, ids::FRAME, &frame)?;
+    add(
+        &mut builder,
+        ids::SLL,
+        &[Step::Made(ids::SLL_SRC, Value::Bytes(address))],
+    )?;
+    add(&mut builder, ids::IP, &ip)?;
+    add(
+        &mut builder,
+        ids::IPV6,
+        &[Step::Made(ids::IPV6_SRC, Value::Ip6(six))],
+    )?;
+    add(
+        &mut builder,
+        ids::HTTP,
+        &[Step::Made(ids::HTTP_HOST, Value::Text(host))],
+    )?;
     Ok(builder.finish())
 }
 
@@ -129,23 +161,27 @@ fn each_kind_of_value_has_its_text(rt: HostRuntime) -> Result<(), NoMemory> {
 }
 
 /// Two headers with sources and one without, and two texts with quotes behind an empty one.
-#[tactic(auto, unfolding(pk_fields::specs::Fields::row_of, pk_fields::specs::Table::rows))]
+#[tactic(auto, unfolding(pk_tree::specs::Layouts::StepsFit, pk_fields::specs::Fields::row_of, pk_fields::specs::Table::rows))]
 fn several(rt: &HostRuntime) -> Result<Tree, NoMemory> {
     let mut builder = TreeBuilder::new(rt.alloc(), Octets::copy(rt.alloc(), BYTES)?)?;
-    builder.open_layer(ids::IP, span())?;
-    builder.made_item(ids::IP_SRC, Value::Ip4(0x0a00_0001))?;
-    builder.made_item(ids::IP_ADDR, Value::Ip4(0x0a00_0001))?;
-    builder.open_layer(ids::IP, span())?;
-    builder.open_layer(ids::IP, span())?;
-    builder.made_item(ids::IP_SRC, Value::Ip4(0x0a00_0003))?;
-    builder.open_layer(ids::DNS, span())?;
     let empty = Octets::copy(rt.alloc(), b"")?;
-    builder.made_item(ids::DNS_TXT, Value::Text(empty))?;
-    builder.open_layer(ids::HTTP, span())?;
     let first = Octets::copy(rt.alloc(), b"\"it's\"")?;
-    builder.made_item(ids::HTTP_HOST, Value::Text(first))?;
     let second = Octets::copy(rt.alloc(), b"b")?;
-    builder.made_item(ids::HTTP_HOST, Value::Text(second))?;
+    let outer = [Step::Made(ids::IP_SRC, Value::Ip4(0x0a00_0001))];
+    let inner = [Step::Made(ids::IP_SRC, Value::Ip4(0x0a00_0003))];
+    let hosts = [
+        Step::Made(ids::HTTP_HOST, Value::Text(first)),
+        Step::Made(ids::HTTP_HOST, Value::Text(second)),
+    ];
+    add(&mut builder, ids::IP, &outer)?;
+    add(&mut builder, ids::IP, &[])?;
+    add(&mut builder, ids::IP, &inner)?;
+    add(
+        &mut builder,
+        ids::DNS,
+        &[Step::Made(ids::DNS_TXT, Value::Text(empty))],
+    )?;
+    add(&mut builder, ids::HTTP, &hosts)?;
     Ok(builder.finish())
 }
 
@@ -210,30 +246,37 @@ fn no_fields_are_an_empty_line(rt: HostRuntime) -> Result<(), NoMemory> {
 
 /// The first IP header has a target and no source, the second both; data and a fault stand behind.
 #[test]
-#[tactic(auto, unfolding(pk_fields::specs::Fields::row_of, pk_fields::specs::Table::rows))]
+#[tactic(auto, unfolding(pk_tree::specs::Layouts::StepsFit, pk_fields::specs::Fields::row_of, pk_fields::specs::Table::rows))]
 fn a_summary_tells_the_first_addresses_and_the_last_protocol(
     rt: HostRuntime,
 ) -> Result<(), NoMemory> {
     let mut builder = request(&rt, 20)?;
-    builder.open_layer(ids::IPV6, span())?;
-    builder.made_item(ids::IPV6_DST, Value::Ip6(1))?;
-    builder.open_layer(ids::IP, span())?;
-    builder.made_item(ids::IP_SRC, Value::Ip4(1))?;
-    builder.made_item(ids::IP_DST, Value::Ip4(2))?;
-    builder.open_layer(ids::DATA, span())?;
-    builder.open_layer(ids::WS_SHORT, span())?;
+    let inner = [
+        Step::Made(ids::IP_SRC, Value::Ip4(1)),
+        Step::Made(ids::IP_DST, Value::Ip4(2)),
+    ];
+    add(
+        &mut builder,
+        ids::IPV6,
+        &[Step::Made(ids::IPV6_DST, Value::Ip6(1))],
+    )?;
+    add(&mut builder, ids::IP, &inner)?;
+    add(&mut builder, ids::DATA, &[])?;
+    add(&mut builder, ids::WS_SHORT, &[])?;
     let line = summary_line(rt.alloc(), &builder.finish())?;
     assert!(rt; line.as_slice() == b"1 0.000000000 02:00:00:00:00:01 -> ::1 ip 60\n".as_slice());
     Ok(())
 }
 
 #[test]
-#[tactic(auto, unfolding(pk_fields::specs::Fields::row_of, pk_fields::specs::Table::rows))]
+#[tactic(auto, unfolding(pk_tree::specs::Layouts::StepsFit, pk_fields::specs::Fields::row_of, pk_fields::specs::Table::rows))]
 fn a_summary_has_a_dash_for_what_the_frame_has_not(rt: HostRuntime) -> Result<(), NoMemory> {
     let mut builder = TreeBuilder::new(rt.alloc(), Octets::copy(rt.alloc(), BYTES)?)?;
-    builder.open_layer(ids::FRAME, span())?;
-    builder.made_item(ids::FRAME_NUMBER, Value::Uint(7))?;
-    builder.made_item(ids::FRAME_LEN, Value::Uint(0))?;
+    let frame = [
+        Step::Made(ids::FRAME_NUMBER, Value::Uint(7)),
+        Step::Made(ids::FRAME_LEN, Value::Uint(0)),
+    ];
+    add(&mut builder, ids::FRAME, &frame)?;
     let line = summary_line(rt.alloc(), &builder.finish())?;
     assert!(rt; line.as_slice() == b"7 - - -> - frame 0\n".as_slice());
     Ok(())

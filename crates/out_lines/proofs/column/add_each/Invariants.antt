@@ -1,7 +1,7 @@
 use Rattle.std.proofs.Common.{◌≡◌, drop}
 use Rattle.pk_tree.specs.FieldValues.{item_values}
 use Rattle.out_lines.specs.Columns.{with_values}
-use Rattle.out_lines.proofs.column.add_layer_items.Given as goal
+use Rattle.out_lines.proofs.column.add_each.Given as goal
 
 abbrev pub invariant-loop-item : goal.invariant-loop-item
 invariant-loop-item l =
