@@ -4,4 +4,4 @@ use Rattle.shark_run.proofs.file.open_frames.Goals as goal
 pub returns-clause-frames : goal.returns-clause-frames
 returns-clause-frames g c =
     frames_opened c.args.plan.now (g.C.Capture.file c.args.capture.now) _ _ _ _ _
-    c.in_ok-name.ensures c.in-Ok.ensures.left c.in_ok-bytes.ensures.bytes c.in_ok-from_vec.ensures c.new.ensures
+    c.in_ok-name.ensures c.in-Ok.ensures.left c.in_ok-bytes.ensures.bytes c.in_ok-from_vec.ensures c.new.ensures.value
