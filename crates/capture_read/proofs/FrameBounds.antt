@@ -97,7 +97,7 @@ times-pieces read behind Known timely large known number at zero (b ∷ rest) ar
     let follows : ℕ → ℕ → Reading = λ next size. pieces read behind large (behind known (b ∷ rest)) next (suc at) (size - 1) rest in
     let here = timely known at (b ∷ rest) are is in
     let later : (next size : ℕ) → AreTimesSmall (follows next size).frames =
-      λ next size. times-pieces read behind Known timely large (behind known (b ∷ rest)) next (suc at) (size - 1) rest (λ k. are (suc k)) here.1 in
+    λ next size. times-pieces read behind Known timely large (behind known (b ∷ rest)) next (suc at) (size - 1) rest (λ k. are (suc k)) here.1 in
     elim (read known at (b ∷ rest)) as (λ piece. IsTimely piece → AreTimesSmall (after_piece number (b ∷ rest) follows piece).frames) [
       | End ending ↦ λ h. tt
       | Packet found ↦ λ h. (h, later (suc number) found.end)

@@ -41,7 +41,6 @@ packet_stays-by scope (read.Whole block.Other end) = tt
 pub packet_stays : (scope : Scope) (r : BlockRead) (found : Found) → step_of r ≡ step.Item found → scope_after r scope ≡ scope
 packet_stays scope r found is = subst (λ (s : BlockStep). IsPacket s (scope_after r scope ≡ scope)) is (packet_stays-by scope r)
 
-
 -- what a pcapng file stands for, by what is kept
 pub capture_of_pcapng : (file : List ℕ) → is_pcapng (held_part file) ≡ true
     → pieces (scoped_block (is_large file)) scope_behind (is_large file) (scope_of []) 1 0 0 (held_part file) ≡ capture_of file

@@ -44,11 +44,11 @@ unfolding pieces
 pieces-some read behind large known number at b rest within =
     elim (read known at (b ∷ rest))
     as (λ piece. IsPieceWithin piece (suc (length rest))
-      → after_piece number (b ∷ rest) (λ next size. pieces read behind large (behind known (b ∷ rest)) next (suc at) (size - 1) rest) piece
-      ≡ after_piece number (b ∷ rest) (λ next size. pieces read behind large (behind known (b ∷ rest)) next (at + size) 0 (drop size (b ∷ rest))) piece) [
+    → after_piece number (b ∷ rest) (λ next size. pieces read behind large (behind known (b ∷ rest)) next (suc at) (size - 1) rest) piece
+    ≡ after_piece number (b ∷ rest) (λ next size. pieces read behind large (behind known (b ∷ rest)) next (at + size) 0 (drop size (b ∷ rest))) piece) [
       | End ending ↦ λ within. refl
       | Packet found ↦ λ within. ap (with_frame (frame_of number found (b ∷ rest)))
-        (pieces-skip_after read behind large (behind known (b ∷ rest)) (suc number) at found.end b rest within.0 within.1)
+          (pieces-skip_after read behind large (behind known (b ∷ rest)) (suc number) at found.end b rest within.0 within.1)
       | Passed size ↦ λ within. pieces-skip_after read behind large (behind known (b ∷ rest)) number at size b rest within.0 within.1
     ] within
 
@@ -61,14 +61,14 @@ reads-from read behind large known at held [] is within = λ number. rw (sym is)
 reads-from read behind large known at held (b ∷ rest) is within =
     elim (read known at (b ∷ rest))
     as (λ piece. ((number : ℕ) → pieces read behind large known number at 0 (drop at held)
-      ≡ after_piece number (b ∷ rest) (λ next size. pieces read behind large (behind known (b ∷ rest)) next (at + size) 0 (drop size (b ∷ rest))) piece)
-      → Reads (λ next place. pieces read behind large known next place 0 (drop place held))
-      (λ next place. pieces read behind large (behind known (b ∷ rest)) next place 0 (drop place held)) at (b ∷ rest) piece) [
+    ≡ after_piece number (b ∷ rest) (λ next size. pieces read behind large (behind known (b ∷ rest)) next (at + size) 0 (drop size (b ∷ rest))) piece)
+    → Reads (λ next place. pieces read behind large known next place 0 (drop place held))
+    (λ next place. pieces read behind large (behind known (b ∷ rest)) next place 0 (drop place held)) at (b ∷ rest) piece) [
       | End ending ↦ λ steps number. steps number
       | Packet found ↦ λ steps number. steps number ∙ ap (λ (left : List ℕ). with_frame (frame_of number found (b ∷ rest))
-        (pieces read behind large (behind known (b ∷ rest)) (suc number) (at + found.end) 0 left)) (ap (drop found.end) is ∙ drop-drop found.end at held)
+          (pieces read behind large (behind known (b ∷ rest)) (suc number) (at + found.end) 0 left)) (ap (drop found.end) is ∙ drop-drop found.end at held)
       | Passed size ↦ λ steps number. steps number
-        ∙ ap (λ (left : List ℕ). pieces read behind large (behind known (b ∷ rest)) number (at + size) 0 left) (ap (drop size) is ∙ drop-drop size at held)
+          ∙ ap (λ (left : List ℕ). pieces read behind large (behind known (b ∷ rest)) number (at + size) 0 left) (ap (drop size) is ∙ drop-drop size at held)
     ] (λ number. rw (sym is) (pieces-some read behind large known number at b rest within))
 
 pub pieces-reads : {S : Type 0} (read : S → ℕ → List ℕ → Piece) (behind : S → List ℕ → S) (large : Bool) (known : S) (at : ℕ) (held : List ℕ)
@@ -99,11 +99,11 @@ pieces-same kept read behind kept_read kept_behind reads follows large known num
 pieces-same kept read behind kept_read kept_behind reads follows large known number at zero [] = refl
 pieces-same {S} {T} kept read behind kept_read kept_behind reads follows large known number at zero (b ∷ rest) =
     let later : (next size : ℕ) → pieces kept_read kept_behind large (kept_behind (kept known) (b ∷ rest)) next (suc at) (size - 1) rest
-      ≡ pieces read behind large (behind known (b ∷ rest)) next (suc at) (size - 1) rest =
-      λ next size. ap (λ (t : T). pieces kept_read kept_behind large t next (suc at) (size - 1) rest) (follows known (b ∷ rest))
-      ∙ pieces-same kept read behind kept_read kept_behind reads follows large (behind known (b ∷ rest)) next (suc at) (size - 1) rest in
+    ≡ pieces read behind large (behind known (b ∷ rest)) next (suc at) (size - 1) rest =
+    λ next size. ap (λ (t : T). pieces kept_read kept_behind large t next (suc at) (size - 1) rest) (follows known (b ∷ rest))
+    ∙ pieces-same kept read behind kept_read kept_behind reads follows large (behind known (b ∷ rest)) next (suc at) (size - 1) rest in
     ap (λ (piece : Piece). after_piece number (b ∷ rest)
-      (λ next size. pieces kept_read kept_behind large (kept_behind (kept known) (b ∷ rest)) next (suc at) (size - 1) rest) piece)
+    (λ next size. pieces kept_read kept_behind large (kept_behind (kept known) (b ∷ rest)) next (suc at) (size - 1) rest) piece)
     (reads known at (b ∷ rest))
     ∙ after_piece-same number (b ∷ rest)
     (λ next size. pieces kept_read kept_behind large (kept_behind (kept known) (b ∷ rest)) next (suc at) (size - 1) rest)

@@ -1,5 +1,5 @@
 use crate::{Damage, Ending, HeldFrames, NextFrame, frames};
-use pk_base::{Octets, Reason};
+use pk_base::{NoMemory, Octets, Reason, file_limit};
 use std::alloc::{AllocError, Global};
 use std::test::Fail;
 
@@ -21,6 +21,57 @@ const RECORD: [u8; 19] = [
 /// One captured byte of one, taken 5.000000007 seconds after the start of 1970, in a big-endian file.
 const BIG_RECORD: [u8; 17] = [0, 0, 0, 5, 0, 0, 0, 7, 0, 0, 0, 1, 0, 0, 0, 1, 0xDD];
 
+/// The head of a record of 60 captured bytes of 60, taken at the start of 1970, in a little-endian file.
+const RECORD_HEAD: [u8; 16] = [0, 0, 0, 0, 0, 0, 0, 0, 60, 0, 0, 0, 60, 0, 0, 0];
+
+/// A request of ARP from 10.0.0.1 for 10.0.0.2, in an Ethernet frame (RFC 826).
+const REQUEST: [u8; 60] = [
+    0xFF, 0xFF, 0xFF, 0xFF, 0xFF, 0xFF, 2, 0, 0, 0, 0, 1, 8, 6, 0, 1, 8, 0, 6, 4, 0, 1, 2, 0, 0, 0,
+    0, 1, 10, 0, 0, 1, 0, 0, 0, 0, 0, 0, 10, 0, 0, 2, 0, 0, 0, 0, 0, 0, 0, 0, 0, 0, 0, 0, 0, 0, 0,
+    0, 0, 0,
+];
+
+/// A little-endian section, version 1.0, of unknown length.
+const SECTION: [u8; 28] = [
+    0x0A, 0x0D, 0x0D, 0x0A, 28, 0, 0, 0, 0x4D, 0x3C, 0x2B, 0x1A, 1, 0, 0, 0, 0xFF, 0xFF, 0xFF,
+    0xFF, 0xFF, 0xFF, 0xFF, 0xFF, 28, 0, 0, 0,
+];
+
+/// A big-endian section, version 1.0, of unknown length.
+const BIG_SECTION: [u8; 28] = [
+    0x0A, 0x0D, 0x0D, 0x0A, 0, 0, 0, 28, 0x1A, 0x2B, 0x3C, 0x4D, 0, 1, 0, 0, 0xFF, 0xFF, 0xFF,
+    0xFF, 0xFF, 0xFF, 0xFF, 0xFF, 0, 0, 0, 28,
+];
+
+/// An Ethernet interface without options.
+const ETHERNET: [u8; 20] = [1, 0, 0, 0, 20, 0, 0, 0, 1, 0, 0, 0, 0, 0, 0, 0, 20, 0, 0, 0];
+
+/// The same in a big-endian section.
+const BIG_ETHERNET: [u8; 20] = [0, 0, 0, 1, 0, 0, 0, 20, 0, 1, 0, 0, 0, 0, 0, 0, 0, 0, 0, 20];
+
+/// An enhanced packet of interface 0 at tick 5, with three captured bytes of 60.
+const PACKET: [u8; 36] = [
+    6, 0, 0, 0, 36, 0, 0, 0, 0, 0, 0, 0, 0, 0, 0, 0, 5, 0, 0, 0, 3, 0, 0, 0, 60, 0, 0, 0, 0xAA,
+    0xBB, 0xCC, 0, 36, 0, 0, 0,
+];
+
+/// An enhanced packet of interface 0 at tick 1,000,000, with one captured byte of one, in a big-endian section.
+const BIG_PACKET: [u8; 36] = [
+    0, 0, 0, 6, 0, 0, 0, 36, 0, 0, 0, 0, 0, 0, 0, 0, 0, 0x0F, 0x42, 0x40, 0, 0, 0, 1, 0, 0, 0, 1,
+    0xDD, 0, 0, 0, 0, 0, 0, 36,
+];
+
+/// A block of type 0x0BAD, of which the format says nothing, in a big-endian section.
+const BIG_UNKNOWN: [u8; 12] = [0, 0, 0x0B, 0xAD, 0, 0, 0, 12, 0, 0, 0, 12];
+
+/// A section, an Ethernet interface whose clock counts 2^-10 seconds, and a packet of no bytes at tick 1.
+const BINARY_CLOCK: [u8; 92] = [
+    0x0A, 0x0D, 0x0D, 0x0A, 28, 0, 0, 0, 0x4D, 0x3C, 0x2B, 0x1A, 1, 0, 0, 0, 0xFF, 0xFF, 0xFF,
+    0xFF, 0xFF, 0xFF, 0xFF, 0xFF, 28, 0, 0, 0, 1, 0, 0, 0, 32, 0, 0, 0, 1, 0, 0, 0, 0, 0, 4, 0, 9,
+    0, 1, 0, 0x8A, 0, 0, 0, 0, 0, 0, 0, 32, 0, 0, 0, 6, 0, 0, 0, 32, 0, 0, 0, 0, 0, 0, 0, 0, 0, 0,
+    0, 1, 0, 0, 0, 0, 0, 0, 0, 0, 0, 0, 0, 32, 0, 0, 0,
+];
+
 fn joined(alloc: Global, parts: &[&[u8]]) -> Result<Vec<u8>, AllocError> {
     let mut all = Vec::new(alloc);
     for part in parts {
@@ -41,7 +92,7 @@ fn file_without_a_header_has_no_frames(rt: HostRuntime) -> Result<(), Fail> {
     assert_eq!(rt; empty, short);
     assert_eq!(rt; frames(rt.alloc(), &LITTLE[..3])?.1, short);
     assert_eq!(rt; frames(rt.alloc(), &LITTLE[..23])?.1, short);
-    let (_, unknown) = frames(rt.alloc(), &[0x0A, 0x0D, 0x0D, 0x0A])?;
+    let (_, unknown) = frames(rt.alloc(), &[0x0A, 0x0D, 0x0D, 0x0D])?;
     assert_eq!(rt; unknown, damage(0, Reason::UnknownMagic));
     Ok(())
 }
@@ -101,5 +152,165 @@ fn big_endian_frames_come_one_by_one(rt: HostRuntime) -> Result<(), Fail> {
     for _ in 0..2 {
         assert!(rt; matches!(held.next_frame()?, NextFrame::End(Ending::Whole)));
     }
+    Ok(())
+}
+
+/// How many frames a file has, and how it ends.
+fn read(alloc: Global, parts: &[&[u8]]) -> Result<(usize, Ending), NoMemory> {
+    let (list, ending) = frames(alloc, &joined(alloc, parts)?)?;
+    Ok((list.slice().len(), ending))
+}
+
+#[test]
+fn last_byte_of_three_requests_is_missed(rt: HostRuntime) -> Result<(), Fail> {
+    let two = [
+        LITTLE.as_slice(),
+        &RECORD_HEAD,
+        &REQUEST,
+        &RECORD_HEAD,
+        &REQUEST,
+    ];
+    assert_eq!(rt; read(rt.alloc(), &two)?, (2, Ending::Whole));
+    let bytes = joined(rt.alloc(), &two)?;
+    let cut = read(rt.alloc(), &[&bytes, &RECORD_HEAD, &REQUEST[..59]])?;
+    assert_eq!(rt; cut, (2, damage(176, Reason::RecordCut)));
+    Ok(())
+}
+
+#[test]
+fn frames_of_two_sections_are_numbered_through(rt: HostRuntime) -> Result<(), Fail> {
+    // An Ethernet interface whose clock counts nanoseconds.
+    let nano = [
+        1, 0, 0, 0, 32, 0, 0, 0, 1, 0, 0, 0, 0, 0, 0, 0, 9, 0, 1, 0, 9, 0, 0, 0, 0, 0, 0, 0, 32, 0,
+        0, 0,
+    ];
+    let parts = [
+        BIG_SECTION.as_slice(),
+        &BIG_ETHERNET,
+        &BIG_PACKET,
+        &BIG_UNKNOWN,
+        &SECTION,
+        &nano,
+        &PACKET,
+    ];
+    let (list, ending) = frames(rt.alloc(), &joined(rt.alloc(), &parts)?)?;
+    assert_eq!(rt; ending, Ending::Whole);
+    let [first, second] = list.slice() else {
+        return Err("not two frames".into());
+    };
+    assert_eq!(rt; (first.number, first.time), (1, Some(1_000_000_000)));
+    assert_eq!(rt; (first.link, first.little, first.original), (1, false, 1));
+    assert_eq!(rt; first.bytes.bytes(), [0xDD].as_slice());
+    assert_eq!(rt; (second.number, second.time), (2, Some(5)));
+    assert_eq!(rt;
+        (second.link, second.little, second.original),
+        (1, true, 60)
+    );
+    assert_eq!(rt; second.bytes.bytes(), [0xAA, 0xBB, 0xCC].as_slice());
+    Ok(())
+}
+
+#[test]
+fn binary_clock_is_rounded_down(rt: HostRuntime) -> Result<(), Fail> {
+    let mut held = HeldFrames::new(rt.alloc(), Octets::copy(rt.alloc(), &BINARY_CLOCK)?);
+    let NextFrame::Frame(first) = held.next_frame()? else {
+        return Err("no frame".into());
+    };
+    assert_eq!(rt; (first.number, first.time), (1, Some(976_562)));
+    for _ in 0..2 {
+        assert!(rt; matches!(held.next_frame()?, NextFrame::End(Ending::Whole)));
+    }
+    Ok(())
+}
+
+#[test]
+fn packet_of_no_interface_is_damage(rt: HostRuntime) -> Result<(), Fail> {
+    let mut bytes = BINARY_CLOCK;
+    bytes[68] = 1;
+    let missing = read(rt.alloc(), &[&bytes])?;
+    assert_eq!(rt; missing, (0, damage(60, Reason::BadInterface)));
+    // A section has none of the interfaces of the one before it.
+    let anew = read(rt.alloc(), &[&BINARY_CLOCK, &SECTION, &PACKET])?;
+    assert_eq!(rt; anew, (1, damage(120, Reason::BadInterface)));
+    Ok(())
+}
+
+#[test]
+fn wrong_lengths_are_damage_behind_the_frames_before(rt: HostRuntime) -> Result<(), Fail> {
+    let before = joined(rt.alloc(), &[&SECTION, &ETHERNET, &PACKET, &PACKET])?;
+    let kinds: [[u8; 4]; 6] = [
+        [0x0A, 0x0D, 0x0D, 0x0A],
+        [1, 0, 0, 0],
+        [2, 0, 0, 0],
+        [3, 0, 0, 0],
+        [6, 0, 0, 0],
+        [11, 0, 0, 0],
+    ];
+    // A block of 36 bytes that tells one of these lengths, and another behind its body.
+    let lengths: [([u8; 4], [u8; 4], Reason); 6] = [
+        ([0, 0, 0, 0], [0, 0, 0, 0], Reason::BlockLength),
+        ([4, 0, 0, 0], [4, 0, 0, 0], Reason::BlockLength),
+        ([35, 0, 0, 0], [35, 0, 0, 0], Reason::BlockLength),
+        ([36, 0, 0, 0], [40, 0, 0, 0], Reason::BlockLength),
+        ([40, 0, 0, 0], [40, 0, 0, 0], Reason::BlockCut),
+        ([0xFC, 0xFF, 0xFF, 0xFF], [0; 4], Reason::BlockCut),
+    ];
+    let body = [
+        0x4D, 0x3C, 0x2B, 0x1A, 1, 0, 0, 0, 0, 0, 0, 0, 0, 0, 0, 0, 0, 0, 0, 0, 0, 0, 0, 0,
+    ];
+    for kind in kinds {
+        for (total, repeated, reason) in lengths {
+            let all = read(rt.alloc(), &[&before, &kind, &total, &body, &repeated])?;
+            assert_eq!(rt; all, (2, damage(120, reason)));
+        }
+        let few = read(rt.alloc(), &[&before, &kind, &[28, 0, 0, 0], &body[..3]])?;
+        assert_eq!(rt; few, (2, damage(120, Reason::BlockCut)));
+    }
+    Ok(())
+}
+
+#[test]
+fn block_that_is_not_read_is_damage_where_it_begins(rt: HostRuntime) -> Result<(), Fail> {
+    let before = joined(rt.alloc(), &[&BIG_SECTION, &BIG_ETHERNET, &BIG_PACKET])?;
+    let mut magic = SECTION;
+    magic[8] = 0;
+    let mut version = SECTION;
+    version[12] = 2;
+    // An interface with the head of an option of 8 bytes, of which its block has none.
+    let long_option = [
+        0, 0, 0, 1, 0, 0, 0, 24, 0, 1, 0, 0, 0, 0, 0, 0, 0, 2, 0, 8, 0, 0, 0, 24,
+    ];
+    // An interface whose clock counts 10^-19 seconds.
+    let fine_clock = [
+        0, 0, 0, 1, 0, 0, 0, 28, 0, 1, 0, 0, 0, 0, 0, 0, 0, 9, 0, 1, 19, 0, 0, 0, 0, 0, 0, 28,
+    ];
+    let mut long_packet = BIG_PACKET;
+    long_packet[21] = 5;
+    let cases: [(&[u8], Reason); 5] = [
+        (&magic, Reason::UnknownMagic),
+        (&version, Reason::BadVersion),
+        (&long_option, Reason::BadOption),
+        (&fine_clock, Reason::BadResolution),
+        (&long_packet, Reason::TooLong),
+    ];
+    for (block, reason) in cases {
+        let all = read(rt.alloc(), &[&before, block, &BIG_PACKET])?;
+        assert_eq!(rt; all, (1, damage(84, reason)));
+    }
+    Ok(())
+}
+
+#[test]
+fn block_past_the_limit_is_too_large(rt: HostRuntime) -> Result<(), Fail> {
+    // A block of 2^28 bytes.
+    let head = joined(rt.alloc(), &[&SECTION, &[11, 0, 0, 0, 0, 0, 0, 0x10]])?;
+    let cut = read(rt.alloc(), &[&head, &[0; 64]])?;
+    assert_eq!(rt; cut, (0, damage(28, Reason::BlockCut)));
+    let mut bytes = vec![in rt.alloc(); 0; file_limit() + 1]?;
+    bytes[..28].copy_from_slice(&SECTION);
+    bytes[28] = 11;
+    bytes[35] = 0x10;
+    let (list, ending) = frames(rt.alloc(), &bytes)?;
+    assert_eq!(rt; (list.slice().len(), ending), (0, Ending::TooLarge));
     Ok(())
 }
