@@ -1,0 +1,2 @@
+pub mod Icmp
+pub mod Icmp6

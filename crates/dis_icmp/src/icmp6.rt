@@ -1,0 +1,92 @@
+ghost use Rattle.std.specs.Prelude.{◌≡◌, ◌≢◌, ℕ, ◌+◌, ◌<◌, ◌≤◌, ◌^◌, length, true, false, IfOk, OnOk};
+ghost use Rattle.pk_buffer.specs.Buffers.{IsInside, bytes_of};
+ghost use Rattle.pk_fields.specs.Ids.{ICMPV6};
+ghost use Rattle.pk_tree.specs.Following.{LeadsInside};
+ghost use Rattle.pk_tree.specs.Layouts.{layer_read, reach};
+ghost use Rattle.pk_tree.specs.Trees.{last_proto};
+ghost use Rattle.dis_icmp.specs.Icmp6.{icmp6_rows, icmp6_layout, icmp6_after, is_echo, next_of_message};
+
+use pk_base::{NoMemory, Span};
+use pk_fields::ids;
+use pk_tree::{After, Mode, Next, Reach, Step, TreeBuilder, carried, peek, read_layer};
+
+/// The bytes of a message up to what follows.
+const HEADER: u32 = 8;
+
+// Types of messages (RFC 4443, 2.1).
+const DESTINATION_UNREACHABLE: u8 = 1;
+
+const PACKET_TOO_BIG: u8 = 2;
+
+const TIME_EXCEEDED: u8 = 3;
+
+const PARAMETER_PROBLEM: u8 = 4;
+
+const ECHO_REQUEST: u8 = 128;
+
+const ECHO_REPLY: u8 = 129;
+
+/// Reads an ICMPv6 message (RFC 4443, 2.1). One about a packet carries the packet's first bytes.
+#[tactic(auto, unfolding(crate::specs::Icmp6::icmp6_rows, crate::specs::Icmp6::icmp6_after, pk_tree::specs::Layouts::StepsFit, pk_fields::specs::Fields::row_of, pk_fields::specs::Table::rows))]
+pub fn read_icmp6(span: Span, cut: bool, mode: Mode, b: &mut TreeBuilder) -> Result<After, NoMemory>
+    requires inside { IsInside b.old.buffers span }
+    requires room { length b.old.layers + 2 < 2 ^ 32 }
+    ensures layer { IfOk result (λ _. b.new ≡ layer_read b.old ICMPV6 span (icmp6_layout (bytes_of b.old.buffers span)) mode cut) }
+    ensures after { IfOk result (λ after. after ≡ icmp6_after span (bytes_of b.old.buffers span)) }
+    ensures inside { IfOk result (LeadsInside b.old.buffers) }
+    ensures whole { IfOk result (λ after. after ≢ After.End → last_proto b.new.layers ≡ ICMPV6) }
+    ensures buffers { b.new.buffers ≡ b.old.buffers }
+    ensures some { OnOk result (0 < length b.new.layers) }
+    ensures most { OnOk result (length b.new.layers ≤ length b.old.layers + 2) }
+{
+    let kind = peek(b.bytes(span), 0, 8) as u8;
+    if is_echo(kind) {
+        read_layer(b, ids::ICMPV6, span, &echo_steps(), mode, cut)?;
+    } else {
+        read_layer(b, ids::ICMPV6, span, &other_steps(), mode, cut)?;
+    }
+    Ok(carried(next_of_message(kind), span, HEADER))
+}
+
+#[tactic(auto, unfolding(crate::specs::Icmp6::icmp6_rows, pk_tree::specs::Layouts::reach, pk_tree::specs::Layouts::step_reach, pk_fields::specs::Fields::row_of, pk_fields::specs::Table::rows))]
+fn echo_steps() -> [Step; 5]
+    ensures layout { result ≡ icmp6_rows true }
+    ensures whole { (end : ℕ) → 8 ≤ end → reach end result ≡ Reach.All }
+{
+    [
+        Step::Row(ids::ICMPV6_TYPE, 0),
+        Step::Row(ids::ICMPV6_CODE, 1),
+        Step::Row(ids::ICMPV6_CHECKSUM, 2),
+        Step::Row(ids::ICMPV6_ECHO_IDENTIFIER, 4),
+        Step::Row(ids::ICMPV6_ECHO_SEQUENCE_NUMBER, 6),
+    ]
+}
+
+#[tactic(auto, unfolding(crate::specs::Icmp6::icmp6_rows, pk_tree::specs::Layouts::reach, pk_tree::specs::Layouts::step_reach, pk_fields::specs::Fields::row_of, pk_fields::specs::Table::rows))]
+fn other_steps() -> [Step; 4]
+    ensures layout { result ≡ icmp6_rows false }
+    ensures whole { (end : ℕ) → 8 ≤ end → reach end result ≡ Reach.All }
+{
+    [
+        Step::Row(ids::ICMPV6_TYPE, 0),
+        Step::Row(ids::ICMPV6_CODE, 1),
+        Step::Row(ids::ICMPV6_CHECKSUM, 2),
+        Step::Part(ids::ICMPV6_REST, 4, 4),
+    ]
+}
+
+fn is_echo(kind: u8) -> bool
+    ensures { result ≡ is_echo kind }
+{
+    kind == ECHO_REQUEST || kind == ECHO_REPLY
+}
+
+/// What a message carries.
+fn next_of_message(kind: u8) -> Next
+    ensures { result ≡ next_of_message kind }
+{
+    match kind {
+        DESTINATION_UNREACHABLE | PACKET_TOO_BIG | TIME_EXCEEDED | PARAMETER_PROBLEM => Next::Ip6,
+        _ => Next::Rest,
+    }
+}
