@@ -42,7 +42,7 @@ pub fn read_udp(span: Span, cut: bool, mode: Mode, b: &mut TreeBuilder) -> Resul
 #[tactic(auto, unfolding(crate::specs::Udp::udp_layout, pk_tree::specs::Layouts::reach, pk_tree::specs::Layouts::step_reach, pk_fields::specs::Fields::row_of, pk_fields::specs::Table::rows))]
 fn udp_steps(bytes: &[u8]) -> [Step; 7]
     ensures layout { result ≡ udp_layout bytes.now }
-    ensures whole { (end : ℕ) → reach end result ≡ Reach.All → 8 ≤ end }
+    ensures header { (end : ℕ) → reach end result ≡ Reach.All → 8 ≤ end }
 {
     [
         Step::Row(ids::UDP_SRCPORT, 0),
