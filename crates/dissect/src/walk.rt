@@ -10,7 +10,9 @@ use crate::frame_layer::{captured, frame_span, is_cut};
 use crate::state::State;
 use crate::todo::{Head, Todo};
 use capture_read::Frame;
+use dis_ip::{read_extension, read_ip4, read_ip6};
 use dis_link::{read_arp, read_link, read_vlan};
+use dis_ports::{read_tcp, read_udp};
 use pk_base::{LAYER_LIMIT, NoMemory, Span};
 use pk_tree::{
     Address, After, FragmentHead, Mode, Next, PacketHead, PortsHead, TcpHead, TreeBuilder,
@@ -127,7 +129,7 @@ impl State {
         }
     }
 
-    /// Reads a header by its protocol. The protocols that aren't read so far are shown as data.
+    /// Reads a header by its protocol. ICMP is shown as data so far.
     #[tactic(auto, unfolding(crate::specs::Walks::head_by))]
     fn head(&mut self, frame: &Frame, head: Head, tree: &mut TreeBuilder) -> Result<Todo, NoMemory>
         requires inside { IsInside tree.old.buffers head.span }
@@ -147,17 +149,34 @@ impl State {
                 let after = read_vlan(head.span, is_cut(frame), head.mode, tree)?;
                 self.follow(frame, head.packet, head.mode, after, tree)
             }
-            Next::Ip4
-            | Next::Ip6
-            | Next::Icmp
-            | Next::Icmp6
-            | Next::Udp
-            | Next::Tcp
-            | Next::HopOpts
-            | Next::Routing
-            | Next::DstOpts
-            | Next::FragHdr
-            | Next::Rest => self.rest(head.span, tree),
+            Next::Ip4 => {
+                let after = read_ip4(head.span, is_cut(frame), head.mode, tree)?;
+                self.follow(frame, head.packet, head.mode, after, tree)
+            }
+            Next::Ip6 => {
+                let after = read_ip6(head.span, is_cut(frame), head.mode, tree)?;
+                self.follow(frame, head.packet, head.mode, after, tree)
+            }
+            Next::HopOpts | Next::Routing | Next::DstOpts | Next::FragHdr => {
+                let after = read_extension(
+                    head.which,
+                    &head.packet,
+                    head.span,
+                    is_cut(frame),
+                    head.mode,
+                    tree,
+                )?;
+                self.follow(frame, head.packet, head.mode, after, tree)
+            }
+            Next::Udp => {
+                let after = read_udp(head.span, is_cut(frame), head.mode, tree)?;
+                self.follow(frame, head.packet, head.mode, after, tree)
+            }
+            Next::Tcp => {
+                let after = read_tcp(head.span, is_cut(frame), head.mode, tree)?;
+                self.follow(frame, head.packet, head.mode, after, tree)
+            }
+            Next::Icmp | Next::Icmp6 | Next::Rest => self.rest(head.span, tree),
         }
     }
 
