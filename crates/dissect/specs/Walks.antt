@@ -32,6 +32,7 @@ use Rattle.dissect.specs.declared.todo.Todo.TheVariants as todos
 use Rattle.dissect.specs.DataLayer.{data_over}
 use Rattle.dissect.specs.Events.{Event}
 use Rattle.dissect.specs.FrameLayer.{frame_span, is_cut}
+use Rattle.dissect.specs.Payloads.{datagram_told, segment_told}
 
 -- how far a frame is read: the tree so far, all events up to here, the newest first, and what is to be read next
 pub record Walk : Type 0 where
@@ -62,13 +63,13 @@ no_packet = record { source = Four 0; target = Four 0; whole = false }
 unfoldable pub fragment_met : Frame → PacketHead → TreeShown → List Event → FragmentHead → Span → Walk
 fragment_met frame packet t es head span = rest_met t es span
 
--- what a UDP header carries; so far it is shown as data
+-- what a UDP header carries; so far it is shown as data, beside an item in the header's layer
 unfoldable pub datagram_met : Frame → PacketHead → TreeShown → List Event → PortsHead → Span → Walk
-datagram_met frame packet t es head span = rest_met t es span
+datagram_met frame packet t es head span = rest_met (datagram_told t span) es span
 
--- what a TCP header carries; so far it is shown as data
+-- what a TCP header carries; so far it is shown as data, beside items in the header's layer
 unfoldable pub segment_met : Frame → PacketHead → TreeShown → List Event → TcpHead → Span → Walk
-segment_met frame packet t es head span = rest_met t es span
+segment_met frame packet t es head span = rest_met (segment_told t span) es span
 
 -- what follows a header, given the IP header of the packet that it is in
 unfoldable pub followed : Frame → PacketHead → Mode → TreeShown → List Event → After → Walk

@@ -2,11 +2,14 @@ ghost use Rattle.std.specs.Prelude.{◌≡◌, ◌+◌, ◌*◌, ◌-◌, ◌<�
 ghost use Rattle.pk_buffer.specs.Buffers.{IsInside};
 ghost use Rattle.pk_tree.specs.Following.{LeadsInside};
 ghost use Rattle.dissect.specs.Events.{Event};
+ghost use Rattle.pk_fields.specs.Ids.{UDP, TCP};
+ghost use Rattle.dissect.specs.Payloads.{LastIs, ComesBehind};
 ghost use Rattle.dissect.specs.Stands.{StandsAt, IsWalked};
 ghost use Rattle.dissect.specs.Walks.{IsTodoInside, fragment_met, datagram_met, segment_met, rest_met, followed, head_met, head_by, step_on, rest_on, chain, going, link_met, all_met, no_packet};
 
 use crate::data_layer::add_data;
 use crate::frame_layer::{captured, frame_span, is_cut};
+use crate::payload::{tell_datagram, tell_segment};
 use crate::state::State;
 use crate::todo::{Head, Todo};
 use capture_read::Frame;
@@ -63,12 +66,14 @@ impl State {
         tree: &mut TreeBuilder,
     ) -> Result<Todo, NoMemory>
         requires inside { IsInside tree.old.buffers span }
+        requires last { LastIs UDP tree.old.layers }
         requires room { length tree.old.layers + 2 < 2 ^ 32 }
         ensures inside { IfOk result (λ todo. IsTodoInside tree.new.buffers todo) }
         ensures walked { IfOk result (λ todo. (es : List Event) → StandsAt es self.old → IsWalked (datagram_met frame.now packet tree.old es head span) self.new tree.new todo) }
         ensures buffers { tree.new.buffers ≡ tree.old.buffers }
         ensures most { OnOk result (length tree.new.layers ≤ length tree.old.layers + 2) }
     {
+        tell_datagram(span, tree)?;
         self.rest(span, tree)
     }
 
@@ -83,12 +88,14 @@ impl State {
         tree: &mut TreeBuilder,
     ) -> Result<Todo, NoMemory>
         requires inside { IsInside tree.old.buffers span }
+        requires last { LastIs TCP tree.old.layers }
         requires room { length tree.old.layers + 2 < 2 ^ 32 }
         ensures inside { IfOk result (λ todo. IsTodoInside tree.new.buffers todo) }
         ensures walked { IfOk result (λ todo. (es : List Event) → StandsAt es self.old → IsWalked (segment_met frame.now packet tree.old es head span) self.new tree.new todo) }
         ensures buffers { tree.new.buffers ≡ tree.old.buffers }
         ensures most { OnOk result (length tree.new.layers ≤ length tree.old.layers + 2) }
     {
+        tell_segment(span, tree)?;
         self.rest(span, tree)
     }
 
@@ -103,6 +110,7 @@ impl State {
         tree: &mut TreeBuilder,
     ) -> Result<Todo, NoMemory>
         requires inside { LeadsInside tree.old.buffers after }
+        requires last { ComesBehind after tree.old.layers }
         requires room { length tree.old.layers + 2 < 2 ^ 32 }
         ensures inside { IfOk result (λ todo. IsTodoInside tree.new.buffers todo) }
         ensures walked { IfOk result (λ todo. (es : List Event) → StandsAt es self.old → IsWalked (followed frame.now packet mode tree.old es after) self.new tree.new todo) }
