@@ -2,6 +2,7 @@ pub mod DataLayer
 pub mod DecodeRules
 pub mod Events
 pub mod FrameLayer
+pub mod Payloads
 pub mod Stands
 pub mod Times
 pub mod Trees

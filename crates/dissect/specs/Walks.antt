@@ -2,7 +2,7 @@
 use Rattle.std.specs.Prelude.{◌==◌, ℕ, zero, suc, ◌-◌, ◌<◌, false, List, length, if◌then◌else◌}
 use Rattle.pk_base.specs.declared.span.Span.{Span}
 use Rattle.pk_buffer.specs.Buffers.{IsInside, bytes_of}
-use Rattle.pk_fields.specs.Ids.{ARP, VLAN}
+use Rattle.pk_fields.specs.Ids.{ARP, VLAN, IP, IPV6, UDP, TCP}
 use Rattle.pk_tree.specs.declared.heads.Address.TheVariants.{Four}
 use Rattle.pk_tree.specs.declared.heads.After.{After}
 use Rattle.pk_tree.specs.declared.heads.After.TheVariants as afters
@@ -14,11 +14,17 @@ use Rattle.pk_tree.specs.declared.heads.Next.TheVariants as nexts
 use Rattle.pk_tree.specs.declared.heads.PacketHead.{PacketHead}
 use Rattle.pk_tree.specs.declared.heads.PortsHead.{PortsHead}
 use Rattle.pk_tree.specs.declared.heads.TcpHead.{TcpHead}
+use Rattle.pk_tree.specs.declared.layout.Step.{Step}
 use Rattle.pk_tree.specs.Layouts.{layer_read}
 use Rattle.pk_tree.specs.Trees.{TreeShown}
 use Rattle.dis_link.specs.Arp.{arp_layout}
 use Rattle.dis_link.specs.Link.{link_of, link_read, link_after}
 use Rattle.dis_link.specs.Vlan.{vlan_layout, vlan_span, vlan_after}
+use Rattle.dis_ip.specs.Extensions.{extension_proto, extension_layout, extension_after}
+use Rattle.dis_ip.specs.Ip4.{ip4_span, ip4_layout, ip4_after}
+use Rattle.dis_ip.specs.Ip6.{ip6_span, ip6_layout, ip6_after}
+use Rattle.dis_ports.specs.Tcp.{tcp_layout, tcp_after}
+use Rattle.dis_ports.specs.Udp.{udp_span, udp_layout, udp_after}
 use Rattle.capture_read.specs.declared.frame.Frame.{Frame}
 use Rattle.dissect.specs.declared.todo.Head.{Head}
 use Rattle.dissect.specs.declared.todo.Todo.{Todo}
@@ -26,6 +32,7 @@ use Rattle.dissect.specs.declared.todo.Todo.TheVariants as todos
 use Rattle.dissect.specs.DataLayer.{data_over}
 use Rattle.dissect.specs.Events.{Event}
 use Rattle.dissect.specs.FrameLayer.{frame_span, is_cut}
+use Rattle.dissect.specs.Payloads.{datagram_told, segment_told}
 
 -- how far a frame is read: the tree so far, all events up to here, the newest first, and what is to be read next
 pub record Walk : Type 0 where
@@ -56,13 +63,13 @@ no_packet = record { source = Four 0; target = Four 0; whole = false }
 unfoldable pub fragment_met : Frame → PacketHead → TreeShown → List Event → FragmentHead → Span → Walk
 fragment_met frame packet t es head span = rest_met t es span
 
--- what a UDP header carries; so far it is shown as data
+-- what a UDP header carries; so far it is shown as data, beside an item in the header's layer
 unfoldable pub datagram_met : Frame → PacketHead → TreeShown → List Event → PortsHead → Span → Walk
-datagram_met frame packet t es head span = rest_met t es span
+datagram_met frame packet t es head span = rest_met (datagram_told t span) es span
 
--- what a TCP header carries; so far it is shown as data
+-- what a TCP header carries; so far it is shown as data, beside items in the header's layer
 unfoldable pub segment_met : Frame → PacketHead → TreeShown → List Event → TcpHead → Span → Walk
-segment_met frame packet t es head span = rest_met t es span
+segment_met frame packet t es head span = rest_met (segment_told t span) es span
 
 -- what follows a header, given the IP header of the packet that it is in
 unfoldable pub followed : Frame → PacketHead → Mode → TreeShown → List Event → After → Walk
@@ -75,22 +82,38 @@ followed frame packet mode t es (afters.Datagram head span) = datagram_met frame
 followed frame packet mode t es (afters.Segment head span) = segment_met frame packet t es head span
 followed frame packet mode t es afters.End = stop t es
 
--- a header by its protocol: its layer, and what follows it
+abbrev pub head_bytes : Head → TreeShown → List ℕ
+head_bytes head t = bytes_of t.buffers head.span
+
+-- a header is read as a layer of a protocol, by its steps, and this follows it
+abbrev pub layer_met : Frame → Head → TreeShown → List Event → ℕ → Span → List Step → After → Walk
+layer_met frame head t es proto span steps after =
+    followed frame head.packet head.mode (layer_read t proto span steps head.mode (is_cut frame)) es after
+
+-- an extension header of IPv6
+abbrev pub extension_met : Next → Frame → Head → TreeShown → List Event → Walk
+extension_met which frame head t es =
+    layer_met frame head t es (extension_proto which) head.span (extension_layout which (head_bytes head t)) (extension_after which head.packet head.mode head.span (head_bytes head t))
+
+-- a header by its protocol: its layer, and what follows it. ICMP is shown as data so far
 unfoldable pub head_by : Next → Frame → Head → TreeShown → List Event → Walk
-head_by nexts.Ip4 frame head t es = rest_met t es head.span
-head_by nexts.Ip6 frame head t es = rest_met t es head.span
-head_by nexts.Arp frame head t es =
-    followed frame head.packet head.mode (layer_read t ARP head.span (arp_layout (bytes_of t.buffers head.span)) head.mode (is_cut frame)) es afters.End
+head_by nexts.Ip4 frame head t es =
+    layer_met frame head t es IP (ip4_span head.span (head_bytes head t)) (ip4_layout (head_bytes head t)) (ip4_after head.mode (is_cut frame) head.span (head_bytes head t))
+head_by nexts.Ip6 frame head t es =
+    layer_met frame head t es IPV6 (ip6_span head.span (head_bytes head t)) (ip6_layout (head_bytes head t)) (ip6_after (is_cut frame) head.span (head_bytes head t))
+head_by nexts.Arp frame head t es = layer_met frame head t es ARP head.span (arp_layout (head_bytes head t)) afters.End
 head_by nexts.Vlan frame head t es =
-    followed frame head.packet head.mode (layer_read t VLAN (vlan_span head.span (bytes_of t.buffers head.span)) (vlan_layout (bytes_of t.buffers head.span)) head.mode (is_cut frame)) es (vlan_after head.span (bytes_of t.buffers head.span))
+    layer_met frame head t es VLAN (vlan_span head.span (head_bytes head t)) (vlan_layout (head_bytes head t)) (vlan_after head.span (head_bytes head t))
 head_by nexts.Icmp frame head t es = rest_met t es head.span
 head_by nexts.Icmp6 frame head t es = rest_met t es head.span
-head_by nexts.Udp frame head t es = rest_met t es head.span
-head_by nexts.Tcp frame head t es = rest_met t es head.span
-head_by nexts.HopOpts frame head t es = rest_met t es head.span
-head_by nexts.Routing frame head t es = rest_met t es head.span
-head_by nexts.DstOpts frame head t es = rest_met t es head.span
-head_by nexts.FragHdr frame head t es = rest_met t es head.span
+head_by nexts.Udp frame head t es =
+    layer_met frame head t es UDP (udp_span head.span (head_bytes head t)) (udp_layout (head_bytes head t)) (udp_after head.mode head.span (head_bytes head t))
+head_by nexts.Tcp frame head t es =
+    layer_met frame head t es TCP head.span (tcp_layout (head_bytes head t)) (tcp_after head.mode head.span (head_bytes head t))
+head_by nexts.HopOpts frame head t es = extension_met nexts.HopOpts frame head t es
+head_by nexts.Routing frame head t es = extension_met nexts.Routing frame head t es
+head_by nexts.DstOpts frame head t es = extension_met nexts.DstOpts frame head t es
+head_by nexts.FragHdr frame head t es = extension_met nexts.FragHdr frame head t es
 head_by nexts.Rest frame head t es = rest_met t es head.span
 
 abbrev pub head_met : Frame → Head → TreeShown → List Event → Walk

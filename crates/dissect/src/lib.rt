@@ -5,6 +5,7 @@ mod data_layer;
 mod decode;
 mod dissector;
 mod frame_layer;
+mod payload;
 mod state;
 #[cfg(test)]
 mod tests;

@@ -353,3 +353,154 @@ fn rules_are_kept_as_they_are_named(rt: HostRuntime) -> Result<(), Fail> {
     assert_eq!(rt; rules.slice(), [rule].as_slice());
     Ok(())
 }
+
+/// The bytes of so many IPv4 headers, each around the next (RFC 2003).
+fn nested(alloc: Global, headers: u8) -> Result<Octets, NoMemory>
+    requires { headers ≤ 50 }
+{
+    let mut bytes = Vec::new(alloc);
+    for left in (0..headers).rev() {
+        let total = 20 * (u16::from(left) + 1);
+        bytes.extend_from_slice(&[0x45, 0])?;
+        bytes.extend_from_slice(&total.to_be_bytes())?;
+        bytes.extend_from_slice(b"\0\0\0\0\x40\x04\0\0\x0a\0\0\x01\x0a\0\0\x02")?;
+    }
+    Octets::from_vec(bytes)
+}
+
+#[test]
+fn raw_ip_has_no_layer_of_the_link(rt: HostRuntime) -> Result<(), Fail> {
+    let alloc = rt.alloc();
+    let frame = Frame {
+        number: 1,
+        time: None,
+        link: RAW,
+        little: true,
+        bytes: nested(alloc, 40)?,
+        original: 800,
+    };
+    assert!(rt; frame.bytes.bytes().len() <= 1_000);
+    let tree = Dissector::new(alloc, no_rules(alloc)).take(&frame)?;
+    assert_eq!(rt; tree.layers().len(), 33);
+    let mut text = String::new(alloc);
+    for layer in tree.layers() {
+        text = format!(in alloc;
+            "{} {} {}+{}",
+            name(layer.proto),
+            layer.nth,
+            layer.span.start,
+            layer.span.len
+        )?;
+    }
+    assert_eq!(rt; text.as_str(), "data 1 620+180");
+    Ok(())
+}
+
+/// The items of an IPv4 header of 20 bytes (RFC 791, 3.1) with this length and protocol, from 10.0.0.1 to 10.0.0.2.
+const IP_START: &str =
+    " ip.version=4 ip.hdr_len=20 ip.dsfield=0 ip.dsfield.dscp=0 ip.dsfield.ecn=0";
+
+const IP_FLAGS: &str =
+    " ip.id=1 ip.flags.rb=false ip.flags.df=false ip.flags.mf=false ip.frag_offset=0 ip.ttl=64";
+
+const IP_ADDRESSES: &str =
+    " ip.checksum=0 ip.src=167772161 ip.addr=167772161 ip.dst=167772162 ip.addr=167772162\n";
+
+#[test]
+fn what_a_datagram_carries_is_told_and_shown_as_data(rt: HostRuntime) -> Result<(), Fail> {
+    check(
+        &rt,
+        rt.alloc(),
+        RAW,
+        31,
+        &[
+            b"\x45\0\0\x1f\0\x01\0\0\x40\x11\0\0\x0a\0\0\x01\x0a\0\0\x02",
+            b"\x9c\x40\0\x07\0\x0b\0\0abc",
+        ],
+        &[
+            "frame 0+31: frame.number=1 frame.len=31 frame.cap_len=31\nip 0+31:",
+            IP_START,
+            " ip.len=31",
+            IP_FLAGS,
+            " ip.proto=17",
+            IP_ADDRESSES,
+            "udp 20+11: udp.srcport=40000 udp.port=40000 udp.dstport=7 udp.port=7 udp.length=11 udp.checksum=0",
+            " udp.payload=[97, 98, 99]\ndata 28+3: data.data=[97, 98, 99] data.len=3\n",
+        ],
+    )
+}
+
+#[test]
+fn what_a_segment_carries_is_told_and_shown_as_data(rt: HostRuntime) -> Result<(), Fail> {
+    let rt = &rt;
+    for (total, frame, len, data, last) in [
+        (
+            42,
+            "frame 0+42: frame.number=1 frame.len=42 frame.cap_len=42\nip 0+42:",
+            " ip.len=42",
+            b"hi".as_slice(),
+            " tcp.len=2 tcp.payload=[104, 105]\ndata 40+2: data.data=[104, 105] data.len=2\n",
+        ),
+        (
+            40,
+            "frame 0+40: frame.number=1 frame.len=40 frame.cap_len=40\nip 0+40:",
+            " ip.len=40",
+            b"",
+            " tcp.len=0\n",
+        ),
+    ] {
+        check(
+            rt,
+            rt.alloc(),
+            RAW,
+            u32::from(total),
+            &[
+                b"\x45\0\0",
+                &[total],
+                b"\0\x01\0\0\x40\x06\0\0\x0a\0\0\x01\x0a\0\0\x02",
+                b"\x9c\x40\0\x50\0\0\0\x01\0\0\0\0\x50\x02\xff\xff\0\0\0\0",
+                data,
+            ],
+            &[
+                frame,
+                IP_START,
+                len,
+                IP_FLAGS,
+                " ip.proto=6",
+                IP_ADDRESSES,
+                "tcp 20+",
+                if total == 42 { "22:" } else { "20:" },
+                " tcp.srcport=40000 tcp.port=40000 tcp.dstport=80 tcp.port=80 tcp.seq_raw=1 tcp.ack_raw=0",
+                " tcp.hdr_len=20 tcp.flags=2 tcp.flags.cwr=false tcp.flags.ece=false tcp.flags.urg=false",
+                " tcp.flags.ack=false tcp.flags.push=false tcp.flags.reset=false tcp.flags.syn=true",
+                " tcp.flags.fin=false tcp.window_size_value=65535 tcp.checksum=0 tcp.urgent_pointer=0",
+                last,
+            ],
+        )?;
+    }
+    Ok(())
+}
+
+/// A hop-by-hop option of type 1 and four bytes before a UDP header (RFC 8200, 4.2).
+#[test]
+fn options_of_each_hop_are_passed_through(rt: HostRuntime) -> Result<(), Fail> {
+    check(
+        &rt,
+        rt.alloc(),
+        RAW,
+        56,
+        &[
+            b"\x60\0\0\0\0\x10\0\x40",
+            &[0; 32],
+            b"\x11\0\x01\x04\0\0\0\0",
+            b"\x9c\x40\0\x07\0\x08\0\0",
+        ],
+        &[
+            "frame 0+56: frame.number=1 frame.len=56 frame.cap_len=56\n",
+            "ipv6 0+56: ipv6.version=6 ipv6.tclass=0 ipv6.flow=0 ipv6.plen=16 ipv6.nxt=0 ipv6.hlim=64",
+            " ipv6.src=? ipv6.addr=? ipv6.dst=? ipv6.addr=?\n",
+            "ipv6.hopopts 40+16: ipv6.hopopts.nxt=17 ipv6.hopopts.len=0 ipv6.hopopts.options=[1, 4, 0, 0, 0, 0]\n",
+            "udp 48+8: udp.srcport=40000 udp.port=40000 udp.dstport=7 udp.port=7 udp.length=8 udp.checksum=0\n",
+        ],
+    )
+}

@@ -2,15 +2,20 @@ ghost use Rattle.std.specs.Prelude.{◌≡◌, ◌+◌, ◌*◌, ◌-◌, ◌<�
 ghost use Rattle.pk_buffer.specs.Buffers.{IsInside};
 ghost use Rattle.pk_tree.specs.Following.{LeadsInside};
 ghost use Rattle.dissect.specs.Events.{Event};
+ghost use Rattle.pk_fields.specs.Ids.{UDP, TCP};
+ghost use Rattle.dissect.specs.Payloads.{LastIs, ComesBehind};
 ghost use Rattle.dissect.specs.Stands.{StandsAt, IsWalked};
 ghost use Rattle.dissect.specs.Walks.{IsTodoInside, fragment_met, datagram_met, segment_met, rest_met, followed, head_met, head_by, step_on, rest_on, chain, going, link_met, all_met, no_packet};
 
 use crate::data_layer::add_data;
 use crate::frame_layer::{captured, frame_span, is_cut};
+use crate::payload::{tell_datagram, tell_segment};
 use crate::state::State;
 use crate::todo::{Head, Todo};
 use capture_read::Frame;
+use dis_ip::{read_extension, read_ip4, read_ip6};
 use dis_link::{read_arp, read_link, read_vlan};
+use dis_ports::{read_tcp, read_udp};
 use pk_base::{LAYER_LIMIT, NoMemory, Span};
 use pk_tree::{
     Address, After, FragmentHead, Mode, Next, PacketHead, PortsHead, TcpHead, TreeBuilder,
@@ -61,12 +66,14 @@ impl State {
         tree: &mut TreeBuilder,
     ) -> Result<Todo, NoMemory>
         requires inside { IsInside tree.old.buffers span }
+        requires last { LastIs UDP tree.old.layers }
         requires room { length tree.old.layers + 2 < 2 ^ 32 }
         ensures inside { IfOk result (λ todo. IsTodoInside tree.new.buffers todo) }
         ensures walked { IfOk result (λ todo. (es : List Event) → StandsAt es self.old → IsWalked (datagram_met frame.now packet tree.old es head span) self.new tree.new todo) }
         ensures buffers { tree.new.buffers ≡ tree.old.buffers }
         ensures most { OnOk result (length tree.new.layers ≤ length tree.old.layers + 2) }
     {
+        tell_datagram(span, tree)?;
         self.rest(span, tree)
     }
 
@@ -81,12 +88,14 @@ impl State {
         tree: &mut TreeBuilder,
     ) -> Result<Todo, NoMemory>
         requires inside { IsInside tree.old.buffers span }
+        requires last { LastIs TCP tree.old.layers }
         requires room { length tree.old.layers + 2 < 2 ^ 32 }
         ensures inside { IfOk result (λ todo. IsTodoInside tree.new.buffers todo) }
         ensures walked { IfOk result (λ todo. (es : List Event) → StandsAt es self.old → IsWalked (segment_met frame.now packet tree.old es head span) self.new tree.new todo) }
         ensures buffers { tree.new.buffers ≡ tree.old.buffers }
         ensures most { OnOk result (length tree.new.layers ≤ length tree.old.layers + 2) }
     {
+        tell_segment(span, tree)?;
         self.rest(span, tree)
     }
 
@@ -101,6 +110,7 @@ impl State {
         tree: &mut TreeBuilder,
     ) -> Result<Todo, NoMemory>
         requires inside { LeadsInside tree.old.buffers after }
+        requires last { ComesBehind after tree.old.layers }
         requires room { length tree.old.layers + 2 < 2 ^ 32 }
         ensures inside { IfOk result (λ todo. IsTodoInside tree.new.buffers todo) }
         ensures walked { IfOk result (λ todo. (es : List Event) → StandsAt es self.old → IsWalked (followed frame.now packet mode tree.old es after) self.new tree.new todo) }
@@ -127,7 +137,7 @@ impl State {
         }
     }
 
-    /// Reads a header by its protocol. The protocols that aren't read so far are shown as data.
+    /// Reads a header by its protocol. ICMP is shown as data so far.
     #[tactic(auto, unfolding(crate::specs::Walks::head_by))]
     fn head(&mut self, frame: &Frame, head: Head, tree: &mut TreeBuilder) -> Result<Todo, NoMemory>
         requires inside { IsInside tree.old.buffers head.span }
@@ -147,17 +157,34 @@ impl State {
                 let after = read_vlan(head.span, is_cut(frame), head.mode, tree)?;
                 self.follow(frame, head.packet, head.mode, after, tree)
             }
-            Next::Ip4
-            | Next::Ip6
-            | Next::Icmp
-            | Next::Icmp6
-            | Next::Udp
-            | Next::Tcp
-            | Next::HopOpts
-            | Next::Routing
-            | Next::DstOpts
-            | Next::FragHdr
-            | Next::Rest => self.rest(head.span, tree),
+            Next::Ip4 => {
+                let after = read_ip4(head.span, is_cut(frame), head.mode, tree)?;
+                self.follow(frame, head.packet, head.mode, after, tree)
+            }
+            Next::Ip6 => {
+                let after = read_ip6(head.span, is_cut(frame), head.mode, tree)?;
+                self.follow(frame, head.packet, head.mode, after, tree)
+            }
+            Next::HopOpts | Next::Routing | Next::DstOpts | Next::FragHdr => {
+                let after = read_extension(
+                    head.which,
+                    &head.packet,
+                    head.span,
+                    is_cut(frame),
+                    head.mode,
+                    tree,
+                )?;
+                self.follow(frame, head.packet, head.mode, after, tree)
+            }
+            Next::Udp => {
+                let after = read_udp(head.span, is_cut(frame), head.mode, tree)?;
+                self.follow(frame, head.packet, head.mode, after, tree)
+            }
+            Next::Tcp => {
+                let after = read_tcp(head.span, is_cut(frame), head.mode, tree)?;
+                self.follow(frame, head.packet, head.mode, after, tree)
+            }
+            Next::Icmp | Next::Icmp6 | Next::Rest => self.rest(head.span, tree),
         }
     }
 

@@ -1,0 +1,44 @@
+use Rattle.std.proofs.Common.{◌≢◌, ◌≡◌, subst, sym}
+use Rattle.pk_fields.specs.Ids.{UDP, TCP}
+use Rattle.pk_tree.specs.declared.heads.After.{After}
+use Rattle.pk_tree.specs.declared.heads.After.TheVariants as afters
+use Rattle.pk_tree.specs.Trees.{last_proto}
+use Rattle.dissect.specs.Payloads.{ComesBehind}
+use Rattle.dissect.proofs.Behind.{vlan_behind, ip4_behind, ip6_behind, extension_behind, udp_behind, tcp_behind}
+use Rattle.dissect.proofs.state.State.head.Goals as goal
+
+pub follow-requires-in-Vlan-clause-last : goal.follow-requires-in-Vlan-clause-last
+follow-requires-in-Vlan-clause-last c =
+    subst (λ (after : After). ComesBehind after c.read_vlan.new.b.layers) (sym c.in_ok-after-in-Vlan.ensures.after)
+    (vlan_behind c.read_vlan.new.b.layers _ _)
+
+pub follow-requires-in-Ip4-clause-last : goal.follow-requires-in-Ip4-clause-last
+follow-requires-in-Ip4-clause-last c =
+    subst (λ (after : After). ComesBehind after c.read_ip4.new.b.layers) (sym c.in_ok-after-in-Ip4.ensures.after)
+    (ip4_behind c.read_ip4.new.b.layers _ _ _ _)
+
+pub follow-requires-in-Ip6-clause-last : goal.follow-requires-in-Ip6-clause-last
+follow-requires-in-Ip6-clause-last c =
+    subst (λ (after : After). ComesBehind after c.read_ip6.new.b.layers) (sym c.in_ok-after-in-Ip6.ensures.after)
+    (ip6_behind c.read_ip6.new.b.layers _ _ _)
+
+pub follow-requires-in-HopOpts-clause-last : goal.follow-requires-in-HopOpts-clause-last
+follow-requires-in-HopOpts-clause-last c =
+    subst (λ (after : After). ComesBehind after c.read_extension.new.b.layers) (sym c.in_ok-after-in-HopOpts.ensures.after)
+    (extension_behind c.read_extension.new.b.layers _ _ _ _ _)
+
+pub follow-requires-in-Udp-clause-last : goal.follow-requires-in-Udp-clause-last
+follow-requires-in-Udp-clause-last c =
+    let layers = c.read_udp.new.b.layers in
+    let is = c.in_ok-after-in-Udp.ensures.after in
+    subst (λ (after : After). ComesBehind after layers) (sym is)
+    (udp_behind layers _ _ _ c.in_ok-after-in-Udp.ensures.some
+    (subst (λ (after : After). after ≢ afters.End → last_proto layers ≡ UDP) is c.in_ok-after-in-Udp.ensures.whole))
+
+pub follow-requires-in-Tcp-clause-last : goal.follow-requires-in-Tcp-clause-last
+follow-requires-in-Tcp-clause-last c =
+    let layers = c.read_tcp.new.b.layers in
+    let is = c.in_ok-after-in-Tcp.ensures.after in
+    subst (λ (after : After). ComesBehind after layers) (sym is)
+    (tcp_behind layers _ _ _ c.in_ok-after-in-Tcp.ensures.some
+    (subst (λ (after : After). after ≢ afters.End → last_proto layers ≡ TCP) is c.in_ok-after-in-Tcp.ensures.whole))

@@ -1,0 +1,52 @@
+ghost use Rattle.std.specs.Prelude.{◌≡◌, ◌+◌, ◌<◌, ◌≤◌, ◌^◌, length, IfOk, IsTrue, OnOk};
+ghost use Rattle.pk_buffer.specs.Buffers.{IsInside};
+ghost use Rattle.pk_fields.specs.Fields.{row_of};
+ghost use Rattle.pk_fields.specs.Ids.{UDP, TCP};
+ghost use Rattle.pk_tree.specs.Trees.{last_proto};
+ghost use Rattle.pk_tree.specs.Values.{HasSize, is_read};
+ghost use Rattle.dissect.specs.Payloads.{LastIs, with_payload, datagram_told, segment_told};
+
+use pk_base::{NoMemory, Span};
+use pk_fields::{FieldId, ids};
+use pk_tree::{TreeBuilder, Value};
+
+/// Tells of a datagram in the layer of its UDP header.
+#[tactic(auto, unfolding(crate::specs::Payloads::datagram_told, pk_fields::specs::Fields::row_of, pk_fields::specs::Table::rows))]
+pub(crate) fn tell_datagram(span: Span, tree: &mut TreeBuilder) -> Result<(), NoMemory>
+    requires inside { IsInside tree.old.buffers span }
+    requires last { LastIs UDP tree.old.layers }
+    ensures tree { IfOk result (λ _. tree.new ≡ datagram_told tree.old span) }
+    ensures buffers { tree.new.buffers ≡ tree.old.buffers }
+    ensures count { length tree.new.layers ≡ length tree.old.layers }
+{
+    add_payload(ids::UDP_PAYLOAD, span, tree)
+}
+
+/// Tells of a segment in the layer of its TCP header.
+#[tactic(auto, unfolding(crate::specs::Payloads::segment_told, pk_fields::specs::Fields::row_of, pk_fields::specs::Table::rows))]
+pub(crate) fn tell_segment(span: Span, tree: &mut TreeBuilder) -> Result<(), NoMemory>
+    requires inside { IsInside tree.old.buffers span }
+    requires last { LastIs TCP tree.old.layers }
+    ensures tree { IfOk result (λ _. tree.new ≡ segment_told tree.old span) }
+    ensures buffers { tree.new.buffers ≡ tree.old.buffers }
+    ensures count { length tree.new.layers ≡ length tree.old.layers }
+{
+    tree.made_item(ids::TCP_LEN, Value::Uint(u64::from(span.len)))?;
+    add_payload(ids::TCP_PAYLOAD, span, tree)
+}
+
+/// Adds the bytes of a payload to the last layer. There is no item for no bytes.
+fn add_payload(field: FieldId, span: Span, tree: &mut TreeBuilder) -> Result<(), NoMemory>
+    requires inside { IsInside tree.old.buffers span }
+    requires read { IsTrue (is_read (row_of field)) }
+    requires size { HasSize (row_of field).bits span.len }
+    requires last { LastIs (row_of field).proto tree.old.layers }
+    ensures tree { IfOk result (λ _. tree.new ≡ with_payload tree.old field span) }
+    ensures buffers { tree.new.buffers ≡ tree.old.buffers }
+    ensures count { length tree.new.layers ≡ length tree.old.layers }
+{
+    if span.len == 0 {
+        return Ok(());
+    }
+    tree.read_item(field, span)
+}
