@@ -85,7 +85,7 @@ measured-within interfaces little bytes =
     (λ right. by_case (λ read. IsReadWithin read (length bytes)) (nat_lt (length bytes) total) _ _ (λ h. is_less (length bytes) total h)
     (λ h. by_case (λ read. IsReadWithin read (length bytes)) (number_at little 4 (total - 4) bytes == total) _ _
     (λ same. let least = isn't_less total (least_length kind) (first_false _ _ right) in
-      whole-within interfaces little kind bytes (length bytes) (omega (arith, some_length kind)) (isn't_less (length bytes) total h))
+    whole-within interfaces little kind bytes (length bytes) (omega (arith, some_length kind)) (isn't_less (length bytes) total h))
     (λ differs. tt)))
 
 -- a block that is whole ends within the bytes, and its packet within the block

@@ -16,10 +16,10 @@ best_from groups (group ∷ rest) at best e so_far =
     let next : drop (at + 1) groups ≡ rest = sym (drop-drop 1 at groups) ∙ ap (drop 1) e in
     let IsBest : ℕ × ℕ → Type 0 = λ run. IsBestBefore groups (at + 1) run.0 run.1 in
     best_from groups rest (at + 1) (cond (ltb best.1 count) (at, count) best) next
-      (cond_both (ltb best.1 count) (at, count) best IsBest
-        (λ longer. subst (IsBestBefore groups (at + 1) at) counted
-          (best_taken groups at best.0 best.1 inside so_far (omega (arith, ltb-true best.1 count longer, counted))))
-        (λ no_longer. best_kept groups at best.0 best.1 so_far (omega (arith, ltb-false best.1 count no_longer, counted))))
+    (cond_both (ltb best.1 count) (at, count) best IsBest
+    (λ longer. subst (IsBestBefore groups (at + 1) at) counted
+    (best_taken groups at best.0 best.1 inside so_far (omega (arith, ltb-true best.1 count longer, counted))))
+    (λ no_longer. best_kept groups at best.0 best.1 so_far (omega (arith, ltb-false best.1 count no_longer, counted))))
 
 written_text : (groups : List ℕ) (run : ℕ × ℕ) → IsBestRun groups run.0 run.1 → IsIp6Text groups (groups_written groups run)
 written_text groups run best =
@@ -39,8 +39,10 @@ one_text groups s t hs ht = ⊎_elim shortened plain hs
   where
     Shortened : List ℕ → Type 0
     Shortened text = (at : ℕ) × (count : ℕ) × IsBestRun groups at count × (2 ≤ count) × (text ≡ groups_shown (take at groups) ++ (codes "::" ++ groups_shown (drop (at + count) groups)))
+
     Plain : List ℕ → Type 0
     Plain text = ((at count : ℕ) → IsRun groups at count → count < 2) × (text ≡ groups_shown groups)
+
     shortened : Shortened s → s ≡ t
     shortened (a, m, best, many, same) = ⊎_elim both one ht
       where
@@ -49,13 +51,16 @@ one_text groups s t hs ht = ⊎_elim shortened plain hs
             let counts : m ≡ n = omega (arith, best.longest b n best'.run, best'.longest a m best.run) in
             let places : a ≡ b = omega (arith, best.first b (subst (IsRun groups b) (sym counts) best'.run) (omega arith), best'.first a (subst (IsRun groups a) counts best.run) (omega arith)) in
             same ∙ ap₂ (λ at count. groups_shown (take at groups) ++ (codes "::" ++ groups_shown (drop (at + count) groups))) places counts ∙ sym same'
+
         one : Plain t → s ≡ t
         one (few, same') = absurd (omega (arith, few a m best.run, many))
+
     plain : Plain s → s ≡ t
     plain (few, same) = ⊎_elim other both ht
       where
         other : Shortened t → s ≡ t
         other (b, n, best, many, same') = absurd (omega (arith, few b n best.run, many))
+
         both : Plain t → s ≡ t
         both (few', same') = same ∙ sym same'
 

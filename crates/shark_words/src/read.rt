@@ -1,12 +1,9 @@
 ghost use Rattle.std.specs.Prelude.{◌≡◌, ℕ, List, Ok, IfOk, option_and_then, option_to_list};
 ghost use Rattle.std.specs.Option.{option_copied};
+ghost use Rattle.shark_words.specs.Utf8.{AreUtf8};
 ghost use Rattle.shark_words.specs.Words.{texts};
 ghost use Rattle.shark_words.specs.Values.{count_of, shown_filter as filter_shown};
-<<<<<<< HEAD
-ghost use Rattle.shark_words.specs.Utf8.{AreUtf8};
-=======
 ghost use Rattle.shark_words.specs.Spelled.{Spelled, spelled_words, asked_by, IsCommand, IsAsked};
->>>>>>> 8f4205c31aa806aaf5ed6251e68b5596105d552b
 ghost use Rattle.shark_words.specs.Options.{value_in as value_in_use, value_of as value_given, values_of as values_given, options_of, Gives};
 
 use crate::fault::{WordFault, WordReason, WordsError};
@@ -72,20 +69,17 @@ fn read_most(most: Option<&Octets>) -> Option<u32>
     read_count(most?.bytes())
 }
 
-<<<<<<< HEAD
-#[tactic(auto, unfolding(crate::specs::Options::options_of))]
-fn read_options(alloc: Global, words: &[String]) -> Result<Options, WordsError>
-=======
 /// Reads the options that the words of a command line give, or refuses them.
 ///
 /// A word that begins with `-` and has more is an option: `-r`, `-Y`, `-T`, `-e` or `-c`. Its value is what is left of the
 /// word, or the next word where nothing is left. Words are numbered from 1, and the first fault in their order is told.
-#[tactic(auto, using(crate::proofs::Spelling::options_found, crate::proofs::Spelling::options_only))]
+#[tactic(auto, using(crate::proofs::Spelling::options_found, crate::proofs::Spelling::options_only, crate::proofs::Utf8Lemmas::answered_are_utf8))]
 pub fn read_words(alloc: Global, words: &[String]) -> Result<Options, WordsError>
     ensures computed { Gives result (options_of (texts words.now)) }
     ensures found { (name : List ℕ) → (all : List Spelled) → texts words.now ≡ spelled_words all → IsCommand name all
         → Gives result (Ok (asked_by name all)) }
     ensures only { IfOk result (λ options. IsAsked (texts words.now) options) }
+    ensures utf8 { IfOk result AreUtf8 }
 {
     options_in(alloc, words)
 }
@@ -93,7 +87,6 @@ pub fn read_words(alloc: Global, words: &[String]) -> Result<Options, WordsError
 // First the faults word by word, then what is missing in all.
 #[tactic(auto, unfolding(crate::specs::Options::options_of))]
 fn options_in(alloc: Global, words: &[String]) -> Result<Options, WordsError>
->>>>>>> 8f4205c31aa806aaf5ed6251e68b5596105d552b
     ensures { Gives result (options_of (texts words.now)) }
 {
     let uses = uses_of(alloc, words)?;
@@ -120,16 +113,4 @@ fn options_in(alloc: Global, words: &[String]) -> Result<Options, WordsError>
         names: NameList::from_vec(values_of(alloc, &uses, Letter::Name)?),
         most: read_most(value_of(&uses, Letter::Most)),
     })
-}
-
-/// Reads the options that the words of a command line give, or refuses them.
-///
-/// A word that begins with `-` and has more is an option: `-r`, `-Y`, `-T`, `-e` or `-c`. Its value is what is left of the
-/// word, or the next word where nothing is left. Words are numbered from 1, and the first fault in their order is told.
-#[tactic(auto, using(crate::proofs::Utf8Lemmas::answered_are_utf8))]
-pub fn read_words(alloc: Global, words: &[String]) -> Result<Options, WordsError>
-    ensures computed { Gives result (options_of (texts words.now)) }
-    ensures utf8 { IfOk result AreUtf8 }
-{
-    read_options(alloc, words)
 }

@@ -17,4 +17,4 @@ returns-clause-reads_back c =
 pub returns-clause-text : goal.returns-clause-text
 returns-clause-text c =
     text_shown c.args.v (string_bytes c.in_ok-text.text)
-      (subst (λ (groups : List ℕ). IsIp6Text groups (string_bytes c.in_ok-text.text)) c.groups_of-groups.ensures c.in_ok-text.ensures)
+    (subst (λ (groups : List ℕ). IsIp6Text groups (string_bytes c.in_ok-text.text)) c.groups_of-groups.ensures c.in_ok-text.ensures)
