@@ -8,10 +8,7 @@ use Rattle.pk_tree.specs.FieldValues.{values_of}
 use Rattle.pk_tree.specs.Trees.{TreeShown}
 use Rattle.capture_read.specs.declared.frame.Frame.{Frame}
 use Rattle.dissect.specs.Trees.{tree_at}
-use Rattle.out_lines.specs.declared.style.Style.{Style}
-use Rattle.out_lines.specs.declared.style.Occurrence.TheVariants as occurrences
-use Rattle.out_lines.specs.declared.style.Quote.TheVariants as quotes
-use Rattle.out_lines.specs.Lines.{field_line_of}
+use Rattle.out_lines.specs.Lines.{field_line_of, default_style}
 use Rattle.shark_run.specs.declared.filter.Test.{Test}
 use Rattle.shark_run.specs.declared.plan.Plan.{Plan}
 use Rattle.shark_run.specs.Filter.{is_nothing}
@@ -40,13 +37,9 @@ unfoldable pub satisfies : Option Test → TreeShown → Bool
 satisfies None tree = true
 satisfies (Some test) tree = pass test.number (values_of tree test.field AllLayers)
 
--- lines have tabs between their columns and commas between the values of a column; 9 is a tab, 44 a comma
-abbrev pub plain_style : Style
-plain_style = record { header = false; separator = 9; occurrence = occurrences.All; aggregator = 44; quote = quotes.None }
-
 -- the line of a frame, or nothing
 abbrev pub shown : Plan → TreeShown → List ℕ
-shown plan tree = if satisfies plan.filter tree then field_line_of plan.fields tree plain_style else []
+shown plan tree = if satisfies plan.filter tree then field_line_of plan.fields tree default_style else []
 
 abbrev pub frame_lines : Plan → List TreeShown → List ℕ
 frame_lines plan [] = []

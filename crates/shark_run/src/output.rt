@@ -3,7 +3,7 @@ ghost use Rattle.std.specs.Prelude.{◌≡◌, ◌≤◌, IfOk, IsErrOf, OnOk, [
 ghost use Rattle.std.specs.Io.KnownBytes.{Appends};
 ghost use Rattle.pk_outside.specs.Outside.{Rose, AppendsPart};
 ghost use Rattle.dissect.specs.Stands.{Stands};
-ghost use Rattle.shark_run.specs.Lines.{shown, plain_style as style_of_lines, frame_lines, trees_after, output_of};
+ghost use Rattle.shark_run.specs.Lines.{shown, frame_lines, trees_after, output_of};
 ghost use Rattle.shark_run.specs.Takeable.{AreTakeable};
 ghost use Rattle.shark_run.specs.Wrote.{WroteAll, WrotePart};
 
@@ -12,24 +12,11 @@ use crate::plan::Plan;
 use crate::read_frames::ReadFrames;
 use capture_read::{Ending, NextFrame};
 use dissect::{DecodeAs, Dissector, PortRules};
-use out_lines::{Occurrence, Quote, Style, field_line};
+use out_lines::{Style, field_line};
 use pk_base::NoMemory;
 use pk_outside::{Sink, SinkFault, write_whole};
 use pk_tree::Tree;
 use std::alloc::Global;
-
-/// Tabs between columns, and commas between the values of one.
-fn plain_style() -> Style
-    ensures { result ≡ style_of_lines }
-{
-    Style {
-        header: false,
-        separator: b'\t',
-        occurrence: Occurrence::All,
-        aggregator: b',',
-        quote: Quote::None,
-    }
-}
 
 // A dissector that reads each port as usual.
 #[tactic(auto, using(crate::proofs::RuleLemmas::no_rules))]
@@ -49,7 +36,7 @@ fn line_of(alloc: Global, plan: &Plan, tree: &Tree) -> Result<Vec<u8>, NoMemory>
     if !satisfies(&plan.filter, tree)? {
         return Ok(Vec::new(alloc));
     }
-    field_line(alloc, tree, plan.fields.slice(), &plain_style())
+    field_line(alloc, tree, plan.fields.slice(), &Style::default())
 }
 
 // Writes the line of a tree, where the filter lets it through.
