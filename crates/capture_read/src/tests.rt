@@ -1,5 +1,5 @@
 use crate::{Damage, Ending, HeldFrames, NextFrame, frames};
-use pk_base::{NoMemory, Octets, Reason, file_limit};
+use pk_base::{NoMemory, Octets, Reason};
 use std::alloc::{AllocError, Global};
 use std::test::Fail;
 
@@ -269,48 +269,59 @@ fn wrong_lengths_are_damage_behind_the_frames_before(rt: HostRuntime) -> Result<
     Ok(())
 }
 
+/// What a file comes to with a packet before a block and one behind it, in a big-endian section.
+fn between(alloc: Global, block: &[u8]) -> Result<(usize, Ending), NoMemory> {
+    let before = joined(alloc, &[&BIG_SECTION, &BIG_ETHERNET, &BIG_PACKET])?;
+    read(alloc, &[&before, block, &BIG_PACKET])
+}
+
 #[test]
 fn block_that_is_not_read_is_damage_where_it_begins(rt: HostRuntime) -> Result<(), Fail> {
-    let before = joined(rt.alloc(), &[&BIG_SECTION, &BIG_ETHERNET, &BIG_PACKET])?;
-    let mut magic = SECTION;
-    magic[8] = 0;
-    let mut version = SECTION;
-    version[12] = 2;
-    // An interface with the head of an option of 8 bytes, of which its block has none.
-    let long_option = [
-        0, 0, 0, 1, 0, 0, 0, 24, 0, 1, 0, 0, 0, 0, 0, 0, 0, 2, 0, 8, 0, 0, 0, 24,
-    ];
-    // An interface whose clock counts 10^-19 seconds.
-    let fine_clock = [
-        0, 0, 0, 1, 0, 0, 0, 28, 0, 1, 0, 0, 0, 0, 0, 0, 0, 9, 0, 1, 19, 0, 0, 0, 0, 0, 0, 28,
-    ];
-    let mut long_packet = BIG_PACKET;
-    long_packet[21] = 5;
-    let cases: [(&[u8], Reason); 5] = [
-        (&magic, Reason::UnknownMagic),
-        (&version, Reason::BadVersion),
-        (&long_option, Reason::BadOption),
-        (&fine_clock, Reason::BadResolution),
-        (&long_packet, Reason::TooLong),
-    ];
-    for (block, reason) in cases {
-        let all = read(rt.alloc(), &[&before, block, &BIG_PACKET])?;
-        assert_eq!(rt; all, (1, damage(84, reason)));
-    }
+    let alloc = rt.alloc();
+    let mut section = SECTION;
+    section[12] = 2;
+    assert_eq!(rt;
+        between(alloc, &section)?,
+        (1, damage(84, Reason::BadVersion))
+    );
+    section[8] = 0;
+    assert_eq!(rt;
+        between(alloc, &section)?,
+        (1, damage(84, Reason::UnknownMagic))
+    );
+    let mut packet = BIG_PACKET;
+    packet[21] = 5;
+    assert_eq!(rt; between(alloc, &packet)?, (1, damage(84, Reason::TooLong)));
     Ok(())
 }
 
 #[test]
-fn block_past_the_limit_is_too_large(rt: HostRuntime) -> Result<(), Fail> {
-    // A block of 2^28 bytes.
-    let head = joined(rt.alloc(), &[&SECTION, &[11, 0, 0, 0, 0, 0, 0, 0x10]])?;
-    let cut = read(rt.alloc(), &[&head, &[0; 64]])?;
+fn interface_that_is_not_read_is_damage_where_it_begins(rt: HostRuntime) -> Result<(), Fail> {
+    let alloc = rt.alloc();
+    // The head of an option of 8 bytes, of which the block has none.
+    let long_option = [
+        0, 0, 0, 1, 0, 0, 0, 24, 0, 1, 0, 0, 0, 0, 0, 0, 0, 2, 0, 8, 0, 0, 0, 24,
+    ];
+    assert_eq!(rt;
+        between(alloc, &long_option)?,
+        (1, damage(84, Reason::BadOption))
+    );
+    // A clock that counts 10^-19 seconds.
+    let fine_clock = [
+        0, 0, 0, 1, 0, 0, 0, 28, 0, 1, 0, 0, 0, 0, 0, 0, 0, 9, 0, 1, 19, 0, 0, 0, 0, 0, 0, 28,
+    ];
+    assert_eq!(rt;
+        between(alloc, &fine_clock)?,
+        (1, damage(84, Reason::BadResolution))
+    );
+    Ok(())
+}
+
+#[test]
+fn longer_block_than_the_file_is_cut(rt: HostRuntime) -> Result<(), Fail> {
+    // A block of 2^28 bytes, of which there are 72.
+    let head = [11, 0, 0, 0, 0, 0, 0, 0x10];
+    let cut = read(rt.alloc(), &[&SECTION, &head, &[0; 64]])?;
     assert_eq!(rt; cut, (0, damage(28, Reason::BlockCut)));
-    let mut bytes = vec![in rt.alloc(); 0; file_limit() + 1]?;
-    bytes[..28].copy_from_slice(&SECTION);
-    bytes[28] = 11;
-    bytes[35] = 0x10;
-    let (list, ending) = frames(rt.alloc(), &bytes)?;
-    assert_eq!(rt; (list.slice().len(), ending), (0, Ending::TooLarge));
     Ok(())
 }
