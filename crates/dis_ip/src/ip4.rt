@@ -1,8 +1,8 @@
-ghost use Rattle.std.specs.Prelude.{◌≡◌, ◌≢◌, ℕ, ◌+◌, ◌<◌, ◌≤◌, ◌^◌, length, List, IfOk, OnOk, IfSome, IsTrue};
+ghost use Rattle.std.specs.Prelude.{◌≡◌, ◌≢◌, ◌+◌, ◌<◌, ◌≤◌, ◌^◌, length, IfOk, OnOk, IsTrue};
 ghost use Rattle.pk_buffer.specs.Buffers.{IsInside, bytes_of};
 ghost use Rattle.pk_fields.specs.Ids.{IP};
 ghost use Rattle.pk_tree.specs.Following.{LeadsInside};
-ghost use Rattle.pk_tree.specs.Layouts.{layer_read, reach, is_all};
+ghost use Rattle.pk_tree.specs.Layouts.{layer_read, reach};
 ghost use Rattle.pk_tree.specs.Trees.{last_proto};
 ghost use Rattle.dis_ip.specs.Fragments.{LastIsPart};
 ghost use Rattle.dis_ip.specs.Ip4.{ip4_layout, ip4_header, ip4_total, ip4_is_read, ip4_size, ip4_part, ip4_span, ip4_after};
