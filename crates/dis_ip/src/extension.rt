@@ -3,6 +3,7 @@ ghost use Rattle.pk_buffer.specs.Buffers.{IsInside, bytes_of};
 ghost use Rattle.pk_tree.specs.Following.{LeadsInside};
 ghost use Rattle.pk_tree.specs.Layouts.{layer_read};
 ghost use Rattle.pk_tree.specs.Trees.{last_proto};
+ghost use Rattle.dis_ip.specs.Fragments.{LastIsPart};
 ghost use Rattle.dis_ip.specs.Extensions.{is_extension, extension_proto, extension_layout, extension_after};
 
 use crate::fragment_header::read_fragment_header;
@@ -29,6 +30,7 @@ pub fn read_extension(
     ensures after { IfOk result (λ after. after ≡ extension_after which packet.now mode span (bytes_of b.old.buffers span)) }
     ensures inside { IfOk result (LeadsInside b.old.buffers) }
     ensures whole { IfOk result (λ after. after ≢ After.End → last_proto b.new.layers ≡ extension_proto which) }
+    ensures part { IfOk result (LastIsPart b.new.layers) }
     ensures buffers { b.new.buffers ≡ b.old.buffers }
     ensures some { OnOk result (0 < length b.new.layers) }
     ensures most { OnOk result (length b.new.layers ≤ length b.old.layers + 2) }

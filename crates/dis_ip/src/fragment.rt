@@ -2,7 +2,9 @@ ghost use Rattle.std.specs.Prelude.{◌≡◌, ℕ, ◌+◌, ◌-◌, ◌^◌, �
 ghost use Rattle.pk_buffer.specs.Buffers.{IsInside};
 ghost use Rattle.pk_tree.specs.Following.{LeadsInside};
 ghost use Rattle.pk_tree.specs.Layouts.{within};
-ghost use Rattle.dis_ip.specs.Fragments.{is_fragment, part_after};
+ghost use Rattle.pk_tree.specs.Trees.{last_proto};
+ghost use Rattle.pk_tree.specs.declared.layer.Layer.{Layer};
+ghost use Rattle.dis_ip.specs.Fragments.{is_fragment, part_after, part_proto, LastIsPart};
 
 use crate::protocol::carried_by;
 use pk_base::Span;
@@ -16,6 +18,7 @@ pub(crate) fn part_after(mode: Mode, head: FragmentHead, span: Span, header: u32
     requires header { header ≤ span.len }
     ensures after { result ≡ part_after mode head span header }
     ensures inside { (buffers : List (List ℕ)) → IsInside buffers span → LeadsInside buffers result }
+    ensures part { (layers : List Layer) → last_proto layers ≡ part_proto head.six → LastIsPart layers result }
 {
     match mode {
         Mode::Plain if is_fragment(&head) => After::Fragment(head, behind(span, header)),

@@ -4,6 +4,7 @@ ghost use Rattle.pk_fields.specs.Ids.{IPV6_FRAGHDR};
 ghost use Rattle.pk_tree.specs.Following.{LeadsInside};
 ghost use Rattle.pk_tree.specs.Layouts.{layer_read, reach};
 ghost use Rattle.pk_tree.specs.Trees.{last_proto};
+ghost use Rattle.dis_ip.specs.Fragments.{LastIsPart};
 ghost use Rattle.dis_ip.specs.FragmentHeader.{fragment_layout, fragment_part, fragment_after};
 
 use crate::fragment::part_after;
@@ -30,6 +31,7 @@ pub(crate) fn read_fragment_header(
     ensures after { IfOk result (λ after. after ≡ fragment_after mode packet.now span (bytes_of b.old.buffers span)) }
     ensures inside { IfOk result (LeadsInside b.old.buffers) }
     ensures whole { IfOk result (λ after. after ≢ After.End → last_proto b.new.layers ≡ IPV6_FRAGHDR) }
+    ensures part { IfOk result (LastIsPart b.new.layers) }
     ensures buffers { b.new.buffers ≡ b.old.buffers }
     ensures some { OnOk result (0 < length b.new.layers) }
     ensures most { OnOk result (length b.new.layers ≤ length b.old.layers + 2) }

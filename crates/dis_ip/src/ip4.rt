@@ -1,10 +1,11 @@
-ghost use Rattle.std.specs.Prelude.{◌≡◌, ◌≢◌, ℕ, ◌+◌, ◌<◌, ◌≤◌, ◌^◌, length, List, IfOk, OnOk, IfSome, IsTrue};
+ghost use Rattle.std.specs.Prelude.{◌≡◌, ◌≢◌, ◌+◌, ◌<◌, ◌≤◌, ◌^◌, length, IfOk, OnOk, IsTrue};
 ghost use Rattle.pk_buffer.specs.Buffers.{IsInside, bytes_of};
 ghost use Rattle.pk_fields.specs.Ids.{IP};
 ghost use Rattle.pk_tree.specs.Following.{LeadsInside};
-ghost use Rattle.pk_tree.specs.Layouts.{layer_read, reach, is_all};
+ghost use Rattle.pk_tree.specs.Layouts.{layer_read, reach};
 ghost use Rattle.pk_tree.specs.Trees.{last_proto};
-ghost use Rattle.dis_ip.specs.Ip4.{ip4_layout, ip4_header, ip4_total, ip4_size, ip4_part, ip4_span, ip4_after};
+ghost use Rattle.dis_ip.specs.Fragments.{LastIsPart};
+ghost use Rattle.dis_ip.specs.Ip4.{ip4_layout, ip4_header, ip4_total, ip4_is_read, ip4_size, ip4_part, ip4_span, ip4_after};
 
 use crate::fragment::part_after;
 use crate::packet::{in_packet, is_whole, packet_span};
@@ -29,13 +30,14 @@ pub fn read_ip4(span: Span, cut: bool, mode: Mode, b: &mut TreeBuilder) -> Resul
     ensures after { IfOk result (λ after. after ≡ ip4_after mode cut span (bytes_of b.old.buffers span)) }
     ensures inside { IfOk result (LeadsInside b.old.buffers) }
     ensures whole { IfOk result (λ after. after ≢ After.End → last_proto b.new.layers ≡ IP) }
+    ensures part { IfOk result (LastIsPart b.new.layers) }
     ensures buffers { b.new.buffers ≡ b.old.buffers }
     ensures some { OnOk result (0 < length b.new.layers) }
     ensures most { OnOk result (length b.new.layers ≤ length b.old.layers + 2) }
 {
     let bytes = b.bytes(span);
     let steps = ip4_steps(bytes);
-    if !is_read(bytes) {
+    if !is_read(span, bytes) {
         read_layer(b, ids::IP, span, &steps, mode, cut)?;
         return Ok(After::End);
     }
@@ -85,12 +87,12 @@ fn ip4_steps(bytes: &[u8]) -> [Step; 22]
 }
 
 /// Whether no row and no condition ends the reading.
-#[tactic(auto, unfolding(crate::specs::Ip4::ip4_layout, pk_tree::specs::Layouts::reach, pk_tree::specs::Layouts::step_reach, pk_fields::specs::Fields::row_of, pk_fields::specs::Table::rows))]
-fn is_read(bytes: &[u8]) -> bool
-    ensures read { result ≡ is_all (reach (length bytes.now) (ip4_layout bytes.now)) }
-    ensures whole { IsTrue result → (end : ℕ) → ip4_header bytes.now ≤ end → reach end (ip4_layout bytes.now) ≡ Reach.All }
-    ensures header { IsTrue result → ip4_header bytes.now ≤ length bytes.now }
-    ensures size { IsTrue result → IfSome (ip4_size bytes.now) (λ size. ip4_header bytes.now ≤ size) }
+#[tactic(auto, unfolding(crate::specs::Ip4::ip4_layout, crate::specs::Ip4::ip4_span, pk_tree::specs::Layouts::reach, pk_tree::specs::Layouts::step_reach, pk_fields::specs::Fields::row_of, pk_fields::specs::Table::rows))]
+fn is_read(span: Span, bytes: &[u8]) -> bool
+    requires { length bytes.now ≡ span.len }
+    ensures read { result ≡ ip4_is_read span bytes.now }
+    ensures header { IsTrue result → ip4_header bytes.now ≤ (ip4_span span bytes.now).len }
+    ensures whole { IsTrue result → reach (ip4_span span bytes.now).len (ip4_layout bytes.now) ≡ Reach.All }
 {
     let header = header(bytes);
     let total = total(bytes);

@@ -1,10 +1,11 @@
-ghost use Rattle.std.specs.Prelude.{◌≡◌, ◌≢◌, ℕ, ◌+◌, ◌*◌, ◌<◌, ◌≤◌, ◌^◌, length, List, IfOk, OnOk, IfSome, IsTrue};
+ghost use Rattle.std.specs.Prelude.{◌≡◌, ◌≢◌, ◌+◌, ◌*◌, ◌<◌, ◌≤◌, ◌^◌, length, IfOk, OnOk, IsTrue};
 ghost use Rattle.pk_buffer.specs.Buffers.{IsInside, bytes_of};
 ghost use Rattle.pk_fields.specs.Ids.{IPV6};
 ghost use Rattle.pk_tree.specs.Following.{LeadsInside};
-ghost use Rattle.pk_tree.specs.Layouts.{layer_read, peeked, reach, is_all};
+ghost use Rattle.pk_tree.specs.Layouts.{layer_read, peeked, reach};
 ghost use Rattle.pk_tree.specs.Trees.{last_proto};
-ghost use Rattle.dis_ip.specs.Ip6.{ip6_layout, ip6_size, ip6_span, ip6_after};
+ghost use Rattle.dis_ip.specs.Fragments.{LastIsPart};
+ghost use Rattle.dis_ip.specs.Ip6.{ip6_layout, ip6_is_read, ip6_size, ip6_span, ip6_after};
 
 use crate::packet::{in_packet, is_whole, packet_span};
 use crate::protocol::carried_by;
@@ -26,13 +27,14 @@ pub fn read_ip6(span: Span, cut: bool, mode: Mode, b: &mut TreeBuilder) -> Resul
     ensures after { IfOk result (λ after. after ≡ ip6_after cut span (bytes_of b.old.buffers span)) }
     ensures inside { IfOk result (LeadsInside b.old.buffers) }
     ensures whole { IfOk result (λ after. after ≢ After.End → last_proto b.new.layers ≡ IPV6) }
+    ensures part { IfOk result (LastIsPart b.new.layers) }
     ensures buffers { b.new.buffers ≡ b.old.buffers }
     ensures some { OnOk result (0 < length b.new.layers) }
     ensures most { OnOk result (length b.new.layers ≤ length b.old.layers + 2) }
 {
     let bytes = b.bytes(span);
     let steps = ip6_steps(bytes);
-    if !is_read(bytes) {
+    if !is_read(span, bytes) {
         read_layer(b, ids::IPV6, span, &steps, mode, cut)?;
         return Ok(After::End);
     }
@@ -68,10 +70,11 @@ fn ip6_steps(bytes: &[u8]) -> [Step; 11]
 }
 
 /// Whether no row and no condition ends the reading.
-#[tactic(auto, unfolding(crate::specs::Ip6::ip6_layout, pk_tree::specs::Layouts::reach, pk_tree::specs::Layouts::step_reach, pk_fields::specs::Fields::row_of, pk_fields::specs::Table::rows))]
-fn is_read(bytes: &[u8]) -> bool
-    ensures read { result ≡ is_all (reach (length bytes.now) (ip6_layout bytes.now)) }
-    ensures whole { IsTrue result → (end : ℕ) → 40 ≤ end → reach end (ip6_layout bytes.now) ≡ Reach.All }
+#[tactic(auto, unfolding(crate::specs::Ip6::ip6_layout, crate::specs::Ip6::ip6_span, pk_tree::specs::Layouts::reach, pk_tree::specs::Layouts::step_reach, pk_fields::specs::Fields::row_of, pk_fields::specs::Table::rows))]
+fn is_read(span: Span, bytes: &[u8]) -> bool
+    requires { length bytes.now ≡ span.len }
+    ensures read { result ≡ ip6_is_read span bytes.now }
+    ensures whole { IsTrue result → reach (ip6_span span bytes.now).len (ip6_layout bytes.now) ≡ Reach.All }
     ensures header { IsTrue result → 40 ≤ length bytes.now }
 {
     bytes.len() >= HEADER as usize && peek(bytes, 0, 4) == VERSION
@@ -79,8 +82,7 @@ fn is_read(bytes: &[u8]) -> bool
 
 /// The packet's bytes with its header, where its payload length names them.
 fn size(bytes: &[u8]) -> Option<u32>
-    ensures size { result ≡ ip6_size bytes.now }
-    ensures least { IfSome result (λ size. 40 ≤ size) }
+    ensures { result ≡ ip6_size bytes.now }
 {
     match peek(bytes, 32, 16) as u32 {
         0 => None,

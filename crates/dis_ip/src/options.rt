@@ -4,6 +4,7 @@ ghost use Rattle.pk_fields.specs.Ids.{IPV6_HOPOPTS, IPV6_DSTOPTS};
 ghost use Rattle.pk_tree.specs.Following.{LeadsInside};
 ghost use Rattle.pk_tree.specs.Layouts.{layer_read, reach};
 ghost use Rattle.pk_tree.specs.Trees.{last_proto};
+ghost use Rattle.dis_ip.specs.Fragments.{LastIsPart};
 ghost use Rattle.dis_ip.specs.Options.{next_header, header_size, hop_options_layout, target_options_layout, sized_after};
 
 use crate::protocol::carried_by;
@@ -25,6 +26,7 @@ pub(crate) fn read_hop_options(
     ensures after { IfOk result (λ after. after ≡ sized_after span (bytes_of b.old.buffers span)) }
     ensures inside { IfOk result (LeadsInside b.old.buffers) }
     ensures whole { IfOk result (λ after. after ≢ After.End → last_proto b.new.layers ≡ IPV6_HOPOPTS) }
+    ensures part { IfOk result (LastIsPart b.new.layers) }
     ensures buffers { b.new.buffers ≡ b.old.buffers }
     ensures some { OnOk result (0 < length b.new.layers) }
     ensures most { OnOk result (length b.new.layers ≤ length b.old.layers + 2) }
@@ -67,6 +69,7 @@ pub(crate) fn read_target_options(
     ensures after { IfOk result (λ after. after ≡ sized_after span (bytes_of b.old.buffers span)) }
     ensures inside { IfOk result (LeadsInside b.old.buffers) }
     ensures whole { IfOk result (λ after. after ≢ After.End → last_proto b.new.layers ≡ IPV6_DSTOPTS) }
+    ensures part { IfOk result (LastIsPart b.new.layers) }
     ensures buffers { b.new.buffers ≡ b.old.buffers }
     ensures some { OnOk result (0 < length b.new.layers) }
     ensures most { OnOk result (length b.new.layers ≤ length b.old.layers + 2) }

@@ -1,6 +1,8 @@
-ghost use Rattle.std.specs.Prelude.{◌≡◌, ℕ, ◌+◌, ◌≤◌, List, IfSome};
+ghost use Rattle.std.specs.Prelude.{◌≡◌, ℕ, ◌+◌, ◌≤◌, List};
 ghost use Rattle.pk_buffer.specs.Buffers.{IsInside};
 ghost use Rattle.pk_tree.specs.Following.{LeadsInside};
+ghost use Rattle.pk_tree.specs.declared.layer.Layer.{Layer};
+ghost use Rattle.dis_ip.specs.Fragments.{LastIsPart};
 ghost use Rattle.dis_ip.specs.Packets.{packet_span, is_whole, in_packet};
 
 use pk_base::Span;
@@ -11,7 +13,6 @@ pub(crate) fn packet_span(span: Span, size: Option<u32>) -> Span
     ensures span { result ≡ packet_span span size }
     ensures inside { (buffers : List (List ℕ)) → IsInside buffers span → IsInside buffers result }
     ensures end { result.start + result.len ≤ span.start + span.len }
-    ensures least { (least : ℕ) → least ≤ span.len → IfSome size (λ size. least ≤ size) → least ≤ result.len }
 {
     match size {
         Some(size) => first_of(span, size),
@@ -33,6 +34,7 @@ pub(crate) fn is_whole(cut: bool, span: Span, size: Option<u32>) -> bool
 pub(crate) fn in_packet(packet: PacketHead, after: After) -> After
     ensures after { result ≡ in_packet packet after }
     ensures inside { (buffers : List (List ℕ)) → LeadsInside buffers after → LeadsInside buffers result }
+    ensures part { (layers : List Layer) → LastIsPart layers after → LastIsPart layers result }
 {
     match after {
         After::Next(next, span) => After::Packet(next, span, packet),

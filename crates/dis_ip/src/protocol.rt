@@ -1,6 +1,8 @@
 ghost use Rattle.std.specs.Prelude.{◌≡◌, ℕ, ◌+◌, ◌^◌, ◌<◌, List};
 ghost use Rattle.pk_buffer.specs.Buffers.{IsInside};
 ghost use Rattle.pk_tree.specs.Following.{LeadsInside};
+ghost use Rattle.pk_tree.specs.declared.layer.Layer.{Layer};
+ghost use Rattle.dis_ip.specs.Fragments.{LastIsPart};
 ghost use Rattle.dis_ip.specs.Protocols.{next_under_ip4, next_under_ip6, next_of_protocol, carried_by};
 
 use pk_base::Span;
@@ -35,6 +37,7 @@ pub(crate) fn carried_by(six: bool, number: u8, span: Span, header: u32) -> Afte
     requires end { span.start + span.len < 2 ^ 32 }
     ensures after { result ≡ carried_by six number span header }
     ensures inside { (buffers : List (List ℕ)) → IsInside buffers span → LeadsInside buffers result }
+    ensures part { (layers : List Layer) → LastIsPart layers result }
 {
     if number == NO_NEXT_HEADER {
         After::End

@@ -1,14 +1,23 @@
-use Rattle.std.proofs.Common.{◌≡◌, ◌≤◌, IsTrue, ap, ◌∙◌, arith, rules}
+use Rattle.std.proofs.Common.{◌≡◌, ℕ, true, IsTrue, List, ap, sym, ◌∙◌, rules}
+use Rattle.pk_base.specs.declared.span.Span.{Span}
 use Rattle.pk_tree.specs.declared.layout.Reach.TheVariants.{All}
 use Rattle.pk_tree.specs.Layouts.{reach}
-use Rattle.dis_ip.specs.Ip6.{ip6_layout}
+use Rattle.dis_ip.specs.Packets.{packet_span}
+use Rattle.dis_ip.specs.Ip6.{ip6_layout, ip6_is_read, ip6_size, ip6_span}
 use Rattle.dis_ip.proofs.ip6.read_ip6.Goals as goal
+
+-- where the header is read, its layer ends by the packet's size, and the header is read there too
+read_in_layer : (span layer : Span) (bytes : List ℕ) → ip6_is_read span bytes ≡ true → layer ≡ packet_span span (ip6_size bytes) →
+    reach (ip6_span span bytes).len (ip6_layout bytes) ≡ All → reach layer.len (ip6_layout bytes) ≡ All
+unfolding ip6_span
+read_in_layer span layer bytes read is all = rw is (rw read at all)
 
 pub returns-clause-whole : goal.returns-clause-whole
 returns-clause-whole c =
     let bytes = c.bytes-bytes.result.now in
     let layer = c.packet_span-layer.result in
     let read : IsTrue c.is_read.result = search rules in
-    let fits : 40 ≤ layer.len = c.packet_span-layer.ensures.least 40 (omega (arith, c.is_read.ensures.header read)) c.size-size.ensures.least in
-    let all : reach layer.len (ip6_layout bytes) ≡ All = c.is_read.ensures.whole read layer.len fits in
+    let true_read : c.is_read.result ≡ true = search rules in
+    let is : layer ≡ packet_span c.args.span (ip6_size bytes) = c.packet_span-layer.ensures.span ∙ ap (packet_span c.args.span) c.size-size.ensures in
+    let all : reach layer.len (ip6_layout bytes) ≡ All = read_in_layer c.args.span layer bytes (sym c.is_read.ensures.read ∙ true_read) is (c.is_read.ensures.whole read) in
     λ _. c.in_ok-read_layer-2.ensures.last (c.in_ok-read_layer-2.ensures.why ∙ ap (reach layer.len) c.ip6_steps-steps.ensures ∙ all)
