@@ -1,1 +1,2 @@
+pub mod OptionBound
 pub mod TcpLemmas
