@@ -433,12 +433,13 @@ fn what_a_datagram_carries_is_told_and_shown_as_data(rt: HostRuntime) -> Result<
 #[test]
 fn what_a_segment_carries_is_told_and_shown_as_data(rt: HostRuntime) -> Result<(), Fail> {
     let rt = &rt;
-    for (total, frame, len, data, last) in [
+    for (total, frame, len, data, layer, last) in [
         (
             42,
             "frame 0+42: frame.number=1 frame.len=42 frame.cap_len=42\nip 0+42:",
             " ip.len=42",
             b"hi".as_slice(),
+            "tcp 20+22:",
             " tcp.len=2 tcp.payload=[104, 105]\ndata 40+2: data.data=[104, 105] data.len=2\n",
         ),
         (
@@ -446,6 +447,7 @@ fn what_a_segment_carries_is_told_and_shown_as_data(rt: HostRuntime) -> Result<(
             "frame 0+40: frame.number=1 frame.len=40 frame.cap_len=40\nip 0+40:",
             " ip.len=40",
             b"",
+            "tcp 20+20:",
             " tcp.len=0\n",
         ),
     ] {
@@ -468,8 +470,7 @@ fn what_a_segment_carries_is_told_and_shown_as_data(rt: HostRuntime) -> Result<(
                 IP_FLAGS,
                 " ip.proto=6",
                 IP_ADDRESSES,
-                "tcp 20+",
-                if total == 42 { "22:" } else { "20:" },
+                layer,
                 " tcp.srcport=40000 tcp.port=40000 tcp.dstport=80 tcp.port=80 tcp.seq_raw=1 tcp.ack_raw=0",
                 " tcp.hdr_len=20 tcp.flags=2 tcp.flags.cwr=false tcp.flags.ece=false tcp.flags.urg=false",
                 " tcp.flags.ack=false tcp.flags.push=false tcp.flags.reset=false tcp.flags.syn=true",
