@@ -24,6 +24,8 @@ use Rattle.dis_link.specs.Link.{link_of, link_after}
 use Rattle.dis_link.specs.LinuxCooked.{sll_after, sll2_after}
 use Rattle.dis_link.specs.Null.{null_after}
 use Rattle.dis_link.specs.Vlan.{vlan_after}
+use Rattle.dis_icmp.specs.Icmp.{icmp_after}
+use Rattle.dis_icmp.specs.Icmp6.{icmp6_after}
 use Rattle.dis_ip.specs.Extensions.{extension_after}
 use Rattle.dis_ip.specs.FragmentHeader.{fragment_after, fragment_part}
 use Rattle.dis_ip.specs.Fragments.{part_after, is_fragment}
@@ -79,6 +81,14 @@ link_behind layers link little span bytes =
 pub vlan_behind : (layers : List Layer) (span : Span) (bytes : List ℕ) → ComesBehind (vlan_after span bytes) layers
 unfolding vlan_after
 vlan_behind layers span bytes = carried_behind layers _ _ _
+
+pub icmp_behind : (layers : List Layer) (span : Span) (bytes : List ℕ) → ComesBehind (icmp_after span bytes) layers
+unfolding icmp_after
+icmp_behind layers span bytes = carried_behind layers _ _ _
+
+pub icmp6_behind : (layers : List Layer) (span : Span) (bytes : List ℕ) → ComesBehind (icmp6_after span bytes) layers
+unfolding icmp6_after
+icmp6_behind layers span bytes = carried_behind layers _ _ _
 
 pub ip4_behind : (layers : List Layer) (mode : Mode) (cut : Bool) (span : Span) (bytes : List ℕ) → ComesBehind (ip4_after mode cut span bytes) layers
 unfolding ip4_after

@@ -2,13 +2,13 @@
 use Rattle.std.specs.Prelude.{◌==◌, ℕ, zero, suc, ◌-◌, ◌<◌, false, List, length, if◌then◌else◌}
 use Rattle.pk_base.specs.declared.span.Span.{Span}
 use Rattle.pk_buffer.specs.Buffers.{IsInside, bytes_of}
-use Rattle.pk_fields.specs.Ids.{ARP, VLAN, IP, IPV6, UDP, TCP}
+use Rattle.pk_fields.specs.Ids.{ARP, VLAN, IP, IPV6, UDP, TCP, ICMP, ICMPV6}
 use Rattle.pk_tree.specs.declared.heads.Address.TheVariants.{Four}
 use Rattle.pk_tree.specs.declared.heads.After.{After}
 use Rattle.pk_tree.specs.declared.heads.After.TheVariants as afters
 use Rattle.pk_tree.specs.declared.heads.FragmentHead.{FragmentHead}
 use Rattle.pk_tree.specs.declared.heads.Mode.{Mode}
-use Rattle.pk_tree.specs.declared.heads.Mode.TheVariants.{Plain}
+use Rattle.pk_tree.specs.declared.heads.Mode.TheVariants.{Plain, Embedded}
 use Rattle.pk_tree.specs.declared.heads.Next.{Next}
 use Rattle.pk_tree.specs.declared.heads.Next.TheVariants as nexts
 use Rattle.pk_tree.specs.declared.heads.PacketHead.{PacketHead}
@@ -20,6 +20,8 @@ use Rattle.pk_tree.specs.Trees.{TreeShown}
 use Rattle.dis_link.specs.Arp.{arp_layout}
 use Rattle.dis_link.specs.Link.{link_of, link_read, link_after}
 use Rattle.dis_link.specs.Vlan.{vlan_layout, vlan_span, vlan_after}
+use Rattle.dis_icmp.specs.Icmp.{icmp_layout, icmp_after}
+use Rattle.dis_icmp.specs.Icmp6.{icmp6_layout, icmp6_after}
 use Rattle.dis_ip.specs.Extensions.{extension_proto, extension_layout, extension_after}
 use Rattle.dis_ip.specs.Ip4.{ip4_span, ip4_layout, ip4_after}
 use Rattle.dis_ip.specs.Ip6.{ip6_span, ip6_layout, ip6_after}
@@ -90,12 +92,17 @@ abbrev pub layer_met : Frame → Head → TreeShown → List Event → ℕ → S
 layer_met frame head t es proto span steps after =
     followed frame head.packet head.mode (layer_read t proto span steps head.mode (is_cut frame)) es after
 
+-- a message of ICMP; the packet that one about a packet carries is read as an embedded one
+abbrev pub message_met : Frame → Head → TreeShown → List Event → ℕ → List Step → After → Walk
+message_met frame head t es proto steps after =
+    followed frame head.packet Embedded (layer_read t proto head.span steps head.mode (is_cut frame)) es after
+
 -- an extension header of IPv6
 abbrev pub extension_met : Next → Frame → Head → TreeShown → List Event → Walk
 extension_met which frame head t es =
     layer_met frame head t es (extension_proto which) head.span (extension_layout which (head_bytes head t)) (extension_after which head.packet head.mode head.span (head_bytes head t))
 
--- a header by its protocol: its layer, and what follows it. ICMP is shown as data so far
+-- a header by its protocol: its layer, and what follows it
 unfoldable pub head_by : Next → Frame → Head → TreeShown → List Event → Walk
 head_by nexts.Ip4 frame head t es =
     layer_met frame head t es IP (ip4_span head.span (head_bytes head t)) (ip4_layout (head_bytes head t)) (ip4_after head.mode (is_cut frame) head.span (head_bytes head t))
@@ -104,8 +111,8 @@ head_by nexts.Ip6 frame head t es =
 head_by nexts.Arp frame head t es = layer_met frame head t es ARP head.span (arp_layout (head_bytes head t)) afters.End
 head_by nexts.Vlan frame head t es =
     layer_met frame head t es VLAN (vlan_span head.span (head_bytes head t)) (vlan_layout (head_bytes head t)) (vlan_after head.span (head_bytes head t))
-head_by nexts.Icmp frame head t es = rest_met t es head.span
-head_by nexts.Icmp6 frame head t es = rest_met t es head.span
+head_by nexts.Icmp frame head t es = message_met frame head t es ICMP (icmp_layout (head_bytes head t)) (icmp_after head.span (head_bytes head t))
+head_by nexts.Icmp6 frame head t es = message_met frame head t es ICMPV6 (icmp6_layout (head_bytes head t)) (icmp6_after head.span (head_bytes head t))
 head_by nexts.Udp frame head t es =
     layer_met frame head t es UDP (udp_span head.span (head_bytes head t)) (udp_layout (head_bytes head t)) (udp_after head.mode head.span (head_bytes head t))
 head_by nexts.Tcp frame head t es =

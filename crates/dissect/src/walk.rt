@@ -13,6 +13,7 @@ use crate::payload::{tell_datagram, tell_segment};
 use crate::state::State;
 use crate::todo::{Head, Todo};
 use capture_read::Frame;
+use dis_icmp::{read_icmp, read_icmp6};
 use dis_ip::{read_extension, read_ip4, read_ip6};
 use dis_link::{read_arp, read_link, read_vlan};
 use dis_ports::{read_tcp, read_udp};
@@ -137,7 +138,7 @@ impl State {
         }
     }
 
-    /// Reads a header by its protocol. ICMP is shown as data so far.
+    /// Reads a header by its protocol. What an ICMP message carries is read as an embedded packet.
     #[tactic(auto, unfolding(crate::specs::Walks::head_by))]
     fn head(&mut self, frame: &Frame, head: Head, tree: &mut TreeBuilder) -> Result<Todo, NoMemory>
         requires inside { IsInside tree.old.buffers head.span }
@@ -184,7 +185,15 @@ impl State {
                 let after = read_tcp(head.span, is_cut(frame), head.mode, tree)?;
                 self.follow(frame, head.packet, head.mode, after, tree)
             }
-            Next::Icmp | Next::Icmp6 | Next::Rest => self.rest(head.span, tree),
+            Next::Icmp => {
+                let after = read_icmp(head.span, is_cut(frame), head.mode, tree)?;
+                self.follow(frame, head.packet, Mode::Embedded, after, tree)
+            }
+            Next::Icmp6 => {
+                let after = read_icmp6(head.span, is_cut(frame), head.mode, tree)?;
+                self.follow(frame, head.packet, Mode::Embedded, after, tree)
+            }
+            Next::Rest => self.rest(head.span, tree),
         }
     }
 

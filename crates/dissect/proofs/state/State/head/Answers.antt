@@ -4,13 +4,23 @@ use Rattle.pk_tree.specs.declared.heads.After.{After}
 use Rattle.pk_tree.specs.declared.heads.After.TheVariants as afters
 use Rattle.pk_tree.specs.Trees.{last_proto}
 use Rattle.dissect.specs.Payloads.{ComesBehind}
-use Rattle.dissect.proofs.Behind.{vlan_behind, ip4_behind, ip6_behind, extension_behind, udp_behind, tcp_behind}
+use Rattle.dissect.proofs.Behind.{vlan_behind, icmp_behind, icmp6_behind, ip4_behind, ip6_behind, extension_behind, udp_behind, tcp_behind}
 use Rattle.dissect.proofs.state.State.head.Goals as goal
 
 pub follow-requires-in-Vlan-clause-last : goal.follow-requires-in-Vlan-clause-last
 follow-requires-in-Vlan-clause-last c =
     subst (λ (after : After). ComesBehind after c.read_vlan.new.b.layers) (sym c.in_ok-after-in-Vlan.ensures.after)
     (vlan_behind c.read_vlan.new.b.layers _ _)
+
+pub follow-requires-in-Icmp-clause-last : goal.follow-requires-in-Icmp-clause-last
+follow-requires-in-Icmp-clause-last c =
+    subst (λ (after : After). ComesBehind after c.read_icmp.new.b.layers) (sym c.in_ok-after-in-Icmp.ensures.after)
+    (icmp_behind c.read_icmp.new.b.layers _ _)
+
+pub follow-requires-in-Icmp6-clause-last : goal.follow-requires-in-Icmp6-clause-last
+follow-requires-in-Icmp6-clause-last c =
+    subst (λ (after : After). ComesBehind after c.read_icmp6.new.b.layers) (sym c.in_ok-after-in-Icmp6.ensures.after)
+    (icmp6_behind c.read_icmp6.new.b.layers _ _)
 
 pub follow-requires-in-Ip4-clause-last : goal.follow-requires-in-Ip4-clause-last
 follow-requires-in-Ip4-clause-last c =
