@@ -1,5 +1,5 @@
 // Frames, and what is shown of their layers.
-use crate::file_rows::{HEADER, PADDING, REQUEST, REQUEST_HEAD};
+use crate::pcap_rows::{HEADER, PADDING, REQUEST, REQUEST_HEAD};
 use crate::runs::{Run, holds};
 use shark_run::Status;
 use std::test::Fail;

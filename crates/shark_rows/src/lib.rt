@@ -3,11 +3,15 @@
 #![tactic(auto)]
 
 #[cfg(test)]
-mod file_rows;
-#[cfg(test)]
 mod layer_rows;
 #[cfg(test)]
 mod outside_rows;
+#[cfg(test)]
+mod packet_rows;
+#[cfg(test)]
+mod pcap_rows;
+#[cfg(test)]
+mod pcapng_rows;
 #[cfg(test)]
 mod runs;
 mod sure;

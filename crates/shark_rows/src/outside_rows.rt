@@ -1,5 +1,5 @@
 // Runs that something outside fails, and files of the greatest size.
-use crate::file_rows::{HEADER, PADDING, REQUEST, REQUEST_HEAD};
+use crate::pcap_rows::{HEADER, PADDING, REQUEST, REQUEST_HEAD};
 use crate::runs::{Faults, NO_FAULTS, Run, bytes_of, comes_to};
 use crate::sure::sure_run;
 use pk_outside::SureSink;
@@ -123,10 +123,10 @@ fn a_file_above_the_limit_is_too_large(rt: HostRuntime) -> Result<(), Fail> {
     let alloc = rt.alloc();
     let mut file = bytes_of(alloc, &SECTION_AND_BLOCK)?;
     let room = vec![in alloc; 0; 65_536]?;
-    while file.len() < 268_435_457 {
-        let more = room.len().min(268_435_457 - file.len());
-        file.extend_from_slice(&room[..more])?;
+    for _ in 0..4095 {
+        file.extend_from_slice(room.as_slice())?;
     }
+    file.extend_from_slice(&room[..65_501])?;
     assert!(rt; ends_without_a_line(alloc, file, Status::TooLarge)?);
     Ok(())
 }
