@@ -1,6 +1,5 @@
 -- The frames of a capture file are few, and numbered in order.
-use Rattle.std.proofs.Common.{◌≤◌, ℕ, zero, suc, ◌+◌, ◌-◌, ◌^◌, Bool, List, [], ◌∷◌, length, drop, refl, arith, length-take, length-drop}
-use Rattle.std.specs.Prelude.{if◌then◌else◌}
+use Rattle.std.proofs.Common.{◌≤◌, ℕ, zero, suc, ◌-◌, ◌^◌, Bool, List, [], ◌∷◌, length, drop, refl, arith, length-take, length-drop}
 use Rattle.pk_base.specs.Limits.{file_limit}
 use Rattle.pcap_read.specs.Pcap.{pcap_head}
 use Rattle.pcap_read.specs.declared.header.PcapHead.{PcapHead}

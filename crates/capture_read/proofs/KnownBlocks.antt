@@ -1,5 +1,5 @@
 -- What the code keeps of the blocks of a pcapng file tells what the definition finds by looking back.
-use Rattle.std.proofs.Common.{◌≡◌, ◌<◌, ◌≤◌, ℕ, ◌+◌, Bool, true, List, [], length, drop, refl, subst}
+use Rattle.std.proofs.Common.{◌≡◌, ℕ, Bool, true, List, [], refl, subst}
 use Rattle.pk_base.specs.declared.found.Found.{Found}
 use Rattle.pcapng_read.specs.Sections.{Scope, scope_of, scope_after, step_of}
 use Rattle.pcapng_read.specs.declared.block.Block.{Block}

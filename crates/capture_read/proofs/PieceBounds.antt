@@ -1,5 +1,5 @@
 -- The records and blocks of a capture file are within its bytes.
-use Rattle.std.proofs.Common.{◌<◌, ◌≤◌, ℕ, Bool, List, length, arith}
+use Rattle.std.proofs.Common.{ℕ, Bool, List, length, arith}
 use Rattle.pcap_read.specs.Pcap.{pcap_item, IsItemWithin}
 use Rattle.pcap_read.specs.declared.header.PcapHead.{PcapHead}
 use Rattle.pcap_read.specs.declared.packet.ItemStep.{ItemStep}

@@ -34,9 +34,9 @@ use Rattle.dis_ip.specs.Ip6.{ip6_after, ip6_packet, ip6_next, ip6_span, ip6_is_r
 use Rattle.dis_ip.specs.Options.{sized_after, next_header, header_size}
 use Rattle.dis_ip.specs.Packets.{in_packet}
 use Rattle.dis_ip.specs.Protocols.{carried_by, ends_chain, next_of_protocol}
-use Rattle.dis_ports.specs.Tcp.{tcp_after, tcp_carries, tcp_head, tcp_layout, header_len}
-use Rattle.dis_ports.specs.Udp.{udp_after, udp_carries, udp_ports, udp_span, udp_layout}
-use Rattle.dissect.specs.Payloads.{LastIs, ComesBehind}
+use Rattle.dis_ports.specs.Tcp.{tcp_after, tcp_carries}
+use Rattle.dis_ports.specs.Udp.{udp_after, udp_carries}
+use Rattle.dissect.specs.Payloads.{ComesBehind}
 
 behind_if : (layers : List Layer) (b : Bool) (x y : After) → ComesBehind x layers → ComesBehind y layers → ComesBehind (if b then x else y) layers
 behind_if layers true x y one other = one

@@ -1,5 +1,5 @@
 -- The chain of headers, met one by one.
-use Rattle.std.proofs.Common.{◌≡◌, ℕ, zero, suc, ◌-◌, ◌<◌, List, length, refl, sym, ◌∙◌, ap, subst, arith}
+use Rattle.std.proofs.Common.{◌≡◌, ℕ, zero, suc, ◌-◌, ◌<◌, List, refl, sym, ◌∙◌, ap, subst, arith}
 use Rattle.pk_tree.specs.Trees.{TreeShown}
 use Rattle.capture_read.specs.declared.frame.Frame.{Frame}
 use Rattle.dissect.specs.declared.state.State.{State}
@@ -8,7 +8,7 @@ use Rattle.dissect.specs.declared.todo.Todo.{Todo}
 use Rattle.dissect.specs.declared.todo.Todo.TheVariants as todos
 use Rattle.dissect.specs.Events.{Event}
 use Rattle.dissect.specs.Stands.{StandsAt, IsWalked}
-use Rattle.dissect.specs.Walks.{Walk, going, stop, rest_met, head_met, chain, link_met, all_met, layers_left}
+use Rattle.dissect.specs.Walks.{Walk, going, stop, rest_met, head_met, chain, all_met, layers_left}
 
 -- after some headers the chain of those that are left is that of all of them
 abbrev pub Goes : Frame → ℕ → State → TreeShown → Todo → ℕ → State → TreeShown → Todo → Type 0

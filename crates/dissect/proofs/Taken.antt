@@ -1,5 +1,5 @@
 -- A frame more, taken by a dissector.
-use Rattle.std.proofs.Common.{◌≡◌, ℕ, ◌+◌, false, List, ◌∷◌, length, sym, ◌∙◌, ap, subst, arith}
+use Rattle.std.proofs.Common.{◌≡◌, ◌+◌, false, List, ◌∷◌, length, ◌∙◌, ap, subst, arith}
 use Rattle.pk_tree.specs.Trees.{TreeShown}
 use Rattle.capture_read.specs.declared.frame.Frame.{Frame}
 use Rattle.dissect.specs.declared.state.State.{State}

@@ -1,5 +1,5 @@
 -- Rules that name the application of a port.
-use Rattle.std.specs.Prelude.{ℕ, ◌==◌, Bool, true, false, ◌&&◌, not, List, All, IsTrue}
+use Rattle.std.specs.Prelude.{◌==◌, Bool, true, false, ◌&&◌, not, List, All, IsTrue}
 use Rattle.std.specs.List.{IsDistinct}
 use Rattle.dissect.specs.declared.decode.App.{App}
 use Rattle.dissect.specs.declared.decode.App.TheVariants.{Http, Dns, Dhcp, Plain}

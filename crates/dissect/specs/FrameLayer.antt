@@ -1,5 +1,5 @@
 -- The first layer of a frame, which tells of the frame itself.
-use Rattle.std.specs.Prelude.{ℕ, Bool, nat_lt, ℤ, List, [], ◌∷◌, ◌++◌, length, Option, Some, None}
+use Rattle.std.specs.Prelude.{Bool, nat_lt, ℤ, List, [], ◌∷◌, ◌++◌, length, Option, Some, None}
 use Rattle.pk_base.specs.declared.span.Span.{Span}
 use Rattle.pk_fields.specs.Ids.{FRAME, FRAME_NUMBER, FRAME_TIME_EPOCH, FRAME_TIME_RELATIVE, FRAME_TIME_DELTA, FRAME_LEN, FRAME_CAP_LEN}
 use Rattle.pk_tree.specs.declared.heads.Mode.TheVariants.{Plain}

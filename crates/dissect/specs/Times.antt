@@ -1,5 +1,5 @@
 -- The times of the frames before a frame.
-use Rattle.std.specs.Prelude.{ℕ, ◌^◌, ◌<◌, ℤ, pos, ◌-ℤ◌, nat_abs, Option, Some, None, IfSome}
+use Rattle.std.specs.Prelude.{◌^◌, ◌<◌, ℤ, ◌-ℤ◌, nat_abs, Option, Some, None, IfSome}
 use Rattle.std.specs.Option.{unwrap_or}
 use Rattle.dissect.specs.declared.times.Times.{Times}
 

@@ -1,5 +1,5 @@
 -- No rules for ports contradict each other.
-use Rattle.std.proofs.Common.{List, []}
+use Rattle.std.proofs.Common.{[]}
 use Rattle.std.proofs.lemmas.List.Elements.{All-nil}
 use Rattle.std.specs.List.{IsDistinct}
 use Rattle.dissect.specs.DecodeRules.{AreRules}

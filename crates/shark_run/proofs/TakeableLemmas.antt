@@ -1,5 +1,5 @@
 -- A dissector can take the frames of a capture file, and the first of them.
-use Rattle.std.proofs.Common.{◌≡◌, ◌≤◌, ◌<◌, ℕ, zero, suc, ◌+◌, ◌^◌, ℤ, pos, negsuc, neg_ℤ, ◌<ℤ◌, ◌-◌, subst, sym, ◌∙◌, ap, List, [], ◌∷◌, Option, None, Some, Bool, true, false, length, take, arith, refl, nat_le}
+use Rattle.std.proofs.Common.{◌≡◌, ◌≤◌, ◌<◌, ℕ, zero, suc, ◌+◌, ◌^◌, ℤ, pos, negsuc, neg_ℤ, ◌<ℤ◌, ◌-◌, subst, sym, ◌∙◌, ap, List, [], ◌∷◌, Option, None, Some, Bool, true, false, length, take, arith, nat_le}
 use Rattle.std.specs.Prelude.{IfSome}
 use Rattle.std.proofs.Math.Facts.{leb_yes}
 use Rattle.capture_read.specs.Capture.{Reading, capture_of}

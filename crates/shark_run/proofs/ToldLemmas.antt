@@ -5,7 +5,6 @@ use Rattle.std.specs.Io.KnownBytes.{Appends}
 use Rattle.std.proofs.KnownBytes.{Appends-nil}
 use Rattle.pk_outside.specs.Outside.{AppendsPart}
 use Rattle.pk_outside.proofs.Parts.{part_none}
-use Rattle.capture_read.specs.declared.ending.Ending.{Ending}
 use Rattle.capture_read.specs.declared.ending.Ending.TheVariants as ending
 use Rattle.shark_run.specs.declared.outcome.Outcome.{Outcome}
 use Rattle.shark_run.specs.declared.outcome.Outcome.TheVariants as outcome
@@ -14,7 +13,7 @@ use Rattle.shark_run.specs.declared.plan.Refused.{Refused}
 use Rattle.shark_run.specs.declared.plan.Refused.TheVariants as refused
 use Rattle.shark_run.specs.declared.status.Status.{Status}
 use Rattle.shark_run.specs.declared.status.Status.TheVariants as status
-use Rattle.shark_run.specs.FaultTexts.{refusal_text, ending_text, outcome_text, EndsSo, IsFaultText, Told, ToldWhole}
+use Rattle.shark_run.specs.FaultTexts.{refusal_text, ending_text, outcome_text, IsFaultText, Told, ToldWhole}
 use Rattle.shark_run.specs.Outcomes.{outcome_status, IfEnded}
 use Rattle.shark_run.specs.Reading.{file_of, frames_read}
 use Rattle.shark_run.specs.Statuses.{refusal_status}

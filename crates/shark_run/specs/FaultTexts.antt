@@ -1,5 +1,5 @@
 -- What standard error is told: one line that names the fault, or nothing.
-use Rattle.std.specs.Prelude.{◌≡◌, ℕ, decimal, List, [], ◌∷◌, ◌++◌, codes, Option, Result, IfOk, IfErr, IfSome}
+use Rattle.std.specs.Prelude.{◌≡◌, ℕ, decimal, List, [], ◌++◌, codes, Option, Result, IfOk, IfErr, IfSome}
 use Rattle.std.specs.Io.KnownBytes.{Appends}
 use Rattle.pk_base.specs.declared.found.Reason.{Reason}
 use Rattle.pk_base.specs.declared.found.Reason.TheVariants.{ShortHeader, UnknownMagic, BadVersion, RecordCut, TooLong, BlockLength, BlockCut, BadInterface, BadOption, BadResolution}
@@ -7,7 +7,6 @@ use Rattle.pk_outside.specs.Outside.{AppendsPart}
 use Rattle.pk_text.specs.Escape.{escaped}
 use Rattle.capture_read.specs.declared.ending.Ending.{Ending}
 use Rattle.capture_read.specs.declared.ending.Ending.TheVariants as ending
-use Rattle.shark_words.specs.declared.fault.WordFault.{WordFault}
 use Rattle.shark_words.specs.declared.fault.WordReason.{WordReason}
 use Rattle.shark_words.specs.declared.fault.WordReason.TheVariants.{UnknownOption, MissingValue, StrayWord, NoFile, Repeated, BadValue, NoFields, Unused}
 use Rattle.shark_run.specs.declared.outcome.Outcome.{Outcome}

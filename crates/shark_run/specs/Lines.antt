@@ -11,7 +11,6 @@ use Rattle.dissect.specs.Trees.{tree_at}
 use Rattle.out_lines.specs.Lines.{field_line_of, default_style}
 use Rattle.shark_run.specs.declared.filter.Test.{Test}
 use Rattle.shark_run.specs.declared.plan.Plan.{Plan}
-use Rattle.shark_run.specs.Filter.{is_nothing}
 
 -- the trees of the frames behind those of the past, of which the newest stands first
 abbrev pub trees_after : List Frame → List Frame → List TreeShown

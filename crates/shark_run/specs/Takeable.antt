@@ -1,6 +1,5 @@
 -- Frames that a dissector can take.
 use Rattle.std.specs.Prelude.{◌≡◌, ◌≤◌, ℕ, ◌+◌, ◌^◌, List, [], ◌∷◌, length, IfSome}
-use Rattle.capture_read.specs.Capture.{Reading, capture_of}
 use Rattle.capture_read.specs.declared.frame.Frame.{Frame}
 use Rattle.dissect.specs.Times.{IsTime}
 

@@ -1,6 +1,6 @@
 -- What follows an option's letter in a word is a text.
-use Rattle.std.proofs.Common.{◌≡◌, ◌≢◌, ◌<◌, ◌≤◌, ◌==◌, ◌++◌, ℕ, suc, Bool, true, false, List, [], ◌∷◌, length, drop, map, Option, None, Some, Result, Ok, Err, String, refl, arith, subst, sym, ◌∙◌, ⊎_elim, if◌then◌else◌}
-use Rattle.std.specs.Prelude.{◌&&◌, IfSome, IfOk, string_bytes, All, option_and_then}
+use Rattle.std.proofs.Common.{◌≡◌, ◌<◌, ◌≤◌, ◌==◌, ◌++◌, ℕ, suc, Bool, true, false, List, [], ◌∷◌, length, Option, None, Some, Result, Ok, Err, String, refl, arith, subst, sym, ◌∙◌, ⊎_elim, if◌then◌else◌}
+use Rattle.std.specs.Prelude.{◌&&◌, IfSome, IfOk, All, option_and_then}
 use Rattle.std.specs.List.{AllByRecursion as Each}
 use Rattle.std.specs.Str.{IsUtf8}
 use Rattle.std.proofs.lemmas.Bool.{cases_lt}
@@ -12,7 +12,6 @@ use Rattle.shark_words.specs.declared.letter.Letter.{Letter}
 use Rattle.shark_words.specs.declared.letter.Letter.TheVariants.{Capture, Filter, Kind, Name, Most}
 use Rattle.shark_words.specs.declared.options.Options.{Options}
 use Rattle.shark_words.specs.declared.uses.Value.{Value}
-use Rattle.shark_words.specs.declared.uses.Given.{Given}
 use Rattle.shark_words.specs.declared.uses.Use.{Use}
 use Rattle.shark_words.specs.declared.uses.Use.TheVariants as use_
 use Rattle.shark_words.specs.declared.fault.WordReason.TheVariants.{NoFields}

@@ -1,4 +1,4 @@
-use Rattle.std.proofs.Common.{◌≡◌, length, drop, ap, subst}
+use Rattle.std.proofs.Common.{◌≡◌, length, drop}
 use Rattle.capture_read.specs.Pieces.{record_at, where_left, IsPieceWithin}
 use Rattle.capture_read.proofs.FormatSteps.{reads_record}
 use Rattle.capture_read.proofs.next_piece.next_piece.Goals as goal

@@ -1,5 +1,4 @@
-use Rattle.std.proofs.Common.{◌≤◌, ◌+◌, length, arith}
-use Rattle.capture_read.specs.Capture.{held_part}
+use Rattle.std.proofs.Common.{arith}
 use Rattle.capture_read.proofs.Limit.{length-held_part}
 use Rattle.capture_read.proofs.state.take_frame.Goals as goal
 

@@ -1,4 +1,4 @@
-use Rattle.std.proofs.Common.{◌+◌, length, subst, sym, ap, ◌∙◌}
+use Rattle.std.proofs.Common.{◌+◌, length, subst, ap, ◌∙◌}
 use Rattle.dissect.specs.Stands.{DissectorShown}
 use Rattle.dissect.specs.Times.{with_time}
 use Rattle.dissect.proofs.Taken.{Reads, tree-taken, stands-taken}

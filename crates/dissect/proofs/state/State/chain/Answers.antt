@@ -1,4 +1,4 @@
-use Rattle.std.proofs.Common.{◌<◌, ◌≡◌, sym, arith, rules}
+use Rattle.std.proofs.Common.{arith, rules}
 use Rattle.dissect.proofs.Chains.{goes-first, goes-on, goes-done, goes-rest}
 use Rattle.dissect.proofs.state.State.chain.Goals as goal
 
