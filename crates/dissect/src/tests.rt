@@ -430,56 +430,64 @@ fn what_a_datagram_carries_is_told_and_shown_as_data(rt: HostRuntime) -> Result<
     )
 }
 
+/// A SYN from port 40000 to port 80 (RFC 9293, 3.1).
+const SYN: &[u8] = b"\x9c\x40\0\x50\0\0\0\x01\0\0\0\0\x50\x02\xff\xff\0\0\0\0";
+
+const SYN_ITEMS: &str =
+    " tcp.srcport=40000 tcp.port=40000 tcp.dstport=80 tcp.port=80 tcp.seq_raw=1 tcp.ack_raw=0 \
+    tcp.hdr_len=20 tcp.flags=2 tcp.flags.cwr=false tcp.flags.ece=false tcp.flags.urg=false \
+    tcp.flags.ack=false tcp.flags.push=false tcp.flags.reset=false tcp.flags.syn=true \
+    tcp.flags.fin=false tcp.window_size_value=65535 tcp.checksum=0 tcp.urgent_pointer=0";
+
 #[test]
 fn what_a_segment_carries_is_told_and_shown_as_data(rt: HostRuntime) -> Result<(), Fail> {
-    let rt = &rt;
-    for (total, frame, len, data, layer, last) in [
-        (
-            42,
+    check(
+        &rt,
+        rt.alloc(),
+        RAW,
+        42,
+        &[
+            b"\x45\0\0\x2a\0\x01\0\0\x40\x06\0\0\x0a\0\0\x01\x0a\0\0\x02",
+            SYN,
+            b"hi",
+        ],
+        &[
             "frame 0+42: frame.number=1 frame.len=42 frame.cap_len=42\nip 0+42:",
+            IP_START,
             " ip.len=42",
-            b"hi".as_slice(),
+            IP_FLAGS,
+            " ip.proto=6",
+            IP_ADDRESSES,
             "tcp 20+22:",
+            SYN_ITEMS,
             " tcp.len=2 tcp.payload=[104, 105]\ndata 40+2: data.data=[104, 105] data.len=2\n",
-        ),
-        (
-            40,
+        ],
+    )
+}
+
+#[test]
+fn a_segment_of_no_bytes_has_a_length_alone(rt: HostRuntime) -> Result<(), Fail> {
+    check(
+        &rt,
+        rt.alloc(),
+        RAW,
+        40,
+        &[
+            b"\x45\0\0\x28\0\x01\0\0\x40\x06\0\0\x0a\0\0\x01\x0a\0\0\x02",
+            SYN,
+        ],
+        &[
             "frame 0+40: frame.number=1 frame.len=40 frame.cap_len=40\nip 0+40:",
+            IP_START,
             " ip.len=40",
-            b"",
+            IP_FLAGS,
+            " ip.proto=6",
+            IP_ADDRESSES,
             "tcp 20+20:",
+            SYN_ITEMS,
             " tcp.len=0\n",
-        ),
-    ] {
-        check(
-            rt,
-            rt.alloc(),
-            RAW,
-            u32::from(total),
-            &[
-                b"\x45\0\0",
-                &[total],
-                b"\0\x01\0\0\x40\x06\0\0\x0a\0\0\x01\x0a\0\0\x02",
-                b"\x9c\x40\0\x50\0\0\0\x01\0\0\0\0\x50\x02\xff\xff\0\0\0\0",
-                data,
-            ],
-            &[
-                frame,
-                IP_START,
-                len,
-                IP_FLAGS,
-                " ip.proto=6",
-                IP_ADDRESSES,
-                layer,
-                " tcp.srcport=40000 tcp.port=40000 tcp.dstport=80 tcp.port=80 tcp.seq_raw=1 tcp.ack_raw=0",
-                " tcp.hdr_len=20 tcp.flags=2 tcp.flags.cwr=false tcp.flags.ece=false tcp.flags.urg=false",
-                " tcp.flags.ack=false tcp.flags.push=false tcp.flags.reset=false tcp.flags.syn=true",
-                " tcp.flags.fin=false tcp.window_size_value=65535 tcp.checksum=0 tcp.urgent_pointer=0",
-                last,
-            ],
-        )?;
-    }
-    Ok(())
+        ],
+    )
 }
 
 /// A hop-by-hop option of type 1 and four bytes before a UDP header (RFC 8200, 4.2).
