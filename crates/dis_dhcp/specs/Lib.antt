@@ -1,0 +1,2 @@
+pub mod Dhcp
+pub mod DhcpOptions
