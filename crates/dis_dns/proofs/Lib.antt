@@ -1,0 +1,2 @@
+pub mod NameLaw
+pub mod NameLemmas
