@@ -71,7 +71,7 @@ fewer_label w len short = omega arith
 pub fewer_target : (bytes : List ℕ) (w : Walk) → target_at bytes w.place < w.start → turns_left (at_target bytes w) < turns_left w
 fewer_target bytes w before = omega arith
 
-turn_taken : (turns : ℕ) (bytes : List ℕ) (w : Walk) (text : List ℕ) → walked (suc turns) bytes w text ≡ on_turn (walked turns bytes) bytes w text (turn_of bytes w)
+pub turn_taken : (turns : ℕ) (bytes : List ℕ) (w : Walk) (text : List ℕ) → walked (suc turns) bytes w text ≡ on_turn (walked turns bytes) bytes w text (turn_of bytes w)
 unfolding walked
 turn_taken turns bytes w text = refl
 
