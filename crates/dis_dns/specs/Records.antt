@@ -100,14 +100,15 @@ data_steps base bytes kind at len =
     else (if kind == 16 then (repeated len (text_string base bytes (at + len)) at).steps
     else Part DNS_DATA (base + at) len ∷ [])))))))
 
+-- the numbers of a record, at a place of the layer
+abbrev pub record_head : ℕ → List Step
+record_head at =
+    Row DNS_RESP_TYPE at ∷ Row DNS_RESP_CLASS (at + 2) ∷ Row DNS_RESP_TTL (at + 4) ∷ Row DNS_RESP_LEN (at + 8) ∷ []
+
 -- what follows a record's name; the next record begins behind its data, whose length tells where that is
 unfoldable pub record_tail : ℕ → List ℕ → ℕ → Entry
 record_tail base bytes at = goes_on
-    (Row DNS_RESP_TYPE (base + at) ∷
-    Row DNS_RESP_CLASS (base + at + 2) ∷
-    Row DNS_RESP_TTL (base + at + 4) ∷
-    Row DNS_RESP_LEN (base + at + 8) ∷
-    data_steps base bytes (word_at bytes at) (at + 10) (word_at bytes (at + 8)))
+    (record_head (base + at) ++ data_steps base bytes (word_at bytes at) (at + 10) (word_at bytes (at + 8)))
     (at + 10 + word_at bytes (at + 8))
 
 unfoldable pub resource : ℕ → List ℕ → ℕ → Entry

@@ -1,5 +1,5 @@
 ghost use Rattle.std.specs.Prelude.{◌≡◌, ℕ, ◌+◌, ◌-◌, ◌*◌, ◌<◌, ◌≤◌, ◌^◌, [], length, slice_index, slice_range, IfOk, OnOk};
-ghost use Rattle.dis_dns.specs.Names.{EndsIn, IsWalkIn, TurnFits, after_or, dotted, label_turn, left_by, name_at, pointer_turn, ReadsNames, target_at, turn_of, turns_left};
+ghost use Rattle.dis_dns.specs.Names.{EndsIn, IsWalkIn, TurnFits, after_or, dotted, label_turn, left_by, name_at, pointer_turn, target_at, turn_of, turns_left};
 
 use pk_base::{LABEL_LIMIT, NAME_LIMIT};
 use std::alloc::AllocError;
@@ -174,10 +174,4 @@ fn pointer_turn(bytes: &[u8], walk: Walk) -> Turn
     } else {
         Turn::Over(NameEnd::Fails)
     }
-}
-
-/// The reading of names finds exactly the names that there are.
-pub fn law()
-    ensures { ReadsNames }
-{
 }
