@@ -1,9 +1,9 @@
 -- Each step of a message may stand in the layout of its layer.
-use Rattle.std.proofs.Common.{◌≡◌, ℕ, ◌+◌, ◌-◌, Bool, true, false, ◌&&◌, if◌then◌else◌, List, [], ◌∷◌, ◌++◌, length, refl}
+use Rattle.std.proofs.Common.{◌≡◌, ℕ, ◌+◌, ◌-◌, Bool, true, false, ◌&&◌, if◌then◌else◌, List, [], ◌∷◌, ◌++◌, length, drop, refl, rules}
 use Rattle.std.specs.Prelude.{◌==◌, nat_le, min, slice_index, IsTrue, is_none}
 use Rattle.pk_fields.specs.Fields.{row_of}
 use Rattle.pk_fields.specs.Table.{rows}
-use Rattle.pk_fields.specs.Ids.{DNS, DNS_QRY_NAME, DNS_QRY_TYPE, DNS_QRY_CLASS, DNS_RESP_NAME, DNS_RESP_TYPE, DNS_RESP_CLASS, DNS_RESP_TTL, DNS_RESP_LEN, DNS_A, DNS_AAAA, DNS_NS, DNS_CNAME, DNS_PTR_DOMAIN_NAME, DNS_MX_PREFERENCE, DNS_MX_MAIL_EXCHANGE, DNS_SOA_MNAME, DNS_SOA_RNAME, DNS_SOA_SERIAL_NUMBER, DNS_SOA_REFRESH_INTERVAL, DNS_SOA_RETRY_INTERVAL, DNS_SOA_EXPIRE_LIMIT, DNS_SOA_MINIMUM_TTL, DNS_TXT, DNS_DATA}
+use Rattle.pk_fields.specs.Ids.{DNS, DNS_LENGTH, DNS_QRY_NAME, DNS_QRY_TYPE, DNS_QRY_CLASS, DNS_RESP_NAME, DNS_RESP_TYPE, DNS_RESP_CLASS, DNS_RESP_TTL, DNS_RESP_LEN, DNS_A, DNS_AAAA, DNS_NS, DNS_CNAME, DNS_PTR_DOMAIN_NAME, DNS_MX_PREFERENCE, DNS_MX_MAIL_EXCHANGE, DNS_SOA_MNAME, DNS_SOA_RNAME, DNS_SOA_SERIAL_NUMBER, DNS_SOA_REFRESH_INTERVAL, DNS_SOA_RETRY_INTERVAL, DNS_SOA_EXPIRE_LIMIT, DNS_SOA_MINIMUM_TTL, DNS_TXT, DNS_DATA}
 use Rattle.pk_fields.specs.declared.value_kind.ValueKind.TheVariants as kinds
 use Rattle.pk_tree.specs.declared.layout.Step.{Step}
 use Rattle.pk_tree.specs.declared.layout.Step.TheVariants.{Row, Part, Whole, Derived, Check, Room}
@@ -16,7 +16,7 @@ use Rattle.dis_dns.specs.declared.names.NameEnd.{NameEnd}
 use Rattle.dis_dns.specs.declared.names.NameEnd.TheVariants.{Name, Leaves, Fails}
 use Rattle.dis_dns.specs.Names.{name_at}
 use Rattle.dis_dns.specs.Records.{word_at, shown_name, name_of, name_entry, question_tail, question, data_row, mail_data, zone_numbers, zone_data, text_string, data_steps, record_head, record_tail, resource}
-use Rattle.dis_dns.specs.Dns.{record_count, sections}
+use Rattle.dis_dns.specs.Dns.{header_rows, record_count, sections, message_steps, dns_layout}
 
 record EntryFits (entry : Entry) : Type 0 where
   pub fits : StepsFit DNS entry.steps
@@ -134,8 +134,21 @@ resource_fits base bytes at =
     fit_then DNS (name_entry base bytes DNS_RESP_NAME (length bytes) at) (record_tail base bytes) (name_fits base bytes DNS_RESP_NAME (length bytes) at (search rules) refl)
     (tail_fits base bytes)
 
-pub sections_fit : (base : ℕ) (bytes : List ℕ) → StepsFit DNS (sections base bytes).steps
+sections_fit : (base : ℕ) (bytes : List ℕ) → StepsFit DNS (sections base bytes).steps
 unfolding sections
 sections_fit base bytes =
     fit_then DNS (repeated (word_at bytes 4) (question base bytes) 12) _ (fit_repeated DNS (word_at bytes 4) (question base bytes) (question_fits base bytes) 12)
     (λ at. fit_repeated DNS (record_count bytes) (resource base bytes) (resource_fits base bytes) at)
+
+header_fits : (base : ℕ) → StepsFit DNS (header_rows base)
+unfolding header_rows StepsFit row_of rows
+header_fits base = search rules
+
+message_fits : (base : ℕ) (bytes : List ℕ) → StepsFit DNS (message_steps base bytes)
+unfolding message_steps
+message_fits base bytes = fit_append DNS (header_rows base) _ (header_fits base) (sections_fit base bytes)
+
+pub layout_fits : (prefixed : Bool) (bytes : List ℕ) → StepsFit DNS (dns_layout prefixed bytes)
+unfolding dns_layout row_of rows
+layout_fits prefixed bytes =
+    steps_if prefixed _ _ (row_fits DNS_LENGTH 0 (message_steps 2 (drop 2 bytes)) (search rules) (message_fits 2 (drop 2 bytes))) (message_fits 0 bytes)

@@ -121,7 +121,7 @@ finds bytes start limit place _ here (labelled _ _ _ labels _ room some small ru
     let len : length (slice_range bytes (place + 1) (place + 1 + slice_index bytes place)) ≡ slice_index bytes place = label_length bytes (place + 1) (slice_index bytes place) (omega arith) in
     turn_taken turns bytes w text ∙ ap (on_turn (walked turns bytes) bytes w text) (turn_label bytes w room some small (omega (arith, short, len)))
     ∙ finds bytes start limit (place + 1 + slice_index bytes place) labels here run turns (size + 1 + slice_index bytes place) after
-        (dotted text (slice_range bytes (place + 1) (place + 1 + slice_index bytes place))) inside (omega (arith, short, len)) (omega (arith, short, len, enough))
+    (dotted text (slice_range bytes (place + 1) (place + 1 + slice_index bytes place))) inside (omega (arith, short, len)) (omega (arith, short, len, enough))
 finds bytes start limit place labels _ (pointed _ _ _ _ later room high before run) (suc turns) size after text inside short enough =
     let w : Walk = record { start = start; limit = limit; place = place; size = size; after = after } in
     turn_taken turns bytes w text ∙ ap (on_turn (walked turns bytes) bytes w text) (turn_pointer bytes w room high before)
@@ -130,7 +130,8 @@ finds bytes start limit place labels _ (pointed _ _ _ _ later room high before r
 pub reads_names : ReadsNames
 unfolding name_at
 reads_names bytes end place after text inside = (
-    (λ goes.
+  (λ goes.
       let rest = found (turns_left (first_walk end place)) bytes (first_walk end place) [] after text (omega arith) inside goes in
       (rest.labels, (record { run = rw (← rest.after_is) at rest.run; short = omega (arith, rest.short) }), rest.text_is)),
-    (λ known. rw known.2 (finds bytes place end place known.0 after known.1.run (turns_left (first_walk end place)) 0 None [] inside (omega (arith, known.1.short)) (omega arith))))
+  (λ known. rw known.2 (finds bytes place end place known.0 after known.1.run (turns_left (first_walk end place)) 0 None [] inside (omega (arith, known.1.short)) (omega arith))),
+)

@@ -69,8 +69,8 @@ abbrev pub pointer_turn : List ℕ → Walk → Turn
 pointer_turn bytes w =
     if nat_lt w.limit (w.place + 2) then Over (left_by w.after)
     else (if nat_lt (target_at bytes w.place) w.start
-        then Jump (record { start = target_at bytes w.place; limit = length bytes; place = target_at bytes w.place; size = w.size; after = Some (after_or w.after (w.place + 2)) })
-        else Over Fails)
+    then Jump (record { start = target_at bytes w.place; limit = length bytes; place = target_at bytes w.place; size = w.size; after = Some (after_or w.after (w.place + 2)) })
+    else Over Fails)
 
 -- what stands at the place that a name's reading has come to
 unfoldable pub turn_of : List ℕ → Walk → Turn

@@ -83,8 +83,8 @@ text_string base bytes end at =
     if nat_le end at then ends []
     else (if nat_le (length bytes) at then ends (Room false ∷ [])
     else goes_on
-        (Room (nat_le (at + 1 + slice_index bytes at) end) ∷ Whole DNS_TXT (base + at + 1) (slice_index bytes at) ∷ [])
-        (at + 1 + slice_index bytes at))
+    (Room (nat_le (at + 1 + slice_index bytes at) end) ∷ Whole DNS_TXT (base + at + 1) (slice_index bytes at) ∷ [])
+    (at + 1 + slice_index bytes at))
 
 -- the data of a type, of so many bytes from a place on: addresses (RFC 1035, 3.4.1; RFC 3596, 2.2), names (RFC 1035,
 -- 3.3.1, 3.3.11 and 3.3.12), and texts (3.3.14); what is left of the data behind these rows is passed over

@@ -2,7 +2,7 @@ ghost use Rattle.std.specs.Prelude.{◌≡◌, ℕ, ◌+◌, ◌<◌, ◌≤◌,
 ghost use Rattle.pk_buffer.specs.Buffers.{IsInside, bytes_of};
 ghost use Rattle.pk_fields.specs.Ids.{DNS};
 ghost use Rattle.pk_tree.specs.Entries.{Adds, repeated};
-ghost use Rattle.pk_tree.specs.Layouts.{StepsFit, layer_read};
+ghost use Rattle.pk_tree.specs.Layouts.{layer_read};
 ghost use Rattle.dis_dns.specs.Dns.{dns_layout, header_rows, message_steps, record_count, sections};
 ghost use Rattle.dis_dns.specs.Names.{ReadsNames};
 ghost use Rattle.dis_dns.specs.Records.{question, resource, word_at};
@@ -13,8 +13,8 @@ use pk_fields::ids;
 use pk_tree::{Mode, Step, TreeBuilder, read_layer};
 use std::alloc::Global;
 
-/// The rows of a header.
-const ROWS: usize = 16;
+/// How many steps a message has room for from the start: a header, a question and some records.
+const FEW_STEPS: usize = 64;
 /// The bytes of a header.
 const HEADER: usize = 12;
 /// The bytes of the length before a message in a stream.
@@ -22,13 +22,8 @@ const PREFIX: usize = 2;
 
 /// Reads a Domain Name System message (RFC 1035, 4.1), behind its length where it is `prefixed`, as in a stream (RFC 1035,
 /// 4.2.2). Nothing follows it. `cut` says that the frame was captured only in part.
-#[tactic(auto, using(crate::proofs::NameLaw::reads_names))]
-pub fn read_dns(
-    span: Span,
-    prefixed: bool,
-    cut: bool,
-    b: &mut TreeBuilder,
-) -> Result<(), NoMemory>
+#[tactic(auto, unfolding(pk_fields::specs::Fields::row_of, pk_fields::specs::Table::rows))]
+pub fn read_dns(span: Span, prefixed: bool, cut: bool, b: &mut TreeBuilder) -> Result<(), NoMemory>
     requires inside { IsInside b.old.buffers span }
     requires room { length b.old.layers + 2 < 2 ^ 32 }
     ensures layer { IfOk result (λ _. b.new ≡ layer_read b.old DNS span (dns_layout prefixed (bytes_of b.old.buffers span)) Mode.Plain cut) }
@@ -45,19 +40,31 @@ pub fn read_dns(
 #[tactic(auto, unfolding(crate::specs::Dns::dns_layout))]
 fn dns_steps(alloc: Global, prefixed: bool, bytes: &[u8]) -> Result<Vec<Step>, NoMemory>
     requires { length bytes.now < 2 ^ 32 }
-    ensures layout { IfOk result (λ steps. steps.items ≡ dns_layout prefixed bytes.now) }
-    ensures fits { IfOk result (λ steps. StepsFit DNS steps.items) }
+    ensures { IfOk result (λ steps. steps.items ≡ dns_layout prefixed bytes.now) }
 {
+    let mut steps = Vec::with_capacity(alloc, FEW_STEPS)?;
     if !prefixed {
-        let mut steps = Vec::from_array(alloc, header_rows(0))?;
-        push_sections(&mut steps, &Message { bytes, base: 0, alloc })?;
+        let base = 0;
+        push_message(&mut steps, &Message { bytes, base, alloc })?;
         return Ok(steps);
     }
-    let mut steps = Vec::from_array(alloc, [Step::Row(ids::DNS_LENGTH, 0)])?;
-    steps.extend(header_rows(PREFIX))?;
+    steps.push(Step::Row(ids::DNS_LENGTH, 0))?;
     let bytes = behind_prefix(bytes);
-    push_sections(&mut steps, &Message { bytes, base: PREFIX, alloc })?;
+    let base = PREFIX;
+    push_message(&mut steps, &Message { bytes, base, alloc })?;
     Ok(steps)
+}
+
+/// Adds the steps of a message.
+#[tactic(auto, unfolding(crate::specs::Dns::message_steps))]
+fn push_message(steps: &mut Vec<Step>, message: &Message) -> Result<(), NoMemory>
+    requires base { message.now.base ≤ 2 }
+    requires short { length message.now.bytes.now < 2 ^ 32 }
+    ensures { OnOk result (steps.new.items ≡ steps.old.items ++ message_steps message.now.base message.now.bytes.now) }
+{
+    push_header(steps, message.base)?;
+    push_sections(steps, message)?;
+    Ok(())
 }
 
 /// The bytes behind the length, where it is there.
@@ -67,31 +74,29 @@ fn behind_prefix(bytes: &[u8]) -> &[u8]
     &bytes[PREFIX.min(bytes.len())..]
 }
 
-/// The rows of the header of a message before which its layer has so many bytes.
-#[tactic(auto, unfolding(crate::specs::Dns::header_rows, pk_tree::specs::Layouts::StepsFit, pk_fields::specs::Fields::row_of, pk_fields::specs::Table::rows))]
-fn header_rows(base: usize) -> [Step; ROWS]
+/// Adds the rows of the header of a message before which its layer has so many bytes.
+#[tactic(auto, unfolding(crate::specs::Dns::header_rows))]
+fn push_header(steps: &mut Vec<Step>, base: usize) -> Result<(), NoMemory>
     requires { base ≤ 2 }
-    ensures layout { result ≡ header_rows base }
-    ensures fits { StepsFit DNS result }
+    ensures { OnOk result (steps.new.items ≡ steps.old.items ++ header_rows base) }
 {
-    [
-        Step::Row(ids::DNS_ID, base),
-        Step::Row(ids::DNS_FLAGS, base + 2),
-        Step::Row(ids::DNS_FLAGS_RESPONSE, base + 2),
-        Step::Row(ids::DNS_FLAGS_OPCODE, base + 2),
-        Step::Row(ids::DNS_FLAGS_AUTHORITATIVE, base + 2),
-        Step::Row(ids::DNS_FLAGS_TRUNCATED, base + 2),
-        Step::Row(ids::DNS_FLAGS_RECDESIRED, base + 2),
-        Step::Row(ids::DNS_FLAGS_RECAVAIL, base + 3),
-        Step::Row(ids::DNS_FLAGS_Z, base + 3),
-        Step::Row(ids::DNS_FLAGS_AUTHENTICATED, base + 3),
-        Step::Row(ids::DNS_FLAGS_CHECKDISABLE, base + 3),
-        Step::Row(ids::DNS_FLAGS_RCODE, base + 3),
-        Step::Row(ids::DNS_COUNT_QUERIES, base + 4),
-        Step::Row(ids::DNS_COUNT_ANSWERS, base + 6),
-        Step::Row(ids::DNS_COUNT_AUTH_RR, base + 8),
-        Step::Row(ids::DNS_COUNT_ADD_RR, base + 10),
-    ]
+    steps.push(Step::Row(ids::DNS_ID, base))?;
+    steps.push(Step::Row(ids::DNS_FLAGS, base + 2))?;
+    steps.push(Step::Row(ids::DNS_FLAGS_RESPONSE, base + 2))?;
+    steps.push(Step::Row(ids::DNS_FLAGS_OPCODE, base + 2))?;
+    steps.push(Step::Row(ids::DNS_FLAGS_AUTHORITATIVE, base + 2))?;
+    steps.push(Step::Row(ids::DNS_FLAGS_TRUNCATED, base + 2))?;
+    steps.push(Step::Row(ids::DNS_FLAGS_RECDESIRED, base + 2))?;
+    steps.push(Step::Row(ids::DNS_FLAGS_RECAVAIL, base + 3))?;
+    steps.push(Step::Row(ids::DNS_FLAGS_Z, base + 3))?;
+    steps.push(Step::Row(ids::DNS_FLAGS_AUTHENTICATED, base + 3))?;
+    steps.push(Step::Row(ids::DNS_FLAGS_CHECKDISABLE, base + 3))?;
+    steps.push(Step::Row(ids::DNS_FLAGS_RCODE, base + 3))?;
+    steps.push(Step::Row(ids::DNS_COUNT_QUERIES, base + 4))?;
+    steps.push(Step::Row(ids::DNS_COUNT_ANSWERS, base + 6))?;
+    steps.push(Step::Row(ids::DNS_COUNT_AUTH_RR, base + 8))?;
+    steps.push(Step::Row(ids::DNS_COUNT_ADD_RR, base + 10))?;
+    Ok(())
 }
 
 /// Adds the steps of a message's questions and records.

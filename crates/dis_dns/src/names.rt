@@ -146,7 +146,14 @@ fn label_turn(walk: Walk, len: usize) -> Turn
     } else if NAME_LIMIT < size + 1 {
         Turn::Over(NameEnd::Fails)
     } else {
-        Turn::Label(len, Walk { place, size, ..walk })
+        Turn::Label(
+            len,
+            Walk {
+                place,
+                size,
+                ..walk
+            },
+        )
     }
 }
 

@@ -90,11 +90,7 @@ pub(crate) fn push_record(
 
 /// Adds the steps of what follows a record's name, and answers where the next record is.
 #[tactic(auto, unfolding(crate::specs::Records::record_tail))]
-fn push_record_tail(
-    steps: &mut Vec<Step>,
-    message: &Message,
-    at: usize,
-) -> Result<usize, NoMemory>
+fn push_record_tail(steps: &mut Vec<Step>, message: &Message, at: usize) -> Result<usize, NoMemory>
     requires base { message.now.base ≤ 2 }
     requires short { length message.now.bytes.now < 2 ^ 32 }
     requires place { at ≤ length message.now.bytes.now }
@@ -224,7 +220,14 @@ fn push_zone_numbers(
     ensures { OnOk result (steps.new.items ≡ steps.old.items ++ (zone_numbers message.now.base end at).steps) }
 {
     push_row(steps, message, end, ids::DNS_SOA_SERIAL_NUMBER, at, 4)?;
-    push_row(steps, message, end, ids::DNS_SOA_REFRESH_INTERVAL, at + 4, 4)?;
+    push_row(
+        steps,
+        message,
+        end,
+        ids::DNS_SOA_REFRESH_INTERVAL,
+        at + 4,
+        4,
+    )?;
     push_row(steps, message, end, ids::DNS_SOA_RETRY_INTERVAL, at + 8, 4)?;
     push_row(steps, message, end, ids::DNS_SOA_EXPIRE_LIMIT, at + 12, 4)?;
     push_row(steps, message, end, ids::DNS_SOA_MINIMUM_TTL, at + 16, 4)?;

@@ -8,8 +8,7 @@ use std::process::Abort;
 /// A query's id 1 and flags: recursion desired.
 const QUERY: &[u8] = b"\0\x01\x01\0";
 
-const QUERY_ITEMS: &str =
-    " dns.id=1 dns.flags=256 dns.flags.response=false dns.flags.opcode=0 \
+const QUERY_ITEMS: &str = " dns.id=1 dns.flags=256 dns.flags.response=false dns.flags.opcode=0 \
     dns.flags.authoritative=false dns.flags.truncated=false dns.flags.recdesired=true \
     dns.flags.recavail=false dns.flags.z=false dns.flags.authenticated=false \
     dns.flags.checkdisable=false dns.flags.rcode=0";
@@ -135,7 +134,13 @@ fn places_in_a_stream_count_behind_the_length(rt: HostRuntime) -> Result<(), NoM
         &rt,
         rt.alloc(),
         STREAM,
-        &[b"\0\x28", RESPONSE, ONE_OF_BOTH, H_TEST, b"\xc0\x0c\0\x01\0\x01\0\0\0\x3c\0\x04\x0a\0\x02\x20"],
+        &[
+            b"\0\x28",
+            RESPONSE,
+            ONE_OF_BOTH,
+            H_TEST,
+            b"\xc0\x0c\0\x01\0\x01\0\0\0\x3c\0\x04\x0a\0\x02\x20",
+        ],
         &[
             "dns 0+42: dns.length=40",
             RESPONSE_ITEMS,
@@ -166,7 +171,12 @@ fn a_pointer_to_its_own_run_is_malformed(rt: HostRuntime) -> Result<(), NoMemory
             rt.alloc(),
             CUT_DATAGRAM,
             &[QUERY, ONE_QUESTION, pointer, b"\0\x01\0\x01"],
-            &[layer.as_str(), QUERY_ITEMS, ONE_QUESTION_ITEMS, fault.as_str()],
+            &[
+                layer.as_str(),
+                QUERY_ITEMS,
+                ONE_QUESTION_ITEMS,
+                fault.as_str(),
+            ],
         )?;
     }
     Ok(())
@@ -212,14 +222,24 @@ fn pointers_lead_into_the_header_and_into_labels(rt: HostRuntime) -> Result<(), 
     }
     // Into the middle of a label: the byte before `b` is the letter `a`, which is no length.
     for (pointer, end) in [
-        (b"\xc0\x10".as_slice(), " dns.resp.name=ab@23+2 dns.resp.type=1 dns.resp.class=1 dns.resp.ttl=0 dns.resp.len=0\n"),
+        (
+            b"\xc0\x10".as_slice(),
+            " dns.resp.name=ab@23+2 dns.resp.type=1 dns.resp.class=1 dns.resp.ttl=0 dns.resp.len=0\n",
+        ),
         (b"\xc0\x0d", "\n_ws.malformed 35+0:\n"),
     ] {
         check(
             &rt,
             rt.alloc(),
             DATAGRAM,
-            &[RESPONSE, ONE_OF_BOTH, b"\x05abc\x02a\0", b"\0\x01\0\x01", pointer, b"\0\x01\0\x01\0\0\0\0\0\0"],
+            &[
+                RESPONSE,
+                ONE_OF_BOTH,
+                b"\x05abc\x02a\0",
+                b"\0\x01\0\x01",
+                pointer,
+                b"\0\x01\0\x01\0\0\0\0\0\0",
+            ],
             &["dns 0+35:", RESPONSE_ITEMS, ONE_OF_BOTH_ITEMS, end],
         )?;
     }
@@ -236,7 +256,19 @@ fn names_have_at_most_255_bytes(rt: HostRuntime) -> Result<(), NoMemory> {
         &rt,
         rt.alloc(),
         DATAGRAM,
-        &[QUERY, ONE_QUESTION, b"\x3f", &label, b"\x3f", &label, b"\x3f", &label, b"\x3d", &last[..61], b"\0\0\x01\0\x01"],
+        &[
+            QUERY,
+            ONE_QUESTION,
+            b"\x3f",
+            &label,
+            b"\x3f",
+            &label,
+            b"\x3f",
+            &label,
+            b"\x3d",
+            &last[..61],
+            b"\0\0\x01\0\x01",
+        ],
         &[
             "dns 0+271:",
             QUERY_ITEMS,
@@ -256,7 +288,19 @@ fn names_have_at_most_255_bytes(rt: HostRuntime) -> Result<(), NoMemory> {
         &rt,
         rt.alloc(),
         DATAGRAM,
-        &[QUERY, ONE_QUESTION, b"\x3f", &label, b"\x3f", &label, b"\x3f", &label, b"\x3e", &last, b"\0\0\x01\0\x01"],
+        &[
+            QUERY,
+            ONE_QUESTION,
+            b"\x3f",
+            &label,
+            b"\x3f",
+            &label,
+            b"\x3f",
+            &label,
+            b"\x3e",
+            &last,
+            b"\0\0\x01\0\x01",
+        ],
         &[
             "dns 0+272:",
             QUERY_ITEMS,
@@ -292,13 +336,21 @@ fn data_is_read_by_its_type(rt: HostRuntime) -> Result<(), NoMemory> {
         (1, b"\x0a\0\x02\x20".as_slice(), " dns.a=a000220"),
         (1, b"\x0a\0\x02", " dns.data=[10, 0, 2]"),
         (1, b"", ""),
-        (28, b"\x20\x01\x0d\xb8\0\0\0\0\0\0\0\0\0\0\0\x01", " dns.aaaa=20010db8000000000000000000000001"),
+        (
+            28,
+            b"\x20\x01\x0d\xb8\0\0\0\0\0\0\0\0\0\0\0\x01",
+            " dns.aaaa=20010db8000000000000000000000001",
+        ),
         (28, b"\0\0\0\x01", " dns.data=[0, 0, 0, 1]"),
         (2, b"\x02ns\0", " dns.ns=ns@23+4"),
         (5, b"\x01a\x01b\0", " dns.cname=a.b@23+5"),
         (5, b"\x01a\0\xff\xff", " dns.cname=a@23+3"),
         (12, b"\xc0\x0c", " dns.ptr.domain_name=<Root>@23+2"),
-        (15, b"\0\x0a\x02mx\0", " dns.mx.preference=10 dns.mx.mail_exchange=mx@25+4"),
+        (
+            15,
+            b"\0\x0a\x02mx\0",
+            " dns.mx.preference=10 dns.mx.mail_exchange=mx@25+4",
+        ),
         (
             6,
             b"\x01m\0\x01r\xc0\x17\0\0\0\x01\0\0\0\x02\0\0\0\x03\0\0\0\x04\0\0\0\x05",
@@ -311,13 +363,28 @@ fn data_is_read_by_its_type(rt: HostRuntime) -> Result<(), NoMemory> {
     ] {
         let len = 23 + data.len();
         let layer = format!(in rt.alloc(); "dns 0+{len}:")?;
-        let head = format!(in rt.alloc(); " dns.resp.name=<Root>@12+1 dns.resp.type={kind} dns.resp.class=1 dns.resp.ttl=60 dns.resp.len={}", data.len())?;
+        let head = format!(in rt.alloc();
+            " dns.resp.name=<Root>@12+1 dns.resp.type={kind} dns.resp.class=1 dns.resp.ttl=60 dns.resp.len={}",
+            data.len()
+        )?;
         check(
             &rt,
             rt.alloc(),
             DATAGRAM,
-            &[RESPONSE, ONE_ANSWER, &[0, 0, kind, 0, 1, 0, 0, 0, 60, 0, (data.len() % 256) as u8], data],
-            &[layer.as_str(), RESPONSE_ITEMS, ONE_ANSWER_ITEMS, head.as_str(), items, "\n"],
+            &[
+                RESPONSE,
+                ONE_ANSWER,
+                &[0, 0, kind, 0, 1, 0, 0, 0, 60, 0, (data.len() % 256) as u8],
+                data,
+            ],
+            &[
+                layer.as_str(),
+                RESPONSE_ITEMS,
+                ONE_ANSWER_ITEMS,
+                head.as_str(),
+                items,
+                "\n",
+            ],
         )?;
     }
     Ok(())
@@ -333,17 +400,44 @@ fn rows_that_leave_their_data_do_not_fit(rt: HostRuntime) -> Result<(), NoMemory
         (15, 1, b"\0\x0a\0\0\0\0\0\0", ""),
         (15, 2, b"\0\x0a\0\0\0\0\0\0", " dns.mx.preference=10"),
         (16, 2, b"\x02ab\0\0\0\0\0", ""),
-        (6, 5, b"\0\0\0\0\0\x01\0\0", " dns.soa.mname=<Root>@23+1 dns.soa.rname=<Root>@24+1"),
-        (6, 7, b"\0\0\0\0\0\x01\0\0", " dns.soa.mname=<Root>@23+1 dns.soa.rname=<Root>@24+1 dns.soa.serial_number=1"),
+        (
+            6,
+            5,
+            b"\0\0\0\0\0\x01\0\0",
+            " dns.soa.mname=<Root>@23+1 dns.soa.rname=<Root>@24+1",
+        ),
+        (
+            6,
+            7,
+            b"\0\0\0\0\0\x01\0\0",
+            " dns.soa.mname=<Root>@23+1 dns.soa.rname=<Root>@24+1 dns.soa.serial_number=1",
+        ),
     ] {
-        let head = format!(in rt.alloc(); " dns.resp.name=<Root>@12+1 dns.resp.type={kind} dns.resp.class=1 dns.resp.ttl=60 dns.resp.len={len}")?;
-        for (cut, fault) in [(true, "\n_ws.short 31+0:\n"), (false, "\n_ws.malformed 31+0:\n")] {
+        let head = format!(in rt.alloc();
+            " dns.resp.name=<Root>@12+1 dns.resp.type={kind} dns.resp.class=1 dns.resp.ttl=60 dns.resp.len={len}"
+        )?;
+        for (cut, fault) in [
+            (true, "\n_ws.short 31+0:\n"),
+            (false, "\n_ws.malformed 31+0:\n"),
+        ] {
             check(
                 &rt,
                 rt.alloc(),
                 (false, cut),
-                &[RESPONSE, ONE_ANSWER, &[0, 0, kind, 0, 1, 0, 0, 0, 60, 0, len], data],
-                &["dns 0+31:", RESPONSE_ITEMS, ONE_ANSWER_ITEMS, head.as_str(), items, fault],
+                &[
+                    RESPONSE,
+                    ONE_ANSWER,
+                    &[0, 0, kind, 0, 1, 0, 0, 0, 60, 0, len],
+                    data,
+                ],
+                &[
+                    "dns 0+31:",
+                    RESPONSE_ITEMS,
+                    ONE_ANSWER_ITEMS,
+                    head.as_str(),
+                    items,
+                    fault,
+                ],
             )?;
         }
     }

@@ -14,10 +14,10 @@ loop-question-preserved c = record {
 pub returns-in-None-clause-adds : goal.returns-in-None-clause-adds
 returns-in-None-clause-adds c =
     repeat_stop (question c.args.message.now.base c.args.message.now.bytes.now) c.args.count c.loop-question._question c.loop-question.place c.args.steps.now.items c.loop-question.steps.items c.push_question.new.steps.items
-      (repeated c.args.count (question c.args.message.now.base c.args.message.now.bytes.now) c.args.at) c.loop-question.invariant.goes c.loop-question-test.true
-      (rw c.in-None.is at c.in_ok-next.ensures.adds)
+    (repeated c.args.count (question c.args.message.now.base c.args.message.now.bytes.now) c.args.at) c.loop-question.invariant.goes c.loop-question-test.true
+    (rw c.in-None.is at c.in_ok-next.ensures.adds)
 
 pub returns-clause-adds : goal.returns-clause-adds
 returns-clause-adds c =
     repeat_done (question c.args.message.now.base c.args.message.now.bytes.now) c.args.count c.loop-question._question c.loop-question.place c.args.steps.now.items c.loop-question.steps.items
-      (repeated c.args.count (question c.args.message.now.base c.args.message.now.bytes.now) c.args.at) c.loop-question.invariant.goes c.loop-question-test.false
+    (repeated c.args.count (question c.args.message.now.base c.args.message.now.bytes.now) c.args.at) c.loop-question.invariant.goes c.loop-question-test.false

@@ -7,7 +7,7 @@ use Rattle.dis_dns.proofs.dns.push_questions.Given as goal
 abbrev pub invariant-loop-question : goal.invariant-loop-question
 invariant-loop-question l = record {
   goes :
-    behind l.steps.items (repeated (l.count - l._question) (question l.message.base l.message.bytes.now) l.place)
-    ≡ behind l.initial.steps.items (repeated l.count (question l.message.base l.message.bytes.now) l.at);
+      behind l.steps.items (repeated (l.count - l._question) (question l.message.base l.message.bytes.now) l.place)
+      ≡ behind l.initial.steps.items (repeated l.count (question l.message.base l.message.bytes.now) l.at);
   bound : l.place < 2 ^ 33;
 }

@@ -14,10 +14,10 @@ loop-record-preserved c = record {
 pub returns-in-None : goal.returns-in-None
 returns-in-None c =
     (repeat_stop (resource c.args.message.now.base c.args.message.now.bytes.now) c.args.count c.loop-record._record c.loop-record.place c.args.steps.now.items c.loop-record.steps.items c.push_record.new.steps.items
-      (repeated c.args.count (resource c.args.message.now.base c.args.message.now.bytes.now) c.args.at) c.loop-record.invariant.goes c.loop-record-test.true
-      (rw c.in-None.is at c.in_ok-next.ensures.adds)).steps
+    (repeated c.args.count (resource c.args.message.now.base c.args.message.now.bytes.now) c.args.at) c.loop-record.invariant.goes c.loop-record-test.true
+    (rw c.in-None.is at c.in_ok-next.ensures.adds)).steps
 
 pub returns : goal.returns
 returns c =
     (repeat_done (resource c.args.message.now.base c.args.message.now.bytes.now) c.args.count c.loop-record._record c.loop-record.place c.args.steps.now.items c.loop-record.steps.items
-      (repeated c.args.count (resource c.args.message.now.base c.args.message.now.bytes.now) c.args.at) c.loop-record.invariant.goes c.loop-record-test.false).steps
+    (repeated c.args.count (resource c.args.message.now.base c.args.message.now.bytes.now) c.args.at) c.loop-record.invariant.goes c.loop-record-test.false).steps

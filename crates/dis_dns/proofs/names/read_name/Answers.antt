@@ -20,20 +20,20 @@ returns-in-Over-clause-value c =
 pub loop-turn-preserved : goal.loop-turn-preserved
 loop-turn-preserved c = elim c.match-next_turn.branch [
   | in-Label+in_ok-push_label-in-Label w ↦
-    let fits = w.in-Label.ensures.fits c.args.place c.loop-turn.invariant.fits in
-    rw (w.walk-is, w.text-is) (record {
-      goes = step_label c.args.bytes.now c.loop-turn.walk w.in-Label.next w.in-Label.len c.loop-turn.text.items _ _ c.loop-turn.invariant.fits.short fits.0.short fits.1 w.in-Label.ensures.turn c.loop-turn.invariant.goes w.in_ok-push_label-in-Label.ensures;
-      fits = fits.0;
-      left = omega (arith, fits.1, c.loop-turn.invariant.left);
-    })
+      let fits = w.in-Label.ensures.fits c.args.place c.loop-turn.invariant.fits in
+      rw (w.walk-is, w.text-is) (record {
+        goes = step_label c.args.bytes.now c.loop-turn.walk w.in-Label.next w.in-Label.len c.loop-turn.text.items _ _ c.loop-turn.invariant.fits.short fits.0.short fits.1 w.in-Label.ensures.turn c.loop-turn.invariant.goes w.in_ok-push_label-in-Label.ensures;
+        fits = fits.0;
+        left = omega (arith, fits.1, c.loop-turn.invariant.left);
+      })
   | in-Jump w ↦
-    let fits = w.in-Jump.ensures.fits c.args.place c.loop-turn.invariant.fits in
-    rw (w.walk-is, w.text-is) (record {
-      goes = step_jump c.args.bytes.now c.loop-turn.walk w.in-Jump.next c.loop-turn.text.items _ c.loop-turn.invariant.fits.short fits.0.short fits.1 w.in-Jump.ensures.turn c.loop-turn.invariant.goes;
-      fits = fits.0;
-      left = omega (arith, fits.1, c.loop-turn.invariant.left);
-    })
-  ]
+      let fits = w.in-Jump.ensures.fits c.args.place c.loop-turn.invariant.fits in
+      rw (w.walk-is, w.text-is) (record {
+        goes = step_jump c.args.bytes.now c.loop-turn.walk w.in-Jump.next c.loop-turn.text.items _ c.loop-turn.invariant.fits.short fits.0.short fits.1 w.in-Jump.ensures.turn c.loop-turn.invariant.goes;
+        fits = fits.0;
+        left = omega (arith, fits.1, c.loop-turn.invariant.left);
+      })
+]
 
 pub returns-clause-value : goal.returns-clause-value
 returns-clause-value c = absurd (omega (arith, c.loop-turn.invariant.left, c.loop-turn.invariant.fits.short, c.loop-turn-test.false))

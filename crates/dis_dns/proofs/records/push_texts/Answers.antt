@@ -12,10 +12,10 @@ loop-string-preserved c =
 pub returns-in-None : goal.returns-in-None
 returns-in-None c =
     (repeat_stop (text_string c.args.message.now.base c.args.message.now.bytes.now (c.args.at + c.args.len)) c.args.len c.loop-string._string c.loop-string.place c.args.steps.now.items c.loop-string.steps.items c.push_text.new.steps.items
-      (repeated c.args.len (text_string c.args.message.now.base c.args.message.now.bytes.now (c.args.at + c.args.len)) c.args.at) c.loop-string.invariant c.loop-string-test.true
-      (rw c.in-None.is at c.in_ok-next.ensures)).steps
+    (repeated c.args.len (text_string c.args.message.now.base c.args.message.now.bytes.now (c.args.at + c.args.len)) c.args.at) c.loop-string.invariant c.loop-string-test.true
+    (rw c.in-None.is at c.in_ok-next.ensures)).steps
 
 pub returns : goal.returns
 returns c =
     (repeat_done (text_string c.args.message.now.base c.args.message.now.bytes.now (c.args.at + c.args.len)) c.args.len c.loop-string._string c.loop-string.place c.args.steps.now.items c.loop-string.steps.items
-      (repeated c.args.len (text_string c.args.message.now.base c.args.message.now.bytes.now (c.args.at + c.args.len)) c.args.at) c.loop-string.invariant c.loop-string-test.false).steps
+    (repeated c.args.len (text_string c.args.message.now.base c.args.message.now.bytes.now (c.args.at + c.args.len)) c.args.at) c.loop-string.invariant c.loop-string-test.false).steps
