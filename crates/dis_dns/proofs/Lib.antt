@@ -1,0 +1,3 @@
+pub mod DnsFits
+pub mod NameLaw
+pub mod NameLemmas

@@ -1,0 +1,13 @@
+use Rattle.std.proofs.Common.{◌≡◌, ◌-◌, ◌<◌, ◌^◌}
+use Rattle.pk_tree.specs.Entries.{behind, repeated}
+use Rattle.dis_dns.specs.Records.{question}
+use Rattle.dis_dns.proofs.dns.push_questions.Given as goal
+
+-- what is left of them leads where all of them do
+abbrev pub invariant-loop-question : goal.invariant-loop-question
+invariant-loop-question l = record {
+  goes :
+      behind l.steps.items (repeated (l.count - l._question) (question l.message.base l.message.bytes.now) l.place)
+      ≡ behind l.initial.steps.items (repeated l.count (question l.message.base l.message.bytes.now) l.at);
+  bound : l.place < 2 ^ 33;
+}

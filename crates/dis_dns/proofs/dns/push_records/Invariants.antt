@@ -1,0 +1,13 @@
+use Rattle.std.proofs.Common.{◌≡◌, ◌-◌, ◌<◌, ◌^◌}
+use Rattle.pk_tree.specs.Entries.{behind, repeated}
+use Rattle.dis_dns.specs.Records.{resource}
+use Rattle.dis_dns.proofs.dns.push_records.Given as goal
+
+-- what is left of them leads where all of them do
+abbrev pub invariant-loop-record : goal.invariant-loop-record
+invariant-loop-record l = record {
+  goes :
+      behind l.steps.items (repeated (l.count - l._record) (resource l.message.base l.message.bytes.now) l.place)
+      ≡ behind l.initial.steps.items (repeated l.count (resource l.message.base l.message.bytes.now) l.at);
+  bound : l.place < 2 ^ 33;
+}

@@ -1,0 +1,11 @@
+//! Messages of the Domain Name System (RFC 1035): header, questions and records, with their names. A reader that finds no
+//! memory leaves its layer unfinished, and the tree is given up.
+#![tactic(auto)]
+
+mod dns;
+mod names;
+mod records;
+#[cfg(test)]
+mod tests;
+
+pub use dns::read_dns;

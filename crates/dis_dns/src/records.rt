@@ -1,0 +1,347 @@
+ghost use Rattle.std.specs.Prelude.{◌≡◌, ℕ, Some, ◌+◌, ◌-◌, ◌*◌, ◌<◌, ◌≤◌, ◌^◌, ◌++◌, length, min, IfOk, IfSome, OnOk};
+ghost use Rattle.pk_tree.specs.Entries.{Adds, repeated};
+ghost use Rattle.dis_dns.specs.Records.{data_row, data_steps, mail_data, name_entry, question, record_head, record_tail, resource, shown_name, text_string, word_at, zone_data, zone_numbers};
+
+use crate::names::{NameEnd, read_name};
+use pk_base::{NAME_LIMIT, NoMemory, Octets};
+use pk_fields::{FieldId, ids};
+use pk_tree::{Step, Value, peek};
+use std::alloc::Global;
+
+/// The types of records whose data is read (RFC 1035, 3.2.2; RFC 3596, 2.1).
+const ADDRESS: usize = 1;
+
+const NAME_SERVER: usize = 2;
+
+const CANONICAL_NAME: usize = 5;
+
+const START_OF_AUTHORITY: usize = 6;
+
+const POINTER: usize = 12;
+
+const MAIL_EXCHANGE: usize = 15;
+
+const TEXT: usize = 16;
+
+const ADDRESS_6: usize = 28;
+
+/// The bytes between a record's name and its data.
+const RECORD_HEAD: usize = 10;
+
+/// A message, and how many bytes of its layer stand before it.
+#[derive(Drop)]
+pub(crate) struct Message<'a> {
+    pub(crate) bytes: &'a [u8],
+    pub(crate) base: usize,
+    pub(crate) alloc: Global,
+}
+
+/// The number in two bytes from a place on, or 0 where they aren't there.
+pub(crate) fn word_at(bytes: &[u8], at: usize) -> usize
+    requires { at < 2 ^ 60 }
+    ensures word { result ≡ word_at bytes.now at }
+    ensures bound { result < 65536 }
+{
+    peek(bytes, 8 * at, 16) as usize
+}
+
+/// Adds the steps of the question at a place, and answers where the next one is.
+#[tactic(auto, unfolding(crate::specs::Records::question))]
+pub(crate) fn push_question(
+    steps: &mut Vec<Step>,
+    message: &Message,
+    at: usize,
+) -> Result<Option<usize>, NoMemory>
+    requires base { message.now.base ≤ 2 }
+    requires short { length message.now.bytes.now < 2 ^ 32 }
+    requires place { at < 2 ^ 33 }
+    ensures adds { IfOk result (Adds steps.old.items steps.new.items (question message.now.base message.now.bytes.now at)) }
+    ensures bound { IfOk result (λ next. IfSome next (λ place. place < 2 ^ 33)) }
+{
+    let end = message.bytes.len();
+    let Some(at) = push_name(steps, message, ids::DNS_QRY_NAME, end, at)? else {
+        return Ok(None);
+    };
+    steps.push(Step::Row(ids::DNS_QRY_TYPE, message.base + at))?;
+    steps.push(Step::Row(ids::DNS_QRY_CLASS, message.base + at + 2))?;
+    Ok(Some(at + 4))
+}
+
+/// Adds the steps of the record at a place, and answers where the next one is.
+#[tactic(auto, unfolding(crate::specs::Records::resource))]
+pub(crate) fn push_record(
+    steps: &mut Vec<Step>,
+    message: &Message,
+    at: usize,
+) -> Result<Option<usize>, NoMemory>
+    requires base { message.now.base ≤ 2 }
+    requires short { length message.now.bytes.now < 2 ^ 32 }
+    requires place { at < 2 ^ 33 }
+    ensures adds { IfOk result (Adds steps.old.items steps.new.items (resource message.now.base message.now.bytes.now at)) }
+    ensures bound { IfOk result (λ next. IfSome next (λ place. place < 2 ^ 33)) }
+{
+    let end = message.bytes.len();
+    let Some(at) = push_name(steps, message, ids::DNS_RESP_NAME, end, at)? else {
+        return Ok(None);
+    };
+    let next = push_record_tail(steps, message, at)?;
+    Ok(Some(next))
+}
+
+/// Adds the steps of what follows a record's name, and answers where the next record is.
+#[tactic(auto, unfolding(crate::specs::Records::record_tail))]
+fn push_record_tail(steps: &mut Vec<Step>, message: &Message, at: usize) -> Result<usize, NoMemory>
+    requires base { message.now.base ≤ 2 }
+    requires short { length message.now.bytes.now < 2 ^ 32 }
+    requires place { at ≤ length message.now.bytes.now }
+    ensures adds { IfOk result (λ next. Adds steps.old.items steps.new.items (record_tail message.now.base message.now.bytes.now at) (Some next)) }
+    ensures bound { IfOk result (λ next. next < 2 ^ 33) }
+{
+    let kind = word_at(message.bytes, at);
+    let len = word_at(message.bytes, at + 8);
+    push_record_head(steps, message.base + at)?;
+    push_data(steps, message, kind, at + RECORD_HEAD, len)?;
+    Ok(at + RECORD_HEAD + len)
+}
+
+/// Adds the steps of a record's numbers.
+fn push_record_head(steps: &mut Vec<Step>, at: usize) -> Result<(), NoMemory>
+    requires { at < 2 ^ 34 }
+    ensures { OnOk result (steps.new.items ≡ steps.old.items ++ record_head at) }
+{
+    steps.push(Step::Row(ids::DNS_RESP_TYPE, at))?;
+    steps.push(Step::Row(ids::DNS_RESP_CLASS, at + 2))?;
+    steps.push(Step::Row(ids::DNS_RESP_TTL, at + 4))?;
+    steps.push(Step::Row(ids::DNS_RESP_LEN, at + 8))?;
+    Ok(())
+}
+
+/// Adds the steps of the data of a type, of so many bytes from a place on.
+#[tactic(auto, unfolding(crate::specs::Records::data_steps))]
+fn push_data(
+    steps: &mut Vec<Step>,
+    message: &Message,
+    kind: usize,
+    at: usize,
+    len: usize,
+) -> Result<(), NoMemory>
+    requires base { message.now.base ≤ 2 }
+    requires short { length message.now.bytes.now < 2 ^ 32 }
+    requires place { at < 2 ^ 33 }
+    requires len { len < 65536 }
+    ensures { OnOk result (steps.new.items ≡ steps.old.items ++ data_steps message.now.base message.now.bytes.now kind at len) }
+{
+    let place = message.base + at;
+    match (kind, len) {
+        (ADDRESS, 4) => steps.push(Step::Row(ids::DNS_A, place))?,
+        (ADDRESS_6, 16) => steps.push(Step::Row(ids::DNS_AAAA, place))?,
+        (NAME_SERVER, _) => push_name_data(steps, message, ids::DNS_NS, at, len)?,
+        (CANONICAL_NAME, _) => push_name_data(steps, message, ids::DNS_CNAME, at, len)?,
+        (POINTER, _) => push_name_data(steps, message, ids::DNS_PTR_DOMAIN_NAME, at, len)?,
+        (MAIL_EXCHANGE, _) => push_mail(steps, message, at, at + len)?,
+        (START_OF_AUTHORITY, _) => push_zone(steps, message, at, at + len)?,
+        (TEXT, _) => push_texts(steps, message, at, len)?,
+        _ => steps.push(Step::Part(ids::DNS_DATA, place, len))?,
+    }
+    Ok(())
+}
+
+/// Adds the steps of data that is a name.
+fn push_name_data(
+    steps: &mut Vec<Step>,
+    message: &Message,
+    field: FieldId,
+    at: usize,
+    len: usize,
+) -> Result<(), NoMemory>
+    requires base { message.now.base ≤ 2 }
+    requires short { length message.now.bytes.now < 2 ^ 32 }
+    requires place { at < 2 ^ 33 }
+    requires len { len < 65536 }
+    ensures { OnOk result (steps.new.items ≡ steps.old.items ++ (name_entry message.now.base message.now.bytes.now field (min (at + len) (length message.now.bytes.now)) at).steps) }
+{
+    let end = message.bytes.len().min(at + len);
+    push_name(steps, message, field, end, at)?;
+    Ok(())
+}
+
+/// Adds the steps of a mail exchange, whose data ends at a place.
+#[tactic(auto, unfolding(crate::specs::Records::mail_data))]
+fn push_mail(
+    steps: &mut Vec<Step>,
+    message: &Message,
+    at: usize,
+    end: usize,
+) -> Result<(), NoMemory>
+    requires base { message.now.base ≤ 2 }
+    requires short { length message.now.bytes.now < 2 ^ 32 }
+    requires place { at < 2 ^ 33 }
+    ensures { OnOk result (steps.new.items ≡ steps.old.items ++ mail_data message.now.base message.now.bytes.now at end) }
+{
+    push_row(steps, message, end, ids::DNS_MX_PREFERENCE, at, 2)?;
+    let limit = end.min(message.bytes.len());
+    push_name(steps, message, ids::DNS_MX_MAIL_EXCHANGE, limit, at + 2)?;
+    Ok(())
+}
+
+/// Adds the steps of a zone's start of authority, whose data ends at a place.
+#[tactic(auto, unfolding(crate::specs::Records::zone_data))]
+fn push_zone(
+    steps: &mut Vec<Step>,
+    message: &Message,
+    at: usize,
+    end: usize,
+) -> Result<(), NoMemory>
+    requires base { message.now.base ≤ 2 }
+    requires short { length message.now.bytes.now < 2 ^ 32 }
+    requires place { at < 2 ^ 33 }
+    ensures { OnOk result (steps.new.items ≡ steps.old.items ++ (zone_data message.now.base message.now.bytes.now at end).steps) }
+{
+    let limit = end.min(message.bytes.len());
+    let Some(at) = push_name(steps, message, ids::DNS_SOA_MNAME, limit, at)? else {
+        return Ok(());
+    };
+    let Some(at) = push_name(steps, message, ids::DNS_SOA_RNAME, limit, at)? else {
+        return Ok(());
+    };
+    push_zone_numbers(steps, message, at, end)
+}
+
+/// Adds the steps of the numbers of a zone's start of authority.
+#[tactic(auto, unfolding(crate::specs::Records::zone_numbers))]
+fn push_zone_numbers(
+    steps: &mut Vec<Step>,
+    message: &Message,
+    at: usize,
+    end: usize,
+) -> Result<(), NoMemory>
+    requires base { message.now.base ≤ 2 }
+    requires place { at < 2 ^ 33 }
+    ensures { OnOk result (steps.new.items ≡ steps.old.items ++ (zone_numbers message.now.base end at).steps) }
+{
+    push_row(steps, message, end, ids::DNS_SOA_SERIAL_NUMBER, at, 4)?;
+    push_row(
+        steps,
+        message,
+        end,
+        ids::DNS_SOA_REFRESH_INTERVAL,
+        at + 4,
+        4,
+    )?;
+    push_row(steps, message, end, ids::DNS_SOA_RETRY_INTERVAL, at + 8, 4)?;
+    push_row(steps, message, end, ids::DNS_SOA_EXPIRE_LIMIT, at + 12, 4)?;
+    push_row(steps, message, end, ids::DNS_SOA_MINIMUM_TTL, at + 16, 4)?;
+    Ok(())
+}
+
+/// Adds the steps of a row of a record's data, of which so many bytes must fit before its end.
+fn push_row(
+    steps: &mut Vec<Step>,
+    message: &Message,
+    end: usize,
+    field: FieldId,
+    at: usize,
+    len: usize,
+) -> Result<(), NoMemory>
+    requires base { message.now.base ≤ 2 }
+    requires place { at < 2 ^ 34 }
+    requires len { len ≤ 4 }
+    ensures { OnOk result (steps.new.items ≡ steps.old.items ++ data_row message.now.base end field at len) }
+{
+    steps.push(Step::Room(at + len <= end))?;
+    steps.push(Step::Row(field, message.base + at))?;
+    Ok(())
+}
+
+/// Adds the steps of the strings of a text, in so many bytes from a place on.
+fn push_texts(
+    steps: &mut Vec<Step>,
+    message: &Message,
+    at: usize,
+    len: usize,
+) -> Result<(), NoMemory>
+    requires base { message.now.base ≤ 2 }
+    requires short { length message.now.bytes.now < 2 ^ 32 }
+    requires place { at < 2 ^ 33 }
+    requires len { len < 65536 }
+    ensures { OnOk result (steps.new.items ≡ steps.old.items ++ (repeated len (text_string message.now.base message.now.bytes.now (at + len)) at).steps) }
+{
+    let mut place = at;
+    for _string in 0..len {
+        match push_text(steps, message, place, at + len)? {
+            Some(next) => place = next,
+            None => return Ok(()),
+        }
+    }
+    Ok(())
+}
+
+/// Adds the steps of the string at a place of a text, whose data ends at another, and answers where the next one is.
+#[tactic(auto, unfolding(crate::specs::Records::text_string))]
+fn push_text(
+    steps: &mut Vec<Step>,
+    message: &Message,
+    at: usize,
+    end: usize,
+) -> Result<Option<usize>, NoMemory>
+    requires base { message.now.base ≤ 2 }
+    requires short { length message.now.bytes.now < 2 ^ 32 }
+    ensures { IfOk result (Adds steps.old.items steps.new.items (text_string message.now.base message.now.bytes.now end at)) }
+{
+    if end <= at {
+        return Ok(None);
+    }
+    let Some(len) = message.bytes.get(at) else {
+        steps.push(Step::Room(false))?;
+        return Ok(None);
+    };
+    let len = usize::from(*len);
+    let next = at + 1 + len;
+    steps.push(Step::Room(next <= end))?;
+    steps.push(Step::Whole(ids::DNS_TXT, message.base + at + 1, len))?;
+    Ok(Some(next))
+}
+
+/// Adds the steps of the name at a place, whose first run may not go past `end`, and answers where it ends.
+#[tactic(auto, unfolding(crate::specs::Records::name_entry))]
+fn push_name(
+    steps: &mut Vec<Step>,
+    message: &Message,
+    field: FieldId,
+    end: usize,
+    place: usize,
+) -> Result<Option<usize>, NoMemory>
+    requires base { message.now.base ≤ 2 }
+    requires end { end ≤ length message.now.bytes.now }
+    requires place { place < 2 ^ 34 }
+    ensures adds { IfOk result (Adds steps.old.items steps.new.items (name_entry message.now.base message.now.bytes.now field end place)) }
+    ensures bound { IfOk result (λ next. IfSome next (λ after. after ≤ length message.now.bytes.now)) }
+{
+    let mut text = Vec::with_capacity(message.alloc, NAME_LIMIT)?;
+    match read_name(message.bytes, end, place, &mut text)? {
+        NameEnd::Name(after) => {
+            let value = Value::Text(shown_name(message.alloc, text)?);
+            steps.push(Step::Derived(field, value, message.base + place, after - place))?;
+            Ok(Some(after))
+        }
+        NameEnd::Leaves => {
+            steps.push(Step::Room(false))?;
+            Ok(None)
+        }
+        NameEnd::Fails => {
+            steps.push(Step::Check(false))?;
+            Ok(None)
+        }
+    }
+}
+
+/// The text of a name by its labels. The root's name has none.
+fn shown_name(alloc: Global, text: Vec<u8>) -> Result<Octets, NoMemory>
+    ensures { IfOk result (λ name. name ≡ shown_name text.items) }
+{
+    if text.is_empty() {
+        Octets::copy(alloc, b"<Root>")
+    } else {
+        Octets::from_vec(text)
+    }
+}

@@ -1,0 +1,497 @@
+use crate::read_dns;
+use pk_base::{NoMemory, Octets, Span};
+use pk_fields::name;
+use pk_tree::{Layer, Place, TreeBuilder, Value};
+use std::alloc::{AllocError, Global};
+use std::process::Abort;
+
+/// A query's id 1 and flags: recursion desired.
+const QUERY: &[u8] = b"\0\x01\x01\0";
+
+const QUERY_ITEMS: &str = " dns.id=1 dns.flags=256 dns.flags.response=false dns.flags.opcode=0 \
+    dns.flags.authoritative=false dns.flags.truncated=false dns.flags.recdesired=true \
+    dns.flags.recavail=false dns.flags.z=false dns.flags.authenticated=false \
+    dns.flags.checkdisable=false dns.flags.rcode=0";
+
+/// A response's id 32 and flags: recursion desired and available.
+const RESPONSE: &[u8] = b"\0\x20\x81\x80";
+
+const RESPONSE_ITEMS: &str =
+    " dns.id=32 dns.flags=33152 dns.flags.response=true dns.flags.opcode=0 \
+    dns.flags.authoritative=false dns.flags.truncated=false dns.flags.recdesired=true \
+    dns.flags.recavail=true dns.flags.z=false dns.flags.authenticated=false \
+    dns.flags.checkdisable=false dns.flags.rcode=0";
+
+/// Counts of one question; of one answer; of a question and an answer.
+const ONE_QUESTION: &[u8] = b"\0\x01\0\0\0\0\0\0";
+
+const ONE_QUESTION_ITEMS: &str =
+    " dns.count.queries=1 dns.count.answers=0 dns.count.auth_rr=0 dns.count.add_rr=0";
+
+const ONE_ANSWER: &[u8] = b"\0\0\0\x01\0\0\0\0";
+
+const ONE_ANSWER_ITEMS: &str =
+    " dns.count.queries=0 dns.count.answers=1 dns.count.auth_rr=0 dns.count.add_rr=0";
+
+const ONE_OF_BOTH: &[u8] = b"\0\x01\0\x01\0\0\0\0";
+
+const ONE_OF_BOTH_ITEMS: &str =
+    " dns.count.queries=1 dns.count.answers=1 dns.count.auth_rr=0 dns.count.add_rr=0";
+
+/// The question for the address of `h.test`, in 12 bytes.
+const H_TEST: &[u8] = b"\x01h\x04test\0\0\x01\0\x01";
+
+const H_TEST_ITEMS: &str = " dns.qry.name=h.test dns.qry.type=1 dns.qry.class=1";
+
+/// A layer's name, first byte and size, and its items.
+fn layer_text(alloc: Global, layer: &Layer) -> Result<String, AllocError> {
+    let place = layer.span;
+    let mut text = format!(in alloc; "{} {}+{}:", name(layer.proto), place.start, place.len)?;
+    for item in layer.items.slice() {
+        text.push_str(" ")?;
+        text.push_str(name(item.field))?;
+        text.push_str(&value_text(alloc, &item.value)?)?;
+        if let Place::Derived(span) = item.place {
+            text.push_str(&format!(in alloc; "@{}+{}", span.start, span.len)?)?;
+        }
+    }
+    text.push_str("\n")?;
+    Ok(text)
+}
+
+fn value_text(alloc: Global, value: &Value) -> Result<String, AllocError> {
+    match value {
+        Value::Uint(number) => format!(in alloc; "={number}"),
+        Value::Bool(truth) => format!(in alloc; "={truth}"),
+        Value::Bytes(bytes) => format!(in alloc; "={:?}", bytes.bytes()),
+        Value::Text(bytes) => match str::from_utf8(bytes.bytes()) {
+            Ok(text) => format!(in alloc; "={text}"),
+            Err(_) => format!(in alloc; "=?"),
+        },
+        Value::Ip4(address) => format!(in alloc; "={address:x}"),
+        Value::Ip6(address) => format!(in alloc; "={address:x}"),
+        _ => format!(in alloc; "=?"),
+    }
+}
+
+/// Reads a message, and compares the layers, a line for each.
+fn check(
+    rt: &impl Abort,
+    alloc: Global,
+    (prefixed, cut): (bool, bool),
+    message: &[&[u8]],
+    layers: &[&str],
+) -> Result<(), NoMemory> {
+    let mut bytes = Vec::new(alloc);
+    for part in message {
+        bytes.extend_from_slice(part)?;
+    }
+    assert!(rt; bytes.len() <= 100_000);
+    let whole = Span {
+        buffer: 0,
+        start: 0,
+        len: bytes.len() as u32,
+    };
+    let mut b = TreeBuilder::new(alloc, Octets::from_vec(bytes)?)?;
+    read_dns(whole, prefixed, cut, &mut b)?;
+    let mut text = String::new(alloc);
+    for layer in b.finish().layers() {
+        text.push_str(&layer_text(alloc, layer)?)?;
+    }
+    let mut wanted = String::new(alloc);
+    for part in layers {
+        wanted.push_str(part)?;
+    }
+    assert_eq!(rt; text.as_str(), wanted.as_str());
+    Ok(())
+}
+
+const DATAGRAM: (bool, bool) = (false, false);
+
+const CUT_DATAGRAM: (bool, bool) = (false, true);
+
+const STREAM: (bool, bool) = (true, false);
+
+#[test]
+fn a_query_has_its_header_and_question(rt: HostRuntime) -> Result<(), NoMemory> {
+    check(
+        &rt,
+        rt.alloc(),
+        DATAGRAM,
+        &[QUERY, ONE_QUESTION, H_TEST],
+        &[
+            "dns 0+24:",
+            QUERY_ITEMS,
+            ONE_QUESTION_ITEMS,
+            " dns.qry.name=h.test@12+8 dns.qry.type=1 dns.qry.class=1\n",
+        ],
+    )
+}
+
+#[test]
+fn places_in_a_stream_count_behind_the_length(rt: HostRuntime) -> Result<(), NoMemory> {
+    check(
+        &rt,
+        rt.alloc(),
+        STREAM,
+        &[
+            b"\0\x28",
+            RESPONSE,
+            ONE_OF_BOTH,
+            H_TEST,
+            b"\xc0\x0c\0\x01\0\x01\0\0\0\x3c\0\x04\x0a\0\x02\x20",
+        ],
+        &[
+            "dns 0+42: dns.length=40",
+            RESPONSE_ITEMS,
+            ONE_OF_BOTH_ITEMS,
+            " dns.qry.name=h.test@14+8 dns.qry.type=1 dns.qry.class=1 \
+            dns.resp.name=h.test@26+2 dns.resp.type=1 dns.resp.class=1 dns.resp.ttl=60 \
+            dns.resp.len=4 dns.a=a000220\n",
+        ],
+    )
+}
+
+#[test]
+fn a_pointer_to_its_own_run_is_malformed(rt: HostRuntime) -> Result<(), NoMemory> {
+    for pointer in [
+        b"\xc0\x0c".as_slice(),
+        b"\xc0\x0d",
+        b"\xc0\x0e",
+        b"\xff\xff",
+        b"\x01a\xc0\x0c",
+        b"\x01a\xc0\x0d",
+        b"\x01a\xc0\x0e",
+    ] {
+        let len = 16 + pointer.len();
+        let layer = format!(in rt.alloc(); "dns 0+{len}:")?;
+        let fault = format!(in rt.alloc(); "\n_ws.malformed {len}+0:\n")?;
+        check(
+            &rt,
+            rt.alloc(),
+            CUT_DATAGRAM,
+            &[QUERY, ONE_QUESTION, pointer, b"\0\x01\0\x01"],
+            &[
+                layer.as_str(),
+                QUERY_ITEMS,
+                ONE_QUESTION_ITEMS,
+                fault.as_str(),
+            ],
+        )?;
+    }
+    Ok(())
+}
+
+#[test]
+fn the_message_that_points_at_itself_alone_is_malformed(rt: HostRuntime) -> Result<(), NoMemory> {
+    check(
+        &rt,
+        rt.alloc(),
+        DATAGRAM,
+        &[QUERY, ONE_QUESTION, b"\xc0\x0c"],
+        &[
+            "dns 0+14:",
+            QUERY_ITEMS,
+            ONE_QUESTION_ITEMS,
+            "\n_ws.malformed 14+0:\n",
+        ],
+    )
+}
+
+#[test]
+fn pointers_lead_into_the_header_and_into_labels(rt: HostRuntime) -> Result<(), NoMemory> {
+    // The header's bytes 0 to 2 are no label; 3 is the root, as is 10; 1 is a label of one byte, then the root.
+    for (pointer, text) in [
+        (b"\xc0\x0a".as_slice(), " dns.qry.name=<Root>@12+2"),
+        (b"\xc0\x03", " dns.qry.name=<Root>@12+2"),
+        (b"\xc0\x01", " dns.qry.name=\x01@12+2"),
+    ] {
+        check(
+            &rt,
+            rt.alloc(),
+            DATAGRAM,
+            &[QUERY, ONE_QUESTION, pointer, b"\0\x01\0\x01"],
+            &[
+                "dns 0+18:",
+                QUERY_ITEMS,
+                ONE_QUESTION_ITEMS,
+                text,
+                " dns.qry.type=1 dns.qry.class=1\n",
+            ],
+        )?;
+    }
+    // Into the middle of a label: the byte before `b` is the letter `a`, which is no length.
+    for (pointer, end) in [
+        (
+            b"\xc0\x10".as_slice(),
+            " dns.resp.name=ab@23+2 dns.resp.type=1 dns.resp.class=1 dns.resp.ttl=0 dns.resp.len=0\n",
+        ),
+        (b"\xc0\x0d", "\n_ws.malformed 35+0:\n"),
+    ] {
+        check(
+            &rt,
+            rt.alloc(),
+            DATAGRAM,
+            &[
+                RESPONSE,
+                ONE_OF_BOTH,
+                b"\x05abc\x02a\0",
+                b"\0\x01\0\x01",
+                pointer,
+                b"\0\x01\0\x01\0\0\0\0\0\0",
+            ],
+            &["dns 0+35:", RESPONSE_ITEMS, ONE_OF_BOTH_ITEMS, end],
+        )?;
+    }
+    Ok(())
+}
+
+#[test]
+fn names_have_at_most_255_bytes(rt: HostRuntime) -> Result<(), NoMemory> {
+    let label = [b'a'; 63];
+    let text = str::from_utf8(&label).unwrap_or("");
+    let last = [b'b'; 62];
+    let last_text = str::from_utf8(&last[..61]).unwrap_or("");
+    check(
+        &rt,
+        rt.alloc(),
+        DATAGRAM,
+        &[
+            QUERY,
+            ONE_QUESTION,
+            b"\x3f",
+            &label,
+            b"\x3f",
+            &label,
+            b"\x3f",
+            &label,
+            b"\x3d",
+            &last[..61],
+            b"\0\0\x01\0\x01",
+        ],
+        &[
+            "dns 0+271:",
+            QUERY_ITEMS,
+            ONE_QUESTION_ITEMS,
+            " dns.qry.name=",
+            text,
+            ".",
+            text,
+            ".",
+            text,
+            ".",
+            last_text,
+            "@12+255 dns.qry.type=1 dns.qry.class=1\n",
+        ],
+    )?;
+    check(
+        &rt,
+        rt.alloc(),
+        DATAGRAM,
+        &[
+            QUERY,
+            ONE_QUESTION,
+            b"\x3f",
+            &label,
+            b"\x3f",
+            &label,
+            b"\x3f",
+            &label,
+            b"\x3e",
+            &last,
+            b"\0\0\x01\0\x01",
+        ],
+        &[
+            "dns 0+272:",
+            QUERY_ITEMS,
+            ONE_QUESTION_ITEMS,
+            "\n_ws.malformed 272+0:\n",
+        ],
+    )
+}
+
+#[test]
+fn lengths_of_64_to_191_are_malformed(rt: HostRuntime) -> Result<(), NoMemory> {
+    for len in [64, 65, 127, 128, 129, 191] {
+        check(
+            &rt,
+            rt.alloc(),
+            CUT_DATAGRAM,
+            &[QUERY, ONE_QUESTION, &[len, 0, 0, 1, 0, 1]],
+            &[
+                "dns 0+18:",
+                QUERY_ITEMS,
+                ONE_QUESTION_ITEMS,
+                "\n_ws.malformed 18+0:\n",
+            ],
+        )?;
+    }
+    Ok(())
+}
+
+#[test]
+fn data_is_read_by_its_type(rt: HostRuntime) -> Result<(), NoMemory> {
+    // The record's name is the root's, its type and length stand in place of the blanks, and its data is at byte 23.
+    for (kind, data, items) in [
+        (1, b"\x0a\0\x02\x20".as_slice(), " dns.a=a000220"),
+        (1, b"\x0a\0\x02", " dns.data=[10, 0, 2]"),
+        (1, b"", ""),
+        (
+            28,
+            b"\x20\x01\x0d\xb8\0\0\0\0\0\0\0\0\0\0\0\x01",
+            " dns.aaaa=20010db8000000000000000000000001",
+        ),
+        (28, b"\0\0\0\x01", " dns.data=[0, 0, 0, 1]"),
+        (2, b"\x02ns\0", " dns.ns=ns@23+4"),
+        (5, b"\x01a\x01b\0", " dns.cname=a.b@23+5"),
+        (5, b"\x01a\0\xff\xff", " dns.cname=a@23+3"),
+        (12, b"\xc0\x0c", " dns.ptr.domain_name=<Root>@23+2"),
+        (
+            15,
+            b"\0\x0a\x02mx\0",
+            " dns.mx.preference=10 dns.mx.mail_exchange=mx@25+4",
+        ),
+        (
+            6,
+            b"\x01m\0\x01r\xc0\x17\0\0\0\x01\0\0\0\x02\0\0\0\x03\0\0\0\x04\0\0\0\x05",
+            " dns.soa.mname=m@23+3 dns.soa.rname=r.m@26+4 dns.soa.serial_number=1 dns.soa.refresh_interval=2 \
+            dns.soa.retry_interval=3 dns.soa.expire_limit=4 dns.soa.minimum_ttl=5",
+        ),
+        (16, b"\x02ab\0\x01c", " dns.txt=ab dns.txt= dns.txt=c"),
+        (16, b"", ""),
+        (41, b"\x07", " dns.data=[7]"),
+    ] {
+        let len = 23 + data.len();
+        let layer = format!(in rt.alloc(); "dns 0+{len}:")?;
+        let head = format!(in rt.alloc();
+            " dns.resp.name=<Root>@12+1 dns.resp.type={kind} dns.resp.class=1 dns.resp.ttl=60 dns.resp.len={}",
+            data.len()
+        )?;
+        check(
+            &rt,
+            rt.alloc(),
+            DATAGRAM,
+            &[
+                RESPONSE,
+                ONE_ANSWER,
+                &[0, 0, kind, 0, 1, 0, 0, 0, 60, 0, (data.len() % 256) as u8],
+                data,
+            ],
+            &[
+                layer.as_str(),
+                RESPONSE_ITEMS,
+                ONE_ANSWER_ITEMS,
+                head.as_str(),
+                items,
+                "\n",
+            ],
+        )?;
+    }
+    Ok(())
+}
+
+#[test]
+fn rows_that_leave_their_data_do_not_fit(rt: HostRuntime) -> Result<(), NoMemory> {
+    // The bytes behind the data would hold the row.
+    for (kind, len, data, items) in [
+        (2, 2, b"\x01a\0\0\0\0\0\0".as_slice(), ""),
+        (5, 1, b"\xc0\x0c\0\0\0\0\0\0", ""),
+        (12, 0, b"\0\0\0\0\0\0\0\0", ""),
+        (15, 1, b"\0\x0a\0\0\0\0\0\0", ""),
+        (15, 2, b"\0\x0a\0\0\0\0\0\0", " dns.mx.preference=10"),
+        (16, 2, b"\x02ab\0\0\0\0\0", ""),
+        (
+            6,
+            5,
+            b"\0\0\0\0\0\x01\0\0",
+            " dns.soa.mname=<Root>@23+1 dns.soa.rname=<Root>@24+1",
+        ),
+        (
+            6,
+            7,
+            b"\0\0\0\0\0\x01\0\0",
+            " dns.soa.mname=<Root>@23+1 dns.soa.rname=<Root>@24+1 dns.soa.serial_number=1",
+        ),
+    ] {
+        let head = format!(in rt.alloc();
+            " dns.resp.name=<Root>@12+1 dns.resp.type={kind} dns.resp.class=1 dns.resp.ttl=60 dns.resp.len={len}"
+        )?;
+        for (cut, fault) in [
+            (true, "\n_ws.short 31+0:\n"),
+            (false, "\n_ws.malformed 31+0:\n"),
+        ] {
+            check(
+                &rt,
+                rt.alloc(),
+                (false, cut),
+                &[
+                    RESPONSE,
+                    ONE_ANSWER,
+                    &[0, 0, kind, 0, 1, 0, 0, 0, 60, 0, len],
+                    data,
+                ],
+                &[
+                    "dns 0+31:",
+                    RESPONSE_ITEMS,
+                    ONE_ANSWER_ITEMS,
+                    head.as_str(),
+                    items,
+                    fault,
+                ],
+            )?;
+        }
+    }
+    Ok(())
+}
+
+#[test]
+fn the_next_record_begins_behind_the_data(rt: HostRuntime) -> Result<(), NoMemory> {
+    check(
+        &rt,
+        rt.alloc(),
+        DATAGRAM,
+        &[
+            RESPONSE,
+            b"\0\0\0\x01\0\x01\0\x01",
+            b"\0\0\x05\0\x01\0\0\0\0\0\x03\0zz",
+            b"\0\0\x02\0\x01\0\0\0\0\0\x01\0",
+            b"\0\0\x29\0\x01\0\0\0\0\0\0",
+        ],
+        &[
+            "dns 0+49:",
+            RESPONSE_ITEMS,
+            " dns.count.queries=0 dns.count.answers=1 dns.count.auth_rr=1 dns.count.add_rr=1",
+            " dns.resp.name=<Root>@12+1 dns.resp.type=5 dns.resp.class=1 dns.resp.ttl=0 dns.resp.len=3 dns.cname=<Root>@23+1",
+            " dns.resp.name=<Root>@26+1 dns.resp.type=2 dns.resp.class=1 dns.resp.ttl=0 dns.resp.len=1 dns.ns=<Root>@37+1",
+            " dns.resp.name=<Root>@38+1 dns.resp.type=41 dns.resp.class=1 dns.resp.ttl=0 dns.resp.len=0\n",
+        ],
+    )
+}
+
+#[test]
+fn counts_that_lie_end_in_a_row_that_does_not_fit(rt: HostRuntime) -> Result<(), NoMemory> {
+    for (counts, items) in [
+        (
+            b"\xff\xff\0\0\0\0\0\0".as_slice(),
+            " dns.count.queries=65535 dns.count.answers=0 dns.count.auth_rr=0 dns.count.add_rr=0",
+        ),
+        (
+            b"\0\x01\xff\xff\xff\xff\xff\xff",
+            " dns.count.queries=1 dns.count.answers=65535 dns.count.auth_rr=65535 dns.count.add_rr=65535",
+        ),
+    ] {
+        check(
+            &rt,
+            rt.alloc(),
+            CUT_DATAGRAM,
+            &[QUERY, counts, H_TEST],
+            &[
+                "dns 0+24:",
+                QUERY_ITEMS,
+                items,
+                " dns.qry.name=h.test@12+8 dns.qry.type=1 dns.qry.class=1\n_ws.short 24+0:\n",
+            ],
+        )?;
+    }
+    Ok(())
+}
