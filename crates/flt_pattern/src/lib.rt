@@ -1,0 +1,11 @@
+//! The patterns of a filter's `matches`: what is a pattern, and whether it matches somewhere in bytes. The only crate
+//! that knows regular expressions.
+#![tactic(auto)]
+
+mod fault;
+mod pattern;
+#[cfg(test)]
+mod tests;
+
+pub use fault::PatternFault;
+pub use pattern::Pattern;
