@@ -1,5 +1,5 @@
 -- From a compiled pattern to what its text says.
-use Rattle.std.proofs.Common.{◌≡◌, ℕ, ◌<◌, ◌≤◌, false, List, length, get_or, Option, None, Some, is_some, IsSomeAnd, IsUtf8}
+use Rattle.std.proofs.Common.{◌≡◌, ℕ, ◌<◌, ◌≤◌, false, List, get_or, Option, None, Some, is_some, IsSomeAnd, IsUtf8}
 use Rattle.std.specs.Str.{chars}
 use Rattle.regex.specs.Names.{names_of}
 use Rattle.regex.specs.Patterns.{Re, find, SameCaptures}

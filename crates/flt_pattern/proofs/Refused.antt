@@ -1,11 +1,11 @@
 -- What a refusal by `regex` says of a text.
-use Rattle.std.proofs.Common.{◌≡◌, ◌≢◌, ◌⊎◌, inl, inr, ℕ, ◌≤◌, List, Option, IsSomeAnd, IsUtf8, chars}
+use Rattle.std.proofs.Common.{◌≢◌, inl, inr, ℕ, List, IsUtf8, chars}
 use Rattle.regex_syntax.specs.Verdict.{Reads, Refuses}
 use Rattle.regex_syntax.specs.Grammar.{read}
 use Rattle.regex_syntax.specs.declared.error.ErrorKind.{ErrorKind}
 use Rattle.regex_syntax.specs.declared.error.ErrorKind.TheVariants.{OutOfMemory}
 use Rattle.regex.specs.Failures as regex
-use Rattle.flt_pattern.specs.Patterns.{IsNoPattern, IsPattern, most_nested, options, reading}
+use Rattle.flt_pattern.specs.Patterns.{IsNoPattern, IsPattern, options, reading}
 use Rattle.flt_pattern.proofs.Compiled.{weaker}
 
 pub no_pattern : (text : List ℕ) (kind : ErrorKind) → Refuses options text kind → kind ≢ OutOfMemory → IsNoPattern text

@@ -4,8 +4,10 @@
 
 mod fault;
 mod pattern;
+mod search;
 #[cfg(test)]
 mod tests;
 
 pub use fault::PatternFault;
 pub use pattern::Pattern;
+pub use search::Search;

@@ -2,6 +2,7 @@ ghost use Rattle.std.specs.Prelude.{◌≡◌, IfOk, IfErr};
 ghost use Rattle.flt_pattern.specs.Patterns.{HasCause, IsPattern, matches};
 
 use crate::fault::{PatternFault, fault_of};
+use crate::search::Search;
 use regex::RegexBuilder;
 use regex::bytes::Regex;
 use std::alloc::{AllocError, Global};
@@ -43,12 +44,24 @@ impl Pattern {
         }
     }
 
-    /// Whether the pattern matches somewhere in the bytes, which need not be UTF-8.
+    /// A search for the pattern, to be used for many byte lists.
+    pub fn search(&self, alloc: Global) -> Result<Search<'_>, AllocError>
+        ensures { IfOk result (λ search. search ≡ self.now) }
+    {
+        let matcher = self.regex.matcher(alloc)?;
+        Ok(Search {
+            regex: &self.regex,
+            matcher,
+        })
+    }
+
+    /// Whether the pattern matches somewhere in the bytes, which need not be UTF-8. For many byte lists `search` is
+    /// quicker.
     pub fn is_in(&self, alloc: Global, bytes: &[u8]) -> Result<bool, AllocError>
         ensures { IfOk result (λ found. found ≡ matches self.now bytes.now) }
     {
-        let mut matcher = self.regex.matcher(alloc)?;
-        Ok(matcher.is_match(bytes))
+        let mut search = self.search(alloc)?;
+        Ok(search.is_in(bytes))
     }
 
     /// The text that it was made from.

@@ -91,6 +91,16 @@ fn a_pattern_keeps_its_text(rt: HostRuntime) -> Result<(), Fail> {
 }
 
 #[test]
+fn one_search_serves_many_byte_lists(rt: HostRuntime) -> Result<(), Fail> {
+    let pattern = Pattern::new(rt.alloc(), br"^GET /(\w+)")?;
+    let mut search = pattern.search(rt.alloc())?;
+    assert_eq!(rt; search.is_in(b"get /index"), true);
+    assert_eq!(rt; search.is_in(b"post /index"), false);
+    assert_eq!(rt; search.is_in(b"GET /a"), true);
+    Ok(())
+}
+
+#[test]
 fn what_is_no_pattern_is_told(rt: HostRuntime) -> Result<(), Fail> {
     is_no_pattern(&rt, rt.alloc(), b"(");
     is_no_pattern(&rt, rt.alloc(), b"*");

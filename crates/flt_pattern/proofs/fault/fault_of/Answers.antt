@@ -1,4 +1,3 @@
-use Rattle.std.proofs.Common.{◌≡◌}
 use Rattle.flt_pattern.proofs.Refused.{no_pattern, read_pattern}
 use Rattle.flt_pattern.proofs.fault.fault_of.Goals as goal
 

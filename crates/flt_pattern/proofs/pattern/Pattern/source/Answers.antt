@@ -1,5 +1,3 @@
-use Rattle.std.proofs.Common.{◌≡◌, IsUtf8, subst}
-use Rattle.flt_pattern.specs.Patterns.{IsPattern}
 use Rattle.flt_pattern.proofs.Compiled.{is_pattern}
 use Rattle.flt_pattern.proofs.pattern.Pattern.source.Goals as goal
 
