@@ -1,0 +1,13 @@
+//! The patterns of a filter's `matches`: what is a pattern, and whether it matches somewhere in bytes. The only crate
+//! that knows regular expressions.
+#![tactic(auto)]
+
+mod fault;
+mod pattern;
+mod search;
+#[cfg(test)]
+mod tests;
+
+pub use fault::PatternFault;
+pub use pattern::Pattern;
+pub use search::Search;
