@@ -1,5 +1,5 @@
 -- What pieces that stand apart hold, and what becomes of it as one more is woven in.
-use Rattle.std.proofs.Common.{◌≡◌, ℕ, zero, suc, ◌+◌, ◌-◌, ◌<◌, ◌≤◌, min, max, Bool, true, false, cond, ◌&&◌, List, [], ◌∷◌, ◌++◌, length, slice_index, slice_range, Option, Some, None, IsSome, is_some, ltb, leb, eqb, refl, sym, ap, ◌∙◌, subst, inl, inr, arith, take, drop, append-nil}
+use Rattle.std.proofs.Common.{◌≡◌, ℕ, zero, suc, ◌+◌, ◌-◌, ◌<◌, ◌≤◌, min, max, Bool, true, false, cond, ◌&&◌, List, [], ◌∷◌, ◌++◌, length, slice_index, slice_range, Option, Some, None, IsSome, is_some, ltb, leb, eqb, refl, sym, ap, ◌∙◌, subst, inl, inr, arith, take, drop, append-nil, drop-cons, get_or}
 use Rattle.std.specs.Option.{option_or}
 use Rattle.std.specs.Ordering.{nat_cmp}
 use Rattle.std.specs.Cmp.{nat_cmp_total}
@@ -204,3 +204,9 @@ apart-woven new (piece ∷ pieces) low high at sized start less apart =
         apart-woven new pieces piece.end high (max at piece.end) sized (omega arith) (omega arith) apart.2 in
     apart_part new low at (min new.end piece.start) (piece ∷ woven new (max at piece.end) pieces) (max high new.end) sized less start (omega arith)
       (omega arith, ends, rest)
+
+-- a loop's next piece
+pub next_piece : (pieces : List Piece) (i : ℕ) (piece : Piece) → i < length pieces → piece ≡ get_or pieces i piece → drop i pieces ≡ piece ∷ drop (i + 1) pieces
+next_piece pieces i piece inside is =
+    let one : i + 1 ≡ suc i = omega arith in
+    rw one (drop-cons pieces i piece inside ∙ ap (λ (p : Piece). p ∷ drop (suc i) pieces) (sym is))

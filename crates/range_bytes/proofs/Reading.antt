@@ -168,3 +168,8 @@ copy_more held from to at bytes piece rest holds so_far =
               subst (λ (e : ℕ). IsCopiedUpTo held from to e (bytes ++ bytes_from piece at to) rest) (sym far) (copy_on held from to at bytes piece rest so_far low high)
         ]
     ]
+
+-- the same with the bytes as the loop calls them
+pub shift : (held : Held) (from to at : ℕ) (bytes all part read : List ℕ) (rest : List Piece) → read ≡ part → all ≡ bytes ++ read
+    → IsCopiedUpTo held from to (at + length part) (bytes ++ part) rest → IsCopiedUpTo held from to (at + length read) all rest
+shift held from to at bytes all part read rest same whole so_far = rw (whole, same) so_far

@@ -1,5 +1,5 @@
-ghost use Rattle.std.specs.Prelude.{◌≡◌, ℕ, ◌-◌, ◌++◌, ◌<◌, ◌≤◌, OnOk, IfOk};
-ghost use Rattle.range_bytes.specs.Held.{IsFront, HoldsAll, bytes_at};
+ghost use Rattle.std.specs.Prelude.{◌≡◌, ℕ, ◌-◌, ◌++◌, ◌<◌, ◌≤◌, max, OnOk, OnErr, IfOk};
+ghost use Rattle.range_bytes.specs.Held.{put_run, IsFront, HoldsAll, bytes_at};
 ghost use Rattle.range_bytes.specs.Pieces.{IsSized, IsApart, held_of, part_of, woven, bytes_from};
 
 use pk_base::{NoMemory, Octets};
@@ -74,6 +74,27 @@ pub(crate) fn weave(alloc: Global, pieces: &[Piece], new: &Piece) -> Result<Vec<
     }
     new.add_part(&mut all, at, new.end)?;
     Ok(all)
+}
+
+/// Puts one more piece among others that end at `end`: behind them, or where they leave gaps.
+pub(crate) fn put(
+    alloc: Global,
+    pieces: &mut Vec<Piece>,
+    end: u64,
+    new: Piece,
+) -> Result<(), NoMemory>
+    requires apart { IsApart 0 pieces.old.items end }
+    requires sized { IsSized new }
+    ensures held { OnOk result (held_of pieces.new.items ≡ put_run (held_of pieces.old.items) new.start new.bytes new.frame) }
+    ensures apart { OnOk result (IsApart 0 pieces.new.items (max end new.end)) }
+    ensures err { OnErr result (pieces.new.items ≡ pieces.old.items) }
+{
+    if end <= new.start {
+        pieces.push(new)?;
+        return Ok(());
+    }
+    *pieces = weave(alloc, pieces, &new)?;
+    Ok(())
 }
 
 /// The least position that no piece covers.

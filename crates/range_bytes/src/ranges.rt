@@ -3,7 +3,7 @@ ghost use Rattle.std.specs.FinMap.{empty};
 ghost use Rattle.range_bytes.specs.Held.{put_run, IsFront, HoldsAll, bytes_at};
 ghost use Rattle.range_bytes.specs.Pieces.{held_of, IsApart};
 
-use crate::piece::{Piece, copy_of, front_of, weave};
+use crate::piece::{Piece, copy_of, front_of, put};
 use pk_base::{NoMemory, Octets};
 use std::alloc::Global;
 use std::marker::Model;
@@ -63,11 +63,7 @@ impl Ranges {
             bytes: bytes.clone()?,
             frame,
         };
-        if self.end <= pos {
-            self.pieces.push(new)?;
-        } else {
-            self.pieces = weave(self.alloc, &self.pieces, &new)?;
-        }
+        put(self.alloc, &mut self.pieces, self.end, new)?;
         self.end = self.end.max(end);
         Ok(())
     }
