@@ -24,6 +24,7 @@ pub struct Joins {
 
 impl Joins {
     /// No fragment was taken. Takes no memory.
+    #[tactic(auto, unfolding(crate::specs::Stands::Stands))]
     pub fn new(alloc: Global) -> Joins
         ensures { Stands [] result }
     {
@@ -46,18 +47,25 @@ impl Joins {
         ensures stands { OnOk result ((past : List FragmentValue) → Stands past self.old
             → Stands (record { head = head.now; frame = frame; bytes = payload.now } ∷ past) self.new) }
     {
-        let new = Fragment {
+        self.join(Fragment {
             head: *head,
             frame,
             bytes: payload.clone()?,
-        };
-        let key = key_of(head);
+        })
+    }
+
+    fn join(&mut self, new: Fragment) -> Result<Joined, NoMemory>
+        ensures joined { IfOk result (λ joined. (past : List FragmentValue) → Stands past self.old → joined ≡ joined_by past new) }
+        ensures stands { OnOk result ((past : List FragmentValue) → Stands past self.old → Stands (new ∷ past) self.new) }
+    {
+        let head = new.head;
+        let key = key_of(&head);
         let parts = self.remove(key);
         if let Some(kind) = parts.conflict(&new) {
             return Ok(Joined::Conflict(kind));
         }
         let parts = parts.with(new)?;
-        match parts.datagram(*head)? {
+        match parts.datagram(head)? {
             Some(datagram) => Ok(Joined::Whole(datagram)),
             None => {
                 self.keep(key, parts)?;

@@ -1,7 +1,7 @@
-ghost use Rattle.std.specs.Prelude.{◌≡◌, ◌==◌, ◌+◌, ◌≤◌, ◌<◌, [], ◌∷◌, ◌++◌, map, IfOk, IfSome, IfNone};
+ghost use Rattle.std.specs.Prelude.{◌≡◌, ◌==◌, ◌+◌, ◌≤◌, ◌<◌, [], ◌∷◌, ◌++◌, map, find, Some, None, if◌then◌else◌, unwrap_or, option_map, IfOk, IfSome, IfNone};
 ghost use Rattle.std.specs.List.{list_any};
 ghost use Rattle.range_bytes.specs.Held.{HoldsAll};
-ghost use Rattle.ip_join.specs.Fragments.{end_of, overlaps, repeats, reaches_past, map_of};
+ghost use Rattle.ip_join.specs.Fragments.{end_of, overlaps, repeats, reaches_past, map_of, end_after, holds_below};
 ghost use Rattle.ip_join.specs.Datagrams.{conflict_of, has_two_ends, misses_end, is_overlap_six, whole_end, next_of as next_value, datagram_if_whole};
 
 use crate::fragment::Fragment;
@@ -82,7 +82,7 @@ impl Parts {
             end,
         } = self;
         held.insert(u64::from(new.head.offset), &new.bytes, new.frame)?;
-        let end = if new.head.more { end } else { Some(new.end()) };
+        let end = end_with(end, &new);
         counted.push(new)?;
         Ok(Parts {
             alloc,
@@ -112,10 +112,23 @@ impl Parts {
         ensures held { IfSome result (HoldsAll (map_of self.now) 0) }
     {
         match self.end {
-            Some(end) if end <= self.held.front() => Some(end),
-            _ => None,
+            Some(end) => end_if_held(&self.held, end),
+            None => None,
         }
     }
+}
+
+fn end_with(end: Option<u64>, new: &Fragment) -> Option<u64>
+    ensures { result ≡ end_after end (new.now ∷ []) }
+{
+    if new.head.more { end } else { Some(new.end()) }
+}
+
+fn end_if_held(held: &Ranges, end: u64) -> Option<u64>
+    ensures end { result ≡ (if holds_below held.now end then Some end else None) }
+    ensures held { IfSome result (HoldsAll held.now 0) }
+{
+    if end <= held.front() { Some(end) } else { None }
 }
 
 fn misses_end(end: Option<u64>, new: &Fragment) -> bool
@@ -156,13 +169,21 @@ fn next_of(fragments: &[Fragment], head: FragmentHead) -> u8
     ensures { result ≡ next_value fragments.now head }
 {
     if head.six {
-        for g in fragments {
-            if g.head.offset == 0 {
-                return g.head.next;
-            }
+        first_next(fragments, head.next)
+    } else {
+        head.next
+    }
+}
+
+fn first_next(fragments: &[Fragment], default: u8) -> u8
+    ensures { result ≡ unwrap_or (option_map (λ g. g.head.next) (find (λ g. g.head.offset == 0) fragments.now)) default }
+{
+    for g in fragments {
+        if g.head.offset == 0 {
+            return g.head.next;
         }
     }
-    head.next
+    default
 }
 
 fn frames_of(alloc: Global, fragments: &[Fragment]) -> Result<Numbers, NoMemory>
