@@ -1,0 +1,9 @@
+//! Bytes by their positions: runs of bytes come in any order, and the byte that came first at a position stays.
+#![tactic(auto)]
+
+mod piece;
+mod ranges;
+#[cfg(test)]
+mod tests;
+
+pub use ranges::Ranges;

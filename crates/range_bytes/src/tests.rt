@@ -1,0 +1,45 @@
+use super::*;
+use pk_base::{NoMemory, Octets};
+use std::alloc::Global;
+
+fn octets(alloc: Global, bytes: &[u8]) -> Result<Octets, NoMemory> {
+    Octets::copy(alloc, bytes)
+}
+
+#[test]
+fn runs_in_any_order_are_read_as_one(rt: HostRuntime) -> Result<(), NoMemory> {
+    let alloc = rt.alloc();
+    let mut ranges = Ranges::new(alloc);
+    assert_eq!(rt; ranges.front(), 0);
+    ranges.insert(4, &octets(alloc, b"ef")?, 1)?;
+    assert_eq!(rt; ranges.front(), 0);
+    ranges.insert(0, &octets(alloc, b"ab")?, 2)?;
+    assert_eq!(rt; ranges.front(), 2);
+    ranges.insert(2, &octets(alloc, b"cd")?, 3)?;
+    assert_eq!(rt; ranges.front(), 6);
+    assert!(rt; ranges.copy(0, 6)?.bytes() == b"abcdef".as_slice());
+    assert!(rt; ranges.copy(1, 5)?.bytes() == b"bcde".as_slice());
+    assert!(rt; ranges.copy(3, 3)?.bytes() == b"".as_slice());
+    Ok(())
+}
+
+#[test]
+fn bytes_that_came_first_stay(rt: HostRuntime) -> Result<(), NoMemory> {
+    let alloc = rt.alloc();
+    let mut ranges = Ranges::new(alloc);
+    ranges.insert(1, &octets(alloc, b"B")?, 1)?;
+    ranges.insert(3, &octets(alloc, b"D")?, 2)?;
+    ranges.insert(0, &octets(alloc, b"abcde")?, 3)?;
+    assert_eq!(rt; ranges.front(), 5);
+    assert!(rt; ranges.copy(0, 5)?.bytes() == b"aBcDe".as_slice());
+    Ok(())
+}
+
+#[test]
+fn no_bytes_change_nothing(rt: HostRuntime) -> Result<(), NoMemory> {
+    let alloc = rt.alloc();
+    let mut ranges = Ranges::new(alloc);
+    ranges.insert(7, &octets(alloc, b"")?, 1)?;
+    assert_eq!(rt; ranges.front(), 0);
+    Ok(())
+}
