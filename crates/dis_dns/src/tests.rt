@@ -41,7 +41,33 @@ const ONE_OF_BOTH_ITEMS: &str =
 /// The question for the address of `h.test`, in 12 bytes.
 const H_TEST: &[u8] = b"\x01h\x04test\0\0\x01\0\x01";
 
-const H_TEST_ITEMS: &str = " dns.qry.name=h.test dns.qry.type=1 dns.qry.class=1";
+/// Its answer, 10.0.2.32, behind header and question.
+const H_TEST_ANSWER: &[u8] = b"\xc0\x0c\0\x01\0\x01\0\0\0\x3c\0\x04\x0a\0\x02\x20";
+
+/// The items of the answer whole, and where they end.
+const ANSWER_ITEMS: [(&str, usize); 15] = [
+    (" dns.id=32", 2),
+    (
+        " dns.flags=33152 dns.flags.response=true dns.flags.opcode=0 \
+        dns.flags.authoritative=false dns.flags.truncated=false dns.flags.recdesired=true \
+        dns.flags.recavail=true dns.flags.z=false dns.flags.authenticated=false \
+        dns.flags.checkdisable=false dns.flags.rcode=0",
+        4,
+    ),
+    (" dns.count.queries=1", 6),
+    (" dns.count.answers=1", 8),
+    (" dns.count.auth_rr=0", 10),
+    (" dns.count.add_rr=0", 12),
+    (" dns.qry.name=h.test@12+8", 20),
+    (" dns.qry.type=1", 22),
+    (" dns.qry.class=1", 24),
+    (" dns.resp.name=h.test@24+2", 26),
+    (" dns.resp.type=1", 28),
+    (" dns.resp.class=1", 30),
+    (" dns.resp.ttl=60", 34),
+    (" dns.resp.len=4", 36),
+    (" dns.a=a000220", 40),
+];
 
 /// A layer's name, first byte and size, and its items.
 fn layer_text(alloc: Global, layer: &Layer) -> Result<String, AllocError> {
@@ -220,11 +246,11 @@ fn pointers_lead_into_the_header_and_into_labels(rt: HostRuntime) -> Result<(), 
             ],
         )?;
     }
-    // Into the middle of a label: the byte before `b` is the letter `a`, which is no length.
+    // Into the middle of a label: a length and a letter stand in it. The letter before them is no length.
     for (pointer, end) in [
         (
             b"\xc0\x10".as_slice(),
-            " dns.resp.name=ab@23+2 dns.resp.type=1 dns.resp.class=1 dns.resp.ttl=0 dns.resp.len=0\n",
+            " dns.resp.name=d@23+2 dns.resp.type=1 dns.resp.class=1 dns.resp.ttl=0 dns.resp.len=0\n",
         ),
         (b"\xc0\x0d", "\n_ws.malformed 35+0:\n"),
     ] {
@@ -235,12 +261,17 @@ fn pointers_lead_into_the_header_and_into_labels(rt: HostRuntime) -> Result<(), 
             &[
                 RESPONSE,
                 ONE_OF_BOTH,
-                b"\x05abc\x02a\0",
-                b"\0\x01\0\x01",
+                b"\x05abc\x01d\0\0\x01\0\x01",
                 pointer,
                 b"\0\x01\0\x01\0\0\0\0\0\0",
             ],
-            &["dns 0+35:", RESPONSE_ITEMS, ONE_OF_BOTH_ITEMS, end],
+            &[
+                "dns 0+35:",
+                RESPONSE_ITEMS,
+                ONE_OF_BOTH_ITEMS,
+                " dns.qry.name=abc\x01d@12+7 dns.qry.type=1 dns.qry.class=1",
+                end,
+            ],
         )?;
     }
     Ok(())
@@ -492,6 +523,34 @@ fn counts_that_lie_end_in_a_row_that_does_not_fit(rt: HostRuntime) -> Result<(),
                 " dns.qry.name=h.test@12+8 dns.qry.type=1 dns.qry.class=1\n_ws.short 24+0:\n",
             ],
         )?;
+    }
+    Ok(())
+}
+
+#[test]
+fn an_answer_cut_anywhere_has_the_items_that_fit(rt: HostRuntime) -> Result<(), NoMemory> {
+    let mut answer = Vec::new(rt.alloc());
+    for part in [RESPONSE, ONE_OF_BOTH, H_TEST, H_TEST_ANSWER] {
+        answer.extend_from_slice(part)?;
+    }
+    for len in 0..41usize {
+        let mut layer = format!(in rt.alloc(); "dns 0+{len}:")?;
+        for (item, end) in ANSWER_ITEMS {
+            if end <= len {
+                layer.push_str(item)?;
+            }
+        }
+        for (cut, name) in [(true, "_ws.short"), (false, "_ws.malformed")] {
+            let fault = format!(in rt.alloc(); "{name} {len}+0:\n")?;
+            let last = if len < 40 { fault.as_str() } else { "" };
+            check(
+                &rt,
+                rt.alloc(),
+                (false, cut),
+                &[&answer[..len]],
+                &[layer.as_str(), "\n", last],
+            )?;
+        }
     }
     Ok(())
 }
