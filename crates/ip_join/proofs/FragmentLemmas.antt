@@ -25,12 +25,12 @@ holds_below_front held front (suc n) is within = rw (is.below n (omega arith)) (
 pub not_held_past : (held : Held) (front end : ℕ) → IsFront held front → front < end → holds_below held end ≡ false
 not_held_past held front zero is past = absurd (omega arith)
 not_held_past held front (suc n) is past = elim (cases_lt front n) [
-    | inl before ↦ elim (is_some (get held n)) as (λ (b : Bool). (b && holds_below held n) ≡ false) [ true ↦ not_held_past held front n is before | false ↦ refl ]
-    | inr after ↦
-        let same : n ≡ front = omega arith in
-        let none : is_some (get held n) ≡ false = ap (λ (p : ℕ). is_some (get held p)) same ∙ ap is_some is.free in
-        rw none refl
-  ]
+  | inl before ↦ elim (is_some (get held n)) as (λ (b : Bool). (b && holds_below held n) ≡ false) [ true ↦ not_held_past held front n is before | false ↦ refl ]
+  | inr after ↦
+      let same : n ≡ front = omega arith in
+      let none : is_some (get held n) ≡ false = ap (λ (p : ℕ). is_some (get held p)) same ∙ ap is_some is.free in
+      rw none refl
+]
 
 pub held_below : (held : Held) (front end : ℕ) → IsFront held front → end ≤ front → HoldsAll held 0 end
 held_below held front end is within = λ position _ low. is.below position (omega arith)

@@ -27,7 +27,7 @@ stands_more past old new f left stands rest kept = λ g.
       | inl same ↦
           let got : tree.get key_cmp new.parts (key_of g.head) ≡ left = rest (key_of g.head) ∙ cond-true _ left _ (tied_key f.head g.head ∙ same) in
           let counted : counted_for g past ≡ counted_for f past =
-              sym (stands g) ∙ ap (λ (k : Key). unwrap_or (tree.get key_cmp old.parts k) []) (sym (same_key-key f.head g.head same)) ∙ stands f in
+          sym (stands g) ∙ ap (λ (k : Key). unwrap_or (tree.get key_cmp old.parts k) []) (sym (same_key-key f.head g.head same)) ∙ stands f in
           ap (λ (o : Option (List Fragment)). unwrap_or o []) got ∙ kept ∙ rw (same, counted) refl
       | inr apart ↦
           let got : tree.get key_cmp new.parts (key_of g.head) ≡ tree.get key_cmp old.parts (key_of g.head) = rest (key_of g.head) ∙ cond-false _ left _ (tied_key f.head g.head ∙ apart) in
@@ -40,7 +40,7 @@ put_again true x old = refl
 put_again false x old = refl
 
 -- the fragments that count are of the same datagram
-pub counted_for-of_key : (f : Fragment) (past : List Fragment) → counted_for f (of_key f past) ≡ counted_for f past
+pub counted_for-of_key : (f : Fragment) (past : List Fragment) → counted_for f (of_key f.head past) ≡ counted_for f past
 counted_for-of_key f [] = refl
 counted_for-of_key f (g ∷ past) =
     elim (cases_Bool (same_key g.head f.head)) [
@@ -49,8 +49,8 @@ counted_for-of_key f (g ∷ past) =
     ]
 
 -- whatever else was taken, and in between
-pub joined_by-of_key : (past others : List Fragment) (f : Fragment) → of_key f past ≡ of_key f others → joined_by past f ≡ joined_by others f
+pub joined_by-of_key : (past others : List Fragment) (f : Fragment) → of_key f.head past ≡ of_key f.head others → joined_by past f ≡ joined_by others f
 unfolding joined_by
 joined_by-of_key past others f same =
     ap (λ (counted : List Fragment). joined_of counted f)
-      (sym (counted_for-of_key f past) ∙ ap (counted_for f) same ∙ counted_for-of_key f others)
+    (sym (counted_for-of_key f past) ∙ ap (counted_for f) same ∙ counted_for-of_key f others)

@@ -44,8 +44,8 @@ pub stands_gone : (past : List Fragment) (old new : Joins) (f : Fragment) (key :
 stands_gone past old new f key joined stands same out is nothing =
     let fs = counted_for f past ++ f ∷ [] in
     stands_more past old new f None stands
-      (λ q. out q ∙ ap (λ (k : Key). cond (eq_by_cmp key_cmp k q) None (tree.get key_cmp old.parts q)) same)
-      (sym (ap (λ (j : Joined). left_after j fs) (sym is) ∙ nothing fs))
+    (λ q. out q ∙ ap (λ (k : Key). cond (eq_by_cmp key_cmp k q) None (tree.get key_cmp old.parts q)) same)
+    (sym (ap (λ (j : Joined). left_after j fs) (sym is) ∙ nothing fs))
 
 pub stands_kept : (past : List Fragment) (old without new : Joins) (f : Fragment) (key : Key) (parts more : List Fragment) → Stands past old → key ≡ key_of f.head
     → ChangesAt old without key None → ChangesAt without new key (Some more) → parts ≡ counted_for f past → more ≡ parts ++ f ∷ []
@@ -53,8 +53,8 @@ pub stands_kept : (past : List Fragment) (old without new : Joins) (f : Fragment
 stands_kept past old without new f key parts more stands same out back counted more_is is =
     let fs = counted_for f past ++ f ∷ [] in
     stands_more past old new f (Some more) stands
-      (λ q. back q
-        ∙ ap (λ (o : Option (List Fragment)). cond (eq_by_cmp key_cmp key q) (Some more) o) (out q)
-        ∙ put_again (eq_by_cmp key_cmp key q) (Some more) (tree.get key_cmp old.parts q)
-        ∙ ap (λ (k : Key). cond (eq_by_cmp key_cmp k q) (Some more) (tree.get key_cmp old.parts q)) same)
-      (more_is ∙ ap (λ (c : List Fragment). c ++ f ∷ []) counted ∙ ap (λ (j : Joined). left_after j fs) is)
+    (λ q. back q
+    ∙ ap (λ (o : Option (List Fragment)). cond (eq_by_cmp key_cmp key q) (Some more) o) (out q)
+    ∙ put_again (eq_by_cmp key_cmp key q) (Some more) (tree.get key_cmp old.parts q)
+    ∙ ap (λ (k : Key). cond (eq_by_cmp key_cmp k q) (Some more) (tree.get key_cmp old.parts q)) same)
+    (more_is ∙ ap (λ (c : List Fragment). c ++ f ∷ []) counted ∙ ap (λ (j : Joined). left_after j fs) is)

@@ -52,7 +52,10 @@ next_of fragments head =
 -- the datagram of fragments that hold all positions below an end, by the head of the last of them
 abbrev pub datagram_of : List Fragment → FragmentHead → ℕ → Datagram
 datagram_of fragments head end = record {
-  next = next_of fragments head; bytes = bytes_at (map_of fragments) 0 end; frames = map (λ g. g.frame) fragments }
+  next = next_of fragments head;
+  bytes = bytes_at (map_of fragments) 0 end;
+  frames = map (λ g. g.frame) fragments;
+}
 
 abbrev pub datagram_if_whole : List Fragment → FragmentHead → Option Datagram
 datagram_if_whole fragments head = option_map (datagram_of fragments head) (whole_end fragments)

@@ -15,8 +15,12 @@ host_of (Six number) = record { six = true; number = number }
 -- IPv6 keys have no protocol
 abbrev pub key_of : FragmentHead → Key
 key_of head = record {
-  six = head.six; source = host_of head.source; target = host_of head.target;
-  protocol = if head.six then 0 else head.next; ident = head.ident }
+  six = head.six;
+  source = host_of head.source;
+  target = host_of head.target;
+  protocol = if head.six then 0 else head.next;
+  ident = head.ident;
+}
 
 abbrev pub host_cmp : Host → Host → Ordering
 host_cmp a b = ordering_then (bool_cmp a.six b.six) (nat_cmp a.number b.number)

@@ -129,7 +129,10 @@ fn a_fragment_past_65535_is_too_long(rt: HostRuntime) -> Result<(), NoMemory> {
 fn ipv4_bytes_that_came_first_stay(rt: HostRuntime) -> Result<(), NoMemory> {
     let alloc = rt.alloc();
     let mut joins = Joins::new(alloc);
-    assert_eq!(rt; kind(&joins.take(&four(8, true), 1, &octets(alloc, b"ABCDEFGH")?)?), 0);
+    assert_eq!(rt;
+        kind(&joins.take(&four(8, true), 1, &octets(alloc, b"ABCDEFGH")?)?),
+        0
+    );
     let joined = joins.take(&four(0, false), 2, &octets(alloc, b"0123456789abcdef")?)?;
     assert!(rt; is_whole(&joined, 17, b"01234567ABCDEFGH", &[1, 2]));
     Ok(())

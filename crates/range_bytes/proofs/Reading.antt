@@ -18,10 +18,10 @@ pub record IsFrontUpTo (held : Held) (front : ℕ) (rest : List Piece) (high : �
 
 pub front_none : (pieces : List Piece) (high : ℕ) → IsApart 0 pieces high → IsFrontUpTo (held_of pieces) 0 pieces high
 front_none pieces high apart = record {
-    apart = apart;
-    below = λ q low. absurd (omega arith);
-    left = λ q _. get-held_of pieces q
-  }
+  apart = apart;
+  below = λ q low. absurd (omega arith);
+  left = λ q _. get-held_of pieces q;
+}
 
 pub front_more : (held : Held) (front : ℕ) (piece : Piece) (rest : List Piece) (high : ℕ) → IsFrontUpTo held front (piece ∷ rest) high → piece.start ≤ front → IsFrontUpTo held piece.end rest high
 front_more held front piece rest high so_far start =
@@ -36,8 +36,8 @@ front_more held front piece rest high so_far start =
             rw (there, run_cell-in piece.start piece.bytes piece.frame q (omega arith) (omega arith)) refl
       ];
       left = λ q low.
-        let there : get held q ≡ option_or (cell piece q) (found rest q) = so_far.left q (omega arith) in
-        there ∙ rw (run_cell-after piece.start piece.bytes piece.frame q (omega arith)) refl
+          let there : get held q ≡ option_or (cell piece q) (found rest q) = so_far.left q (omega arith) in
+          there ∙ rw (run_cell-after piece.start piece.bytes piece.frame q (omega arith)) refl;
     }
 
 pub front_all : (held : Held) (front high : ℕ) → IsFrontUpTo held front [] high → IsFront held front
@@ -45,9 +45,9 @@ front_all held front high so_far = record { below = so_far.below; free = so_far.
 
 pub front_gap : (held : Held) (front : ℕ) (piece : Piece) (rest : List Piece) (high : ℕ) → IsFrontUpTo held front (piece ∷ rest) high → front < piece.start → IsFront held front
 front_gap held front piece rest high so_far gap = record {
-    below = so_far.below;
-    free = so_far.left front (omega arith) ∙ found_before piece.start (piece ∷ rest) high front (omega arith, so_far.apart.1, so_far.apart.2) gap
-  }
+  below = so_far.below;
+  free = so_far.left front (omega arith) ∙ found_before piece.start (piece ∷ rest) high front (omega arith, so_far.apart.1, so_far.apart.2) gap;
+}
 
 -- the bytes up to a position, and what is held from it on is in the pieces that are left
 pub record IsCopiedUpTo (held : Held) (from to at : ℕ) (bytes : List ℕ) (rest : List Piece) : Type 0 where
@@ -69,7 +69,7 @@ copy_none pieces high from to apart =
       begun = omega arith;
       within = omega arith;
       bytes_are = rw none refl;
-      left = λ q _ _. get-held_of pieces q
+      left = λ q _ _. get-held_of pieces q;
     }
 
 pub copy_all : (held : Held) (from to at : ℕ) (bytes : List ℕ) → HoldsAll held from to → IsCopiedUpTo held from to at bytes [] → bytes ≡ bytes_at held from (to - from)
@@ -94,14 +94,14 @@ copy_on held from to at bytes piece rest so_far low high =
     let ends : piece.start + length piece.bytes ≡ piece.end = so_far.apart.1 in
     let end = min piece.end to in
     let here : (q : ℕ) → at ≤ q → q < at + (end - at) → get held q ≡ cell piece q = λ q a b.
-        let there : get held q ≡ option_or (cell piece q) (found rest q) = so_far.left q a (omega arith) in
-        let in_piece : cell piece q ≡ Some (slice_index piece.bytes (q - piece.start), piece.frame) = run_cell-in piece.start piece.bytes piece.frame q (omega arith) (omega arith) in
-        there ∙ ap (λ (o : Option Cell). option_or o (found rest q)) in_piece ∙ sym in_piece in
+    let there : get held q ≡ option_or (cell piece q) (found rest q) = so_far.left q a (omega arith) in
+    let in_piece : cell piece q ≡ Some (slice_index piece.bytes (q - piece.start), piece.frame) = run_cell-in piece.start piece.bytes piece.frame q (omega arith) (omega arith) in
+    there ∙ ap (λ (o : Option Cell). option_or o (found rest q)) in_piece ∙ sym in_piece in
     let run : bytes_at held at (end - at) ≡ take (end - at) (drop (at - piece.start) piece.bytes) =
-        bytes_at-run held piece.bytes piece.start piece.frame at (end - at) low (omega arith) here in
+    bytes_at-run held piece.bytes piece.start piece.frame at (end - at) low (omega arith) here in
     let size : (end - piece.start) - (at - piece.start) ≡ end - at = omega arith in
     let part : bytes_from piece at to ≡ bytes_at held at (end - at) =
-        covered piece at to low high ∙ ap (λ (n : ℕ). take n (drop (at - piece.start) piece.bytes)) size ∙ sym run in
+    covered piece at to low high ∙ ap (λ (n : ℕ). take n (drop (at - piece.start) piece.bytes)) size ∙ sym run in
     let whole : (at - from) + (end - at) ≡ end - from = omega arith in
     let place : from + (at - from) ≡ at = omega arith in
     record {
@@ -111,13 +111,13 @@ copy_on held from to at bytes piece rest so_far low high =
       begun = omega arith;
       within = omega arith;
       bytes_are =
-        ap (λ (xs : List ℕ). xs ++ bytes_from piece at to) so_far.bytes_are
-        ∙ ap (λ (xs : List ℕ). bytes_at held from (at - from) ++ xs) part
-        ∙ sym (ap (bytes_at held from) (sym whole) ∙ bytes_at-append held from (at - from) (end - at)
-            ∙ ap (λ (p : ℕ). bytes_at held from (at - from) ++ bytes_at held p (end - at)) place);
+          ap (λ (xs : List ℕ). xs ++ bytes_from piece at to) so_far.bytes_are
+          ∙ ap (λ (xs : List ℕ). bytes_at held from (at - from) ++ xs) part
+          ∙ sym (ap (bytes_at held from) (sym whole) ∙ bytes_at-append held from (at - from) (end - at)
+          ∙ ap (λ (p : ℕ). bytes_at held from (at - from) ++ bytes_at held p (end - at)) place);
       left = λ q a b.
-        let there : get held q ≡ option_or (cell piece q) (found rest q) = so_far.left q (omega arith) b in
-        there ∙ rw (run_cell-after piece.start piece.bytes piece.frame q (omega arith)) refl
+          let there : get held q ≡ option_or (cell piece q) (found rest q) = so_far.left q (omega arith) b in
+          there ∙ rw (run_cell-after piece.start piece.bytes piece.frame q (omega arith)) refl;
     }
 
 -- a piece that doesn't
@@ -134,13 +134,13 @@ copy_past held from to at bytes piece rest holds so_far apart =
       within = so_far.within;
       bytes_are = so_far.bytes_are;
       left = λ q a b.
-        let there : get held q ≡ option_or (cell piece q) (found rest q) = so_far.left q a b in
-        let after : piece.end ≤ q = elim apart [
-          | inl before ↦ absurd (none_is_not_some (get held at) (holds at begun (omega arith))
-              (so_far.left at (omega arith) (omega arith) ∙ found_before piece.start (piece ∷ rest) so_far.high at (omega arith, so_far.apart.1, so_far.apart.2) before))
-          | inr past ↦ omega arith
-        ] in
-        there ∙ rw (run_cell-after piece.start piece.bytes piece.frame q (omega arith)) refl
+          let there : get held q ≡ option_or (cell piece q) (found rest q) = so_far.left q a b in
+          let after : piece.end ≤ q = elim apart [
+            | inl before ↦ absurd (none_is_not_some (get held at) (holds at begun (omega arith))
+                (so_far.left at (omega arith) (omega arith) ∙ found_before piece.start (piece ∷ rest) so_far.high at (omega arith, so_far.apart.1, so_far.apart.2) before))
+            | inr past ↦ omega arith
+          ] in
+          there ∙ rw (run_cell-after piece.start piece.bytes piece.frame q (omega arith)) refl;
     }
 
 -- what a turn of the loop adds, and how far it goes
@@ -148,25 +148,25 @@ pub copy_more : (held : Held) (from to at : ℕ) (bytes : List ℕ) (piece : Pie
     → IsCopiedUpTo held from to (at + length (bytes_from piece at to)) (bytes ++ bytes_from piece at to) rest
 copy_more held from to at bytes piece rest holds so_far =
     let none : (at < piece.start) ⊎ (min piece.end to ≤ at) → bytes_from piece at to ≡ [] = λ apart.
-        cond-false _ _ _ (elim apart [
-          | inl before ↦ and_left (leb piece.start at) (ltb at (min piece.end to)) (lt-leb piece.start at before)
-          | inr past ↦ and_right (leb piece.start at) (ltb at (min piece.end to)) (le-ltb at (min piece.end to) past)
-        ]) in
+    cond-false _ _ _ (elim apart [
+      | inl before ↦ and_left (leb piece.start at) (ltb at (min piece.end to)) (lt-leb piece.start at before)
+      | inr past ↦ and_right (leb piece.start at) (ltb at (min piece.end to)) (le-ltb at (min piece.end to) past)
+    ]) in
     let still : (at < piece.start) ⊎ (min piece.end to ≤ at) → IsCopiedUpTo held from to (at + length (bytes_from piece at to)) (bytes ++ bytes_from piece at to) rest = λ apart.
-        let same : at + 0 ≡ at = omega arith in
-        rw (none apart, same, append-nil bytes) (copy_past held from to at bytes piece rest holds so_far apart) in
+    let same : at + 0 ≡ at = omega arith in
+    rw (none apart, same, append-nil bytes) (copy_past held from to at bytes piece rest holds so_far apart) in
     elim (cases_lt at piece.start) [
       | inl before ↦ still (inl before)
       | inr low ↦ elim (cases_lt at (min piece.end to)) [
-          | inr past ↦ still (inr past)
-          | inl high ↦
-              let ends : piece.start + length piece.bytes ≡ piece.end = so_far.apart.1 in
-              let n = (min piece.end to - piece.start) - (at - piece.start) in
-              let size : length (bytes_from piece at to) ≡ n =
-                  ap length (covered piece at to low high) ∙ length-take-le n (drop (at - piece.start) piece.bytes) (omega (arith, length-drop (at - piece.start) piece.bytes)) in
-              let far : at + length (bytes_from piece at to) ≡ min piece.end to = omega (arith, size) in
-              subst (λ (e : ℕ). IsCopiedUpTo held from to e (bytes ++ bytes_from piece at to) rest) (sym far) (copy_on held from to at bytes piece rest so_far low high)
-        ]
+        | inr past ↦ still (inr past)
+        | inl high ↦
+            let ends : piece.start + length piece.bytes ≡ piece.end = so_far.apart.1 in
+            let n = (min piece.end to - piece.start) - (at - piece.start) in
+            let size : length (bytes_from piece at to) ≡ n =
+            ap length (covered piece at to low high) ∙ length-take-le n (drop (at - piece.start) piece.bytes) (omega (arith, length-drop (at - piece.start) piece.bytes)) in
+            let far : at + length (bytes_from piece at to) ≡ min piece.end to = omega (arith, size) in
+            subst (λ (e : ℕ). IsCopiedUpTo held from to e (bytes ++ bytes_from piece at to) rest) (sym far) (copy_on held from to at bytes piece rest so_far low high)
+      ]
     ]
 
 -- the same with the bytes as the loop calls them

@@ -34,30 +34,30 @@ one_later bytes byte i j e = subst (λ (k : ℕ). slice_index (byte ∷ bytes) k
 
 run_cell-empty : (start frame q : ℕ) → run_cell start [] frame q ≡ None
 run_cell-empty start frame q = elim (cases_lt q start) [
-    | inl low ↦ run_cell-before start [] frame q low
-    | inr high ↦ run_cell-after start [] frame q (omega arith)
-  ]
+  | inl low ↦ run_cell-before start [] frame q low
+  | inr high ↦ run_cell-after start [] frame q (omega arith)
+]
 
 run_cell-cons : (start byte : ℕ) (bytes : List ℕ) (frame q : ℕ) → run_cell start (byte ∷ bytes) frame q ≡ option_or (cond (eqb q start) (Some (byte, frame)) None) (run_cell (start + 1) bytes frame q)
 run_cell-cons start byte bytes frame q = elim (cases_order q start) [
-    | inl same ↦
-        let there : run_cell start (byte ∷ bytes) frame q ≡ Some (slice_index (byte ∷ bytes) (q - start), frame) = run_cell-in start (byte ∷ bytes) frame q (omega arith) (omega arith) in
-        let first : q - start ≡ 0 = omega arith in
-        let at : run_cell start (byte ∷ bytes) frame q ≡ Some (byte, frame) = there ∙ ap (λ (i : ℕ). Some (slice_index (byte ∷ bytes) i, frame)) first in
-        rw (at, eq-eqb q start same) refl
-    | inr (inl low) ↦
-        rw (run_cell-before start (byte ∷ bytes) frame q low, ne_eqb q start (λ e. absurd (omega arith)), run_cell-before (start + 1) bytes frame q (omega arith)) refl
-    | inr (inr high) ↦
-        let apart : eqb q start ≡ false = ne_eqb q start (λ e. absurd (omega arith)) in
-        elim (cases_lt q (start + 1 + length bytes)) [
-          | inl inside ↦
-              let here : run_cell start (byte ∷ bytes) frame q ≡ Some (slice_index (byte ∷ bytes) (q - start), frame) = run_cell-in start (byte ∷ bytes) frame q (omega arith) (omega arith) in
-              let there : run_cell (start + 1) bytes frame q ≡ Some (slice_index bytes (q - (start + 1)), frame) = run_cell-in (start + 1) bytes frame q (omega arith) inside in
-              rw (here, apart, there, one_later bytes byte (q - start) (q - (start + 1)) (omega arith)) refl
-          | inr past ↦
-              rw (run_cell-after start (byte ∷ bytes) frame q (omega arith), apart, run_cell-after (start + 1) bytes frame q past) refl
-        ]
-  ]
+  | inl same ↦
+      let there : run_cell start (byte ∷ bytes) frame q ≡ Some (slice_index (byte ∷ bytes) (q - start), frame) = run_cell-in start (byte ∷ bytes) frame q (omega arith) (omega arith) in
+      let first : q - start ≡ 0 = omega arith in
+      let at : run_cell start (byte ∷ bytes) frame q ≡ Some (byte, frame) = there ∙ ap (λ (i : ℕ). Some (slice_index (byte ∷ bytes) i, frame)) first in
+      rw (at, eq-eqb q start same) refl
+  | inr (inl low) ↦
+      rw (run_cell-before start (byte ∷ bytes) frame q low, ne_eqb q start (λ e. absurd (omega arith)), run_cell-before (start + 1) bytes frame q (omega arith)) refl
+  | inr (inr high) ↦
+      let apart : eqb q start ≡ false = ne_eqb q start (λ e. absurd (omega arith)) in
+      elim (cases_lt q (start + 1 + length bytes)) [
+        | inl inside ↦
+            let here : run_cell start (byte ∷ bytes) frame q ≡ Some (slice_index (byte ∷ bytes) (q - start), frame) = run_cell-in start (byte ∷ bytes) frame q (omega arith) (omega arith) in
+            let there : run_cell (start + 1) bytes frame q ≡ Some (slice_index bytes (q - (start + 1)), frame) = run_cell-in (start + 1) bytes frame q (omega arith) inside in
+            rw (here, apart, there, one_later bytes byte (q - start) (q - (start + 1)) (omega arith)) refl
+        | inr past ↦
+            rw (run_cell-after start (byte ∷ bytes) frame q (omega arith), apart, run_cell-after (start + 1) bytes frame q past) refl
+      ]
+]
 
 get-insert_at : (held : Held) (p : ℕ) (cell : Cell) (q : ℕ) → get (insert held p cell) q ≡ cond (eqb q p) (Some cell) (get held q)
 get-insert_at held p cell q = get-insert nat_cmp_total held p cell q ∙ ap (λ (b : Bool). cond b (Some cell) (get held q)) (unsigned_tied q p)
@@ -66,13 +66,13 @@ get-put_new : (held : Held) (p : ℕ) (cell : Cell) (q : ℕ) → get (put_new h
 get-put_new held p cell q =
     elim (get held p) as (λ (o : Option Cell). get held p ≡ o → get (cond (is_some o) held (insert held p cell)) q ≡ option_or (get held q) (cond (eqb q p) (Some cell) None)) [
       | None ↦ λ e. get-insert_at held p cell q ∙ elim (eqb_tells q p) [
-          | inl w ↦ let none : get held q ≡ None = subst (λ (x : ℕ). get held x ≡ None) (sym w.1) e in rw (w.0, none) refl
-          | inr w ↦ rw w.0 (sym (or_none (get held q)))
-        ]
+        | inl w ↦ let none : get held q ≡ None = subst (λ (x : ℕ). get held x ≡ None) (sym w.1) e in rw (w.0, none) refl
+        | inr w ↦ rw w.0 (sym (or_none (get held q)))
+      ]
       | Some d ↦ λ e. elim (eqb_tells q p) [
-          | inl w ↦ let there : get held q ≡ Some d = subst (λ (x : ℕ). get held x ≡ Some d) (sym w.1) e in rw there refl
-          | inr w ↦ rw w.0 (sym (or_none (get held q)))
-        ]
+        | inl w ↦ let there : get held q ≡ Some d = subst (λ (x : ℕ). get held x ≡ Some d) (sym w.1) e in rw there refl
+        | inr w ↦ rw w.0 (sym (or_none (get held q)))
+      ]
     ] refl
 
 -- what came first at a position stays
@@ -90,10 +90,10 @@ none_is_not_some o there none = false≢true (sym (ap is_some none) ∙ there)
 
 pub fronts_same : (held : Held) (a b : ℕ) → IsFront held a → IsFront held b → a ≡ b
 fronts_same held a b fa fb = elim (cases_order a b) [
-    | inl same ↦ same
-    | inr (inl low) ↦ absurd (none_is_not_some (get held a) (fb.below a low) fa.free)
-    | inr (inr high) ↦ absurd (none_is_not_some (get held b) (fa.below b high) fb.free)
-  ]
+  | inl same ↦ same
+  | inr (inl low) ↦ absurd (none_is_not_some (get held a) (fb.below a low) fa.free)
+  | inr (inr high) ↦ absurd (none_is_not_some (get held b) (fa.below b high) fb.free)
+]
 
 -- some bytes, and then some more
 pub bytes_at-append : (held : Held) (from a b : ℕ) → bytes_at held from (a + b) ≡ bytes_at held from a ++ bytes_at held (from + a) b
@@ -112,7 +112,7 @@ bytes_at-run held bytes start frame at (suc n) low high there =
     let here : get held at ≡ Some (slice_index bytes (at - start), frame) = there at (omega arith) (omega arith) ∙ run_cell-in start bytes frame at low (omega arith) in
     let next : (at + 1) - start ≡ suc (at - start) = omega arith in
     let rest : bytes_at held (at + 1) n ≡ take n (drop (suc (at - start)) bytes) =
-        subst (λ (i : ℕ). bytes_at held (at + 1) n ≡ take n (drop i bytes)) next
-          (bytes_at-run held bytes start frame (at + 1) n (omega arith) (omega arith) (λ q a b. there q (omega arith) (omega arith))) in
+    subst (λ (i : ℕ). bytes_at held (at + 1) n ≡ take n (drop i bytes)) next
+    (bytes_at-run held bytes start frame (at + 1) n (omega arith) (omega arith) (λ q a b. there q (omega arith) (omega arith))) in
     let inside : at - start < length bytes = omega arith in
     rw (here, rest, drop-cons bytes (at - start) 0 inside) refl

@@ -25,7 +25,11 @@ IsApart low (piece ∷ pieces) high = (low ≤ piece.start) × IsSized piece × 
 -- the part of a piece from one position up to and without another, which may have no bytes
 abbrev pub part_of : Piece → ℕ → ℕ → List Piece
 part_of piece from to = if nat_lt from to then record {
-  start = from; end = to; bytes = slice_range piece.bytes (from - piece.start) (to - piece.start); frame = piece.frame } ∷ [] else []
+  start = from;
+  end = to;
+  bytes = slice_range piece.bytes (from - piece.start) (to - piece.start);
+  frame = piece.frame;
+} ∷ [] else []
 
 -- the pieces with one more put in where they leave gaps, from a position on
 abbrev pub woven : Piece → ℕ → List Piece → List Piece

@@ -9,7 +9,7 @@ use Rattle.range_bytes.proofs.piece.copy_of.Goals as goal
 pub loop-piece-init : goal.loop-piece-init
 loop-piece-init c =
     subst (λ (bytes : List ℕ). IsCopiedUpTo (held_of c.args.pieces.now) c.args.from c.args.to c.args.from bytes c.args.pieces.now)
-      (sym c.new-bytes.ensures.items) (copy_none c.args.pieces.now c.requires.apart.0 c.args.from c.args.to c.requires.apart.1)
+    (sym c.new-bytes.ensures.items) (copy_none c.args.pieces.now c.requires.apart.0 c.args.from c.args.to c.requires.apart.1)
 
 pub bytes_from-part-requires : goal.bytes_from-part-requires
 bytes_from-part-requires c =
@@ -25,7 +25,7 @@ loop-piece-preserved c =
     let so_far = subst (λ (rest : List Piece). IsCopiedUpTo (held_of pieces) c.args.from c.args.to c.loop-piece.at c.loop-piece.bytes.items rest) next c.loop-piece.invariant in
     let more = copy_more (held_of pieces) c.args.from c.args.to c.loop-piece.at c.loop-piece.bytes.items c.piece-item.result _ c.requires.held so_far in
     shift (held_of pieces) c.args.from c.args.to c.loop-piece.at c.loop-piece.bytes.items c.extend_from_slice.new.self.items
-      (bytes_from c.piece-item.result c.loop-piece.at c.args.to) c.bytes_from-part.result.now _ c.bytes_from-part.ensures c.in_ok-extend_from_slice.ensures.items more
+    (bytes_from c.piece-item.result c.loop-piece.at c.args.to) c.bytes_from-part.result.now _ c.bytes_from-part.ensures c.in_ok-extend_from_slice.ensures.items more
 
 pub returns : goal.returns
 returns c =

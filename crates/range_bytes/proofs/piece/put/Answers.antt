@@ -14,7 +14,7 @@ returns-then-end-new-clause-apart c =
     let pieces = c.args.pieces.now.items in
     let new = c.args.new in
     rw c.in_ok-push.ensures.items
-      (apart_higher 0 _ new.end (max c.args.end new.end) (apart_push 0 pieces c.args.end new c.requires.apart c.if-end-new.true c.requires.sized) (omega arith))
+    (apart_higher 0 _ new.end (max c.args.end new.end) (apart_push 0 pieces c.args.end new c.requires.apart c.if-end-new.true c.requires.sized) (omega arith))
 
 pub returns-clause-held : goal.returns-clause-held
 returns-clause-held c =
@@ -28,4 +28,4 @@ returns-clause-apart c =
     let pieces = c.args.pieces.now.items in
     let new = c.args.new in
     subst (λ (all : List Piece). IsApart 0 all (max c.args.end new.end)) (sym (c.in_ok-pieces.ensures ∙ ap (woven new new.start) c.deref.ensures.value))
-      (apart-woven new pieces 0 c.args.end new.start c.requires.sized (omega arith) (omega arith) c.requires.apart)
+    (apart-woven new pieces 0 c.args.end new.start c.requires.sized (omega arith) (omega arith) c.requires.apart)

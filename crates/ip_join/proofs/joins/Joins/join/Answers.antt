@@ -26,7 +26,7 @@ pub returns-in-Some-2-clause-stands : goal.returns-in-Some-2-clause-stands
 returns-in-Some-2-clause-stands c = λ past stands.
     let counted = counted_parts past c.args.self.now c.args.new c.key_of-key.result c.remove-parts.result stands c.key_of-key.ensures c.remove-parts.ensures.parts in
     let is : Whole c.in-Some-2.datagram ≡ _ = ap completed (sym c.in-Some-2.is)
-      ∙ completed_is past c.args.new c.remove-parts.result c.in_ok-parts.parts c.conflict.result c.in_ok-datagram.field-0 counted c.conflict.ensures.kind c.in_default.is c.in_ok-parts.ensures c.in_ok-datagram.ensures in
+    ∙ completed_is past c.args.new c.remove-parts.result c.in_ok-parts.parts c.conflict.result c.in_ok-datagram.field-0 counted c.conflict.ensures.kind c.in_default.is c.in_ok-parts.ensures c.in_ok-datagram.ensures in
     stands_gone past c.args.self.now c.remove-parts.new.self c.args.new c.key_of-key.result (Whole c.in-Some-2.datagram) stands c.key_of-key.ensures c.remove-parts.ensures.rest is (λ fs. refl)
 
 pub returns-in_ok-keep-in-None-clause-joined : goal.returns-in_ok-keep-in-None-clause-joined
@@ -39,6 +39,6 @@ pub returns-in_ok-keep-in-None-clause-stands : goal.returns-in_ok-keep-in-None-c
 returns-in_ok-keep-in-None-clause-stands c = λ past stands.
     let counted = counted_parts past c.args.self.now c.args.new c.key_of-key.result c.remove-parts.result stands c.key_of-key.ensures c.remove-parts.ensures.parts in
     let is : Pending ≡ _ = ap completed (sym c.in-None.is)
-      ∙ completed_is past c.args.new c.remove-parts.result c.in_ok-parts.parts c.conflict.result c.in_ok-datagram.field-0 counted c.conflict.ensures.kind c.in_default.is c.in_ok-parts.ensures c.in_ok-datagram.ensures in
+    ∙ completed_is past c.args.new c.remove-parts.result c.in_ok-parts.parts c.conflict.result c.in_ok-datagram.field-0 counted c.conflict.ensures.kind c.in_default.is c.in_ok-parts.ensures c.in_ok-datagram.ensures in
     stands_kept past c.args.self.now c.remove-parts.new.self c.keep.new.self c.args.new c.key_of-key.result c.remove-parts.result c.in_ok-parts.parts
-      stands c.key_of-key.ensures c.remove-parts.ensures.rest c.in_ok-keep-in-None.ensures counted c.in_ok-parts.ensures is
+    stands c.key_of-key.ensures c.remove-parts.ensures.rest c.in_ok-keep-in-None.ensures counted c.in_ok-parts.ensures is

@@ -9,9 +9,10 @@ pub invariant_of-result : goal.invariant_of-result
 invariant_of-result c =
     let counted = c.self.inside.counted.items in
     let new = c.args.new in
-    let at : c.from.result ≡ new.head.offset = omega (arith, c.from.ensures) in
-    (c.in_ok-insert.ensures.ok ∙ ap (λ (p : ℕ). put_run c.self.inside.held p new.bytes new.frame) at
-      ∙ ap (λ (held : Held). put_run held new.head.offset new.bytes new.frame) c.self.invariant.0
-      ∙ sym (ap map_of c.in_ok-push.ensures.items ∙ map_of-push counted new),
-     c.end_with-end.ensures ∙ ap (λ (end : Option ℕ). end_after end (new ∷ [])) c.self.invariant.1
-      ∙ sym (ap known_end c.in_ok-push.ensures.items ∙ end_after-push None counted new))
+    let at : c.from.result ≡ new.head.offset = omega (arith, c.from.ensures) in (
+      c.in_ok-insert.ensures.ok ∙ ap (λ (p : ℕ). put_run c.self.inside.held p new.bytes new.frame) at
+          ∙ ap (λ (held : Held). put_run held new.head.offset new.bytes new.frame) c.self.invariant.0
+          ∙ sym (ap map_of c.in_ok-push.ensures.items ∙ map_of-push counted new),
+      c.end_with-end.ensures ∙ ap (λ (end : Option ℕ). end_after end (new ∷ [])) c.self.invariant.1
+          ∙ sym (ap known_end c.in_ok-push.ensures.items ∙ end_after-push None counted new),
+    )
