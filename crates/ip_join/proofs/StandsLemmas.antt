@@ -40,7 +40,7 @@ put_again true x old = refl
 put_again false x old = refl
 
 -- the fragments that count are of the same datagram
-pub counted_for-of_key : (f : Fragment) (past : List Fragment) → counted_for f (of_key f past) ≡ counted_for f past
+pub counted_for-of_key : (f : Fragment) (past : List Fragment) → counted_for f (of_key f.head past) ≡ counted_for f past
 counted_for-of_key f [] = refl
 counted_for-of_key f (g ∷ past) =
     elim (cases_Bool (same_key g.head f.head)) [
@@ -49,7 +49,7 @@ counted_for-of_key f (g ∷ past) =
     ]
 
 -- whatever else was taken, and in between
-pub joined_by-of_key : (past others : List Fragment) (f : Fragment) → of_key f past ≡ of_key f others → joined_by past f ≡ joined_by others f
+pub joined_by-of_key : (past others : List Fragment) (f : Fragment) → of_key f.head past ≡ of_key f.head others → joined_by past f ≡ joined_by others f
 unfolding joined_by
 joined_by-of_key past others f same =
     ap (λ (counted : List Fragment). joined_of counted f)

@@ -1,6 +1,7 @@
 -- The fragments taken, the newest first, and the joins that stand for them.
 use Rattle.std.specs.Prelude.{◌≡◌, Bool, List, [], ◌∷◌, ◌++◌, if◌then◌else◌, filter, unwrap_or}
 use Rattle.std.specs.BTreeMap as tree
+use Rattle.pk_tree.specs.declared.heads.FragmentHead.{FragmentHead}
 use Rattle.ip_join.specs.declared.joined.Joined.{Joined}
 use Rattle.ip_join.specs.declared.joined.Joined.TheVariants.{Pending, Whole, Conflict}
 use Rattle.ip_join.specs.declared.joins.Joins.{Joins}
@@ -26,8 +27,8 @@ unfoldable pub joined_by : List Fragment → Fragment → Joined
 joined_by past new = joined_of (counted_for new past) new
 
 -- the fragments of one datagram among those taken
-abbrev pub of_key : Fragment → List Fragment → List Fragment
-of_key f past = filter (λ g. same_key g.head f.head) past
+abbrev pub of_key : FragmentHead → List Fragment → List Fragment
+of_key head past = filter (λ g. same_key g.head head) past
 
 -- the joins keep, by keys, the fragments that count
 unfoldable pub Stands : List Fragment → Joins → Type 0

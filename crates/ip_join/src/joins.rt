@@ -46,6 +46,10 @@ impl Joins {
             → joined ≡ joined_by past (record { head = head.now; frame = frame; bytes = payload.now })) }
         ensures stands { OnOk result ((past : List FragmentValue) → Stands past self.old
             → Stands (record { head = head.now; frame = frame; bytes = payload.now } ∷ past) self.new) }
+        // whatever else was taken, and in between
+        ensures isolated { IfOk result (λ joined. (past others : List FragmentValue) → Stands past self.old
+            → of_key head.now past ≡ of_key head.now others
+            → joined ≡ joined_by others (record { head = head.now; frame = frame; bytes = payload.now })) }
     {
         self.join(Fragment {
             head: *head,
