@@ -132,6 +132,13 @@ fn check(
     Ok(())
 }
 
+/// The items of a record of the root before its data, which has so many bytes.
+fn head_text(alloc: Global, kind: u8, len: u8) -> Result<String, AllocError> {
+    format!(in alloc;
+        " dns.resp.name=<Root>@12+1 dns.resp.type={kind} dns.resp.class=1 dns.resp.ttl=60 dns.resp.len={len}"
+    )
+}
+
 const DATAGRAM: (bool, bool) = (false, false);
 
 const CUT_DATAGRAM: (bool, bool) = (false, true);
@@ -394,10 +401,7 @@ fn data_is_read_by_its_type(rt: HostRuntime) -> Result<(), NoMemory> {
     ] {
         let len = 23 + data.len();
         let layer = format!(in rt.alloc(); "dns 0+{len}:")?;
-        let head = format!(in rt.alloc();
-            " dns.resp.name=<Root>@12+1 dns.resp.type={kind} dns.resp.class=1 dns.resp.ttl=60 dns.resp.len={}",
-            data.len()
-        )?;
+        let head = head_text(rt.alloc(), kind, (data.len() % 256) as u8)?;
         check(
             &rt,
             rt.alloc(),
@@ -444,9 +448,7 @@ fn rows_that_leave_their_data_do_not_fit(rt: HostRuntime) -> Result<(), NoMemory
             " dns.soa.mname=<Root>@23+1 dns.soa.rname=<Root>@24+1 dns.soa.serial_number=1",
         ),
     ] {
-        let head = format!(in rt.alloc();
-            " dns.resp.name=<Root>@12+1 dns.resp.type={kind} dns.resp.class=1 dns.resp.ttl=60 dns.resp.len={len}"
-        )?;
+        let head = head_text(rt.alloc(), kind, len)?;
         for (cut, fault) in [
             (true, "\n_ws.short 31+0:\n"),
             (false, "\n_ws.malformed 31+0:\n"),
