@@ -1,8 +1,12 @@
+ghost use Rattle.std.specs.Prelude.{◌≡◌, IfOk};
+
 use super::*;
 use pk_base::{NoMemory, Octets};
 use std::alloc::Global;
 
-fn octets(alloc: Global, bytes: &[u8]) -> Result<Octets, NoMemory> {
+fn octets(alloc: Global, bytes: &[u8]) -> Result<Octets, NoMemory>
+    ensures { IfOk result (λ octets. octets ≡ bytes.now) }
+{
     Octets::copy(alloc, bytes)
 }
 
