@@ -139,6 +139,33 @@ fn head_text(alloc: Global, kind: u8, len: u8) -> Result<String, AllocError> {
     )
 }
 
+/// Reads an answer of the root, with data of a type and length, and compares its items and what follows them.
+fn check_data(
+    rt: &impl Abort,
+    alloc: Global,
+    (kind, len, cut): (u8, u8, bool),
+    data: &[u8],
+    end: &[&str],
+) -> Result<(), NoMemory> {
+    let mut record = [0, 0, kind, 0, 1, 0, 0, 0, 60, 0, len].to_vec(alloc)?;
+    record.extend_from_slice(data)?;
+    assert!(rt; record.len() <= 1_000);
+    let mut layer = format!(in alloc; "dns 0+{}:", 12 + record.len())?;
+    layer.push_str(RESPONSE_ITEMS)?;
+    layer.push_str(ONE_ANSWER_ITEMS)?;
+    layer.push_str(&head_text(alloc, kind, len)?)?;
+    for part in end {
+        layer.push_str(part)?;
+    }
+    check(
+        rt,
+        alloc,
+        (false, cut),
+        &[RESPONSE, ONE_ANSWER, &record],
+        &[layer.as_str()],
+    )
+}
+
 const DATAGRAM: (bool, bool) = (false, false);
 
 const CUT_DATAGRAM: (bool, bool) = (false, true);
@@ -399,27 +426,12 @@ fn data_is_read_by_its_type(rt: HostRuntime) -> Result<(), NoMemory> {
         (16, b"", ""),
         (41, b"\x07", " dns.data=[7]"),
     ] {
-        let len = 23 + data.len();
-        let layer = format!(in rt.alloc(); "dns 0+{len}:")?;
-        let head = head_text(rt.alloc(), kind, (data.len() % 256) as u8)?;
-        check(
+        check_data(
             &rt,
             rt.alloc(),
-            DATAGRAM,
-            &[
-                RESPONSE,
-                ONE_ANSWER,
-                &[0, 0, kind, 0, 1, 0, 0, 0, 60, 0, (data.len() % 256) as u8],
-                data,
-            ],
-            &[
-                layer.as_str(),
-                RESPONSE_ITEMS,
-                ONE_ANSWER_ITEMS,
-                head.as_str(),
-                items,
-                "\n",
-            ],
+            (kind, (data.len() % 256) as u8, false),
+            data,
+            &[items, "\n"],
         )?;
     }
     Ok(())
@@ -448,30 +460,11 @@ fn rows_that_leave_their_data_do_not_fit(rt: HostRuntime) -> Result<(), NoMemory
             " dns.soa.mname=<Root>@23+1 dns.soa.rname=<Root>@24+1 dns.soa.serial_number=1",
         ),
     ] {
-        let head = head_text(rt.alloc(), kind, len)?;
         for (cut, fault) in [
             (true, "\n_ws.short 31+0:\n"),
             (false, "\n_ws.malformed 31+0:\n"),
         ] {
-            check(
-                &rt,
-                rt.alloc(),
-                (false, cut),
-                &[
-                    RESPONSE,
-                    ONE_ANSWER,
-                    &[0, 0, kind, 0, 1, 0, 0, 0, 60, 0, len],
-                    data,
-                ],
-                &[
-                    "dns 0+31:",
-                    RESPONSE_ITEMS,
-                    ONE_ANSWER_ITEMS,
-                    head.as_str(),
-                    items,
-                    fault,
-                ],
-            )?;
+            check_data(&rt, rt.alloc(), (kind, len, cut), data, &[items, fault])?;
         }
     }
     Ok(())
