@@ -1,4 +1,0 @@
-pub mod KeyLemmas
-pub mod FragmentLemmas
-pub mod StandsLemmas
-pub mod Taking

@@ -1,5 +1,0 @@
-pub mod Fragments
-pub mod Keys
-pub mod KeyOrder
-pub mod Datagrams
-pub mod Stands
