@@ -4,19 +4,15 @@
 set -eu
 cd "$(dirname "$0")/.."
 [ -x bin/shark ] || ./build
+. bench/measure.sh
 mkdir -p bench/out
 capture=bench/out/first.pcap
 [ -f "$capture" ] || python3 bench/make_capture.py "$capture" 100
 
 measure() { # NAME WORDS..
-  local name=$1
+  local name=$1 row
   shift
-  if ! command -v "$1" >/dev/null 2>&1; then
-    echo "$name: not installed"
-    return
-  fi
-  local row
-  row=$(python3 bench/measure.py 100 "$@")
+  measure_row "$name" 100 "$@" || return 0
   set -- $row
   [ -n "${base:-}" ] || base=$1
   printf '%-8s cpu %7s s  wall %7s s  %6s MB/s  peak %5s MB  cpu ratio %s\n' "$name" "$1" "$2" "$3" "$4" \

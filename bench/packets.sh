@@ -4,20 +4,16 @@
 set -eu
 cd "$(dirname "$0")/.."
 [ -x bin/shark ] || ./build
+. bench/measure.sh
 mkdir -p bench/out
 for form in pcap pcapng; do
   [ -f "bench/out/packets.$form" ] || python3 bench/make_packets.py "bench/out/packets.$form" 1000000
 done
 
 measure() { # NAME WORDS..
-  local name=$1
+  local name=$1 row
   shift
-  if ! command -v "$1" >/dev/null 2>&1; then
-    echo "$name: not installed"
-    return
-  fi
-  local row
-  row=$(python3 bench/measure.py 1 "$@")
+  measure_row "$name" 1 "$@" || return 0
   set -- $row
   printf '%-28s cpu %7s s  wall %7s s  %9s frames/s  peak %5s MB\n' "$name" "$1" "$2" "$(python3 -c "print(round(1000000 / $1))")" "$4"
   last=$1
