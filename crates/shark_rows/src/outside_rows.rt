@@ -131,6 +131,30 @@ fn a_file_above_the_limit_is_too_large(rt: HostRuntime) -> Result<(), Fail> {
     Ok(())
 }
 
+// 1,024 records of 262,144 bytes reach past byte 2^28.
+#[test]
+fn records_above_the_limit_are_too_large(rt: HostRuntime) -> Result<(), Fail> {
+    let alloc = rt.alloc();
+    let mut file = bytes_of(alloc, &[HEADER])?;
+    let head = bytes_of(alloc, &["00000000 00000000 00000400 00000400"])?;
+    let bytes = vec![in alloc; 0; 262_144]?;
+    for _ in 0..1024 {
+        file.extend_from_slice(head.as_slice())?;
+        file.extend_from_slice(bytes.as_slice())?;
+    }
+    let mut words = Vec::new(alloc);
+    for word in "-r f -T fields -e frame.number -Y eth.len==1501".split(' ') {
+        words.push(String::from_str(alloc, word)?)?;
+    }
+    let mut out = SureSink::new(alloc);
+    assert_eq!(rt;
+        sure_run(alloc, words.as_slice(), file, &mut out),
+        Status::TooLarge
+    );
+    assert!(rt; out.bytes().is_empty());
+    Ok(())
+}
+
 #[test]
 fn the_same_file_cut_at_a_hundred_bytes_is_damaged(rt: HostRuntime) -> Result<(), Fail> {
     let alloc = rt.alloc();
