@@ -1,0 +1,4 @@
+pub mod KeyLemmas
+pub mod FragmentLemmas
+pub mod StandsLemmas
+pub mod Taking

@@ -1,0 +1,5 @@
+pub mod Fragments
+pub mod Keys
+pub mod KeyOrder
+pub mod Datagrams
+pub mod Stands

@@ -1,0 +1,35 @@
+-- The fragments taken, the newest first, and the joins that stand for them.
+use Rattle.std.specs.Prelude.{◌≡◌, Bool, List, [], ◌∷◌, ◌++◌, if◌then◌else◌, filter, unwrap_or}
+use Rattle.std.specs.BTreeMap as tree
+use Rattle.pk_tree.specs.declared.heads.FragmentHead.{FragmentHead}
+use Rattle.ip_join.specs.declared.joined.Joined.{Joined}
+use Rattle.ip_join.specs.declared.joined.Joined.TheVariants.{Pending, Whole, Conflict}
+use Rattle.ip_join.specs.declared.joins.Joins.{Joins}
+use Rattle.ip_join.specs.declared.fragment.Fragment.{Fragment}
+use Rattle.ip_join.specs.Keys.{same_key}
+use Rattle.ip_join.specs.Datagrams.{joined_of}
+use Rattle.ip_join.specs.KeyOrder.{key_of, key_cmp}
+
+-- what is left of a datagram's fragments after an answer: a whole datagram and a conflict forget them
+abbrev pub left_after : Joined → List Fragment → List Fragment
+left_after Pending fragments = fragments
+left_after (Whole datagram) fragments = []
+left_after (Conflict kind) fragments = []
+
+-- the fragments that count for a fragment's datagram: those since its last completion or conflict
+abbrev pub counted_for : Fragment → List Fragment → List Fragment
+counted_for f [] = []
+counted_for f (g ∷ past) = if same_key g.head f.head
+    then left_after (joined_of (counted_for f past) g) (counted_for f past ++ g ∷ []) else counted_for f past
+
+-- what a fragment makes of all that were taken before it
+unfoldable pub joined_by : List Fragment → Fragment → Joined
+joined_by past new = joined_of (counted_for new past) new
+
+-- the fragments of one datagram among those taken
+abbrev pub of_key : FragmentHead → List Fragment → List Fragment
+of_key head past = filter (λ g. same_key g.head head) past
+
+-- the joins keep, by keys, the fragments that count
+unfoldable pub Stands : List Fragment → Joins → Type 0
+Stands past joins = (f : Fragment) → unwrap_or (tree.get key_cmp joins.parts (key_of f.head)) [] ≡ counted_for f past

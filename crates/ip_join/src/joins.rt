@@ -1,0 +1,98 @@
+ghost use Rattle.std.specs.Prelude.{◌≡◌, true, [], ◌∷◌, cond, unwrap_or, List, None, Some, IfOk, OnOk};
+ghost use Rattle.std.specs.BTreeMap as tree;
+ghost use Rattle.std.specs.Ordering.{eq_by_cmp};
+ghost use Rattle.ip_join.specs.declared.fragment.Fragment.{Fragment as FragmentValue};
+ghost use Rattle.ip_join.specs.declared.key.Key.{Key as KeyValue};
+ghost use Rattle.ip_join.specs.KeyOrder.{key_cmp};
+ghost use Rattle.ip_join.specs.Stands.{Stands, joined_by, of_key};
+
+use crate::fragment::Fragment;
+use crate::joined::Joined;
+use crate::key::{Key, key_of};
+use crate::parts::Parts;
+use pk_base::{NoMemory, Octets};
+use pk_tree::FragmentHead;
+use std::alloc::Global;
+use std::collections::BTreeMap;
+
+/// The datagrams of which some fragments were taken and which aren't whole yet.
+#[derive(Drop)]
+pub struct Joins {
+    alloc: Global,
+    parts: BTreeMap<Key, Parts>,
+}
+
+impl Joins {
+    /// No fragment was taken. Takes no memory.
+    #[tactic(auto, unfolding(crate::specs::Stands::Stands))]
+    pub fn new(alloc: Global) -> Joins
+        ensures { Stands [] result }
+    {
+        Joins {
+            alloc,
+            parts: BTreeMap::new(alloc),
+        }
+    }
+
+    /// Takes a fragment: its head, its frame's number and its bytes. After `NoMemory` nothing more is known of the joins.
+    pub fn take(
+        &mut self,
+        head: &FragmentHead,
+        frame: u32,
+        payload: &Octets,
+    ) -> Result<Joined, NoMemory>
+        requires { head.now.whole ≡ true }
+        ensures joined { IfOk result (λ joined. (past : List FragmentValue) → Stands past self.old
+            → joined ≡ joined_by past (record { head = head.now; frame = frame; bytes = payload.now })) }
+        ensures stands { OnOk result ((past : List FragmentValue) → Stands past self.old
+            → Stands (record { head = head.now; frame = frame; bytes = payload.now } ∷ past) self.new) }
+        // whatever else was taken, and in between
+        ensures isolated { IfOk result (λ joined. (past others : List FragmentValue) → Stands past self.old
+            → of_key head.now past ≡ of_key head.now others
+            → joined ≡ joined_by others (record { head = head.now; frame = frame; bytes = payload.now })) }
+    {
+        self.join(Fragment {
+            head: *head,
+            frame,
+            bytes: payload.clone()?,
+        })
+    }
+
+    fn join(&mut self, new: Fragment) -> Result<Joined, NoMemory>
+        ensures joined { IfOk result (λ joined. (past : List FragmentValue) → Stands past self.old → joined ≡ joined_by past new) }
+        ensures stands { OnOk result ((past : List FragmentValue) → Stands past self.old → Stands (new ∷ past) self.new) }
+    {
+        let head = new.head;
+        let key = key_of(&head);
+        let parts = self.remove(key);
+        if let Some(kind) = parts.conflict(&new) {
+            return Ok(Joined::Conflict(kind));
+        }
+        let parts = parts.with(new)?;
+        match parts.datagram(head)? {
+            Some(datagram) => Ok(Joined::Whole(datagram)),
+            None => {
+                self.keep(key, parts)?;
+                Ok(Joined::Pending)
+            }
+        }
+    }
+
+    /// Takes out what is kept by a key.
+    fn remove(&mut self, key: Key) -> Parts
+        ensures parts { result ≡ unwrap_or (tree.get key_cmp self.old.parts key) [] }
+        ensures rest { (q : KeyValue) → tree.get key_cmp self.new.parts q ≡ cond (eq_by_cmp key_cmp key q) None (tree.get key_cmp self.old.parts q) }
+    {
+        match self.parts.remove(&key) {
+            Some(parts) => parts,
+            None => Parts::new(self.alloc),
+        }
+    }
+
+    fn keep(&mut self, key: Key, parts: Parts) -> Result<(), NoMemory>
+        ensures { OnOk result ((q : KeyValue) → tree.get key_cmp self.new.parts q ≡ cond (eq_by_cmp key_cmp key q) (Some parts) (tree.get key_cmp self.old.parts q)) }
+    {
+        self.parts.insert(key, parts)?;
+        Ok(())
+    }
+}

@@ -1,0 +1,15 @@
+//! Datagrams joined from fragments, whatever the order in which these come (RFC 791, 3.2; RFC 8200, 4.5).
+#![tactic(auto)]
+
+mod fragment;
+mod joined;
+mod joins;
+mod key;
+mod parts;
+#[cfg(test)]
+mod sequences;
+#[cfg(test)]
+mod tests;
+
+pub use joined::{ConflictKind, Datagram, Joined};
+pub use joins::Joins;
