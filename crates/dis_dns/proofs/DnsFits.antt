@@ -1,6 +1,6 @@
 -- Each step of a message may stand in the layout of its layer.
-use Rattle.std.proofs.Common.{◌≡◌, ℕ, ◌+◌, ◌-◌, Bool, true, false, ◌&&◌, if◌then◌else◌, List, [], ◌∷◌, ◌++◌, length, drop, refl, rules}
-use Rattle.std.specs.Prelude.{◌==◌, nat_le, min, slice_index, IsTrue, is_none}
+use Rattle.std.proofs.Common.{◌≡◌, ℕ, ◌+◌, ◌-◌, Bool, true, false, ◌&&◌, if◌then◌else◌, List, [], ◌∷◌, length, drop, refl, rules}
+use Rattle.std.specs.Prelude.{nat_le, min, slice_index, IsTrue, is_none}
 use Rattle.pk_fields.specs.Fields.{row_of}
 use Rattle.pk_fields.specs.Table.{rows}
 use Rattle.pk_fields.specs.Ids.{DNS, DNS_LENGTH, DNS_QRY_NAME, DNS_QRY_TYPE, DNS_QRY_CLASS, DNS_RESP_NAME, DNS_RESP_TYPE, DNS_RESP_CLASS, DNS_RESP_TTL, DNS_RESP_LEN, DNS_A, DNS_AAAA, DNS_NS, DNS_CNAME, DNS_PTR_DOMAIN_NAME, DNS_MX_PREFERENCE, DNS_MX_MAIL_EXCHANGE, DNS_SOA_MNAME, DNS_SOA_RNAME, DNS_SOA_SERIAL_NUMBER, DNS_SOA_REFRESH_INTERVAL, DNS_SOA_RETRY_INTERVAL, DNS_SOA_EXPIRE_LIMIT, DNS_SOA_MINIMUM_TTL, DNS_TXT, DNS_DATA}
@@ -8,8 +8,8 @@ use Rattle.pk_fields.specs.declared.value_kind.ValueKind.TheVariants as kinds
 use Rattle.pk_tree.specs.declared.layout.Step.{Step}
 use Rattle.pk_tree.specs.declared.layout.Step.TheVariants.{Row, Part, Whole, Derived, Check, Room}
 use Rattle.pk_tree.specs.declared.value.Value.TheVariants as values
-use Rattle.pk_tree.specs.Entries.{Entry, goes_on, ends, then_on, repeated}
-use Rattle.pk_tree.specs.Layouts.{StepFits, StepsFit, belongs}
+use Rattle.pk_tree.specs.Entries.{Entry, ends, repeated}
+use Rattle.pk_tree.specs.Layouts.{StepsFit, belongs}
 use Rattle.pk_tree.specs.Values.{is_read}
 use Rattle.pk_tree.proofs.EntryLemmas.{fit_append, fit_then, fit_repeated}
 use Rattle.dis_dns.specs.declared.names.NameEnd.{NameEnd}

@@ -1,3 +1,4 @@
+pub mod ChainLemmas
 pub mod DnsFits
 pub mod NameLaw
 pub mod NameLemmas

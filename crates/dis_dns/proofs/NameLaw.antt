@@ -1,5 +1,5 @@
 -- The reading of a name finds exactly the names that there are.
-use Rattle.std.proofs.Common.{◌≡◌, ◌↔◌, ℕ, zero, suc, ◌+◌, ◌-◌, ◌*◌, ◌<◌, ◌≤◌, Bool, true, false, if◌then◌else◌, List, [], ◌∷◌, length, Option, Some, None, take, drop, length-take, length-drop, refl, sym, ap, ◌∙◌, arith}
+use Rattle.std.proofs.Common.{◌≡◌, ℕ, zero, suc, ◌+◌, ◌-◌, ◌*◌, ◌<◌, ◌≤◌, true, false, List, [], ◌∷◌, length, Option, Some, None, drop, length-take, length-drop, refl, sym, ap, ◌∙◌, arith}
 use Rattle.std.proofs.lemmas.Bool.Decides.{nat_tests}
 use Rattle.std.specs.Prelude.{◌==◌, nat_le, nat_lt, slice_index, slice_range}
 use Rattle.dis_dns.specs.declared.names.NameEnd.{NameEnd}
@@ -7,8 +7,8 @@ use Rattle.dis_dns.specs.declared.names.NameEnd.TheVariants.{Name, Leaves, Fails
 use Rattle.dis_dns.specs.declared.names.Turn.{Turn}
 use Rattle.dis_dns.specs.declared.names.Turn.TheVariants.{Label, Jump, Over}
 use Rattle.dis_dns.specs.declared.names.Walk.{Walk}
-use Rattle.dis_dns.specs.Names.{IsRun, root, labelled, pointed, IsName, size_of_labels, text_on, target_at, after_or, left_by, label_turn, pointer_turn, turn_of, on_turn, walked, turns_left, first_walk, name_at, dotted, ReadsNames}
-use Rattle.dis_dns.proofs.NameLemmas.{behind_label, at_target, TurnIs, turn_says, turn_taken, fewer_label, fewer_target}
+use Rattle.dis_dns.specs.Names.{IsRun, root, labelled, pointed, size_of_labels, text_on, target_at, after_or, turn_of, on_turn, walked, turns_left, first_walk, name_at, dotted, ReadsNames}
+use Rattle.dis_dns.proofs.NameLemmas.{behind_label, at_target, TurnIs, turn_says, turn_taken, turn_pointer}
 
 -- the labels from a walk's place on, behind which its name ends
 record Rest (bytes : List ℕ) (w : Walk) (text : List ℕ) (after : ℕ) (whole : List ℕ) : Type 0 where
@@ -96,17 +96,6 @@ turn_label bytes w room some small short =
     let fits : nat_lt w.limit (w.place + 1 + slice_index bytes w.place) ≡ false = grind (arith, nat_tests) in
     let ends : nat_lt 255 (w.size + 1 + slice_index bytes w.place + 1) ≡ false = grind (arith, nat_tests) in
     rw (on, more, plain, fits, ends) refl
-
-turn_pointer : (bytes : List ℕ) (w : Walk) → w.place + 2 ≤ w.limit → 192 ≤ slice_index bytes w.place → target_at bytes w.place < w.start → turn_of bytes w ≡ Jump (at_target bytes w)
-unfolding turn_of
-turn_pointer bytes w room high before =
-    let on : nat_le w.limit w.place ≡ false = grind (arith, nat_tests) in
-    let more : (slice_index bytes w.place == 0) ≡ false = grind (arith, nat_tests) in
-    let large : nat_lt (slice_index bytes w.place) 64 ≡ false = grind (arith, nat_tests) in
-    let led : nat_le 192 (slice_index bytes w.place) ≡ true = grind (arith, nat_tests) in
-    let fits : nat_lt w.limit (w.place + 2) ≡ false = grind (arith, nat_tests) in
-    let early : nat_lt (target_at bytes w.place) w.start ≡ true = grind (arith, nat_tests) in
-    rw (on, more, large, led, fits, early) refl
 
 -- where labels are known, the reading finds them
 finds : (bytes : List ℕ) (start limit place : ℕ) (labels : List (List ℕ)) (here : ℕ) → IsRun bytes start limit place labels here →

@@ -1,5 +1,5 @@
 -- What each turn of a name's reading says, and that there are turns enough.
-use Rattle.std.proofs.Common.{◌≡◌, ℕ, zero, suc, ◌+◌, ◌-◌, ◌*◌, ◌<◌, ◌≤◌, Bool, true, false, if◌then◌else◌, List, [], ◌∷◌, length, Option, Some, None, refl, sym, ap, ◌∙◌, arith}
+use Rattle.std.proofs.Common.{◌≡◌, ℕ, zero, suc, ◌+◌, ◌<◌, ◌≤◌, Bool, true, false, if◌then◌else◌, List, length, Option, Some, None, refl, sym, ◌∙◌, arith}
 use Rattle.std.proofs.lemmas.Bool.Decides.{nat_tests}
 use Rattle.std.specs.Prelude.{◌==◌, nat_le, nat_lt, slice_index, slice_range}
 use Rattle.dis_dns.specs.declared.names.NameEnd.{NameEnd}
@@ -7,7 +7,7 @@ use Rattle.dis_dns.specs.declared.names.NameEnd.TheVariants.{Name, Leaves, Fails
 use Rattle.dis_dns.specs.declared.names.Turn.{Turn}
 use Rattle.dis_dns.specs.declared.names.Turn.TheVariants.{Label, Jump, Over}
 use Rattle.dis_dns.specs.declared.names.Walk.{Walk}
-use Rattle.dis_dns.specs.Names.{target_at, after_or, left_by, label_turn, pointer_turn, turn_of, on_turn, walked, turns_left, first_walk, name_at, dotted}
+use Rattle.dis_dns.specs.Names.{target_at, after_or, left_by, label_turn, pointer_turn, turn_of, on_turn, walked, turns_left, dotted}
 
 -- the walk behind a label, and at a pointer's target
 abbrev pub behind_label : Walk → ℕ → Walk
@@ -63,6 +63,18 @@ turn_says bytes w =
     (λ large. says_if bytes w (nat_le 192 (slice_index bytes w.place)) (pointer_turn bytes w) (Over Fails)
     (λ high. says_pointer bytes w (grind (arith, nat_tests)))
     (λ _. says_fails bytes w))))
+
+-- the turn at a pointer to an earlier run
+pub turn_pointer : (bytes : List ℕ) (w : Walk) → w.place + 2 ≤ w.limit → 192 ≤ slice_index bytes w.place → target_at bytes w.place < w.start → turn_of bytes w ≡ Jump (at_target bytes w)
+unfolding turn_of
+turn_pointer bytes w room high before =
+    let on : nat_le w.limit w.place ≡ false = grind (arith, nat_tests) in
+    let more : (slice_index bytes w.place == 0) ≡ false = grind (arith, nat_tests) in
+    let large : nat_lt (slice_index bytes w.place) 64 ≡ false = grind (arith, nat_tests) in
+    let led : nat_le 192 (slice_index bytes w.place) ≡ true = grind (arith, nat_tests) in
+    let fits : nat_lt w.limit (w.place + 2) ≡ false = grind (arith, nat_tests) in
+    let early : nat_lt (target_at bytes w.place) w.start ≡ true = grind (arith, nat_tests) in
+    rw (on, more, large, led, fits, early) refl
 
 -- fewer turns are left behind each turn
 pub fewer_label : (w : Walk) (len : ℕ) → w.size + 1 + len + 1 ≤ 255 → turns_left (behind_label w len) < turns_left w

@@ -1,3 +1,4 @@
+pub mod Chains
 pub mod Dns
 pub mod Names
 pub mod Records

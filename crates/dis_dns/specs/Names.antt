@@ -119,6 +119,7 @@ FirstFits (Some after) first most here = (first < after) × (after ≤ most)
 
 pub record IsWalkIn (most first : ℕ) (w : Walk) : Type 0 where
   pub limit : w.limit ≤ most
+  pub begun : w.start ≤ w.place
   pub short : w.size + 1 ≤ 255
   pub ends : FirstFits w.after first most w.place
 

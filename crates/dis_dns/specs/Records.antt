@@ -12,12 +12,12 @@
 --                                                +----------------+------- - - ----+
 --
 -- Places count from the message's first byte; the layer begins `base` bytes before it.
-use Rattle.std.specs.Prelude.{◌==◌, ℕ, ◌+◌, ◌-◌, ◌*◌, min, ◌&&◌, true, false, if◌then◌else◌, List, [], ◌∷◌, ◌++◌, length, nat_le, slice_index, Option, Some, None}
+use Rattle.std.specs.Prelude.{◌==◌, ℕ, ◌+◌, ◌-◌, ◌*◌, min, ◌&&◌, false, if◌then◌else◌, List, [], ◌∷◌, ◌++◌, length, nat_le, slice_index}
 use Rattle.pk_fields.specs.Ids.{DNS_QRY_NAME, DNS_QRY_TYPE, DNS_QRY_CLASS, DNS_RESP_NAME, DNS_RESP_TYPE, DNS_RESP_CLASS, DNS_RESP_TTL, DNS_RESP_LEN, DNS_A, DNS_AAAA, DNS_NS, DNS_CNAME, DNS_PTR_DOMAIN_NAME, DNS_MX_PREFERENCE, DNS_MX_MAIL_EXCHANGE, DNS_SOA_MNAME, DNS_SOA_RNAME, DNS_SOA_SERIAL_NUMBER, DNS_SOA_REFRESH_INTERVAL, DNS_SOA_RETRY_INTERVAL, DNS_SOA_EXPIRE_LIMIT, DNS_SOA_MINIMUM_TTL, DNS_TXT, DNS_DATA}
 use Rattle.pk_tree.specs.declared.layout.Step.{Step}
 use Rattle.pk_tree.specs.declared.layout.Step.TheVariants.{Row, Part, Whole, Derived, Check, Room}
 use Rattle.pk_tree.specs.declared.value.Value.TheVariants as values
-use Rattle.pk_tree.specs.Entries.{Entry, goes_on, ends, behind, then_on, repeated}
+use Rattle.pk_tree.specs.Entries.{Entry, goes_on, ends, then_on, repeated}
 use Rattle.pk_tree.specs.Layouts.{peeked}
 use Rattle.dis_dns.specs.declared.names.NameEnd.{NameEnd}
 use Rattle.dis_dns.specs.declared.names.NameEnd.TheVariants.{Name, Leaves, Fails}

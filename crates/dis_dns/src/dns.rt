@@ -3,10 +3,12 @@ ghost use Rattle.pk_buffer.specs.Buffers.{IsInside, bytes_of};
 ghost use Rattle.pk_fields.specs.Ids.{DNS};
 ghost use Rattle.pk_tree.specs.Entries.{Adds, repeated};
 ghost use Rattle.pk_tree.specs.Layouts.{layer_read};
+ghost use Rattle.dis_dns.specs.Chains.{AreChainEnds};
 ghost use Rattle.dis_dns.specs.Dns.{dns_layout, header_rows, message_steps, record_count, sections};
 ghost use Rattle.dis_dns.specs.Names.{ReadsNames};
 ghost use Rattle.dis_dns.specs.Records.{question, resource, word_at};
 
+use crate::chains::chain_ends;
 use crate::records::{Message, push_question, push_record, word_at};
 use pk_base::{NoMemory, Span};
 use pk_fields::ids;
@@ -45,25 +47,37 @@ fn dns_steps(alloc: Global, prefixed: bool, bytes: &[u8]) -> Result<Vec<Step>, N
     let mut steps = Vec::with_capacity(alloc, FEW_STEPS)?;
     if !prefixed {
         let base = 0;
-        push_message(&mut steps, &Message { bytes, base, alloc })?;
+        push_message(alloc, &mut steps, bytes, base)?;
         return Ok(steps);
     }
     steps.push(Step::Row(ids::DNS_LENGTH, 0))?;
     let bytes = behind_prefix(bytes);
     let base = PREFIX;
-    push_message(&mut steps, &Message { bytes, base, alloc })?;
+    push_message(alloc, &mut steps, bytes, base)?;
     Ok(steps)
 }
 
-/// Adds the steps of a message.
+/// Adds the steps of a message before which its layer has so many bytes.
 #[tactic(auto, unfolding(crate::specs::Dns::message_steps))]
-fn push_message(steps: &mut Vec<Step>, message: &Message) -> Result<(), NoMemory>
-    requires base { message.now.base ≤ 2 }
-    requires short { length message.now.bytes.now < 2 ^ 32 }
-    ensures { OnOk result (steps.new.items ≡ steps.old.items ++ message_steps message.now.base message.now.bytes.now) }
+fn push_message(
+    alloc: Global,
+    steps: &mut Vec<Step>,
+    bytes: &[u8],
+    base: usize,
+) -> Result<(), NoMemory>
+    requires base { base ≤ 2 }
+    requires short { length bytes.now < 2 ^ 32 }
+    ensures { OnOk result (steps.new.items ≡ steps.old.items ++ message_steps base bytes.now) }
 {
-    push_header(steps, message.base)?;
-    push_sections(steps, message)?;
+    let ends = chain_ends(alloc, bytes)?;
+    let message = Message {
+        bytes,
+        chain_ends: &ends,
+        base,
+        alloc,
+    };
+    push_header(steps, base)?;
+    push_sections(steps, &message)?;
     Ok(())
 }
 
@@ -102,6 +116,7 @@ fn push_header(steps: &mut Vec<Step>, base: usize) -> Result<(), NoMemory>
 /// Adds the steps of a message's questions and records.
 #[tactic(auto, unfolding(crate::specs::Dns::sections))]
 fn push_sections(steps: &mut Vec<Step>, message: &Message) -> Result<(), NoMemory>
+    requires chains { AreChainEnds message.now.bytes.now message.now.chain_ends.now }
     requires base { message.now.base ≤ 2 }
     requires short { length message.now.bytes.now < 2 ^ 32 }
     ensures { OnOk result (steps.new.items ≡ steps.old.items ++ (sections message.now.base message.now.bytes.now).steps) }
@@ -129,6 +144,7 @@ fn push_questions(
     count: usize,
     at: usize,
 ) -> Result<Option<usize>, NoMemory>
+    requires chains { AreChainEnds message.now.bytes.now message.now.chain_ends.now }
     requires base { message.now.base ≤ 2 }
     requires short { length message.now.bytes.now < 2 ^ 32 }
     requires place { at < 2 ^ 33 }
@@ -152,6 +168,7 @@ fn push_records(
     count: usize,
     at: usize,
 ) -> Result<(), NoMemory>
+    requires chains { AreChainEnds message.now.bytes.now message.now.chain_ends.now }
     requires base { message.now.base ≤ 2 }
     requires short { length message.now.bytes.now < 2 ^ 32 }
     requires place { at < 2 ^ 33 }

@@ -2,6 +2,7 @@
 //! memory leaves its layer unfinished, and the tree is given up.
 #![tactic(auto)]
 
+mod chains;
 mod dns;
 mod names;
 mod records;

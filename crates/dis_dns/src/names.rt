@@ -1,3 +1,4 @@
+ghost use Rattle.dis_dns.specs.Chains.{AreChainEnds, moved_to};
 ghost use Rattle.std.specs.Prelude.{◌≡◌, ℕ, ◌+◌, ◌-◌, ◌*◌, ◌<◌, ◌≤◌, ◌^◌, [], length, slice_index, slice_range, IfOk, OnOk};
 ghost use Rattle.dis_dns.specs.Names.{EndsIn, IsWalkIn, TurnFits, after_or, dotted, label_turn, left_by, name_at, pointer_turn, target_at, turn_of, turns_left};
 
@@ -7,7 +8,9 @@ use std::alloc::AllocError;
 /// What joins the labels of a name.
 const DOT: u8 = b'.';
 /// The least byte that begins a pointer.
-const POINTER: usize = 192;
+pub(crate) const POINTER: usize = 192;
+/// More turns than a name takes: each label makes it longer, and between two labels lies at most one chain of pointers.
+const NAME_TURNS: usize = 256;
 
 /// How a name ends.
 #[derive(Clone, Copy, Debug, PartialEq, Eq)]
@@ -49,10 +52,12 @@ pub(crate) enum Turn {
 /// dots.
 pub(crate) fn read_name(
     bytes: &[u8],
+    chain_ends: &[u16],
     end: usize,
     place: usize,
     text: &mut Vec<u8>,
 ) -> Result<NameEnd, AllocError>
+    requires chains { AreChainEnds bytes.now chain_ends.now }
     requires end { end ≤ length bytes.now }
     requires place { place < 2 ^ 40 }
     requires none { text.old.items ≡ [] }
@@ -66,17 +71,30 @@ pub(crate) fn read_name(
         size: 0,
         after: None,
     };
-    for _turn in 0..place * 256 + 256 {
+    for _turn in 0..NAME_TURNS {
         match next_turn(bytes, walk) {
             Turn::Label(len, next) => {
                 push_label(text, &bytes[walk.place + 1..walk.place + 1 + len])?;
                 walk = next;
             }
-            Turn::Jump(next) => walk = next,
+            Turn::Jump(next) => walk = at_chain_end(chain_ends, next),
             Turn::Over(name) => return Ok(name),
         }
     }
     Ok(NameEnd::Fails)
+}
+
+/// A walk at the end of the chain that begins at its place, where a pointer led it.
+fn at_chain_end(ends: &[u16], walk: Walk) -> Walk
+    requires { walk.place < length ends.now }
+    ensures { result ≡ moved_to walk (slice_index ends.now walk.place) }
+{
+    let end = usize::from(ends[walk.place]);
+    Walk {
+        start: end,
+        place: end,
+        ..walk
+    }
 }
 
 /// Adds a label to a name's text, behind a dot where it isn't the first.
@@ -168,8 +186,7 @@ fn pointer_turn(bytes: &[u8], walk: Walk) -> Turn
     if walk.limit < behind {
         return Turn::Over(left_by(walk.after));
     }
-    let high = usize::from(bytes[walk.place]) - POINTER;
-    let target = high * 256 + usize::from(bytes[walk.place + 1]);
+    let target = target_at(bytes, walk.place);
     if target < walk.start {
         Turn::Jump(Walk {
             start: target,
@@ -181,4 +198,14 @@ fn pointer_turn(bytes: &[u8], walk: Walk) -> Turn
     } else {
         Turn::Over(NameEnd::Fails)
     }
+}
+
+/// Where the pointer at a place leads.
+pub(crate) fn target_at(bytes: &[u8], place: usize) -> usize
+    requires room { place + 2 ≤ length bytes.now }
+    requires pointer { 192 ≤ slice_index bytes.now place }
+    ensures target { result ≡ target_at bytes.now place }
+    ensures bound { result < 2 ^ 14 }
+{
+    (usize::from(bytes[place]) - POINTER) * 256 + usize::from(bytes[place + 1])
 }

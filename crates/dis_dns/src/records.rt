@@ -1,5 +1,6 @@
 ghost use Rattle.std.specs.Prelude.{◌≡◌, ℕ, Some, ◌+◌, ◌-◌, ◌*◌, ◌<◌, ◌≤◌, ◌^◌, ◌++◌, length, min, IfOk, IfSome, OnOk};
 ghost use Rattle.pk_tree.specs.Entries.{Adds, repeated};
+ghost use Rattle.dis_dns.specs.Chains.{AreChainEnds};
 ghost use Rattle.dis_dns.specs.Records.{data_row, data_steps, mail_data, name_entry, question, record_head, record_tail, resource, shown_name, text_string, word_at, zone_data, zone_numbers};
 
 use crate::names::{NameEnd, read_name};
@@ -28,10 +29,11 @@ const ADDRESS_6: usize = 28;
 /// The bytes between a record's name and its data.
 const RECORD_HEAD: usize = 10;
 
-/// A message, and how many bytes of its layer stand before it.
+/// A message, where its chains of bare pointers end, and how many bytes of its layer stand before it.
 #[derive(Drop)]
 pub(crate) struct Message<'a> {
     pub(crate) bytes: &'a [u8],
+    pub(crate) chain_ends: &'a [u16],
     pub(crate) base: usize,
     pub(crate) alloc: Global,
 }
@@ -52,6 +54,7 @@ pub(crate) fn push_question(
     message: &Message,
     at: usize,
 ) -> Result<Option<usize>, NoMemory>
+    requires chains { AreChainEnds message.now.bytes.now message.now.chain_ends.now }
     requires base { message.now.base ≤ 2 }
     requires short { length message.now.bytes.now < 2 ^ 32 }
     requires place { at < 2 ^ 33 }
@@ -74,6 +77,7 @@ pub(crate) fn push_record(
     message: &Message,
     at: usize,
 ) -> Result<Option<usize>, NoMemory>
+    requires chains { AreChainEnds message.now.bytes.now message.now.chain_ends.now }
     requires base { message.now.base ≤ 2 }
     requires short { length message.now.bytes.now < 2 ^ 32 }
     requires place { at < 2 ^ 33 }
@@ -91,6 +95,7 @@ pub(crate) fn push_record(
 /// Adds the steps of what follows a record's name, and answers where the next record is.
 #[tactic(auto, unfolding(crate::specs::Records::record_tail))]
 fn push_record_tail(steps: &mut Vec<Step>, message: &Message, at: usize) -> Result<usize, NoMemory>
+    requires chains { AreChainEnds message.now.bytes.now message.now.chain_ends.now }
     requires base { message.now.base ≤ 2 }
     requires short { length message.now.bytes.now < 2 ^ 32 }
     requires place { at ≤ length message.now.bytes.now }
@@ -125,6 +130,7 @@ fn push_data(
     at: usize,
     len: usize,
 ) -> Result<(), NoMemory>
+    requires chains { AreChainEnds message.now.bytes.now message.now.chain_ends.now }
     requires base { message.now.base ≤ 2 }
     requires short { length message.now.bytes.now < 2 ^ 32 }
     requires place { at < 2 ^ 33 }
@@ -154,6 +160,7 @@ fn push_name_data(
     at: usize,
     len: usize,
 ) -> Result<(), NoMemory>
+    requires chains { AreChainEnds message.now.bytes.now message.now.chain_ends.now }
     requires base { message.now.base ≤ 2 }
     requires short { length message.now.bytes.now < 2 ^ 32 }
     requires place { at < 2 ^ 33 }
@@ -173,6 +180,7 @@ fn push_mail(
     at: usize,
     end: usize,
 ) -> Result<(), NoMemory>
+    requires chains { AreChainEnds message.now.bytes.now message.now.chain_ends.now }
     requires base { message.now.base ≤ 2 }
     requires short { length message.now.bytes.now < 2 ^ 32 }
     requires place { at < 2 ^ 33 }
@@ -192,6 +200,7 @@ fn push_zone(
     at: usize,
     end: usize,
 ) -> Result<(), NoMemory>
+    requires chains { AreChainEnds message.now.bytes.now message.now.chain_ends.now }
     requires base { message.now.base ≤ 2 }
     requires short { length message.now.bytes.now < 2 ^ 32 }
     requires place { at < 2 ^ 33 }
@@ -311,6 +320,7 @@ fn push_name(
     end: usize,
     place: usize,
 ) -> Result<Option<usize>, NoMemory>
+    requires chains { AreChainEnds message.now.bytes.now message.now.chain_ends.now }
     requires base { message.now.base ≤ 2 }
     requires end { end ≤ length message.now.bytes.now }
     requires place { place < 2 ^ 34 }
@@ -318,7 +328,7 @@ fn push_name(
     ensures bound { IfOk result (λ next. IfSome next (λ after. after ≤ length message.now.bytes.now)) }
 {
     let mut text = Vec::with_capacity(message.alloc, NAME_LIMIT)?;
-    match read_name(message.bytes, end, place, &mut text)? {
+    match read_name(message.bytes, message.chain_ends, end, place, &mut text)? {
         NameEnd::Name(after) => {
             let value = Value::Text(shown_name(message.alloc, text)?);
             steps.push(Step::Derived(field, value, message.base + place, after - place))?;
