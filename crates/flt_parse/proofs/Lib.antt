@@ -1,0 +1,14 @@
+mod Examples
+pub mod Complete
+pub mod Faults
+pub mod Inside
+pub mod Lexing
+pub mod Moves
+pub mod Numbers
+pub mod Parsed
+pub mod Printed
+pub mod Stacks
+pub mod Steady
+pub mod Stops
+pub mod Ways
+pub mod Words

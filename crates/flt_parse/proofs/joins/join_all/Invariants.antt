@@ -1,0 +1,11 @@
+use Rattle.std.proofs.Common.{◌≡◌, vec_len}
+use Rattle.flt_parse.specs.Reading as reading
+use Rattle.flt_parse.specs.States.{left_of, reversed}
+use Rattle.flt_parse.specs.Written.{written}
+use Rattle.flt_parse.proofs.joins.join_all.Given as goal
+
+abbrev pub invariant-lefts : goal.invariant-lefts
+invariant-lefts l = reading.joined (reversed left_of l.fn.lefts.items) (written l.fn.filter) ≡ reading.joined (reversed left_of l.rest.items) (written l.all)
+
+abbrev pub decreases-lefts : goal.decreases-lefts
+decreases-lefts l = vec_len l.rest

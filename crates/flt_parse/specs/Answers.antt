@@ -1,0 +1,48 @@
+-- What the parser answers, beside the reading.
+use Rattle.std.specs.Prelude.{◌≡◌, ℕ, Bool, true, false, List, Option, Some, None}
+use Rattle.flt_parse.specs.Filters.{IsTokenFault, place_of}
+use Rattle.flt_parse.specs.Reading as reading
+use Rattle.flt_parse.specs.Written.{WrittenOperand}
+use Rattle.flt_parse.specs.declared.fault.FilterError.{FilterError}
+use Rattle.flt_parse.specs.declared.fault.FilterError.TheVariants as errors
+use Rattle.flt_parse.specs.declared.fault.FilterReason.TheVariants.{Unexpected}
+use Rattle.flt_parse.specs.declared.state.Refusal.{Refusal}
+use Rattle.flt_parse.specs.declared.state.Refusal.TheVariants.{Fault, NoMemory}
+use Rattle.flt_parse.specs.declared.token.Kind.{Kind}
+use Rattle.flt_parse.specs.declared.token.Kind.TheVariants as kinds
+use Rattle.flt_parse.specs.declared.token.Token.{Token}
+
+-- an operand that goes on, or a token that doesn't go on with it
+abbrev pub further : Option reading.Spot → reading.Side → List reading.Call → reading.Frame → List reading.Frame → reading.Move
+further (Some s) side calls f around = reading.Go (reading.InOperand s side calls f around)
+further None side calls f around = reading.Stop Unexpected
+
+-- the tokens that go on with an operand that is whole
+abbrev pub goes_on : Kind → Bool
+goes_on kinds.Hash = true
+goes_on (kinds.OpenRanges at next) = true
+goes_on (kinds.Mask at) = true
+goes_on kind = false
+
+-- the operand that is whole, as far as it is read
+abbrev pub operand_read : reading.Spot → Option WrittenOperand
+operand_read (reading.OperandRead o) = Some o
+operand_read spot = None
+
+-- the tokens read from a state on
+abbrev pub tokens_read : ℕ → reading.State → List Token → reading.Answer Token
+tokens_read limit s ts = reading.read (λ t. t.kind) limit s ts
+
+-- a refusal at a place
+abbrev pub refused : Refusal → ℕ → FilterError
+refused (Fault r) at = errors.Fault (record { at = at; reason = r })
+refused NoMemory at = errors.NoMemory
+
+-- why no filter is read, where memory allows: the fault stands at the place of the first token that is left
+abbrev pub IsReadError : ℕ → reading.Answer Token → FilterError → Type 0
+IsReadError end answer (errors.Fault fault) = (rest : List Token) × (answer ≡ reading.Bad fault.reason rest) × (fault.at ≡ place_of rest end)
+IsReadError end answer errors.NoMemory = Unit {0}
+
+abbrev pub IsParseError : ℕ → List Token → FilterError → Type 0
+IsParseError end tokens (errors.Fault fault) = IsTokenFault end tokens fault
+IsParseError end tokens errors.NoMemory = Unit {0}

@@ -1,0 +1,17 @@
+-- What holds of every text.
+use Rattle.std.specs.Prelude.{◌≡◌, ℕ, List}
+use Rattle.flt_parse.specs.Filters.{IsFilterText, IsFirstFault}
+use Rattle.flt_parse.specs.Written.{Written}
+use Rattle.flt_parse.specs.declared.fault.FilterFault.{FilterFault}
+
+-- no text is a filter and has a fault
+abbrev pub NeverBoth : Type 0
+NeverBoth = (text : List ℕ) (filter : Written) (fault : FilterFault) → IsFilterText text filter → IsFirstFault text fault → ⊥
+
+-- a text has at most one first fault
+abbrev pub OneFault : Type 0
+OneFault = (text : List ℕ) (f g : FilterFault) → IsFirstFault text f → IsFirstFault text g → f ≡ g
+
+-- a text is at most one filter
+abbrev pub OneFilter : Type 0
+OneFilter = (text : List ℕ) (t u : Written) → IsFilterText text t → IsFilterText text u → t ≡ u

@@ -1,0 +1,10 @@
+pub mod Answers
+pub mod Filters
+pub mod Grammar
+pub mod Laws
+pub mod Letters
+pub mod Reading
+pub mod States
+pub mod Strings
+pub mod Tokens
+pub mod Written

@@ -1,0 +1,91 @@
+-- The parser's state as the reading's, without the places in memory of its parts.
+use Rattle.std.specs.Prelude.{◌≡◌, List, [], ◌∷◌, ◌++◌, Option, Some, None, Result, Ok, Err}
+use Rattle.flt_parse.specs.Reading as reading
+use Rattle.flt_parse.specs.Written.{Written, WrittenTail, operand_of, tail_of, written}
+use Rattle.flt_parse.specs.declared.ast.Ast.{Ast}
+use Rattle.flt_parse.specs.declared.fault.FilterReason.TheVariants.{Unexpected}
+use Rattle.flt_parse.specs.declared.state.Call.{Call}
+use Rattle.flt_parse.specs.declared.state.Frame.{Frame}
+use Rattle.flt_parse.specs.declared.state.Left.{Left}
+use Rattle.flt_parse.specs.declared.state.Refusal.{Refusal}
+use Rattle.flt_parse.specs.declared.state.Refusal.TheVariants.{Fault, NoMemory}
+use Rattle.flt_parse.specs.declared.state.Side.{Side}
+use Rattle.flt_parse.specs.declared.state.Side.TheVariants.{OnLeft, OnRight}
+use Rattle.flt_parse.specs.declared.state.Spot.{Spot}
+use Rattle.flt_parse.specs.declared.state.Spot.TheVariants.{Wanted, Read, LayersWanted, InLayers, InRanges, MaskWanted}
+use Rattle.flt_parse.specs.declared.state.State.{State}
+use Rattle.flt_parse.specs.declared.state.State.TheVariants.{Want, Have, InOperand, InTail}
+use Rattle.flt_parse.specs.declared.state.TailMove.{TailMove}
+use Rattle.flt_parse.specs.declared.state.TailMove.TheVariants.{Further, Done, Wrong}
+use Rattle.flt_parse.specs.declared.state.TailSpot.{TailSpot}
+use Rattle.flt_parse.specs.declared.state.TailSpot.TheVariants.{InWanted, SetWanted, InSet, PatternWanted}
+
+-- a list whose last is the first
+abbrev pub reversed : {A B : Type 0} → (A → B) → List A → List B
+reversed f [] = []
+reversed f (x ∷ xs) = reversed f xs ++ f x ∷ []
+
+abbrev pub left_of : Left → reading.Left
+left_of l = reading.LeftOf (written l.filter) l.join
+
+abbrev pub frame_of : Frame → reading.Frame
+frame_of f = record { lefts = reversed left_of f.lefts.items; nots = reversed (λ n. n) f.nots.items }
+
+abbrev pub around_of : List Frame → List reading.Frame
+around_of fs = reversed frame_of fs
+
+abbrev pub call_of : Call → reading.Call
+call_of c = record { function = c.function; at = c.at }
+
+abbrev pub calls_of : List Call → List reading.Call
+calls_of cs = reversed call_of cs
+
+abbrev pub side_of : Side → reading.Side
+side_of (OnLeft c) = reading.OnLeft c
+side_of (OnRight c l operator at) = reading.OnRight c (operand_of l) operator at
+
+abbrev pub spot_of : Spot → reading.Spot
+spot_of Wanted = reading.OperandWanted
+spot_of (Read o) = reading.OperandRead (operand_of o)
+spot_of (LayersWanted w) = reading.LayersWanted w
+spot_of (InLayers w done at spot) = reading.InLayers w done.items at spot
+spot_of (InRanges o bracket done at spot) = reading.InRanges (operand_of o) bracket done.items at spot
+spot_of (MaskWanted o at) = reading.MaskWanted (operand_of o) at
+
+abbrev pub tail_spot_of : TailSpot → reading.TailSpot
+tail_spot_of InWanted = reading.InWanted
+tail_spot_of (SetWanted n) = reading.SetWanted n
+tail_spot_of (InSet n done spot) = reading.InSet n done.items spot
+tail_spot_of (PatternWanted at) = reading.PatternWanted at
+
+abbrev pub state_of : State → reading.State
+state_of (Want open') = reading.Want (frame_of open'.frame) (around_of open'.around.items)
+state_of (Have lefts t around) = reading.Have (reversed left_of lefts.items) (written t) (around_of around.items)
+state_of (InOperand spot side calls open') = reading.InOperand (spot_of spot) (side_of side) (calls_of calls.items) (frame_of open'.frame) (around_of open'.around.items)
+state_of (InTail spot c o open') = reading.InTail (tail_spot_of spot) c (operand_of o) (frame_of open'.frame) (around_of open'.around.items)
+
+-- what a step of the parser answers, where memory allows
+abbrev pub IsMove : reading.Move → Result State Refusal → Type 0
+IsMove m (Ok s) = m ≡ reading.Go (state_of s)
+IsMove m (Err (Fault r)) = m ≡ reading.Stop r
+IsMove m (Err NoMemory) = Unit {0}
+
+abbrev pub IsSpot : Option reading.Spot → Result (Option Spot) Refusal → Type 0
+IsSpot next (Ok (Some s)) = next ≡ Some (spot_of s)
+IsSpot next (Ok None) = next ≡ None
+IsSpot next (Err (Fault r)) = ⊥
+IsSpot next (Err NoMemory) = Unit {0}
+
+-- what follows a left operand, where memory allows: further on, the whole of it, or neither
+abbrev pub IsTailMove : Option reading.TailSpot → Option WrittenTail → Result TailMove Refusal → Type 0
+IsTailMove next last (Ok (Further s)) = next ≡ Some (tail_spot_of s)
+IsTailMove next last (Ok (Done t)) = (next ≡ None) × (last ≡ Some (tail_of t))
+IsTailMove next last (Ok Wrong) = (next ≡ None) × (last ≡ None)
+IsTailMove next last (Err (Fault r)) = ⊥
+IsTailMove next last (Err NoMemory) = Unit {0}
+
+-- a filter that is read, where memory allows
+abbrev pub IsWhole : Option Written → Result Ast Refusal → Type 0
+IsWhole t (Ok filter) = t ≡ Some (written filter)
+IsWhole t (Err (Fault r)) = (t ≡ None) × (r ≡ Unexpected)
+IsWhole t (Err NoMemory) = Unit {0}

@@ -1,0 +1,161 @@
+// The syntax tree of a filter's text. Every `u32` named or described as a place is that of a byte in the text.
+
+use crate::word::{Quote, Word};
+
+/// How a negation is written.
+#[derive(Clone, Copy, Debug, PartialEq, Eq)]
+pub enum Negation {
+    /// `!`
+    Sign,
+    /// `not`
+    Word,
+}
+
+/// The word before a test that says over which pairs of values it asks.
+#[derive(Clone, Copy, Debug, PartialEq, Eq)]
+pub enum Choice {
+    /// `any`
+    Any,
+    /// `all`
+    All,
+}
+
+/// What stands between two operands.
+#[derive(Clone, Copy, Debug, PartialEq, Eq)]
+pub enum Operator {
+    /// `==`, `eq`
+    Equal,
+    /// `!=`, `ne`
+    Unequal,
+    /// `any_eq`
+    AnyEqual,
+    /// `all_ne`
+    AllUnequal,
+    /// `===`, `all_eq`
+    AllEqual,
+    /// `!==`, `any_ne`
+    AnyUnequal,
+    /// `>`, `gt`
+    Greater,
+    /// `<`, `lt`
+    Less,
+    /// `>=`, `ge`
+    AtLeast,
+    /// `<=`, `le`
+    AtMost,
+    /// `contains`
+    Contains,
+}
+
+#[derive(Clone, Copy, Debug, PartialEq, Eq)]
+pub enum Function {
+    /// `len`
+    Len,
+    /// `count`
+    Count,
+    /// `upper`
+    Upper,
+    /// `lower`
+    Lower,
+}
+
+/// The number behind `#`: its place, and the layer that it chooses, counted from 1.
+#[derive(Clone, Copy, Debug, PartialEq, Eq)]
+pub struct Layer {
+    pub at: u32,
+    pub nth: u32,
+}
+
+/// A range of layers in `#[..]`: the place of its first token, its first layer, and its last, if one is written.
+#[derive(Clone, Copy, Debug, PartialEq, Eq)]
+pub struct LayerRange {
+    pub at: u32,
+    pub first: u32,
+    pub last: Option<u32>,
+}
+
+/// A place in a value's bytes: counted from 0, or from the end, where 1 is the last byte and 0 is written `-0`.
+#[derive(Clone, Copy, Debug, PartialEq, Eq)]
+pub struct Place {
+    pub from_end: bool,
+    pub offset: u32,
+}
+
+/// The bytes of a value that a range takes.
+#[derive(Clone, Copy, Debug, PartialEq, Eq)]
+pub enum RangePart {
+    /// `i`: one byte.
+    One(Place),
+    /// `i:n`: n bytes from i.
+    Counted(Place, u32),
+    /// `i-j`: from i up to and with j.
+    Between(Place, Place),
+    /// `:n`: the first n bytes.
+    Front(u32),
+    /// `i:`: from i to the end.
+    ToEnd(Place),
+}
+
+/// A range of a slice: the place of its first token, and what it takes.
+#[derive(Clone, Copy, Debug, PartialEq, Eq)]
+pub struct SliceRange {
+    pub at: u32,
+    pub part: RangePart,
+}
+
+#[derive(Drop)]
+pub enum Operand {
+    /// A string.
+    Text(Quote),
+    /// A word.
+    Named(Word),
+    /// A word and `#` with a number.
+    OnLayer(Word, Layer),
+    /// A word and `#[..]` with at least one range.
+    OnLayers(Word, Vec<LayerRange>),
+    /// What is sliced, which is a word, with layers or without, or a function's call; the place of the `[`; and at
+    /// least one range.
+    Sliced(Box<Operand>, u32, Vec<SliceRange>),
+    /// What is masked, which is no mask; the place of the `&`; and the mask's word.
+    Masked(Box<Operand>, u32, Word),
+    /// A function, its place, and its argument.
+    Called(Function, u32, Box<Operand>),
+}
+
+/// A word or a string in a set.
+#[derive(Drop)]
+pub enum Literal {
+    Bare(Word),
+    Text(Quote),
+}
+
+#[derive(Drop)]
+pub enum Element {
+    One(Literal),
+    /// From the first up to and with the second.
+    Between(Literal, Literal),
+}
+
+/// What a test asks of its left operand.
+#[derive(Drop)]
+pub enum Tail {
+    /// An operator, its place, and the right operand.
+    Compare(Operator, u32, Operand),
+    /// `in`, or `not in` where the truth is set; and at least one element.
+    In(bool, Vec<Element>),
+    /// The place of `matches` or `~`, and the pattern.
+    Matches(u32, Quote),
+}
+
+/// A filter as it is written. `or` and `and` bind to the left.
+#[derive(Drop)]
+pub enum Ast {
+    Or(Box<Ast>, Box<Ast>),
+    And(Box<Ast>, Box<Ast>),
+    Not(Negation, Box<Ast>),
+    /// What stands in parentheses.
+    Group(Box<Ast>),
+    /// An operand that is a test by itself.
+    Alone(Operand),
+    Test(Option<Choice>, Operand, Tail),
+}

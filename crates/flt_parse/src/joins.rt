@@ -1,0 +1,207 @@
+// Filters joined by signs, negated, and put in parentheses.
+ghost use Rattle.std.specs.Prelude.{◌≡◌, ◌+◌, ℕ, Some, List, [], ◌∷◌, nat_lt, IfOk};
+ghost use Rattle.flt_parse.specs.Filters.{most_open};
+ghost use Rattle.flt_parse.specs.Grammar.{binds as binding};
+ghost use Rattle.flt_parse.specs.Reading as reading;
+ghost use Rattle.flt_parse.specs.States.{IsMove, around_of, frame_of, left_of, reversed};
+ghost use Rattle.flt_parse.specs.Written.{JoinedOf, written};
+
+use crate::ast::{Ast, Negation};
+use crate::fault::FilterReason;
+use crate::state::{Frame, Left, Open, Refusal, State};
+use crate::token::{Join, Kind};
+use pk_base::{FILTER_DEPTH_LIMIT, NoMemory};
+use std::alloc::Global;
+
+/// How strongly a sign binds. A sign that is to bind between two others takes a number between theirs.
+fn binds(join: Join) -> u32
+    ensures { result ≡ binding join }
+{
+    match join {
+        Join::Or => 10,
+        Join::And => 30,
+    }
+}
+
+/// A filter that waited, joined with what stands to the right of its sign.
+fn join_left(alloc: Global, left: Left, right: Ast) -> Result<Ast, NoMemory>
+    ensures { IfOk result (λ t. written t ≡ JoinedOf left.join (written left.filter) (written right)) }
+{
+    let l = Box::new(alloc, left.filter)?;
+    let r = Box::new(alloc, right)?;
+    match left.join {
+        Join::Or => Ok(Ast::Or(l, r)),
+        Join::And => Ok(Ast::And(l, r)),
+    }
+}
+
+/// All that waits, joined.
+#[tactic(auto, using(crate::proofs::Stacks::reversed_push))]
+pub fn join_all(alloc: Global, lefts: Vec<Left>, filter: Ast) -> Result<Ast, NoMemory>
+    ensures { IfOk result (λ t. written t ≡ reading.joined (reversed left_of lefts.items) (written filter)) }
+{
+    let mut rest = lefts;
+    let mut all = filter;
+    'lefts: while let Some(left) = rest.pop() {
+        all = join_left(alloc, left, all)?;
+    }
+    Ok(all)
+}
+
+/// What waits behind a sign: what binds at least as tightly before it is joined.
+#[tactic(auto, using(crate::proofs::Stacks::reversed_push, crate::proofs::Stacks::settle_looser, crate::proofs::Stacks::settle_tighter))]
+pub fn settle(
+    alloc: Global,
+    join: Join,
+    lefts: Vec<Left>,
+    filter: Ast,
+) -> Result<Vec<Left>, NoMemory>
+    ensures { IfOk result (λ v. reversed left_of v.items ≡ reading.settle join (reversed left_of lefts.items) (written filter)) }
+{
+    let mut rest = lefts;
+    let mut all = filter;
+    'lefts: while let Some(left) = rest.pop() {
+        if binds(left.join) < binds(join) {
+            rest.push(left)?;
+            rest.push(Left { filter: all, join })?;
+            return Ok(rest);
+        }
+        all = join_left(alloc, left, all)?;
+    }
+    rest.push(Left { filter: all, join })?;
+    Ok(rest)
+}
+
+/// A filter behind its negations.
+#[tactic(auto, using(crate::proofs::Stacks::reversed_push))]
+pub fn negate(alloc: Global, nots: Vec<Negation>, filter: Ast) -> Result<Ast, NoMemory>
+    ensures { IfOk result (λ t. written t ≡ reading.negated (reversed (λ n. n) nots.items) (written filter)) }
+{
+    let mut rest = nots;
+    let mut all = filter;
+    'nots: while let Some(negation) = rest.pop() {
+        all = Ast::Not(negation, Box::new(alloc, all)?);
+    }
+    Ok(all)
+}
+
+/// Behind a filter in parentheses, or in none.
+pub fn have(alloc: Global, inside: Open, filter: Ast) -> Result<State, Refusal>
+    ensures { IsMove (reading.Go (reading.have (frame_of inside.frame) (around_of inside.around.items) (written filter))) result }
+{
+    let Open { frame, around } = inside;
+    let Frame { lefts, nots } = frame;
+    let all = negate(alloc, nots, filter)?;
+    Ok(State::Have(lefts, all, around))
+}
+
+/// At `)` behind all that it ends.
+#[tactic(auto, using(crate::proofs::Stacks::reversed_push))]
+fn close(alloc: Global, filter: Ast, around: Vec<Frame>) -> Result<State, Refusal>
+    ensures { IsMove (reading.closing (written filter) (around_of around.items)) result }
+{
+    let mut outer = around;
+    match outer.pop() {
+        Some(frame) => {
+            let group = Ast::Group(Box::new(alloc, filter)?);
+            have(
+                alloc,
+                Open {
+                    frame,
+                    around: outer,
+                },
+                group,
+            )
+        }
+        None => unexpected(),
+    }
+}
+
+/// At a token behind a filter.
+pub fn behind(
+    alloc: Global,
+    lefts: Vec<Left>,
+    filter: Ast,
+    around: Vec<Frame>,
+    kind: Kind,
+) -> Result<State, Refusal>
+    ensures { IsMove (reading.behind (reversed left_of lefts.items) (written filter) (around_of around.items) kind) result }
+{
+    match kind {
+        Kind::Joins(join) => join_at(alloc, join, lefts, filter, around),
+        Kind::Close => close_all(alloc, lefts, filter, around),
+        _ => unexpected(),
+    }
+}
+
+fn join_at(
+    alloc: Global,
+    join: Join,
+    lefts: Vec<Left>,
+    filter: Ast,
+    around: Vec<Frame>,
+) -> Result<State, Refusal>
+    ensures { IsMove (reading.behind (reversed left_of lefts.items) (written filter) (around_of around.items) (Kind.Joins join)) result }
+{
+    let lefts = settle(alloc, join, lefts, filter)?;
+    let frame = Frame {
+        lefts,
+        nots: Vec::new(alloc),
+    };
+    Ok(State::Want(Open { frame, around }))
+}
+
+fn close_all(
+    alloc: Global,
+    lefts: Vec<Left>,
+    filter: Ast,
+    around: Vec<Frame>,
+) -> Result<State, Refusal>
+    ensures { IsMove (reading.behind (reversed left_of lefts.items) (written filter) (around_of around.items) Kind.Close) result }
+{
+    let all = join_all(alloc, lefts, filter)?;
+    close(alloc, all, around)
+}
+
+/// At a token behind a test.
+pub fn behind_test(alloc: Global, inside: Open, test: Ast, kind: Kind) -> Result<State, Refusal>
+    ensures { IsMove (reading.behind (reversed left_of inside.frame.lefts.items) (reading.negated (reversed (λ n. n) inside.frame.nots.items) (written test)) (around_of inside.around.items) kind) result }
+{
+    let Open { frame, around } = inside;
+    let Frame { lefts, nots } = frame;
+    let all = negate(alloc, nots, test)?;
+    behind(alloc, lefts, all, around, kind)
+}
+
+pub fn unexpected() -> Result<State, Refusal>
+    ensures { IsMove (reading.Stop FilterReason.Unexpected) result }
+{
+    Err(Refusal::Fault(FilterReason::Unexpected))
+}
+
+/// Whether one more may be open.
+#[tactic(auto, unfolding(crate::specs::Filters::most_open), using(crate::proofs::Stacks::room_within, crate::proofs::Stacks::room_beyond))]
+pub fn has_room(calls: usize, inside: &Open) -> bool
+    ensures { result ≡ nat_lt (calls + reading.open_at (frame_of inside.now.frame) (around_of inside.now.around.items)) most_open }
+{
+    let used = calls.saturating_add(inside.frame.nots.len());
+    if used > FILTER_DEPTH_LIMIT {
+        return false;
+    }
+    has_room_around(&inside.around, FILTER_DEPTH_LIMIT - used)
+}
+
+#[tactic(auto, using(crate::proofs::Stacks::frame_within, crate::proofs::Stacks::frame_beyond))]
+fn has_room_around(around: &[Frame], room: usize) -> bool
+    ensures { result ≡ nat_lt (reading.open_around (around_of around.now)) room }
+{
+    match around {
+        [] => room > 0,
+        [frame, rest @ ..] => {
+            if frame.nots.len() >= room {
+                return false;
+            }
+            has_room_around(rest, room - frame.nots.len() - 1)
+        }
+    }
+}

@@ -1,0 +1,18 @@
+// What holds of every text, stated on functions that do nothing.
+ghost use Rattle.flt_parse.specs.Laws.{NeverBoth, OneFault, OneFilter};
+
+/// No text is a filter and has a fault.
+pub fn filters_have_no_fault()
+    ensures { NeverBoth }
+{}
+
+/// A text has at most one first fault.
+#[tactic(auto, using(crate::proofs::Faults::one_fault))]
+pub fn faults_are_unique()
+    ensures { OneFault }
+{}
+
+/// A text is at most one filter.
+pub fn filters_are_unique()
+    ensures { OneFilter }
+{}

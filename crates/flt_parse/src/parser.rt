@@ -1,0 +1,89 @@
+// A filter's text to its tree.
+ghost use Rattle.std.specs.Prelude.{◌≡◌, ◌≤◌, IfOk, IfErr, length};
+ghost use Rattle.flt_parse.specs.Filters.{IsFilterText, IsRefusal, kinds_of, most_bytes, most_open};
+ghost use Rattle.flt_parse.specs.Grammar.{IsFilter};
+ghost use Rattle.flt_parse.specs.Reading as reading;
+ghost use Rattle.flt_parse.specs.Answers.{IsParseError, IsReadError, refused as refused_as, tokens_read};
+ghost use Rattle.flt_parse.specs.States.{state_of};
+ghost use Rattle.flt_parse.specs.Written.{written};
+
+use crate::ast::Ast;
+use crate::fault::{FilterError, FilterFault, FilterReason};
+use crate::lexer::tokens_in;
+use crate::state::{Frame, Open, Refusal, State};
+use crate::steps::{finish, step};
+use crate::token::Token;
+use pk_base::FILTER_LIMIT;
+use std::alloc::Global;
+use std::collections::VecDeque;
+
+/// Reads the text of a filter. The answer is its tree, or its first fault: that it has more than 4,096 bytes; else the
+/// first byte that begins no token, or string that doesn't end or has another escape; else the first token that no
+/// filter has there, or that opens the 65th parenthesis, negation or call.
+#[tactic(auto, using(crate::proofs::Parsed::of_lexical, crate::proofs::Parsed::of_syntax, crate::proofs::Parsed::of_length, crate::proofs::Parsed::of_filter), unfolding(crate::specs::Filters::most_bytes))]
+pub fn parse(alloc: Global, text: &str) -> Result<Ast, FilterError>
+    ensures ok { IfOk result (λ ast. IsFilterText text.now (written ast)) }
+    ensures err { IfErr result (IsRefusal text.now) }
+{
+    if text.len() > FILTER_LIMIT {
+        return Err(FilterError::Fault(FilterFault {
+            at: FILTER_LIMIT as u32,
+            reason: FilterReason::TooLong,
+        }));
+    }
+    match tokens_in(alloc, text) {
+        Ok(tokens) => parse_tokens(alloc, tokens, text.len() as u32),
+        Err(error) => Err(error),
+    }
+}
+
+/// Reads the tokens of a text of some length.
+#[tactic(auto, using(crate::proofs::Parsed::filter_read, crate::proofs::Parsed::error_read))]
+fn parse_tokens(alloc: Global, tokens: VecDeque<Token>, end: u32) -> Result<Ast, FilterError>
+    ensures ok { IfOk result (λ ast. IsFilter most_open (kinds_of tokens.items) (written ast)) }
+    ensures err { IfErr result (IsParseError end tokens.items) }
+{
+    read_tokens(alloc, tokens, end)
+}
+
+#[tactic(auto, using(crate::proofs::Parsed::read_on, crate::proofs::Parsed::read_stop, crate::proofs::Parsed::read_whole, crate::proofs::Parsed::read_cut))]
+fn read_tokens(alloc: Global, tokens: VecDeque<Token>, end: u32) -> Result<Ast, FilterError>
+    ensures ok { IfOk result (λ ast. tokens_read most_open reading.start tokens.items ≡ reading.Whole (written ast)) }
+    ensures err { IfErr result (IsReadError end (tokens_read most_open reading.start tokens.items)) }
+{
+    let mut rest = tokens;
+    let mut state = start(alloc);
+    'tokens: while let Some(token) = rest.pop_front() {
+        let at = token.at;
+        state = match step(alloc, state, token.kind) {
+            Ok(next) => next,
+            Err(refusal) => return Err(refused(refusal, at)),
+        };
+    }
+    match finish(alloc, state) {
+        Ok(ast) => Ok(ast),
+        Err(refusal) => Err(refused(refusal, end)),
+    }
+}
+
+fn start(alloc: Global) -> State
+    ensures { state_of result ≡ reading.start }
+{
+    let frame = Frame {
+        lefts: Vec::new(alloc),
+        nots: Vec::new(alloc),
+    };
+    State::Want(Open {
+        frame,
+        around: Vec::new(alloc),
+    })
+}
+
+fn refused(refusal: Refusal, at: u32) -> FilterError
+    ensures { result ≡ refused_as refusal at }
+{
+    match refusal {
+        Refusal::Fault(reason) => FilterError::Fault(FilterFault { at, reason }),
+        Refusal::NoMemory => FilterError::NoMemory,
+    }
+}

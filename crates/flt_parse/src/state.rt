@@ -1,0 +1,156 @@
+// How far a filter is read: the state of the parser between two tokens.
+
+use crate::ast::{
+    Ast, Choice, Element, Function, LayerRange, Literal, Negation, Operand, Operator, Place,
+    RangePart, SliceRange, Tail,
+};
+use crate::fault::FilterReason;
+use crate::token::Join;
+use crate::word::Word;
+use pk_base::NoMemory;
+use std::alloc::{AllocError, AllocFailed};
+
+/// How far a range of layers is read.
+#[derive(Clone, Copy, Debug, PartialEq, Eq)]
+pub enum LayerSpot {
+    LayerWanted,
+    FirstRead(u32),
+    LastWanted(u32),
+    LastRead(u32, u32),
+}
+
+/// How far a range of bytes is read.
+#[derive(Clone, Copy, Debug, PartialEq, Eq)]
+pub enum RangeSpot {
+    RangeWanted,
+    DigitsWanted,
+    PlaceRead(Place),
+    ColonRead(Place),
+    EndWanted(Place),
+    EndDigitsWanted(Place),
+    CountWanted,
+    PartRead(RangePart),
+}
+
+/// How far an element of a set is read.
+#[derive(Drop)]
+pub enum ElementSpot {
+    ElementWanted,
+    LiteralRead(Literal),
+    SecondWanted(Literal),
+    SecondRead(Literal, Literal),
+}
+
+/// How far an operand is read. A list holds the ranges before the one that is read, whose place stands behind it.
+#[derive(Drop)]
+pub enum Spot {
+    Wanted,
+    Read(Operand),
+    LayersWanted(Word),
+    InLayers(Word, Vec<LayerRange>, u32, LayerSpot),
+    InRanges(Operand, u32, Vec<SliceRange>, u32, RangeSpot),
+    MaskWanted(Operand, u32),
+}
+
+/// How far what follows the left operand is read.
+#[derive(Drop)]
+pub enum TailSpot {
+    InWanted,
+    SetWanted(bool),
+    InSet(bool, Vec<Element>, ElementSpot),
+    PatternWanted(u32),
+}
+
+/// What a token behind the left operand does: it goes on, ends the test, or does neither.
+#[derive(Drop)]
+pub enum TailMove {
+    Further(TailSpot),
+    Done(Tail),
+    Wrong,
+}
+
+/// Which operand of a test is read; behind an operator, what stands to the left of it.
+#[derive(Drop)]
+pub enum Side {
+    OnLeft(Option<Choice>),
+    OnRight(Option<Choice>, Operand, Operator, u32),
+}
+
+/// A function whose `)` isn't read.
+#[derive(Clone, Copy, Debug, PartialEq, Eq)]
+pub struct Call {
+    pub function: Function,
+    pub at: u32,
+}
+
+/// A filter that waits for what stands to the right of its sign.
+#[derive(Drop)]
+pub struct Left {
+    pub filter: Ast,
+    pub join: Join,
+}
+
+/// What is open in one pair of parentheses: the filters that wait, and the negations before what is read.
+#[derive(Drop)]
+pub struct Frame {
+    pub lefts: Vec<Left>,
+    pub nots: Vec<Negation>,
+}
+
+/// The innermost parentheses, and those around them.
+#[derive(Drop)]
+pub struct Open {
+    pub frame: Frame,
+    pub around: Vec<Frame>,
+}
+
+/// How far a filter is read.
+#[derive(Drop)]
+pub enum State {
+    /// Where a filter begins.
+    Want(Open),
+    /// Behind a filter, before which others wait.
+    Have(Vec<Left>, Ast, Vec<Frame>),
+    InOperand(Spot, Side, Vec<Call>, Open),
+    InTail(TailSpot, Option<Choice>, Operand, Open),
+}
+
+/// Why a token isn't read.
+#[derive(Clone, Copy, Debug, PartialEq, Eq)]
+pub enum Refusal {
+    Fault(FilterReason),
+    NoMemory,
+}
+
+impl From<NoMemory> for Refusal {
+    ghost use Rattle.std.specs.Prelude.{◌≡◌};
+    ghost use Rattle.flt_parse.specs.declared.state.Refusal.TheVariants as refusals;
+
+    ghost from_gives = { λ _ e. e ≡ refusals.NoMemory };
+
+    fn from(_error: NoMemory) -> Refusal {
+        Refusal::NoMemory
+    }
+}
+
+impl From<AllocError> for Refusal {
+    ghost use Rattle.std.specs.Prelude.{◌≡◌};
+    ghost use Rattle.flt_parse.specs.declared.state.Refusal.TheVariants as refusals;
+
+    ghost from_gives = { λ _ e. e ≡ refusals.NoMemory };
+
+    fn from(_error: AllocError) -> Refusal {
+        Refusal::NoMemory
+    }
+}
+
+impl<T: Drop> From<AllocFailed<T>> for Refusal {
+    ghost use Rattle.std.specs.Prelude.{◌≡◌};
+    ghost use Rattle.flt_parse.specs.declared.state.Refusal.TheVariants as refusals;
+
+    ghost from_gives = { λ _ e. e ≡ refusals.NoMemory };
+
+    fn from(_error: AllocFailed<T>) -> Refusal {
+        Refusal::NoMemory
+    }
+}
