@@ -1,4 +1,5 @@
 mod Behind
 mod Chains
 pub mod NoRules
+mod Opens
 mod Taken

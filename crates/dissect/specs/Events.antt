@@ -1,5 +1,5 @@
--- What of a frame can bear on how later frames are read: its fragments, and its packets of conversations. So far no frame
--- is read by the frames before it but for the times.
+-- What of a frame can bear on how later frames are read: its fragments, and its packets of conversations. So far only those of
+-- UDP do.
 use Rattle.std.specs.Prelude.{ℕ, List}
 use Rattle.pk_tree.specs.declared.heads.FragmentHead.{FragmentHead}
 use Rattle.pk_tree.specs.declared.heads.PacketHead.{PacketHead}

@@ -1,3 +1,5 @@
+pub mod Applications
+pub mod Conversations
 pub mod DataLayer
 pub mod DecodeRules
 pub mod Events

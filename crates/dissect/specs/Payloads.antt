@@ -1,7 +1,7 @@
 -- What a UDP or TCP header carries, as items of the header's own layer, behind those that the header is read by.
 use Rattle.std.specs.Prelude.{◌≡◌, ◌==◌, ℕ, ◌<◌, List, length, if◌then◌else◌}
 use Rattle.pk_base.specs.declared.span.Span.{Span}
-use Rattle.pk_fields.specs.Ids.{UDP, UDP_PAYLOAD, TCP, TCP_LEN, TCP_PAYLOAD}
+use Rattle.pk_fields.specs.Ids.{UDP, UDP_STREAM, UDP_PAYLOAD, TCP, TCP_LEN, TCP_PAYLOAD}
 use Rattle.pk_tree.specs.declared.heads.After.{After}
 use Rattle.pk_tree.specs.declared.heads.After.TheVariants as afters
 use Rattle.pk_tree.specs.declared.layer.Layer.{Layer}
@@ -12,8 +12,9 @@ use Rattle.pk_tree.specs.Trees.{TreeShown, last_proto, with_item, read_of, made_
 abbrev pub with_payload : TreeShown → ℕ → Span → TreeShown
 with_payload t field span = if span.len == 0 then t else with_item t (read_of t.buffers field span)
 
-unfoldable pub datagram_told : TreeShown → Span → TreeShown
-datagram_told t span = with_payload t UDP_PAYLOAD span
+-- the number of a datagram's conversation, and the bytes
+unfoldable pub datagram_told : TreeShown → ℕ → Span → TreeShown
+datagram_told t stream span = with_payload (with_item t (made_of UDP_STREAM (Uint stream))) UDP_PAYLOAD span
 
 -- how many bytes were captured of a segment, and the bytes
 unfoldable pub segment_told : TreeShown → Span → TreeShown

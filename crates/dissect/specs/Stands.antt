@@ -1,5 +1,5 @@
 -- What a dissector keeps, and what it stands for.
-use Rattle.std.specs.Prelude.{◌≡◌, ℕ, Bool, false, List, length}
+use Rattle.std.specs.Prelude.{◌≡◌, ℕ, ◌+◌, ◌<◌, ◌≤◌, ◌^◌, Bool, false, List, length}
 use Rattle.capture_read.specs.declared.frame.Frame.{Frame}
 use Rattle.capture_read.specs.FrameList.{captured_bytes}
 use Rattle.pk_tree.specs.Trees.{TreeShown}
@@ -7,7 +7,10 @@ use Rattle.dissect.specs.declared.decode.DecodeAs.{DecodeAs}
 use Rattle.dissect.specs.declared.state.State.{State}
 use Rattle.dissect.specs.declared.times.Times.{Times}
 use Rattle.dissect.specs.declared.todo.Todo.{Todo}
+use Rattle.dissect.specs.declared.todo.Todo.TheVariants as todos
+use Rattle.dissect.specs.Conversations.{udp_opened}
 use Rattle.dissect.specs.Events.{Event}
+use Rattle.dissect.specs.Times.{AreTimes}
 use Rattle.dissect.specs.Trees.{times_of, events_of}
 use Rattle.dissect.specs.Walks.{Walk}
 
@@ -21,9 +24,19 @@ pub record DissectorShown : Type 0 where
   pub times : Times
   pub state : State
 
--- what is kept of events; so far nothing is
-unfoldable pub StandsAt : List Event → State → Type 0
-StandsAt es state = Unit {0}
+-- what is kept of events: the conversations over UDP
+pub record StandsAt (es : List Event) (state : State) : Type 0 where
+  pub udp : state.udp ≡ udp_opened es
+
+-- a header opens at most one conversation, and then nothing more is to be read of its frame
+abbrev pub OpensAtMostOne : State → State → Todo → Type 0
+OpensAtMostOne old new todos.Done = length new.udp ≤ length old.udp + 1
+OpensAtMostOne old new (todos.Head head) = length new.udp ≤ length old.udp
+
+-- where a header is still to be read, there is room for one conversation more
+abbrev pub HasRoom : State → Todo → Type 0
+HasRoom state todos.Done = Unit {0}
+HasRoom state (todos.Head head) = length state.udp + 1 < 2 ^ 32
 
 -- how far a frame is read, with what is kept then
 pub record IsWalked (w : Walk) (state : State) (t : TreeShown) (next : Todo) : Type 0 where
@@ -42,3 +55,9 @@ pub record IsAfter (past : List Frame) (d : DissectorShown) : Type 0 where
 -- a dissector stands for the frames that it took
 unfoldable pub Stands : List Frame → DissectorShown → Type 0
 Stands past d = IsAfter past d
+
+-- a dissector that has answered no error has at most as many conversations over UDP as it took frames
+pub record IsKept (d : DissectorShown) : Type 0 where
+  pub times : AreTimes d.times
+  pub udp : length d.state.udp < 2 ^ 32
+  pub udp_few : d.spent ≡ false → length d.state.udp ≤ d.taken

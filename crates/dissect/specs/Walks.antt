@@ -1,5 +1,5 @@
 -- The way through a frame's headers, one behind the other.
-use Rattle.std.specs.Prelude.{◌==◌, ℕ, zero, suc, ◌-◌, ◌<◌, false, List, length, if◌then◌else◌}
+use Rattle.std.specs.Prelude.{◌==◌, ℕ, zero, suc, ◌-◌, ◌<◌, false, List, ◌∷◌, length, if◌then◌else◌}
 use Rattle.pk_base.specs.declared.span.Span.{Span}
 use Rattle.pk_buffer.specs.Buffers.{IsInside, bytes_of}
 use Rattle.pk_fields.specs.Ids.{ARP, VLAN, IP, IPV6, UDP, TCP, ICMP, ICMPV6}
@@ -31,8 +31,10 @@ use Rattle.capture_read.specs.declared.frame.Frame.{Frame}
 use Rattle.dissect.specs.declared.todo.Head.{Head}
 use Rattle.dissect.specs.declared.todo.Todo.{Todo}
 use Rattle.dissect.specs.declared.todo.Todo.TheVariants as todos
+use Rattle.dissect.specs.Applications.{usual_udp, app_of, payload_over}
+use Rattle.dissect.specs.Conversations.{udp_stream}
 use Rattle.dissect.specs.DataLayer.{data_over}
-use Rattle.dissect.specs.Events.{Event}
+use Rattle.dissect.specs.Events.{Event, Udp}
 use Rattle.dissect.specs.FrameLayer.{frame_span, is_cut}
 use Rattle.dissect.specs.Payloads.{datagram_told, segment_told}
 
@@ -65,9 +67,11 @@ no_packet = record { source = Four 0; target = Four 0; whole = false }
 unfoldable pub fragment_met : Frame → PacketHead → TreeShown → List Event → FragmentHead → Span → Walk
 fragment_met frame packet t es head span = rest_met t es span
 
--- what a UDP header carries; so far it is shown as data, beside an item in the header's layer
+-- the number of a conversation and what a UDP header carries are told in the header's layer; then comes the payload, read by
+-- the application of the ports
 unfoldable pub datagram_met : Frame → PacketHead → TreeShown → List Event → PortsHead → Span → Walk
-datagram_met frame packet t es head span = rest_met (datagram_told t span) es span
+datagram_met frame packet t es head span =
+    stop (payload_over (app_of usual_udp head) (datagram_told t (udp_stream es packet head) span) (is_cut frame) span) (Udp frame.number packet head ∷ es)
 
 -- what a TCP header carries; so far it is shown as data, beside items in the header's layer
 unfoldable pub segment_met : Frame → PacketHead → TreeShown → List Event → TcpHead → Span → Walk

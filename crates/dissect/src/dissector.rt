@@ -1,11 +1,13 @@
 ghost use Rattle.std.specs.Prelude.{◌≡◌, ◌↔◌, ◌+◌, ◌≤◌, ◌<◌, ◌^◌, ◌||◌, List, [], ◌∷◌, true, false, length, Err, is_err, IfOk, IfSome, OnOk, OnErr};
 ghost use Rattle.capture_read.specs.declared.frame.Frame.{Frame as FrameValue};
+ghost use Rattle.dissect.specs.Conversations.{udp_opened};
 ghost use Rattle.dissect.specs.DecodeRules.{AreRules};
 ghost use Rattle.dissect.specs.Events.{Event};
 ghost use Rattle.dissect.specs.Stands.{Stands, StandsAt, IsWalked};
 ghost use Rattle.dissect.specs.Times.{IsTime, AreTimes};
-ghost use Rattle.dissect.specs.Trees.{tree_at, walk_of};
+ghost use Rattle.dissect.specs.Trees.{tree_at, events_of, walk_of};
 
+use crate::conversations::Conversations;
 use crate::decode::DecodeAs;
 use crate::frame_layer::{begin_tree, captured};
 use crate::state::State;
@@ -38,19 +40,18 @@ pub struct Dissector {
 }
 
 impl Model for Dissector {
-    ghost use Rattle.dissect.specs.Stands.{DissectorShown};
-    ghost use Rattle.dissect.specs.Times.{AreTimes};
+    ghost use Rattle.dissect.specs.Stands.{DissectorShown, IsKept};
 
     ghost Value = { DissectorShown };
 
     ghost view = { λ d. record { decode = d.decode; spent = d.spent; taken = d.taken; captured = d.captured; times = d.times; state = d.state } };
 
-    ghost invariant = { λ d. AreTimes d.times };
+    ghost invariant = { λ d. IsKept (record { decode = d.decode; spent = d.spent; taken = d.taken; captured = d.captured; times = d.times; state = d.state }) };
 }
 
 impl Dissector {
     /// A dissector that has taken no frame yet.
-    #[tactic(auto, unfolding(crate::specs::Stands::Stands, crate::specs::Stands::StandsAt, crate::specs::Trees::times_of, crate::specs::Trees::events_of))]
+    #[tactic(auto, unfolding(crate::specs::Stands::Stands, crate::specs::Conversations::udp_opened, crate::specs::Trees::times_of, crate::specs::Trees::events_of))]
     pub fn new(alloc: Global, decode: DecodeAs) -> Dissector
         requires rules { AreRules decode.rules }
         ensures stands { Stands [] result }
@@ -65,8 +66,18 @@ impl Dissector {
             taken: 0,
             captured: 0,
             times: Times::none(),
-            state: State {},
+            state: State {
+                udp: Conversations::new(alloc),
+            },
         }
+    }
+
+    /// How many conversations over UDP the frames taken have opened.
+    #[tactic(auto, unfolding(crate::specs::Stands::Stands))]
+    pub fn udp_count(&self) -> u32
+        ensures { (past : List FrameValue) → Stands past self.now → result ≡ length (udp_opened (events_of past)) }
+    {
+        self.state.udp.count()
     }
 
     /// The tree of the next frame, given those that were taken before. Frames are taken in the order of their numbers,
@@ -86,9 +97,10 @@ impl Dissector {
         if self.spent {
             return Err(TakeFault::Spent);
         }
+        let number = number_of(frame);
         match make_tree(self.alloc, &mut self.state, self.times, frame) {
             Ok(tree) => {
-                self.taken = frame.number;
+                self.taken = number;
                 self.captured += captured(frame);
                 self.times = self.times.with(frame.time);
                 Ok(tree)
@@ -99,6 +111,13 @@ impl Dissector {
             }
         }
     }
+}
+
+fn number_of(frame: &Frame) -> u32
+    ensures number { result ≡ frame.now.number }
+    ensures fits { result < 2 ^ 32 }
+{
+    frame.number
 }
 
 /// The tree of a frame, given what is kept of the frames before it.
@@ -112,7 +131,9 @@ fn make_tree(
     requires bytes { length frame.now.bytes < 2 ^ 32 }
     requires before { AreTimes before }
     requires time { IfSome frame.now.time IsTime }
-    ensures { IfOk result (λ tree. (es : List Event) → StandsAt es state.old → IsWalked (walk_of before es frame.now) state.new tree Todo.Done) }
+    requires udp { length state.old.udp + 1 < 2 ^ 32 }
+    ensures walked { IfOk result (λ tree. (es : List Event) → StandsAt es state.old → IsWalked (walk_of before es frame.now) state.new tree Todo.Done) }
+    ensures udp { length state.new.udp ≤ length state.old.udp + 1 }
 {
     let mut tree = begin_tree(alloc, before, frame)?;
     state.read_frame(frame, &mut tree)?;

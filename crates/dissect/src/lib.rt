@@ -1,6 +1,8 @@
 //! Reads a capture's frames into trees, one frame after the other: the frame itself, its headers, and what they carry.
 #![tactic(auto)]
 
+mod applications;
+mod conversations;
 mod data_layer;
 mod decode;
 mod dissector;

@@ -10,15 +10,20 @@ use pk_base::{NoMemory, Span};
 use pk_fields::{FieldId, ids};
 use pk_tree::{TreeBuilder, Value};
 
-/// Tells of a datagram in the layer of its UDP header.
+/// Tells of a datagram, with the number of its conversation, in the layer of its UDP header.
 #[tactic(auto, unfolding(crate::specs::Payloads::datagram_told, pk_fields::specs::Fields::row_of, pk_fields::specs::Table::rows))]
-pub(crate) fn tell_datagram(span: Span, tree: &mut TreeBuilder) -> Result<(), NoMemory>
+pub(crate) fn tell_datagram(
+    stream: u32,
+    span: Span,
+    tree: &mut TreeBuilder,
+) -> Result<(), NoMemory>
     requires inside { IsInside tree.old.buffers span }
     requires last { LastIs UDP tree.old.layers }
-    ensures tree { IfOk result (λ _. tree.new ≡ datagram_told tree.old span) }
+    ensures tree { IfOk result (λ _. tree.new ≡ datagram_told tree.old stream span) }
     ensures buffers { tree.new.buffers ≡ tree.old.buffers }
     ensures count { length tree.new.layers ≡ length tree.old.layers }
 {
+    tree.made_item(ids::UDP_STREAM, Value::Uint(u64::from(stream)))?;
     add_payload(ids::UDP_PAYLOAD, span, tree)
 }
 

@@ -1,3 +1,7 @@
-/// What is kept of earlier frames' packets. So far none bears on how later frames are read.
+use crate::conversations::Conversations;
+
+/// What is kept of earlier frames' packets.
 #[derive(Drop)]
-pub(crate) struct State {}
+pub(crate) struct State {
+    pub udp: Conversations,
+}

@@ -1,11 +1,11 @@
-ghost use Rattle.std.specs.Prelude.{◌≡◌, ◌+◌, ◌≤◌, ◌<◌, ◌^◌, length, nat_abs, IfSome, IfOk, OnOk};
+ghost use Rattle.std.specs.Prelude.{◌≡◌, ◌+◌, ◌*◌, ◌≤◌, ◌<◌, ◌^◌, length, nat_abs, IfSome, IfOk, OnOk};
 ghost use Rattle.dissect.specs.DecodeRules.{AreRules};
 ghost use Rattle.dissect.specs.Times.{IsTime};
 
 use crate::{App, DecodeAs, Dissector, PortRule, PortRules, TakeFault};
 use capture_read::Frame;
 use pk_base::{NoMemory, Octets};
-use pk_fields::name;
+use pk_fields::{ids, name};
 use pk_tree::{Layer, Tree, Value};
 use std::alloc::{AllocError, Global};
 use std::process::Abort;
@@ -425,7 +425,7 @@ fn what_a_datagram_carries_is_told_and_shown_as_data(rt: HostRuntime) -> Result<
             " ip.proto=17",
             IP_ADDRESSES,
             "udp 20+11: udp.srcport=40000 udp.port=40000 udp.dstport=7 udp.port=7 udp.length=11 udp.checksum=0",
-            " udp.payload=[97, 98, 99]\ndata 28+3: data.data=[97, 98, 99] data.len=3\n",
+            " udp.stream=0 udp.payload=[97, 98, 99]\ndata 28+3: data.data=[97, 98, 99] data.len=3\n",
         ],
     )
 }
@@ -509,7 +509,202 @@ fn options_of_each_hop_are_passed_through(rt: HostRuntime) -> Result<(), Fail> {
             "ipv6 0+56: ipv6.version=6 ipv6.tclass=0 ipv6.flow=0 ipv6.plen=16 ipv6.nxt=0 ipv6.hlim=64",
             " ipv6.src=? ipv6.addr=? ipv6.dst=? ipv6.addr=?\n",
             "ipv6.hopopts 40+16: ipv6.hopopts.nxt=17 ipv6.hopopts.len=0 ipv6.hopopts.options=[1, 4, 0, 0, 0, 0]\n",
-            "udp 48+8: udp.srcport=40000 udp.port=40000 udp.dstport=7 udp.port=7 udp.length=8 udp.checksum=0\n",
+            "udp 48+8: udp.srcport=40000 udp.port=40000 udp.dstport=7 udp.port=7 udp.length=8 udp.checksum=0 udp.stream=0\n",
         ],
     )
+}
+
+/// The header of a packet of UDP from 10.0.0.1 to 10.0.0.2 (RFC 791, 3.1). A length of 0 is that of all bytes.
+const THERE: &[u8] = b"\x45\0\0\0\0\0\0\0\x40\x11\0\0\x0a\0\0\x01\x0a\0\0\x02";
+
+/// The same from 10.0.0.2 to 10.0.0.1.
+const BACK: &[u8] = b"\x45\0\0\0\0\0\0\0\x40\x11\0\0\x0a\0\0\x02\x0a\0\0\x01";
+
+/// The same from 10.0.0.3 to 10.0.0.2.
+const OTHER: &[u8] = b"\x45\0\0\0\0\0\0\0\x40\x11\0\0\x0a\0\0\x03\x0a\0\0\x02";
+
+/// The headers of packets that carry another (RFC 2003), of 192.168.0.1 and 192.168.0.2.
+const TUNNEL: &[u8] = b"\x45\0\0\0\0\0\0\0\x40\x04\0\0\xc0\xa8\0\x01\xc0\xa8\0\x02";
+
+const OTHER_TUNNEL: &[u8] =
+    b"\x45\0\0\0\0\0\0\0\x40\x04\0\0\xc0\xa8\0\x03\xc0\xa8\0\x04";
+
+/// A header of UDP from port 40000 to port 7, and that of an answer (RFC 768). A length of 0 is that of all bytes.
+const TO_ECHO: &[u8] = b"\x9c\x40\0\x07\0\0\0\0";
+
+const FROM_ECHO: &[u8] = b"\0\x07\x9c\x40\0\0\0\0";
+
+/// From port 40001 to port 7.
+const TO_ECHO_TOO: &[u8] = b"\x9c\x41\0\x07\0\0\0\0";
+
+/// Takes a packet, and compares its conversation's number, and then how many there are.
+fn take_packet(
+    rt: &impl Abort,
+    alloc: Global,
+    dissector: &mut Dissector,
+    number: u32,
+    parts: &[&[u8]],
+    wanted: &str,
+) -> Result<(), Fail>
+    requires number { number ≡ dissector.old.taken + 1 }
+    requires captured { dissector.old.captured ≤ 200 * dissector.old.taken }
+    requires few { number < 100 }
+    ensures counted { OnOk result ((dissector.new.taken ≡ number) × (dissector.new.captured ≤ 200 * number)) }
+{
+    let frame = Frame {
+        number,
+        time: None,
+        link: RAW,
+        little: true,
+        bytes: joined(alloc, parts)?,
+        original: 0,
+    };
+    assert!(rt; frame.bytes.bytes().len() <= 200);
+    let tree = dissector.take(&frame)?;
+    let mut text = String::new(alloc);
+    for layer in tree.layers() {
+        for item in layer.items.slice() {
+            if item.field == ids::UDP_STREAM {
+                text.push_str(&value_text(alloc, &item.value)?)?;
+            }
+        }
+    }
+    text.push_str(&format!(in alloc; " of {}", dissector.udp_count())?)?;
+    assert_eq!(rt; text.as_str(), wanted);
+    Ok(())
+}
+
+#[test]
+fn both_directions_are_of_one_conversation(rt: HostRuntime) -> Result<(), Fail> {
+    let rt = &rt;
+    let alloc = rt.alloc();
+    let d = &mut Dissector::new(alloc, no_rules(alloc));
+    assert_eq!(rt; d.udp_count(), 0);
+    take_packet(rt, alloc, d, 1, &[THERE, TO_ECHO], "=0 of 1")?;
+    take_packet(rt, alloc, d, 2, &[THERE, TO_ECHO_TOO], "=1 of 2")?;
+    take_packet(rt, alloc, d, 3, &[BACK, FROM_ECHO, b"a"], "=0 of 2")?;
+    take_packet(rt, alloc, d, 4, &[BACK, TO_ECHO], "=2 of 3")?;
+    take_packet(rt, alloc, d, 5, &[OTHER, TO_ECHO], "=3 of 4")?;
+    take_packet(rt, alloc, d, 6, &[THERE, TO_ECHO_TOO], "=1 of 4")
+}
+
+#[test]
+fn a_conversation_in_a_tunnel_is_between_the_inner_addresses(rt: HostRuntime) -> Result<(), Fail> {
+    let rt = &rt;
+    let alloc = rt.alloc();
+    let d = &mut Dissector::new(alloc, no_rules(alloc));
+    take_packet(rt, alloc, d, 1, &[TUNNEL, THERE, TO_ECHO], "=0 of 1")?;
+    take_packet(rt, alloc, d, 2, &[TUNNEL, OTHER, TO_ECHO], "=1 of 2")?;
+    take_packet(rt, alloc, d, 3, &[OTHER_TUNNEL, THERE, TO_ECHO], "=0 of 2")
+}
+
+/// Port unreachable, about a packet of UDP (RFC 792).
+#[test]
+fn an_embedded_packet_is_of_no_conversation(rt: HostRuntime) -> Result<(), Fail> {
+    let rt = &rt;
+    let alloc = rt.alloc();
+    let d = &mut Dissector::new(alloc, no_rules(alloc));
+    let error: &[&[u8]] = &[
+        b"\x45\0\0\0\0\0\0\0\x40\x01\0\0\x0a\0\0\x02\x0a\0\0\x01",
+        b"\x03\x03\0\0\0\0\0\0",
+        THERE,
+        TO_ECHO,
+    ];
+    take_packet(rt, alloc, d, 1, error, " of 0")?;
+    take_packet(rt, alloc, d, 2, &[BACK, TO_ECHO], "=0 of 1")?;
+    take_packet(rt, alloc, d, 3, error, " of 1")
+}
+
+#[test]
+fn a_header_that_is_cut_opens_no_conversation(rt: HostRuntime) -> Result<(), Fail> {
+    let rt = &rt;
+    let alloc = rt.alloc();
+    let d = &mut Dissector::new(alloc, no_rules(alloc));
+    take_packet(rt, alloc, d, 1, &[THERE, b"\x9c\x40\0\x07\0\0\0"], " of 0")
+}
+
+/// The names of a packet's layers.
+fn layer_names(rt: &impl Abort, alloc: Global, parts: &[&[u8]], wanted: &str) -> Result<(), Fail> {
+    let frame = Frame {
+        number: 1,
+        time: None,
+        link: RAW,
+        little: true,
+        bytes: joined(alloc, parts)?,
+        original: 0,
+    };
+    assert!(rt; frame.bytes.bytes().len() <= 1_000);
+    let tree = Dissector::new(alloc, no_rules(alloc)).take(&frame)?;
+    let mut text = String::new(alloc);
+    for layer in tree.layers() {
+        text.push_str(name(layer.proto))?;
+        text.push_str(" ")?;
+    }
+    assert_eq!(rt; text.as_str(), wanted);
+    Ok(())
+}
+
+/// A query for the address of h.test (RFC 1035, 4.1).
+const QUERY: &[u8] =
+    b"\0\x01\x01\0\0\x01\0\0\0\0\0\0\x01h\x04test\0\0\x01\0\x01";
+
+#[test]
+fn the_application_is_that_of_the_lower_port_else_of_the_higher(
+    rt: HostRuntime,
+) -> Result<(), Fail> {
+    let rt = &rt;
+    let alloc = rt.alloc();
+    for (header, wanted) in [
+        (b"\x9c\x40\0\x35\0\0\0\0", "frame ip udp dns "),
+        (b"\0\x35\x9c\x40\0\0\0\0", "frame ip udp dns "),
+        (b"\0\x34\0\x35\0\0\0\0", "frame ip udp dns "),
+        (b"\0\x35\0\x34\0\0\0\0", "frame ip udp dns "),
+        (b"\0\x43\0\x35\0\0\0\0", "frame ip udp dns "),
+        (b"\0\x44\0\x43\0\0\0\0", "frame ip udp dhcp _ws.malformed "),
+        (b"\0\x43\x9c\x40\0\0\0\0", "frame ip udp dhcp _ws.malformed "),
+        (b"\0\x42\0\x44\0\0\0\0", "frame ip udp dhcp _ws.malformed "),
+        (b"\0\x50\x9c\x40\0\0\0\0", "frame ip udp data "),
+    ] {
+        layer_names(rt, alloc, &[THERE, header, QUERY], wanted)?;
+    }
+    Ok(())
+}
+
+#[test]
+fn a_payload_of_no_bytes_is_no_message(rt: HostRuntime) -> Result<(), Fail> {
+    let rt = &rt;
+    let header = b"\x9c\x40\0\x35\0\x08\0\0";
+    layer_names(rt, rt.alloc(), &[THERE, header], "frame ip udp ")?;
+    layer_names(rt, rt.alloc(), &[THERE, header, QUERY], "frame ip udp ")
+}
+
+/// The frame's own layer, 30 packets around each other and a header of UDP come to 32 layers.
+#[test]
+fn a_message_is_shown_behind_32_layers(rt: HostRuntime) -> Result<(), Fail> {
+    let rt = &rt;
+    let alloc = rt.alloc();
+    let mut bytes = Vec::new(alloc);
+    for _ in 0..29 {
+        bytes.extend_from_slice(TUNNEL)?;
+    }
+    bytes.extend_from_slice(THERE)?;
+    bytes.extend_from_slice(b"\x9c\x40\0\x35\0\0\0\0")?;
+    bytes.extend_from_slice(QUERY)?;
+    let frame = Frame {
+        number: 1,
+        time: None,
+        link: RAW,
+        little: true,
+        bytes: Octets::from_vec(bytes)?,
+        original: 0,
+    };
+    assert!(rt; frame.bytes.bytes().len() <= 1_000);
+    let tree = Dissector::new(alloc, no_rules(alloc)).take(&frame)?;
+    assert_eq!(rt; tree.layers().len(), 33);
+    let mut last = "";
+    for layer in tree.layers() {
+        last = name(layer.proto);
+    }
+    assert_eq!(rt; last, "dns");
+    Ok(())
 }

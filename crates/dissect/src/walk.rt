@@ -1,12 +1,15 @@
 ghost use Rattle.std.specs.Prelude.{◌≡◌, ◌+◌, ◌*◌, ◌-◌, ◌<◌, ◌≤◌, ◌^◌, List, [], ◌∷◌, length, IfOk, OnOk};
 ghost use Rattle.pk_buffer.specs.Buffers.{IsInside};
 ghost use Rattle.pk_tree.specs.Following.{LeadsInside};
+ghost use Rattle.dissect.specs.declared.state.State.{State as StateValue};
 ghost use Rattle.dissect.specs.Events.{Event};
 ghost use Rattle.pk_fields.specs.Ids.{UDP, TCP};
 ghost use Rattle.dissect.specs.Payloads.{LastIs, ComesBehind};
-ghost use Rattle.dissect.specs.Stands.{StandsAt, IsWalked};
+ghost use Rattle.dissect.specs.Stands.{StandsAt, IsWalked, HasRoom, OpensAtMostOne};
 ghost use Rattle.dissect.specs.Walks.{IsTodoInside, fragment_met, datagram_met, segment_met, rest_met, followed, head_met, head_by, step_on, rest_on, chain, going, link_met, all_met, no_packet};
 
+use crate::applications::{add_message, app_of};
+use crate::conversations::udp_ends;
 use crate::data_layer::add_data;
 use crate::frame_layer::{captured, frame_span, is_cut};
 use crate::payload::{tell_datagram, tell_segment};
@@ -29,6 +32,8 @@ impl State {
         requires room { length tree.old.layers + 2 < 2 ^ 32 }
         ensures inside { IfOk result (λ todo. IsTodoInside tree.new.buffers todo) }
         ensures walked { IfOk result (λ todo. (es : List Event) → StandsAt es self.old → IsWalked (rest_met tree.old es span) self.new tree.new todo) }
+        ensures opens { IfOk result (λ todo. OpensAtMostOne self.old self.new todo) }
+        ensures opened { length self.new.udp ≤ length self.old.udp + 1 }
         ensures buffers { tree.new.buffers ≡ tree.old.buffers }
         ensures most { OnOk result (length tree.new.layers ≤ length tree.old.layers + 2) }
     {
@@ -50,14 +55,16 @@ impl State {
         requires room { length tree.old.layers + 2 < 2 ^ 32 }
         ensures inside { IfOk result (λ todo. IsTodoInside tree.new.buffers todo) }
         ensures walked { IfOk result (λ todo. (es : List Event) → StandsAt es self.old → IsWalked (fragment_met frame.now packet tree.old es head span) self.new tree.new todo) }
+        ensures opens { IfOk result (λ todo. OpensAtMostOne self.old self.new todo) }
+        ensures opened { length self.new.udp ≤ length self.old.udp + 1 }
         ensures buffers { tree.new.buffers ≡ tree.old.buffers }
         ensures most { OnOk result (length tree.new.layers ≤ length tree.old.layers + 2) }
     {
         self.rest(span, tree)
     }
 
-    /// Takes what a UDP header carries. So far it is shown as data.
-    #[tactic(auto, unfolding(crate::specs::Walks::datagram_met))]
+    /// Takes a packet of UDP: tells the number of its conversation, and reads what it carries.
+    #[tactic(auto, unfolding(crate::specs::Walks::datagram_met, crate::specs::Conversations::udp_opened))]
     fn datagram(
         &mut self,
         frame: &Frame,
@@ -68,14 +75,20 @@ impl State {
     ) -> Result<Todo, NoMemory>
         requires inside { IsInside tree.old.buffers span }
         requires last { LastIs UDP tree.old.layers }
+        requires bytes { length frame.now.bytes < 2 ^ 32 }
         requires room { length tree.old.layers + 2 < 2 ^ 32 }
+        requires few { length self.old.udp + 1 < 2 ^ 32 }
         ensures inside { IfOk result (λ todo. IsTodoInside tree.new.buffers todo) }
         ensures walked { IfOk result (λ todo. (es : List Event) → StandsAt es self.old → IsWalked (datagram_met frame.now packet tree.old es head span) self.new tree.new todo) }
+        ensures opens { IfOk result (λ todo. OpensAtMostOne self.old self.new todo) }
+        ensures opened { length self.new.udp ≤ length self.old.udp + 1 }
         ensures buffers { tree.new.buffers ≡ tree.old.buffers }
         ensures most { OnOk result (length tree.new.layers ≤ length tree.old.layers + 2) }
     {
-        tell_datagram(span, tree)?;
-        self.rest(span, tree)
+        let stream = self.udp.number(udp_ends(&packet, head))?;
+        tell_datagram(stream, span, tree)?;
+        add_message(app_of(head), is_cut(frame), span, tree)?;
+        Ok(Todo::Done)
     }
 
     /// Takes what a TCP header carries. So far it is shown as data.
@@ -93,6 +106,8 @@ impl State {
         requires room { length tree.old.layers + 2 < 2 ^ 32 }
         ensures inside { IfOk result (λ todo. IsTodoInside tree.new.buffers todo) }
         ensures walked { IfOk result (λ todo. (es : List Event) → StandsAt es self.old → IsWalked (segment_met frame.now packet tree.old es head span) self.new tree.new todo) }
+        ensures opens { IfOk result (λ todo. OpensAtMostOne self.old self.new todo) }
+        ensures opened { length self.new.udp ≤ length self.old.udp + 1 }
         ensures buffers { tree.new.buffers ≡ tree.old.buffers }
         ensures most { OnOk result (length tree.new.layers ≤ length tree.old.layers + 2) }
     {
@@ -112,9 +127,13 @@ impl State {
     ) -> Result<Todo, NoMemory>
         requires inside { LeadsInside tree.old.buffers after }
         requires last { ComesBehind after tree.old.layers }
+        requires bytes { length frame.now.bytes < 2 ^ 32 }
         requires room { length tree.old.layers + 2 < 2 ^ 32 }
+        requires few { length self.old.udp + 1 < 2 ^ 32 }
         ensures inside { IfOk result (λ todo. IsTodoInside tree.new.buffers todo) }
         ensures walked { IfOk result (λ todo. (es : List Event) → StandsAt es self.old → IsWalked (followed frame.now packet mode tree.old es after) self.new tree.new todo) }
+        ensures opens { IfOk result (λ todo. OpensAtMostOne self.old self.new todo) }
+        ensures opened { length self.new.udp ≤ length self.old.udp + 1 }
         ensures buffers { tree.new.buffers ≡ tree.old.buffers }
         ensures most { OnOk result (length tree.new.layers ≤ length tree.old.layers + 2) }
     {
@@ -144,8 +163,11 @@ impl State {
         requires inside { IsInside tree.old.buffers head.span }
         requires bytes { length frame.now.bytes < 2 ^ 32 }
         requires room { length tree.old.layers + 4 < 2 ^ 32 }
+        requires few { length self.old.udp + 1 < 2 ^ 32 }
         ensures inside { IfOk result (λ todo. IsTodoInside tree.new.buffers todo) }
         ensures walked { IfOk result (λ todo. (es : List Event) → StandsAt es self.old → IsWalked (head_met frame.now head tree.old es) self.new tree.new todo) }
+        ensures opens { IfOk result (λ todo. OpensAtMostOne self.old self.new todo) }
+        ensures opened { length self.new.udp ≤ length self.old.udp + 1 }
         ensures buffers { tree.new.buffers ≡ tree.old.buffers }
         ensures most { OnOk result (length tree.new.layers ≤ length tree.old.layers + 4) }
     {
@@ -209,7 +231,9 @@ impl State {
         requires bytes { length frame.now.bytes < 2 ^ 32 }
         requires most { most ≤ 32 }
         requires room { length tree.old.layers ≤ 32 }
+        requires few { HasRoom self.old first }
         ensures walked { OnOk result ((es : List Event) → StandsAt es self.old → IsWalked (chain most frame.now (going tree.old es first)) self.new tree.new Todo.Done) }
+        ensures opened { (before : StateValue) → OpensAtMostOne before self.old first → length self.new.udp ≤ length before.udp + 1 }
     {
         let mut left = most;
         let mut todo = first;
@@ -230,8 +254,11 @@ impl State {
         requires frame { tree.old.buffers ≡ frame.now.bytes ∷ [] }
         requires bytes { length frame.now.bytes < 2 ^ 32 }
         requires room { length tree.old.layers ≤ 2 }
+        requires few { length self.old.udp + 1 < 2 ^ 32 }
         ensures inside { IfOk result (λ todo. IsTodoInside tree.new.buffers todo) }
         ensures walked { IfOk result (λ todo. (es : List Event) → StandsAt es self.old → IsWalked (link_met frame.now tree.old es) self.new tree.new todo) }
+        ensures opens { IfOk result (λ todo. OpensAtMostOne self.old self.new todo) }
+        ensures opened { length self.new.udp ≤ length self.old.udp + 1 }
         ensures most { OnOk result (length tree.new.layers ≤ 32) }
     {
         if captured(frame) == 0 {
@@ -247,7 +274,9 @@ impl State {
         requires frame { tree.old.buffers ≡ frame.now.bytes ∷ [] }
         requires bytes { length frame.now.bytes < 2 ^ 32 }
         requires room { length tree.old.layers ≤ 2 }
+        requires few { length self.old.udp + 1 < 2 ^ 32 }
         ensures walked { OnOk result ((es : List Event) → StandsAt es self.old → IsWalked (all_met frame.now (link_met frame.now tree.old es)) self.new tree.new Todo.Done) }
+        ensures opened { length self.new.udp ≤ length self.old.udp + 1 }
     {
         let first = self.link(frame, tree)?;
         let left = LAYER_LIMIT - tree.layer_count();

@@ -16,6 +16,8 @@ mod pcapng_rows;
 mod runs;
 mod sure;
 #[cfg(test)]
+mod udp_rows;
+#[cfg(test)]
 mod word_rows;
 
 pub use sure::sure_run;

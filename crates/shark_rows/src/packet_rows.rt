@@ -313,7 +313,7 @@ static PORTS: [Run; 11] = [
             "4500001e 00000000 40110000 0a000001 0a000002 9c40 0035 000a beef aabb",
         ],
         status: Status::Done,
-        out: "40000\t53\t40000,53\t10\t48879\taabb\taabb\n",
+        out: "40000\t53\t40000,53\t10\t48879\taabb\t\n",
         err: "",
     },
     Run {
@@ -352,7 +352,7 @@ static PORTS: [Run; 11] = [
             "4500001e 00000000 40110000 0a000001 0a000002 9c40 0035 0009 beef aabb",
         ],
         status: Status::Done,
-        out: "9\taa\t1\n",
+        out: "9\taa\t\n",
         err: "",
     },
     Run {

@@ -1,4 +1,4 @@
-use Rattle.std.proofs.Common.{◌+◌, length, subst, ap, ◌∙◌}
+use Rattle.std.proofs.Common.{◌+◌, length, subst, ap, ◌∙◌, true≢false, arith}
 use Rattle.dissect.specs.Stands.{DissectorShown}
 use Rattle.dissect.specs.Times.{with_time}
 use Rattle.dissect.proofs.Taken.{Reads, tree-taken, stands-taken}
@@ -6,16 +6,32 @@ use Rattle.dissect.proofs.dissector.Dissector.take.Goals as goal
 
 pub returns-in-Ok-clause-tree : goal.returns-in-Ok-clause-tree
 returns-in-Ok-clause-tree c = λ past stands.
-    let reads = subst (λ (d : DissectorShown). Reads c.args.frame.now d c.make_tree.new.state c.in-Ok.tree) c.self.view_is c.in-Ok.ensures in
+    let reads = subst (λ (d : DissectorShown). Reads c.args.frame.now d c.make_tree.new.state c.in-Ok.tree) c.self.view_is c.in-Ok.ensures.walked in
     tree-taken past c.args.frame.now c.args.self.now c.make_tree.new.state c.in-Ok.tree stands reads
 
 pub returns-in-Ok-clause-stands : goal.returns-in-Ok-clause-stands
 returns-in-Ok-clause-stands c = λ past stands.
     let frame = c.args.frame.now in
-    let reads = subst (λ (d : DissectorShown). Reads frame d c.make_tree.new.state c.in-Ok.tree) c.self.view_is c.in-Ok.ensures in
+    let reads = subst (λ (d : DissectorShown). Reads frame d c.make_tree.new.state c.in-Ok.tree) c.self.view_is c.in-Ok.ensures.walked in
     stands-taken past frame c.args.self.now _ c.in-Ok.tree
     c.if-self.false
-    c.requires.number
+    (c.number_of-number.ensures.number ∙ c.requires.number)
     (ap (λ n. c.self.inside.captured + n) c.captured.ensures ∙ ap (λ (d : DissectorShown). d.captured + length frame.bytes) c.self.view_is)
     (c.with-self-inside.ensures.with ∙ ap (λ (d : DissectorShown). with_time frame.time d.times) c.self.view_is)
     stands reads
+
+pub make_tree-requires-clause-udp : goal.make_tree-requires-clause-udp
+make_tree-requires-clause-udp c =
+    let few = c.self.invariant.udp_few c.if-self.false in
+    let taken = ap (λ (d : DissectorShown). d.taken) c.self.view_is in
+    omega (arith, few, taken, c.requires.number, c.number_of-number.ensures.number, c.number_of-number.ensures.fits)
+
+pub invariant_of-self-in-Err : goal.invariant_of-self-in-Err
+invariant_of-self-in-Err c =
+    let few = c.self.invariant.udp_few c.if-self.false in
+    let taken = ap (λ (d : DissectorShown). d.taken) c.self.view_is in
+    record {
+      times = c.self.invariant.times;
+      udp = omega (arith, few, taken, c.requires.number, c.number_of-number.ensures.number, c.number_of-number.ensures.fits, c.make_tree.ensures.udp);
+      udp_few = λ not_spent. absurd (true≢false not_spent);
+    }

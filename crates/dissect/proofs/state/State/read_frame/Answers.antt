@@ -3,6 +3,7 @@ use Rattle.dissect.specs.declared.todo.Todo.TheVariants as todos
 use Rattle.dissect.specs.Stands.{IsWalked}
 use Rattle.dissect.specs.Walks.{chain, going, link_met}
 use Rattle.dissect.proofs.Chains.{all-met}
+use Rattle.dissect.proofs.Opens.{room-on}
 use Rattle.dissect.proofs.state.State.read_frame.Goals as goal
 
 pub returns : goal.returns
@@ -14,4 +15,8 @@ returns c = record {
       let rest = c.in_ok-chain.ensures.walked w.events first.stands in
       all-met frame w c.link.new.self c.link.new.tree c.in_ok-first.first c.chain.new.self c.chain.new.tree first
       (subst (λ (n : ℕ). IsWalked (chain (32 - n) frame (going c.link.new.tree w.events c.in_ok-first.first)) c.chain.new.self c.chain.new.tree todos.Done) c.layer_count-left.ensures rest);
+  opened = c.chain.ensures.opened c.args.self.now c.in_ok-first.ensures.opens;
 }
+
+pub chain-requires-clause-few : goal.chain-requires-clause-few
+chain-requires-clause-few c = room-on c.args.self.now c.link.new.self c.in_ok-first.first c.requires.few c.in_ok-first.ensures.opens

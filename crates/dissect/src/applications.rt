@@ -1,0 +1,63 @@
+ghost use Rattle.std.specs.Prelude.{◌≡◌, ◌+◌, ◌<◌, ◌≤◌, ◌^◌, length, IfOk, OnOk};
+ghost use Rattle.pk_buffer.specs.Buffers.{IsInside};
+ghost use Rattle.dissect.specs.Applications.{usual_udp, app_in, app_of, message_over, payload_over};
+
+use crate::data_layer::add_data;
+use crate::decode::App;
+use dis_dhcp::read_dhcp;
+use dis_dns::read_dns;
+use pk_base::{NoMemory, Span};
+use pk_tree::{PortsHead, TreeBuilder};
+
+/// The application of a datagram, by its ports.
+#[tactic(auto, unfolding(crate::specs::Applications::app_of))]
+pub(crate) fn app_of(head: PortsHead) -> Option<App>
+    ensures { result ≡ app_of usual_udp head }
+{
+    if head.source <= head.target {
+        app_in(head.source, head.target)
+    } else {
+        app_in(head.target, head.source)
+    }
+}
+
+fn app_in(lower: u16, higher: u16) -> Option<App>
+    ensures { result ≡ app_in usual_udp lower higher }
+{
+    usual_udp(lower).or(usual_udp(higher))
+}
+
+/// The usual application of a port of UDP.
+fn usual_udp(port: u16) -> Option<App>
+    ensures { result ≡ usual_udp port }
+{
+    match port {
+        53 => Some(App::Dns),
+        67 | 68 => Some(App::Dhcp),
+        _ => None,
+    }
+}
+
+/// Reads the payload of a datagram by its application. One of no bytes is no message.
+#[tactic(auto, unfolding(crate::specs::Applications::payload_over))]
+pub(crate) fn add_message(
+    app: Option<App>,
+    cut: bool,
+    span: Span,
+    tree: &mut TreeBuilder,
+) -> Result<(), NoMemory>
+    requires inside { IsInside tree.old.buffers span }
+    requires room { length tree.old.layers + 2 < 2 ^ 32 }
+    ensures tree { IfOk result (λ _. tree.new ≡ payload_over app tree.old cut span) }
+    ensures buffers { tree.new.buffers ≡ tree.old.buffers }
+    ensures most { OnOk result (length tree.new.layers ≤ length tree.old.layers + 2) }
+{
+    if span.len == 0 {
+        return Ok(());
+    }
+    match app {
+        Some(App::Dns) => read_dns(span, false, cut, tree),
+        Some(App::Dhcp) => read_dhcp(span, cut, tree),
+        Some(App::Http) | Some(App::Plain) | None => add_data(span, tree),
+    }
+}
