@@ -1,16 +1,15 @@
 -- What pieces that stand apart hold, and what becomes of it as one more is woven in.
-use Rattle.std.proofs.Common.{◌≡◌, ℕ, zero, suc, ◌+◌, ◌-◌, ◌<◌, ◌≤◌, min, max, Bool, true, false, cond, ◌&&◌, List, [], ◌∷◌, ◌++◌, length, slice_index, slice_range, Option, Some, None, IsSome, is_some, ltb, leb, eqb, refl, sym, ap, ◌∙◌, subst, inl, inr, arith, take, drop, append-nil, drop-cons, get_or}
+use Rattle.std.proofs.Common.{◌≡◌, ℕ, suc, ◌+◌, ◌-◌, ◌<◌, ◌≤◌, min, max, cond, ◌&&◌, List, [], ◌∷◌, ◌++◌, length, slice_index, slice_range, Option, Some, None, ltb, leb, refl, sym, ap, ◌∙◌, subst, inl, inr, arith, drop, append-nil, drop-cons, get_or}
 use Rattle.std.specs.Option.{option_or}
 use Rattle.std.specs.Ordering.{nat_cmp}
 use Rattle.std.specs.Cmp.{nat_cmp_total}
 use Rattle.std.specs.FinMap.{get, empty, get-empty, same_map, nat_cmp-IsAntisymmetric}
 use Rattle.std.proofs.lemmas.Bool.{cond-true, cond-false, and_from, and_left, and_right, le-leb, lt-leb, lt-ltb, le-ltb, cases_lt}
-use Rattle.std.proofs.lemmas.Bool.Decides.{leb_tells}
 use Rattle.std.proofs.lemmas.List.{length-take-le, length-drop, get_or-take, get_or-drop}
 use Rattle.range_bytes.specs.declared.piece.Piece.{Piece}
-use Rattle.range_bytes.specs.Held.{Cell, Held, put_run, run_cell, IsFront, HoldsAll, bytes_at}
-use Rattle.range_bytes.specs.Pieces.{put_pieces, held_of, IsSized, IsApart, part_of, woven, bytes_from}
-use Rattle.range_bytes.proofs.Runs.{or_none, or_assoc, run_cell-in, run_cell-before, run_cell-after, get-put_run, bytes_at-append, bytes_at-run}
+use Rattle.range_bytes.specs.Held.{Cell, Held, put_run, run_cell}
+use Rattle.range_bytes.specs.Pieces.{put_pieces, held_of, IsSized, IsApart, part_of, woven}
+use Rattle.range_bytes.proofs.Runs.{or_none, or_assoc, run_cell-in, run_cell-before, run_cell-after, get-put_run}
 
 abbrev pub cell : Piece → ℕ → Option Cell
 cell piece q = run_cell piece.start piece.bytes piece.frame q

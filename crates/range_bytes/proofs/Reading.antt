@@ -1,13 +1,13 @@
 -- Pieces that stand apart, read one after the other.
-use Rattle.std.proofs.Common.{◌≡◌, ℕ, zero, suc, ◌+◌, ◌-◌, ◌<◌, ◌≤◌, min, max, Bool, true, false, cond, ◌&&◌, List, [], ◌∷◌, ◌++◌, length, slice_index, slice_range, Option, Some, None, IsSome, is_some, ◌⊎◌, ltb, leb, refl, sym, ap, ◌∙◌, subst, inl, inr, arith, take, drop, append-nil}
+use Rattle.std.proofs.Common.{◌≡◌, ℕ, ◌+◌, ◌-◌, ◌<◌, ◌≤◌, min, max, List, [], ◌∷◌, ◌++◌, length, slice_index, slice_range, Option, Some, IsSome, ◌⊎◌, ltb, leb, refl, sym, ap, ◌∙◌, subst, inl, inr, arith, take, drop, append-nil}
 use Rattle.std.specs.Option.{option_or}
 use Rattle.std.specs.FinMap.{get}
 use Rattle.std.proofs.lemmas.Bool.{cond-true, cond-false, and_from, and_left, and_right, le-leb, lt-leb, lt-ltb, le-ltb, cases_lt}
 use Rattle.std.proofs.lemmas.List.{length-take-le, length-drop}
 use Rattle.range_bytes.specs.declared.piece.Piece.{Piece}
-use Rattle.range_bytes.specs.Held.{Cell, Held, run_cell, IsFront, HoldsAll, bytes_at}
-use Rattle.range_bytes.specs.Pieces.{held_of, IsSized, IsApart, bytes_from}
-use Rattle.range_bytes.proofs.Runs.{run_cell-in, run_cell-before, run_cell-after, none_is_not_some, bytes_at-append, bytes_at-run}
+use Rattle.range_bytes.specs.Held.{Cell, Held, IsFront, HoldsAll, bytes_at}
+use Rattle.range_bytes.specs.Pieces.{held_of, IsApart, bytes_from}
+use Rattle.range_bytes.proofs.Runs.{run_cell-in, run_cell-after, none_is_not_some, bytes_at-append, bytes_at-run}
 use Rattle.range_bytes.proofs.PieceLemmas.{cell, found, get-held_of, found_before}
 
 -- all below a position is held, and what is held from it on is in the pieces that are left

@@ -1,12 +1,11 @@
 -- What a run of bytes leaves at each position.
-use Rattle.std.proofs.Common.{◌≡◌, ℕ, zero, suc, ◌+◌, ◌-◌, ◌<◌, ◌≤◌, Bool, true, false, cond, List, [], ◌∷◌, ◌++◌, length, slice_index, slice_range, Option, Some, None, IsSome, is_some, ltb, leb, eqb, refl, sym, ap, ◌∙◌, subst, inl, inr, ⊎_elim, arith, get_or, take, drop, drop-cons, le_antisymm}
+use Rattle.std.proofs.Common.{◌≡◌, ℕ, zero, suc, ◌+◌, ◌-◌, ◌<◌, ◌≤◌, Bool, false, cond, List, [], ◌∷◌, ◌++◌, length, slice_index, Option, Some, None, IsSome, is_some, ltb, leb, eqb, refl, sym, ap, ◌∙◌, subst, inl, inr, arith, take, drop, drop-cons}
 use Rattle.std.specs.Option.{option_or}
-use Rattle.std.specs.Ordering.{nat_cmp}
 use Rattle.std.specs.Cmp.{nat_cmp_total, unsigned_tied}
-use Rattle.std.specs.FinMap.{FinMap, get, insert, get-insert}
+use Rattle.std.specs.FinMap.{get, insert, get-insert}
 use Rattle.std.proofs.lemmas.Bool.{false≢true, cond-true, cond-false, and_from, and_left, and_right, le-leb, lt-leb, lt-ltb, le-ltb, eq-eqb, ne_eqb, cases_lt, cases_order}
 use Rattle.std.proofs.lemmas.Bool.Decides.{eqb_tells}
-use Rattle.range_bytes.specs.Held.{Cell, Held, put_new, put_run, run_cell, IsFront, HoldsAll, byte_of, frame_of, bytes_at}
+use Rattle.range_bytes.specs.Held.{Cell, Held, put_new, put_run, run_cell, IsFront, bytes_at}
 
 pub or_none : {X : Type 0} (o : Option X) → option_or o None ≡ o
 or_none None = refl

@@ -40,3 +40,9 @@ woven new at (piece ∷ pieces) = part_of new at (min new.end piece.start) ++ (p
 abbrev pub bytes_from : Piece → ℕ → ℕ → List ℕ
 bytes_from piece at to = if nat_le piece.start at && nat_lt at (min piece.end to)
     then slice_range piece.bytes (at - piece.start) (min piece.end to - piece.start) else []
+
+-- the frames of the pieces that have a byte from a position on, up to and without another
+abbrev pub frames_within : List Piece → ℕ → ℕ → List ℕ
+frames_within [] from to = []
+frames_within (piece ∷ pieces) from to =
+    if nat_lt (max piece.start from) (min piece.end to) then piece.frame ∷ frames_within pieces from to else frames_within pieces from to

@@ -1,8 +1,8 @@
 ghost use Rattle.std.specs.Prelude.{◌≡◌, ℕ, ◌-◌, ◌++◌, ◌<◌, ◌≤◌, max, OnOk, OnErr, IfOk};
-ghost use Rattle.range_bytes.specs.Held.{put_run, IsFront, HoldsAll, bytes_at};
-ghost use Rattle.range_bytes.specs.Pieces.{IsSized, IsApart, held_of, part_of, woven, bytes_from};
+ghost use Rattle.range_bytes.specs.Held.{put_run, IsFront, HoldsAll, bytes_at, frames_at};
+ghost use Rattle.range_bytes.specs.Pieces.{IsSized, IsApart, held_of, part_of, woven, bytes_from, frames_within as frames_of_pieces};
 
-use pk_base::{NoMemory, Octets};
+use pk_base::{NoMemory, Numbers, Octets};
 use std::alloc::Global;
 
 /// A run of bytes that one frame brought.
@@ -131,4 +131,35 @@ pub(crate) fn copy_of(
         at += part.len() as u64;
     }
     Octets::from_vec(bytes)
+}
+
+/// The frames that brought the bytes from position `from` up to and without `to`, all of which the pieces cover: in
+/// ascending order, each once.
+pub(crate) fn origins_of(
+    alloc: Global,
+    pieces: &[Piece],
+    from: u64,
+    to: u64,
+) -> Result<Numbers, NoMemory>
+    requires apart { (high : ℕ) × IsApart 0 pieces.now high }
+    requires held { HoldsAll (held_of pieces.now) from to }
+    ensures { IfOk result (λ numbers. numbers ≡ frames_at (held_of pieces.now) from (to - from)) }
+{
+    let mut frames = frames_within(alloc, pieces, from, to)?;
+    frames.sort_unstable();
+    frames.dedup();
+    Ok(Numbers::from_vec(frames))
+}
+
+/// The frames of the pieces that have a byte from position `from` up to and without `to`.
+fn frames_within(alloc: Global, pieces: &[Piece], from: u64, to: u64) -> Result<Vec<u32>, NoMemory>
+    ensures { IfOk result (λ frames. frames.items ≡ frames_of_pieces pieces.now from to) }
+{
+    let mut frames = Vec::new(alloc);
+    for piece in pieces {
+        if piece.start.max(from) < piece.end.min(to) {
+            frames.push(piece.frame)?;
+        }
+    }
+    Ok(frames)
 }

@@ -1,10 +1,10 @@
 ghost use Rattle.std.specs.Prelude.{◌≡◌, ◌+◌, ◌-◌, ◌^◌, ◌≤◌, length, IfOk, OnOk, OnErr};
 ghost use Rattle.std.specs.FinMap.{empty};
-ghost use Rattle.range_bytes.specs.Held.{put_run, IsFront, HoldsAll, bytes_at};
+ghost use Rattle.range_bytes.specs.Held.{put_run, IsFront, HoldsAll, bytes_at, frames_at};
 ghost use Rattle.range_bytes.specs.Pieces.{held_of, IsApart};
 
-use crate::piece::{Piece, copy_of, front_of, put};
-use pk_base::{NoMemory, Octets};
+use crate::piece::{Piece, copy_of, front_of, origins_of, put};
+use pk_base::{NoMemory, Numbers, Octets};
 use std::alloc::Global;
 use std::marker::Model;
 
@@ -81,5 +81,14 @@ impl Ranges {
         ensures { IfOk result (λ bytes. bytes ≡ bytes_at self.now from (to - from)) }
     {
         copy_of(self.alloc, &self.pieces, from, to)
+    }
+
+    /// The numbers of the frames that brought the bytes from position `from` up to and without `to`: in ascending order,
+    /// each once.
+    pub fn origins(&self, from: u64, to: u64) -> Result<Numbers, NoMemory>
+        requires { HoldsAll self.now from to }
+        ensures { IfOk result (λ numbers. numbers ≡ frames_at self.now from (to - from)) }
+    {
+        origins_of(self.alloc, &self.pieces, from, to)
     }
 }

@@ -47,3 +47,20 @@ fn no_bytes_change_nothing(rt: HostRuntime) -> Result<(), NoMemory> {
     assert_eq!(rt; ranges.front(), 0);
     Ok(())
 }
+
+#[test]
+fn origins_ascend_and_stand_once(rt: HostRuntime) -> Result<(), NoMemory> {
+    let alloc = rt.alloc();
+    let mut ranges = Ranges::new(alloc);
+    ranges.insert(4, &octets(alloc, b"ef")?, 9)?;
+    ranges.insert(0, &octets(alloc, b"ab")?, 7)?;
+    ranges.insert(1, &octets(alloc, b"bcdefgh")?, 2)?;
+    ranges.insert(8, &octets(alloc, b"i")?, 7)?;
+    assert_eq!(rt; ranges.front(), 9);
+    assert!(rt; ranges.origins(0, 9)?.slice() == [2, 7, 9].as_slice());
+    assert!(rt; ranges.origins(3, 6)?.slice() == [2, 9].as_slice());
+    assert!(rt; ranges.origins(5, 6)?.slice() == [9].as_slice());
+    assert!(rt; ranges.origins(0, 2)?.slice() == [7].as_slice());
+    assert!(rt; ranges.origins(4, 4)?.slice().is_empty());
+    Ok(())
+}

@@ -1,4 +1,4 @@
-use Rattle.std.proofs.Common.{◌≡◌, ◌++◌, ℕ, List, subst, sym, ap, ◌∙◌, drop_of_length-le, rules}
+use Rattle.std.proofs.Common.{ℕ, List, subst, sym, ◌∙◌, drop_of_length-le}
 use Rattle.std.proofs.lemmas.Result.{IfOk-weaker}
 use Rattle.range_bytes.specs.declared.piece.Piece.{Piece}
 use Rattle.range_bytes.specs.Pieces.{held_of, bytes_from}

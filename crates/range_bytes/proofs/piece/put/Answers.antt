@@ -1,4 +1,4 @@
-use Rattle.std.proofs.Common.{◌≡◌, List, subst, sym, ap, ◌∙◌, arith, max}
+use Rattle.std.proofs.Common.{List, subst, sym, ap, ◌∙◌, arith, max}
 use Rattle.std.specs.FinMap.{empty}
 use Rattle.range_bytes.specs.declared.piece.Piece.{Piece}
 use Rattle.range_bytes.specs.Pieces.{held_of, IsApart, woven}
