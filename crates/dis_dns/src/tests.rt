@@ -417,14 +417,22 @@ fn data_is_read_by_its_type(rt: HostRuntime) -> Result<(), NoMemory> {
             " dns.mx.preference=10 dns.mx.mail_exchange=mx@25+4",
         ),
         (
+            15,
+            b"\0\x0a\xc0\x0c\0",
+            " dns.mx.preference=10 dns.mx.mail_exchange=<Root>@25+2",
+        ),
+        (
             6,
             b"\x01m\0\x01r\xc0\x17\0\0\0\x01\0\0\0\x02\0\0\0\x03\0\0\0\x04\0\0\0\x05",
             " dns.soa.mname=m@23+3 dns.soa.rname=r.m@26+4 dns.soa.serial_number=1 dns.soa.refresh_interval=2 \
             dns.soa.retry_interval=3 dns.soa.expire_limit=4 dns.soa.minimum_ttl=5",
         ),
         (16, b"\x02ab\0\x01c", " dns.txt=ab dns.txt= dns.txt=c"),
+        (16, b"\0", " dns.txt="),
         (16, b"", ""),
+        (33, b"\0\x01", " dns.data=[0, 1]"),
         (41, b"\x07", " dns.data=[7]"),
+        (0, b"", ""),
     ] {
         check_data(
             &rt,
@@ -468,6 +476,199 @@ fn rows_that_leave_their_data_do_not_fit(rt: HostRuntime) -> Result<(), NoMemory
         }
     }
     Ok(())
+}
+
+#[test]
+fn names_and_numbers_may_fit_though_the_length_runs_past_the_message(
+    rt: HostRuntime,
+) -> Result<(), NoMemory> {
+    for (kind, data, items) in [
+        (2, b"\x02ns\0".as_slice(), " dns.ns=ns@23+4\n"),
+        (5, b"\xc0\x0c", " dns.cname=<Root>@23+2\n"),
+        (12, b"\0", " dns.ptr.domain_name=<Root>@23+1\n"),
+        (
+            15,
+            b"\0\x05\0",
+            " dns.mx.preference=5 dns.mx.mail_exchange=<Root>@25+1\n",
+        ),
+        (
+            6,
+            b"\0\0\0\0\0\x01\0\0\0\x02\0\0\0\x03\0\0\0\x04\0\0\0\x05",
+            " dns.soa.mname=<Root>@23+1 dns.soa.rname=<Root>@24+1 dns.soa.serial_number=1 dns.soa.refresh_interval=2 \
+            dns.soa.retry_interval=3 dns.soa.expire_limit=4 dns.soa.minimum_ttl=5\n",
+        ),
+    ] {
+        check_data(&rt, rt.alloc(), (kind, 200, true), data, &[items])?;
+    }
+    Ok(())
+}
+
+/// Reads an answer of the root, whose data ends with the message before a row that doesn't fit, and compares the items
+/// before that row.
+fn check_cut_data(
+    rt: &impl Abort,
+    alloc: Global,
+    (kind, len): (u8, u8),
+    data: &[u8],
+    items: &str,
+) -> Result<(), NoMemory> {
+    assert!(rt; data.len() <= 20);
+    let end = 23 + data.len();
+    let short = format!(in alloc; "\n_ws.short {end}+0:\n")?;
+    check_data(rt, alloc, (kind, len, true), data, &[items, short.as_str()])?;
+    let malformed = format!(in alloc; "\n_ws.malformed {end}+0:\n")?;
+    check_data(
+        rt,
+        alloc,
+        (kind, len, false),
+        data,
+        &[items, malformed.as_str()],
+    )
+}
+
+#[test]
+fn rows_that_leave_the_message_do_not_fit(rt: HostRuntime) -> Result<(), NoMemory> {
+    for (kind, len, data, items) in [
+        (1, 4, b"\x0a\0\x02".as_slice(), ""),
+        (28, 16, b"\x20\x01\x0d\xb8", ""),
+        (41, 2, b"\x07", ""),
+        (2, 200, b"\x02n", ""),
+        (5, 200, b"\xc0", ""),
+        (12, 200, b"", ""),
+        (15, 200, b"\0", ""),
+        (15, 200, b"\0\x05", " dns.mx.preference=5"),
+        (6, 200, b"\0", " dns.soa.mname=<Root>@23+1"),
+        (
+            6,
+            200,
+            b"\0\0\0\0\0\x01\0\0\0",
+            " dns.soa.mname=<Root>@23+1 dns.soa.rname=<Root>@24+1 dns.soa.serial_number=1",
+        ),
+        (16, 200, b"\x02ab", " dns.txt=ab"),
+        (16, 200, b"\0\x05ab", " dns.txt="),
+    ] {
+        check_cut_data(&rt, rt.alloc(), (kind, len), data, items)?;
+    }
+    Ok(())
+}
+
+/// Reads two answers, of which the first has six bytes of data from byte 23 on and the second a name of two bytes behind
+/// them, and compares that name. With no text it is malformed.
+fn check_pointer(
+    rt: &impl Abort,
+    alloc: Global,
+    data: &[u8],
+    pointer: &[u8],
+    text: &str,
+) -> Result<(), NoMemory> {
+    let first = format!(in alloc;
+        " dns.resp.name=<Root>@12+1 dns.resp.type=10 dns.resp.class=1 dns.resp.ttl=0 dns.resp.len=6 dns.data={data:?}"
+    )?;
+    let second = format!(in alloc;
+        " dns.resp.name={text}@29+2 dns.resp.type=41 dns.resp.class=1 dns.resp.ttl=0 dns.resp.len=0\n"
+    )?;
+    let end = if text.is_empty() {
+        "\n_ws.malformed 41+0:\n"
+    } else {
+        second.as_str()
+    };
+    check(
+        rt,
+        alloc,
+        DATAGRAM,
+        &[
+            RESPONSE,
+            b"\0\0\0\x02\0\0\0\0",
+            b"\0\0\x0a\0\x01\0\0\0\0\0\x06",
+            data,
+            pointer,
+            b"\0\x29\0\x01\0\0\0\0\0\0",
+        ],
+        &[
+            "dns 0+41:",
+            RESPONSE_ITEMS,
+            " dns.count.queries=0 dns.count.answers=2 dns.count.auth_rr=0 dns.count.add_rr=0",
+            first.as_str(),
+            end,
+        ],
+    )
+}
+
+#[test]
+fn pointers_lead_to_earlier_runs_alone(rt: HostRuntime) -> Result<(), NoMemory> {
+    for (data, pointer, text) in [
+        // 27 leads to 25, that to 23, and that to the root at 12, past itself, to itself, or out of the message.
+        (b"\xc0\x0c\xc0\x17\xc0\x19", b"\xc0\x1b", "<Root>"),
+        (b"\xc0\x0c\xc0\x17\xc0\x19", b"\xc0\x17", "<Root>"),
+        (b"\xc0\x18\xc0\x17\xc0\x19", b"\xc0\x1b", ""),
+        (b"\xc0\x1d\xc0\x17\xc0\x19", b"\xc0\x1b", ""),
+        (b"\xc0\x17\xc0\x17\xc0\x19", b"\xc0\x1b", ""),
+        (b"\xff\xff\xc0\x17\xc0\x19", b"\xc0\x1b", ""),
+        // 23 is no length.
+        (b"\x40\0\xc0\x17\xc0\x19", b"\xc0\x1b", ""),
+        // 27 and 25 lead to each other.
+        (b"\0\0\xc0\x1b\xc0\x19", b"\xc0\x1b", ""),
+        // A label before the root, then in the middle of it.
+        (b"\x01a\xc0\x0c\xc0\x17", b"\xc0\x1b", "a"),
+        (b"\x01a\xc0\x0c\xc0\x17", b"\xc0\x18", ""),
+        (b"\x01a\xc0\x0c\xc0\x17", b"\xc0\x19", "<Root>"),
+        // A label before a chain; two labels; the second of two names.
+        (b"\xc0\x0c\x01b\xc0\x17", b"\xc0\x19", "b"),
+        (b"\x01a\x01b\xc0\x0c", b"\xc0\x17", "a.b"),
+        (b"\x01a\0\x01b\0", b"\xc0\x1a", "b"),
+        // The pointer behind a label leads to the run that it ends.
+        (b"\x01b\xc0\x17\0\0", b"\xc0\x17", ""),
+        (b"\x01b\xc0\x17\0\0", b"\xc0\x19", ""),
+        // The last byte of the data is no pointer to an earlier run with what follows it.
+        (b"\0\0\0\0\0\xc0", b"\xc0\x1c", ""),
+        // In the header: a zero, a reserved length.
+        (b"\0\0\0\0\0\0", b"\xc0\0", "<Root>"),
+        (b"\0\0\0\0\0\0", b"\xc0\x02", ""),
+    ] {
+        check_pointer(&rt, rt.alloc(), data, pointer, text)?;
+    }
+    Ok(())
+}
+
+#[test]
+fn a_long_chain_of_pointers_is_followed_once(rt: HostRuntime) -> Result<(), NoMemory> {
+    // Of 8,000 pointers in the first answer's data, from byte 36 on, each leads to the one before it, and the names of
+    // 4,000 more answers to the last. Reading the chain for each name would take 32 million steps.
+    let mut records = Vec::new(rt.alloc());
+    for number in 0..7_999u16 {
+        let pointer = 0xc024 + 2 * number;
+        records.extend_from_slice(&pointer.to_be_bytes())?;
+    }
+    let mut items = String::new(rt.alloc());
+    for number in 0..4_000u32 {
+        records.extend_from_slice(b"\xfe\xa2\0\x29\0\x01\0\0\0\0\0\0")?;
+        let item = format!(in rt.alloc();
+            " dns.resp.name=h.test@{}+2 dns.resp.type=41 dns.resp.class=1 dns.resp.ttl=0 dns.resp.len=0",
+            16_036 + 12 * number
+        )?;
+        items.push_str(&item)?;
+    }
+    check(
+        &rt,
+        rt.alloc(),
+        DATAGRAM,
+        &[
+            RESPONSE,
+            b"\0\x01\x0f\xa1\0\0\0\0",
+            H_TEST,
+            b"\xc0\x0c\0\x02\0\x01\0\0\0\0\x3e\x80\xc0\x0c",
+            &records,
+        ],
+        &[
+            "dns 0+64036:",
+            RESPONSE_ITEMS,
+            " dns.count.queries=1 dns.count.answers=4001 dns.count.auth_rr=0 dns.count.add_rr=0",
+            " dns.qry.name=h.test@12+8 dns.qry.type=1 dns.qry.class=1 dns.resp.name=h.test@24+2 dns.resp.type=2 \
+            dns.resp.class=1 dns.resp.ttl=0 dns.resp.len=16000 dns.ns=h.test@36+2",
+            items.as_str(),
+            "\n",
+        ],
+    )
 }
 
 #[test]
