@@ -15,6 +15,8 @@ mod state;
 mod steps;
 mod strings;
 mod tails;
+#[cfg(test)]
+mod tests;
 mod token;
 mod word;
 
