@@ -1,10 +1,10 @@
 -- What fragments hold together, as one more is taken.
-use Rattle.std.proofs.Common.{◌≡◌, ℕ, zero, suc, ◌+◌, ◌<◌, ◌≤◌, Bool, true, false, cond, ◌&&◌, List, [], ◌∷◌, ◌++◌, Option, None, Some, IsSome, is_some, refl, sym, ap, ◌∙◌, inl, inr, arith}
+use Rattle.std.proofs.Common.{◌≡◌, ℕ, zero, suc, ◌<◌, ◌≤◌, Bool, true, false, cond, ◌&&◌, List, [], ◌∷◌, ◌++◌, Option, Some, is_some, refl, ap, ◌∙◌, inl, inr, arith}
 use Rattle.std.specs.FinMap.{get, empty}
-use Rattle.std.proofs.lemmas.Bool.{cases_lt, cases_eq, and_parts}
+use Rattle.std.proofs.lemmas.Bool.{cases_lt}
 use Rattle.range_bytes.specs.Held.{Held, put_run, IsFront, HoldsAll}
 use Rattle.ip_join.specs.declared.fragment.Fragment.{Fragment}
-use Rattle.ip_join.specs.Fragments.{end_of, put_fragments, map_of, end_after, known_end, holds_below}
+use Rattle.ip_join.specs.Fragments.{end_of, put_fragments, map_of, end_after, holds_below}
 
 put_fragments-push : (held : Held) (gs : List Fragment) (f : Fragment) → put_fragments held (gs ++ f ∷ []) ≡ put_run (put_fragments held gs) f.head.offset f.bytes f.frame
 put_fragments-push held [] f = refl

@@ -1,7 +1,7 @@
 -- Keys tie exactly where two fragments are of one datagram.
-use Rattle.std.proofs.Common.{◌≡◌, ◌==◌, ℕ, Bool, true, false, cond, ◌&&◌, ◌||◌, eqb, refl, sym, ap, ◌∙◌}
+use Rattle.std.proofs.Common.{◌≡◌, ◌==◌, ℕ, Bool, true, false, cond, ◌&&◌, ◌||◌, refl, ap, ◌∙◌}
 use Rattle.std.specs.Bool.{beq}
-use Rattle.std.specs.Ordering.{nat_cmp, bool_cmp, ordering_then, is_eq, eq_by_cmp}
+use Rattle.std.specs.Ordering.{nat_cmp, ordering_then, is_eq, eq_by_cmp}
 use Rattle.std.specs.Cmp.{unsigned_tied}
 use Rattle.std.specs.declared.cmp.Ordering.{Ordering}
 use Rattle.std.specs.declared.cmp.Ordering.TheVariants.{Less, Equal, Greater}
@@ -9,7 +9,6 @@ use Rattle.std.proofs.lemmas.Bool.{false≢true, and_parts, eqb-true}
 use Rattle.pk_tree.specs.declared.heads.Address.{Address}
 use Rattle.pk_tree.specs.declared.heads.Address.TheVariants.{Four, Six}
 use Rattle.pk_tree.specs.declared.heads.FragmentHead.{FragmentHead}
-use Rattle.ip_join.specs.declared.key.Host.{Host}
 use Rattle.ip_join.specs.declared.key.Key.{Key}
 use Rattle.ip_join.specs.Keys.{same_address, same_key}
 use Rattle.ip_join.specs.KeyOrder.{host_of, key_of, host_cmp, key_cmp}

@@ -2,3 +2,4 @@ pub mod KeyLemmas
 pub mod FragmentLemmas
 pub mod StandsLemmas
 pub mod Taking
+pub mod FramesAsideLemmas

@@ -1,5 +1,5 @@
 -- What becomes of what the joins stand for as one fragment more is taken; and that only its own datagram's bear on it.
-use Rattle.std.proofs.Common.{◌≡◌, Bool, true, false, cond, List, [], ◌∷◌, ◌++◌, Option, None, Some, filter, unwrap_or, refl, sym, ap, ◌∙◌, inl, inr}
+use Rattle.std.proofs.Common.{◌≡◌, Bool, true, false, cond, List, [], ◌∷◌, ◌++◌, Option, None, unwrap_or, refl, sym, ap, ◌∙◌, inl, inr}
 use Rattle.std.specs.BTreeMap as tree
 use Rattle.std.specs.Ordering.{eq_by_cmp}
 use Rattle.std.proofs.lemmas.Bool.{cases_Bool, cond-true, cond-false}

@@ -1,12 +1,12 @@
 -- A fragment's answer, and what the joins stand for afterwards.
-use Rattle.std.proofs.Common.{◌≡◌, Bool, cond, List, [], ◌∷◌, ◌++◌, Option, None, Some, unwrap_or, refl, sym, ap, ◌∙◌}
+use Rattle.std.proofs.Common.{◌≡◌, cond, List, [], ◌∷◌, ◌++◌, Option, None, Some, unwrap_or, sym, ap, ◌∙◌}
 use Rattle.std.specs.BTreeMap as tree
 use Rattle.std.specs.Ordering.{eq_by_cmp}
 use Rattle.ip_join.specs.declared.joins.Joins.{Joins}
 use Rattle.ip_join.specs.declared.joined.ConflictKind.{ConflictKind}
 use Rattle.ip_join.specs.declared.joined.Datagram.{Datagram}
 use Rattle.ip_join.specs.declared.joined.Joined.{Joined}
-use Rattle.ip_join.specs.declared.joined.Joined.TheVariants.{Pending, Whole, Conflict}
+use Rattle.ip_join.specs.declared.joined.Joined.TheVariants.{Pending, Conflict}
 use Rattle.ip_join.specs.declared.fragment.Fragment.{Fragment}
 use Rattle.ip_join.specs.declared.key.Key.{Key}
 use Rattle.ip_join.specs.KeyOrder.{key_of, key_cmp}

@@ -1,5 +1,5 @@
 -- What a fragment makes of the fragments of its datagram that were taken before it.
-use Rattle.std.specs.Prelude.{◌==◌, ◌&&◌, ◌||◌, not, ℕ, ◌+◌, Bool, false, List, [], ◌∷◌, ◌++◌, map, if◌then◌else◌, Option, None, Some, nat_lt, find, unwrap_or, option_map}
+use Rattle.std.specs.Prelude.{◌==◌, ◌&&◌, ◌||◌, not, ℕ, Bool, false, List, [], ◌∷◌, ◌++◌, map, if◌then◌else◌, Option, None, Some, nat_lt, find, unwrap_or, option_map}
 use Rattle.std.specs.List.{list_any}
 use Rattle.pk_tree.specs.declared.heads.FragmentHead.{FragmentHead}
 use Rattle.range_bytes.specs.Held.{bytes_at}

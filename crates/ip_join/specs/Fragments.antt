@@ -1,6 +1,6 @@
 -- Fragments, and what several of one datagram hold together (RFC 791, 3.2; RFC 8200, 4.5). The fragments of one datagram
 -- are listed in the order in which they were taken.
-use Rattle.std.specs.Prelude.{◌≡◌, ◌==◌, ◌&&◌, ℕ, zero, suc, ◌+◌, ◌≤◌, min, max, Bool, true, List, [], ◌∷◌, length, if◌then◌else◌, Option, None, Some, is_some, nat_lt, bytes_eq}
+use Rattle.std.specs.Prelude.{◌==◌, ◌&&◌, ℕ, zero, suc, ◌+◌, min, max, Bool, true, List, [], ◌∷◌, length, if◌then◌else◌, Option, None, Some, is_some, nat_lt, bytes_eq}
 use Rattle.std.specs.FinMap.{get, empty}
 use Rattle.range_bytes.specs.Held.{Held, put_run}
 use Rattle.ip_join.specs.declared.fragment.Fragment.{Fragment}

@@ -1,5 +1,5 @@
 -- The keys by which the joins keep datagrams that aren't whole yet, and their order.
-use Rattle.std.specs.Prelude.{ℕ, Bool, true, false, if◌then◌else◌}
+use Rattle.std.specs.Prelude.{true, false, if◌then◌else◌}
 use Rattle.std.specs.Ordering.{nat_cmp, bool_cmp, ordering_then}
 use Rattle.std.specs.declared.cmp.Ordering.{Ordering}
 use Rattle.pk_tree.specs.declared.heads.Address.{Address}

@@ -1,6 +1,6 @@
 -- Which fragments are of one datagram: IPv4 fragments with the same source, destination, protocol and identification
 -- (RFC 791, 3.2), and IPv6 fragments with the same source, destination and identification (RFC 8200, 4.5).
-use Rattle.std.specs.Prelude.{ℕ, ◌==◌, ◌&&◌, ◌||◌, Bool, false}
+use Rattle.std.specs.Prelude.{◌==◌, ◌&&◌, ◌||◌, Bool, false}
 use Rattle.std.specs.Bool.{beq}
 use Rattle.pk_tree.specs.declared.heads.Address.{Address}
 use Rattle.pk_tree.specs.declared.heads.Address.TheVariants.{Four, Six}

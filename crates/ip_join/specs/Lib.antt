@@ -3,3 +3,4 @@ pub mod Keys
 pub mod KeyOrder
 pub mod Datagrams
 pub mod Stands
+pub mod FramesAside

@@ -1,10 +1,11 @@
-ghost use Rattle.std.specs.Prelude.{◌≡◌, true, [], ◌∷◌, cond, unwrap_or, List, None, Some, IfOk, OnOk};
+ghost use Rattle.std.specs.Prelude.{◌≡◌, ℕ, true, [], ◌∷◌, map, cond, unwrap_or, List, None, Some, IfOk, OnOk};
 ghost use Rattle.std.specs.BTreeMap as tree;
 ghost use Rattle.std.specs.Ordering.{eq_by_cmp};
 ghost use Rattle.ip_join.specs.declared.fragment.Fragment.{Fragment as FragmentValue};
 ghost use Rattle.ip_join.specs.declared.key.Key.{Key as KeyValue};
 ghost use Rattle.ip_join.specs.KeyOrder.{key_cmp};
 ghost use Rattle.ip_join.specs.Stands.{Stands, joined_by, of_key};
+ghost use Rattle.ip_join.specs.FramesAside.{unframed, frames_aside};
 
 use crate::fragment::Fragment;
 use crate::joined::Joined;
@@ -50,6 +51,10 @@ impl Joins {
         ensures isolated { IfOk result (λ joined. (past others : List FragmentValue) → Stands past self.old
             → of_key head.now past ≡ of_key head.now others
             → joined ≡ joined_by others (record { head = head.now; frame = frame; bytes = payload.now })) }
+        // and whatever the numbers of the frames, but for those in the answer
+        ensures renumbered { IfOk result (λ joined. (past others : List FragmentValue) (number : ℕ) → Stands past self.old
+            → map unframed (of_key head.now past) ≡ map unframed (of_key head.now others)
+            → frames_aside joined ≡ frames_aside (joined_by others (record { head = head.now; frame = number; bytes = payload.now }))) }
     {
         self.join(Fragment {
             head: *head,

@@ -1,4 +1,4 @@
-use Rattle.std.proofs.Common.{◌≡◌, ℕ, Bool, Option, Some, None, cond, sym, ap}
+use Rattle.std.proofs.Common.{Bool, Some, None, cond, sym, ap}
 use Rattle.ip_join.proofs.FragmentLemmas.{holds_below_front, not_held_past}
 use Rattle.ip_join.proofs.parts.end_if_held.Goals as goal
 

@@ -1,5 +1,4 @@
-use Rattle.std.proofs.Common.{◌≡◌, List, [], sym, ap, ◌∙◌, refl, Option}
-use Rattle.ip_join.specs.declared.joined.Datagram.{Datagram}
+use Rattle.std.proofs.Common.{◌≡◌, sym, ap, ◌∙◌, refl}
 use Rattle.ip_join.specs.declared.joined.Joined.TheVariants.{Pending, Whole, Conflict}
 use Rattle.ip_join.specs.Datagrams.{completed}
 use Rattle.ip_join.proofs.Taking.{counted_parts, conflict_is, completed_is, stands_gone, stands_kept}

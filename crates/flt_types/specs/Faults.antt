@@ -1,0 +1,175 @@
+-- The faults of a syntax tree, in the order in which they are looked for: the tests from left to right; in each the left
+-- operand from inside out, the operator for its kind, the right side from left to right, the two kinds together. Only
+-- the first one counts, so what stands behind one may be anything.
+use Rattle.std.specs.Prelude.{◌≡◌, ◌⊎◌, ℕ, Bool as Truth, true, false, List, [], ◌∷◌, ◌++◌, Option, Some, None}
+use Rattle.std.specs.Option.{option_map}
+use Rattle.flt_parse.specs.Written.{Written, WrittenOperand, WrittenTail, TextOf, NamedOf, OnLayerOf, OnLayersOf, SlicedOf, MaskedOf, CalledOf, CompareOf, InOf, MatchesOf, JoinedOf, NotOf, GroupOf, AloneOf, TestOf}
+use Rattle.flt_parse.specs.declared.ast.Element.{Element}
+use Rattle.flt_parse.specs.declared.ast.Element.TheVariants as elements
+use Rattle.flt_parse.specs.declared.ast.Function.{Function}
+use Rattle.flt_parse.specs.declared.ast.Function.TheVariants.{Len, Count, Upper, Lower}
+use Rattle.flt_parse.specs.declared.ast.LayerRange.{LayerRange}
+use Rattle.flt_parse.specs.declared.ast.Literal.{Literal}
+use Rattle.flt_parse.specs.declared.ast.SliceRange.{SliceRange}
+use Rattle.flt_parse.specs.declared.fault.FilterError.{FilterError}
+use Rattle.flt_parse.specs.declared.fault.FilterError.TheVariants.{Fault, NoMemory}
+use Rattle.flt_parse.specs.declared.fault.FilterReason.{FilterReason}
+use Rattle.flt_parse.specs.declared.fault.FilterReason.TheVariants.{UnknownField, TypeMismatch, OutOfRange, BadPattern, PatternSize}
+use Rattle.flt_parse.specs.declared.word.Word.{Word}
+use Rattle.flt_pattern.specs.Patterns.{IsPattern, IsNoPattern, MayBeLarge}
+use Rattle.flt_types.specs.Layers.{is_layer, is_layers}
+use Rattle.flt_types.specs.Literals.{end_read, literal_of, literal_read, place_of_literal, side_read}
+use Rattle.flt_types.specs.Ranges.{is_range}
+use Rattle.flt_types.specs.Typing.{relation_of}
+use Rattle.flt_values.specs.Kinds.{is_masked, is_searched, is_sliced, kind_of_call, same_class, takes, takes_call}
+use Rattle.flt_values.specs.Literals.{word_read}
+use Rattle.flt_values.specs.declared.literal.Reading.{Reading}
+use Rattle.flt_values.specs.declared.literal.Reading.TheVariants.{Reads, Beyond, Unread}
+use Rattle.flt_values.specs.declared.relation.Relation.{Relation}
+use Rattle.pk_fields.specs.Fields.{field_named, row_of}
+use Rattle.pk_fields.specs.declared.value_kind.ValueKind.{ValueKind}
+use Rattle.pk_fields.specs.declared.value_kind.ValueKind.TheVariants as kinds
+
+-- a fault at a place, or a pattern at its place, whose own fault no definition computes
+pub data Found : Type 0 where
+  At : (place : ℕ) (reason : FilterReason) → Found
+  PatternAt : (place : ℕ) (pattern : List ℕ) → Found
+
+abbrev pub unless : Truth → ℕ → FilterReason → List Found
+unless true at reason = []
+unless false at reason = At at reason ∷ []
+
+-- the faults for a kind, where there is one; it is wanting only behind another fault
+abbrev pub given : Option ValueKind → (ValueKind → List Found) → List Found
+given None found = []
+given (Some kind) found = found kind
+
+-- a word that is no name; where a literal may stand it is one, and what is around it gets the blame, as that takes none
+abbrev pub unknown : Option ℕ → ℕ → Option ℕ → List Found
+unknown blame at (Some field) = []
+unknown None at None = At at UnknownField ∷ []
+unknown (Some around) at None = At around TypeMismatch ∷ []
+
+abbrev pub misplaced : Option ℕ → ℕ → List Found
+misplaced None at = At at TypeMismatch ∷ []
+misplaced (Some around) at = At around TypeMismatch ∷ []
+
+-- only on the right side is what would be a literal blamed on what is around it
+abbrev pub around : Truth → ℕ → Option ℕ
+around true at = Some at
+around false at = None
+
+abbrev pub layers_faults : List LayerRange → List Found
+layers_faults [] = []
+layers_faults (r ∷ rs) = unless (is_layers r) r.at OutOfRange ++ layers_faults rs
+
+abbrev pub ranges_faults : List SliceRange → List Found
+ranges_faults [] = []
+ranges_faults (r ∷ rs) = unless (is_range r.part) r.at OutOfRange ++ ranges_faults rs
+
+abbrev pub reading_faults : ℕ → Reading → List Found
+reading_faults at (Reads constant) = []
+reading_faults at Beyond = At at OutOfRange ∷ []
+reading_faults at Unread = At at TypeMismatch ∷ []
+
+-- the kind of what is written, where its names are fields
+abbrev pub kind_named : List ℕ → Option ValueKind
+kind_named name = option_map (λ field. (row_of field).kind) (field_named name)
+
+abbrev pub kind_written : WrittenOperand → Option ValueKind
+kind_written (TextOf q) = None
+kind_written (NamedOf w) = kind_named w.text
+kind_written (OnLayerOf w l) = kind_named w.text
+kind_written (OnLayersOf w ls) = kind_named w.text
+kind_written (SlicedOf o at rs) = Some kinds.Bytes
+kind_written (MaskedOf o at w) = kind_written o
+kind_written (CalledOf f at o) = Some (kind_of_call f)
+
+abbrev pub is_name : WrittenOperand → Truth
+is_name (NamedOf w) = true
+is_name (OnLayerOf w l) = true
+is_name (OnLayersOf w ls) = true
+is_name o = false
+
+abbrev pub takes_written : Function → WrittenOperand → ValueKind → Truth
+takes_written Count o kind = is_name o
+takes_written function o kind = takes_call function kind
+
+-- of what is around an operand: a slice, a mask, a function; the operand has this kind
+abbrev pub slice_faults : ℕ → List SliceRange → ValueKind → List Found
+slice_faults at rs kind = unless (is_sliced kind) at TypeMismatch ++ ranges_faults rs
+
+abbrev pub mask_faults : ℕ → Word → ValueKind → List Found
+mask_faults at w kind = unless (is_masked kind) at TypeMismatch ++ reading_faults w.at (word_read false kind w.text)
+
+abbrev pub call_faults : Function → ℕ → WrittenOperand → ValueKind → List Found
+call_faults f at o kind = unless (takes_written f o kind) at TypeMismatch
+
+-- of an operand, on the right side or not, and what is blamed for a literal in its place
+abbrev pub operand_faults : Truth → Option ℕ → WrittenOperand → List Found
+operand_faults right blame (TextOf q) = misplaced blame q.at
+operand_faults right blame (NamedOf w) = unknown blame w.at (field_named w.text)
+operand_faults right blame (OnLayerOf w l) = unknown None w.at (field_named w.text) ++ unless (is_layer l) l.at OutOfRange
+operand_faults right blame (OnLayersOf w ls) = unknown None w.at (field_named w.text) ++ layers_faults ls
+operand_faults right blame (SlicedOf o at rs) = operand_faults right None o ++ given (kind_written o) (slice_faults at rs)
+operand_faults right blame (MaskedOf o at w) = operand_faults right (around right at) o ++ given (kind_written o) (mask_faults at w)
+operand_faults right blame (CalledOf f at o) = operand_faults right (around right at) o ++ given (kind_written o) (call_faults f at o)
+
+-- of a right side, for a left operand of a kind
+abbrev pub class_faults : ℕ → ValueKind → ValueKind → List Found
+class_faults at kind other = unless (same_class kind other) at TypeMismatch
+
+abbrev pub right_faults : Relation → ℕ → ValueKind → WrittenOperand → Option Literal → List Found
+right_faults relation at kind o (Some literal) = reading_faults (place_of_literal literal) (side_read relation kind literal)
+right_faults relation at kind o None =
+    operand_faults true None o ++ given (kind_written o) (class_faults at kind)
+
+abbrev pub element_faults : ValueKind → Element → List Found
+element_faults kind (elements.One literal) = reading_faults (place_of_literal literal) (literal_read true kind literal)
+element_faults kind (elements.Between low high) =
+    reading_faults (place_of_literal low) (end_read kind low) ++ reading_faults (place_of_literal high) (end_read kind high)
+
+abbrev pub elements_faults : ValueKind → List Element → List Found
+elements_faults kind [] = []
+elements_faults kind (e ∷ es) = element_faults kind e ++ elements_faults kind es
+
+abbrev pub tail_faults : WrittenTail → ValueKind → List Found
+tail_faults (CompareOf operator at o) kind =
+    unless (takes (relation_of operator) kind) at TypeMismatch ++ right_faults (relation_of operator) at kind o (literal_of o)
+tail_faults (InOf negated es) kind = elements_faults kind es
+tail_faults (MatchesOf at q) kind = unless (is_searched kind) at TypeMismatch ++ PatternAt q.at q.bytes ∷ []
+
+-- a call doesn't stand alone
+abbrev pub alone_faults : WrittenOperand → List Found
+alone_faults (CalledOf f at o) = At at TypeMismatch ∷ []
+alone_faults o = []
+
+abbrev pub faults : Written → List Found
+faults (JoinedOf j l r) = faults l ++ faults r
+faults (NotOf n t) = faults t
+faults (GroupOf t) = faults t
+faults (AloneOf o) = operand_faults false None o ++ alone_faults o
+faults (TestOf choice o tail) = operand_faults false None o ++ given (kind_written o) (tail_faults tail)
+
+-- there is none: each pattern is one
+abbrev pub IsClear : List Found → Type 0
+IsClear [] = Unit {0}
+IsClear (At place reason ∷ found) = ⊥
+IsClear (PatternAt place pattern ∷ found) = IsPattern pattern × IsClear found
+
+-- why a pattern is refused: it is none, or it may take too much room
+abbrev pub IsPatternFault : List ℕ → FilterReason → Type 0
+IsPatternFault pattern BadPattern = IsNoPattern pattern
+IsPatternFault pattern PatternSize = MayBeLarge pattern
+IsPatternFault pattern reason = ⊥
+
+-- the first fault stands at a place and has a reason: a pattern in front of it may be refused in its stead
+abbrev pub IsFirst : List Found → ℕ → FilterReason → Type 0
+IsFirst [] at reason = ⊥
+IsFirst (At place why ∷ found) at reason = (place ≡ at) × (why ≡ reason)
+IsFirst (PatternAt place pattern ∷ found) at reason =
+    ((place ≡ at) × IsPatternFault pattern reason) ⊎ (IsPattern pattern × IsFirst found at reason)
+
+abbrev pub IsAnswer : List Found → FilterError → Type 0
+IsAnswer found NoMemory = Unit {0}
+IsAnswer found (Fault fault) = IsFirst found fault.at fault.reason

@@ -1,0 +1,7 @@
+pub mod Faults
+pub mod Layers
+pub mod Literals
+pub mod Ranges
+pub mod Terms
+pub mod Texts
+pub mod Typing

@@ -1,0 +1,238 @@
+// The tests of a filter: what is asked of the values of a left operand.
+ghost use Rattle.std.specs.Prelude.{◌≡◌, [], ◌∷◌, ◌++◌, ℕ, List, None, IfOk, IfErr, OnOk, IsTrue};
+ghost use Rattle.flt_parse.specs.Written.{WrittenOperand, operand_of, tail_of, CompareOf, InOf, MatchesOf, AloneOf, TestOf};
+ghost use Rattle.flt_parse.specs.declared.fault.FilterReason.TheVariants.{TypeMismatch};
+ghost use Rattle.flt_pattern.specs.Patterns.{HasCause, IsPattern};
+ghost use Rattle.flt_types.specs.Faults.{IsAnswer, faults, right_faults, unless, PatternAt};
+ghost use Rattle.flt_types.specs.Literals.{literal_of};
+ghost use Rattle.flt_types.specs.Terms.{IsTerm};
+ghost use Rattle.flt_values.specs.Kinds.{is_searched as is_searched_kind};
+ghost use Rattle.flt_types.specs.Typing.{HasType, IsRight, relation_of as relation_asked, choice_of as own_choice, chosen as choice_between};
+
+use crate::faults::{fault, require};
+use crate::literals::{right_quote, right_word};
+use crate::operand::{kind_of, term};
+use crate::sets::members;
+use crate::typed::{Term, Typed};
+use flt_parse::{Choice, Element, FilterError, FilterReason, Operand, Operator, Quote, Tail};
+use flt_pattern::{Pattern, PatternFault};
+use flt_values::{Relation, is_searched, same_class, takes};
+use pk_fields::{ValueKind, by_name};
+use std::alloc::Global;
+
+/// An operand that is a test by itself.
+#[tactic(auto, using(crate::proofs::Clear::alone_behind, crate::proofs::Answers::answer_left))]
+pub(crate) fn alone(alloc: Global, operand: &Operand) -> Result<Typed, FilterError>
+    ensures ok { IfOk result (HasType (AloneOf (operand_of operand.now))) }
+    ensures err { IfErr result (IsAnswer (faults (AloneOf (operand_of operand.now)))) }
+{
+    let inner = term(alloc, false, None, operand)?;
+    match operand {
+        Operand::Masked(_, _, _) => Ok(Typed::AnyBit(inner)),
+        Operand::Called(_, at, _) => Err(fault(*at, FilterReason::TypeMismatch)),
+        _ => Ok(Typed::Exists(inner)),
+    }
+}
+
+/// A test of a left operand.
+#[tactic(auto, using(crate::proofs::Answers::answer_left))]
+pub(crate) fn test(
+    alloc: Global,
+    choice: Option<Choice>,
+    operand: &Operand,
+    tail: &Tail,
+) -> Result<Typed, FilterError>
+    ensures ok { IfOk result (HasType (TestOf choice (operand_of operand.now) (tail_of tail.now))) }
+    ensures err { IfErr result (IsAnswer (faults (TestOf choice (operand_of operand.now) (tail_of tail.now)))) }
+{
+    let left = term(alloc, false, None, operand)?;
+    test_of(alloc, choice, left, tail)
+}
+
+/// A test of a term.
+fn test_of(
+    alloc: Global,
+    choice: Option<Choice>,
+    left: Term,
+    tail: &Tail,
+) -> Result<Typed, FilterError>
+    ensures ok { (o : WrittenOperand) → IsTerm o left → IfOk result (HasType (TestOf choice o (tail_of tail.now))) }
+    ensures err { (o : WrittenOperand) → IsTerm o left → IfErr result (IsAnswer (faults (TestOf choice o (tail_of tail.now)))) }
+{
+    match tail {
+        Tail::Compare(operator, at, right) => {
+            compare(alloc, choice, left, *operator, *at, right)
+        }
+        Tail::In(negated, elements) => among(alloc, choice, left, *negated, elements),
+        Tail::Matches(at, quote) => searched(alloc, choice, left, *at, quote),
+    }
+}
+
+#[tactic(auto, using(crate::proofs::Clear::test_behind, crate::proofs::Answers::answer_left, crate::proofs::Answers::answer_right, crate::proofs::Answers::clear_unless))]
+fn compare(
+    alloc: Global,
+    choice: Option<Choice>,
+    left: Term,
+    operator: Operator,
+    at: u32,
+    right: &Operand,
+) -> Result<Typed, FilterError>
+    ensures ok { (o : WrittenOperand) → IsTerm o left
+        → IfOk result (HasType (TestOf choice o (CompareOf operator at (operand_of right.now)))) }
+    ensures err { (o : WrittenOperand) → IsTerm o left
+        → IfErr result (IsAnswer (faults (TestOf choice o (CompareOf operator at (operand_of right.now))))) }
+{
+    let relation = relation_of(operator);
+    let kind = kind_of(&left);
+    require(takes(relation, kind), at, FilterReason::TypeMismatch)?;
+    let right = right_side(alloc, relation, at, kind, right)?;
+    let choice = chosen(choice, choice_of(operator));
+    Ok(Typed::Compare(relation, choice, left, right))
+}
+
+#[tactic(auto, using(crate::proofs::Clear::among_behind))]
+fn among(
+    alloc: Global,
+    choice: Option<Choice>,
+    left: Term,
+    negated: bool,
+    elements: &[Element],
+) -> Result<Typed, FilterError>
+    ensures ok { (o : WrittenOperand) → IsTerm o left
+        → IfOk result (HasType (TestOf choice o (InOf negated elements.now))) }
+    ensures err { (o : WrittenOperand) → IsTerm o left
+        → IfErr result (IsAnswer (faults (TestOf choice o (InOf negated elements.now)))) }
+{
+    let members = members(alloc, kind_of(&left), elements)?;
+    let choice = chosen(choice, Choice::Any);
+    Ok(Typed::Among(negated, choice, left, members))
+}
+
+#[tactic(auto, using(crate::proofs::Clear::search_behind))]
+fn searched(
+    alloc: Global,
+    choice: Option<Choice>,
+    left: Term,
+    at: u32,
+    quote: &Quote,
+) -> Result<Typed, FilterError>
+    ensures ok { (o : WrittenOperand) → IsTerm o left
+        → IfOk result (HasType (TestOf choice o (MatchesOf at quote.now))) }
+    ensures err { (o : WrittenOperand) → IsTerm o left
+        → IfErr result (IsAnswer (faults (TestOf choice o (MatchesOf at quote.now)))) }
+{
+    let pattern = pattern_for(alloc, kind_of(&left), at, quote)?;
+    Ok(Typed::Matches(chosen(choice, Choice::Any), left, pattern))
+}
+
+/// The pattern of a string, for a left operand of a kind.
+#[tactic(auto, using(crate::proofs::Answers::answer_left, crate::proofs::Answers::answer_right, crate::proofs::Answers::clear_unless))]
+fn pattern_for(
+    alloc: Global,
+    kind: ValueKind,
+    at: u32,
+    quote: &Quote,
+) -> Result<Pattern, FilterError>
+    ensures searched { OnOk result (IsTrue (is_searched_kind kind)) }
+    ensures ok { IfOk result (λ pattern. pattern ≡ quote.now.bytes) }
+    ensures read { OnOk result (IsPattern quote.now.bytes) }
+    ensures err { IfErr result (IsAnswer (unless (is_searched_kind kind) at TypeMismatch ++ PatternAt quote.now.at quote.now.bytes ∷ [])) }
+{
+    require(is_searched(kind), at, FilterReason::TypeMismatch)?;
+    Ok(pattern(alloc, quote)?)
+}
+
+/// The right side of a relation, for a left operand of a kind.
+fn right_side(
+    alloc: Global,
+    relation: Relation,
+    at: u32,
+    kind: ValueKind,
+    operand: &Operand,
+) -> Result<Term, FilterError>
+    ensures ok { IfOk result (IsRight relation kind (operand_of operand.now)) }
+    ensures err { IfErr result (IsAnswer (right_faults relation at kind (operand_of operand.now) (literal_of (operand_of operand.now)))) }
+{
+    match operand {
+        Operand::Text(quote) => Ok(Term::Constant(right_quote(relation, kind, quote)?)),
+        Operand::Named(word) => match by_name(word.text.as_str()) {
+            Some(_) => right_term(alloc, relation, at, kind, operand),
+            None => Ok(Term::Constant(right_word(alloc, relation, kind, word)?)),
+        },
+        _ => right_term(alloc, relation, at, kind, operand),
+    }
+}
+
+#[tactic(auto, using(crate::proofs::Clear::right_term, crate::proofs::Clear::class_behind, crate::proofs::Answers::answer_left))]
+fn right_term(
+    alloc: Global,
+    relation: Relation,
+    at: u32,
+    kind: ValueKind,
+    operand: &Operand,
+) -> Result<Term, FilterError>
+    requires { literal_of (operand_of operand.now) ≡ None }
+    ensures ok { IfOk result (IsRight relation kind (operand_of operand.now)) }
+    ensures err { IfErr result (IsAnswer (right_faults relation at kind (operand_of operand.now) None)) }
+{
+    let right = term(alloc, true, None, operand)?;
+    require(
+        same_class(kind, kind_of(&right)),
+        at,
+        FilterReason::TypeMismatch,
+    )?;
+    Ok(right)
+}
+
+/// The pattern of a string.
+fn pattern(alloc: Global, quote: &Quote) -> Result<Pattern, FilterError>
+    ensures ok { IfOk result (λ pattern. pattern ≡ quote.now.bytes) }
+    ensures read { OnOk result (IsPattern quote.now.bytes) }
+    ensures err { IfErr result (IsAnswer (PatternAt quote.now.at quote.now.bytes ∷ [])) }
+{
+    match Pattern::new(alloc, quote.bytes.bytes()) {
+        Ok(pattern) => Ok(pattern),
+        Err(cause) => Err(pattern_fault(cause, quote.at)),
+    }
+}
+
+fn pattern_fault(cause: PatternFault, at: u32) -> FilterError
+    ensures { (pattern : List ℕ) → HasCause pattern cause → IsAnswer (PatternAt at pattern ∷ []) result }
+{
+    match cause {
+        PatternFault::NoPattern => fault(at, FilterReason::BadPattern),
+        PatternFault::Large => fault(at, FilterReason::PatternSize),
+        PatternFault::NoMemory => FilterError::NoMemory,
+    }
+}
+
+fn relation_of(operator: Operator) -> Relation
+    ensures { result ≡ relation_asked operator }
+{
+    match operator {
+        Operator::Equal | Operator::AnyEqual | Operator::AllEqual => Relation::Equal,
+        Operator::Unequal | Operator::AllUnequal | Operator::AnyUnequal => Relation::Unequal,
+        Operator::Greater => Relation::Greater,
+        Operator::Less => Relation::Less,
+        Operator::AtLeast => Relation::AtLeast,
+        Operator::AtMost => Relation::AtMost,
+        Operator::Contains => Relation::Contains,
+    }
+}
+
+/// Which of the pairs of values an operator asks by itself.
+fn choice_of(operator: Operator) -> Choice
+    ensures { result ≡ own_choice operator }
+{
+    match operator {
+        Operator::Unequal | Operator::AllUnequal | Operator::AllEqual => Choice::All,
+        _ => Choice::Any,
+    }
+}
+
+/// The choice of the word before a test, else the test's own.
+fn chosen(word: Option<Choice>, own: Choice) -> Choice
+    ensures { result ≡ choice_between word own }
+{
+    word.unwrap_or(own)
+}

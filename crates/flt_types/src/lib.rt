@@ -1,0 +1,18 @@
+//! Gives a filter its types: what each name, literal and pattern of the syntax tree is, or the tree's first fault.
+#![tactic(auto)]
+
+mod conditions;
+mod faults;
+mod filter;
+mod layers;
+mod literals;
+mod operand;
+mod ranges;
+mod sets;
+mod typed;
+mod typing;
+
+pub use filter::Filter;
+pub use operand::kind_of;
+pub use typed::{Member, Term, Typed};
+pub use typing::{check, read_filter};

@@ -1,0 +1,64 @@
+// The ranges of a slice.
+ghost use Rattle.std.specs.Prelude.{◌≡◌, map, IfOk, IfErr, OnOk, IsTrue};
+ghost use Rattle.std.specs.List.{list_all};
+ghost use Rattle.flt_types.specs.Faults.{IsAnswer, ranges_faults};
+ghost use Rattle.flt_types.specs.Ranges.{in_order as are_in_order, is_range as is_range_part};
+
+use crate::faults::fault;
+use flt_parse::{FilterError, FilterReason, Place, RangePart, SliceRange};
+use pk_base::NoMemory;
+use std::alloc::Global;
+
+/// What the ranges of a slice take, each of which may stand.
+pub(crate) fn parts_in(alloc: Global, ranges: &[SliceRange]) -> Result<Vec<RangePart>, FilterError>
+    ensures valid { OnOk result (IsTrue (list_all (λ r. is_range_part r.part) ranges.now)) }
+    ensures ok { IfOk result (λ parts. parts.items ≡ map (λ r. r.part) ranges.now) }
+    ensures err { IfErr result (IsAnswer (ranges_faults ranges.now)) }
+{
+    check_ranges(ranges)?;
+    Ok(all_parts(alloc, ranges)?)
+}
+
+fn check_ranges(ranges: &[SliceRange]) -> Result<(), FilterError>
+    ensures valid { OnOk result (IsTrue (list_all (λ r. is_range_part r.part) ranges.now)) }
+    ensures err { IfErr result (IsAnswer (ranges_faults ranges.now)) }
+{
+    for range in ranges {
+        if !is_range(range.part) {
+            return Err(fault(range.at, FilterReason::OutOfRange));
+        }
+    }
+    Ok(())
+}
+
+/// Whether a range has a byte in a value that is long enough.
+fn is_range(part: RangePart) -> bool
+    ensures { result ≡ is_range_part part }
+{
+    match part {
+        RangePart::One(_) | RangePart::ToEnd(_) => true,
+        RangePart::Counted(_, len) | RangePart::Front(len) => 1 <= len,
+        RangePart::Between(first, last) => in_order(first, last),
+    }
+}
+
+/// Whether the last place isn't before the first, as far as they are counted from the same side.
+fn in_order(first: Place, last: Place) -> bool
+    ensures { result ≡ are_in_order first last }
+{
+    match (first.from_end, last.from_end) {
+        (false, false) => first.offset <= last.offset,
+        (true, true) => last.offset <= first.offset,
+        _ => true,
+    }
+}
+
+fn all_parts(alloc: Global, ranges: &[SliceRange]) -> Result<Vec<RangePart>, NoMemory>
+    ensures { IfOk result (λ parts. parts.items ≡ map (λ r. r.part) ranges.now) }
+{
+    let mut parts = Vec::with_capacity(alloc, ranges.len())?;
+    for range in ranges {
+        parts.push(range.part)?;
+    }
+    Ok(parts)
+}

@@ -1,0 +1,49 @@
+// Filters with their types: each name as its field, each literal as a value, each pattern compiled.
+
+use flt_parse::{Choice, Function, RangePart};
+use flt_pattern::Pattern;
+use flt_values::{Constant, Relation};
+use pk_fields::FieldId;
+use pk_tree::Layers;
+
+/// What has values in a tree.
+#[derive(Drop)]
+pub enum Term {
+    /// One value, the same in every tree.
+    Constant(Constant),
+    /// The values of a field or protocol in the layers that are chosen.
+    Field(FieldId, Layers),
+    /// The bytes that the ranges take of each value.
+    Slice(Box<Term>, Vec<RangePart>),
+    /// The bits of each number that are set in the mask.
+    Mask(Box<Term>, u64),
+    /// The function's values for these.
+    Called(Function, Box<Term>),
+}
+
+/// What a value may be, to be in a set.
+#[derive(Drop)]
+pub enum Member {
+    One(Constant),
+    /// From the first up to and with the second.
+    Between(Constant, Constant),
+}
+
+/// A filter with its types. A choice says whether a test asks any of the pairs of values, or all of them.
+#[derive(Drop)]
+pub enum Typed {
+    /// `or`
+    Either(Box<Typed>, Box<Typed>),
+    /// `and`
+    Both(Box<Typed>, Box<Typed>),
+    Not(Box<Typed>),
+    /// Whether there is a value.
+    Exists(Term),
+    /// Whether there is a number other than 0.
+    AnyBit(Term),
+    Compare(Relation, Choice, Term, Term),
+    /// Whether a value is in the set; where the truth is set, the opposite of that.
+    Among(bool, Choice, Term, Vec<Member>),
+    /// Whether the pattern matches in a value.
+    Matches(Choice, Term, Pattern),
+}

@@ -1,0 +1,3 @@
+pub mod ContainsLemmas
+pub mod LiteralLemmas
+pub mod SliceLemmas
