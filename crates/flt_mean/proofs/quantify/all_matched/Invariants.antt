@@ -1,0 +1,10 @@
+use Rattle.std.proofs.Common.{◌≡◌, drop}
+use Rattle.std.specs.List.{list_all}
+use Rattle.flt_mean.specs.Meaning.{is_matched}
+use Rattle.flt_mean.proofs.quantify.all_matched.Given as goal
+
+abbrev pub invariant-loop-value : goal.invariant-loop-value
+invariant-loop-value l = record {
+  same : l.search ≡ l.initial.search;
+  rest : list_all (λ v. is_matched l.initial.search v) (drop l.value-index l.values) ≡ list_all (λ v. is_matched l.initial.search v) l.values;
+}

@@ -1,0 +1,8 @@
+use Rattle.std.proofs.Common.{◌≡◌, ◌++◌, drop}
+use Rattle.std.specs.List.{filter_map}
+use Rattle.flt_values.specs.Calls.{called}
+use Rattle.flt_mean.proofs.values.each_called.Given as goal
+
+abbrev pub invariant-loop-value : goal.invariant-loop-value
+invariant-loop-value l =
+    l.answers.items ++ filter_map (λ value. called l.function value) (drop l.value-index l.values) ≡ filter_map (λ value. called l.function value) l.values

@@ -1,0 +1,32 @@
+-- The values of a term in a tree.
+use Rattle.std.specs.Prelude.{ℕ, List, [], ◌∷◌, length, Option, Some, None}
+use Rattle.std.specs.List.{filter_map}
+use Rattle.flt_parse.specs.declared.ast.Function.{Function}
+use Rattle.flt_parse.specs.declared.ast.Function.TheVariants.{Len, Count, Upper, Lower}
+use Rattle.flt_types.specs.declared.typed.Term.{Term}
+use Rattle.flt_types.specs.declared.typed.Term.TheVariants as terms
+use Rattle.flt_values.specs.Calls.{called, masked}
+use Rattle.flt_values.specs.Slices.{sliced}
+use Rattle.pk_tree.specs.FieldValues.{values_of}
+use Rattle.pk_tree.specs.Trees.{TreeShown}
+use Rattle.pk_tree.specs.declared.value.Value.{Value}
+use Rattle.pk_tree.specs.declared.value.Value.TheVariants as values
+
+-- what a function gives of values: `count` one number, whatever there is to count
+abbrev pub values_called : Function → List Value → List Value
+values_called Count vs = values.Uint (length vs) ∷ []
+values_called function vs = filter_map (λ value. called function value) vs
+
+-- a constant has itself, a field what it has in the chosen layers; a slice has nothing for a value without all its
+-- bytes (wireshark-filter(4))
+abbrev pub values_of_term : Term → TreeShown → List Value
+values_of_term (terms.Constant constant) tree = constant.value ∷ []
+values_of_term (terms.Field field layers) tree = values_of tree field layers
+values_of_term (terms.Slice' p term ranges) tree = filter_map (λ value. sliced value ranges.items) (values_of_term term tree)
+values_of_term (terms.Mask' p term mask) tree = filter_map (λ value. masked mask value) (values_of_term term tree)
+values_of_term (terms.Called' function p term) tree = values_called function (values_of_term term tree)
+
+-- the prefix length that a constant is written with
+abbrev pub prefix_of_term : Term → Option ℕ
+prefix_of_term (terms.Constant constant) = constant.prefix
+prefix_of_term term = None

@@ -1,0 +1,151 @@
+// The truth of a filter in a tree.
+ghost use Rattle.std.specs.Prelude.{◌≡◌, IfOk};
+ghost use Rattle.flt_mean.specs.Meaning.{compares, is_among, is_matched, is_some_value, meaning, opposite, passes};
+ghost use Rattle.flt_mean.specs.Questions.{is_so};
+ghost use Rattle.pk_tree.specs.FieldValues.{values_of};
+ghost use Rattle.flt_mean.specs.Values.{prefix_of_term, values_of_term};
+
+use crate::quantify::{compares, is_some_value, matched, passes};
+use crate::question::Question;
+use crate::values::values_of_term;
+use crate::walks::{is_protocol, is_there, items_pass};
+use flt_parse::Choice;
+use flt_pattern::Pattern;
+use flt_types::{Filter, Member, Term, Typed};
+use flt_values::Relation;
+use pk_base::NoMemory;
+use pk_fields::FieldId;
+use pk_tree::{Layers, Tree};
+use std::alloc::Global;
+
+/// Whether a tree satisfies a filter.
+pub fn holds(alloc: Global, filter: &Filter, tree: &Tree) -> Result<bool, NoMemory>
+    ensures { IfOk result (λ truth. truth ≡ meaning filter.now tree.now) }
+{
+    is_true(alloc, filter.root(), tree)
+}
+
+/// The same of a part of a filter.
+pub(crate) fn is_true(alloc: Global, filter: &Typed, tree: &Tree) -> Result<bool, NoMemory>
+    ensures { IfOk result (λ truth. truth ≡ meaning filter.now tree.now) }
+{
+    match filter {
+        Typed::Either(left, right) => {
+            Ok(is_true(alloc, left, tree)? || is_true(alloc, right, tree)?)
+        }
+        Typed::Both(left, right) => {
+            Ok(is_true(alloc, left, tree)? && is_true(alloc, right, tree)?)
+        }
+        Typed::Not(filter) => Ok(!is_true(alloc, filter, tree)?),
+        Typed::Exists(term) => has_value(alloc, term, tree),
+        Typed::AnyBit(term) => asks(alloc, Choice::Any, &Question::IsNonzero, term, tree),
+        Typed::Compare(relation, choice, left, right) => {
+            compare(alloc, *relation, *choice, left, right, tree)
+        }
+        Typed::Among(negated, choice, term, members) => {
+            among(alloc, *negated, *choice, term, members, tree)
+        }
+        Typed::Matches(choice, term, pattern) => match_in(alloc, *choice, term, pattern, tree),
+    }
+}
+
+/// Whether a term has a value.
+fn has_value(alloc: Global, term: &Term, tree: &Tree) -> Result<bool, NoMemory>
+    ensures { IfOk result (λ truth. truth ≡ is_some_value (values_of_term term.now tree.now)) }
+{
+    match term {
+        Term::Field(field, layers) => Ok(is_there(*field, layers, tree)),
+        term => {
+            let values = values_of_term(alloc, term, tree)?;
+            Ok(is_some_value(&values))
+        }
+    }
+}
+
+/// Whether any or all of a term's values answer a question.
+fn asks(
+    alloc: Global,
+    choice: Choice,
+    question: &Question<'_>,
+    term: &Term,
+    tree: &Tree,
+) -> Result<bool, NoMemory>
+    ensures { IfOk result (λ truth. truth ≡ passes choice (λ v. is_so question.now v) (values_of_term term.now tree.now)) }
+{
+    match term {
+        Term::Field(field, layers) => asks_field(choice, question, *field, layers, tree),
+        term => {
+            let values = values_of_term(alloc, term, tree)?;
+            Ok(passes(choice, question, &values))
+        }
+    }
+}
+
+/// The same of a field. No value is copied but the bytes of a protocol.
+fn asks_field(
+    choice: Choice,
+    question: &Question<'_>,
+    field: FieldId,
+    layers: &Layers,
+    tree: &Tree,
+) -> Result<bool, NoMemory>
+    ensures { IfOk result (λ truth. truth ≡ passes choice (λ v. is_so question.now v) (values_of tree.now field layers.now)) }
+{
+    if is_protocol(field) {
+        let values = tree.values(field, layers)?;
+        return Ok(passes(choice, question, &values));
+    }
+    Ok(items_pass(choice, question, field, layers, tree))
+}
+
+fn compare(
+    alloc: Global,
+    relation: Relation,
+    choice: Choice,
+    left: &Term,
+    right: &Term,
+    tree: &Tree,
+) -> Result<bool, NoMemory>
+    ensures { IfOk result (λ truth. truth ≡ compares relation choice (values_of_term left.now tree.now) (values_of_term right.now tree.now) (prefix_of_term right.now)) }
+{
+    match right {
+        Term::Constant(constant) => {
+            let question = Question::IsRelated(relation, &constant.value, constant.prefix);
+            asks(alloc, choice, &question, left, tree)
+        }
+        right => {
+            let left = values_of_term(alloc, left, tree)?;
+            let right = values_of_term(alloc, right, tree)?;
+            Ok(compares(relation, choice, &left, &right, None))
+        }
+    }
+}
+
+fn among(
+    alloc: Global,
+    negated: bool,
+    choice: Choice,
+    term: &Term,
+    members: &[Member],
+    tree: &Tree,
+) -> Result<bool, NoMemory>
+    ensures { IfOk result (λ truth. truth ≡ opposite negated (passes choice (λ v. is_among members.now v) (values_of_term term.now tree.now))) }
+{
+    let found = asks(alloc, choice, &Question::IsAmong(members), term, tree)?;
+    Ok(negated != found)
+}
+
+/// Whether a pattern matches in the bytes of any or all of a term's values.
+fn match_in(
+    alloc: Global,
+    choice: Choice,
+    term: &Term,
+    pattern: &Pattern,
+    tree: &Tree,
+) -> Result<bool, NoMemory>
+    ensures { IfOk result (λ truth. truth ≡ passes choice (λ v. is_matched pattern.now v) (values_of_term term.now tree.now)) }
+{
+    let values = values_of_term(alloc, term, tree)?;
+    let mut search = pattern.search(alloc)?;
+    Ok(matched(choice, &mut search, &values))
+}

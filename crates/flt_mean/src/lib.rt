@@ -1,0 +1,12 @@
+//! The meaning of display filters: whether a dissected frame satisfies one.
+#![tactic(auto)]
+
+mod evaluate;
+mod quantify;
+mod question;
+#[cfg(test)]
+mod tests;
+mod values;
+mod walks;
+
+pub use evaluate::holds;

@@ -1,0 +1,139 @@
+// Whether any or all of a list of values pass a test.
+ghost use Rattle.std.specs.Prelude.{◌≡◌};
+ghost use Rattle.std.specs.List.{list_any, list_all};
+ghost use Rattle.std.specs.Option.{option_map};
+ghost use Rattle.flt_mean.specs.Meaning.{compares, is_matched, is_some_value, passes};
+ghost use Rattle.flt_mean.specs.Questions.{is_so};
+ghost use Rattle.flt_values.specs.Relations.{octets_of, related as are_related};
+
+use crate::question::{Question, is_so};
+use flt_parse::Choice;
+use flt_pattern::Search;
+use flt_values::{Relation, related};
+use pk_tree::Value;
+
+pub(crate) fn passes(choice: Choice, question: &Question<'_>, values: &[Value]) -> bool
+    ensures { result ≡ passes choice (λ v. is_so question.now v) values.now }
+{
+    match choice {
+        Choice::Any => any_is_so(question, values),
+        Choice::All => is_some_value(values) && all_are_so(question, values),
+    }
+}
+
+/// Whether there is a value.
+pub(crate) fn is_some_value(values: &[Value]) -> bool
+    ensures { result ≡ is_some_value values.now }
+{
+    !values.is_empty()
+}
+
+fn any_is_so(question: &Question<'_>, values: &[Value]) -> bool
+    ensures { result ≡ list_any (λ v. is_so question.now v) values.now }
+{
+    values.iter().any(|value| is_so(question, value))
+}
+
+fn all_are_so(question: &Question<'_>, values: &[Value]) -> bool
+    ensures { result ≡ list_all (λ v. is_so question.now v) values.now }
+{
+    values.iter().all(|value| is_so(question, value))
+}
+
+/// Whether any or all pairs of a left and a right value stand in a relation. The right ones may have a prefix length.
+pub(crate) fn compares(
+    relation: Relation,
+    choice: Choice,
+    left: &[Value],
+    right: &[Value],
+    prefix: Option<u8>,
+) -> bool
+    ensures { result ≡ compares relation choice left.now right.now prefix }
+{
+    match choice {
+        Choice::Any => any_relates(relation, left, right, prefix),
+        Choice::All => is_some_value(left) && all_relate(relation, left, right, prefix),
+    }
+}
+
+fn any_relates(relation: Relation, left: &[Value], right: &[Value], prefix: Option<u8>) -> bool
+    ensures { result ≡ list_any (λ v. list_any (λ w. are_related relation v w prefix) right.now) left.now }
+{
+    left.iter()
+        .any(|value| any_is_related(relation, value, right, prefix))
+}
+
+fn all_relate(relation: Relation, left: &[Value], right: &[Value], prefix: Option<u8>) -> bool
+    ensures { result ≡ list_all (λ v. passes Choice.All (λ w. are_related relation v w prefix) right.now) left.now }
+{
+    left.iter().all(|value| is_some_value(right) && all_are_related(relation, value, right, prefix))
+}
+
+fn any_is_related(relation: Relation, left: &Value, right: &[Value], prefix: Option<u8>) -> bool
+    ensures { result ≡ list_any (λ w. are_related relation left.now w prefix) right.now }
+{
+    right
+        .iter()
+        .any(|value| related(relation, left, value, prefix))
+}
+
+fn all_are_related(relation: Relation, left: &Value, right: &[Value], prefix: Option<u8>) -> bool
+    ensures { result ≡ list_all (λ w. are_related relation left.now w prefix) right.now }
+{
+    right
+        .iter()
+        .all(|value| related(relation, left, value, prefix))
+}
+
+/// Whether a pattern matches in the bytes of any or all of the values.
+pub(crate) fn matched(choice: Choice, search: &mut Search<'_>, values: &[Value]) -> bool
+    ensures { result ≡ passes choice (λ v. is_matched search.old v) values.now }
+{
+    match choice {
+        Choice::Any => any_matched(search, values),
+        Choice::All => is_some_value(values) && all_matched(search, values),
+    }
+}
+
+fn any_matched(search: &mut Search<'_>, values: &[Value]) -> bool
+    ensures { result ≡ list_any (λ v. is_matched search.old v) values.now }
+{
+    for value in values {
+        if is_matched(search, value) {
+            return true;
+        }
+    }
+    false
+}
+
+fn all_matched(search: &mut Search<'_>, values: &[Value]) -> bool
+    ensures { result ≡ list_all (λ v. is_matched search.old v) values.now }
+{
+    for value in values {
+        if !is_matched(search, value) {
+            return false;
+        }
+    }
+    true
+}
+
+fn is_matched(search: &mut Search<'_>, value: &Value) -> bool
+    ensures found { result ≡ is_matched search.old value.now }
+    ensures same { search.new ≡ search.old }
+{
+    match octets_of(value) {
+        Some(bytes) => search.is_in(bytes),
+        None => false,
+    }
+}
+
+/// The bytes of a value of their class.
+fn octets_of(value: &Value) -> Option<&[u8]>
+    ensures { option_map (λ bytes. bytes.now) result ≡ octets_of value.now }
+{
+    match value {
+        Value::Bytes(bytes) | Value::Text(bytes) | Value::Proto(bytes) => Some(bytes.bytes()),
+        Value::Ether(address) => Some(address.as_slice()),
+        _ => None,
+    }
+}
