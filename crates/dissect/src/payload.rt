@@ -12,11 +12,7 @@ use pk_tree::{TreeBuilder, Value};
 
 /// Tells of a datagram, with the number of its conversation, in the layer of its UDP header.
 #[tactic(auto, unfolding(crate::specs::Payloads::datagram_told, pk_fields::specs::Fields::row_of, pk_fields::specs::Table::rows))]
-pub(crate) fn tell_datagram(
-    stream: u32,
-    span: Span,
-    tree: &mut TreeBuilder,
-) -> Result<(), NoMemory>
+pub(crate) fn tell_datagram(stream: u32, span: Span, tree: &mut TreeBuilder) -> Result<(), NoMemory>
     requires inside { IsInside tree.old.buffers span }
     requires last { LastIs UDP tree.old.layers }
     ensures tree { IfOk result (λ _. tree.new ≡ datagram_told tree.old stream span) }

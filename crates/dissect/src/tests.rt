@@ -526,8 +526,7 @@ const OTHER: &[u8] = b"\x45\0\0\0\0\0\0\0\x40\x11\0\0\x0a\0\0\x03\x0a\0\0\x02";
 /// The headers of packets that carry another (RFC 2003), of 192.168.0.1 and 192.168.0.2.
 const TUNNEL: &[u8] = b"\x45\0\0\0\0\0\0\0\x40\x04\0\0\xc0\xa8\0\x01\xc0\xa8\0\x02";
 
-const OTHER_TUNNEL: &[u8] =
-    b"\x45\0\0\0\0\0\0\0\x40\x04\0\0\xc0\xa8\0\x03\xc0\xa8\0\x04";
+const OTHER_TUNNEL: &[u8] = b"\x45\0\0\0\0\0\0\0\x40\x04\0\0\xc0\xa8\0\x03\xc0\xa8\0\x04";
 
 /// A header of UDP from port 40000 to port 7, and that of an answer (RFC 768). A length of 0 is that of all bytes.
 const TO_ECHO: &[u8] = b"\x9c\x40\0\x07\0\0\0\0";
@@ -645,8 +644,7 @@ fn layer_names(rt: &impl Abort, alloc: Global, parts: &[&[u8]], wanted: &str) ->
 }
 
 /// A query for the address of h.test (RFC 1035, 4.1).
-const QUERY: &[u8] =
-    b"\0\x01\x01\0\0\x01\0\0\0\0\0\0\x01h\x04test\0\0\x01\0\x01";
+const QUERY: &[u8] = b"\0\x01\x01\0\0\x01\0\0\0\0\0\0\x01h\x04test\0\0\x01\0\x01";
 
 #[test]
 fn the_application_is_that_of_the_lower_port_else_of_the_higher(
@@ -661,7 +659,10 @@ fn the_application_is_that_of_the_lower_port_else_of_the_higher(
         (b"\0\x35\0\x34\0\0\0\0", "frame ip udp dns "),
         (b"\0\x43\0\x35\0\0\0\0", "frame ip udp dns "),
         (b"\0\x44\0\x43\0\0\0\0", "frame ip udp dhcp _ws.malformed "),
-        (b"\0\x43\x9c\x40\0\0\0\0", "frame ip udp dhcp _ws.malformed "),
+        (
+            b"\0\x43\x9c\x40\0\0\0\0",
+            "frame ip udp dhcp _ws.malformed ",
+        ),
         (b"\0\x42\0\x44\0\0\0\0", "frame ip udp dhcp _ws.malformed "),
         (b"\0\x50\x9c\x40\0\0\0\0", "frame ip udp data "),
     ] {
