@@ -16,3 +16,4 @@ mod tests;
 pub use extension::read_extension;
 pub use ip4::read_ip4;
 pub use ip6::read_ip6;
+pub use protocol::carried_by;

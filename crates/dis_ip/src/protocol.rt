@@ -33,7 +33,7 @@ const DESTINATION_OPTIONS: u8 = 60;
 
 /// What follows a header of so many bytes that names a protocol number. `six` says that the number stands in a header of
 /// IPv6. Nothing follows where the number says so, or where no byte is left.
-pub(crate) fn carried_by(six: bool, number: u8, span: Span, header: u32) -> After
+pub fn carried_by(six: bool, number: u8, span: Span, header: u32) -> After
     requires end { span.start + span.len < 2 ^ 32 }
     ensures after { result ≡ carried_by six number span header }
     ensures inside { (buffers : List (List ℕ)) → IsInside buffers span → LeadsInside buffers result }

@@ -1,4 +1,5 @@
--- Behind which layer a payload comes: only a UDP header hands on a datagram, and only a TCP header a segment.
+-- Behind which layer a payload comes: only the header that says a fragment's place hands on a fragment, only a UDP header a
+-- datagram, and only a TCP header a segment.
 use Rattle.std.proofs.Common.{◌≡◌, ◌≢◌, ℕ, ◌-◌, ◌<◌, Bool, true, false, if◌then◌else◌, List, length, rules}
 use Rattle.std.specs.Prelude.{nat_lt, nat_le, ◌==◌}
 use Rattle.pk_base.specs.declared.span.Span.{Span}
@@ -28,7 +29,7 @@ use Rattle.dis_icmp.specs.Icmp.{icmp_after}
 use Rattle.dis_icmp.specs.Icmp6.{icmp6_after}
 use Rattle.dis_ip.specs.Extensions.{extension_after}
 use Rattle.dis_ip.specs.FragmentHeader.{fragment_after, fragment_part}
-use Rattle.dis_ip.specs.Fragments.{part_after, is_fragment}
+use Rattle.dis_ip.specs.Fragments.{part_after, is_fragment, LastIsPart}
 use Rattle.dis_ip.specs.Ip4.{ip4_after, ip4_packet, ip4_span, ip4_is_read, ip4_carried, ip4_part, ip4_header}
 use Rattle.dis_ip.specs.Ip6.{ip6_after, ip6_packet, ip6_next, ip6_span, ip6_is_read}
 use Rattle.dis_ip.specs.Options.{sized_after, next_header, header_size}
@@ -52,17 +53,39 @@ carried_by_behind layers six number span header =
 packet_behind : (layers : List Layer) (packet : PacketHead) (after : After) → ComesBehind after layers → ComesBehind (in_packet packet after) layers
 packet_behind layers packet (afters.Next next span) behind = tt
 packet_behind layers packet (afters.Packet next span inner) behind = tt
-packet_behind layers packet (afters.Fragment head span) behind = tt
+packet_behind layers packet (afters.Fragment head span) behind = behind
 packet_behind layers packet (afters.Datagram head span) behind = behind
 packet_behind layers packet (afters.Segment head span) behind = behind
 packet_behind layers packet afters.End behind = tt
 
-part_behind : (layers : List Layer) (mode : Mode) (head : FragmentHead) (span : Span) (header : ℕ) → ComesBehind (part_after mode head span header) layers
+-- a fragment comes behind the layer of its header
+if_fragment : (layers : List Layer) (b : Bool) (head : FragmentHead) (span : Span) (other : After) → 0 < length layers → ComesBehind other layers
+    → LastIsPart layers (if b then afters.Fragment head span else other) → ComesBehind (if b then afters.Fragment head span else other) layers
+if_fragment layers true head span other some behind last = (some, last)
+if_fragment layers false head span other some behind last = behind
+
+part_behind : (layers : List Layer) (mode : Mode) (head : FragmentHead) (span : Span) (header : ℕ) → 0 < length layers
+    → LastIsPart layers (part_after mode head span header) → ComesBehind (part_after mode head span header) layers
 unfolding part_after
-part_behind layers Plain head span header =
-    behind_if layers (is_fragment head) (afters.Fragment head (within span header (span.len - header))) (carried_by head.six head.next span header) tt (carried_by_behind layers head.six head.next span header)
-part_behind layers Embedded head span header =
+part_behind layers Plain head span header some last =
+    if_fragment layers (is_fragment head) head (within span header (span.len - header)) (carried_by head.six head.next span header) some (carried_by_behind layers head.six head.next span header) last
+part_behind layers Embedded head span header some last =
     behind_if layers (head.offset == 0) (carried_by head.six head.next span header) (carried nexts.Rest span header) (carried_by_behind layers head.six head.next span header) (carried_behind layers nexts.Rest span header)
+
+-- so in a packet, and where something follows only if a header is whole
+part_in_packet : (layers : List Layer) (packet : PacketHead) (after : After) → (LastIsPart layers after → ComesBehind after layers)
+    → LastIsPart layers (in_packet packet after) → ComesBehind (in_packet packet after) layers
+part_in_packet layers packet (afters.Next next span) behind last = tt
+part_in_packet layers packet (afters.Packet next span inner) behind last = tt
+part_in_packet layers packet (afters.Fragment head span) behind last = behind last
+part_in_packet layers packet (afters.Datagram head span) behind last = behind last
+part_in_packet layers packet (afters.Segment head span) behind last = behind last
+part_in_packet layers packet afters.End behind last = tt
+
+part_if : (layers : List Layer) (b : Bool) (after : After) → (LastIsPart layers after → ComesBehind after layers)
+    → LastIsPart layers (if b then after else afters.End) → ComesBehind (if b then after else afters.End) layers
+part_if layers true after behind last = behind last
+part_if layers false after behind last = tt
 
 both : {A : Type 0} (P : A → Type 0) (b : Bool) (x y : A) → P x → P y → P (if b then x else y)
 both P true x y one other = one
@@ -90,13 +113,14 @@ pub icmp6_behind : (layers : List Layer) (span : Span) (bytes : List ℕ) → Co
 unfolding icmp6_after
 icmp6_behind layers span bytes = carried_behind layers _ _ _
 
-pub ip4_behind : (layers : List Layer) (mode : Mode) (cut : Bool) (span : Span) (bytes : List ℕ) → ComesBehind (ip4_after mode cut span bytes) layers
+pub ip4_behind : (layers : List Layer) (mode : Mode) (cut : Bool) (span : Span) (bytes : List ℕ) → 0 < length layers
+    → LastIsPart layers (ip4_after mode cut span bytes) → ComesBehind (ip4_after mode cut span bytes) layers
 unfolding ip4_after
-ip4_behind layers mode cut span bytes =
+ip4_behind layers mode cut span bytes some last =
     let packet = ip4_packet cut span bytes in
     let layer = ip4_span span bytes in
-    behind_if layers (ip4_is_read span bytes) (ip4_carried mode packet layer bytes) afters.End
-    (packet_behind layers packet (part_after mode (ip4_part packet bytes) layer (ip4_header bytes)) (part_behind layers mode (ip4_part packet bytes) layer (ip4_header bytes))) tt
+    part_if layers (ip4_is_read span bytes) (ip4_carried mode packet layer bytes)
+    (part_in_packet layers packet (part_after mode (ip4_part packet bytes) layer (ip4_header bytes)) (part_behind layers mode (ip4_part packet bytes) layer (ip4_header bytes) some)) last
 
 pub ip6_behind : (layers : List Layer) (cut : Bool) (span : Span) (bytes : List ℕ) → ComesBehind (ip6_after cut span bytes) layers
 unfolding ip6_after
@@ -106,22 +130,23 @@ ip6_behind layers cut span bytes =
     behind_if layers (ip6_is_read span bytes) (in_packet packet carries) afters.End
     (packet_behind layers packet carries (carried_by_behind layers true (ip6_next bytes) (ip6_span span bytes) 40)) tt
 
-pub extension_behind : (layers : List Layer) (which : Next) (packet : PacketHead) (mode : Mode) (span : Span) (bytes : List ℕ) → ComesBehind (extension_after which packet mode span bytes) layers
+pub extension_behind : (layers : List Layer) (which : Next) (packet : PacketHead) (mode : Mode) (span : Span) (bytes : List ℕ) → 0 < length layers
+    → LastIsPart layers (extension_after which packet mode span bytes) → ComesBehind (extension_after which packet mode span bytes) layers
 unfolding extension_after sized_after fragment_after
-extension_behind layers nexts.HopOpts packet mode span bytes = carried_by_behind layers true (next_header bytes) span (header_size bytes)
-extension_behind layers nexts.Routing packet mode span bytes = carried_by_behind layers true (next_header bytes) span (header_size bytes)
-extension_behind layers nexts.DstOpts packet mode span bytes = carried_by_behind layers true (next_header bytes) span (header_size bytes)
-extension_behind layers nexts.FragHdr packet mode span bytes =
-    behind_if layers (nat_le 8 span.len) (part_after mode (fragment_part packet bytes) span 8) afters.End (part_behind layers mode (fragment_part packet bytes) span 8) tt
-extension_behind layers nexts.Ip4 packet mode span bytes = tt
-extension_behind layers nexts.Ip6 packet mode span bytes = tt
-extension_behind layers nexts.Arp packet mode span bytes = tt
-extension_behind layers nexts.Vlan packet mode span bytes = tt
-extension_behind layers nexts.Icmp packet mode span bytes = tt
-extension_behind layers nexts.Icmp6 packet mode span bytes = tt
-extension_behind layers nexts.Udp packet mode span bytes = tt
-extension_behind layers nexts.Tcp packet mode span bytes = tt
-extension_behind layers nexts.Rest packet mode span bytes = tt
+extension_behind layers nexts.HopOpts packet mode span bytes some last = carried_by_behind layers true (next_header bytes) span (header_size bytes)
+extension_behind layers nexts.Routing packet mode span bytes some last = carried_by_behind layers true (next_header bytes) span (header_size bytes)
+extension_behind layers nexts.DstOpts packet mode span bytes some last = carried_by_behind layers true (next_header bytes) span (header_size bytes)
+extension_behind layers nexts.FragHdr packet mode span bytes some last =
+    part_if layers (nat_le 8 span.len) (part_after mode (fragment_part packet bytes) span 8) (part_behind layers mode (fragment_part packet bytes) span 8 some) last
+extension_behind layers nexts.Ip4 packet mode span bytes some last = tt
+extension_behind layers nexts.Ip6 packet mode span bytes some last = tt
+extension_behind layers nexts.Arp packet mode span bytes some last = tt
+extension_behind layers nexts.Vlan packet mode span bytes some last = tt
+extension_behind layers nexts.Icmp packet mode span bytes some last = tt
+extension_behind layers nexts.Icmp6 packet mode span bytes some last = tt
+extension_behind layers nexts.Udp packet mode span bytes some last = tt
+extension_behind layers nexts.Tcp packet mode span bytes some last = tt
+extension_behind layers nexts.Rest packet mode span bytes some last = tt
 
 udp_carries_behind : (layers : List Layer) (r : Reach) (mode : Mode) (ports : PortsHead) (span : Span) → 0 < length layers
     → (udp_carries r mode ports span ≢ afters.End → last_proto layers ≡ UDP) → ComesBehind (udp_carries r mode ports span) layers

@@ -1,5 +1,6 @@
 mod Behind
 mod Chains
+mod Joining
 pub mod NoRules
 mod Opens
 mod Taken

@@ -3,6 +3,7 @@ pub mod Conversations
 pub mod DataLayer
 pub mod DecodeRules
 pub mod Events
+pub mod Fragments
 pub mod FrameLayer
 pub mod Payloads
 pub mod Stands

@@ -7,6 +7,7 @@ use Rattle.pk_tree.specs.declared.heads.After.TheVariants as afters
 use Rattle.pk_tree.specs.declared.layer.Layer.{Layer}
 use Rattle.pk_tree.specs.declared.value.Value.TheVariants.{Uint}
 use Rattle.pk_tree.specs.Trees.{TreeShown, last_proto, with_item, read_of, made_of}
+use Rattle.dis_ip.specs.Fragments.{part_proto}
 
 -- the bytes; there is no item for none
 abbrev pub with_payload : TreeShown → ℕ → Span → TreeShown
@@ -23,11 +24,11 @@ segment_told t span = with_payload (with_item t (made_of TCP_LEN (Uint span.len)
 abbrev pub LastIs : ℕ → List Layer → Type 0
 LastIs proto layers = (0 < length layers) × (last_proto layers ≡ proto)
 
--- what a UDP or TCP header carries comes while its layer is the last
+-- a fragment, and what a UDP or TCP header carries, come while the header's layer is the last
 abbrev pub ComesBehind : After → List Layer → Type 0
 ComesBehind (afters.Next next span) layers = Unit {0}
 ComesBehind (afters.Packet next span packet) layers = Unit {0}
-ComesBehind (afters.Fragment head span) layers = Unit {0}
+ComesBehind (afters.Fragment head span) layers = LastIs (part_proto head.six) layers
 ComesBehind (afters.Datagram head span) layers = LastIs UDP layers
 ComesBehind (afters.Segment head span) layers = LastIs TCP layers
 ComesBehind afters.End layers = Unit {0}

@@ -3,6 +3,7 @@ use Rattle.std.specs.Prelude.{◌≡◌, ℕ, ◌+◌, ◌<◌, ◌≤◌, ◌^�
 use Rattle.capture_read.specs.declared.frame.Frame.{Frame}
 use Rattle.capture_read.specs.FrameList.{captured_bytes}
 use Rattle.pk_tree.specs.Trees.{TreeShown}
+use Rattle.ip_join.specs.Stands.{Stands as StandsFor}
 use Rattle.dissect.specs.declared.decode.DecodeAs.{DecodeAs}
 use Rattle.dissect.specs.declared.state.State.{State}
 use Rattle.dissect.specs.declared.times.Times.{Times}
@@ -10,6 +11,7 @@ use Rattle.dissect.specs.declared.todo.Todo.{Todo}
 use Rattle.dissect.specs.declared.todo.Todo.TheVariants as todos
 use Rattle.dissect.specs.Conversations.{udp_opened}
 use Rattle.dissect.specs.Events.{Event}
+use Rattle.dissect.specs.Fragments.{fragments_of}
 use Rattle.dissect.specs.Times.{AreTimes}
 use Rattle.dissect.specs.Trees.{times_of, events_of}
 use Rattle.dissect.specs.Walks.{Walk}
@@ -24,9 +26,14 @@ pub record DissectorShown : Type 0 where
   pub times : Times
   pub state : State
 
--- what is kept of events: the conversations over UDP
+-- what is kept of events: the fragments of datagrams that aren't whole yet, and the conversations over UDP
 pub record StandsAt (es : List Event) (state : State) : Type 0 where
+  pub joins : StandsFor (fragments_of es) state.joins
   pub udp : state.udp ≡ udp_opened es
+
+-- it is kept of some events
+abbrev pub StandsForSome : State → Type 0
+StandsForSome state = (es : List Event) × StandsAt es state
 
 -- a header opens at most one conversation, and then nothing more is to be read of its frame
 abbrev pub OpensAtMostOne : State → State → Todo → Type 0
@@ -56,8 +63,10 @@ pub record IsAfter (past : List Frame) (d : DissectorShown) : Type 0 where
 unfoldable pub Stands : List Frame → DissectorShown → Type 0
 Stands past d = IsAfter past d
 
--- a dissector that has answered no error has at most as many conversations over UDP as it took frames
+-- a dissector that has answered no error keeps what it keeps of some events, and has at most as many conversations over UDP
+-- as it took frames
 pub record IsKept (d : DissectorShown) : Type 0 where
   pub times : AreTimes d.times
+  pub some : d.spent ≡ false → StandsForSome d.state
   pub udp : length d.state.udp < 2 ^ 32
   pub udp_few : d.spent ≡ false → length d.state.udp ≤ d.taken

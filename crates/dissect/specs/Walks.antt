@@ -1,5 +1,5 @@
 -- The way through a frame's headers, one behind the other.
-use Rattle.std.specs.Prelude.{◌==◌, ℕ, zero, suc, ◌-◌, ◌<◌, false, List, ◌∷◌, length, if◌then◌else◌}
+use Rattle.std.specs.Prelude.{◌==◌, ℕ, zero, suc, ◌-◌, ◌<◌, Bool, true, false, List, ◌∷◌, length, if◌then◌else◌}
 use Rattle.pk_base.specs.declared.span.Span.{Span}
 use Rattle.pk_buffer.specs.Buffers.{IsInside, bytes_of}
 use Rattle.pk_fields.specs.Ids.{ARP, VLAN, IP, IPV6, UDP, TCP, ICMP, ICMPV6}
@@ -27,6 +27,9 @@ use Rattle.dis_ip.specs.Ip4.{ip4_span, ip4_layout, ip4_after}
 use Rattle.dis_ip.specs.Ip6.{ip6_span, ip6_layout, ip6_after}
 use Rattle.dis_ports.specs.Tcp.{tcp_layout, tcp_after}
 use Rattle.dis_ports.specs.Udp.{udp_span, udp_layout, udp_after}
+use Rattle.ip_join.specs.declared.joined.Joined.{Joined}
+use Rattle.ip_join.specs.declared.joined.Joined.TheVariants.{Pending, Whole, Conflict}
+use Rattle.ip_join.specs.Stands.{joined_by}
 use Rattle.capture_read.specs.declared.frame.Frame.{Frame}
 use Rattle.dissect.specs.declared.todo.Head.{Head}
 use Rattle.dissect.specs.declared.todo.Todo.{Todo}
@@ -34,7 +37,8 @@ use Rattle.dissect.specs.declared.todo.Todo.TheVariants as todos
 use Rattle.dissect.specs.Applications.{usual_udp, app_of, payload_over}
 use Rattle.dissect.specs.Conversations.{udp_stream}
 use Rattle.dissect.specs.DataLayer.{data_over}
-use Rattle.dissect.specs.Events.{Event, Udp}
+use Rattle.dissect.specs.Events.{Event, Piece, Udp}
+use Rattle.dissect.specs.Fragments.{fragment_from, fragments_of, conflict_told, joined_told, joined_todo}
 use Rattle.dissect.specs.FrameLayer.{frame_span, is_cut}
 use Rattle.dissect.specs.Payloads.{datagram_told, segment_told}
 
@@ -63,9 +67,26 @@ go_on t es head = going t es (todos.Head head)
 abbrev pub no_packet : PacketHead
 no_packet = record { source = Four 0; target = Four 0; whole = false }
 
--- a part of a datagram; so far its bytes are shown as data
+-- behind a fragment, by what it made of those before it: the datagram that is whole now is read on, and any other fragment's
+-- bytes are data
+unfoldable pub joined_met : Joined → TreeShown → List Event → FragmentHead → Span → Walk
+joined_met Pending t es head span = rest_met t es span
+joined_met (Conflict kind) t es head span = rest_met (conflict_told t head.six kind) es span
+joined_met (Whole datagram) t es head span = going (joined_told t head.six datagram) es (joined_todo t head datagram)
+
+-- a fragment that takes part
+abbrev pub piece_met : TreeShown → List Event → ℕ → FragmentHead → List ℕ → Span → Walk
+piece_met t es frame head bytes span =
+    joined_met (joined_by (fragments_of es) (fragment_from frame head bytes)) t (Piece frame head bytes ∷ es) head span
+
+-- only one whose bytes were all captured does; those of another are data
+abbrev pub fragment_by : Bool → TreeShown → List Event → ℕ → FragmentHead → Span → Walk
+fragment_by true t es frame head span = piece_met t es frame head (bytes_of t.buffers span) span
+fragment_by false t es frame head span = rest_met t es span
+
+-- a part of a datagram
 unfoldable pub fragment_met : Frame → PacketHead → TreeShown → List Event → FragmentHead → Span → Walk
-fragment_met frame packet t es head span = rest_met t es span
+fragment_met frame packet t es head span = fragment_by head.whole t es frame.number head span
 
 -- the number of a conversation and what a UDP header carries are told in the header's layer; then comes the payload, read by
 -- the application of the ports

@@ -3,7 +3,7 @@ ghost use Rattle.capture_read.specs.declared.frame.Frame.{Frame as FrameValue};
 ghost use Rattle.dissect.specs.Conversations.{udp_opened};
 ghost use Rattle.dissect.specs.DecodeRules.{AreRules};
 ghost use Rattle.dissect.specs.Events.{Event};
-ghost use Rattle.dissect.specs.Stands.{Stands, StandsAt, IsWalked};
+ghost use Rattle.dissect.specs.Stands.{Stands, StandsAt, StandsForSome, IsWalked};
 ghost use Rattle.dissect.specs.Times.{IsTime, AreTimes};
 ghost use Rattle.dissect.specs.Trees.{tree_at, events_of, walk_of};
 
@@ -14,6 +14,7 @@ use crate::state::State;
 use crate::times::Times;
 use crate::todo::Todo;
 use capture_read::Frame;
+use ip_join::Joins;
 use pk_base::NoMemory;
 use pk_tree::Tree;
 use std::alloc::Global;
@@ -40,9 +41,19 @@ pub struct Dissector {
 }
 
 impl Model for Dissector {
+    ghost use Rattle.std.specs.Prelude.{ℕ, Bool, refl};
+    ghost use Rattle.std.specs.Coded.{code_by, coded×, coded_ℕ, coded_bool};
+    ghost use Rattle.dissect.specs.contracts.decode.DecodeAs as decode_row;
+    ghost use Rattle.dissect.specs.contracts.state.State as state_row;
+    ghost use Rattle.dissect.specs.contracts.times.Times as times_row;
+    ghost use Rattle.dissect.specs.declared.decode.DecodeAs.{DecodeAs as DecodeAsValue};
+    ghost use Rattle.dissect.specs.declared.state.State.{State as StateValue};
+    ghost use Rattle.dissect.specs.declared.times.Times.{Times as TimesValue};
     ghost use Rattle.dissect.specs.Stands.{DissectorShown, IsKept};
 
     ghost Value = { DissectorShown };
+
+    ghost coded = { code_by ((DecodeAsValue × Bool) × ((ℕ × ℕ) × (TimesValue × StateValue))) (coded× (coded× decode_row.the_row.coded coded_bool) (coded× (coded× coded_ℕ coded_ℕ) (coded× times_row.the_row.coded state_row.the_row.coded))) (λ d. ((d.decode, d.spent), ((d.taken, d.captured), (d.times, d.state)))) (λ p. record { decode = p.0.0; spent = p.0.1; taken = p.1.0.0; captured = p.1.0.1; times = p.1.1.0; state = p.1.1.1 }) (λ _. refl) };
 
     ghost view = { λ d. record { decode = d.decode; spent = d.spent; taken = d.taken; captured = d.captured; times = d.times; state = d.state } };
 
@@ -51,7 +62,7 @@ impl Model for Dissector {
 
 impl Dissector {
     /// A dissector that has taken no frame yet.
-    #[tactic(auto, unfolding(crate::specs::Stands::Stands, crate::specs::Conversations::udp_opened, crate::specs::Trees::times_of, crate::specs::Trees::events_of))]
+    #[tactic(auto, unfolding(crate::specs::Stands::Stands, crate::specs::Fragments::fragments_of, crate::specs::Conversations::udp_opened, crate::specs::Trees::times_of, crate::specs::Trees::events_of))]
     pub fn new(alloc: Global, decode: DecodeAs) -> Dissector
         requires rules { AreRules decode.rules }
         ensures stands { Stands [] result }
@@ -67,6 +78,7 @@ impl Dissector {
             captured: 0,
             times: Times::none(),
             state: State {
+                joins: Joins::new(alloc),
                 udp: Conversations::new(alloc),
             },
         }
@@ -131,6 +143,7 @@ fn make_tree(
     requires bytes { length frame.now.bytes < 2 ^ 32 }
     requires before { AreTimes before }
     requires time { IfSome frame.now.time IsTime }
+    requires some { StandsForSome state.old }
     requires udp { length state.old.udp + 1 < 2 ^ 32 }
     ensures walked { IfOk result (λ tree. (es : List Event) → StandsAt es state.old → IsWalked (walk_of before es frame.now) state.new tree Todo.Done) }
     ensures udp { length state.new.udp ≤ length state.old.udp + 1 }

@@ -6,6 +6,7 @@ mod conversations;
 mod data_layer;
 mod decode;
 mod dissector;
+mod fragments;
 mod frame_layer;
 mod payload;
 mod state;

@@ -709,3 +709,122 @@ fn a_message_is_shown_behind_32_layers(rt: HostRuntime) -> Result<(), Fail> {
     assert_eq!(rt; last, "dns");
     Ok(())
 }
+
+/// The header of a fragment of a UDP datagram from 10.0.0.1 to 10.0.0.2 (RFC 791, 3.1), up to and behind its place. A length
+/// of 0 is that of all bytes.
+const PART: &[u8] = b"\x45\0\0\0\0\x01";
+
+const PART_ENDS: &[u8] = b"\x40\x11\0\0\x0a\0\0\x01\x0a\0\0\x02";
+
+/// What a layer tells of fragments, and how many bytes of data it has.
+fn joining_text(alloc: Global, layer: &Layer) -> Result<String, AllocError> {
+    let mut text = String::from_str(alloc, name(layer.proto))?;
+    for item in layer.items.slice() {
+        if item.field == ids::IP_FRAGMENT
+            || item.field == ids::IP_REASSEMBLED_LENGTH
+            || item.field == ids::IP_FRAGMENT_ERROR
+            || item.field == ids::DATA_LEN
+        {
+            text.push_str(&value_text(alloc, &item.value)?)?;
+        }
+    }
+    text.push_str(" ")?;
+    Ok(text)
+}
+
+/// Takes a packet of so many bytes on the wire, and compares what its layers tell of fragments.
+fn take_part(
+    rt: &impl Abort,
+    alloc: Global,
+    dissector: &mut Dissector,
+    number: u32,
+    original: u32,
+    parts: &[&[u8]],
+    wanted: &str,
+) -> Result<(), Fail>
+    requires number { number ≡ dissector.old.taken + 1 }
+    requires captured { dissector.old.captured ≤ 200 * dissector.old.taken }
+    requires few { number < 100 }
+    ensures counted { OnOk result ((dissector.new.taken ≡ number) × (dissector.new.captured ≤ 200 * number)) }
+{
+    let frame = Frame {
+        number,
+        time: None,
+        link: RAW,
+        little: true,
+        bytes: joined(alloc, parts)?,
+        original,
+    };
+    assert!(rt; frame.bytes.bytes().len() <= 200);
+    let tree = dissector.take(&frame)?;
+    let mut text = String::new(alloc);
+    for layer in tree.layers() {
+        text.push_str(&joining_text(alloc, layer)?)?;
+    }
+    assert_eq!(rt; text.as_str(), wanted);
+    Ok(())
+}
+
+#[test]
+fn a_datagram_is_read_in_the_frame_that_makes_it_whole(rt: HostRuntime) -> Result<(), Fail> {
+    let rt = &rt;
+    let alloc = rt.alloc();
+    let d = &mut Dissector::new(alloc, no_rules(alloc));
+    let last: &[&[u8]] = &[PART, b"\0\x01", PART_ENDS, b"ab"];
+    let first: &[&[u8]] = &[PART, b"\x20\0", PART_ENDS, TO_ECHO];
+    take_part(rt, alloc, d, 1, 0, last, "frame ip data=2 ")?;
+    take_part(rt, alloc, d, 2, 0, first, "frame ip=1=2=10 udp data=2 ")?;
+    assert_eq!(rt; d.udp_count(), 1);
+    take_part(rt, alloc, d, 3, 0, first, "frame ip data=8 ")?;
+    take_part(rt, alloc, d, 4, 0, last, "frame ip=3=4=10 udp data=2 ")?;
+    assert_eq!(rt; d.udp_count(), 1);
+    Ok(())
+}
+
+#[test]
+fn a_fragment_that_was_cut_takes_no_part(rt: HostRuntime) -> Result<(), Fail> {
+    let rt = &rt;
+    let alloc = rt.alloc();
+    let d = &mut Dissector::new(alloc, no_rules(alloc));
+    let last: &[&[u8]] = &[PART, b"\0\x01", PART_ENDS, b"ab"];
+    let first: &[&[u8]] = &[PART, b"\x20\0", PART_ENDS, TO_ECHO];
+    take_part(rt, alloc, d, 1, 50, first, "frame ip data=8 ")?;
+    take_part(rt, alloc, d, 2, 0, last, "frame ip data=2 ")?;
+    take_part(rt, alloc, d, 3, 0, first, "frame ip=2=3=10 udp data=2 ")
+}
+
+#[test]
+fn a_conflict_is_told_and_forgets_the_fragments(rt: HostRuntime) -> Result<(), Fail> {
+    let rt = &rt;
+    let alloc = rt.alloc();
+    let d = &mut Dissector::new(alloc, no_rules(alloc));
+    let last: &[&[u8]] = &[PART, b"\0\x01", PART_ENDS, b"ab"];
+    let longer: &[&[u8]] = &[PART, b"\0\x01", PART_ENDS, b"abc"];
+    let far: &[&[u8]] = &[PART, b"\x1f\xff", PART_ENDS, TO_ECHO];
+    take_part(rt, alloc, d, 1, 0, last, "frame ip data=2 ")?;
+    take_part(rt, alloc, d, 2, 0, longer, "frame ip=2 data=3 ")?;
+    take_part(rt, alloc, d, 3, 0, far, "frame ip=1 data=8 ")?;
+    take_part(rt, alloc, d, 4, 0, longer, "frame ip data=3 ")
+}
+
+#[test]
+fn a_datagram_in_a_datagram_is_joined(rt: HostRuntime) -> Result<(), Fail> {
+    let rt = &rt;
+    let alloc = rt.alloc();
+    let d = &mut Dissector::new(alloc, no_rules(alloc));
+    let tunnel = b"\x40\x04\0\0\xc0\xa8\0\x01\xc0\xa8\0\x02";
+    // the second fragment of the tunnel has an inner fragment's last 4 bytes
+    let last: &[&[u8]] = &[PART, b"\0\x03", tunnel, b"abcd"];
+    let first: &[&[u8]] = &[PART, b"\x20\0", tunnel, PART, b"\0\x01", PART_ENDS, b"efgh"];
+    take_part(rt, alloc, d, 1, 0, last, "frame ip data=4 ")?;
+    take_part(rt, alloc, d, 2, 0, first, "frame ip=1=2=28 ip data=8 ")?;
+    take_part(
+        rt,
+        alloc,
+        d,
+        3,
+        0,
+        &[PART, b"\x20\0", PART_ENDS, TO_ECHO],
+        "frame ip=2=3=16 udp data=8 ",
+    )
+}

@@ -1,16 +1,19 @@
-ghost use Rattle.std.specs.Prelude.{◌≡◌, ◌+◌, ◌*◌, ◌-◌, ◌<◌, ◌≤◌, ◌^◌, List, [], ◌∷◌, length, IfOk, OnOk};
-ghost use Rattle.pk_buffer.specs.Buffers.{IsInside};
+ghost use Rattle.std.specs.Prelude.{◌≡◌, ◌+◌, ◌*◌, ◌-◌, ◌<◌, ◌≤◌, ◌^◌, List, [], ◌∷◌, length, true, IfOk, OnOk};
+ghost use Rattle.pk_buffer.specs.Buffers.{IsInside, bytes_of};
 ghost use Rattle.pk_tree.specs.Following.{LeadsInside};
+ghost use Rattle.dis_ip.specs.Fragments.{part_proto};
 ghost use Rattle.dissect.specs.declared.state.State.{State as StateValue};
 ghost use Rattle.dissect.specs.Events.{Event};
+ghost use Rattle.dissect.specs.Fragments.{IsShort};
 ghost use Rattle.pk_fields.specs.Ids.{UDP, TCP};
 ghost use Rattle.dissect.specs.Payloads.{LastIs, ComesBehind};
-ghost use Rattle.dissect.specs.Stands.{StandsAt, IsWalked, HasRoom, OpensAtMostOne};
-ghost use Rattle.dissect.specs.Walks.{IsTodoInside, fragment_met, datagram_met, segment_met, rest_met, followed, head_met, head_by, step_on, rest_on, chain, going, link_met, all_met, no_packet};
+ghost use Rattle.dissect.specs.Stands.{StandsAt, StandsForSome, IsWalked, HasRoom, OpensAtMostOne};
+ghost use Rattle.dissect.specs.Walks.{IsTodoInside, joined_met, piece_met, fragment_met, datagram_met, segment_met, rest_met, followed, head_met, head_by, step_on, rest_on, chain, going, link_met, all_met, no_packet};
 
 use crate::applications::{add_message, app_of};
 use crate::conversations::udp_ends;
 use crate::data_layer::add_data;
+use crate::fragments::{begin_datagram, tell_conflict};
 use crate::frame_layer::{captured, frame_span, is_cut};
 use crate::payload::{tell_datagram, tell_segment};
 use crate::state::State;
@@ -20,7 +23,8 @@ use dis_icmp::{read_icmp, read_icmp6};
 use dis_ip::{read_extension, read_ip4, read_ip6};
 use dis_link::{read_arp, read_link, read_vlan};
 use dis_ports::{read_tcp, read_udp};
-use pk_base::{LAYER_LIMIT, NoMemory, Span};
+use ip_join::Joined;
+use pk_base::{LAYER_LIMIT, NoMemory, Octets, Span};
 use pk_tree::{
     Address, After, FragmentHead, Mode, Next, PacketHead, PortsHead, TcpHead, TreeBuilder,
 };
@@ -41,7 +45,7 @@ impl State {
         Ok(Todo::Done)
     }
 
-    /// Takes a part of a datagram. So far its bytes are shown as data.
+    /// Takes a part of a datagram. One that wasn't wholly captured is shown as data.
     #[tactic(auto, unfolding(crate::specs::Walks::fragment_met))]
     fn fragment(
         &mut self,
@@ -52,19 +56,84 @@ impl State {
         tree: &mut TreeBuilder,
     ) -> Result<Todo, NoMemory>
         requires inside { IsInside tree.old.buffers span }
+        requires last { LastIs (part_proto head.six) tree.old.layers }
         requires room { length tree.old.layers + 2 < 2 ^ 32 }
+        requires space { length tree.old.buffers + 1 < 2 ^ 32 }
+        requires some { StandsForSome self.old }
         ensures inside { IfOk result (λ todo. IsTodoInside tree.new.buffers todo) }
         ensures walked { IfOk result (λ todo. (es : List Event) → StandsAt es self.old → IsWalked (fragment_met frame.now packet tree.old es head span) self.new tree.new todo) }
         ensures opens { IfOk result (λ todo. OpensAtMostOne self.old self.new todo) }
         ensures opened { length self.new.udp ≤ length self.old.udp + 1 }
-        ensures buffers { tree.new.buffers ≡ tree.old.buffers }
+        ensures buffers { OnOk result (length tree.new.buffers ≤ length tree.old.buffers + 1) }
         ensures most { OnOk result (length tree.new.layers ≤ length tree.old.layers + 2) }
     {
-        self.rest(span, tree)
+        if head.whole {
+            let bytes = bytes_of(span, tree)?;
+            self.piece(frame, head, &bytes, span, tree)
+        } else {
+            self.rest(span, tree)
+        }
+    }
+
+    /// Takes a part of a datagram, with its bytes, among those that were taken before it.
+    fn piece(
+        &mut self,
+        frame: &Frame,
+        head: FragmentHead,
+        bytes: &Octets,
+        span: Span,
+        tree: &mut TreeBuilder,
+    ) -> Result<Todo, NoMemory>
+        requires whole { head.whole ≡ true }
+        requires inside { IsInside tree.old.buffers span }
+        requires last { LastIs (part_proto head.six) tree.old.layers }
+        requires room { length tree.old.layers + 2 < 2 ^ 32 }
+        requires space { length tree.old.buffers + 1 < 2 ^ 32 }
+        requires some { StandsForSome self.old }
+        ensures inside { IfOk result (λ todo. IsTodoInside tree.new.buffers todo) }
+        ensures walked { IfOk result (λ todo. (es : List Event) → StandsAt es self.old → IsWalked (piece_met tree.old es frame.now.number head bytes.now span) self.new tree.new todo) }
+        ensures opens { IfOk result (λ todo. OpensAtMostOne self.old self.new todo) }
+        ensures opened { length self.new.udp ≤ length self.old.udp + 1 }
+        ensures buffers { OnOk result (length tree.new.buffers ≤ length tree.old.buffers + 1) }
+        ensures most { OnOk result (length tree.new.layers ≤ length tree.old.layers + 2) }
+    {
+        let joined = self.joins.take(&head, frame.number, bytes)?;
+        self.behind_piece(joined, head, span, tree)
+    }
+
+    /// What is to be read behind a fragment, by what it made of those before it.
+    #[tactic(auto, unfolding(crate::specs::Walks::joined_met))]
+    fn behind_piece(
+        &mut self,
+        joined: Joined,
+        head: FragmentHead,
+        span: Span,
+        tree: &mut TreeBuilder,
+    ) -> Result<Todo, NoMemory>
+        requires inside { IsInside tree.old.buffers span }
+        requires last { LastIs (part_proto head.six) tree.old.layers }
+        requires short { IsShort joined }
+        requires room { length tree.old.layers + 2 < 2 ^ 32 }
+        requires space { length tree.old.buffers + 1 < 2 ^ 32 }
+        ensures inside { IfOk result (λ todo. IsTodoInside tree.new.buffers todo) }
+        ensures walked { IfOk result (λ todo. (es : List Event) → StandsAt es self.old → IsWalked (joined_met joined tree.old es head span) self.new tree.new todo) }
+        ensures opens { IfOk result (λ todo. OpensAtMostOne self.old self.new todo) }
+        ensures opened { length self.new.udp ≤ length self.old.udp + 1 }
+        ensures buffers { OnOk result (length tree.new.buffers ≤ length tree.old.buffers + 1) }
+        ensures most { OnOk result (length tree.new.layers ≤ length tree.old.layers + 2) }
+    {
+        match joined {
+            Joined::Pending => self.rest(span, tree),
+            Joined::Conflict(kind) => {
+                tell_conflict(head.six, kind, tree)?;
+                self.rest(span, tree)
+            }
+            Joined::Whole(datagram) => begin_datagram(&head, datagram, tree),
+        }
     }
 
     /// Takes a packet of UDP: tells the number of its conversation, and reads what it carries.
-    #[tactic(auto, unfolding(crate::specs::Walks::datagram_met, crate::specs::Conversations::udp_opened))]
+    #[tactic(auto, unfolding(crate::specs::Walks::datagram_met, crate::specs::Fragments::fragments_of, crate::specs::Conversations::udp_opened))]
     fn datagram(
         &mut self,
         frame: &Frame,
@@ -129,12 +198,14 @@ impl State {
         requires last { ComesBehind after tree.old.layers }
         requires bytes { length frame.now.bytes < 2 ^ 32 }
         requires room { length tree.old.layers + 2 < 2 ^ 32 }
+        requires space { length tree.old.buffers + 1 < 2 ^ 32 }
+        requires some { StandsForSome self.old }
         requires few { length self.old.udp + 1 < 2 ^ 32 }
         ensures inside { IfOk result (λ todo. IsTodoInside tree.new.buffers todo) }
         ensures walked { IfOk result (λ todo. (es : List Event) → StandsAt es self.old → IsWalked (followed frame.now packet mode tree.old es after) self.new tree.new todo) }
         ensures opens { IfOk result (λ todo. OpensAtMostOne self.old self.new todo) }
         ensures opened { length self.new.udp ≤ length self.old.udp + 1 }
-        ensures buffers { tree.new.buffers ≡ tree.old.buffers }
+        ensures buffers { OnOk result (length tree.new.buffers ≤ length tree.old.buffers + 1) }
         ensures most { OnOk result (length tree.new.layers ≤ length tree.old.layers + 2) }
     {
         match after {
@@ -163,12 +234,14 @@ impl State {
         requires inside { IsInside tree.old.buffers head.span }
         requires bytes { length frame.now.bytes < 2 ^ 32 }
         requires room { length tree.old.layers + 4 < 2 ^ 32 }
+        requires space { length tree.old.buffers + 1 < 2 ^ 32 }
+        requires some { StandsForSome self.old }
         requires few { length self.old.udp + 1 < 2 ^ 32 }
         ensures inside { IfOk result (λ todo. IsTodoInside tree.new.buffers todo) }
         ensures walked { IfOk result (λ todo. (es : List Event) → StandsAt es self.old → IsWalked (head_met frame.now head tree.old es) self.new tree.new todo) }
         ensures opens { IfOk result (λ todo. OpensAtMostOne self.old self.new todo) }
         ensures opened { length self.new.udp ≤ length self.old.udp + 1 }
-        ensures buffers { tree.new.buffers ≡ tree.old.buffers }
+        ensures buffers { OnOk result (length tree.new.buffers ≤ length tree.old.buffers + 1) }
         ensures most { OnOk result (length tree.new.layers ≤ length tree.old.layers + 4) }
     {
         match head.which {
@@ -231,6 +304,8 @@ impl State {
         requires bytes { length frame.now.bytes < 2 ^ 32 }
         requires most { most ≤ 32 }
         requires room { length tree.old.layers ≤ 32 }
+        requires space { length tree.old.buffers ≤ 2 }
+        requires some { StandsForSome self.old }
         requires few { HasRoom self.old first }
         ensures walked { OnOk result ((es : List Event) → StandsAt es self.old → IsWalked (chain most frame.now (going tree.old es first)) self.new tree.new Todo.Done) }
         ensures opened { (before : StateValue) → OpensAtMostOne before self.old first → length self.new.udp ≤ length before.udp + 1 }
@@ -254,11 +329,13 @@ impl State {
         requires frame { tree.old.buffers ≡ frame.now.bytes ∷ [] }
         requires bytes { length frame.now.bytes < 2 ^ 32 }
         requires room { length tree.old.layers ≤ 2 }
+        requires some { StandsForSome self.old }
         requires few { length self.old.udp + 1 < 2 ^ 32 }
         ensures inside { IfOk result (λ todo. IsTodoInside tree.new.buffers todo) }
         ensures walked { IfOk result (λ todo. (es : List Event) → StandsAt es self.old → IsWalked (link_met frame.now tree.old es) self.new tree.new todo) }
         ensures opens { IfOk result (λ todo. OpensAtMostOne self.old self.new todo) }
         ensures opened { length self.new.udp ≤ length self.old.udp + 1 }
+        ensures buffers { OnOk result (length tree.new.buffers ≤ 2) }
         ensures most { OnOk result (length tree.new.layers ≤ 32) }
     {
         if captured(frame) == 0 {
@@ -274,6 +351,7 @@ impl State {
         requires frame { tree.old.buffers ≡ frame.now.bytes ∷ [] }
         requires bytes { length frame.now.bytes < 2 ^ 32 }
         requires room { length tree.old.layers ≤ 2 }
+        requires some { StandsForSome self.old }
         requires few { length self.old.udp + 1 < 2 ^ 32 }
         ensures walked { OnOk result ((es : List Event) → StandsAt es self.old → IsWalked (all_met frame.now (link_met frame.now tree.old es)) self.new tree.new Todo.Done) }
         ensures opened { length self.new.udp ≤ length self.old.udp + 1 }
@@ -283,6 +361,14 @@ impl State {
         self.chain(frame, left, first, tree)?;
         Ok(())
     }
+}
+
+/// The bytes of a span.
+fn bytes_of(span: Span, tree: &TreeBuilder) -> Result<Octets, NoMemory>
+    requires { IsInside tree.now.buffers span }
+    ensures { IfOk result (λ bytes. bytes ≡ bytes_of tree.now.buffers span) }
+{
+    Octets::copy(tree.alloc(), tree.bytes(span))
 }
 
 /// What stands for the IP header where none was met.

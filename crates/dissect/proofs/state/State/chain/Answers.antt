@@ -9,6 +9,7 @@ loop-todo-init c = record {
   inside = c.requires.inside;
   opens = λ before opens. opens;
   room = c.requires.few;
+  buffers = omega arith;
   few = omega arith;
 }
 
@@ -26,8 +27,16 @@ loop-todo-preserved c =
       inside = c.in_ok-todo.ensures.inside;
       opens = λ before opens. opens-on before c.loop-todo.self c.head.new.self c.loop-todo.todo c.in_ok-todo.todo c.in-Head.head (search rules) (c.loop-todo.invariant.opens before opens) c.in_ok-todo.ensures.opens;
       room = room-on c.loop-todo.self c.head.new.self c.in_ok-todo.todo now c.in_ok-todo.ensures.opens;
+      buffers = omega (arith, c.in_ok-todo.ensures.buffers, c.loop-todo.invariant.buffers);
       few = omega (arith, c.in_ok-todo.ensures.most, c.loop-todo.invariant.few);
     }
+
+-- of some events what is kept stands before each header
+pub head-requires-clause-some : goal.head-requires-clause-some
+head-requires-clause-some c =
+    let (es, stands) = c.requires.some in
+    let (w, walked, is) = c.loop-todo.invariant.goes es stands in
+    (w.events, walked.stands)
 
 pub returns : goal.returns
 returns c = record {

@@ -5,13 +5,14 @@ use Rattle.dissect.specs.Walks.{IsTodoInside}
 use Rattle.dissect.proofs.Chains.{Goes}
 use Rattle.dissect.proofs.state.State.chain.Given as goal
 
--- the headers that are left lead where all of them do, and each adds few layers
+-- the headers that are left lead where all of them do, and each adds few layers and at most one buffer
 abbrev pub invariant-loop-todo : goal.invariant-loop-todo
 invariant-loop-todo l = record {
   goes : Goes l.frame l.fn.most l.initial.self l.initial.tree l.fn.first l.left l.self l.tree l.todo;
   inside : IsTodoInside l.tree.buffers l.todo;
   opens : (before : State) → OpensAtMostOne before l.initial.self l.fn.first → OpensAtMostOne before l.self l.todo;
   room : HasRoom l.self l.todo;
+  buffers : length l.tree.buffers + l.left ≤ length l.initial.tree.buffers + l.fn.most;
   few : length l.tree.layers + 4 * l.left ≤ length l.initial.tree.layers + 4 * l.fn.most;
 }
 

@@ -3,6 +3,7 @@ use Rattle.pk_fields.specs.Ids.{UDP, TCP}
 use Rattle.pk_tree.specs.declared.heads.After.{After}
 use Rattle.pk_tree.specs.declared.heads.After.TheVariants as afters
 use Rattle.pk_tree.specs.Trees.{last_proto}
+use Rattle.dis_ip.specs.Fragments.{LastIsPart}
 use Rattle.dissect.specs.Payloads.{ComesBehind}
 use Rattle.dissect.proofs.Behind.{vlan_behind, icmp_behind, icmp6_behind, ip4_behind, ip6_behind, extension_behind, udp_behind, tcp_behind}
 use Rattle.dissect.proofs.state.State.head.Goals as goal
@@ -24,8 +25,11 @@ follow-requires-in-Icmp6-clause-last c =
 
 pub follow-requires-in-Ip4-clause-last : goal.follow-requires-in-Ip4-clause-last
 follow-requires-in-Ip4-clause-last c =
-    subst (λ (after : After). ComesBehind after c.read_ip4.new.b.layers) (sym c.in_ok-after-in-Ip4.ensures.after)
-    (ip4_behind c.read_ip4.new.b.layers _ _ _ _)
+    let layers = c.read_ip4.new.b.layers in
+    let is = c.in_ok-after-in-Ip4.ensures.after in
+    subst (λ (after : After). ComesBehind after layers) (sym is)
+    (ip4_behind layers _ _ _ _ c.in_ok-after-in-Ip4.ensures.some
+    (subst (λ (after : After). LastIsPart layers after) is c.in_ok-after-in-Ip4.ensures.part))
 
 pub follow-requires-in-Ip6-clause-last : goal.follow-requires-in-Ip6-clause-last
 follow-requires-in-Ip6-clause-last c =
@@ -34,8 +38,11 @@ follow-requires-in-Ip6-clause-last c =
 
 pub follow-requires-in-HopOpts-clause-last : goal.follow-requires-in-HopOpts-clause-last
 follow-requires-in-HopOpts-clause-last c =
-    subst (λ (after : After). ComesBehind after c.read_extension.new.b.layers) (sym c.in_ok-after-in-HopOpts.ensures.after)
-    (extension_behind c.read_extension.new.b.layers _ _ _ _ _)
+    let layers = c.read_extension.new.b.layers in
+    let is = c.in_ok-after-in-HopOpts.ensures.after in
+    subst (λ (after : After). ComesBehind after layers) (sym is)
+    (extension_behind layers _ _ _ _ _ c.in_ok-after-in-HopOpts.ensures.some
+    (subst (λ (after : After). LastIsPart layers after) is c.in_ok-after-in-HopOpts.ensures.part))
 
 pub follow-requires-in-Udp-clause-last : goal.follow-requires-in-Udp-clause-last
 follow-requires-in-Udp-clause-last c =

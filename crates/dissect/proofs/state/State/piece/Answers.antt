@@ -1,0 +1,28 @@
+use Rattle.std.proofs.Common.{◌≡◌, ◌∷◌, refl, subst, sym}
+use Rattle.std.proofs.lemmas.Result.{IfOk-weaker}
+use Rattle.ip_join.specs.declared.joined.Joined.{Joined}
+use Rattle.dissect.specs.Events.{Piece}
+use Rattle.dissect.specs.Fragments.{fragment_from, fragments_of, IsShort}
+use Rattle.dissect.specs.Stands.{IsWalked}
+use Rattle.dissect.specs.Walks.{joined_met}
+use Rattle.dissect.proofs.Joining.{joined-short, stands-piece}
+use Rattle.dissect.proofs.state.State.piece.Goals as goal
+
+pub behind_piece-requires-clause-short : goal.behind_piece-requires-clause-short
+behind_piece-requires-clause-short c =
+    let (es, stands) = c.requires.some in
+    let new = fragment_from c.args.frame.now.number c.args.head c.args.bytes.now in
+    subst (λ (j : Joined). IsShort j) (sym (c.in_ok-joined.ensures.joined (fragments_of es) stands.joins)) (joined-short (fragments_of es) new)
+
+pub returns-clause-walked : goal.returns-clause-walked
+returns-clause-walked c =
+    IfOk-weaker c.behind_piece.result _ _
+    (λ todo walked es stands.
+    let frame = c.args.frame.now.number in
+    let head = c.args.head in
+    let bytes = c.args.bytes.now in
+    let kept = c.in_ok-joined.ensures.stands (fragments_of es) stands.joins in
+    subst (λ (j : Joined). IsWalked (joined_met j c.args.tree.now (Piece frame head bytes ∷ es) head c.args.span) c.behind_piece.new.self c.behind_piece.new.tree todo)
+    (c.in_ok-joined.ensures.joined (fragments_of es) stands.joins)
+    (walked (Piece frame head bytes ∷ es) (stands-piece es frame head bytes c.args.self.now _ stands refl kept)))
+    c.behind_piece.ensures.walked
