@@ -10,6 +10,7 @@ use Rattle.flt_parse.specs.declared.ast.Function.{Function}
 use Rattle.flt_parse.specs.declared.ast.Function.TheVariants.{Len, Count, Upper, Lower}
 use Rattle.flt_parse.specs.declared.ast.LayerRange.{LayerRange}
 use Rattle.flt_parse.specs.declared.ast.Literal.{Literal}
+use Rattle.flt_parse.specs.declared.ast.Operator.{Operator}
 use Rattle.flt_parse.specs.declared.ast.SliceRange.{SliceRange}
 use Rattle.flt_parse.specs.declared.fault.FilterError.{FilterError}
 use Rattle.flt_parse.specs.declared.fault.FilterReason.TheVariants.{TypeMismatch, OutOfRange}
@@ -236,3 +237,10 @@ search_behind o t at place text e h a = behind false None o t (λ kind. unless (
 pub members_done : (kind : ValueKind) (es : List Element) (i : ℕ) (ms : List Member) → drop i es ≡ [] →
     ((more : List Member) → AreMembers kind (drop i es) more → AreMembers kind es (ms ++ more)) → AreMembers kind es ms
 members_done kind es i ms all so_far = subst (AreMembers kind es) (append-nil ms) (so_far [] (rw all tt))
+
+pub compare_behind : (o : WrittenOperand) (t : Term) (operator : Operator) (at : ℕ) (right : WrittenOperand) (relation : Relation) (kind : ValueKind) (e : FilterError) →
+    relation ≡ relation_of operator → kind ≡ kind_of t → IsTerm o t →
+    IsAnswer (unless (takes relation kind) at TypeMismatch ++ right_faults relation at kind right (literal_of right)) e →
+    IsAnswer (operand_faults false None o ++ given (kind_written o) (tail_faults (CompareOf operator at right))) e
+compare_behind o t operator at right relation kind e asked is h a =
+    behind false None o t (tail_faults (CompareOf operator at right)) e h (rw (← asked, ← is) a)

@@ -1,4 +1,5 @@
 pub mod Faults
+pub mod Laws
 pub mod Layers
 pub mod Literals
 pub mod Ranges

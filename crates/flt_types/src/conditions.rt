@@ -6,7 +6,7 @@ ghost use Rattle.flt_pattern.specs.Patterns.{HasCause, IsPattern};
 ghost use Rattle.flt_types.specs.Faults.{IsAnswer, faults, right_faults, unless, PatternAt};
 ghost use Rattle.flt_types.specs.Literals.{literal_of};
 ghost use Rattle.flt_types.specs.Terms.{IsTerm};
-ghost use Rattle.flt_values.specs.Kinds.{is_searched as is_searched_kind};
+ghost use Rattle.flt_values.specs.Kinds.{is_searched as is_searched_kind, takes as takes_kind};
 ghost use Rattle.flt_types.specs.Typing.{HasType, IsRight, relation_of as relation_asked, choice_of as own_choice, chosen as choice_between};
 
 use crate::faults::{fault, require};
@@ -68,7 +68,7 @@ fn test_of(
     }
 }
 
-#[tactic(auto, using(crate::proofs::Clear::test_behind, crate::proofs::Answers::answer_left, crate::proofs::Answers::answer_right, crate::proofs::Answers::clear_unless))]
+#[tactic(auto, using(crate::proofs::Clear::compare_behind))]
 fn compare(
     alloc: Global,
     choice: Option<Choice>,
@@ -83,11 +83,27 @@ fn compare(
         → IfErr result (IsAnswer (faults (TestOf choice o (CompareOf operator at (operand_of right.now))))) }
 {
     let relation = relation_of(operator);
-    let kind = kind_of(&left);
-    require(takes(relation, kind), at, FilterReason::TypeMismatch)?;
-    let right = right_side(alloc, relation, at, kind, right)?;
+    let right = right_of(alloc, relation, at, kind_of(&left), right)?;
     let choice = chosen(choice, choice_of(operator));
     Ok(Typed::Compare(relation, choice, left, right))
+}
+
+/// The right side of a relation that a left operand of a kind may stand in.
+#[tactic(auto, using(crate::proofs::Answers::answer_left, crate::proofs::Answers::answer_right, crate::proofs::Answers::clear_unless))]
+fn right_of(
+    alloc: Global,
+    relation: Relation,
+    at: u32,
+    kind: ValueKind,
+    operand: &Operand,
+) -> Result<Term, FilterError>
+    ensures takes { OnOk result (IsTrue (takes_kind relation kind)) }
+    ensures ok { IfOk result (IsRight relation kind (operand_of operand.now)) }
+    ensures err { IfErr result (IsAnswer (unless (takes_kind relation kind) at TypeMismatch
+        ++ right_faults relation at kind (operand_of operand.now) (literal_of (operand_of operand.now)))) }
+{
+    require(takes(relation, kind), at, FilterReason::TypeMismatch)?;
+    Ok(right_side(alloc, relation, at, kind, operand)?)
 }
 
 #[tactic(auto, using(crate::proofs::Clear::among_behind))]

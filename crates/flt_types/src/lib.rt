@@ -4,6 +4,7 @@
 mod conditions;
 mod faults;
 mod filter;
+mod laws;
 mod layers;
 mod literals;
 mod operand;
@@ -13,6 +14,7 @@ mod typed;
 mod typing;
 
 pub use filter::Filter;
+pub use laws::typed_trees_have_no_fault;
 pub use operand::kind_of;
 pub use typed::{Member, Term, Typed};
 pub use typing::{check, read_filter};
