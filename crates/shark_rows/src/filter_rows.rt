@@ -1,6 +1,6 @@
 // Filters over three frames, with expected values worked by hand from the rules of the language.
 use crate::pcap_rows::{HEADER, PADDING, REQUEST, REQUEST_HEAD};
-use crate::runs::{Run, holds};
+use crate::runs::{Expected, NO_FAULTS, bytes_of, ends_so, words_of};
 use shark_run::Status;
 use std::alloc::{AllocError, Global};
 use std::test::Fail;
@@ -45,21 +45,114 @@ static FILE: [&str; 10] = [
     "9c400009 000c0000 010203ff",
 ];
 
-fn row_holds(alloc: Global, row: &Row) -> Result<bool, AllocError> {
-    let run = Run {
-        shows: row.filter,
-        words: "-r f -T fields -e frame.number",
-        filter: row.filter,
-        file: &FILE,
-        status: if row.err.is_empty() {
-            Status::Done
-        } else {
-            Status::BadFilter
-        },
-        out: row.out,
-        err: row.err,
+/// Whether a filter lets through these frames, or has this fault.
+fn gives(alloc: Global, filter: &str, out: &str, err: &str) -> Result<bool, AllocError> {
+    let words = words_of(alloc, "-r f -T fields -e frame.number", filter)?;
+    let status = if err.is_empty() {
+        Status::Done
+    } else {
+        Status::BadFilter
     };
-    holds(alloc, &run)
+    let bytes = bytes_of(alloc, &FILE)?;
+    let expected = Expected { status, out, err };
+    ends_so(alloc, words.as_slice(), "f", bytes, &NO_FAULTS, expected)
+}
+
+fn row_holds(alloc: Global, row: &Row) -> Result<bool, AllocError> {
+    gives(alloc, row.filter, row.out, row.err)
+}
+
+/// A text, with so many copies of another before it and of a third behind it.
+fn wrapped(
+    alloc: Global,
+    count: usize,
+    before: char,
+    text: &str,
+    behind: char,
+) -> Result<String, AllocError> {
+    let mut all = String::new(alloc);
+    for _ in 0..count {
+        all.push(before)?;
+    }
+    all.push_str(text)?;
+    for _ in 0..count {
+        all.push(behind)?;
+    }
+    Ok(all)
+}
+
+#[test]
+fn at_most_4096_bytes_are_read(rt: HostRuntime) -> Result<(), Fail> {
+    let alloc = rt.alloc();
+    let mut filter = String::from_str(alloc, "arp")?;
+    for _ in 0..4093usize {
+        filter.push(' ')?;
+    }
+    assert!(rt; gives(alloc, filter.as_str(), "1\n", "")?);
+    filter.push(' ')?;
+    assert!(rt;
+        gives(
+            alloc,
+            filter.as_str(),
+            "",
+            "shark: filter byte 4096: F8 TooLong\n"
+        )?
+    );
+    Ok(())
+}
+
+#[test]
+fn at_most_64_are_open_at_once(rt: HostRuntime) -> Result<(), Fail> {
+    let alloc = rt.alloc();
+    let deep = wrapped(alloc, 64, '(', "arp", ')')?;
+    assert!(rt; gives(alloc, deep.as_str(), "1\n", "")?);
+    let deep = wrapped(alloc, 65, '(', "arp", ')')?;
+    assert!(rt;
+        gives(
+            alloc,
+            deep.as_str(),
+            "",
+            "shark: filter byte 64: F9 TooDeep\n"
+        )?
+    );
+    let deep = wrapped(alloc, 64, '!', "arp", ' ')?;
+    assert!(rt; gives(alloc, deep.as_str(), "1\n", "")?);
+    let deep = wrapped(alloc, 65, '!', "arp", ' ')?;
+    assert!(rt;
+        gives(
+            alloc,
+            deep.as_str(),
+            "",
+            "shark: filter byte 64: F9 TooDeep\n"
+        )?
+    );
+    Ok(())
+}
+
+/// A pattern of so many groups, one in the other.
+fn nested(alloc: Global, groups: usize) -> Result<String, AllocError> {
+    let mut filter = String::from_str(alloc, "tcp.payload matches \"")?;
+    let pattern = wrapped(alloc, groups, '(', "g", ')')?;
+    filter.push_str(pattern.as_str())?;
+    filter.push('"')?;
+    Ok(filter)
+}
+
+#[test]
+fn patterns_are_nested_at_most_250_deep(rt: HostRuntime) -> Result<(), Fail> {
+    let alloc = rt.alloc();
+    let filter = nested(alloc, 250)?;
+    assert!(rt; gives(alloc, filter.as_str(), "2\n", "")?);
+    let filter = nested(alloc, 251)?;
+    assert!(rt;
+        gives(
+            alloc,
+            filter.as_str(),
+            "",
+            "shark: filter byte 20: F7 BadPattern\n"
+        )?
+    );
+    Ok(())
 }
 
 static ALONE: [Row; 12] = [
@@ -342,17 +435,35 @@ static TEXTS: [Row; 20] = [
     fault("(arp", "shark: filter byte 4: F3 Unexpected\n"),
     fault("arp)", "shark: filter byte 3: F3 Unexpected\n"),
     fault("tcp.port = 80", "shark: filter byte 9: F1 BadChar\n"),
-    fault("tcp.port == 80 | arp", "shark: filter byte 15: F1 BadChar\n"),
-    fault("tcp.payload == \"a\\q\"", "shark: filter byte 15: F2 BadString\n"),
-    fault("tcp.payload == r\"a", "shark: filter byte 15: F2 BadString\n"),
-    fault("eth.src[1234567890]", "shark: filter byte 8: F3 Unexpected\n"),
+    fault(
+        "tcp.port == 80 | arp",
+        "shark: filter byte 15: F1 BadChar\n",
+    ),
+    fault(
+        "tcp.payload == \"a\\q\"",
+        "shark: filter byte 15: F2 BadString\n",
+    ),
+    fault(
+        "tcp.payload == r\"a",
+        "shark: filter byte 15: F2 BadString\n",
+    ),
+    fault(
+        "eth.src[1234567890]",
+        "shark: filter byte 8: F3 Unexpected\n",
+    ),
     fault("ip.src#1234567890", "shark: filter byte 7: F3 Unexpected\n"),
     fault("foo(arp)", "shark: filter byte 3: F3 Unexpected\n"),
     fault("tcp.port in {}", "shark: filter byte 13: F3 Unexpected\n"),
     fault("tcp.port in {80", "shark: filter byte 15: F3 Unexpected\n"),
-    fault("tcp.port in {80,}", "shark: filter byte 16: F3 Unexpected\n"),
+    fault(
+        "tcp.port in {80,}",
+        "shark: filter byte 16: F3 Unexpected\n",
+    ),
     fault("tcp.port not 80", "shark: filter byte 13: F3 Unexpected\n"),
-    fault("any tcp.port === 80", "shark: filter byte 13: F3 Unexpected\n"),
+    fault(
+        "any tcp.port === 80",
+        "shark: filter byte 13: F3 Unexpected\n",
+    ),
 ];
 
 #[test]
@@ -367,13 +478,22 @@ static NAMES: [Row; 13] = [
     fault("foo.bar", "shark: filter byte 0: F4 UnknownField\n"),
     fault("1 == tcp.port", "shark: filter byte 0: F4 UnknownField\n"),
     fault("len(foo) == 1", "shark: filter byte 4: F4 UnknownField\n"),
-    fault("arp.opcode == foo#1", "shark: filter byte 14: F4 UnknownField\n"),
-    fault("arp.opcode == foo[0]", "shark: filter byte 14: F4 UnknownField\n"),
+    fault(
+        "arp.opcode == foo#1",
+        "shark: filter byte 14: F4 UnknownField\n",
+    ),
+    fault(
+        "arp.opcode == foo[0]",
+        "shark: filter byte 14: F4 UnknownField\n",
+    ),
     fault("foo#1", "shark: filter byte 0: F4 UnknownField\n"),
     fault("foo[0]", "shark: filter byte 0: F4 UnknownField\n"),
     fault("foo & 1", "shark: filter byte 0: F4 UnknownField\n"),
     fault("foo in {1}", "shark: filter byte 0: F4 UnknownField\n"),
-    fault("foo matches \"a\"", "shark: filter byte 0: F4 UnknownField\n"),
+    fault(
+        "foo matches \"a\"",
+        "shark: filter byte 0: F4 UnknownField\n",
+    ),
     fault("arp or foo", "shark: filter byte 7: F4 UnknownField\n"),
     fault("foo == 70000", "shark: filter byte 0: F4 UnknownField\n"),
     fault("not foo", "shark: filter byte 4: F4 UnknownField\n"),
@@ -388,26 +508,74 @@ fn unknown_names(rt: HostRuntime) -> Result<(), Fail> {
 }
 
 static KINDS: [Row; 20] = [
-    fault("ip.src contains \"a\"", "shark: filter byte 7: F5 TypeMismatch\n"),
-    fault("arp.opcode matches \"a\"", "shark: filter byte 11: F5 TypeMismatch\n"),
-    fault("ip.src > 10.0.0.0/8", "shark: filter byte 9: F5 TypeMismatch\n"),
-    fault("tcp.flags.ack > 0", "shark: filter byte 14: F5 TypeMismatch\n"),
-    fault("ip.src in {10.0.0.0/8..10.0.0.1}", "shark: filter byte 11: F5 TypeMismatch\n"),
-    fault("tcp.flags.ack in {0..1}", "shark: filter byte 18: F5 TypeMismatch\n"),
+    fault(
+        "ip.src contains \"a\"",
+        "shark: filter byte 7: F5 TypeMismatch\n",
+    ),
+    fault(
+        "arp.opcode matches \"a\"",
+        "shark: filter byte 11: F5 TypeMismatch\n",
+    ),
+    fault(
+        "ip.src > 10.0.0.0/8",
+        "shark: filter byte 9: F5 TypeMismatch\n",
+    ),
+    fault(
+        "tcp.flags.ack > 0",
+        "shark: filter byte 14: F5 TypeMismatch\n",
+    ),
+    fault(
+        "ip.src in {10.0.0.0/8..10.0.0.1}",
+        "shark: filter byte 11: F5 TypeMismatch\n",
+    ),
+    fault(
+        "tcp.flags.ack in {0..1}",
+        "shark: filter byte 18: F5 TypeMismatch\n",
+    ),
     fault("len(eth.src)", "shark: filter byte 0: F5 TypeMismatch\n"),
-    fault("upper(eth.src) == \"A\"", "shark: filter byte 0: F5 TypeMismatch\n"),
-    fault("\"a\" == tcp.port", "shark: filter byte 0: F5 TypeMismatch\n"),
-    fault("tcp.port == ip.src", "shark: filter byte 9: F5 TypeMismatch\n"),
-    fault("eth.src == ip.src", "shark: filter byte 8: F5 TypeMismatch\n"),
+    fault(
+        "upper(eth.src) == \"A\"",
+        "shark: filter byte 0: F5 TypeMismatch\n",
+    ),
+    fault(
+        "\"a\" == tcp.port",
+        "shark: filter byte 0: F5 TypeMismatch\n",
+    ),
+    fault(
+        "tcp.port == ip.src",
+        "shark: filter byte 9: F5 TypeMismatch\n",
+    ),
+    fault(
+        "eth.src == ip.src",
+        "shark: filter byte 8: F5 TypeMismatch\n",
+    ),
     fault("eth.src & 1", "shark: filter byte 8: F5 TypeMismatch\n"),
     fault("tcp.port[0]", "shark: filter byte 8: F5 TypeMismatch\n"),
     fault("tcp.flags & x", "shark: filter byte 12: F5 TypeMismatch\n"),
-    fault("len(tcp.port) == 1", "shark: filter byte 0: F5 TypeMismatch\n"),
-    fault("arp.opcode == 1 & 1", "shark: filter byte 16: F5 TypeMismatch\n"),
-    fault("arp.opcode == len(foo)", "shark: filter byte 14: F5 TypeMismatch\n"),
-    fault("count(len(eth.src)) == 1", "shark: filter byte 0: F5 TypeMismatch\n"),
-    fault("arp.opcode == foo", "shark: filter byte 14: F5 TypeMismatch\n"),
-    fault("tcp.port contains 80", "shark: filter byte 9: F5 TypeMismatch\n"),
+    fault(
+        "len(tcp.port) == 1",
+        "shark: filter byte 0: F5 TypeMismatch\n",
+    ),
+    fault(
+        "arp.opcode == 1 & 1",
+        "shark: filter byte 16: F5 TypeMismatch\n",
+    ),
+    fault(
+        "arp.opcode == len(foo)",
+        "shark: filter byte 14: F5 TypeMismatch\n",
+    ),
+    fault(
+        "count(len(eth.src)) == 1",
+        "shark: filter byte 0: F5 TypeMismatch\n",
+    ),
+    fault(
+        "arp.opcode == foo",
+        "shark: filter byte 14: F5 TypeMismatch\n",
+    ),
+    fault(
+        "tcp.port contains 80",
+        "shark: filter byte 9: F5 TypeMismatch\n",
+    ),
 ];
 
 #[test]
@@ -420,17 +588,50 @@ fn kinds_that_do_not_fit(rt: HostRuntime) -> Result<(), Fail> {
 
 static LITERALS: [Row; 12] = [
     fault("tcp.port == 08", "shark: filter byte 12: F5 TypeMismatch\n"),
-    fault("tcp.port == \"80\"", "shark: filter byte 12: F5 TypeMismatch\n"),
-    fault("ip.src == 10.0.0.256", "shark: filter byte 10: F5 TypeMismatch\n"),
-    fault("ip.src == 10.0.0.0/08", "shark: filter byte 10: F5 TypeMismatch\n"),
-    fault("eth.src == 02:00:00:00:00", "shark: filter byte 11: F5 TypeMismatch\n"),
-    fault("tcp.flags.ack == 2", "shark: filter byte 17: F5 TypeMismatch\n"),
-    fault("frame.time_epoch == 1.0000000001", "shark: filter byte 20: F5 TypeMismatch\n"),
-    fault("frame.time_epoch == 1234567890123456789", "shark: filter byte 20: F5 TypeMismatch\n"),
-    fault("udp.payload == 010", "shark: filter byte 15: F5 TypeMismatch\n"),
-    fault("udp.payload == 01:02-03", "shark: filter byte 15: F5 TypeMismatch\n"),
-    fault("ipv6.src == 2001:db8::10.0.0.1", "shark: filter byte 12: F5 TypeMismatch\n"),
-    fault("eth.src == ffff", "shark: filter byte 11: F5 TypeMismatch\n"),
+    fault(
+        "tcp.port == \"80\"",
+        "shark: filter byte 12: F5 TypeMismatch\n",
+    ),
+    fault(
+        "ip.src == 10.0.0.256",
+        "shark: filter byte 10: F5 TypeMismatch\n",
+    ),
+    fault(
+        "ip.src == 10.0.0.0/08",
+        "shark: filter byte 10: F5 TypeMismatch\n",
+    ),
+    fault(
+        "eth.src == 02:00:00:00:00",
+        "shark: filter byte 11: F5 TypeMismatch\n",
+    ),
+    fault(
+        "tcp.flags.ack == 2",
+        "shark: filter byte 17: F5 TypeMismatch\n",
+    ),
+    fault(
+        "frame.time_epoch == 1.0000000001",
+        "shark: filter byte 20: F5 TypeMismatch\n",
+    ),
+    fault(
+        "frame.time_epoch == 1234567890123456789",
+        "shark: filter byte 20: F5 TypeMismatch\n",
+    ),
+    fault(
+        "udp.payload == 010",
+        "shark: filter byte 15: F5 TypeMismatch\n",
+    ),
+    fault(
+        "udp.payload == 01:02-03",
+        "shark: filter byte 15: F5 TypeMismatch\n",
+    ),
+    fault(
+        "ipv6.src == 2001:db8::10.0.0.1",
+        "shark: filter byte 12: F5 TypeMismatch\n",
+    ),
+    fault(
+        "eth.src == ffff",
+        "shark: filter byte 11: F5 TypeMismatch\n",
+    ),
 ];
 
 #[test]
@@ -442,21 +643,48 @@ fn literals_that_are_not_read(rt: HostRuntime) -> Result<(), Fail> {
 }
 
 static RANGES: [Row; 15] = [
-    fault("tcp.port == 70000", "shark: filter byte 12: F6 OutOfRange\n"),
-    fault("tcp.port == 65536", "shark: filter byte 12: F6 OutOfRange\n"),
-    fault("tcp.port == 0x10000", "shark: filter byte 12: F6 OutOfRange\n"),
-    fault("ip.src#0 == 10.0.0.1", "shark: filter byte 7: F6 OutOfRange\n"),
+    fault(
+        "tcp.port == 70000",
+        "shark: filter byte 12: F6 OutOfRange\n",
+    ),
+    fault(
+        "tcp.port == 65536",
+        "shark: filter byte 12: F6 OutOfRange\n",
+    ),
+    fault(
+        "tcp.port == 0x10000",
+        "shark: filter byte 12: F6 OutOfRange\n",
+    ),
+    fault(
+        "ip.src#0 == 10.0.0.1",
+        "shark: filter byte 7: F6 OutOfRange\n",
+    ),
     fault("ip.src#[2-1]", "shark: filter byte 8: F6 OutOfRange\n"),
-    fault("ip.src == 10.0.0.0/33", "shark: filter byte 10: F6 OutOfRange\n"),
-    fault("ipv6.src == ::/129", "shark: filter byte 12: F6 OutOfRange\n"),
+    fault(
+        "ip.src == 10.0.0.0/33",
+        "shark: filter byte 10: F6 OutOfRange\n",
+    ),
+    fault(
+        "ipv6.src == ::/129",
+        "shark: filter byte 12: F6 OutOfRange\n",
+    ),
     fault("eth.src[1-0]", "shark: filter byte 8: F6 OutOfRange\n"),
     fault("eth.src[0:0]", "shark: filter byte 8: F6 OutOfRange\n"),
     fault("eth.src[-1--2]", "shark: filter byte 8: F6 OutOfRange\n"),
     fault("tcp.flags & 4096", "shark: filter byte 12: F6 OutOfRange\n"),
-    fault("tcp.flags & 1 == 4096", "shark: filter byte 16: F6 OutOfRange\n"),
-    fault("tcp.port in {1, 65536..1}", "shark: filter byte 16: F6 OutOfRange\n"),
+    fault(
+        "tcp.flags & 1 == 4096",
+        "shark: filter byte 16: F6 OutOfRange\n",
+    ),
+    fault(
+        "tcp.port in {1, 65536..1}",
+        "shark: filter byte 16: F6 OutOfRange\n",
+    ),
     fault("vlan.id == 4096", "shark: filter byte 11: F6 OutOfRange\n"),
-    fault("tcp.port == 99999999999999999999999", "shark: filter byte 12: F6 OutOfRange\n"),
+    fault(
+        "tcp.port == 99999999999999999999999",
+        "shark: filter byte 12: F6 OutOfRange\n",
+    ),
 ];
 
 #[test]
@@ -469,17 +697,47 @@ fn numbers_out_of_range(rt: HostRuntime) -> Result<(), Fail> {
 
 static FIRST: [Row; 12] = [
     fault("foo == bar and", "shark: filter byte 14: F3 Unexpected\n"),
-    fault("tcp.port == 70000 and foo", "shark: filter byte 12: F6 OutOfRange\n"),
-    fault("ip.src contains \"a\" or foo", "shark: filter byte 7: F5 TypeMismatch\n"),
-    fault("foo and tcp.port == 70000", "shark: filter byte 0: F4 UnknownField\n"),
-    fault("arp.opcode == 1 @ \"", "shark: filter byte 16: F1 BadChar\n"),
+    fault(
+        "tcp.port == 70000 and foo",
+        "shark: filter byte 12: F6 OutOfRange\n",
+    ),
+    fault(
+        "ip.src contains \"a\" or foo",
+        "shark: filter byte 7: F5 TypeMismatch\n",
+    ),
+    fault(
+        "foo and tcp.port == 70000",
+        "shark: filter byte 0: F4 UnknownField\n",
+    ),
+    fault(
+        "arp.opcode == 1 @ \"",
+        "shark: filter byte 16: F1 BadChar\n",
+    ),
     fault("\" @", "shark: filter byte 0: F2 BadString\n"),
-    fault("eth.src[0:0] == zz", "shark: filter byte 8: F6 OutOfRange\n"),
-    fault("tcp.port > ip.src[0]", "shark: filter byte 9: F5 TypeMismatch\n"),
-    fault("http matches \"(\"", "shark: filter byte 13: F7 BadPattern\n"),
-    fault("tcp matches \"\\xff\"", "shark: filter byte 12: F7 BadPattern\n"),
-    fault("tcp matches \"a{1000}{1000}\"", "shark: filter byte 12: F10 PatternSize\n"),
-    fault("tcp matches \"(\" and foo", "shark: filter byte 12: F7 BadPattern\n"),
+    fault(
+        "eth.src[0:0] == zz",
+        "shark: filter byte 8: F6 OutOfRange\n",
+    ),
+    fault(
+        "tcp.port > ip.src[0]",
+        "shark: filter byte 9: F5 TypeMismatch\n",
+    ),
+    fault(
+        "http matches \"(\"",
+        "shark: filter byte 13: F7 BadPattern\n",
+    ),
+    fault(
+        "tcp matches \"\\xff\"",
+        "shark: filter byte 12: F7 BadPattern\n",
+    ),
+    fault(
+        "tcp matches \"a{1000}{1000}\"",
+        "shark: filter byte 12: F10 PatternSize\n",
+    ),
+    fault(
+        "tcp matches \"(\" and foo",
+        "shark: filter byte 12: F7 BadPattern\n",
+    ),
 ];
 
 #[test]

@@ -80,12 +80,16 @@ outcome_as_told : (plan : Plan) (files : List ℕ → Option (List ℕ)) (o : Ou
     → IsFaultText (IsSame plan) IsNone files (outcome_status o) text
 unfolding outcome_text ending_text
 outcome_as_told plan files (outcome.Ended ending.Whole) text W is ended = is
-outcome_as_told plan files (outcome.Ended (ending.Damaged damage)) text W is ended = (plan, refl, record {
-  ending = ending.Damaged damage;
-  status = refl;
-  read = second (file_of plan files) W (λ file. ending.Damaged damage ≡ (frames_read plan file).ending) ended;
-  text = is;
-})
+outcome_as_told plan files (outcome.Ended (ending.Damaged damage)) text W is ended = (
+  plan,
+  refl,
+  record {
+    ending = ending.Damaged damage;
+    status = refl;
+    read = second (file_of plan files) W (λ file. ending.Damaged damage ≡ (frames_read plan file).ending) ended;
+    text = is;
+  },
+)
 outcome_as_told plan files (outcome.Ended ending.TooLarge) text W is ended = is
 outcome_as_told plan files outcome.CannotOpen text W is ended = (plan, refl, is)
 outcome_as_told plan files outcome.ReadFault text W is ended = is

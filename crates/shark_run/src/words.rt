@@ -74,6 +74,7 @@ fn name_in(alloc: Global, source: &Source) -> Result<Text, NoMemory>
     }
 }
 
+#[tactic(auto, using(crate::proofs::PlanLemmas::names_refused))]
 fn plan_with(alloc: Global, options: &Options) -> Result<Plan, PlanError>
     requires { AreUtf8 options.now }
     ensures ok { IfOk result (IsPlanFor options.now) }
