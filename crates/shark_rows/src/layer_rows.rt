@@ -111,7 +111,7 @@ static LAYERS: [Run; 24] = [
         file: &[HEADER, REQUEST_HEAD, REQUEST, PADDING],
         status: Status::BadFilter,
         out: "",
-        err: "",
+        err: "shark: filter byte 12: F6 OutOfRange\n",
     },
     Run {
         shows: "a field of another kind",
@@ -120,15 +120,15 @@ static LAYERS: [Run; 24] = [
         file: &[HEADER, REQUEST_HEAD, REQUEST, PADDING],
         status: Status::BadFilter,
         out: "",
-        err: "",
+        err: "shark: filter byte 11: F5 TypeMismatch\n",
     },
     Run {
         shows: "another sign",
         words: "-r f -T fields -e frame.number",
         filter: "eth.type === 2054",
         file: &[HEADER, REQUEST_HEAD, REQUEST, PADDING],
-        status: Status::BadFilter,
-        out: "",
+        status: Status::Done,
+        out: "1\n",
         err: "",
     },
     Run {
@@ -138,7 +138,7 @@ static LAYERS: [Run; 24] = [
         file: &[HEADER, REQUEST_HEAD, REQUEST, PADDING],
         status: Status::BadFilter,
         out: "",
-        err: "",
+        err: "shark: filter byte 0: F4 UnknownField\n",
     },
     Run {
         shows: "a request of which 20 bytes were captured",

@@ -3,6 +3,8 @@
 #![tactic(auto)]
 
 #[cfg(test)]
+mod filter_rows;
+#[cfg(test)]
 mod layer_rows;
 #[cfg(test)]
 mod outside_rows;

@@ -51,7 +51,12 @@ pub(crate) fn bytes_of(alloc: Global, pieces: &[&str]) -> Result<Vec<u8>, AllocE
     }
 }
 
-fn words_of(alloc: Global, words: &str, filter: &str) -> Result<Vec<String>, AllocError> {
+/// The words, a space between two, and the filter behind `-Y`, where there is one.
+pub(crate) fn words_of(
+    alloc: Global,
+    words: &str,
+    filter: &str,
+) -> Result<Vec<String>, AllocError> {
     let mut all = Vec::new(alloc);
     for word in words.split(' ') {
         if !word.is_empty() {
@@ -65,6 +70,37 @@ fn words_of(alloc: Global, words: &str, filter: &str) -> Result<Vec<String>, All
     Ok(all)
 }
 
+/// What must come of a run.
+#[derive(Clone, Copy)]
+pub(crate) struct Expected<'a> {
+    pub(crate) status: Status,
+    pub(crate) out: &'a str,
+    pub(crate) err: &'a str,
+}
+
+/// Whether a run with these words over these bytes comes to what is expected.
+pub(crate) fn ends_so(
+    alloc: Global,
+    words: &[String],
+    name: &str,
+    bytes: Vec<u8>,
+    faults: &Faults,
+    expected: Expected<'_>,
+) -> Result<bool, AllocError> {
+    let mut files = Vec::new(alloc);
+    files.push(NamedFile::new(String::from_str(alloc, name)?, bytes))?;
+    let failing = Vec::from_slice(alloc, faults.capture)?;
+    let mut capture = MemoryCapture::new(files, failing, faults.step.max(1));
+    let mut out = MemorySink::new(alloc, Vec::from_slice(alloc, faults.out)?);
+    let mut err = MemorySink::new(alloc, Vec::from_slice(alloc, faults.err)?);
+    let status = run(alloc, words, &mut capture, &mut out, &mut err);
+    Ok(
+        status == expected.status
+            && out.bytes() == expected.out.as_bytes()
+            && err.bytes() == expected.err.as_bytes(),
+    )
+}
+
 /// Whether a run over these bytes comes to what its row says.
 pub(crate) fn comes_to(
     alloc: Global,
@@ -74,18 +110,12 @@ pub(crate) fn comes_to(
     faults: &Faults,
 ) -> Result<bool, AllocError> {
     let words = words_of(alloc, row.words, row.filter)?;
-    let mut files = Vec::new(alloc);
-    files.push(NamedFile::new(String::from_str(alloc, name)?, bytes))?;
-    let failing = Vec::from_slice(alloc, faults.capture)?;
-    let mut capture = MemoryCapture::new(files, failing, faults.step.max(1));
-    let mut out = MemorySink::new(alloc, Vec::from_slice(alloc, faults.out)?);
-    let mut err = MemorySink::new(alloc, Vec::from_slice(alloc, faults.err)?);
-    let status = run(alloc, words.as_slice(), &mut capture, &mut out, &mut err);
-    Ok(
-        status == row.status
-            && out.bytes() == row.out.as_bytes()
-            && err.bytes() == row.err.as_bytes(),
-    )
+    let expected = Expected {
+        status: row.status,
+        out: row.out,
+        err: row.err,
+    };
+    ends_so(alloc, words.as_slice(), name, bytes, faults, expected)
 }
 
 /// Whether a run that nothing outside fails comes to what its row says.

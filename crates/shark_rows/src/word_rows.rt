@@ -201,7 +201,7 @@ static WORDS: [Run; 26] = [
         file: &[HEADER, REQUEST_HEAD, REQUEST, PADDING],
         status: Status::BadFilter,
         out: "",
-        err: "",
+        err: "shark: filter byte 9: F1 BadChar\n",
     },
     Run {
         shows: "words are judged before the filter",

@@ -1,5 +1,4 @@
 mod FileLemmas
-mod FilterLemmas
 mod FrontLemmas
 mod OutputLemmas
 mod ReadingLemmas
@@ -7,3 +6,4 @@ mod RuleLemmas
 mod TakeableLemmas
 mod WordLemmas
 mod ToldLemmas
+mod PlanLemmas

@@ -1,5 +1,5 @@
 -- What standard error is told: one line that names the fault, or nothing.
-use Rattle.std.specs.Prelude.{◌≡◌, ℕ, decimal, List, [], ◌++◌, codes, Option, Result, IfOk, IfErr, IfSome}
+use Rattle.std.specs.Prelude.{◌≡◌, ℕ, decimal, List, [], ◌++◌, codes, Option, IfSome}
 use Rattle.std.specs.Io.KnownBytes.{Appends}
 use Rattle.pk_base.specs.declared.found.Reason.{Reason}
 use Rattle.pk_base.specs.declared.found.Reason.TheVariants.{ShortHeader, UnknownMagic, BadVersion, RecordCut, TooLong, BlockLength, BlockCut, BadInterface, BadOption, BadResolution}
@@ -7,6 +7,8 @@ use Rattle.pk_outside.specs.Outside.{AppendsPart}
 use Rattle.pk_text.specs.Escape.{escaped}
 use Rattle.capture_read.specs.declared.ending.Ending.{Ending}
 use Rattle.capture_read.specs.declared.ending.Ending.TheVariants as ending
+use Rattle.flt_parse.specs.declared.fault.FilterReason.{FilterReason}
+use Rattle.flt_parse.specs.declared.fault.FilterReason.TheVariants as filter
 use Rattle.shark_words.specs.declared.fault.WordReason.{WordReason}
 use Rattle.shark_words.specs.declared.fault.WordReason.TheVariants.{UnknownOption, MissingValue, StrayWord, NoFile, Repeated, BadValue, NoFields, Unused}
 use Rattle.shark_run.specs.declared.outcome.Outcome.{Outcome}
@@ -17,7 +19,7 @@ use Rattle.shark_run.specs.declared.plan.Refused.TheVariants as refused
 use Rattle.shark_run.specs.declared.status.Status.{Status}
 use Rattle.shark_run.specs.declared.status.Status.TheVariants as status
 use Rattle.shark_run.specs.Reading.{name_of, file_of, frames_read}
-use Rattle.shark_run.specs.Statuses.{status_of}
+use Rattle.shark_run.specs.Statuses.{refusal_status, status_of}
 
 -- the code and name of a reason why a file is damaged
 abbrev pub reason_text : Reason → List ℕ
@@ -43,11 +45,25 @@ word_reason_text BadValue = codes "A6 BadValue"
 word_reason_text NoFields = codes "A7 NoFields"
 word_reason_text Unused = codes "A8 Unused"
 
--- what is told of a refusal; a filter's fault has no text yet
+-- the code and name of a filter's fault
+abbrev pub filter_reason_text : FilterReason → List ℕ
+filter_reason_text filter.BadChar = codes "F1 BadChar"
+filter_reason_text filter.BadString = codes "F2 BadString"
+filter_reason_text filter.Unexpected = codes "F3 Unexpected"
+filter_reason_text filter.UnknownField = codes "F4 UnknownField"
+filter_reason_text filter.TypeMismatch = codes "F5 TypeMismatch"
+filter_reason_text filter.OutOfRange = codes "F6 OutOfRange"
+filter_reason_text filter.BadPattern = codes "F7 BadPattern"
+filter_reason_text filter.TooLong = codes "F8 TooLong"
+filter_reason_text filter.TooDeep = codes "F9 TooDeep"
+filter_reason_text filter.PatternSize = codes "F10 PatternSize"
+
+-- what is told of a refusal
 unfoldable pub refusal_text : Refused → List ℕ
 refusal_text (refused.Words fault) =
     codes "shark: word " ++ (decimal fault.word ++ (codes ": " ++ (word_reason_text fault.reason ++ codes "\n")))
-refusal_text refused.Filter = []
+refusal_text (refused.Filter fault) =
+    codes "shark: filter byte " ++ (decimal fault.at ++ (codes ": " ++ (filter_reason_text fault.reason ++ codes "\n")))
 refusal_text (refused.Field name) = codes "shark: field " ++ (escaped name ++ codes ": unknown\n")
 
 -- what is told of a file's end
@@ -72,23 +88,34 @@ pub record EndsSo (plan : Plan) (files : List ℕ → Option (List ℕ)) (answer
   pub read : IfSome (file_of plan files) (λ file. ending ≡ (frames_read plan file).ending)
   pub text : told ≡ ending_text ending
 
--- the text of a status, for these words over these files
-abbrev pub IsFaultText : Result Plan Refused → (List ℕ → Option (List ℕ)) → Status → List ℕ → Type 0
-IsFaultText plan files status.BadWords text = IfErr plan (λ refused. text ≡ refusal_text refused)
-IsFaultText plan files status.BadFilter text = IfErr plan (λ refused. text ≡ refusal_text refused)
-IsFaultText plan files status.BadField text = IfErr plan (λ refused. text ≡ refusal_text refused)
-IsFaultText plan files status.CannotOpen text = IfOk plan (λ p. text ≡ outcome_text p outcome.CannotOpen)
-IsFaultText plan files status.ReadFault text = text ≡ codes "shark: read fault\n"
-IsFaultText plan files status.Damaged text = IfOk plan (λ p. EndsSo p files status.Damaged text)
-IsFaultText plan files status.TooLarge text = text ≡ codes "shark: capture too large\n"
-IsFaultText plan files status.Done text = text ≡ []
-IsFaultText plan files status.WriteFault text = text ≡ []
-IsFaultText plan files status.NoMemory text = text ≡ []
+-- only this one, and none at all
+abbrev pub IsSame : {A : Type 0} → A → A → Type 0
+IsSame a other = other ≡ a
+
+abbrev pub IsNone : {A : Type 0} → A → Type 0
+IsNone other = ⊥
+
+-- the text of a refusal for one of these reasons, with its status
+abbrev pub IsRefusalText : (Refused → Type 0) → Status → List ℕ → Type 0
+IsRefusalText IsReason answer text = (reason : Refused) × IsReason reason × (answer ≡ refusal_status reason) × (text ≡ refusal_text reason)
+
+-- the text of a status, for words that ask for such a plan or are refused for such a reason, over these files
+abbrev pub IsFaultText : (Plan → Type 0) → (Refused → Type 0) → (List ℕ → Option (List ℕ)) → Status → List ℕ → Type 0
+IsFaultText IsAsked IsReason files status.BadWords text = IsRefusalText IsReason status.BadWords text
+IsFaultText IsAsked IsReason files status.BadFilter text = IsRefusalText IsReason status.BadFilter text
+IsFaultText IsAsked IsReason files status.BadField text = IsRefusalText IsReason status.BadField text
+IsFaultText IsAsked IsReason files status.CannotOpen text = (plan : Plan) × IsAsked plan × (text ≡ outcome_text plan outcome.CannotOpen)
+IsFaultText IsAsked IsReason files status.ReadFault text = text ≡ codes "shark: read fault\n"
+IsFaultText IsAsked IsReason files status.Damaged text = (plan : Plan) × IsAsked plan × EndsSo plan files status.Damaged text
+IsFaultText IsAsked IsReason files status.TooLarge text = text ≡ codes "shark: capture too large\n"
+IsFaultText IsAsked IsReason files status.Done text = text ≡ []
+IsFaultText IsAsked IsReason files status.WriteFault text = text ≡ []
+IsFaultText IsAsked IsReason files status.NoMemory text = text ≡ []
 
 -- standard error got a front of the status's text, and nothing else
-unfoldable pub Told : Result Plan Refused → (List ℕ → Option (List ℕ)) → Status → Option (List ℕ) → Option (List ℕ) → Type 0
-Told plan files status old new = (text : List ℕ) × IsFaultText plan files status text × AppendsPart old new text
+unfoldable pub Told : (Plan → Type 0) → (Refused → Type 0) → (List ℕ → Option (List ℕ)) → Status → Option (List ℕ) → Option (List ℕ) → Type 0
+Told IsAsked IsReason files answer old new = (text : List ℕ) × IsFaultText IsAsked IsReason files answer text × AppendsPart old new text
 
 -- standard error got the status's text, and nothing else
-unfoldable pub ToldWhole : Result Plan Refused → (List ℕ → Option (List ℕ)) → Status → Option (List ℕ) → Option (List ℕ) → Type 0
-ToldWhole plan files status old new = (text : List ℕ) × IsFaultText plan files status text × Appends old new text
+unfoldable pub ToldWhole : (Plan → Type 0) → (Refused → Type 0) → (List ℕ → Option (List ℕ)) → Status → Option (List ℕ) → Option (List ℕ) → Type 0
+ToldWhole IsAsked IsReason files answer old new = (text : List ℕ) × IsFaultText IsAsked IsReason files answer text × Appends old new text

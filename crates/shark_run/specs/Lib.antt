@@ -1,6 +1,5 @@
 pub mod Causes
 pub mod FaultTexts
-pub mod Filter
 pub mod Lines
 pub mod Outcomes
 pub mod Plan

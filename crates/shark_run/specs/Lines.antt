@@ -1,15 +1,11 @@
 -- The output: one line for each frame that the filter lets through.
-use Rattle.std.specs.Prelude.{ℕ, ◌==◌, Bool, true, false, not, List, [], ◌∷◌, ◌++◌, Option, Some, None, if◌then◌else◌}
-use Rattle.std.specs.List.{list_any}
-use Rattle.pk_tree.specs.declared.chosen.Layers.TheVariants.{All as AllLayers}
-use Rattle.pk_tree.specs.declared.value.Value.{Value}
-use Rattle.pk_tree.specs.declared.value.Value.TheVariants.{Uint}
-use Rattle.pk_tree.specs.FieldValues.{values_of}
+use Rattle.std.specs.Prelude.{ℕ, Bool, true, List, [], ◌∷◌, ◌++◌, Option, Some, None, if◌then◌else◌}
 use Rattle.pk_tree.specs.Trees.{TreeShown}
 use Rattle.capture_read.specs.declared.frame.Frame.{Frame}
 use Rattle.dissect.specs.Trees.{tree_at}
 use Rattle.out_lines.specs.Lines.{field_line_of, default_style}
-use Rattle.shark_run.specs.declared.filter.Test.{Test}
+use Rattle.flt_types.specs.declared.typed.Typed.{Typed}
+use Rattle.flt_mean.specs.Meaning.{meaning}
 use Rattle.shark_run.specs.declared.plan.Plan.{Plan}
 
 -- the trees of the frames behind those of the past, of which the newest stands first
@@ -17,24 +13,10 @@ abbrev pub trees_after : List Frame → List Frame → List TreeShown
 trees_after past [] = []
 trees_after past (frame ∷ frames) = tree_at past frame ∷ trees_after (frame ∷ past) frames
 
--- whether a value is this number
-abbrev pub is_number : ℕ → Value → Bool
-is_number n (Uint m) = m == n
-is_number n value = false
-
-abbrev pub is_none : List Value → Bool
-is_none [] = true
-is_none (value ∷ values) = false
-
--- whether values pass a test: some are there, or one of them is the number
-abbrev pub pass : Option ℕ → List Value → Bool
-pass None values = not (is_none values)
-pass (Some n) values = list_any (is_number n) values
-
 -- whether a tree satisfies a filter; every tree satisfies none
-unfoldable pub satisfies : Option Test → TreeShown → Bool
+unfoldable pub satisfies : Option Typed → TreeShown → Bool
 satisfies None tree = true
-satisfies (Some test) tree = pass test.number (values_of tree test.field AllLayers)
+satisfies (Some filter) tree = meaning filter tree
 
 -- the line of a frame, or nothing
 abbrev pub shown : Plan → TreeShown → List ℕ

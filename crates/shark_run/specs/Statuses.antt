@@ -29,7 +29,7 @@ status_of ending.TooLarge = TooLarge
 -- the status of a refusal
 abbrev pub refusal_status : Refused → Status
 refusal_status (refused.Words fault) = BadWords
-refusal_status refused.Filter = BadFilter
+refusal_status (refused.Filter fault) = BadFilter
 refusal_status (refused.Field name) = BadField
 
 -- the status of words that aren't refused
@@ -44,6 +44,19 @@ IsNoRefusal Damaged = Unit {0}
 IsNoRefusal TooLarge = Unit {0}
 IsNoRefusal WriteFault = Unit {0}
 IsNoRefusal NoMemory = Unit {0}
+
+-- the status of words that are refused
+abbrev pub IsRefusing : Status → Type 0
+IsRefusing BadWords = Unit {0}
+IsRefusing BadFilter = Unit {0}
+IsRefusing BadField = Unit {0}
+IsRefusing Done = ⊥
+IsRefusing CannotOpen = ⊥
+IsRefusing ReadFault = ⊥
+IsRefusing Damaged = ⊥
+IsRefusing TooLarge = ⊥
+IsRefusing WriteFault = ⊥
+IsRefusing NoMemory = ⊥
 
 -- P, where the file was read and the output written to its end
 abbrev pub WhenEnded : Status → Type 0 → Type 0

@@ -2,11 +2,12 @@
 ghost use Rattle.std.specs.Prelude.{◌≡◌, ◌++◌, IfOk, OnOk, string_bytes};
 ghost use Rattle.std.specs.Io.KnownBytes.{Appends};
 ghost use Rattle.pk_outside.specs.Outside.{Rose, AppendsPart};
-ghost use Rattle.shark_run.specs.FaultTexts.{reason_text as text_of_reason, word_reason_text as text_of_word_reason, ending_text as text_of_ending, outcome_text as text_of_outcome, refusal_text as text_of_refusal};
+ghost use Rattle.shark_run.specs.FaultTexts.{reason_text as text_of_reason, word_reason_text as text_of_word_reason, filter_reason_text as text_of_filter_reason, ending_text as text_of_ending, outcome_text as text_of_outcome, refusal_text as text_of_refusal};
 
 use crate::outcome::Outcome;
 use crate::plan::{Plan, Refused};
 use capture_read::Ending;
+use flt_parse::FilterReason;
 use pk_base::{NoMemory, Reason};
 use pk_outside::{Sink, write_whole};
 use pk_text::escape_text;
@@ -54,6 +55,23 @@ fn word_reason_text(reason: WordReason) -> &'static str
     }
 }
 
+fn filter_reason_text(reason: FilterReason) -> &'static str
+    ensures { result.now ≡ text_of_filter_reason reason }
+{
+    match reason {
+        FilterReason::BadChar => "F1 BadChar",
+        FilterReason::BadString => "F2 BadString",
+        FilterReason::Unexpected => "F3 Unexpected",
+        FilterReason::UnknownField => "F4 UnknownField",
+        FilterReason::TypeMismatch => "F5 TypeMismatch",
+        FilterReason::OutOfRange => "F6 OutOfRange",
+        FilterReason::BadPattern => "F7 BadPattern",
+        FilterReason::TooLong => "F8 TooLong",
+        FilterReason::TooDeep => "F9 TooDeep",
+        FilterReason::PatternSize => "F10 PatternSize",
+    }
+}
+
 #[tactic(auto, unfolding(crate::specs::FaultTexts::ending_text))]
 fn ending_text(alloc: Global, ending: Ending) -> Result<String, NoMemory>
     ensures { IfOk result (λ text. string_bytes text ≡ text_of_ending ending) }
@@ -85,7 +103,7 @@ pub(crate) fn outcome_text(alloc: Global, plan: &Plan, outcome: Outcome) -> Resu
     }
 }
 
-/// What is told of a refusal. A filter's fault has no text yet.
+/// What is told of a refusal.
 #[tactic(auto, unfolding(crate::specs::FaultTexts::refusal_text))]
 pub(crate) fn refusal_text(alloc: Global, refused: &Refused) -> Result<String, NoMemory>
     ensures { IfOk result (λ text. string_bytes text ≡ text_of_refusal refused.now) }
@@ -96,7 +114,11 @@ pub(crate) fn refusal_text(alloc: Global, refused: &Refused) -> Result<String, N
             let reason = word_reason_text(fault.reason);
             Ok(format!(in alloc; "shark: word {word}: {reason}\n")?)
         }
-        Refused::Filter => Ok(String::new(alloc)),
+        Refused::Filter(fault) => {
+            let at = fault.at;
+            let reason = filter_reason_text(fault.reason);
+            Ok(format!(in alloc; "shark: filter byte {at}: {reason}\n")?)
+        }
         Refused::Field(name) => {
             let name = escape_text(alloc, name.bytes())?;
             Ok(format!(in alloc; "shark: field {name}: unknown\n")?)

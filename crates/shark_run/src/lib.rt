@@ -4,7 +4,6 @@
 
 mod fault_text;
 mod file;
-mod filter;
 mod lines;
 mod outcome;
 mod output;
@@ -15,7 +14,6 @@ mod text;
 mod top;
 mod words;
 
-pub use filter::Test;
 pub use plan::{FieldList, Plan, Refused};
 pub use status::Status;
 pub use text::Text;

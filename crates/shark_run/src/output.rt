@@ -33,7 +33,7 @@ fn new_dissector(alloc: Global) -> Dissector
 fn line_of(alloc: Global, plan: &Plan, tree: &Tree) -> Result<Vec<u8>, NoMemory>
     ensures { IfOk result (λ line. line.items ≡ shown plan.now tree.now) }
 {
-    if !satisfies(&plan.filter, tree)? {
+    if !satisfies(alloc, &plan.filter, tree)? {
         return Ok(Vec::new(alloc));
     }
     field_line(alloc, tree, plan.fields.slice(), &Style::default())

@@ -1,7 +1,8 @@
 ghost use Rattle.std.specs.Prelude.{◌≡◌};
 
-use crate::filter::Test;
 use crate::text::Text;
+use flt_parse::FilterFault;
+use flt_types::Filter;
 use pk_base::{NoMemory, Octets};
 use pk_fields::FieldId;
 use shark_words::WordFault;
@@ -41,8 +42,8 @@ impl FieldList {
 pub struct Plan {
     /// The name of the capture file.
     pub name: Text,
-    /// What a frame's tree is tested for, where there is a filter.
-    pub filter: Option<Test>,
+    /// What a frame's tree has to satisfy, where there is a filter.
+    pub filter: Option<Filter>,
     /// The columns, in order.
     pub fields: FieldList,
     /// How many frames are read at most, where there is a limit.
@@ -54,8 +55,8 @@ pub struct Plan {
 pub enum Refused {
     /// They are outside the command line's grammar.
     Words(WordFault),
-    /// Their filter can't be read.
-    Filter,
+    /// Their filter has a fault.
+    Filter(FilterFault),
     /// The name of a column isn't that of a field or protocol.
     Field(Octets),
 }

@@ -53,7 +53,7 @@ pub(crate) fn status_of_refusal(refused: &Refused) -> Status
 {
     match refused {
         Refused::Words(_) => Status::BadWords,
-        Refused::Filter => Status::BadFilter,
+        Refused::Filter(_) => Status::BadFilter,
         Refused::Field(_) => Status::BadField,
     }
 }

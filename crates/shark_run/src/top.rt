@@ -1,11 +1,13 @@
 // The top call.
-ghost use Rattle.std.specs.Prelude.{◌≡◌, ◌≤◌, ◌⊎◌, ℕ, List, Option, Ok, Err, IfOk, IfErr, IfSome};
+ghost use Rattle.std.specs.Prelude.{◌≡◌, ◌≤◌, ◌⊎◌, ℕ, List, Option, IfSome};
 ghost use Rattle.pk_outside.specs.Outside.{Rose};
 ghost use Rattle.shark_words.specs.Words.{texts};
-ghost use Rattle.shark_run.specs.Plan.{plan_of};
+ghost use Rattle.shark_run.specs.declared.plan.Plan.{Plan};
+ghost use Rattle.shark_run.specs.declared.plan.Refused.{Refused};
+ghost use Rattle.shark_run.specs.Plan.{IsPlan, IsRefusal, IsSure, IsAnswered};
 ghost use Rattle.shark_run.specs.Reading.{name_of, file_of, frames_read};
-ghost use Rattle.shark_run.specs.Statuses.{status_of, refusal_status, IsNoRefusal, WhenEnded};
-ghost use Rattle.shark_run.specs.FaultTexts.{Told, ToldWhole};
+ghost use Rattle.shark_run.specs.Statuses.{status_of, refusal_status, IsNoRefusal, IsRefusing, WhenEnded};
+ghost use Rattle.shark_run.specs.FaultTexts.{IsNone, IsSame, Told, ToldWhole};
 ghost use Rattle.shark_run.specs.Outcomes.{IfEnded};
 ghost use Rattle.shark_run.specs.Causes.{IsUnopened, IsUnread};
 ghost use Rattle.shark_run.specs.Wrote.{WroteAll, WrotePart};
@@ -87,9 +89,9 @@ pub fn run_plan<C: Capture, O: Sink, E: Sink>(
         → (result ≡ status_of (frames_read plan.now file).ending) ⊎ (result ≡ Status.NoMemory)) }
 
     // What standard error is told, whatever becomes of it.
-    ensures told { Told (Ok plan.now) (C.file capture.old) result (E.written err.old) (E.written err.new) }
+    ensures told { Told (IsSame plan.now) IsNone (C.file capture.old) result (E.written err.old) (E.written err.new) }
     ensures told_whole { ¬ Rose (E.faults err.old) (E.faults err.new) → ¬ Rose (E.starved err.old) (E.starved err.new)
-        → ToldWhole (Ok plan.now) (C.file capture.old) result (E.written err.old) (E.written err.new) }
+        → ToldWhole (IsSame plan.now) IsNone (C.file capture.old) result (E.written err.old) (E.written err.new) }
 {
     let outcome = carry_out(alloc, plan, capture, out);
     match outcome_text(alloc, plan, outcome) {
@@ -104,9 +106,9 @@ pub fn run_plan<C: Capture, O: Sink, E: Sink>(
 // Tells of a refusal.
 fn refuse<E: Sink>(alloc: Global, refused: &Refused, err: &mut E) -> Status
     ensures status { (result ≡ refusal_status refused.now) ⊎ (result ≡ Status.NoMemory) }
-    ensures told { (files : List ℕ → Option (List ℕ)) → Told (Err refused.now) files result (E.written err.old) (E.written err.new) }
+    ensures told { (files : List ℕ → Option (List ℕ)) → Told IsNone (IsSame refused.now) files result (E.written err.old) (E.written err.new) }
     ensures told_whole { (files : List ℕ → Option (List ℕ)) → ¬ Rose (E.faults err.old) (E.faults err.new)
-        → ¬ Rose (E.starved err.old) (E.starved err.new) → ToldWhole (Err refused.now) files result (E.written err.old) (E.written err.new) }
+        → ¬ Rose (E.starved err.old) (E.starved err.new) → ToldWhole IsNone (IsSame refused.now) files result (E.written err.old) (E.written err.new) }
 {
     match refusal_text(alloc, refused) {
         Ok(text) => {
@@ -128,36 +130,40 @@ pub fn run<C: Capture, O: Sink, E: Sink>(
     out: &mut O,
     err: &mut E,
 ) -> Status
-    ensures refused { IfErr (plan_of (texts words.now)) (λ reason. (result ≡ refusal_status reason) ⊎ (result ≡ Status.NoMemory)) }
-    ensures refused_only { IfOk (plan_of (texts words.now)) (λ _. IsNoRefusal result) }
-    ensures untouched { IfErr (plan_of (texts words.now)) (λ _. (capture.new ≡ capture.old) × (out.new ≡ out.old)) }
+    // The words are refused for a reason that they give, and then nothing is touched.
+    ensures refusing { IsRefusing result → (reason : Refused) × IsRefusal (texts words.now) reason × (result ≡ refusal_status reason) }
+    ensures untouched { IsRefusing result → (capture.new ≡ capture.old) × (out.new ≡ out.old) }
+
+    // Words with a reason are refused, where it isn't one of a pattern, or find no memory.
+    ensures refused { (reason : Refused) → IsRefusal (texts words.now) reason → IsSure reason
+        → IsAnswered (texts words.now) (refusal_status reason) result }
 
     // The whole output, where the run came to an end, and never anything but a front of it.
-    ensures ended { IfOk (plan_of (texts words.now)) (λ plan. WhenEnded result (IfSome (file_of plan (C.file capture.old)) (λ file.
+    ensures ended { WhenEnded result ((plan : Plan) × IsPlan (texts words.now) plan × IfSome (file_of plan (C.file capture.old)) (λ file.
         WroteAll plan (frames_read plan file) (O.written out.old) (O.written out.new)
-        × (result ≡ status_of (frames_read plan file).ending)))) }
-    ensures part { IfOk (plan_of (texts words.now)) (λ plan. IfSome (file_of plan (C.file capture.old)) (λ file.
+        × (result ≡ status_of (frames_read plan file).ending))) }
+    ensures part { (out.new ≡ out.old) ⊎ ((plan : Plan) × IsPlan (texts words.now) plan × IfSome (file_of plan (C.file capture.old)) (λ file.
         WrotePart plan (frames_read plan file) (O.written out.old) (O.written out.new))) }
 
     // The causes of the other answers.
-    ensures unopened { result ≡ Status.CannotOpen → IfOk (plan_of (texts words.now)) (λ plan.
-        IsUnopened (C.missed capture.old) (C.missed capture.new) (C.begun capture.old) (C.begun capture.new)
-        (C.asked capture.new) (name_of plan) × (out.new ≡ out.old)) }
-    ensures unread { result ≡ Status.ReadFault → IfOk (plan_of (texts words.now)) (λ plan.
-        IsUnread (C.faults capture.old) (C.faults capture.new) (C.begun capture.old) (C.begun capture.new)
-        (C.missed capture.old) (C.missed capture.new) (C.asked capture.new) (name_of plan)) }
+    ensures unopened { result ≡ Status.CannotOpen → (plan : Plan) × IsPlan (texts words.now) plan
+        × IsUnopened (C.missed capture.old) (C.missed capture.new) (C.begun capture.old) (C.begun capture.new)
+        (C.asked capture.new) (name_of plan) × (out.new ≡ out.old) }
+    ensures unread { result ≡ Status.ReadFault → (plan : Plan) × IsPlan (texts words.now) plan
+        × IsUnread (C.faults capture.old) (C.faults capture.new) (C.begun capture.old) (C.begun capture.new)
+        (C.missed capture.old) (C.missed capture.new) (C.asked capture.new) (name_of plan) }
     ensures write_fault { result ≡ Status.WriteFault → Rose (O.faults out.old) (O.faults out.new) }
 
-    // Where no fault rose, the run comes to an end or finds no memory.
-    ensures complete { IfOk (plan_of (texts words.now)) (λ plan. IfSome (file_of plan (C.file capture.old)) (λ file.
+    // Where no fault rose, the run of words that ask for a plan comes to an end or finds no memory.
+    ensures complete { (plan : Plan) → IsPlan (texts words.now) plan → IfSome (file_of plan (C.file capture.old)) (λ file.
         ¬ Rose (C.missed capture.old) (C.missed capture.new) → ¬ Rose (C.faults capture.old) (C.faults capture.new)
         → ¬ Rose (O.faults out.old) (O.faults out.new)
-        → (result ≡ status_of (frames_read plan file).ending) ⊎ (result ≡ Status.NoMemory))) }
+        → IsAnswered (texts words.now) (status_of (frames_read plan file).ending) result) }
 
     // What standard error is told, whatever becomes of it.
-    ensures told { Told (plan_of (texts words.now)) (C.file capture.old) result (E.written err.old) (E.written err.new) }
+    ensures told { Told (IsPlan (texts words.now)) (IsRefusal (texts words.now)) (C.file capture.old) result (E.written err.old) (E.written err.new) }
     ensures told_whole { ¬ Rose (E.faults err.old) (E.faults err.new) → ¬ Rose (E.starved err.old) (E.starved err.new)
-        → ToldWhole (plan_of (texts words.now)) (C.file capture.old) result (E.written err.old) (E.written err.new) }
+        → ToldWhole (IsPlan (texts words.now)) (IsRefusal (texts words.now)) (C.file capture.old) result (E.written err.old) (E.written err.new) }
 {
     match read_plan(alloc, words) {
         Ok(plan) => run_plan(alloc, &plan, capture, out, err),

@@ -1,13 +1,14 @@
 // The plan that words ask for.
-ghost use Rattle.std.specs.Prelude.{◌≡◌, ◌++◌, IfOk, All};
+ghost use Rattle.std.specs.Prelude.{◌≡◌, ◌++◌, IfOk, IfErr, IfSome, All};
 ghost use Rattle.std.specs.Str.{IsUtf8};
 ghost use Rattle.shark_words.specs.Utf8.{AreUtf8};
 ghost use Rattle.shark_words.specs.Words.{texts};
-ghost use Rattle.shark_run.specs.Plan.{field_or_refusal, fields_named, filter_asked as filter_of_text, with_options, plan_of, name_in as name_of_source, Gives};
+ghost use Rattle.shark_run.specs.Plan.{field_or_refusal, fields_named, name_in as name_of_source, Gives, IsErrorOf, IsFilterAsked, IsFilterError, IsPlan, IsPlanFor, IsRefusal, IsRefusalFor};
 
-use crate::filter::{Test, read_filter};
 use crate::plan::{FieldList, Plan, PlanError, Refused};
 use crate::text::Text;
+use flt_parse::FilterError;
+use flt_types::{Filter, read_filter};
 use pk_base::{NoMemory, Octets};
 use pk_fields::{FieldId, by_name};
 use shark_words::{Options, Source, WordsError, read_words};
@@ -48,12 +49,19 @@ fn find_fields(alloc: Global, names: &[Octets]) -> Result<FieldList, PlanError>
     Ok(FieldList::from_vec(fields))
 }
 
-fn filter_asked(filter: &Option<Octets>) -> Result<Option<Test>, Refused>
-    ensures { result ≡ filter_of_text filter.now }
+// The filter, where one is asked for.
+fn filter_asked(alloc: Global, filter: &Option<Octets>) -> Result<Option<Filter>, PlanError>
+    requires { IfSome filter.now IsUtf8 }
+    ensures ok { IfOk result (IsFilterAsked filter.now) }
+    ensures err { IfErr result (IsFilterError filter.now) }
 {
     match filter {
         None => Ok(None),
-        Some(text) => Ok(Some(read_filter(text.bytes())?)),
+        Some(text) => match read_filter(alloc, text_of(text)) {
+            Ok(filter) => Ok(Some(filter)),
+            Err(FilterError::Fault(fault)) => Err(PlanError::Refused(Refused::Filter(fault))),
+            Err(FilterError::NoMemory) => Err(PlanError::NoMemory),
+        },
     }
 }
 
@@ -66,11 +74,13 @@ fn name_in(alloc: Global, source: &Source) -> Result<Text, NoMemory>
     }
 }
 
+#[tactic(auto, using(crate::proofs::PlanLemmas::names_refused))]
 fn plan_with(alloc: Global, options: &Options) -> Result<Plan, PlanError>
     requires { AreUtf8 options.now }
-    ensures { Gives result (with_options options.now) }
+    ensures ok { IfOk result (IsPlanFor options.now) }
+    ensures err { IfErr result (IsErrorOf (IsRefusalFor options.now)) }
 {
-    let filter = filter_asked(&options.filter)?;
+    let filter = filter_asked(alloc, &options.filter)?;
     let fields = find_fields(alloc, options.names.slice())?;
     Ok(Plan {
         name: name_in(alloc, &options.source)?,
@@ -81,9 +91,10 @@ fn plan_with(alloc: Global, options: &Options) -> Result<Plan, PlanError>
 }
 
 /// Reads the plan that the words ask for, or refuses them: first the words, then the filter, then the names.
-#[tactic(auto, unfolding(crate::specs::Plan::plan_of))]
+#[tactic(auto, unfolding(crate::specs::Plan::IsPlan, crate::specs::Plan::IsRefusal))]
 pub(crate) fn read_plan(alloc: Global, words: &[String]) -> Result<Plan, PlanError>
-    ensures { Gives result (plan_of (texts words.now)) }
+    ensures ok { IfOk result (IsPlan (texts words.now)) }
+    ensures err { IfErr result (IsErrorOf (IsRefusal (texts words.now))) }
 {
     match read_words(alloc, words) {
         Ok(options) => plan_with(alloc, &options),

@@ -19,7 +19,7 @@ use Rattle.shark_words.specs.declared.fault.WordsError.{WordsError}
 use Rattle.shark_words.specs.declared.options.LineKind.TheVariants.{Fields}
 use Rattle.shark_words.specs.declared.options.Source.TheVariants.{Named}
 use Rattle.shark_words.specs.Faults.{fault, is_given, first_fault}
-use Rattle.shark_words.specs.Values.{count_of, shown_filter}
+use Rattle.shark_words.specs.Values.{count_of, is_blank, shown_filter}
 use Rattle.shark_words.specs.Letters.{is_same, letter_of}
 use Rattle.shark_words.specs.Options.{asked, judged, head_of, value_in, value_of, value_text, values_of, options_of, Gives}
 use Rattle.shark_words.specs.Uses.{option_at, uses_at, uses_from, uses_of}
@@ -99,6 +99,14 @@ head_is_text : (values : List (List ℕ)) → Each IsUtf8 values → IfSome (hea
 head_is_text [] are = tt
 head_is_text (value ∷ values) are = are.0
 
+shown_if : (blank : Bool) (text : List ℕ) → IsUtf8 text → IfSome (if blank then None else Some text) IsUtf8
+shown_if true text is = tt
+shown_if false text is = is
+
+shown_is_text : (filter : Option (List ℕ)) → IfSome filter IsUtf8 → IfSome (shown_filter filter) IsUtf8
+shown_is_text None is = tt
+shown_is_text (Some text) is = shown_if (is_blank text) text is
+
 all_from_each : (xs : List (List ℕ)) → Each IsUtf8 xs → All IsUtf8 xs
 all_from_each [] each = All-nil IsUtf8
 all_from_each (x ∷ xs) each = All-cons IsUtf8 x xs each.0 (all_from_each xs each.1)
@@ -114,7 +122,7 @@ asked_is_utf8 behind uses (Some name) have named = by_names (is_given Kind uses 
       names = values_of Name uses;
       most = option_and_then count_of (value_of Most uses);
     }) else Err (fault behind NoFields)) AreUtf8
-    by_names true = record { source = named; names = all_from_each (values_of Name uses) (values_are_texts Name uses have) }
+    by_names true = record { source = named; filter = shown_is_text (value_of Filter uses) (head_is_text (values_of Filter uses) (values_are_texts Filter uses have)); names = all_from_each (values_of Name uses) (values_are_texts Name uses have) }
     by_names false = tt
 
 judged_is_utf8 : (behind : ℕ) (uses : List Use) (first : Option WordFault) → Each HasText uses → IfOk (judged behind uses first) AreUtf8

@@ -1,5 +1,5 @@
 -- The texts among the options.
-use Rattle.std.specs.Prelude.{ℕ, List, All}
+use Rattle.std.specs.Prelude.{ℕ, List, All, IfSome}
 use Rattle.std.specs.Str.{IsUtf8}
 use Rattle.shark_words.specs.declared.options.Options.{Options}
 use Rattle.shark_words.specs.declared.options.Source.{Source}
@@ -9,7 +9,8 @@ use Rattle.shark_words.specs.declared.options.Source.TheVariants.{Named}
 abbrev pub name_in : Source → List ℕ
 name_in (Named name) = name
 
--- the names are UTF-8
+-- the names and the filter are UTF-8
 pub record AreUtf8 (options : Options) : Type 0 where
   pub source : IsUtf8 (name_in options.source)
+  pub filter : IfSome options.filter IsUtf8
   pub names : All IsUtf8 options.names

@@ -1,0 +1,216 @@
+-- What words ask for is asked for once.
+use Rattle.std.proofs.Common.{◌≡◌, ◌⊎◌, ⊎_elim, inl, inr, ℕ, List, [], ◌∷◌, Option, None, Some, Result, Ok, Err, refl, sym, ◌∙◌, subst}
+use Rattle.std.specs.Prelude.{IsTrue, IfSome}
+use Rattle.capture_read.specs.Capture.{capture_of}
+use Rattle.pk_fields.specs.Fields.{field_named}
+use Rattle.flt_parse.specs.declared.fault.FilterFault.{FilterFault}
+use Rattle.flt_parse.specs.declared.fault.FilterError.TheVariants.{Fault}
+use Rattle.flt_parse.specs.declared.fault.FilterReason.{FilterReason}
+use Rattle.flt_parse.specs.declared.fault.FilterReason.TheVariants.{BadPattern, PatternSize}
+use Rattle.flt_parse.specs.Written.{Written}
+use Rattle.flt_parse.proofs.Faults.{never_both, one_filter}
+use Rattle.flt_types.specs.declared.typed.Typed.{Typed}
+use Rattle.flt_types.specs.Faults.{Found, At, PatternAt, IsClear, IsFirst, IsPatternFault, faults}
+use Rattle.flt_types.specs.Typing.{HasType}
+use Rattle.flt_types.proofs.Clear.{type_clear}
+use Rattle.flt_types.specs.Texts.{IsTypedText, IsFilterFault}
+use Rattle.shark_words.specs.declared.fault.WordFault.{WordFault}
+use Rattle.shark_words.specs.declared.options.Options.{Options}
+use Rattle.shark_words.specs.Options.{options_of}
+use Rattle.shark_run.specs.declared.plan.Plan.{Plan}
+use Rattle.shark_run.specs.declared.plan.Refused.{Refused}
+use Rattle.shark_run.specs.declared.plan.Refused.TheVariants as refused
+use Rattle.shark_run.specs.declared.plan.PlanError.{PlanError}
+use Rattle.shark_run.specs.declared.plan.PlanError.TheVariants as errors
+use Rattle.shark_run.specs.declared.status.Status.{Status}
+use Rattle.shark_run.specs.declared.status.Status.TheVariants as status
+use Rattle.shark_run.specs.Plan.{fields_named, known, with_first, with_others, Gives, IsAnswered, IsErrorOf, IsFaultAsked, IsFilterAsked, is_of_pattern, IsPlan, IsPlanFor, IsRefusal, IsRefusalFor, IsRefusedForPattern, IsSure}
+use Rattle.shark_run.specs.Reading.{file_of, frames_read, limited}
+use Rattle.shark_run.specs.Statuses.{refusal_status, status_of}
+
+same_options : (words : List (List ℕ)) (one other : Options) → options_of words ≡ Ok one → options_of words ≡ Ok other → one ≡ other
+same_options words one other is also = let both : Ok one ≡ Ok other = sym is ∙ also in cc
+
+-- a reason to refuse a pattern
+pattern_reason : (pattern : List ℕ) (reason : FilterReason) → IsPatternFault pattern reason → IsTrue (is_of_pattern reason)
+pattern_reason pattern BadPattern is = refl
+pattern_reason pattern PatternSize is = refl
+pattern_reason pattern reason is = absurd is
+
+-- where there is no fault, patterns alone may be refused
+clear_or_pattern : (found : List Found) (at : ℕ) (reason : FilterReason) → IsClear found → IsFirst found at reason → IsTrue (is_of_pattern reason)
+clear_or_pattern [] at reason clear is = absurd is
+clear_or_pattern (At place why ∷ found) at reason clear is = absurd clear
+clear_or_pattern (PatternAt place pattern ∷ found) at reason clear is =
+    ⊎_elim (λ refused. pattern_reason pattern reason refused.1) (λ on. clear_or_pattern found at reason clear.1 on.1) is
+
+type_fault : (text : List ℕ) (tree other : Written) (filter : Typed) (fault : FilterFault) → tree ≡ other → HasType tree filter
+    → IsFirst (faults other) fault.at fault.reason → IsTrue (is_of_pattern fault.reason)
+type_fault text tree other filter fault same typed is =
+    clear_or_pattern (faults other) fault.at fault.reason (subst (λ (t : Written). IsClear (faults t)) same (type_clear tree filter typed)) is
+
+-- a text that is a filter has a fault of a pattern alone
+typed_or_fault : (text : List ℕ) (filter : Typed) (fault : FilterFault) → IsTypedText text filter → IsFilterFault text (Fault fault)
+    → IsTrue (is_of_pattern fault.reason)
+typed_or_fault text filter fault typed is = ⊎_elim
+    (λ first. absurd (never_both text typed.0 fault typed.1 first))
+    (λ types. type_fault text typed.0 types.0 filter fault (one_filter text typed.0 types.0 typed.1 types.1) typed.2 types.2)
+    is
+
+-- the reason is one of a pattern
+abbrev IsOfPattern : Refused → Type 0
+IsOfPattern (refused.Filter fault) = IsTrue (is_of_pattern fault.reason)
+IsOfPattern reason = ⊥
+
+filter_or_fault : (text : Option (List ℕ)) (filter : Option Typed) (fault : FilterFault) → IsFilterAsked text filter → IsFaultAsked text fault
+    → IsTrue (is_of_pattern fault.reason)
+filter_or_fault (Some text) (Some filter) fault asked is = typed_or_fault text filter fault asked is
+filter_or_fault (Some text) None fault asked is = absurd asked
+filter_or_fault None filter fault asked is = absurd is
+
+-- options that ask for a plan are refused for a pattern alone
+plan_or_reason : (options : Options) (plan : Plan) (reason : Refused) → IsPlanFor options plan → IsRefusalFor options reason → IsOfPattern reason
+plan_or_reason options plan (refused.Words fault) asked is = absurd is
+plan_or_reason options plan (refused.Filter fault) asked is = filter_or_fault options.filter plan.filter fault asked.filter is
+plan_or_reason options plan (refused.Field name) asked is =
+    let bad : Ok plan.fields ≡ Err (refused.Field name) = sym asked.fields ∙ is.1 in absurd (cc bad)
+
+pub plan_or_refusal : (words : List (List ℕ)) (plan : Plan) (reason : Refused) → IsPlan words plan → IsRefusal words reason → IsOfPattern reason
+unfolding IsPlan IsRefusal
+plan_or_refusal words plan (refused.Words fault) asked is =
+    let bad : Ok asked.0 ≡ Err fault = sym asked.1 ∙ is in absurd (cc bad)
+plan_or_refusal words plan (refused.Filter fault) asked is =
+    plan_or_reason is.0 plan (refused.Filter fault) (subst (λ (o : Options). IsPlanFor o plan) (same_options words asked.0 is.0 asked.1 is.1) asked.2) is.2
+plan_or_refusal words plan (refused.Field name) asked is =
+    plan_or_reason is.0 plan (refused.Field name) (subst (λ (o : Options). IsPlanFor o plan) (same_options words asked.0 is.0 asked.1 is.1) asked.2) is.2
+
+-- words that ask for a plan, refused: for a pattern
+pub refused_with_plan : (words : List (List ℕ)) (plan : Plan) (reason : Refused) (answer : Status) → IsPlan words plan → IsRefusal words reason
+    → answer ≡ refusal_status reason → IsRefusedForPattern words answer
+refused_with_plan words plan (refused.Words fault) answer asked is same = absurd (plan_or_refusal words plan (refused.Words fault) asked is)
+refused_with_plan words plan (refused.Filter fault) answer asked is same =
+    (same, (fault, is, plan_or_refusal words plan (refused.Filter fault) asked is))
+refused_with_plan words plan (refused.Field name) answer asked is same = absurd (plan_or_refusal words plan (refused.Field name) asked is)
+
+-- two plans of the same words name the same file and stop at the same frame
+pub same_reading : (words : List (List ℕ)) (one other : Plan) → IsPlan words one → IsPlan words other → (one.name ≡ other.name) × (one.most ≡ other.most)
+unfolding IsPlan
+same_reading words one other is also =
+    let asked : IsPlanFor also.0 one = subst (λ (o : Options). IsPlanFor o one) (same_options words is.0 also.0 is.1 also.1) is.2 in
+    (asked.name ∙ sym also.2.name, asked.most ∙ sym also.2.most)
+
+-- a reason that isn't one of a pattern, beside another
+same_fault_status : (words : List (List ℕ)) (wanted found : Refused) (options : Options) → IsSure wanted → IsRefusalFor options wanted → IsRefusalFor options found
+    → IsRefusal words found → (answer : Status) → answer ≡ refusal_status found → IsAnswered words (refusal_status wanted) answer
+same_fault_status words (refused.Words fault) found options sure is also found_is answer same = absurd is
+same_fault_status words (refused.Filter fault) (refused.Words other) options sure is also found_is answer same = absurd also
+same_fault_status words (refused.Field name) (refused.Words other) options sure is also found_is answer same = absurd also
+same_fault_status words (refused.Filter fault) (refused.Filter other) options sure is also found_is answer same = inl same
+same_fault_status words (refused.Field name) (refused.Field other) options sure is also found_is answer same = inl same
+same_fault_status words (refused.Filter fault) (refused.Field other) options sure is also found_is answer same =
+    absurd (sure (filter_or_fault options.filter also.0.0 fault also.0.1 is))
+same_fault_status words (refused.Field name) (refused.Filter other) options sure is also found_is answer same =
+    inr (inr (same, (other, found_is, filter_or_fault options.filter is.0.0 other is.0.1 also)))
+
+pub refused_alike : (words : List (List ℕ)) (wanted found : Refused) (answer : Status) → IsSure wanted → IsRefusal words wanted → IsRefusal words found
+    → answer ≡ refusal_status found → IsAnswered words (refusal_status wanted) answer
+unfolding IsRefusal
+refused_alike words (refused.Words fault) (refused.Words other) answer sure is also same = inl same
+refused_alike words (refused.Words fault) (refused.Filter other) answer sure is also same = let bad : Ok also.0 ≡ Err fault = sym also.1 ∙ is in absurd (cc bad)
+refused_alike words (refused.Words fault) (refused.Field other) answer sure is also same = let bad : Ok also.0 ≡ Err fault = sym also.1 ∙ is in absurd (cc bad)
+refused_alike words (refused.Filter fault) (refused.Words other) answer sure is also same = let bad : Ok is.0 ≡ Err other = sym is.1 ∙ also in absurd (cc bad)
+refused_alike words (refused.Field name) (refused.Words other) answer sure is also same = let bad : Ok is.0 ≡ Err other = sym is.1 ∙ also in absurd (cc bad)
+refused_alike words (refused.Filter fault) (refused.Filter other) answer sure is also same = inl same
+refused_alike words (refused.Field name) (refused.Field other) answer sure is also same = inl same
+refused_alike words (refused.Filter fault) (refused.Field other) answer sure is also same =
+    same_fault_status words (refused.Filter fault) (refused.Field other) also.0 sure (subst (λ (o : Options). IsRefusalFor o (refused.Filter fault)) (same_options words is.0 also.0 is.1 also.1) is.2) also.2 also answer same
+refused_alike words (refused.Field name) (refused.Filter other) answer sure is also same =
+    same_fault_status words (refused.Field name) (refused.Filter other) also.0 sure (subst (λ (o : Options). IsRefusalFor o (refused.Field name)) (same_options words is.0 also.0 is.1 also.1) is.2) also.2 also answer same
+
+-- an answer to a sure reason, where a plan was read
+pub refused_not_planned : (words : List (List ℕ)) (plan : Plan) (reason : Refused) → IsPlan words plan → IsRefusal words reason → IsSure reason → ⊥
+refused_not_planned words plan (refused.Words fault) asked is sure = plan_or_refusal words plan (refused.Words fault) asked is
+refused_not_planned words plan (refused.Filter fault) asked is sure = sure (plan_or_refusal words plan (refused.Filter fault) asked is)
+refused_not_planned words plan (refused.Field name) asked is sure = plan_or_refusal words plan (refused.Field name) asked is
+
+-- names give no other reason than a name
+abbrev IsOfName : Result (List ℕ) Refused → Type 0
+IsOfName (Ok fields) = Unit {0}
+IsOfName (Err (refused.Field name)) = Unit {0}
+IsOfName (Err reason) = ⊥
+
+others_alone : (field : ℕ) (others : Result (List ℕ) Refused) → IsOfName others → IsOfName (with_others field others)
+others_alone field (Ok fields) is = tt
+others_alone field (Err (refused.Field name)) is = tt
+others_alone field (Err (refused.Words fault)) is = absurd is
+others_alone field (Err (refused.Filter fault)) is = absurd is
+
+first_alone : (name : List ℕ) (found : Option ℕ) (others : Result (List ℕ) Refused) → IsOfName others → IsOfName (with_first (known name found) others)
+first_alone name None others is = tt
+first_alone name (Some field) others is = others_alone field others is
+
+names_alone : (names : List (List ℕ)) → IsOfName (fields_named names)
+names_alone [] = tt
+names_alone (name ∷ names) = first_alone name (field_named name) (fields_named names) (names_alone names)
+
+reason_of_names : (options : Options) (filter : Option Typed) (reason : Refused) → IsFilterAsked options.filter filter → IsOfName (Err reason)
+    → fields_named options.names ≡ Err reason → IsRefusalFor options reason
+reason_of_names options filter (refused.Field name) asked is fields = ((filter, asked), fields)
+reason_of_names options filter (refused.Words fault) asked is fields = absurd is
+reason_of_names options filter (refused.Filter fault) asked is fields = absurd is
+
+-- the options are refused for a name, where their filter is read
+pub names_refused : (options : Options) (filter : Option Typed) (e : PlanError) (answer : Result (List ℕ) PlanError) → IsFilterAsked options.filter filter
+    → answer ≡ Err e → Gives answer (fields_named options.names) → IsErrorOf (IsRefusalFor options) e
+names_refused options filter errors.NoMemory answer asked same gives = tt
+names_refused options filter (errors.Refused reason) answer asked same gives =
+    let fields : fields_named options.names ≡ Err reason = subst (λ (a : Result (List ℕ) PlanError). Gives a (fields_named options.names)) same gives in
+    reason_of_names options filter reason asked (subst IsOfName fields (names_alone options.names)) fields
+
+-- where a file is known, P of it
+each_file : (file : Option (List ℕ)) (P Q : List ℕ → Type 0) → ((f : List ℕ) → P f → Q f) → IfSome file P → IfSome file Q
+each_file None P Q on was = tt
+each_file (Some file) P Q on was = on file was
+
+any_file : (file : Option (List ℕ)) (Q : List ℕ → Type 0) → ((f : List ℕ) → Q f) → IfSome file Q
+any_file None Q on = tt
+any_file (Some file) Q on = on file
+
+pub answered : (words : List (List ℕ)) (wanted answer : Status) → (answer ≡ wanted) ⊎ (answer ≡ status.NoMemory) → IsAnswered words wanted answer
+answered words wanted answer is = ⊎_elim (λ same. inl same) (λ none. inr (inl none)) is
+
+-- a run whose words ask for a plan ends as every plan of theirs says, where nothing outside fails
+pub complete_planned : (words : List (List ℕ)) (asked plan : Plan) (files : List ℕ → Option (List ℕ)) (answer : Status) (A B C : Type 0) →
+    IsPlan words asked → IsPlan words plan →
+    IfSome (file_of asked files) (λ file. A → B → C → (answer ≡ status_of (frames_read asked file).ending) ⊎ (answer ≡ status.NoMemory)) →
+    IfSome (file_of plan files) (λ file. A → B → C → IsAnswered words (status_of (frames_read plan file).ending) answer)
+unfolding frames_read
+complete_planned words asked plan files answer A B C is also complete =
+    let same : (asked.name ≡ plan.name) × (asked.most ≡ plan.most) = same_reading words asked plan is also in
+    subst (λ (name : List ℕ). IfSome (files name) (λ file. A → B → C → IsAnswered words (status_of (limited plan.most (capture_of file)).ending) answer)) same.0
+    (subst (λ (most : Option ℕ). IfSome (files asked.name) (λ file. A → B → C → IsAnswered words (status_of (limited most (capture_of file)).ending) answer)) same.1
+    (each_file (files asked.name)
+    (λ file. A → B → C → (answer ≡ status_of (limited asked.most (capture_of file)).ending) ⊎ (answer ≡ status.NoMemory))
+    (λ file. A → B → C → IsAnswered words (status_of (limited asked.most (capture_of file)).ending) answer)
+    (λ file run a b c. answered words (status_of (limited asked.most (capture_of file)).ending) answer (run a b c)) complete))
+
+refused_answer : (words : List (List ℕ)) (plan : Plan) (reason : Refused) (wanted answer : Status) → IsPlan words plan → IsRefusal words reason
+    → (answer ≡ refusal_status reason) ⊎ (answer ≡ status.NoMemory) → IsAnswered words wanted answer
+refused_answer words plan reason wanted answer asked is ended =
+    ⊎_elim (λ same. inr (inr (refused_with_plan words plan reason answer asked is same))) (λ none. inr (inl none)) ended
+
+-- the same where the words were refused: for a pattern
+pub complete_refused : (words : List (List ℕ)) (plan : Plan) (reason : Refused) (files : List ℕ → Option (List ℕ)) (answer : Status) (A B C : Type 0) →
+    IsPlan words plan → IsRefusal words reason → (answer ≡ refusal_status reason) ⊎ (answer ≡ status.NoMemory) →
+    IfSome (file_of plan files) (λ file. A → B → C → IsAnswered words (status_of (frames_read plan file).ending) answer)
+complete_refused words plan reason files answer A B C asked is ended =
+    any_file (file_of plan files) (λ file. A → B → C → IsAnswered words (status_of (frames_read plan file).ending) answer)
+    (λ file a b c. refused_answer words plan reason (status_of (frames_read plan file).ending) answer asked is ended)
+
+pub refused_or_none : (words : List (List ℕ)) (wanted found : Refused) (answer : Status) → IsSure wanted → IsRefusal words wanted → IsRefusal words found
+    → (answer ≡ refusal_status found) ⊎ (answer ≡ status.NoMemory) → IsAnswered words (refusal_status wanted) answer
+refused_or_none words wanted found answer sure is also ended =
+    ⊎_elim (λ same. refused_alike words wanted found answer sure is also same) (λ none. inr (inl none)) ended
+
+pub reason_given : (IsReason : Refused → Type 0) (e : PlanError) (reason : Refused) → e ≡ errors.Refused reason → IsErrorOf IsReason e → IsReason reason
+reason_given IsReason e reason same is = subst (λ (x : PlanError). IsErrorOf IsReason x) same is
