@@ -5,30 +5,6 @@ use shark_run::Status;
 use std::alloc::{AllocError, Global};
 use std::test::Fail;
 
-/// A filter, and what it gives: the numbers of the frames that it lets through, each on a line, or the fault that is told.
-#[derive(Clone, Copy)]
-struct Row {
-    filter: &'static str,
-    out: &'static str,
-    err: &'static str,
-}
-
-const fn frames(filter: &'static str, out: &'static str) -> Row {
-    Row {
-        filter,
-        out,
-        err: "",
-    }
-}
-
-const fn fault(filter: &'static str, err: &'static str) -> Row {
-    Row {
-        filter,
-        out: "",
-        err,
-    }
-}
-
 /// An ARP request at time 0; behind it, at 1.5 s, a TCP segment from port 56789 of 10.0.0.1 to port 80 of 10.0.0.2 that
 /// carries `GET /Host`; a microsecond later a UDP datagram from port 40000 of 2001:db8::1 to port 9 of 2001:db8::2 that
 /// carries 01 02 03 ff.
@@ -58,8 +34,14 @@ fn gives(alloc: Global, filter: &str, out: &str, err: &str) -> Result<bool, Allo
     ends_so(alloc, words.as_slice(), "f", bytes, &NO_FAULTS, expected)
 }
 
-fn row_holds(alloc: Global, row: &Row) -> Result<bool, AllocError> {
-    gives(alloc, row.filter, row.out, row.err)
+/// Whether a filter lets through these frames.
+fn lets_through(alloc: Global, row: &(&str, &str)) -> Result<bool, AllocError> {
+    gives(alloc, row.0, row.1, "")
+}
+
+/// Whether a filter is refused with this text.
+fn is_refused(alloc: Global, row: &(&str, &str)) -> Result<bool, AllocError> {
+    gives(alloc, row.0, "", row.1)
 }
 
 /// A text, with so many copies of another before it and of a third behind it.
@@ -155,312 +137,312 @@ fn patterns_are_nested_at_most_250_deep(rt: HostRuntime) -> Result<(), Fail> {
     Ok(())
 }
 
-static ALONE: [Row; 12] = [
-    frames("arp", "1\n"),
-    frames("ip", "2\n"),
-    frames("ip or ipv6", "2\n3\n"),
-    frames("eth", "1\n2\n3\n"),
-    frames("tcp.flags.syn", "2\n"),
-    frames("tcp.flags & 8", "2\n"),
-    frames("tcp.flags & 4", ""),
-    frames("tcp.payload[0:3]", "2\n"),
-    frames("tcp.payload[0:10]", ""),
-    frames("len(eth.src) & 2", "1\n2\n3\n"),
-    frames("http", ""),
-    frames(" \t\r\narp\n", "1\n"),
+static ALONE: [(&str, &str); 12] = [
+    ("arp", "1\n"),
+    ("ip", "2\n"),
+    ("ip or ipv6", "2\n3\n"),
+    ("eth", "1\n2\n3\n"),
+    ("tcp.flags.syn", "2\n"),
+    ("tcp.flags & 8", "2\n"),
+    ("tcp.flags & 4", ""),
+    ("tcp.payload[0:3]", "2\n"),
+    ("tcp.payload[0:10]", ""),
+    ("len(eth.src) & 2", "1\n2\n3\n"),
+    ("http", ""),
+    (" \t\r\narp\n", "1\n"),
 ];
 
 #[test]
 fn operands_that_stand_alone(rt: HostRuntime) -> Result<(), Fail> {
     for row in &ALONE {
-        assert!(rt; row_holds(rt.alloc(), row)?, "{}", row.filter);
+        assert!(rt; lets_through(rt.alloc(), row)?, "{}", row.0);
     }
     Ok(())
 }
 
-static JOINS: [Row; 12] = [
-    frames("not arp", "2\n3\n"),
-    frames("!arp && !ip", "3\n"),
-    frames("arp or ip and ipv6", "1\n"),
-    frames("ip and ipv6 or arp", "1\n"),
-    frames("(arp or ip) and tcp", "2\n"),
-    frames("arp || udp", "1\n3\n"),
-    frames("not arp and not ip", "3\n"),
-    frames("not (arp or ip)", "3\n"),
-    frames("not not arp", "1\n"),
-    frames("! ! arp", "1\n"),
-    frames("not(arp)and(tcp)", "2\n"),
-    frames("arp or ip or udp", "1\n2\n3\n"),
+static JOINS: [(&str, &str); 12] = [
+    ("not arp", "2\n3\n"),
+    ("!arp && !ip", "3\n"),
+    ("arp or ip and ipv6", "1\n"),
+    ("ip and ipv6 or arp", "1\n"),
+    ("(arp or ip) and tcp", "2\n"),
+    ("arp || udp", "1\n3\n"),
+    ("not arp and not ip", "3\n"),
+    ("not (arp or ip)", "3\n"),
+    ("not not arp", "1\n"),
+    ("! ! arp", "1\n"),
+    ("not(arp)and(tcp)", "2\n"),
+    ("arp or ip or udp", "1\n2\n3\n"),
 ];
 
 #[test]
 fn joins_and_negations(rt: HostRuntime) -> Result<(), Fail> {
     for row in &JOINS {
-        assert!(rt; row_holds(rt.alloc(), row)?, "{}", row.filter);
+        assert!(rt; lets_through(rt.alloc(), row)?, "{}", row.0);
     }
     Ok(())
 }
 
-static EQUAL: [Row; 19] = [
-    frames("arp.opcode == 1", "1\n"),
-    frames("arp.opcode eq 0x1", "1\n"),
-    frames("arp.opcode != 1", ""),
-    frames("arp.opcode ne 2", "1\n"),
-    frames("tcp.port != 80", ""),
-    frames("tcp.port !== 80", "2\n"),
-    frames("any tcp.port != 80", "2\n"),
-    frames("tcp.port === 80", ""),
-    frames("all udp.port == 9", ""),
-    frames("tcp.port any_eq 80", "2\n"),
-    frames("tcp.port all_ne 443", "2\n"),
-    frames("tcp.port any_ne 80", "2\n"),
-    frames("udp.port all_eq 9", ""),
-    frames("not tcp.port == 80", "1\n3\n"),
-    frames("eth.src == eth.dst", ""),
-    frames("eth.src == arp.src.hw_mac", "1\n"),
-    frames("ip.src == arp.src.proto_ipv4", ""),
-    frames("tcp.port == 65535", ""),
-    frames("udp.length == 12", "3\n"),
+static EQUAL: [(&str, &str); 19] = [
+    ("arp.opcode == 1", "1\n"),
+    ("arp.opcode eq 0x1", "1\n"),
+    ("arp.opcode != 1", ""),
+    ("arp.opcode ne 2", "1\n"),
+    ("tcp.port != 80", ""),
+    ("tcp.port !== 80", "2\n"),
+    ("any tcp.port != 80", "2\n"),
+    ("tcp.port === 80", ""),
+    ("all udp.port == 9", ""),
+    ("tcp.port any_eq 80", "2\n"),
+    ("tcp.port all_ne 443", "2\n"),
+    ("tcp.port any_ne 80", "2\n"),
+    ("udp.port all_eq 9", ""),
+    ("not tcp.port == 80", "1\n3\n"),
+    ("eth.src == eth.dst", ""),
+    ("eth.src == arp.src.hw_mac", "1\n"),
+    ("ip.src == arp.src.proto_ipv4", ""),
+    ("tcp.port == 65535", ""),
+    ("udp.length == 12", "3\n"),
 ];
 
 #[test]
 fn equalities(rt: HostRuntime) -> Result<(), Fail> {
     for row in &EQUAL {
-        assert!(rt; row_holds(rt.alloc(), row)?, "{}", row.filter);
+        assert!(rt; lets_through(rt.alloc(), row)?, "{}", row.0);
     }
     Ok(())
 }
 
-static ADDRESSES: [Row; 16] = [
-    frames("eth.src all_eq 02:00:00:00:00:01", "1\n2\n"),
-    frames("eth.src == 02-00-00-00-00-01", "1\n2\n"),
-    frames("eth.addr == FF:ff:FF:ff:FF:ff", "1\n"),
-    frames("eth.addr != ff:ff:ff:ff:ff:ff", "2\n3\n"),
-    frames("any eth.addr != ff:ff:ff:ff:ff:ff", "1\n2\n3\n"),
-    frames("ip.addr == 10.0.0.0/8", "2\n"),
-    frames("ip.addr != 10.0.0.1", ""),
-    frames("ip.src == 10.0.0.1/32", "2\n"),
-    frames("ip.src == 10.0.0.0/31", "2\n"),
-    frames("ip.src == 10.0.0.2/31", ""),
-    frames("ip.src == 0.0.0.0/0", "2\n"),
-    frames("ip.addr != 11.0.0.0/8", "2\n"),
-    frames("ipv6.src == 2001:db8::/32", "3\n"),
-    frames("ipv6.addr == 2001:DB8:0:0:0:0:0:2", "3\n"),
-    frames("ipv6.src === 2001:db8::1/128", "3\n"),
-    frames("ipv6.src == ::", ""),
+static ADDRESSES: [(&str, &str); 16] = [
+    ("eth.src all_eq 02:00:00:00:00:01", "1\n2\n"),
+    ("eth.src == 02-00-00-00-00-01", "1\n2\n"),
+    ("eth.addr == FF:ff:FF:ff:FF:ff", "1\n"),
+    ("eth.addr != ff:ff:ff:ff:ff:ff", "2\n3\n"),
+    ("any eth.addr != ff:ff:ff:ff:ff:ff", "1\n2\n3\n"),
+    ("ip.addr == 10.0.0.0/8", "2\n"),
+    ("ip.addr != 10.0.0.1", ""),
+    ("ip.src == 10.0.0.1/32", "2\n"),
+    ("ip.src == 10.0.0.0/31", "2\n"),
+    ("ip.src == 10.0.0.2/31", ""),
+    ("ip.src == 0.0.0.0/0", "2\n"),
+    ("ip.addr != 11.0.0.0/8", "2\n"),
+    ("ipv6.src == 2001:db8::/32", "3\n"),
+    ("ipv6.addr == 2001:DB8:0:0:0:0:0:2", "3\n"),
+    ("ipv6.src === 2001:db8::1/128", "3\n"),
+    ("ipv6.src == ::", ""),
 ];
 
 #[test]
 fn addresses_and_prefixes(rt: HostRuntime) -> Result<(), Fail> {
     for row in &ADDRESSES {
-        assert!(rt; row_holds(rt.alloc(), row)?, "{}", row.filter);
+        assert!(rt; lets_through(rt.alloc(), row)?, "{}", row.0);
     }
     Ok(())
 }
 
-static VALUES: [Row; 16] = [
-    frames("tcp.flags.ack == true", "2\n"),
-    frames("tcp.flags.ack == 1", "2\n"),
-    frames("tcp.flags.syn == False", "2\n"),
-    frames("tcp.flags.syn == TRUE", ""),
-    frames("frame.time_epoch == 1.5", "2\n"),
-    frames("frame.time_epoch == 1.500001", "3\n"),
-    frames("frame.time_delta == 0.000001000", "3\n"),
-    frames("frame.time_epoch == -0", "1\n"),
-    frames("udp.payload == 01:02:03:ff", "3\n"),
-    frames("udp.payload == 010203ff", "3\n"),
-    frames("udp.payload == 01-02-03-FF", "3\n"),
-    frames("udp.payload == 01.02.03.ff", "3\n"),
-    frames("udp.payload == \"\\x01\\x02\\x03\\xff\"", "3\n"),
-    frames("tcp.payload == \"GET /Host\"", "2\n"),
-    frames("tcp.payload == r\"GET /Host\"", "2\n"),
-    frames("tcp.payload == \"GET\"", ""),
+static VALUES: [(&str, &str); 16] = [
+    ("tcp.flags.ack == true", "2\n"),
+    ("tcp.flags.ack == 1", "2\n"),
+    ("tcp.flags.syn == False", "2\n"),
+    ("tcp.flags.syn == TRUE", ""),
+    ("frame.time_epoch == 1.5", "2\n"),
+    ("frame.time_epoch == 1.500001", "3\n"),
+    ("frame.time_delta == 0.000001000", "3\n"),
+    ("frame.time_epoch == -0", "1\n"),
+    ("udp.payload == 01:02:03:ff", "3\n"),
+    ("udp.payload == 010203ff", "3\n"),
+    ("udp.payload == 01-02-03-FF", "3\n"),
+    ("udp.payload == 01.02.03.ff", "3\n"),
+    ("udp.payload == \"\\x01\\x02\\x03\\xff\"", "3\n"),
+    ("tcp.payload == \"GET /Host\"", "2\n"),
+    ("tcp.payload == r\"GET /Host\"", "2\n"),
+    ("tcp.payload == \"GET\"", ""),
 ];
 
 #[test]
 fn truth_times_and_bytes(rt: HostRuntime) -> Result<(), Fail> {
     for row in &VALUES {
-        assert!(rt; row_holds(rt.alloc(), row)?, "{}", row.filter);
+        assert!(rt; lets_through(rt.alloc(), row)?, "{}", row.0);
     }
     Ok(())
 }
 
-static ORDERS: [Row; 18] = [
-    frames("tcp.port > 50000", "2\n"),
-    frames("tcp.port gt 56789", ""),
-    frames("tcp.port >= 56789", "2\n"),
-    frames("tcp.port ge 56790", ""),
-    frames("tcp.port < 80", ""),
-    frames("tcp.port <= 80", "2\n"),
-    frames("tcp.port lt 81", "2\n"),
-    frames("tcp.port le 79", ""),
-    frames("all tcp.port > 79", "2\n"),
-    frames("all tcp.port > 80", ""),
-    frames("any tcp.port > 80", "2\n"),
-    frames("frame.time_epoch > 1.5", "3\n"),
-    frames("frame.time_epoch < -1", ""),
-    frames("eth.src < 02:00:00:00:00:02", "1\n2\n"),
-    frames("tcp.payload > \"GET\"", "2\n"),
-    frames("tcp.payload < \"GET /Hosu\"", "2\n"),
-    frames("ip.src < 10.0.0.2", "2\n"),
-    frames("ipv6.src >= 2001:db8::2", ""),
+static ORDERS: [(&str, &str); 18] = [
+    ("tcp.port > 50000", "2\n"),
+    ("tcp.port gt 56789", ""),
+    ("tcp.port >= 56789", "2\n"),
+    ("tcp.port ge 56790", ""),
+    ("tcp.port < 80", ""),
+    ("tcp.port <= 80", "2\n"),
+    ("tcp.port lt 81", "2\n"),
+    ("tcp.port le 79", ""),
+    ("all tcp.port > 79", "2\n"),
+    ("all tcp.port > 80", ""),
+    ("any tcp.port > 80", "2\n"),
+    ("frame.time_epoch > 1.5", "3\n"),
+    ("frame.time_epoch < -1", ""),
+    ("eth.src < 02:00:00:00:00:02", "1\n2\n"),
+    ("tcp.payload > \"GET\"", "2\n"),
+    ("tcp.payload < \"GET /Hosu\"", "2\n"),
+    ("ip.src < 10.0.0.2", "2\n"),
+    ("ipv6.src >= 2001:db8::2", ""),
 ];
 
 #[test]
 fn orders(rt: HostRuntime) -> Result<(), Fail> {
     for row in &ORDERS {
-        assert!(rt; row_holds(rt.alloc(), row)?, "{}", row.filter);
+        assert!(rt; lets_through(rt.alloc(), row)?, "{}", row.0);
     }
     Ok(())
 }
 
-static SETS: [Row; 17] = [
-    frames("tcp.port in {443, 4430..4434}", ""),
-    frames("tcp.port in {80}", "2\n"),
-    frames("tcp.port in { 1..79 , 81..99 }", ""),
-    frames("tcp.port in {79..80}", "2\n"),
-    frames("tcp.port in {81..56788}", ""),
-    frames("tcp.port not in {80}", "1\n3\n"),
-    frames("arp.opcode in {2, 1}", "1\n"),
-    frames("ip.src in {10.0.0.0/8}", "2\n"),
-    frames("ip.src in {10.0.0.0..10.0.0.1}", "2\n"),
-    frames("eth.src in {02:00:00:00:00:02, ff:ff:ff:ff:ff:ff}", "3\n"),
-    frames("frame.time_epoch in {1..1.5}", "2\n"),
-    frames("tcp.flags.ack in {1}", "2\n"),
-    frames("udp.payload in {\"a\", 010203ff}", "3\n"),
-    frames("any tcp.port in {80}", "2\n"),
-    frames("all tcp.port in {80}", ""),
-    frames("all tcp.port in {80, 56789}", "2\n"),
-    frames("udp.port in {9..8}", ""),
+static SETS: [(&str, &str); 17] = [
+    ("tcp.port in {443, 4430..4434}", ""),
+    ("tcp.port in {80}", "2\n"),
+    ("tcp.port in { 1..79 , 81..99 }", ""),
+    ("tcp.port in {79..80}", "2\n"),
+    ("tcp.port in {81..56788}", ""),
+    ("tcp.port not in {80}", "1\n3\n"),
+    ("arp.opcode in {2, 1}", "1\n"),
+    ("ip.src in {10.0.0.0/8}", "2\n"),
+    ("ip.src in {10.0.0.0..10.0.0.1}", "2\n"),
+    ("eth.src in {02:00:00:00:00:02, ff:ff:ff:ff:ff:ff}", "3\n"),
+    ("frame.time_epoch in {1..1.5}", "2\n"),
+    ("tcp.flags.ack in {1}", "2\n"),
+    ("udp.payload in {\"a\", 010203ff}", "3\n"),
+    ("any tcp.port in {80}", "2\n"),
+    ("all tcp.port in {80}", ""),
+    ("all tcp.port in {80, 56789}", "2\n"),
+    ("udp.port in {9..8}", ""),
 ];
 
 #[test]
 fn sets(rt: HostRuntime) -> Result<(), Fail> {
     for row in &SETS {
-        assert!(rt; row_holds(rt.alloc(), row)?, "{}", row.filter);
+        assert!(rt; lets_through(rt.alloc(), row)?, "{}", row.0);
     }
     Ok(())
 }
 
-static SEARCHES: [Row; 15] = [
-    frames("tcp.payload contains \"Host\"", "2\n"),
-    frames("tcp.payload contains 48:6f", "2\n"),
-    frames("tcp.payload contains \"host\"", ""),
-    frames("eth.src contains 00:00:01", "1\n2\n"),
-    frames("frame contains \"GET\"", "2\n"),
-    frames("udp.payload contains \"\"", "3\n"),
-    frames("tcp contains \"GET /\"", "2\n"),
-    frames("frame contains udp.payload", "3\n"),
-    frames("tcp.payload matches \"get\"", "2\n"),
-    frames("tcp.payload ~ r\"^GET\\s\"", "2\n"),
-    frames("tcp.payload matches \"^HOST\"", ""),
-    frames("tcp.payload matches \"HOST$\"", "2\n"),
-    frames("udp matches r\"\\x03\"", "3\n"),
-    frames("frame[0:6] matches r\"\\x02\"", "2\n3\n"),
-    frames("eth.src[0:6] matches r\"\\x00{4}\\x01$\"", "1\n2\n"),
+static SEARCHES: [(&str, &str); 15] = [
+    ("tcp.payload contains \"Host\"", "2\n"),
+    ("tcp.payload contains 48:6f", "2\n"),
+    ("tcp.payload contains \"host\"", ""),
+    ("eth.src contains 00:00:01", "1\n2\n"),
+    ("frame contains \"GET\"", "2\n"),
+    ("udp.payload contains \"\"", "3\n"),
+    ("tcp contains \"GET /\"", "2\n"),
+    ("frame contains udp.payload", "3\n"),
+    ("tcp.payload matches \"get\"", "2\n"),
+    ("tcp.payload ~ r\"^GET\\s\"", "2\n"),
+    ("tcp.payload matches \"^HOST\"", ""),
+    ("tcp.payload matches \"HOST$\"", "2\n"),
+    ("udp matches r\"\\x03\"", "3\n"),
+    ("frame[0:6] matches r\"\\x02\"", "2\n3\n"),
+    ("eth.src[0:6] matches r\"\\x00{4}\\x01$\"", "1\n2\n"),
 ];
 
 #[test]
 fn searches(rt: HostRuntime) -> Result<(), Fail> {
     for row in &SEARCHES {
-        assert!(rt; row_holds(rt.alloc(), row)?, "{}", row.filter);
+        assert!(rt; lets_through(rt.alloc(), row)?, "{}", row.0);
     }
     Ok(())
 }
 
-static SLICES: [Row; 19] = [
-    frames("eth.src[0:2,-1] == 02:00:01", "1\n2\n"),
-    frames("eth.src[-1] == 01", "1\n2\n"),
-    frames("eth.src[5] == 02", "3\n"),
-    frames("eth.src[3-5] == 00:00:02", "3\n"),
-    frames("eth.src[-3--1] == 00:00:01", "1\n2\n"),
-    frames("eth.src[:2] == 02:00", "1\n2\n3\n"),
-    frames("eth.src[4:] == 00:02", "3\n"),
-    frames("eth.src[-2:] == 00:01", "1\n2\n"),
-    frames("eth.src[6] == 00", ""),
-    frames("eth.src[6:]", ""),
-    frames("eth.src[-7]", ""),
-    frames("ip.src[0] == 0a", "2\n"),
-    frames("ipv6.src[0:2] == 20:01", "3\n"),
-    frames("eth.src[0:7] == 02", ""),
-    frames("frame[12:2] == 08:06", "1\n"),
-    frames("eth.src[1--1] == 00:00:00:00:02", "3\n"),
-    frames("eth.src[-0] == 02", "1\n2\n3\n"),
-    frames("eth.src[5,0] == 01:02", "1\n2\n"),
-    frames("eth.src[0,6]", ""),
+static SLICES: [(&str, &str); 19] = [
+    ("eth.src[0:2,-1] == 02:00:01", "1\n2\n"),
+    ("eth.src[-1] == 01", "1\n2\n"),
+    ("eth.src[5] == 02", "3\n"),
+    ("eth.src[3-5] == 00:00:02", "3\n"),
+    ("eth.src[-3--1] == 00:00:01", "1\n2\n"),
+    ("eth.src[:2] == 02:00", "1\n2\n3\n"),
+    ("eth.src[4:] == 00:02", "3\n"),
+    ("eth.src[-2:] == 00:01", "1\n2\n"),
+    ("eth.src[6] == 00", ""),
+    ("eth.src[6:]", ""),
+    ("eth.src[-7]", ""),
+    ("ip.src[0] == 0a", "2\n"),
+    ("ipv6.src[0:2] == 20:01", "3\n"),
+    ("eth.src[0:7] == 02", ""),
+    ("frame[12:2] == 08:06", "1\n"),
+    ("eth.src[1--1] == 00:00:00:00:02", "3\n"),
+    ("eth.src[-0] == 02", "1\n2\n3\n"),
+    ("eth.src[5,0] == 01:02", "1\n2\n"),
+    ("eth.src[0,6]", ""),
 ];
 
 #[test]
 fn slices(rt: HostRuntime) -> Result<(), Fail> {
     for row in &SLICES {
-        assert!(rt; row_holds(rt.alloc(), row)?, "{}", row.filter);
+        assert!(rt; lets_through(rt.alloc(), row)?, "{}", row.0);
     }
     Ok(())
 }
 
-static FUNCTIONS: [Row; 16] = [
-    frames("len(eth.src) == 6", "1\n2\n3\n"),
-    frames("len(tcp.payload) == 9", "2\n"),
-    frames("len(tcp.payload[1:]) > 7", "2\n"),
-    frames("count(eth.addr) == 2", "1\n2\n3\n"),
-    frames("count(ip.addr) == 0", "1\n3\n"),
-    frames("count(tcp.port) > 1", "2\n"),
-    frames("len(frame) >= 63", "2\n3\n"),
-    frames("count(eth) == 1", "1\n2\n3\n"),
-    frames("ip.src#1 == 10.0.0.1", "2\n"),
-    frames("ip.src#2 == 10.0.0.1", ""),
-    frames("ip.src#[1-2] == 10.0.0.1", "2\n"),
-    frames("ip.src#[1,3]", "2\n"),
-    frames("ip#2", ""),
-    frames("count(ip#[2]) == 0", "1\n2\n3\n"),
-    frames("len(eth.src) == 6 and count(eth.addr) == 2", "1\n2\n3\n"),
-    frames("arp.src.proto_ipv4 == 10.0.0.0/8 and not ip", "1\n"),
+static FUNCTIONS: [(&str, &str); 16] = [
+    ("len(eth.src) == 6", "1\n2\n3\n"),
+    ("len(tcp.payload) == 9", "2\n"),
+    ("len(tcp.payload[1:]) > 7", "2\n"),
+    ("count(eth.addr) == 2", "1\n2\n3\n"),
+    ("count(ip.addr) == 0", "1\n3\n"),
+    ("count(tcp.port) > 1", "2\n"),
+    ("len(frame) >= 63", "2\n3\n"),
+    ("count(eth) == 1", "1\n2\n3\n"),
+    ("ip.src#1 == 10.0.0.1", "2\n"),
+    ("ip.src#2 == 10.0.0.1", ""),
+    ("ip.src#[1-2] == 10.0.0.1", "2\n"),
+    ("ip.src#[1,3]", "2\n"),
+    ("ip#2", ""),
+    ("count(ip#[2]) == 0", "1\n2\n3\n"),
+    ("len(eth.src) == 6 and count(eth.addr) == 2", "1\n2\n3\n"),
+    ("arp.src.proto_ipv4 == 10.0.0.0/8 and not ip", "1\n"),
 ];
 
 #[test]
 fn functions_and_layers(rt: HostRuntime) -> Result<(), Fail> {
     for row in &FUNCTIONS {
-        assert!(rt; row_holds(rt.alloc(), row)?, "{}", row.filter);
+        assert!(rt; lets_through(rt.alloc(), row)?, "{}", row.0);
     }
     Ok(())
 }
 
-static TEXTS: [Row; 20] = [
-    fault("tcp.port ==", "shark: filter byte 11: F3 Unexpected\n"),
-    fault("arp.opcode == 1 @", "shark: filter byte 16: F1 BadChar\n"),
-    fault("\"", "shark: filter byte 0: F2 BadString\n"),
-    fault("and", "shark: filter byte 0: F3 Unexpected\n"),
-    fault("arp and", "shark: filter byte 7: F3 Unexpected\n"),
-    fault("arp arp", "shark: filter byte 4: F3 Unexpected\n"),
-    fault("(arp", "shark: filter byte 4: F3 Unexpected\n"),
-    fault("arp)", "shark: filter byte 3: F3 Unexpected\n"),
-    fault("tcp.port = 80", "shark: filter byte 9: F1 BadChar\n"),
-    fault(
+static TEXTS: [(&str, &str); 20] = [
+    ("tcp.port ==", "shark: filter byte 11: F3 Unexpected\n"),
+    ("arp.opcode == 1 @", "shark: filter byte 16: F1 BadChar\n"),
+    ("\"", "shark: filter byte 0: F2 BadString\n"),
+    ("and", "shark: filter byte 0: F3 Unexpected\n"),
+    ("arp and", "shark: filter byte 7: F3 Unexpected\n"),
+    ("arp arp", "shark: filter byte 4: F3 Unexpected\n"),
+    ("(arp", "shark: filter byte 4: F3 Unexpected\n"),
+    ("arp)", "shark: filter byte 3: F3 Unexpected\n"),
+    ("tcp.port = 80", "shark: filter byte 9: F1 BadChar\n"),
+    (
         "tcp.port == 80 | arp",
         "shark: filter byte 15: F1 BadChar\n",
     ),
-    fault(
+    (
         "tcp.payload == \"a\\q\"",
         "shark: filter byte 15: F2 BadString\n",
     ),
-    fault(
+    (
         "tcp.payload == r\"a",
         "shark: filter byte 15: F2 BadString\n",
     ),
-    fault(
+    (
         "eth.src[1234567890]",
         "shark: filter byte 8: F3 Unexpected\n",
     ),
-    fault("ip.src#1234567890", "shark: filter byte 7: F3 Unexpected\n"),
-    fault("foo(arp)", "shark: filter byte 3: F3 Unexpected\n"),
-    fault("tcp.port in {}", "shark: filter byte 13: F3 Unexpected\n"),
-    fault("tcp.port in {80", "shark: filter byte 15: F3 Unexpected\n"),
-    fault(
+    ("ip.src#1234567890", "shark: filter byte 7: F3 Unexpected\n"),
+    ("foo(arp)", "shark: filter byte 3: F3 Unexpected\n"),
+    ("tcp.port in {}", "shark: filter byte 13: F3 Unexpected\n"),
+    ("tcp.port in {80", "shark: filter byte 15: F3 Unexpected\n"),
+    (
         "tcp.port in {80,}",
         "shark: filter byte 16: F3 Unexpected\n",
     ),
-    fault("tcp.port not 80", "shark: filter byte 13: F3 Unexpected\n"),
-    fault(
+    ("tcp.port not 80", "shark: filter byte 13: F3 Unexpected\n"),
+    (
         "any tcp.port === 80",
         "shark: filter byte 13: F3 Unexpected\n",
     ),
@@ -469,110 +451,110 @@ static TEXTS: [Row; 20] = [
 #[test]
 fn faults_of_the_text(rt: HostRuntime) -> Result<(), Fail> {
     for row in &TEXTS {
-        assert!(rt; row_holds(rt.alloc(), row)?, "{}", row.filter);
+        assert!(rt; is_refused(rt.alloc(), row)?, "{}", row.0);
     }
     Ok(())
 }
 
-static NAMES: [Row; 13] = [
-    fault("foo.bar", "shark: filter byte 0: F4 UnknownField\n"),
-    fault("1 == tcp.port", "shark: filter byte 0: F4 UnknownField\n"),
-    fault("len(foo) == 1", "shark: filter byte 4: F4 UnknownField\n"),
-    fault(
+static NAMES: [(&str, &str); 13] = [
+    ("foo.bar", "shark: filter byte 0: F4 UnknownField\n"),
+    ("1 == tcp.port", "shark: filter byte 0: F4 UnknownField\n"),
+    ("len(foo) == 1", "shark: filter byte 4: F4 UnknownField\n"),
+    (
         "arp.opcode == foo#1",
         "shark: filter byte 14: F4 UnknownField\n",
     ),
-    fault(
+    (
         "arp.opcode == foo[0]",
         "shark: filter byte 14: F4 UnknownField\n",
     ),
-    fault("foo#1", "shark: filter byte 0: F4 UnknownField\n"),
-    fault("foo[0]", "shark: filter byte 0: F4 UnknownField\n"),
-    fault("foo & 1", "shark: filter byte 0: F4 UnknownField\n"),
-    fault("foo in {1}", "shark: filter byte 0: F4 UnknownField\n"),
-    fault(
+    ("foo#1", "shark: filter byte 0: F4 UnknownField\n"),
+    ("foo[0]", "shark: filter byte 0: F4 UnknownField\n"),
+    ("foo & 1", "shark: filter byte 0: F4 UnknownField\n"),
+    ("foo in {1}", "shark: filter byte 0: F4 UnknownField\n"),
+    (
         "foo matches \"a\"",
         "shark: filter byte 0: F4 UnknownField\n",
     ),
-    fault("arp or foo", "shark: filter byte 7: F4 UnknownField\n"),
-    fault("foo == 70000", "shark: filter byte 0: F4 UnknownField\n"),
-    fault("not foo", "shark: filter byte 4: F4 UnknownField\n"),
+    ("arp or foo", "shark: filter byte 7: F4 UnknownField\n"),
+    ("foo == 70000", "shark: filter byte 0: F4 UnknownField\n"),
+    ("not foo", "shark: filter byte 4: F4 UnknownField\n"),
 ];
 
 #[test]
 fn unknown_names(rt: HostRuntime) -> Result<(), Fail> {
     for row in &NAMES {
-        assert!(rt; row_holds(rt.alloc(), row)?, "{}", row.filter);
+        assert!(rt; is_refused(rt.alloc(), row)?, "{}", row.0);
     }
     Ok(())
 }
 
-static KINDS: [Row; 20] = [
-    fault(
+static KINDS: [(&str, &str); 20] = [
+    (
         "ip.src contains \"a\"",
         "shark: filter byte 7: F5 TypeMismatch\n",
     ),
-    fault(
+    (
         "arp.opcode matches \"a\"",
         "shark: filter byte 11: F5 TypeMismatch\n",
     ),
-    fault(
+    (
         "ip.src > 10.0.0.0/8",
         "shark: filter byte 9: F5 TypeMismatch\n",
     ),
-    fault(
+    (
         "tcp.flags.ack > 0",
         "shark: filter byte 14: F5 TypeMismatch\n",
     ),
-    fault(
+    (
         "ip.src in {10.0.0.0/8..10.0.0.1}",
         "shark: filter byte 11: F5 TypeMismatch\n",
     ),
-    fault(
+    (
         "tcp.flags.ack in {0..1}",
         "shark: filter byte 18: F5 TypeMismatch\n",
     ),
-    fault("len(eth.src)", "shark: filter byte 0: F5 TypeMismatch\n"),
-    fault(
+    ("len(eth.src)", "shark: filter byte 0: F5 TypeMismatch\n"),
+    (
         "upper(eth.src) == \"A\"",
         "shark: filter byte 0: F5 TypeMismatch\n",
     ),
-    fault(
+    (
         "\"a\" == tcp.port",
         "shark: filter byte 0: F5 TypeMismatch\n",
     ),
-    fault(
+    (
         "tcp.port == ip.src",
         "shark: filter byte 9: F5 TypeMismatch\n",
     ),
-    fault(
+    (
         "eth.src == ip.src",
         "shark: filter byte 8: F5 TypeMismatch\n",
     ),
-    fault("eth.src & 1", "shark: filter byte 8: F5 TypeMismatch\n"),
-    fault("tcp.port[0]", "shark: filter byte 8: F5 TypeMismatch\n"),
-    fault("tcp.flags & x", "shark: filter byte 12: F5 TypeMismatch\n"),
-    fault(
+    ("eth.src & 1", "shark: filter byte 8: F5 TypeMismatch\n"),
+    ("tcp.port[0]", "shark: filter byte 8: F5 TypeMismatch\n"),
+    ("tcp.flags & x", "shark: filter byte 12: F5 TypeMismatch\n"),
+    (
         "len(tcp.port) == 1",
         "shark: filter byte 0: F5 TypeMismatch\n",
     ),
-    fault(
+    (
         "arp.opcode == 1 & 1",
         "shark: filter byte 16: F5 TypeMismatch\n",
     ),
-    fault(
+    (
         "arp.opcode == len(foo)",
         "shark: filter byte 14: F5 TypeMismatch\n",
     ),
-    fault(
+    (
         "count(len(eth.src)) == 1",
         "shark: filter byte 0: F5 TypeMismatch\n",
     ),
-    fault(
+    (
         "arp.opcode == foo",
         "shark: filter byte 14: F5 TypeMismatch\n",
     ),
-    fault(
+    (
         "tcp.port contains 80",
         "shark: filter byte 9: F5 TypeMismatch\n",
     ),
@@ -581,54 +563,54 @@ static KINDS: [Row; 20] = [
 #[test]
 fn kinds_that_do_not_fit(rt: HostRuntime) -> Result<(), Fail> {
     for row in &KINDS {
-        assert!(rt; row_holds(rt.alloc(), row)?, "{}", row.filter);
+        assert!(rt; is_refused(rt.alloc(), row)?, "{}", row.0);
     }
     Ok(())
 }
 
-static LITERALS: [Row; 12] = [
-    fault("tcp.port == 08", "shark: filter byte 12: F5 TypeMismatch\n"),
-    fault(
+static LITERALS: [(&str, &str); 12] = [
+    ("tcp.port == 08", "shark: filter byte 12: F5 TypeMismatch\n"),
+    (
         "tcp.port == \"80\"",
         "shark: filter byte 12: F5 TypeMismatch\n",
     ),
-    fault(
+    (
         "ip.src == 10.0.0.256",
         "shark: filter byte 10: F5 TypeMismatch\n",
     ),
-    fault(
+    (
         "ip.src == 10.0.0.0/08",
         "shark: filter byte 10: F5 TypeMismatch\n",
     ),
-    fault(
+    (
         "eth.src == 02:00:00:00:00",
         "shark: filter byte 11: F5 TypeMismatch\n",
     ),
-    fault(
+    (
         "tcp.flags.ack == 2",
         "shark: filter byte 17: F5 TypeMismatch\n",
     ),
-    fault(
+    (
         "frame.time_epoch == 1.0000000001",
         "shark: filter byte 20: F5 TypeMismatch\n",
     ),
-    fault(
+    (
         "frame.time_epoch == 1234567890123456789",
         "shark: filter byte 20: F5 TypeMismatch\n",
     ),
-    fault(
+    (
         "udp.payload == 010",
         "shark: filter byte 15: F5 TypeMismatch\n",
     ),
-    fault(
+    (
         "udp.payload == 01:02-03",
         "shark: filter byte 15: F5 TypeMismatch\n",
     ),
-    fault(
+    (
         "ipv6.src == 2001:db8::10.0.0.1",
         "shark: filter byte 12: F5 TypeMismatch\n",
     ),
-    fault(
+    (
         "eth.src == ffff",
         "shark: filter byte 11: F5 TypeMismatch\n",
     ),
@@ -637,51 +619,51 @@ static LITERALS: [Row; 12] = [
 #[test]
 fn literals_that_are_not_read(rt: HostRuntime) -> Result<(), Fail> {
     for row in &LITERALS {
-        assert!(rt; row_holds(rt.alloc(), row)?, "{}", row.filter);
+        assert!(rt; is_refused(rt.alloc(), row)?, "{}", row.0);
     }
     Ok(())
 }
 
-static RANGES: [Row; 15] = [
-    fault(
+static RANGES: [(&str, &str); 15] = [
+    (
         "tcp.port == 70000",
         "shark: filter byte 12: F6 OutOfRange\n",
     ),
-    fault(
+    (
         "tcp.port == 65536",
         "shark: filter byte 12: F6 OutOfRange\n",
     ),
-    fault(
+    (
         "tcp.port == 0x10000",
         "shark: filter byte 12: F6 OutOfRange\n",
     ),
-    fault(
+    (
         "ip.src#0 == 10.0.0.1",
         "shark: filter byte 7: F6 OutOfRange\n",
     ),
-    fault("ip.src#[2-1]", "shark: filter byte 8: F6 OutOfRange\n"),
-    fault(
+    ("ip.src#[2-1]", "shark: filter byte 8: F6 OutOfRange\n"),
+    (
         "ip.src == 10.0.0.0/33",
         "shark: filter byte 10: F6 OutOfRange\n",
     ),
-    fault(
+    (
         "ipv6.src == ::/129",
         "shark: filter byte 12: F6 OutOfRange\n",
     ),
-    fault("eth.src[1-0]", "shark: filter byte 8: F6 OutOfRange\n"),
-    fault("eth.src[0:0]", "shark: filter byte 8: F6 OutOfRange\n"),
-    fault("eth.src[-1--2]", "shark: filter byte 8: F6 OutOfRange\n"),
-    fault("tcp.flags & 4096", "shark: filter byte 12: F6 OutOfRange\n"),
-    fault(
+    ("eth.src[1-0]", "shark: filter byte 8: F6 OutOfRange\n"),
+    ("eth.src[0:0]", "shark: filter byte 8: F6 OutOfRange\n"),
+    ("eth.src[-1--2]", "shark: filter byte 8: F6 OutOfRange\n"),
+    ("tcp.flags & 4096", "shark: filter byte 12: F6 OutOfRange\n"),
+    (
         "tcp.flags & 1 == 4096",
-        "shark: filter byte 16: F6 OutOfRange\n",
+        "shark: filter byte 17: F6 OutOfRange\n",
     ),
-    fault(
+    (
         "tcp.port in {1, 65536..1}",
         "shark: filter byte 16: F6 OutOfRange\n",
     ),
-    fault("vlan.id == 4096", "shark: filter byte 11: F6 OutOfRange\n"),
-    fault(
+    ("vlan.id == 4096", "shark: filter byte 11: F6 OutOfRange\n"),
+    (
         "tcp.port == 99999999999999999999999",
         "shark: filter byte 12: F6 OutOfRange\n",
     ),
@@ -690,51 +672,51 @@ static RANGES: [Row; 15] = [
 #[test]
 fn numbers_out_of_range(rt: HostRuntime) -> Result<(), Fail> {
     for row in &RANGES {
-        assert!(rt; row_holds(rt.alloc(), row)?, "{}", row.filter);
+        assert!(rt; is_refused(rt.alloc(), row)?, "{}", row.0);
     }
     Ok(())
 }
 
-static FIRST: [Row; 12] = [
-    fault("foo == bar and", "shark: filter byte 14: F3 Unexpected\n"),
-    fault(
+static FIRST: [(&str, &str); 12] = [
+    ("foo == bar and", "shark: filter byte 14: F3 Unexpected\n"),
+    (
         "tcp.port == 70000 and foo",
         "shark: filter byte 12: F6 OutOfRange\n",
     ),
-    fault(
+    (
         "ip.src contains \"a\" or foo",
         "shark: filter byte 7: F5 TypeMismatch\n",
     ),
-    fault(
+    (
         "foo and tcp.port == 70000",
         "shark: filter byte 0: F4 UnknownField\n",
     ),
-    fault(
+    (
         "arp.opcode == 1 @ \"",
         "shark: filter byte 16: F1 BadChar\n",
     ),
-    fault("\" @", "shark: filter byte 0: F2 BadString\n"),
-    fault(
+    ("\" @", "shark: filter byte 0: F2 BadString\n"),
+    (
         "eth.src[0:0] == zz",
         "shark: filter byte 8: F6 OutOfRange\n",
     ),
-    fault(
+    (
         "tcp.port > ip.src[0]",
         "shark: filter byte 9: F5 TypeMismatch\n",
     ),
-    fault(
+    (
         "http matches \"(\"",
         "shark: filter byte 13: F7 BadPattern\n",
     ),
-    fault(
+    (
         "tcp matches \"\\xff\"",
         "shark: filter byte 12: F7 BadPattern\n",
     ),
-    fault(
+    (
         "tcp matches \"a{1000}{1000}\"",
         "shark: filter byte 12: F10 PatternSize\n",
     ),
-    fault(
+    (
         "tcp matches \"(\" and foo",
         "shark: filter byte 12: F7 BadPattern\n",
     ),
@@ -743,7 +725,7 @@ static FIRST: [Row; 12] = [
 #[test]
 fn the_first_of_two_faults(rt: HostRuntime) -> Result<(), Fail> {
     for row in &FIRST {
-        assert!(rt; row_holds(rt.alloc(), row)?, "{}", row.filter);
+        assert!(rt; is_refused(rt.alloc(), row)?, "{}", row.0);
     }
     Ok(())
 }

@@ -5,6 +5,8 @@
 #[cfg(test)]
 mod filter_rows;
 #[cfg(test)]
+mod fragment_rows;
+#[cfg(test)]
 mod layer_rows;
 #[cfg(test)]
 mod outside_rows;
