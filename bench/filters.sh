@@ -1,20 +1,21 @@
 #!/usr/bin/env bash
-# Filters over a million small packets (Ethernet, IPv4, TCP with options): frames per second of bin/shark, and of tshark where it
-# is installed, with the ratio of processor seconds.
+# Filters over small packets (Ethernet, IPv4, TCP with options), a million or as many as the first word says: frames per second of
+# bin/shark, and of tshark where it is installed, with the ratio of processor seconds.
 set -eu
 cd "$(dirname "$0")/.."
 [ -x bin/shark ] || ./build
 . bench/measure.sh
 mkdir -p bench/out
-capture=bench/out/packets.pcap
-[ -f "$capture" ] || python3 bench/make_packets.py "$capture" 1000000
+count=${1:-1000000}
+capture=bench/out/packets-$count.pcap
+[ -f "$capture" ] || python3 bench/make_packets.py "$capture" "$count"
 
 measure() { # NAME WORDS..
   local name=$1 row
   shift
   measure_row "$name" 1 "$@" || return 0
   set -- $row
-  printf '%-8s cpu %7s s  wall %7s s  %9s frames/s  peak %5s MB\n' "$name" "$1" "$2" "$(python3 -c "print(round(1000000 / $1))")" "$4"
+  printf '%-8s cpu %7s s  wall %7s s  %9s frames/s  peak %5s MB\n' "$name" "$1" "$2" "$(python3 -c "print(round($count / $1))")" "$4"
   last=$1
 }
 
