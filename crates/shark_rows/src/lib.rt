@@ -23,5 +23,7 @@ mod sure;
 mod udp_rows;
 #[cfg(test)]
 mod word_rows;
+#[cfg(test)]
+mod worked_rows;
 
 pub use sure::sure_run;
