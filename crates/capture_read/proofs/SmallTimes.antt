@@ -5,13 +5,15 @@ use Rattle.std.specs.Option.{option_map}
 use Rattle.std.specs.Int.{w64, cast_signed}
 use Rattle.std.proofs.lemmas.Int.{ints}
 use Rattle.pk_base.specs.declared.found.Found.{Found}
-use Rattle.pcap_read.specs.Pcap.{pcap_item, captured_limit as record_limit, nanoseconds as record_nanoseconds}
+use Rattle.pk_base.specs.Endian.{number_at}
+use Rattle.pk_base.specs.Limits.{captured_limit}
+use Rattle.pcap_read.specs.Pcap.{pcap_item, nanoseconds as record_nanoseconds}
 use Rattle.pcap_read.specs.declared.header.PcapHead.{PcapHead}
 use Rattle.pcap_read.specs.declared.packet.ItemStep.{ItemStep}
 use Rattle.pcap_read.specs.declared.packet.ItemStep.TheVariants as item
-use Rattle.pcapng_read.specs.Blocks.{block_at as block_read, ordered_block, measured_block, whole_block, interface_by, interface_with, packet_of, fitting, timed_packet, simple_packet, total_length, least_length, told_order, section_type, interface_type, obsolete_packet_type, simple_packet_type, enhanced_packet_type, captured_limit}
+use Rattle.pcapng_read.specs.Blocks.{block_at as block_read, ordered_block, measured_block, whole_block, interface_by, interface_with, packet_of, fitting, timed_packet, simple_packet, total_length, least_length, told_order, section_type, interface_type, obsolete_packet_type, simple_packet_type, enhanced_packet_type}
 use Rattle.pcapng_read.specs.Interface.{nanoseconds}
-use Rattle.pcapng_read.specs.Options.{number_at, option_of, options_of, after_option, settings_of, last_offset, after_all, default, padded, end_code, resolution_code, offset_code}
+use Rattle.pcapng_read.specs.Options.{option_of, options_of, after_option, settings_of, last_offset, after_all, default, padded, end_code, resolution_code, offset_code}
 use Rattle.pcapng_read.specs.Sections.{block_of, blocks_after, order_of, interfaces_of, step_of}
 use Rattle.pcapng_read.specs.Ticks.{ticks_per_second}
 use Rattle.pcapng_read.specs.declared.block.Block.{Block}
@@ -86,7 +88,7 @@ item-timely head bytes are =
     let seconds : number_at head.little 4 0 bytes < 2 ^ 32 = omega (arith, number_at-small head.little 4 0 bytes are) in
     let fraction : number_at head.little 4 4 bytes < 2 ^ 32 = omega (arith, number_at-small head.little 4 4 bytes are) in
     by_case IsItemTimely (nat_lt (length bytes) 16) _ _ (λ h. tt)
-    (λ h. by_case IsItemTimely (nat_lt record_limit (number_at head.little 4 8 bytes)) _ _ (λ h. tt)
+    (λ h. by_case IsItemTimely (nat_lt captured_limit (number_at head.little 4 8 bytes)) _ _ (λ h. tt)
     (λ h. by_case IsItemTimely (nat_lt (length bytes) (16 + number_at head.little 4 8 bytes)) _ _ (λ h. tt)
     (λ h. small-record_time head.nano (number_at head.little 4 0 bytes) (number_at head.little 4 4 bytes) seconds fraction)))
 

@@ -6,8 +6,9 @@
 --
 --   record   0        4          8          12         16
 --            | ts_sec | fraction | incl_len | orig_len | the incl_len captured bytes |
-use Rattle.std.specs.Prelude.{◌<◌, ◌≤◌, ℕ, ◌+◌, ◌*◌, ◌%◌, ◌^◌, ℤ, pos, Bool, true, false, nat_lt, ◌==◌, if◌then◌else◌, List, length, drop, Some}
-use Rattle.pk_base.specs.Endian.{number_in}
+use Rattle.std.specs.Prelude.{◌<◌, ◌≤◌, ℕ, ◌+◌, ◌*◌, ◌%◌, ◌^◌, ℤ, pos, Bool, true, false, nat_lt, ◌==◌, if◌then◌else◌, List, length, Some}
+use Rattle.pk_base.specs.Endian.{number_at}
+use Rattle.pk_base.specs.Limits.{captured_limit}
 use Rattle.pk_base.specs.declared.found.Reason.TheVariants.{UnknownMagic, BadVersion, TooLong}
 use Rattle.pcap_read.specs.declared.header.PcapHead.{PcapHead}
 use Rattle.pcap_read.specs.declared.header.HeadStep.{HeadStep}
@@ -26,14 +27,6 @@ nanosecond_magic = 0xA1B2_3C4D
 -- the only major version
 abbrev pub major_version : ℕ
 major_version = 2
-
--- the most bytes that a record is read with
-abbrev pub captured_limit : ℕ
-captured_limit = 262_144
-
--- the number of so many bytes at a place
-abbrev pub number_at : Bool → ℕ → ℕ → List ℕ → ℕ
-number_at little size place bytes = number_in little size (drop place bytes)
 
 -- the header, where the magic number has told the byte order and what times count
 abbrev pub header_after_magic : Bool → Bool → List ℕ → HeadStep

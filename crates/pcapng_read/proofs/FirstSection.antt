@@ -5,7 +5,7 @@ use Rattle.std.proofs.lemmas.Option.{none-some}
 use Rattle.pk_base.specs.declared.found.Reason.{Reason}
 use Rattle.pk_base.specs.declared.found.Reason.TheVariants.{BadVersion, BlockLength}
 use Rattle.pcapng_read.specs.Blocks.{block_at, ordered_block, told_order, section_of, total_length}
-use Rattle.pcapng_read.specs.Options.{number_at}
+use Rattle.pk_base.specs.Endian.{number_at}
 use Rattle.pcapng_read.specs.Sections.{Scope, scope_with, WhenTaken}
 use Rattle.pcapng_read.specs.declared.step.BlockStep.{BlockStep}
 use Rattle.pcapng_read.specs.declared.step.BlockStep.TheVariants as step

@@ -1,8 +1,7 @@
 -- How large numbers of some bytes are.
 use Rattle.std.proofs.Common.{◌<◌, ℕ, zero, suc, ◌^◌, Bool, true, false, List, [], ◌∷◌, drop, slice_index, arith}
 use Rattle.byteorder.specs.Numbers.{big_from-lt, little_from-lt}
-use Rattle.pk_base.specs.Endian.{number_in}
-use Rattle.pcapng_read.specs.Options.{number_at}
+use Rattle.pk_base.specs.Endian.{number_in, number_at}
 
 -- bytes that are left are bytes
 bytes-drop : (n : ℕ) (bytes : List ℕ) → ((k : ℕ) → slice_index bytes k < 256) → (k : ℕ) → slice_index (drop n bytes) k < 256

@@ -3,8 +3,10 @@ use Rattle.std.proofs.Common.{◌≡◌, ◌<◌, ◌≤◌, ℕ, ◌+◌, ◌-�
 use Rattle.std.specs.Prelude.{nat_lt, ◌==◌, if◌then◌else◌, slice_get, slice_range}
 use Rattle.std.proofs.lemmas.Bool.Decides.{nat_tests}
 use Rattle.pk_base.specs.declared.found.Found.{Found}
-use Rattle.pcapng_read.specs.Blocks.{block_at, ordered_block, measured_block, whole_block, interface_by, interface_with, packet_of, fitting, timed_packet, simple_packet, total_length, least_length, told_order, section_type, interface_type, obsolete_packet_type, simple_packet_type, enhanced_packet_type, captured_limit, IsReadWithin}
-use Rattle.pcapng_read.specs.Options.{number_at, settings_of}
+use Rattle.pk_base.specs.Endian.{number_at}
+use Rattle.pk_base.specs.Limits.{captured_limit}
+use Rattle.pcapng_read.specs.Blocks.{block_at, ordered_block, measured_block, whole_block, interface_by, interface_with, packet_of, fitting, timed_packet, simple_packet, total_length, least_length, told_order, section_type, interface_type, obsolete_packet_type, simple_packet_type, enhanced_packet_type, IsReadWithin}
+use Rattle.pcapng_read.specs.Options.{settings_of}
 use Rattle.pcapng_read.specs.Ticks.{ticks_per_second}
 use Rattle.pcapng_read.specs.declared.interface.Interface.{Interface}
 use Rattle.pcapng_read.specs.declared.options.Settings.{Settings}

@@ -14,10 +14,12 @@
 --   simple packet, 4.4                     8          12
 --                                          | original | the captured bytes
 use Rattle.std.specs.Prelude.{◌≡◌, ◌<◌, ◌≤◌, ℕ, ◌+◌, ◌-◌, ◌%◌, min, Bool, true, false, not, ◌||◌, nat_lt, ◌==◌, if◌then◌else◌, List, length, slice_range, slice_get, Option, Some, None}
+use Rattle.pk_base.specs.Endian.{number_at}
+use Rattle.pk_base.specs.Limits.{captured_limit}
 use Rattle.pk_base.specs.declared.found.Found.{Found}
 use Rattle.pk_base.specs.declared.found.Reason.TheVariants.{UnknownMagic, BadVersion, TooLong, BlockLength, BadInterface, BadOption, BadResolution}
 use Rattle.pcapng_read.specs.Interface.{nanoseconds}
-use Rattle.pcapng_read.specs.Options.{number_at, settings_of}
+use Rattle.pcapng_read.specs.Options.{settings_of}
 use Rattle.pcapng_read.specs.Ticks.{ticks_per_second}
 use Rattle.pcapng_read.specs.declared.block.Block.{Block}
 use Rattle.pcapng_read.specs.declared.block.Block.TheVariants as block
@@ -45,10 +47,6 @@ enhanced_packet_type = 6
 -- the number with which a section's body begins, in the section's byte order
 abbrev pub byte_order_magic : ℕ
 byte_order_magic = 0x1A2B_3C4D
-
--- the most bytes that a packet is read with
-abbrev pub captured_limit : ℕ
-captured_limit = 262_144
 
 -- the least total length of a block of a type
 abbrev pub least_length : ℕ → ℕ

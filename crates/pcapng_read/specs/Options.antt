@@ -3,18 +3,14 @@
 --
 --   option   0      2        4
 --            | code | length | value, padded to a multiple of 4 bytes |
-use Rattle.std.specs.Prelude.{◌<◌, ◌≤◌, ℕ, zero, suc, ◌+◌, ◌-◌, ◌*◌, ◌/◌, ℤ, pos, Bool, nat_lt, ◌==◌, if◌then◌else◌, List, [], ◌∷◌, length, drop, slice_index, Option, Some, None, option_map}
+use Rattle.std.specs.Prelude.{◌<◌, ◌≤◌, ℕ, zero, suc, ◌+◌, ◌-◌, ◌*◌, ◌/◌, ℤ, pos, Bool, nat_lt, ◌==◌, if◌then◌else◌, List, [], ◌∷◌, length, slice_index, Option, Some, None, option_map}
 use Rattle.std.specs.Int.{w64, cast_signed}
-use Rattle.pk_base.specs.Endian.{number_in}
+use Rattle.pk_base.specs.Endian.{number_at}
 use Rattle.pcapng_read.specs.declared.options.Setting.{Setting}
 use Rattle.pcapng_read.specs.declared.options.Setting.TheVariants.{Resolution, Offset, Other}
 use Rattle.pcapng_read.specs.declared.options.OptionStep.{OptionStep}
 use Rattle.pcapng_read.specs.declared.options.OptionStep.TheVariants as step
 use Rattle.pcapng_read.specs.declared.options.Settings.{Settings}
-
--- the number of so many bytes at a place
-abbrev pub number_at : Bool → ℕ → ℕ → List ℕ → ℕ
-number_at little size place bytes = number_in little size (drop place bytes)
 
 -- opt_endofopt, behind which no option stands
 abbrev pub end_code : ℕ

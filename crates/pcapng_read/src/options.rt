@@ -1,5 +1,6 @@
 ghost use Rattle.std.specs.Prelude.{◌≡◌, ◌≤◌, ◌+◌, length, drop};
-ghost use Rattle.pcapng_read.specs.Options.{option_of, settings_of, number_at, padded, after_one, IsOptionWithin};
+ghost use Rattle.pk_base.specs.Endian.{number_at};
+ghost use Rattle.pcapng_read.specs.Options.{option_of, settings_of, padded, after_one, IsOptionWithin};
 
 use byteorder::{BigEndian, ByteOrder, LittleEndian};
 use pk_base::u16_at;

@@ -1,1 +1,3 @@
 mod BitLemmas
+pub mod JoinedBits
+pub mod SameFront

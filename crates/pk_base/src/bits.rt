@@ -1,7 +1,8 @@
-ghost use Rattle.std.specs.Prelude.{◌≡◌, ◌+◌, ◌*◌, ◌/◌, ◌%◌, ◌^◌, ◌<◌, ◌≤◌, length, slice_index};
+ghost use Rattle.std.specs.Prelude.{◌≡◌, ◌+◌, ◌-◌, ◌*◌, ◌/◌, ◌%◌, ◌^◌, ◌<◌, ◌≤◌, length, slice_index};
 ghost use Rattle.pk_base.specs.Bits.{number_of_bits, bit_of};
 
 /// The number that `width` bits from `first_bit` on spell, the most significant bit of a byte first.
+#[inline]
 pub fn be_bits(bytes: &[u8], first_bit: usize, width: u32) -> u64
     requires some { 1 ≤ width }
     requires most { width ≤ 64 }
@@ -10,21 +11,29 @@ pub fn be_bits(bytes: &[u8], first_bit: usize, width: u32) -> u64
     ensures bound { result < 2 ^ width }
 {
     let first = first_bit / 8;
-    let offset = first_bit % 8;
+    let offset = (first_bit % 8) as u32;
     let mut number: u64 = 0;
     let mut done: u32 = 0;
     while done < width {
-        let place = offset + done as usize;
-        let byte = u64::from(bytes[first + place / 8]);
-        if place % 8 == 0 && width - done >= 8 {
-            number = 256 * number + byte;
-            done += 8;
-        } else {
-            number = 2 * number + (byte >> (7 - place % 8)) % 2;
-            done += 1;
-        }
+        let place = offset + done;
+        let passed = place % 8;
+        let count = (8 - passed).min(width - done);
+        let byte = bytes[first + (place / 8) as usize];
+        number = number * (1 << count) + bits_of_byte(byte, passed, count);
+        done += count;
     }
     number
+}
+
+/// So many bits of a byte behind its first ones, the most significant first.
+#[inline]
+fn bits_of_byte(byte: u8, passed: u32, count: u32) -> u64
+    requires some { 1 ≤ count }
+    requires inside { passed + count ≤ 8 }
+    ensures value { result ≡ byte / 2 ^ (8 - passed - count) % 2 ^ count }
+    ensures bound { result < 2 ^ count }
+{
+    u64::from(byte >> (8 - passed - count)) % (1 << count)
 }
 
 #[cfg(test)]
@@ -40,6 +49,7 @@ mod tests {
         assert_eq!(rt; be_bits(&header, 16, 16), 60);
         assert_eq!(rt; be_bits(&header, 49, 1), 1);
         assert_eq!(rt; be_bits(&header, 51, 13), 0);
+        assert_eq!(rt; be_bits(&header, 29, 11), 0x41c);
         assert_eq!(rt; be_bits(&header, 0, 64), 0x4500_003c_1c46_4000);
     }
 }

@@ -6,10 +6,12 @@ mod bits;
 mod endian;
 mod found;
 mod limits;
+mod lost;
 mod memory;
 mod number_list;
 mod octets;
 mod span;
+mod stretch;
 
 pub use bits::be_bits;
 pub use endian::{u16_at, u32_at};
@@ -19,7 +21,9 @@ pub use limits::{
     FILTER_LIMIT, GENERATED_LIMIT, HTTP_FIELD_LIMIT, HTTP_HEAD_LIMIT, LABEL_LIMIT, LAYER_LIMIT,
     NAME_LIMIT, TRAILER_LIMIT, WINDOW, file_limit,
 };
+pub use lost::{Lost, LostList};
 pub use memory::NoMemory;
 pub use number_list::Numbers;
 pub use octets::Octets;
 pub use span::Span;
+pub use stretch::{Stretch, Stretches};

@@ -1,4 +1,4 @@
-ghost use Rattle.std.specs.Prelude.{◌≡◌, ◌≤◌, ◌^◌, ◌<◌, length, slice_range, IfOk};
+ghost use Rattle.std.specs.Prelude.{◌≡◌, ◌≤◌, ◌^◌, ◌<◌, [], length, slice_range, IfOk};
 
 use crate::memory::NoMemory;
 use bytes::Bytes;
@@ -20,6 +20,15 @@ impl Model for Octets {
 }
 
 impl Octets {
+    /// No bytes, which take no memory.
+    pub fn new() -> Octets
+        ensures { result ≡ [] }
+    {
+        Octets {
+            shared: Bytes::new(),
+        }
+    }
+
     /// Takes over the bytes of a vector, which it doesn't copy.
     pub fn from_vec(bytes: Vec<u8>) -> Result<Octets, NoMemory>
         ensures { IfOk result (λ octets. octets ≡ bytes.items) }
@@ -83,6 +92,7 @@ mod tests {
         assert_eq!(rt; copy.bytes(), b"ptu".as_slice());
         let taken = Octets::from_vec([1, 2].to_vec(rt.alloc())?)?;
         assert_eq!(rt; taken.bytes(), [1, 2].as_slice());
+        assert_eq!(rt; Octets::new().bytes().len(), 0);
         Ok(())
     }
 }

@@ -1,0 +1,53 @@
+ghost use Rattle.std.specs.Prelude.{◌≡◌};
+
+use std::marker::Model;
+
+/// The positions of a stream from one up to and without another, whose bytes the capture hasn't.
+#[derive(Clone, Copy, Debug, PartialEq, Eq)]
+pub struct Lost {
+    pub from: u64,
+    pub to: u64,
+}
+
+/// A list of lost positions.
+#[derive(Drop)]
+pub struct LostList {
+    all: Vec<Lost>,
+}
+
+impl Model for LostList {
+    ghost use Rattle.std.specs.Prelude.{List};
+    ghost use Rattle.pk_base.specs.declared.lost.Lost.{Lost};
+
+    ghost Value = { List Lost };
+
+    ghost view = { λ l. l.all.items };
+}
+
+impl LostList {
+    pub fn from_vec(v: Vec<Lost>) -> LostList
+        ensures { result ≡ v.items }
+    {
+        LostList { all: v }
+    }
+
+    pub fn slice(&self) -> &[Lost]
+        ensures { result.now ≡ self.now }
+    {
+        self.all.as_slice()
+    }
+}
+
+#[cfg(test)]
+mod tests {
+    use super::*;
+    use std::test::Fail;
+
+    #[test]
+    fn lost_positions_are_kept_in_order(rt: HostRuntime) -> Result<(), Fail> {
+        let lost = [Lost { from: 5, to: 9 }, Lost { from: 20, to: 21 }];
+        let list = LostList::from_vec(lost.to_vec(rt.alloc())?);
+        assert_eq!(rt; list.slice(), lost.as_slice());
+        Ok(())
+    }
+}
