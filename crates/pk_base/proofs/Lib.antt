@@ -1,3 +1,4 @@
 mod BitLemmas
+pub mod Choices
 pub mod JoinedBits
 pub mod SameFront
