@@ -5,7 +5,7 @@ use Rattle.pcap_read.specs.Pcap.{pcap_head}
 use Rattle.pcap_read.specs.declared.header.PcapHead.{PcapHead}
 use Rattle.pcap_read.specs.declared.header.HeadStep.TheVariants as head
 use Rattle.capture_read.specs.declared.ending.Ending.{Ending}
-use Rattle.pcapng_read.proofs.Within.{by_case}
+use Rattle.pk_base.proofs.Choices.{by_case}
 use Rattle.capture_read.specs.Capture.{Reading, ended, capture_of, pieces, held_part, is_large, is_pcapng, after_head, after_piece}
 use Rattle.capture_read.specs.FrameList.{AreBytes, AreNumbered, AreTimesSmall, captured_bytes}
 use Rattle.capture_read.specs.Pieces.{record_at, head_behind, block_at, blocks_behind, IsPieceWithin}

@@ -27,7 +27,7 @@ use Rattle.pcapng_read.specs.declared.options.Setting.{Setting}
 use Rattle.pcapng_read.specs.declared.options.Setting.TheVariants.{Resolution, Offset, Other}
 use Rattle.pcapng_read.specs.declared.options.Settings.{Settings}
 use Rattle.pcapng_read.proofs.Numbers.{number_at-small}
-use Rattle.pcapng_read.proofs.Within.{by_case}
+use Rattle.pk_base.proofs.Choices.{by_case}
 use Rattle.capture_read.specs.FrameList.{AreBytes, IsSmallTime}
 use Rattle.capture_read.specs.Pieces.{of_record, of_block, record_at, block_at, blocks_behind}
 use Rattle.capture_read.specs.declared.piece.Piece.{Piece}

@@ -1,8 +1,8 @@
 -- Where a block ends.
 use Rattle.std.proofs.Common.{◌≡◌, ◌<◌, ◌≤◌, ℕ, ◌+◌, ◌-◌, ◌%◌, Bool, true, false, not, ◌||◌, List, length, Option, Some, None, refl, arith}
 use Rattle.std.specs.Prelude.{nat_lt, ◌==◌, if◌then◌else◌, slice_get, slice_range}
-use Rattle.std.proofs.lemmas.Bool.Decides.{nat_tests}
 use Rattle.pk_base.specs.declared.found.Found.{Found}
+use Rattle.pk_base.proofs.Choices.{by_case, is_less, isn't_less}
 use Rattle.pk_base.specs.Endian.{number_at}
 use Rattle.pk_base.specs.Limits.{captured_limit}
 use Rattle.pcapng_read.specs.Blocks.{block_at, ordered_block, measured_block, whole_block, interface_by, interface_with, packet_of, fitting, timed_packet, simple_packet, total_length, least_length, told_order, section_type, interface_type, obsolete_packet_type, simple_packet_type, enhanced_packet_type, IsReadWithin}
@@ -11,19 +11,8 @@ use Rattle.pcapng_read.specs.Ticks.{ticks_per_second}
 use Rattle.pcapng_read.specs.declared.interface.Interface.{Interface}
 use Rattle.pcapng_read.specs.declared.options.Settings.{Settings}
 
--- a choice, by its cases
-pub by_case : {A : Type 0} (P : A → Type 0) (test : Bool) (x y : A) → (test ≡ true → P x) → (test ≡ false → P y) → P (if test then x else y)
-by_case P true x y then_x else_y = then_x refl
-by_case P false x y then_x else_y = else_y refl
-
-is_less : (a b : ℕ) → nat_lt a b ≡ true → a < b
-is_less a b h = grind (arith, nat_tests)
-
-isn't_less : (a b : ℕ) → nat_lt a b ≡ false → b ≤ a
-isn't_less a b h = grind (arith, nat_tests)
-
 -- the least total length of any block
-some_length : (kind : ℕ) → 12 ≤ least_length kind
+pub some_length : (kind : ℕ) → 12 ≤ least_length kind
 some_length kind =
     by_case (λ n. 12 ≤ n) (kind == section_type) 28 _ (λ h. omega arith)
     (λ h. by_case (λ n. 12 ≤ n) (kind == interface_type) 20 _ (λ h. omega arith)
@@ -31,7 +20,7 @@ some_length kind =
     (λ h. by_case (λ n. 12 ≤ n) (kind == simple_packet_type) 16 _ (λ h. omega arith)
     (λ h. by_case (λ n. 12 ≤ n) (kind == enhanced_packet_type) 32 12 (λ h. omega arith) (λ h. omega arith)))))
 
-first_false : (a b : Bool) → (a || b) ≡ false → a ≡ false
+pub first_false : (a b : Bool) → (a || b) ≡ false → a ≡ false
 first_false true b h = h
 first_false false b h = refl
 

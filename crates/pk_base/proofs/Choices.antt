@@ -13,6 +13,12 @@ pub choice_same : {A : Type 0} (Decided : A → Type 0) (test : Bool) (x x_other
 choice_same Decided true x x_other y y_other first second decided = first decided
 choice_same Decided false x x_other y y_other first second decided = second decided
 
+-- a choice by one test between things that are the same
+pub both_same : {A : Type 0} (test : Bool) (x x_other y y_other : A) → (test ≡ true → x_other ≡ x) → (test ≡ false → y_other ≡ y)
+    → (if test then x_other else y_other) ≡ (if test then x else y)
+both_same true x x_other y y_other first second = first refl
+both_same false x x_other y y_other first second = second refl
+
 pub is_less : (a b : ℕ) → nat_lt a b ≡ true → a < b
 is_less a b h = grind (arith, nat_tests)
 
