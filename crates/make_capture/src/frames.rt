@@ -1,0 +1,197 @@
+// The frames of a generated capture, written behind what a buffer holds.
+ghost use Rattle.std.specs.Prelude.{◌≡◌, ◌+◌, ◌<◌, ◌≤◌, ◌^◌, ◌++◌, length, OnOk};
+ghost use Rattle.make_capture.specs.Frames as frames;
+
+use bytes::BufMut;
+use pk_base::NoMemory;
+
+const ETHERTYPE_IPV4: u16 = 0x0800;
+
+const ETHERTYPE_ARP: u16 = 0x0806;
+
+const PROTOCOL_TCP: u8 = 6;
+
+const PROTOCOL_UDP: u8 = 17;
+
+const IP_HEADER: u16 = 20;
+
+const UDP_HEADER: u16 = 8;
+
+const TCP_HEADER: u16 = 20;
+
+const DNS_PORT: u16 = 53;
+
+const HTTP_PORT: u16 = 80;
+
+const FIRST_UDP_PORT: u16 = 40_000;
+
+const FIRST_TCP_PORT: u16 = 41_000;
+
+const DNS_HEADER: u16 = 12;
+
+const SOURCE_HARDWARE: [u8; 6] = [2, 0, 0, 0, 0, 1];
+
+const TARGET_HARDWARE: [u8; 6] = [2, 0, 0, 0, 0, 2];
+
+const SERVER: [u8; 4] = [10, 0, 1, 1];
+
+const QUESTION: [u8; 12] = [1, b'h', 4, b't', b'e', b's', b't', 0, 0, 1, 0, 1];
+
+const REQUEST: [u8; 27] = *b"GET / HTTP/1.1\r\nHost: h\r\n\r\n";
+
+#[tactic(auto, unfolding(crate::specs::Frames::ethernet_header))]
+fn put_ethernet(out: &mut Vec<u8>, ethertype: u16) -> Result<(), NoMemory>
+    ensures { OnOk result (out.new.items ≡ out.old.items ++ frames.ethernet_header ethertype) }
+{
+    out.put_slice(&TARGET_HARDWARE)?;
+    out.put_slice(&SOURCE_HARDWARE)?;
+    out.put_u16(ethertype)?;
+    Ok(())
+}
+
+#[tactic(auto, unfolding(crate::specs::Frames::ip_header))]
+fn put_ip(
+    out: &mut Vec<u8>,
+    size: u16,
+    protocol: u8,
+    source: [u8; 4],
+    target: [u8; 4],
+) -> Result<(), NoMemory>
+    requires { size < 2 ^ 15 }
+    ensures { OnOk result (out.new.items ≡ out.old.items ++ frames.ip_header size protocol source target) }
+{
+    out.put_slice(&[0x45, 0])?;
+    out.put_u16(IP_HEADER + size)?;
+    out.put_slice(&[0, 0, 0, 0, 64, protocol, 0, 0])?;
+    out.put_slice(&source)?;
+    out.put_slice(&target)?;
+    Ok(())
+}
+
+#[tactic(auto, unfolding(crate::specs::Frames::udp_header))]
+fn put_udp(out: &mut Vec<u8>, size: u16, source: u16, target: u16) -> Result<(), NoMemory>
+    requires { size < 2 ^ 15 }
+    ensures { OnOk result (out.new.items ≡ out.old.items ++ frames.udp_header size source target) }
+{
+    out.put_u16(source)?;
+    out.put_u16(target)?;
+    out.put_u16(UDP_HEADER + size)?;
+    out.put_slice(&[0, 0])?;
+    Ok(())
+}
+
+#[tactic(auto, unfolding(crate::specs::Frames::tcp_header))]
+fn put_tcp(out: &mut Vec<u8>, source: u16, target: u16, number: u32) -> Result<(), NoMemory>
+    ensures { OnOk result (out.new.items ≡ out.old.items ++ frames.tcp_header source target number) }
+{
+    out.put_u16(source)?;
+    out.put_u16(target)?;
+    out.put_u32(number)?;
+    out.put_u32(1)?;
+    out.put_slice(&[0x50, 0x18, 0xff, 0xff, 0, 0, 0, 0])?;
+    Ok(())
+}
+
+#[tactic(auto, unfolding(crate::specs::Frames::dns_header))]
+fn put_dns(out: &mut Vec<u8>, id: u16, flags: u16, answers: u16) -> Result<(), NoMemory>
+    ensures { OnOk result (out.new.items ≡ out.old.items ++ frames.dns_header id flags answers) }
+{
+    out.put_u16(id)?;
+    out.put_u16(flags)?;
+    out.put_u16(1)?;
+    out.put_u16(answers)?;
+    out.put_slice(&[0, 0, 0, 0])?;
+    Ok(())
+}
+
+#[tactic(auto, unfolding(crate::specs::Frames::arp_frame, crate::specs::Frames::arp_request))]
+pub fn put_arp_frame(out: &mut Vec<u8>, client: u8) -> Result<(), NoMemory>
+    ensures { OnOk result (out.new.items ≡ out.old.items ++ frames.arp_frame client) }
+{
+    put_ethernet(out, ETHERTYPE_ARP)?;
+    out.put_slice(&[0, 1, 0x08, 0x00, 6, 4, 0, 1])?;
+    out.put_slice(&SOURCE_HARDWARE)?;
+    out.put_slice(&[10, 0, 0, client])?;
+    out.put_slice(&[0, 0, 0, 0, 0, 0])?;
+    out.put_slice(&SERVER)?;
+    Ok(())
+}
+
+#[tactic(auto, unfolding(crate::specs::Frames::query_frame, crate::specs::Frames::question))]
+pub fn put_query_frame(out: &mut Vec<u8>, client: u8) -> Result<(), NoMemory>
+    ensures { OnOk result (out.new.items ≡ out.old.items ++ frames.query_frame client) }
+{
+    let number = u16::from(client);
+    put_ethernet(out, ETHERTYPE_IPV4)?;
+    put_ip(out, 32, PROTOCOL_UDP, [10, 0, 0, client], SERVER)?;
+    put_udp(out, 24, FIRST_UDP_PORT + number, DNS_PORT)?;
+    put_dns(out, number, 0x0100, 0)?;
+    out.put_slice(&QUESTION)?;
+    Ok(())
+}
+
+#[tactic(auto, unfolding(crate::specs::Frames::answer_frame, crate::specs::Frames::question))]
+pub fn put_answer_frame(out: &mut Vec<u8>, client: u8) -> Result<(), NoMemory>
+    ensures { OnOk result (out.new.items ≡ out.old.items ++ frames.answer_frame client) }
+{
+    let number = u16::from(client);
+    put_ethernet(out, ETHERTYPE_IPV4)?;
+    put_ip(out, 48, PROTOCOL_UDP, SERVER, [10, 0, 0, client])?;
+    put_udp(out, 40, DNS_PORT, FIRST_UDP_PORT + number)?;
+    put_dns(out, number, 0x8180, 1)?;
+    out.put_slice(&QUESTION)?;
+    put_answer(out, client)
+}
+
+#[tactic(auto, unfolding(crate::specs::Frames::answer))]
+fn put_answer(out: &mut Vec<u8>, client: u8) -> Result<(), NoMemory>
+    ensures { OnOk result (out.new.items ≡ out.old.items ++ frames.answer client) }
+{
+    out.put_slice(&[0xc0, 0x0c, 0, 1, 0, 1])?;
+    out.put_u32(60)?;
+    out.put_u16(4)?;
+    out.put_slice(&[10, 0, 2, client])?;
+    Ok(())
+}
+
+/// The next bytes of a client's requests, of which so many were sent before.
+#[tactic(auto, unfolding(crate::specs::Frames::request_frame))]
+pub fn put_request_frame(
+    out: &mut Vec<u8>,
+    client: u8,
+    before: u32,
+    size: u16,
+) -> Result<(), NoMemory>
+    requires before { before < 2 ^ 31 }
+    requires size { size ≤ 16 }
+    ensures { OnOk result (out.new.items ≡ out.old.items ++ frames.request_frame client before size) }
+{
+    put_ethernet(out, ETHERTYPE_IPV4)?;
+    put_ip(
+        out,
+        TCP_HEADER + size,
+        PROTOCOL_TCP,
+        [10, 0, 0, client],
+        SERVER,
+    )?;
+    put_tcp(
+        out,
+        FIRST_TCP_PORT + u16::from(client),
+        HTTP_PORT,
+        1 + before,
+    )?;
+    put_requests(out, before, size)
+}
+
+#[tactic(auto, unfolding(crate::specs::Frames::requests, crate::specs::Frames::request))]
+fn put_requests(out: &mut Vec<u8>, before: u32, size: u16) -> Result<(), NoMemory>
+    requires before { before < 2 ^ 31 }
+    requires size { size ≤ 16 }
+    ensures { OnOk result (out.new.items ≡ out.old.items ++ frames.requests before size) }
+{
+    'places: for place in 0..size {
+        let from = (before + u32::from(place)) % REQUEST.len() as u32;
+        out.put_u8(REQUEST[from as usize])?;
+    }
+    Ok(())
+}

@@ -1,0 +1,9 @@
+//! Makes a capture file from a number: the same file for the same number, everywhere. It is what `--self-run` analyses.
+#![tactic(auto)]
+
+mod file;
+mod frames;
+#[cfg(test)]
+mod tests;
+
+pub use file::make;
