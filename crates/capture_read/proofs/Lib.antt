@@ -1,7 +1,9 @@
 mod FormatSteps
 pub mod FrameBounds
+mod HereSteps
 mod KnownBlocks
 pub mod Limit
 mod PieceBounds
 mod PieceSteps
+mod SameSteps
 mod SmallTimes

@@ -7,14 +7,18 @@ use Rattle.std.proofs.lemmas.Int.{ints}
 use Rattle.pk_base.specs.declared.found.Found.{Found}
 use Rattle.pk_base.specs.Endian.{number_at}
 use Rattle.pk_base.specs.Limits.{captured_limit}
-use Rattle.pcap_read.specs.Pcap.{pcap_item, nanoseconds as record_nanoseconds}
+use Rattle.pcap_read.specs.declared.header.HeadStep.{HeadStep}
+use Rattle.pcap_read.specs.declared.header.HeadStep.TheVariants as head
+use Rattle.pcap_read.specs.Pcap.{pcap_head, pcap_item, nanoseconds as record_nanoseconds}
 use Rattle.pcap_read.specs.declared.header.PcapHead.{PcapHead}
 use Rattle.pcap_read.specs.declared.packet.ItemStep.{ItemStep}
 use Rattle.pcap_read.specs.declared.packet.ItemStep.TheVariants as item
 use Rattle.pcapng_read.specs.Blocks.{block_at as block_read, ordered_block, measured_block, whole_block, interface_by, interface_with, packet_of, fitting, timed_packet, simple_packet, total_length, least_length, told_order, section_type, interface_type, obsolete_packet_type, simple_packet_type, enhanced_packet_type}
 use Rattle.pcapng_read.specs.Interface.{nanoseconds}
 use Rattle.pcapng_read.specs.Options.{option_of, options_of, after_option, settings_of, last_offset, after_all, default, padded, end_code, resolution_code, offset_code}
-use Rattle.pcapng_read.specs.Sections.{block_of, blocks_after, order_of, interfaces_of, step_of}
+use Rattle.pcapng_read.specs.Sections.{Scope, block_in, block_of, blocks_after, order_of, interfaces_of, scope_after, step_of}
+use Rattle.pcapng_read.specs.declared.step.BlockStep.{BlockStep}
+use Rattle.pcapng_read.specs.declared.step.BlockStep.TheVariants as step
 use Rattle.pcapng_read.specs.Ticks.{ticks_per_second}
 use Rattle.pcapng_read.specs.declared.block.Block.{Block}
 use Rattle.pcapng_read.specs.declared.block.Block.TheVariants as block
@@ -29,16 +33,17 @@ use Rattle.pcapng_read.specs.declared.options.Settings.{Settings}
 use Rattle.pcapng_read.proofs.Numbers.{number_at-small}
 use Rattle.pk_base.proofs.Choices.{by_case}
 use Rattle.capture_read.specs.FrameList.{AreBytes, IsSmallTime}
+use Rattle.capture_read.specs.Offsets.{IsOffset, AreInterfaces}
+use Rattle.capture_read.specs.Capture.{is_pcapng}
+use Rattle.capture_read.specs.Reader.{step_here, step_of_head, step_of_item, scope_then}
+use Rattle.capture_read.specs.declared.kind.Kind.{Kind}
+use Rattle.capture_read.specs.declared.kind.Kind.TheVariants.{Pcap, Pcapng}
 use Rattle.capture_read.specs.Pieces.{of_record, of_block, record_at, block_at, blocks_behind}
 use Rattle.capture_read.specs.declared.piece.Piece.{Piece}
 use Rattle.capture_read.specs.declared.piece.Piece.TheVariants.{End, Packet, Passed}
 
 small-pos : (n : ℕ) → n < 2 ^ 96 → IsSmallTime (Some (pos n))
 small-pos n few = (omega (arith, ints), omega (arith, ints))
-
--- seconds of 64 bits
-abbrev IsOffset : ℤ → Type 0
-IsOffset seconds = (neg_ℤ (pos (2 ^ 63)) ≤ℤ seconds) × (seconds <ℤ pos (2 ^ 63))
 
 cast-offset : (n : ℕ) → n < 2 ^ 64 → IsOffset (cast_signed w64 n)
 cast-offset n few = (omega (arith, ints), omega (arith, ints))
@@ -167,11 +172,6 @@ are_options little bytes are =
       | Some all ↦ λ h. last-offset default.offset all (omega (arith, ints), omega (arith, ints)) h
     ] (are_settings little 0 bytes are)
 
--- the interfaces of a section
-abbrev AreInterfaces : List Interface → Type 0
-AreInterfaces [] = Unit {0}
-AreInterfaces (interface ∷ later) = IsOffset interface.offset × AreInterfaces later
-
 abbrev IsInterface : Option Interface → Type 0
 IsInterface None = Unit {0}
 IsInterface (Some interface) = IsOffset interface.offset
@@ -282,3 +282,52 @@ pub block-timely : (large : Bool) (before : List Block) (at : ℕ) (bytes : List
 block-timely large before at bytes are known =
     let is : IsBlock (block_of before bytes) = is_read (order_of before) (interfaces_of before) bytes are known in
     (of_block-timely large at (block_of before bytes) is, are_blocks (block_of before bytes) before is known)
+
+-- the interfaces of the section behind a block
+are_interfaces : (r : BlockRead) (scope : Scope) → IsBlock r → AreInterfaces scope.interfaces → AreInterfaces (scope_after r scope).interfaces
+are_interfaces (read.Need n) scope is are = are
+are_interfaces (read.Bad reason) scope is are = are
+are_interfaces (read.Whole (block.Section little) end) scope is are = tt
+are_interfaces (read.Whole (block.Interface interface) end) scope is are = one-more scope.interfaces interface are is
+are_interfaces (read.Whole (block.Packet found) end) scope is are = are
+are_interfaces (read.Whole block.Other end) scope is are = are
+
+-- a frame's time is small, where the step finds one
+abbrev pub IsStepTimely : BlockStep → Type 0
+IsStepTimely (step.Need n) = Unit {0}
+IsStepTimely (step.Item found) = IsSmallTime found.time
+IsStepTimely (step.Skipped size) = Unit {0}
+IsStepTimely (step.Bad reason) = Unit {0}
+
+step_of-timely : (r : BlockRead) → IsBlock r → IsStepTimely (step_of r)
+step_of-timely (read.Need n) is = tt
+step_of-timely (read.Bad reason) is = tt
+step_of-timely (read.Whole (block.Section little) end) is = tt
+step_of-timely (read.Whole (block.Interface interface) end) is = tt
+step_of-timely (read.Whole (block.Packet found) end) is = is
+step_of-timely (read.Whole block.Other end) is = tt
+
+step_of_item-timely : (r : ItemStep) → IsItemTimely r → IsStepTimely (step_of_item r)
+step_of_item-timely (item.Need n) is = tt
+step_of_item-timely (item.Bad reason) is = tt
+step_of_item-timely (item.Item found) is = is
+
+step_of_head-timely : (r : HeadStep) → IsStepTimely (step_of_head r)
+step_of_head-timely (head.Need n) = tt
+step_of_head-timely (head.Head h) = tt
+step_of_head-timely (head.Bad reason) = tt
+
+pub step-timely : (kind : Option Kind) (scope : Scope) (bytes : List ℕ) → AreBytes bytes → AreInterfaces scope.interfaces → IsStepTimely (step_here kind scope bytes)
+step-timely None scope bytes are known =
+    by_case IsStepTimely (is_pcapng bytes) _ _ (λ h. step_of-timely (block_in scope bytes) (is_read scope.order scope.interfaces bytes are known))
+    (λ h. step_of_head-timely (pcap_head bytes))
+step-timely (Some (Pcap h)) scope bytes are known = step_of_item-timely (pcap_item h bytes) (item-timely h bytes are)
+step-timely (Some Pcapng) scope bytes are known = step_of-timely (block_in scope bytes) (is_read scope.order scope.interfaces bytes are known)
+
+pub scope_then-offsets : (kind : Option Kind) (scope : Scope) (bytes : List ℕ) → AreBytes bytes → AreInterfaces scope.interfaces
+    → AreInterfaces (scope_then kind scope bytes).interfaces
+scope_then-offsets None scope bytes are known =
+    by_case (λ (s : Scope). AreInterfaces s.interfaces) (is_pcapng bytes) _ _
+    (λ h. are_interfaces (block_in scope bytes) scope (is_read scope.order scope.interfaces bytes are known) known) (λ h. known)
+scope_then-offsets (Some (Pcap h)) scope bytes are known = known
+scope_then-offsets (Some Pcapng) scope bytes are known = are_interfaces (block_in scope bytes) scope (is_read scope.order scope.interfaces bytes are known) known

@@ -1,6 +1,9 @@
+pub mod Answers
 pub mod Capture
 pub mod Ending
 pub mod FrameList
 pub mod NextFrame
+pub mod Offsets
 pub mod Pieces
+pub mod Reader
 pub mod State

@@ -8,9 +8,11 @@ mod frame;
 mod frame_list;
 mod held_frames;
 mod held_part;
+mod kind;
 mod next_frame;
 mod next_piece;
 mod piece;
+mod position;
 mod reading;
 mod state;
 #[cfg(test)]

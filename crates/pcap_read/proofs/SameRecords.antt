@@ -5,7 +5,7 @@ use Rattle.pk_base.specs.Endian.{number_at}
 use Rattle.pk_base.specs.declared.found.Reason.TheVariants.{UnknownMagic}
 use Rattle.pk_base.proofs.Choices.{by_case, choice_same, is_less, isn't_less, less, not_less}
 use Rattle.pk_base.proofs.SameFront.{IsSameFront, number_same}
-use Rattle.pcap_read.specs.Pcap.{pcap_head, pcap_item, header_after_magic, microsecond_magic, nanosecond_magic}
+use Rattle.pcap_read.specs.Pcap.{IsHeadWithin, pcap_head, pcap_item, header_after_magic, microsecond_magic, nanosecond_magic}
 use Rattle.pcap_read.specs.declared.header.PcapHead.{PcapHead}
 use Rattle.pcap_read.specs.declared.header.HeadStep.{HeadStep}
 use Rattle.pcap_read.specs.declared.header.HeadStep.TheVariants as head
@@ -58,16 +58,16 @@ by_magic-same Decided low high f g same decided =
     (choice_same Decided (high == microsecond_magic) _ _ _ _ (same false false)
     (choice_same Decided (high == nanosecond_magic) _ _ _ _ (same false true) (λ d. refl)))) decided
 
-pcap_head-long : (bytes : List ℕ) → 4 ≤ length bytes → pcap_head bytes ≡ long_head bytes
+pub pcap_head-long : (bytes : List ℕ) → 4 ≤ length bytes → pcap_head bytes ≡ long_head bytes
 unfolding pcap_head
 pcap_head-long bytes long = rw (not_less (length bytes) 4 long) refl
 
-pcap_head-few : (bytes : List ℕ) → length bytes < 4 → pcap_head bytes ≡ head.Need 4
+pub pcap_head-few : (bytes : List ℕ) → length bytes < 4 → pcap_head bytes ≡ head.Need 4
 unfolding pcap_head
 pcap_head-few bytes few = rw (less (length bytes) 4 few) refl
 
 -- four bytes at least are needed where four are held
-decided_four : (step : HeadStep) (n held other : ℕ) → IsHeadDecided step n held other → 4 ≤ held → 4 ≤ n
+pub decided_four : (step : HeadStep) (n held other : ℕ) → IsHeadDecided step n held other → 4 ≤ held → 4 ≤ n
 decided_four (head.Need m) n held other decided long = omega (arith, decided.0)
 decided_four (head.Head h) n held other decided long = omega (arith, decided)
 decided_four (head.Bad reason) n held other decided long = omega (arith, decided)
@@ -88,3 +88,17 @@ head_same n xs ys front decided =
     ∙ ap (λ (number : ℕ). by_magic (number_at true 4 0 xs) number follows) high
     ∙ by_magic-same (λ step. IsHeadDecided step n (length xs) (length ys)) (number_at true 4 0 xs) (number_at false 4 0 xs)
     (λ little nano. header_after_magic little nano xs) follows (λ little nano. after_magic_same little nano n xs ys front) d) decided
+
+-- a header ends within the bytes, and more are needed only where there are fewer
+after_magic-within : (little nano : Bool) (bytes : List ℕ) → IsHeadWithin (header_after_magic little nano bytes) (length bytes)
+after_magic-within little nano bytes = grind (arith, common_steps)
+
+pub pcap_head-within : (bytes : List ℕ) → IsHeadWithin (pcap_head bytes) (length bytes)
+unfolding pcap_head
+pcap_head-within bytes =
+    by_case (λ step. IsHeadWithin step (length bytes)) (nat_lt (length bytes) 4) _ _ (λ h. (is_less (length bytes) 4 h, omega arith))
+    (λ h. by_case (λ step. IsHeadWithin step (length bytes)) (number_at true 4 0 bytes == microsecond_magic) _ _ (λ h. after_magic-within true false bytes)
+    (λ h. by_case (λ step. IsHeadWithin step (length bytes)) (number_at true 4 0 bytes == nanosecond_magic) _ _ (λ h. after_magic-within true true bytes)
+    (λ h. by_case (λ step. IsHeadWithin step (length bytes)) (number_at false 4 0 bytes == microsecond_magic) _ _ (λ h. after_magic-within false false bytes)
+    (λ h. by_case (λ step. IsHeadWithin step (length bytes)) (number_at false 4 0 bytes == nanosecond_magic) _ _ (λ h. after_magic-within false true bytes)
+    (λ h. tt)))))

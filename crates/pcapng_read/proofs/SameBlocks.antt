@@ -258,6 +258,21 @@ block-long : (order : Option Bool) (interfaces : List Interface) (bytes : List �
 unfolding block_at
 block-long order interfaces bytes long = rw (not_less (length bytes) 12 long) refl
 
+block_at-long : (order : Option Bool) (interfaces : List Interface) (bytes : List ℕ) → IsLong (block_at order interfaces bytes)
+unfolding block_at
+block_at-long order interfaces bytes = by_case IsLong (nat_lt (length bytes) 12) _ _ (λ h. tt) (λ h. ordered-long interfaces bytes (order_at order bytes))
+
+-- some bytes are needed where some are held
+pub decided_some : (order : Option Bool) (interfaces : List Interface) (bytes : List ℕ) (least n other : ℕ)
+    → IsReadDecided (block_at order interfaces bytes) n (length bytes) other → least ≤ length bytes → least ≤ 12 → least ≤ n
+decided_some order interfaces bytes least n other decided held small =
+    by_long (block_at order interfaces bytes) (block_at-long order interfaces bytes) decided
+  where
+    by_long : (read : BlockRead) → IsLong read → IsReadDecided read n (length bytes) other → least ≤ n
+    by_long (Need m) long decided = omega (arith, decided.0, held)
+    by_long (Whole b end) long decided = omega (arith, long, decided, small)
+    by_long (Bad reason) long decided = omega (arith, decided, held)
+
 pub block_same : (order : Option Bool) (interfaces : List Interface) (n : ℕ) (xs ys : List ℕ) → IsSameFront n xs ys
     → IsReadDecided (block_at order interfaces xs) n (length xs) (length ys) → block_at order interfaces ys ≡ block_at order interfaces xs
 unfolding block_at

@@ -1,0 +1,94 @@
+-- What a reader answers.
+use Rattle.std.specs.Prelude.{◌≡◌, ◌<◌, ◌≤◌, ℕ, suc, ◌+◌, ◌-◌, ◌^◌, List, [], ◌∷◌, ◌++◌, length, Option, Some, None}
+use Rattle.pk_base.specs.Limits.{file_limit}
+use Rattle.capture_read.specs.Capture.{Reading, capture_of, ended}
+use Rattle.capture_read.specs.FrameList.{IsSmallTime}
+use Rattle.capture_read.specs.Reader.{Reader, ReaderShown, Stands, StandsFor, HasFew, with_past}
+use Rattle.capture_read.specs.declared.ending.Ending.{Ending}
+use Rattle.capture_read.specs.declared.frame.Frame.{Frame}
+use Rattle.capture_read.specs.declared.kind.Phase.{Phase}
+use Rattle.capture_read.specs.declared.kind.Phase.TheVariants as phase
+use Rattle.capture_read.specs.declared.kind.Seen.{Seen}
+use Rattle.capture_read.specs.declared.kind.Seen.TheVariants as seen
+use Rattle.capture_read.specs.declared.next_frame.NextFrame.{NextFrame}
+use Rattle.capture_read.specs.declared.next_frame.NextFrame.TheVariants as next
+use Rattle.capture_read.specs.declared.position.Turn.{Turn}
+use Rattle.capture_read.specs.declared.position.Turn.TheVariants as turn
+
+-- the frames, the newest first, are the first ones of the file
+abbrev pub IsFrontOf : List Frame → List ℕ → Type 0
+IsFrontOf past file = (rest : Reading) × (capture_of file ≡ with_past past rest)
+
+-- the bytes taken of a file end fewer than 65,536 bytes past the record or block of the frame behind these: a front that
+-- ends 65,536 bytes before them holds no frame more. The least front that holds it ends with its record or block
+abbrev pub IsNear : List ℕ → List Frame → Option (List ℕ) → Type 0
+IsNear file past None = Unit {0}
+IsNear file past (Some left) = (front : ℕ) → front + 2 ^ 16 + length left ≤ length file → HasFew file past front
+
+-- the bytes taken of a file hold, as a file by themselves, exactly these frames
+abbrev pub HoldsExactly : List ℕ → List Frame → Option (List ℕ) → Type 0
+HoldsExactly file past None = Unit {0}
+HoldsExactly file past (Some left) =
+    (taken : List ℕ) × (file ≡ taken ++ left) × ((ending : Ending) × (capture_of taken ≡ with_past past (ended ending)))
+
+-- the next frame of each file for which the reader stands, or how the file ends
+abbrev pub Answers : NextFrame → ReaderShown → ReaderShown → Option (List ℕ) → Option (List ℕ) → Type 0
+Answers (next.Frame frame) old new left_old left_new = (file : List ℕ) → (past : List Frame) → StandsFor old left_old file past
+    → StandsFor new left_new file (frame ∷ past) × IsFrontOf (frame ∷ past) file × IsNear file past left_new
+Answers (next.End ending) old new left_old left_new = (file : List ℕ) → (past : List Frame) → StandsFor old left_old file past
+    → StandsFor new left_new file past × (capture_of file ≡ with_past past (ended ending))
+
+-- a read failed: the bytes taken of the file hold exactly the frames answered before
+abbrev pub Fails : ReaderShown → Option (List ℕ) → Option (List ℕ) → Type 0
+Fails old left_old left_new = (file : List ℕ) → (past : List Frame) → StandsFor old left_old file past → HoldsExactly file past left_new
+
+-- frames are numbered one after the other, the place moves on past each one's bytes, and times lie strictly between -2^96
+-- and 2^96 nanoseconds
+pub record IsCounted (frame : Frame) (old new : Reader) : Type 0 where
+  pub number : frame.number ≡ old.number
+  pub after : new.number ≡ old.number + 1
+  pub bytes : old.at + length frame.bytes ≤ new.at
+  pub moved : old.at < new.at
+  pub time : IsSmallTime frame.time
+
+abbrev pub CountsNext : NextFrame → Reader → Reader → Type 0
+CountsNext (next.Frame frame) old new = IsCounted frame old new
+CountsNext (next.End ending) old new = (new.number ≡ old.number) × (old.at ≤ new.at)
+
+-- where the file's end was answered, it is kept
+abbrev pub KeepsEnd : NextFrame → Phase → Type 0
+KeepsEnd (next.Frame frame) kept = kept ≡ phase.Open
+KeepsEnd (next.End ending) kept = kept ≡ phase.Ended ending
+
+-- one step to the next answer
+
+abbrev pub Finds : NextFrame → Reader → Reader → Option (List ℕ) → Option (List ℕ) → Type 0
+Finds (next.Frame frame) old new left_old left_new = (file : List ℕ) → (past : List Frame) → Stands old left_old file past
+    → Stands new left_new file (frame ∷ past) × IsFrontOf (frame ∷ past) file × IsNear file past left_new
+Finds (next.End ending) old new left_old left_new = (file : List ℕ) → (past : List Frame) → Stands old left_old file past
+    → Stands new left_new file past × (capture_of file ≡ with_past past (ended ending))
+
+-- the reader stands for the same as before
+abbrev pub GoesOn : Reader → Reader → Option (List ℕ) → Option (List ℕ) → Type 0
+GoesOn old new left_old left_new = (file : List ℕ) → (past : List Frame) → Stands old left_old file past → Stands new left_new file past
+
+abbrev pub FailsAt : Reader → Option (List ℕ) → Option (List ℕ) → Type 0
+FailsAt old left_old left_new = (file : List ℕ) → (past : List Frame) → Stands old left_old file past → HoldsExactly file past left_new
+
+-- how much there may be to do before an answer
+abbrev pub open_count : Seen → ℕ
+open_count seen.Open = 1
+open_count seen.Ended = 0
+open_count seen.Beyond = 0
+
+abbrev pub work_left : Reader → ℕ
+work_left r = (file_limit - r.at) + (file_limit - (r.at + length r.held)) + open_count r.seen
+
+-- a step answers, or goes on with less to do
+abbrev pub Turns : Turn → Reader → Reader → Option (List ℕ) → Option (List ℕ) → Type 0
+Turns (turn.Next answer) old new left_old left_new = Finds answer old new left_old left_new
+Turns turn.Again old new left_old left_new = GoesOn old new left_old left_new
+
+abbrev pub CountsTurn : Turn → Reader → Reader → Type 0
+CountsTurn (turn.Next answer) old new = CountsNext answer old new
+CountsTurn turn.Again old new = (new.number ≡ old.number) × (old.at ≤ new.at) × (work_left new < work_left old)

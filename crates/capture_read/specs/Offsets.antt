@@ -1,0 +1,11 @@
+-- The interfaces of a section have offsets of 64 bits: draft-ietf-opsawg-pcapng, section 4.2 (if_tsoffset).
+use Rattle.std.specs.Prelude.{◌^◌, ℤ, pos, neg_ℤ, ◌<ℤ◌, ◌≤ℤ◌, List, [], ◌∷◌}
+use Rattle.pcapng_read.specs.declared.interface.Interface.{Interface}
+
+-- seconds of 64 bits
+abbrev pub IsOffset : ℤ → Type 0
+IsOffset seconds = (neg_ℤ (pos (2 ^ 63)) ≤ℤ seconds) × (seconds <ℤ pos (2 ^ 63))
+
+abbrev pub AreInterfaces : List Interface → Type 0
+AreInterfaces [] = Unit {0}
+AreInterfaces (interface ∷ later) = IsOffset interface.offset × AreInterfaces later
