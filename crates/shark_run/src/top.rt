@@ -4,8 +4,10 @@ ghost use Rattle.pk_outside.specs.Outside.{Rose};
 ghost use Rattle.shark_words.specs.Words.{texts};
 ghost use Rattle.shark_run.specs.declared.plan.Plan.{Plan};
 ghost use Rattle.shark_run.specs.declared.plan.Refused.{Refused};
-ghost use Rattle.shark_run.specs.Plan.{IsPlan, IsRefusal, IsSure, IsAnswered};
+ghost use Rattle.shark_run.specs.Plan.{IsPlan, IsRefusal};
+ghost use Rattle.shark_run.specs.Answers.{IsSure, IsAnswered};
 ghost use Rattle.shark_run.specs.Reading.{name_of, file_of, frames_read};
+ghost use Rattle.shark_run.specs.Taken.{Took};
 ghost use Rattle.shark_run.specs.Statuses.{status_of, refusal_status, IsNoRefusal, IsRefusing, WhenEnded};
 ghost use Rattle.shark_run.specs.FaultTexts.{IsNone, IsSame, Told, ToldWhole};
 ghost use Rattle.shark_run.specs.Outcomes.{IfEnded};
@@ -42,6 +44,8 @@ fn carry_out<C: Capture, O: Sink>(
         → IsUnread (C.faults capture.old) (C.faults capture.new) (C.begun capture.old) (C.begun capture.new)
         (C.missed capture.old) (C.missed capture.new) (C.asked capture.new) (name_of plan.now) }
     ensures write_fault { result ≡ Outcome.WriteFault → Rose (O.faults out.old) (O.faults out.new) }
+    ensures taken { Took (file_of plan.now (C.file capture.old)) (C.begun capture.old) (C.begun capture.new)
+        (C.left capture.old) (C.left capture.new) }
 {
     let frames = match open_frames(alloc, plan, capture) {
         Ok(frames) => frames,
@@ -82,6 +86,10 @@ pub fn run_plan<C: Capture, O: Sink, E: Sink>(
         (C.missed capture.old) (C.missed capture.new) (C.asked capture.new) (name_of plan.now) }
     ensures write_fault { result ≡ Status.WriteFault → Rose (O.faults out.old) (O.faults out.new) }
 
+    // Nothing is read behind the first byte that is too many.
+    ensures taken { Took (file_of plan.now (C.file capture.old)) (C.begun capture.old) (C.begun capture.new)
+        (C.left capture.old) (C.left capture.new) }
+
     // Where no fault rose, the run comes to an end or finds no memory.
     ensures complete { IfSome (file_of plan.now (C.file capture.old)) (λ file.
         ¬ Rose (C.missed capture.old) (C.missed capture.new) → ¬ Rose (C.faults capture.old) (C.faults capture.new)
@@ -95,8 +103,8 @@ pub fn run_plan<C: Capture, O: Sink, E: Sink>(
 {
     let outcome = carry_out(alloc, plan, capture, out);
     match outcome_text(alloc, plan, outcome) {
-        Ok(text) => {
-            tell(err, text.as_bytes());
+        Ok(line) => {
+            tell(err, line.bytes());
             outcome.status()
         }
         Err(NoMemory) => Status::NoMemory,
@@ -134,9 +142,11 @@ pub fn run<C: Capture, O: Sink, E: Sink>(
     ensures refusing { IsRefusing result → (reason : Refused) × IsRefusal (texts words.now) reason × (result ≡ refusal_status reason) }
     ensures untouched { IsRefusing result → (capture.new ≡ capture.old) × (out.new ≡ out.old) }
 
-    // Words with a reason are refused, where it isn't one of a pattern, or find no memory.
+    // Words with a reason are refused, where it isn't the size of a pattern, or find no memory; and nothing is touched.
     ensures refused { (reason : Refused) → IsRefusal (texts words.now) reason → IsSure reason
         → IsAnswered (texts words.now) (refusal_status reason) result }
+    ensures refused_untouched { (reason : Refused) → IsRefusal (texts words.now) reason → IsSure reason
+        → (capture.new ≡ capture.old) × (out.new ≡ out.old) }
 
     // The whole output, where the run came to an end, and never anything but a front of it.
     ensures ended { WhenEnded result ((plan : Plan) × IsPlan (texts words.now) plan × IfSome (file_of plan (C.file capture.old)) (λ file.
@@ -152,7 +162,13 @@ pub fn run<C: Capture, O: Sink, E: Sink>(
     ensures unread { result ≡ Status.ReadFault → (plan : Plan) × IsPlan (texts words.now) plan
         × IsUnread (C.faults capture.old) (C.faults capture.new) (C.begun capture.old) (C.begun capture.new)
         (C.missed capture.old) (C.missed capture.new) (C.asked capture.new) (name_of plan) }
-    ensures write_fault { result ≡ Status.WriteFault → Rose (O.faults out.old) (O.faults out.new) }
+    ensures write_fault { result ≡ Status.WriteFault → (plan : Plan) × IsPlan (texts words.now) plan
+        × Rose (O.faults out.old) (O.faults out.new) }
+
+    // Nothing is read behind the first byte that is too many.
+    ensures taken { (capture.new ≡ capture.old) ⊎ ((plan : Plan) × IsPlan (texts words.now) plan
+        × Took (file_of plan (C.file capture.old)) (C.begun capture.old) (C.begun capture.new)
+        (C.left capture.old) (C.left capture.new)) }
 
     // Where no fault rose, the run of words that ask for a plan comes to an end or finds no memory.
     ensures complete { (plan : Plan) → IsPlan (texts words.now) plan → IfSome (file_of plan (C.file capture.old)) (λ file.
