@@ -19,7 +19,6 @@ use Rattle.shark_run.specs.declared.plan.Plan.{Plan}
 use Rattle.shark_run.specs.declared.plan.Refused.{Refused}
 use Rattle.shark_run.specs.declared.plan.Refused.TheVariants as refused
 use Rattle.shark_run.specs.Answers.{is_of_size, IsSure}
-use Rattle.shark_run.specs.Columns.{fields_named}
 use Rattle.shark_run.specs.Laws.{AreAlike, NeverBoth, OneReason, PlansAreAlike}
 use Rattle.shark_run.specs.Lines.{shown, frame_lines, trees_after, opening, closing, output_of, satisfies}
 use Rattle.shark_run.specs.Plan.{IsFaultAsked, IsPlan, IsPlanFor, IsRefusal, IsRefusalFor}

@@ -15,7 +15,6 @@ use Rattle.flt_types.specs.Faults.{Found, At, PatternAt, IsClear, IsFirst, IsPat
 use Rattle.flt_types.specs.Typing.{HasType}
 use Rattle.flt_types.proofs.Clear.{type_clear}
 use Rattle.flt_types.specs.Texts.{IsTypedText, IsFilterFault}
-use Rattle.shark_words.specs.declared.fault.WordFault.{WordFault}
 use Rattle.shark_words.specs.declared.options.Options.{Options}
 use Rattle.shark_words.specs.Options.{options_of}
 use Rattle.shark_run.specs.declared.plan.Plan.{Plan}

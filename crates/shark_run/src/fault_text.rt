@@ -39,7 +39,8 @@ impl FaultLine {
 /// Writes a text, as far as the sink takes it.
 pub(crate) fn tell<E: Sink>(err: &mut E, text: &[u8])
     ensures part { AppendsPart (E.written err.old) (E.written err.new) text.now }
-    ensures whole { ¬ Rose (E.faults err.old) (E.faults err.new) → ¬ Rose (E.starved err.old) (E.starved err.new)
+    ensures whole { ¬ Rose (E.faults err.old) (E.faults err.new)
+        → ¬ Rose (E.starved err.old) (E.starved err.new)
         → Appends (E.written err.old) (E.written err.new) text.now }
 {
     let _ = write_whole(err, text);

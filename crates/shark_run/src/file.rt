@@ -61,18 +61,22 @@ fn read_more<C: Capture>(
 ) -> Result<bool, FileFault>
     requires room { 0 < length piece.old }
     requires fits { length bytes.old.items + length piece.old ≤ suc limit_of_file }
-    ensures grown { OnOk result (length bytes.new.items ≤ length bytes.old.items + length piece.old) }
-    ensures more { IfOk result (λ more. IsTrue more → length bytes.old.items < length bytes.new.items) }
+    ensures grown { OnOk result (length bytes.new.items
+        ≤ length bytes.old.items + length piece.old) }
+    ensures more { IfOk result (λ more. IsTrue more
+        → length bytes.old.items < length bytes.new.items) }
     ensures end { IfOk result (λ more. more ≡ false → IsAtEnd (C.left capture.new)) }
     ensures consumed { OnOk result ((got : List ℕ) × (bytes.new.items ≡ bytes.old.items ++ got)
         × Consumes (C.left capture.old) (C.left capture.new) got) }
-    ensures taken { TookAtMost (suc limit_of_file - length bytes.old.items) (C.left capture.old) (C.left capture.new) }
+    ensures taken { TookAtMost (suc limit_of_file - length bytes.old.items)
+        (C.left capture.old) (C.left capture.new) }
     ensures asked { C.asked capture.new ≡ C.asked capture.old }
     ensures begun { C.begun capture.new ≡ C.begun capture.old }
     ensures missed { C.missed capture.new ≡ C.missed capture.old }
     ensures no_fault { OnOk result (C.faults capture.new ≡ C.faults capture.old) }
     ensures opened { IsErrOf result FileFault.CannotOpen → ⊥ }
-    ensures fault { IsErrOf result FileFault.ReadFault → C.faults capture.new ≡ counted (C.faults capture.old) }
+    ensures fault { IsErrOf result FileFault.ReadFault
+        → C.faults capture.new ≡ counted (C.faults capture.old) }
 {
     match capture.read(piece) {
         Ok(count) => {
@@ -92,7 +96,8 @@ fn read_rest<C: Capture>(alloc: Global, capture: &mut C) -> Result<Vec<u8>, File
     ensures begun { C.begun capture.new ≡ C.begun capture.old }
     ensures missed { C.missed capture.new ≡ C.missed capture.old }
     ensures opened { IsErrOf result FileFault.CannotOpen → ⊥ }
-    ensures fault { IsErrOf result FileFault.ReadFault → Rose (C.faults capture.old) (C.faults capture.new) }
+    ensures fault { IsErrOf result FileFault.ReadFault
+        → Rose (C.faults capture.old) (C.faults capture.new) }
 {
     let most = file_limit() + 1;
     let size = read_size();
@@ -116,14 +121,14 @@ pub(crate) fn open_frames<C: Capture>(
     ensures takeable { IfOk result (λ frames. AreTakeable 0 0 frames.frames) }
     ensures frames { IfOk result (λ frames. IfSome (file_of plan.now (C.file capture.old)) (λ file.
         frames ≡ frames_read plan.now file)) }
-    ensures taken { Took (file_of plan.now (C.file capture.old)) (C.begun capture.old) (C.begun capture.new)
-        (C.left capture.old) (C.left capture.new) }
+    ensures taken { Took (file_of plan.now (C.file capture.old))
+        (C.begun capture.old) (C.begun capture.new) (C.left capture.old) (C.left capture.new) }
     ensures unopened { IsErrOf result FileFault.CannotOpen
-        → IsUnopened (C.missed capture.old) (C.missed capture.new) (C.begun capture.old) (C.begun capture.new)
-        (C.asked capture.new) (name_of plan.now) }
+        → IsUnopened (C.missed capture.old) (C.missed capture.new)
+        (C.begun capture.old) (C.begun capture.new) (C.asked capture.new) (name_of plan.now) }
     ensures unread { IsErrOf result FileFault.ReadFault
-        → IsUnread (C.faults capture.old) (C.faults capture.new) (C.begun capture.old) (C.begun capture.new)
-        (C.missed capture.old) (C.missed capture.new) (C.asked capture.new) (name_of plan.now) }
+        → IsUnread (C.faults capture.old) (C.faults capture.new)
+        (C.begun capture.old) (C.begun capture.new) (C.missed capture.old) (C.missed capture.new) (C.asked capture.new) (name_of plan.now) }
 {
     let name = plan.name.to_string(alloc)?;
     match capture.begin(name) {
