@@ -1,9 +1,11 @@
 mod FileLemmas
 mod FrontLemmas
+mod LawLemmas
 mod OutputLemmas
 mod ReadingLemmas
 mod RuleLemmas
 mod TakeableLemmas
+mod TakenLemmas
 mod WordLemmas
 mod ToldLemmas
 mod PlanLemmas

@@ -1,6 +1,6 @@
 -- What words ask for is asked for once.
-use Rattle.std.proofs.Common.{◌≡◌, ◌⊎◌, ⊎_elim, inl, inr, ℕ, List, [], ◌∷◌, Option, None, Some, Result, Ok, Err, refl, sym, ◌∙◌, subst}
-use Rattle.std.specs.Prelude.{IsTrue, IfSome}
+use Rattle.std.proofs.Common.{◌≡◌, ◌⊎◌, ⊎_elim, inl, inr, ℕ, ◌<◌, ◌≤◌, List, [], ◌∷◌, Option, None, Some, Result, Ok, Err, refl, sym, ◌∙◌, subst, arith}
+use Rattle.std.specs.Prelude.{IsTrue, IfSome, IsSomeAnd}
 use Rattle.capture_read.specs.Capture.{capture_of}
 use Rattle.pk_fields.specs.Fields.{field_named}
 use Rattle.flt_parse.specs.declared.fault.FilterFault.{FilterFault}
@@ -9,12 +9,12 @@ use Rattle.flt_parse.specs.declared.fault.FilterReason.{FilterReason}
 use Rattle.flt_parse.specs.declared.fault.FilterReason.TheVariants.{BadPattern, PatternSize}
 use Rattle.flt_parse.specs.Written.{Written}
 use Rattle.flt_parse.proofs.Faults.{never_both, one_filter}
+use Rattle.flt_pattern.specs.Patterns.{IsPattern, IsNoPattern, most_nested, reading}
 use Rattle.flt_types.specs.declared.typed.Typed.{Typed}
 use Rattle.flt_types.specs.Faults.{Found, At, PatternAt, IsClear, IsFirst, IsPatternFault, faults}
 use Rattle.flt_types.specs.Typing.{HasType}
 use Rattle.flt_types.proofs.Clear.{type_clear}
 use Rattle.flt_types.specs.Texts.{IsTypedText, IsFilterFault}
-use Rattle.shark_words.specs.declared.fault.WordFault.{WordFault}
 use Rattle.shark_words.specs.declared.options.Options.{Options}
 use Rattle.shark_words.specs.Options.{options_of}
 use Rattle.shark_run.specs.declared.plan.Plan.{Plan}
@@ -24,58 +24,73 @@ use Rattle.shark_run.specs.declared.plan.PlanError.{PlanError}
 use Rattle.shark_run.specs.declared.plan.PlanError.TheVariants as errors
 use Rattle.shark_run.specs.declared.status.Status.{Status}
 use Rattle.shark_run.specs.declared.status.Status.TheVariants as status
-use Rattle.shark_run.specs.Plan.{fields_named, known, with_first, with_others, Gives, IsAnswered, IsErrorOf, IsFaultAsked, IsFilterAsked, is_of_pattern, IsPlan, IsPlanFor, IsRefusal, IsRefusalFor, IsRefusedForPattern, IsSure}
+use Rattle.shark_run.specs.Columns.{fields_named, known, with_first, with_others}
+use Rattle.shark_run.specs.Plan.{IsFaultAsked, IsFilterAsked, IsPlan, IsPlanFor, IsRefusal, IsRefusalFor}
+use Rattle.shark_run.specs.PlanErrors.{Gives, IsErrorOf}
+use Rattle.shark_run.specs.Answers.{is_of_size, IsAnswered, IsRefusedForSize, IsSure}
 use Rattle.shark_run.specs.Reading.{file_of, frames_read, limited}
 use Rattle.shark_run.specs.Statuses.{refusal_status, status_of}
 
-same_options : (words : List (List ℕ)) (one other : Options) → options_of words ≡ Ok one → options_of words ≡ Ok other → one ≡ other
+pub same_options : (words : List (List ℕ)) (one other : Options) → options_of words ≡ Ok one → options_of words ≡ Ok other → one ≡ other
 same_options words one other is also = let both : Ok one ≡ Ok other = sym is ∙ also in cc
 
--- a reason to refuse a pattern
-pattern_reason : (pattern : List ℕ) (reason : FilterReason) → IsPatternFault pattern reason → IsTrue (is_of_pattern reason)
-pattern_reason pattern BadPattern is = refl
-pattern_reason pattern PatternSize is = refl
-pattern_reason pattern reason is = absurd is
+-- what is read has P, so it isn't without a reading nor Q
+read_or_none : {A : Type 0} (P Q : A → Type 0) → ((a : A) → P a → Q a → ⊥) → (found : Option A) → IsSomeAnd found P →
+    (found ≡ None) ⊎ IfSome found Q → ⊥
+read_or_none P Q never None is none = is
+read_or_none P Q never (Some a) is none = ⊎_elim (λ bad. absurd (cc bad)) (λ other. never a is other) none
 
--- where there is no fault, patterns alone may be refused
-clear_or_pattern : (found : List Found) (at : ℕ) (reason : FilterReason) → IsClear found → IsFirst found at reason → IsTrue (is_of_pattern reason)
-clear_or_pattern [] at reason clear is = absurd is
-clear_or_pattern (At place why ∷ found) at reason clear is = absurd clear
-clear_or_pattern (PatternAt place pattern ∷ found) at reason clear is =
-    ⊎_elim (λ refused. pattern_reason pattern reason refused.1) (λ on. clear_or_pattern found at reason clear.1 on.1) is
+-- no text is a pattern and none
+pub pattern_or_none : (pattern : List ℕ) → IsPattern pattern → IsNoPattern pattern → ⊥
+pattern_or_none pattern is none = ⊎_elim (λ bad. bad is.utf8)
+    (λ unread. read_or_none (λ (re, names). re.depth ≤ most_nested) (λ (re, names). most_nested < re.depth)
+    (λ a few deep. omega (arith, few, deep)) (reading pattern) is.read unread) none
+
+-- a pattern is refused for its size alone
+pattern_reason : (pattern : List ℕ) (reason : FilterReason) → IsPattern pattern → IsPatternFault pattern reason → IsTrue (is_of_size reason)
+pattern_reason pattern BadPattern pattern_is is = absurd (pattern_or_none pattern pattern_is is)
+pattern_reason pattern PatternSize pattern_is is = refl
+pattern_reason pattern reason pattern_is is = absurd is
+
+-- where there is no fault, a pattern's size alone may be one
+clear_or_large : (found : List Found) (at : ℕ) (reason : FilterReason) → IsClear found → IsFirst found at reason → IsTrue (is_of_size reason)
+clear_or_large [] at reason clear is = absurd is
+clear_or_large (At place why ∷ found) at reason clear is = absurd clear
+clear_or_large (PatternAt place pattern ∷ found) at reason clear is =
+    ⊎_elim (λ refused. pattern_reason pattern reason clear.0 refused.1) (λ on. clear_or_large found at reason clear.1 on.1) is
 
 type_fault : (text : List ℕ) (tree other : Written) (filter : Typed) (fault : FilterFault) → tree ≡ other → HasType tree filter
-    → IsFirst (faults other) fault.at fault.reason → IsTrue (is_of_pattern fault.reason)
+    → IsFirst (faults other) fault.at fault.reason → IsTrue (is_of_size fault.reason)
 type_fault text tree other filter fault same typed is =
-    clear_or_pattern (faults other) fault.at fault.reason (subst (λ (t : Written). IsClear (faults t)) same (type_clear tree filter typed)) is
+    clear_or_large (faults other) fault.at fault.reason (subst (λ (t : Written). IsClear (faults t)) same (type_clear tree filter typed)) is
 
--- a text that is a filter has a fault of a pattern alone
+-- a text that is a filter has no fault but a pattern's size
 typed_or_fault : (text : List ℕ) (filter : Typed) (fault : FilterFault) → IsTypedText text filter → IsFilterFault text (Fault fault)
-    → IsTrue (is_of_pattern fault.reason)
+    → IsTrue (is_of_size fault.reason)
 typed_or_fault text filter fault typed is = ⊎_elim
     (λ first. absurd (never_both text typed.0 fault typed.1 first))
     (λ types. type_fault text typed.0 types.0 filter fault (one_filter text typed.0 types.0 typed.1 types.1) typed.2 types.2)
     is
 
--- the reason is one of a pattern
-abbrev IsOfPattern : Refused → Type 0
-IsOfPattern (refused.Filter fault) = IsTrue (is_of_pattern fault.reason)
-IsOfPattern reason = ⊥
+-- the reason is a pattern's size
+abbrev IsOfSize : Refused → Type 0
+IsOfSize (refused.Filter fault) = IsTrue (is_of_size fault.reason)
+IsOfSize reason = ⊥
 
-filter_or_fault : (text : Option (List ℕ)) (filter : Option Typed) (fault : FilterFault) → IsFilterAsked text filter → IsFaultAsked text fault
-    → IsTrue (is_of_pattern fault.reason)
+pub filter_or_fault : (text : Option (List ℕ)) (filter : Option Typed) (fault : FilterFault) → IsFilterAsked text filter → IsFaultAsked text fault
+    → IsTrue (is_of_size fault.reason)
 filter_or_fault (Some text) (Some filter) fault asked is = typed_or_fault text filter fault asked is
 filter_or_fault (Some text) None fault asked is = absurd asked
 filter_or_fault None filter fault asked is = absurd is
 
--- options that ask for a plan are refused for a pattern alone
-plan_or_reason : (options : Options) (plan : Plan) (reason : Refused) → IsPlanFor options plan → IsRefusalFor options reason → IsOfPattern reason
+-- options that ask for a plan are refused for a pattern's size alone
+plan_or_reason : (options : Options) (plan : Plan) (reason : Refused) → IsPlanFor options plan → IsRefusalFor options reason → IsOfSize reason
 plan_or_reason options plan (refused.Words fault) asked is = absurd is
 plan_or_reason options plan (refused.Filter fault) asked is = filter_or_fault options.filter plan.filter fault asked.filter is
 plan_or_reason options plan (refused.Field name) asked is =
     let bad : Ok plan.fields ≡ Err (refused.Field name) = sym asked.fields ∙ is.1 in absurd (cc bad)
 
-pub plan_or_refusal : (words : List (List ℕ)) (plan : Plan) (reason : Refused) → IsPlan words plan → IsRefusal words reason → IsOfPattern reason
+pub plan_or_refusal : (words : List (List ℕ)) (plan : Plan) (reason : Refused) → IsPlan words plan → IsRefusal words reason → IsOfSize reason
 unfolding IsPlan IsRefusal
 plan_or_refusal words plan (refused.Words fault) asked is =
     let bad : Ok asked.0 ≡ Err fault = sym asked.1 ∙ is in absurd (cc bad)
@@ -84,9 +99,9 @@ plan_or_refusal words plan (refused.Filter fault) asked is =
 plan_or_refusal words plan (refused.Field name) asked is =
     plan_or_reason is.0 plan (refused.Field name) (subst (λ (o : Options). IsPlanFor o plan) (same_options words asked.0 is.0 asked.1 is.1) asked.2) is.2
 
--- words that ask for a plan, refused: for a pattern
+-- words that ask for a plan, refused: for a pattern's size
 pub refused_with_plan : (words : List (List ℕ)) (plan : Plan) (reason : Refused) (answer : Status) → IsPlan words plan → IsRefusal words reason
-    → answer ≡ refusal_status reason → IsRefusedForPattern words answer
+    → answer ≡ refusal_status reason → IsRefusedForSize words answer
 refused_with_plan words plan (refused.Words fault) answer asked is same = absurd (plan_or_refusal words plan (refused.Words fault) asked is)
 refused_with_plan words plan (refused.Filter fault) answer asked is same =
     (same, (fault, is, plan_or_refusal words plan (refused.Filter fault) asked is))
@@ -99,7 +114,7 @@ same_reading words one other is also =
     let asked : IsPlanFor also.0 one = subst (λ (o : Options). IsPlanFor o one) (same_options words is.0 also.0 is.1 also.1) is.2 in
     (asked.name ∙ sym also.2.name, asked.most ∙ sym also.2.most)
 
--- a reason that isn't one of a pattern, beside another
+-- a reason that isn't a pattern's size, beside another
 same_fault_status : (words : List (List ℕ)) (wanted found : Refused) (options : Options) → IsSure wanted → IsRefusalFor options wanted → IsRefusalFor options found
     → IsRefusal words found → (answer : Status) → answer ≡ refusal_status found → IsAnswered words (refusal_status wanted) answer
 same_fault_status words (refused.Words fault) found options sure is also found_is answer same = absurd is
@@ -199,7 +214,7 @@ refused_answer : (words : List (List ℕ)) (plan : Plan) (reason : Refused) (wan
 refused_answer words plan reason wanted answer asked is ended =
     ⊎_elim (λ same. inr (inr (refused_with_plan words plan reason answer asked is same))) (λ none. inr (inl none)) ended
 
--- the same where the words were refused: for a pattern
+-- the same where the words were refused: for a pattern's size
 pub complete_refused : (words : List (List ℕ)) (plan : Plan) (reason : Refused) (files : List ℕ → Option (List ℕ)) (answer : Status) (A B C : Type 0) →
     IsPlan words plan → IsRefusal words reason → (answer ≡ refusal_status reason) ⊎ (answer ≡ status.NoMemory) →
     IfSome (file_of plan files) (λ file. A → B → C → IsAnswered words (status_of (frames_read plan file).ending) answer)

@@ -66,18 +66,25 @@ refusal_text (refused.Filter fault) =
     codes "shark: filter byte " ++ (decimal fault.at ++ (codes ": " ++ (filter_reason_text fault.reason ++ codes "\n")))
 refusal_text (refused.Field name) = codes "shark: field " ++ (escaped name ++ codes ": unknown\n")
 
+-- what is told of a read that failed, and of a file that is larger than is read
+abbrev pub read_fault_text : List ℕ
+read_fault_text = codes "shark: read fault\n"
+
+abbrev pub too_large_text : List ℕ
+too_large_text = codes "shark: capture too large\n"
+
 -- what is told of a file's end
 unfoldable pub ending_text : Ending → List ℕ
 ending_text ending.Whole = []
 ending_text (ending.Damaged damage) =
     codes "shark: damaged at byte " ++ (decimal damage.at ++ (codes ": " ++ (reason_text damage.reason ++ codes "\n")))
-ending_text ending.TooLarge = codes "shark: capture too large\n"
+ending_text ending.TooLarge = too_large_text
 
 -- what is told of carrying out a plan
 unfoldable pub outcome_text : Plan → Outcome → List ℕ
 outcome_text plan (outcome.Ended ending) = ending_text ending
 outcome_text plan outcome.CannotOpen = codes "shark: cannot open " ++ (escaped (name_of plan) ++ codes "\n")
-outcome_text plan outcome.ReadFault = codes "shark: read fault\n"
+outcome_text plan outcome.ReadFault = read_fault_text
 outcome_text plan outcome.WriteFault = []
 outcome_text plan outcome.NoMemory = []
 
@@ -105,9 +112,9 @@ IsFaultText IsAsked IsReason files status.BadWords text = IsRefusalText IsReason
 IsFaultText IsAsked IsReason files status.BadFilter text = IsRefusalText IsReason status.BadFilter text
 IsFaultText IsAsked IsReason files status.BadField text = IsRefusalText IsReason status.BadField text
 IsFaultText IsAsked IsReason files status.CannotOpen text = (plan : Plan) × IsAsked plan × (text ≡ outcome_text plan outcome.CannotOpen)
-IsFaultText IsAsked IsReason files status.ReadFault text = text ≡ codes "shark: read fault\n"
+IsFaultText IsAsked IsReason files status.ReadFault text = text ≡ read_fault_text
 IsFaultText IsAsked IsReason files status.Damaged text = (plan : Plan) × IsAsked plan × EndsSo plan files status.Damaged text
-IsFaultText IsAsked IsReason files status.TooLarge text = text ≡ codes "shark: capture too large\n"
+IsFaultText IsAsked IsReason files status.TooLarge text = text ≡ too_large_text
 IsFaultText IsAsked IsReason files status.Done text = text ≡ []
 IsFaultText IsAsked IsReason files status.WriteFault text = text ≡ []
 IsFaultText IsAsked IsReason files status.NoMemory text = text ≡ []

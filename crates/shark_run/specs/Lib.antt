@@ -1,9 +1,15 @@
+pub mod Answers
 pub mod Causes
+pub mod Columns
+pub mod FaultLines
 pub mod FaultTexts
+pub mod Laws
 pub mod Lines
 pub mod Outcomes
 pub mod Plan
+pub mod PlanErrors
 pub mod Reading
 pub mod Statuses
 pub mod Takeable
+pub mod Taken
 pub mod Wrote

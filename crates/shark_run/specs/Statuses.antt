@@ -58,6 +58,19 @@ IsRefusing TooLarge = ⊥
 IsRefusing WriteFault = ⊥
 IsRefusing NoMemory = ⊥
 
+-- the status of a run that nothing outside failed
+abbrev pub IsNoFault : Status → Type 0
+IsNoFault CannotOpen = ⊥
+IsNoFault ReadFault = ⊥
+IsNoFault WriteFault = ⊥
+IsNoFault Done = Unit {0}
+IsNoFault BadWords = Unit {0}
+IsNoFault BadFilter = Unit {0}
+IsNoFault BadField = Unit {0}
+IsNoFault Damaged = Unit {0}
+IsNoFault TooLarge = Unit {0}
+IsNoFault NoMemory = Unit {0}
+
 -- P, where the file was read and the output written to its end
 abbrev pub WhenEnded : Status → Type 0 → Type 0
 WhenEnded Done P = P

@@ -2,7 +2,11 @@
 ghost use Rattle.std.specs.Prelude.{◌≡◌, ◌++◌, IfOk, OnOk, string_bytes};
 ghost use Rattle.std.specs.Io.KnownBytes.{Appends};
 ghost use Rattle.pk_outside.specs.Outside.{Rose, AppendsPart};
-ghost use Rattle.shark_run.specs.FaultTexts.{reason_text as text_of_reason, word_reason_text as text_of_word_reason, filter_reason_text as text_of_filter_reason, ending_text as text_of_ending, outcome_text as text_of_outcome, refusal_text as text_of_refusal};
+ghost use Rattle.shark_run.specs.FaultLines.{line_bytes};
+ghost use Rattle.shark_run.specs.FaultTexts.{reason_text as text_of_reason, word_reason_text as text_of_word_reason};
+ghost use Rattle.shark_run.specs.FaultTexts.{filter_reason_text as text_of_filter_reason};
+ghost use Rattle.shark_run.specs.FaultTexts.{ending_text as text_of_ending, outcome_text as text_of_outcome};
+ghost use Rattle.shark_run.specs.FaultTexts.{refusal_text as text_of_refusal};
 
 use crate::outcome::Outcome;
 use crate::plan::{Plan, Refused};
@@ -14,10 +18,29 @@ use pk_text::escape_text;
 use shark_words::WordReason;
 use std::alloc::Global;
 
+/// What is told: a fixed text, which takes no memory, or one that names what is at fault.
+#[derive(Drop)]
+pub(crate) enum FaultLine {
+    Fixed(&'static str),
+    Made(String),
+}
+
+impl FaultLine {
+    pub(crate) fn bytes(&self) -> &[u8]
+        ensures { result.now ≡ line_bytes self.now }
+    {
+        match self {
+            FaultLine::Fixed(text) => text.as_bytes(),
+            FaultLine::Made(text) => text.as_bytes(),
+        }
+    }
+}
+
 /// Writes a text, as far as the sink takes it.
 pub(crate) fn tell<E: Sink>(err: &mut E, text: &[u8])
     ensures part { AppendsPart (E.written err.old) (E.written err.new) text.now }
-    ensures whole { ¬ Rose (E.faults err.old) (E.faults err.new) → ¬ Rose (E.starved err.old) (E.starved err.new)
+    ensures whole { ¬ Rose (E.faults err.old) (E.faults err.new)
+        → ¬ Rose (E.starved err.old) (E.starved err.new)
         → Appends (E.written err.old) (E.written err.new) text.now }
 {
     let _ = write_whole(err, text);
@@ -73,33 +96,39 @@ fn filter_reason_text(reason: FilterReason) -> &'static str
 }
 
 #[tactic(auto, unfolding(crate::specs::FaultTexts::ending_text))]
-fn ending_text(alloc: Global, ending: Ending) -> Result<String, NoMemory>
-    ensures { IfOk result (λ text. string_bytes text ≡ text_of_ending ending) }
+fn ending_text(alloc: Global, ending: Ending) -> Result<FaultLine, NoMemory>
+    ensures { IfOk result (λ line. line_bytes line ≡ text_of_ending ending) }
 {
     match ending {
-        Ending::Whole => Ok(String::new(alloc)),
+        Ending::Whole => Ok(FaultLine::Fixed("")),
         Ending::Damaged(damage) => {
             let at = damage.at;
             let reason = reason_text(damage.reason);
-            Ok(format!(in alloc; "shark: damaged at byte {at}: {reason}\n")?)
+            let text = format!(in alloc; "shark: damaged at byte {at}: {reason}\n")?;
+            Ok(FaultLine::Made(text))
         }
-        Ending::TooLarge => Ok(String::from_str(alloc, "shark: capture too large\n")?),
+        Ending::TooLarge => Ok(FaultLine::Fixed("shark: capture too large\n")),
     }
 }
 
 /// What is told of carrying out a plan.
 #[tactic(auto, unfolding(crate::specs::FaultTexts::outcome_text))]
-pub(crate) fn outcome_text(alloc: Global, plan: &Plan, outcome: Outcome) -> Result<String, NoMemory>
-    ensures { IfOk result (λ text. string_bytes text ≡ text_of_outcome plan.now outcome) }
+pub(crate) fn outcome_text(
+    alloc: Global,
+    plan: &Plan,
+    outcome: Outcome,
+) -> Result<FaultLine, NoMemory>
+    ensures { IfOk result (λ line. line_bytes line ≡ text_of_outcome plan.now outcome) }
 {
     match outcome {
         Outcome::Ended(ending) => ending_text(alloc, ending),
         Outcome::CannotOpen => {
             let name = escape_text(alloc, plan.name.as_str().as_bytes())?;
-            Ok(format!(in alloc; "shark: cannot open {name}\n")?)
+            let text = format!(in alloc; "shark: cannot open {name}\n")?;
+            Ok(FaultLine::Made(text))
         }
-        Outcome::ReadFault => Ok(String::from_str(alloc, "shark: read fault\n")?),
-        Outcome::WriteFault | Outcome::NoMemory => Ok(String::new(alloc)),
+        Outcome::ReadFault => Ok(FaultLine::Fixed("shark: read fault\n")),
+        Outcome::WriteFault | Outcome::NoMemory => Ok(FaultLine::Fixed("")),
     }
 }
 

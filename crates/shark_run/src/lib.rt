@@ -4,6 +4,7 @@
 
 mod fault_text;
 mod file;
+mod laws;
 mod lines;
 mod outcome;
 mod output;
@@ -14,6 +15,7 @@ mod text;
 mod top;
 mod words;
 
+pub use laws::{plans_are_alike, plans_are_not_refused, reasons_are_unique};
 pub use plan::{FieldList, Plan, Refused};
 pub use status::Status;
 pub use text::Text;

@@ -11,7 +11,7 @@ use crate::lines::satisfies;
 use crate::plan::Plan;
 use crate::read_frames::ReadFrames;
 use capture_read::{Ending, NextFrame};
-use dissect::{DecodeAs, Dissector, PortRules};
+use dissect::{DecodeAs, Dissector, PortRules, TakeFault};
 use out_lines::{Style, field_line};
 use pk_base::NoMemory;
 use pk_outside::{Sink, SinkFault, write_whole};
@@ -46,7 +46,8 @@ fn write_tree<O: Sink>(
     tree: &Tree,
     out: &mut O,
 ) -> Result<(), SinkFault>
-    ensures whole { OnOk result (Appends (O.written out.old) (O.written out.new) (shown plan.now tree.now)) }
+    ensures whole { OnOk result
+        (Appends (O.written out.old) (O.written out.new) (shown plan.now tree.now)) }
     ensures part { AppendsPart (O.written out.old) (O.written out.new) (shown plan.now tree.now) }
     ensures fault { IsErrOf result SinkFault.Failed → Rose (O.faults out.old) (O.faults out.new) }
     ensures faults_stay { O.faults out.old ≤ O.faults out.new }
@@ -67,8 +68,10 @@ fn write_frames<O: Sink>(
 ) -> Result<Ending, SinkFault>
     requires takeable { AreTakeable 0 0 frames.old.frames }
     ensures ending { IfOk result (λ ending. ending ≡ frames.old.ending) }
-    ensures whole { OnOk result (Appends (O.written out.old) (O.written out.new) (frame_lines plan.now (trees_after [] frames.old.frames))) }
-    ensures part { AppendsPart (O.written out.old) (O.written out.new) (frame_lines plan.now (trees_after [] frames.old.frames)) }
+    ensures whole { OnOk result (Appends (O.written out.old) (O.written out.new)
+        (frame_lines plan.now (trees_after [] frames.old.frames))) }
+    ensures part { AppendsPart (O.written out.old) (O.written out.new)
+        (frame_lines plan.now (trees_after [] frames.old.frames)) }
     ensures fault { IsErrOf result SinkFault.Failed → Rose (O.faults out.old) (O.faults out.new) }
     ensures faults_stay { O.faults out.old ≤ O.faults out.new }
 {
@@ -81,7 +84,8 @@ fn write_frames<O: Sink>(
         };
         let tree = match dissector.take(&frame) {
             Ok(tree) => tree,
-            Err(_) => return Err(SinkFault::NoMemory),
+            // The first error ends the loop, so that this one is never `Spent`.
+            Err(TakeFault::NoMemory | TakeFault::Spent) => return Err(SinkFault::NoMemory),
         };
         match write_tree(alloc, plan, &tree, out) {
             Ok(()) => {}

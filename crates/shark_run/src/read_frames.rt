@@ -34,7 +34,8 @@ impl ReadFrames {
     /// The next frame, or how the reading ends. What follows the last frame that is asked for isn't looked at.
     #[tactic(auto, using(crate::proofs::FrontLemmas::limited_frame))]
     pub(crate) fn next_frame(&mut self) -> Result<NextFrame, NoMemory>
-        ensures { MatchResult result (λ next. Gives next self.old self.new) (λ _. self.new ≡ self.old) }
+        ensures { MatchResult result (λ next. Gives next self.old self.new)
+            (λ _. self.new ≡ self.old) }
     {
         if self.most == Some(0) {
             return Ok(NextFrame::End(Ending::Whole));

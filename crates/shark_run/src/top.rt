@@ -4,9 +4,12 @@ ghost use Rattle.pk_outside.specs.Outside.{Rose};
 ghost use Rattle.shark_words.specs.Words.{texts};
 ghost use Rattle.shark_run.specs.declared.plan.Plan.{Plan};
 ghost use Rattle.shark_run.specs.declared.plan.Refused.{Refused};
-ghost use Rattle.shark_run.specs.Plan.{IsPlan, IsRefusal, IsSure, IsAnswered};
+ghost use Rattle.shark_run.specs.Plan.{IsPlan, IsRefusal};
+ghost use Rattle.shark_run.specs.Answers.{IsSure, IsAnswered};
 ghost use Rattle.shark_run.specs.Reading.{name_of, file_of, frames_read};
-ghost use Rattle.shark_run.specs.Statuses.{status_of, refusal_status, IsNoRefusal, IsRefusing, WhenEnded};
+ghost use Rattle.shark_run.specs.Taken.{Took};
+ghost use Rattle.shark_run.specs.Statuses.{status_of, refusal_status};
+ghost use Rattle.shark_run.specs.Statuses.{IsNoRefusal, IsRefusing, WhenEnded};
 ghost use Rattle.shark_run.specs.FaultTexts.{IsNone, IsSame, Told, ToldWhole};
 ghost use Rattle.shark_run.specs.Outcomes.{IfEnded};
 ghost use Rattle.shark_run.specs.Causes.{IsUnopened, IsUnread};
@@ -30,18 +33,21 @@ fn carry_out<C: Capture, O: Sink>(
     capture: &mut C,
     out: &mut O,
 ) -> Outcome
-    ensures ended { IfEnded result (λ ending. IfSome (file_of plan.now (C.file capture.old)) (λ file.
+    ensures ended { IfEnded result (λ ending.
+        IfSome (file_of plan.now (C.file capture.old)) (λ file.
         WroteAll plan.now (frames_read plan.now file) (O.written out.old) (O.written out.new)
         × (ending ≡ (frames_read plan.now file).ending))) }
     ensures part { IfSome (file_of plan.now (C.file capture.old)) (λ file.
         WrotePart plan.now (frames_read plan.now file) (O.written out.old) (O.written out.new)) }
     ensures unopened { result ≡ Outcome.CannotOpen
-        → IsUnopened (C.missed capture.old) (C.missed capture.new) (C.begun capture.old) (C.begun capture.new)
-        (C.asked capture.new) (name_of plan.now) × (out.new ≡ out.old) }
+        → IsUnopened (C.missed capture.old) (C.missed capture.new)
+        (C.begun capture.old) (C.begun capture.new) (C.asked capture.new) (name_of plan.now) × (out.new ≡ out.old) }
     ensures unread { result ≡ Outcome.ReadFault
-        → IsUnread (C.faults capture.old) (C.faults capture.new) (C.begun capture.old) (C.begun capture.new)
-        (C.missed capture.old) (C.missed capture.new) (C.asked capture.new) (name_of plan.now) }
+        → IsUnread (C.faults capture.old) (C.faults capture.new)
+        (C.begun capture.old) (C.begun capture.new) (C.missed capture.old) (C.missed capture.new) (C.asked capture.new) (name_of plan.now) }
     ensures write_fault { result ≡ Outcome.WriteFault → Rose (O.faults out.old) (O.faults out.new) }
+    ensures taken { Took (file_of plan.now (C.file capture.old))
+        (C.begun capture.old) (C.begun capture.new) (C.left capture.old) (C.left capture.new) }
 {
     let frames = match open_frames(alloc, plan, capture) {
         Ok(frames) => frames,
@@ -75,28 +81,36 @@ pub fn run_plan<C: Capture, O: Sink, E: Sink>(
 
     // The causes of the other answers.
     ensures unopened { result ≡ Status.CannotOpen
-        → IsUnopened (C.missed capture.old) (C.missed capture.new) (C.begun capture.old) (C.begun capture.new)
-        (C.asked capture.new) (name_of plan.now) × (out.new ≡ out.old) }
+        → IsUnopened (C.missed capture.old) (C.missed capture.new)
+        (C.begun capture.old) (C.begun capture.new) (C.asked capture.new) (name_of plan.now) × (out.new ≡ out.old) }
     ensures unread { result ≡ Status.ReadFault
-        → IsUnread (C.faults capture.old) (C.faults capture.new) (C.begun capture.old) (C.begun capture.new)
-        (C.missed capture.old) (C.missed capture.new) (C.asked capture.new) (name_of plan.now) }
+        → IsUnread (C.faults capture.old) (C.faults capture.new)
+        (C.begun capture.old) (C.begun capture.new) (C.missed capture.old) (C.missed capture.new) (C.asked capture.new) (name_of plan.now) }
     ensures write_fault { result ≡ Status.WriteFault → Rose (O.faults out.old) (O.faults out.new) }
+
+    // Nothing is read behind the first byte that is too many.
+    ensures taken { Took (file_of plan.now (C.file capture.old))
+        (C.begun capture.old) (C.begun capture.new) (C.left capture.old) (C.left capture.new) }
 
     // Where no fault rose, the run comes to an end or finds no memory.
     ensures complete { IfSome (file_of plan.now (C.file capture.old)) (λ file.
-        ¬ Rose (C.missed capture.old) (C.missed capture.new) → ¬ Rose (C.faults capture.old) (C.faults capture.new)
+        ¬ Rose (C.missed capture.old) (C.missed capture.new)
+        → ¬ Rose (C.faults capture.old) (C.faults capture.new)
         → ¬ Rose (O.faults out.old) (O.faults out.new)
         → (result ≡ status_of (frames_read plan.now file).ending) ⊎ (result ≡ Status.NoMemory)) }
 
     // What standard error is told, whatever becomes of it.
-    ensures told { Told (IsSame plan.now) IsNone (C.file capture.old) result (E.written err.old) (E.written err.new) }
-    ensures told_whole { ¬ Rose (E.faults err.old) (E.faults err.new) → ¬ Rose (E.starved err.old) (E.starved err.new)
-        → ToldWhole (IsSame plan.now) IsNone (C.file capture.old) result (E.written err.old) (E.written err.new) }
+    ensures told { Told (IsSame plan.now) IsNone (C.file capture.old) result
+        (E.written err.old) (E.written err.new) }
+    ensures told_whole { ¬ Rose (E.faults err.old) (E.faults err.new)
+        → ¬ Rose (E.starved err.old) (E.starved err.new)
+        → ToldWhole (IsSame plan.now) IsNone (C.file capture.old) result
+        (E.written err.old) (E.written err.new) }
 {
     let outcome = carry_out(alloc, plan, capture, out);
     match outcome_text(alloc, plan, outcome) {
-        Ok(text) => {
-            tell(err, text.as_bytes());
+        Ok(line) => {
+            tell(err, line.bytes());
             outcome.status()
         }
         Err(NoMemory) => Status::NoMemory,
@@ -106,9 +120,12 @@ pub fn run_plan<C: Capture, O: Sink, E: Sink>(
 // Tells of a refusal.
 fn refuse<E: Sink>(alloc: Global, refused: &Refused, err: &mut E) -> Status
     ensures status { (result ≡ refusal_status refused.now) ⊎ (result ≡ Status.NoMemory) }
-    ensures told { (files : List ℕ → Option (List ℕ)) → Told IsNone (IsSame refused.now) files result (E.written err.old) (E.written err.new) }
-    ensures told_whole { (files : List ℕ → Option (List ℕ)) → ¬ Rose (E.faults err.old) (E.faults err.new)
-        → ¬ Rose (E.starved err.old) (E.starved err.new) → ToldWhole IsNone (IsSame refused.now) files result (E.written err.old) (E.written err.new) }
+    ensures told { (files : List ℕ → Option (List ℕ)) → Told IsNone (IsSame refused.now) files result
+        (E.written err.old) (E.written err.new) }
+    ensures told_whole { (files : List ℕ → Option (List ℕ))
+        → ¬ Rose (E.faults err.old) (E.faults err.new)
+        → ¬ Rose (E.starved err.old) (E.starved err.new)
+        → ToldWhole IsNone (IsSame refused.now) files result (E.written err.old) (E.written err.new) }
 {
     match refusal_text(alloc, refused) {
         Ok(text) => {
@@ -121,8 +138,8 @@ fn refuse<E: Sink>(alloc: Global, refused: &Refused, err: &mut E) -> Status
 
 /// Reads the words of a command line and does what they ask for, or refuses them.
 ///
-/// `out` gets the lines of the frames that the filter lets through, in the order of the file; the status says how the
-/// run ended. Where the words are refused nothing is read and nothing is written.
+/// `out` gets the lines of the frames that the filter lets through, in the order of the file; the status
+/// says how the run ended. Where the words are refused nothing is read and nothing is written.
 pub fn run<C: Capture, O: Sink, E: Sink>(
     alloc: Global,
     words: &[String],
@@ -131,39 +148,55 @@ pub fn run<C: Capture, O: Sink, E: Sink>(
     err: &mut E,
 ) -> Status
     // The words are refused for a reason that they give, and then nothing is touched.
-    ensures refusing { IsRefusing result → (reason : Refused) × IsRefusal (texts words.now) reason × (result ≡ refusal_status reason) }
+    ensures refusing { IsRefusing result → (reason : Refused) × IsRefusal (texts words.now) reason
+        × (result ≡ refusal_status reason) }
     ensures untouched { IsRefusing result → (capture.new ≡ capture.old) × (out.new ≡ out.old) }
 
-    // Words with a reason are refused, where it isn't one of a pattern, or find no memory.
+    // Words with a reason that isn't the size of a pattern are refused, or find no memory; nothing is touched.
     ensures refused { (reason : Refused) → IsRefusal (texts words.now) reason → IsSure reason
         → IsAnswered (texts words.now) (refusal_status reason) result }
+    ensures refused_untouched { (reason : Refused) → IsRefusal (texts words.now) reason
+        → IsSure reason → (capture.new ≡ capture.old) × (out.new ≡ out.old) }
 
     // The whole output, where the run came to an end, and never anything but a front of it.
-    ensures ended { WhenEnded result ((plan : Plan) × IsPlan (texts words.now) plan × IfSome (file_of plan (C.file capture.old)) (λ file.
+    ensures ended { WhenEnded result ((plan : Plan) × IsPlan (texts words.now) plan
+        × IfSome (file_of plan (C.file capture.old)) (λ file.
         WroteAll plan (frames_read plan file) (O.written out.old) (O.written out.new)
         × (result ≡ status_of (frames_read plan file).ending))) }
-    ensures part { (out.new ≡ out.old) ⊎ ((plan : Plan) × IsPlan (texts words.now) plan × IfSome (file_of plan (C.file capture.old)) (λ file.
+    ensures part { (out.new ≡ out.old) ⊎ ((plan : Plan) × IsPlan (texts words.now) plan
+        × IfSome (file_of plan (C.file capture.old)) (λ file.
         WrotePart plan (frames_read plan file) (O.written out.old) (O.written out.new))) }
 
     // The causes of the other answers.
     ensures unopened { result ≡ Status.CannotOpen → (plan : Plan) × IsPlan (texts words.now) plan
-        × IsUnopened (C.missed capture.old) (C.missed capture.new) (C.begun capture.old) (C.begun capture.new)
-        (C.asked capture.new) (name_of plan) × (out.new ≡ out.old) }
+        × IsUnopened (C.missed capture.old) (C.missed capture.new)
+        (C.begun capture.old) (C.begun capture.new) (C.asked capture.new) (name_of plan) × (out.new ≡ out.old) }
     ensures unread { result ≡ Status.ReadFault → (plan : Plan) × IsPlan (texts words.now) plan
-        × IsUnread (C.faults capture.old) (C.faults capture.new) (C.begun capture.old) (C.begun capture.new)
-        (C.missed capture.old) (C.missed capture.new) (C.asked capture.new) (name_of plan) }
-    ensures write_fault { result ≡ Status.WriteFault → Rose (O.faults out.old) (O.faults out.new) }
+        × IsUnread (C.faults capture.old) (C.faults capture.new)
+        (C.begun capture.old) (C.begun capture.new) (C.missed capture.old) (C.missed capture.new) (C.asked capture.new) (name_of plan) }
+    ensures write_fault { result ≡ Status.WriteFault → (plan : Plan) × IsPlan (texts words.now) plan
+        × Rose (O.faults out.old) (O.faults out.new) }
+
+    // Nothing is read behind the first byte that is too many.
+    ensures taken { (capture.new ≡ capture.old) ⊎ ((plan : Plan) × IsPlan (texts words.now) plan
+        × Took (file_of plan (C.file capture.old)) (C.begun capture.old) (C.begun capture.new)
+        (C.left capture.old) (C.left capture.new)) }
 
     // Where no fault rose, the run of words that ask for a plan comes to an end or finds no memory.
-    ensures complete { (plan : Plan) → IsPlan (texts words.now) plan → IfSome (file_of plan (C.file capture.old)) (λ file.
-        ¬ Rose (C.missed capture.old) (C.missed capture.new) → ¬ Rose (C.faults capture.old) (C.faults capture.new)
+    ensures complete { (plan : Plan) → IsPlan (texts words.now) plan
+        → IfSome (file_of plan (C.file capture.old)) (λ file.
+        ¬ Rose (C.missed capture.old) (C.missed capture.new)
+        → ¬ Rose (C.faults capture.old) (C.faults capture.new)
         → ¬ Rose (O.faults out.old) (O.faults out.new)
         → IsAnswered (texts words.now) (status_of (frames_read plan file).ending) result) }
 
     // What standard error is told, whatever becomes of it.
-    ensures told { Told (IsPlan (texts words.now)) (IsRefusal (texts words.now)) (C.file capture.old) result (E.written err.old) (E.written err.new) }
-    ensures told_whole { ¬ Rose (E.faults err.old) (E.faults err.new) → ¬ Rose (E.starved err.old) (E.starved err.new)
-        → ToldWhole (IsPlan (texts words.now)) (IsRefusal (texts words.now)) (C.file capture.old) result (E.written err.old) (E.written err.new) }
+    ensures told { Told (IsPlan (texts words.now)) (IsRefusal (texts words.now)) (C.file capture.old) result
+        (E.written err.old) (E.written err.new) }
+    ensures told_whole { ¬ Rose (E.faults err.old) (E.faults err.new)
+        → ¬ Rose (E.starved err.old) (E.starved err.new)
+        → ToldWhole (IsPlan (texts words.now)) (IsRefusal (texts words.now)) (C.file capture.old) result
+        (E.written err.old) (E.written err.new) }
 {
     match read_plan(alloc, words) {
         Ok(plan) => run_plan(alloc, &plan, capture, out, err),

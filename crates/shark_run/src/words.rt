@@ -1,9 +1,11 @@
 // The plan that words ask for.
 ghost use Rattle.std.specs.Prelude.{◌≡◌, ◌++◌, IfOk, IfErr, IfSome, All};
 ghost use Rattle.std.specs.Str.{IsUtf8};
-ghost use Rattle.shark_words.specs.Utf8.{AreUtf8};
+ghost use Rattle.shark_words.specs.Utf8.{AreUtf8, name_in as name_of_source};
 ghost use Rattle.shark_words.specs.Words.{texts};
-ghost use Rattle.shark_run.specs.Plan.{field_or_refusal, fields_named, name_in as name_of_source, Gives, IsErrorOf, IsFilterAsked, IsFilterError, IsPlan, IsPlanFor, IsRefusal, IsRefusalFor};
+ghost use Rattle.shark_run.specs.Columns.{field_or_refusal, fields_named};
+ghost use Rattle.shark_run.specs.Plan.{IsFilterAsked, IsPlan, IsPlanFor, IsRefusal, IsRefusalFor};
+ghost use Rattle.shark_run.specs.PlanErrors.{Gives, IsErrorOf, IsFilterError};
 
 use crate::plan::{FieldList, Plan, PlanError, Refused};
 use crate::text::Text;

@@ -11,6 +11,9 @@ use Rattle.shark_run.proofs.top.run.Goals as goal
 pub returns-in-Ok-clause-refused : goal.returns-in-Ok-clause-refused
 returns-in-Ok-clause-refused g c = λ reason is sure. absurd (refused_not_planned _ _ reason c.in-Ok.ensures.ok is sure)
 
+pub returns-in-Ok-clause-refused_untouched : goal.returns-in-Ok-clause-refused_untouched
+returns-in-Ok-clause-refused_untouched g c = λ reason is sure. absurd (refused_not_planned _ _ reason c.in-Ok.ensures.ok is sure)
+
 pub returns-in-Ok-clause-told : goal.returns-in-Ok-clause-told
 returns-in-Ok-clause-told g c = told_more (IsSame c.in-Ok.plan) (IsPlan (texts c.args.words.now)) IsNone (IsRefusal (texts c.args.words.now)) _ _ _ _
     (λ plan same. subst (λ (p : Plan). IsPlan (texts c.args.words.now) p) (sym same) c.in-Ok.ensures.ok) (λ reason none. absurd none) c.run_plan.ensures.told

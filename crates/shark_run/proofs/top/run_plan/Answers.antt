@@ -3,10 +3,10 @@ use Rattle.shark_run.proofs.ToldLemmas.{told, told_whole, told_nothing, whole_no
 use Rattle.shark_run.proofs.top.run_plan.Goals as goal
 
 pub returns-in-Ok-clause-told : goal.returns-in-Ok-clause-told
-returns-in-Ok-clause-told g c = told _ _ _ _ _ _ _ (outcome_told _ _ _ _ _ _ c.status.ensures (c.as_bytes.ensures.value ∙ c.in-Ok.ensures) c.carry_out-outcome.ensures.ended) c.tell.ensures.part
+returns-in-Ok-clause-told g c = told _ _ _ _ _ _ _ (outcome_told _ _ _ _ _ _ c.status.ensures (c.bytes.ensures ∙ c.in-Ok.ensures) c.carry_out-outcome.ensures.ended) c.tell.ensures.part
 
 pub returns-in-Ok-clause-told_whole : goal.returns-in-Ok-clause-told_whole
-returns-in-Ok-clause-told_whole g c = λ calm fed. told_whole _ _ _ _ _ _ _ (outcome_told _ _ _ _ _ _ c.status.ensures (c.as_bytes.ensures.value ∙ c.in-Ok.ensures) c.carry_out-outcome.ensures.ended) (c.tell.ensures.whole calm fed)
+returns-in-Ok-clause-told_whole g c = λ calm fed. told_whole _ _ _ _ _ _ _ (outcome_told _ _ _ _ _ _ c.status.ensures (c.bytes.ensures ∙ c.in-Ok.ensures) c.carry_out-outcome.ensures.ended) (c.tell.ensures.whole calm fed)
 
 pub returns-in-Err-clause-told : goal.returns-in-Err-clause-told
 returns-in-Err-clause-told g c = told_nothing _ _ _ _

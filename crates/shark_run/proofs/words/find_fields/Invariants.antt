@@ -1,5 +1,5 @@
 use Rattle.std.proofs.Common.{◌≡◌, drop}
-use Rattle.shark_run.specs.Plan.{fields_named}
+use Rattle.shark_run.specs.Columns.{fields_named}
 use Rattle.shark_run.proofs.WordLemmas.{with_front}
 use Rattle.shark_run.proofs.words.find_fields.Given as goal
 

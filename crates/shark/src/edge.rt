@@ -1,0 +1,32 @@
+// What the program answers by itself, before its run.
+use crate::help::write_help;
+use pk_outside::{Sink, SinkFault, write_whole};
+use shark_run::Status;
+use std::io::ErrorKind;
+
+const VERSION: &str = "shark 0.2.0\n";
+
+const NOT_UTF8: &str = "shark: words are not UTF-8\n";
+
+/// Answers `--help` and `--version`, where one of them is the only word.
+pub(crate) fn answer<O: Sink>(words: &[String], out: &mut O) -> Option<Status> {
+    let written = match words {
+        [word] if word.as_str() == "--help" => write_help(out),
+        [word] if word.as_str() == "--version" => write_whole(out, VERSION.as_bytes()),
+        _ => return None,
+    };
+    Some(match written {
+        Ok(()) => Status::Done,
+        Err(SinkFault::Failed) => Status::WriteFault,
+        Err(SinkFault::NoMemory) => Status::NoMemory,
+    })
+}
+
+/// The status where the system gives no words, which is told unless memory is wanting.
+pub(crate) fn without_words<E: Sink>(kind: ErrorKind, err: &mut E) -> Status {
+    if kind == ErrorKind::OutOfMemory {
+        return Status::NoMemory;
+    }
+    let _ = write_whole(err, NOT_UTF8.as_bytes());
+    Status::BadWords
+}

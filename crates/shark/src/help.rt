@@ -1,0 +1,42 @@
+// The text of `--help`.
+use pk_outside::{Sink, SinkFault, write_whole};
+
+/// The options, a line each: behind the dash stands the letter.
+pub(crate) static OPTIONS: [&str; 5] = [
+    "-r FILE      the capture file, pcap or pcapng",
+    "-Y FILTER    show only the frames that satisfy this filter; without it all are shown",
+    "-c N         read at most N frames, 1 to 4294967295",
+    "-T fields    the kind of line: the values of fields, a tab between two columns",
+    "-e FIELD     a column, again and again: any field or protocol",
+];
+
+const HEAD: &str = "\
+shark reads a capture file and prints a line for each frame that satisfies a display filter.
+
+Usage: shark -r FILE [-Y FILTER] [-c N] -T fields -e FIELD [-e FIELD]...
+
+";
+
+const TAIL: &str = "
+  --help       this text, where it is the only word
+  --version    the version, where it is the only word
+
+A filter is one of Wireshark's display filters: fields and protocols compared with values or each other (==, !=, ===, !==,
+<, <=, >, >=, contains, matches, in {..}), slices, layers, masks, len, count, upper and lower, joined by and, or and not.
+For example: ip.addr == 10.0.0.0/8 and not udp.port in {53, 5353}
+
+The exit status is 0 where the whole file was read and the whole output written, and else says what went wrong:
+1 bad words, 2 bad filter, 3 unknown field, 4 can't open, 5 read fault, 6 damaged file, 7 file too large, 8 write fault,
+9 no memory. A line on standard error says more.
+";
+
+/// Writes the text.
+pub(crate) fn write_help<O: Sink>(out: &mut O) -> Result<(), SinkFault> {
+    write_whole(out, HEAD.as_bytes())?;
+    for option in &OPTIONS {
+        write_whole(out, b"  ")?;
+        write_whole(out, option.as_bytes())?;
+        write_whole(out, b"\n")?;
+    }
+    write_whole(out, TAIL.as_bytes())
+}

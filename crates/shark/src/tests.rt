@@ -1,0 +1,132 @@
+//! What the program says of itself, and that it tells of no option that it doesn't know.
+
+use crate::edge::{answer, without_words};
+use crate::help::OPTIONS;
+use pk_outside::SureSink;
+use shark_run::Status;
+use shark_words::{WordFault, WordReason, WordsError, read_words};
+use std::alloc::{AllocError, Global};
+use std::io::ErrorKind;
+use std::test::Fail;
+
+const HELP: &str = "\
+shark reads a capture file and prints a line for each frame that satisfies a display filter.
+
+Usage: shark -r FILE [-Y FILTER] [-c N] -T fields -e FIELD [-e FIELD]...
+
+  -r FILE      the capture file, pcap or pcapng
+  -Y FILTER    show only the frames that satisfy this filter; without it all are shown
+  -c N         read at most N frames, 1 to 4294967295
+  -T fields    the kind of line: the values of fields, a tab between two columns
+  -e FIELD     a column, again and again: any field or protocol
+
+  --help       this text, where it is the only word
+  --version    the version, where it is the only word
+
+A filter is one of Wireshark's display filters: fields and protocols compared with values or each other (==, !=, ===, !==,
+<, <=, >, >=, contains, matches, in {..}), slices, layers, masks, len, count, upper and lower, joined by and, or and not.
+For example: ip.addr == 10.0.0.0/8 and not udp.port in {53, 5353}
+
+The exit status is 0 where the whole file was read and the whole output written, and else says what went wrong:
+1 bad words, 2 bad filter, 3 unknown field, 4 can't open, 5 read fault, 6 damaged file, 7 file too large, 8 write fault,
+9 no memory. A line on standard error says more.
+";
+
+/// Words, and what the program answers by itself: its text, or nothing where it goes on to its run.
+struct Answer {
+    words: &'static [&'static str],
+    text: Option<&'static str>,
+}
+
+static ANSWERS: [Answer; 6] = [
+    Answer {
+        words: &["--help"],
+        text: Some(HELP),
+    },
+    Answer {
+        words: &["--version"],
+        text: Some("shark 0.2.0\n"),
+    },
+    Answer {
+        words: &["--help", "--version"],
+        text: None,
+    },
+    Answer {
+        words: &["-r", "--help"],
+        text: None,
+    },
+    Answer {
+        words: &["--helps"],
+        text: None,
+    },
+    Answer {
+        words: &[],
+        text: None,
+    },
+];
+
+fn words_of(alloc: Global, words: &[&str]) -> Result<Vec<String>, AllocError> {
+    let mut all = Vec::new(alloc);
+    for word in words {
+        all.push(String::from_str(alloc, word)?)?;
+    }
+    Ok(all)
+}
+
+#[test]
+fn help_and_version_are_answered_alone(rt: HostRuntime) -> Result<(), Fail> {
+    for row in &ANSWERS {
+        let words = words_of(rt.alloc(), row.words)?;
+        let mut out = SureSink::new(rt.alloc());
+        let status = answer(words.as_slice(), &mut out);
+        assert_eq!(rt; status, row.text.map(|_| Status::Done), "{:?}", row.words);
+        assert_eq!(rt;
+            out.bytes(),
+            row.text.unwrap_or("").as_bytes(),
+            "{:?}",
+            row.words
+        );
+    }
+    Ok(())
+}
+
+#[test]
+fn words_that_are_not_utf8_are_told(rt: HostRuntime) -> Result<(), Fail> {
+    let mut err = SureSink::new(rt.alloc());
+    assert_eq!(rt;
+        without_words(ErrorKind::OutOfMemory, &mut err),
+        Status::NoMemory
+    );
+    assert_eq!(rt; err.bytes(), b"".as_slice());
+    assert_eq!(rt;
+        without_words(ErrorKind::InvalidData, &mut err),
+        Status::BadWords
+    );
+    assert_eq!(rt; err.bytes(), b"shark: words are not UTF-8\n".as_slice());
+    Ok(())
+}
+
+// Whether an option of this letter is known, where it is the only word and has a value.
+fn is_known(alloc: Global, letter: u8) -> Result<bool, AllocError> {
+    let mut word = String::from_str(alloc, "-")?;
+    word.push(char::from(letter))?;
+    word.push_str("1")?;
+    let mut words = Vec::new(alloc);
+    words.push(word)?;
+    let unknown = WordsError::Fault(WordFault {
+        word: 1,
+        reason: WordReason::UnknownOption,
+    });
+    Ok(read_words(alloc, words.as_slice()).err() != Some(unknown))
+}
+
+#[test]
+fn help_lists_the_options_that_are_known(rt: HostRuntime) -> Result<(), Fail> {
+    for letter in 0x20..0x7F {
+        let listed = OPTIONS.iter().any(|option| option
+            .as_bytes()
+            .starts_with(&[b'-', letter, b' ']));
+        assert_eq!(rt; is_known(rt.alloc(), letter)?, listed, "{letter}");
+    }
+    Ok(())
+}

@@ -1,0 +1,155 @@
+-- Two plans of the same words, and two reasons to refuse them.
+use Rattle.std.proofs.Common.{◌≡◌, ⊎_elim, ℕ, Bool, List, [], ◌∷◌, ◌++◌, Option, None, Some, Ok, Err, IsTrue, if◌then◌else◌, refl, sym, ◌∙◌, ap, subst}
+use Rattle.capture_read.specs.Capture.{capture_of}
+use Rattle.capture_read.specs.declared.frame.Frame.{Frame}
+use Rattle.pk_tree.specs.Trees.{TreeShown}
+use Rattle.out_lines.specs.Lines.{field_line_of, default_style}
+use Rattle.flt_parse.specs.declared.fault.FilterFault.{FilterFault}
+use Rattle.flt_parse.specs.declared.fault.FilterError.TheVariants.{Fault}
+use Rattle.flt_parse.specs.declared.fault.FilterReason.{FilterReason}
+use Rattle.flt_parse.specs.declared.fault.FilterReason.TheVariants.{BadPattern, PatternSize}
+use Rattle.flt_parse.specs.Written.{Written}
+use Rattle.flt_parse.proofs.Faults.{never_both, one_fault, one_filter}
+use Rattle.flt_pattern.specs.Patterns.{IsNoPattern}
+use Rattle.flt_types.specs.Faults.{Found, At, PatternAt, IsFirst, IsPatternFault, faults}
+use Rattle.flt_types.specs.Texts.{IsFilterFault}
+use Rattle.shark_words.specs.declared.options.Options.{Options}
+use Rattle.shark_words.specs.Options.{options_of}
+use Rattle.shark_run.specs.declared.plan.Plan.{Plan}
+use Rattle.shark_run.specs.declared.plan.Refused.{Refused}
+use Rattle.shark_run.specs.declared.plan.Refused.TheVariants as refused
+use Rattle.shark_run.specs.Answers.{is_of_size, IsSure}
+use Rattle.shark_run.specs.Laws.{AreAlike, NeverBoth, OneReason, PlansAreAlike}
+use Rattle.shark_run.specs.Lines.{shown, frame_lines, trees_after, opening, closing, output_of, satisfies}
+use Rattle.shark_run.specs.Plan.{IsFaultAsked, IsPlan, IsPlanFor, IsRefusal, IsRefusalFor}
+use Rattle.shark_run.specs.Reading.{limited, frames_read}
+use Rattle.shark_run.proofs.PlanLemmas.{filter_or_fault, pattern_or_none, refused_not_planned, same_options}
+
+pub never_refused : NeverBoth
+never_refused words plan reason asked is sure = refused_not_planned words plan reason asked is sure
+
+-- a pattern that is refused for no size is none
+no_pattern : (pattern : List ℕ) (reason : FilterReason) → ¬ IsTrue (is_of_size reason) → IsPatternFault pattern reason → IsNoPattern pattern
+no_pattern pattern BadPattern sure is = is
+no_pattern pattern PatternSize sure is = absurd (sure refl)
+no_pattern pattern reason sure is = absurd is
+
+bad_pattern : (pattern : List ℕ) (reason : FilterReason) → ¬ IsTrue (is_of_size reason) → IsPatternFault pattern reason → reason ≡ BadPattern
+bad_pattern pattern BadPattern sure is = refl
+bad_pattern pattern PatternSize sure is = absurd (sure refl)
+bad_pattern pattern reason sure is = absurd is
+
+-- the first fault of a list, but for a pattern's size, is one
+one_first : (found : List Found) (at place : ℕ) (one other : FilterReason) → ¬ IsTrue (is_of_size one) → ¬ IsTrue (is_of_size other)
+    → IsFirst found at one → IsFirst found place other → (at ≡ place) × (one ≡ other)
+one_first [] at place one other sure certain is also = absurd is
+one_first (At there why ∷ found) at place one other sure certain is also = (sym is.0 ∙ also.0, sym is.1 ∙ also.1)
+one_first (PatternAt there pattern ∷ found) at place one other sure certain is also =
+    ⊎_elim
+    (λ bad. ⊎_elim
+    (λ worse. (sym bad.0 ∙ worse.0, bad_pattern pattern one sure bad.1 ∙ sym (bad_pattern pattern other certain worse.1)))
+    (λ on. absurd (pattern_or_none pattern on.0 (no_pattern pattern one sure bad.1)))
+    also)
+    (λ on. ⊎_elim
+    (λ worse. absurd (pattern_or_none pattern on.0 (no_pattern pattern other certain worse.1)))
+    (λ further. one_first found at place one other sure certain on.1 further.1)
+    also)
+    is
+
+same_fault : (f g : FilterFault) → (f.at ≡ g.at) × (f.reason ≡ g.reason) → f ≡ g
+same_fault f g same =
+    ap (λ (n : ℕ). let r : FilterFault = record { at = n; reason = f.reason } in r) same.0
+    ∙ ap (λ (s : FilterReason). let r : FilterFault = record { at = g.at; reason = s } in r) same.1
+
+one_type_fault : (text : List ℕ) (tree other : Written) (f g : FilterFault) → tree ≡ other → ¬ IsTrue (is_of_size f.reason)
+    → ¬ IsTrue (is_of_size g.reason) → IsFirst (faults tree) f.at f.reason → IsFirst (faults other) g.at g.reason → f ≡ g
+one_type_fault text tree other f g same sure certain is also =
+    same_fault f g (one_first (faults other) f.at g.at f.reason g.reason sure certain
+    (subst (λ (t : Written). IsFirst (faults t) f.at f.reason) same is) also)
+
+one_filter_fault : (text : List ℕ) (f g : FilterFault) → ¬ IsTrue (is_of_size f.reason) → ¬ IsTrue (is_of_size g.reason)
+    → IsFilterFault text (Fault f) → IsFilterFault text (Fault g) → f ≡ g
+one_filter_fault text f g sure certain is also =
+    ⊎_elim
+    (λ first. ⊎_elim (λ second. one_fault text f g first second) (λ types. absurd (never_both text types.0 f types.1 first)) also)
+    (λ types. ⊎_elim (λ first. absurd (never_both text types.0 g types.1 first))
+    (λ again. one_type_fault text types.0 again.0 f g (one_filter text types.0 again.0 types.1 again.1) sure certain types.2 again.2) also)
+    is
+
+one_asked : (text : Option (List ℕ)) (f g : FilterFault) → ¬ IsTrue (is_of_size f.reason) → ¬ IsTrue (is_of_size g.reason)
+    → IsFaultAsked text f → IsFaultAsked text g → f ≡ g
+one_asked None f g sure certain is also = absurd is
+one_asked (Some text) f g sure certain is also = one_filter_fault text f g sure certain is also
+
+one_for : (options : Options) (one other : Refused) → IsSure one → IsSure other → IsRefusalFor options one → IsRefusalFor options other → one ≡ other
+one_for options (refused.Words f) other sure certain is also = absurd is
+one_for options (refused.Filter f) (refused.Words g) sure certain is also = absurd also
+one_for options (refused.Field name) (refused.Words g) sure certain is also = absurd also
+one_for options (refused.Filter f) (refused.Filter g) sure certain is also = ap refused.Filter (one_asked options.filter f g sure certain is also)
+one_for options (refused.Filter f) (refused.Field name) sure certain is also =
+    absurd (sure (filter_or_fault options.filter also.0.0 f also.0.1 is))
+one_for options (refused.Field name) (refused.Filter g) sure certain is also =
+    absurd (certain (filter_or_fault options.filter is.0.0 g is.0.1 also))
+one_for options (refused.Field name) (refused.Field known) sure certain is also =
+    let both : Err (refused.Field name) ≡ Err (refused.Field known) = sym is.1 ∙ also.1 in cc
+
+-- a reason of options
+abbrev IsOfOptions : List (List ℕ) → Refused → Type 0
+IsOfOptions words reason = (options : Options) × (options_of words ≡ Ok options) × IsRefusalFor options reason
+
+one_of_options : (words : List (List ℕ)) (one other : Refused) → IsSure one → IsSure other → IsOfOptions words one → IsOfOptions words other
+    → one ≡ other
+one_of_options words one other sure certain is also =
+    one_for also.0 one other sure certain
+    (subst (λ (o : Options). IsRefusalFor o one) (same_options words is.0 also.0 is.1 also.1) is.2) also.2
+
+pub one_reason : OneReason
+unfolding IsRefusal
+one_reason words (refused.Words f) (refused.Words g) is also sure certain = let both : Err f ≡ Err g = sym is ∙ also in cc
+one_reason words (refused.Words f) (refused.Filter g) is also sure certain = let bad : Ok also.0 ≡ Err f = sym also.1 ∙ is in absurd (cc bad)
+one_reason words (refused.Words f) (refused.Field name) is also sure certain = let bad : Ok also.0 ≡ Err f = sym also.1 ∙ is in absurd (cc bad)
+one_reason words (refused.Filter f) (refused.Words g) is also sure certain = let bad : Ok is.0 ≡ Err g = sym is.1 ∙ also in absurd (cc bad)
+one_reason words (refused.Field name) (refused.Words g) is also sure certain = let bad : Ok is.0 ≡ Err g = sym is.1 ∙ also in absurd (cc bad)
+one_reason words (refused.Filter f) (refused.Filter g) is also sure certain = one_of_options words (refused.Filter f) (refused.Filter g) sure certain is also
+one_reason words (refused.Filter f) (refused.Field name) is also sure certain = one_of_options words (refused.Filter f) (refused.Field name) sure certain is also
+one_reason words (refused.Field name) (refused.Filter g) is also sure certain = one_of_options words (refused.Field name) (refused.Filter g) sure certain is also
+one_reason words (refused.Field name) (refused.Field known) is also sure certain = one_of_options words (refused.Field name) (refused.Field known) sure certain is also
+
+same_shown : (one other : Plan) (tree : TreeShown) → one.fields ≡ other.fields → satisfies one.filter tree ≡ satisfies other.filter tree
+    → shown one tree ≡ shown other tree
+same_shown one other tree fields truth =
+    ap (λ (b : Bool). if b then field_line_of one.fields tree default_style else []) truth
+    ∙ ap (λ (f : List ℕ). if satisfies other.filter tree then field_line_of f tree default_style else []) fields
+
+same_lines : (one other : Plan) (trees : List TreeShown) → ((tree : TreeShown) → shown one tree ≡ shown other tree)
+    → frame_lines one trees ≡ frame_lines other trees
+same_lines one other [] same = refl
+same_lines one other (tree ∷ trees) same =
+    ap (λ (line : List ℕ). line ++ frame_lines one trees) (same tree)
+    ∙ ap (λ (lines : List ℕ). shown other tree ++ lines) (same_lines one other trees same)
+
+same_output : (one other : Plan) (frames : List Frame) → one.fields ≡ other.fields
+    → ((tree : TreeShown) → satisfies one.filter tree ≡ satisfies other.filter tree) → output_of one frames ≡ output_of other frames
+unfolding output_of opening closing
+same_output one other frames fields truth =
+    ap (λ (lines : List ℕ). lines ++ [])
+    (same_lines one other (trees_after [] frames) (λ tree. same_shown one other tree fields (truth tree)))
+
+same_read : (one other : Plan) (file : List ℕ) → one.most ≡ other.most → frames_read one file ≡ frames_read other file
+unfolding frames_read
+same_read one other file most = ap (λ (m : Option ℕ). limited m (capture_of file)) most
+
+alike_for : (options : Options) (one other : Plan) → IsPlanFor options one → IsPlanFor options other → AreAlike one other
+alike_for options one other is also =
+    let both : Ok one.fields ≡ Ok other.fields = sym is.fields ∙ also.fields in
+    let fields : one.fields ≡ other.fields = cc both in
+    record {
+      name = is.name ∙ sym also.name;
+      read = λ file. same_read one other file (is.most ∙ sym also.most);
+      written = λ frames truth. same_output one other frames fields truth;
+    }
+
+pub plans_alike : PlansAreAlike
+unfolding IsPlan
+plans_alike words one other is also =
+    alike_for also.0 one other (subst (λ (o : Options). IsPlanFor o one) (same_options words is.0 also.0 is.1 also.1) is.2) also.2

@@ -1,0 +1,28 @@
+-- Which answer words get: the one that is wanted, want of memory, and one more that is free.
+use Rattle.std.specs.Prelude.{◌≡◌, ◌⊎◌, ℕ, Bool, true, false, IsTrue, List}
+use Rattle.flt_parse.specs.declared.fault.FilterFault.{FilterFault}
+use Rattle.flt_parse.specs.declared.fault.FilterReason.{FilterReason}
+use Rattle.flt_parse.specs.declared.fault.FilterReason.TheVariants.{PatternSize}
+use Rattle.shark_run.specs.declared.plan.Refused.{Refused}
+use Rattle.shark_run.specs.declared.plan.Refused.TheVariants as refused
+use Rattle.shark_run.specs.declared.status.Status.{Status}
+use Rattle.shark_run.specs.declared.status.Status.TheVariants.{BadFilter, NoMemory}
+use Rattle.shark_run.specs.Plan.{IsRefusal}
+
+abbrev pub is_of_size : FilterReason → Bool
+is_of_size PatternSize = true
+is_of_size reason = false
+
+-- a reason that isn't the size of a pattern: `regex` may refuse a large pattern that it could read
+abbrev pub IsSure : Refused → Type 0
+IsSure (refused.Filter fault) = ¬ IsTrue (is_of_size fault.reason)
+IsSure reason = Unit {0}
+
+-- words are refused for the size of a pattern in their filter
+abbrev pub IsRefusedForSize : List (List ℕ) → Status → Type 0
+IsRefusedForSize words answer =
+    (answer ≡ BadFilter) × ((fault : FilterFault) × IsRefusal words (refused.Filter fault) × IsTrue (is_of_size fault.reason))
+
+-- an answer is the one that is wanted, but for want of memory and for the size of patterns
+abbrev pub IsAnswered : List (List ℕ) → Status → Status → Type 0
+IsAnswered words wanted answer = (answer ≡ wanted) ⊎ ((answer ≡ NoMemory) ⊎ IsRefusedForSize words answer)

@@ -1,0 +1,31 @@
+-- What holds of every list of words.
+use Rattle.std.specs.Prelude.{◌≡◌, ℕ, List}
+use Rattle.capture_read.specs.declared.frame.Frame.{Frame}
+use Rattle.pk_tree.specs.Trees.{TreeShown}
+use Rattle.shark_run.specs.declared.plan.Plan.{Plan}
+use Rattle.shark_run.specs.declared.plan.Refused.{Refused}
+use Rattle.shark_run.specs.Answers.{IsSure}
+use Rattle.shark_run.specs.Lines.{output_of, satisfies}
+use Rattle.shark_run.specs.Plan.{IsPlan, IsRefusal}
+use Rattle.shark_run.specs.Reading.{frames_read, name_of}
+
+-- words that ask for a plan have no sure reason to be refused
+abbrev pub NeverBoth : Type 0
+NeverBoth = (words : List (List ℕ)) (plan : Plan) (reason : Refused) → IsPlan words plan → IsRefusal words reason → IsSure reason → ⊥
+
+-- words have at most one sure reason
+abbrev pub OneReason : Type 0
+OneReason = (words : List (List ℕ)) (one other : Refused) → IsRefusal words one → IsRefusal words other → IsSure one → IsSure other
+    → one ≡ other
+
+-- two plans name the same file and read the same of it, and write the same over any frames, where their filters let the same
+-- trees through
+pub record AreAlike (one other : Plan) : Type 0 where
+  pub name : name_of one ≡ name_of other
+  pub read : (file : List ℕ) → frames_read one file ≡ frames_read other file
+  pub written : (frames : List Frame) → ((tree : TreeShown) → satisfies one.filter tree ≡ satisfies other.filter tree)
+      → output_of one frames ≡ output_of other frames
+
+-- all plans of the same words are alike
+abbrev pub PlansAreAlike : Type 0
+PlansAreAlike = (words : List (List ℕ)) (one other : Plan) → IsPlan words one → IsPlan words other → AreAlike one other

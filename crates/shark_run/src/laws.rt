@@ -1,0 +1,17 @@
+// What holds of every list of words, stated on functions that do nothing.
+ghost use Rattle.shark_run.specs.Laws.{NeverBoth, OneReason, PlansAreAlike};
+
+/// No words ask for a plan and have a sure reason to be refused.
+pub fn plans_are_not_refused()
+    ensures { NeverBoth }
+{}
+
+/// Words have at most one sure reason to be refused.
+pub fn reasons_are_unique()
+    ensures { OneReason }
+{}
+
+/// All plans of the same words read and write alike.
+pub fn plans_are_alike()
+    ensures { PlansAreAlike }
+{}
