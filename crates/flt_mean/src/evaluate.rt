@@ -1,15 +1,17 @@
 // The truth of a filter in a tree.
-ghost use Rattle.std.specs.Prelude.{◌≡◌, IfOk};
+ghost use Rattle.std.specs.Prelude.{◌≡◌, IfOk, IsTrue};
+ghost use Rattle.flt_mean.specs.Chains.{is_single};
 ghost use Rattle.flt_mean.specs.Meaning.{compares, is_among, is_matched, is_some_value, meaning, opposite, passes};
 ghost use Rattle.flt_mean.specs.Questions.{is_so};
 ghost use Rattle.pk_tree.specs.FieldValues.{values_of};
 ghost use Rattle.flt_mean.specs.Values.{prefix_of_term, values_of_term};
 
+use crate::chain::{Chain, chain_of};
 use crate::quantify::{compares, is_some_value, matched, passes};
 use crate::question::Question;
 use crate::values::values_of_term;
 use crate::walks::{is_protocol, is_there, items_pass};
-use flt_parse::Choice;
+use flt_parse::{Choice, Join};
 use flt_pattern::Pattern;
 use flt_types::{Filter, Member, Term, Typed};
 use flt_values::Relation;
@@ -25,17 +27,29 @@ pub fn holds(alloc: Global, filter: &Filter, tree: &Tree) -> Result<bool, NoMemo
     is_true(alloc, filter.root(), tree)
 }
 
-/// The same of a part of a filter.
+/// The same of a part of a filter. What stands to the right of a sign is asked only where it decides.
+#[cycle(truth)]
 pub(crate) fn is_true(alloc: Global, filter: &Typed, tree: &Tree) -> Result<bool, NoMemory>
     ensures { IfOk result (λ truth. truth ≡ meaning filter.now tree.now) }
 {
+    let Chain { first, mut rights } = chain_of(alloc, filter)?;
+    let mut truth = is_single_true(alloc, first, tree)?;
+    'rights: while let Some(right) = rights.pop() {
+        truth = match right.join {
+            Join::Or => truth || is_true(alloc, right.filter, tree)?,
+            Join::And => truth && is_true(alloc, right.filter, tree)?,
+        };
+    }
+    Ok(truth)
+}
+
+/// The same of a part that is no chain of signs.
+#[cycle(truth)]
+fn is_single_true(alloc: Global, filter: &Typed, tree: &Tree) -> Result<bool, NoMemory>
+    requires { IsTrue (is_single filter.now) }
+    ensures { IfOk result (λ truth. truth ≡ meaning filter.now tree.now) }
+{
     match filter {
-        Typed::Either(left, right) => {
-            Ok(is_true(alloc, left, tree)? || is_true(alloc, right, tree)?)
-        }
-        Typed::Both(left, right) => {
-            Ok(is_true(alloc, left, tree)? && is_true(alloc, right, tree)?)
-        }
         Typed::Not(filter) => Ok(!is_true(alloc, filter, tree)?),
         Typed::Exists(term) => has_value(alloc, term, tree),
         Typed::AnyBit(term) => asks(alloc, Choice::Any, &Question::IsNonzero, term, tree),
@@ -46,6 +60,7 @@ pub(crate) fn is_true(alloc: Global, filter: &Typed, tree: &Tree) -> Result<bool
             among(alloc, *negated, *choice, term, members, tree)
         }
         Typed::Matches(choice, term, pattern) => match_in(alloc, *choice, term, pattern, tree),
+        Typed::Either(_, _) | Typed::Both(_, _) => unreachable!(),
     }
 }
 

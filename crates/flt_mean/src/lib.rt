@@ -1,6 +1,7 @@
 //! The meaning of display filters: whether a dissected frame satisfies one.
 #![tactic(auto)]
 
+mod chain;
 mod evaluate;
 mod quantify;
 mod question;

@@ -148,7 +148,6 @@ pub enum Tail {
 }
 
 /// A filter as it is written. `or` and `and` bind to the left.
-#[derive(Drop)]
 pub enum Ast {
     Or(Box<Ast>, Box<Ast>),
     And(Box<Ast>, Box<Ast>),
@@ -158,4 +157,26 @@ pub enum Ast {
     /// An operand that is a test by itself.
     Alone(Operand),
     Test(Option<Choice>, Operand, Tail),
+}
+
+// A chain of signs is as deep to the left as it is long: a loop goes down there.
+impl Drop for Ast {
+    fn drop(mut self) {
+        loop {
+            match self {
+                Ast::Or(first, right) => {
+                    drop(right);
+                    self = Box::into_inner(first);
+                }
+                Ast::And(first, right) => {
+                    drop(right);
+                    self = Box::into_inner(first);
+                }
+                Ast::Not(_, inner) => self = Box::into_inner(inner),
+                Ast::Group(inner) => self = Box::into_inner(inner),
+                Ast::Alone(_operand) => return,
+                Ast::Test(_, _operand, _tail) => return,
+            }
+        }
+    }
 }

@@ -27,4 +27,5 @@ pub use ast::{
 pub use fault::{FilterError, FilterFault, FilterReason};
 pub use laws::{faults_are_unique, filters_are_unique, filters_have_no_fault};
 pub use parser::parse;
+pub use token::Join;
 pub use word::{Quote, Word, WordText};

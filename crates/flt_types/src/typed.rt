@@ -30,7 +30,6 @@ pub enum Member {
 }
 
 /// A filter with its types. A choice says whether a test asks any of the pairs of values, or all of them.
-#[derive(Drop)]
 pub enum Typed {
     /// `or`
     Either(Box<Typed>, Box<Typed>),
@@ -46,4 +45,28 @@ pub enum Typed {
     Among(bool, Choice, Term, Vec<Member>),
     /// Whether the pattern matches in a value.
     Matches(Choice, Term, Pattern),
+}
+
+// A chain of signs is as deep to the left as it is long: a loop goes down there.
+impl Drop for Typed {
+    fn drop(mut self) {
+        loop {
+            match self {
+                Typed::Either(first, right) => {
+                    drop(right);
+                    self = Box::into_inner(first);
+                }
+                Typed::Both(first, right) => {
+                    drop(right);
+                    self = Box::into_inner(first);
+                }
+                Typed::Not(inner) => self = Box::into_inner(inner),
+                Typed::Exists(_term) => return,
+                Typed::AnyBit(_term) => return,
+                Typed::Compare(_, _, _left, _right) => return,
+                Typed::Among(_, _, _term, _members) => return,
+                Typed::Matches(_, _term, _pattern) => return,
+            }
+        }
+    }
 }
