@@ -1,5 +1,5 @@
 -- What a fragment makes of the fragments of its datagram that were taken before it.
-use Rattle.std.specs.Prelude.{◌==◌, ◌&&◌, ◌||◌, not, ℕ, Bool, false, List, [], ◌∷◌, ◌++◌, map, if◌then◌else◌, Option, None, Some, nat_lt, find, unwrap_or, option_map}
+use Rattle.std.specs.Prelude.{◌==◌, ◌&&◌, ◌||◌, not, ◌≤◌, ℕ, Bool, false, List, length, [], ◌∷◌, ◌++◌, map, if◌then◌else◌, Option, None, Some, nat_lt, find, unwrap_or, option_map}
 use Rattle.std.specs.List.{list_any}
 use Rattle.pk_tree.specs.declared.heads.FragmentHead.{FragmentHead}
 use Rattle.range_bytes.specs.Held.{bytes_at}
@@ -71,3 +71,9 @@ joined_unless None counted new = completed (datagram_if_whole (counted ++ new �
 -- a conflict, or the datagram where it is whole now, or neither
 unfoldable pub joined_of : List Fragment → Fragment → Joined
 joined_of counted new = joined_unless (conflict_of counted new) counted new
+
+-- a datagram has at most 65,535 bytes
+abbrev pub IsShort : Joined → Type 0
+IsShort Pending = Unit {0}
+IsShort (Whole datagram) = length datagram.bytes ≤ 65535
+IsShort (Conflict kind) = Unit {0}

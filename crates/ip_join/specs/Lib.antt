@@ -4,3 +4,4 @@ pub mod KeyOrder
 pub mod Datagrams
 pub mod Stands
 pub mod FramesAside
+pub mod Kept

@@ -1,5 +1,6 @@
 ghost use Rattle.std.specs.Prelude.{◌≡◌, ◌+◌, ◌≤◌, length};
-ghost use Rattle.ip_join.specs.Fragments.{end_of, overlaps, repeats, reaches_past};
+ghost use Rattle.ip_join.specs.Fragments.{end_of};
+ghost use Rattle.ip_join.specs.Kept.{has_bytes};
 
 use pk_base::Octets;
 use pk_tree::FragmentHead;
@@ -20,22 +21,9 @@ impl Fragment {
         u64::from(self.head.offset) + self.bytes.bytes().len() as u64
     }
 
-    pub(crate) fn overlaps(&self, other: &Fragment) -> bool
-        ensures { result ≡ overlaps self.now other.now }
+    pub(crate) fn has_bytes(&self) -> bool
+        ensures { result ≡ has_bytes self.now }
     {
-        u64::from(self.head.offset.max(other.head.offset)) < self.end().min(other.end())
-    }
-
-    pub(crate) fn repeats(&self, other: &Fragment) -> bool
-        ensures { result ≡ repeats self.now other.now }
-    {
-        self.head.offset == other.head.offset && self.bytes.bytes() == other.bytes.bytes()
-    }
-
-    /// Whether it has a byte at or past a position.
-    pub(crate) fn reaches_past(&self, position: u64) -> bool
-        ensures { result ≡ reaches_past position self.now }
-    {
-        position.max(u64::from(self.head.offset)) < self.end()
+        !self.bytes.bytes().is_empty()
     }
 }

@@ -5,6 +5,7 @@ ghost use Rattle.ip_join.specs.declared.fragment.Fragment.{Fragment as FragmentV
 ghost use Rattle.ip_join.specs.declared.key.Key.{Key as KeyValue};
 ghost use Rattle.ip_join.specs.KeyOrder.{key_cmp};
 ghost use Rattle.ip_join.specs.Stands.{Stands, joined_by, of_key};
+ghost use Rattle.ip_join.specs.Datagrams.{IsShort};
 ghost use Rattle.ip_join.specs.FramesAside.{unframed, frames_aside};
 
 use crate::fragment::Fragment;
@@ -55,6 +56,7 @@ impl Joins {
         ensures renumbered { IfOk result (λ joined. (past others : List FragmentValue) (number : ℕ) → Stands past self.old
             → map unframed (of_key head.now past) ≡ map unframed (of_key head.now others)
             → frames_aside joined ≡ frames_aside (joined_by others (record { head = head.now; frame = number; bytes = payload.now }))) }
+        ensures short { IfOk result (λ joined. IsShort joined) }
     {
         self.join(Fragment {
             head: *head,
@@ -66,6 +68,7 @@ impl Joins {
     fn join(&mut self, new: Fragment) -> Result<Joined, NoMemory>
         ensures joined { IfOk result (λ joined. (past : List FragmentValue) → Stands past self.old → joined ≡ joined_by past new) }
         ensures stands { OnOk result ((past : List FragmentValue) → Stands past self.old → Stands (new ∷ past) self.new) }
+        ensures short { IfOk result (λ joined. IsShort joined) }
     {
         let head = new.head;
         let key = key_of(&head);

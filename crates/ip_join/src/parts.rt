@@ -1,15 +1,20 @@
-ghost use Rattle.std.specs.Prelude.{◌≡◌, ◌==◌, ◌+◌, ◌≤◌, ◌<◌, [], ◌∷◌, ◌++◌, map, find, Some, None, if◌then◌else◌, unwrap_or, option_map, IfOk, IfSome, IfNone};
+ghost use Rattle.std.specs.Prelude.{◌≡◌, ◌==◌, ◌&&◌, not, ◌+◌, ◌≤◌, ◌<◌, ℕ, true, [], ◌∷◌, ◌++◌, length, map, find, Some, None, if◌then◌else◌, unwrap_or, option_map, IfOk, OnOk, IfSome, IfNone};
+ghost use Rattle.std.specs.Option.{option_or};
 ghost use Rattle.std.specs.List.{list_any};
+ghost use Rattle.std.specs.BTreeMap as tree;
+ghost use Rattle.std.specs.Ordering.{nat_cmp};
 ghost use Rattle.range_bytes.specs.Held.{HoldsAll};
-ghost use Rattle.ip_join.specs.Fragments.{end_of, overlaps, repeats, reaches_past, map_of, end_after, holds_below};
+ghost use Rattle.ip_join.specs.Fragments.{end_of, overlaps, repeats, map_of, end_after, holds_below};
 ghost use Rattle.ip_join.specs.Datagrams.{conflict_of, has_two_ends, misses_end, is_overlap_six, whole_end, next_of as next_value, datagram_if_whole};
+ghost use Rattle.ip_join.specs.Kept.{AreFirst, has_bytes, last_end, first_copy};
 
 use crate::fragment::Fragment;
 use crate::joined::{ConflictKind, Datagram};
-use pk_base::{DATAGRAM_LIMIT, NoMemory, Numbers};
+use pk_base::{DATAGRAM_LIMIT, NoMemory, Numbers, Octets};
 use pk_tree::FragmentHead;
 use range_bytes::Ranges;
 use std::alloc::Global;
+use std::collections::BTreeMap;
 use std::marker::Model;
 
 /// The fragments of one datagram that isn't whole yet.
@@ -21,18 +26,22 @@ pub(crate) struct Parts {
     held: Ranges,
     /// Where the datagram ends, once a fragment says so.
     end: Option<u64>,
+    /// Where the fragment with bytes ends that ends last.
+    last: u64,
+    /// By offsets, the bytes of the first IPv6 fragment with bytes there.
+    firsts: BTreeMap<u32, Octets>,
 }
 
 impl Model for Parts {
-    ghost use Rattle.std.specs.Prelude.{◌≡◌, List};
+    ghost use Rattle.std.specs.Prelude.{List};
     ghost use Rattle.ip_join.specs.declared.fragment.Fragment.{Fragment as FragmentValue};
-    ghost use Rattle.ip_join.specs.Fragments.{map_of, known_end};
+    ghost use Rattle.ip_join.specs.Kept.{IsKept};
 
     ghost Value = { List FragmentValue };
 
     ghost view = { λ parts. parts.counted.items };
 
-    ghost invariant = { λ parts. (parts.held ≡ map_of parts.counted.items) × (parts.end ≡ known_end parts.counted.items) };
+    ghost invariant = { λ parts. IsKept parts.counted.items parts.held parts.end parts.last parts.firsts };
 }
 
 impl Parts {
@@ -44,12 +53,14 @@ impl Parts {
             counted: Vec::new(alloc),
             held: Ranges::new(alloc),
             end: None,
+            last: 0,
+            firsts: BTreeMap::new(alloc),
         }
     }
 
     /// How a fragment goes against these, if it does.
     pub(crate) fn conflict(&self, new: &Fragment) -> Option<ConflictKind>
-        ensures kind { result ≡ conflict_of self.now new.now }
+        ensures kind { (new.now.head.six ≡ true → AreFirst self.now) → result ≡ conflict_of self.now new.now }
         ensures short { IfNone result (end_of new.now ≤ 65535) }
     {
         if u64::from(DATAGRAM_LIMIT) < new.end() {
@@ -58,7 +69,7 @@ impl Parts {
         if self.has_two_ends(new) {
             return Some(ConflictKind::MultipleTails);
         }
-        if is_overlap_six(&self.counted, new) {
+        if self.is_overlap_six(new) {
             return Some(ConflictKind::Overlap6);
         }
         None
@@ -67,7 +78,40 @@ impl Parts {
     fn has_two_ends(&self, new: &Fragment) -> bool
         ensures { result ≡ has_two_ends self.now new.now }
     {
-        misses_end(self.end, new) || (!new.head.more && any_reaches_past(&self.counted, new.end()))
+        misses_end(self.end, new) || (!new.head.more && new.end() < self.last)
+    }
+
+    fn is_overlap_six(&self, new: &Fragment) -> bool
+        ensures { (new.now.head.six ≡ true → AreFirst self.now) → result ≡ is_overlap_six self.now new.now }
+    {
+        new.head.six && self.overlaps_anew(new)
+    }
+
+    /// Whether a fragment has a position in common with one of these, and isn't one of them once more.
+    fn overlaps_anew(&self, new: &Fragment) -> bool
+        ensures { AreFirst self.now → result ≡ (list_any (overlaps new.now) self.now && not (list_any (repeats new.now) self.now)) }
+    {
+        self.overlaps(new) && !self.repeats(new)
+    }
+
+    /// Whether a fragment has a position in common with one of these.
+    fn overlaps(&self, new: &Fragment) -> bool
+        ensures { result ≡ list_any (overlaps new.now) self.now }
+    {
+        match self.held.next_held(u64::from(new.head.offset)) {
+            Some(next) => next < new.end(),
+            None => false,
+        }
+    }
+
+    /// Whether a fragment has the bytes of the first one at its offset.
+    fn repeats(&self, new: &Fragment) -> bool
+        ensures { AreFirst self.now → has_bytes new.now ≡ true → result ≡ list_any (repeats new.now) self.now }
+    {
+        match self.firsts.get(&new.head.offset) {
+            Some(bytes) => bytes.bytes() == new.bytes.bytes(),
+            None => false,
+        }
     }
 
     /// These and one more.
@@ -80,21 +124,28 @@ impl Parts {
             mut counted,
             mut held,
             end,
+            last,
+            mut firsts,
         } = self;
         held.insert(u64::from(new.head.offset), &new.bytes, new.frame)?;
+        keep_first(&mut firsts, &new)?;
         let end = end_with(end, &new);
-        counted.push(new)?;
+        let last = last_with(last, &new);
+        push(&mut counted, new)?;
         Ok(Parts {
             alloc,
             counted,
             held,
             end,
+            last,
+            firsts,
         })
     }
 
     /// The datagram, if it is whole, by the head of the last fragment.
     pub(crate) fn datagram(&self, head: FragmentHead) -> Result<Option<Datagram>, NoMemory>
-        ensures { IfOk result (λ datagram. datagram ≡ datagram_if_whole self.now head) }
+        ensures whole { IfOk result (λ datagram. datagram ≡ datagram_if_whole self.now head) }
+        ensures short { IfOk result (λ datagram. IfSome datagram (λ d. length d.bytes ≤ 65535)) }
     {
         match self.whole_end() {
             Some(end) => Ok(Some(Datagram {
@@ -110,6 +161,7 @@ impl Parts {
     fn whole_end(&self) -> Option<u64>
         ensures end { result ≡ whole_end self.now }
         ensures held { IfSome result (HoldsAll (map_of self.now) 0) }
+        ensures short { IfSome result (λ end. end ≤ 65535) }
     {
         match self.end {
             Some(end) => end_if_held(&self.held, end),
@@ -140,28 +192,35 @@ fn misses_end(end: Option<u64>, new: &Fragment) -> bool
     }
 }
 
-fn any_reaches_past(fragments: &[Fragment], position: u64) -> bool
-    ensures { result ≡ list_any (reaches_past position) fragments.now }
+fn last_with(last: u64, new: &Fragment) -> u64
+    ensures { result ≡ last_end last (new.now ∷ []) }
 {
-    fragments.iter().any(|g| g.reaches_past(position))
+    if new.has_bytes() {
+        last.max(new.end())
+    } else {
+        last
+    }
 }
 
-fn is_overlap_six(fragments: &[Fragment], new: &Fragment) -> bool
-    ensures { result ≡ is_overlap_six fragments.now new.now }
+/// Keeps the bytes of an IPv6 fragment, if it is the first with bytes at its offset.
+fn keep_first(firsts: &mut BTreeMap<u32, Octets>, new: &Fragment) -> Result<(), NoMemory>
+    ensures { OnOk result ((offset : ℕ) → tree.get nat_cmp firsts.new offset ≡ option_or (tree.get nat_cmp firsts.old offset) (first_copy offset (new.now ∷ []))) }
 {
-    new.head.six && any_overlaps(fragments, new) && !any_repeats(fragments, new)
+    if new.head.six && new.has_bytes() && !firsts.contains_key(&new.head.offset) {
+        firsts.insert(new.head.offset, new.bytes.clone()?)?;
+    }
+    Ok(())
 }
 
-fn any_overlaps(fragments: &[Fragment], new: &Fragment) -> bool
-    ensures { result ≡ list_any (overlaps new.now) fragments.now }
+/// One more fragment. One alone takes no more memory than it needs.
+fn push(counted: &mut Vec<Fragment>, new: Fragment) -> Result<(), NoMemory>
+    ensures { OnOk result (counted.new.items ≡ counted.old.items ++ new ∷ []) }
 {
-    fragments.iter().any(|g| new.overlaps(g))
-}
-
-fn any_repeats(fragments: &[Fragment], new: &Fragment) -> bool
-    ensures { result ≡ list_any (repeats new.now) fragments.now }
-{
-    fragments.iter().any(|g| new.repeats(g))
+    if counted.is_empty() {
+        counted.reserve_exact(1)?;
+    }
+    counted.push(new)?;
+    Ok(())
 }
 
 /// What a datagram carries: under IPv6 what its first fragment with offset 0 says (RFC 8200, 4.5).

@@ -1,5 +1,5 @@
 -- Numbers in ascending order, each once: put in one after the other, or sorted.
-use Rattle.std.proofs.Common.{◌≡◌, ℕ, ◌+◌, ◌<◌, ◌≤◌, Bool, true, false, ◌||◌, List, [], ◌∷◌, eqb, refl, sym, ap, ◌∙◌, inl, inr, arith}
+use Rattle.std.proofs.Common.{◌≡◌, ℕ, ◌+◌, ◌<◌, ◌≤◌, Bool, true, false, ◌||◌, List, [], ◌∷◌, ◌++◌, eqb, refl, sym, ap, ◌∙◌, inl, inr, arith}
 use Rattle.std.specs.List.{list_any, dedup, dedup_from}
 use Rattle.std.specs.List.Sorted.{IsPermutation, IsSorted, IsNonDecreasing}
 use Rattle.std.specs.List.Retain.{IsFiltered, DiffersFromLast}
@@ -7,12 +7,11 @@ use Rattle.std.specs.Ordering.{nat_cmp}
 use Rattle.std.proofs.lemmas.Bool.{false≢true, cond-true, cond-false, lt-ltb, le-ltb, eq-eqb, ne_eqb, cases_eq, cases_order}
 use Rattle.std.proofs.lemmas.List.Filters.{dedup_is}
 use Rattle.std.proofs.lemmas.List.Sorted.{list_any-IsPermutation, IsNonDecreasingBy-drop, IsNonDecreasingBy-from_sort}
-use Rattle.range_bytes.specs.Held.{put_number}
+use Rattle.range_bytes.specs.Held.{put_number, put_numbers}
 
 -- numbers put in from the last on
 abbrev pub all_put : List ℕ → List ℕ
-all_put [] = []
-all_put (x ∷ xs) = put_number x (all_put xs)
+all_put xs = put_numbers xs []
 
 put_before : (x y : ℕ) (ys : List ℕ) → x < y → put_number x (y ∷ ys) ≡ x ∷ y ∷ ys
 put_before x y ys low = cond-true _ _ _ (lt-ltb x y low)
@@ -148,3 +147,7 @@ sorted_is xs sorted numbers permuted in_order filtered =
     dedup_is eqb sorted numbers filtered
     ∙ sym (all_sorted sorted (IsNonDecreasingBy-from_sort (λ n. n) sorted in_order))
     ∙ sym (all_permuted xs sorted permuted)
+
+pub put_push : (xs : List ℕ) (x : ℕ) (ys : List ℕ) → put_numbers (xs ++ x ∷ []) ys ≡ put_numbers xs (put_number x ys)
+put_push [] x ys = refl
+put_push (first ∷ xs) x ys = ap (put_number first) (put_push xs x ys)

@@ -1,5 +1,9 @@
 pub mod Runs
 pub mod PieceLemmas
-pub mod Reading
+pub mod LateLemmas
+pub mod Covering
+pub mod Kept
 pub mod Ascending
-pub mod Origins
+pub mod Reading
+pub mod Gaps
+pub mod Fronts

@@ -1,15 +1,22 @@
 -- What a run of bytes leaves at each position.
 use Rattle.std.proofs.Common.{◌≡◌, ℕ, zero, suc, ◌+◌, ◌-◌, ◌<◌, ◌≤◌, Bool, false, cond, List, [], ◌∷◌, ◌++◌, length, slice_index, Option, Some, None, IsSome, is_some, ltb, leb, eqb, refl, sym, ap, ◌∙◌, subst, inl, inr, arith, take, drop, drop-cons}
-use Rattle.std.specs.Option.{option_or}
+use Rattle.std.specs.Option.{option_or, unwrap_or}
 use Rattle.std.specs.Cmp.{nat_cmp_total, unsigned_tied}
 use Rattle.std.specs.FinMap.{get, insert, get-insert}
 use Rattle.std.proofs.lemmas.Bool.{false≢true, cond-true, cond-false, and_from, and_left, and_right, le-leb, lt-leb, lt-ltb, le-ltb, eq-eqb, ne_eqb, cases_lt, cases_order}
 use Rattle.std.proofs.lemmas.Bool.Decides.{eqb_tells}
 use Rattle.range_bytes.specs.Held.{Cell, Held, put_new, put_run, run_cell, IsFront, bytes_at}
 
+pub some_is : {X : Type 0} (x y : X) → Some x ≡ Some y → x ≡ y
+some_is {X} x y same = ap (λ (o : Option X). unwrap_or o x) same
+
 pub or_none : {X : Type 0} (o : Option X) → option_or o None ≡ o
 or_none None = refl
 or_none (Some x) = refl
+
+pub some_or : {X : Type 0} (a b : Option X) → IsSome a → option_or a b ≡ a
+some_or None b there = absurd (false≢true there)
+some_or (Some x) b there = refl
 
 pub or_assoc : {X : Type 0} (a b c : Option X) → option_or (option_or a b) c ≡ option_or a (option_or b c)
 or_assoc None b c = refl

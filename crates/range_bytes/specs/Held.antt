@@ -31,6 +31,23 @@ pub record IsFront (held : Held) (front : ℕ) : Type 0 where
   pub below : (position : ℕ) → position < front → IsSome (get held position)
   pub free : get held front ≡ None
 
+-- the least position from one on that isn't held
+pub record IsFreeFrom (held : Held) (from to : ℕ) : Type 0 where
+  pub order : from ≤ to
+  pub run : (position : ℕ) → from ≤ position → position < to → IsSome (get held position)
+  pub free : get held to ≡ None
+
+-- the least held position from one on
+pub record IsFirstHeld (held : Held) (from next : ℕ) : Type 0 where
+  pub order : from ≤ next
+  pub there : IsSome (get held next)
+  pub none : (position : ℕ) → from ≤ position → position < next → get held position ≡ None
+
+-- the same where there is one, and otherwise none
+abbrev pub IsNextHeld : Held → ℕ → Option ℕ → Type 0
+IsNextHeld held from None = (position : ℕ) → from ≤ position → get held position ≡ None
+IsNextHeld held from (Some next) = IsFirstHeld held from next
+
 -- all positions from one up to and without another are held
 abbrev pub HoldsAll : Held → ℕ → ℕ → Type 0
 HoldsAll held from to = (position : ℕ) → from ≤ position → position < to → IsSome (get held position)
@@ -52,6 +69,11 @@ bytes_at held from (suc n) = byte_of (get held from) ∷ bytes_at held (from + 1
 abbrev pub put_number : ℕ → List ℕ → List ℕ
 put_number x [] = x ∷ []
 put_number x (y ∷ ys) = if nat_lt x y then x ∷ y ∷ ys else (if x == y then y ∷ ys else y ∷ put_number x ys)
+
+-- numbers in an ascending list, each once
+abbrev pub put_numbers : List ℕ → List ℕ → List ℕ
+put_numbers [] ys = ys
+put_numbers (x ∷ xs) ys = put_number x (put_numbers xs ys)
 
 -- the frames that brought so many bytes from a position on: ascending, each once
 abbrev pub frames_at : Held → ℕ → ℕ → List ℕ

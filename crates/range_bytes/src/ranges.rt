@@ -1,9 +1,10 @@
-ghost use Rattle.std.specs.Prelude.{◌≡◌, ◌+◌, ◌-◌, ◌^◌, ◌≤◌, length, IfOk, OnOk, OnErr};
-ghost use Rattle.std.specs.FinMap.{empty};
-ghost use Rattle.range_bytes.specs.Held.{put_run, IsFront, HoldsAll, bytes_at, frames_at};
-ghost use Rattle.range_bytes.specs.Pieces.{held_of, IsApart};
+ghost use Rattle.std.specs.Prelude.{◌≡◌, ℕ, ◌+◌, ◌-◌, ◌^◌, ◌≤◌, length, if◌then◌else◌, nat_le, IfOk, OnOk, OnErr};
+ghost use Rattle.std.specs.Option.{option_or};
+ghost use Rattle.std.specs.FinMap.{empty, get};
+ghost use Rattle.range_bytes.specs.Held.{put_run, run_cell, IsFront, IsNextHeld, IsFreeFrom, HoldsAll, bytes_at, frames_at};
 
-use crate::piece::{Piece, copy_of, front_of, origins_of, put};
+use crate::piece::Piece;
+use crate::pieces::Pieces;
 use pk_base::{NoMemory, Numbers, Octets};
 use std::alloc::Global;
 use std::marker::Model;
@@ -13,9 +14,9 @@ use std::marker::Model;
 #[derive(Drop)]
 pub struct Ranges {
     alloc: Global,
-    pieces: Vec<Piece>,
-    /// No byte stands at or past this position.
-    end: u64,
+    pieces: Pieces,
+    /// The least position that isn't held.
+    front: u64,
 }
 
 impl Model for Ranges {
@@ -28,11 +29,11 @@ impl Model for Ranges {
 
     ghost coded = { code coded_ℕ (coded× coded_ℕ coded_ℕ) };
 
-    ghost use Rattle.range_bytes.specs.Pieces.{held_of, IsApart};
+    ghost use Rattle.range_bytes.specs.Held.{IsFront};
 
-    ghost view = { λ ranges. held_of ranges.pieces.items };
+    ghost view = { λ ranges. ranges.pieces };
 
-    ghost invariant = { λ ranges. IsApart 0 ranges.pieces.items ranges.end };
+    ghost invariant = { λ ranges. IsFront ranges.pieces ranges.front };
 }
 
 impl Ranges {
@@ -42,8 +43,8 @@ impl Ranges {
     {
         Ranges {
             alloc,
-            pieces: Vec::new(alloc),
-            end: 0,
+            pieces: Pieces::new(alloc),
+            front: 0,
         }
     }
 
@@ -51,10 +52,12 @@ impl Ranges {
     pub fn insert(&mut self, pos: u64, bytes: &Octets, frame: u32) -> Result<(), NoMemory>
         requires { pos + length bytes.now ≤ 2 ^ 63 }
         ensures ok { OnOk result (self.new ≡ put_run self.old pos bytes.now frame) }
+        ensures cells { OnOk result ((position : ℕ)
+            → get self.new position ≡ option_or (get self.old position) (run_cell pos bytes.now frame position)) }
         ensures err { OnErr result (self.new ≡ self.old) }
     {
         let end = pos + bytes.bytes().len() as u64;
-        if end == pos {
+        if end <= self.front.max(pos) {
             return Ok(());
         }
         let new = Piece {
@@ -63,8 +66,9 @@ impl Ranges {
             bytes: bytes.clone()?,
             frame,
         };
-        put(self.alloc, &mut self.pieces, self.end, new)?;
-        self.end = self.end.max(end);
+        let known = held_below(self.front, pos, end);
+        self.pieces.put(self.alloc, new)?;
+        self.front = self.pieces.first_free(known);
         Ok(())
     }
 
@@ -72,7 +76,24 @@ impl Ranges {
     pub fn front(&self) -> u64
         ensures { IsFront self.now result }
     {
-        front_of(&self.pieces)
+        self.front
+    }
+
+    /// The least held position from `from` on. Takes no memory.
+    pub fn next_held(&self, from: u64) -> Option<u64>
+        ensures { IsNextHeld self.now from result }
+    {
+        self.pieces.next_held(from)
+    }
+
+    /// The least position from `from` on that isn't held. Takes no memory.
+    pub fn first_free(&self, from: u64) -> u64
+        ensures { IsFreeFrom self.now from result }
+    {
+        if from < self.front {
+            return self.front;
+        }
+        self.pieces.first_free(from)
     }
 
     /// The bytes from position `from` up to and without `to`.
@@ -80,7 +101,7 @@ impl Ranges {
         requires { HoldsAll self.now from to }
         ensures { IfOk result (λ bytes. bytes ≡ bytes_at self.now from (to - from)) }
     {
-        copy_of(self.alloc, &self.pieces, from, to)
+        self.pieces.copy(self.alloc, from, to)
     }
 
     /// The numbers of the frames that brought the bytes from position `from` up to and without `to`: in ascending order,
@@ -89,6 +110,14 @@ impl Ranges {
         requires { HoldsAll self.now from to }
         ensures { IfOk result (λ numbers. numbers ≡ frames_at self.now from (to - from)) }
     {
-        origins_of(self.alloc, &self.pieces, from, to)
+        self.pieces.origins(self.alloc, from, to)
     }
+}
+
+/// A position below which all is held, once bytes are put in from `pos` up to and without `end`, where `front` was the least
+/// that wasn't.
+fn held_below(front: u64, pos: u64, end: u64) -> u64
+    ensures { result ≡ (if nat_le pos front then end else front) }
+{
+    if pos <= front { end } else { front }
 }

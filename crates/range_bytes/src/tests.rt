@@ -64,3 +64,55 @@ fn origins_ascend_and_stand_once(rt: HostRuntime) -> Result<(), NoMemory> {
     assert!(rt; ranges.origins(4, 4)?.slice().is_empty());
     Ok(())
 }
+
+#[test]
+fn the_next_held_and_the_first_free_position_are_found(rt: HostRuntime) -> Result<(), NoMemory> {
+    let alloc = rt.alloc();
+    let mut ranges = Ranges::new(alloc);
+    assert_eq!(rt; ranges.next_held(0), None);
+    assert_eq!(rt; ranges.first_free(3), 3);
+    ranges.insert(20, &octets(alloc, b"uv")?, 1)?;
+    ranges.insert(6, &octets(alloc, b"gh")?, 2)?;
+    ranges.insert(2, &octets(alloc, b"cd")?, 3)?;
+    ranges.insert(4, &octets(alloc, b"ef")?, 4)?;
+    for (from, next, free) in [
+        (0, Some(2), 0),
+        (2, Some(2), 8),
+        (5, Some(5), 8),
+        (8, Some(20), 8),
+        (20, Some(20), 22),
+        (21, Some(21), 22),
+        (22, None, 22),
+    ] {
+        assert_eq!(rt; ranges.next_held(from), next);
+        assert_eq!(rt; ranges.first_free(from), free);
+    }
+    ranges.insert(0, &octets(alloc, b"ABCDEFGHIJ")?, 5)?;
+    assert_eq!(rt; ranges.front(), 10);
+    assert_eq!(rt; ranges.first_free(0), 10);
+    assert_eq!(rt; ranges.next_held(10), Some(20));
+    assert!(rt; ranges.copy(0, 10)?.bytes() == b"ABcdefghIJ".as_slice());
+    assert!(rt; ranges.origins(0, 10)?.slice() == [2, 3, 4, 5].as_slice());
+    ranges.insert(1, &octets(alloc, b"xyz")?, 6)?;
+    assert!(rt; ranges.copy(0, 10)?.bytes() == b"ABcdefghIJ".as_slice());
+    Ok(())
+}
+
+#[test]
+fn bytes_in_falling_order_are_read_in_order(rt: HostRuntime) -> Result<(), NoMemory> {
+    let alloc = rt.alloc();
+    let mut ranges = Ranges::new(alloc);
+    for place in (0..100u8).rev() {
+        ranges.insert(
+            u64::from(place),
+            &octets(alloc, &[place])?,
+            u32::from(place),
+        )?;
+    }
+    assert_eq!(rt; ranges.front(), 100);
+    let bytes = ranges.copy(0, 100)?;
+    for place in 0..100u8 {
+        assert!(rt; bytes.bytes()[usize::from(place)] == place);
+    }
+    Ok(())
+}

@@ -1,0 +1,7 @@
+use Rattle.std.proofs.Common.{length, ap, ◌∙◌, arith}
+use Rattle.ip_join.proofs.ShortLemmas.{length-bytes_at}
+use Rattle.ip_join.proofs.parts.Parts.datagram.Goals as goal
+
+pub returns-in_ok-frames_of-in-Some-clause-short : goal.returns-in_ok-frames_of-in-Some-clause-short
+returns-in_ok-frames_of-in-Some-clause-short c =
+    omega (arith, ap length c.in_ok-copy-in-Some.ensures ∙ length-bytes_at _ _ _, c.in-Some.ensures.short)
