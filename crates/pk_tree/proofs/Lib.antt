@@ -1,5 +1,6 @@
 pub mod EntryLemmas
 pub mod FieldLemmas
+pub mod KeptLemmas
 pub mod LayersFit
 pub mod LayoutLemmas
 pub mod Numbers

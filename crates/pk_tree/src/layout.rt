@@ -10,7 +10,7 @@ use crate::builder::TreeBuilder;
 use crate::heads::Mode;
 use crate::value::Value;
 use pk_base::{NoMemory, Span, be_bits};
-use pk_fields::{FieldId, bits, ids};
+use pk_fields::{FieldId, ids};
 
 /// One step of a layer's reading. Places are counted from the layer's first byte.
 #[derive(Drop)]
@@ -195,7 +195,7 @@ fn read_part(
     }
 }
 
-#[tactic(auto, unfolding(crate::specs::Layouts::with_items))]
+#[tactic(auto, unfolding(crate::specs::Layouts::with_items, crate::specs::Trees::with_item))]
 fn derive_part(
     tree: &mut TreeBuilder,
     span: Span,
@@ -216,6 +216,9 @@ fn derive_part(
 {
     match part(tree, span, at, len) {
         Some(place) => {
+            if !tree.wants(field) {
+                return Ok(Reach::All);
+            }
             tree.derived_item(field, value.clone()?, place)?;
             Ok(Reach::All)
         }
@@ -223,7 +226,7 @@ fn derive_part(
     }
 }
 
-#[tactic(auto, unfolding(crate::specs::Layouts::with_items))]
+#[tactic(auto, unfolding(crate::specs::Layouts::with_items, crate::specs::Trees::with_item))]
 fn make(tree: &mut TreeBuilder, field: FieldId, value: &Value) -> Result<Reach, NoMemory>
     requires layer { 0 < length tree.old.layers }
     requires belongs { (row_of field).proto ≡ last_proto tree.old.layers }
@@ -234,6 +237,9 @@ fn make(tree: &mut TreeBuilder, field: FieldId, value: &Value) -> Result<Reach, 
     ensures count { length tree.new.layers ≡ length tree.old.layers }
     ensures last { last_proto tree.new.layers ≡ last_proto tree.old.layers }
 {
+    if !tree.wants(field) {
+        return Ok(Reach::All);
+    }
     tree.made_item(field, value.clone()?)?;
     Ok(Reach::All)
 }
@@ -261,10 +267,7 @@ fn size(field: FieldId) -> usize
     ensures size { result ≡ size_of field }
     ensures fits { HasSize (row_of field).bits result }
 {
-    match bits(field) {
-        Some(place) => (usize::from(place.first) + usize::from(place.width)).div_ceil(8),
-        None => 0,
-    }
+    pk_fields::size(field)
 }
 
 /// Adds the fault layer behind a layer, where one follows.
