@@ -5,3 +5,4 @@ pub mod LayersFit
 pub mod LayoutLemmas
 pub mod Numbers
 pub mod Readable
+pub mod TableLemmas

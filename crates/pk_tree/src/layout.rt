@@ -101,7 +101,11 @@ pub fn read_layer(
 }
 
 /// Reads the steps one by one, up to the first that can't be read.
-fn read_steps(tree: &mut TreeBuilder, span: Span, steps: &[Step]) -> Result<Reach, NoMemory>
+pub(crate) fn read_steps(
+    tree: &mut TreeBuilder,
+    span: Span,
+    steps: &[Step],
+) -> Result<Reach, NoMemory>
     requires inside { IsInside tree.old.buffers span }
     requires layer { 0 < length tree.old.layers }
     requires fits { StepsFit (last_proto tree.old.layers) steps.now }
@@ -143,7 +147,7 @@ fn read_step(tree: &mut TreeBuilder, span: Span, step: &Step) -> Result<Reach, N
 }
 
 #[tactic(auto, unfolding(crate::specs::Layouts::with_items))]
-fn read_some(
+pub(crate) fn read_some(
     tree: &mut TreeBuilder,
     span: Span,
     field: FieldId,
@@ -168,7 +172,7 @@ fn read_some(
 }
 
 #[tactic(auto, unfolding(crate::specs::Layouts::with_items))]
-fn read_part(
+pub(crate) fn read_part(
     tree: &mut TreeBuilder,
     span: Span,
     field: FieldId,
@@ -271,7 +275,7 @@ fn size(field: FieldId) -> usize
 }
 
 /// Adds the fault layer behind a layer, where one follows.
-fn close_layer(
+pub(crate) fn close_layer(
     tree: &mut TreeBuilder,
     span: Span,
     reach: Reach,

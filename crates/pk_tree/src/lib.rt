@@ -9,6 +9,7 @@ mod item;
 mod layer;
 mod layout;
 mod reading;
+mod table;
 #[cfg(test)]
 mod tests;
 mod tree;
@@ -23,5 +24,6 @@ pub use heads::{
 pub use item::{Item, Items, Place};
 pub use layer::{Layer, LayerList};
 pub use layout::{Reach, Step, peek, read_layer};
+pub use table::{Slot, pass_layer, read_table};
 pub use tree::Tree;
 pub use value::Value;
