@@ -1,6 +1,8 @@
 pub mod EntryLemmas
 pub mod FieldLemmas
 pub mod KeptLemmas
+pub mod KeptTrees
+pub mod KeptValues
 pub mod LayersFit
 pub mod LayoutLemmas
 pub mod Numbers
