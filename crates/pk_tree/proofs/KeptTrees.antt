@@ -80,10 +80,10 @@ same_layer : (wanted : List ℕ) (t : TreeShown) (proto : ℕ) (span : Span) (it
     with_layer (kept_tree wanted t) proto span items ≡ kept_tree wanted (with_layer t proto span items)
 unfolding with_layer of_layers
 same_layer wanted t proto span items all = ap (of_layers wanted t) (rw (
-      map-append (kept_layer wanted) t.layers ((record { proto = proto; nth = layers_of proto t.layers + 1; span = span; items = kept t.wanted items }) ∷ []),
-      kept_all t.wanted items all,
-      same_count wanted proto t.layers,
-    )
+  map-append (kept_layer wanted) t.layers ((record { proto = proto; nth = layers_of proto t.layers + 1; span = span; items = kept t.wanted items }) ∷ []),
+  kept_all t.wanted items all,
+  same_count wanted proto t.layers,
+)
     refl)
 
 pub opened_kept : (wanted : List ℕ) (t u : TreeShown) (proto : ℕ) (span : Span) (items : List Item) → IsKept wanted t u → IsKept wanted (with_layer t proto span items) (with_layer u proto span items)

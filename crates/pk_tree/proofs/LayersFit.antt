@@ -130,7 +130,7 @@ added_fits wanted layers buffers at item tree one = record {
 -- one more buffer
 place_fits_more : (buffers : List (List ℕ)) (bytes : List ℕ) (field : ℕ) (value : Value) (place : Place) → PlaceFits buffers field value place → PlaceFits (buffers ++ bytes ∷ []) field value place
 place_fits_more buffers bytes field value (Read span) fit =
-    (inside_more buffers bytes span fit.0, fit.1, rw (bytes_of-more buffers bytes span fit.0) fit.2)
+    (inside_more buffers bytes span fit.0, fit.1, rw (bytes_of-more buffers bytes span fit.0) fit.2, fit.3)
 place_fits_more buffers bytes field value (Derived span) fit = inside_more buffers bytes span fit
 place_fits_more buffers bytes field value Made fit = tt
 

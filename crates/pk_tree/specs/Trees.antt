@@ -1,5 +1,5 @@
 -- The tree of a dissected frame, what is true of each one, and what each step of building one adds.
-use Rattle.std.specs.Prelude.{◌≡◌, ◌==◌, ℕ, zero, suc, ◌+◌, ◌-◌, ◌^◌, ◌<◌, if◌then◌else◌, List, [], ◌∷◌, ◌++◌, length, map, filter, count_by}
+use Rattle.std.specs.Prelude.{◌≡◌, ◌==◌, ℕ, zero, suc, ◌+◌, ◌-◌, ◌^◌, ◌<◌, if◌then◌else◌, List, [], ◌∷◌, ◌++◌, length, map, filter, count_by, IsTrue}
 use Rattle.std.specs.List.{AllByRecursion as Each}
 use Rattle.pk_base.specs.declared.span.Span.{Span}
 use Rattle.pk_buffer.specs.Buffers.{IsInside, bytes_of}
@@ -10,7 +10,7 @@ use Rattle.pk_tree.specs.declared.item.Place.{Place}
 use Rattle.pk_tree.specs.declared.item.Place.TheVariants as places
 use Rattle.pk_tree.specs.declared.item.Item.{Item}
 use Rattle.pk_tree.specs.declared.layer.Layer.{Layer}
-use Rattle.pk_tree.specs.Values.{IsOfKind, IsProtocol, HasSize, value_of}
+use Rattle.pk_tree.specs.Values.{IsOfKind, IsProtocol, HasSize, is_read, value_of}
 
 -- the layers in their order, the bytes that their spans lie in, the frame's own bytes first, and the fields whose items
 -- are kept
@@ -23,10 +23,10 @@ pub record TreeShown : Type 0 where
 abbrev pub layers_of : ℕ → List Layer → ℕ
 layers_of proto layers = count_by (λ (layer : Layer). layer.proto == proto) layers
 
--- a value that is read is what its field's row reads from a span of the row's size
+-- a value that is read is what its field's row, which is one that reads, reads from a span of the row's size
 abbrev pub PlaceFits : List (List ℕ) → ℕ → Value → Place → Type 0
 PlaceFits buffers field value (places.Read span) =
-    IsInside buffers span × HasSize (row_of field).bits span.len × (value ≡ value_of field (bytes_of buffers span))
+    IsInside buffers span × HasSize (row_of field).bits span.len × (value ≡ value_of field (bytes_of buffers span)) × IsTrue (is_read (row_of field))
 PlaceFits buffers field value (places.Derived span) = IsInside buffers span
 PlaceFits buffers field value places.Made = Unit {0}
 

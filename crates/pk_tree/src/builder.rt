@@ -214,6 +214,14 @@ impl TreeBuilder {
         self.buffers.bytes(s)
     }
 
+    /// The bytes of a span, shared and not copied.
+    pub fn part(&self, s: Span) -> Result<Octets, NoMemory>
+        requires { IsInside self.now.buffers s }
+        ensures { IfOk result (λ part. part ≡ bytes_of self.now.buffers s) }
+    {
+        self.buffers.part(s)
+    }
+
     /// Where the tree takes its memory from, for what the reading of a layer needs beside the tree.
     pub fn alloc(&self) -> Global {
         self.alloc

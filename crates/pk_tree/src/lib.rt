@@ -17,7 +17,7 @@ mod value;
 
 pub use builder::TreeBuilder;
 pub use chosen::{LayerRange, LayerRanges, Layers};
-pub use following::{carried, first_of};
+pub use following::{behind, carried, first_of};
 pub use heads::{
     Address, After, Endpoint, FragmentHead, Mode, Next, PacketHead, PortsHead, TcpHead,
 };
