@@ -114,3 +114,17 @@ pub layer_kept : (wanted : List ℕ) (t u : TreeShown) (proto : ℕ) (span : Spa
 unfolding layer_read
 layer_kept wanted t u proto span steps mode cut k =
     subst (λ (buffers : List (List ℕ)). IsKept wanted (layer_read t proto span steps mode cut) (with_fault (with_layer u proto span (items_read buffers span steps)) span (fault_of mode (cut && reaches_end buffers span) (reach span.len steps)))) (sym (buffers_kept wanted t u k)) (fault_kept wanted _ _ span (fault_of mode (cut && reaches_end t.buffers span) (reach span.len steps)) (opened_kept wanted t u proto span (items_read t.buffers span steps) k))
+
+-- of all fields the whole tree is kept
+layers_all : (layers : List Layer) → map (kept_layer every_field) layers ≡ layers
+layers_all [] = refl
+layers_all (layer ∷ layers) =
+    let first : kept_layer every_field layer ≡ layer = ap (λ items. record layer { items = items }) (kept_all every_field layer.items in_every) in
+    rw (first, layers_all layers) refl
+
+pub all_kept : (t u : TreeShown) → IsKept every_field t u → u ≡ t
+all_kept t u k =
+    k.same ∙ ap (λ (layers : List Layer). of_layers' t layers) (layers_all t.layers) ∙ ap (λ (wanted : List ℕ). record t { wanted = wanted }) (sym k.all)
+  where
+    of_layers' : TreeShown → List Layer → TreeShown
+    of_layers' t layers = record { layers = layers; buffers = t.buffers; wanted = every_field }
