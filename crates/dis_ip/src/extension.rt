@@ -48,6 +48,8 @@ pub fn read_extension(
         | Next::Icmp6
         | Next::Udp
         | Next::Tcp
+        | Next::Neigh(_)
+        | Next::Igmp
         | Next::Rest => unreachable!(),
     }
 }

@@ -1,6 +1,7 @@
 -- The first layer of a frame, which tells of the frame itself.
 use Rattle.std.specs.Prelude.{Bool, nat_lt, ℤ, List, [], ◌∷◌, ◌++◌, length, Option, Some, None}
 use Rattle.pk_base.specs.declared.span.Span.{Span}
+use Rattle.pk_fields.specs.FieldSets.{every_field}
 use Rattle.pk_fields.specs.Ids.{FRAME, FRAME_NUMBER, FRAME_TIME_EPOCH, FRAME_TIME_RELATIVE, FRAME_TIME_DELTA, FRAME_LEN, FRAME_CAP_LEN}
 use Rattle.pk_tree.specs.declared.heads.Mode.TheVariants.{Plain}
 use Rattle.pk_tree.specs.declared.layout.Step.{Step}
@@ -41,4 +42,4 @@ frame_layout before frame =
 -- the tree with this layer alone, given the times of the frames before
 unfoldable pub frame_tree : Times → Frame → TreeShown
 frame_tree before frame =
-    layer_read (record { layers = []; buffers = frame.bytes ∷ [] }) FRAME (frame_span frame) (frame_layout before frame) Plain (is_cut frame)
+    layer_read (record { layers = []; buffers = frame.bytes ∷ []; wanted = every_field }) FRAME (frame_span frame) (frame_layout before frame) Plain (is_cut frame)

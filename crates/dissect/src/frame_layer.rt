@@ -1,4 +1,5 @@
 ghost use Rattle.std.specs.Prelude.{◌≡◌, ◌+◌, ◌<◌, ◌≤◌, ◌^◌, ◌∷◌, ◌++◌, [], length, Some, None, IfOk, IfSome, OnOk};
+ghost use Rattle.pk_fields.specs.FieldSets.{every_field};
 ghost use Rattle.pk_fields.specs.Ids.{FRAME, FRAME_NUMBER, FRAME_LEN, FRAME_CAP_LEN};
 ghost use Rattle.pk_tree.specs.declared.heads.Mode.TheVariants.{Plain};
 ghost use Rattle.pk_tree.specs.Layouts.{StepFits, StepsFit, layer_read};
@@ -66,7 +67,7 @@ pub(crate) fn begin_tree(
 fn add_frame(frame: &Frame, steps: &[Step], tree: &mut TreeBuilder) -> Result<(), NoMemory>
     requires bytes { length frame.now.bytes < 2 ^ 32 }
     requires fits { StepsFit FRAME steps.now }
-    requires tree { tree.old ≡ record { layers = []; buffers = frame.now.bytes ∷ [] } }
+    requires tree { tree.old ≡ record { layers = []; buffers = frame.now.bytes ∷ []; wanted = every_field } }
     ensures tree { IfOk result (λ _. tree.new ≡ layer_read tree.old FRAME (frame_span frame.now) steps.now Plain (is_cut frame.now)) }
     ensures buffers { tree.new.buffers ≡ tree.old.buffers }
     ensures most { OnOk result (length tree.new.layers ≤ 2) }

@@ -1,3 +1,5 @@
+pub mod FieldSetLemmas
+pub mod HalfLemmas
 pub mod Names
 pub mod Passes
 pub mod Sound

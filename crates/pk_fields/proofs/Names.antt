@@ -26,7 +26,7 @@ all_differ : names_differ rows ≡ true
 unfolding rows names_differ
 all_differ = refl
 
-rows_len : length rows ≡ field_count
+pub rows_len : length rows ≡ field_count
 unfolding rows
 rows_len = refl
 

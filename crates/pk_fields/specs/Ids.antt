@@ -3,7 +3,7 @@ use Rattle.std.specs.Prelude.{ℕ}
 
 -- how many fields there are
 abbrev pub field_count : ℕ
-field_count = 269
+field_count = 360
 
 abbrev pub FRAME : ℕ
 FRAME = 0
@@ -811,3 +811,276 @@ WS_SHORT = 267
 
 abbrev pub WS_MALFORMED : ℕ
 WS_MALFORMED = 268
+
+abbrev pub TCP_LOST : ℕ
+TCP_LOST = 269
+
+abbrev pub ND : ℕ
+ND = 270
+
+abbrev pub ND_RESERVED : ℕ
+ND_RESERVED = 271
+
+abbrev pub ND_RA_HOP_LIMIT : ℕ
+ND_RA_HOP_LIMIT = 272
+
+abbrev pub ND_RA_MANAGED : ℕ
+ND_RA_MANAGED = 273
+
+abbrev pub ND_RA_OTHER : ℕ
+ND_RA_OTHER = 274
+
+abbrev pub ND_RA_LIFETIME : ℕ
+ND_RA_LIFETIME = 275
+
+abbrev pub ND_RA_REACHABLE : ℕ
+ND_RA_REACHABLE = 276
+
+abbrev pub ND_RA_RETRANS : ℕ
+ND_RA_RETRANS = 277
+
+abbrev pub ND_TARGET : ℕ
+ND_TARGET = 278
+
+abbrev pub ND_NA_ROUTER : ℕ
+ND_NA_ROUTER = 279
+
+abbrev pub ND_NA_SOLICITED : ℕ
+ND_NA_SOLICITED = 280
+
+abbrev pub ND_NA_OVERRIDE : ℕ
+ND_NA_OVERRIDE = 281
+
+abbrev pub ND_DESTINATION : ℕ
+ND_DESTINATION = 282
+
+abbrev pub ND_OPT_TYPE : ℕ
+ND_OPT_TYPE = 283
+
+abbrev pub ND_OPT_LEN : ℕ
+ND_OPT_LEN = 284
+
+abbrev pub ND_OPT_VALUE : ℕ
+ND_OPT_VALUE = 285
+
+abbrev pub ND_OPT_LLADDR : ℕ
+ND_OPT_LLADDR = 286
+
+abbrev pub ND_OPT_PREFIX_LEN : ℕ
+ND_OPT_PREFIX_LEN = 287
+
+abbrev pub ND_OPT_PREFIX_ONLINK : ℕ
+ND_OPT_PREFIX_ONLINK = 288
+
+abbrev pub ND_OPT_PREFIX_AUTO : ℕ
+ND_OPT_PREFIX_AUTO = 289
+
+abbrev pub ND_OPT_PREFIX_VALID : ℕ
+ND_OPT_PREFIX_VALID = 290
+
+abbrev pub ND_OPT_PREFIX_PREFERRED : ℕ
+ND_OPT_PREFIX_PREFERRED = 291
+
+abbrev pub ND_OPT_PREFIX : ℕ
+ND_OPT_PREFIX = 292
+
+abbrev pub ND_OPT_MTU : ℕ
+ND_OPT_MTU = 293
+
+abbrev pub IGMP : ℕ
+IGMP = 294
+
+abbrev pub IGMP_TYPE : ℕ
+IGMP_TYPE = 295
+
+abbrev pub IGMP_MAX_RESP : ℕ
+IGMP_MAX_RESP = 296
+
+abbrev pub IGMP_CHECKSUM : ℕ
+IGMP_CHECKSUM = 297
+
+abbrev pub IGMP_MADDR : ℕ
+IGMP_MADDR = 298
+
+abbrev pub NTP : ℕ
+NTP = 299
+
+abbrev pub NTP_FLAGS_LI : ℕ
+NTP_FLAGS_LI = 300
+
+abbrev pub NTP_FLAGS_VN : ℕ
+NTP_FLAGS_VN = 301
+
+abbrev pub NTP_FLAGS_MODE : ℕ
+NTP_FLAGS_MODE = 302
+
+abbrev pub NTP_STRATUM : ℕ
+NTP_STRATUM = 303
+
+abbrev pub NTP_PPOLL : ℕ
+NTP_PPOLL = 304
+
+abbrev pub NTP_PRECISION : ℕ
+NTP_PRECISION = 305
+
+abbrev pub NTP_ROOTDELAY : ℕ
+NTP_ROOTDELAY = 306
+
+abbrev pub NTP_ROOTDISPERSION : ℕ
+NTP_ROOTDISPERSION = 307
+
+abbrev pub NTP_REFID : ℕ
+NTP_REFID = 308
+
+abbrev pub NTP_REFTIME : ℕ
+NTP_REFTIME = 309
+
+abbrev pub NTP_ORG : ℕ
+NTP_ORG = 310
+
+abbrev pub NTP_REC : ℕ
+NTP_REC = 311
+
+abbrev pub NTP_XMT : ℕ
+NTP_XMT = 312
+
+abbrev pub MDNS : ℕ
+MDNS = 313
+
+abbrev pub MDNS_ID : ℕ
+MDNS_ID = 314
+
+abbrev pub MDNS_FLAGS : ℕ
+MDNS_FLAGS = 315
+
+abbrev pub MDNS_FLAGS_RESPONSE : ℕ
+MDNS_FLAGS_RESPONSE = 316
+
+abbrev pub MDNS_FLAGS_OPCODE : ℕ
+MDNS_FLAGS_OPCODE = 317
+
+abbrev pub MDNS_FLAGS_AUTHORITATIVE : ℕ
+MDNS_FLAGS_AUTHORITATIVE = 318
+
+abbrev pub MDNS_FLAGS_TRUNCATED : ℕ
+MDNS_FLAGS_TRUNCATED = 319
+
+abbrev pub MDNS_FLAGS_RECDESIRED : ℕ
+MDNS_FLAGS_RECDESIRED = 320
+
+abbrev pub MDNS_FLAGS_RECAVAIL : ℕ
+MDNS_FLAGS_RECAVAIL = 321
+
+abbrev pub MDNS_FLAGS_Z : ℕ
+MDNS_FLAGS_Z = 322
+
+abbrev pub MDNS_FLAGS_AUTHENTICATED : ℕ
+MDNS_FLAGS_AUTHENTICATED = 323
+
+abbrev pub MDNS_FLAGS_CHECKDISABLE : ℕ
+MDNS_FLAGS_CHECKDISABLE = 324
+
+abbrev pub MDNS_FLAGS_RCODE : ℕ
+MDNS_FLAGS_RCODE = 325
+
+abbrev pub MDNS_COUNT_QUERIES : ℕ
+MDNS_COUNT_QUERIES = 326
+
+abbrev pub MDNS_COUNT_ANSWERS : ℕ
+MDNS_COUNT_ANSWERS = 327
+
+abbrev pub MDNS_COUNT_AUTH_RR : ℕ
+MDNS_COUNT_AUTH_RR = 328
+
+abbrev pub MDNS_COUNT_ADD_RR : ℕ
+MDNS_COUNT_ADD_RR = 329
+
+abbrev pub MDNS_QRY_NAME : ℕ
+MDNS_QRY_NAME = 330
+
+abbrev pub MDNS_QRY_TYPE : ℕ
+MDNS_QRY_TYPE = 331
+
+abbrev pub MDNS_QRY_QU : ℕ
+MDNS_QRY_QU = 332
+
+abbrev pub MDNS_QRY_CLASS : ℕ
+MDNS_QRY_CLASS = 333
+
+abbrev pub MDNS_RESP_NAME : ℕ
+MDNS_RESP_NAME = 334
+
+abbrev pub MDNS_RESP_TYPE : ℕ
+MDNS_RESP_TYPE = 335
+
+abbrev pub MDNS_RESP_CACHE_FLUSH : ℕ
+MDNS_RESP_CACHE_FLUSH = 336
+
+abbrev pub MDNS_RESP_CLASS : ℕ
+MDNS_RESP_CLASS = 337
+
+abbrev pub MDNS_RESP_TTL : ℕ
+MDNS_RESP_TTL = 338
+
+abbrev pub MDNS_RESP_LEN : ℕ
+MDNS_RESP_LEN = 339
+
+abbrev pub MDNS_A : ℕ
+MDNS_A = 340
+
+abbrev pub MDNS_AAAA : ℕ
+MDNS_AAAA = 341
+
+abbrev pub MDNS_NS : ℕ
+MDNS_NS = 342
+
+abbrev pub MDNS_CNAME : ℕ
+MDNS_CNAME = 343
+
+abbrev pub MDNS_PTR_DOMAIN_NAME : ℕ
+MDNS_PTR_DOMAIN_NAME = 344
+
+abbrev pub MDNS_MX_PREFERENCE : ℕ
+MDNS_MX_PREFERENCE = 345
+
+abbrev pub MDNS_MX_MAIL_EXCHANGE : ℕ
+MDNS_MX_MAIL_EXCHANGE = 346
+
+abbrev pub MDNS_SOA_MNAME : ℕ
+MDNS_SOA_MNAME = 347
+
+abbrev pub MDNS_SOA_RNAME : ℕ
+MDNS_SOA_RNAME = 348
+
+abbrev pub MDNS_SOA_SERIAL_NUMBER : ℕ
+MDNS_SOA_SERIAL_NUMBER = 349
+
+abbrev pub MDNS_SOA_REFRESH_INTERVAL : ℕ
+MDNS_SOA_REFRESH_INTERVAL = 350
+
+abbrev pub MDNS_SOA_RETRY_INTERVAL : ℕ
+MDNS_SOA_RETRY_INTERVAL = 351
+
+abbrev pub MDNS_SOA_EXPIRE_LIMIT : ℕ
+MDNS_SOA_EXPIRE_LIMIT = 352
+
+abbrev pub MDNS_SOA_MINIMUM_TTL : ℕ
+MDNS_SOA_MINIMUM_TTL = 353
+
+abbrev pub MDNS_SRV_PRIORITY : ℕ
+MDNS_SRV_PRIORITY = 354
+
+abbrev pub MDNS_SRV_WEIGHT : ℕ
+MDNS_SRV_WEIGHT = 355
+
+abbrev pub MDNS_SRV_PORT : ℕ
+MDNS_SRV_PORT = 356
+
+abbrev pub MDNS_SRV_TARGET : ℕ
+MDNS_SRV_TARGET = 357
+
+abbrev pub MDNS_TXT : ℕ
+MDNS_TXT = 358
+
+abbrev pub MDNS_DATA : ℕ
+MDNS_DATA = 359

@@ -1,5 +1,6 @@
 -- A row of the table of fields, and what each must be like.
-use Rattle.std.specs.Prelude.{◌≡◌, ℕ, ◌*◌, ◌^◌, ◌≤◌, ◌<◌, Bool as Truth, true, false, ◌||◌, List, Option, Some, None}
+use Rattle.std.specs.Prelude.{◌≡◌, ℕ, ◌+◌, ◌*◌, ◌/◌, ◌^◌, ◌≤◌, ◌<◌, Bool as Truth, true, false, ◌||◌, List, Option, Some, None}
+use Rattle.std.specs.Option.{option_map_or}
 use Rattle.pk_fields.specs.declared.value_kind.ValueKind.{ValueKind}
 use Rattle.pk_fields.specs.declared.value_kind.ValueKind.TheVariants.{Uint, Bool, Bytes, Text, Ether, Ip4, Ip6, Time, Proto}
 use Rattle.pk_fields.specs.declared.value_kind.BitPlace.{BitPlace}
@@ -67,6 +68,14 @@ is_marked Made = true
 -- no bits are read for a value of no width, and for one that is worked out or made
 abbrev pub has_no_bits : FieldRow → Truth
 has_no_bits row = is_unsized row.kind || is_marked row.mark
+
+-- the whole bytes from the first one, in which the bits begin, to the last that has one
+abbrev pub size_of_place : BitPlace → ℕ
+size_of_place place = (place.first + place.width + 7) / 8
+
+-- the bytes of a row's item; 0 where the row has no size of its own
+abbrev pub size_of_row : FieldRow → ℕ
+size_of_row row = option_map_or size_of_place row.bits 0
 
 abbrev pub bits_of : Origin → Option BitPlace
 bits_of (origins.Bits place) = Some place

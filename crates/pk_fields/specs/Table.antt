@@ -2,7 +2,7 @@
 use Rattle.std.specs.Prelude.{List, [], ◌∷◌, codes}
 use Rattle.pk_fields.specs.declared.value_kind.ValueKind.TheVariants.{Uint, Bool, Bytes, Text, Ether, Ip4, Ip6, Time, Proto}
 use Rattle.pk_fields.specs.Rows.{FieldRow, placed, whole, derived, made}
-use Rattle.pk_fields.specs.Ids.{FRAME, ETH, NULL, SLL, SLL2, VLAN, ARP, IP, IPV6, IPV6_HOPOPTS, IPV6_DSTOPTS, IPV6_ROUTING, IPV6_FRAGHDR, ICMP, ICMPV6, UDP, TCP, DNS, DHCP, HTTP, DATA, WS_SHORT, WS_MALFORMED}
+use Rattle.pk_fields.specs.Ids.{FRAME, ETH, NULL, SLL, SLL2, VLAN, ARP, IP, IPV6, IPV6_HOPOPTS, IPV6_DSTOPTS, IPV6_ROUTING, IPV6_FRAGHDR, ICMP, ICMPV6, UDP, TCP, DNS, DHCP, HTTP, DATA, WS_SHORT, WS_MALFORMED, ND, IGMP, NTP, MDNS}
 
 -- each row stands at the place that is its field's number; its protocol is the place of another
 unfoldable pub rows : List FieldRow
@@ -276,4 +276,95 @@ rows =
     made (codes "data.len") (Uint 32) DATA ∷
     whole (codes "_ws.short") Proto WS_SHORT ∷
     whole (codes "_ws.malformed") Proto WS_MALFORMED ∷
+    made (codes "tcp.lost") (Uint 32) TCP ∷
+    whole (codes "nd") Proto ND ∷
+    whole (codes "nd.reserved") Bytes ND ∷
+    placed (codes "nd.ra.hop_limit") (Uint 8) ND 0 8 1 ∷
+    placed (codes "nd.ra.managed") Bool ND 0 1 1 ∷
+    placed (codes "nd.ra.other") Bool ND 1 1 1 ∷
+    placed (codes "nd.ra.lifetime") (Uint 16) ND 0 16 1 ∷
+    placed (codes "nd.ra.reachable") (Uint 32) ND 0 32 1 ∷
+    placed (codes "nd.ra.retrans") (Uint 32) ND 0 32 1 ∷
+    placed (codes "nd.target") Ip6 ND 0 128 1 ∷
+    placed (codes "nd.na.router") Bool ND 0 1 1 ∷
+    placed (codes "nd.na.solicited") Bool ND 1 1 1 ∷
+    placed (codes "nd.na.override") Bool ND 2 1 1 ∷
+    placed (codes "nd.destination") Ip6 ND 0 128 1 ∷
+    placed (codes "nd.opt.type") (Uint 8) ND 0 8 1 ∷
+    placed (codes "nd.opt.len") (Uint 8) ND 0 8 1 ∷
+    whole (codes "nd.opt.value") Bytes ND ∷
+    placed (codes "nd.opt.lladdr") Ether ND 0 48 1 ∷
+    placed (codes "nd.opt.prefix_len") (Uint 8) ND 0 8 1 ∷
+    placed (codes "nd.opt.prefix_onlink") Bool ND 0 1 1 ∷
+    placed (codes "nd.opt.prefix_auto") Bool ND 1 1 1 ∷
+    placed (codes "nd.opt.prefix_valid") (Uint 32) ND 0 32 1 ∷
+    placed (codes "nd.opt.prefix_preferred") (Uint 32) ND 0 32 1 ∷
+    placed (codes "nd.opt.prefix") Ip6 ND 0 128 1 ∷
+    placed (codes "nd.opt.mtu") (Uint 32) ND 0 32 1 ∷
+    whole (codes "igmp") Proto IGMP ∷
+    placed (codes "igmp.type") (Uint 8) IGMP 0 8 1 ∷
+    placed (codes "igmp.max_resp") (Uint 8) IGMP 0 8 1 ∷
+    placed (codes "igmp.checksum") (Uint 16) IGMP 0 16 1 ∷
+    placed (codes "igmp.maddr") Ip4 IGMP 0 32 1 ∷
+    whole (codes "ntp") Proto NTP ∷
+    placed (codes "ntp.flags.li") (Uint 2) NTP 0 2 1 ∷
+    placed (codes "ntp.flags.vn") (Uint 3) NTP 2 3 1 ∷
+    placed (codes "ntp.flags.mode") (Uint 3) NTP 5 3 1 ∷
+    placed (codes "ntp.stratum") (Uint 8) NTP 0 8 1 ∷
+    placed (codes "ntp.ppoll") (Uint 8) NTP 0 8 1 ∷
+    placed (codes "ntp.precision") (Uint 8) NTP 0 8 1 ∷
+    placed (codes "ntp.rootdelay") (Uint 32) NTP 0 32 1 ∷
+    placed (codes "ntp.rootdispersion") (Uint 32) NTP 0 32 1 ∷
+    whole (codes "ntp.refid") Bytes NTP ∷
+    whole (codes "ntp.reftime") Bytes NTP ∷
+    whole (codes "ntp.org") Bytes NTP ∷
+    whole (codes "ntp.rec") Bytes NTP ∷
+    whole (codes "ntp.xmt") Bytes NTP ∷
+    whole (codes "mdns") Proto MDNS ∷
+    placed (codes "mdns.id") (Uint 16) MDNS 0 16 1 ∷
+    placed (codes "mdns.flags") (Uint 16) MDNS 0 16 1 ∷
+    placed (codes "mdns.flags.response") Bool MDNS 0 1 1 ∷
+    placed (codes "mdns.flags.opcode") (Uint 4) MDNS 1 4 1 ∷
+    placed (codes "mdns.flags.authoritative") Bool MDNS 5 1 1 ∷
+    placed (codes "mdns.flags.truncated") Bool MDNS 6 1 1 ∷
+    placed (codes "mdns.flags.recdesired") Bool MDNS 7 1 1 ∷
+    placed (codes "mdns.flags.recavail") Bool MDNS 0 1 1 ∷
+    placed (codes "mdns.flags.z") Bool MDNS 1 1 1 ∷
+    placed (codes "mdns.flags.authenticated") Bool MDNS 2 1 1 ∷
+    placed (codes "mdns.flags.checkdisable") Bool MDNS 3 1 1 ∷
+    placed (codes "mdns.flags.rcode") (Uint 4) MDNS 4 4 1 ∷
+    placed (codes "mdns.count.queries") (Uint 16) MDNS 0 16 1 ∷
+    placed (codes "mdns.count.answers") (Uint 16) MDNS 0 16 1 ∷
+    placed (codes "mdns.count.auth_rr") (Uint 16) MDNS 0 16 1 ∷
+    placed (codes "mdns.count.add_rr") (Uint 16) MDNS 0 16 1 ∷
+    derived (codes "mdns.qry.name") Text MDNS ∷
+    placed (codes "mdns.qry.type") (Uint 16) MDNS 0 16 1 ∷
+    placed (codes "mdns.qry.qu") Bool MDNS 0 1 1 ∷
+    placed (codes "mdns.qry.class") (Uint 15) MDNS 1 15 1 ∷
+    derived (codes "mdns.resp.name") Text MDNS ∷
+    placed (codes "mdns.resp.type") (Uint 16) MDNS 0 16 1 ∷
+    placed (codes "mdns.resp.cache_flush") Bool MDNS 0 1 1 ∷
+    placed (codes "mdns.resp.class") (Uint 15) MDNS 1 15 1 ∷
+    placed (codes "mdns.resp.ttl") (Uint 32) MDNS 0 32 1 ∷
+    placed (codes "mdns.resp.len") (Uint 16) MDNS 0 16 1 ∷
+    placed (codes "mdns.a") Ip4 MDNS 0 32 1 ∷
+    placed (codes "mdns.aaaa") Ip6 MDNS 0 128 1 ∷
+    derived (codes "mdns.ns") Text MDNS ∷
+    derived (codes "mdns.cname") Text MDNS ∷
+    derived (codes "mdns.ptr.domain_name") Text MDNS ∷
+    placed (codes "mdns.mx.preference") (Uint 16) MDNS 0 16 1 ∷
+    derived (codes "mdns.mx.mail_exchange") Text MDNS ∷
+    derived (codes "mdns.soa.mname") Text MDNS ∷
+    derived (codes "mdns.soa.rname") Text MDNS ∷
+    placed (codes "mdns.soa.serial_number") (Uint 32) MDNS 0 32 1 ∷
+    placed (codes "mdns.soa.refresh_interval") (Uint 32) MDNS 0 32 1 ∷
+    placed (codes "mdns.soa.retry_interval") (Uint 32) MDNS 0 32 1 ∷
+    placed (codes "mdns.soa.expire_limit") (Uint 32) MDNS 0 32 1 ∷
+    placed (codes "mdns.soa.minimum_ttl") (Uint 32) MDNS 0 32 1 ∷
+    placed (codes "mdns.srv.priority") (Uint 16) MDNS 0 16 1 ∷
+    placed (codes "mdns.srv.weight") (Uint 16) MDNS 0 16 1 ∷
+    placed (codes "mdns.srv.port") (Uint 16) MDNS 0 16 1 ∷
+    derived (codes "mdns.srv.target") Text MDNS ∷
+    whole (codes "mdns.txt") Text MDNS ∷
+    whole (codes "mdns.data") Bytes MDNS ∷
     []

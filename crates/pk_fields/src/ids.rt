@@ -539,3 +539,185 @@ pub const DATA_LEN: FieldId = FieldId(266);
 pub const WS_SHORT: FieldId = FieldId(267);
 /// `_ws.malformed`: the layer before this breaks its protocol's rules.
 pub const WS_MALFORMED: FieldId = FieldId(268);
+/// `tcp.lost`: bytes of gaps that this segment passes over as lost.
+pub const TCP_LOST: FieldId = FieldId(269);
+/// `nd`: Neighbor Discovery for IPv6, behind the ICMPv6 checksum.
+pub const ND: FieldId = FieldId(270);
+/// `nd.reserved`: reserved bytes of a solicitation or a redirect, 4 bytes.
+pub const ND_RESERVED: FieldId = FieldId(271);
+/// `nd.ra.hop_limit`: hop limit for packets that are sent.
+pub const ND_RA_HOP_LIMIT: FieldId = FieldId(272);
+/// `nd.ra.managed`: addresses come by DHCPv6.
+pub const ND_RA_MANAGED: FieldId = FieldId(273);
+/// `nd.ra.other`: other configuration comes by DHCPv6.
+pub const ND_RA_OTHER: FieldId = FieldId(274);
+/// `nd.ra.lifetime`: seconds that the router serves as default.
+pub const ND_RA_LIFETIME: FieldId = FieldId(275);
+/// `nd.ra.reachable`: milliseconds that a neighbour counts as reachable.
+pub const ND_RA_REACHABLE: FieldId = FieldId(276);
+/// `nd.ra.retrans`: milliseconds between solicitations.
+pub const ND_RA_RETRANS: FieldId = FieldId(277);
+/// `nd.target`: address that is asked for, told of or led to.
+pub const ND_TARGET: FieldId = FieldId(278);
+/// `nd.na.router`: sent by a router.
+pub const ND_NA_ROUTER: FieldId = FieldId(279);
+/// `nd.na.solicited`: answers a solicitation.
+pub const ND_NA_SOLICITED: FieldId = FieldId(280);
+/// `nd.na.override`: replaces a kept link-layer address.
+pub const ND_NA_OVERRIDE: FieldId = FieldId(281);
+/// `nd.destination`: address whose packets are redirected.
+pub const ND_DESTINATION: FieldId = FieldId(282);
+/// `nd.opt.type`: type of an option.
+pub const ND_OPT_TYPE: FieldId = FieldId(283);
+/// `nd.opt.len`: length of an option, in units of 8 bytes.
+pub const ND_OPT_LEN: FieldId = FieldId(284);
+/// `nd.opt.value`: bytes of an option behind its length.
+pub const ND_OPT_VALUE: FieldId = FieldId(285);
+/// `nd.opt.lladdr`: link-layer address of an option.
+pub const ND_OPT_LLADDR: FieldId = FieldId(286);
+/// `nd.opt.prefix_len`: length of a prefix, in bits.
+pub const ND_OPT_PREFIX_LEN: FieldId = FieldId(287);
+/// `nd.opt.prefix_onlink`: addresses with the prefix are on the link.
+pub const ND_OPT_PREFIX_ONLINK: FieldId = FieldId(288);
+/// `nd.opt.prefix_auto`: the prefix serves for stateless configuration.
+pub const ND_OPT_PREFIX_AUTO: FieldId = FieldId(289);
+/// `nd.opt.prefix_valid`: seconds that the prefix is valid.
+pub const ND_OPT_PREFIX_VALID: FieldId = FieldId(290);
+/// `nd.opt.prefix_preferred`: seconds that its addresses are preferred.
+pub const ND_OPT_PREFIX_PREFERRED: FieldId = FieldId(291);
+/// `nd.opt.prefix`: prefix.
+pub const ND_OPT_PREFIX: FieldId = FieldId(292);
+/// `nd.opt.mtu`: MTU of the link.
+pub const ND_OPT_MTU: FieldId = FieldId(293);
+/// `igmp`: Internet Group Management Protocol, version 2.
+pub const IGMP: FieldId = FieldId(294);
+/// `igmp.type`: type of the message.
+pub const IGMP_TYPE: FieldId = FieldId(295);
+/// `igmp.max_resp`: most tenths of a second until a report.
+pub const IGMP_MAX_RESP: FieldId = FieldId(296);
+/// `igmp.checksum`: checksum.
+pub const IGMP_CHECKSUM: FieldId = FieldId(297);
+/// `igmp.maddr`: group address.
+pub const IGMP_MADDR: FieldId = FieldId(298);
+/// `ntp`: Network Time Protocol.
+pub const NTP: FieldId = FieldId(299);
+/// `ntp.flags.li`: leap indicator.
+pub const NTP_FLAGS_LI: FieldId = FieldId(300);
+/// `ntp.flags.vn`: version.
+pub const NTP_FLAGS_VN: FieldId = FieldId(301);
+/// `ntp.flags.mode`: mode.
+pub const NTP_FLAGS_MODE: FieldId = FieldId(302);
+/// `ntp.stratum`: stratum.
+pub const NTP_STRATUM: FieldId = FieldId(303);
+/// `ntp.ppoll`: most seconds between messages, as a power of 2.
+pub const NTP_PPOLL: FieldId = FieldId(304);
+/// `ntp.precision`: precision of the clock, its sign bit shown as a number.
+pub const NTP_PRECISION: FieldId = FieldId(305);
+/// `ntp.rootdelay`: round trip to the reference clock, in seconds by 65,536.
+pub const NTP_ROOTDELAY: FieldId = FieldId(306);
+/// `ntp.rootdispersion`: dispersion to the reference clock, in seconds by 65,536.
+pub const NTP_ROOTDISPERSION: FieldId = FieldId(307);
+/// `ntp.refid`: reference identifier, 4 bytes.
+pub const NTP_REFID: FieldId = FieldId(308);
+/// `ntp.reftime`: when the clock was last set, 8 bytes.
+pub const NTP_REFTIME: FieldId = FieldId(309);
+/// `ntp.org`: when the request left the client, 8 bytes.
+pub const NTP_ORG: FieldId = FieldId(310);
+/// `ntp.rec`: when the request came to the server, 8 bytes.
+pub const NTP_REC: FieldId = FieldId(311);
+/// `ntp.xmt`: when the message left, 8 bytes.
+pub const NTP_XMT: FieldId = FieldId(312);
+/// `mdns`: Multicast DNS.
+pub const MDNS: FieldId = FieldId(313);
+/// `mdns.id`: identifier of the query.
+pub const MDNS_ID: FieldId = FieldId(314);
+/// `mdns.flags`: all flags.
+pub const MDNS_FLAGS: FieldId = FieldId(315);
+/// `mdns.flags.response`: response.
+pub const MDNS_FLAGS_RESPONSE: FieldId = FieldId(316);
+/// `mdns.flags.opcode`: kind of query.
+pub const MDNS_FLAGS_OPCODE: FieldId = FieldId(317);
+/// `mdns.flags.authoritative`: authoritative answer.
+pub const MDNS_FLAGS_AUTHORITATIVE: FieldId = FieldId(318);
+/// `mdns.flags.truncated`: message truncated.
+pub const MDNS_FLAGS_TRUNCATED: FieldId = FieldId(319);
+/// `mdns.flags.recdesired`: recursion desired.
+pub const MDNS_FLAGS_RECDESIRED: FieldId = FieldId(320);
+/// `mdns.flags.recavail`: recursion available.
+pub const MDNS_FLAGS_RECAVAIL: FieldId = FieldId(321);
+/// `mdns.flags.z`: reserved bit.
+pub const MDNS_FLAGS_Z: FieldId = FieldId(322);
+/// `mdns.flags.authenticated`: authentic data.
+pub const MDNS_FLAGS_AUTHENTICATED: FieldId = FieldId(323);
+/// `mdns.flags.checkdisable`: checking disabled.
+pub const MDNS_FLAGS_CHECKDISABLE: FieldId = FieldId(324);
+/// `mdns.flags.rcode`: response code.
+pub const MDNS_FLAGS_RCODE: FieldId = FieldId(325);
+/// `mdns.count.queries`: number of questions.
+pub const MDNS_COUNT_QUERIES: FieldId = FieldId(326);
+/// `mdns.count.answers`: number of answers.
+pub const MDNS_COUNT_ANSWERS: FieldId = FieldId(327);
+/// `mdns.count.auth_rr`: number of authority records.
+pub const MDNS_COUNT_AUTH_RR: FieldId = FieldId(328);
+/// `mdns.count.add_rr`: number of additional records.
+pub const MDNS_COUNT_ADD_RR: FieldId = FieldId(329);
+/// `mdns.qry.name`: name asked for.
+pub const MDNS_QRY_NAME: FieldId = FieldId(330);
+/// `mdns.qry.type`: type asked for.
+pub const MDNS_QRY_TYPE: FieldId = FieldId(331);
+/// `mdns.qry.qu`: a unicast response is wanted.
+pub const MDNS_QRY_QU: FieldId = FieldId(332);
+/// `mdns.qry.class`: class asked for.
+pub const MDNS_QRY_CLASS: FieldId = FieldId(333);
+/// `mdns.resp.name`: name of a record's owner.
+pub const MDNS_RESP_NAME: FieldId = FieldId(334);
+/// `mdns.resp.type`: type of a record.
+pub const MDNS_RESP_TYPE: FieldId = FieldId(335);
+/// `mdns.resp.cache_flush`: the record replaces those kept before.
+pub const MDNS_RESP_CACHE_FLUSH: FieldId = FieldId(336);
+/// `mdns.resp.class`: class of a record.
+pub const MDNS_RESP_CLASS: FieldId = FieldId(337);
+/// `mdns.resp.ttl`: seconds that a record may be kept.
+pub const MDNS_RESP_TTL: FieldId = FieldId(338);
+/// `mdns.resp.len`: length of a record's data.
+pub const MDNS_RESP_LEN: FieldId = FieldId(339);
+/// `mdns.a`: IPv4 address.
+pub const MDNS_A: FieldId = FieldId(340);
+/// `mdns.aaaa`: IPv6 address.
+pub const MDNS_AAAA: FieldId = FieldId(341);
+/// `mdns.ns`: name server.
+pub const MDNS_NS: FieldId = FieldId(342);
+/// `mdns.cname`: canonical name.
+pub const MDNS_CNAME: FieldId = FieldId(343);
+/// `mdns.ptr.domain_name`: name pointed to.
+pub const MDNS_PTR_DOMAIN_NAME: FieldId = FieldId(344);
+/// `mdns.mx.preference`: preference of a mail exchange.
+pub const MDNS_MX_PREFERENCE: FieldId = FieldId(345);
+/// `mdns.mx.mail_exchange`: mail exchange.
+pub const MDNS_MX_MAIL_EXCHANGE: FieldId = FieldId(346);
+/// `mdns.soa.mname`: primary name server.
+pub const MDNS_SOA_MNAME: FieldId = FieldId(347);
+/// `mdns.soa.rname`: mailbox of who answers for the zone.
+pub const MDNS_SOA_RNAME: FieldId = FieldId(348);
+/// `mdns.soa.serial_number`: version of the zone.
+pub const MDNS_SOA_SERIAL_NUMBER: FieldId = FieldId(349);
+/// `mdns.soa.refresh_interval`: seconds until the zone is refreshed.
+pub const MDNS_SOA_REFRESH_INTERVAL: FieldId = FieldId(350);
+/// `mdns.soa.retry_interval`: seconds until a failed refresh is tried again.
+pub const MDNS_SOA_RETRY_INTERVAL: FieldId = FieldId(351);
+/// `mdns.soa.expire_limit`: seconds until the zone is no longer authoritative.
+pub const MDNS_SOA_EXPIRE_LIMIT: FieldId = FieldId(352);
+/// `mdns.soa.minimum_ttl`: least time to live in the zone.
+pub const MDNS_SOA_MINIMUM_TTL: FieldId = FieldId(353);
+/// `mdns.srv.priority`: priority of a host for a service.
+pub const MDNS_SRV_PRIORITY: FieldId = FieldId(354);
+/// `mdns.srv.weight`: weight among hosts of one priority.
+pub const MDNS_SRV_WEIGHT: FieldId = FieldId(355);
+/// `mdns.srv.port`: port of a service.
+pub const MDNS_SRV_PORT: FieldId = FieldId(356);
+/// `mdns.srv.target`: host of a service.
+pub const MDNS_SRV_TARGET: FieldId = FieldId(357);
+/// `mdns.txt`: text.
+pub const MDNS_TXT: FieldId = FieldId(358);
+/// `mdns.data`: data of another record.
+pub const MDNS_DATA: FieldId = FieldId(359);

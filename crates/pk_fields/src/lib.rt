@@ -3,12 +3,14 @@
 #![tactic(auto)]
 
 mod field_id;
+mod field_set;
 pub mod ids;
 mod registry;
 mod row;
 mod table;
 mod value_kind;
 
-pub use field_id::FieldId;
-pub use registry::{bits, by_name, kind, name, proto};
+pub use field_id::{FieldId, field_of};
+pub use field_set::FieldSet;
+pub use registry::{bits, by_name, kind, name, proto, size};
 pub use value_kind::{BitPlace, ValueKind};

@@ -1,13 +1,14 @@
-ghost use Rattle.std.specs.Prelude.{◌≡◌, ◌≢◌, ◌↔◌, ℕ, length, map, position, IsTrue, IfSome, IfNone, IsNone};
+ghost use Rattle.std.specs.Prelude.{◌≡◌, ◌≢◌, ◌↔◌, ◌-◌, ◌<◌, ℕ, length, map, take, drop, position, IsTrue, IfSome, IfNone, IsNone};
 ghost use Rattle.std.specs.Str.{bytes_eq};
 ghost use Rattle.pk_fields.specs.Fields.{IsField, row_of, field_named};
 ghost use Rattle.pk_fields.specs.Ids.{field_count};
-ghost use Rattle.pk_fields.specs.Rows.{IsKind, IsSound, has_no_bits, row_shown};
+ghost use Rattle.pk_fields.specs.Rows.{IsKind, IsSound, has_no_bits, row_shown, size_of_row};
 ghost use Rattle.pk_fields.specs.Table.{rows};
+ghost use Rattle.pk_fields.specs.Halves.{joined};
 
 use crate::field_id::FieldId;
 use crate::row::Row;
-use crate::table::TABLE;
+use crate::table::{FIRST, FIRST_ROWS, OTHERS, SIZES};
 use crate::value_kind::{BitPlace, ValueKind};
 
 /// The field or protocol of a name, where the table has the name.
@@ -54,6 +55,20 @@ pub fn bits(f: FieldId) -> Option<BitPlace>
     row_at(f).origin.bits()
 }
 
+/// How many bytes a field's item has, or 0 where its row has no bits.
+pub fn size(f: FieldId) -> usize
+    ensures { result ≡ size_of_row (row_of f) }
+{
+    usize::from(sizes()[f.0 as usize])
+}
+
+fn sizes() -> &'static [u8]
+    ensures sizes { result.now ≡ map size_of_row rows }
+    ensures len { length result.now ≡ field_count }
+{
+    &SIZES
+}
+
 /// The place of the first row with a name.
 fn place_of(name: &str) -> Option<usize>
     ensures computed { result ≡ field_named name.now }
@@ -61,11 +76,26 @@ fn place_of(name: &str) -> Option<usize>
     ensures named { IfSome result (λ f. IsField f × (row_of f).name ≡ name.now) }
     ensures none { IfNone result ((f : ℕ) → IsField f → (row_of f).name ≢ name.now) }
 {
-    first_place(table(), name)
+    joined(
+        first_place(first_rows(), name),
+        first_place(other_rows(), name),
+    )
+}
+
+/// A place among the first rows, else one among the others.
+fn joined(first: Option<usize>, other: Option<usize>) -> Option<usize>
+    requires { IfSome other (λ place. place < field_count) }
+    ensures { result ≡ joined 180 first other }
+{
+    match first {
+        Some(place) => Some(place),
+        None => Some(FIRST_ROWS + other?),
+    }
 }
 
 fn first_place(table: &[Row], name: &str) -> Option<usize>
-    ensures { result ≡ position (λ row. bytes_eq row.name.now name.now) table.now }
+    ensures place { result ≡ position (λ row. bytes_eq row.name.now name.now) table.now }
+    ensures inside { IfSome result (λ place. place < length table.now) }
 {
     table.iter().position(|row| row.name == name)
 }
@@ -74,14 +104,26 @@ fn row_at(f: FieldId) -> &'static Row
     ensures field { IsField f }
     ensures row { row_shown result.now ≡ row_of f }
 {
-    &table()[f.0 as usize]
+    let place = f.0 as usize;
+    if place < FIRST_ROWS {
+        &first_rows()[place]
+    } else {
+        &other_rows()[place - FIRST_ROWS]
+    }
 }
 
-fn table() -> &'static [Row]
-    ensures shown { map row_shown result.now ≡ rows }
-    ensures len { length result.now ≡ field_count }
+fn first_rows() -> &'static [Row]
+    ensures shown { map row_shown result.now ≡ take 180 rows }
+    ensures len { length result.now ≡ 180 }
 {
-    &TABLE
+    &FIRST
+}
+
+fn other_rows() -> &'static [Row]
+    ensures shown { map row_shown result.now ≡ drop 180 rows }
+    ensures len { length result.now ≡ field_count - 180 }
+{
+    &OTHERS
 }
 
 #[cfg(test)]

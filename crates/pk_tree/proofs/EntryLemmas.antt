@@ -1,7 +1,7 @@
 -- Adding entries to steps one by one.
-use Rattle.std.proofs.Common.{◌≡◌, ℕ, zero, suc, ◌+◌, ◌-◌, ◌<◌, ◌≤◌, List, [], ◌∷◌, ◌++◌, Option, Some, None, refl, sym, ap, ◌∙◌, arith, append_assoc, append-nil}
+use Rattle.std.proofs.Common.{◌≡◌, ℕ, zero, suc, ◌+◌, ◌-◌, ◌<◌, ◌≤◌, Bool, true, false, if◌then◌else◌, List, [], ◌∷◌, ◌++◌, Option, Some, None, MatchOption, refl, sym, ap, ◌∙◌, arith, append_assoc, append-nil}
 use Rattle.pk_tree.specs.declared.layout.Step.{Step}
-use Rattle.pk_tree.specs.Entries.{Entry, goes_on, ends, behind, then_at, then_on, repeated, Adds}
+use Rattle.pk_tree.specs.Entries.{Entry, goes_on, ends, behind, then_at, then_on, repeated, ReadsTo, Adds}
 use Rattle.pk_tree.specs.Layouts.{StepsFit}
 
 repeated-suc : (n : ℕ) (one : ℕ → Entry) (at : ℕ) → repeated (suc n) one at ≡ then_on (one at) (repeated n one)
@@ -61,3 +61,28 @@ pub fit_repeated : (proto count : ℕ) (one : ℕ → Entry) → ((at : ℕ) →
 unfolding repeated StepsFit
 fit_repeated proto zero one each at = tt
 fit_repeated proto (suc count) one each at = fit_then proto (one at) (repeated count one) (each at) (λ next. fit_repeated proto count one each next)
+
+-- an entry after which reading ends, or goes on at that place or behind it
+pub record GoesPast (least : ℕ) (entry : Entry) : Type 0 where
+  pub past : ReadsTo least entry
+
+pub past_if : (least : ℕ) (b : Bool) (x y : Entry) → (b ≡ true → GoesPast least x) → GoesPast least y → GoesPast least (if b then x else y)
+past_if least true x y one other = one refl
+past_if least false x y one other = other
+
+pub past_end : (least : ℕ) (steps : List Step) → GoesPast least (ends steps)
+past_end least steps = record { past = tt }
+
+pub less_past : (less least : ℕ) (next : Option ℕ) → less ≤ least → MatchOption next (Unit {0}) (λ at. least ≤ at) → MatchOption next (Unit {0}) (λ at. less ≤ at)
+less_past less least None lower past = tt
+less_past less least (Some at) lower past = omega arith
+
+then_past : (count at : ℕ) (steps : List Step) (next : Option ℕ) (more : ℕ → Entry) → MatchOption next (Unit {0}) (λ next. at + 1 ≤ next) → ((at : ℕ) → ReadsTo (at + count) (more at)) → ReadsTo (at + suc count) (then_at steps next more)
+then_past count at steps None more past rest = tt
+then_past count at steps (Some next) more past rest = less_past (at + suc count) (next + count) (more next).next (omega arith) (rest next)
+
+-- entries each of which takes at least one place
+pub repeated_past : (count : ℕ) (one : ℕ → Entry) → ((at : ℕ) → GoesPast (at + 1) (one at)) → (at : ℕ) → ReadsTo (at + count) (repeated count one at)
+unfolding repeated
+repeated_past zero one each at = omega arith
+repeated_past (suc count) one each at = then_past count at (one at).steps (one at).next (repeated count one) (each at).past (repeated_past count one each)

@@ -69,9 +69,9 @@ last_proto-push layers layer =
     proto_at-push layers layer (length (layers ++ layer ∷ []) - 1) (omega (arith, length_push layers layer))
 
 -- one more layer keeps a tree
-pub opened_fits : (layers : List Layer) (buffers : List (List ℕ)) (layer : Layer) → IsTree (record { layers = layers; buffers = buffers }) → IsProtocol layer.proto → IsInside buffers layer.span →
-    layer.nth ≡ layers_of layer.proto layers + 1 → Each (ItemFits buffers layer.proto) layer.items → length layers + 1 < 2 ^ 32 → IsTree (record { layers = layers ++ layer ∷ []; buffers = buffers })
-opened_fits layers buffers layer tree proto inside nth items room = record {
+pub opened_fits : (wanted : List ℕ) (layers : List Layer) (buffers : List (List ℕ)) (layer : Layer) → IsTree (record { layers = layers; buffers = buffers; wanted = wanted }) → IsProtocol layer.proto → IsInside buffers layer.span →
+    layer.nth ≡ layers_of layer.proto layers + 1 → Each (ItemFits buffers layer.proto) layer.items → length layers + 1 < 2 ^ 32 → IsTree (record { layers = layers ++ layer ∷ []; buffers = buffers; wanted = wanted })
+opened_fits wanted layers buffers layer tree proto inside nth items room = record {
   frame = tree.frame;
   count = omega (arith, length_push layers layer);
   layers = layers_fit_push buffers [] layers layer tree.layers (record { proto = proto; nth = nth; inside = inside; items = items });
@@ -119,9 +119,9 @@ layer_gets_set (first ∷ layers) zero layer item is = rw is refl
 layer_gets_set (first ∷ layers) (suc at) layer item is = ap (λ rest. first ∷ rest) (layer_gets_set layers at layer item is)
 
 -- one more item keeps a tree
-pub added_fits : (layers : List Layer) (buffers : List (List ℕ)) (at : ℕ) (item : Item) → IsTree (record { layers = layers; buffers = buffers }) → ItemFits buffers (proto_at layers at) item →
-    IsTree (record { layers = layer_gets layers at item; buffers = buffers })
-added_fits layers buffers at item tree one = record {
+pub added_fits : (wanted : List ℕ) (layers : List Layer) (buffers : List (List ℕ)) (at : ℕ) (item : Item) → IsTree (record { layers = layers; buffers = buffers; wanted = wanted }) → ItemFits buffers (proto_at layers at) item →
+    IsTree (record { layers = layer_gets layers at item; buffers = buffers; wanted = wanted })
+added_fits wanted layers buffers at item tree one = record {
   frame = tree.frame;
   count = rw (length-layer_gets layers at item) tree.count;
   layers = item_fits buffers [] layers at item tree.layers one;
@@ -130,7 +130,7 @@ added_fits layers buffers at item tree one = record {
 -- one more buffer
 place_fits_more : (buffers : List (List ℕ)) (bytes : List ℕ) (field : ℕ) (value : Value) (place : Place) → PlaceFits buffers field value place → PlaceFits (buffers ++ bytes ∷ []) field value place
 place_fits_more buffers bytes field value (Read span) fit =
-    (inside_more buffers bytes span fit.0, fit.1, rw (bytes_of-more buffers bytes span fit.0) fit.2)
+    (inside_more buffers bytes span fit.0, fit.1, rw (bytes_of-more buffers bytes span fit.0) fit.2, fit.3)
 place_fits_more buffers bytes field value (Derived span) fit = inside_more buffers bytes span fit
 place_fits_more buffers bytes field value Made fit = tt
 
@@ -158,8 +158,8 @@ layers_fit_more buffers bytes before (layer ∷ layers) fit = (
 )
 
 -- one more buffer keeps a tree
-pub widened_fits : (layers : List Layer) (buffers : List (List ℕ)) (bytes : List ℕ) → IsTree (record { layers = layers; buffers = buffers }) → IsTree (record { layers = layers; buffers = buffers ++ bytes ∷ [] })
-widened_fits layers buffers bytes tree = record {
+pub widened_fits : (wanted : List ℕ) (layers : List Layer) (buffers : List (List ℕ)) (bytes : List ℕ) → IsTree (record { layers = layers; buffers = buffers; wanted = wanted }) → IsTree (record { layers = layers; buffers = buffers ++ bytes ∷ []; wanted = wanted })
+widened_fits wanted layers buffers bytes tree = record {
   frame = omega (arith, length_push buffers bytes);
   count = tree.count;
   layers = layers_fit_more buffers bytes [] layers tree.layers;

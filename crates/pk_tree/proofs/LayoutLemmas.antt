@@ -1,7 +1,8 @@
 -- What the steps of a layer add, one by one and all together.
-use Rattle.std.proofs.Common.{◌≡◌, ℕ, zero, suc, ◌+◌, ◌-◌, ◌<◌, Bool, true, false, ◌&&◌, List, [], ◌∷◌, ◌++◌, length, get_or, drop, refl, sym, ap, ◌∙◌, arith, append_assoc, append-nil}
+use Rattle.std.proofs.Common.{◌≡◌, ℕ, zero, suc, ◌+◌, ◌-◌, ◌<◌, Bool, true, false, ◌&&◌, cond, List, [], ◌∷◌, ◌++◌, length, get_or, drop, refl, sym, ap, ◌∙◌, arith, append_assoc, append-nil}
 use Rattle.std.proofs.lemmas.List.{drop_more, length_push}
 use Rattle.pk_base.specs.declared.span.Span.{Span}
+use Rattle.pk_fields.specs.FieldSets.{is_in}
 use Rattle.pk_tree.specs.declared.heads.Mode.{Mode}
 use Rattle.pk_tree.specs.declared.item.Item.{Item}
 use Rattle.pk_tree.specs.declared.layer.Layer.{Layer}
@@ -9,7 +10,8 @@ use Rattle.pk_tree.specs.declared.layout.Step.{Step}
 use Rattle.pk_tree.specs.declared.layout.Reach.{Reach}
 use Rattle.pk_tree.specs.declared.layout.Reach.TheVariants.{All, Short, Failed}
 use Rattle.pk_tree.specs.Layouts.{is_all, step_reach, step_items, items_after, items_read, reach, reaches_end, fault_of, with_fault, layer_read, with_items}
-use Rattle.pk_tree.specs.Trees.{TreeShown, with_layer, with_item, with_item_at, layer_gets, layers_of}
+use Rattle.pk_tree.specs.Trees.{TreeShown, with_layer, with_item, with_last, with_item_at, layer_gets, layers_of, kept}
+use Rattle.pk_tree.proofs.KeptLemmas.{kept-push}
 
 pub with_items-append : (t : TreeShown) (xs ys : List Item) → with_items t (xs ++ ys) ≡ with_items (with_items t xs) ys
 unfolding with_items
@@ -79,11 +81,27 @@ gets_last (first ∷ layers) layer item zero here = absurd (omega arith)
 gets_last (first ∷ layers) layer item (suc at) here = ap (λ rest. first ∷ rest) (gets_last layers layer item at (omega arith))
 
 with_item-layer : (t : TreeShown) (proto : ℕ) (span : Span) (items : List Item) (item : Item) → with_item (with_layer t proto span items) item ≡ with_layer t proto span (items ++ item ∷ [])
-unfolding with_item with_item_at with_layer
-with_item-layer t proto span items item =
-    let layer : Layer = record { proto = proto; nth = layers_of proto t.layers + 1; span = span; items = items } in
-    let last : length t.layers ≡ length (t.layers ++ layer ∷ []) - 1 = omega (arith, length_push t.layers layer) in
-    ap (λ (layers : List Layer). record t { layers = layers }) (gets_last t.layers layer item (length (t.layers ++ layer ∷ []) - 1) last)
+unfolding with_item with_last with_item_at with_layer
+with_item-layer t proto span items item = by_test (is_in t.wanted item.field) refl
+  where
+    of_items : List Item → Layer
+    of_items held = record { proto = proto; nth = layers_of proto t.layers + 1; span = span; items = held }
+
+    longer : List Item → TreeShown
+    longer held = record t { layers = t.layers ++ of_items held ∷ [] }
+
+    layer : Layer
+    layer = of_items (kept t.wanted items)
+
+    by_test : (test : Bool) → is_in t.wanted item.field ≡ test → cond (is_in t.wanted item.field) (record t { layers = layer_gets (t.layers ++ layer ∷ []) (length (t.layers ++ layer ∷ []) - 1) item }) (longer (kept t.wanted items)) ≡ longer (kept t.wanted (items ++ item ∷ []))
+    by_test true is =
+        let last : length t.layers ≡ length (t.layers ++ layer ∷ []) - 1 = omega (arith, length_push t.layers layer) in
+        let gets = gets_last t.layers layer item (length (t.layers ++ layer ∷ []) - 1) last in
+        let items_same : kept t.wanted (items ++ item ∷ []) ≡ kept t.wanted items ++ item ∷ [] = rw is at (kept-push t.wanted items item) in
+        rw (is, items_same) (ap (λ (layers : List Layer). record t { layers = layers }) gets)
+    by_test false is =
+        let items_same : kept t.wanted (items ++ item ∷ []) ≡ kept t.wanted items = rw is at (kept-push t.wanted items item) in
+        rw (is, items_same) refl
 
 pub with_items-layer : (t : TreeShown) (proto : ℕ) (span : Span) (items more : List Item) → with_items (with_layer t proto span items) more ≡ with_layer t proto span (items ++ more)
 unfolding with_items

@@ -1,6 +1,10 @@
 pub mod EntryLemmas
 pub mod FieldLemmas
+pub mod KeptLemmas
+pub mod KeptTrees
+pub mod KeptValues
 pub mod LayersFit
 pub mod LayoutLemmas
 pub mod Numbers
 pub mod Readable
+pub mod TableLemmas

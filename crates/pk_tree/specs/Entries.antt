@@ -1,6 +1,6 @@
 -- Layouts whose rows depend on the rows before them, such as lists of options or records: entries, each with its steps
 -- and the place where the next one begins.
-use Rattle.std.specs.Prelude.{◌≡◌, ℕ, zero, suc, List, [], ◌++◌, Option, Some, None}
+use Rattle.std.specs.Prelude.{◌≡◌, ℕ, zero, suc, ◌≤◌, List, [], ◌++◌, Option, Some, None, MatchOption}
 use Rattle.pk_tree.specs.declared.layout.Step.{Step}
 
 -- steps, and where reading goes on, or none where it ends with them
@@ -30,6 +30,10 @@ then_on entry more = then_at entry.steps entry.next more
 unfoldable pub repeated : ℕ → (ℕ → Entry) → ℕ → Entry
 repeated zero one at = goes_on [] at
 repeated (suc n) one at = then_on (one at) (repeated n one)
+
+-- reading ends with an entry, or has got to a place or behind it
+abbrev pub ReadsTo : ℕ → Entry → Type 0
+ReadsTo least entry = MatchOption entry.next (Unit {0}) (λ at. least ≤ at)
 
 -- what adding an entry to steps leaves, and answers: where reading goes on
 pub record Adds (old new : List Step) (entry : Entry) (answer : Option ℕ) : Type 0 where

@@ -7,11 +7,15 @@ use Rattle.pk_tree.specs.declared.heads.After.TheVariants as afters
 use Rattle.pk_tree.specs.declared.heads.Next.{Next}
 use Rattle.pk_tree.specs.Layouts.{within}
 
+-- the bytes behind a header of so many bytes
+abbrev pub behind : Span → ℕ → Span
+behind span header = within span header (span.len - header)
+
 -- the bytes behind a header of so many bytes are of this protocol; where there are none, as where the header itself isn't
 -- whole, nothing follows
 abbrev pub carried : Next → Span → ℕ → After
 carried next span header =
-    if nat_lt header span.len then afters.Next next (within span header (span.len - header)) else afters.End
+    if nat_lt header span.len then afters.Next next (behind span header) else afters.End
 
 -- a span's first bytes, as many as that or as there are
 abbrev pub first_of : Span → ℕ → Span

@@ -1,11 +1,11 @@
 -- What a field's values are, and what its row reads from bytes.
-use Rattle.std.specs.Prelude.{◌≡◌, ◌==◌, ℕ, ◌+◌, ◌*◌, ◌/◌, ◌^◌, ◌<◌, Bool as Truth, true, false, ◌&&◌, not, List, Option, Some, None}
+use Rattle.std.specs.Prelude.{◌≡◌, ◌==◌, ℕ, ◌*◌, ◌^◌, ◌<◌, Bool as Truth, true, false, ◌&&◌, not, List, Option, Some, None}
 use Rattle.std.specs.Option.{option_map_or}
 use Rattle.pk_base.specs.Bits.{number_of_bits}
 use Rattle.pk_fields.specs.declared.value_kind.ValueKind.{ValueKind}
 use Rattle.pk_fields.specs.declared.value_kind.ValueKind.TheVariants as kinds
 use Rattle.pk_fields.specs.declared.value_kind.BitPlace.{BitPlace}
-use Rattle.pk_fields.specs.Rows.{FieldRow, is_marked}
+use Rattle.pk_fields.specs.Rows.{FieldRow, is_marked, size_of_place, size_of_row}
 use Rattle.pk_fields.specs.Fields.{row_of}
 use Rattle.pk_tree.specs.declared.value.Value.{Value}
 use Rattle.pk_tree.specs.declared.value.Value.TheVariants as values
@@ -41,13 +41,9 @@ is_whole kinds.Bytes = true
 is_whole kinds.Text = true
 is_whole kind = false
 
--- the whole bytes from the first one, in which the bits begin, to the last that has one
-abbrev pub size_of_place : BitPlace → ℕ
-size_of_place place = (place.first + place.width + 7) / 8
-
 -- the bytes of a field's item; 0 where its row has no size of its own
 abbrev pub size_of : ℕ → ℕ
-size_of field = option_map_or size_of_place (row_of field).bits 0
+size_of field = size_of_row (row_of field)
 
 -- bytes that a row reads its value from; a row without bits reads any
 abbrev pub HasSize : Option BitPlace → ℕ → Type 0

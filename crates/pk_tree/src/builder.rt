@@ -1,7 +1,8 @@
-ghost use Rattle.std.specs.Prelude.{◌≡◌, ℕ, List, ◌+◌, ◌-◌, ◌<◌, ◌^◌, [], ◌∷◌, ◌++◌, length, vec_len, IfOk, IsTrue, OnErr, OnOk};
+ghost use Rattle.std.specs.Prelude.{◌≡◌, ℕ, List, ◌+◌, ◌-◌, ◌<◌, ◌^◌, false, [], ◌∷◌, ◌++◌, length, vec_len, IfOk, IsTrue, OnErr, OnOk};
 ghost use Rattle.pk_buffer.specs.Buffers.{IsInside, bytes_of, buffer_of};
 ghost use Rattle.pk_fields.specs.Fields.{row_of};
-ghost use Rattle.pk_tree.specs.Trees.{IsTree, ItemFits, LayersFit, layers_of, layer_gets, proto_at, last_proto, with_layer, with_item, with_buffer, read_of, derived_of, made_of};
+ghost use Rattle.pk_fields.specs.FieldSets.{is_in, every_field};
+ghost use Rattle.pk_tree.specs.Trees.{IsTree, ItemFits, LayersFit, layers_of, layer_gets, proto_at, last_proto, with_layer, with_item, with_last, with_buffer, read_of, derived_of, made_of};
 ghost use Rattle.pk_tree.specs.Values.{IsOfKind, IsProtocol, HasSize, is_read};
 
 use crate::item::{Item, Items, Place};
@@ -11,7 +12,7 @@ use crate::tree::Tree;
 use crate::value::Value;
 use pk_base::{NoMemory, Octets, Span};
 use pk_buffer::Buffers;
-use pk_fields::FieldId;
+use pk_fields::{FieldId, FieldSet};
 use std::alloc::Global;
 use std::marker::Model;
 
@@ -23,6 +24,7 @@ const FEW_LAYERS: usize = 8;
 pub struct TreeBuilder {
     layers: Vec<Layer>,
     buffers: Buffers,
+    wanted: FieldSet,
     alloc: Global,
 }
 
@@ -31,16 +33,24 @@ impl Model for TreeBuilder {
 
     ghost Value = { TreeShown };
 
-    ghost view = { λ t. record { layers = t.layers.items; buffers = t.buffers } };
+    ghost view = { λ t. record { layers = t.layers.items; buffers = t.buffers; wanted = t.wanted } };
 
-    ghost invariant = { λ t. IsTree (record { layers = t.layers.items; buffers = t.buffers }) };
+    ghost invariant = { λ t. IsTree (record { layers = t.layers.items; buffers = t.buffers; wanted = t.wanted }) };
 }
 
 impl TreeBuilder {
     /// A tree without layers, whose first buffer is the frame's bytes.
     pub fn new(alloc: Global, frame: Octets) -> Result<TreeBuilder, NoMemory>
         requires { length frame < 2 ^ 32 }
-        ensures { IfOk result (λ t. t ≡ record { layers = []; buffers = frame ∷ [] }) }
+        ensures { IfOk result (λ t. t ≡ record { layers = []; buffers = frame ∷ []; wanted = every_field }) }
+    {
+        TreeBuilder::keeping(alloc, frame, FieldSet::all())
+    }
+
+    /// As `new`, for a tree that has only the items of the wanted fields.
+    pub fn keeping(alloc: Global, frame: Octets, wanted: FieldSet) -> Result<TreeBuilder, NoMemory>
+        requires { length frame < 2 ^ 32 }
+        ensures { IfOk result (λ t. t ≡ record { layers = []; buffers = frame ∷ []; wanted = wanted }) }
     {
         let mut buffers = Buffers::new(alloc);
         buffers.add(frame)?;
@@ -48,8 +58,23 @@ impl TreeBuilder {
         Ok(TreeBuilder {
             layers,
             buffers,
+            wanted,
             alloc,
         })
+    }
+
+    /// Whether the items of a field are kept.
+    pub fn wants(&self, field: FieldId) -> bool
+        ensures { result ≡ is_in self.now.wanted field }
+    {
+        self.wanted.contains(field)
+    }
+
+    /// Whether items of a protocol's fields may be kept.
+    pub fn asks(&self, protocol: FieldId) -> bool
+        ensures { result ≡ false → (f : ℕ) → (row_of f).proto ≡ protocol → is_in self.now.wanted f ≡ false }
+    {
+        self.wanted.has_any_of(protocol)
     }
 
     /// Adds a layer without items behind the others.
@@ -92,7 +117,8 @@ impl TreeBuilder {
         Ok(())
     }
 
-    /// Adds the item that a field's row reads in a span.
+    /// Adds the item that a field's row reads in a span, if the field is wanted.
+    #[tactic(auto, unfolding(crate::specs::Trees::with_item))]
     pub fn read_item(&mut self, field: FieldId, span: Span) -> Result<(), NoMemory>
         requires inside { IsInside self.old.buffers span }
         requires read { IsTrue (is_read (row_of field)) }
@@ -105,6 +131,9 @@ impl TreeBuilder {
         ensures count { length self.new.layers ≡ length self.old.layers }
         ensures last { last_proto self.new.layers ≡ last_proto self.old.layers }
     {
+        if !self.wants(field) {
+            return Ok(());
+        }
         let value = read_value(&self.buffers, field, span)?;
         let item = Item {
             field,
@@ -114,7 +143,8 @@ impl TreeBuilder {
         self.push_item(item)
     }
 
-    /// Adds an item whose value a rule works out from a span.
+    /// Adds an item whose value a rule works out from a span, if its field is wanted.
+    #[tactic(auto, unfolding(crate::specs::Trees::with_item))]
     pub fn derived_item(&mut self, field: FieldId, value: Value, span: Span) -> Result<(), NoMemory>
         requires inside { IsInside self.old.buffers span }
         requires kind { IsOfKind (row_of field).kind value }
@@ -126,6 +156,9 @@ impl TreeBuilder {
         ensures count { length self.new.layers ≡ length self.old.layers }
         ensures last { last_proto self.new.layers ≡ last_proto self.old.layers }
     {
+        if !self.wants(field) {
+            return Ok(());
+        }
         let item = Item {
             field,
             value,
@@ -134,7 +167,8 @@ impl TreeBuilder {
         self.push_item(item)
     }
 
-    /// Adds an item whose value has no place.
+    /// Adds an item whose value has no place, if its field is wanted.
+    #[tactic(auto, unfolding(crate::specs::Trees::with_item))]
     pub fn made_item(&mut self, field: FieldId, value: Value) -> Result<(), NoMemory>
         requires kind { IsOfKind (row_of field).kind value }
         requires layer { 0 < length self.old.layers }
@@ -145,6 +179,9 @@ impl TreeBuilder {
         ensures count { length self.new.layers ≡ length self.old.layers }
         ensures last { last_proto self.new.layers ≡ last_proto self.old.layers }
     {
+        if !self.wants(field) {
+            return Ok(());
+        }
         let item = Item {
             field,
             value,
@@ -177,6 +214,14 @@ impl TreeBuilder {
         self.buffers.bytes(s)
     }
 
+    /// The bytes of a span, shared and not copied.
+    pub fn part(&self, s: Span) -> Result<Octets, NoMemory>
+        requires { IsInside self.now.buffers s }
+        ensures { IfOk result (λ part. part ≡ bytes_of self.now.buffers s) }
+    {
+        self.buffers.part(s)
+    }
+
     /// Where the tree takes its memory from, for what the reading of a layer needs beside the tree.
     pub fn alloc(&self) -> Global {
         self.alloc
@@ -202,13 +247,13 @@ impl TreeBuilder {
         ensures tree { result ≡ self }
         ensures fits { IsTree result }
     {
-        Tree::from_parts(self.layers, self.buffers, self.alloc)
+        Tree::from_parts(self.layers, self.buffers, self.wanted, self.alloc)
     }
 
     fn push_item(&mut self, item: Item) -> Result<(), NoMemory>
         requires fits { ItemFits self.old.buffers (last_proto self.old.layers) item }
         requires layer { 0 < length self.old.layers }
-        ensures ok { OnOk result (self.new ≡ with_item self.old item) }
+        ensures ok { OnOk result (self.new ≡ with_last self.old item) }
         ensures err { OnErr result (self.new ≡ self.old) }
         ensures buffers { self.new.buffers ≡ self.old.buffers }
         ensures count { length self.new.layers ≡ length self.old.layers }

@@ -48,7 +48,8 @@ pub enum Layers {
 impl Layers {
     ghost use Rattle.pk_tree.specs.Chosen.{is_chosen};
 
-    pub(crate) fn contains(&self, nth: u32) -> bool
+    /// Whether the layer of a number is among them.
+    pub fn contains(&self, nth: u32) -> bool
         ensures { result ≡ is_chosen self.now nth }
     {
         match self {

@@ -1,6 +1,6 @@
 ghost use Rattle.std.specs.Prelude.{◌≡◌, ℕ, ◌+◌, ◌^◌, ◌<◌, ◌≤◌, List};
 ghost use Rattle.pk_buffer.specs.Buffers.{IsInside};
-ghost use Rattle.pk_tree.specs.Following.{carried, first_of, LeadsInside};
+ghost use Rattle.pk_tree.specs.Following.{behind, carried, first_of, LeadsInside};
 
 use crate::heads::{After, Next};
 use pk_base::Span;
@@ -12,16 +12,23 @@ pub fn carried(next: Next, span: Span, header: u32) -> After
     ensures inside { (buffers : List (List ℕ)) → IsInside buffers span → LeadsInside buffers result }
 {
     if header < span.len {
-        After::Next(
-            next,
-            Span {
-                buffer: span.buffer,
-                start: span.start + header,
-                len: span.len - header,
-            },
-        )
+        After::Next(next, behind(span, header))
     } else {
         After::End
+    }
+}
+
+/// The bytes behind a header of so many bytes.
+pub fn behind(span: Span, header: u32) -> Span
+    requires header { header ≤ span.len }
+    requires end { span.start + span.len < 2 ^ 32 }
+    ensures behind { result ≡ behind span header }
+    ensures inside { (buffers : List (List ℕ)) → IsInside buffers span → IsInside buffers result }
+{
+    Span {
+        buffer: span.buffer,
+        start: span.start + header,
+        len: span.len - header,
     }
 }
 

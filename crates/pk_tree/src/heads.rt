@@ -38,6 +38,9 @@ pub enum Next {
     Routing,
     DstOpts,
     FragHdr,
+    /// What a message of neighbour discovery carries behind its checksum, by the message's type.
+    Neigh(u8),
+    Igmp,
     /// None that is read: the bytes are shown as data.
     Rest,
 }

@@ -10,7 +10,7 @@ use crate::builder::TreeBuilder;
 use crate::heads::Mode;
 use crate::value::Value;
 use pk_base::{NoMemory, Span, be_bits};
-use pk_fields::{FieldId, bits, ids};
+use pk_fields::{FieldId, ids};
 
 /// One step of a layer's reading. Places are counted from the layer's first byte.
 #[derive(Drop)]
@@ -101,7 +101,11 @@ pub fn read_layer(
 }
 
 /// Reads the steps one by one, up to the first that can't be read.
-fn read_steps(tree: &mut TreeBuilder, span: Span, steps: &[Step]) -> Result<Reach, NoMemory>
+pub(crate) fn read_steps(
+    tree: &mut TreeBuilder,
+    span: Span,
+    steps: &[Step],
+) -> Result<Reach, NoMemory>
     requires inside { IsInside tree.old.buffers span }
     requires layer { 0 < length tree.old.layers }
     requires fits { StepsFit (last_proto tree.old.layers) steps.now }
@@ -143,7 +147,7 @@ fn read_step(tree: &mut TreeBuilder, span: Span, step: &Step) -> Result<Reach, N
 }
 
 #[tactic(auto, unfolding(crate::specs::Layouts::with_items))]
-fn read_some(
+pub(crate) fn read_some(
     tree: &mut TreeBuilder,
     span: Span,
     field: FieldId,
@@ -168,7 +172,7 @@ fn read_some(
 }
 
 #[tactic(auto, unfolding(crate::specs::Layouts::with_items))]
-fn read_part(
+pub(crate) fn read_part(
     tree: &mut TreeBuilder,
     span: Span,
     field: FieldId,
@@ -195,7 +199,7 @@ fn read_part(
     }
 }
 
-#[tactic(auto, unfolding(crate::specs::Layouts::with_items))]
+#[tactic(auto, unfolding(crate::specs::Layouts::with_items, crate::specs::Trees::with_item))]
 fn derive_part(
     tree: &mut TreeBuilder,
     span: Span,
@@ -216,6 +220,9 @@ fn derive_part(
 {
     match part(tree, span, at, len) {
         Some(place) => {
+            if !tree.wants(field) {
+                return Ok(Reach::All);
+            }
             tree.derived_item(field, value.clone()?, place)?;
             Ok(Reach::All)
         }
@@ -223,7 +230,7 @@ fn derive_part(
     }
 }
 
-#[tactic(auto, unfolding(crate::specs::Layouts::with_items))]
+#[tactic(auto, unfolding(crate::specs::Layouts::with_items, crate::specs::Trees::with_item))]
 fn make(tree: &mut TreeBuilder, field: FieldId, value: &Value) -> Result<Reach, NoMemory>
     requires layer { 0 < length tree.old.layers }
     requires belongs { (row_of field).proto ≡ last_proto tree.old.layers }
@@ -234,6 +241,9 @@ fn make(tree: &mut TreeBuilder, field: FieldId, value: &Value) -> Result<Reach, 
     ensures count { length tree.new.layers ≡ length tree.old.layers }
     ensures last { last_proto tree.new.layers ≡ last_proto tree.old.layers }
 {
+    if !tree.wants(field) {
+        return Ok(Reach::All);
+    }
     tree.made_item(field, value.clone()?)?;
     Ok(Reach::All)
 }
@@ -261,14 +271,11 @@ fn size(field: FieldId) -> usize
     ensures size { result ≡ size_of field }
     ensures fits { HasSize (row_of field).bits result }
 {
-    match bits(field) {
-        Some(place) => (usize::from(place.first) + usize::from(place.width)).div_ceil(8),
-        None => 0,
-    }
+    pk_fields::size(field)
 }
 
 /// Adds the fault layer behind a layer, where one follows.
-fn close_layer(
+pub(crate) fn close_layer(
     tree: &mut TreeBuilder,
     span: Span,
     reach: Reach,

@@ -2,8 +2,8 @@ ghost use Rattle.std.specs.Prelude.{◌≡◌, ◌+◌, ◌≤◌, ◌*◌, ◌<
 ghost use Rattle.pk_base.specs.Bits.{number_of_bits};
 ghost use Rattle.pk_buffer.specs.Buffers.{IsInside, bytes_of};
 ghost use Rattle.pk_fields.specs.Fields.{row_of};
-ghost use Rattle.pk_fields.specs.Rows.{IsSound};
-ghost use Rattle.pk_tree.specs.Values.{IsOfKind, is_read, is_whole, HasSize, value_of, value_with, size_of_place, scaled};
+ghost use Rattle.pk_fields.specs.Rows.{IsSound, size_of_place};
+ghost use Rattle.pk_tree.specs.Values.{IsOfKind, is_read, is_whole, HasSize, value_of, value_with, scaled};
 
 use crate::value::Value;
 use pk_base::{NoMemory, Span, be_bits};

@@ -1,11 +1,14 @@
-ghost use Rattle.std.specs.Prelude.{◌≡◌, ◌≤◌};
+ghost use Rattle.std.specs.Prelude.{◌≡◌, ℕ, Bool as Truth, List, ◌≤◌};
+ghost use Rattle.pk_fields.specs.Ids.{IP};
+ghost use Rattle.pk_tree.specs.Layouts.{StepsFit};
+ghost use Rattle.pk_tree.specs.Tables.{steps_of};
 
 use crate::{
-    Items, LayerList, LayerRange, LayerRanges, Layers, Mode, Place, Reach, Step, Tree, TreeBuilder,
-    Value, peek, read_layer,
+    Items, LayerList, LayerRange, LayerRanges, Layers, Mode, Place, Reach, Slot, Step, Tree,
+    TreeBuilder, Value, pass_layer, peek, read_layer, read_table,
 };
 use pk_base::{NoMemory, Octets, Span};
-use pk_fields::ids;
+use pk_fields::{FieldSet, ids};
 
 /// An IPv4 header around another (RFC 791, 3.1; RFC 2003): from 10.0.0.1 to 10.0.0.2, and from 192.168.0.1 to
 /// 192.168.0.2, which must not be fragmented.
@@ -189,5 +192,84 @@ fn lists_keep_what_they_are_made_of(rt: HostRuntime) -> Result<(), NoMemory> {
     assert!(rt; ranges.slice() == [LayerRange { from: 1, to: 2 }].as_slice());
     assert!(rt; Items::from_vec(Vec::new(rt.alloc())).slice().is_empty());
     assert!(rt; LayerList::from_vec(Vec::new(rt.alloc())).slice().is_empty());
+    Ok(())
+}
+
+/// Rows of an IPv4 header.
+static ROWS: [Slot; 5] = [
+    Slot::Row(ids::IP_VERSION.0, 0),
+    Slot::Check(0),
+    Slot::Row(ids::IP_SRC.0, 12),
+    Slot::Part(ids::IP_OPTIONS.0, 20, 0),
+    Slot::Room(1),
+];
+
+#[tactic(auto, unfolding(crate::specs::Tables::steps_of, crate::specs::Layouts::StepsFit, pk_fields::specs::Fields::row_of, pk_fields::specs::Table::rows))]
+fn rows() -> &'static [Slot]
+    ensures { (holds : List Truth) (sizes : List ℕ) → StepsFit IP (steps_of holds sizes result.now) }
+{
+    &ROWS
+}
+
+#[test]
+fn a_table_is_read_as_far_as_its_fields_are_wanted(rt: HostRuntime) -> Result<(), NoMemory> {
+    let mut wanted = FieldSet::none();
+    wanted.add(ids::IP_SRC);
+    let frame = Octets::copy(rt.alloc(), &PACKET)?;
+    let mut builder = TreeBuilder::keeping(rt.alloc(), frame, wanted)?;
+    assert!(rt; builder.asks(ids::IP) && !builder.asks(ids::UDP) && !builder.wants(ids::IP_DST));
+    let reach = read_table(
+        &mut builder,
+        ids::IP,
+        span(0, 20),
+        rows(),
+        &[true, true],
+        &[0],
+        &[],
+        Mode::Plain,
+        false,
+    )?;
+    assert!(rt; reach.is_all());
+    let failed = read_table(
+        &mut builder,
+        ids::IP,
+        span(20, 20),
+        rows(),
+        &[false, true],
+        &[0],
+        &[],
+        Mode::Plain,
+        false,
+    )?;
+    assert!(rt; !failed.is_all());
+    assert!(rt; builder.part(span(20, 2))?.bytes() == b"\x45\x00".as_slice());
+    let tree = builder.finish();
+    let counts = match tree.layers() {
+        [outer, inner, fault] => {
+            outer.items.slice().len() == 1
+                && inner.items.slice().is_empty()
+                && fault.proto == ids::WS_MALFORMED
+        }
+        _ => false,
+    };
+    assert!(rt; counts);
+    Ok(())
+}
+
+#[test]
+fn a_layer_that_nobody_asks_for_is_passed(rt: HostRuntime) -> Result<(), NoMemory> {
+    let frame = Octets::copy(rt.alloc(), &PACKET)?;
+    let mut builder = TreeBuilder::keeping(rt.alloc(), frame, FieldSet::none())?;
+    if !builder.asks(ids::IP) {
+        pass_layer(
+            &mut builder,
+            ids::IP,
+            span(0, 20),
+            Reach::All,
+            Mode::Plain,
+            false,
+        )?;
+    }
+    assert_eq!(rt; builder.layer_count(), 1);
     Ok(())
 }

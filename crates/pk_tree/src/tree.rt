@@ -13,7 +13,7 @@ use crate::layer::{Layer, push_at};
 use crate::value::Value;
 use pk_base::NoMemory;
 use pk_buffer::Buffers;
-use pk_fields::{FieldId, ValueKind, kind, proto};
+use pk_fields::{FieldId, FieldSet, ValueKind, kind, proto};
 use std::alloc::Global;
 use std::marker::Model;
 
@@ -22,6 +22,8 @@ use std::marker::Model;
 pub struct Tree {
     layers: Vec<Layer>,
     buffers: Buffers,
+    /// The fields whose items were kept.
+    wanted: FieldSet,
     alloc: Global,
 }
 
@@ -30,19 +32,25 @@ impl Model for Tree {
 
     ghost Value = { TreeShown };
 
-    ghost view = { λ t. record { layers = t.layers.items; buffers = t.buffers } };
+    ghost view = { λ t. record { layers = t.layers.items; buffers = t.buffers; wanted = t.wanted } };
 
-    ghost invariant = { λ t. IsTree (record { layers = t.layers.items; buffers = t.buffers }) };
+    ghost invariant = { λ t. IsTree (record { layers = t.layers.items; buffers = t.buffers; wanted = t.wanted }) };
 }
 
 impl Tree {
-    pub(crate) fn from_parts(layers: Vec<Layer>, buffers: Buffers, alloc: Global) -> Tree
-        requires { IsTree (record { layers = layers.items; buffers = buffers }) }
-        ensures { result ≡ record { layers = layers.items; buffers = buffers } }
+    pub(crate) fn from_parts(
+        layers: Vec<Layer>,
+        buffers: Buffers,
+        wanted: FieldSet,
+        alloc: Global,
+    ) -> Tree
+        requires { IsTree (record { layers = layers.items; buffers = buffers; wanted = wanted }) }
+        ensures { result ≡ record { layers = layers.items; buffers = buffers; wanted = wanted } }
     {
         Tree {
             layers,
             buffers,
+            wanted,
             alloc,
         }
     }

@@ -6,7 +6,7 @@ use Rattle.pk_tree.proofs.tree.Tree.add_made.Goals as goal
 pub invariant_of-self-2 : goal.invariant_of-self-2
 invariant_of-self-2 c =
     let belongs = rw (← c.self.view_is) at c.requires.belongs in
-    rw c.in_ok-push_at.ensures.ok (added_fits c.self.inside.layers.items c.self.inside.buffers c.args.layer (made_of c.args.field c.args.value) c.self.invariant (record { belongs = belongs; kind = c.requires.kind; place = tt }))
+    rw c.in_ok-push_at.ensures.ok (added_fits c.self.inside.wanted c.self.inside.layers.items c.self.inside.buffers c.args.layer (made_of c.args.field c.args.value) c.self.invariant (record { belongs = belongs; kind = c.requires.kind; place = tt }))
 
 pub returns-clause-ok : goal.returns-clause-ok
 unfolding with_item_at

@@ -1,0 +1,112 @@
+ghost use Rattle.std.specs.Prelude.{◌≡◌, ◌==◌, ◌||◌, ◌<◌, ◌*◌, ◌^◌, ℕ, true, false, length};
+ghost use Rattle.pk_fields.specs.Fields.{row_of};
+ghost use Rattle.pk_fields.specs.FieldSets.{is_in, least_fields, every_field};
+
+use crate::field_id::FieldId;
+use crate::registry::proto;
+use std::marker::Model;
+
+/// A set of fields and protocols. With a field it holds the field's protocol; `frame` is in each set.
+#[derive(Clone, Copy)]
+pub struct FieldSet {
+    words: [u64; 6],
+}
+
+impl Model for FieldSet {
+    ghost use Rattle.std.specs.Prelude.{ℕ, List};
+    ghost use Rattle.pk_fields.specs.FieldSets.{HasHomes};
+
+    ghost Value = { List ℕ };
+
+    ghost view = { λ set. set.words };
+
+    ghost invariant = { λ set. HasHomes set.words };
+
+    ghost inverse = { λ words. record { words = words } };
+}
+
+impl FieldSet {
+    /// The set with no field but `frame`.
+    pub fn none() -> FieldSet
+        ensures { result ≡ least_fields }
+    {
+        FieldSet {
+            words: [1, 0, 0, 0, 0, 0],
+        }
+    }
+
+    /// The set of all fields.
+    pub fn all() -> FieldSet
+        ensures { result ≡ every_field }
+    {
+        FieldSet {
+            words: [u64::MAX; 6],
+        }
+    }
+
+    pub fn contains(&self, field: FieldId) -> bool
+        ensures { result ≡ is_in self.now field }
+    {
+        has_bit(&self.words, field)
+    }
+
+    /// Whether the protocol or a field of it may be in the set.
+    pub fn has_any_of(&self, protocol: FieldId) -> bool
+        ensures { result ≡ false → (f : ℕ) → (row_of f).proto ≡ protocol → is_in self.now f ≡ false }
+    {
+        has_bit(&self.words, protocol)
+    }
+
+    /// Adds a field and its protocol.
+    pub fn add(&mut self, field: FieldId)
+        ensures { (f : ℕ) → is_in self.new f ≡ (f == field || (f == (row_of field).proto || is_in self.old f)) }
+    {
+        let home = proto(field);
+        set_bit(&mut self.words, home);
+        set_bit(&mut self.words, field);
+    }
+}
+
+#[tactic(auto, unfolding(crate::specs::FieldSets::is_in))]
+fn has_bit(words: &[u64; 6], field: FieldId) -> bool
+    ensures { result ≡ is_in words.now field }
+{
+    let number = usize::from(field.0);
+    (words[number / 64] >> (number % 64)) & 1 == 1
+}
+
+fn set_bit(words: &mut [u64; 6], field: FieldId)
+    ensures { (f : ℕ) → is_in words.new f ≡ (f == field || is_in words.old f) }
+{
+    let number = usize::from(field.0);
+    words[number / 64] |= 1 << (number % 64);
+}
+
+#[cfg(test)]
+mod tests {
+    use super::*;
+    use crate::ids;
+    use crate::registry::name;
+
+    #[test]
+    fn a_set_holds_what_was_added_and_its_protocols(rt: HostRuntime) {
+        let mut set = FieldSet::none();
+        set.add(ids::TCP_DSTPORT);
+        set.add(ids::IPV6_FRAGMENT);
+        for (field, wanted) in [
+            (ids::FRAME, true),
+            (ids::TCP_DSTPORT, true),
+            (ids::TCP, true),
+            (ids::IPV6_FRAGHDR, true),
+            (ids::TCP_SRCPORT, false),
+            (ids::IPV6, false),
+            (ids::FRAME_NUMBER, false),
+            (ids::MDNS_DATA, false),
+        ] {
+            assert!(rt; set.contains(field) == wanted, "{}", name(field));
+            assert!(rt; FieldSet::all().contains(field), "{}", name(field));
+        }
+        assert!(rt; set.has_any_of(ids::TCP));
+        assert!(rt; !set.has_any_of(ids::UDP));
+    }
+}
