@@ -1,3 +1,4 @@
+mod FillSteps
 mod FormatSteps
 pub mod FrameBounds
 mod HereSteps
@@ -5,5 +6,6 @@ mod KnownBlocks
 pub mod Limit
 mod PieceBounds
 mod PieceSteps
+mod ReaderSteps
 mod SameSteps
 mod SmallTimes

@@ -3,6 +3,7 @@
 #![tactic(auto)]
 
 mod ending;
+mod fill;
 mod format;
 mod frame;
 mod frame_list;
@@ -13,6 +14,7 @@ mod next_frame;
 mod next_piece;
 mod piece;
 mod position;
+mod read_error;
 mod reading;
 mod state;
 #[cfg(test)]
