@@ -7,5 +7,6 @@ pub mod Limit
 mod PieceBounds
 mod PieceSteps
 mod ReaderSteps
+mod ReaderTurns
 mod SameSteps
 mod SmallTimes

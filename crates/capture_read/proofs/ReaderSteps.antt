@@ -25,7 +25,7 @@ use Rattle.capture_read.proofs.SameSteps.{IsStepDecided, step_same, scope_same, 
 
 -- how many frames there are behind those answered
 pub length-with_past : (past : List Frame) (reading : Reading) → length (with_past past reading).frames ≡ length past + length reading.frames
-length-with_past [] reading = refl
+length-with_past [] reading = omega arith
 length-with_past (frame ∷ past) reading = omega (arith, length-with_past past (with_frame frame reading))
 
 -- a step that ends the file
@@ -36,7 +36,7 @@ IsCut (step.Item found) = ⊥
 IsCut (step.Skipped size) = ⊥
 
 -- so many bytes are fewer than the step needs
-abbrev IsSoon : BlockStep → ℕ → Type 0
+abbrev pub IsSoon : BlockStep → ℕ → Type 0
 IsSoon (step.Need m) n = n < m
 IsSoon (step.Item found) n = n < found.end
 IsSoon (step.Skipped size) n = n < size
@@ -105,7 +105,7 @@ no_step kind scope all xs ys x y soon = by_length (nat_lt (length xs) (length ys
         let shorter : length ys ≤ length xs = isn't_less (length xs) (length ys) is in
         earlier_step kind scope xs ys (fronts_same all ys xs (length ys) y x (omega arith) shorter) soon
 
-front-append : (xs more : List ℕ) → IsFront xs (xs ++ more)
+pub front-append : (xs more : List ℕ) → IsFront xs (xs ++ more)
 front-append xs more = λ n within. sym (take-append-le n xs more within)
 
 front-take : (m : ℕ) (xs all : List ℕ) → IsFront xs all → IsFront (take m xs) all
@@ -124,7 +124,7 @@ no_frames number at bytes follows cut (step.Item found) is = absurd is
 no_frames number at bytes follows cut (step.Skipped size) is = absurd is
 
 -- what a file stands for, by the step at the reader's place
-over_step : (r : Reader) (before : List ℕ) (past : List Frame) → IsPlaced r.kind r.scope r.number r.at → IsOver r before past → (more ys : List ℕ)
+pub over_step : (r : Reader) (before : List ℕ) (past : List Frame) → IsPlaced r.kind r.scope r.number r.at → IsOver r before past → (more ys : List ℕ)
     → take (file_limit - r.at) more ≡ ys
     → capture_of (before ++ more) ≡ with_past past (after_step r.number r.at ys
     (follows_here (is_large (before ++ more)) (kind_then (step_here r.kind r.scope ys) r.kind ys) (scope_then r.kind r.scope ys) r.at ys)
@@ -135,7 +135,7 @@ over_step r before past placed over more ys is =
     ∙ ap (with_past past) (here_steps (is_large (before ++ more)) r.kind r.scope r.number r.at ys placed)
 
 -- a front of the file that ends before the step does holds no frame more
-few_front : (r : Reader) (before rest file : List ℕ) (past : List Frame) (xs : List ℕ) → IsPlaced r.kind r.scope r.number r.at → IsOver r before past
+pub few_front : (r : Reader) (before rest file : List ℕ) (past : List Frame) (xs : List ℕ) → IsPlaced r.kind r.scope r.number r.at → IsOver r before past
     → file ≡ before ++ rest → length before ≡ r.at → IsFront xs rest → (front : ℕ) → r.at ≤ front → IsSoon (step_here r.kind r.scope xs) (front - r.at)
     → HasFew file past front
 few_front r before rest file past xs placed over whole place x front behind soon =
