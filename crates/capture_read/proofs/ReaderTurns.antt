@@ -33,10 +33,11 @@ step_facts : (kind : Option Kind) (scope : Scope) (n : ℕ) (xs ys : List ℕ) (
     → IsStepDecided s n (length xs) (length ys)
     → (step_here kind scope ys ≡ s) × (kind_then (step_here kind scope ys) kind ys ≡ kind_then s kind xs) × (scope_then kind scope ys ≡ scope_then kind scope xs)
 step_facts kind scope n xs ys s front is decided =
-    let told : IsStepDecided (step_here kind scope xs) n (length xs) (length ys) = subst (λ (t : BlockStep). IsStepDecided t n (length xs) (length ys)) (sym is) decided in
-    (step_same kind scope n xs ys front told ∙ is,
-    kind_same kind scope n xs ys front told ∙ ap (λ (t : BlockStep). kind_then t kind xs) is,
-    scope_same kind scope n xs ys front told)
+    let told : IsStepDecided (step_here kind scope xs) n (length xs) (length ys) = subst (λ (t : BlockStep). IsStepDecided t n (length xs) (length ys)) (sym is) decided in (
+      step_same kind scope n xs ys front told ∙ is,
+      kind_same kind scope n xs ys front told ∙ ap (λ (t : BlockStep). kind_then t kind xs) is,
+      scope_same kind scope n xs ys front told,
+    )
 
 -- the reader behind a step of so many bytes
 abbrev pub behind_step : Reader → BlockStep → ℕ → ℕ → Reader
@@ -183,9 +184,10 @@ reading_found r left file past found kept reads is within room = record {
 
 -- the frames answered are the file's first ones
 reading_front : (r : Reader) (left file : List ℕ) (past : List Frame) → IsReading r left file past → IsFrontOf past file
-reading_front r left file past reads =
-    (reading_here (is_large (reads.before ++ (r.held ++ (reads.beyond ++ left)))) r.kind r.scope r.number r.at (take (file_limit - r.at) (r.held ++ (reads.beyond ++ left))),
-    ap capture_of reads.whole ∙ reads.over (r.held ++ (reads.beyond ++ left)))
+reading_front r left file past reads = (
+  reading_here (is_large (reads.before ++ (r.held ++ (reads.beyond ++ left)))) r.kind r.scope r.number r.at (take (file_limit - r.at) (r.held ++ (reads.beyond ++ left))),
+  ap capture_of reads.whole ∙ reads.over (r.held ++ (reads.beyond ++ left)),
+)
 
 -- how long the file is
 reading_length : (r : Reader) (left file : List ℕ) (past : List Frame) (reads : IsReading r left file past)
@@ -308,11 +310,15 @@ reading_unfilled r need left_old left_new file past kept reads is needs more =
       same = take_all (length r.held) r.held (omega arith) ∙ sym (take-append_seam r.held more.got);
     } in
     let needs_more : step_here r.kind r.scope (r.held ++ more.got) ≡ step.Need need =
-    (step_facts r.kind r.scope (length r.held) r.held (r.held ++ more.got) (step.Need need) front needs (omega arith, omega (arith, size, more.few))).0 in
-    (reads.before ++ (r.held ++ more.got), whole,
-    (cut_here r.kind (is_large (reads.before ++ (r.held ++ more.got))) r.at (r.held ++ more.got),
-    over_needs r reads.before past (r.held ++ more.got) (r.held ++ more.got) need kept reads.over
-    (take_all (file_limit - r.at) (r.held ++ more.got) (omega (arith, size, more.within))) needs_more))
+    (step_facts r.kind r.scope (length r.held) r.held (r.held ++ more.got) (step.Need need) front needs (omega arith, omega (arith, size, more.few))).0 in (
+      reads.before ++ (r.held ++ more.got),
+      whole,
+      (
+        cut_here r.kind (is_large (reads.before ++ (r.held ++ more.got))) r.at (r.held ++ more.got),
+        over_needs r reads.before past (r.held ++ more.got) (r.held ++ more.got) need kept reads.over
+            (take_all (file_limit - r.at) (r.held ++ more.got) (omega (arith, size, more.within))) needs_more,
+      ),
+    )
 
 -- before the first byte
 reading_new : (scope : Scope) (left : List ℕ) → scope ≡ scope_of []

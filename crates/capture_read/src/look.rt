@@ -18,6 +18,7 @@ fn look_first(
     requires first { kind.old ≡ None }
     requires before { sections.old ≡ scope_of [] }
     ensures step { IfOk result (λ step. step ≡ step_here kind.old sections.old bytes.now) }
+    ensures within { IfOk result (λ step. IsStepWithin step (length bytes.now)) }
     ensures kind { IfOk result (λ step. kind.new ≡ kind_then step kind.old bytes.now) }
     ensures scope { OnOk result (sections.new ≡ scope_then kind.old sections.old bytes.now) }
     ensures taken { IfOk result (λ step. WhenTaken step ((number at : ℕ) → IsPlaced kind.new sections.new number at)) }
@@ -41,6 +42,28 @@ fn look_first(
             *kind = Some(Kind::Pcap(head));
             Ok(BlockStep::Skipped(PCAP_HEADER_SIZE))
         }
+    }
+}
+
+/// Looks at the header, record or block that begins with the first of the bytes held, and keeps what is known behind it.
+pub fn look(
+    kind: &mut Option<Kind>,
+    sections: &mut Sections,
+    bytes: &[u8],
+) -> Result<BlockStep, NoMemory>
+    requires { (number : ℕ) × (at : ℕ) × IsPlaced kind.old sections.old number at }
+    ensures step { IfOk result (λ step. step ≡ step_here kind.old sections.old bytes.now) }
+    ensures within { IfOk result (λ step. IsStepWithin step (length bytes.now)) }
+    ensures kind { IfOk result (λ step. kind.new ≡ kind_then step kind.old bytes.now) }
+    ensures scope { OnOk result (sections.new ≡ scope_then kind.old sections.old bytes.now) }
+    ensures taken { IfOk result (λ step. WhenTaken step ((number at : ℕ) → IsPlaced kind.new sections.new number at)) }
+    ensures untaken { IfOk result (λ step. WhenUntaken step ((kind.new ≡ kind.old) × (sections.new ≡ sections.old))) }
+    ensures kept { OnErr result ((kind.new ≡ kind.old) × (sections.new ≡ sections.old)) }
+{
+    match *kind {
+        None => look_first(kind, sections, bytes),
+        Some(Kind::Pcap(head)) => Ok(step_of_item(next_item(&head, bytes))),
+        Some(Kind::Pcapng) => sections.next_block(bytes),
     }
 }
 
