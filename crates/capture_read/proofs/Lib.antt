@@ -1,3 +1,4 @@
+mod FillSteps
 mod FormatSteps
 pub mod FrameBounds
 mod HereSteps
@@ -5,5 +6,7 @@ mod KnownBlocks
 pub mod Limit
 mod PieceBounds
 mod PieceSteps
+mod ReaderSteps
+mod ReaderTurns
 mod SameSteps
 mod SmallTimes

@@ -22,7 +22,7 @@ of_record-within large at (item.Item found) held within = within
 pub record-within : (large : Bool) (head : PcapHead) (at : ℕ) (bytes : List ℕ) → IsPieceWithin (record_at large head at bytes) (length bytes)
 record-within large head at bytes = of_record-within large at (pcap_item head bytes) (length bytes) (pcap_item-within head bytes)
 
-of_block-within : (large : Bool) (at : ℕ) (r : BlockRead) (held : ℕ) → IsReadWithin r held → IsPieceWithin (of_block large at (step_of r)) held
+pub of_block-within : (large : Bool) (at : ℕ) (r : BlockRead) (held : ℕ) → IsReadWithin r held → IsPieceWithin (of_block large at (step_of r)) held
 of_block-within large at (read.Need n) held within = tt
 of_block-within large at (read.Bad reason) held within = tt
 of_block-within large at (read.Whole (block.Section little) end) held within = (within.0, within.1)

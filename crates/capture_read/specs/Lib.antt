@@ -1,6 +1,7 @@
 pub mod Answers
 pub mod Capture
 pub mod Ending
+pub mod Fill
 pub mod FrameList
 pub mod NextFrame
 pub mod Offsets

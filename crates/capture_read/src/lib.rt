@@ -3,16 +3,20 @@
 #![tactic(auto)]
 
 mod ending;
+mod fill;
 mod format;
 mod frame;
 mod frame_list;
+mod held;
 mod held_frames;
 mod held_part;
 mod kind;
+mod look;
 mod next_frame;
 mod next_piece;
 mod piece;
 mod position;
+mod read_error;
 mod reading;
 mod state;
 #[cfg(test)]

@@ -16,7 +16,7 @@ use pcap_read::{HeadStep, head};
 use pcapng_read::Sections;
 use pk_base::{Found, NoMemory, Octets, Reason};
 
-const PCAP_HEADER_SIZE: usize = 24;
+pub const PCAP_HEADER_SIZE: usize = 24;
 
 /// A section's type, with which a pcapng file begins.
 const PCAPNG_MARK: [u8; 4] = [0x0A, 0x0D, 0x0D, 0x0A];
@@ -49,7 +49,7 @@ fn place_at(at: usize) -> Place
     Place { number: 1, at }
 }
 
-fn begins_pcapng(bytes: &[u8]) -> bool
+pub fn begins_pcapng(bytes: &[u8]) -> bool
     ensures { result ≡ is_pcapng bytes.now }
 {
     bytes.starts_with(&PCAPNG_MARK)

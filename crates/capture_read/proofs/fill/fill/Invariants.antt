@@ -1,0 +1,20 @@
+use Rattle.std.proofs.Common.{◌≡◌, ◌≤◌, ◌<◌, ◌-◌, ◌+◌, ◌^◌, ◌++◌, ℕ, List, length, vec_len}
+use Rattle.std.specs.Io.KnownBytes.{Consumes}
+use Rattle.capture_read.proofs.fill.fill.Given as goal
+
+-- the bytes read so far stand behind those held
+abbrev pub invariant-loop-bytes : goal.invariant-loop-bytes
+invariant-loop-bytes g l = record {
+  piece : length l.piece ≡ length l.fn.piece;
+  within : length l.bytes.items ≤ l.fn.most;
+  few : length l.bytes.items < l.fn.need + 2 ^ 16;
+  read : (got : List ℕ) × (l.bytes.items ≡ l.fn.held ++ got) × Consumes (g.C.Capture.left l.fn.capture) (g.C.Capture.left l.capture) got;
+  asked : g.C.Capture.asked l.capture ≡ g.C.Capture.asked l.fn.capture;
+  refused : g.C.Capture.refused l.capture ≡ g.C.Capture.refused l.fn.capture;
+  begun : g.C.Capture.begun l.capture ≡ g.C.Capture.begun l.fn.capture;
+  missed : g.C.Capture.missed l.capture ≡ g.C.Capture.missed l.fn.capture;
+  faults : g.C.Capture.faults l.capture ≡ g.C.Capture.faults l.fn.capture;
+}
+
+abbrev pub decreases-loop-bytes : goal.decreases-loop-bytes
+decreases-loop-bytes g l = l.fn.most - length l.bytes.items

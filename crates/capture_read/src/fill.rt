@@ -1,0 +1,123 @@
+// Reading on until enough bytes are held.
+ghost use Rattle.std.specs.Prelude.{◌≡◌, ◌+◌, ◌<◌, ◌≤◌, ◌++◌, ◌^◌, List, ℕ, length, false, IfOk, IsErrOf, IsTrue, OnOk};
+ghost use Rattle.std.specs.Io.KnownBytes.{Consumes, IsAtEnd};
+ghost use Rattle.pk_outside.specs.Outside.{Rose, counted};
+ghost use Rattle.capture_read.specs.Answers.{open_count};
+ghost use Rattle.capture_read.specs.Fill.{IsFilled, IsFilledTo, IsUnfilled};
+
+use crate::kind::Seen;
+use crate::read_error::ReadError;
+use pk_outside::{Capture, Failed};
+use std::alloc::Global;
+
+/// How many bytes are asked for at once.
+const READ_SIZE: usize = 65_536;
+
+/// [`READ_SIZE`], as a number that contracts don't compute with.
+pub fn read_size() -> usize
+    ensures some { 0 < result }
+    ensures most { result ≤ 2 ^ 16 }
+{
+    READ_SIZE
+}
+
+/// The bytes held after reading on, and what was seen behind them.
+#[derive(Drop)]
+pub struct Filled {
+    pub bytes: Vec<u8>,
+    pub seen: Seen,
+}
+
+/// Reads once behind these bytes, and answers whether there may be more: false only at the end.
+fn read_more<C: Capture>(
+    capture: &mut C,
+    piece: &mut [u8],
+    bytes: &mut Vec<u8>,
+) -> Result<bool, ReadError>
+    requires { 0 < length piece.old }
+    ensures size { length piece.new ≡ length piece.old }
+    ensures grown { OnOk result (length bytes.new.items ≤ length bytes.old.items + length piece.old) }
+    ensures more { IfOk result (λ more. IsTrue more → length bytes.old.items < length bytes.new.items) }
+    ensures end { IfOk result (λ more. more ≡ false → IsAtEnd (C.left capture.new)) }
+    ensures consumed { OnOk result ((got : List ℕ) × (bytes.new.items ≡ bytes.old.items ++ got) × Consumes (C.left capture.old) (C.left capture.new) got) }
+    ensures unread { IsErrOf result ReadError.ReadFault → C.left capture.new ≡ C.left capture.old }
+    ensures asked { C.asked capture.new ≡ C.asked capture.old }
+    ensures refused { C.refused capture.new ≡ C.refused capture.old }
+    ensures begun { C.begun capture.new ≡ C.begun capture.old }
+    ensures missed { C.missed capture.new ≡ C.missed capture.old }
+    ensures no_fault { OnOk result (C.faults capture.new ≡ C.faults capture.old) }
+    ensures fault { IsErrOf result ReadError.ReadFault → C.faults capture.new ≡ counted (C.faults capture.old) }
+    ensures faults_stay { C.faults capture.old ≤ C.faults capture.new }
+    ensures spent { IsErrOf result ReadError.Spent → ⊥ }
+{
+    match capture.read(piece) {
+        Ok(count) => {
+            bytes.extend_from_slice(&piece[..count])?;
+            Ok(count > 0)
+        }
+        Err(Failed) => Err(ReadError::ReadFault),
+    }
+}
+
+/// Reads one byte past those that are looked at, and tells whether there is one.
+fn read_beyond<C: Capture>(capture: &mut C, piece: &mut [u8]) -> Result<Seen, ReadError>
+    requires { length piece.old ≡ 1 }
+    ensures seen { IfOk result (λ seen. (beyond : List ℕ) × Consumes (C.left capture.old) (C.left capture.new) beyond
+        × ((size : ℕ) → IsFilledTo seen beyond size size (C.left capture.new)) × (length beyond ≤ 1) × (open_count seen ≡ 0)) }
+    ensures unread { IsErrOf result ReadError.ReadFault → C.left capture.new ≡ C.left capture.old }
+    ensures asked { C.asked capture.new ≡ C.asked capture.old }
+    ensures refused { C.refused capture.new ≡ C.refused capture.old }
+    ensures begun { C.begun capture.new ≡ C.begun capture.old }
+    ensures missed { C.missed capture.new ≡ C.missed capture.old }
+    ensures fault { IsErrOf result ReadError.ReadFault → C.faults capture.new ≡ counted (C.faults capture.old) }
+    ensures no_fault { OnOk result (C.faults capture.new ≡ C.faults capture.old) }
+    ensures faults_stay { C.faults capture.old ≤ C.faults capture.new }
+    ensures spent { IsErrOf result ReadError.Spent → ⊥ }
+{
+    match capture.read(piece) {
+        Ok(0) => Ok(Seen::Ended),
+        Ok(_) => Ok(Seen::Beyond),
+        Err(Failed) => Err(ReadError::ReadFault),
+    }
+}
+
+/// Reads on behind the bytes held until there are as many as are needed, or the file ends. Of more than `most` bytes one
+/// is read, and not held.
+pub fn fill<C: Capture>(
+    alloc: Global,
+    capture: &mut C,
+    piece: &mut [u8],
+    held: &[u8],
+    need: usize,
+    most: usize,
+) -> Result<Filled, ReadError>
+    requires some { 0 < length piece.old }
+    requires size { length piece.old ≤ 2 ^ 16 }
+    requires few { length held.now < need }
+    requires within { length held.now ≤ most }
+    ensures piece { length piece.new ≡ length piece.old }
+    ensures filled { IfOk result (λ filled. IsFilled held.now filled need most (C.left capture.old) (C.left capture.new)) }
+    ensures unfilled { IsErrOf result ReadError.ReadFault → IsUnfilled held.now need most (C.left capture.old) (C.left capture.new) }
+    ensures asked { C.asked capture.new ≡ C.asked capture.old }
+    ensures refused { C.refused capture.new ≡ C.refused capture.old }
+    ensures begun { C.begun capture.new ≡ C.begun capture.old }
+    ensures missed { C.missed capture.new ≡ C.missed capture.old }
+    ensures fault { IsErrOf result ReadError.ReadFault → Rose (C.faults capture.old) (C.faults capture.new) }
+    ensures faults_stay { C.faults capture.old ≤ C.faults capture.new }
+    ensures spent { IsErrOf result ReadError.Spent → ⊥ }
+{
+    let mut bytes = held.to_vec(alloc)?;
+    while bytes.len() < need {
+        let room = piece.len().min(most - bytes.len());
+        if room == 0 {
+            let seen = read_beyond(capture, &mut piece[..1])?;
+            return Ok(Filled { bytes, seen });
+        }
+        if !read_more(capture, &mut piece[..room], &mut bytes)? {
+            let seen = Seen::Ended;
+            return Ok(Filled { bytes, seen });
+        }
+    }
+    let seen = Seen::Open;
+    Ok(Filled { bytes, seen })
+}
