@@ -3,6 +3,7 @@
 
 mod chain;
 mod evaluate;
+mod laws;
 mod quantify;
 mod question;
 #[cfg(test)]
@@ -11,3 +12,4 @@ mod values;
 mod walks;
 
 pub use evaluate::holds;
+pub use laws::texts_have_one_meaning;

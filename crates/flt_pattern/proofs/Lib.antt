@@ -1,2 +1,3 @@
 pub mod Compiled
+pub mod Never
 pub mod Refused

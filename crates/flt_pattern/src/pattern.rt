@@ -1,5 +1,8 @@
 ghost use Rattle.std.specs.Prelude.{◌≡◌, IfOk, IfErr};
+ghost use Rattle.regex.specs.Bytes.{regex_source};
+ghost use Rattle.flt_pattern.specs.Compiled.{IsOurs};
 ghost use Rattle.flt_pattern.specs.Patterns.{HasCause, IsPattern, matches};
+ghost use Rattle.flt_pattern.specs.declared.fault.PatternFault.TheVariants.{NoMemory};
 
 use crate::fault::{PatternFault, fault_of};
 use crate::search::Search;
@@ -11,7 +14,8 @@ use std::marker::Model;
 /// A regular expression over bytes, in which letters match in either case.
 #[derive(Drop)]
 pub struct Pattern {
-    regex: Regex,
+    // Boxed, since a regex is some kilobytes large, and a filter is passed from call to call.
+    regex: Box<Regex>,
 }
 
 // Contracts see a pattern as the bytes that it was made from.
@@ -22,9 +26,21 @@ impl Model for Pattern {
 
     ghost Value = { List ℕ };
 
-    ghost view = { λ p. regex_source p.regex };
+    ghost view = { λ p. regex_source p.regex.value };
 
-    ghost invariant = { λ p. IsOurs p.regex };
+    ghost invariant = { λ p. IsOurs p.regex.value };
+}
+
+/// The pattern of a regex.
+fn boxed(alloc: Global, regex: Regex) -> Result<Pattern, PatternFault>
+    requires { IsOurs regex }
+    ensures value { IfOk result (λ pattern. pattern ≡ regex_source regex) }
+    ensures err { IfErr result (λ fault. fault ≡ NoMemory) }
+{
+    match Box::new(alloc, regex) {
+        Ok(regex) => Ok(Pattern { regex }),
+        Err(_) => Err(PatternFault::NoMemory),
+    }
 }
 
 impl Pattern {
@@ -39,7 +55,7 @@ impl Pattern {
         };
         let builder = RegexBuilder::new(text).case_insensitive(true);
         match builder.build_bytes(alloc) {
-            Ok(regex) => Ok(Pattern { regex }),
+            Ok(regex) => boxed(alloc, regex),
             Err(error) => Err(fault_of(error, text)),
         }
     }

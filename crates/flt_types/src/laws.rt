@@ -1,7 +1,17 @@
-// What holds of every tree, stated on a function that does nothing.
-ghost use Rattle.flt_types.specs.Laws.{TypedIsClear};
+// What holds of every tree and every text, stated on functions that do nothing.
+ghost use Rattle.flt_types.specs.Laws.{OneFault, TypedIsClear, TypedOrFault};
 
 /// A tree with a type has no fault.
 pub fn typed_trees_have_no_fault()
     ensures { TypedIsClear }
+{}
+
+/// A text that is a filter may be refused for a pattern's size, and for nothing else.
+pub fn typed_texts_have_no_fault()
+    ensures { TypedOrFault }
+{}
+
+/// A text has at most one first fault, but that a pattern's size may be one in its stead.
+pub fn faults_are_unique()
+    ensures { OneFault }
 {}

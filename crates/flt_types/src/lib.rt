@@ -14,7 +14,7 @@ mod typed;
 mod typing;
 
 pub use filter::Filter;
-pub use laws::typed_trees_have_no_fault;
+pub use laws::{faults_are_unique, typed_texts_have_no_fault, typed_trees_have_no_fault};
 pub use operand::kind_of;
 pub use typed::{Member, Term, Typed};
 pub use typing::{check, read_filter};
