@@ -80,9 +80,3 @@ todo_by packet after = todos.Done
 abbrev pub joined_todo : TreeShown → FragmentHead → Datagram → Todo
 joined_todo t head datagram =
     todo_by (joined_packet head) (carried_by head.six datagram.next (joined_span t datagram) 0)
-
--- a datagram has at most 65,535 bytes (RFC 791, 3.1)
-abbrev pub IsShort : Joined → Type 0
-IsShort Pending = Unit {0}
-IsShort (Whole datagram) = length datagram.bytes ≤ 65535
-IsShort (Conflict kind) = Unit {0}

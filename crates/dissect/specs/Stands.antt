@@ -31,10 +31,6 @@ pub record StandsAt (es : List Event) (state : State) : Type 0 where
   pub joins : StandsFor (fragments_of es) state.joins
   pub udp : state.udp ≡ udp_opened es
 
--- it is kept of some events
-abbrev pub StandsForSome : State → Type 0
-StandsForSome state = (es : List Event) × StandsAt es state
-
 -- a header opens at most one conversation, and then nothing more is to be read of its frame
 abbrev pub OpensAtMostOne : State → State → Todo → Type 0
 OpensAtMostOne old new todos.Done = length new.udp ≤ length old.udp + 1
@@ -63,10 +59,8 @@ pub record IsAfter (past : List Frame) (d : DissectorShown) : Type 0 where
 unfoldable pub Stands : List Frame → DissectorShown → Type 0
 Stands past d = IsAfter past d
 
--- a dissector that has answered no error keeps what it keeps of some events, and has at most as many conversations over UDP
--- as it took frames
+-- a dissector that has answered no error has at most as many conversations over UDP as it took frames
 pub record IsKept (d : DissectorShown) : Type 0 where
   pub times : AreTimes d.times
-  pub some : d.spent ≡ false → StandsForSome d.state
   pub udp : length d.state.udp < 2 ^ 32
   pub udp_few : d.spent ≡ false → length d.state.udp ≤ d.taken

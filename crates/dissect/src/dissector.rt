@@ -3,7 +3,7 @@ ghost use Rattle.capture_read.specs.declared.frame.Frame.{Frame as FrameValue};
 ghost use Rattle.dissect.specs.Conversations.{udp_opened};
 ghost use Rattle.dissect.specs.DecodeRules.{AreRules};
 ghost use Rattle.dissect.specs.Events.{Event};
-ghost use Rattle.dissect.specs.Stands.{Stands, StandsAt, StandsForSome, IsWalked};
+ghost use Rattle.dissect.specs.Stands.{Stands, StandsAt, IsWalked};
 ghost use Rattle.dissect.specs.Times.{IsTime, AreTimes};
 ghost use Rattle.dissect.specs.Trees.{tree_at, events_of, walk_of};
 
@@ -143,7 +143,6 @@ fn make_tree(
     requires bytes { length frame.now.bytes < 2 ^ 32 }
     requires before { AreTimes before }
     requires time { IfSome frame.now.time IsTime }
-    requires some { StandsForSome state.old }
     requires udp { length state.old.udp + 1 < 2 ^ 32 }
     ensures walked { IfOk result (λ tree. (es : List Event) → StandsAt es state.old → IsWalked (walk_of before es frame.now) state.new tree Todo.Done) }
     ensures udp { length state.new.udp ≤ length state.old.udp + 1 }

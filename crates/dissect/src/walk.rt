@@ -4,10 +4,10 @@ ghost use Rattle.pk_tree.specs.Following.{LeadsInside};
 ghost use Rattle.dis_ip.specs.Fragments.{part_proto};
 ghost use Rattle.dissect.specs.declared.state.State.{State as StateValue};
 ghost use Rattle.dissect.specs.Events.{Event};
-ghost use Rattle.dissect.specs.Fragments.{IsShort};
+ghost use Rattle.ip_join.specs.Datagrams.{IsShort};
 ghost use Rattle.pk_fields.specs.Ids.{UDP, TCP};
 ghost use Rattle.dissect.specs.Payloads.{LastIs, ComesBehind};
-ghost use Rattle.dissect.specs.Stands.{StandsAt, StandsForSome, IsWalked, HasRoom, OpensAtMostOne};
+ghost use Rattle.dissect.specs.Stands.{StandsAt, IsWalked, HasRoom, OpensAtMostOne};
 ghost use Rattle.dissect.specs.Walks.{IsTodoInside, joined_met, piece_met, fragment_met, datagram_met, segment_met, rest_met, followed, head_met, head_by, step_on, rest_on, chain, going, link_met, all_met, no_packet};
 
 use crate::applications::{add_message, app_of};
@@ -59,7 +59,6 @@ impl State {
         requires last { LastIs (part_proto head.six) tree.old.layers }
         requires room { length tree.old.layers + 2 < 2 ^ 32 }
         requires space { length tree.old.buffers + 1 < 2 ^ 32 }
-        requires some { StandsForSome self.old }
         ensures inside { IfOk result (λ todo. IsTodoInside tree.new.buffers todo) }
         ensures walked { IfOk result (λ todo. (es : List Event) → StandsAt es self.old → IsWalked (fragment_met frame.now packet tree.old es head span) self.new tree.new todo) }
         ensures opens { IfOk result (λ todo. OpensAtMostOne self.old self.new todo) }
@@ -89,7 +88,6 @@ impl State {
         requires last { LastIs (part_proto head.six) tree.old.layers }
         requires room { length tree.old.layers + 2 < 2 ^ 32 }
         requires space { length tree.old.buffers + 1 < 2 ^ 32 }
-        requires some { StandsForSome self.old }
         ensures inside { IfOk result (λ todo. IsTodoInside tree.new.buffers todo) }
         ensures walked { IfOk result (λ todo. (es : List Event) → StandsAt es self.old → IsWalked (piece_met tree.old es frame.now.number head bytes.now span) self.new tree.new todo) }
         ensures opens { IfOk result (λ todo. OpensAtMostOne self.old self.new todo) }
@@ -199,7 +197,6 @@ impl State {
         requires bytes { length frame.now.bytes < 2 ^ 32 }
         requires room { length tree.old.layers + 2 < 2 ^ 32 }
         requires space { length tree.old.buffers + 1 < 2 ^ 32 }
-        requires some { StandsForSome self.old }
         requires few { length self.old.udp + 1 < 2 ^ 32 }
         ensures inside { IfOk result (λ todo. IsTodoInside tree.new.buffers todo) }
         ensures walked { IfOk result (λ todo. (es : List Event) → StandsAt es self.old → IsWalked (followed frame.now packet mode tree.old es after) self.new tree.new todo) }
@@ -235,7 +232,6 @@ impl State {
         requires bytes { length frame.now.bytes < 2 ^ 32 }
         requires room { length tree.old.layers + 4 < 2 ^ 32 }
         requires space { length tree.old.buffers + 1 < 2 ^ 32 }
-        requires some { StandsForSome self.old }
         requires few { length self.old.udp + 1 < 2 ^ 32 }
         ensures inside { IfOk result (λ todo. IsTodoInside tree.new.buffers todo) }
         ensures walked { IfOk result (λ todo. (es : List Event) → StandsAt es self.old → IsWalked (head_met frame.now head tree.old es) self.new tree.new todo) }
@@ -305,7 +301,6 @@ impl State {
         requires most { most ≤ 32 }
         requires room { length tree.old.layers ≤ 32 }
         requires space { length tree.old.buffers ≤ 2 }
-        requires some { StandsForSome self.old }
         requires few { HasRoom self.old first }
         ensures walked { OnOk result ((es : List Event) → StandsAt es self.old → IsWalked (chain most frame.now (going tree.old es first)) self.new tree.new Todo.Done) }
         ensures opened { (before : StateValue) → OpensAtMostOne before self.old first → length self.new.udp ≤ length before.udp + 1 }
@@ -329,7 +324,6 @@ impl State {
         requires frame { tree.old.buffers ≡ frame.now.bytes ∷ [] }
         requires bytes { length frame.now.bytes < 2 ^ 32 }
         requires room { length tree.old.layers ≤ 2 }
-        requires some { StandsForSome self.old }
         requires few { length self.old.udp + 1 < 2 ^ 32 }
         ensures inside { IfOk result (λ todo. IsTodoInside tree.new.buffers todo) }
         ensures walked { IfOk result (λ todo. (es : List Event) → StandsAt es self.old → IsWalked (link_met frame.now tree.old es) self.new tree.new todo) }
@@ -351,7 +345,6 @@ impl State {
         requires frame { tree.old.buffers ≡ frame.now.bytes ∷ [] }
         requires bytes { length frame.now.bytes < 2 ^ 32 }
         requires room { length tree.old.layers ≤ 2 }
-        requires some { StandsForSome self.old }
         requires few { length self.old.udp + 1 < 2 ^ 32 }
         ensures walked { OnOk result ((es : List Event) → StandsAt es self.old → IsWalked (all_met frame.now (link_met frame.now tree.old es)) self.new tree.new Todo.Done) }
         ensures opened { length self.new.udp ≤ length self.old.udp + 1 }

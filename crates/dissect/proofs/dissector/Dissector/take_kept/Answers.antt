@@ -32,10 +32,6 @@ invariant_of-self-in-Err c =
     let taken = ap (λ (d : DissectorShown). d.taken) c.self.view_is in
     record {
       times = c.self.invariant.times;
-      some = λ not_spent. absurd (true≢false not_spent);
       udp = omega (arith, few, taken, c.requires.number, c.number_of-number.ensures.number, c.number_of-number.ensures.fits, c.make_tree.ensures.udp);
       udp_few = λ not_spent. absurd (true≢false not_spent);
     }
-
-pub make_tree-requires-clause-some : goal.make_tree-requires-clause-some
-make_tree-requires-clause-some c = c.self.invariant.some c.if-self.false

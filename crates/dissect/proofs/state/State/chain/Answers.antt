@@ -31,13 +31,6 @@ loop-todo-preserved c =
       few = omega (arith, c.in_ok-todo.ensures.most, c.loop-todo.invariant.few);
     }
 
--- of some events what is kept stands before each header
-pub head-requires-clause-some : goal.head-requires-clause-some
-head-requires-clause-some c =
-    let (es, stands) = c.requires.some in
-    let (w, walked, is) = c.loop-todo.invariant.goes es stands in
-    (w.events, walked.stands)
-
 pub returns : goal.returns
 returns c = record {
   walked = goes-done c.args.frame.now c.args.most c.args.self.now c.args.tree.now c.args.first c.loop-todo.left c.loop-todo.self c.loop-todo.tree c.loop-todo.todo (search rules) c.loop-todo.invariant.goes;

@@ -2,17 +2,11 @@ use Rattle.std.proofs.Common.{◌≡◌, ◌∷◌, refl, subst, sym}
 use Rattle.std.proofs.lemmas.Result.{IfOk-weaker}
 use Rattle.ip_join.specs.declared.joined.Joined.{Joined}
 use Rattle.dissect.specs.Events.{Piece}
-use Rattle.dissect.specs.Fragments.{fragment_from, fragments_of, IsShort}
+use Rattle.dissect.specs.Fragments.{fragments_of}
 use Rattle.dissect.specs.Stands.{IsWalked}
 use Rattle.dissect.specs.Walks.{joined_met}
-use Rattle.dissect.proofs.Joining.{joined-short, stands-piece}
+use Rattle.dissect.proofs.Joining.{stands-piece}
 use Rattle.dissect.proofs.state.State.piece.Goals as goal
-
-pub behind_piece-requires-clause-short : goal.behind_piece-requires-clause-short
-behind_piece-requires-clause-short c =
-    let (es, stands) = c.requires.some in
-    let new = fragment_from c.args.frame.now.number c.args.head c.args.bytes.now in
-    subst (λ (j : Joined). IsShort j) (sym (c.in_ok-joined.ensures.joined (fragments_of es) stands.joins)) (joined-short (fragments_of es) new)
 
 pub returns-clause-walked : goal.returns-clause-walked
 returns-clause-walked c =

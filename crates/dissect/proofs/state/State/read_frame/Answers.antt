@@ -20,8 +20,3 @@ returns c = record {
 
 pub chain-requires-clause-few : goal.chain-requires-clause-few
 chain-requires-clause-few c = room-on c.args.self.now c.link.new.self c.in_ok-first.first c.requires.few c.in_ok-first.ensures.opens
-
-pub chain-requires-clause-some : goal.chain-requires-clause-some
-chain-requires-clause-some c =
-    let (es, stands) = c.requires.some in
-    ((link_met c.args.frame.now c.args.tree.now es).events, (c.in_ok-first.ensures.walked es stands).stands)
