@@ -1,5 +1,5 @@
 -- A fragment more: what is kept of it, and that a datagram that it makes whole has at most 65,535 bytes.
-use Rattle.std.proofs.Common.{◌≡◌, ℕ, zero, suc, ◌+◌, ◌<◌, ◌≤◌, Bool, true, false, if◌then◌else◌, List, [], ◌∷◌, ◌++◌, length, Option, None, Some, option_map, refl, sym, subst, ap, ◌∙◌, arith}
+use Rattle.std.proofs.Common.{◌≡◌, ℕ, zero, suc, ◌+◌, ◌≤◌, Bool, true, false, if◌then◌else◌, List, [], ◌∷◌, ◌++◌, length, Option, None, Some, option_map, refl, sym, subst, ap, ◌∙◌, arith}
 use Rattle.std.proofs.lemmas.Bool.Decides.{nat_tests}
 use Rattle.pk_tree.specs.declared.heads.FragmentHead.{FragmentHead}
 use Rattle.range_bytes.specs.Held.{Held, bytes_at}
@@ -8,7 +8,6 @@ use Rattle.ip_join.specs.declared.joined.ConflictKind.{ConflictKind}
 use Rattle.ip_join.specs.declared.joined.ConflictKind.TheVariants.{TooLong, MultipleTails, Overlap6}
 use Rattle.ip_join.specs.declared.joined.Joined.{Joined}
 use Rattle.ip_join.specs.declared.joined.Joined.TheVariants.{Pending, Whole, Conflict}
-use Rattle.ip_join.specs.declared.joins.Joins.{Joins}
 use Rattle.ip_join.specs.Datagrams.{is_too_long, has_two_ends, is_overlap_six, datagram_of, end_if_held, whole_end, completed, joined_unless, joined_of}
 use Rattle.ip_join.specs.Fragments.{end_of, end_after, holds_below, known_end, map_of}
 use Rattle.ip_join.specs.Keys.{same_key}
