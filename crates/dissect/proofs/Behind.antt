@@ -146,6 +146,8 @@ extension_behind layers nexts.Icmp packet mode span bytes some last = tt
 extension_behind layers nexts.Icmp6 packet mode span bytes some last = tt
 extension_behind layers nexts.Udp packet mode span bytes some last = tt
 extension_behind layers nexts.Tcp packet mode span bytes some last = tt
+extension_behind layers (nexts.Neigh kind) packet mode span bytes some last = tt
+extension_behind layers nexts.Igmp packet mode span bytes some last = tt
 extension_behind layers nexts.Rest packet mode span bytes some last = tt
 
 udp_carries_behind : (layers : List Layer) (r : Reach) (mode : Mode) (ports : PortsHead) (span : Span) → 0 < length layers

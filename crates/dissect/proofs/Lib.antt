@@ -1,6 +1,7 @@
 mod Behind
 mod Chains
 mod Joining
+mod Kept
 pub mod NoRules
 mod Opens
 mod Taken

@@ -1,5 +1,5 @@
 -- The first layer of a frame, which tells of the frame itself.
-use Rattle.std.specs.Prelude.{Bool, nat_lt, ℤ, List, [], ◌∷◌, ◌++◌, length, Option, Some, None}
+use Rattle.std.specs.Prelude.{ℕ, Bool, nat_lt, ℤ, List, [], ◌∷◌, ◌++◌, length, Option, Some, None}
 use Rattle.pk_base.specs.declared.span.Span.{Span}
 use Rattle.pk_fields.specs.FieldSets.{every_field}
 use Rattle.pk_fields.specs.Ids.{FRAME, FRAME_NUMBER, FRAME_TIME_EPOCH, FRAME_TIME_RELATIVE, FRAME_TIME_DELTA, FRAME_LEN, FRAME_CAP_LEN}
@@ -39,7 +39,11 @@ frame_layout before frame =
     Made FRAME_CAP_LEN (Uint (length frame.bytes)) ∷
     []
 
--- the tree with this layer alone, given the times of the frames before
-unfoldable pub frame_tree : Times → Frame → TreeShown
-frame_tree before frame =
-    layer_read (record { layers = []; buffers = frame.bytes ∷ []; wanted = every_field }) FRAME (frame_span frame) (frame_layout before frame) Plain (is_cut frame)
+-- the tree with this layer alone and the items of some fields, given the times of the frames before
+unfoldable pub kept_frame : List ℕ → Times → Frame → TreeShown
+kept_frame wanted before frame =
+    layer_read (record { layers = []; buffers = frame.bytes ∷ []; wanted = wanted }) FRAME (frame_span frame) (frame_layout before frame) Plain (is_cut frame)
+
+-- the same with the items of all fields
+abbrev pub frame_tree : Times → Frame → TreeShown
+frame_tree before frame = kept_frame every_field before frame

@@ -1,10 +1,10 @@
 -- The trees of a list of frames. Each frame is read by those before it; lists of frames have the newest first.
-use Rattle.std.specs.Prelude.{List, [], ◌∷◌}
+use Rattle.std.specs.Prelude.{ℕ, List, [], ◌∷◌}
 use Rattle.pk_tree.specs.Trees.{TreeShown}
 use Rattle.capture_read.specs.declared.frame.Frame.{Frame}
 use Rattle.dissect.specs.declared.times.Times.{Times}
 use Rattle.dissect.specs.Events.{Event}
-use Rattle.dissect.specs.FrameLayer.{frame_tree}
+use Rattle.dissect.specs.FrameLayer.{frame_tree, kept_frame}
 use Rattle.dissect.specs.Times.{no_times, with_time}
 use Rattle.dissect.specs.Walks.{Walk, link_met, all_met}
 
@@ -15,6 +15,10 @@ start before es frame = link_met frame (frame_tree before frame) es
 -- the whole way through a frame's headers
 unfoldable pub walk_of : Times → List Event → Frame → Walk
 walk_of before es frame = all_met frame (start before es frame)
+
+-- the same way, with the items of some fields
+unfoldable pub kept_walk : List ℕ → Times → List Event → Frame → Walk
+kept_walk wanted before es frame = all_met frame (link_met frame (kept_frame wanted before frame) es)
 
 -- the times of frames
 unfoldable pub times_of : List Frame → Times

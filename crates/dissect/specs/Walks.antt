@@ -127,7 +127,7 @@ abbrev pub extension_met : Next → Frame → Head → TreeShown → List Event 
 extension_met which frame head t es =
     layer_met frame head t es (extension_proto which) head.span (extension_layout which (head_bytes head t)) (extension_after which head.packet head.mode head.span (head_bytes head t))
 
--- a header by its protocol: its layer, and what follows it
+-- a header by its protocol: its layer, and what follows it; messages of neighbour discovery and of IGMP aren't read yet
 unfoldable pub head_by : Next → Frame → Head → TreeShown → List Event → Walk
 head_by nexts.Ip4 frame head t es =
     layer_met frame head t es IP (ip4_span head.span (head_bytes head t)) (ip4_layout (head_bytes head t)) (ip4_after head.mode (is_cut frame) head.span (head_bytes head t))
@@ -146,6 +146,8 @@ head_by nexts.HopOpts frame head t es = extension_met nexts.HopOpts frame head t
 head_by nexts.Routing frame head t es = extension_met nexts.Routing frame head t es
 head_by nexts.DstOpts frame head t es = extension_met nexts.DstOpts frame head t es
 head_by nexts.FragHdr frame head t es = extension_met nexts.FragHdr frame head t es
+head_by (nexts.Neigh kind) frame head t es = rest_met t es head.span
+head_by nexts.Igmp frame head t es = rest_met t es head.span
 head_by nexts.Rest frame head t es = rest_met t es head.span
 
 abbrev pub head_met : Frame → Head → TreeShown → List Event → Walk

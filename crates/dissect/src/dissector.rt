@@ -1,11 +1,12 @@
 ghost use Rattle.std.specs.Prelude.{◌≡◌, ◌↔◌, ◌+◌, ◌≤◌, ◌<◌, ◌^◌, ◌||◌, List, [], ◌∷◌, true, false, length, Err, is_err, IfOk, IfSome, OnOk, OnErr};
 ghost use Rattle.capture_read.specs.declared.frame.Frame.{Frame as FrameValue};
+ghost use Rattle.pk_tree.specs.Trees.{IsKept as IsKeptTree};
 ghost use Rattle.dissect.specs.Conversations.{udp_opened};
 ghost use Rattle.dissect.specs.DecodeRules.{AreRules};
 ghost use Rattle.dissect.specs.Events.{Event};
 ghost use Rattle.dissect.specs.Stands.{Stands, StandsAt, IsWalked};
 ghost use Rattle.dissect.specs.Times.{IsTime, AreTimes};
-ghost use Rattle.dissect.specs.Trees.{tree_at, events_of, walk_of};
+ghost use Rattle.dissect.specs.Trees.{tree_at, events_of, kept_walk};
 
 use crate::conversations::Conversations;
 use crate::decode::DecodeAs;
@@ -16,6 +17,7 @@ use crate::todo::Todo;
 use capture_read::Frame;
 use ip_join::Joins;
 use pk_base::NoMemory;
+use pk_fields::FieldSet;
 use pk_tree::Tree;
 use std::alloc::Global;
 use std::marker::Model;
@@ -106,11 +108,27 @@ impl Dissector {
         ensures tree { IfOk result (λ tree. (past : List FrameValue) → Stands past self.old → tree ≡ tree_at past frame.now) }
         ensures stands { OnOk result ((past : List FrameValue) → Stands past self.old → Stands (frame.now ∷ past) self.new) }
     {
+        self.take_kept(frame, FieldSet::all())
+    }
+
+    /// As `take`, for a tree that has only the items of the wanted fields.
+    pub fn take_kept(&mut self, frame: &Frame, wanted: FieldSet) -> Result<Tree, TakeFault>
+        requires number { frame.now.number ≡ self.old.taken + 1 }
+        requires time { IfSome frame.now.time IsTime }
+        requires captured { self.old.captured + length frame.now.bytes ≤ 2 ^ 28 }
+        ensures spent { result ≡ Err TakeFault.Spent ↔ self.old.spent ≡ true }
+        ensures spent_after { self.new.spent ≡ self.old.spent || is_err result }
+        ensures counted { OnOk result ((self.new.taken ≡ self.old.taken + 1) × (self.new.captured ≡ self.old.captured + length frame.now.bytes)) }
+        ensures uncounted { OnErr result ((self.new.taken ≡ self.old.taken) × (self.new.captured ≡ self.old.captured)) }
+        ensures rules { self.new.decode ≡ self.old.decode }
+        ensures tree { IfOk result (λ tree. (past : List FrameValue) → Stands past self.old → IsKeptTree wanted (tree_at past frame.now) tree) }
+        ensures stands { OnOk result ((past : List FrameValue) → Stands past self.old → Stands (frame.now ∷ past) self.new) }
+    {
         if self.spent {
             return Err(TakeFault::Spent);
         }
         let number = number_of(frame);
-        match make_tree(self.alloc, &mut self.state, self.times, frame) {
+        match make_tree(self.alloc, &mut self.state, self.times, frame, wanted) {
             Ok(tree) => {
                 self.taken = number;
                 self.captured += captured(frame);
@@ -132,22 +150,23 @@ fn number_of(frame: &Frame) -> u32
     frame.number
 }
 
-/// The tree of a frame, given what is kept of the frames before it.
-#[tactic(auto, unfolding(crate::specs::Trees::walk_of))]
+/// The tree of a frame with the wanted fields, given what is kept of the frames before it.
+#[tactic(auto, unfolding(crate::specs::Trees::kept_walk))]
 fn make_tree(
     alloc: Global,
     state: &mut State,
     before: Times,
     frame: &Frame,
+    wanted: FieldSet,
 ) -> Result<Tree, NoMemory>
     requires bytes { length frame.now.bytes < 2 ^ 32 }
     requires before { AreTimes before }
     requires time { IfSome frame.now.time IsTime }
     requires udp { length state.old.udp + 1 < 2 ^ 32 }
-    ensures walked { IfOk result (λ tree. (es : List Event) → StandsAt es state.old → IsWalked (walk_of before es frame.now) state.new tree Todo.Done) }
+    ensures walked { IfOk result (λ tree. (es : List Event) → StandsAt es state.old → IsWalked (kept_walk wanted before es frame.now) state.new tree Todo.Done) }
     ensures udp { length state.new.udp ≤ length state.old.udp + 1 }
 {
-    let mut tree = begin_tree(alloc, before, frame)?;
+    let mut tree = begin_tree(alloc, before, frame, wanted)?;
     state.read_frame(frame, &mut tree)?;
     Ok(tree.finish())
 }

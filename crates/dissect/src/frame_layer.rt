@@ -1,15 +1,14 @@
 ghost use Rattle.std.specs.Prelude.{◌≡◌, ◌+◌, ◌<◌, ◌≤◌, ◌^◌, ◌∷◌, ◌++◌, [], length, Some, None, IfOk, IfSome, OnOk};
-ghost use Rattle.pk_fields.specs.FieldSets.{every_field};
 ghost use Rattle.pk_fields.specs.Ids.{FRAME, FRAME_NUMBER, FRAME_LEN, FRAME_CAP_LEN};
 ghost use Rattle.pk_tree.specs.declared.heads.Mode.TheVariants.{Plain};
 ghost use Rattle.pk_tree.specs.Layouts.{StepFits, StepsFit, layer_read};
-ghost use Rattle.dissect.specs.FrameLayer.{is_cut, frame_span, frame_layout, frame_tree};
+ghost use Rattle.dissect.specs.FrameLayer.{is_cut, frame_span, frame_layout, kept_frame};
 ghost use Rattle.dissect.specs.Times.{IsTime, AreTimes};
 
 use crate::times::{Times, since};
 use capture_read::Frame;
 use pk_base::{NoMemory, Span};
-use pk_fields::{FieldId, ids};
+use pk_fields::{FieldId, FieldSet, ids};
 use pk_tree::{Mode, Step, TreeBuilder, Value, read_layer};
 use std::alloc::Global;
 
@@ -41,21 +40,22 @@ pub(crate) fn frame_span(frame: &Frame) -> Span
     }
 }
 
-/// A tree with the layer that tells of the frame itself, given the times of the frames before.
-#[tactic(auto, unfolding(crate::specs::FrameLayer::frame_tree))]
+/// A tree of the wanted fields with the layer that tells of the frame itself, given the times of the frames before.
+#[tactic(auto, unfolding(crate::specs::FrameLayer::kept_frame))]
 pub(crate) fn begin_tree(
     alloc: Global,
     before: Times,
     frame: &Frame,
+    wanted: FieldSet,
 ) -> Result<TreeBuilder, NoMemory>
     requires bytes { length frame.now.bytes < 2 ^ 32 }
     requires before { AreTimes before }
     requires time { IfSome frame.now.time IsTime }
-    ensures tree { IfOk result (λ tree. tree ≡ frame_tree before frame.now) }
+    ensures tree { IfOk result (λ tree. tree ≡ kept_frame wanted before frame.now) }
     ensures buffers { IfOk result (λ tree. tree.buffers ≡ frame.now.bytes ∷ []) }
     ensures most { IfOk result (λ tree. length tree.layers ≤ 2) }
 {
-    let mut tree = TreeBuilder::new(alloc, frame.bytes.clone()?)?;
+    let mut tree = TreeBuilder::keeping(alloc, frame.bytes.clone()?, wanted)?;
     match frame.time {
         Some(time) => add_frame(frame, &timed_steps(before, frame, time), &mut tree)?,
         None => add_frame(frame, &untimed_steps(before, frame), &mut tree)?,
@@ -67,7 +67,8 @@ pub(crate) fn begin_tree(
 fn add_frame(frame: &Frame, steps: &[Step], tree: &mut TreeBuilder) -> Result<(), NoMemory>
     requires bytes { length frame.now.bytes < 2 ^ 32 }
     requires fits { StepsFit FRAME steps.now }
-    requires tree { tree.old ≡ record { layers = []; buffers = frame.now.bytes ∷ []; wanted = every_field } }
+    requires layers { tree.old.layers ≡ [] }
+    requires buffers { tree.old.buffers ≡ frame.now.bytes ∷ [] }
     ensures tree { IfOk result (λ _. tree.new ≡ layer_read tree.old FRAME (frame_span frame.now) steps.now Plain (is_cut frame.now)) }
     ensures buffers { tree.new.buffers ≡ tree.old.buffers }
     ensures most { OnOk result (length tree.new.layers ≤ 2) }

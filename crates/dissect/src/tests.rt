@@ -5,7 +5,7 @@ ghost use Rattle.dissect.specs.Times.{IsTime};
 use crate::{App, DecodeAs, Dissector, PortRule, PortRules, TakeFault};
 use capture_read::Frame;
 use pk_base::{NoMemory, Octets};
-use pk_fields::{ids, name};
+use pk_fields::{FieldSet, ids, name};
 use pk_tree::{Layer, Tree, Value};
 use std::alloc::{AllocError, Global};
 use std::process::Abort;
@@ -827,4 +827,27 @@ fn a_datagram_in_a_datagram_is_joined(rt: HostRuntime) -> Result<(), Fail> {
         &[PART, b"\x20\0", PART_ENDS, TO_ECHO],
         "frame ip=2=3=16 udp data=8 ",
     )
+}
+
+#[test]
+fn a_tree_of_some_fields_has_their_items_and_all_layers(rt: HostRuntime) -> Result<(), Fail> {
+    let alloc = rt.alloc();
+    let mut wanted = FieldSet::none();
+    wanted.add(ids::ETH_TYPE);
+    wanted.add(ids::ARP_OPCODE);
+    let frame = Frame {
+        number: 1,
+        time: None,
+        link: ETHERNET,
+        little: true,
+        bytes: joined(alloc, &[ADDRESSES, b"\x08\x06", REQUEST])?,
+        original: 42,
+    };
+    assert!(rt; frame.bytes.bytes().len() <= 1_000);
+    let tree = Dissector::new(alloc, no_rules(alloc)).take_kept(&frame, wanted)?;
+    assert_eq!(rt;
+        tree_text(alloc, &tree)?.as_str(),
+        "frame 0+42:\neth 0+42: eth.type=2054\narp 14+28: arp.opcode=1\n"
+    );
+    Ok(())
 }

@@ -284,6 +284,8 @@ impl State {
                 let after = read_icmp6(head.span, is_cut(frame), head.mode, tree)?;
                 self.follow(frame, head.packet, Mode::Embedded, after, tree)
             }
+            Next::Neigh(_) => self.rest(head.span, tree),
+            Next::Igmp => self.rest(head.span, tree),
             Next::Rest => self.rest(head.span, tree),
         }
     }

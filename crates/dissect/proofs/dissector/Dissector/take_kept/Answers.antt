@@ -2,18 +2,18 @@ use Rattle.std.proofs.Common.{◌+◌, length, subst, ap, ◌∙◌, true≢fals
 use Rattle.dissect.specs.Stands.{DissectorShown}
 use Rattle.dissect.specs.Times.{with_time}
 use Rattle.dissect.proofs.Taken.{Reads, tree-taken, stands-taken}
-use Rattle.dissect.proofs.dissector.Dissector.take.Goals as goal
+use Rattle.dissect.proofs.dissector.Dissector.take_kept.Goals as goal
 
 pub returns-in-Ok-clause-tree : goal.returns-in-Ok-clause-tree
 returns-in-Ok-clause-tree c = λ past stands.
-    let reads = subst (λ (d : DissectorShown). Reads c.args.frame.now d c.make_tree.new.state c.in-Ok.tree) c.self.view_is c.in-Ok.ensures.walked in
-    tree-taken past c.args.frame.now c.args.self.now c.make_tree.new.state c.in-Ok.tree stands reads
+    let reads = subst (λ (d : DissectorShown). Reads c.args.wanted c.args.frame.now d c.make_tree.new.state c.in-Ok.tree) c.self.view_is c.in-Ok.ensures.walked in
+    tree-taken c.args.wanted past c.args.frame.now c.args.self.now c.make_tree.new.state c.in-Ok.tree stands reads
 
 pub returns-in-Ok-clause-stands : goal.returns-in-Ok-clause-stands
 returns-in-Ok-clause-stands c = λ past stands.
     let frame = c.args.frame.now in
-    let reads = subst (λ (d : DissectorShown). Reads frame d c.make_tree.new.state c.in-Ok.tree) c.self.view_is c.in-Ok.ensures.walked in
-    stands-taken past frame c.args.self.now _ c.in-Ok.tree
+    let reads = subst (λ (d : DissectorShown). Reads c.args.wanted frame d c.make_tree.new.state c.in-Ok.tree) c.self.view_is c.in-Ok.ensures.walked in
+    stands-taken c.args.wanted past frame c.args.self.now _ c.in-Ok.tree
     c.if-self.false
     (c.number_of-number.ensures.number ∙ c.requires.number)
     (ap (λ n. c.self.inside.captured + n) c.captured.ensures ∙ ap (λ (d : DissectorShown). d.captured + length frame.bytes) c.self.view_is)

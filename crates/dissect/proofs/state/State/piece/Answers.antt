@@ -1,4 +1,4 @@
-use Rattle.std.proofs.Common.{◌≡◌, ◌∷◌, refl, subst, sym}
+use Rattle.std.proofs.Common.{◌∷◌, refl, subst, sym}
 use Rattle.std.proofs.lemmas.Result.{IfOk-weaker}
 use Rattle.ip_join.specs.declared.joined.Joined.{Joined}
 use Rattle.dissect.specs.Events.{Piece}

@@ -1,0 +1,206 @@
+-- Reading a frame with some fields is reading all of it and keeping those.
+use Rattle.std.proofs.Common.{◌≡◌, ◌==◌, ℕ, zero, suc, ◌-◌, Bool, true, false, if◌then◌else◌, List, [], ◌∷◌, length, Option, Some, None, refl, sym, subst}
+use Rattle.pk_base.specs.declared.span.Span.{Span}
+use Rattle.pk_fields.specs.Ids.{UDP_STREAM, UDP_PAYLOAD, TCP_LEN, TCP_PAYLOAD}
+use Rattle.pk_tree.specs.declared.heads.After.{After}
+use Rattle.pk_tree.specs.declared.heads.After.TheVariants as afters
+use Rattle.pk_tree.specs.declared.heads.FragmentHead.{FragmentHead}
+use Rattle.pk_tree.specs.declared.heads.Mode.{Mode}
+use Rattle.pk_tree.specs.declared.heads.Mode.TheVariants.{Plain as PlainMode, Embedded}
+use Rattle.pk_tree.specs.declared.heads.Next.{Next}
+use Rattle.pk_tree.specs.declared.heads.Next.TheVariants as nexts
+use Rattle.pk_tree.specs.declared.heads.PacketHead.{PacketHead}
+use Rattle.pk_tree.specs.declared.heads.PortsHead.{PortsHead}
+use Rattle.pk_tree.specs.declared.heads.TcpHead.{TcpHead}
+use Rattle.pk_tree.specs.declared.layout.Step.{Step}
+use Rattle.pk_tree.specs.declared.value.Value.TheVariants.{Uint}
+use Rattle.pk_tree.specs.Trees.{TreeShown, IsKept as IsKeptTree, kept_tree, read_of, made_of}
+use Rattle.pk_tree.proofs.KeptTrees.{item_kept, buffer_kept, count_kept, layer_kept}
+use Rattle.dis_link.specs.Link.{link_of}
+use Rattle.dis_link.proofs.LinkKept.{link_kept}
+use Rattle.ip_join.specs.declared.joined.Datagram.{Datagram}
+use Rattle.ip_join.specs.declared.joined.Joined.{Joined}
+use Rattle.ip_join.specs.declared.joined.Joined.TheVariants.{Pending, Whole, Conflict}
+use Rattle.capture_read.specs.declared.frame.Frame.{Frame}
+use Rattle.dissect.specs.declared.decode.App.{App}
+use Rattle.dissect.specs.declared.decode.App.TheVariants.{Http, Dns, Dhcp, Plain}
+use Rattle.dissect.specs.declared.times.Times.{Times}
+use Rattle.dissect.specs.declared.todo.Head.{Head}
+use Rattle.dissect.specs.declared.todo.Todo.{Todo}
+use Rattle.dissect.specs.declared.todo.Todo.TheVariants as todos
+use Rattle.dissect.specs.Applications.{message_over, payload_over}
+use Rattle.dissect.specs.DataLayer.{data_over}
+use Rattle.dissect.specs.Events.{Event}
+use Rattle.dissect.specs.Fragments.{number_told, conflict_told, error_field, frame_field, length_field, frames_told, joined_told, joined_todo}
+use Rattle.dissect.specs.FrameLayer.{frame_span, is_cut, kept_frame, frame_tree}
+use Rattle.dissect.specs.Payloads.{with_payload, datagram_told, segment_told}
+use Rattle.dissect.specs.Trees.{kept_walk, walk_of}
+use Rattle.dissect.specs.Walks.{Walk, going, stop, rest_met, joined_met, fragment_by, fragment_met, datagram_met, segment_met, followed, layer_met, message_met, head_by, head_met, step_on, step, rest_on, chain, layers_left, link_met, all_met, no_packet}
+
+-- two ways that differ in the items that are kept alone
+pub record IsSameWay (wanted : List ℕ) (v x : Walk) : Type 0 where
+  pub tree : IsKeptTree wanted v.tree x.tree
+  pub events : x.events ≡ v.events
+  pub todo : x.todo ≡ v.todo
+
+-- it is enough to look at the very tree of those that are kept, whose buffers are the whole tree's
+tree_as : (wanted : List ℕ) (X : TreeShown → TreeShown) (t u : TreeShown) → IsKeptTree wanted t u → (IsKeptTree wanted t (kept_tree wanted t) → IsKeptTree wanted (X t) (X (kept_tree wanted t))) → IsKeptTree wanted (X t) (X u)
+tree_as wanted X t u k one =
+    subst (λ (v : TreeShown). IsKeptTree wanted (X t) (X v)) (sym k.same) (one (record { same = refl; all = k.all }))
+
+way_as : (wanted : List ℕ) (X : TreeShown → Walk) (t u : TreeShown) → IsKeptTree wanted t u → (IsKeptTree wanted t (kept_tree wanted t) → IsSameWay wanted (X t) (X (kept_tree wanted t))) → IsSameWay wanted (X t) (X u)
+way_as wanted X t u k one = subst (λ (v : TreeShown). IsSameWay wanted (X t) (X v)) (sym k.same) (one (record { same = refl; all = k.all }))
+
+same_going : (wanted : List ℕ) (t u : TreeShown) (es : List Event) (todo : Todo) → IsKeptTree wanted t u → IsSameWay wanted (going t es todo) (going u es todo)
+same_going wanted t u es todo k = record { tree = k; events = refl; todo = refl }
+
+kept_if : (wanted : List ℕ) (test : Bool) (t u t1 u1 : TreeShown) → IsKeptTree wanted t u → IsKeptTree wanted t1 u1 → IsKeptTree wanted (if test then t else t1) (if test then u else u1)
+kept_if wanted true t u t1 u1 k k1 = k
+kept_if wanted false t u t1 u1 k k1 = k1
+
+same_if : (wanted : List ℕ) (test : Bool) (v x v1 x1 : Walk) → IsSameWay wanted v x → IsSameWay wanted v1 x1 → IsSameWay wanted (if test then v else v1) (if test then x else x1)
+same_if wanted true v x v1 x1 k k1 = k
+same_if wanted false v x v1 x1 k k1 = k1
+
+-- data
+data_kept : (wanted : List ℕ) (t u : TreeShown) (span : Span) → IsKeptTree wanted t u → IsKeptTree wanted (data_over t span) (data_over u span)
+unfolding data_over
+data_kept wanted t u span k = kept_if wanted (span.len == 0) t u _ _ k (layer_kept wanted t u _ span _ _ false k)
+
+rest_same : (wanted : List ℕ) (t u : TreeShown) (es : List Event) (span : Span) → IsKeptTree wanted t u → IsSameWay wanted (rest_met t es span) (rest_met u es span)
+rest_same wanted t u es span k = same_going wanted _ _ es todos.Done (data_kept wanted t u span k)
+
+-- fragments
+frames_kept : (wanted : List ℕ) (six : Bool) (frames : List ℕ) (t u : TreeShown) → IsKeptTree wanted t u → IsKeptTree wanted (frames_told t six frames) (frames_told u six frames)
+frames_kept wanted six [] t u k = k
+frames_kept wanted six (frame ∷ frames) t u k =
+    frames_kept wanted six frames (number_told t (frame_field six) frame) (number_told u (frame_field six) frame) (item_kept wanted t u (made_of (frame_field six) (Uint frame)) k)
+
+joined_kept : (wanted : List ℕ) (six : Bool) (datagram : Datagram) (t u : TreeShown) → IsKeptTree wanted t u → IsKeptTree wanted (joined_told t six datagram) (joined_told u six datagram)
+unfolding joined_told
+joined_kept wanted six datagram t u k =
+    buffer_kept wanted _ _ datagram.bytes (item_kept wanted _ _ (made_of (length_field six) (Uint (length datagram.bytes))) (frames_kept wanted six datagram.frames t u k))
+
+joined_same : (wanted : List ℕ) (joined : Joined) (es : List Event) (head : FragmentHead) (span : Span) (t u : TreeShown) → IsKeptTree wanted t u → IsSameWay wanted (joined_met joined t es head span) (joined_met joined u es head span)
+unfolding joined_met conflict_told
+joined_same wanted Pending es head span t u k = rest_same wanted t u es span k
+joined_same wanted (Conflict kind) es head span t u k =
+    rest_same wanted _ _ es span (item_kept wanted t u (made_of (error_field head.six) _) k)
+joined_same wanted (Whole datagram) es head span t u k =
+    way_as wanted (λ v. going (joined_told v head.six datagram) es (joined_todo v head datagram)) t u k
+    (λ one. same_going wanted _ _ es (joined_todo t head datagram) (joined_kept wanted head.six datagram t (kept_tree wanted t) one))
+
+fragment_by_same : (wanted : List ℕ) (whole : Bool) (es : List Event) (frame : ℕ) (head : FragmentHead) (span : Span) (t u : TreeShown) → IsKeptTree wanted t u → IsSameWay wanted (fragment_by whole t es frame head span) (fragment_by whole u es frame head span)
+fragment_by_same wanted true es frame head span t u k =
+    way_as wanted (λ v. fragment_by true v es frame head span) t u k (λ one. joined_same wanted _ _ head span t (kept_tree wanted t) one)
+fragment_by_same wanted false es frame head span t u k = rest_same wanted t u es span k
+
+-- what UDP and TCP headers carry
+payload_kept : (wanted : List ℕ) (field : ℕ) (span : Span) (t u : TreeShown) → IsKeptTree wanted t u → IsKeptTree wanted (with_payload t field span) (with_payload u field span)
+payload_kept wanted field span t u k =
+    tree_as wanted (λ v. with_payload v field span) t u k (λ one. kept_if wanted (span.len == 0) t (kept_tree wanted t) _ _ one (item_kept wanted t (kept_tree wanted t) (read_of t.buffers field span) one))
+
+message_kept : (wanted : List ℕ) (app : Option App) (cut : Bool) (span : Span) (t u : TreeShown) → IsKeptTree wanted t u → IsKeptTree wanted (message_over app t cut span) (message_over app u cut span)
+message_kept wanted (Some Dns) cut span t u k =
+    tree_as wanted (λ v. message_over (Some Dns) v cut span) t u k (λ one. layer_kept wanted t (kept_tree wanted t) _ span _ PlainMode cut one)
+message_kept wanted (Some Dhcp) cut span t u k =
+    tree_as wanted (λ v. message_over (Some Dhcp) v cut span) t u k (λ one. layer_kept wanted t (kept_tree wanted t) _ span _ PlainMode cut one)
+message_kept wanted (Some Http) cut span t u k = data_kept wanted t u span k
+message_kept wanted (Some Plain) cut span t u k = data_kept wanted t u span k
+message_kept wanted None cut span t u k = data_kept wanted t u span k
+
+datagram_same : (wanted : List ℕ) (frame : Frame) (packet : PacketHead) (es : List Event) (head : PortsHead) (span : Span) (t u : TreeShown) → IsKeptTree wanted t u →
+    IsSameWay wanted (datagram_met frame packet t es head span) (datagram_met frame packet u es head span)
+unfolding datagram_met datagram_told payload_over
+datagram_same wanted frame packet es head span t u k =
+    let told = payload_kept wanted UDP_PAYLOAD span _ _ (item_kept wanted t u (made_of UDP_STREAM _) k) in
+    same_going wanted _ _ _ todos.Done (kept_if wanted (span.len == 0) _ _ _ _ told (message_kept wanted _ (is_cut frame) span _ _ told))
+
+segment_same : (wanted : List ℕ) (frame : Frame) (packet : PacketHead) (es : List Event) (head : TcpHead) (span : Span) (t u : TreeShown) → IsKeptTree wanted t u →
+    IsSameWay wanted (segment_met frame packet t es head span) (segment_met frame packet u es head span)
+unfolding segment_met segment_told
+segment_same wanted frame packet es head span t u k =
+    rest_same wanted _ _ es span (payload_kept wanted TCP_PAYLOAD span _ _ (item_kept wanted t u (made_of TCP_LEN (Uint span.len)) k))
+
+-- what follows a header
+followed_same : (wanted : List ℕ) (frame : Frame) (packet : PacketHead) (mode : Mode) (es : List Event) (after : After) (t u : TreeShown) → IsKeptTree wanted t u →
+    IsSameWay wanted (followed frame packet mode t es after) (followed frame packet mode u es after)
+unfolding followed fragment_met
+followed_same wanted frame packet mode es (afters.Next which span) t u k = same_going wanted t u es _ k
+followed_same wanted frame packet mode es (afters.Packet which span inner) t u k = same_going wanted t u es _ k
+followed_same wanted frame packet mode es (afters.Fragment head span) t u k = fragment_by_same wanted head.whole es frame.number head span t u k
+followed_same wanted frame packet mode es (afters.Datagram head span) t u k = datagram_same wanted frame packet es head span t u k
+followed_same wanted frame packet mode es (afters.Segment head span) t u k = segment_same wanted frame packet es head span t u k
+followed_same wanted frame packet mode es afters.End t u k = same_going wanted t u es todos.Done k
+
+-- a header
+layer_same : (wanted : List ℕ) (frame : Frame) (head : Head) (es : List Event) (proto : ℕ) (span : Span) (steps : List Step) (after : After) (t u : TreeShown) → IsKeptTree wanted t u →
+    IsSameWay wanted (layer_met frame head t es proto span steps after) (layer_met frame head u es proto span steps after)
+layer_same wanted frame head es proto span steps after t u k =
+    followed_same wanted frame head.packet head.mode es after _ _ (layer_kept wanted t u proto span steps head.mode (is_cut frame) k)
+
+message_same : (wanted : List ℕ) (frame : Frame) (head : Head) (es : List Event) (proto : ℕ) (steps : List Step) (after : After) (t u : TreeShown) → IsKeptTree wanted t u →
+    IsSameWay wanted (message_met frame head t es proto steps after) (message_met frame head u es proto steps after)
+message_same wanted frame head es proto steps after t u k =
+    followed_same wanted frame head.packet Embedded es after _ _ (layer_kept wanted t u proto head.span steps head.mode (is_cut frame) k)
+
+head_in : (wanted : List ℕ) (which : Next) (frame : Frame) (head : Head) (es : List Event) (t : TreeShown) → IsKeptTree wanted t (kept_tree wanted t) → IsSameWay wanted (head_by which frame head t es) (head_by which frame head (kept_tree wanted t) es)
+unfolding head_by
+head_in wanted nexts.Ip4 frame head es t k = layer_same wanted frame head es _ _ _ _ t (kept_tree wanted t) k
+head_in wanted nexts.Ip6 frame head es t k = layer_same wanted frame head es _ _ _ _ t (kept_tree wanted t) k
+head_in wanted nexts.Arp frame head es t k = layer_same wanted frame head es _ _ _ _ t (kept_tree wanted t) k
+head_in wanted nexts.Vlan frame head es t k = layer_same wanted frame head es _ _ _ _ t (kept_tree wanted t) k
+head_in wanted nexts.Icmp frame head es t k = message_same wanted frame head es _ _ _ t (kept_tree wanted t) k
+head_in wanted nexts.Icmp6 frame head es t k = message_same wanted frame head es _ _ _ t (kept_tree wanted t) k
+head_in wanted nexts.Udp frame head es t k = layer_same wanted frame head es _ _ _ _ t (kept_tree wanted t) k
+head_in wanted nexts.Tcp frame head es t k = layer_same wanted frame head es _ _ _ _ t (kept_tree wanted t) k
+head_in wanted nexts.HopOpts frame head es t k = layer_same wanted frame head es _ _ _ _ t (kept_tree wanted t) k
+head_in wanted nexts.Routing frame head es t k = layer_same wanted frame head es _ _ _ _ t (kept_tree wanted t) k
+head_in wanted nexts.DstOpts frame head es t k = layer_same wanted frame head es _ _ _ _ t (kept_tree wanted t) k
+head_in wanted nexts.FragHdr frame head es t k = layer_same wanted frame head es _ _ _ _ t (kept_tree wanted t) k
+head_in wanted (nexts.Neigh kind) frame head es t k = rest_same wanted t (kept_tree wanted t) es head.span k
+head_in wanted nexts.Igmp frame head es t k = rest_same wanted t (kept_tree wanted t) es head.span k
+head_in wanted nexts.Rest frame head es t k = rest_same wanted t (kept_tree wanted t) es head.span k
+
+step_same : (wanted : List ℕ) (frame : Frame) (es : List Event) (todo : Todo) (t u : TreeShown) → IsKeptTree wanted t u → IsSameWay wanted (step_on frame t es todo) (step_on frame u es todo)
+step_same wanted frame es todos.Done t u k = same_going wanted t u es todos.Done k
+step_same wanted frame es (todos.Head head) t u k = way_as wanted (λ v. head_met frame head v es) t u k (head_in wanted head.which frame head es t)
+
+end_same : (wanted : List ℕ) (es : List Event) (todo : Todo) (t u : TreeShown) → IsKeptTree wanted t u → IsSameWay wanted (rest_on t es todo) (rest_on u es todo)
+end_same wanted es todos.Done t u k = same_going wanted t u es todos.Done k
+end_same wanted es (todos.Head head) t u k = rest_same wanted t u es head.span k
+
+-- by the parts of two ways
+by_parts : (wanted : List ℕ) (v x : Walk) (X : TreeShown → List Event → Todo → Walk) → ((es : List Event) (todo : Todo) (t u : TreeShown) → IsKeptTree wanted t u → IsSameWay wanted (X t es todo) (X u es todo)) →
+    IsSameWay wanted v x → IsSameWay wanted (X v.tree v.events v.todo) (X x.tree x.events x.todo)
+by_parts wanted v x X one same =
+    subst (λ (es : List Event). IsSameWay wanted (X v.tree v.events v.todo) (X x.tree es x.todo)) (sym same.events)
+    (subst (λ (todo : Todo). IsSameWay wanted (X v.tree v.events v.todo) (X x.tree v.events todo)) (sym same.todo) (one v.events v.todo v.tree x.tree same.tree))
+
+-- the chain of headers
+chain_same : (wanted : List ℕ) (frame : Frame) (n : ℕ) (v x : Walk) → IsSameWay wanted v x → IsSameWay wanted (chain n frame v) (chain n frame x)
+unfolding chain
+chain_same wanted frame zero v x same = by_parts wanted v x rest_on (end_same wanted) same
+chain_same wanted frame (suc n) v x same =
+    chain_same wanted frame n (step frame v) (step frame x) (by_parts wanted v x (step_on frame) (step_same wanted frame) same)
+
+all_same : (wanted : List ℕ) (frame : Frame) (v x : Walk) → IsSameWay wanted v x → IsSameWay wanted (all_met frame v) (all_met frame x)
+unfolding all_met
+all_same wanted frame v x same =
+    subst (λ (n : ℕ). IsSameWay wanted (chain (layers_left v.tree) frame v) (chain (32 - n) frame x)) (sym (count_kept wanted v.tree x.tree same.tree)) (chain_same wanted frame (layers_left v.tree) v x same)
+
+-- the first header
+link_same : (wanted : List ℕ) (frame : Frame) (es : List Event) (t u : TreeShown) → IsKeptTree wanted t u → IsSameWay wanted (link_met frame t es) (link_met frame u es)
+unfolding link_met
+link_same wanted frame es t u k =
+    way_as wanted (λ v. link_met frame v es) t u k
+    (λ one. same_if wanted (length frame.bytes == 0) (stop t es) (stop (kept_tree wanted t) es) _ _ (same_going wanted t (kept_tree wanted t) es todos.Done one)
+    (followed_same wanted frame no_packet PlainMode es _ _ _ (link_kept wanted (link_of frame.link) frame.little t (frame_span frame) (is_cut frame) one)))
+
+frame_kept : (wanted : List ℕ) (before : Times) (frame : Frame) → IsKeptTree wanted (frame_tree before frame) (kept_frame wanted before frame)
+unfolding kept_frame
+frame_kept wanted before frame = layer_kept wanted _ _ _ _ _ _ _ (record { same = refl; all = refl })
+
+pub walk_kept : (wanted : List ℕ) (before : Times) (es : List Event) (frame : Frame) → IsSameWay wanted (walk_of before es frame) (kept_walk wanted before es frame)
+unfolding walk_of kept_walk
+walk_kept wanted before es frame = all_same wanted frame _ _ (link_same wanted frame es _ _ (frame_kept wanted before frame))
