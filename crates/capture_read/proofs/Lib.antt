@@ -1,7 +1,7 @@
 mod FormatSteps
 pub mod FrameBounds
-mod KnownBlocks
+pub mod KnownBlocks
 pub mod Limit
 mod PieceBounds
-mod PieceSteps
+pub mod PieceSteps
 mod SmallTimes
