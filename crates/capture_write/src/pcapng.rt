@@ -87,7 +87,8 @@ pub fn push_enhanced(
 ) -> Result<(), NoMemory>
     requires time { nanoseconds_of frame.now.time < 2 ^ 64 }
     requires short { length frame.now.bytes ≤ captured_limit }
-    ensures { OnOk result (bytes.new.items ≡ bytes.old.items ++ block_bytes little enhanced_packet_type (enhanced_body little place frame.now)) }
+    ensures { OnOk result (bytes.new.items ≡ bytes.old.items
+        ++ block_bytes little enhanced_packet_type (enhanced_body little place frame.now)) }
 {
     let time = nanoseconds(frame.time);
     let captured = frame.bytes.bytes();
@@ -106,7 +107,8 @@ pub fn push_enhanced(
 /// Writes the block of a frame without a time.
 pub fn push_simple(bytes: &mut Vec<u8>, little: bool, frame: &Frame) -> Result<(), NoMemory>
     requires short { length frame.now.bytes ≤ captured_limit }
-    ensures { OnOk result (bytes.new.items ≡ bytes.old.items ++ block_bytes little simple_packet_type (simple_body little frame.now)) }
+    ensures { OnOk result (bytes.new.items ≡ bytes.old.items
+        ++ block_bytes little simple_packet_type (simple_body little frame.now)) }
 {
     let captured = frame.bytes.bytes();
     let size = SIMPLE_SIZE + padded(captured.len()) as u32;
