@@ -2,10 +2,10 @@ mod FillSteps
 mod FormatSteps
 pub mod FrameBounds
 mod HereSteps
-mod KnownBlocks
+pub mod KnownBlocks
 pub mod Limit
 mod PieceBounds
-mod PieceSteps
+pub mod PieceSteps
 mod ReaderSteps
 mod ReaderTurns
 mod SameSteps
