@@ -2,8 +2,7 @@
 use Rattle.std.proofs.Common.{◌≡◌, ℕ, zero, suc, ◌+◌, ◌≤◌, Bool, true, false, if◌then◌else◌, List, [], ◌∷◌, length, Option, None, Some, IfSome, refl, sym, subst, ap}
 use Rattle.range_bytes.specs.Held.{Held, bytes_at}
 use Rattle.ip_join.specs.declared.fragment.Fragment.{Fragment}
-use Rattle.ip_join.specs.Datagrams.{end_if_held, whole_end}
-use Rattle.ip_join.specs.Fragments.{end_of, end_after, holds_below, known_end, map_of}
+use Rattle.ip_join.specs.Fragments.{end_of, end_after, holds_below, known_end}
 use Rattle.ip_join.specs.Kept.{AreShort}
 
 abbrev IsShortEnd : Option ℕ → Type 0

@@ -4,8 +4,6 @@ use Rattle.std.specs.BTreeMap as tree
 use Rattle.std.specs.Ordering.{nat_cmp}
 use Rattle.range_bytes.specs.Held.{Held}
 use Rattle.ip_join.specs.declared.fragment.Fragment.{Fragment}
-use Rattle.ip_join.specs.declared.joined.Joined.{Joined}
-use Rattle.ip_join.specs.declared.joined.Joined.TheVariants.{Pending, Whole, Conflict}
 use Rattle.ip_join.specs.Fragments.{end_of, map_of, known_end}
 
 abbrev pub has_bytes : Fragment → Bool

@@ -1,5 +1,5 @@
 -- A header or record is the same in bytes that begin alike.
-use Rattle.std.proofs.Common.{◌≡◌, ◌<◌, ◌≤◌, ℕ, ◌+◌, Bool, true, false, List, length, refl, sym, ap, ◌∙◌, arith, nat_lt, if◌then◌else◌, ◌==◌}
+use Rattle.std.proofs.Common.{◌≡◌, ◌<◌, ◌≤◌, ℕ, Bool, true, false, List, length, refl, sym, ap, ◌∙◌, arith, nat_lt, if◌then◌else◌, ◌==◌}
 use Rattle.std.proofs.lemmas.Grind.{common_steps}
 use Rattle.pk_base.specs.Endian.{number_at}
 use Rattle.pk_base.specs.declared.found.Reason.TheVariants.{UnknownMagic}
@@ -28,8 +28,14 @@ pub item_same : (h : PcapHead) (n : ℕ) (xs ys : List ℕ) → IsSameFront n xs
     → pcap_item h ys ≡ pcap_item h xs
 unfolding pcap_item
 item_same h n xs ys front decided =
-    grind (arith, common_steps, number_same h.little 4 0 n xs ys front, number_same h.little 4 4 n xs ys front,
-    number_same h.little 4 8 n xs ys front, number_same h.little 4 12 n xs ys front)
+    grind (
+      arith,
+      common_steps,
+      number_same h.little 4 0 n xs ys front,
+      number_same h.little 4 4 n xs ys front,
+      number_same h.little 4 8 n xs ys front,
+      number_same h.little 4 12 n xs ys front,
+    )
 
 -- what follows the magic number
 after_magic_same : (little nano : Bool) (n : ℕ) (xs ys : List ℕ) → IsSameFront n xs ys

@@ -4,7 +4,7 @@ use Rattle.std.specs.Prelude.{nat_lt, ◌==◌, if◌then◌else◌, slice_get, 
 use Rattle.pk_base.specs.Endian.{number_at}
 use Rattle.pk_base.specs.Limits.{captured_limit}
 use Rattle.pk_base.specs.declared.found.Found.{Found}
-use Rattle.pk_base.specs.declared.found.Reason.TheVariants.{BlockLength, TooLong}
+use Rattle.pk_base.specs.declared.found.Reason.TheVariants.{BlockLength}
 use Rattle.pk_base.proofs.Choices.{by_case, choice_same, both_same, isn't_less, less, not_less}
 use Rattle.pk_base.proofs.SameFront.{IsSameFront, number_same, range_same}
 use Rattle.pcapng_read.specs.Blocks.{block_at, ordered_block, measured_block, whole_block, section_of, interface_of, interface_by, interface_with, packet_of, fitting, timed_packet, simple_packet, total_length, least_length, told_order, byte_order_magic, section_type, interface_type, obsolete_packet_type, simple_packet_type, enhanced_packet_type}

@@ -1,5 +1,5 @@
 -- The pieces that hold a position, and the first held position behind one, by places in a row and by keys.
-use Rattle.std.proofs.Common.{◌≡◌, ℕ, ◌+◌, ◌<◌, ◌≤◌, Bool, false, List, [], ◌∷◌, length, Option, Some, None, is_some, IsSome, IfSome, ◌⊎◌, refl, sym, ap, ◌∙◌, subst, inl, inr, arith}
+use Rattle.std.proofs.Common.{◌≡◌, ℕ, ◌+◌, ◌<◌, ◌≤◌, false, List, [], ◌∷◌, length, Some, None, is_some, IsSome, IfSome, refl, sym, ap, ◌∙◌, subst, inl, inr, arith}
 use Rattle.std.specs.List.{slice_get}
 use Rattle.std.specs.Map.{values_of}
 use Rattle.std.specs.Ordering.{nat_cmp, is_gt, is_lt}
@@ -8,9 +8,9 @@ use Rattle.std.proofs.lemmas.Bool.{cases_eq, cases_lt, lt-ltb, le-ltb, eq-eqb}
 use Rattle.std.proofs.lemmas.Map.Keys.{le_from_not_gt, ge_from_not_lt}
 use Rattle.range_bytes.specs.declared.piece.Piece.{Piece}
 use Rattle.range_bytes.specs.Held.{Held, IsFirstHeld}
-use Rattle.range_bytes.specs.Pieces.{held_of, IsSized, IsApart, IsKeyed, IsCover}
+use Rattle.range_bytes.specs.Pieces.{held_of, IsApart, IsKeyed, IsCover}
 use Rattle.range_bytes.proofs.Runs.{none_is_not_some, some_is}
-use Rattle.range_bytes.proofs.PieceLemmas.{found, cell_there, get-held_of, IsPlaced, placed_at, found_between}
+use Rattle.range_bytes.proofs.PieceLemmas.{cell_there, get-held_of, IsPlaced, placed_at, found_between}
 use Rattle.range_bytes.proofs.LateLemmas.{look, look_head, look_tail, late_at, late_there}
 
 le_after : {a b c : ℕ} → a ≤ b → b ≤ c → a ≤ c

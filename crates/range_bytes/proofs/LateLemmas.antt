@@ -1,16 +1,16 @@
 -- Pieces by where they start: what is held by them, and what becomes of it as one more is put in or taken out.
-use Rattle.std.proofs.Common.{◌≡◌, ℕ, zero, suc, take, ◌+◌, ◌-◌, ◌<◌, ◌≤◌, max, Bool, true, false, cond, List, [], ◌∷◌, ◌++◌, length, slice_index, Option, Some, None, is_some, IsSome, eqb, ◌⊎◌, refl, sym, ap, ◌∙◌, subst, inl, inr, arith}
+use Rattle.std.proofs.Common.{◌≡◌, ℕ, zero, suc, take, ◌+◌, ◌-◌, ◌<◌, ◌≤◌, max, List, [], ◌∷◌, length, slice_index, Option, Some, None, is_some, eqb, ◌⊎◌, refl, sym, ap, ◌∙◌, subst, inl, inr, arith}
 use Rattle.std.specs.List.{slice_get}
 use Rattle.std.specs.Option.{option_or}
 use Rattle.std.specs.Map.{values_of, lookup, remove_entry}
 use Rattle.std.specs.BTreeMap.{insert_entry, is_at}
 use Rattle.std.specs.Ordering.{nat_cmp}
 use Rattle.std.specs.Cmp.{unsigned_tied}
-use Rattle.std.proofs.lemmas.Bool.{cond-true, cond-false, eq-eqb, ne_eqb, lt-ltb, le-ltb, cases_eq, cases_lt, cases_order}
+use Rattle.std.proofs.lemmas.Bool.{cond-true, cond-false, eq-eqb, ne_eqb, lt-ltb, le-ltb, cases_eq, cases_lt}
 use Rattle.range_bytes.specs.declared.piece.Piece.{Piece}
-use Rattle.range_bytes.specs.Held.{Cell, Held}
-use Rattle.range_bytes.specs.Pieces.{held_of, IsSized, IsApart, IsKeyed, AreFree, with_piece, with_pieces}
-use Rattle.range_bytes.proofs.Runs.{or_none, or_assoc, run_cell-before, run_cell-after, none_is_not_some, some_is}
+use Rattle.range_bytes.specs.Held.{Cell}
+use Rattle.range_bytes.specs.Pieces.{IsSized, IsApart, IsKeyed, AreFree, with_piece, with_pieces}
+use Rattle.range_bytes.proofs.Runs.{or_none, or_assoc, run_cell-after, none_is_not_some, some_is}
 use Rattle.range_bytes.proofs.PieceLemmas.{cell, found, get-held_of, found_before, found_after, cell_there, apart_order, apart_higher, IsPlaced, placed_first, placed_later, placed_at}
 
 -- the piece that starts at a position

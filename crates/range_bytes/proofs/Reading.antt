@@ -1,9 +1,9 @@
 -- What is read of a piece that holds a position.
-use Rattle.std.proofs.Common.{◌≡◌, ℕ, zero, suc, ◌+◌, ◌-◌, ◌<◌, ◌≤◌, min, List, [], ◌∷◌, ◌++◌, length, slice_index, slice_range, Option, Some, refl, sym, ap, ◌∙◌, subst, inl, inr, arith, take, drop}
+use Rattle.std.proofs.Common.{◌≡◌, ℕ, zero, suc, ◌+◌, ◌-◌, ◌<◌, ◌≤◌, min, List, [], ◌∷◌, ◌++◌, length, slice_range, refl, sym, ap, ◌∙◌, inl, inr, arith, take, drop}
 use Rattle.std.specs.FinMap.{get}
 use Rattle.std.proofs.lemmas.Bool.{cases_lt}
 use Rattle.range_bytes.specs.declared.piece.Piece.{Piece}
-use Rattle.range_bytes.specs.Held.{Held, HoldsAll, frame_of, put_number, put_numbers, bytes_at, frames_at}
+use Rattle.range_bytes.specs.Held.{Held, frame_of, put_number, put_numbers, bytes_at, frames_at}
 use Rattle.range_bytes.specs.Pieces.{IsCover}
 use Rattle.range_bytes.proofs.Runs.{bytes_at-append, bytes_at-run}
 use Rattle.range_bytes.proofs.PieceLemmas.{cell_there}

@@ -1,5 +1,4 @@
-use Rattle.std.proofs.Common.{rules, ◌≡◌, ◌≤◌, ◌<◌, ◌+◌, ◌^◌, length, refl, arith}
-use Rattle.capture_read.specs.declared.fill.Filled.{Filled}
+use Rattle.std.proofs.Common.{rules, ◌≤◌, ◌<◌, ◌+◌, ◌^◌, length, refl, arith}
 use Rattle.capture_read.proofs.FillSteps.{filled_beyond, filled_ended}
 use Rattle.capture_read.proofs.fill.fill.Goals as goal
 

@@ -1,4 +1,3 @@
-use Rattle.std.proofs.Common.{ℕ, Bool}
 use Rattle.range_bytes.proofs.Covering.{late_covers, late_free, late_empty}
 use Rattle.range_bytes.proofs.late.covering.Goals as goal
 

@@ -1,4 +1,3 @@
-use Rattle.std.proofs.Common.{◌≡◌, ℕ, ap, ◌∙◌, sym, subst}
 use Rattle.range_bytes.proofs.Covering.{first_is, late_next, late_last}
 use Rattle.range_bytes.proofs.late.next_start.Goals as goal
 

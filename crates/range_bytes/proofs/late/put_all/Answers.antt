@@ -1,7 +1,6 @@
-use Rattle.std.proofs.Common.{◌≡◌, ◌+◌, ℕ, Some, suc, length, take, refl, sym, ap, ◌∙◌, subst, arith}
+use Rattle.std.proofs.Common.{◌≡◌, ◌+◌, ℕ, Some, suc, length, take, refl, sym, ap, ◌∙◌, arith}
 use Rattle.std.specs.List.{slice_get}
 use Rattle.std.proofs.lemmas.Option.{slice_get_read}
-use Rattle.range_bytes.specs.declared.piece.Piece.{Piece}
 use Rattle.range_bytes.specs.Pieces.{with_piece, with_pieces}
 use Rattle.range_bytes.proofs.LateLemmas.{take_put, free_take}
 use Rattle.range_bytes.proofs.late.put_all.Goals as goal

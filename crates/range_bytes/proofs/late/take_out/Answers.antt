@@ -1,10 +1,9 @@
-use Rattle.std.proofs.Common.{◌≡◌, ◌-◌, ◌+◌, ℕ, List, Some, suc, length, take, refl, sym, ap, ◌∙◌, arith}
+use Rattle.std.proofs.Common.{◌≡◌, ◌-◌, ℕ, Some, suc, length, take, refl, ap, ◌∙◌, arith}
 use Rattle.std.specs.List.{slice_get}
 use Rattle.std.specs.Map.{remove_entry}
 use Rattle.std.specs.BTreeMap.{is_at}
 use Rattle.std.specs.Ordering.{nat_cmp}
 use Rattle.std.proofs.lemmas.Option.{slice_get_read}
-use Rattle.range_bytes.specs.declared.piece.Piece.{Piece}
 use Rattle.range_bytes.specs.Pieces.{with_pieces}
 use Rattle.range_bytes.proofs.LateLemmas.{undone}
 use Rattle.range_bytes.proofs.late.take_out.Goals as goal

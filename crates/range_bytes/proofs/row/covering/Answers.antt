@@ -1,4 +1,4 @@
-use Rattle.std.proofs.Common.{◌-◌, ◌+◌, ◌≡◌, ◌≤◌, ℕ, Some, length, refl, subst, sym, arith}
+use Rattle.std.proofs.Common.{◌-◌, ◌≡◌, ◌≤◌, Some, length, refl, subst, arith}
 use Rattle.std.specs.List.{slice_get}
 use Rattle.std.proofs.lemmas.Option.{slice_get_read}
 use Rattle.range_bytes.specs.declared.piece.Piece.{Piece}

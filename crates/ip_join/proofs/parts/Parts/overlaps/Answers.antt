@@ -1,8 +1,6 @@
-use Rattle.std.proofs.Common.{◌≡◌, ◌≤◌, ℕ, List, None, nat_lt, sym, subst, ap, ◌∙◌, arith}
+use Rattle.std.proofs.Common.{◌≡◌, ℕ, nat_lt, sym, subst, ap, ◌∙◌, arith}
 use Rattle.std.specs.List.{list_any}
-use Rattle.std.specs.FinMap.{get}
 use Rattle.range_bytes.specs.Held.{IsFirstHeld}
-use Rattle.ip_join.specs.declared.fragment.Fragment.{Fragment}
 use Rattle.ip_join.specs.Fragments.{overlaps}
 use Rattle.ip_join.proofs.KeptLemmas.{next_overlaps, none_overlaps}
 use Rattle.ip_join.proofs.parts.Parts.overlaps.Goals as goal

@@ -1,4 +1,4 @@
-use Rattle.std.proofs.Common.{Bool, true, not, ◌&&◌, sym, ap, ◌∙◌}
+use Rattle.std.proofs.Common.{Bool, not, ◌&&◌, sym, ap, ◌∙◌}
 use Rattle.std.specs.List.{list_any}
 use Rattle.ip_join.specs.Fragments.{repeats}
 use Rattle.ip_join.proofs.KeptLemmas.{overlap_has}

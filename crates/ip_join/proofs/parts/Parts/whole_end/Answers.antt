@@ -1,6 +1,4 @@
-use Rattle.std.proofs.Common.{ℕ, ◌≤◌, List, Option, IfSome, sym, subst, ap, ◌∙◌}
-use Rattle.ip_join.specs.declared.fragment.Fragment.{Fragment}
-use Rattle.ip_join.specs.Kept.{AreShort}
+use Rattle.std.proofs.Common.{sym, ◌∙◌}
 use Rattle.ip_join.proofs.ShortLemmas.{ends_short}
 use Rattle.ip_join.proofs.parts.Parts.whole_end.Goals as goal
 

@@ -1,7 +1,5 @@
-use Rattle.std.proofs.Common.{◌≡◌, ◌∷◌, ◌++◌, [], List, ℕ, Option, None, sym, ap, ◌∙◌, subst, arith}
+use Rattle.std.proofs.Common.{◌≡◌, ◌∷◌, [], List, ℕ, Option, None, sym, ap, ◌∙◌, subst, arith}
 use Rattle.std.specs.Option.{option_or}
-use Rattle.std.specs.BTreeMap as tree
-use Rattle.std.specs.Ordering.{nat_cmp}
 use Rattle.range_bytes.specs.Held.{Held, put_run}
 use Rattle.ip_join.specs.declared.fragment.Fragment.{Fragment}
 use Rattle.ip_join.specs.Fragments.{map_of, known_end, end_after}

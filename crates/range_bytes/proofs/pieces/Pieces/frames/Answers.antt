@@ -1,5 +1,4 @@
-use Rattle.std.proofs.Common.{◌≡◌, List, ℕ, ap, ◌∙◌, arith}
-use Rattle.range_bytes.specs.Held.{put_numbers, frames_at}
+use Rattle.std.proofs.Common.{arith}
 use Rattle.range_bytes.proofs.Reading.{frames_more}
 use Rattle.range_bytes.proofs.pieces.Pieces.frames.Goals as goal
 

@@ -1,4 +1,4 @@
-use Rattle.std.proofs.Common.{◌≡◌, ◌++◌, ◌∷◌, [], List, sym, ap, ◌∙◌, subst}
+use Rattle.std.proofs.Common.{◌++◌, ◌∷◌, [], List, sym, ap, ◌∙◌, subst}
 use Rattle.range_bytes.specs.declared.piece.Piece.{Piece}
 use Rattle.range_bytes.proofs.Gaps.{AreGapsUpTo, gaps_none, gaps_past, gaps_more, gaps_all}
 use Rattle.range_bytes.proofs.pieces.Pieces.gaps.Goals as goal
