@@ -1,5 +1,5 @@
 -- The first of two lists of faults, one behind the other.
-use Rattle.std.proofs.Common.{◌≡◌, ◌⊎◌, inl, inr, ℕ, Bool, true, false, IsTrue, List, [], ◌∷◌, ◌++◌, Option, Some, None, sym, refl}
+use Rattle.std.proofs.Common.{◌≡◌, inl, inr, ℕ, Bool, true, List, [], ◌∷◌, ◌++◌, Option, Some}
 use Rattle.flt_parse.specs.declared.fault.FilterError.{FilterError}
 use Rattle.flt_parse.specs.declared.fault.FilterError.TheVariants.{Fault, NoMemory}
 use Rattle.flt_parse.specs.declared.fault.FilterReason.{FilterReason}

@@ -1,6 +1,6 @@
 -- Filters joined by signs, one more or one less.
 use Rattle.std.proofs.Common.{◌≡◌, ℕ, ◌+◌, ◌<◌, ◌≤◌, List, [], ◌∷◌, ◌++◌, ap, sym, refl, ◌∙◌, arith}
-use Rattle.flt_parse.specs.Written.{Written, JoinedOf, NotOf, GroupOf, AloneOf, TestOf, written}
+use Rattle.flt_parse.specs.Written.{Written, JoinedOf, NotOf, GroupOf, written}
 use Rattle.flt_parse.specs.declared.fault.FilterError.{FilterError}
 use Rattle.flt_types.specs.Chains.{joined}
 use Rattle.flt_types.specs.Faults.{IsAnswer, faults}

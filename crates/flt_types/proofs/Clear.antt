@@ -1,5 +1,5 @@
 -- What has a type has no fault.
-use Rattle.std.proofs.Common.{◌≡◌, ◌⊎◌, inl, inr, ℕ, Bool, true, false, ◌&&◌, IsTrue, List, [], ◌∷◌, ◌++◌, map, Option, Some, None, option_map, drop, append-nil, sym, ap, subst, refl, ◌∙◌}
+use Rattle.std.proofs.Common.{◌≡◌, ℕ, Bool, true, false, List, [], ◌∷◌, ◌++◌, Option, Some, None, option_map, drop, append-nil, sym, ap, subst, refl, ◌∙◌}
 use Rattle.std.proofs.lemmas.Bool.{and_parts}
 use Rattle.std.specs.List.{list_all}
 use Rattle.flt_parse.specs.Written.{Written, WrittenOperand, WrittenTail, TextOf, NamedOf, OnLayerOf, OnLayersOf, SlicedOf, MaskedOf, CalledOf, CompareOf, InOf, MatchesOf, JoinedOf, NotOf, GroupOf, AloneOf, TestOf}
@@ -29,7 +29,7 @@ use Rattle.flt_types.specs.declared.typed.Term.TheVariants as terms
 use Rattle.flt_types.specs.declared.typed.Typed.{Typed}
 use Rattle.flt_types.specs.declared.typed.Typed.TheVariants.{Either', Both', Not', Exists, AnyBit, Compare, Among, Matches}
 use Rattle.flt_types.proofs.Answers.{answer_right, clear_both, clear_unless, given_answer, given_clear}
-use Rattle.flt_values.specs.Kinds.{is_masked, is_searched, is_sliced, kind_of_call, same_class, takes, takes_call}
+use Rattle.flt_values.specs.Kinds.{is_masked, is_searched, is_sliced, kind_of_call, same_class, takes}
 use Rattle.flt_values.specs.Literals.{word_read}
 use Rattle.flt_values.specs.declared.literal.Constant.{Constant}
 use Rattle.flt_values.specs.declared.literal.Reading.{Reading}

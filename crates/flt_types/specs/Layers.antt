@@ -1,6 +1,5 @@
 -- The layers that a name with `#` chooses: numbers from 1, and ranges that don't fall.
-use Rattle.std.specs.Prelude.{ℕ, Bool, ◌&&◌, nat_le, IsTrue, List, [], ◌∷◌, map, Option, unwrap_or}
-use Rattle.std.specs.List.{list_all}
+use Rattle.std.specs.Prelude.{ℕ, Bool, ◌&&◌, nat_le, unwrap_or}
 use Rattle.flt_parse.specs.declared.ast.Layer.{Layer}
 use Rattle.flt_parse.specs.declared.ast.LayerRange as written
 use Rattle.pk_tree.specs.declared.chosen.LayerRange as chosen

@@ -1,5 +1,5 @@
 -- Literals where they stand: in a test's right side, in a set, behind `&`.
-use Rattle.std.specs.Prelude.{ℕ, Bool as Truth, true, false, if◌then◌else◌, List, Option, Some, None}
+use Rattle.std.specs.Prelude.{ℕ, Bool as Truth, false, if◌then◌else◌, Option, Some, None}
 use Rattle.flt_parse.specs.Written.{WrittenOperand, TextOf, NamedOf}
 use Rattle.flt_parse.specs.declared.ast.Literal.{Literal}
 use Rattle.flt_parse.specs.declared.ast.Literal.TheVariants as literals

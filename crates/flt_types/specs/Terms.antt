@@ -1,9 +1,9 @@
 -- Operands with their types: a relation between what is written and what it stands for.
 use Rattle.std.specs.Prelude.{◌≡◌, ℕ, Bool as Truth, true, false, IsTrue, List, [], ◌∷◌, map, Some}
 use Rattle.std.specs.List.{list_all}
-use Rattle.flt_parse.specs.Written.{WrittenOperand, TextOf, NamedOf, OnLayerOf, OnLayersOf, SlicedOf, MaskedOf, CalledOf}
+use Rattle.flt_parse.specs.Written.{WrittenOperand, NamedOf, OnLayerOf, OnLayersOf, SlicedOf, MaskedOf, CalledOf}
 use Rattle.flt_parse.specs.declared.ast.Function.{Function}
-use Rattle.flt_parse.specs.declared.ast.Function.TheVariants.{Len, Count, Upper, Lower}
+use Rattle.flt_parse.specs.declared.ast.Function.TheVariants.{Count}
 use Rattle.flt_types.specs.Layers.{is_layer, is_layers, layers_of, one_layer}
 use Rattle.flt_types.specs.Ranges.{is_range}
 use Rattle.flt_types.specs.declared.typed.Term.{Term}

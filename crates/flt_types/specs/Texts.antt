@@ -5,7 +5,7 @@ use Rattle.flt_parse.specs.Written.{Written}
 use Rattle.flt_parse.specs.declared.fault.FilterError.{FilterError}
 use Rattle.flt_parse.specs.declared.fault.FilterError.TheVariants.{Fault, NoMemory}
 use Rattle.flt_parse.specs.declared.fault.FilterFault.{FilterFault}
-use Rattle.flt_types.specs.Faults.{IsAnswer, IsFirst, faults}
+use Rattle.flt_types.specs.Faults.{IsFirst, faults}
 use Rattle.flt_types.specs.Typing.{HasType}
 use Rattle.flt_types.specs.declared.typed.Typed.{Typed}
 

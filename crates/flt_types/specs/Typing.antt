@@ -1,6 +1,6 @@
 -- Filters with their types: a relation between a syntax tree and what it asks of a tree of fields (wireshark-filter(4)).
-use Rattle.std.specs.Prelude.{◌≡◌, ℕ, Bool as Truth, true, false, IsTrue, List, [], ◌∷◌, Option, Some, None}
-use Rattle.flt_parse.specs.Written.{Written, WrittenOperand, WrittenTail, TextOf, NamedOf, OnLayerOf, OnLayersOf, SlicedOf, MaskedOf, CalledOf, CompareOf, InOf, MatchesOf, JoinedOf, NotOf, GroupOf, AloneOf, TestOf}
+use Rattle.std.specs.Prelude.{◌≡◌, true, IsTrue, List, [], ◌∷◌, Option, Some, None}
+use Rattle.flt_parse.specs.Written.{Written, WrittenOperand, WrittenTail, NamedOf, OnLayerOf, OnLayersOf, SlicedOf, MaskedOf, CompareOf, InOf, MatchesOf, JoinedOf, NotOf, GroupOf, AloneOf, TestOf}
 use Rattle.flt_parse.specs.declared.ast.Choice.{Choice}
 use Rattle.flt_parse.specs.declared.ast.Choice.TheVariants.{Any, All}
 use Rattle.flt_parse.specs.declared.ast.Element.{Element}

@@ -1,4 +1,4 @@
-use Rattle.std.proofs.Common.{◌≡◌, subst}
+use Rattle.std.proofs.Common.{subst}
 use Rattle.flt_pattern.specs.Patterns.{HasCause}
 use Rattle.flt_types.proofs.conditions.pattern.Goals as goal
 

@@ -1,4 +1,4 @@
-use Rattle.std.proofs.Common.{◌≡◌, ap, sym, ◌∙◌}
+use Rattle.std.proofs.Common.{ap, sym, ◌∙◌}
 use Rattle.flt_parse.specs.Written.{operand_of}
 use Rattle.flt_parse.specs.declared.ast.Literal.TheVariants.{Bare, Text}
 use Rattle.flt_types.specs.Literals.{literal_of, word_or_name}

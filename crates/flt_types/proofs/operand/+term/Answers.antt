@@ -1,4 +1,3 @@
-use Rattle.std.proofs.Common.{◌≡◌}
 use Rattle.flt_parse.specs.Written.{operand_of}
 use Rattle.flt_types.proofs.operand.+term.Goals as goal
 

@@ -1,7 +1,7 @@
-use Rattle.std.proofs.Common.{◌≡◌, ℕ, ◌<◌, ◌≤◌, arith, ◌∙◌, sym, ap}
+use Rattle.std.proofs.Common.{arith}
 use Rattle.std.proofs.lemmas.Result.{err_from_is_err_and}
 use Rattle.flt_parse.specs.Written.{JoinedOf, written}
-use Rattle.flt_types.proofs.Chains.{answer_next, first_within, joined_back, parts, right_within}
+use Rattle.flt_types.proofs.Chains.{answer_next, first_within, joined_back, right_within}
 use Rattle.flt_types.proofs.typing.+typing.Goals as goal
 
 pub typed-unjoined-requires : goal.typed-unjoined-requires

@@ -1,4 +1,4 @@
-use Rattle.std.proofs.Common.{◌≡◌, ℕ, ◌+◌, ◌*◌, vec_len}
+use Rattle.std.proofs.Common.{◌≡◌, ◌+◌, ◌*◌, vec_len}
 use Rattle.flt_parse.specs.Written.{Written, written}
 use Rattle.flt_types.specs.Chains.{joined}
 use Rattle.flt_types.specs.Typing.{HasType}

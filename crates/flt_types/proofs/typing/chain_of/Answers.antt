@@ -1,4 +1,4 @@
-use Rattle.std.proofs.Common.{◌≡◌, ap, sym, ◌∙◌}
+use Rattle.std.proofs.Common.{ap, sym, ◌∙◌}
 use Rattle.flt_parse.specs.Written.{JoinedOf, written}
 use Rattle.flt_parse.specs.declared.token.Join.TheVariants as joins
 use Rattle.flt_types.specs.declared.typing.Right.{Right}
