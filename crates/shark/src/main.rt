@@ -7,25 +7,42 @@ mod help;
 mod tests;
 
 use edge::{answer, without_words};
-use pk_outside::{FileCapture, StdSink};
+use pk_outside::{FileCapture, Sink, StdSink};
 use shark_run::{Status, run};
 use std::process::ExitCode;
-use std::{env, io};
+use std::env;
+use std::io::{self, BufWriter, IsTerminal, Write};
 
 /// The words behind the program's name.
 fn words(rt: &HostRuntime) -> io::Result<Vec<String>> {
     Ok(env::args(rt)?.skip(1).collect(rt.alloc())?)
 }
 
-/// Answers the words by itself, or does what they ask for.
+/// The bytes of output that are gathered before they are written, unless a person reads them as they come.
+const GATHERED: usize = 1 << 16;
+
+/// Answers the words by itself, or does what they ask for. Whatever is gathered is written before the status is known.
 fn status_of(rt: &HostRuntime, words: &[String]) -> Status {
-    let mut out = StdSink::new(rt.stdout());
-    if let Some(status) = answer(words, &mut out) {
+    let stdout = rt.stdout();
+    let gathered = if stdout.is_terminal() { 0 } else { GATHERED };
+    let mut stream = match BufWriter::with_capacity(rt.alloc(), gathered, stdout) {
+        Ok(stream) => stream,
+        Err(_) => return Status::NoMemory,
+    };
+    let status = status_over(rt, words, &mut StdSink::new(&mut stream));
+    match stream.flush() {
+        Ok(()) => status,
+        Err(_) => Status::WriteFault,
+    }
+}
+
+fn status_over<O: Sink>(rt: &HostRuntime, words: &[String], out: &mut O) -> Status {
+    if let Some(status) = answer(words, out) {
         return status;
     }
     let mut err = StdSink::new(rt.stderr());
     let mut capture = FileCapture::new(rt);
-    run(rt.alloc(), words, &mut capture, &mut out, &mut err)
+    run(rt.alloc(), words, &mut capture, out, &mut err)
 }
 
 fn main(rt: HostRuntime) -> ExitCode {
