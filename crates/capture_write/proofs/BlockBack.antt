@@ -1,11 +1,12 @@
 -- A block of a written pcapng file is read back, by its type's own cases.
 use Rattle.std.proofs.Common.{◌≡◌, ◌<◌, ◌≤◌, ◌+◌, ◌-◌, ◌%◌, ◌^◌, lit<, lit≤, ℕ, Bool, true, false, List, [], ◌++◌, length, drop, Some, None, refl, sym, ap, ◌∙◌, subst, append_assoc, arith, length-append}
+use Rattle.pk_base.specs.Endian.{number_at}
 use Rattle.std.specs.Prelude.{pos, ◌==◌, nat_lt}
 use Rattle.std.proofs.lemmas.Bool.Decides.{nat_tests}
 use Rattle.std.proofs.lemmas.List.{drop-drop, drop_at}
 use Rattle.pk_base.specs.Endian.{number_in}
 use Rattle.pcapng_read.specs.Blocks.{block_at, measured_block, whole_block, least_length, section_type, interface_type}
-use Rattle.pcapng_read.specs.Options.{number_at, options_of, option_of}
+use Rattle.pcapng_read.specs.Options.{options_of, option_of}
 use Rattle.pcapng_read.specs.declared.block.Block.TheVariants as block
 use Rattle.pcapng_read.specs.declared.block.BlockRead.TheVariants.{Whole}
 use Rattle.pcapng_read.specs.declared.interface.Interface.{Interface}

@@ -1,8 +1,8 @@
 -- What a frame is that fits.
 use Rattle.std.proofs.Common.{◌≡◌, ◌<◌, ◌≤◌, ◌*◌, ◌^◌, lit<, ℕ, ℤ, Bool, true, false, List, length, Option, Some, None, refl, arith}
+use Rattle.pk_base.specs.Limits.{captured_limit}
 use Rattle.std.specs.Prelude.{pos, negsuc, ◌&&◌, not, nat_lt, ◌==◌}
 use Rattle.std.proofs.lemmas.Bool.Decides.{nat_tests}
-use Rattle.pcap_read.specs.Pcap.{captured_limit}
 use Rattle.capture_read.specs.declared.frame.Frame.{Frame}
 use Rattle.capture_write.specs.Frames.{is_time_below, nanoseconds_of, is_order_kept}
 use Rattle.capture_write.specs.Pcap.{fits_pcap}

@@ -1,12 +1,14 @@
 -- A packet of a written pcapng file is read back.
 use Rattle.std.proofs.Common.{◌≡◌, ◌<◌, ◌≤◌, ◌+◌, ◌-◌, ◌*◌, ◌/◌, ◌%◌, ◌^◌, lit<, ℕ, ℤ, Bool, true, false, List, ◌++◌, length, take, drop, Option, Some, None, refl, sym, ap, ◌∙◌, append_assoc, arith, length-append}
+use Rattle.pk_base.specs.Limits.{captured_limit}
+use Rattle.pk_base.specs.Endian.{number_at}
 use Rattle.std.specs.Prelude.{pos, ◌+ℤ◌, ◌*ℤ◌, ◌==◌, nat_lt, replicate, slice_get}
 use Rattle.std.proofs.lemmas.Bool.Decides.{nat_tests}
 use Rattle.std.proofs.lemmas.List.{take_at, length-replicate}
 use Rattle.pk_base.specs.declared.found.Found.{Found}
-use Rattle.pcapng_read.specs.Blocks.{block_at, packet_of, fitting, timed_packet, simple_packet, kept_length, captured_limit, enhanced_packet_type, simple_packet_type}
+use Rattle.pcapng_read.specs.Blocks.{block_at, packet_of, fitting, timed_packet, simple_packet, kept_length, enhanced_packet_type, simple_packet_type}
 use Rattle.pcapng_read.specs.Interface.{nanoseconds}
-use Rattle.pcapng_read.specs.Options.{number_at, padded}
+use Rattle.pcapng_read.specs.Options.{padded}
 use Rattle.pcapng_read.specs.declared.block.Block.TheVariants as block
 use Rattle.pcapng_read.specs.declared.block.BlockRead.TheVariants.{Whole}
 use Rattle.pcapng_read.specs.declared.interface.Interface.{Interface}

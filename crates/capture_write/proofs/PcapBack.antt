@@ -1,11 +1,13 @@
 -- A pcap file is read back.
 use Rattle.std.proofs.Common.{◌≡◌, ◌<◌, ◌≤◌, ◌+◌, ◌*◌, ◌/◌, ◌%◌, ◌^◌, ℕ, suc, ℤ, Bool, true, false, List, [], ◌∷◌, ◌++◌, length, take, drop, Option, Some, refl, sym, ap, ◌∙◌, arith, length-append}
+use Rattle.pk_base.specs.Limits.{captured_limit}
+use Rattle.pk_base.specs.Endian.{number_at}
 use Rattle.std.specs.Prelude.{pos, nat_lt}
 use Rattle.std.proofs.Math.Nat.{mod-eq_of_lt}
 use Rattle.std.proofs.lemmas.Bool.Decides.{nat_tests}
 use Rattle.std.proofs.lemmas.List.{drop-drop, drop_at, take_at}
 use Rattle.pk_base.specs.declared.found.Found.{Found}
-use Rattle.pcap_read.specs.Pcap.{pcap_head, pcap_item, number_at, nanoseconds, captured_limit}
+use Rattle.pcap_read.specs.Pcap.{pcap_head, pcap_item, nanoseconds}
 use Rattle.pcap_read.specs.declared.header.PcapHead.{PcapHead}
 use Rattle.pcap_read.specs.declared.header.HeadStep.TheVariants as head
 use Rattle.pcap_read.specs.declared.packet.ItemStep.TheVariants as item

@@ -1,5 +1,5 @@
 ghost use Rattle.std.specs.Prelude.{◌≡◌, not, nat_lt, length};
-ghost use Rattle.pcap_read.specs.Pcap.{captured_limit};
+ghost use Rattle.pk_base.specs.Limits.{captured_limit};
 ghost use Rattle.capture_write.specs.Frames.{is_time_below, nanoseconds_of, is_order_kept};
 ghost use Rattle.capture_write.specs.Kept.{order_by, fits_by};
 ghost use Rattle.capture_write.specs.Pcap.{fits_pcap};

@@ -1,5 +1,5 @@
 ghost use Rattle.std.specs.Prelude.{◌≡◌, ◌<◌, ◌≤◌, ◌+◌, ◌^◌, ◌++◌, length, OnOk};
-ghost use Rattle.pcapng_read.specs.Blocks.{captured_limit};
+ghost use Rattle.pk_base.specs.Limits.{captured_limit};
 ghost use Rattle.capture_write.specs.Frames.{nanoseconds_of};
 ghost use Rattle.capture_write.specs.Pcapng.{section_block, interface_block, block_bytes, enhanced_body, simple_body, padded_bytes};
 ghost use Rattle.pcapng_read.specs.Blocks.{enhanced_packet_type, simple_packet_type};

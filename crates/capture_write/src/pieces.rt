@@ -1,5 +1,5 @@
 ghost use Rattle.std.specs.Prelude.{◌≡◌, ◌<◌, ◌≤◌, ◌^◌, ◌++◌, true, length, OnOk};
-ghost use Rattle.pcapng_read.specs.Blocks.{captured_limit};
+ghost use Rattle.pk_base.specs.Limits.{captured_limit};
 ghost use Rattle.capture_write.specs.Frames.{nanoseconds_of};
 ghost use Rattle.capture_write.specs.Kept.{start_of, start_by, packet_of, fits_by};
 ghost use Rattle.capture_write.specs.Pcapng.{new_interface, packet_by, pcapng_piece, place_of, fits_pcapng};
