@@ -111,6 +111,26 @@ fn at_most_64_are_open_at_once(rt: HostRuntime) -> Result<(), Fail> {
     Ok(())
 }
 
+/// The longest chain of one word by a sign of two bytes.
+fn chain(alloc: Global, sign: &str) -> Result<String, AllocError> {
+    let mut filter = String::from_str(alloc, "arp")?;
+    for _ in 0..818usize {
+        filter.push_str(sign)?;
+        filter.push_str("arp")?;
+    }
+    Ok(filter)
+}
+
+#[test]
+fn the_longest_chains_are_asked(rt: HostRuntime) -> Result<(), Fail> {
+    let alloc = rt.alloc();
+    let any = chain(alloc, "||")?;
+    assert!(rt; gives(alloc, any.as_str(), "1\n", "")?);
+    let all = chain(alloc, "&&")?;
+    assert!(rt; gives(alloc, all.as_str(), "1\n", "")?);
+    Ok(())
+}
+
 /// A pattern of so many groups, one in the other.
 fn nested(alloc: Global, groups: usize) -> Result<String, AllocError> {
     let mut filter = String::from_str(alloc, "tcp.payload matches \"")?;
