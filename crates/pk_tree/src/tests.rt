@@ -212,6 +212,7 @@ fn rows() -> &'static [Slot]
 }
 
 #[test]
+#[tactic(auto, unfolding(crate::specs::Layouts::StepsFit, pk_fields::specs::Fields::row_of, pk_fields::specs::Table::rows))]
 fn a_table_is_read_as_far_as_its_fields_are_wanted(rt: HostRuntime) -> Result<(), NoMemory> {
     let mut wanted = FieldSet::none();
     wanted.add(ids::IP_SRC);
@@ -257,6 +258,7 @@ fn a_table_is_read_as_far_as_its_fields_are_wanted(rt: HostRuntime) -> Result<()
 }
 
 #[test]
+#[tactic(auto, unfolding(crate::specs::Layouts::StepsFit, pk_fields::specs::Fields::row_of, pk_fields::specs::Table::rows))]
 fn a_layer_that_nobody_asks_for_is_passed(rt: HostRuntime) -> Result<(), NoMemory> {
     let frame = Octets::copy(rt.alloc(), &PACKET)?;
     let mut builder = TreeBuilder::keeping(rt.alloc(), frame, FieldSet::none())?;
