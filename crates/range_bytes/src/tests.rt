@@ -48,14 +48,19 @@ fn no_bytes_change_nothing(rt: HostRuntime) -> Result<(), NoMemory> {
     Ok(())
 }
 
-#[test]
-fn origins_ascend_and_stand_once(rt: HostRuntime) -> Result<(), NoMemory> {
-    let alloc = rt.alloc();
+/// Nine bytes of three frames.
+fn nine(alloc: Global) -> Result<Ranges, NoMemory> {
     let mut ranges = Ranges::new(alloc);
     ranges.insert(4, &octets(alloc, b"ef")?, 9)?;
     ranges.insert(0, &octets(alloc, b"ab")?, 7)?;
     ranges.insert(1, &octets(alloc, b"bcdefgh")?, 2)?;
     ranges.insert(8, &octets(alloc, b"i")?, 7)?;
+    Ok(ranges)
+}
+
+#[test]
+fn origins_ascend_and_stand_once(rt: HostRuntime) -> Result<(), NoMemory> {
+    let ranges = nine(rt.alloc())?;
     assert_eq!(rt; ranges.front(), 9);
     assert!(rt; ranges.origins(0, 9)?.slice() == [2, 7, 9].as_slice());
     assert!(rt; ranges.origins(3, 6)?.slice() == [2, 9].as_slice());
@@ -65,16 +70,31 @@ fn origins_ascend_and_stand_once(rt: HostRuntime) -> Result<(), NoMemory> {
     Ok(())
 }
 
-#[test]
-fn the_next_held_and_the_first_free_position_are_found(rt: HostRuntime) -> Result<(), NoMemory> {
-    let alloc = rt.alloc();
+/// Six bytes in order from position 2 on, and two from position 20 on.
+fn apart(alloc: Global) -> Result<Ranges, NoMemory> {
     let mut ranges = Ranges::new(alloc);
-    assert_eq!(rt; ranges.next_held(0), None);
-    assert_eq!(rt; ranges.first_free(3), 3);
     ranges.insert(20, &octets(alloc, b"uv")?, 1)?;
     ranges.insert(6, &octets(alloc, b"gh")?, 2)?;
     ranges.insert(2, &octets(alloc, b"cd")?, 3)?;
     ranges.insert(4, &octets(alloc, b"ef")?, 4)?;
+    Ok(ranges)
+}
+
+/// The same, with more bytes around the first ones, and some of them again.
+fn covered(alloc: Global) -> Result<Ranges, NoMemory> {
+    let mut ranges = apart(alloc)?;
+    ranges.insert(0, &octets(alloc, b"ABCDEFGHIJ")?, 5)?;
+    ranges.insert(1, &octets(alloc, b"xyz")?, 6)?;
+    Ok(ranges)
+}
+
+#[test]
+fn the_next_held_and_the_first_free_position_are_found(rt: HostRuntime) -> Result<(), NoMemory> {
+    let alloc = rt.alloc();
+    let none = Ranges::new(alloc);
+    assert_eq!(rt; none.next_held(0), None);
+    assert_eq!(rt; none.first_free(3), 3);
+    let ranges = apart(alloc)?;
     for (from, next, free) in [
         (0, Some(2), 0),
         (2, Some(2), 8),
@@ -87,14 +107,17 @@ fn the_next_held_and_the_first_free_position_are_found(rt: HostRuntime) -> Resul
         assert_eq!(rt; ranges.next_held(from), next);
         assert_eq!(rt; ranges.first_free(from), free);
     }
-    ranges.insert(0, &octets(alloc, b"ABCDEFGHIJ")?, 5)?;
+    Ok(())
+}
+
+#[test]
+fn bytes_around_held_ones_join_them(rt: HostRuntime) -> Result<(), NoMemory> {
+    let ranges = covered(rt.alloc())?;
     assert_eq!(rt; ranges.front(), 10);
     assert_eq!(rt; ranges.first_free(0), 10);
     assert_eq!(rt; ranges.next_held(10), Some(20));
     assert!(rt; ranges.copy(0, 10)?.bytes() == b"ABcdefghIJ".as_slice());
     assert!(rt; ranges.origins(0, 10)?.slice() == [2, 3, 4, 5].as_slice());
-    ranges.insert(1, &octets(alloc, b"xyz")?, 6)?;
-    assert!(rt; ranges.copy(0, 10)?.bytes() == b"ABcdefghIJ".as_slice());
     Ok(())
 }
 
