@@ -203,8 +203,8 @@ fn unexpected_tokens_are_told_at_their_bytes(rt: HostRuntime) -> Result<(), Fail
 
 /// The operator of a test, the word before it, and its place.
 fn operator_of(alloc: Global, text: &str) -> Option<(Operator, Option<Choice>, u32)> {
-    match parse(alloc, text) {
-        Ok(Ast::Test(choice, _, Tail::Compare(operator, at, _))) => Some((operator, choice, at)),
+    match &parse(alloc, text) {
+        Ok(Ast::Test(choice, _, Tail::Compare(operator, at, _))) => Some((*operator, *choice, *at)),
         _ => None,
     }
 }
@@ -260,7 +260,7 @@ fn operators_are_read(rt: HostRuntime) -> Result<(), Fail> {
 
 /// What stands in the string with which a text begins and which is all of it.
 fn has_string(rt: &impl Abort, alloc: Global, text: &str, want: &[u8]) {
-    match parse(alloc, text) {
+    match &parse(alloc, text) {
         Ok(Ast::Alone(Operand::Text(quote))) => {
             assert_eq!(rt; quote.at, 0, "{text}");
             assert_eq!(rt; quote.bytes.bytes(), want, "{text}");
