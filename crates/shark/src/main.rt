@@ -9,9 +9,9 @@ mod tests;
 use edge::{answer, without_words};
 use pk_outside::{FileCapture, Sink, StdSink};
 use shark_run::{Status, run};
-use std::process::ExitCode;
 use std::env;
 use std::io::{self, BufWriter, IsTerminal, Write};
+use std::process::ExitCode;
 
 /// The words behind the program's name.
 fn words(rt: &HostRuntime) -> io::Result<Vec<String>> {
