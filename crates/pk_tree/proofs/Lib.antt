@@ -5,6 +5,5 @@ pub mod KeptTrees
 pub mod KeptValues
 pub mod LayersFit
 pub mod LayoutLemmas
-pub mod Numbers
 pub mod Readable
 pub mod TableLemmas

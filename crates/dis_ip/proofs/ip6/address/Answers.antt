@@ -2,7 +2,7 @@ use Rattle.std.proofs.Common.{◌≡◌, ◌+◌, ◌*◌, ◌^◌, arith}
 use Rattle.std.proofs.lemmas.Bool.Decides.{nat_tests}
 use Rattle.pk_base.specs.Bits.{number_of_bits}
 use Rattle.pk_tree.specs.Layouts.{peeked}
-use Rattle.pk_tree.proofs.Numbers.{bits_joined}
+use Rattle.pk_base.proofs.JoinedBits.{bits_joined}
 use Rattle.dis_ip.proofs.ip6.address.Goals as goal
 
 pub returns : goal.returns

@@ -1,6 +1,6 @@
 use Rattle.std.proofs.Common.{◌≡◌, ◌+◌, ◌*◌, ◌^◌, arith}
 use Rattle.pk_base.specs.Bits.{number_of_bits}
-use Rattle.pk_tree.proofs.Numbers.{bits_joined}
+use Rattle.pk_base.proofs.JoinedBits.{bits_joined}
 use Rattle.pk_tree.proofs.reading.wide_number.Goals as goal
 
 pub returns : goal.returns
