@@ -1,1 +1,2 @@
 pub mod LinkKept
+pub mod Whole

@@ -41,3 +41,13 @@ arp_layout bytes =
     address (is_ip_over_ether bytes) ARP_DST_HW_MAC ARP_DST_HW (8 + hw_size bytes + proto_size bytes) (hw_size bytes) ∷
     address (is_ip_over_ether bytes) ARP_DST_PROTO_IPV4 ARP_DST_PROTO (8 + hw_size bytes + proto_size bytes + hw_size bytes) (proto_size bytes) ∷
     []
+
+-- the sizes of a hardware address and of a protocol address, and where the addresses behind the first begin
+abbrev pub arp_sizes : List ℕ → List ℕ
+arp_sizes bytes =
+    hw_size bytes ∷
+    proto_size bytes ∷
+    (8 + hw_size bytes) ∷
+    (8 + hw_size bytes + proto_size bytes) ∷
+    (8 + hw_size bytes + proto_size bytes + hw_size bytes) ∷
+    []

@@ -1,22 +1,40 @@
-ghost use Rattle.std.specs.Prelude.{◌≡◌, ◌≢◌, ℕ, ◌+◌, ◌<◌, ◌≤◌, ◌^◌, length, IfOk, OnOk};
+ghost use Rattle.std.specs.Prelude.{◌≡◌, ◌≢◌, ℕ, List, [], ◌+◌, ◌<◌, ◌≤◌, ◌^◌, length, IfOk, OnOk};
 ghost use Rattle.pk_buffer.specs.Buffers.{IsInside, bytes_of};
 ghost use Rattle.pk_fields.specs.Ids.{ETH};
 ghost use Rattle.pk_tree.specs.declared.heads.Mode.TheVariants.{Plain};
-ghost use Rattle.pk_tree.specs.Layouts.{layer_read, reach};
-ghost use Rattle.pk_tree.specs.Trees.{last_proto};
-ghost use Rattle.dis_link.specs.Ethernet.{eth_layout, eth_span, eth_after};
 ghost use Rattle.pk_tree.specs.Following.{LeadsInside};
+ghost use Rattle.pk_tree.specs.Layouts.{layer_read, reach, StepsFit};
+ghost use Rattle.pk_tree.specs.Tables.{steps_of};
+ghost use Rattle.pk_tree.specs.Trees.{last_proto};
+ghost use Rattle.dis_link.specs.EtherTypes.{is_length};
+ghost use Rattle.dis_link.specs.Ethernet.{eth_layout, eth_span, eth_after, eth_type};
 
 use crate::ether_type::{ended, is_length, next_of_type};
 use pk_base::{NoMemory, Span};
 use pk_fields::ids;
-use pk_tree::{After, Mode, Reach, Step, TreeBuilder, carried, peek, read_layer};
+use pk_tree::{After, Mode, Reach, Slot, TreeBuilder, carried, pass_layer, peek, read_table};
 
 /// The bytes of an Ethernet header.
 const HEADER: u32 = 14;
 
+static TYPED: [Slot; 5] = [
+    Slot::Row(ids::ETH_DST.0, 0),
+    Slot::Row(ids::ETH_ADDR.0, 0),
+    Slot::Row(ids::ETH_SRC.0, 6),
+    Slot::Row(ids::ETH_ADDR.0, 6),
+    Slot::Row(ids::ETH_TYPE.0, 12),
+];
+
+static SIZED: [Slot; 5] = [
+    Slot::Row(ids::ETH_DST.0, 0),
+    Slot::Row(ids::ETH_ADDR.0, 0),
+    Slot::Row(ids::ETH_SRC.0, 6),
+    Slot::Row(ids::ETH_ADDR.0, 6),
+    Slot::Row(ids::ETH_LEN.0, 12),
+];
+
 /// Reads an Ethernet header (IEEE 802.3, 3.1.1). A length in it ends the layer.
-#[tactic(auto, unfolding(crate::specs::Ethernet::eth_layout, crate::specs::Ethernet::eth_after, pk_tree::specs::Layouts::StepsFit, pk_fields::specs::Fields::row_of, pk_fields::specs::Table::rows))]
+#[tactic(auto, using(crate::proofs::Whole::eth_whole, crate::proofs::Whole::eth_fits), unfolding(crate::specs::Ethernet::eth_after, pk_tree::specs::Layouts::StepsFit, pk_fields::specs::Fields::row_of, pk_fields::specs::Table::rows))]
 pub(crate) fn read_ethernet(span: Span, cut: bool, b: &mut TreeBuilder) -> Result<After, NoMemory>
     requires inside { IsInside b.old.buffers span }
     requires room { length b.old.layers + 2 < 2 ^ 32 }
@@ -27,28 +45,24 @@ pub(crate) fn read_ethernet(span: Span, cut: bool, b: &mut TreeBuilder) -> Resul
     ensures buffers { b.new.buffers ≡ b.old.buffers }
     ensures most { OnOk result (length b.new.layers ≤ length b.old.layers + 2) }
 {
-    let bytes = b.bytes(span);
-    let number = peek(bytes, 96, 16);
-    let steps = eth_steps(bytes);
+    let number = peek(b.bytes(span), 96, 16);
     let layer = ended(span, HEADER, number);
-    read_layer(b, ids::ETH, layer, &steps, Mode::Plain, cut)?;
+    if !b.asks(ids::ETH) && layer.len >= HEADER {
+        pass_layer(b, ids::ETH, layer, Reach::All, Mode::Plain, cut)?;
+        return Ok(carried(next_of_type(number), layer, HEADER));
+    }
+    let slots = eth_slots(is_length(number));
+    read_table(b, ids::ETH, layer, slots, &[], &[], &[], Mode::Plain, cut)?;
     Ok(carried(next_of_type(number), layer, HEADER))
 }
 
-#[tactic(auto, unfolding(crate::specs::Ethernet::eth_layout, pk_tree::specs::Layouts::reach, pk_tree::specs::Layouts::step_reach, pk_fields::specs::Fields::row_of, pk_fields::specs::Table::rows))]
-fn eth_steps(bytes: &[u8]) -> [Step; 5]
-    ensures layout { result ≡ eth_layout bytes.now }
-    ensures whole { (end : ℕ) → 14 ≤ end → reach end result ≡ Reach.All }
+/// The rows of a header whose last number is a length, or is a type.
+#[tactic(auto, unfolding(crate::specs::Ethernet::eth_layout, pk_tree::specs::Tables::steps_of, pk_tree::specs::Layouts::reach, pk_tree::specs::Layouts::step_reach, pk_tree::specs::Layouts::StepsFit, pk_fields::specs::Fields::row_of, pk_fields::specs::Table::rows))]
+fn eth_slots(sized: bool) -> &'static [Slot]
+    ensures fits { StepsFit ETH (steps_of [] [] result.now) }
+    ensures layout { (bytes : List ℕ) → sized ≡ is_length (eth_type bytes)
+        → steps_of [] [] result.now ≡ eth_layout bytes }
+    ensures whole { (end : ℕ) → 14 ≤ end → reach end (steps_of [] [] result.now) ≡ Reach.All }
 {
-    [
-        Step::Row(ids::ETH_DST, 0),
-        Step::Row(ids::ETH_ADDR, 0),
-        Step::Row(ids::ETH_SRC, 6),
-        Step::Row(ids::ETH_ADDR, 6),
-        if is_length(peek(bytes, 96, 16)) {
-            Step::Row(ids::ETH_LEN, 12)
-        } else {
-            Step::Row(ids::ETH_TYPE, 12)
-        },
-    ]
+    if sized { &SIZED } else { &TYPED }
 }

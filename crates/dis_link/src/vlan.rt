@@ -1,21 +1,37 @@
-ghost use Rattle.std.specs.Prelude.{◌≡◌, ◌≢◌, ℕ, ◌+◌, ◌<◌, ◌≤◌, ◌^◌, length, IfOk, OnOk};
+ghost use Rattle.std.specs.Prelude.{◌≡◌, ◌≢◌, ℕ, List, [], ◌+◌, ◌<◌, ◌≤◌, ◌^◌, length, IfOk, OnOk};
 ghost use Rattle.pk_buffer.specs.Buffers.{IsInside, bytes_of};
 ghost use Rattle.pk_fields.specs.Ids.{VLAN};
-ghost use Rattle.pk_tree.specs.Layouts.{layer_read, reach};
-ghost use Rattle.pk_tree.specs.Trees.{last_proto};
 ghost use Rattle.pk_tree.specs.Following.{LeadsInside};
-ghost use Rattle.dis_link.specs.Vlan.{vlan_layout, vlan_span, vlan_after};
+ghost use Rattle.pk_tree.specs.Layouts.{layer_read, reach, StepsFit};
+ghost use Rattle.pk_tree.specs.Tables.{steps_of};
+ghost use Rattle.pk_tree.specs.Trees.{last_proto};
+ghost use Rattle.dis_link.specs.EtherTypes.{is_length};
+ghost use Rattle.dis_link.specs.Vlan.{vlan_layout, vlan_span, vlan_after, vlan_type};
 
 use crate::ether_type::{ended, is_length, next_of_type};
 use pk_base::{NoMemory, Span};
 use pk_fields::ids;
-use pk_tree::{After, Mode, Reach, Step, TreeBuilder, carried, peek, read_layer};
+use pk_tree::{After, Mode, Reach, Slot, TreeBuilder, carried, pass_layer, peek, read_table};
 
 /// The bytes of a VLAN tag, without the type before it and with the one behind it.
 const HEADER: u32 = 4;
 
+static TYPED: [Slot; 4] = [
+    Slot::Row(ids::VLAN_PRIORITY.0, 0),
+    Slot::Row(ids::VLAN_DEI.0, 0),
+    Slot::Row(ids::VLAN_ID.0, 0),
+    Slot::Row(ids::VLAN_ETYPE.0, 2),
+];
+
+static SIZED: [Slot; 4] = [
+    Slot::Row(ids::VLAN_PRIORITY.0, 0),
+    Slot::Row(ids::VLAN_DEI.0, 0),
+    Slot::Row(ids::VLAN_ID.0, 0),
+    Slot::Row(ids::VLAN_LEN.0, 2),
+];
+
 /// Reads a VLAN tag (IEEE 802.1Q, 9.3). A length behind it ends the layer.
-#[tactic(auto, unfolding(crate::specs::Vlan::vlan_layout, crate::specs::Vlan::vlan_after, pk_tree::specs::Layouts::StepsFit, pk_fields::specs::Fields::row_of, pk_fields::specs::Table::rows))]
+#[tactic(auto, using(crate::proofs::Whole::vlan_whole, crate::proofs::Whole::vlan_fits), unfolding(crate::specs::Vlan::vlan_after, pk_tree::specs::Layouts::StepsFit, pk_fields::specs::Fields::row_of, pk_fields::specs::Table::rows))]
 pub fn read_vlan(span: Span, cut: bool, mode: Mode, b: &mut TreeBuilder) -> Result<After, NoMemory>
     requires inside { IsInside b.old.buffers span }
     requires room { length b.old.layers + 2 < 2 ^ 32 }
@@ -26,27 +42,24 @@ pub fn read_vlan(span: Span, cut: bool, mode: Mode, b: &mut TreeBuilder) -> Resu
     ensures buffers { b.new.buffers ≡ b.old.buffers }
     ensures most { OnOk result (length b.new.layers ≤ length b.old.layers + 2) }
 {
-    let bytes = b.bytes(span);
-    let number = peek(bytes, 16, 16);
-    let steps = vlan_steps(bytes);
+    let number = peek(b.bytes(span), 16, 16);
     let layer = ended(span, HEADER, number);
-    read_layer(b, ids::VLAN, layer, &steps, mode, cut)?;
+    if !b.asks(ids::VLAN) && layer.len >= HEADER {
+        pass_layer(b, ids::VLAN, layer, Reach::All, mode, cut)?;
+        return Ok(carried(next_of_type(number), layer, HEADER));
+    }
+    let slots = vlan_slots(is_length(number));
+    read_table(b, ids::VLAN, layer, slots, &[], &[], &[], mode, cut)?;
     Ok(carried(next_of_type(number), layer, HEADER))
 }
 
-#[tactic(auto, unfolding(crate::specs::Vlan::vlan_layout, pk_tree::specs::Layouts::reach, pk_tree::specs::Layouts::step_reach, pk_fields::specs::Fields::row_of, pk_fields::specs::Table::rows))]
-fn vlan_steps(bytes: &[u8]) -> [Step; 4]
-    ensures layout { result ≡ vlan_layout bytes.now }
-    ensures whole { (end : ℕ) → 4 ≤ end → reach end result ≡ Reach.All }
+/// The rows of a tag before a length, or before a type.
+#[tactic(auto, unfolding(crate::specs::Vlan::vlan_layout, pk_tree::specs::Tables::steps_of, pk_tree::specs::Layouts::reach, pk_tree::specs::Layouts::step_reach, pk_tree::specs::Layouts::StepsFit, pk_fields::specs::Fields::row_of, pk_fields::specs::Table::rows))]
+fn vlan_slots(sized: bool) -> &'static [Slot]
+    ensures fits { StepsFit VLAN (steps_of [] [] result.now) }
+    ensures layout { (bytes : List ℕ) → sized ≡ is_length (vlan_type bytes)
+        → steps_of [] [] result.now ≡ vlan_layout bytes }
+    ensures whole { (end : ℕ) → 4 ≤ end → reach end (steps_of [] [] result.now) ≡ Reach.All }
 {
-    [
-        Step::Row(ids::VLAN_PRIORITY, 0),
-        Step::Row(ids::VLAN_DEI, 0),
-        Step::Row(ids::VLAN_ID, 0),
-        if is_length(peek(bytes, 16, 16)) {
-            Step::Row(ids::VLAN_LEN, 2)
-        } else {
-            Step::Row(ids::VLAN_ETYPE, 2)
-        },
-    ]
+    if sized { &SIZED } else { &TYPED }
 }
