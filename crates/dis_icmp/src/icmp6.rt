@@ -1,17 +1,20 @@
-ghost use Rattle.std.specs.Prelude.{◌≡◌, ◌≢◌, ℕ, ◌+◌, ◌<◌, ◌≤◌, ◌^◌, length, true, false, IfOk, OnOk};
+ghost use Rattle.std.specs.Prelude.{◌≡◌, ◌≢◌, ℕ, List, [], ◌∷◌, ◌+◌, ◌<◌, ◌≤◌, ◌^◌, length, IfOk, OnOk};
 ghost use Rattle.pk_buffer.specs.Buffers.{IsInside, bytes_of};
 ghost use Rattle.pk_fields.specs.Ids.{ICMPV6};
 ghost use Rattle.pk_tree.specs.Following.{LeadsInside};
-ghost use Rattle.pk_tree.specs.Layouts.{layer_read, reach};
+ghost use Rattle.pk_tree.specs.Layouts.{layer_read, reach, StepsFit};
+ghost use Rattle.pk_tree.specs.Tables.{steps_of};
 ghost use Rattle.pk_tree.specs.Trees.{last_proto};
 ghost use Rattle.dis_icmp.specs.Icmp6.{icmp6_rows, icmp6_layout, icmp6_after, is_echo, next_of_message};
 
 use pk_base::{NoMemory, Span};
 use pk_fields::ids;
-use pk_tree::{After, Mode, Next, Reach, Step, TreeBuilder, carried, peek, read_layer};
+use pk_tree::{After, Mode, Next, Reach, Slot, TreeBuilder, carried, pass_layer, peek, read_table};
 
 /// The bytes of a message up to what follows.
 const HEADER: u32 = 8;
+/// The bytes behind the checksum that another message than an echo has for its type.
+const REST: usize = 4;
 
 // Types of messages (RFC 4443, 2.1).
 const DESTINATION_UNREACHABLE: u8 = 1;
@@ -26,8 +29,23 @@ const ECHO_REQUEST: u8 = 128;
 
 const ECHO_REPLY: u8 = 129;
 
+static ECHO_ROWS: [Slot; 5] = [
+    Slot::Row(ids::ICMPV6_TYPE.0, 0),
+    Slot::Row(ids::ICMPV6_CODE.0, 1),
+    Slot::Row(ids::ICMPV6_CHECKSUM.0, 2),
+    Slot::Row(ids::ICMPV6_ECHO_IDENTIFIER.0, 4),
+    Slot::Row(ids::ICMPV6_ECHO_SEQUENCE_NUMBER.0, 6),
+];
+
+static OTHER_ROWS: [Slot; 4] = [
+    Slot::Row(ids::ICMPV6_TYPE.0, 0),
+    Slot::Row(ids::ICMPV6_CODE.0, 1),
+    Slot::Row(ids::ICMPV6_CHECKSUM.0, 2),
+    Slot::Part(ids::ICMPV6_REST.0, 4, 0),
+];
+
 /// Reads an ICMPv6 message (RFC 4443, 2.1). One about a packet carries the packet's first bytes.
-#[tactic(auto, unfolding(crate::specs::Icmp6::icmp6_rows, crate::specs::Icmp6::icmp6_after, pk_tree::specs::Layouts::StepsFit, pk_fields::specs::Fields::row_of, pk_fields::specs::Table::rows))]
+#[tactic(auto, using(crate::proofs::Whole::icmp6_whole, crate::proofs::Whole::icmp6_fits), unfolding(crate::specs::Icmp6::icmp6_after, pk_tree::specs::Layouts::StepsFit, pk_fields::specs::Fields::row_of, pk_fields::specs::Table::rows))]
 pub fn read_icmp6(span: Span, cut: bool, mode: Mode, b: &mut TreeBuilder) -> Result<After, NoMemory>
     requires inside { IsInside b.old.buffers span }
     requires room { length b.old.layers + 2 < 2 ^ 32 }
@@ -40,39 +58,24 @@ pub fn read_icmp6(span: Span, cut: bool, mode: Mode, b: &mut TreeBuilder) -> Res
     ensures most { OnOk result (length b.new.layers ≤ length b.old.layers + 2) }
 {
     let kind = peek(b.bytes(span), 0, 8) as u8;
-    if is_echo(kind) {
-        read_layer(b, ids::ICMPV6, span, &echo_steps(), mode, cut)?;
-    } else {
-        read_layer(b, ids::ICMPV6, span, &other_steps(), mode, cut)?;
+    if !b.asks(ids::ICMPV6) && span.len >= HEADER {
+        pass_layer(b, ids::ICMPV6, span, Reach::All, mode, cut)?;
+        return Ok(carried(next_of_message(kind), span, HEADER));
     }
+    let slots = icmp6_slots(is_echo(kind));
+    read_table(b, ids::ICMPV6, span, slots, &[], &[REST], &[], mode, cut)?;
     Ok(carried(next_of_message(kind), span, HEADER))
 }
 
-#[tactic(auto, unfolding(crate::specs::Icmp6::icmp6_rows, pk_tree::specs::Layouts::reach, pk_tree::specs::Layouts::step_reach, pk_fields::specs::Fields::row_of, pk_fields::specs::Table::rows))]
-fn echo_steps() -> [Step; 5]
-    ensures layout { result ≡ icmp6_rows true }
-    ensures whole { (end : ℕ) → 8 ≤ end → reach end result ≡ Reach.All }
+/// The rows of an echo, or of another message.
+#[tactic(auto, unfolding(crate::specs::Icmp6::icmp6_rows, pk_tree::specs::Tables::steps_of, pk_tree::specs::Layouts::reach, pk_tree::specs::Layouts::step_reach, pk_tree::specs::Layouts::StepsFit, pk_fields::specs::Fields::row_of, pk_fields::specs::Table::rows))]
+fn icmp6_slots(echo: bool) -> &'static [Slot]
+    ensures fits { (sizes : List ℕ) → StepsFit ICMPV6 (steps_of [] sizes result.now) }
+    ensures layout { steps_of [] (4 ∷ []) result.now ≡ icmp6_rows echo }
+    ensures whole { (end : ℕ) → 8 ≤ end
+        → reach end (steps_of [] (4 ∷ []) result.now) ≡ Reach.All }
 {
-    [
-        Step::Row(ids::ICMPV6_TYPE, 0),
-        Step::Row(ids::ICMPV6_CODE, 1),
-        Step::Row(ids::ICMPV6_CHECKSUM, 2),
-        Step::Row(ids::ICMPV6_ECHO_IDENTIFIER, 4),
-        Step::Row(ids::ICMPV6_ECHO_SEQUENCE_NUMBER, 6),
-    ]
-}
-
-#[tactic(auto, unfolding(crate::specs::Icmp6::icmp6_rows, pk_tree::specs::Layouts::reach, pk_tree::specs::Layouts::step_reach, pk_fields::specs::Fields::row_of, pk_fields::specs::Table::rows))]
-fn other_steps() -> [Step; 4]
-    ensures layout { result ≡ icmp6_rows false }
-    ensures whole { (end : ℕ) → 8 ≤ end → reach end result ≡ Reach.All }
-{
-    [
-        Step::Row(ids::ICMPV6_TYPE, 0),
-        Step::Row(ids::ICMPV6_CODE, 1),
-        Step::Row(ids::ICMPV6_CHECKSUM, 2),
-        Step::Part(ids::ICMPV6_REST, 4, 4),
-    ]
+    if echo { &ECHO_ROWS } else { &OTHER_ROWS }
 }
 
 fn is_echo(kind: u8) -> bool

@@ -1,0 +1,29 @@
+-- Layouts of messages fit their protocol, and are read whole where all their bytes are there.
+use Rattle.std.proofs.Common.{rules, ◌≡◌, ◌≤◌, ℕ, Bool, true, false}
+use Rattle.pk_fields.specs.Fields.{row_of}
+use Rattle.pk_fields.specs.Ids.{ICMP, ICMPV6}
+use Rattle.pk_fields.specs.Table.{rows}
+use Rattle.pk_tree.specs.Layouts.{reach, step_reach, StepsFit}
+use Rattle.pk_tree.specs.declared.layout.Reach.TheVariants.{All}
+use Rattle.dis_icmp.specs.Icmp.{icmp_rows}
+use Rattle.dis_icmp.specs.Icmp6.{icmp6_rows}
+
+pub icmp_fits : (echo : Bool) → StepsFit ICMP (icmp_rows echo)
+unfolding icmp_rows StepsFit row_of rows
+icmp_fits true = search rules
+icmp_fits false = search rules
+
+pub icmp_whole : (echo : Bool) (end : ℕ) → 8 ≤ end → reach end (icmp_rows echo) ≡ All
+unfolding icmp_rows reach step_reach row_of rows
+icmp_whole true end all = search rules
+icmp_whole false end all = search rules
+
+pub icmp6_fits : (echo : Bool) → StepsFit ICMPV6 (icmp6_rows echo)
+unfolding icmp6_rows StepsFit row_of rows
+icmp6_fits true = search rules
+icmp6_fits false = search rules
+
+pub icmp6_whole : (echo : Bool) (end : ℕ) → 8 ≤ end → reach end (icmp6_rows echo) ≡ All
+unfolding icmp6_rows reach step_reach row_of rows
+icmp6_whole true end all = search rules
+icmp6_whole false end all = search rules
