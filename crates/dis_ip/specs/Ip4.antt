@@ -59,6 +59,14 @@ ip4_source bytes = peeked bytes 96 32
 abbrev pub ip4_target : List ℕ → ℕ
 ip4_target bytes = peeked bytes 128 32
 
+-- it is of version 4, the header has its least bytes, and the packet, where its length is told, has the header's
+abbrev pub ip4_conditions : List ℕ → List Bool
+ip4_conditions bytes =
+    (ip4_version bytes == 4) ∷
+    nat_le 20 (ip4_header bytes) ∷
+    (ip4_total bytes == 0 || nat_le (ip4_header bytes) (ip4_total bytes)) ∷
+    []
+
 unfoldable pub ip4_layout : List ℕ → List Step
 ip4_layout bytes =
     Row IP_VERSION 0 ∷

@@ -1,14 +1,13 @@
-ghost use Rattle.std.specs.Prelude.{◌≡◌, ℕ, ◌+◌, ◌-◌, ◌^◌, ◌<◌, ◌≤◌, List};
+ghost use Rattle.std.specs.Prelude.{◌≡◌, ℕ, ◌+◌, ◌^◌, ◌<◌, ◌≤◌, List};
 ghost use Rattle.pk_buffer.specs.Buffers.{IsInside};
 ghost use Rattle.pk_tree.specs.Following.{LeadsInside};
-ghost use Rattle.pk_tree.specs.Layouts.{within};
 ghost use Rattle.pk_tree.specs.Trees.{last_proto};
 ghost use Rattle.pk_tree.specs.declared.layer.Layer.{Layer};
 ghost use Rattle.dis_ip.specs.Fragments.{is_fragment, part_after, part_proto, LastIsPart};
 
 use crate::protocol::carried_by;
 use pk_base::Span;
-use pk_tree::{After, FragmentHead, Mode, Next, carried};
+use pk_tree::{After, FragmentHead, Mode, Next, behind, carried};
 
 /// What follows a header of so many bytes, by its packet's place in a datagram. A fragment comes also without bytes.
 /// An embedded packet's fragments aren't joined: the first is read on, and the others carry data.
@@ -32,18 +31,4 @@ fn is_fragment(head: &FragmentHead) -> bool
     ensures { result ≡ is_fragment head.now }
 {
     head.more || head.offset > 0
-}
-
-/// The bytes behind a header, which may be none.
-fn behind(span: Span, header: u32) -> Span
-    requires end { span.start + span.len < 2 ^ 32 }
-    requires header { header ≤ span.len }
-    ensures rest { result ≡ within span header (span.len - header) }
-    ensures inside { (buffers : List (List ℕ)) → IsInside buffers span → IsInside buffers result }
-{
-    Span {
-        buffer: span.buffer,
-        start: span.start + header,
-        len: span.len - header,
-    }
 }

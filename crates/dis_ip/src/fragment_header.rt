@@ -1,8 +1,9 @@
-ghost use Rattle.std.specs.Prelude.{◌≡◌, ◌≢◌, ℕ, ◌+◌, ◌<◌, ◌≤◌, ◌^◌, length, IfOk, OnOk};
+ghost use Rattle.std.specs.Prelude.{◌≡◌, ◌≢◌, ℕ, [], ◌+◌, ◌<◌, ◌≤◌, ◌^◌, length, IfOk, OnOk};
 ghost use Rattle.pk_buffer.specs.Buffers.{IsInside, bytes_of};
 ghost use Rattle.pk_fields.specs.Ids.{IPV6_FRAGHDR};
 ghost use Rattle.pk_tree.specs.Following.{LeadsInside};
-ghost use Rattle.pk_tree.specs.Layouts.{layer_read, reach};
+ghost use Rattle.pk_tree.specs.Layouts.{layer_read, reach, StepsFit};
+ghost use Rattle.pk_tree.specs.Tables.{steps_of};
 ghost use Rattle.pk_tree.specs.Trees.{last_proto};
 ghost use Rattle.dis_ip.specs.Fragments.{LastIsPart};
 ghost use Rattle.dis_ip.specs.FragmentHeader.{fragment_layout, fragment_part, fragment_after};
@@ -11,13 +12,22 @@ use crate::fragment::part_after;
 use crate::options::next_header;
 use pk_base::{NoMemory, Span};
 use pk_fields::ids;
-use pk_tree::{After, FragmentHead, Mode, PacketHead, Reach, Step, TreeBuilder, peek, read_layer};
+use pk_tree::{
+    After, FragmentHead, Mode, PacketHead, Reach, Slot, TreeBuilder, pass_layer, peek, read_table,
+};
 
 /// The bytes of a header.
 const HEADER: u32 = 8;
 
+static SLOTS: [Slot; 4] = [
+    Slot::Row(ids::IPV6_FRAGHDR_NXT.0, 0),
+    Slot::Row(ids::IPV6_FRAGHDR_OFFSET.0, 2),
+    Slot::Row(ids::IPV6_FRAGHDR_MORE.0, 3),
+    Slot::Row(ids::IPV6_FRAGHDR_IDENT.0, 4),
+];
+
 /// Reads a fragment header (RFC 8200, 4.5). Where it says that its packet is all of the datagram, the chain goes on.
-#[tactic(auto, unfolding(crate::specs::FragmentHeader::fragment_layout, crate::specs::FragmentHeader::fragment_after, pk_tree::specs::Layouts::StepsFit, pk_fields::specs::Fields::row_of, pk_fields::specs::Table::rows))]
+#[tactic(auto, using(crate::proofs::Whole::fragment_whole, crate::proofs::Whole::fragment_fits), unfolding(crate::specs::FragmentHeader::fragment_after, pk_tree::specs::Layouts::StepsFit, pk_fields::specs::Fields::row_of, pk_fields::specs::Table::rows))]
 pub(crate) fn read_fragment_header(
     packet: &PacketHead,
     span: Span,
@@ -36,28 +46,29 @@ pub(crate) fn read_fragment_header(
     ensures some { OnOk result (0 < length b.new.layers) }
     ensures most { OnOk result (length b.new.layers ≤ length b.old.layers + 2) }
 {
-    let bytes = b.bytes(span);
-    let steps = fragment_steps();
-    let part = part_of(packet, bytes);
-    read_layer(b, ids::IPV6_FRAGHDR, span, &steps, mode, cut)?;
-    Ok(if span.len < HEADER {
-        After::End
-    } else {
-        part_after(mode, part, span, HEADER)
-    })
+    if span.len < HEADER {
+        let slots = fragment_slots();
+        read_table(b, ids::IPV6_FRAGHDR, span, slots, &[], &[], &[], mode, cut)?;
+        return Ok(After::End);
+    }
+    let part = part_of(packet, b.bytes(span));
+    let after = part_after(mode, part, span, HEADER);
+    if !b.asks(ids::IPV6_FRAGHDR) {
+        pass_layer(b, ids::IPV6_FRAGHDR, span, Reach::All, mode, cut)?;
+        return Ok(after);
+    }
+    let slots = fragment_slots();
+    read_table(b, ids::IPV6_FRAGHDR, span, slots, &[], &[], &[], mode, cut)?;
+    Ok(after)
 }
 
-#[tactic(auto, unfolding(crate::specs::FragmentHeader::fragment_layout, pk_tree::specs::Layouts::reach, pk_tree::specs::Layouts::step_reach, pk_fields::specs::Fields::row_of, pk_fields::specs::Table::rows))]
-fn fragment_steps() -> [Step; 4]
-    ensures layout { result ≡ fragment_layout }
-    ensures whole { (end : ℕ) → 8 ≤ end → reach end result ≡ Reach.All }
+#[tactic(auto, unfolding(crate::specs::FragmentHeader::fragment_layout, pk_tree::specs::Tables::steps_of, pk_tree::specs::Layouts::reach, pk_tree::specs::Layouts::step_reach, pk_tree::specs::Layouts::StepsFit, pk_fields::specs::Fields::row_of, pk_fields::specs::Table::rows))]
+fn fragment_slots() -> &'static [Slot]
+    ensures fits { StepsFit IPV6_FRAGHDR (steps_of [] [] result.now) }
+    ensures layout { steps_of [] [] result.now ≡ fragment_layout }
+    ensures whole { (end : ℕ) → 8 ≤ end → reach end (steps_of [] [] result.now) ≡ Reach.All }
 {
-    [
-        Step::Row(ids::IPV6_FRAGHDR_NXT, 0),
-        Step::Row(ids::IPV6_FRAGHDR_OFFSET, 2),
-        Step::Row(ids::IPV6_FRAGHDR_MORE, 3),
-        Step::Row(ids::IPV6_FRAGHDR_IDENT, 4),
-    ]
+    &SLOTS
 }
 
 /// The fragment's place in a datagram, with the addresses of its packet.

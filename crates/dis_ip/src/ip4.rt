@@ -1,18 +1,21 @@
-ghost use Rattle.std.specs.Prelude.{◌≡◌, ◌≢◌, ◌+◌, ◌<◌, ◌≤◌, ◌^◌, length, IfOk, OnOk, IsTrue};
+ghost use Rattle.std.specs.Prelude.{◌≡◌, ◌≢◌, ◌==◌, ◌||◌, ℕ, Bool as Truth, List, [], ◌∷◌, ◌+◌, ◌-◌, ◌<◌, ◌≤◌, ◌^◌, nat_le, length, IfOk, OnOk, IsTrue};
 ghost use Rattle.pk_buffer.specs.Buffers.{IsInside, bytes_of};
 ghost use Rattle.pk_fields.specs.Ids.{IP};
 ghost use Rattle.pk_tree.specs.Following.{LeadsInside};
-ghost use Rattle.pk_tree.specs.Layouts.{layer_read, reach};
+ghost use Rattle.pk_tree.specs.Layouts.{layer_read, reach, StepsFit};
+ghost use Rattle.pk_tree.specs.Tables.{steps_of};
 ghost use Rattle.pk_tree.specs.Trees.{last_proto};
+ghost use Rattle.pk_tree.specs.declared.layer.Layer.{Layer};
 ghost use Rattle.dis_ip.specs.Fragments.{LastIsPart};
-ghost use Rattle.dis_ip.specs.Ip4.{ip4_layout, ip4_header, ip4_total, ip4_is_read, ip4_size, ip4_part, ip4_span, ip4_after};
+ghost use Rattle.dis_ip.specs.Ip4.{ip4_layout, ip4_header, ip4_total, ip4_conditions, ip4_is_read, ip4_size, ip4_part, ip4_packet, ip4_carried, ip4_span, ip4_after};
 
 use crate::fragment::part_after;
 use crate::packet::{in_packet, is_whole, packet_span};
 use pk_base::{NoMemory, Span};
 use pk_fields::ids;
 use pk_tree::{
-    Address, After, FragmentHead, Mode, PacketHead, Reach, Step, TreeBuilder, peek, read_layer,
+    Address, After, FragmentHead, Mode, PacketHead, Reach, Slot, TreeBuilder, pass_layer, peek,
+    read_table,
 };
 
 /// The bytes of a header without options, the least that a header has.
@@ -20,9 +23,34 @@ const HEADER: u32 = 20;
 
 const VERSION: u64 = 4;
 
+static SLOTS: [Slot; 22] = [
+    Slot::Row(ids::IP_VERSION.0, 0),
+    Slot::Row(ids::IP_HDR_LEN.0, 0),
+    Slot::Check(0),
+    Slot::Check(1),
+    Slot::Row(ids::IP_DSFIELD.0, 1),
+    Slot::Row(ids::IP_DSFIELD_DSCP.0, 1),
+    Slot::Row(ids::IP_DSFIELD_ECN.0, 1),
+    Slot::Row(ids::IP_LEN.0, 2),
+    Slot::Row(ids::IP_ID.0, 4),
+    Slot::Row(ids::IP_FLAGS_RB.0, 6),
+    Slot::Row(ids::IP_FLAGS_DF.0, 6),
+    Slot::Row(ids::IP_FLAGS_MF.0, 6),
+    Slot::Row(ids::IP_FRAG_OFFSET.0, 6),
+    Slot::Row(ids::IP_TTL.0, 8),
+    Slot::Row(ids::IP_PROTO.0, 9),
+    Slot::Row(ids::IP_CHECKSUM.0, 10),
+    Slot::Row(ids::IP_SRC.0, 12),
+    Slot::Row(ids::IP_ADDR.0, 12),
+    Slot::Row(ids::IP_DST.0, 16),
+    Slot::Row(ids::IP_ADDR.0, 16),
+    Slot::Part(ids::IP_OPTIONS.0, 20, 0),
+    Slot::Check(2),
+];
+
 /// Reads an IPv4 header (RFC 791, 3.1). The total length ends the layer. A fragment is answered as such, but in an embedded
 /// packet.
-#[tactic(auto, unfolding(crate::specs::Ip4::ip4_layout, crate::specs::Ip4::ip4_span, crate::specs::Ip4::ip4_after, pk_tree::specs::Layouts::StepsFit, pk_fields::specs::Fields::row_of, pk_fields::specs::Table::rows))]
+#[tactic(auto, using(crate::proofs::Whole::ip4_fits), unfolding(crate::specs::Ip4::ip4_span, crate::specs::Ip4::ip4_after, pk_tree::specs::Layouts::StepsFit, pk_fields::specs::Fields::row_of, pk_fields::specs::Table::rows))]
 pub fn read_ip4(span: Span, cut: bool, mode: Mode, b: &mut TreeBuilder) -> Result<After, NoMemory>
     requires inside { IsInside b.old.buffers span }
     requires room { length b.old.layers + 2 < 2 ^ 32 }
@@ -36,70 +64,66 @@ pub fn read_ip4(span: Span, cut: bool, mode: Mode, b: &mut TreeBuilder) -> Resul
     ensures most { OnOk result (length b.new.layers ≤ length b.old.layers + 2) }
 {
     let bytes = b.bytes(span);
-    let steps = ip4_steps(bytes);
-    if !is_read(span, bytes) {
-        read_layer(b, ids::IP, span, &steps, mode, cut)?;
+    let header = header(bytes);
+    let total = total(bytes);
+    let holds = conditions(bytes, header, total);
+    let options = [header.saturating_sub(HEADER) as usize];
+    let slots = ip4_slots();
+    if !is_read(span, bytes, header, &holds) {
+        read_table(b, ids::IP, span, slots, &holds, &options, &[], mode, cut)?;
         return Ok(After::End);
     }
-    let size = size(bytes);
-    let header = header(bytes);
+    let size = size(total);
     let layer = packet_span(span, size);
     let packet = PacketHead {
         source: Address::Four(peek(bytes, 96, 32) as u32),
         target: Address::Four(peek(bytes, 128, 32) as u32),
         whole: is_whole(cut, span, size),
     };
-    let part = part_of(packet, bytes);
-    read_layer(b, ids::IP, layer, &steps, mode, cut)?;
-    Ok(in_packet(packet, part_after(mode, part, layer, header)))
+    let after = carried(mode, packet, layer, header, bytes);
+    if !b.asks(ids::IP) {
+        pass_layer(b, ids::IP, layer, Reach::All, mode, cut)?;
+        return Ok(after);
+    }
+    read_table(b, ids::IP, layer, slots, &holds, &options, &[], mode, cut)?;
+    Ok(after)
 }
 
-#[tactic(auto, unfolding(crate::specs::Ip4::ip4_layout))]
-fn ip4_steps(bytes: &[u8]) -> [Step; 22]
-    ensures { result ≡ ip4_layout bytes.now }
+#[tactic(auto, unfolding(crate::specs::Ip4::ip4_layout, pk_tree::specs::Tables::steps_of, pk_tree::specs::Layouts::StepsFit, pk_fields::specs::Fields::row_of, pk_fields::specs::Table::rows))]
+fn ip4_slots() -> &'static [Slot]
+    ensures fits { (holds : List Truth) (sizes : List ℕ)
+        → StepsFit IP (steps_of holds sizes result.now) }
+    ensures layout { (bytes : List ℕ) → steps_of (ip4_conditions bytes)
+        ((ip4_header bytes - 20) ∷ []) result.now ≡ ip4_layout bytes }
 {
-    let header = header(bytes);
-    let total = total(bytes);
+    &SLOTS
+}
+
+/// That it is of version 4, that the header has its least bytes, and that the packet has the header's.
+fn conditions(bytes: &[u8], header: u32, total: u32) -> [bool; 3]
+    requires header { header ≡ ip4_header bytes.now }
+    requires total { total ≡ ip4_total bytes.now }
+    ensures { result ≡ ip4_conditions bytes.now }
+{
     [
-        Step::Row(ids::IP_VERSION, 0),
-        Step::Row(ids::IP_HDR_LEN, 0),
-        Step::Check(peek(bytes, 0, 4) == VERSION),
-        Step::Check(header >= HEADER),
-        Step::Row(ids::IP_DSFIELD, 1),
-        Step::Row(ids::IP_DSFIELD_DSCP, 1),
-        Step::Row(ids::IP_DSFIELD_ECN, 1),
-        Step::Row(ids::IP_LEN, 2),
-        Step::Row(ids::IP_ID, 4),
-        Step::Row(ids::IP_FLAGS_RB, 6),
-        Step::Row(ids::IP_FLAGS_DF, 6),
-        Step::Row(ids::IP_FLAGS_MF, 6),
-        Step::Row(ids::IP_FRAG_OFFSET, 6),
-        Step::Row(ids::IP_TTL, 8),
-        Step::Row(ids::IP_PROTO, 9),
-        Step::Row(ids::IP_CHECKSUM, 10),
-        Step::Row(ids::IP_SRC, 12),
-        Step::Row(ids::IP_ADDR, 12),
-        Step::Row(ids::IP_DST, 16),
-        Step::Row(ids::IP_ADDR, 16),
-        Step::Part(ids::IP_OPTIONS, 20, header.saturating_sub(HEADER) as usize),
-        Step::Check(total == 0 || header <= total),
+        peek(bytes, 0, 4) == VERSION,
+        header >= HEADER,
+        total == 0 || header <= total,
     ]
 }
 
 /// Whether no row and no condition ends the reading.
 #[tactic(auto, unfolding(crate::specs::Ip4::ip4_layout, crate::specs::Ip4::ip4_span, pk_tree::specs::Layouts::reach, pk_tree::specs::Layouts::step_reach, pk_fields::specs::Fields::row_of, pk_fields::specs::Table::rows))]
-fn is_read(span: Span, bytes: &[u8]) -> bool
-    requires { length bytes.now ≡ span.len }
+fn is_read(span: Span, bytes: &[u8], header: u32, holds: &[bool; 3]) -> bool
+    requires bytes { length bytes.now ≡ span.len }
+    requires header { header ≡ ip4_header bytes.now }
+    requires holds { holds.now ≡ ip4_conditions bytes.now }
     ensures read { result ≡ ip4_is_read span bytes.now }
     ensures header { IsTrue result → ip4_header bytes.now ≤ (ip4_span span bytes.now).len }
-    ensures whole { IsTrue result → reach (ip4_span span bytes.now).len (ip4_layout bytes.now) ≡ Reach.All }
+    ensures whole { IsTrue result
+        → reach (ip4_span span bytes.now).len (ip4_layout bytes.now) ≡ Reach.All }
 {
-    let header = header(bytes);
-    let total = total(bytes);
-    peek(bytes, 0, 4) == VERSION
-        && header >= HEADER
-        && header as usize <= bytes.len()
-        && (total == 0 || header <= total)
+    holds[0] && holds[1] && header as usize <= bytes.len() && holds[2]
 }
 
 /// The header's bytes: it counts words of four.
@@ -119,13 +143,29 @@ fn total(bytes: &[u8]) -> u32
 }
 
 /// The size that the total length gives a packet, if any.
-fn size(bytes: &[u8]) -> Option<u32>
-    ensures { result ≡ ip4_size bytes.now }
+fn size(total: u32) -> Option<u32>
+    ensures { (bytes : List ℕ) → total ≡ ip4_total bytes → result ≡ ip4_size bytes }
 {
-    match total(bytes) {
+    match total {
         0 => None,
         total => Some(total),
     }
+}
+
+/// What follows a header that is read.
+#[tactic(auto, unfolding(crate::specs::Fragments::part_after))]
+fn carried(mode: Mode, packet: PacketHead, layer: Span, header: u32, bytes: &[u8]) -> After
+    requires end { layer.start + layer.len < 2 ^ 32 }
+    requires header { header ≡ ip4_header bytes.now }
+    requires inside { header ≤ layer.len }
+    ensures after { result ≡ ip4_carried mode packet layer bytes.now }
+    ensures inside { (buffers : List (List ℕ)) → IsInside buffers layer → LeadsInside buffers result }
+    ensures part { (layers : List Layer) → last_proto layers ≡ IP → LastIsPart layers result }
+{
+    in_packet(
+        packet,
+        part_after(mode, part_of(packet, bytes), layer, header),
+    )
 }
 
 /// The packet's place in a datagram.

@@ -1,25 +1,42 @@
-ghost use Rattle.std.specs.Prelude.{◌≡◌, ◌≢◌, ◌+◌, ◌*◌, ◌<◌, ◌≤◌, ◌^◌, length, IfOk, OnOk, IsTrue};
+ghost use Rattle.std.specs.Prelude.{◌≡◌, ◌≢◌, ◌==◌, ℕ, Bool as Truth, List, [], ◌∷◌, ◌+◌, ◌*◌, ◌<◌, ◌≤◌, ◌^◌, length, IfOk, OnOk, IsTrue};
 ghost use Rattle.pk_buffer.specs.Buffers.{IsInside, bytes_of};
 ghost use Rattle.pk_fields.specs.Ids.{IPV6};
 ghost use Rattle.pk_tree.specs.Following.{LeadsInside};
-ghost use Rattle.pk_tree.specs.Layouts.{layer_read, peeked, reach};
+ghost use Rattle.pk_tree.specs.Layouts.{layer_read, peeked, reach, StepsFit};
+ghost use Rattle.pk_tree.specs.Tables.{steps_of};
 ghost use Rattle.pk_tree.specs.Trees.{last_proto};
 ghost use Rattle.dis_ip.specs.Fragments.{LastIsPart};
-ghost use Rattle.dis_ip.specs.Ip6.{ip6_layout, ip6_is_read, ip6_size, ip6_span, ip6_after};
+ghost use Rattle.dis_ip.specs.Ip6.{ip6_layout, ip6_version, ip6_is_read, ip6_size, ip6_span, ip6_after};
 
 use crate::packet::{in_packet, is_whole, packet_span};
 use crate::protocol::carried_by;
 use pk_base::{NoMemory, Span, be_bits};
 use pk_fields::ids;
-use pk_tree::{Address, After, Mode, PacketHead, Reach, Step, TreeBuilder, peek, read_layer};
+use pk_tree::{
+    Address, After, Mode, PacketHead, Reach, Slot, TreeBuilder, pass_layer, peek, read_table,
+};
 
 /// The bytes of a header.
 const HEADER: u32 = 40;
 
 const VERSION: u64 = 6;
 
+static SLOTS: [Slot; 11] = [
+    Slot::Row(ids::IPV6_VERSION.0, 0),
+    Slot::Check(0),
+    Slot::Row(ids::IPV6_TCLASS.0, 0),
+    Slot::Row(ids::IPV6_FLOW.0, 1),
+    Slot::Row(ids::IPV6_PLEN.0, 4),
+    Slot::Row(ids::IPV6_NXT.0, 6),
+    Slot::Row(ids::IPV6_HLIM.0, 7),
+    Slot::Row(ids::IPV6_SRC.0, 8),
+    Slot::Row(ids::IPV6_ADDR.0, 8),
+    Slot::Row(ids::IPV6_DST.0, 24),
+    Slot::Row(ids::IPV6_ADDR.0, 24),
+];
+
 /// Reads an IPv6 header (RFC 8200, 3). The payload length ends the layer.
-#[tactic(auto, unfolding(crate::specs::Ip6::ip6_layout, crate::specs::Ip6::ip6_span, crate::specs::Ip6::ip6_after, pk_tree::specs::Layouts::StepsFit, pk_fields::specs::Fields::row_of, pk_fields::specs::Table::rows))]
+#[tactic(auto, using(crate::proofs::Whole::ip6_fits), unfolding(crate::specs::Ip6::ip6_span, crate::specs::Ip6::ip6_after, pk_tree::specs::Layouts::StepsFit, pk_fields::specs::Fields::row_of, pk_fields::specs::Table::rows))]
 pub fn read_ip6(span: Span, cut: bool, mode: Mode, b: &mut TreeBuilder) -> Result<After, NoMemory>
     requires inside { IsInside b.old.buffers span }
     requires room { length b.old.layers + 2 < 2 ^ 32 }
@@ -33,51 +50,48 @@ pub fn read_ip6(span: Span, cut: bool, mode: Mode, b: &mut TreeBuilder) -> Resul
     ensures most { OnOk result (length b.new.layers ≤ length b.old.layers + 2) }
 {
     let bytes = b.bytes(span);
-    let steps = ip6_steps(bytes);
-    if !is_read(span, bytes) {
-        read_layer(b, ids::IPV6, span, &steps, mode, cut)?;
+    let holds = [peek(bytes, 0, 4) == VERSION];
+    let slots = ip6_slots();
+    if !is_read(span, bytes, holds[0]) {
+        read_table(b, ids::IPV6, span, slots, &holds, &[], &[], mode, cut)?;
         return Ok(After::End);
     }
     let size = size(bytes);
-    let next = peek(bytes, 48, 8) as u8;
     let layer = packet_span(span, size);
     let packet = PacketHead {
         source: Address::Six(address(bytes, 64)),
         target: Address::Six(address(bytes, 192)),
         whole: is_whole(cut, span, size),
     };
-    read_layer(b, ids::IPV6, layer, &steps, mode, cut)?;
-    Ok(in_packet(packet, carried_by(true, next, layer, HEADER)))
+    let next = peek(bytes, 48, 8) as u8;
+    let after = in_packet(packet, carried_by(true, next, layer, HEADER));
+    if !b.asks(ids::IPV6) {
+        pass_layer(b, ids::IPV6, layer, Reach::All, mode, cut)?;
+        return Ok(after);
+    }
+    read_table(b, ids::IPV6, layer, slots, &holds, &[], &[], mode, cut)?;
+    Ok(after)
 }
 
-#[tactic(auto, unfolding(crate::specs::Ip6::ip6_layout))]
-fn ip6_steps(bytes: &[u8]) -> [Step; 11]
-    ensures { result ≡ ip6_layout bytes.now }
+#[tactic(auto, unfolding(crate::specs::Ip6::ip6_layout, pk_tree::specs::Tables::steps_of, pk_tree::specs::Layouts::StepsFit, pk_fields::specs::Fields::row_of, pk_fields::specs::Table::rows))]
+fn ip6_slots() -> &'static [Slot]
+    ensures fits { (holds : List Truth) → StepsFit IPV6 (steps_of holds [] result.now) }
+    ensures layout { (bytes : List ℕ)
+        → steps_of ((ip6_version bytes == 6) ∷ []) [] result.now ≡ ip6_layout bytes }
 {
-    [
-        Step::Row(ids::IPV6_VERSION, 0),
-        Step::Check(peek(bytes, 0, 4) == VERSION),
-        Step::Row(ids::IPV6_TCLASS, 0),
-        Step::Row(ids::IPV6_FLOW, 1),
-        Step::Row(ids::IPV6_PLEN, 4),
-        Step::Row(ids::IPV6_NXT, 6),
-        Step::Row(ids::IPV6_HLIM, 7),
-        Step::Row(ids::IPV6_SRC, 8),
-        Step::Row(ids::IPV6_ADDR, 8),
-        Step::Row(ids::IPV6_DST, 24),
-        Step::Row(ids::IPV6_ADDR, 24),
-    ]
+    &SLOTS
 }
 
 /// Whether no row and no condition ends the reading.
 #[tactic(auto, unfolding(crate::specs::Ip6::ip6_layout, crate::specs::Ip6::ip6_span, pk_tree::specs::Layouts::reach, pk_tree::specs::Layouts::step_reach, pk_fields::specs::Fields::row_of, pk_fields::specs::Table::rows))]
-fn is_read(span: Span, bytes: &[u8]) -> bool
-    requires { length bytes.now ≡ span.len }
+fn is_read(span: Span, bytes: &[u8], six: bool) -> bool
+    requires bytes { length bytes.now ≡ span.len }
+    requires six { six ≡ (ip6_version bytes.now == 6) }
     ensures read { result ≡ ip6_is_read span bytes.now }
     ensures whole { IsTrue result → reach (ip6_span span bytes.now).len (ip6_layout bytes.now) ≡ Reach.All }
     ensures header { IsTrue result → 40 ≤ length bytes.now }
 {
-    bytes.len() >= HEADER as usize && peek(bytes, 0, 4) == VERSION
+    bytes.len() >= HEADER as usize && six
 }
 
 /// The packet's bytes with its header, where its payload length names them.

@@ -1,8 +1,9 @@
-ghost use Rattle.std.specs.Prelude.{◌≡◌, ◌≢◌, ℕ, ◌+◌, ◌<◌, ◌≤◌, ◌^◌, length, IfOk, OnOk};
+ghost use Rattle.std.specs.Prelude.{◌≡◌, ◌≢◌, ℕ, List, [], ◌∷◌, ◌+◌, ◌-◌, ◌<◌, ◌≤◌, ◌^◌, length, IfOk, OnOk};
 ghost use Rattle.pk_buffer.specs.Buffers.{IsInside, bytes_of};
 ghost use Rattle.pk_fields.specs.Ids.{IPV6_HOPOPTS, IPV6_DSTOPTS};
 ghost use Rattle.pk_tree.specs.Following.{LeadsInside};
-ghost use Rattle.pk_tree.specs.Layouts.{layer_read, reach};
+ghost use Rattle.pk_tree.specs.Layouts.{layer_read, reach, StepsFit};
+ghost use Rattle.pk_tree.specs.Tables.{steps_of};
 ghost use Rattle.pk_tree.specs.Trees.{last_proto};
 ghost use Rattle.dis_ip.specs.Fragments.{LastIsPart};
 ghost use Rattle.dis_ip.specs.Options.{next_header, header_size, hop_options_layout, target_options_layout, sized_after};
@@ -10,10 +11,22 @@ ghost use Rattle.dis_ip.specs.Options.{next_header, header_size, hop_options_lay
 use crate::protocol::carried_by;
 use pk_base::{NoMemory, Span};
 use pk_fields::ids;
-use pk_tree::{After, Mode, Reach, Step, TreeBuilder, peek, read_layer};
+use pk_tree::{After, Mode, Reach, Slot, TreeBuilder, pass_layer, peek, read_table};
+
+static HOP_OPTIONS: [Slot; 3] = [
+    Slot::Row(ids::IPV6_HOPOPTS_NXT.0, 0),
+    Slot::Row(ids::IPV6_HOPOPTS_LEN.0, 1),
+    Slot::Part(ids::IPV6_HOPOPTS_OPTIONS.0, 2, 0),
+];
+
+static TARGET_OPTIONS: [Slot; 3] = [
+    Slot::Row(ids::IPV6_DSTOPTS_NXT.0, 0),
+    Slot::Row(ids::IPV6_DSTOPTS_LEN.0, 1),
+    Slot::Part(ids::IPV6_DSTOPTS_OPTIONS.0, 2, 0),
+];
 
 /// Reads hop-by-hop options (RFC 8200, 4.3).
-#[tactic(auto, unfolding(crate::specs::Options::hop_options_layout, crate::specs::Options::sized_after, pk_tree::specs::Layouts::StepsFit, pk_fields::specs::Fields::row_of, pk_fields::specs::Table::rows))]
+#[tactic(auto, using(crate::proofs::Whole::hop_options_whole, crate::proofs::Whole::hop_options_fits), unfolding(crate::specs::Options::sized_after, pk_tree::specs::Layouts::StepsFit, pk_fields::specs::Fields::row_of, pk_fields::specs::Table::rows))]
 pub(crate) fn read_hop_options(
     span: Span,
     cut: bool,
@@ -32,31 +45,41 @@ pub(crate) fn read_hop_options(
     ensures most { OnOk result (length b.new.layers ≤ length b.old.layers + 2) }
 {
     let bytes = b.bytes(span);
-    let steps = hop_options_steps(bytes);
     let next = next_header(bytes);
     let header = header_size(bytes);
-    read_layer(b, ids::IPV6_HOPOPTS, span, &steps, mode, cut)?;
+    if !b.asks(ids::IPV6_HOPOPTS) && header <= span.len {
+        pass_layer(b, ids::IPV6_HOPOPTS, span, Reach::All, mode, cut)?;
+        return Ok(carried_by(true, next, span, header));
+    }
+    let sizes = [header as usize - 2];
+    let slots = hop_options_slots();
+    read_table(
+        b,
+        ids::IPV6_HOPOPTS,
+        span,
+        slots,
+        &[],
+        &sizes,
+        &[],
+        mode,
+        cut,
+    )?;
     Ok(carried_by(true, next, span, header))
 }
 
-#[tactic(auto, unfolding(crate::specs::Options::hop_options_layout, pk_tree::specs::Layouts::reach, pk_tree::specs::Layouts::step_reach, pk_fields::specs::Fields::row_of, pk_fields::specs::Table::rows))]
-fn hop_options_steps(bytes: &[u8]) -> [Step; 3]
-    ensures layout { result ≡ hop_options_layout bytes.now }
-    ensures whole { (end : ℕ) → header_size bytes.now ≤ end → reach end result ≡ Reach.All }
+#[tactic(auto, unfolding(crate::specs::Options::hop_options_layout, pk_tree::specs::Tables::steps_of, pk_tree::specs::Layouts::reach, pk_tree::specs::Layouts::step_reach, pk_tree::specs::Layouts::StepsFit, pk_fields::specs::Fields::row_of, pk_fields::specs::Table::rows))]
+fn hop_options_slots() -> &'static [Slot]
+    ensures fits { (sizes : List ℕ) → StepsFit IPV6_HOPOPTS (steps_of [] sizes result.now) }
+    ensures layout { (bytes : List ℕ)
+        → steps_of [] ((header_size bytes - 2) ∷ []) result.now ≡ hop_options_layout bytes }
+    ensures whole { (header end : ℕ) → 8 ≤ header → header ≤ end
+        → reach end (steps_of [] ((header - 2) ∷ []) result.now) ≡ Reach.All }
 {
-    [
-        Step::Row(ids::IPV6_HOPOPTS_NXT, 0),
-        Step::Row(ids::IPV6_HOPOPTS_LEN, 1),
-        Step::Part(
-            ids::IPV6_HOPOPTS_OPTIONS,
-            2,
-            header_size(bytes) as usize - 2,
-        ),
-    ]
+    &HOP_OPTIONS
 }
 
 /// Reads destination options (RFC 8200, 4.6).
-#[tactic(auto, unfolding(crate::specs::Options::target_options_layout, crate::specs::Options::sized_after, pk_tree::specs::Layouts::StepsFit, pk_fields::specs::Fields::row_of, pk_fields::specs::Table::rows))]
+#[tactic(auto, using(crate::proofs::Whole::target_options_whole, crate::proofs::Whole::target_options_fits), unfolding(crate::specs::Options::sized_after, pk_tree::specs::Layouts::StepsFit, pk_fields::specs::Fields::row_of, pk_fields::specs::Table::rows))]
 pub(crate) fn read_target_options(
     span: Span,
     cut: bool,
@@ -75,27 +98,37 @@ pub(crate) fn read_target_options(
     ensures most { OnOk result (length b.new.layers ≤ length b.old.layers + 2) }
 {
     let bytes = b.bytes(span);
-    let steps = target_options_steps(bytes);
     let next = next_header(bytes);
     let header = header_size(bytes);
-    read_layer(b, ids::IPV6_DSTOPTS, span, &steps, mode, cut)?;
+    if !b.asks(ids::IPV6_DSTOPTS) && header <= span.len {
+        pass_layer(b, ids::IPV6_DSTOPTS, span, Reach::All, mode, cut)?;
+        return Ok(carried_by(true, next, span, header));
+    }
+    let sizes = [header as usize - 2];
+    let slots = target_options_slots();
+    read_table(
+        b,
+        ids::IPV6_DSTOPTS,
+        span,
+        slots,
+        &[],
+        &sizes,
+        &[],
+        mode,
+        cut,
+    )?;
     Ok(carried_by(true, next, span, header))
 }
 
-#[tactic(auto, unfolding(crate::specs::Options::target_options_layout, pk_tree::specs::Layouts::reach, pk_tree::specs::Layouts::step_reach, pk_fields::specs::Fields::row_of, pk_fields::specs::Table::rows))]
-fn target_options_steps(bytes: &[u8]) -> [Step; 3]
-    ensures layout { result ≡ target_options_layout bytes.now }
-    ensures whole { (end : ℕ) → header_size bytes.now ≤ end → reach end result ≡ Reach.All }
+#[tactic(auto, unfolding(crate::specs::Options::target_options_layout, pk_tree::specs::Tables::steps_of, pk_tree::specs::Layouts::reach, pk_tree::specs::Layouts::step_reach, pk_tree::specs::Layouts::StepsFit, pk_fields::specs::Fields::row_of, pk_fields::specs::Table::rows))]
+fn target_options_slots() -> &'static [Slot]
+    ensures fits { (sizes : List ℕ) → StepsFit IPV6_DSTOPTS (steps_of [] sizes result.now) }
+    ensures layout { (bytes : List ℕ)
+        → steps_of [] ((header_size bytes - 2) ∷ []) result.now ≡ target_options_layout bytes }
+    ensures whole { (header end : ℕ) → 8 ≤ header → header ≤ end
+        → reach end (steps_of [] ((header - 2) ∷ []) result.now) ≡ Reach.All }
 {
-    [
-        Step::Row(ids::IPV6_DSTOPTS_NXT, 0),
-        Step::Row(ids::IPV6_DSTOPTS_LEN, 1),
-        Step::Part(
-            ids::IPV6_DSTOPTS_OPTIONS,
-            2,
-            header_size(bytes) as usize - 2,
-        ),
-    ]
+    &TARGET_OPTIONS
 }
 
 /// The next header number, in the first byte of every extension header.

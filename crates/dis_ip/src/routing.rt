@@ -1,8 +1,9 @@
-ghost use Rattle.std.specs.Prelude.{◌≡◌, ◌≢◌, ℕ, ◌+◌, ◌<◌, ◌≤◌, ◌^◌, length, IfOk, OnOk};
+ghost use Rattle.std.specs.Prelude.{◌≡◌, ◌≢◌, ℕ, List, [], ◌∷◌, ◌+◌, ◌-◌, ◌<◌, ◌≤◌, ◌^◌, length, IfOk, OnOk};
 ghost use Rattle.pk_buffer.specs.Buffers.{IsInside, bytes_of};
 ghost use Rattle.pk_fields.specs.Ids.{IPV6_ROUTING};
 ghost use Rattle.pk_tree.specs.Following.{LeadsInside};
-ghost use Rattle.pk_tree.specs.Layouts.{layer_read, reach};
+ghost use Rattle.pk_tree.specs.Layouts.{layer_read, reach, StepsFit};
+ghost use Rattle.pk_tree.specs.Tables.{steps_of};
 ghost use Rattle.pk_tree.specs.Trees.{last_proto};
 ghost use Rattle.dis_ip.specs.Fragments.{LastIsPart};
 ghost use Rattle.dis_ip.specs.Options.{header_size, sized_after};
@@ -12,10 +13,18 @@ use crate::options::{header_size, next_header};
 use crate::protocol::carried_by;
 use pk_base::{NoMemory, Span};
 use pk_fields::ids;
-use pk_tree::{After, Mode, Reach, Step, TreeBuilder, read_layer};
+use pk_tree::{After, Mode, Reach, Slot, TreeBuilder, pass_layer, read_table};
+
+static SLOTS: [Slot; 5] = [
+    Slot::Row(ids::IPV6_ROUTING_NXT.0, 0),
+    Slot::Row(ids::IPV6_ROUTING_LEN.0, 1),
+    Slot::Row(ids::IPV6_ROUTING_TYPE.0, 2),
+    Slot::Row(ids::IPV6_ROUTING_SEGLEFT.0, 3),
+    Slot::Part(ids::IPV6_ROUTING_REST.0, 4, 0),
+];
 
 /// Reads a routing header (RFC 8200, 4.4).
-#[tactic(auto, unfolding(crate::specs::Routing::routing_layout, crate::specs::Options::sized_after, pk_tree::specs::Layouts::StepsFit, pk_fields::specs::Fields::row_of, pk_fields::specs::Table::rows))]
+#[tactic(auto, using(crate::proofs::Whole::routing_whole, crate::proofs::Whole::routing_fits), unfolding(crate::specs::Options::sized_after, pk_tree::specs::Layouts::StepsFit, pk_fields::specs::Fields::row_of, pk_fields::specs::Table::rows))]
 pub(crate) fn read_routing(
     span: Span,
     cut: bool,
@@ -34,23 +43,35 @@ pub(crate) fn read_routing(
     ensures most { OnOk result (length b.new.layers ≤ length b.old.layers + 2) }
 {
     let bytes = b.bytes(span);
-    let steps = routing_steps(bytes);
     let next = next_header(bytes);
     let header = header_size(bytes);
-    read_layer(b, ids::IPV6_ROUTING, span, &steps, mode, cut)?;
+    if !b.asks(ids::IPV6_ROUTING) && header <= span.len {
+        pass_layer(b, ids::IPV6_ROUTING, span, Reach::All, mode, cut)?;
+        return Ok(carried_by(true, next, span, header));
+    }
+    let sizes = [header as usize - 4];
+    let slots = routing_slots();
+    read_table(
+        b,
+        ids::IPV6_ROUTING,
+        span,
+        slots,
+        &[],
+        &sizes,
+        &[],
+        mode,
+        cut,
+    )?;
     Ok(carried_by(true, next, span, header))
 }
 
-#[tactic(auto, unfolding(crate::specs::Routing::routing_layout, pk_tree::specs::Layouts::reach, pk_tree::specs::Layouts::step_reach, pk_fields::specs::Fields::row_of, pk_fields::specs::Table::rows))]
-fn routing_steps(bytes: &[u8]) -> [Step; 5]
-    ensures layout { result ≡ routing_layout bytes.now }
-    ensures whole { (end : ℕ) → header_size bytes.now ≤ end → reach end result ≡ Reach.All }
+#[tactic(auto, unfolding(crate::specs::Routing::routing_layout, pk_tree::specs::Tables::steps_of, pk_tree::specs::Layouts::reach, pk_tree::specs::Layouts::step_reach, pk_tree::specs::Layouts::StepsFit, pk_fields::specs::Fields::row_of, pk_fields::specs::Table::rows))]
+fn routing_slots() -> &'static [Slot]
+    ensures fits { (sizes : List ℕ) → StepsFit IPV6_ROUTING (steps_of [] sizes result.now) }
+    ensures layout { (bytes : List ℕ)
+        → steps_of [] ((header_size bytes - 4) ∷ []) result.now ≡ routing_layout bytes }
+    ensures whole { (header end : ℕ) → 8 ≤ header → header ≤ end
+        → reach end (steps_of [] ((header - 4) ∷ []) result.now) ≡ Reach.All }
 {
-    [
-        Step::Row(ids::IPV6_ROUTING_NXT, 0),
-        Step::Row(ids::IPV6_ROUTING_LEN, 1),
-        Step::Row(ids::IPV6_ROUTING_TYPE, 2),
-        Step::Row(ids::IPV6_ROUTING_SEGLEFT, 3),
-        Step::Part(ids::IPV6_ROUTING_REST, 4, header_size(bytes) as usize - 4),
-    ]
+    &SLOTS
 }
