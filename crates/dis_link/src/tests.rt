@@ -3,7 +3,7 @@ ghost use Rattle.pk_tree.specs.Following.{LeadsInside};
 
 use crate::{read_arp, read_link, read_vlan};
 use pk_base::{NoMemory, Octets, Span};
-use pk_fields::name;
+use pk_fields::{FieldSet, name};
 use pk_tree::{After, Layer, Mode, Next, TreeBuilder, Value};
 use std::alloc::{AllocError, Global};
 use std::process::Abort;
@@ -27,6 +27,13 @@ const REQUEST: [u8; 28] = [
 ];
 
 const ADDRESSES: &[u8] = b"\xff\xff\xff\xff\xff\xff\x02\0\0\0\0\x01";
+
+/// The request behind a customer's tag.
+const TAGGED_REQUEST: [u8; 46] = [
+    0xff, 0xff, 0xff, 0xff, 0xff, 0xff, 0x02, 0x00, 0x00, 0x00, 0x00, 0x01, 0x81, 0x00, 0x00, 0x64,
+    0x08, 0x06, 0x00, 0x01, 0x08, 0x00, 0x06, 0x04, 0x00, 0x01, 0x02, 0x00, 0x00, 0x00, 0x00, 0x01,
+    0x0a, 0x00, 0x00, 0x01, 0x00, 0x00, 0x00, 0x00, 0x00, 0x00, 0x0a, 0x00, 0x00, 0x02,
+];
 
 const ADDRESS_ITEMS: &str =
     "eth.dst=[255, 255, 255, 255, 255, 255] eth.addr=[255, 255, 255, 255, 255, 255] \
@@ -111,6 +118,34 @@ fn follow(after: After, b: &mut TreeBuilder) -> Result<After, NoMemory>
         After::Next(Next::Arp, span) => read_arp(span, false, Mode::Plain, b),
         _ => Ok(after),
     }
+}
+
+/// How many items the layers of a tagged request have where no field is asked, and the name of the last layer.
+fn passed(rt: &impl Abort, alloc: Global, len: usize) -> Result<(usize, &'static str), NoMemory>
+    requires { len ≤ 46 }
+{
+    let frame = Octets::copy(alloc, &TAGGED_REQUEST[..len])?;
+    let span = Span {
+        buffer: 0,
+        start: 0,
+        len: len as u32,
+    };
+    let mut b = TreeBuilder::keeping(alloc, frame, FieldSet::none())?;
+    let tag = read_link(ETHERNET, true, false, span, &mut b)?;
+    let request = follow(tag, &mut b)?;
+    assert_eq!(rt; follow(request, &mut b)?, After::End);
+    Ok(match b.finish().layers() {
+        [_, _, arp] => (arp.items.slice().len(), name(arp.proto)),
+        [_, _, arp, fault] => (arp.items.slice().len(), name(fault.proto)),
+        _ => (0, ""),
+    })
+}
+
+#[test]
+fn headers_that_nobody_asks_for_have_no_items(rt: HostRuntime) -> Result<(), NoMemory> {
+    assert_eq!(rt; passed(&rt, rt.alloc(), 46)?, (0, "arp"));
+    assert_eq!(rt; passed(&rt, rt.alloc(), 45)?, (0, "_ws.malformed"));
+    Ok(())
 }
 
 fn rest(next: Next, start: u32, len: u32) -> After {
