@@ -8,3 +8,4 @@ pub mod LayoutLemmas
 pub mod Numbers
 pub mod Readable
 pub mod TableLemmas
+pub mod UnaskedLemmas
