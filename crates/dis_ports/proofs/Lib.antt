@@ -1,2 +1,3 @@
 pub mod OptionBound
 pub mod TcpLemmas
+pub mod UdpLemmas

@@ -1,4 +1,3 @@
-pub mod Carries
 pub mod Tcp
 pub mod TcpOptions
 pub mod Udp

@@ -29,9 +29,8 @@ use Rattle.pk_tree.specs.declared.layout.Reach.{Reach}
 use Rattle.pk_tree.specs.declared.layout.Reach.TheVariants.{All, Short, Failed}
 use Rattle.pk_tree.specs.declared.layout.Step.{Step}
 use Rattle.pk_tree.specs.declared.layout.Step.TheVariants.{Row, Part, Check}
-use Rattle.pk_tree.specs.Following.{carried}
+use Rattle.pk_tree.specs.Following.{behind, carried}
 use Rattle.pk_tree.specs.Layouts.{peeked, reach}
-use Rattle.dis_ports.specs.Carries.{payload}
 use Rattle.dis_ports.specs.TcpOptions.{tcp_options}
 
 -- the header's bytes, options among them
@@ -80,7 +79,7 @@ tcp_head bytes = record {
 -- what follows a header of so many bytes that was read so far; what an embedded packet carries belongs to no conversation
 -- and is data
 abbrev pub tcp_carries : Reach → Mode → TcpHead → ℕ → Span → After
-tcp_carries All Plain head header span = afters.Segment head (payload span header)
+tcp_carries All Plain head header span = afters.Segment head (behind span header)
 tcp_carries All Embedded head header span = carried Rest span header
 tcp_carries Short mode head header span = afters.End
 tcp_carries Failed mode head header span = afters.End

@@ -24,11 +24,11 @@
 --    +---------+---------+-----------------------------+-----------------------------+
 --    |    8    |   10    |     timestamp's value       |         echo reply          |
 --    +---------+---------+-----------------------------+-----------------------------+
-use Rattle.std.specs.Prelude.{◌==◌, ◌≤◌, ℕ, MatchOption, ◌+◌, ◌-◌, ◌/◌, ◌%◌, ◌&&◌, if◌then◌else◌, List, [], ◌∷◌, length, nat_le, slice_index}
+use Rattle.std.specs.Prelude.{◌==◌, ◌≤◌, ℕ, ◌+◌, ◌-◌, ◌/◌, ◌%◌, ◌&&◌, if◌then◌else◌, List, [], ◌∷◌, length, nat_le, slice_index}
 use Rattle.pk_fields.specs.Ids.{TCP_OPTION_KIND, TCP_OPTION_LEN, TCP_OPTIONS_MSS_VAL, TCP_OPTIONS_WSCALE_SHIFT, TCP_OPTIONS_SACK_PERM, TCP_OPTIONS_SACK_LE, TCP_OPTIONS_SACK_RE, TCP_OPTIONS_TIMESTAMP_TSVAL, TCP_OPTIONS_TIMESTAMP_TSECR, TCP_OPTIONS_BAD}
 use Rattle.pk_tree.specs.declared.layout.Step.{Step}
 use Rattle.pk_tree.specs.declared.layout.Step.TheVariants.{Row, Part}
-use Rattle.pk_tree.specs.Entries.{Entry, goes_on, ends, repeated}
+use Rattle.pk_tree.specs.Entries.{Entry, ReadsTo, goes_on, ends, repeated}
 
 -- a block of a SACK option
 abbrev pub sack_block : ℕ → Entry
@@ -61,10 +61,25 @@ option_at header at =
     else (if slice_index header at == 1 then goes_on (Row TCP_OPTION_KIND at ∷ []) (at + 1)
     else option_with_length (slice_index header at) (slice_index header (at + 1)) at (length header)))
 
--- a header has at most 60 bytes, and so at most 40 options: these are all of them (ReadsTo)
+-- a header has at most 60 bytes, and so at most 40 options: these are all of them (AllOptions)
 unfoldable pub tcp_options : List ℕ → Entry
 tcp_options header = repeated 40 (option_at header) 20
 
--- reading ends with an entry, or has got to a place or behind it
-abbrev pub ReadsTo : ℕ → Entry → Type 0
-ReadsTo least entry = MatchOption entry.next (Unit {0}) (λ at. least ≤ at)
+-- of a header's options none is left out
+abbrev pub AllOptions : Type 0
+AllOptions = (header : List ℕ) → length header ≤ 60 → ReadsTo (length header) (tcp_options header)
+
+-- the fields of the options
+abbrev pub option_fields : List ℕ
+option_fields =
+    TCP_OPTION_KIND ∷
+    TCP_OPTION_LEN ∷
+    TCP_OPTIONS_MSS_VAL ∷
+    TCP_OPTIONS_WSCALE_SHIFT ∷
+    TCP_OPTIONS_SACK_PERM ∷
+    TCP_OPTIONS_SACK_LE ∷
+    TCP_OPTIONS_SACK_RE ∷
+    TCP_OPTIONS_TIMESTAMP_TSVAL ∷
+    TCP_OPTIONS_TIMESTAMP_TSECR ∷
+    TCP_OPTIONS_BAD ∷
+    []

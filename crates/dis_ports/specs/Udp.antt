@@ -20,9 +20,8 @@ use Rattle.pk_tree.specs.declared.layout.Reach.{Reach}
 use Rattle.pk_tree.specs.declared.layout.Reach.TheVariants.{All, Short, Failed}
 use Rattle.pk_tree.specs.declared.layout.Step.{Step}
 use Rattle.pk_tree.specs.declared.layout.Step.TheVariants.{Row, Check}
-use Rattle.pk_tree.specs.Following.{carried, first_of}
+use Rattle.pk_tree.specs.Following.{behind, carried, first_of}
 use Rattle.pk_tree.specs.Layouts.{peeked, reach}
-use Rattle.dis_ports.specs.Carries.{payload}
 
 abbrev pub udp_length : List ℕ → ℕ
 udp_length bytes = peeked bytes 32 16
@@ -52,7 +51,7 @@ udp_ports bytes = record { source = peeked bytes 0 16; target = peeked bytes 16 
 -- what follows a header that was read so far, in a layer of this span; what an embedded packet carries belongs to no
 -- conversation and is data
 abbrev pub udp_carries : Reach → Mode → PortsHead → Span → After
-udp_carries All Plain ports span = afters.Datagram ports (payload span 8)
+udp_carries All Plain ports span = afters.Datagram ports (behind span 8)
 udp_carries All Embedded ports span = carried Rest span 8
 udp_carries Short mode ports span = afters.End
 udp_carries Failed mode ports span = afters.End

@@ -2,7 +2,6 @@
 //! unfinished, and the tree is given up.
 #![tactic(auto)]
 
-mod carries;
 mod tcp;
 mod tcp_options;
 #[cfg(test)]

@@ -1,31 +1,37 @@
-ghost use Rattle.std.specs.Prelude.{◌≡◌, ◌≢◌, ℕ, List, ◌+◌, ◌-◌, ◌*◌, ◌<◌, ◌≤◌, ◌^◌, ◌++◌, length, take, IfOk, OnOk};
+ghost use Rattle.std.specs.Prelude.{◌≡◌, ◌≢◌, ℕ, Bool as Truth, false, List, [], ◌∷◌, ◌+◌, ◌-◌, ◌*◌, ◌<◌, ◌≤◌, ◌^◌, ◌++◌, length, nat_le, take, IfOk, OnOk};
+ghost use Rattle.std.specs.List.{AllByRecursion as Each};
 ghost use Rattle.pk_buffer.specs.Buffers.{IsInside, bytes_of};
+ghost use Rattle.pk_fields.specs.FieldSets.{is_in};
 ghost use Rattle.pk_fields.specs.Ids.{TCP};
 ghost use Rattle.pk_tree.specs.Following.{LeadsInside};
 ghost use Rattle.pk_tree.specs.Layouts.{StepsFit, layer_read, reach};
+ghost use Rattle.pk_tree.specs.Tables.{steps_of};
 ghost use Rattle.pk_tree.specs.Trees.{last_proto};
 ghost use Rattle.dis_ports.specs.Tcp.{header_len, tcp_after, tcp_carries, tcp_head, tcp_layout, tcp_rows};
-ghost use Rattle.dis_ports.specs.TcpOptions.{tcp_options};
+ghost use Rattle.dis_ports.specs.TcpOptions.{AllOptions, option_fields, tcp_options};
 
-use crate::carries::payload;
 use crate::tcp_options::{FIXED, push_options};
 use pk_base::{NoMemory, Span};
 use pk_fields::ids;
-use pk_tree::{After, Mode, Next, Reach, Step, TcpHead, TreeBuilder, carried, peek, read_layer};
+use pk_tree::{
+    After, Mode, Next, Reach, Slot, Step, TcpHead, TreeBuilder, behind, carried, pass_layer, peek,
+    read_table,
+};
 use std::alloc::Global;
 
-/// The rows and conditions before the options.
-const ROWS: usize = 21;
+/// Where the byte of the data offset ends.
+const BEHIND_DATA_OFFSET: u32 = 13;
 
 /// Reads a TCP header with its options (RFC 9293, 3.1). Behind a whole header comes its segment, also where it has no
 /// bytes; in an embedded packet the bytes are data. Nothing follows a header that can't be read whole. `cut` says that
 /// the frame was captured only in part.
-#[tactic(auto, unfolding(crate::specs::Tcp::tcp_after))]
+#[tactic(auto, using(crate::proofs::OptionBound::options_reach), unfolding(crate::specs::Tcp::tcp_after))]
 pub fn read_tcp(span: Span, cut: bool, mode: Mode, b: &mut TreeBuilder) -> Result<After, NoMemory>
     requires inside { IsInside b.old.buffers span }
     requires room { length b.old.layers + 2 < 2 ^ 32 }
     ensures layer { IfOk result (λ _. b.new ≡ layer_read b.old TCP span (tcp_layout (bytes_of b.old.buffers span)) mode cut) }
     ensures after { IfOk result (λ after. after ≡ tcp_after mode span (bytes_of b.old.buffers span)) }
+    ensures options { AllOptions }
     ensures inside { IfOk result (LeadsInside b.old.buffers) }
     ensures whole { IfOk result (λ after. after ≢ After.End → last_proto b.new.layers ≡ TCP) }
     ensures buffers { b.new.buffers ≡ b.old.buffers }
@@ -35,77 +41,158 @@ pub fn read_tcp(span: Span, cut: bool, mode: Mode, b: &mut TreeBuilder) -> Resul
     let bytes = b.bytes(span);
     let head = tcp_head(bytes);
     let header = header_len(bytes);
-    let reach = read_header(span, cut, mode, b)?;
+    let reach = read_header(span, header, cut, mode, b)?;
     Ok(tcp_carries(reach, mode, head, header, span))
 }
 
-/// Opens the layer and reads its rows and options.
-#[tactic(auto, unfolding(pk_fields::specs::Fields::row_of, pk_fields::specs::Table::rows))]
-fn read_header(span: Span, cut: bool, mode: Mode, b: &mut TreeBuilder) -> Result<Reach, NoMemory>
+/// Opens the layer and reads its rows and options, as far as they are asked: where nothing of TCP is, the layer is passed,
+/// and where no field of the options is, their steps are left out.
+#[tactic(auto, unfolding(pk_tree::specs::Layouts::StepsFit, pk_fields::specs::Fields::row_of, pk_fields::specs::Table::rows))]
+fn read_header(
+    span: Span,
+    header: u32,
+    cut: bool,
+    mode: Mode,
+    b: &mut TreeBuilder,
+) -> Result<Reach, NoMemory>
     requires inside { IsInside b.old.buffers span }
     requires room { length b.old.layers + 2 < 2 ^ 32 }
+    requires header { header ≡ header_len (bytes_of b.old.buffers span) }
+    requires most { header ≤ 60 }
     ensures layer { IfOk result (λ _. b.new ≡ layer_read b.old TCP span (tcp_layout (bytes_of b.old.buffers span)) mode cut) }
     ensures why { IfOk result (λ r. r ≡ reach span.len (tcp_layout (bytes_of b.old.buffers span))) }
-    ensures header { IfOk result (λ r. r ≡ Reach.All → header_len (bytes_of b.old.buffers span) ≤ span.len) }
+    ensures header { IfOk result (λ r. r ≡ Reach.All → header ≤ span.len) }
     ensures last { IfOk result (λ r. r ≡ Reach.All → last_proto b.new.layers ≡ TCP) }
     ensures buffers { b.new.buffers ≡ b.old.buffers }
     ensures some { OnOk result (0 < length b.new.layers) }
     ensures most { OnOk result (length b.new.layers ≤ length b.old.layers + 2) }
 {
-    let bytes = b.bytes(span);
-    if header_len(bytes) as usize <= FIXED {
-        let steps = tcp_rows(bytes);
-        return read_layer(b, ids::TCP, span, &steps, mode, cut);
+    let reach = rows_reach(span.len, header);
+    if !b.asks(ids::TCP) {
+        pass_layer(b, ids::TCP, span, reach, mode, cut)?;
+        return Ok(reach);
     }
-    let steps = tcp_steps(b.alloc(), bytes)?;
-    read_layer(b, ids::TCP, span, &steps, mode, cut)
+    if !asks_options(b) {
+        read_rows(span, header, &[], cut, mode, b)?;
+        return Ok(reach);
+    }
+    let options = header_options(b.alloc(), front(b.bytes(span), header as usize))?;
+    read_rows(span, header, &options, cut, mode, b)?;
+    Ok(reach)
 }
 
-/// The rows, with the options behind them.
-#[tactic(auto, unfolding(crate::specs::Tcp::tcp_layout))]
-fn tcp_steps(alloc: Global, bytes: &[u8]) -> Result<Vec<Step>, NoMemory>
-    ensures layout { IfOk result (λ steps. steps.items ≡ tcp_layout bytes.now) }
-    ensures fits { IfOk result (λ steps. StepsFit TCP steps.items) }
-    ensures header { IfOk result (λ steps. (end : ℕ) → reach end steps.items ≡ Reach.All → header_len bytes.now ≤ end) }
+/// Opens the layer and reads its rows, then more steps.
+#[tactic(auto, unfolding(pk_fields::specs::Fields::row_of, pk_fields::specs::Table::rows))]
+fn read_rows(
+    span: Span,
+    header: u32,
+    more: &[Step],
+    cut: bool,
+    mode: Mode,
+    b: &mut TreeBuilder,
+) -> Result<(), NoMemory>
+    requires inside { IsInside b.old.buffers span }
+    requires room { length b.old.layers + 2 < 2 ^ 32 }
+    requires more { StepsFit TCP more.now }
+    ensures layer { OnOk result ((bytes : List ℕ) → header ≡ header_len bytes → b.new ≡ layer_read b.old TCP span (tcp_rows bytes ++ more.now) mode cut) }
+    ensures last { OnOk result ((bytes : List ℕ) → header ≡ header_len bytes → reach span.len (tcp_rows bytes ++ more.now) ≡ Reach.All → last_proto b.new.layers ≡ TCP) }
+    ensures buffers { b.new.buffers ≡ b.old.buffers }
+    ensures some { OnOk result (0 < length b.new.layers) }
+    ensures most { OnOk result (length b.new.layers ≤ length b.old.layers + 2) }
 {
-    let header = front(bytes, header_len(bytes) as usize);
-    let mut steps = Vec::from_array(alloc, tcp_rows(bytes))?;
+    let header = header as usize;
+    let holds = [FIXED <= header];
+    let sizes = [header.saturating_sub(FIXED)];
+    read_table(
+        b,
+        ids::TCP,
+        span,
+        tcp_slots(),
+        &holds,
+        &sizes,
+        more,
+        mode,
+        cut,
+    )?;
+    Ok(())
+}
+
+/// The steps of a header's options.
+#[tactic(auto, using(crate::proofs::TcpLemmas::options_fit))]
+fn header_options(alloc: Global, header: &[u8]) -> Result<Vec<Step>, NoMemory>
+    ensures steps { IfOk result (λ steps. steps.items ≡ (tcp_options header.now).steps) }
+    ensures fits { IfOk result (λ steps. StepsFit TCP steps.items) }
+{
     // An option has at most three steps for two bytes.
-    steps.reserve(header.len().saturating_sub(FIXED) / 2 * 3)?;
+    let mut steps = Vec::with_capacity(alloc, header.len().saturating_sub(FIXED) / 2 * 3)?;
     push_options(&mut steps, header)?;
     Ok(steps)
 }
 
-#[tactic(auto, unfolding(crate::specs::Tcp::tcp_rows, pk_tree::specs::Layouts::StepsFit, pk_tree::specs::Layouts::reach, pk_tree::specs::Layouts::step_reach, pk_fields::specs::Fields::row_of, pk_fields::specs::Table::rows))]
-fn tcp_rows(bytes: &[u8]) -> [Step; ROWS]
-    ensures layout { result ≡ tcp_rows bytes.now }
-    ensures fits { StepsFit TCP result }
-    ensures header { (end : ℕ) → reach end result ≡ Reach.All → header_len bytes.now ≤ end }
+/// The rows of a header, the condition on its length, and its options as one.
+static SLOTS: [Slot; 21] = [
+    Slot::Row(ids::TCP_SRCPORT.0, 0),
+    Slot::Row(ids::TCP_PORT.0, 0),
+    Slot::Row(ids::TCP_DSTPORT.0, 2),
+    Slot::Row(ids::TCP_PORT.0, 2),
+    Slot::Row(ids::TCP_SEQ_RAW.0, 4),
+    Slot::Row(ids::TCP_ACK_RAW.0, 8),
+    Slot::Row(ids::TCP_HDR_LEN.0, 12),
+    Slot::Check(0),
+    Slot::Row(ids::TCP_FLAGS.0, 12),
+    Slot::Row(ids::TCP_FLAGS_CWR.0, 13),
+    Slot::Row(ids::TCP_FLAGS_ECE.0, 13),
+    Slot::Row(ids::TCP_FLAGS_URG.0, 13),
+    Slot::Row(ids::TCP_FLAGS_ACK.0, 13),
+    Slot::Row(ids::TCP_FLAGS_PUSH.0, 13),
+    Slot::Row(ids::TCP_FLAGS_RESET.0, 13),
+    Slot::Row(ids::TCP_FLAGS_SYN.0, 13),
+    Slot::Row(ids::TCP_FLAGS_FIN.0, 13),
+    Slot::Row(ids::TCP_WINDOW_SIZE_VALUE.0, 14),
+    Slot::Row(ids::TCP_CHECKSUM.0, 16),
+    Slot::Row(ids::TCP_URGENT_POINTER.0, 18),
+    Slot::Part(ids::TCP_OPTIONS.0, 20, 0),
+];
+
+#[tactic(auto, unfolding(crate::specs::Tcp::tcp_rows, pk_tree::specs::Tables::steps_of, pk_tree::specs::Layouts::StepsFit, pk_fields::specs::Fields::row_of, pk_fields::specs::Table::rows))]
+fn tcp_slots() -> &'static [Slot]
+    ensures fits { (holds : List Truth) (sizes : List ℕ) → StepsFit TCP (steps_of holds sizes result.now) }
+    ensures rows { (bytes : List ℕ) → steps_of (nat_le 20 (header_len bytes) ∷ []) ((header_len bytes - 20) ∷ []) result.now ≡ tcp_rows bytes }
 {
-    let header = header_len(bytes) as usize;
-    [
-        Step::Row(ids::TCP_SRCPORT, 0),
-        Step::Row(ids::TCP_PORT, 0),
-        Step::Row(ids::TCP_DSTPORT, 2),
-        Step::Row(ids::TCP_PORT, 2),
-        Step::Row(ids::TCP_SEQ_RAW, 4),
-        Step::Row(ids::TCP_ACK_RAW, 8),
-        Step::Row(ids::TCP_HDR_LEN, 12),
-        Step::Check(FIXED <= header),
-        Step::Row(ids::TCP_FLAGS, 12),
-        Step::Row(ids::TCP_FLAGS_CWR, 13),
-        Step::Row(ids::TCP_FLAGS_ECE, 13),
-        Step::Row(ids::TCP_FLAGS_URG, 13),
-        Step::Row(ids::TCP_FLAGS_ACK, 13),
-        Step::Row(ids::TCP_FLAGS_PUSH, 13),
-        Step::Row(ids::TCP_FLAGS_RESET, 13),
-        Step::Row(ids::TCP_FLAGS_SYN, 13),
-        Step::Row(ids::TCP_FLAGS_FIN, 13),
-        Step::Row(ids::TCP_WINDOW_SIZE_VALUE, 14),
-        Step::Row(ids::TCP_CHECKSUM, 16),
-        Step::Row(ids::TCP_URGENT_POINTER, 18),
-        Step::Part(ids::TCP_OPTIONS, 20, header.saturating_sub(FIXED)),
-    ]
+    &SLOTS
+}
+
+/// How far the rows of a header of so many bytes are read in a layer of so many.
+#[tactic(auto, unfolding(crate::specs::Tcp::tcp_rows, pk_tree::specs::Layouts::reach, pk_tree::specs::Layouts::step_reach, pk_fields::specs::Fields::row_of, pk_fields::specs::Table::rows))]
+fn rows_reach(len: u32, header: u32) -> Reach
+    ensures reach { (bytes : List ℕ) → header ≡ header_len bytes → result ≡ reach len (tcp_rows bytes) }
+    ensures header { result ≡ Reach.All → header ≤ len }
+{
+    if len < BEHIND_DATA_OFFSET {
+        Reach::Short
+    } else if header < FIXED as u32 {
+        Reach::Failed
+    } else if len < header {
+        Reach::Short
+    } else {
+        Reach::All
+    }
+}
+
+/// Whether a field of the options may be wanted.
+fn asks_options(b: &TreeBuilder) -> bool
+    ensures { result ≡ false → Each (λ field. is_in b.now.wanted field ≡ false) option_fields }
+{
+    b.wants(ids::TCP_OPTION_KIND)
+        || b.wants(ids::TCP_OPTION_LEN)
+        || b.wants(ids::TCP_OPTIONS_MSS_VAL)
+        || b.wants(ids::TCP_OPTIONS_WSCALE_SHIFT)
+        || b.wants(ids::TCP_OPTIONS_SACK_PERM)
+        || b.wants(ids::TCP_OPTIONS_SACK_LE)
+        || b.wants(ids::TCP_OPTIONS_SACK_RE)
+        || b.wants(ids::TCP_OPTIONS_TIMESTAMP_TSVAL)
+        || b.wants(ids::TCP_OPTIONS_TIMESTAMP_TSECR)
+        || b.wants(ids::TCP_OPTIONS_BAD)
 }
 
 /// The bytes of the header, by its data offset in words of four bytes.
@@ -146,7 +233,7 @@ fn tcp_carries(reach: Reach, mode: Mode, head: TcpHead, header: u32, span: Span)
 {
     match reach {
         Reach::All => match mode {
-            Mode::Plain => After::Segment(head, payload(span, header)),
+            Mode::Plain => After::Segment(head, behind(span, header)),
             Mode::Embedded => carried(Next::Rest, span, header),
         },
         Reach::Short | Reach::Failed => After::End,

@@ -1,6 +1,6 @@
 ghost use Rattle.std.specs.Prelude.{◌≡◌, ℕ, ◌+◌, ◌-◌, ◌*◌, ◌<◌, ◌≤◌, ◌^◌, ◌++◌, length, slice_index_or, IfOk, OnOk};
 ghost use Rattle.pk_tree.specs.Entries.{Adds, goes_on, repeated};
-ghost use Rattle.dis_ports.specs.TcpOptions.{ReadsTo, option_at, option_data, option_with_length, sack_block, tcp_options};
+ghost use Rattle.dis_ports.specs.TcpOptions.{option_at, option_data, option_with_length, sack_block, tcp_options};
 
 use pk_base::NoMemory;
 use pk_fields::ids;
@@ -32,10 +32,8 @@ const HEAD: usize = 2;
 const BLOCK: usize = 8;
 
 /// Adds the steps of a header's options.
-#[tactic(auto, using(crate::proofs::OptionBound::options_reach))]
 pub(crate) fn push_options(steps: &mut Vec<Step>, header: &[u8]) -> Result<(), NoMemory>
-    ensures steps { OnOk result (steps.new.items ≡ steps.old.items ++ (tcp_options header.now).steps) }
-    ensures all { length header.now ≤ 60 → ReadsTo (length header.now) (tcp_options header.now) }
+    ensures { OnOk result (steps.new.items ≡ steps.old.items ++ (tcp_options header.now).steps) }
 {
     let mut at = FIXED;
     for _option in 0..MOST_OPTIONS {

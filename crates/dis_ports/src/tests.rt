@@ -2,7 +2,7 @@ ghost use Rattle.std.specs.Prelude.{◌≡◌, ◌+◌, ◌<◌, ◌≤◌, leng
 
 use crate::{read_tcp, read_udp};
 use pk_base::{NoMemory, Octets, Span};
-use pk_fields::name;
+use pk_fields::{FieldId, FieldSet, ids, name};
 use pk_tree::{After, Layer, Mode, Next, PortsHead, TcpHead, TreeBuilder, Value};
 use std::alloc::{AllocError, Global};
 use std::process::Abort;
@@ -153,6 +153,19 @@ fn value_text(alloc: Global, value: &Value) -> Result<String, AllocError> {
 fn check(
     rt: &impl Abort,
     alloc: Global,
+    how: (Transport, Mode, bool),
+    header: &[&[u8]],
+    layers: &[&str],
+    after: After,
+) -> Result<(), NoMemory> {
+    check_kept(rt, alloc, FieldSet::all(), how, header, layers, after)
+}
+
+/// The same where only some fields are asked.
+fn check_kept(
+    rt: &impl Abort,
+    alloc: Global,
+    wanted: FieldSet,
     (transport, mode, cut): (Transport, Mode, bool),
     header: &[&[u8]],
     layers: &[&str],
@@ -168,7 +181,7 @@ fn check(
         start: 0,
         len: bytes.len() as u32,
     };
-    let mut b = TreeBuilder::new(alloc, Octets::from_vec(bytes)?)?;
+    let mut b = TreeBuilder::keeping(alloc, Octets::from_vec(bytes)?, wanted)?;
     let found = match transport {
         Transport::Udp => read_udp(whole, cut, mode, &mut b)?,
         Transport::Tcp => read_tcp(whole, cut, mode, &mut b)?,
@@ -591,4 +604,79 @@ fn forty_options_of_one_byte_are_all_read(rt: HostRuntime) -> Result<(), NoMemor
         items.push_str(" tcp.option_kind=1")?;
     }
     check_options(&rt, rt.alloc(), &[1; 40], items.as_str())
+}
+
+/// The set of some fields.
+fn fields(wanted: &[FieldId]) -> FieldSet {
+    let mut set = FieldSet::none();
+    for field in wanted {
+        set.add(*field);
+    }
+    set
+}
+
+#[test]
+fn only_what_is_asked_of_a_header_is_read(rt: HostRuntime) -> Result<(), NoMemory> {
+    for (wanted, how, header, layers, after) in [
+        (
+            [ids::IP_SRC],
+            TCP,
+            SYN.as_slice(),
+            "tcp 0+52:\n",
+            After::Segment(SYN_HEAD, span(52, 0)),
+        ),
+        (
+            [ids::TCP_DSTPORT],
+            TCP,
+            &SYN,
+            "tcp 0+52: tcp.dstport=80\n",
+            After::Segment(SYN_HEAD, span(52, 0)),
+        ),
+        (
+            [ids::TCP_OPTIONS_MSS_VAL],
+            TCP,
+            &SYN,
+            "tcp 0+52: tcp.options.mss_val=1460\n",
+            After::Segment(SYN_HEAD, span(52, 0)),
+        ),
+        (
+            [ids::IP_SRC],
+            TCP,
+            &SYN[..51],
+            "tcp 0+51:\n_ws.malformed 51+0:\n",
+            After::End,
+        ),
+        (
+            [ids::IP_SRC],
+            UDP,
+            &QUERY,
+            "udp 0+12:\n",
+            After::Datagram(QUERY_PORTS, span(8, 4)),
+        ),
+        (
+            [ids::UDP_LENGTH],
+            UDP,
+            &QUERY,
+            "udp 0+12: udp.length=12\n",
+            After::Datagram(QUERY_PORTS, span(8, 4)),
+        ),
+        (
+            [ids::IP_SRC],
+            UDP,
+            b"\xcf\x84\0\x35\0\x07\xbe\xef",
+            "udp 0+8:\n_ws.malformed 8+0:\n",
+            After::End,
+        ),
+    ] {
+        check_kept(
+            &rt,
+            rt.alloc(),
+            fields(&wanted),
+            how,
+            &[header],
+            &[layers],
+            after,
+        )?;
+    }
+    Ok(())
 }

@@ -1,16 +1,17 @@
-ghost use Rattle.std.specs.Prelude.{◌≡◌, ◌≢◌, ℕ, List, ◌+◌, ◌<◌, ◌≤◌, ◌^◌, length, IfOk, OnOk};
+ghost use Rattle.std.specs.Prelude.{◌≡◌, ◌≢◌, ℕ, Bool as Truth, List, [], ◌∷◌, ◌+◌, ◌<◌, ◌≤◌, ◌^◌, length, IfOk, OnOk};
 ghost use Rattle.pk_buffer.specs.Buffers.{IsInside, bytes_of};
 ghost use Rattle.pk_fields.specs.Ids.{UDP};
 ghost use Rattle.pk_tree.specs.Following.{LeadsInside};
-ghost use Rattle.pk_tree.specs.Layouts.{layer_read, reach};
+ghost use Rattle.pk_tree.specs.Layouts.{StepsFit, layer_read, reach};
+ghost use Rattle.pk_tree.specs.Tables.{steps_of};
 ghost use Rattle.pk_tree.specs.Trees.{last_proto};
-ghost use Rattle.dis_ports.specs.Udp.{is_udp_length, udp_after, udp_carries, udp_layout, udp_ports, udp_span};
+ghost use Rattle.dis_ports.specs.Udp.{is_udp_length, udp_after, udp_carries, udp_layout, udp_length, udp_ports, udp_span};
 
-use crate::carries::payload;
 use pk_base::{NoMemory, Span};
 use pk_fields::ids;
 use pk_tree::{
-    After, Mode, Next, PortsHead, Reach, Step, TreeBuilder, carried, first_of, peek, read_layer,
+    After, Mode, Next, PortsHead, Reach, Slot, TreeBuilder, behind, carried, first_of, pass_layer,
+    peek, read_table,
 };
 
 /// The bytes of a UDP header.
@@ -19,7 +20,7 @@ const HEADER: u32 = 8;
 /// Reads a UDP header (RFC 768), whose length ends the layer. Behind a whole header comes its datagram, also where it has
 /// no bytes; in an embedded packet the bytes are data. Nothing follows a header that can't be read whole. `cut` says that
 /// the frame was captured only in part.
-#[tactic(auto, unfolding(crate::specs::Udp::udp_layout, crate::specs::Udp::udp_after, pk_tree::specs::Layouts::StepsFit, pk_fields::specs::Fields::row_of, pk_fields::specs::Table::rows))]
+#[tactic(auto, unfolding(crate::specs::Udp::udp_after))]
 pub fn read_udp(span: Span, cut: bool, mode: Mode, b: &mut TreeBuilder) -> Result<After, NoMemory>
     requires inside { IsInside b.old.buffers span }
     requires room { length b.old.layers + 2 < 2 ^ 32 }
@@ -32,27 +33,84 @@ pub fn read_udp(span: Span, cut: bool, mode: Mode, b: &mut TreeBuilder) -> Resul
     ensures most { OnOk result (length b.new.layers ≤ length b.old.layers + 2) }
 {
     let bytes = b.bytes(span);
-    let steps = udp_steps(bytes);
     let ports = udp_ports(bytes);
     let layer = udp_span(span, bytes);
-    let reach = read_layer(b, ids::UDP, layer, &steps, mode, cut)?;
+    let sound = is_udp_length(peek(bytes, 32, 16));
+    let reach = read_rows(layer, sound, cut, mode, b)?;
     Ok(udp_carries(reach, mode, ports, layer))
 }
 
-#[tactic(auto, unfolding(crate::specs::Udp::udp_layout, pk_tree::specs::Layouts::reach, pk_tree::specs::Layouts::step_reach, pk_fields::specs::Fields::row_of, pk_fields::specs::Table::rows))]
-fn udp_steps(bytes: &[u8]) -> [Step; 7]
-    ensures layout { result ≡ udp_layout bytes.now }
-    ensures header { (end : ℕ) → reach end result ≡ Reach.All → 8 ≤ end }
+/// Opens the layer and reads its rows, or passes it where no field of it is asked. `sound` says that the length may stand
+/// in a header.
+#[tactic(auto, unfolding(pk_tree::specs::Layouts::StepsFit, pk_fields::specs::Fields::row_of, pk_fields::specs::Table::rows))]
+fn read_rows(
+    span: Span,
+    sound: bool,
+    cut: bool,
+    mode: Mode,
+    b: &mut TreeBuilder,
+) -> Result<Reach, NoMemory>
+    requires inside { IsInside b.old.buffers span }
+    requires room { length b.old.layers + 2 < 2 ^ 32 }
+    ensures layer { OnOk result ((bytes : List ℕ) → sound ≡ is_udp_length (udp_length bytes) → b.new ≡ layer_read b.old UDP span (udp_layout bytes) mode cut) }
+    ensures why { IfOk result (λ r. (bytes : List ℕ) → sound ≡ is_udp_length (udp_length bytes) → r ≡ reach span.len (udp_layout bytes)) }
+    ensures header { IfOk result (λ r. r ≡ Reach.All → 8 ≤ span.len) }
+    ensures last { IfOk result (λ r. (bytes : List ℕ) → sound ≡ is_udp_length (udp_length bytes) → r ≡ Reach.All → last_proto b.new.layers ≡ UDP) }
+    ensures buffers { b.new.buffers ≡ b.old.buffers }
+    ensures some { OnOk result (0 < length b.new.layers) }
+    ensures most { OnOk result (length b.new.layers ≤ length b.old.layers + 2) }
 {
-    [
-        Step::Row(ids::UDP_SRCPORT, 0),
-        Step::Row(ids::UDP_PORT, 0),
-        Step::Row(ids::UDP_DSTPORT, 2),
-        Step::Row(ids::UDP_PORT, 2),
-        Step::Row(ids::UDP_LENGTH, 4),
-        Step::Row(ids::UDP_CHECKSUM, 6),
-        Step::Check(is_udp_length(peek(bytes, 32, 16))),
-    ]
+    let reach = rows_reach(span.len, sound);
+    if !b.asks(ids::UDP) {
+        pass_layer(b, ids::UDP, span, reach, mode, cut)?;
+        return Ok(reach);
+    }
+    read_table(
+        b,
+        ids::UDP,
+        span,
+        udp_slots(),
+        &[sound],
+        &[],
+        &[],
+        mode,
+        cut,
+    )?;
+    Ok(reach)
+}
+
+/// The rows of a header, and the condition on its length.
+static SLOTS: [Slot; 7] = [
+    Slot::Row(ids::UDP_SRCPORT.0, 0),
+    Slot::Row(ids::UDP_PORT.0, 0),
+    Slot::Row(ids::UDP_DSTPORT.0, 2),
+    Slot::Row(ids::UDP_PORT.0, 2),
+    Slot::Row(ids::UDP_LENGTH.0, 4),
+    Slot::Row(ids::UDP_CHECKSUM.0, 6),
+    Slot::Check(0),
+];
+
+#[tactic(auto, unfolding(crate::specs::Udp::udp_layout, pk_tree::specs::Tables::steps_of, pk_tree::specs::Layouts::StepsFit, pk_fields::specs::Fields::row_of, pk_fields::specs::Table::rows))]
+fn udp_slots() -> &'static [Slot]
+    ensures fits { (holds : List Truth) (sizes : List ℕ) → StepsFit UDP (steps_of holds sizes result.now) }
+    ensures layout { (bytes : List ℕ) → steps_of (is_udp_length (udp_length bytes) ∷ []) [] result.now ≡ udp_layout bytes }
+{
+    &SLOTS
+}
+
+/// How far the rows are read in a layer of so many bytes.
+#[tactic(auto, unfolding(crate::specs::Udp::udp_layout, pk_tree::specs::Layouts::reach, pk_tree::specs::Layouts::step_reach, pk_fields::specs::Fields::row_of, pk_fields::specs::Table::rows))]
+fn rows_reach(len: u32, sound: bool) -> Reach
+    ensures reach { (bytes : List ℕ) → sound ≡ is_udp_length (udp_length bytes) → result ≡ reach len (udp_layout bytes) }
+    ensures header { result ≡ Reach.All → 8 ≤ len }
+{
+    if len < HEADER {
+        Reach::Short
+    } else if sound {
+        Reach::All
+    } else {
+        Reach::Failed
+    }
 }
 
 fn is_udp_length(number: u64) -> bool
@@ -95,7 +153,7 @@ fn udp_carries(reach: Reach, mode: Mode, ports: PortsHead, span: Span) -> After
 {
     match reach {
         Reach::All => match mode {
-            Mode::Plain => After::Datagram(ports, payload(span, HEADER)),
+            Mode::Plain => After::Datagram(ports, behind(span, HEADER)),
             Mode::Embedded => carried(Next::Rest, span, HEADER),
         },
         Reach::Short | Reach::Failed => After::End,

@@ -1,8 +1,11 @@
 -- Adding entries to steps one by one.
 use Rattle.std.proofs.Common.{◌≡◌, ℕ, zero, suc, ◌+◌, ◌-◌, ◌<◌, ◌≤◌, Bool, true, false, if◌then◌else◌, List, [], ◌∷◌, ◌++◌, Option, Some, None, MatchOption, refl, sym, ap, ◌∙◌, arith, append_assoc, append-nil}
+use Rattle.std.specs.List.{AllByRecursion as Each}
+use Rattle.pk_tree.specs.declared.layout.Reach.TheVariants.{All}
 use Rattle.pk_tree.specs.declared.layout.Step.{Step}
 use Rattle.pk_tree.specs.Entries.{Entry, goes_on, ends, behind, then_at, then_on, repeated, ReadsTo, Adds}
-use Rattle.pk_tree.specs.Layouts.{StepsFit}
+use Rattle.pk_tree.specs.Layouts.{StepFits, StepsFit, reach}
+use Rattle.pk_tree.proofs.TableLemmas.{reach-append}
 
 repeated-suc : (n : ℕ) (one : ℕ → Entry) (at : ℕ) → repeated (suc n) one at ≡ then_on (one at) (repeated n one)
 unfolding repeated
@@ -44,23 +47,35 @@ repeat_done one count done at first new whole goes most =
     let same : goes_on new at ≡ behind first whole = ap (λ (steps : List Step). goes_on steps at) (sym (append-nil new)) ∙ rw none at goes in
     record { steps = ap (λ (e : Entry). e.steps) same; next = ap (λ (e : Entry). e.next) same }
 
--- the steps of an entry fit where each part's do
+-- what holds of each step of an entry's parts holds of each of its steps
+pub each_append : (P : Step → Type 0) (xs ys : List Step) → Each P xs → Each P ys → Each P (xs ++ ys)
+each_append P [] ys front back = back
+each_append P (x ∷ xs) ys front back = (front.0, each_append P xs ys front.1 back)
+
+each_at : (P : Step → Type 0) (steps : List Step) (next : Option ℕ) (more : ℕ → Entry) → Each P steps → ((at : ℕ) → Each P (more at).steps) → Each P (then_at steps next more).steps
+each_at P steps None more front back = front
+each_at P steps (Some at) more front back = each_append P steps (more at).steps front (back at)
+
+pub each_then : (P : Step → Type 0) (entry : Entry) (more : ℕ → Entry) → Each P entry.steps → ((at : ℕ) → Each P (more at).steps) → Each P (then_on entry more).steps
+each_then P entry more front back = each_at P entry.steps entry.next more front back
+
+pub each_repeated : (P : Step → Type 0) (count : ℕ) (one : ℕ → Entry) → ((at : ℕ) → Each P (one at).steps) → (at : ℕ) → Each P (repeated count one at).steps
+unfolding repeated
+each_repeated P zero one each at = tt
+each_repeated P (suc count) one each at = each_then P (one at) (repeated count one) (each at) (λ next. each_repeated P count one each next)
+
+-- so that they fit
 pub fit_append : (proto : ℕ) (xs ys : List Step) → StepsFit proto xs → StepsFit proto ys → StepsFit proto (xs ++ ys)
 unfolding StepsFit
-fit_append proto [] ys front back = back
-fit_append proto (x ∷ xs) ys front back = (front.0, fit_append proto xs ys front.1 back)
-
-fit_at : (proto : ℕ) (steps : List Step) (next : Option ℕ) (more : ℕ → Entry) → StepsFit proto steps → ((at : ℕ) → StepsFit proto (more at).steps) → StepsFit proto (then_at steps next more).steps
-fit_at proto steps None more front back = front
-fit_at proto steps (Some at) more front back = fit_append proto steps (more at).steps front (back at)
+fit_append proto xs ys front back = each_append (StepFits proto) xs ys front back
 
 pub fit_then : (proto : ℕ) (entry : Entry) (more : ℕ → Entry) → StepsFit proto entry.steps → ((at : ℕ) → StepsFit proto (more at).steps) → StepsFit proto (then_on entry more).steps
-fit_then proto entry more front back = fit_at proto entry.steps entry.next more front back
+unfolding StepsFit
+fit_then proto entry more front back = each_then (StepFits proto) entry more front back
 
 pub fit_repeated : (proto count : ℕ) (one : ℕ → Entry) → ((at : ℕ) → StepsFit proto (one at).steps) → (at : ℕ) → StepsFit proto (repeated count one at).steps
-unfolding repeated StepsFit
-fit_repeated proto zero one each at = tt
-fit_repeated proto (suc count) one each at = fit_then proto (one at) (repeated count one) (each at) (λ next. fit_repeated proto count one each next)
+unfolding StepsFit
+fit_repeated proto count one each at = each_repeated (StepFits proto) count one each at
 
 -- an entry after which reading ends, or goes on at that place or behind it
 pub record GoesPast (least : ℕ) (entry : Entry) : Type 0 where
@@ -86,3 +101,16 @@ pub repeated_past : (count : ℕ) (one : ℕ → Entry) → ((at : ℕ) → Goes
 unfolding repeated
 repeated_past zero one each at = omega arith
 repeated_past (suc count) one each at = then_past count at (one at).steps (one at).next (repeated count one) (each at).past (repeated_past count one each)
+
+-- entries whose steps are all read
+pub reach_all : (end : ℕ) (xs ys : List Step) → reach end xs ≡ All → reach end ys ≡ All → reach end (xs ++ ys) ≡ All
+reach_all end xs ys front back = rw (reach-append end xs ys, front, back) refl
+
+all_at : (end : ℕ) (steps : List Step) (next : Option ℕ) (more : ℕ → Entry) → reach end steps ≡ All → ((at : ℕ) → reach end (more at).steps ≡ All) → reach end (then_at steps next more).steps ≡ All
+all_at end steps None more front back = front
+all_at end steps (Some at) more front back = reach_all end steps (more at).steps front (back at)
+
+pub all_repeated : (end count : ℕ) (one : ℕ → Entry) → ((at : ℕ) → reach end (one at).steps ≡ All) → (at : ℕ) → reach end (repeated count one at).steps ≡ All
+unfolding repeated reach
+all_repeated end zero one each at = refl
+all_repeated end (suc count) one each at = all_at end (one at).steps (one at).next (repeated count one) (each at) (λ next. all_repeated end count one each next)

@@ -37,38 +37,62 @@ kept-none : (wanted : List ℕ) (item : Item) (items : List Item) → is_in want
 unfolding kept
 kept-none wanted item items none = rw none refl
 
--- of a protocol none of whose fields is wanted, no item is kept
-module _ (wanted : List ℕ) (proto : ℕ) (none : (f : ℕ) → (row_of f).proto ≡ proto → is_in wanted f ≡ false) (buffers : List (List ℕ)) (span : Span) where
-  one : (item : Item) → belongs proto item.field ≡ true → kept wanted (item ∷ []) ≡ []
-  unfolding kept
-  one item own = kept-none wanted item [] (none item.field (eqb-true (row_of item.field).proto proto own))
+-- a step of a field that isn't wanted
+abbrev pub Unasked : List ℕ → Step → Type 0
+Unasked wanted (steps.Row field at) = is_in wanted field ≡ false
+Unasked wanted (steps.Part field at len) = is_in wanted field ≡ false
+Unasked wanted (steps.Whole field at len) = is_in wanted field ≡ false
+Unasked wanted (steps.Derived field value at len) = is_in wanted field ≡ false
+Unasked wanted (steps.Made field value) = is_in wanted field ≡ false
+Unasked wanted (steps.Check holds) = Unit {0}
+Unasked wanted (steps.Room room) = Unit {0}
 
-  some_or_none : (test : Bool) (item : Item) → belongs proto item.field ≡ true → kept wanted (cond test [] (item ∷ [])) ≡ []
+-- of such steps no item is kept
+module _ (wanted : List ℕ) (buffers : List (List ℕ)) (span : Span) where
+  some_or_none : (test : Bool) (item : Item) → is_in wanted item.field ≡ false → kept wanted (cond test [] (item ∷ [])) ≡ []
   unfolding kept
-  some_or_none true item own = refl
-  some_or_none false item own = one item own
+  some_or_none true item none = refl
+  some_or_none false item none = kept-none wanted item [] none
 
-  of_step : (step : Step) → StepFits proto step → kept wanted (step_items buffers span step) ≡ []
+  of_step : (step : Step) → Unasked wanted step → kept wanted (step_items buffers span step) ≡ []
   unfolding step_items kept
-  of_step (steps.Row field at) fits = one (read_of buffers field (within span at (size_of field))) (and_parts (belongs proto field) (is_read (row_of field)) fits).0
-  of_step (steps.Part field at len) fits = some_or_none (len == 0) (read_of buffers field (within span at len)) (first_of_three (belongs proto field) (is_read (row_of field)) (is_none (row_of field).bits) fits)
-  of_step (steps.Whole field at len) fits = one (read_of buffers field (within span at len)) (first_of_three (belongs proto field) (is_read (row_of field)) (is_none (row_of field).bits) fits)
-  of_step (steps.Derived field value at len) fits = one (derived_of field value (within span at len)) fits.0
-  of_step (steps.Made field value) fits = one (made_of field value) fits.0
-  of_step (steps.Check holds) fits = refl
-  of_step (steps.Room room) fits = refl
+  of_step (steps.Row field at) none = kept-none wanted (read_of buffers field (within span at (size_of field))) [] none
+  of_step (steps.Part field at len) none = some_or_none (len == 0) (read_of buffers field (within span at len)) none
+  of_step (steps.Whole field at len) none = kept-none wanted (read_of buffers field (within span at len)) [] none
+  of_step (steps.Derived field value at len) none = kept-none wanted (derived_of field value (within span at len)) [] none
+  of_step (steps.Made field value) none = kept-none wanted (made_of field value) [] none
+  of_step (steps.Check holds) none = refl
+  of_step (steps.Room room) none = refl
 
-  after : (r : Reach) (items : List Item) → kept wanted items ≡ [] → kept wanted (items_after r items) ≡ []
+  pub after : (r : Reach) (items : List Item) → kept wanted items ≡ [] → kept wanted (items_after r items) ≡ []
   unfolding kept
   after All items is = is
   after Short items is = refl
   after Failed items is = refl
 
-  pub none_kept : (steps : List Step) → Each (StepFits proto) steps → kept wanted (items_read buffers span steps) ≡ []
+  pub none_asked : (steps : List Step) → Each (Unasked wanted) steps → kept wanted (items_read buffers span steps) ≡ []
   unfolding items_read kept
-  none_kept [] fit = refl
-  none_kept (step ∷ rest) fit =
-      after (step_reach span.len step) (step_items buffers span step ++ items_read buffers span rest) (kept-append wanted (step_items buffers span step) (items_read buffers span rest) ∙ rw (of_step step fit.0, none_kept rest fit.1) refl)
+  none_asked [] none = refl
+  none_asked (step ∷ rest) none =
+      after (step_reach span.len step) (step_items buffers span step ++ items_read buffers span rest) (kept-append wanted (step_items buffers span step) (items_read buffers span rest) ∙ rw (of_step step none.0, none_asked rest none.1) refl)
+
+-- of a protocol none of whose fields is wanted, no step is
+module _ (wanted : List ℕ) (proto : ℕ) (none : (f : ℕ) → (row_of f).proto ≡ proto → is_in wanted f ≡ false) where
+  own : (field : ℕ) → belongs proto field ≡ true → is_in wanted field ≡ false
+  own field is = none field (eqb-true (row_of field).proto proto is)
+
+  unasked_step : (step : Step) → StepFits proto step → Unasked wanted step
+  unasked_step (steps.Row field at) fits = own field (and_parts (belongs proto field) (is_read (row_of field)) fits).0
+  unasked_step (steps.Part field at len) fits = own field (first_of_three (belongs proto field) (is_read (row_of field)) (is_none (row_of field).bits) fits)
+  unasked_step (steps.Whole field at len) fits = own field (first_of_three (belongs proto field) (is_read (row_of field)) (is_none (row_of field).bits) fits)
+  unasked_step (steps.Derived field value at len) fits = own field fits.0
+  unasked_step (steps.Made field value) fits = own field fits.0
+  unasked_step (steps.Check holds) fits = tt
+  unasked_step (steps.Room room) fits = tt
+
+  unasked_steps : (steps : List Step) → Each (StepFits proto) steps → Each (Unasked wanted) steps
+  unasked_steps [] fit = tt
+  unasked_steps (step ∷ rest) fit = (unasked_step step fit.0, unasked_steps rest fit.1)
 
 -- a layer that is passed
 pub passed : (t opened closed : TreeShown) (proto : ℕ) (span : Span) (steps : List Step) (mode : Mode) (cut : Bool) (r : Reach) →
@@ -77,5 +101,5 @@ pub passed : (t opened closed : TreeShown) (proto : ℕ) (span : Span) (steps : 
     closed ≡ layer_read t proto span steps mode cut
 unfolding layer_read with_layer StepsFit kept
 passed t opened closed proto span steps mode cut r none open' same close fit why =
-    let items : kept t.wanted (items_read t.buffers span steps) ≡ [] = none_kept t.wanted proto none t.buffers span steps fit in
+    let items : kept t.wanted (items_read t.buffers span steps) ≡ [] = none_asked t.wanted t.buffers span steps (unasked_steps t.wanted proto none steps fit) in
     rw (close, same, open', why, items) refl

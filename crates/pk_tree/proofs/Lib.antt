@@ -7,3 +7,4 @@ pub mod LayersFit
 pub mod LayoutLemmas
 pub mod Readable
 pub mod TableLemmas
+pub mod UnaskedLemmas
