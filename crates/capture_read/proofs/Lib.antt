@@ -11,3 +11,4 @@ mod ReaderSteps
 mod ReaderTurns
 mod SameSteps
 pub mod SmallTimes
+pub mod TakenLemmas

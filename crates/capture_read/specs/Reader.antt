@@ -143,6 +143,7 @@ pub record IsReading (r : Reader) (left file : List ℕ) (past : List Frame) : T
   pub beyond : List ℕ
   pub whole : file ≡ before ++ (r.held ++ (beyond ++ left))
   pub place : length before ≡ r.at
+  pub within : r.at + length r.held ≤ file_limit
   pub behind : IsSeenBehind r.seen (r.at + length r.held) beyond left
   pub over : IsOver r before past
   pub few : (front : ℕ) → front < r.at → HasFew file past front

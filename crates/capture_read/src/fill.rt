@@ -1,9 +1,10 @@
 // Reading on until enough bytes are held.
-ghost use Rattle.std.specs.Prelude.{◌≡◌, ◌+◌, ◌<◌, ◌≤◌, ◌++◌, ◌^◌, List, ℕ, length, false, IfOk, IsErrOf, IsTrue, OnOk};
+ghost use Rattle.std.specs.Prelude.{◌≡◌, ◌+◌, ◌<◌, ◌≤◌, ◌++◌, ◌^◌, ◌-◌, suc, List, ℕ, length, false, IfOk, IsErrOf, IsTrue, OnOk};
 ghost use Rattle.std.specs.Io.KnownBytes.{Consumes, IsAtEnd};
 ghost use Rattle.pk_outside.specs.Outside.{Rose, counted};
 ghost use Rattle.capture_read.specs.Answers.{open_count};
 ghost use Rattle.capture_read.specs.Fill.{IsFilled, IsFilledTo, IsUnfilled};
+ghost use Rattle.capture_read.specs.Taken.{TookAtMost};
 
 use crate::kind::Seen;
 use crate::read_error::ReadError;
@@ -45,6 +46,7 @@ fn read_more<C: Capture>(
         × (bytes.new.items ≡ bytes.old.items ++ got)
         × Consumes (C.left capture.old) (C.left capture.new) got) }
     ensures unread { IsErrOf result ReadError.ReadFault → C.left capture.new ≡ C.left capture.old }
+    ensures took { TookAtMost (length piece.old) (C.left capture.old) (C.left capture.new) }
     ensures asked { C.asked capture.new ≡ C.asked capture.old }
     ensures refused { C.refused capture.new ≡ C.refused capture.old }
     ensures begun { C.begun capture.new ≡ C.begun capture.old }
@@ -72,6 +74,7 @@ fn read_beyond<C: Capture>(capture: &mut C, piece: &mut [u8]) -> Result<Seen, Re
         × ((size : ℕ) → IsFilledTo seen beyond size size (C.left capture.new))
         × (length beyond ≤ 1) × (open_count seen ≡ 0)) }
     ensures unread { IsErrOf result ReadError.ReadFault → C.left capture.new ≡ C.left capture.old }
+    ensures took { TookAtMost 1 (C.left capture.old) (C.left capture.new) }
     ensures asked { C.asked capture.new ≡ C.asked capture.old }
     ensures refused { C.refused capture.new ≡ C.refused capture.old }
     ensures begun { C.begun capture.new ≡ C.begun capture.old }
@@ -108,6 +111,8 @@ pub fn fill<C: Capture>(
         (C.left capture.old) (C.left capture.new)) }
     ensures unfilled { IsErrOf result ReadError.ReadFault
         → IsUnfilled held.now need most (C.left capture.old) (C.left capture.new) }
+    ensures took { TookAtMost (suc most - length held.now)
+        (C.left capture.old) (C.left capture.new) }
     ensures asked { C.asked capture.new ≡ C.asked capture.old }
     ensures refused { C.refused capture.new ≡ C.refused capture.old }
     ensures begun { C.begun capture.new ≡ C.begun capture.old }

@@ -2,7 +2,7 @@
 ghost use Rattle.std.specs.Prelude.{◌≡◌, ◌↔◌, ◌≤◌, ℕ, List, [], Some, Ok, IfOk, IsErrOf, OnErr};
 ghost use Rattle.pk_base.specs.Limits.{file_limit as limit_of_file};
 ghost use Rattle.pk_outside.specs.Outside.{Rose};
-ghost use Rattle.capture_read.specs.Answers.{Answers, CountsNext, Fails, KeepsEnd};
+ghost use Rattle.capture_read.specs.Answers.{Answers, CountsNext, Fails, KeepsEnd, TakesFewOf};
 ghost use Rattle.capture_read.specs.Reader.{StandsFor};
 ghost use Rattle.capture_read.specs.declared.ending.Ending.{Ending};
 ghost use Rattle.capture_read.specs.declared.kind.Phase.TheVariants as phase;
@@ -74,6 +74,7 @@ impl FrameReader {
             → Fails self.old (C.left capture.old) (C.left capture.new) }
         ensures fault { IsErrOf result ReadError.ReadFault
             → Rose (C.faults capture.old) (C.faults capture.new) }
+        ensures took { TakesFewOf self.old (C.left capture.old) (C.left capture.new) }
         ensures spent { IsErrOf result ReadError.Spent ↔ (self.old.phase ≡ phase.Spent) }
         ensures spent_after { OnErr result (self.new.phase ≡ phase.Spent) }
 

@@ -3,7 +3,7 @@ ghost use Rattle.std.specs.Prelude.{◌≡◌, ◌+◌, ◌≤◌, ◌<◌, ◌^
 ghost use Rattle.pcapng_read.specs.declared.step.BlockStep.TheVariants as step;
 ghost use Rattle.pk_base.specs.Limits.{file_limit as limit_of_file};
 ghost use Rattle.pk_outside.specs.Outside.{Rose};
-ghost use Rattle.capture_read.specs.Answers.{CountsNext, CountsTurn, FailsAt, Finds, Turns};
+ghost use Rattle.capture_read.specs.Answers.{CountsNext, CountsTurn, FailsAt, Finds, TakesFew, Turns};
 ghost use Rattle.capture_read.specs.Capture.{frame_of};
 ghost use Rattle.capture_read.specs.Reader.{Stands, cut_here, step_here};
 
@@ -116,6 +116,7 @@ impl Position {
             → FailsAt self.old (C.left capture.old) (C.left capture.new) }
         ensures fault { IsErrOf result ReadError.ReadFault
             → Rose (C.faults capture.old) (C.faults capture.new) }
+        ensures took { TakesFew self.old (C.left capture.old) (C.left capture.new) }
         ensures spent { IsErrOf result ReadError.Spent → ⊥ }
         ensures asked { C.asked capture.new ≡ C.asked capture.old }
         ensures refused { C.refused capture.new ≡ C.refused capture.old }
@@ -165,6 +166,7 @@ impl Position {
             → FailsAt self.old (C.left capture.old) (C.left capture.new) }
         ensures fault { IsErrOf result ReadError.ReadFault
             → Rose (C.faults capture.old) (C.faults capture.new) }
+        ensures took { TakesFew self.old (C.left capture.old) (C.left capture.new) }
         ensures spent { IsErrOf result ReadError.Spent → ⊥ }
         ensures asked { C.asked capture.new ≡ C.asked capture.old }
         ensures refused { C.refused capture.new ≡ C.refused capture.old }
@@ -200,6 +202,7 @@ impl Position {
             → FailsAt self.old (C.left capture.old) (C.left capture.new) }
         ensures fault { IsErrOf result ReadError.ReadFault
             → Rose (C.faults capture.old) (C.faults capture.new) }
+        ensures took { TakesFew self.old (C.left capture.old) (C.left capture.new) }
         ensures spent { IsErrOf result ReadError.Spent → ⊥ }
         ensures asked { C.asked capture.new ≡ C.asked capture.old }
         ensures refused { C.refused capture.new ≡ C.refused capture.old }
