@@ -1,5 +1,5 @@
 -- Filters joined by signs, one more or one less.
-use Rattle.std.proofs.Common.{◌≡◌, ◌<◌, ◌≤◌, ℕ, Bool as Truth, true, false, Option, Some, List, [], ◌∷◌, ◌++◌, ap, sym, refl, subst, ◌∙◌, arith}
+use Rattle.std.proofs.Common.{◌≡◌, ◌<◌, ℕ, Bool as Truth, true, false, Some, List, [], ◌∷◌, ◌++◌, ap, sym, refl, subst, ◌∙◌}
 use Rattle.std.proofs.lemmas.List.Elements.{All-pop, All-push}
 use Rattle.std.specs.List.{All}
 use Rattle.flt_mean.specs.Chains.{joined_truth, parts, truth_by}
@@ -7,7 +7,6 @@ use Rattle.flt_mean.specs.Meaning.{meaning}
 use Rattle.flt_mean.specs.declared.chain.Right.{Right}
 use Rattle.flt_parse.specs.declared.token.Join.{Join}
 use Rattle.flt_parse.specs.declared.token.Join.TheVariants as joins
-use Rattle.flt_types.specs.declared.typed.Typed.{Typed}
 use Rattle.pk_tree.specs.Trees.{TreeShown}
 
 pub truth_push : (tree : TreeShown) (rs : List Right) (r : Right) (truth : Truth) →

@@ -1,5 +1,5 @@
 -- What a filter asks of a tree (wireshark-filter(4)).
-use Rattle.std.specs.Prelude.{ℕ, ◌&&◌, ◌||◌, Bool as Truth, true, false, not, List, [], ◌∷◌, Option, Some, None}
+use Rattle.std.specs.Prelude.{ℕ, ◌&&◌, ◌||◌, Bool as Truth, true, false, not, List, [], ◌∷◌, Option}
 use Rattle.std.specs.List.{list_any, list_all}
 use Rattle.std.specs.Option.{option_map_or}
 use Rattle.flt_mean.specs.Values.{values_of_term, prefix_of_term}

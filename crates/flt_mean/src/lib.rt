@@ -12,4 +12,4 @@ mod values;
 mod walks;
 
 pub use evaluate::holds;
-pub use laws::texts_have_one_meaning;
+pub use laws::{kept_trees_keep_the_meaning, texts_have_one_meaning};

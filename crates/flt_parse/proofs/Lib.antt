@@ -1,5 +1,6 @@
 mod Examples
 pub mod Complete
+pub mod Every
 pub mod Faults
 pub mod Inside
 pub mod Lexing

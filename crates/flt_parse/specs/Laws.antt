@@ -1,5 +1,5 @@
 -- What holds of every text.
-use Rattle.std.specs.Prelude.{◌≡◌, ℕ, List}
+use Rattle.std.specs.Prelude.{◌≡◌, ◌⊎◌, ℕ, List}
 use Rattle.flt_parse.specs.Filters.{IsFilterText, IsFirstFault}
 use Rattle.flt_parse.specs.Written.{Written}
 use Rattle.flt_parse.specs.declared.fault.FilterFault.{FilterFault}
@@ -15,3 +15,7 @@ OneFault = (text : List ℕ) (f g : FilterFault) → IsFirstFault text f → IsF
 -- a text is at most one filter
 abbrev pub OneFilter : Type 0
 OneFilter = (text : List ℕ) (t u : Written) → IsFilterText text t → IsFilterText text u → t ≡ u
+
+-- a text is a filter or has a first fault
+abbrev pub FilterOrFault : Type 0
+FilterOrFault = (text : List ℕ) → ((filter : Written) × IsFilterText text filter) ⊎ ((fault : FilterFault) × IsFirstFault text fault)

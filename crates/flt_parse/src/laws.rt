@@ -1,5 +1,5 @@
 // What holds of every text, stated on functions that do nothing.
-ghost use Rattle.flt_parse.specs.Laws.{NeverBoth, OneFault, OneFilter};
+ghost use Rattle.flt_parse.specs.Laws.{FilterOrFault, NeverBoth, OneFault, OneFilter};
 
 /// No text is a filter and has a fault.
 pub fn filters_have_no_fault()
@@ -15,4 +15,9 @@ pub fn faults_are_unique()
 /// A text is at most one filter.
 pub fn filters_are_unique()
     ensures { OneFilter }
+{}
+
+/// Each text is a filter or has a first fault.
+pub fn texts_are_filters_or_have_a_fault()
+    ensures { FilterOrFault }
 {}

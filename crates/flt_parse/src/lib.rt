@@ -25,7 +25,9 @@ pub use ast::{
     RangePart, SliceRange, Tail,
 };
 pub use fault::{FilterError, FilterFault, FilterReason};
-pub use laws::{faults_are_unique, filters_are_unique, filters_have_no_fault};
+pub use laws::{
+    faults_are_unique, filters_are_unique, filters_have_no_fault, texts_are_filters_or_have_a_fault,
+};
 pub use parser::parse;
 pub use token::Join;
 pub use word::{Quote, Word, WordText};

@@ -1,3 +1,4 @@
 pub mod Compiled
+pub mod Decided
 pub mod Never
 pub mod Refused

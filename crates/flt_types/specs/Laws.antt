@@ -1,5 +1,6 @@
 -- What holds of every tree and every text.
-use Rattle.std.specs.Prelude.{◌≡◌, ◌⊎◌, ℕ, List}
+use Rattle.std.specs.Prelude.{◌≡◌, ◌≢◌, ◌⊎◌, ℕ, List}
+use Rattle.flt_parse.specs.Filters.{IsFilterText}
 use Rattle.flt_parse.specs.Written.{Written}
 use Rattle.flt_parse.specs.declared.fault.FilterError.TheVariants.{Fault}
 use Rattle.flt_parse.specs.declared.fault.FilterFault.{FilterFault}
@@ -12,6 +13,15 @@ use Rattle.flt_types.specs.declared.typed.Typed.{Typed}
 -- a tree with a type has no fault
 abbrev pub TypedIsClear : Type 0
 TypedIsClear = (tree : Written) (filter : Typed) → HasType tree filter → IsClear (faults tree)
+
+-- a text's tree without a fault has a type
+abbrev pub ClearIsTyped : Type 0
+ClearIsTyped = (text : List ℕ) (tree : Written) → IsFilterText text tree → IsClear (faults tree) → (filter : Typed) × HasType tree filter
+
+-- a text is a filter, or has a first fault that isn't the size of a pattern
+abbrev pub TypedOrRefused : Type 0
+TypedOrRefused = (text : List ℕ) → ((filter : Typed) × IsTypedText text filter)
+    ⊎ ((fault : FilterFault) × IsFilterFault text (Fault fault) × (fault.reason ≢ PatternSize))
 
 -- a text that is a filter may be refused for a pattern's size, and for nothing else
 abbrev pub TypedOrFault : Type 0

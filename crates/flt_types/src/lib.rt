@@ -1,6 +1,7 @@
 //! Gives a filter its types: what each name, literal and pattern of the syntax tree is, or the tree's first fault.
 #![tactic(auto)]
 
+mod asked;
 mod conditions;
 mod faults;
 mod filter;
@@ -13,8 +14,12 @@ mod sets;
 mod typed;
 mod typing;
 
+pub use asked::add_fields;
 pub use filter::Filter;
-pub use laws::{faults_are_unique, typed_texts_have_no_fault, typed_trees_have_no_fault};
+pub use laws::{
+    clear_trees_have_a_type, faults_are_unique, texts_are_filters_or_refused,
+    typed_texts_have_no_fault, typed_trees_have_no_fault,
+};
 pub use operand::kind_of;
 pub use typed::{Member, Term, Typed};
 pub use typing::{check, read_filter};

@@ -1,3 +1,4 @@
 pub mod ContainsLemmas
 pub mod LiteralLemmas
+pub mod MaskLemmas
 pub mod SliceLemmas

@@ -9,8 +9,8 @@ use crate::relation::Relation;
 use pk_tree::Value;
 use std::cmp::Ordering;
 
-/// The bytes of a value of their class.
-pub(crate) fn octets_of(value: &Value) -> Option<&[u8]>
+/// The bytes of a value of their class: of bytes, texts, Ethernet addresses and protocols. Others have none.
+pub fn octets_of(value: &Value) -> Option<&[u8]>
     ensures { option_map (λ bytes. bytes.now) result ≡ octets_of value.now }
 {
     match value {

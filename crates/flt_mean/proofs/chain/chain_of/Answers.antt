@@ -1,4 +1,4 @@
-use Rattle.std.proofs.Common.{◌≡◌, ap, sym, ◌∙◌, arith}
+use Rattle.std.proofs.Common.{ap, sym, ◌∙◌, arith}
 use Rattle.flt_mean.specs.Chains.{parts, truth_by}
 use Rattle.flt_mean.specs.Meaning.{meaning}
 use Rattle.flt_mean.specs.declared.chain.Right.{Right}

@@ -1,4 +1,3 @@
-use Rattle.std.proofs.Common.{◌≡◌}
 use Rattle.flt_mean.specs.Chains.{parts}
 use Rattle.flt_mean.specs.Meaning.{meaning}
 use Rattle.flt_mean.proofs.ChainLemmas.{false_and, false_or, true_and, true_or, truth_next, within_pop}

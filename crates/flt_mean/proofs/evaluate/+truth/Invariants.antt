@@ -1,4 +1,4 @@
-use Rattle.std.proofs.Common.{◌≡◌, ◌<◌, ℕ, ◌+◌, ◌*◌, vec_len}
+use Rattle.std.proofs.Common.{◌≡◌, ◌<◌, ◌+◌, ◌*◌, vec_len}
 use Rattle.std.specs.List.{All}
 use Rattle.flt_mean.specs.Chains.{joined_truth, parts}
 use Rattle.flt_mean.specs.Meaning.{meaning}

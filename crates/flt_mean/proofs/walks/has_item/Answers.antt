@@ -1,4 +1,4 @@
-use Rattle.std.proofs.Common.{◌≡◌, ap, ◌∙◌}
+use Rattle.std.proofs.Common.{ap, ◌∙◌}
 use Rattle.flt_mean.proofs.WalkLemmas.{item_there}
 use Rattle.flt_mean.specs.Questions.{is_so}
 use Rattle.flt_mean.specs.Walks.{any_in_layers}

@@ -1,4 +1,4 @@
-use Rattle.std.proofs.Common.{◌≡◌, ap, ◌∙◌}
+use Rattle.std.proofs.Common.{ap, ◌∙◌}
 use Rattle.std.specs.List.{list_any}
 use Rattle.flt_mean.proofs.WalkLemmas.{proto_there}
 use Rattle.flt_mean.specs.Walks.{is_asked}
