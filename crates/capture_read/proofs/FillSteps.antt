@@ -1,11 +1,12 @@
 -- Bytes that were read on.
-use Rattle.std.proofs.Common.{◌≡◌, ◌<◌, ◌≤◌, ◌↔◌, ℕ, subst, suc, ◌+◌, ◌^◌, List, [], ◌∷◌, ◌++◌, length, take, drop, Option, Some, None, refl, sym, ap, ◌∙◌, arith}
+use Rattle.std.proofs.Common.{◌≡◌, ◌<◌, ◌≤◌, ℕ, suc, subst, ◌+◌, ◌-◌, ◌^◌, List, [], ◌∷◌, ◌++◌, length, take, Option, Some, None, refl, sym, ap, ◌∙◌, arith}
 use Rattle.std.specs.Io.KnownBytes.{Consumes, IsAtEnd}
-use Rattle.std.proofs.KnownBytes.{Consumes-nil, Consumes-trans}
+use Rattle.std.proofs.KnownBytes.{Consumes-trans}
 use Rattle.std.proofs.lemmas.List.{append_assoc, append-nil, length-append, length-take, take-append-drop}
 use Rattle.pk_outside.specs.Outside.{Moves}
 use Rattle.capture_read.specs.Answers.{open_count}
 use Rattle.capture_read.specs.Fill.{IsFilled, IsFilledTo}
+use Rattle.capture_read.specs.Taken.{TookAtMost}
 use Rattle.capture_read.specs.declared.fill.Filled.{Filled}
 use Rattle.capture_read.specs.declared.kind.Seen.{Seen}
 use Rattle.capture_read.specs.declared.kind.Seen.TheVariants as seen
@@ -68,3 +69,10 @@ filled_ended held filled before need most a b c read more is ended few within =
       within = within;
       more = omega (arith, sizes, none);
     }
+
+-- bytes were read so far, and then some more
+pub took_behind : (held bytes got : List ℕ) (most : ℕ) (a b c : Option (List ℕ)) → ReadSoFar held bytes a b → Consumes b c got
+    → length bytes + length got ≤ suc most → TookAtMost (suc most - length held) a c
+took_behind held bytes got most a b c read more few =
+    let size : length bytes ≡ length held + length read.0 = rw read.1 (length-append held read.0) in
+    (read.0 ++ got, Consumes-trans a b c read.0 got read.2 more, omega (arith, few, size, length-append read.0 got))

@@ -1,28 +1,23 @@
 -- What bytes stand for from a place of a file on is the first header, record or block, and what follows it.
-use Rattle.std.proofs.Common.{◌≡◌, ◌<◌, ◌≤◌, ℕ, suc, ◌+◌, Bool, true, false, List, [], ◌∷◌, length, drop, Option, Some, None, refl, sym, ap, ◌∙◌, subst, arith, if◌then◌else◌}
+use Rattle.std.proofs.Common.{◌≡◌, ℕ, ◌+◌, Bool, true, false, List, [], ◌∷◌, length, drop, Option, Some, None, refl, sym, ap, ◌∙◌, arith, if◌then◌else◌}
 use Rattle.pk_base.specs.declared.found.Found.{Found}
-use Rattle.pk_base.specs.declared.found.Reason.{Reason}
 use Rattle.pk_base.specs.declared.found.Reason.TheVariants.{ShortHeader, RecordCut, BlockCut}
 use Rattle.pcap_read.specs.Pcap.{pcap_head, pcap_item}
 use Rattle.pcap_read.specs.declared.header.PcapHead.{PcapHead}
-use Rattle.pcap_read.specs.declared.header.HeadStep.{HeadStep}
 use Rattle.pcap_read.specs.declared.header.HeadStep.TheVariants as head
-use Rattle.pcap_read.specs.declared.packet.ItemStep.{ItemStep}
 use Rattle.pcap_read.specs.declared.packet.ItemStep.TheVariants as item
 use Rattle.pcapng_read.specs.Blocks.{block_at as read_block_at}
 use Rattle.pcapng_read.specs.Sections.{Scope, block_in, scope_after, scope_of, step_of}
 use Rattle.pcapng_read.specs.declared.step.BlockStep.{BlockStep}
 use Rattle.pcapng_read.specs.declared.step.BlockStep.TheVariants as step
 use Rattle.pcapng_read.proofs.Within.{block_at-within}
-use Rattle.capture_read.specs.Capture.{Reading, after_head, after_piece, ended, with_frame, frame_of, is_pcapng, pieces, reading_of}
-use Rattle.capture_read.specs.Ending.{end_of_bytes, unfinished, damage_at}
-use Rattle.capture_read.specs.Pieces.{block_at, blocks_behind, record_at, head_behind, of_record, of_block, IsPieceWithin}
-use Rattle.capture_read.specs.Reader.{IsPlaced, after_step, cut_here, ending_where, kind_of_head, kind_then, reading_here, scope_then, step_here, step_of_head, step_of_item, told_kind}
+use Rattle.capture_read.specs.Capture.{Reading, after_head, after_piece, is_pcapng, pieces}
+use Rattle.capture_read.specs.Ending.{end_of_bytes, unfinished}
+use Rattle.capture_read.specs.Pieces.{block_at, blocks_behind, record_at, head_behind, of_record, of_block}
+use Rattle.capture_read.specs.Reader.{IsPlaced, after_step, cut_here, kind_of_head, kind_then, reading_here, scope_then, step_here, step_of_head, step_of_item, told_kind}
 use Rattle.capture_read.specs.State.{scoped_block, scope_behind}
-use Rattle.capture_read.specs.declared.ending.Ending.{Ending}
 use Rattle.capture_read.specs.declared.kind.Kind.{Kind}
 use Rattle.capture_read.specs.declared.kind.Kind.TheVariants.{Pcap, Pcapng}
-use Rattle.capture_read.specs.declared.piece.Piece.{Piece}
 use Rattle.capture_read.proofs.KnownBlocks.{scoped-pieces}
 use Rattle.capture_read.proofs.PieceBounds.{record-within, of_block-within}
 use Rattle.capture_read.proofs.PieceSteps.{pieces-some}

@@ -6,7 +6,9 @@ pub mod KnownBlocks
 pub mod Limit
 mod PieceBounds
 pub mod PieceSteps
+mod ReaderBounds
 mod ReaderSteps
 mod ReaderTurns
 mod SameSteps
-mod SmallTimes
+pub mod SmallTimes
+pub mod TakenLemmas

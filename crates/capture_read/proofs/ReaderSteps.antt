@@ -1,27 +1,20 @@
 -- A reader that goes on stands for the same file.
-use Rattle.std.proofs.Common.{◌≡◌, ◌<◌, ◌≤◌, ℕ, suc, ◌+◌, ◌-◌, ◌^◌, Bool, true, false, nat_lt, List, [], ◌∷◌, ◌++◌, length, take, drop, Option, Some, None, refl, sym, ap, ◌∙◌, subst, arith, ◌⊎◌}
-use Rattle.std.specs.Io.KnownBytes.{Consumes, IsAtEnd}
-use Rattle.std.proofs.lemmas.List.{append_assoc, append-nil, length-append, length-take, length-drop, take-append-drop, take-append-le, take-take, take_all, drop-take}
-use Rattle.std.proofs.Math.Seq.{take-append-add, take-append_seam, drop-append_seam}
+use Rattle.std.proofs.Common.{◌≡◌, ◌<◌, ◌≤◌, ℕ, ◌+◌, ◌-◌, Bool, true, false, nat_lt, List, [], ◌∷◌, ◌++◌, length, take, Option, refl, sym, ap, ◌∙◌, subst, arith}
+use Rattle.std.proofs.lemmas.List.{length-take, take-append-le, take-take}
+use Rattle.std.proofs.Math.Seq.{take-append-add}
 use Rattle.pk_base.specs.Limits.{file_limit}
-use Rattle.pk_base.specs.declared.found.Found.{Found}
-use Rattle.pk_base.proofs.Choices.{is_less, isn't_less, less, not_less}
-use Rattle.pk_base.proofs.SameFront.{IsSameFront, part_same}
+use Rattle.pk_base.proofs.Choices.{is_less, isn't_less, less}
+use Rattle.pk_base.proofs.SameFront.{IsSameFront}
 use Rattle.pcapng_read.specs.Sections.{Scope, IsStepWithin}
 use Rattle.pcapng_read.specs.declared.step.BlockStep.{BlockStep}
 use Rattle.pcapng_read.specs.declared.step.BlockStep.TheVariants as step
-use Rattle.capture_read.specs.Answers.{IsFrontOf, IsNear, HoldsExactly}
-use Rattle.capture_read.specs.Capture.{Reading, capture_of, ended, frame_of, is_large, with_frame}
-use Rattle.capture_read.specs.Ending.{damage_at}
-use Rattle.capture_read.specs.Fill.{IsFilled, IsFilledTo, IsUnfilled}
-use Rattle.capture_read.specs.Reader.{Reader, IsOver, IsPlaced, IsReading, IsSeenBehind, HasFew, Stands, after_step, cut_here, kind_then, reading_here, scope_then, step_here, with_past}
+use Rattle.capture_read.specs.Capture.{Reading, capture_of, is_large, with_frame}
+use Rattle.capture_read.specs.Reader.{Reader, IsOver, IsPlaced, HasFew, after_step, cut_here, kind_then, reading_here, scope_then, step_here, with_past}
 use Rattle.capture_read.specs.declared.ending.Ending.{Ending}
 use Rattle.capture_read.specs.declared.frame.Frame.{Frame}
 use Rattle.capture_read.specs.declared.kind.Kind.{Kind}
-use Rattle.capture_read.specs.declared.kind.Seen.{Seen}
-use Rattle.capture_read.specs.declared.kind.Seen.TheVariants as seen
 use Rattle.capture_read.proofs.HereSteps.{follows_here, here_steps}
-use Rattle.capture_read.proofs.SameSteps.{IsStepDecided, step_same, scope_same, kind_same, step_within}
+use Rattle.capture_read.proofs.SameSteps.{IsStepDecided, step_same, step_within}
 
 -- how many frames there are behind those answered
 pub length-with_past : (past : List Frame) (reading : Reading) → length (with_past past reading).frames ≡ length past + length reading.frames

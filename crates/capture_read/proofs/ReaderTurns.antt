@@ -1,6 +1,5 @@
 -- A reader that goes on stands for the same file.
-use Rattle.std.proofs.Common.{◌≡◌, ◌<◌, ◌≤◌, ℕ, suc, ◌+◌, ◌-◌, ◌^◌, Bool, true, false, nat_lt, List, [], ◌∷◌, ◌++◌, length, take, drop, Option, Some, None, refl, sym, ap, ◌∙◌, subst, arith}
-use Rattle.std.specs.Io.KnownBytes.{Consumes, IsAtEnd}
+use Rattle.std.proofs.Common.{◌≡◌, ◌<◌, ◌≤◌, ℕ, suc, ◌+◌, ◌-◌, Bool, true, false, nat_lt, List, [], ◌∷◌, ◌++◌, length, take, drop, Option, Some, None, refl, sym, ap, ◌∙◌, subst, arith}
 use Rattle.std.proofs.lemmas.List.{append_assoc, append-nil, length-append, length-take, length-drop, nil_from_length, take-append-drop, take-take, take_all}
 use Rattle.std.proofs.Math.Seq.{take-append-add, take-append_seam, drop-append_seam}
 use Rattle.pk_base.specs.Limits.{file_limit}
@@ -8,25 +7,26 @@ use Rattle.pk_base.specs.declared.found.Found.{Found}
 use Rattle.pk_base.specs.declared.found.Reason.{Reason}
 use Rattle.pk_base.proofs.Choices.{is_less, isn't_less, less, not_less}
 use Rattle.pk_base.proofs.SameFront.{IsSameFront, part_same}
-use Rattle.pcapng_read.specs.Sections.{Scope, IsStepWithin, scope_of}
+use Rattle.pcapng_read.specs.Sections.{Scope, IsStepWithin, WhenUntaken, scope_of}
 use Rattle.pcapng_read.specs.declared.step.BlockStep.{BlockStep}
 use Rattle.pcapng_read.specs.declared.step.BlockStep.TheVariants as step
-use Rattle.capture_read.specs.Answers.{IsFrontOf, IsNear, HoldsExactly, Finds, GoesOn, FailsAt}
-use Rattle.capture_read.specs.Capture.{Reading, capture_of, ended, frame_of, is_large, reading_of, with_frame}
+use Rattle.capture_read.specs.Answers.{IsFrontOf, IsNear, HoldsExactly, Finds, GoesOn, FailsAt, TakesFew}
+use Rattle.capture_read.specs.Capture.{capture_of, ended, frame_of, is_large, reading_of, with_frame}
 use Rattle.capture_read.specs.Ending.{damage_at}
 use Rattle.capture_read.specs.Fill.{IsFilled, IsFilledTo, IsUnfilled}
-use Rattle.capture_read.specs.Reader.{Reader, IsKept, IsOver, IsPlaced, IsReading, IsSeenBehind, HasFew, Stands, after_step, cut_here, kind_then, reading_here, scope_then, step_here, with_past}
+use Rattle.capture_read.specs.Reader.{Reader, IsKept, IsOver, IsReading, IsSeenBehind, HasFew, Stands, after_step, cut_here, kind_then, reading_here, scope_then, step_here, with_past}
+use Rattle.capture_read.specs.Taken.{TookAtMost, TookFew}
 use Rattle.capture_read.specs.declared.ending.Ending.{Ending}
 use Rattle.capture_read.specs.declared.fill.Filled.{Filled}
 use Rattle.capture_read.specs.declared.frame.Frame.{Frame}
 use Rattle.capture_read.specs.declared.kind.Kind.{Kind}
 use Rattle.capture_read.specs.declared.kind.Seen.{Seen}
 use Rattle.capture_read.specs.declared.kind.Seen.TheVariants as seen
-use Rattle.capture_read.specs.declared.next_frame.NextFrame.{NextFrame}
 use Rattle.capture_read.specs.declared.next_frame.NextFrame.TheVariants as next
 use Rattle.capture_read.proofs.HereSteps.{follows_here}
 use Rattle.capture_read.proofs.ReaderSteps.{IsSoon, few_front, front-append, over_step}
-use Rattle.capture_read.proofs.SameSteps.{IsStepDecided, step_same, scope_same, kind_same, step_within}
+use Rattle.capture_read.proofs.TakenLemmas.{took_more}
+use Rattle.capture_read.proofs.SameSteps.{IsStepDecided, step_same, scope_same, kind_same}
 
 -- a step that is told, in bytes that begin alike
 step_facts : (kind : Option Kind) (scope : Scope) (n : ℕ) (xs ys : List ℕ) (s : BlockStep) → IsSameFront n xs ys → step_here kind scope xs ≡ s
@@ -162,6 +162,7 @@ reading_skipped r left file past size kept reads is within = record {
   beyond = reads.beyond;
   whole = reads.whole ∙ whole_behind reads.before r.held (reads.beyond ++ left) size;
   place = place_behind reads.before r.held r.at size reads.place within;
+  within = omega (arith, kept.within, seen_behind r.held r.at size within);
   behind = subst (λ (n : ℕ). IsSeenBehind r.seen n reads.beyond left) (seen_behind r.held r.at size within) reads.behind;
   over = over_skipped r reads.before past size kept reads.over is within;
   few = few_behind r left file past (step.Skipped size) size kept reads is (λ n less. less);
@@ -176,6 +177,7 @@ reading_found r left file past found kept reads is within room = record {
   beyond = reads.beyond;
   whole = reads.whole ∙ whole_behind reads.before r.held (reads.beyond ++ left) found.end;
   place = place_behind reads.before r.held r.at found.end reads.place within;
+  within = omega (arith, kept.within, seen_behind r.held r.at found.end within);
   behind = subst (λ (n : ℕ). IsSeenBehind r.seen n reads.beyond left) (seen_behind r.held r.at found.end within) reads.behind;
   over = over_found r reads.before past found kept reads.over is within room;
   few = λ front early. omega (arith, few_behind r left file past (step.Item found) found.end kept reads is (λ n less. less) front early);
@@ -286,6 +288,7 @@ reading_filled r filled need left_old left_new file past kept reads is needs mor
       beyond = more.beyond;
       whole = reads.whole ∙ ap (λ (bytes : List ℕ). reads.before ++ bytes) rest;
       place = reads.place;
+      within = omega (arith, kept.within, more.within);
       behind = filled_behind filled.seen more.beyond r.at (length filled.bytes.items) left_new more.behind (omega (arith, kept.within));
       over = reads.over;
       few = reads.few;
@@ -329,6 +332,7 @@ reading_new scope left is = record {
   beyond = [];
   whole = refl;
   place = refl;
+  within = omega arith;
   behind = refl;
   over = λ more. ap (λ (n : ℕ). reading_of (is_large more) (take n more)) (limit_is file_limit);
   few = λ front early. absurd (omega (arith, early));
@@ -392,3 +396,112 @@ unfolding Stands
 turn_unfilled r need None new kept is needs more = λ file past so. absurd so
 turn_unfilled r need (Some old) None kept is needs more = absurd more.taken
 turn_unfilled r need (Some old) (Some new) kept is needs more = λ file past so. reading_unfilled r need old new file past kept so is needs more
+
+-- the same by the values that a position keeps
+
+needs_by : (r inside : Reader) (need : ℕ) → inside ≡ r → step_here r.kind r.scope r.held ≡ step.Need need
+    → step_here inside.kind inside.scope inside.held ≡ step.Need need
+needs_by r inside need view needs = subst (λ (q : Reader). step_here q.kind q.scope q.held ≡ step.Need need) (sym view) needs
+
+pub filled_by : (r inside : Reader) (bytes now : List ℕ) (limit : ℕ) (filled : Filled) (need : ℕ) (old new : Option (List ℕ)) → inside ≡ r → IsKept inside
+    → inside.seen ≡ seen.Open → step_here r.kind r.scope r.held ≡ step.Need need → bytes ≡ inside.held → limit ≡ file_limit → now ≡ filled.bytes.items
+    → IsFilled bytes filled need (limit - inside.at) old new → GoesOn r (filled_reader inside now filled.seen) old new
+filled_by r inside bytes now limit filled need old new view kept is needs held limited got more =
+    rw (← view, got) (turn_filled inside filled need old new kept is (needs_by r inside need view needs)
+    (subst (λ (b : List ℕ). IsFilled b filled need (file_limit - inside.at) old new) held
+    (subst (λ (m : ℕ). IsFilled bytes filled need (m - inside.at) old new) limited more)))
+
+pub unfilled_by : (r inside : Reader) (bytes : List ℕ) (limit need : ℕ) (old new : Option (List ℕ)) → inside ≡ r → IsKept inside
+    → inside.seen ≡ seen.Open → step_here r.kind r.scope r.held ≡ step.Need need → bytes ≡ inside.held → limit ≡ file_limit
+    → IsUnfilled bytes need (limit - inside.at) old new → FailsAt r old new
+unfilled_by r inside bytes limit need old new view kept is needs held limited more =
+    rw (← view) (turn_unfilled inside need old new kept is (needs_by r inside need view needs)
+    (subst (λ (b : List ℕ). IsUnfilled b need (file_limit - inside.at) old new) held
+    (subst (λ (m : ℕ). IsUnfilled bytes need (m - inside.at) old new) limited more)))
+
+-- what was looked at, and what is known then
+pub record IsLooked (inside : Reader) (bytes : List ℕ) (s : BlockStep) (kind : Option Kind) (scope : Scope) : Type 0 where
+  pub held : bytes ≡ inside.held
+  pub found : s ≡ step_here inside.kind inside.scope bytes
+  pub kind_is : kind ≡ kind_then s inside.kind bytes
+  pub scope_is : scope ≡ scope_then inside.kind inside.scope bytes
+
+looked_step : (inside : Reader) (bytes : List ℕ) (s t : BlockStep) (kind : Option Kind) (scope : Scope) → IsLooked inside bytes s kind scope → s ≡ t
+    → (step_here inside.kind inside.scope inside.held ≡ t) × (kind ≡ kind_then t inside.kind inside.held) × (scope ≡ scope_then inside.kind inside.scope inside.held)
+looked_step inside bytes s t kind scope looked is = (
+  sym (ap (step_here inside.kind inside.scope) looked.held) ∙ sym looked.found ∙ is,
+  looked.kind_is ∙ ap (λ (u : BlockStep). kind_then u inside.kind bytes) is ∙ ap (kind_then t inside.kind) looked.held,
+  looked.scope_is ∙ ap (scope_then inside.kind inside.scope) looked.held,
+)
+
+pub bad_by : (r inside : Reader) (bytes : List ℕ) (s : BlockStep) (kind : Option Kind) (scope : Scope) (ending : Ending) (left : Option (List ℕ)) (reason : Reason)
+    → inside ≡ r → IsKept inside → IsLooked inside bytes s kind scope → s ≡ step.Bad reason → WhenUntaken s ((kind ≡ inside.kind) × (scope ≡ inside.scope))
+    → ending ≡ damage_at inside.at reason
+    → Finds (next.End ending) r (record { kind = kind; scope = scope; number = inside.number; at = inside.at; held = inside.held; seen = inside.seen }) left left
+bad_by r inside bytes s kind scope ending left reason view kept looked is untaken told =
+    let same : (kind ≡ inside.kind) × (scope ≡ inside.scope) = subst (λ (t : BlockStep). WhenUntaken t ((kind ≡ inside.kind) × (scope ≡ inside.scope))) is untaken in
+    rw (← view, told, same.0, same.1) (turn_bad inside left reason kept (looked_step inside bytes s (step.Bad reason) kind scope looked is).0)
+
+pub found_by : (r inside : Reader) (bytes held : List ℕ) (s : BlockStep) (kind : Option Kind) (scope : Scope) (number : ℕ) (frame : Frame) (left : Option (List ℕ)) (found : Found)
+    → inside ≡ r → IsKept inside → IsLooked inside bytes s kind scope → s ≡ step.Item found → IsStepWithin s (length bytes)
+    → held ≡ drop found.end inside.held → number ≡ inside.number + 1 → frame ≡ frame_of inside.number found inside.held
+    → Finds (next.Frame frame) r (record { kind = kind; scope = scope; number = number; at = inside.at + found.end; held = held; seen = inside.seen }) left left
+found_by r inside bytes held s kind scope number frame left found view kept looked is within passed counted told =
+    let facts = looked_step inside bytes s (step.Item found) kind scope looked is in
+    let bounds : IsStepWithin (step.Item found) (length inside.held) = subst (λ (t : BlockStep). IsStepWithin t (length inside.held)) is (subst (λ (b : List ℕ). IsStepWithin s (length b)) looked.held within) in
+    let next_number : number ≡ suc inside.number = omega (arith, counted) in
+    rw (← view, told, facts.1, facts.2, passed, next_number) (turn_found inside left found kept facts.0 bounds.1 bounds.2)
+
+pub skipped_by : (r inside : Reader) (bytes held : List ℕ) (s : BlockStep) (kind : Option Kind) (scope : Scope) (left : Option (List ℕ)) (size : ℕ)
+    → inside ≡ r → IsKept inside → IsLooked inside bytes s kind scope → s ≡ step.Skipped size → IsStepWithin s (length bytes)
+    → held ≡ drop size inside.held
+    → GoesOn r (record { kind = kind; scope = scope; number = inside.number; at = inside.at + size; held = held; seen = inside.seen }) left left
+skipped_by r inside bytes held s kind scope left size view kept looked is within passed =
+    let facts = looked_step inside bytes s (step.Skipped size) kind scope looked is in
+    let bounds : IsStepWithin (step.Skipped size) (length inside.held) = subst (λ (t : BlockStep). IsStepWithin t (length inside.held)) is (subst (λ (b : List ℕ). IsStepWithin s (length b)) looked.held within) in
+    rw (← view, facts.1, facts.2, passed) (turn_skipped inside left size kept facts.0 bounds.1)
+
+-- however many bytes were seen behind those held, at most one was read past those that are looked at
+few_beyond : (s : Seen) (place : ℕ) (beyond left : List ℕ) → place ≤ file_limit → IsSeenBehind s place beyond left → place + length beyond ≤ suc file_limit
+few_beyond seen.Open place beyond left within behind = omega (arith, within, ap length behind)
+few_beyond seen.Ended place beyond left within behind = omega (arith, within, ap length behind.0)
+few_beyond seen.Beyond place beyond left within behind = omega (arith, behind.0, behind.1)
+
+reading_few : (r : Reader) (left file : List ℕ) (past : List Frame) → IsReading r left file past → TookFew file (Some left)
+reading_few r left file past reads = (
+  reads.before ++ (r.held ++ reads.beyond),
+  reads.whole ∙ ap (λ (bytes : List ℕ). reads.before ++ bytes) (sym (append_assoc r.held reads.beyond left)) ∙ sym (append_assoc reads.before (r.held ++ reads.beyond) left),
+  omega (
+    arith,
+    length-append reads.before (r.held ++ reads.beyond),
+    length-append r.held reads.beyond,
+    reads.place,
+    few_beyond r.seen (r.at + length r.held) reads.beyond left reads.within reads.behind,
+  ),
+)
+
+-- a reader that stands for a file has taken few bytes of it
+pub stands_few : (r : Reader) (left : Option (List ℕ)) (file : List ℕ) (past : List Frame) → Stands r left file past → TookFew file left
+unfolding Stands
+stands_few r None file past so = absurd so
+stands_few r (Some left) file past so = reading_few r left file past so
+
+-- reads behind the bytes held take few more
+filling_few : (r : Reader) (left file : List ℕ) (past : List Frame) (new : Option (List ℕ)) → IsReading r left file past → r.seen ≡ seen.Open
+    → TookAtMost (suc (file_limit - r.at) - length r.held) (Some left) new → TookFew file new
+filling_few r left file past new reads is took =
+    let none : reads.beyond ≡ [] = subst (λ (s : Seen). IsSeenBehind s (r.at + length r.held) reads.beyond left) is reads.behind in
+    let whole : file ≡ (reads.before ++ r.held) ++ left = reads.whole ∙ ap (λ (bytes : List ℕ). reads.before ++ (r.held ++ (bytes ++ left))) none
+    ∙ sym (append_assoc reads.before r.held left) in
+    took_more (suc file_limit) (suc (file_limit - r.at) - length r.held) (Some file) (Some left) new (reads.before ++ r.held) whole took
+    (omega (arith, length-append reads.before r.held, reads.place, reads.within))
+
+pub filled_few : (r inside : Reader) (bytes : List ℕ) (limit : ℕ) (old new : Option (List ℕ)) → inside ≡ r
+    → inside.seen ≡ seen.Open → bytes ≡ inside.held → limit ≡ file_limit
+    → TookAtMost (suc (limit - inside.at) - length bytes) old new → TakesFew r old new
+unfolding Stands
+filled_few r inside bytes limit None new view is held limited took = λ file past so. absurd so
+filled_few r inside bytes limit (Some left) new view is held limited took = λ file past so.
+    filling_few inside left file past new (subst (λ (q : Reader). IsReading q left file past) (sym view) so) is
+    (subst (λ (b : List ℕ). TookAtMost (suc (file_limit - inside.at) - length b) (Some left) new) held
+    (subst (λ (m : ℕ). TookAtMost (suc (m - inside.at) - length bytes) (Some left) new) limited took))

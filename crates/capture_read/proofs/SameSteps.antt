@@ -1,12 +1,9 @@
 -- A header, record or block is the same in bytes that begin alike, and ends within the bytes.
-use Rattle.std.proofs.Common.{◌≡◌, ◌<◌, ◌≤◌, ℕ, ◌+◌, Bool, true, false, eqb, List, [], ◌∷◌, length, take, Option, Some, None, refl, sym, ap, ◌∙◌, arith, nat_lt, if◌then◌else◌}
-use Rattle.std.specs.List.{starts_with}
+use Rattle.std.proofs.Common.{◌≡◌, ◌<◌, ◌≤◌, ℕ, Bool, true, false, eqb, List, [], ◌∷◌, length, Option, Some, None, refl, sym, ap, ◌∙◌, arith, nat_lt, if◌then◌else◌}
 use lib.Pointwise.{pointwise}
-use Rattle.pk_base.specs.declared.found.Found.{Found}
 use Rattle.pk_base.proofs.Choices.{by_case, both_same, isn't_less, is_less}
 use Rattle.pk_base.proofs.SameFront.{IsSameFront, front_same}
 use Rattle.pcap_read.specs.Pcap.{pcap_head, pcap_item, IsHeadWithin, IsItemWithin}
-use Rattle.pcap_read.specs.declared.header.PcapHead.{PcapHead}
 use Rattle.pcap_read.specs.declared.header.HeadStep.{HeadStep}
 use Rattle.pcap_read.specs.declared.header.HeadStep.TheVariants as head
 use Rattle.pcap_read.specs.declared.packet.ItemStep.{ItemStep}

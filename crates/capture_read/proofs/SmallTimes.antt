@@ -1,5 +1,5 @@
 -- The times of a capture file's frames are small.
-use Rattle.std.proofs.Common.{◌<◌, ◌≤◌, ℕ, zero, suc, ◌+◌, ◌-◌, ◌*◌, ◌/◌, ◌^◌, ◌%◌, ℤ, pos, neg_ℤ, ◌+ℤ◌, ◌*ℤ◌, ◌<ℤ◌, ◌≤ℤ◌, Bool, true, false, not, ◌||◌, List, [], ◌∷◌, ◌++◌, length, take, drop, slice_index, Option, Some, None, arith}
+use Rattle.std.proofs.Common.{◌<◌, ◌≤◌, ℕ, zero, suc, ◌+◌, ◌-◌, ◌*◌, ◌/◌, ◌^◌, ◌%◌, ℤ, pos, ◌+ℤ◌, ◌*ℤ◌, Bool, true, false, not, ◌||◌, List, [], ◌∷◌, ◌++◌, length, take, drop, slice_index, Option, Some, None, arith}
 use Rattle.std.specs.Prelude.{nat_lt, ◌==◌, if◌then◌else◌, slice_get, slice_range}
 use Rattle.std.specs.Option.{option_map}
 use Rattle.std.specs.Int.{w64, cast_signed}
@@ -17,8 +17,6 @@ use Rattle.pcapng_read.specs.Blocks.{block_at as block_read, ordered_block, meas
 use Rattle.pcapng_read.specs.Interface.{nanoseconds}
 use Rattle.pcapng_read.specs.Options.{option_of, options_of, after_option, settings_of, last_offset, after_all, default, padded, end_code, resolution_code, offset_code}
 use Rattle.pcapng_read.specs.Sections.{Scope, block_in, block_of, blocks_after, order_of, interfaces_of, scope_after, step_of}
-use Rattle.pcapng_read.specs.declared.step.BlockStep.{BlockStep}
-use Rattle.pcapng_read.specs.declared.step.BlockStep.TheVariants as step
 use Rattle.pcapng_read.specs.Ticks.{ticks_per_second}
 use Rattle.pcapng_read.specs.declared.block.Block.{Block}
 use Rattle.pcapng_read.specs.declared.block.Block.TheVariants as block
@@ -33,7 +31,7 @@ use Rattle.pcapng_read.specs.declared.options.Settings.{Settings}
 use Rattle.pcapng_read.proofs.Numbers.{number_at-small}
 use Rattle.pk_base.proofs.Choices.{by_case}
 use Rattle.capture_read.specs.FrameList.{AreBytes, IsSmallTime}
-use Rattle.capture_read.specs.Offsets.{IsOffset, AreInterfaces}
+use Rattle.capture_read.specs.Offsets.{IsOffset, AreInterfaces, IsStepTimely}
 use Rattle.capture_read.specs.Capture.{is_pcapng}
 use Rattle.capture_read.specs.Reader.{step_here, step_of_head, step_of_item, scope_then}
 use Rattle.capture_read.specs.declared.kind.Kind.{Kind}
@@ -291,13 +289,6 @@ are_interfaces (read.Whole (block.Section little) end) scope is are = tt
 are_interfaces (read.Whole (block.Interface interface) end) scope is are = one-more scope.interfaces interface are is
 are_interfaces (read.Whole (block.Packet found) end) scope is are = are
 are_interfaces (read.Whole block.Other end) scope is are = are
-
--- a frame's time is small, where the step finds one
-abbrev pub IsStepTimely : BlockStep → Type 0
-IsStepTimely (step.Need n) = Unit {0}
-IsStepTimely (step.Item found) = IsSmallTime found.time
-IsStepTimely (step.Skipped size) = Unit {0}
-IsStepTimely (step.Bad reason) = Unit {0}
 
 step_of-timely : (r : BlockRead) → IsBlock r → IsStepTimely (step_of r)
 step_of-timely (read.Need n) is = tt

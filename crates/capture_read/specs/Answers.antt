@@ -1,9 +1,10 @@
 -- What a reader answers.
-use Rattle.std.specs.Prelude.{◌≡◌, ◌<◌, ◌≤◌, ℕ, suc, ◌+◌, ◌-◌, ◌^◌, List, [], ◌∷◌, ◌++◌, length, Option, Some, None}
+use Rattle.std.specs.Prelude.{◌≡◌, ◌<◌, ◌≤◌, ℕ, ◌+◌, ◌-◌, ◌^◌, List, ◌∷◌, ◌++◌, length, Option, Some, None}
 use Rattle.pk_base.specs.Limits.{file_limit}
 use Rattle.capture_read.specs.Capture.{Reading, capture_of, ended}
 use Rattle.capture_read.specs.FrameList.{IsSmallTime}
 use Rattle.capture_read.specs.Reader.{Reader, ReaderShown, Stands, StandsFor, HasFew, with_past}
+use Rattle.capture_read.specs.Taken.{TookFew}
 use Rattle.capture_read.specs.declared.ending.Ending.{Ending}
 use Rattle.capture_read.specs.declared.frame.Frame.{Frame}
 use Rattle.capture_read.specs.declared.kind.Phase.{Phase}
@@ -42,6 +43,10 @@ Answers (next.End ending) old new left_old left_new = (file : List ℕ) → (pas
 abbrev pub Fails : ReaderShown → Option (List ℕ) → Option (List ℕ) → Type 0
 Fails old left_old left_new = (file : List ℕ) → (past : List Frame) → StandsFor old left_old file past → HoldsExactly file past left_new
 
+-- however a call ends, at most 2^28 + 1 bytes of the file were taken
+abbrev pub TakesFewOf : ReaderShown → Option (List ℕ) → Option (List ℕ) → Type 0
+TakesFewOf old left_old left_new = (file : List ℕ) → (past : List Frame) → StandsFor old left_old file past → TookFew file left_new
+
 -- frames are numbered one after the other, the place moves on past each one's bytes, and times lie strictly between -2^96
 -- and 2^96 nanoseconds
 pub record IsCounted (frame : Frame) (old new : Reader) : Type 0 where
@@ -74,6 +79,9 @@ GoesOn old new left_old left_new = (file : List ℕ) → (past : List Frame) →
 
 abbrev pub FailsAt : Reader → Option (List ℕ) → Option (List ℕ) → Type 0
 FailsAt old left_old left_new = (file : List ℕ) → (past : List Frame) → Stands old left_old file past → HoldsExactly file past left_new
+
+abbrev pub TakesFew : Reader → Option (List ℕ) → Option (List ℕ) → Type 0
+TakesFew old left_old left_new = (file : List ℕ) → (past : List Frame) → Stands old left_old file past → TookFew file left_new
 
 -- how much there may be to do before an answer
 abbrev pub open_count : Seen → ℕ

@@ -8,3 +8,4 @@ pub mod Offsets
 pub mod Pieces
 pub mod Reader
 pub mod State
+pub mod Taken

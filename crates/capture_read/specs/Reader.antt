@@ -1,8 +1,7 @@
 -- What a reader of a capture file stands for that holds the bytes of the header, record or block at hand and those read
 -- ahead, and never the file.
-use Rattle.std.specs.Prelude.{◌≡◌, ◌≢◌, ◌<◌, ◌≤◌, ℕ, suc, ◌+◌, ◌-◌, ◌^◌, Bool, if◌then◌else◌, List, [], ◌∷◌, ◌++◌, length, take, drop, Option, Some, None}
+use Rattle.std.specs.Prelude.{◌≡◌, ◌≢◌, ◌<◌, ◌≤◌, ℕ, suc, ◌+◌, ◌-◌, ◌^◌, Bool, if◌then◌else◌, List, [], ◌∷◌, ◌++◌, length, take, Option, Some, None}
 use Rattle.pk_base.specs.Limits.{file_limit}
-use Rattle.pk_base.specs.declared.found.Found.{Found}
 use Rattle.pk_base.specs.declared.found.Reason.TheVariants.{ShortHeader, RecordCut, BlockCut}
 use Rattle.pcap_read.specs.Pcap.{pcap_head, pcap_item}
 use Rattle.pcap_read.specs.declared.header.HeadStep.{HeadStep}
@@ -144,6 +143,7 @@ pub record IsReading (r : Reader) (left file : List ℕ) (past : List Frame) : T
   pub beyond : List ℕ
   pub whole : file ≡ before ++ (r.held ++ (beyond ++ left))
   pub place : length before ≡ r.at
+  pub within : r.at + length r.held ≤ file_limit
   pub behind : IsSeenBehind r.seen (r.at + length r.held) beyond left
   pub over : IsOver r before past
   pub few : (front : ℕ) → front < r.at → HasFew file past front

@@ -1,9 +1,10 @@
 // Reading on until enough bytes are held.
-ghost use Rattle.std.specs.Prelude.{◌≡◌, ◌+◌, ◌<◌, ◌≤◌, ◌++◌, ◌^◌, List, ℕ, length, false, IfOk, IsErrOf, IsTrue, OnOk};
+ghost use Rattle.std.specs.Prelude.{◌≡◌, ◌+◌, ◌<◌, ◌≤◌, ◌++◌, ◌^◌, ◌-◌, suc, List, ℕ, length, false, IfOk, IsErrOf, IsTrue, OnOk};
 ghost use Rattle.std.specs.Io.KnownBytes.{Consumes, IsAtEnd};
 ghost use Rattle.pk_outside.specs.Outside.{Rose, counted};
 ghost use Rattle.capture_read.specs.Answers.{open_count};
 ghost use Rattle.capture_read.specs.Fill.{IsFilled, IsFilledTo, IsUnfilled};
+ghost use Rattle.capture_read.specs.Taken.{TookAtMost};
 
 use crate::kind::Seen;
 use crate::read_error::ReadError;
@@ -36,17 +37,23 @@ fn read_more<C: Capture>(
 ) -> Result<bool, ReadError>
     requires { 0 < length piece.old }
     ensures size { length piece.new ≡ length piece.old }
-    ensures grown { OnOk result (length bytes.new.items ≤ length bytes.old.items + length piece.old) }
-    ensures more { IfOk result (λ more. IsTrue more → length bytes.old.items < length bytes.new.items) }
+    ensures grown { OnOk result (length bytes.new.items
+        ≤ length bytes.old.items + length piece.old) }
+    ensures more { IfOk result (λ more. IsTrue more
+        → length bytes.old.items < length bytes.new.items) }
     ensures end { IfOk result (λ more. more ≡ false → IsAtEnd (C.left capture.new)) }
-    ensures consumed { OnOk result ((got : List ℕ) × (bytes.new.items ≡ bytes.old.items ++ got) × Consumes (C.left capture.old) (C.left capture.new) got) }
+    ensures consumed { OnOk result ((got : List ℕ)
+        × (bytes.new.items ≡ bytes.old.items ++ got)
+        × Consumes (C.left capture.old) (C.left capture.new) got) }
     ensures unread { IsErrOf result ReadError.ReadFault → C.left capture.new ≡ C.left capture.old }
+    ensures took { TookAtMost (length piece.old) (C.left capture.old) (C.left capture.new) }
     ensures asked { C.asked capture.new ≡ C.asked capture.old }
     ensures refused { C.refused capture.new ≡ C.refused capture.old }
     ensures begun { C.begun capture.new ≡ C.begun capture.old }
     ensures missed { C.missed capture.new ≡ C.missed capture.old }
     ensures no_fault { OnOk result (C.faults capture.new ≡ C.faults capture.old) }
-    ensures fault { IsErrOf result ReadError.ReadFault → C.faults capture.new ≡ counted (C.faults capture.old) }
+    ensures fault { IsErrOf result ReadError.ReadFault
+        → C.faults capture.new ≡ counted (C.faults capture.old) }
     ensures faults_stay { C.faults capture.old ≤ C.faults capture.new }
     ensures spent { IsErrOf result ReadError.Spent → ⊥ }
 {
@@ -62,14 +69,18 @@ fn read_more<C: Capture>(
 /// Reads one byte past those that are looked at, and tells whether there is one.
 fn read_beyond<C: Capture>(capture: &mut C, piece: &mut [u8]) -> Result<Seen, ReadError>
     requires { length piece.old ≡ 1 }
-    ensures seen { IfOk result (λ seen. (beyond : List ℕ) × Consumes (C.left capture.old) (C.left capture.new) beyond
-        × ((size : ℕ) → IsFilledTo seen beyond size size (C.left capture.new)) × (length beyond ≤ 1) × (open_count seen ≡ 0)) }
+    ensures seen { IfOk result (λ seen. (beyond : List ℕ)
+        × Consumes (C.left capture.old) (C.left capture.new) beyond
+        × ((size : ℕ) → IsFilledTo seen beyond size size (C.left capture.new))
+        × (length beyond ≤ 1) × (open_count seen ≡ 0)) }
     ensures unread { IsErrOf result ReadError.ReadFault → C.left capture.new ≡ C.left capture.old }
+    ensures took { TookAtMost 1 (C.left capture.old) (C.left capture.new) }
     ensures asked { C.asked capture.new ≡ C.asked capture.old }
     ensures refused { C.refused capture.new ≡ C.refused capture.old }
     ensures begun { C.begun capture.new ≡ C.begun capture.old }
     ensures missed { C.missed capture.new ≡ C.missed capture.old }
-    ensures fault { IsErrOf result ReadError.ReadFault → C.faults capture.new ≡ counted (C.faults capture.old) }
+    ensures fault { IsErrOf result ReadError.ReadFault
+        → C.faults capture.new ≡ counted (C.faults capture.old) }
     ensures no_fault { OnOk result (C.faults capture.new ≡ C.faults capture.old) }
     ensures faults_stay { C.faults capture.old ≤ C.faults capture.new }
     ensures spent { IsErrOf result ReadError.Spent → ⊥ }
@@ -96,13 +107,18 @@ pub fn fill<C: Capture>(
     requires few { length held.now < need }
     requires within { length held.now ≤ most }
     ensures piece { length piece.new ≡ length piece.old }
-    ensures filled { IfOk result (λ filled. IsFilled held.now filled need most (C.left capture.old) (C.left capture.new)) }
-    ensures unfilled { IsErrOf result ReadError.ReadFault → IsUnfilled held.now need most (C.left capture.old) (C.left capture.new) }
+    ensures filled { IfOk result (λ filled. IsFilled held.now filled need most
+        (C.left capture.old) (C.left capture.new)) }
+    ensures unfilled { IsErrOf result ReadError.ReadFault
+        → IsUnfilled held.now need most (C.left capture.old) (C.left capture.new) }
+    ensures took { TookAtMost (suc most - length held.now)
+        (C.left capture.old) (C.left capture.new) }
     ensures asked { C.asked capture.new ≡ C.asked capture.old }
     ensures refused { C.refused capture.new ≡ C.refused capture.old }
     ensures begun { C.begun capture.new ≡ C.begun capture.old }
     ensures missed { C.missed capture.new ≡ C.missed capture.old }
-    ensures fault { IsErrOf result ReadError.ReadFault → Rose (C.faults capture.old) (C.faults capture.new) }
+    ensures fault { IsErrOf result ReadError.ReadFault
+        → Rose (C.faults capture.old) (C.faults capture.new) }
     ensures faults_stay { C.faults capture.old ≤ C.faults capture.new }
     ensures spent { IsErrOf result ReadError.Spent → ⊥ }
 {

@@ -1,6 +1,7 @@
 // What stands at a reader's place.
 ghost use Rattle.std.specs.Prelude.{◌≡◌, ℕ, [], length, None, IfOk, OnOk, OnErr};
 ghost use Rattle.pcapng_read.specs.Sections.{scope_of, IsStepWithin, WhenTaken, WhenUntaken};
+ghost use Rattle.capture_read.specs.Offsets.{AreInterfaces, IsStepTimely};
 ghost use Rattle.capture_read.specs.Reader.{IsPlaced, kind_then, scope_then, step_here, step_of_item};
 
 use crate::kind::Kind;
@@ -21,7 +22,8 @@ fn look_first(
     ensures within { IfOk result (λ step. IsStepWithin step (length bytes.now)) }
     ensures kind { IfOk result (λ step. kind.new ≡ kind_then step kind.old bytes.now) }
     ensures scope { OnOk result (sections.new ≡ scope_then kind.old sections.old bytes.now) }
-    ensures taken { IfOk result (λ step. WhenTaken step ((number at : ℕ) → IsPlaced kind.new sections.new number at)) }
+    ensures taken { IfOk result (λ step. WhenTaken step
+        ((number at : ℕ) → IsPlaced kind.new sections.new number at)) }
     ensures untaken { IfOk result (λ step. WhenUntaken step (sections.new ≡ sections.old)) }
     ensures kept { OnErr result ((kind.new ≡ kind.old) × (sections.new ≡ sections.old)) }
 {
@@ -56,9 +58,15 @@ pub fn look(
     ensures within { IfOk result (λ step. IsStepWithin step (length bytes.now)) }
     ensures kind { IfOk result (λ step. kind.new ≡ kind_then step kind.old bytes.now) }
     ensures scope { OnOk result (sections.new ≡ scope_then kind.old sections.old bytes.now) }
-    ensures taken { IfOk result (λ step. WhenTaken step ((number at : ℕ) → IsPlaced kind.new sections.new number at)) }
-    ensures untaken { IfOk result (λ step. WhenUntaken step ((kind.new ≡ kind.old) × (sections.new ≡ sections.old))) }
+    ensures taken { IfOk result (λ step. WhenTaken step
+        ((number at : ℕ) → IsPlaced kind.new sections.new number at)) }
+    ensures untaken { IfOk result (λ step. WhenUntaken step
+        ((kind.new ≡ kind.old) × (sections.new ≡ sections.old))) }
     ensures kept { OnErr result ((kind.new ≡ kind.old) × (sections.new ≡ sections.old)) }
+    ensures timely { IfOk result (λ step.
+        AreInterfaces sections.old.interfaces → IsStepTimely step) }
+    ensures offsets { AreInterfaces sections.old.interfaces
+        → AreInterfaces sections.new.interfaces }
 {
     match *kind {
         None => look_first(kind, sections, bytes),

@@ -1,4 +1,26 @@
+// How far a capture file is read.
+ghost use Rattle.std.specs.Prelude.{◌≡◌, ◌+◌, ◌≤◌, ◌<◌, ◌^◌, ℕ, List, [], Some, false, true, length, IfOk, IsErrOf, OnOk};
+ghost use Rattle.pcapng_read.specs.declared.step.BlockStep.TheVariants as step;
+ghost use Rattle.pk_base.specs.Limits.{file_limit as limit_of_file};
+ghost use Rattle.pk_outside.specs.Outside.{Rose};
+ghost use Rattle.capture_read.specs.Answers.{CountsNext, CountsTurn, FailsAt, Finds, TakesFew, Turns};
+ghost use Rattle.capture_read.specs.Capture.{frame_of};
+ghost use Rattle.capture_read.specs.Reader.{Stands, cut_here, step_here};
+
+use crate::ending::{Ending, damage_at, end_of_bytes, unfinished};
+use crate::fill::{fill, read_size};
+use crate::frame::Frame;
+use crate::held::Held;
+use crate::kind::{Kind, Seen};
+use crate::look::look;
 use crate::next_frame::NextFrame;
+use crate::read_error::ReadError;
+use crate::state::begins_pcapng;
+use pcapng_read::{BlockStep, Sections};
+use pk_base::{Found, NoMemory, Reason, file_limit};
+use pk_outside::Capture;
+use std::alloc::Global;
+use std::marker::Model;
 
 /// What one step through a file comes to.
 #[derive(Drop)]
@@ -6,4 +28,207 @@ pub enum Turn {
     Next(NextFrame),
     /// No answer yet.
     Again,
+}
+
+/// The place of the next header, record or block of a file, what is known there, and the bytes held
+/// from there on.
+#[derive(Drop)]
+pub struct Position {
+    alloc: Global,
+    kind: Option<Kind>,
+    sections: Sections,
+    number: u32,
+    at: usize,
+    held: Held,
+    seen: Seen,
+    /// Where reads go: none before the first read.
+    room: Vec<u8>,
+}
+
+impl Model for Position {
+    ghost use Rattle.std.specs.Prelude.{◌≤◌, ◌^◌, length};
+    ghost use Rattle.capture_read.specs.Reader.{Reader, IsKept};
+
+    ghost Value = { Reader };
+
+    ghost view = { λ p. record {
+      kind = p.kind;
+      scope = p.sections;
+      number = p.number;
+      at = p.at;
+      held = p.held;
+      seen = p.seen;
+    } };
+
+    ghost invariant = { λ p. (length p.room.items ≤ 2 ^ 16) × IsKept (record {
+      kind = p.kind;
+      scope = p.sections;
+      number = p.number;
+      at = p.at;
+      held = p.held;
+      seen = p.seen;
+    }) };
+}
+
+impl Position {
+    /// Before the first byte of a file.
+    #[tactic(auto, using(crate::proofs::ReaderTurns::stands_new))]
+    pub fn new(alloc: Global) -> Position
+        ensures stands { (left : List ℕ) → Stands result (Some left) left [] }
+        ensures number { result.number ≡ 1 }
+        ensures at { result.at ≡ 0 }
+    {
+        Position {
+            alloc,
+            kind: None,
+            sections: Sections::new(alloc),
+            number: 1,
+            at: 0,
+            held: Held::new(),
+            seen: Seen::Open,
+            room: Vec::new(alloc),
+        }
+    }
+
+    /// How the file ends where more bytes are needed than there are.
+    fn cut(&self, large: bool) -> Ending
+        ensures { result ≡ cut_here self.now.kind large self.now.at self.now.held }
+    {
+        let bytes = self.held.bytes();
+        match self.kind {
+            None if begins_pcapng(bytes) => unfinished(large, self.at, Reason::BlockCut),
+            None => unfinished(large, self.at, Reason::ShortHeader),
+            Some(_) if bytes.is_empty() => end_of_bytes(large),
+            Some(Kind::Pcap(_)) => unfinished(large, self.at, Reason::RecordCut),
+            Some(Kind::Pcapng) => unfinished(large, self.at, Reason::BlockCut),
+        }
+    }
+
+    /// Reads on where more bytes are needed than are held.
+    fn need_more<C: Capture>(&mut self, capture: &mut C, need: usize) -> Result<Turn, ReadError>
+        requires needs { step_here self.old.kind self.old.scope self.old.held ≡ step.Need need }
+        requires few { length self.old.held < need }
+        ensures turns { IfOk result (λ turn. Turns turn self.old self.new
+            (C.left capture.old) (C.left capture.new)) }
+        ensures counts { IfOk result (λ turn. CountsTurn turn self.old self.new) }
+        ensures limit { self.new.at ≤ limit_of_file }
+        ensures fails { IsErrOf result ReadError.ReadFault
+            → FailsAt self.old (C.left capture.old) (C.left capture.new) }
+        ensures fault { IsErrOf result ReadError.ReadFault
+            → Rose (C.faults capture.old) (C.faults capture.new) }
+        ensures took { TakesFew self.old (C.left capture.old) (C.left capture.new) }
+        ensures spent { IsErrOf result ReadError.Spent → ⊥ }
+        ensures asked { C.asked capture.new ≡ C.asked capture.old }
+        ensures refused { C.refused capture.new ≡ C.refused capture.old }
+        ensures begun { C.begun capture.new ≡ C.begun capture.old }
+        ensures missed { C.missed capture.new ≡ C.missed capture.old }
+        ensures faults_stay { C.faults capture.old ≤ C.faults capture.new }
+    {
+        match self.seen {
+            Seen::Ended => return Ok(Turn::Next(NextFrame::End(self.cut(false)))),
+            Seen::Beyond => return Ok(Turn::Next(NextFrame::End(self.cut(true)))),
+            Seen::Open => {}
+        }
+        let most = file_limit() - self.at;
+        make_room(self.alloc, &mut self.room)?;
+        let room = &mut self.room;
+        let filled = match fill(self.alloc, capture, room, self.held.bytes(), need, most) {
+            Ok(filled) => filled,
+            Err(error) => return Err(error),
+        };
+        self.held.hold(filled.bytes)?;
+        self.seen = filled.seen;
+        Ok(Turn::Again)
+    }
+
+    /// The frame found in the record or block at hand.
+    fn frame(&self, number: u32, found: &Found) -> Result<Frame, NoMemory>
+        requires { found.now.start + found.now.len ≤ length self.now.held }
+        ensures { IfOk result (λ frame. frame ≡ frame_of number found.now self.now.held) }
+    {
+        Ok(Frame {
+            number,
+            time: found.time,
+            link: found.link,
+            little: found.little,
+            bytes: self.held.part(found.start, found.len)?,
+            original: found.original,
+        })
+    }
+
+    /// Looks at the header, record or block at hand, and goes behind it or reads on.
+    fn turn<C: Capture>(&mut self, capture: &mut C) -> Result<Turn, ReadError>
+        ensures turns { IfOk result (λ turn. Turns turn self.old self.new
+            (C.left capture.old) (C.left capture.new)) }
+        ensures counts { IfOk result (λ turn. CountsTurn turn self.old self.new) }
+        ensures limit { self.new.at ≤ limit_of_file }
+        ensures fails { IsErrOf result ReadError.ReadFault
+            → FailsAt self.old (C.left capture.old) (C.left capture.new) }
+        ensures fault { IsErrOf result ReadError.ReadFault
+            → Rose (C.faults capture.old) (C.faults capture.new) }
+        ensures took { TakesFew self.old (C.left capture.old) (C.left capture.new) }
+        ensures spent { IsErrOf result ReadError.Spent → ⊥ }
+        ensures asked { C.asked capture.new ≡ C.asked capture.old }
+        ensures refused { C.refused capture.new ≡ C.refused capture.old }
+        ensures begun { C.begun capture.new ≡ C.begun capture.old }
+        ensures missed { C.missed capture.new ≡ C.missed capture.old }
+        ensures faults_stay { C.faults capture.old ≤ C.faults capture.new }
+    {
+        match look(&mut self.kind, &mut self.sections, self.held.bytes())? {
+            BlockStep::Need(need) => self.need_more(capture, need),
+            BlockStep::Bad(reason) => Ok(Turn::Next(NextFrame::End(damage_at(self.at, reason)))),
+            BlockStep::Item(found) => {
+                let frame = self.frame(self.number, &found)?;
+                self.number += 1;
+                self.at += found.end;
+                self.held.pass(found.end);
+                Ok(Turn::Next(NextFrame::Frame(frame)))
+            }
+            BlockStep::Skipped(size) => {
+                self.at += size;
+                self.held.pass(size);
+                Ok(Turn::Again)
+            }
+        }
+    }
+
+    /// The next frame, or how the file ends.
+    pub fn take_next<C: Capture>(&mut self, capture: &mut C) -> Result<NextFrame, ReadError>
+        ensures finds { IfOk result (λ next. Finds next self.old self.new
+            (C.left capture.old) (C.left capture.new)) }
+        ensures counts { IfOk result (λ next. CountsNext next self.old self.new) }
+        ensures limit { self.new.at ≤ limit_of_file }
+        ensures fails { IsErrOf result ReadError.ReadFault
+            → FailsAt self.old (C.left capture.old) (C.left capture.new) }
+        ensures fault { IsErrOf result ReadError.ReadFault
+            → Rose (C.faults capture.old) (C.faults capture.new) }
+        ensures took { TakesFew self.old (C.left capture.old) (C.left capture.new) }
+        ensures spent { IsErrOf result ReadError.Spent → ⊥ }
+        ensures asked { C.asked capture.new ≡ C.asked capture.old }
+        ensures refused { C.refused capture.new ≡ C.refused capture.old }
+        ensures begun { C.begun capture.new ≡ C.begun capture.old }
+        ensures missed { C.missed capture.new ≡ C.missed capture.old }
+        ensures faults_stay { C.faults capture.old ≤ C.faults capture.new }
+    {
+        loop {
+            match self.turn(capture) {
+                Ok(Turn::Next(next)) => return Ok(next),
+                Ok(Turn::Again) => {}
+                Err(error) => return Err(error),
+            }
+        }
+    }
+}
+
+// Makes room for reads, where there is none.
+fn make_room(alloc: Global, room: &mut Vec<u8>) -> Result<(), NoMemory>
+    requires { length room.old.items ≤ 2 ^ 16 }
+    ensures some { OnOk result (0 < length room.new.items) }
+    ensures most { length room.new.items ≤ 2 ^ 16 }
+{
+    if room.is_empty() {
+        let size = read_size();
+        *room = vec![in alloc; 0; size]?;
+    }
+    Ok(())
 }

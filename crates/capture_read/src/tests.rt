@@ -1,5 +1,8 @@
-use crate::{Damage, Ending, HeldFrames, NextFrame, frames};
+ghost use Rattle.std.specs.Prelude.{◌≤◌};
+
+use crate::{Damage, Ending, Frame, FrameReader, HeldFrames, NextFrame, ReadError, frames};
 use pk_base::{NoMemory, Octets, Reason};
+use pk_outside::{Capture, MemoryCapture, NamedFile};
 use std::alloc::{AllocError, Global};
 use std::test::Fail;
 
@@ -323,5 +326,128 @@ fn longer_block_than_the_file_is_cut(rt: HostRuntime) -> Result<(), Fail> {
     let head = [11, 0, 0, 0, 0, 0, 0, 0x10];
     let cut = read(rt.alloc(), &[&SECTION, &head, &[0; 64]])?;
     assert_eq!(rt; cut, (0, damage(28, Reason::BlockCut)));
+    Ok(())
+}
+
+/// A capture that has begun a file of these bytes, of which a read gives at most `step`. The call
+/// of this number fails: the first one is `begin`.
+fn begun(
+    alloc: Global,
+    bytes: &[u8],
+    step: usize,
+    failing: u64,
+) -> Result<MemoryCapture, AllocError>
+    requires { 1 ≤ step }
+{
+    let mut files = Vec::new(alloc);
+    files.push(NamedFile::new(String::from_str(alloc, "f")?, bytes.to_vec(alloc)?))?;
+    let mut capture = MemoryCapture::new(files, [failing].to_vec(alloc)?, step);
+    // A name that isn't known would leave nothing to read.
+    let _ = capture.begin(String::from_str(alloc, "f")?);
+    Ok(capture)
+}
+
+/// The first frames that a reader answers, and how it ends.
+fn read_on(
+    alloc: Global,
+    capture: &mut MemoryCapture,
+) -> Result<(Vec<Frame>, Result<Ending, ReadError>), AllocError> {
+    let mut reader = FrameReader::new(alloc);
+    let mut list = Vec::new(alloc);
+    for _ in 0..9 {
+        match reader.next_frame(capture) {
+            Ok(NextFrame::Frame(frame)) => list.push(frame)?,
+            Ok(NextFrame::End(ending)) => return Ok((list, Ok(ending))),
+            Err(error) => return Ok((list, Err(error))),
+        }
+    }
+    Ok((list, Err(ReadError::Spent)))
+}
+
+fn is_same(one: &Frame, other: &Frame) -> bool {
+    one.number == other.number
+        && one.time == other.time
+        && one.link == other.link
+        && one.little == other.little
+        && one.original == other.original
+        && one.bytes.bytes() == other.bytes.bytes()
+}
+
+/// Whether reads of so many bytes give the same frames and ending as the file at once.
+fn reads_alike(alloc: Global, file: &[u8], step: usize) -> Result<bool, NoMemory>
+    requires { 1 ≤ step }
+{
+    let (all, ending) = frames(alloc, file)?;
+    let (read, end) = read_on(alloc, &mut begun(alloc, file, step, 0)?)?;
+    let mut same = end == Ok(ending) && read.len() == all.slice().len();
+    for (one, other) in read.iter().zip(all.slice()) {
+        same = same && is_same(one, other);
+    }
+    Ok(same)
+}
+
+fn front(bytes: &[u8], most: usize) -> &[u8] {
+    &bytes[..most.min(bytes.len())]
+}
+
+#[test]
+fn reads_of_any_size_give_the_same_frames(rt: HostRuntime) -> Result<(), Fail> {
+    let alloc = rt.alloc();
+    let pcap = joined(alloc, &[&LITTLE, &RECORD, &RECORD, &RECORD])?;
+    let pcapng = joined(
+        alloc,
+        &[&BIG_SECTION, &BIG_ETHERNET, &BIG_PACKET, &BIG_UNKNOWN],
+    )?;
+    let longer = joined(alloc, &[&pcapng, &SECTION, &ETHERNET, &PACKET, &PACKET])?;
+    let files = [
+        pcap.as_slice(),
+        front(&pcap, 80),
+        front(&pcap, 23),
+        &longer,
+        front(&longer, 150),
+        front(&longer, 11),
+        &[],
+    ];
+    for file in files {
+        assert!(rt; reads_alike(alloc, file, 1)?);
+        assert!(rt; reads_alike(alloc, file, 7)?);
+        assert!(rt; reads_alike(alloc, file, 65_536)?);
+    }
+    Ok(())
+}
+
+#[test]
+fn frames_before_a_failed_read_are_answered(rt: HostRuntime) -> Result<(), Fail> {
+    let alloc = rt.alloc();
+    let file = joined(alloc, &[&LITTLE, &RECORD, &RECORD, &RECORD])?;
+    // The size of a read, the number of the call that fails, and the frames before it.
+    let rows = [(7, 2, 0), (7, 9, 1), (7, 11, 2), (7, 14, 3), (65_536, 3, 3)];
+    for (step, failing, count) in rows {
+        let (read, end) = read_on(alloc, &mut begun(alloc, &file, step, failing)?)?;
+        assert_eq!(rt; (read.len(), end), (count, Err(ReadError::ReadFault)));
+    }
+    Ok(())
+}
+
+/// What a reader answers at the first call, and at the second.
+fn two_answers(
+    reader: &mut FrameReader,
+    capture: &mut MemoryCapture,
+) -> (Result<NextFrame, ReadError>, Result<NextFrame, ReadError>) {
+    let first = reader.next_frame(capture);
+    (first, reader.next_frame(capture))
+}
+
+#[test]
+fn end_is_answered_again_and_an_error_but_once(rt: HostRuntime) -> Result<(), Fail> {
+    let alloc = rt.alloc();
+    let mut capture = begun(alloc, &LITTLE, 24, 0)?;
+    let (first, again) = two_answers(&mut FrameReader::new(alloc), &mut capture);
+    assert!(rt; matches!(&first, Ok(NextFrame::End(Ending::Whole))));
+    assert!(rt; matches!(&again, Ok(NextFrame::End(Ending::Whole))));
+    let mut faulty = begun(alloc, &LITTLE, 24, 2)?;
+    let (fault, spent) = two_answers(&mut FrameReader::new(alloc), &mut faulty);
+    assert!(rt; matches!(&fault, Err(ReadError::ReadFault)));
+    assert!(rt; matches!(&spent, Err(ReadError::Spent)));
     Ok(())
 }

@@ -2,7 +2,7 @@
 use Rattle.std.proofs.Common.{◌≡◌, ◌≤◌, ◌+◌, ℕ, List, [], ◌++◌, length, Option, length-append, arith}
 use Rattle.std.specs.Io.KnownBytes.{Consumes}
 use Rattle.std.proofs.KnownBytes.{Consumes-nil, Consumes-trans}
-use Rattle.shark_run.specs.Taken.{TookAtMost}
+use Rattle.capture_read.specs.Taken.{TookAtMost}
 
 pub took_none : (most : ℕ) (old new : Option (List ℕ)) → new ≡ old → TookAtMost most old new
 took_none most old new kept = ([], rw kept (Consumes-nil old), omega arith)
