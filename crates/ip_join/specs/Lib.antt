@@ -3,5 +3,5 @@ pub mod Keys
 pub mod KeyOrder
 pub mod Datagrams
 pub mod Stands
-pub mod FramesAside
+pub mod Renumbered
 pub mod Kept

@@ -6,7 +6,7 @@ ghost use Rattle.ip_join.specs.declared.key.Key.{Key as KeyValue};
 ghost use Rattle.ip_join.specs.KeyOrder.{key_cmp};
 ghost use Rattle.ip_join.specs.Stands.{Stands, joined_by, of_key};
 ghost use Rattle.ip_join.specs.Datagrams.{IsShort};
-ghost use Rattle.ip_join.specs.FramesAside.{unframed, frames_aside};
+ghost use Rattle.ip_join.specs.Renumbered.{renumbered, answer_renumbered};
 
 use crate::fragment::Fragment;
 use crate::joined::Joined;
@@ -52,10 +52,10 @@ impl Joins {
         ensures isolated { IfOk result (λ joined. (past others : List FragmentValue) → Stands past self.old
             → of_key head.now past ≡ of_key head.now others
             → joined ≡ joined_by others (record { head = head.now; frame = frame; bytes = payload.now })) }
-        // and whatever the numbers of the frames, but for those in the answer
-        ensures renumbered { IfOk result (λ joined. (past others : List FragmentValue) (number : ℕ) → Stands past self.old
-            → map unframed (of_key head.now past) ≡ map unframed (of_key head.now others)
-            → frames_aside joined ≡ frames_aside (joined_by others (record { head = head.now; frame = number; bytes = payload.now }))) }
+        // and whatever the numbers of the frames: the answer names each frame by the place of its fragment
+        ensures renumbered { IfOk result (λ joined. (past others : List FragmentValue) (one other : ℕ → ℕ) (number : ℕ) → Stands past self.old
+            → map (renumbered one) (of_key head.now past) ≡ map (renumbered other) (of_key head.now others) → one frame ≡ other number
+            → answer_renumbered one joined ≡ answer_renumbered other (joined_by others (record { head = head.now; frame = number; bytes = payload.now }))) }
         ensures short { IfOk result (λ joined. IsShort joined) }
     {
         self.join(Fragment {

@@ -2,9 +2,9 @@ use Rattle.std.proofs.Common.{◌≡◌, ℕ, List, IfOk, subst, refl, ap, ◌�
 use Rattle.std.proofs.lemmas.Result.{IfOk-weaker}
 use Rattle.ip_join.specs.declared.fragment.Fragment.{Fragment}
 use Rattle.ip_join.specs.Stands.{Stands, joined_by}
-use Rattle.ip_join.specs.FramesAside.{frames_aside}
+use Rattle.ip_join.specs.Renumbered.{answer_renumbered}
 use Rattle.ip_join.proofs.StandsLemmas.{joined_by-of_key}
-use Rattle.ip_join.proofs.FramesAsideLemmas.{joined_by-aside}
+use Rattle.ip_join.proofs.RenumberedLemmas.{joined_by-renumbered}
 use Rattle.ip_join.proofs.joins.Joins.take.Goals as goal
 
 pub returns-clause-isolated : goal.returns-clause-isolated
@@ -17,6 +17,7 @@ pub returns-clause-renumbered : goal.returns-clause-renumbered
 returns-clause-renumbered c =
     let same : c.in_ok-clone.field-0 ≡ c.args.payload.now = c.in_ok-clone.ensures.cases in
     let joined = subst (λ (b : List ℕ). IfOk c.join.result (λ j. (past : List Fragment) → Stands past c.args.self.now → j ≡ joined_by past (record { head = c.args.head.now; frame = c.args.frame; bytes = b }))) same c.join.ensures.joined in
-    IfOk-weaker c.join.result _ _ (λ j is past others number stands alike.
-    ap frames_aside (is past stands)
-    ∙ joined_by-aside past others (record { head = c.args.head.now; frame = c.args.frame; bytes = c.args.payload.now }) (record { head = c.args.head.now; frame = number; bytes = c.args.payload.now }) refl refl alike) joined
+    IfOk-weaker c.join.result _ _ (λ j is past others one other number stands alike frames.
+    ap (answer_renumbered one) (is past stands)
+    ∙ joined_by-renumbered one other past others (record { head = c.args.head.now; frame = c.args.frame; bytes = c.args.payload.now }) (record { head = c.args.head.now; frame = number; bytes = c.args.payload.now })
+    (ap (λ (n : ℕ). let g : Fragment = record { head = c.args.head.now; frame = n; bytes = c.args.payload.now } in g) frames) refl alike) joined
