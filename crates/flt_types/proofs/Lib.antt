@@ -1,7 +1,7 @@
 pub mod Answers
-pub mod Chains
 pub mod Clear
 pub mod Few
 pub mod HaveTypes
+pub mod OpenParts
 pub mod Sure
 pub mod Unique

@@ -1,9 +1,9 @@
 pub mod Asked
-pub mod Chains
 pub mod Faults
 pub mod Laws
 pub mod Layers
 pub mod Literals
+pub mod Parts
 pub mod Ranges
 pub mod Terms
 pub mod Texts

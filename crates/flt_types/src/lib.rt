@@ -9,6 +9,7 @@ mod laws;
 mod layers;
 mod literals;
 mod operand;
+mod parts;
 mod ranges;
 mod sets;
 mod typed;

@@ -13,6 +13,8 @@ use Rattle.flt_parse.proofs.Faults.{never_both, one_fault, one_filter}
 use Rattle.flt_pattern.specs.Patterns.{IsNoPattern}
 use Rattle.flt_types.specs.Faults.{Found, At, PatternAt, IsFirst, IsPatternFault, faults}
 use Rattle.flt_types.specs.Texts.{IsFilterFault}
+use Rattle.flt_types.specs.declared.typed.Typed.{Typed}
+use Rattle.flt_mean.proofs.OneMeaning.{one_meaning}
 use Rattle.shark_words.specs.declared.options.Options.{Options}
 use Rattle.shark_words.specs.Options.{options_of}
 use Rattle.shark_run.specs.declared.plan.Plan.{Plan}
@@ -21,7 +23,7 @@ use Rattle.shark_run.specs.declared.plan.Refused.TheVariants as refused
 use Rattle.shark_run.specs.Answers.{is_of_size, IsSure}
 use Rattle.shark_run.specs.Laws.{AreAlike, NeverBoth, OneReason, PlansAreAlike}
 use Rattle.shark_run.specs.Lines.{shown, frame_lines, trees_after, opening, closing, output_of, satisfies}
-use Rattle.shark_run.specs.Plan.{IsFaultAsked, IsPlan, IsPlanFor, IsRefusal, IsRefusalFor}
+use Rattle.shark_run.specs.Plan.{IsFaultAsked, IsFilterAsked, IsPlan, IsPlanFor, IsRefusal, IsRefusalFor}
 use Rattle.shark_run.specs.Reading.{limited, frames_read}
 use Rattle.shark_run.proofs.PlanLemmas.{filter_or_fault, pattern_or_none, refused_not_planned, same_options}
 
@@ -139,14 +141,27 @@ same_read : (one other : Plan) (file : List ℕ) → one.most ≡ other.most →
 unfolding frames_read
 same_read one other file most = ap (λ (m : Option ℕ). limited m (capture_of file)) most
 
+-- the filters of a text let the same trees through
+same_truth : (text : Option (List ℕ)) (one other : Option Typed) (tree : TreeShown) → IsFilterAsked text one → IsFilterAsked text other
+    → satisfies one tree ≡ satisfies other tree
+unfolding satisfies
+same_truth None None None tree is also = refl
+same_truth (Some text) (Some one) (Some other) tree is also = one_meaning text one other tree is also
+same_truth None (Some one) other tree is also = absurd is
+same_truth None None (Some other) tree is also = absurd also
+same_truth (Some text) None other tree is also = absurd is
+same_truth (Some text) (Some one) None tree is also = absurd also
+
 alike_for : (options : Options) (one other : Plan) → IsPlanFor options one → IsPlanFor options other → AreAlike one other
 alike_for options one other is also =
     let both : Ok one.fields ≡ Ok other.fields = sym is.fields ∙ also.fields in
     let fields : one.fields ≡ other.fields = cc both in
+    let truth = λ (tree : TreeShown). same_truth options.filter one.filter other.filter tree is.filter also.filter in
     record {
       name = is.name ∙ sym also.name;
       read = λ file. same_read one other file (is.most ∙ sym also.most);
-      written = λ frames truth. same_output one other frames fields truth;
+      lets = truth;
+      written = λ frames. same_output one other frames fields truth;
     }
 
 pub plans_alike : PlansAreAlike

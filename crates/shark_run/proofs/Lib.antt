@@ -1,3 +1,4 @@
+mod EitherLemmas
 mod FileLemmas
 mod FrontLemmas
 mod LawLemmas

@@ -149,7 +149,7 @@ refused_not_planned words plan (refused.Filter fault) asked is sure = sure (plan
 refused_not_planned words plan (refused.Field name) asked is sure = plan_or_refusal words plan (refused.Field name) asked is
 
 -- names give no other reason than a name
-abbrev IsOfName : Result (List ℕ) Refused → Type 0
+abbrev pub IsOfName : Result (List ℕ) Refused → Type 0
 IsOfName (Ok fields) = Unit {0}
 IsOfName (Err (refused.Field name)) = Unit {0}
 IsOfName (Err reason) = ⊥
@@ -164,7 +164,7 @@ first_alone : (name : List ℕ) (found : Option ℕ) (others : Result (List ℕ)
 first_alone name None others is = tt
 first_alone name (Some field) others is = others_alone field others is
 
-names_alone : (names : List (List ℕ)) → IsOfName (fields_named names)
+pub names_alone : (names : List (List ℕ)) → IsOfName (fields_named names)
 names_alone [] = tt
 names_alone (name ∷ names) = first_alone name (field_named name) (fields_named names) (names_alone names)
 

@@ -1,5 +1,5 @@
 -- What holds of every list of words.
-use Rattle.std.specs.Prelude.{◌≡◌, ℕ, List}
+use Rattle.std.specs.Prelude.{◌≡◌, ◌⊎◌, ℕ, List}
 use Rattle.capture_read.specs.declared.frame.Frame.{Frame}
 use Rattle.pk_tree.specs.Trees.{TreeShown}
 use Rattle.shark_run.specs.declared.plan.Plan.{Plan}
@@ -13,18 +13,21 @@ use Rattle.shark_run.specs.Reading.{frames_read, name_of}
 abbrev pub NeverBoth : Type 0
 NeverBoth = (words : List (List ℕ)) (plan : Plan) (reason : Refused) → IsPlan words plan → IsRefusal words reason → IsSure reason → ⊥
 
+-- words ask for a plan, or have a sure reason to be refused
+abbrev pub PlanOrReason : Type 0
+PlanOrReason = (words : List (List ℕ)) → ((plan : Plan) × IsPlan words plan) ⊎ ((reason : Refused) × IsRefusal words reason × IsSure reason)
+
 -- words have at most one sure reason
 abbrev pub OneReason : Type 0
 OneReason = (words : List (List ℕ)) (one other : Refused) → IsRefusal words one → IsRefusal words other → IsSure one → IsSure other
     → one ≡ other
 
--- two plans name the same file and read the same of it, and write the same over any frames, where their filters let the same
--- trees through
+-- two plans name the same file and read the same of it, let the same trees through, and write the same over any frames
 pub record AreAlike (one other : Plan) : Type 0 where
   pub name : name_of one ≡ name_of other
   pub read : (file : List ℕ) → frames_read one file ≡ frames_read other file
-  pub written : (frames : List Frame) → ((tree : TreeShown) → satisfies one.filter tree ≡ satisfies other.filter tree)
-      → output_of one frames ≡ output_of other frames
+  pub lets : (tree : TreeShown) → satisfies one.filter tree ≡ satisfies other.filter tree
+  pub written : (frames : List Frame) → output_of one frames ≡ output_of other frames
 
 -- all plans of the same words are alike
 abbrev pub PlansAreAlike : Type 0

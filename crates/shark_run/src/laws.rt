@@ -1,9 +1,14 @@
 // What holds of every list of words, stated on functions that do nothing.
-ghost use Rattle.shark_run.specs.Laws.{NeverBoth, OneReason, PlansAreAlike};
+ghost use Rattle.shark_run.specs.Laws.{NeverBoth, OneReason, PlanOrReason, PlansAreAlike};
 
 /// No words ask for a plan and have a sure reason to be refused.
 pub fn plans_are_not_refused()
     ensures { NeverBoth }
+{}
+
+/// Words ask for a plan or have a sure reason to be refused.
+pub fn words_are_planned_or_refused()
+    ensures { PlanOrReason }
 {}
 
 /// Words have at most one sure reason to be refused.

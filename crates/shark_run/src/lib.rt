@@ -15,7 +15,9 @@ mod text;
 mod top;
 mod words;
 
-pub use laws::{plans_are_alike, plans_are_not_refused, reasons_are_unique};
+pub use laws::{
+    plans_are_alike, plans_are_not_refused, reasons_are_unique, words_are_planned_or_refused,
+};
 pub use plan::{FieldList, Plan, Refused};
 pub use status::Status;
 pub use text::Text;

@@ -1,0 +1,80 @@
+-- Words ask for a plan or have a sure reason to be refused.
+use Rattle.std.proofs.Common.{◌≡◌, ◌≢◌, ◌⊎◌, inl, inr, ℕ, Bool, List, Option, None, Some, Result, Ok, Err, IsTrue, refl}
+use Rattle.flt_parse.specs.declared.fault.FilterFault.{FilterFault}
+use Rattle.flt_parse.specs.declared.fault.FilterError.TheVariants.{Fault}
+use Rattle.flt_parse.specs.declared.fault.FilterReason.{FilterReason}
+use Rattle.flt_parse.specs.declared.fault.FilterReason.TheVariants.{PatternSize}
+use Rattle.flt_types.specs.Texts.{IsFilterFault, IsTypedText}
+use Rattle.flt_types.specs.declared.typed.Typed.{Typed}
+use Rattle.flt_types.proofs.Sure.{typed_or_refused}
+use Rattle.shark_words.specs.declared.options.Options.{Options}
+use Rattle.shark_words.specs.declared.fault.WordFault.{WordFault}
+use Rattle.shark_words.specs.Options.{options_of}
+use Rattle.shark_words.specs.Utf8.{name_in}
+use Rattle.shark_run.specs.declared.plan.Plan.{Plan}
+use Rattle.shark_run.specs.declared.plan.Refused.{Refused}
+use Rattle.shark_run.specs.declared.plan.Refused.TheVariants as refused
+use Rattle.shark_run.specs.Answers.{is_of_size, IsSure}
+use Rattle.shark_run.specs.Columns.{fields_named}
+use Rattle.shark_run.specs.Laws.{PlanOrReason}
+use Rattle.shark_run.specs.Plan.{IsFaultAsked, IsFilterAsked, IsPlan, IsPlanFor, IsRefusal, IsRefusalFor}
+use Rattle.shark_run.proofs.PlanLemmas.{IsOfName, names_alone}
+
+-- the filter that is asked for
+abbrev FilterOrFault : Option (List ℕ) → Type 0
+FilterOrFault text =
+    ((filter : Option Typed) × IsFilterAsked text filter) ⊎ ((fault : FilterFault) × IsFaultAsked text fault × (¬ IsTrue (is_of_size fault.reason)))
+
+not_of_size : (reason : FilterReason) → reason ≢ PatternSize → ¬ IsTrue (is_of_size reason)
+not_of_size PatternSize other is = other refl
+not_of_size reason other is = cc
+
+of_text : (text : List ℕ) → ((filter : Typed) × IsTypedText text filter)
+    ⊎ ((fault : FilterFault) × IsFilterFault text (Fault fault) × (fault.reason ≢ PatternSize)) → FilterOrFault (Some text)
+of_text text (inl (filter, is)) = inl (Some filter, is)
+of_text text (inr (fault, is, other)) = inr (fault, is, not_of_size fault.reason other)
+
+filter_asked : (text : Option (List ℕ)) → FilterOrFault text
+filter_asked None = inl (None, tt)
+filter_asked (Some text) = of_text text (typed_or_refused text)
+
+-- the options
+abbrev OptionsAnswered : Options → Type 0
+OptionsAnswered options =
+    ((plan : Plan) × IsPlanFor options plan) ⊎ ((reason : Refused) × IsRefusalFor options reason × IsSure reason)
+
+with_names : (options : Options) (filter : Option Typed) (fields : Result (List ℕ) Refused) → IsFilterAsked options.filter filter
+    → IsOfName fields → fields_named options.names ≡ fields → OptionsAnswered options
+with_names options filter (Ok fields) asked alone is =
+    let plan : Plan = record { name = name_in options.source; filter = filter; fields = fields; most = options.most } in
+    inl (plan, record { name = refl; filter = asked; fields = is; most = refl })
+with_names options filter (Err (refused.Field name)) asked alone is = inr (refused.Field name, ((filter, asked), is), tt)
+with_names options filter (Err reason) asked alone is = absurd alone
+
+with_filter : (options : Options) → FilterOrFault options.filter → OptionsAnswered options
+with_filter options (inl (filter, asked)) = with_names options filter (fields_named options.names) asked (names_alone options.names) refl
+with_filter options (inr (fault, is, sure)) = inr (refused.Filter fault, is, sure)
+
+-- the words
+abbrev Answered : List (List ℕ) → Type 0
+Answered words = ((plan : Plan) × IsPlan words plan) ⊎ ((reason : Refused) × IsRefusal words reason × IsSure reason)
+
+sure_reason : (words : List (List ℕ)) (options : Options) (reason : Refused) → options_of words ≡ Ok options → IsRefusalFor options reason
+    → IsRefusal words reason
+unfolding IsRefusal
+sure_reason words options (refused.Words fault) read is = absurd is
+sure_reason words options (refused.Filter fault) read is = (options, read, is)
+sure_reason words options (refused.Field name) read is = (options, read, is)
+
+with_options : (words : List (List ℕ)) (options : Options) → options_of words ≡ Ok options → OptionsAnswered options → Answered words
+unfolding IsPlan
+with_options words options read (inl (plan, is)) = inl (plan, (options, read, is))
+with_options words options read (inr (reason, is, sure)) = inr (reason, sure_reason words options reason read is, sure)
+
+with_words : (words : List (List ℕ)) (read : Result Options WordFault) → options_of words ≡ read → Answered words
+unfolding IsRefusal
+with_words words (Ok options) is = with_options words options is (with_filter options (filter_asked options.filter))
+with_words words (Err fault) is = inr (refused.Words fault, is, tt)
+
+pub plan_or_reason : PlanOrReason
+plan_or_reason words = with_words words (options_of words) refl
