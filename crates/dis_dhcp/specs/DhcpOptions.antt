@@ -29,11 +29,11 @@
 --    +---------+---------+---------+
 --    |   53    |    1    |  type   |
 --    +---------+---------+---------+
-use Rattle.std.specs.Prelude.{◌==◌, ◌≤◌, ℕ, MatchOption, ◌+◌, ◌/◌, ◌%◌, ◌&&◌, if◌then◌else◌, List, [], ◌∷◌, length, nat_le, slice_index}
+use Rattle.std.specs.Prelude.{◌==◌, ℕ, ◌+◌, ◌/◌, ◌%◌, ◌&&◌, if◌then◌else◌, List, [], ◌∷◌, length, nat_le, slice_index}
 use Rattle.pk_fields.specs.Ids.{DHCP_OPTION_TYPE, DHCP_OPTION_LENGTH, DHCP_OPTION_VALUE, DHCP_OPTION_SUBNET_MASK, DHCP_OPTION_ROUTER, DHCP_OPTION_DOMAIN_NAME_SERVER, DHCP_OPTION_HOSTNAME, DHCP_OPTION_REQUESTED_IP_ADDRESS, DHCP_OPTION_IP_ADDRESS_LEASE_TIME, DHCP_OPTION_DHCP, DHCP_OPTION_DHCP_SERVER_ID}
 use Rattle.pk_tree.specs.declared.layout.Step.{Step}
 use Rattle.pk_tree.specs.declared.layout.Step.TheVariants.{Row, Part}
-use Rattle.pk_tree.specs.Entries.{Entry, goes_on, ends, repeated}
+use Rattle.pk_tree.specs.Entries.{Entry, ReadsTo, goes_on, ends, repeated}
 
 -- one of the addresses of an option
 abbrev pub address : ℕ → ℕ → Entry
@@ -66,10 +66,10 @@ option_at bytes at =
     else (if slice_index bytes at == 255 then ends (Row DHCP_OPTION_TYPE at ∷ [])
     else option_with_length (slice_index bytes at) (slice_index bytes (at + 1)) at))
 
--- a message has fewer options than bytes: these are all of them (ReadsTo)
+-- a message has fewer options than bytes: these are all of them (AllOptions)
 unfoldable pub dhcp_options : List ℕ → Entry
 dhcp_options bytes = repeated (length bytes) (option_at bytes) 240
 
--- reading ends with an entry, or has got to a place or behind it
-abbrev pub ReadsTo : ℕ → Entry → Type 0
-ReadsTo least entry = MatchOption entry.next (Unit {0}) (λ at. least ≤ at)
+-- of a message's options none is left out
+abbrev pub AllOptions : Type 0
+AllOptions = (bytes : List ℕ) → ReadsTo (length bytes) (dhcp_options bytes)

@@ -3,7 +3,7 @@ ghost use Rattle.pk_buffer.specs.Buffers.{IsInside, bytes_of};
 ghost use Rattle.pk_fields.specs.Ids.{DHCP};
 ghost use Rattle.pk_tree.specs.Layouts.{StepFits, StepsFit, layer_read};
 ghost use Rattle.dis_dhcp.specs.Dhcp.{dhcp_layout, dhcp_rows, hardware_address, name_len, room_for};
-ghost use Rattle.dis_dhcp.specs.DhcpOptions.{dhcp_options};
+ghost use Rattle.dis_dhcp.specs.DhcpOptions.{AllOptions, dhcp_options};
 
 use crate::dhcp_options::push_options;
 use pk_base::{NoMemory, Span};
@@ -35,11 +35,12 @@ const FILE_SIZE: usize = 128;
 const MAGIC_COOKIE: u64 = 0x6382_5363;
 
 /// Reads a DHCP message with its options (RFC 2131, 2; RFC 2132). `cut` says that the frame was captured only in part.
-#[tactic(auto, unfolding(pk_fields::specs::Fields::row_of, pk_fields::specs::Table::rows))]
+#[tactic(auto, using(crate::proofs::OptionBound::options_reach), unfolding(pk_fields::specs::Fields::row_of, pk_fields::specs::Table::rows))]
 pub fn read_dhcp(span: Span, cut: bool, b: &mut TreeBuilder) -> Result<(), NoMemory>
     requires inside { IsInside b.old.buffers span }
     requires room { length b.old.layers + 2 < 2 ^ 32 }
     ensures layer { IfOk result (λ _. b.new ≡ layer_read b.old DHCP span (dhcp_layout (bytes_of b.old.buffers span)) Mode.Plain cut) }
+    ensures options { AllOptions }
     ensures buffers { b.new.buffers ≡ b.old.buffers }
     ensures some { OnOk result (0 < length b.new.layers) }
     ensures most { OnOk result (length b.new.layers ≤ length b.old.layers + 2) }

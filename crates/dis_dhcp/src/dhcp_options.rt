@@ -1,6 +1,6 @@
 ghost use Rattle.std.specs.Prelude.{◌≡◌, ℕ, ◌+◌, ◌*◌, ◌/◌, ◌<◌, ◌≤◌, ◌^◌, ◌++◌, length, slice_index_or, IfOk, OnOk};
 ghost use Rattle.pk_tree.specs.Entries.{Adds, goes_on, repeated};
-ghost use Rattle.dis_dhcp.specs.DhcpOptions.{ReadsTo, address, dhcp_options, option_at, option_data, option_with_length};
+ghost use Rattle.dis_dhcp.specs.DhcpOptions.{address, dhcp_options, option_at, option_data, option_with_length};
 
 use pk_base::NoMemory;
 use pk_fields::{FieldId, ids};
@@ -36,10 +36,8 @@ const HEAD: usize = 2;
 const ADDRESS: usize = 4;
 
 /// Adds the steps of a message's options.
-#[tactic(auto, using(crate::proofs::OptionBound::options_reach))]
 pub(crate) fn push_options(steps: &mut Vec<Step>, bytes: &[u8]) -> Result<(), NoMemory>
-    ensures steps { OnOk result (steps.new.items ≡ steps.old.items ++ (dhcp_options bytes.now).steps) }
-    ensures all { ReadsTo (length bytes.now) (dhcp_options bytes.now) }
+    ensures { OnOk result (steps.new.items ≡ steps.old.items ++ (dhcp_options bytes.now).steps) }
 {
     let mut at = OPTIONS;
     for _option in 0..bytes.len() {

@@ -57,14 +57,14 @@ text_fits : (field at len : ℕ) (text : List ℕ) → IsTrue (belongs DNS field
 unfolding StepsFit
 text_fits field at len text own kind = ((own, rw kind tt), tt)
 
-name_of_fits : (base field place : ℕ) (read : NameEnd × List ℕ) → IsTrue (belongs DNS field) → (row_of field).kind ≡ kinds.Text → StepsFit DNS (name_of base field place read).steps
-name_of_fits base field place (Name after, text) own kind = text_fits field (base + place) (after - place) (shown_name text) own kind
-name_of_fits base field place (Leaves, text) own kind = room_fits false [] none_fit
-name_of_fits base field place (Fails, text) own kind = check_fits
+name_of_fits : (base field place : ℕ) (end : NameEnd) (text : List ℕ) → IsTrue (belongs DNS field) → (row_of field).kind ≡ kinds.Text → StepsFit DNS (name_of base field place end text).steps
+name_of_fits base field place (Name after) text own kind = text_fits field (base + place) (after - place) (shown_name text) own kind
+name_of_fits base field place Leaves text own kind = room_fits false [] none_fit
+name_of_fits base field place Fails text own kind = check_fits
 
 name_fits : (base : ℕ) (bytes : List ℕ) (field end place : ℕ) → IsTrue (belongs DNS field) → (row_of field).kind ≡ kinds.Text → StepsFit DNS (name_entry base bytes field end place).steps
 unfolding name_entry
-name_fits base bytes field end place own kind = name_of_fits base field place (name_at bytes end place) own kind
+name_fits base bytes field end place own kind = name_of_fits base field place (name_at bytes end place).0 (name_at bytes end place).1 own kind
 
 question_fits : (base : ℕ) (bytes : List ℕ) (at : ℕ) → StepsFit DNS (question base bytes at).steps
 unfolding question row_of rows

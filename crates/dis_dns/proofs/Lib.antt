@@ -1,4 +1,6 @@
 pub mod ChainLemmas
+pub mod CollectedLemmas
 pub mod DnsFits
 pub mod NameLaw
 pub mod NameLemmas
+pub mod TextLemmas

@@ -1,4 +1,6 @@
 pub mod Chains
+pub mod Collected
 pub mod Dns
 pub mod Names
 pub mod Records
+pub mod Texts

@@ -34,15 +34,15 @@ shown_name (letter ∷ text) = letter ∷ text
 
 -- a name that ends so, with the text of its labels: its item spans its first run; a run that goes past its end is a row
 -- that doesn't fit, and what else is no name a condition that fails
-abbrev pub name_of : ℕ → ℕ → ℕ → NameEnd × List ℕ → Entry
-name_of base field place (Name after, text) =
+abbrev pub name_of : ℕ → ℕ → ℕ → NameEnd → List ℕ → Entry
+name_of base field place (Name after) text =
     goes_on (Derived field (values.Text (shown_name text)) (base + place) (after - place) ∷ []) after
-name_of base field place (Leaves, text) = ends (Room false ∷ [])
-name_of base field place (Fails, text) = ends (Check false ∷ [])
+name_of base field place Leaves text = ends (Room false ∷ [])
+name_of base field place Fails text = ends (Check false ∷ [])
 
 -- the name at a place, whose first run may not go past an end
 unfoldable pub name_entry : ℕ → List ℕ → ℕ → ℕ → ℕ → Entry
-name_entry base bytes field end place = name_of base field place (name_at bytes end place)
+name_entry base bytes field end place = name_of base field place (name_at bytes end place).0 (name_at bytes end place).1
 
 abbrev pub question_tail : ℕ → ℕ → Entry
 question_tail base at =

@@ -1,22 +1,23 @@
 ghost use Rattle.std.specs.Prelude.{◌≡◌, ℕ, ◌+◌, ◌<◌, ◌≤◌, ◌^◌, ◌++◌, length, drop, IfOk, IfSome, OnOk};
 ghost use Rattle.pk_buffer.specs.Buffers.{IsInside, bytes_of};
 ghost use Rattle.pk_fields.specs.Ids.{DNS};
-ghost use Rattle.pk_tree.specs.Entries.{Adds, repeated};
+ghost use Rattle.pk_tree.specs.Entries.{repeated};
 ghost use Rattle.pk_tree.specs.Layouts.{layer_read};
 ghost use Rattle.dis_dns.specs.Chains.{AreChainEnds};
+ghost use Rattle.dis_dns.specs.Collected.{HoldsSteps, Takes, with_steps};
 ghost use Rattle.dis_dns.specs.Dns.{dns_layout, header_rows, message_steps, record_count, sections};
 ghost use Rattle.dis_dns.specs.Names.{ReadsNames};
 ghost use Rattle.dis_dns.specs.Records.{question, resource, word_at};
+ghost use Rattle.dis_dns.specs.Texts.{AllStrings};
 
 use crate::chains::chain_ends;
 use crate::records::{Message, push_question, push_record, word_at};
+use crate::steps::{Steps, Taken};
 use pk_base::{NoMemory, Span};
 use pk_fields::ids;
-use pk_tree::{Mode, Step, TreeBuilder, read_layer};
+use pk_tree::{Mode, Step, TreeBuilder, pass_layer, read_layer};
 use std::alloc::Global;
 
-/// How many steps a message has room for from the start: a header, a question and some records.
-const FEW_STEPS: usize = 64;
 /// The bytes of a header.
 const HEADER: usize = 12;
 /// The bytes of the length before a message in a stream.
@@ -30,44 +31,59 @@ pub fn read_dns(span: Span, prefixed: bool, cut: bool, b: &mut TreeBuilder) -> R
     requires room { length b.old.layers + 2 < 2 ^ 32 }
     ensures layer { IfOk result (λ _. b.new ≡ layer_read b.old DNS span (dns_layout prefixed (bytes_of b.old.buffers span)) Mode.Plain cut) }
     ensures names { ReadsNames }
+    ensures texts { AllStrings }
     ensures buffers { b.new.buffers ≡ b.old.buffers }
     ensures some { OnOk result (0 < length b.new.layers) }
     ensures most { OnOk result (length b.new.layers ≤ length b.old.layers + 2) }
 {
-    let steps = dns_steps(b.alloc(), prefixed, b.bytes(span))?;
-    read_layer(b, ids::DNS, span, &steps, Mode::Plain, cut)?;
-    Ok(())
+    match dns_steps(b, prefixed, b.bytes(span))? {
+        Taken::List(steps) => {
+            read_layer(b, ids::DNS, span, &steps, Mode::Plain, cut)?;
+            Ok(())
+        }
+        Taken::Reach(reach) => {
+            pass_layer(b, ids::DNS, span, reach, Mode::Plain, cut)?;
+            Ok(())
+        }
+    }
 }
 
-#[tactic(auto, unfolding(crate::specs::Dns::dns_layout))]
-fn dns_steps(alloc: Global, prefixed: bool, bytes: &[u8]) -> Result<Vec<Step>, NoMemory>
+/// The steps of a layer that has these bytes, or how far they are read where no field of it is wanted.
+fn dns_steps(tree: &TreeBuilder, prefixed: bool, bytes: &[u8]) -> Result<Taken, NoMemory>
     requires { length bytes.now < 2 ^ 32 }
-    ensures { IfOk result (λ steps. steps.items ≡ dns_layout prefixed bytes.now) }
+    ensures { IfOk result (λ taken. HoldsSteps tree.now.wanted DNS (length bytes.now) (dns_layout prefixed bytes.now) taken) }
 {
-    let mut steps = Vec::with_capacity(alloc, FEW_STEPS)?;
+    let mut steps = Steps::new(tree, ids::DNS, bytes.len())?;
+    push_layer(tree.alloc(), &mut steps, prefixed, bytes)?;
+    Ok(steps.finish())
+}
+
+#[tactic(auto, unfolding(crate::specs::Dns::dns_layout, crate::specs::Collected::with_steps))]
+fn push_layer(
+    alloc: Global,
+    steps: &mut Steps,
+    prefixed: bool,
+    bytes: &[u8],
+) -> Result<(), NoMemory>
+    requires { length bytes.now < 2 ^ 32 }
+    ensures { OnOk result (steps.new ≡ with_steps steps.old (dns_layout prefixed bytes.now)) }
+{
     if !prefixed {
         let base = 0;
-        push_message(alloc, &mut steps, bytes, base)?;
-        return Ok(steps);
+        return push_message(alloc, steps, bytes, base);
     }
     steps.push(Step::Row(ids::DNS_LENGTH, 0))?;
     let bytes = behind_prefix(bytes);
     let base = PREFIX;
-    push_message(alloc, &mut steps, bytes, base)?;
-    Ok(steps)
+    push_message(alloc, steps, bytes, base)
 }
 
 /// Adds the steps of a message before which its layer has so many bytes.
-#[tactic(auto, unfolding(crate::specs::Dns::message_steps))]
-fn push_message(
-    alloc: Global,
-    steps: &mut Vec<Step>,
-    bytes: &[u8],
-    base: usize,
-) -> Result<(), NoMemory>
+#[tactic(auto, using(crate::proofs::CollectedLemmas::with_steps_append), unfolding(crate::specs::Dns::message_steps))]
+fn push_message(alloc: Global, steps: &mut Steps, bytes: &[u8], base: usize) -> Result<(), NoMemory>
     requires base { base ≤ 2 }
     requires short { length bytes.now < 2 ^ 32 }
-    ensures { OnOk result (steps.new.items ≡ steps.old.items ++ message_steps base bytes.now) }
+    ensures { OnOk result (steps.new ≡ with_steps steps.old (message_steps base bytes.now)) }
 {
     let ends = chain_ends(alloc, bytes)?;
     let message = Message {
@@ -89,10 +105,10 @@ fn behind_prefix(bytes: &[u8]) -> &[u8]
 }
 
 /// Adds the rows of the header of a message before which its layer has so many bytes.
-#[tactic(auto, unfolding(crate::specs::Dns::header_rows))]
-fn push_header(steps: &mut Vec<Step>, base: usize) -> Result<(), NoMemory>
+#[tactic(auto, unfolding(crate::specs::Dns::header_rows, crate::specs::Collected::with_steps))]
+fn push_header(steps: &mut Steps, base: usize) -> Result<(), NoMemory>
     requires { base ≤ 2 }
-    ensures { OnOk result (steps.new.items ≡ steps.old.items ++ header_rows base) }
+    ensures { OnOk result (steps.new ≡ with_steps steps.old (header_rows base)) }
 {
     steps.push(Step::Row(ids::DNS_ID, base))?;
     steps.push(Step::Row(ids::DNS_FLAGS, base + 2))?;
@@ -114,12 +130,12 @@ fn push_header(steps: &mut Vec<Step>, base: usize) -> Result<(), NoMemory>
 }
 
 /// Adds the steps of a message's questions and records.
-#[tactic(auto, unfolding(crate::specs::Dns::sections))]
-fn push_sections(steps: &mut Vec<Step>, message: &Message) -> Result<(), NoMemory>
+#[tactic(auto, using(crate::proofs::CollectedLemmas::with_steps_append), unfolding(crate::specs::Dns::sections))]
+fn push_sections(steps: &mut Steps, message: &Message) -> Result<(), NoMemory>
     requires chains { AreChainEnds message.now.bytes.now message.now.chain_ends.now }
     requires base { message.now.base ≤ 2 }
     requires short { length message.now.bytes.now < 2 ^ 32 }
-    ensures { OnOk result (steps.new.items ≡ steps.old.items ++ (sections message.now.base message.now.bytes.now).steps) }
+    ensures { OnOk result (steps.new ≡ with_steps steps.old (sections message.now.base message.now.bytes.now).steps) }
 {
     let questions = word_at(message.bytes, 4);
     let Some(at) = push_questions(steps, message, questions, HEADER)? else {
@@ -139,7 +155,7 @@ fn record_count(bytes: &[u8]) -> usize
 
 /// Adds the steps of at most so many questions from a place on, and answers where the records are.
 fn push_questions(
-    steps: &mut Vec<Step>,
+    steps: &mut Steps,
     message: &Message,
     count: usize,
     at: usize,
@@ -148,7 +164,7 @@ fn push_questions(
     requires base { message.now.base ≤ 2 }
     requires short { length message.now.bytes.now < 2 ^ 32 }
     requires place { at < 2 ^ 33 }
-    ensures adds { IfOk result (Adds steps.old.items steps.new.items (repeated count (question message.now.base message.now.bytes.now) at)) }
+    ensures adds { IfOk result (Takes steps.old steps.new (repeated count (question message.now.base message.now.bytes.now) at)) }
     ensures bound { IfOk result (λ next. IfSome next (λ place. place < 2 ^ 33)) }
 {
     let mut place = at;
@@ -163,7 +179,7 @@ fn push_questions(
 
 /// Adds the steps of at most so many records from a place on.
 fn push_records(
-    steps: &mut Vec<Step>,
+    steps: &mut Steps,
     message: &Message,
     count: usize,
     at: usize,
@@ -172,7 +188,7 @@ fn push_records(
     requires base { message.now.base ≤ 2 }
     requires short { length message.now.bytes.now < 2 ^ 32 }
     requires place { at < 2 ^ 33 }
-    ensures { OnOk result (steps.new.items ≡ steps.old.items ++ (repeated count (resource message.now.base message.now.bytes.now) at).steps) }
+    ensures { OnOk result (steps.new ≡ with_steps steps.old (repeated count (resource message.now.base message.now.bytes.now) at).steps) }
 {
     let mut place = at;
     for _record in 0..count {

@@ -6,6 +6,7 @@ mod chains;
 mod dns;
 mod names;
 mod records;
+mod steps;
 #[cfg(test)]
 mod tests;
 

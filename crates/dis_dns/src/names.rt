@@ -1,5 +1,5 @@
 ghost use Rattle.dis_dns.specs.Chains.{AreChainEnds, moved_to};
-ghost use Rattle.std.specs.Prelude.{◌≡◌, ℕ, ◌+◌, ◌-◌, ◌*◌, ◌<◌, ◌≤◌, ◌^◌, [], length, slice_index, slice_range, IfOk, OnOk};
+ghost use Rattle.std.specs.Prelude.{◌≡◌, ℕ, ◌+◌, ◌-◌, ◌*◌, ◌<◌, ◌≤◌, ◌^◌, true, [], length, slice_index, slice_range, IfOk, OnOk};
 ghost use Rattle.dis_dns.specs.Names.{EndsIn, IsWalkIn, TurnFits, after_or, dotted, label_turn, left_by, name_at, pointer_turn, target_at, turn_of, turns_left};
 
 use pk_base::{LABEL_LIMIT, NAME_LIMIT};
@@ -49,19 +49,21 @@ pub(crate) enum Turn {
 }
 
 /// Reads the name at a place of a message, whose first run may not go past `end`. `text` has its labels then, joined by
-/// dots.
+/// dots, where it is `shown`.
 pub(crate) fn read_name(
     bytes: &[u8],
     chain_ends: &[u16],
     end: usize,
     place: usize,
+    shown: bool,
     text: &mut Vec<u8>,
 ) -> Result<NameEnd, AllocError>
     requires chains { AreChainEnds bytes.now chain_ends.now }
     requires end { end ≤ length bytes.now }
     requires place { place < 2 ^ 40 }
     requires none { text.old.items ≡ [] }
-    ensures value { IfOk result (λ end_is. (end_is, text.new.items) ≡ name_at bytes.now end place) }
+    ensures value { IfOk result (λ name. name ≡ (name_at bytes.now end place).0) }
+    ensures text { OnOk result (shown ≡ true → text.new.items ≡ (name_at bytes.now end place).1) }
     ensures bound { IfOk result (EndsIn place (length bytes.now)) }
 {
     let mut walk = Walk {
@@ -74,7 +76,8 @@ pub(crate) fn read_name(
     for _turn in 0..NAME_TURNS {
         match next_turn(bytes, walk) {
             Turn::Label(len, next) => {
-                push_label(text, &bytes[walk.place + 1..walk.place + 1 + len])?;
+                let label = &bytes[walk.place + 1..walk.place + 1 + len];
+                push_label(text, label, shown)?;
                 walk = next;
             }
             Turn::Jump(next) => walk = at_chain_end(chain_ends, next),
@@ -97,10 +100,13 @@ fn at_chain_end(ends: &[u16], walk: Walk) -> Walk
     }
 }
 
-/// Adds a label to a name's text, behind a dot where it isn't the first.
-fn push_label(text: &mut Vec<u8>, label: &[u8]) -> Result<(), AllocError>
-    ensures { OnOk result (text.new.items ≡ dotted text.old.items label.now) }
+/// Adds a label to a name's text that is shown, behind a dot where it isn't the first.
+fn push_label(text: &mut Vec<u8>, label: &[u8], shown: bool) -> Result<(), AllocError>
+    ensures { OnOk result (shown ≡ true → text.new.items ≡ dotted text.old.items label.now) }
 {
+    if !shown {
+        return Ok(());
+    }
     if !text.is_empty() {
         text.push(DOT)?;
     }

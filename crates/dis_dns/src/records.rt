@@ -1,12 +1,15 @@
-ghost use Rattle.std.specs.Prelude.{◌≡◌, ℕ, Some, ◌+◌, ◌-◌, ◌*◌, ◌<◌, ◌≤◌, ◌^◌, ◌++◌, length, min, IfOk, IfSome, OnOk};
-ghost use Rattle.pk_tree.specs.Entries.{Adds, repeated};
+ghost use Rattle.std.specs.Prelude.{◌≡◌, ℕ, true, false, [], Some, ◌+◌, ◌-◌, ◌*◌, ◌<◌, ◌≤◌, ◌^◌, ◌++◌, length, min, IfOk, IfSome, OnOk};
+ghost use Rattle.pk_tree.specs.Entries.{repeated};
 ghost use Rattle.dis_dns.specs.Chains.{AreChainEnds};
+ghost use Rattle.dis_dns.specs.Collected.{Takes, with_steps};
+ghost use Rattle.dis_dns.specs.Names.{EndsIn, name_at};
 ghost use Rattle.dis_dns.specs.Records.{data_row, data_steps, mail_data, name_entry, question, record_head, record_tail, resource, shown_name, text_string, word_at, zone_data, zone_numbers};
 
 use crate::names::{NameEnd, read_name};
+use crate::steps::Steps;
 use pk_base::{NAME_LIMIT, NoMemory, Octets};
 use pk_fields::{FieldId, ids};
-use pk_tree::{Step, Value, peek};
+use pk_tree::{Step, peek};
 use std::alloc::Global;
 
 /// The types of records whose data is read (RFC 1035, 3.2.2; RFC 3596, 2.1).
@@ -48,9 +51,9 @@ pub(crate) fn word_at(bytes: &[u8], at: usize) -> usize
 }
 
 /// Adds the steps of the question at a place, and answers where the next one is.
-#[tactic(auto, unfolding(crate::specs::Records::question))]
+#[tactic(auto, using(crate::proofs::CollectedLemmas::with_steps_append), unfolding(crate::specs::Records::question, crate::specs::Collected::with_steps))]
 pub(crate) fn push_question(
-    steps: &mut Vec<Step>,
+    steps: &mut Steps,
     message: &Message,
     at: usize,
 ) -> Result<Option<usize>, NoMemory>
@@ -58,7 +61,7 @@ pub(crate) fn push_question(
     requires base { message.now.base ≤ 2 }
     requires short { length message.now.bytes.now < 2 ^ 32 }
     requires place { at < 2 ^ 33 }
-    ensures adds { IfOk result (Adds steps.old.items steps.new.items (question message.now.base message.now.bytes.now at)) }
+    ensures adds { IfOk result (Takes steps.old steps.new (question message.now.base message.now.bytes.now at)) }
     ensures bound { IfOk result (λ next. IfSome next (λ place. place < 2 ^ 33)) }
 {
     let end = message.bytes.len();
@@ -71,9 +74,9 @@ pub(crate) fn push_question(
 }
 
 /// Adds the steps of the record at a place, and answers where the next one is.
-#[tactic(auto, unfolding(crate::specs::Records::resource))]
+#[tactic(auto, using(crate::proofs::CollectedLemmas::with_steps_append), unfolding(crate::specs::Records::resource, crate::specs::Collected::with_steps))]
 pub(crate) fn push_record(
-    steps: &mut Vec<Step>,
+    steps: &mut Steps,
     message: &Message,
     at: usize,
 ) -> Result<Option<usize>, NoMemory>
@@ -81,7 +84,7 @@ pub(crate) fn push_record(
     requires base { message.now.base ≤ 2 }
     requires short { length message.now.bytes.now < 2 ^ 32 }
     requires place { at < 2 ^ 33 }
-    ensures adds { IfOk result (Adds steps.old.items steps.new.items (resource message.now.base message.now.bytes.now at)) }
+    ensures adds { IfOk result (Takes steps.old steps.new (resource message.now.base message.now.bytes.now at)) }
     ensures bound { IfOk result (λ next. IfSome next (λ place. place < 2 ^ 33)) }
 {
     let end = message.bytes.len();
@@ -93,13 +96,13 @@ pub(crate) fn push_record(
 }
 
 /// Adds the steps of what follows a record's name, and answers where the next record is.
-#[tactic(auto, unfolding(crate::specs::Records::record_tail))]
-fn push_record_tail(steps: &mut Vec<Step>, message: &Message, at: usize) -> Result<usize, NoMemory>
+#[tactic(auto, using(crate::proofs::CollectedLemmas::with_steps_append), unfolding(crate::specs::Records::record_tail, crate::specs::Collected::with_steps))]
+fn push_record_tail(steps: &mut Steps, message: &Message, at: usize) -> Result<usize, NoMemory>
     requires chains { AreChainEnds message.now.bytes.now message.now.chain_ends.now }
     requires base { message.now.base ≤ 2 }
     requires short { length message.now.bytes.now < 2 ^ 32 }
     requires place { at ≤ length message.now.bytes.now }
-    ensures adds { IfOk result (λ next. Adds steps.old.items steps.new.items (record_tail message.now.base message.now.bytes.now at) (Some next)) }
+    ensures adds { IfOk result (λ next. Takes steps.old steps.new (record_tail message.now.base message.now.bytes.now at) (Some next)) }
     ensures bound { IfOk result (λ next. next < 2 ^ 33) }
 {
     let kind = word_at(message.bytes, at);
@@ -110,9 +113,10 @@ fn push_record_tail(steps: &mut Vec<Step>, message: &Message, at: usize) -> Resu
 }
 
 /// Adds the steps of a record's numbers.
-fn push_record_head(steps: &mut Vec<Step>, at: usize) -> Result<(), NoMemory>
+#[tactic(auto, unfolding(crate::specs::Collected::with_steps))]
+fn push_record_head(steps: &mut Steps, at: usize) -> Result<(), NoMemory>
     requires { at < 2 ^ 34 }
-    ensures { OnOk result (steps.new.items ≡ steps.old.items ++ record_head at) }
+    ensures { OnOk result (steps.new ≡ with_steps steps.old (record_head at)) }
 {
     steps.push(Step::Row(ids::DNS_RESP_TYPE, at))?;
     steps.push(Step::Row(ids::DNS_RESP_CLASS, at + 2))?;
@@ -122,9 +126,9 @@ fn push_record_head(steps: &mut Vec<Step>, at: usize) -> Result<(), NoMemory>
 }
 
 /// Adds the steps of the data of a type, of so many bytes from a place on.
-#[tactic(auto, unfolding(crate::specs::Records::data_steps))]
+#[tactic(auto, unfolding(crate::specs::Records::data_steps, crate::specs::Collected::with_steps))]
 fn push_data(
-    steps: &mut Vec<Step>,
+    steps: &mut Steps,
     message: &Message,
     kind: usize,
     at: usize,
@@ -135,7 +139,7 @@ fn push_data(
     requires short { length message.now.bytes.now < 2 ^ 32 }
     requires place { at < 2 ^ 33 }
     requires len { len < 65536 }
-    ensures { OnOk result (steps.new.items ≡ steps.old.items ++ data_steps message.now.base message.now.bytes.now kind at len) }
+    ensures { OnOk result (steps.new ≡ with_steps steps.old (data_steps message.now.base message.now.bytes.now kind at len)) }
 {
     let place = message.base + at;
     match (kind, len) {
@@ -154,7 +158,7 @@ fn push_data(
 
 /// Adds the steps of data that is a name.
 fn push_name_data(
-    steps: &mut Vec<Step>,
+    steps: &mut Steps,
     message: &Message,
     field: FieldId,
     at: usize,
@@ -165,7 +169,7 @@ fn push_name_data(
     requires short { length message.now.bytes.now < 2 ^ 32 }
     requires place { at < 2 ^ 33 }
     requires len { len < 65536 }
-    ensures { OnOk result (steps.new.items ≡ steps.old.items ++ (name_entry message.now.base message.now.bytes.now field (min (at + len) (length message.now.bytes.now)) at).steps) }
+    ensures { OnOk result (steps.new ≡ with_steps steps.old (name_entry message.now.base message.now.bytes.now field (min (at + len) (length message.now.bytes.now)) at).steps) }
 {
     let end = message.bytes.len().min(at + len);
     push_name(steps, message, field, end, at)?;
@@ -173,18 +177,13 @@ fn push_name_data(
 }
 
 /// Adds the steps of a mail exchange, whose data ends at a place.
-#[tactic(auto, unfolding(crate::specs::Records::mail_data))]
-fn push_mail(
-    steps: &mut Vec<Step>,
-    message: &Message,
-    at: usize,
-    end: usize,
-) -> Result<(), NoMemory>
+#[tactic(auto, using(crate::proofs::CollectedLemmas::with_steps_append), unfolding(crate::specs::Records::mail_data, crate::specs::Collected::with_steps))]
+fn push_mail(steps: &mut Steps, message: &Message, at: usize, end: usize) -> Result<(), NoMemory>
     requires chains { AreChainEnds message.now.bytes.now message.now.chain_ends.now }
     requires base { message.now.base ≤ 2 }
     requires short { length message.now.bytes.now < 2 ^ 32 }
     requires place { at < 2 ^ 33 }
-    ensures { OnOk result (steps.new.items ≡ steps.old.items ++ mail_data message.now.base message.now.bytes.now at end) }
+    ensures { OnOk result (steps.new ≡ with_steps steps.old (mail_data message.now.base message.now.bytes.now at end)) }
 {
     push_row(steps, message, end, ids::DNS_MX_PREFERENCE, at, 2)?;
     let limit = end.min(message.bytes.len());
@@ -193,18 +192,13 @@ fn push_mail(
 }
 
 /// Adds the steps of a zone's start of authority, whose data ends at a place.
-#[tactic(auto, unfolding(crate::specs::Records::zone_data))]
-fn push_zone(
-    steps: &mut Vec<Step>,
-    message: &Message,
-    at: usize,
-    end: usize,
-) -> Result<(), NoMemory>
+#[tactic(auto, using(crate::proofs::CollectedLemmas::with_steps_append), unfolding(crate::specs::Records::zone_data, crate::specs::Collected::with_steps))]
+fn push_zone(steps: &mut Steps, message: &Message, at: usize, end: usize) -> Result<(), NoMemory>
     requires chains { AreChainEnds message.now.bytes.now message.now.chain_ends.now }
     requires base { message.now.base ≤ 2 }
     requires short { length message.now.bytes.now < 2 ^ 32 }
     requires place { at < 2 ^ 33 }
-    ensures { OnOk result (steps.new.items ≡ steps.old.items ++ (zone_data message.now.base message.now.bytes.now at end).steps) }
+    ensures { OnOk result (steps.new ≡ with_steps steps.old (zone_data message.now.base message.now.bytes.now at end).steps) }
 {
     let limit = end.min(message.bytes.len());
     let Some(at) = push_name(steps, message, ids::DNS_SOA_MNAME, limit, at)? else {
@@ -217,16 +211,16 @@ fn push_zone(
 }
 
 /// Adds the steps of the numbers of a zone's start of authority.
-#[tactic(auto, unfolding(crate::specs::Records::zone_numbers))]
+#[tactic(auto, unfolding(crate::specs::Records::zone_numbers, crate::specs::Collected::with_steps))]
 fn push_zone_numbers(
-    steps: &mut Vec<Step>,
+    steps: &mut Steps,
     message: &Message,
     at: usize,
     end: usize,
 ) -> Result<(), NoMemory>
     requires base { message.now.base ≤ 2 }
     requires place { at < 2 ^ 33 }
-    ensures { OnOk result (steps.new.items ≡ steps.old.items ++ (zone_numbers message.now.base end at).steps) }
+    ensures { OnOk result (steps.new ≡ with_steps steps.old (zone_numbers message.now.base end at).steps) }
 {
     push_row(steps, message, end, ids::DNS_SOA_SERIAL_NUMBER, at, 4)?;
     push_row(
@@ -244,8 +238,9 @@ fn push_zone_numbers(
 }
 
 /// Adds the steps of a row of a record's data, of which so many bytes must fit before its end.
+#[tactic(auto, unfolding(crate::specs::Collected::with_steps))]
 fn push_row(
-    steps: &mut Vec<Step>,
+    steps: &mut Steps,
     message: &Message,
     end: usize,
     field: FieldId,
@@ -255,7 +250,7 @@ fn push_row(
     requires base { message.now.base ≤ 2 }
     requires place { at < 2 ^ 34 }
     requires len { len ≤ 4 }
-    ensures { OnOk result (steps.new.items ≡ steps.old.items ++ data_row message.now.base end field at len) }
+    ensures { OnOk result (steps.new ≡ with_steps steps.old (data_row message.now.base end field at len)) }
 {
     steps.push(Step::Room(at + len <= end))?;
     steps.push(Step::Row(field, message.base + at))?;
@@ -263,17 +258,12 @@ fn push_row(
 }
 
 /// Adds the steps of the strings of a text, in so many bytes from a place on.
-fn push_texts(
-    steps: &mut Vec<Step>,
-    message: &Message,
-    at: usize,
-    len: usize,
-) -> Result<(), NoMemory>
+fn push_texts(steps: &mut Steps, message: &Message, at: usize, len: usize) -> Result<(), NoMemory>
     requires base { message.now.base ≤ 2 }
     requires short { length message.now.bytes.now < 2 ^ 32 }
     requires place { at < 2 ^ 33 }
     requires len { len < 65536 }
-    ensures { OnOk result (steps.new.items ≡ steps.old.items ++ (repeated len (text_string message.now.base message.now.bytes.now (at + len)) at).steps) }
+    ensures { OnOk result (steps.new ≡ with_steps steps.old (repeated len (text_string message.now.base message.now.bytes.now (at + len)) at).steps) }
 {
     let mut place = at;
     for _string in 0..len {
@@ -286,16 +276,16 @@ fn push_texts(
 }
 
 /// Adds the steps of the string at a place of a text, whose data ends at another, and answers where the next one is.
-#[tactic(auto, unfolding(crate::specs::Records::text_string))]
+#[tactic(auto, unfolding(crate::specs::Records::text_string, crate::specs::Collected::with_steps))]
 fn push_text(
-    steps: &mut Vec<Step>,
+    steps: &mut Steps,
     message: &Message,
     at: usize,
     end: usize,
 ) -> Result<Option<usize>, NoMemory>
     requires base { message.now.base ≤ 2 }
     requires short { length message.now.bytes.now < 2 ^ 32 }
-    ensures { IfOk result (Adds steps.old.items steps.new.items (text_string message.now.base message.now.bytes.now end at)) }
+    ensures { IfOk result (Takes steps.old steps.new (text_string message.now.base message.now.bytes.now end at)) }
 {
     if end <= at {
         return Ok(None);
@@ -312,9 +302,9 @@ fn push_text(
 }
 
 /// Adds the steps of the name at a place, whose first run may not go past `end`, and answers where it ends.
-#[tactic(auto, unfolding(crate::specs::Records::name_entry))]
+#[tactic(auto, using(crate::proofs::CollectedLemmas::with_steps_append), unfolding(crate::specs::Records::name_entry, crate::specs::Collected::with_steps))]
 fn push_name(
-    steps: &mut Vec<Step>,
+    steps: &mut Steps,
     message: &Message,
     field: FieldId,
     end: usize,
@@ -324,14 +314,13 @@ fn push_name(
     requires base { message.now.base ≤ 2 }
     requires end { end ≤ length message.now.bytes.now }
     requires place { place < 2 ^ 34 }
-    ensures adds { IfOk result (Adds steps.old.items steps.new.items (name_entry message.now.base message.now.bytes.now field end place)) }
+    ensures adds { IfOk result (Takes steps.old steps.new (name_entry message.now.base message.now.bytes.now field end place)) }
     ensures bound { IfOk result (λ next. IfSome next (λ after. after ≤ length message.now.bytes.now)) }
 {
-    let mut text = Vec::with_capacity(message.alloc, NAME_LIMIT)?;
-    match read_name(message.bytes, message.chain_ends, end, place, &mut text)? {
+    let (name, text) = name_text(message, steps.shows(field), end, place)?;
+    match name {
         NameEnd::Name(after) => {
-            let value = Value::Text(shown_name(message.alloc, text)?);
-            steps.push(Step::Derived(field, value, message.base + place, after - place))?;
+            steps.push_name(field, text, message.base + place, after - place)?;
             Ok(Some(after))
         }
         NameEnd::Leaves => {
@@ -343,6 +332,37 @@ fn push_name(
             Ok(None)
         }
     }
+}
+
+/// How the name at a place ends, and its text where that is to be `shown`.
+fn name_text(
+    message: &Message,
+    shown: bool,
+    end: usize,
+    place: usize,
+) -> Result<(NameEnd, Octets), NoMemory>
+    requires chains { AreChainEnds message.now.bytes.now message.now.chain_ends.now }
+    requires end { end ≤ length message.now.bytes.now }
+    requires place { place < 2 ^ 34 }
+    ensures end_is { IfOk result (λ read. read.0 ≡ (name_at message.now.bytes.now end place).0) }
+    ensures text { IfOk result (λ read. shown ≡ true → read.1 ≡ shown_name (name_at message.now.bytes.now end place).1) }
+    ensures none { IfOk result (λ read. shown ≡ false → read.1 ≡ []) }
+    ensures bound { IfOk result (λ read. EndsIn place (length message.now.bytes.now) read.0) }
+{
+    let room = if shown { NAME_LIMIT } else { 0 };
+    let mut text = Vec::with_capacity(message.alloc, room)?;
+    let name = read_name(
+        message.bytes,
+        message.chain_ends,
+        end,
+        place,
+        shown,
+        &mut text,
+    )?;
+    if !shown {
+        return Ok((name, Octets::new()));
+    }
+    Ok((name, shown_name(message.alloc, text)?))
 }
 
 /// The text of a name by its labels. The root's name has none.

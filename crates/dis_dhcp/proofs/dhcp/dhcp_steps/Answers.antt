@@ -5,5 +5,5 @@ use Rattle.dis_dhcp.proofs.dhcp.dhcp_steps.Goals as goal
 
 pub returns-clause-fits : goal.returns-clause-fits
 returns-clause-fits c =
-    rw (c.in_ok-push_options.ensures.steps, c.in_ok-reserve.ensures.items, c.in_ok-steps.ensures.items)
+    rw (c.in_ok-push_options.ensures, c.in_ok-reserve.ensures.items, c.in_ok-steps.ensures.items)
     (fit_append DHCP c.dhcp_rows.result _ c.dhcp_rows.ensures.fits (options_fit c.args.bytes.now))

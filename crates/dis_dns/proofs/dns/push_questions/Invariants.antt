@@ -1,5 +1,6 @@
 use Rattle.std.proofs.Common.{◌≡◌, ◌-◌, ◌<◌, ◌^◌}
-use Rattle.pk_tree.specs.Entries.{behind, repeated}
+use Rattle.pk_tree.specs.Entries.{repeated}
+use Rattle.dis_dns.proofs.CollectedLemmas.{onto}
 use Rattle.dis_dns.specs.Records.{question}
 use Rattle.dis_dns.proofs.dns.push_questions.Given as goal
 
@@ -7,7 +8,7 @@ use Rattle.dis_dns.proofs.dns.push_questions.Given as goal
 abbrev pub invariant-loop-question : goal.invariant-loop-question
 invariant-loop-question l = record {
   goes :
-      behind l.steps.items (repeated (l.count - l._question) (question l.message.base l.message.bytes.now) l.place)
-      ≡ behind l.initial.steps.items (repeated l.count (question l.message.base l.message.bytes.now) l.at);
+      onto l.steps (repeated (l.count - l._question) (question l.message.base l.message.bytes.now) l.place)
+      ≡ onto l.initial.steps (repeated l.count (question l.message.base l.message.bytes.now) l.at);
   bound : l.place < 2 ^ 33;
 }

@@ -1,5 +1,6 @@
 use Rattle.std.proofs.Common.{◌≡◌, ◌-◌, ◌<◌, ◌^◌}
-use Rattle.pk_tree.specs.Entries.{behind, repeated}
+use Rattle.pk_tree.specs.Entries.{repeated}
+use Rattle.dis_dns.proofs.CollectedLemmas.{onto}
 use Rattle.dis_dns.specs.Records.{resource}
 use Rattle.dis_dns.proofs.dns.push_records.Given as goal
 
@@ -7,7 +8,7 @@ use Rattle.dis_dns.proofs.dns.push_records.Given as goal
 abbrev pub invariant-loop-record : goal.invariant-loop-record
 invariant-loop-record l = record {
   goes :
-      behind l.steps.items (repeated (l.count - l._record) (resource l.message.base l.message.bytes.now) l.place)
-      ≡ behind l.initial.steps.items (repeated l.count (resource l.message.base l.message.bytes.now) l.at);
+      onto l.steps (repeated (l.count - l._record) (resource l.message.base l.message.bytes.now) l.place)
+      ≡ onto l.initial.steps (repeated l.count (resource l.message.base l.message.bytes.now) l.at);
   bound : l.place < 2 ^ 33;
 }

@@ -1,10 +1,11 @@
 use Rattle.std.proofs.Common.{◌≡◌, ◌+◌, ◌-◌}
-use Rattle.pk_tree.specs.Entries.{behind, repeated}
+use Rattle.pk_tree.specs.Entries.{repeated}
+use Rattle.dis_dns.proofs.CollectedLemmas.{onto}
 use Rattle.dis_dns.specs.Records.{text_string}
 use Rattle.dis_dns.proofs.records.push_texts.Given as goal
 
 -- what is left of the strings leads where all of them do
 abbrev pub invariant-loop-string : goal.invariant-loop-string
 invariant-loop-string l =
-    behind l.steps.items (repeated (l.len - l._string) (text_string l.message.base l.message.bytes.now (l.at + l.len)) l.place)
-    ≡ behind l.initial.steps.items (repeated l.len (text_string l.message.base l.message.bytes.now (l.at + l.len)) l.at)
+    onto l.steps (repeated (l.len - l._string) (text_string l.message.base l.message.bytes.now (l.at + l.len)) l.place)
+    ≡ onto l.initial.steps (repeated l.len (text_string l.message.base l.message.bytes.now (l.at + l.len)) l.at)
