@@ -1,4 +1,4 @@
-ghost use Rattle.std.specs.Prelude.{◌≡◌, ◌≢◌, ◌==◌, ◌||◌, ℕ, Bool as Truth, List, [], ◌∷◌, ◌+◌, ◌-◌, ◌<◌, ◌≤◌, ◌^◌, nat_le, length, IfOk, OnOk, IsTrue};
+ghost use Rattle.std.specs.Prelude.{◌≡◌, ◌≢◌, ℕ, Bool as Truth, List, [], ◌∷◌, ◌+◌, ◌-◌, ◌<◌, ◌≤◌, ◌^◌, length, IfOk, OnOk, IsTrue};
 ghost use Rattle.pk_buffer.specs.Buffers.{IsInside, bytes_of};
 ghost use Rattle.pk_fields.specs.Ids.{IP};
 ghost use Rattle.pk_tree.specs.Following.{LeadsInside};
@@ -7,7 +7,7 @@ ghost use Rattle.pk_tree.specs.Tables.{steps_of};
 ghost use Rattle.pk_tree.specs.Trees.{last_proto};
 ghost use Rattle.pk_tree.specs.declared.layer.Layer.{Layer};
 ghost use Rattle.dis_ip.specs.Fragments.{LastIsPart};
-ghost use Rattle.dis_ip.specs.Ip4.{ip4_layout, ip4_header, ip4_total, ip4_conditions, ip4_is_read, ip4_size, ip4_part, ip4_packet, ip4_carried, ip4_span, ip4_after};
+ghost use Rattle.dis_ip.specs.Ip4.{ip4_layout, ip4_header, ip4_total, ip4_conditions, ip4_is_read, ip4_size, ip4_part, ip4_carried, ip4_span, ip4_after};
 
 use crate::fragment::part_after;
 use crate::packet::{in_packet, is_whole, packet_span};
@@ -99,7 +99,8 @@ fn ip4_slots() -> &'static [Slot]
     &SLOTS
 }
 
-/// That it is of version 4, that the header has its least bytes, and that the packet has the header's.
+/// That it is of version 4, that the header has its least bytes, and that the packet has the
+/// header's.
 fn conditions(bytes: &[u8], header: u32, total: u32) -> [bool; 3]
     requires header { header ≡ ip4_header bytes.now }
     requires total { total ≡ ip4_total bytes.now }
@@ -159,7 +160,8 @@ fn carried(mode: Mode, packet: PacketHead, layer: Span, header: u32, bytes: &[u8
     requires header { header ≡ ip4_header bytes.now }
     requires inside { header ≤ layer.len }
     ensures after { result ≡ ip4_carried mode packet layer bytes.now }
-    ensures inside { (buffers : List (List ℕ)) → IsInside buffers layer → LeadsInside buffers result }
+    ensures inside { (buffers : List (List ℕ)) → IsInside buffers layer
+        → LeadsInside buffers result }
     ensures part { (layers : List Layer) → last_proto layers ≡ IP → LastIsPart layers result }
 {
     in_packet(

@@ -51,13 +51,15 @@ pub(crate) fn read_null(
     Ok(carried(next_of_family(family), span, HEADER))
 }
 
-/// Reads a header's only row, which the table of fields doesn't read since the order of its bytes differs.
+/// Reads a header's only row. The table of fields has no place for it, since the order of its bytes
+/// differs.
 #[inline(never)]
 #[tactic(auto, unfolding(crate::specs::Null::null_layout, pk_tree::specs::Layouts::reach, pk_tree::specs::Layouts::step_reach, pk_tree::specs::Layouts::StepsFit, pk_fields::specs::Fields::row_of, pk_fields::specs::Table::rows))]
 fn read_family(family: u32, span: Span, cut: bool, b: &mut TreeBuilder) -> Result<(), NoMemory>
     requires inside { IsInside b.old.buffers span }
     requires room { length b.old.layers + 2 < 2 ^ 32 }
-    ensures layer { IfOk result (λ _. (little : Truth) (bytes : List ℕ) → family ≡ family_of little bytes
+    ensures layer { IfOk result (λ _. (little : Truth) (bytes : List ℕ)
+        → family ≡ family_of little bytes
         → b.new ≡ layer_read b.old NULL span (null_layout little bytes) Plain cut) }
     ensures buffers { b.new.buffers ≡ b.old.buffers }
     ensures whole { OnOk result (4 ≤ span.len → last_proto b.new.layers ≡ NULL) }

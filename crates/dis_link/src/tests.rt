@@ -120,7 +120,8 @@ fn follow(after: After, b: &mut TreeBuilder) -> Result<After, NoMemory>
     }
 }
 
-/// How many items the layers of a tagged request have where no field is asked, and the name of the last layer.
+/// How many items a tagged request's layer has where no field is asked, and the name of the last
+/// layer.
 fn passed(rt: &impl Abort, alloc: Global, len: usize) -> Result<(usize, &'static str), NoMemory>
     requires { len ≤ 46 }
 {
