@@ -1,11 +1,9 @@
-mod FileLemmas
 mod FrontLemmas
 mod LawLemmas
-mod OutputLemmas
-mod ReadingLemmas
-mod RuleLemmas
-mod TakeableLemmas
-mod TakenLemmas
-mod WordLemmas
-mod ToldLemmas
 mod PlanLemmas
+mod RuleLemmas
+mod Times
+mod Together
+mod ToldLemmas
+mod WayLemmas
+mod WordLemmas
