@@ -10,6 +10,6 @@ pub mod Plan
 pub mod PlanErrors
 pub mod Reading
 pub mod Statuses
-pub mod Takeable
 pub mod Taken
+pub mod Way
 pub mod Wrote

@@ -1,6 +1,7 @@
 -- The output: one line for each frame that the filter lets through.
 use Rattle.std.specs.Prelude.{ℕ, Bool, true, List, [], ◌∷◌, ◌++◌, Option, Some, None, if◌then◌else◌}
 use Rattle.pk_tree.specs.Trees.{TreeShown}
+use Rattle.capture_read.specs.Capture.{Reading}
 use Rattle.capture_read.specs.declared.frame.Frame.{Frame}
 use Rattle.dissect.specs.Trees.{tree_at}
 use Rattle.out_lines.specs.Lines.{field_line_of, default_style}
@@ -25,6 +26,15 @@ shown plan tree = if satisfies plan.filter tree then field_line_of plan.fields t
 abbrev pub frame_lines : Plan → List TreeShown → List ℕ
 frame_lines plan [] = []
 frame_lines plan (tree ∷ trees) = shown plan tree ++ frame_lines plan trees
+
+-- the lines of all frames of a reading
+abbrev pub all_lines : Plan → Reading → List ℕ
+all_lines plan reading = frame_lines plan (trees_after [] reading.frames)
+
+-- the lines of frames of which the newest stands first
+abbrev pub lines_of : Plan → List Frame → List ℕ
+lines_of plan [] = []
+lines_of plan (frame ∷ past) = lines_of plan past ++ shown plan (tree_at past frame)
 
 -- what stands before the frames' lines
 unfoldable pub opening : Plan → List ℕ

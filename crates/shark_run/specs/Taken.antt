@@ -1,12 +1,8 @@
 -- What is taken of a capture's bytes.
-use Rattle.std.specs.Prelude.{◌≡◌, ◌≤◌, ◌⊎◌, ℕ, suc, List, length, Option}
-use Rattle.std.specs.Io.KnownBytes.{Consumes}
+use Rattle.std.specs.Prelude.{◌≡◌, ◌⊎◌, ℕ, suc, List, Option}
 use Rattle.pk_base.specs.Limits.{file_limit}
 use Rattle.pk_outside.specs.Outside.{counted}
-
--- known bytes begin with at most so many bytes, and lose them
-abbrev pub TookAtMost : ℕ → Option (List ℕ) → Option (List ℕ) → Type 0
-TookAtMost most old new = (taken : List ℕ) × Consumes old new taken × (length taken ≤ most)
+use Rattle.capture_read.specs.Taken.{TookAtMost}
 
 -- no file was begun and nothing taken, or this file was begun once, and what is left of it is all but 2^28 + 1 bytes of its
 -- front at most

@@ -9,7 +9,6 @@ mod lines;
 mod outcome;
 mod output;
 mod plan;
-mod read_frames;
 mod status;
 mod text;
 mod top;

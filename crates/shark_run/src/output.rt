@@ -1,22 +1,37 @@
-// Writing the output over the frames of a file.
-ghost use Rattle.std.specs.Prelude.{◌≡◌, ◌≤◌, IfOk, IsErrOf, OnOk, [], List};
+// Reading a file and writing the output over its frames.
+ghost use Rattle.std.specs.Prelude.{◌≡◌, ◌≢◌, ◌≤◌, ◌+◌, ◌-◌, ◌^◌, ℕ, suc, true, false, IfOk, IfSome, IsErrOf, OnOk, [], ◌∷◌, List, Some, length};
+ghost use Rattle.std.specs.Option.{option_map};
 ghost use Rattle.std.specs.Io.KnownBytes.{Appends};
+ghost use Rattle.pk_base.specs.Limits.{file_limit as limit_of_file};
 ghost use Rattle.pk_outside.specs.Outside.{Rose, AppendsPart};
+ghost use Rattle.capture_read.specs.Reader.{StandsFor};
+ghost use Rattle.capture_read.specs.Taken.{TookAtMost};
+ghost use Rattle.capture_read.specs.declared.frame.Frame.{Frame as FrameValue};
 ghost use Rattle.dissect.specs.Stands.{Stands};
-ghost use Rattle.shark_run.specs.Lines.{shown, frame_lines, trees_after, output_of};
-ghost use Rattle.shark_run.specs.Takeable.{AreTakeable};
+ghost use Rattle.dissect.specs.Times.{IsTime};
+ghost use Rattle.dissect.specs.Trees.{tree_at};
+ghost use Rattle.shark_run.specs.Lines.{shown};
+ghost use Rattle.shark_run.specs.Reading.{frames_read};
+ghost use Rattle.shark_run.specs.Way.{IsBroken, IsFullNear, WroteTaken};
 ghost use Rattle.shark_run.specs.Wrote.{WroteAll, WrotePart};
 
 use crate::lines::satisfies;
 use crate::plan::Plan;
-use crate::read_frames::ReadFrames;
-use capture_read::{Ending, NextFrame};
+use capture_read::{Ending, Frame, FrameReader, NextFrame, ReadError};
 use dissect::{DecodeAs, Dissector, PortRules, TakeFault};
 use out_lines::{Style, field_line};
 use pk_base::NoMemory;
-use pk_outside::{Sink, SinkFault, write_whole};
+use pk_outside::{Capture, Sink, SinkFault, write_whole};
 use pk_tree::Tree;
 use std::alloc::Global;
+
+/// Why a run didn't come to the end of its file.
+#[derive(Clone, Copy, Debug, PartialEq, Eq)]
+pub(crate) enum RunFault {
+    ReadFault,
+    WriteFault,
+    NoMemory,
+}
 
 // A dissector that reads each port as usual.
 #[tactic(auto, using(crate::proofs::RuleLemmas::no_rules))]
@@ -59,57 +74,155 @@ fn write_tree<O: Sink>(
     write_whole(out, line.as_slice())
 }
 
-// Writes the lines of all frames that are left, and answers how the reading ends.
-fn write_frames<O: Sink>(
+// Takes a frame, and writes its line where the filter lets it through.
+fn write_frame<O: Sink>(
     alloc: Global,
     plan: &Plan,
-    frames: &mut ReadFrames,
+    frame: &Frame,
+    dissector: &mut Dissector,
     out: &mut O,
-) -> Result<Ending, SinkFault>
-    requires takeable { AreTakeable 0 0 frames.old.frames }
-    ensures ending { IfOk result (λ ending. ending ≡ frames.old.ending) }
-    ensures whole { OnOk result (Appends (O.written out.old) (O.written out.new)
-        (frame_lines plan.now (trees_after [] frames.old.frames))) }
-    ensures part { AppendsPart (O.written out.old) (O.written out.new)
-        (frame_lines plan.now (trees_after [] frames.old.frames)) }
-    ensures fault { IsErrOf result SinkFault.Failed → Rose (O.faults out.old) (O.faults out.new) }
+) -> Result<(), RunFault>
+    requires number { frame.now.number ≡ dissector.old.taken + 1 }
+    requires time { IfSome frame.now.time IsTime }
+    requires captured { dissector.old.captured + length frame.now.bytes ≤ 2 ^ 28 }
+    ensures stands { OnOk result ((past : List FrameValue) → Stands past dissector.old
+        → Stands (frame.now ∷ past) dissector.new) }
+    ensures taken { OnOk result (dissector.new.taken ≡ dissector.old.taken + 1) }
+    ensures captured { OnOk result (dissector.new.captured
+        ≡ dissector.old.captured + length frame.now.bytes) }
+    ensures whole { OnOk result ((past : List FrameValue) → Stands past dissector.old
+        → Appends (O.written out.old) (O.written out.new)
+        (shown plan.now (tree_at past frame.now))) }
+    ensures part { (past : List FrameValue) → Stands past dissector.old
+        → AppendsPart (O.written out.old) (O.written out.new)
+        (shown plan.now (tree_at past frame.now)) }
+    ensures read { IsErrOf result RunFault.ReadFault → ⊥ }
+    ensures fault { IsErrOf result RunFault.WriteFault
+        → Rose (O.faults out.old) (O.faults out.new) }
     ensures faults_stay { O.faults out.old ≤ O.faults out.new }
 {
-    let mut dissector = new_dissector(alloc);
-    loop {
-        let frame = match frames.next_frame() {
-            Ok(NextFrame::Frame(frame)) => frame,
-            Ok(NextFrame::End(ending)) => return Ok(ending),
-            Err(NoMemory) => return Err(SinkFault::NoMemory),
-        };
-        let tree = match dissector.take(&frame) {
-            Ok(tree) => tree,
-            // The first error ends the loop, so that this one is never `Spent`.
-            Err(TakeFault::NoMemory | TakeFault::Spent) => return Err(SinkFault::NoMemory),
-        };
-        match write_tree(alloc, plan, &tree, out) {
-            Ok(()) => {}
-            Err(fault) => return Err(fault),
-        }
+    let tree = match dissector.take(frame) {
+        Ok(tree) => tree,
+        // The first error ends the run, so that this one is never `Spent`.
+        Err(TakeFault::NoMemory | TakeFault::Spent) => return Err(RunFault::NoMemory),
+    };
+    match write_tree(alloc, plan, &tree, out) {
+        Ok(()) => Ok(()),
+        Err(SinkFault::Failed) => Err(RunFault::WriteFault),
+        Err(SinkFault::NoMemory) => Err(RunFault::NoMemory),
     }
 }
 
-/// Writes the whole output over a file's frames, and answers how the reading ends.
-#[tactic(auto, unfolding(crate::specs::Lines::output_of, crate::specs::Lines::opening, crate::specs::Lines::closing), using(crate::proofs::OutputLemmas::whole_output, crate::proofs::OutputLemmas::part_output))]
-pub(crate) fn write_output<O: Sink>(
+// Whether no frame more is asked for.
+fn is_full(most: Option<u32>) -> bool
+    ensures full { result ≡ true → most ≡ Some 0 }
+    ensures more { result ≡ false → most ≢ Some 0 }
+{
+    most == Some(0)
+}
+
+// One frame less.
+fn one_less(most: Option<u32>) -> Option<u32>
+    requires { most ≢ Some 0 }
+    ensures { result ≡ option_map (λ n. n - 1) most }
+{
+    match most {
+        Some(most) => Some(most - 1),
+        None => None,
+    }
+}
+
+// Reads the begun file frame by frame and writes the line of each before it reads on, up to the
+// last that is asked for, and answers how the reading ends.
+fn write_rest<C: Capture, O: Sink>(
     alloc: Global,
     plan: &Plan,
-    mut frames: ReadFrames,
+    reader: &mut FrameReader,
+    dissector: &mut Dissector,
+    capture: &mut C,
     out: &mut O,
-) -> Result<Ending, SinkFault>
-    requires takeable { AreTakeable 0 0 frames.frames }
-    ensures ending { IfOk result (λ ending. ending ≡ frames.ending) }
-    ensures whole { OnOk result (WroteAll plan.now frames (O.written out.old) (O.written out.new)) }
-    ensures part { WrotePart plan.now frames (O.written out.old) (O.written out.new) }
-    ensures fault { IsErrOf result SinkFault.Failed → Rose (O.faults out.old) (O.faults out.new) }
-    ensures faults_stay { O.faults out.old ≤ O.faults out.new }
+) -> Result<Ending, RunFault>
+    requires reads { (left : List ℕ) → StandsFor reader.old (Some left) left [] }
+    requires number { reader.old.state.number ≡ 1 }
+    requires at { reader.old.state.at ≡ 0 }
+    requires stands { Stands [] dissector.old }
+    requires taken { dissector.old.taken ≡ 0 }
+    requires captured { dissector.old.captured ≡ 0 }
+
+    // What was written, and how far the file was read then.
+    ensures ended { IfOk result (λ ending. IfSome (C.left capture.old) (λ file.
+        WroteAll plan.now (frames_read plan.now file) (O.written out.old) (O.written out.new)
+        × (ending ≡ (frames_read plan.now file).ending))) }
+    ensures full { OnOk result (IfSome (C.left capture.old) (λ file.
+        IsFullNear plan.now file (C.left capture.new))) }
+    ensures part { IfSome (C.left capture.old) (λ file.
+        WrotePart plan.now (frames_read plan.now file) (O.written out.old) (O.written out.new)) }
+    ensures so_far { IsErrOf result RunFault.ReadFault → IfSome (C.left capture.old) (λ file.
+        WroteTaken plan.now file (C.left capture.new) (O.written out.old) (O.written out.new)) }
+    ensures near { IsErrOf result RunFault.WriteFault → IfSome (C.left capture.old) (λ file.
+        IsBroken plan.now file (C.left capture.new) (O.written out.old) (O.written out.new)) }
+    ensures took { TookAtMost (suc limit_of_file) (C.left capture.old) (C.left capture.new) }
+
+    // The causes of errors, and what stays of the capture.
+    ensures read_fault { IsErrOf result RunFault.ReadFault
+        → Rose (C.faults capture.old) (C.faults capture.new) }
+    ensures write_fault { IsErrOf result RunFault.WriteFault
+        → Rose (O.faults out.old) (O.faults out.new) }
+    ensures asked { C.asked capture.new ≡ C.asked capture.old }
+    ensures begun { C.begun capture.new ≡ C.begun capture.old }
+    ensures missed { C.missed capture.new ≡ C.missed capture.old }
 {
-    match write_frames(alloc, plan, &mut frames, out) {
+    let mut most = plan.most;
+    loop {
+        if is_full(most) {
+            return Ok(Ending::Whole);
+        }
+        let frame = match reader.next_frame(capture) {
+            Ok(NextFrame::Frame(frame)) => frame,
+            Ok(NextFrame::End(ending)) => return Ok(ending),
+            Err(ReadError::ReadFault) => return Err(RunFault::ReadFault),
+            // The first error ends the run, so that this one is never `Spent`.
+            Err(ReadError::NoMemory | ReadError::Spent) => return Err(RunFault::NoMemory),
+        };
+        match write_frame(alloc, plan, &frame, dissector, out) {
+            Ok(()) => {}
+            Err(fault) => return Err(fault),
+        }
+        most = one_less(most);
+    }
+}
+
+/// Reads the begun file and writes the whole output over its frames, and answers how the reading
+/// ends.
+pub(crate) fn write_output<C: Capture, O: Sink>(
+    alloc: Global,
+    plan: &Plan,
+    capture: &mut C,
+    out: &mut O,
+) -> Result<Ending, RunFault>
+    ensures ended { IfOk result (λ ending. IfSome (C.left capture.old) (λ file.
+        WroteAll plan.now (frames_read plan.now file) (O.written out.old) (O.written out.new)
+        × (ending ≡ (frames_read plan.now file).ending))) }
+    ensures full { OnOk result (IfSome (C.left capture.old) (λ file.
+        IsFullNear plan.now file (C.left capture.new))) }
+    ensures part { IfSome (C.left capture.old) (λ file.
+        WrotePart plan.now (frames_read plan.now file) (O.written out.old) (O.written out.new)) }
+    ensures so_far { IsErrOf result RunFault.ReadFault → IfSome (C.left capture.old) (λ file.
+        WroteTaken plan.now file (C.left capture.new) (O.written out.old) (O.written out.new)) }
+    ensures near { IsErrOf result RunFault.WriteFault → IfSome (C.left capture.old) (λ file.
+        IsBroken plan.now file (C.left capture.new) (O.written out.old) (O.written out.new)) }
+    ensures took { TookAtMost (suc limit_of_file) (C.left capture.old) (C.left capture.new) }
+    ensures read_fault { IsErrOf result RunFault.ReadFault
+        → Rose (C.faults capture.old) (C.faults capture.new) }
+    ensures write_fault { IsErrOf result RunFault.WriteFault
+        → Rose (O.faults out.old) (O.faults out.new) }
+    ensures asked { C.asked capture.new ≡ C.asked capture.old }
+    ensures begun { C.begun capture.new ≡ C.begun capture.old }
+    ensures missed { C.missed capture.new ≡ C.missed capture.old }
+{
+    let mut reader = FrameReader::new(alloc);
+    let mut dissector = new_dissector(alloc);
+    match write_rest(alloc, plan, &mut reader, &mut dissector, capture, out) {
         Ok(ending) => Ok(ending),
         Err(fault) => Err(fault),
     }

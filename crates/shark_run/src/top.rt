@@ -1,5 +1,5 @@
 // The top call.
-ghost use Rattle.std.specs.Prelude.{◌≡◌, ◌≤◌, ◌⊎◌, ℕ, List, Option, IfSome};
+ghost use Rattle.std.specs.Prelude.{◌≡◌, ◌≤◌, ◌+◌, ◌⊎◌, ℕ, List, Option, IfSome};
 ghost use Rattle.pk_outside.specs.Outside.{Rose};
 ghost use Rattle.shark_words.specs.Words.{texts};
 ghost use Rattle.shark_run.specs.declared.plan.Plan.{Plan};
@@ -13,17 +13,18 @@ ghost use Rattle.shark_run.specs.Statuses.{IsNoRefusal, IsRefusing, WhenEnded};
 ghost use Rattle.shark_run.specs.FaultTexts.{IsNone, IsSame, Told, ToldWhole};
 ghost use Rattle.shark_run.specs.Outcomes.{IfEnded};
 ghost use Rattle.shark_run.specs.Causes.{IsUnopened, IsUnread};
+ghost use Rattle.shark_run.specs.Way.{IsBroken, IsFullNear, WroteTaken};
 ghost use Rattle.shark_run.specs.Wrote.{WroteAll, WrotePart};
 
 use crate::fault_text::{outcome_text, refusal_text, tell};
-use crate::file::{FileFault, open_frames};
+use crate::file::{FileFault, begin_file};
 use crate::outcome::Outcome;
-use crate::output::write_output;
+use crate::output::{RunFault, write_output};
 use crate::plan::{Plan, PlanError, Refused};
 use crate::status::{Status, status_of_refusal};
 use crate::words::read_plan;
 use pk_base::NoMemory;
-use pk_outside::{Capture, Sink, SinkFault};
+use pk_outside::{Capture, Sink};
 use std::alloc::Global;
 
 // Reads a plan's capture file and writes the output over its frames.
@@ -48,17 +49,26 @@ fn carry_out<C: Capture, O: Sink>(
     ensures write_fault { result ≡ Outcome.WriteFault → Rose (O.faults out.old) (O.faults out.new) }
     ensures taken { Took (file_of plan.now (C.file capture.old))
         (C.begun capture.old) (C.begun capture.new) (C.left capture.old) (C.left capture.new) }
+    ensures begun_once { C.begun capture.new ≤ C.begun capture.old + 1 }
+    ensures so_far { result ≡ Outcome.ReadFault
+        → IfSome (file_of plan.now (C.file capture.old)) (λ file.
+        WroteTaken plan.now file (C.left capture.new) (O.written out.old) (O.written out.new)) }
+    ensures near { result ≡ Outcome.WriteFault
+        → IfSome (file_of plan.now (C.file capture.old)) (λ file.
+        IsBroken plan.now file (C.left capture.new) (O.written out.old) (O.written out.new)) }
+    ensures full { IfEnded result (λ _. IfSome (file_of plan.now (C.file capture.old)) (λ file.
+        IsFullNear plan.now file (C.left capture.new))) }
 {
-    let frames = match open_frames(alloc, plan, capture) {
-        Ok(frames) => frames,
+    match begin_file(alloc, plan, capture) {
+        Ok(()) => {}
         Err(FileFault::CannotOpen) => return Outcome::CannotOpen,
-        Err(FileFault::ReadFault) => return Outcome::ReadFault,
         Err(FileFault::NoMemory) => return Outcome::NoMemory,
-    };
-    match write_output(alloc, plan, frames, out) {
+    }
+    match write_output(alloc, plan, capture, out) {
         Ok(ending) => Outcome::Ended(ending),
-        Err(SinkFault::Failed) => Outcome::WriteFault,
-        Err(SinkFault::NoMemory) => Outcome::NoMemory,
+        Err(RunFault::ReadFault) => Outcome::ReadFault,
+        Err(RunFault::WriteFault) => Outcome::WriteFault,
+        Err(RunFault::NoMemory) => Outcome::NoMemory,
     }
 }
 
@@ -91,6 +101,17 @@ pub fn run_plan<C: Capture, O: Sink, E: Sink>(
     // Nothing is read behind the first byte that is too many.
     ensures taken { Took (file_of plan.now (C.file capture.old))
         (C.begun capture.old) (C.begun capture.new) (C.left capture.old) (C.left capture.new) }
+    ensures begun_once { C.begun capture.new ≤ C.begun capture.old + 1 }
+
+    // Each line was written before more was read than a block behind its frame.
+    ensures so_far { result ≡ Status.ReadFault
+        → IfSome (file_of plan.now (C.file capture.old)) (λ file.
+        WroteTaken plan.now file (C.left capture.new) (O.written out.old) (O.written out.new)) }
+    ensures near { result ≡ Status.WriteFault
+        → IfSome (file_of plan.now (C.file capture.old)) (λ file.
+        IsBroken plan.now file (C.left capture.new) (O.written out.old) (O.written out.new)) }
+    ensures full { WhenEnded result (IfSome (file_of plan.now (C.file capture.old)) (λ file.
+        IsFullNear plan.now file (C.left capture.new))) }
 
     // Where no fault rose, the run comes to an end or finds no memory.
     ensures complete { IfSome (file_of plan.now (C.file capture.old)) (λ file.
@@ -181,6 +202,18 @@ pub fn run<C: Capture, O: Sink, E: Sink>(
     ensures taken { (capture.new ≡ capture.old) ⊎ ((plan : Plan) × IsPlan (texts words.now) plan
         × Took (file_of plan (C.file capture.old)) (C.begun capture.old) (C.begun capture.new)
         (C.left capture.old) (C.left capture.new)) }
+    ensures begun_once { C.begun capture.new ≤ C.begun capture.old + 1 }
+
+    // Each line was written before more was read than a block behind its frame.
+    ensures so_far { result ≡ Status.ReadFault → (plan : Plan) × IsPlan (texts words.now) plan
+        × IfSome (file_of plan (C.file capture.old)) (λ file.
+        WroteTaken plan file (C.left capture.new) (O.written out.old) (O.written out.new)) }
+    ensures near { result ≡ Status.WriteFault → (plan : Plan) × IsPlan (texts words.now) plan
+        × IfSome (file_of plan (C.file capture.old)) (λ file.
+        IsBroken plan file (C.left capture.new) (O.written out.old) (O.written out.new)) }
+    ensures full { WhenEnded result ((plan : Plan) × IsPlan (texts words.now) plan
+        × IfSome (file_of plan (C.file capture.old)) (λ file.
+        IsFullNear plan file (C.left capture.new))) }
 
     // Where no fault rose, the run of words that ask for a plan comes to an end or finds no memory.
     ensures complete { (plan : Plan) → IsPlan (texts words.now) plan

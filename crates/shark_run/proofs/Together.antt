@@ -1,0 +1,36 @@
+-- A reader and a dissector that go through a file together: the dissector can take what the reader answers.
+use Rattle.std.proofs.Common.{◌≡◌, ◌≤◌, ℕ, ◌+◌, ◌^◌, length, arith}
+use Rattle.std.specs.Prelude.{IfSome}
+use Rattle.pk_base.specs.Limits.{file_limit}
+use Rattle.capture_read.specs.Answers.{IsCounted}
+use Rattle.capture_read.specs.Reader.{Reader}
+use Rattle.capture_read.specs.declared.frame.Frame.{Frame}
+use Rattle.dissect.specs.Stands.{DissectorShown}
+use Rattle.dissect.specs.Times.{IsTime}
+use Rattle.shark_run.proofs.Times.{small_time}
+
+pub record AreTogether (r : Reader) (d : DissectorShown) : Type 0 where
+  pub number : r.number ≡ d.taken + 1
+  pub captured : d.captured ≤ r.at
+  pub limit : r.at ≤ file_limit
+
+below_limit : (n : ℕ) → n ≤ file_limit → n ≤ 2 ^ 28
+unfolding file_limit
+below_limit n few = few
+
+-- the next frame can be taken
+pub takeable : (r after : Reader) (d : DissectorShown) (frame : Frame) → AreTogether r d → IsCounted frame r after → after.at ≤ file_limit
+    → (frame.number ≡ d.taken + 1) × IfSome frame.time IsTime × (d.captured + length frame.bytes ≤ 2 ^ 28)
+takeable r after d frame are counted limit = (
+  omega (arith, counted.number, are.number),
+  small_time frame.time counted.time,
+  omega (arith, below_limit after.at limit, counted.bytes, are.captured),
+)
+
+pub together_after : (r after : Reader) (d taken : DissectorShown) (frame : Frame) → AreTogether r d → IsCounted frame r after → after.at ≤ file_limit
+    → taken.taken ≡ d.taken + 1 → taken.captured ≡ d.captured + length frame.bytes → AreTogether after taken
+together_after r after d taken frame are counted limit number captured = record {
+  number = omega (arith, counted.after, are.number, number);
+  captured = omega (arith, counted.bytes, are.captured, captured);
+  limit = limit;
+}

@@ -1,0 +1,48 @@
+use Rattle.std.proofs.Common.{Err, ap}
+use Rattle.shark_run.specs.Reading.{file_of}
+use Rattle.shark_run.proofs.WayLemmas.{took_begun}
+use Rattle.shark_run.proofs.top.carry_out.Goals as goal
+
+pub returns-in-Ok-write_output-clause-ended : goal.returns-in-Ok-write_output-clause-ended
+returns-in-Ok-write_output-clause-ended g c = rw (← c.in-Ok.ensures.left) c.in-Ok-write_output.ensures.ended
+
+pub returns-in-Ok-write_output-clause-full : goal.returns-in-Ok-write_output-clause-full
+returns-in-Ok-write_output-clause-full g c = rw (← c.in-Ok.ensures.left) c.in-Ok-write_output.ensures.full
+
+pub returns-in-Err-ReadFault-clause-so_far : goal.returns-in-Err-ReadFault-clause-so_far
+returns-in-Err-ReadFault-clause-so_far g c = λ is. rw (← c.in-Ok.ensures.left) (c.in-Err-ReadFault.ensures.so_far (ap Err c.in-Err-ReadFault.field-0-is))
+
+pub returns-in-Err-WriteFault-clause-near : goal.returns-in-Err-WriteFault-clause-near
+returns-in-Err-WriteFault-clause-near g c = λ is. rw (← c.in-Ok.ensures.left) (c.in-Err-WriteFault.ensures.near (ap Err c.in-Err-WriteFault.field-0-is))
+
+pub returns-in-Ok-write_output-clause-part : goal.returns-in-Ok-write_output-clause-part
+returns-in-Ok-write_output-clause-part g c = rw (← c.in-Ok.ensures.left) c.write_output.ensures.part
+
+pub returns-in-Ok-write_output-clause-taken : goal.returns-in-Ok-write_output-clause-taken
+returns-in-Ok-write_output-clause-taken g c = 
+    took_begun (file_of c.args.plan.now (g.C.Capture.file c.args.capture.now)) (g.C.Capture.left c.args.capture.now) (g.C.Capture.left c.begin_file.new.capture) (g.C.Capture.left c.write_output.new.capture)
+    (g.C.Capture.begun c.args.capture.now) (g.C.Capture.begun c.begin_file.new.capture) (g.C.Capture.begun c.write_output.new.capture) c.in-Ok.ensures.left c.in-Ok.ensures.begun c.write_output.ensures.begun c.write_output.ensures.took
+
+pub returns-in-Err-ReadFault-clause-part : goal.returns-in-Err-ReadFault-clause-part
+returns-in-Err-ReadFault-clause-part g c = rw (← c.in-Ok.ensures.left) c.write_output.ensures.part
+
+pub returns-in-Err-ReadFault-clause-taken : goal.returns-in-Err-ReadFault-clause-taken
+returns-in-Err-ReadFault-clause-taken g c = 
+    took_begun (file_of c.args.plan.now (g.C.Capture.file c.args.capture.now)) (g.C.Capture.left c.args.capture.now) (g.C.Capture.left c.begin_file.new.capture) (g.C.Capture.left c.write_output.new.capture)
+    (g.C.Capture.begun c.args.capture.now) (g.C.Capture.begun c.begin_file.new.capture) (g.C.Capture.begun c.write_output.new.capture) c.in-Ok.ensures.left c.in-Ok.ensures.begun c.write_output.ensures.begun c.write_output.ensures.took
+
+pub returns-in-Err-WriteFault-clause-part : goal.returns-in-Err-WriteFault-clause-part
+returns-in-Err-WriteFault-clause-part g c = rw (← c.in-Ok.ensures.left) c.write_output.ensures.part
+
+pub returns-in-Err-WriteFault-clause-taken : goal.returns-in-Err-WriteFault-clause-taken
+returns-in-Err-WriteFault-clause-taken g c = 
+    took_begun (file_of c.args.plan.now (g.C.Capture.file c.args.capture.now)) (g.C.Capture.left c.args.capture.now) (g.C.Capture.left c.begin_file.new.capture) (g.C.Capture.left c.write_output.new.capture)
+    (g.C.Capture.begun c.args.capture.now) (g.C.Capture.begun c.begin_file.new.capture) (g.C.Capture.begun c.write_output.new.capture) c.in-Ok.ensures.left c.in-Ok.ensures.begun c.write_output.ensures.begun c.write_output.ensures.took
+
+pub returns-in-Err-NoMemory-write_output-clause-part : goal.returns-in-Err-NoMemory-write_output-clause-part
+returns-in-Err-NoMemory-write_output-clause-part g c = rw (← c.in-Ok.ensures.left) c.write_output.ensures.part
+
+pub returns-in-Err-NoMemory-write_output-clause-taken : goal.returns-in-Err-NoMemory-write_output-clause-taken
+returns-in-Err-NoMemory-write_output-clause-taken g c = 
+    took_begun (file_of c.args.plan.now (g.C.Capture.file c.args.capture.now)) (g.C.Capture.left c.args.capture.now) (g.C.Capture.left c.begin_file.new.capture) (g.C.Capture.left c.write_output.new.capture)
+    (g.C.Capture.begun c.args.capture.now) (g.C.Capture.begun c.begin_file.new.capture) (g.C.Capture.begun c.write_output.new.capture) c.in-Ok.ensures.left c.in-Ok.ensures.begun c.write_output.ensures.begun c.write_output.ensures.took
