@@ -1,0 +1,6 @@
+pub mod Places
+pub mod GapLemmas
+pub mod WayLemmas
+pub mod StandsLemmas
+pub mod TakeLemmas
+pub mod Keys

@@ -1,0 +1,15 @@
+//! TCP streams, whatever the order, loss or repetition of their segments (RFC 9293).
+#![tactic(auto)]
+
+mod ends;
+mod kept;
+mod newest;
+mod numbers;
+mod passing;
+mod segment;
+mod stream;
+mod streams;
+mod way;
+
+pub use segment::{Segment, Taken};
+pub use streams::Streams;
