@@ -4,3 +4,4 @@ pub mod WayLemmas
 pub mod StandsLemmas
 pub mod TakeLemmas
 pub mod Keys
+pub mod OrderLemmas

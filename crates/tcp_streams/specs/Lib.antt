@@ -6,3 +6,4 @@ pub mod Conversations
 pub mod Labels
 pub mod Stands
 pub mod Standing
+pub mod Order
