@@ -5,3 +5,4 @@ pub mod StandsLemmas
 pub mod TakeLemmas
 pub mod Keys
 pub mod OrderLemmas
+pub mod ReadLemmas

@@ -1,4 +1,4 @@
-ghost use Rattle.std.specs.Prelude.{◌≡◌, false};
+ghost use Rattle.std.specs.Prelude.{◌≡◌, ◌≤◌, ◌<◌, ◌^◌, length, false};
 ghost use Rattle.std.proofs.Props.{props};
 ghost use Rattle.tcp_streams.specs.Ways.{apart_prop};
 ghost use Rattle.tcp_streams.specs.Stands.{IsSound};
@@ -15,5 +15,7 @@ pub(crate) struct Kept {
     pub taken: u32,
     /// Whether a segment found no memory: then nothing more is known of the streams.
     pub spent: bool,
+    ghost count: { length streams.items ≤ taken },
+    ghost few: { length streams.items < 2 ^ 32 },
     ghost sound: { spent ≡ false → IsSound newest streams.items taken } by { Prim.hlevel (apart_prop, props) },
 }

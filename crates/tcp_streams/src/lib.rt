@@ -6,6 +6,7 @@ mod kept;
 mod newest;
 mod numbers;
 mod passing;
+mod reads;
 mod segment;
 mod stream;
 mod streams;

@@ -5,7 +5,7 @@ ghost use Rattle.tcp_streams.specs.declared.ends.Ends.{Ends as EndsValue};
 ghost use Rattle.tcp_streams.specs.Ways.{end_of, IsWay};
 ghost use Rattle.tcp_streams.specs.States.{state_of};
 ghost use Rattle.tcp_streams.specs.Conversations.{ends_of as ends_value, same_ends, number_of};
-ghost use Rattle.tcp_streams.specs.Labels.{labels, side_from, taken_after};
+ghost use Rattle.tcp_streams.specs.Labels.{labels, opened, side_from, taken_after};
 ghost use Rattle.tcp_streams.specs.Stands.{Agrees, IsSound, IsSoundStream, IsStepped, IsOpened, current_in};
 ghost use Rattle.tcp_streams.specs.Standing.{StandsFor, taken_so_far, stream_count};
 
@@ -21,7 +21,7 @@ use std::alloc::Global;
 #[derive(Drop)]
 pub struct Streams {
     alloc: Global,
-    kept: Kept,
+    pub(crate) kept: Kept,
 }
 
 impl Streams {
@@ -45,8 +45,8 @@ impl Streams {
     /// How many streams there are. Takes no memory.
     #[tactic(auto, unfolding(crate::specs::Standing::StandsFor))]
     pub fn count(&self) -> u32
-        requires { stream_count self.now < 2 ^ 32 }
-        ensures { result ≡ stream_count self.now }
+        ensures count { result ≡ stream_count self.now }
+        ensures opened { (past : List SegmentValue) → StandsFor past self.now → result ≡ opened (labels past) }
     {
         self.kept.streams.len() as u32
     }
@@ -64,8 +64,8 @@ impl Streams {
             return Err(NoMemory);
         }
         kept.spent = true;
-        let taken = take_next(self.alloc, &mut kept.newest, &mut kept.streams, s)?;
         kept.taken += 1;
+        let taken = take_next(self.alloc, &mut kept.newest, &mut kept.streams, s)?;
         kept.spent = false;
         Ok(taken)
     }
@@ -78,6 +78,7 @@ fn take_next(
     s: &Segment,
 ) -> Result<Taken, NoMemory>
     requires { (taken : ℕ) × IsSound newest.old streams.old.items taken × (taken < 2 ^ 32 - 1) }
+    ensures count { length streams.new.items ≤ length streams.old.items + 1 }
     ensures sound { OnOk result ((taken : ℕ) → IsSound newest.old streams.old.items taken → IsSound newest.new streams.new.items (taken + 1)) }
     ensures taken { IfOk result (λ taken. (past : List SegmentValue) → Agrees (labels past) newest.old streams.old.items → taken ≡ taken_after past s.now) }
     ensures agrees { OnOk result ((past : List SegmentValue) → Agrees (labels past) newest.old streams.old.items → Agrees (labels (s.now ∷ past)) newest.new streams.new.items) }
@@ -106,7 +107,8 @@ fn current(newest: &Newest, streams: &[Stream], s: &Segment) -> Option<u32>
 fn follow(streams: &mut Vec<Stream>, number: u32, s: &Segment) -> Result<Taken, NoMemory>
     requires within { number < length streams.old.items }
     requires sound { (taken : ℕ) × ((old : StreamValue) → slice_get streams.old.items number ≡ Some old → IsSoundStream taken old) × (taken < 2 ^ 32) }
-    ensures { IfOk result (λ taken. (old : StreamValue) → slice_get streams.old.items number ≡ Some old → (new : StreamValue)
+    ensures count { length streams.new.items ≡ length streams.old.items }
+    ensures followed { IfOk result (λ taken. (old : StreamValue) → slice_get streams.old.items number ≡ Some old → (new : StreamValue)
         × (streams.new.items ≡ slice_set streams.old.items number new) × IsStepped number (side_from old.first s.now) s.now old new taken) }
 {
     let stream = &mut streams[number as usize];
@@ -122,6 +124,7 @@ fn start(
     s: &Segment,
 ) -> Result<Taken, NoMemory>
     requires { length streams.old.items < 2 ^ 32 }
+    ensures count { length streams.new.items ≤ length streams.old.items + 1 }
     ensures opened { IfOk result (λ taken. (new : StreamValue) × (streams.new.items ≡ streams.old.items ++ new ∷ []) × IsOpened (length streams.old.items) s.now new taken) }
     ensures newest { OnOk result ((ends : EndsValue) → number_of newest.new ends ≡ (if same_ends (ends_value s.now) ends then Some (length streams.old.items) else number_of newest.old ends)) }
 {
