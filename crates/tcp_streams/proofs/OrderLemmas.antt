@@ -141,8 +141,8 @@ front_for_low : (origin : ℕ) (side : Bool) (ls : List Sided) → AllShort orig
 front_for_low origin side ls short holds =
     let w = way_after side ls in
     front_low w.held (start_for w) (front_for w) (front_for_place side ls) (λ p there.
-        let cell = cell_at w.held p there in
-        held_low origin side ls p cell.0.0 short (holds p cell.0 cell.1))
+    let cell = cell_at w.held p there in
+    held_low origin side ls p cell.0.0 short (holds p cell.0 cell.1))
 
 -- a cell that a segment brings is one that it gives
 cell_given : (origin start front : ℕ) (s : Segment) (p : ℕ) (cell : Cell) → front ≤ 2 ^ 31 → (0 < length s.payload → offset origin s + length s.payload < 2 ^ 31)
@@ -353,7 +353,7 @@ run_is origin side ls is =
           let at : slice_index (bytes_at w.held w.start (length w.front)) p ≡ byte_of (get w.held (w.start + p)) = index_bytes w.held w.start (length w.front) p low in
           let place : w.start + p ≡ p = omega (arith, begins) in
           let byte : slice_index w.front p ≡ cell.0.0 =
-              ap (λ (bytes : List ℕ). slice_index bytes p) way.bytes ∙ at ∙ ap (λ (q : ℕ). byte_of (get w.held q)) place ∙ ap byte_of cell.1 in
+          ap (λ (bytes : List ℕ). slice_index bytes p) way.bytes ∙ at ∙ ap (λ (q : ℕ). byte_of (get w.held q)) place ∙ ap byte_of cell.1 in
           subst (IsGiven origin side ls p) (sym byte) (holds_sent origin side ls is.origin_is is.short p cell.0 cell.1);
       ends = λ byte given.
           let there = holds_given origin side ls is (length w.front) byte given in

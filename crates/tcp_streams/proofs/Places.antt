@@ -189,9 +189,11 @@ apart_past (suc n) held acked start front low place order =
       | Some next ↦ λ e.
           let found = next_is (acked - front) held (front + 1) next e in
           let far : front + 1 ≤ next = found.first.order in
-          let run : start ≤ front = place.order in
-          (order, apart_past n held acked next (first_free held next) (start + length (bytes_at held start (front - start)) + 1)
-              (place_jump held start front next place found.first) (omega (arith, length-bytes_at held start (front - start))))
+          let run : start ≤ front = place.order in (
+            order,
+            apart_past n held acked next (first_free held next) (start + length (bytes_at held start (front - start)) + 1)
+                (place_jump held start front next place found.first) (omega (arith, length-bytes_at held start (front - start))),
+          )
     ] refl
 
 pub apart_low : (low lower : ℕ) (xs : List Stretch) (next : ℕ) → lower ≤ low → AreApart low xs next → AreApart lower xs next

@@ -1,7 +1,6 @@
 -- Sequence numbers and positions (RFC 9293, 3.4). A direction's bytes have positions from 0; its origin is the number of
 -- the byte at position 0, and numbers are those modulo 2^32.
 use Rattle.std.specs.Prelude.{ℕ, ◌+◌, ◌-◌, ◌%◌, ◌^◌, max, if◌then◌else◌, nat_lt, List, take, drop, ℤ, pos, ◌-ℤ◌}
-
 use Rattle.tcp_streams.specs.declared.segment.Segment.{Segment}
 
 -- the number of a segment's first byte: SYN takes the number before it

@@ -8,8 +8,12 @@ mod numbers;
 mod passing;
 mod reads;
 mod segment;
+#[cfg(test)]
+mod sequences;
 mod stream;
 mod streams;
+#[cfg(test)]
+mod tests;
 mod way;
 
 pub use segment::{Segment, Taken};

@@ -1,4 +1,4 @@
-ghost use Rattle.std.specs.Prelude.{◌≡◌, ◌-◌, ◌<◌, List, IfOk};
+ghost use Rattle.std.specs.Prelude.{◌≡◌, ◌↔◌, true, ◌-◌, ◌<◌, List, IfOk};
 ghost use Rattle.range_bytes.specs.Held.{HoldsAll, frames_at};
 ghost use Rattle.tcp_streams.specs.declared.segment.Segment.{Segment as SegmentValue};
 ghost use Rattle.tcp_streams.specs.Ways.{stretches};
@@ -36,6 +36,15 @@ impl Streams {
         ensures { IfOk result (λ all. (past : List SegmentValue) → StandsFor past self.now → all ≡ stretches (way_for past stream side)) }
     {
         self.way(stream, side).stretches()
+    }
+
+    /// Whether every byte of a direction from a position up to and without another is held. Takes no memory.
+    pub fn holds(&self, stream: u32, side: u8, from: u64, to: u64) -> bool
+        requires stream { stream < stream_count self.now }
+        requires side { side < 2 }
+        ensures { (result ≡ true) ↔ HoldsAll (way_in self.now stream side).held from to }
+    {
+        self.way(stream, side).held.first_free(from) >= to
     }
 
     /// The numbers of the frames that brought the bytes from a position up to and without another: ascending, each once.

@@ -98,7 +98,14 @@ impl Way {
         let ahead = ahead(origin, passed.end, number);
         put(&mut self.held, passed.start, passed.end, ahead, s)?;
         let to = self.held.first_free(passed.end);
-        renew(&mut self.front, &self.held, passed.lost.len(), passed.start, passed.end, to)?;
+        renew(
+            &mut self.front,
+            &self.held,
+            passed.lost.len(),
+            passed.start,
+            passed.end,
+            to,
+        )?;
         self.earlier.append(&mut passed.left)?;
         self.origin = Some(origin);
         self.start = passed.start;
@@ -116,7 +123,12 @@ fn put(held: &mut Ranges, start: u64, front: u64, ahead: u32, s: &Segment) -> Re
     ensures { OnOk result (held.new ≡ held_with held.old start front ahead s.now) }
 {
     let from = place(start, front, ahead);
-    let bytes = part_taken(&s.payload, from, skipped(start, front, ahead), window_end(front))?;
+    let bytes = part_taken(
+        &s.payload,
+        from,
+        skipped(start, front, ahead),
+        window_end(front),
+    )?;
     held.insert(from, &bytes, s.frame)?;
     Ok(())
 }

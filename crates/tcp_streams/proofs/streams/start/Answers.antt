@@ -15,12 +15,16 @@ take-requires-clause-one c = subst IsWay (sym c.new-stream.ensures.one) nothing_
 
 -- src/streams.rt:118:1
 pub returns-clause-opened : goal.returns-clause-opened
-returns-clause-opened c = (c.take.new.self, c.in_ok-push.ensures.items, record {
-  first = c.in_ok-taken.ensures.first ∙ c.new-stream.ensures.first;
-  zero = c.in_ok-taken.ensures.zero ∙ ap (λ (w : WayState). own_step w c.args.s.now) c.new-stream.ensures.zero;
-  one = c.in_ok-taken.ensures.one ∙ ap (λ (w : WayState). other_step w c.args.s.now) c.new-stream.ensures.one;
-  told_is = c.in_ok-taken.ensures.told
-    ∙ ap (λ (w : WayState). told c.len-number.result false w (state_of c.new-stream.result.one) c.args.s.now) c.new-stream.ensures.zero
-    ∙ ap (λ (w : WayState). told c.len-number.result false nothing w c.args.s.now) c.new-stream.ensures.one
-    ∙ ap (λ (n : ℕ). told n false nothing nothing c.args.s.now) (c.len-number.ensures ∙ c.args.streams.now.ok.0);
-})
+returns-clause-opened c = (
+  c.take.new.self,
+  c.in_ok-push.ensures.items,
+  record {
+    first = c.in_ok-taken.ensures.first ∙ c.new-stream.ensures.first;
+    zero = c.in_ok-taken.ensures.zero ∙ ap (λ (w : WayState). own_step w c.args.s.now) c.new-stream.ensures.zero;
+    one = c.in_ok-taken.ensures.one ∙ ap (λ (w : WayState). other_step w c.args.s.now) c.new-stream.ensures.one;
+    told_is = c.in_ok-taken.ensures.told
+        ∙ ap (λ (w : WayState). told c.len-number.result false w (state_of c.new-stream.result.one) c.args.s.now) c.new-stream.ensures.zero
+        ∙ ap (λ (w : WayState). told c.len-number.result false nothing w c.args.s.now) c.new-stream.ensures.one
+        ∙ ap (λ (n : ℕ). told n false nothing nothing c.args.s.now) (c.len-number.ensures ∙ c.args.streams.now.ok.0);
+  },
+)

@@ -23,19 +23,19 @@ opens c =
 pub returns-in-Some-clause-sound : goal.returns-in-Some-clause-sound
 returns-in-Some-clause-sound c = IfOk-weaker c.follow.result (λ t. Followed c.args.streams.now.items c.in-Some.number c.args.s.now t c.follow.new.streams.items) _
     (λ t followed taken sound.
-        sound_followed taken c.args.newest.now c.args.streams.now.items c.follow.new.streams.items c.args.s.now c.in-Some.number t (within c) followed sound) c.follow.ensures.followed
+    sound_followed taken c.args.newest.now c.args.streams.now.items c.follow.new.streams.items c.args.s.now c.in-Some.number t (within c) followed sound) c.follow.ensures.followed
 
 -- src/streams.rt:74:1
 pub returns-in-Some-clause-taken : goal.returns-in-Some-clause-taken
 returns-in-Some-clause-taken c = IfOk-weaker c.follow.result (λ t. Followed c.args.streams.now.items c.in-Some.number c.args.s.now t c.follow.new.streams.items) _
     (λ t followed past agrees. told_followed (labels past) c.args.newest.now c.args.streams.now.items c.follow.new.streams.items c.args.s.now c.in-Some.number t
-        (within c) followed (goes_on c) agrees) c.follow.ensures.followed
+    (within c) followed (goes_on c) agrees) c.follow.ensures.followed
 
 -- src/streams.rt:74:1
 pub returns-in-Some-clause-agrees : goal.returns-in-Some-clause-agrees
 returns-in-Some-clause-agrees c = IfOk-weaker c.follow.result (λ t. Followed c.args.streams.now.items c.in-Some.number c.args.s.now t c.follow.new.streams.items) _
     (λ t followed past agrees. agrees_followed (labels past) c.args.newest.now c.args.streams.now.items c.follow.new.streams.items c.args.s.now c.in-Some.number t
-        (within c) followed (goes_on c) agrees) c.follow.ensures.followed
+    (within c) followed (goes_on c) agrees) c.follow.ensures.followed
 
 -- src/streams.rt:74:1
 pub returns-in-None-clause-sound : goal.returns-in-None-clause-sound
