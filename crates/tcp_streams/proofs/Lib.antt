@@ -6,3 +6,4 @@ pub mod TakeLemmas
 pub mod Keys
 pub mod OrderLemmas
 pub mod ReadLemmas
+pub mod FramesAside

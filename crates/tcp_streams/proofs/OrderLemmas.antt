@@ -13,7 +13,7 @@ use Rattle.tcp_streams.specs.declared.segment.Segment.{Segment}
 use Rattle.tcp_streams.specs.Numbers.{first_number, ahead, place, skipped, taken_bytes, window}
 use Rattle.tcp_streams.specs.Gaps.{gaps_behind, start_past, end_past, left_behind}
 use Rattle.tcp_streams.specs.Ways.{WayState, Sided, nothing, end_of, lost_in, start_for, front_for, origin_for, held_with, held_after, own_step, other_step, way_step, way_after, same_side, IsPlace, IsWay}
-use Rattle.tcp_streams.specs.Order.{offset, Gives, IsSent, IsGiven, AllAgree, AllInWindow, AllShort, HasOrigin, IsOrderly, HoldsSent, HoldsGiven, IsRunOf, IsAlike, HasAlike, HaveSameSent}
+use Rattle.tcp_streams.specs.Order.{offset, Gives, IsSent, IsGiven, AllAgree, AllInWindow, AllShort, HasOrigin, IsOrderly, HoldsSent, HoldsGiven, IsRunOf, IsAlike, HasAlike, HaveSameSent, IsOrderFree}
 use Rattle.tcp_streams.proofs.Places.{place_past, put_stays, length-bytes_at}
 use Rattle.tcp_streams.proofs.WayLemmas.{after_is}
 
@@ -391,3 +391,11 @@ order_is_free origin side ls ms is other same =
       | inr (inl less) ↦ absurd (run.ends (slice_index ys (length xs)) (given_alike origin side ms ls (length xs) (slice_index ys (length xs)) same.back (more.given (length xs) less)))
       | inr (inr greater) ↦ absurd (more.ends (slice_index xs (length ys)) (given_alike origin side ls ms (length ys) (slice_index xs (length ys)) same.there (run.given (length ys) greater)))
     ]
+
+pub is_order_free : (origin : ℕ) (side : Bool) (ls : List Sided) → IsOrderFree origin side ls
+is_order_free origin side ls = record {
+  sent = holds_sent origin side ls;
+  given = holds_given origin side ls;
+  run = run_is origin side ls;
+  free = order_is_free origin side ls;
+}

@@ -7,3 +7,4 @@ pub mod Labels
 pub mod Stands
 pub mod Standing
 pub mod Order
+pub mod Isolation

@@ -80,3 +80,11 @@ HasAlike side ls s = (t : Segment) × IsSent side ls t × IsAlike s t
 pub record HaveSameSent (side : Bool) (ls ms : List Sided) : Type 0 where
   pub there : (s : Segment) → IsSent side ls s → HasAlike side ms s
   pub back : (s : Segment) → IsSent side ms s → HasAlike side ls s
+
+-- what a direction holds doesn't depend on the order in which its segments came: every held byte is one that was sent there;
+-- and where the segments are orderly, what is held is all that was sent, and the front the same for every other order
+pub record IsOrderFree (origin : ℕ) (side : Bool) (ls : List Sided) : Type 0 where
+  pub sent : HasOrigin origin side ls → AllShort origin side ls → HoldsSent origin side ls
+  pub given : IsOrderly origin side ls → HoldsGiven origin side ls
+  pub run : IsOrderly origin side ls → IsRunOf origin side ls (way_after side ls).front
+  pub free : (ms : List Sided) → IsOrderly origin side ls → IsOrderly origin side ms → HaveSameSent side ls ms → (way_after side ls).front ≡ (way_after side ms).front

@@ -1,11 +1,12 @@
-ghost use Rattle.std.specs.Prelude.{◌≡◌, ℕ, ◌+◌, ◌-◌, ◌^◌, ◌<◌, ◌≤◌, [], ◌∷◌, ◌++◌, List, length, Some, slice_get, slice_set, if◌then◌else◌, IfOk, OnOk, IfSome};
+ghost use Rattle.std.specs.Prelude.{◌≡◌, ℕ, Bool, ◌+◌, ◌-◌, ◌^◌, ◌<◌, ◌≤◌, [], ◌∷◌, ◌++◌, List, length, Some, slice_get, slice_set, if◌then◌else◌, IfOk, OnOk, IfSome};
 ghost use Rattle.tcp_streams.specs.declared.segment.Segment.{Segment as SegmentValue};
 ghost use Rattle.tcp_streams.specs.declared.stream.Stream.{Stream as StreamValue};
 ghost use Rattle.tcp_streams.specs.declared.ends.Ends.{Ends as EndsValue};
 ghost use Rattle.tcp_streams.specs.Ways.{end_of, IsWay};
 ghost use Rattle.tcp_streams.specs.States.{state_of};
 ghost use Rattle.tcp_streams.specs.Conversations.{ends_of as ends_value, same_ends, number_of};
-ghost use Rattle.tcp_streams.specs.Labels.{labels, opened, side_from, taken_after};
+ghost use Rattle.tcp_streams.specs.Labels.{labels, sided_of, opened, side_from, taken_after};
+ghost use Rattle.tcp_streams.specs.Order.{IsOrderFree};
 ghost use Rattle.tcp_streams.specs.Stands.{Agrees, IsSound, IsSoundStream, IsStepped, IsOpened, current_in};
 ghost use Rattle.tcp_streams.specs.Standing.{StandsFor, taken_so_far, stream_count};
 
@@ -52,12 +53,14 @@ impl Streams {
     }
 
     /// Takes a segment, and tells what it is to those before it. After `NoMemory` nothing more is known of the streams.
-    #[tactic(auto, unfolding(crate::specs::Standing::StandsFor))]
+    #[tactic(auto, using(crate::proofs::OrderLemmas::is_order_free), unfolding(crate::specs::Standing::StandsFor))]
     pub fn take(&mut self, s: &Segment) -> Result<Taken, NoMemory>
         requires { taken_so_far self.old < 2 ^ 32 - 1 }
         ensures taken { IfOk result (λ taken. (past : List SegmentValue) → StandsFor past self.old → taken ≡ taken_after past s.now) }
         ensures stands { OnOk result ((past : List SegmentValue) → StandsFor past self.old → StandsFor (s.now ∷ past) self.new) }
         ensures counted { taken_so_far self.new ≤ taken_so_far self.old + 1 }
+        ensures order { (past : List SegmentValue) (stream origin : ℕ) (side : Bool)
+            → IsOrderFree origin side (sided_of stream (labels (s.now ∷ past))) }
     {
         let kept = &mut self.kept;
         if kept.spent {
