@@ -1,0 +1,9 @@
+pub mod Places
+pub mod GapLemmas
+pub mod WayLemmas
+pub mod StandsLemmas
+pub mod TakeLemmas
+pub mod Keys
+pub mod OrderLemmas
+pub mod ReadLemmas
+pub mod FramesAside

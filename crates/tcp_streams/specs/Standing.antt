@@ -1,0 +1,38 @@
+-- The streams that stand for a list of segments.
+use Rattle.std.specs.Prelude.{◌≡◌, ◌==◌, ℕ, Bool, false, if◌then◌else◌, List, length, Option, None, Some, slice_get}
+use Rattle.tcp_streams.specs.declared.segment.Segment.{Segment}
+use Rattle.tcp_streams.specs.declared.streams.Streams.{Streams}
+use Rattle.tcp_streams.specs.declared.stream.Stream.{Stream}
+use Rattle.tcp_streams.specs.Ways.{WayState, nothing}
+use Rattle.tcp_streams.specs.States.{state_of}
+use Rattle.tcp_streams.specs.Labels.{labels, way_of}
+use Rattle.tcp_streams.specs.Stands.{Agrees}
+
+-- how many segments were taken
+abbrev pub taken_so_far : Streams → ℕ
+taken_so_far streams = streams.kept.taken
+
+-- how many streams there are; they are numbered from 0
+abbrev pub stream_count : Streams → ℕ
+stream_count streams = length streams.kept.streams.items
+
+pub record StandsRight (past : List Segment) (streams : Streams) : Type 0 where
+  pub fresh : streams.kept.spent ≡ false
+  pub taken : streams.kept.taken ≡ length past
+  pub agrees : Agrees (labels past) streams.kept.newest streams.kept.streams.items
+
+abbrev pub way_kept : Option Stream → Bool → WayState
+way_kept None side = nothing
+way_kept (Some stream) side = if side then state_of stream.one else state_of stream.zero
+
+-- a direction as it is kept, by its stream's number and its side, 0 or 1
+abbrev pub way_in : Streams → ℕ → ℕ → WayState
+way_in streams stream side = way_kept (slice_get streams.kept.streams.items stream) (side == 1)
+
+-- a direction after segments, by its stream's number and its side
+abbrev pub way_for : List Segment → ℕ → ℕ → WayState
+way_for past stream side = way_of stream (side == 1) (labels past)
+
+-- the newest segment first
+unfoldable pub StandsFor : List Segment → Streams → Type 0
+StandsFor past streams = StandsRight past streams

@@ -1,0 +1,84 @@
+ghost use Rattle.std.specs.Prelude.{◌≡◌, ◌⊎◌, ◌↔◌};
+ghost use Rattle.tcp_streams.specs.declared.ends.End.{End as EndValue};
+ghost use Rattle.tcp_streams.specs.Conversations.{end_at, end_of_endpoint, comes_first, ends_between, ends_of as ends_value};
+
+use crate::segment::Segment;
+use pk_tree::{Address, Endpoint};
+
+/// An end of a conversation.
+#[derive(Clone, Copy, PartialEq, Eq, Hash)]
+pub(crate) struct End {
+    /// Whether the address is one of IPv6.
+    pub six: bool,
+    pub address: u128,
+    pub port: u16,
+}
+
+/// The two ends of a conversation, in their order, so that both directions have the same.
+#[derive(Clone, Copy, PartialEq, Eq, Hash)]
+pub(crate) struct Ends {
+    pub lesser: End,
+    pub greater: End,
+}
+
+/// The ends of a segment's conversation.
+pub(crate) fn ends_of(s: &Segment) -> Ends
+    ensures { result ≡ ends_value s.now }
+{
+    ends_between(end_of_endpoint(s.from), end_of_endpoint(s.to))
+}
+
+pub(crate) fn end_of_endpoint(endpoint: Endpoint) -> End
+    ensures { result ≡ end_of_endpoint endpoint }
+{
+    end_at(endpoint.address, endpoint.port)
+}
+
+fn end_at(address: Address, port: u16) -> End
+    ensures { result ≡ end_at address port }
+{
+    match address {
+        Address::Four(address) => End {
+            six: false,
+            address: u128::from(address),
+            port,
+        },
+        Address::Six(address) => End {
+            six: true,
+            address,
+            port,
+        },
+    }
+}
+
+/// The ends of a conversation: the same for two segments exactly where both have the same two ends, whichever of them
+/// sends.
+#[tactic(auto, unfolding(crate::specs::Conversations::ends_between))]
+fn ends_between(source: End, target: End) -> Ends
+    ensures ends { result ≡ ends_between source target }
+    ensures unordered { (a b : EndValue) → result ≡ ends_between a b ↔ ((source ≡ a) × (target ≡ b)) ⊎ ((source ≡ b) × (target ≡ a)) }
+{
+    if comes_first(source, target) {
+        Ends {
+            lesser: source,
+            greater: target,
+        }
+    } else {
+        Ends {
+            lesser: target,
+            greater: source,
+        }
+    }
+}
+
+fn comes_first(one: End, other: End) -> bool
+    ensures { result ≡ comes_first one other }
+{
+    if one.six != other.six {
+        return other.six;
+    }
+    if one.address != other.address {
+        return one.address < other.address;
+    }
+    one.port <= other.port
+}

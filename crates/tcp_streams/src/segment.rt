@@ -1,0 +1,36 @@
+use pk_base::{LostList, Octets};
+use pk_tree::Endpoint;
+
+/// A segment of TCP: its frame's number, its ends, what its header says, and its bytes (RFC 9293, 3.1).
+#[derive(Drop)]
+pub struct Segment {
+    pub frame: u32,
+    pub from: Endpoint,
+    pub to: Endpoint,
+    pub seq: u32,
+    pub ack: u32,
+    pub syn: bool,
+    /// Whether the acknowledgment number counts.
+    pub acked: bool,
+    pub payload: Octets,
+}
+
+/// What a segment is to the streams that were there before it.
+#[derive(Drop)]
+pub struct Taken {
+    /// The number of its stream.
+    pub stream: u32,
+    /// 0 where its sender sent the stream's first segment, else 1.
+    pub side: u8,
+    /// The sequence number, counted so that the byte at position 0 has number 1.
+    pub seq: u32,
+    /// The acknowledgment number, counted in the same way, where it counts and the other direction's origin is known.
+    pub ack: Option<u32>,
+    /// The position of its first byte.
+    pub position: i64,
+    /// The front end before the segment, and before the gaps that it passes.
+    pub front_before: u64,
+    pub front_after: u64,
+    /// The gaps that it passes.
+    pub lost: LostList,
+}
