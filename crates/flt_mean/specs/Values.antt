@@ -1,21 +1,14 @@
 -- The values of a term in a tree.
-use Rattle.std.specs.Prelude.{ℕ, List, [], ◌∷◌, length, Option, None}
+use Rattle.std.specs.Prelude.{ℕ, List, [], ◌∷◌, Option, None}
 use Rattle.std.specs.List.{filter_map}
-use Rattle.flt_parse.specs.declared.ast.Function.{Function}
-use Rattle.flt_parse.specs.declared.ast.Function.TheVariants.{Count}
+use Rattle.flt_lists.specs.Called.{values_called}
 use Rattle.flt_types.specs.declared.typed.Term.{Term}
 use Rattle.flt_types.specs.declared.typed.Term.TheVariants as terms
-use Rattle.flt_values.specs.Calls.{called, masked}
+use Rattle.flt_values.specs.Calls.{masked}
 use Rattle.flt_values.specs.Slices.{sliced}
 use Rattle.pk_tree.specs.FieldValues.{values_of}
 use Rattle.pk_tree.specs.Trees.{TreeShown}
 use Rattle.pk_tree.specs.declared.value.Value.{Value}
-use Rattle.pk_tree.specs.declared.value.Value.TheVariants as values
-
--- what a function gives of values: `count` one number, whatever there is to count
-abbrev pub values_called : Function → List Value → List Value
-values_called Count vs = values.Uint (length vs) ∷ []
-values_called function vs = filter_map (λ value. called function value) vs
 
 -- a constant has itself, a field what it has in the chosen layers; a slice has nothing for a value without all its
 -- bytes (wireshark-filter(4))

@@ -1,23 +1,20 @@
 // The truth of a filter in a tree.
 ghost use Rattle.std.specs.Prelude.{◌≡◌, IfOk, IsTrue};
 ghost use Rattle.flt_mean.specs.Chains.{is_single};
-ghost use Rattle.flt_mean.specs.Meaning.{compares, is_among, is_matched, is_some_value, meaning, opposite, passes};
-ghost use Rattle.flt_mean.specs.Questions.{is_so};
-ghost use Rattle.pk_tree.specs.FieldValues.{values_of};
+ghost use Rattle.flt_lists.specs.Passes.{compares, is_some_value, passes};
+ghost use Rattle.flt_lists.specs.Questions.{is_among, is_matched, is_so};
+ghost use Rattle.flt_mean.specs.Meaning.{meaning, opposite};
 ghost use Rattle.flt_mean.specs.Values.{prefix_of_term, values_of_term};
 
 use crate::chain::{Chain, chain_of};
-use crate::quantify::{compares, is_some_value, matched, passes};
-use crate::question::Question;
 use crate::values::values_of_term;
-use crate::walks::{is_protocol, is_there, items_pass};
+use flt_lists::{Question, asks_field, compares, is_some_value, is_there, matched, passes};
 use flt_parse::{Choice, Join};
 use flt_pattern::Pattern;
 use flt_types::{Filter, Member, Term, Typed};
 use flt_values::Relation;
 use pk_base::NoMemory;
-use pk_fields::FieldId;
-use pk_tree::{Layers, Tree};
+use pk_tree::Tree;
 use std::alloc::Global;
 
 /// Whether a tree satisfies a filter.
@@ -94,23 +91,6 @@ fn asks(
             Ok(passes(choice, question, &values))
         }
     }
-}
-
-/// The same of a field. No value is copied but the bytes of a protocol.
-fn asks_field(
-    choice: Choice,
-    question: &Question<'_>,
-    field: FieldId,
-    layers: &Layers,
-    tree: &Tree,
-) -> Result<bool, NoMemory>
-    ensures { IfOk result (λ truth. truth ≡ passes choice (λ v. is_so question.now v) (values_of tree.now field layers.now)) }
-{
-    if is_protocol(field) {
-        let values = tree.values(field, layers)?;
-        return Ok(passes(choice, question, &values));
-    }
-    Ok(items_pass(choice, question, field, layers, tree))
 }
 
 fn compare(

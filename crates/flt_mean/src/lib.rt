@@ -4,12 +4,9 @@
 mod chain;
 mod evaluate;
 mod laws;
-mod quantify;
-mod question;
 #[cfg(test)]
 mod tests;
 mod values;
-mod walks;
 
 pub use evaluate::holds;
 pub use laws::{kept_trees_keep_the_meaning, texts_have_one_meaning};

@@ -152,8 +152,7 @@ fn mask_number(alloc: Global, kind: ValueKind, at: u32, word: &Word) -> Result<u
     let read = constant(reading, word.at)?;
     match read.value {
         Value::Uint(number) => Ok(number),
-        // This never comes: a kind with bits is read as a number.
-        _ => Err(FilterError::NoMemory),
+        _ => unreachable!(),
     }
 }
 

@@ -1,10 +1,10 @@
 use Rattle.std.proofs.Common.{ap, ◌∙◌}
-use Rattle.flt_mean.proofs.WalkLemmas.{item_there}
-use Rattle.flt_mean.specs.Questions.{is_so}
-use Rattle.flt_mean.specs.Walks.{any_in_layers}
-use Rattle.flt_mean.specs.declared.question.Question.TheVariants.{IsThere}
+use Rattle.flt_lists.proofs.WalkLemmas.{item_there}
+use Rattle.flt_lists.specs.Questions.{is_so}
+use Rattle.flt_lists.specs.Walks.{any_in_layers}
+use Rattle.flt_lists.specs.declared.question.Question.TheVariants.{IsThere}
 use Rattle.pk_fields.specs.Fields.{row_of}
-use Rattle.flt_mean.proofs.walks.has_item.Goals as goal
+use Rattle.flt_lists.proofs.walks.has_item.Goals as goal
 
 pub returns : goal.returns
 returns c =

@@ -1,21 +1,22 @@
 // Questions asked of a field's values where they stand in a tree.
-ghost use Rattle.std.specs.Prelude.{◌≡◌, false, true};
-ghost use Rattle.flt_mean.specs.Meaning.{is_some_value, passes};
-ghost use Rattle.flt_mean.specs.Questions.{is_so};
-ghost use Rattle.flt_mean.specs.Walks.{all_in_layer, all_in_layers, all_items, any_in_layer, any_in_layers, any_item, is_asked};
+ghost use Rattle.std.specs.Prelude.{◌≡◌, false, true, IfOk};
+ghost use Rattle.flt_lists.specs.Passes.{is_some_value, passes};
+ghost use Rattle.flt_lists.specs.Questions.{is_so};
+ghost use Rattle.flt_lists.specs.Walks.{all_in_layer, all_in_layers, all_items, any_in_layer, any_in_layers, any_item, is_asked};
 ghost use Rattle.pk_fields.specs.Fields.{row_of};
-ghost use Rattle.pk_tree.specs.Chosen.{holds, is_chosen, some_holds};
 ghost use Rattle.pk_tree.specs.FieldValues.{values_of};
 ghost use Rattle.pk_tree.specs.Values.{is_proto};
 ghost use Rattle.std.specs.List.{list_any, list_all};
 
+use crate::quantify::passes;
 use crate::question::{Question, is_so};
 use flt_parse::Choice;
+use pk_base::NoMemory;
 use pk_fields::{FieldId, ValueKind, kind, proto};
-use pk_tree::{Item, Layer, LayerRange, Layers, Tree};
+use pk_tree::{Item, Layer, Layers, Tree};
 
-/// Whether a field or protocol is there.
-pub(crate) fn is_there(field: FieldId, layers: &Layers, tree: &Tree) -> bool
+/// Whether a tree has a value of a field or protocol in the chosen layers.
+pub fn is_there(field: FieldId, layers: &Layers, tree: &Tree) -> bool
     ensures { result ≡ is_some_value (values_of tree.now field layers.now) }
 {
     if is_protocol(field) {
@@ -40,8 +41,26 @@ fn has_item(field: FieldId, layers: &Layers, tree: &Tree) -> bool
     any_in_layers(&question, field, proto(field), layers, tree.layers())
 }
 
+/// Whether any or all values of a field or protocol in the chosen layers answer a question. No value is copied but the
+/// bytes of a protocol.
+pub fn asks_field(
+    choice: Choice,
+    question: &Question<'_>,
+    field: FieldId,
+    layers: &Layers,
+    tree: &Tree,
+) -> Result<bool, NoMemory>
+    ensures { IfOk result (λ truth. truth ≡ passes choice (λ v. is_so question.now v) (values_of tree.now field layers.now)) }
+{
+    if is_protocol(field) {
+        let values = tree.values(field, layers)?;
+        return Ok(passes(choice, question, &values));
+    }
+    Ok(items_pass(choice, question, field, layers, tree))
+}
+
 /// Whether any or all values of a field answer a question.
-pub(crate) fn items_pass(
+fn items_pass(
     choice: Choice,
     question: &Question<'_>,
     field: FieldId,
@@ -73,7 +92,7 @@ fn all_pass(question: &Question<'_>, field: FieldId, layers: &Layers, tree: &Tre
     all_in_layers(question, field, proto(field), layers, tree.layers())
 }
 
-pub(crate) fn is_protocol(field: FieldId) -> bool
+fn is_protocol(field: FieldId) -> bool
     ensures { result ≡ is_proto (row_of field).kind }
 {
     matches!(kind(field), ValueKind::Proto)
@@ -153,26 +172,5 @@ fn all_items(question: &Question<'_>, field: FieldId, items: &[Item]) -> bool
 fn is_asked(proto: FieldId, layers: &Layers, layer: &Layer) -> bool
     ensures { result ≡ is_asked proto layers.now layer.now }
 {
-    layer.proto == proto && is_chosen(layers, layer.nth)
-}
-
-fn is_chosen(layers: &Layers, nth: u32) -> bool
-    ensures { result ≡ is_chosen layers.now nth }
-{
-    match layers {
-        Layers::All => true,
-        Layers::These(ranges) => any_holds(ranges.slice(), nth),
-    }
-}
-
-fn any_holds(ranges: &[LayerRange], nth: u32) -> bool
-    ensures { result ≡ some_holds ranges.now nth }
-{
-    ranges.iter().any(|range| holds(range, nth))
-}
-
-fn holds(range: &LayerRange, nth: u32) -> bool
-    ensures { result ≡ holds range.now nth }
-{
-    range.from <= nth && nth <= range.to
+    layer.proto == proto && layers.contains(layer.nth)
 }

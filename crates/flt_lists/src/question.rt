@@ -1,15 +1,15 @@
 // What is asked of a single value.
 ghost use Rattle.std.specs.Prelude.{◌≡◌};
 ghost use Rattle.std.specs.List.{list_any};
-ghost use Rattle.flt_mean.specs.Meaning.{is_among, is_member};
-ghost use Rattle.flt_mean.specs.Questions.{is_so};
+ghost use Rattle.flt_lists.specs.Questions.{is_among, is_member, is_so};
 
 use flt_types::Member;
 use flt_values::{Relation, is_nonzero, lies_between, related};
 use pk_tree::Value;
 
+/// What is asked of a single value.
 #[derive(Clone, Copy)]
-pub(crate) enum Question<'f> {
+pub enum Question<'f> {
     /// Whether it stands in the relation to a value, which may have a prefix length.
     IsRelated(Relation, &'f Value, Option<u8>),
     /// Whether it is in the set.
@@ -20,7 +20,8 @@ pub(crate) enum Question<'f> {
     IsThere,
 }
 
-pub(crate) fn is_so(question: &Question<'_>, value: &Value) -> bool
+/// Whether a value answers a question.
+pub fn is_so(question: &Question<'_>, value: &Value) -> bool
     ensures { result ≡ is_so question.now value.now }
 {
     match question {

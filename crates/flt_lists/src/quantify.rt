@@ -1,18 +1,18 @@
 // Whether any or all of a list of values pass a test.
 ghost use Rattle.std.specs.Prelude.{◌≡◌};
 ghost use Rattle.std.specs.List.{list_any, list_all};
-ghost use Rattle.std.specs.Option.{option_map};
-ghost use Rattle.flt_mean.specs.Meaning.{compares, is_matched, is_some_value, passes};
-ghost use Rattle.flt_mean.specs.Questions.{is_so};
-ghost use Rattle.flt_values.specs.Relations.{octets_of, related as are_related};
+ghost use Rattle.flt_lists.specs.Passes.{compares, is_some_value, passes};
+ghost use Rattle.flt_lists.specs.Questions.{is_matched, is_so};
+ghost use Rattle.flt_values.specs.Relations.{related as are_related};
 
 use crate::question::{Question, is_so};
 use flt_parse::Choice;
 use flt_pattern::Search;
-use flt_values::{Relation, related};
+use flt_values::{Relation, octets_of, related};
 use pk_tree::Value;
 
-pub(crate) fn passes(choice: Choice, question: &Question<'_>, values: &[Value]) -> bool
+/// Whether any or all of the values answer a question; of no values neither is true.
+pub fn passes(choice: Choice, question: &Question<'_>, values: &[Value]) -> bool
     ensures { result ≡ passes choice (λ v. is_so question.now v) values.now }
 {
     match choice {
@@ -22,7 +22,7 @@ pub(crate) fn passes(choice: Choice, question: &Question<'_>, values: &[Value]) 
 }
 
 /// Whether there is a value.
-pub(crate) fn is_some_value(values: &[Value]) -> bool
+pub fn is_some_value(values: &[Value]) -> bool
     ensures { result ≡ is_some_value values.now }
 {
     !values.is_empty()
@@ -41,7 +41,7 @@ fn all_are_so(question: &Question<'_>, values: &[Value]) -> bool
 }
 
 /// Whether any or all pairs of a left and a right value stand in a relation. The right ones may have a prefix length.
-pub(crate) fn compares(
+pub fn compares(
     relation: Relation,
     choice: Choice,
     left: &[Value],
@@ -85,9 +85,10 @@ fn all_are_related(relation: Relation, left: &Value, right: &[Value], prefix: Op
         .all(|value| related(relation, left, value, prefix))
 }
 
-/// Whether a pattern matches in the bytes of any or all of the values.
-pub(crate) fn matched(choice: Choice, search: &mut Search<'_>, values: &[Value]) -> bool
-    ensures { result ≡ passes choice (λ v. is_matched search.old v) values.now }
+/// Whether a pattern matches in the bytes of any or all of the values. The search stays as it was.
+pub fn matched(choice: Choice, search: &mut Search<'_>, values: &[Value]) -> bool
+    ensures found { result ≡ passes choice (λ v. is_matched search.old v) values.now }
+    ensures same { search.new ≡ search.old }
 {
     match choice {
         Choice::Any => any_matched(search, values),
@@ -96,7 +97,8 @@ pub(crate) fn matched(choice: Choice, search: &mut Search<'_>, values: &[Value])
 }
 
 fn any_matched(search: &mut Search<'_>, values: &[Value]) -> bool
-    ensures { result ≡ list_any (λ v. is_matched search.old v) values.now }
+    ensures found { result ≡ list_any (λ v. is_matched search.old v) values.now }
+    ensures same { search.new ≡ search.old }
 {
     for value in values {
         if is_matched(search, value) {
@@ -107,7 +109,8 @@ fn any_matched(search: &mut Search<'_>, values: &[Value]) -> bool
 }
 
 fn all_matched(search: &mut Search<'_>, values: &[Value]) -> bool
-    ensures { result ≡ list_all (λ v. is_matched search.old v) values.now }
+    ensures found { result ≡ list_all (λ v. is_matched search.old v) values.now }
+    ensures same { search.new ≡ search.old }
 {
     for value in values {
         if !is_matched(search, value) {
@@ -124,16 +127,5 @@ fn is_matched(search: &mut Search<'_>, value: &Value) -> bool
     match octets_of(value) {
         Some(bytes) => search.is_in(bytes),
         None => false,
-    }
-}
-
-/// The bytes of a value of their class.
-fn octets_of(value: &Value) -> Option<&[u8]>
-    ensures { option_map (λ bytes. bytes.now) result ≡ octets_of value.now }
-{
-    match value {
-        Value::Bytes(bytes) | Value::Text(bytes) | Value::Proto(bytes) => Some(bytes.bytes()),
-        Value::Ether(address) => Some(address.as_slice()),
-        _ => None,
     }
 }

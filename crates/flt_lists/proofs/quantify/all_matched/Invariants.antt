@@ -1,7 +1,7 @@
 use Rattle.std.proofs.Common.{◌≡◌, drop}
 use Rattle.std.specs.List.{list_all}
-use Rattle.flt_mean.specs.Meaning.{is_matched}
-use Rattle.flt_mean.proofs.quantify.all_matched.Given as goal
+use Rattle.flt_lists.specs.Questions.{is_matched}
+use Rattle.flt_lists.proofs.quantify.all_matched.Given as goal
 
 abbrev pub invariant-loop-value : goal.invariant-loop-value
 invariant-loop-value l = record {

@@ -4,10 +4,10 @@ use Rattle.std.specs.Prelude.{◌&&◌, ◌||◌, not}
 use Rattle.std.proofs.lemmas.Bool.{ne_eqb, eqb-false}
 use Rattle.std.proofs.lemmas.List.Folds.{list_all-append, list_any-append}
 use Rattle.std.specs.List.{AllByRecursion as Each, filter, flat_map, list_any, list_all}
-use Rattle.flt_mean.specs.Meaning.{is_some_value}
-use Rattle.flt_mean.specs.Questions.{is_so}
-use Rattle.flt_mean.specs.declared.question.Question.TheVariants.{IsThere}
-use Rattle.flt_mean.specs.Walks.{all_in_layers, all_items, any_in_layers, any_item, is_asked}
+use Rattle.flt_lists.specs.Passes.{is_some_value}
+use Rattle.flt_lists.specs.Questions.{is_so}
+use Rattle.flt_lists.specs.declared.question.Question.TheVariants.{IsThere}
+use Rattle.flt_lists.specs.Walks.{all_in_layers, all_items, any_in_layers, any_item, is_asked}
 use Rattle.pk_buffer.specs.Buffers.{bytes_of}
 use Rattle.pk_fields.specs.Fields.{row_of}
 use Rattle.pk_tree.proofs.FieldLemmas.{no_items}

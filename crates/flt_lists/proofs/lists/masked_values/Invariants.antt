@@ -1,7 +1,7 @@
 use Rattle.std.proofs.Common.{◌≡◌, ◌++◌, drop}
 use Rattle.std.specs.List.{filter_map}
 use Rattle.flt_values.specs.Calls.{masked}
-use Rattle.flt_mean.proofs.values.masked_values.Given as goal
+use Rattle.flt_lists.proofs.lists.masked_values.Given as goal
 
 abbrev pub invariant-loop-value : goal.invariant-loop-value
 invariant-loop-value l =

@@ -1,7 +1,7 @@
 use Rattle.std.proofs.Common.{◌≡◌, ◌++◌, drop}
 use Rattle.std.specs.List.{filter_map}
 use Rattle.flt_values.specs.Calls.{called}
-use Rattle.flt_mean.proofs.values.each_called.Given as goal
+use Rattle.flt_lists.proofs.lists.each_called.Given as goal
 
 abbrev pub invariant-loop-value : goal.invariant-loop-value
 invariant-loop-value l =

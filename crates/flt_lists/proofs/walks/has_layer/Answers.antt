@@ -1,8 +1,8 @@
 use Rattle.std.proofs.Common.{ap, ◌∙◌}
 use Rattle.std.specs.List.{list_any}
-use Rattle.flt_mean.proofs.WalkLemmas.{proto_there}
-use Rattle.flt_mean.specs.Walks.{is_asked}
-use Rattle.flt_mean.proofs.walks.has_layer.Goals as goal
+use Rattle.flt_lists.proofs.WalkLemmas.{proto_there}
+use Rattle.flt_lists.specs.Walks.{is_asked}
+use Rattle.flt_lists.proofs.walks.has_layer.Goals as goal
 
 pub returns : goal.returns
 returns c =

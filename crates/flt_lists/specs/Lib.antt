@@ -1,0 +1,4 @@
+pub mod Called
+pub mod Passes
+pub mod Questions
+pub mod Walks
