@@ -5,7 +5,7 @@ use Rattle.pk_fields.specs.Fields.{row_of}
 use Rattle.pk_tree.specs.declared.value.Value.{Value}
 use Rattle.pk_tree.specs.declared.layer.Layer.{Layer}
 use Rattle.pk_tree.specs.declared.chosen.Layers.TheVariants.{All as AllLayers}
-use Rattle.pk_tree.specs.FieldValues.{item_values, proto_values, layer_values, values_of}
+use Rattle.pk_tree.specs.FieldValues.{item_values, layer_values, values_of}
 use Rattle.pk_tree.specs.Trees.{TreeShown}
 use Rattle.pk_tree.specs.Values.{is_proto}
 use Rattle.out_lines.specs.declared.style.Occurrence.{Occurrence}
@@ -15,13 +15,7 @@ use Rattle.out_lines.specs.Columns.{ColumnShown, with_value, with_values, writte
 use Rattle.out_lines.specs.Lines.{chosen, column_of, column_text}
 use Rattle.out_lines.specs.ValueText.{shown_value}
 
--- the values of a protocol, and those of another field
-pub layers_of_protocol : (buffers : List (List ℕ)) (field : ℕ) (layers : List Layer) → is_proto (row_of field).kind ≡ true →
-    flat_map (layer_values buffers field) layers ≡ flat_map (proto_values buffers field) layers
-unfolding layer_values
-layers_of_protocol buffers field [] is = refl
-layers_of_protocol buffers field (layer ∷ layers) is = rw (is, layers_of_protocol buffers field layers is) refl
-
+-- the values of a field that is no protocol
 pub layers_of_field : (buffers : List (List ℕ)) (field : ℕ) (layers : List Layer) → is_proto (row_of field).kind ≡ false →
     flat_map (layer_values buffers field) layers ≡ flat_map (λ (layer : Layer). item_values field layer.items) layers
 unfolding layer_values

@@ -1,2 +1,4 @@
 pub mod ColumnLemmas
+pub mod KeptLines
+pub mod PlaceLemmas
 pub mod SummaryLemmas

@@ -1,6 +1,6 @@
 -- How a column grows, value by value.
-use Rattle.std.specs.Prelude.{ℕ, Bool, true, not, List, [], ◌∷◌, ◌++◌, if◌then◌else◌}
-use Rattle.std.specs.List.{fold}
+use Rattle.std.specs.Prelude.{ℕ, Bool, true, false, not, List, [], ◌∷◌, ◌++◌, if◌then◌else◌, Option, Some, None}
+use Rattle.std.specs.List.{fold, slice_index_or}
 use Rattle.pk_tree.specs.declared.value.Value.{Value}
 use Rattle.out_lines.specs.declared.style.Occurrence.{Occurrence}
 use Rattle.out_lines.specs.declared.style.Occurrence.TheVariants.{First, Last, All}
@@ -13,6 +13,15 @@ use Rattle.out_lines.specs.ValueText.{shown_value}
 pub record ColumnShown : Type 0 where
   pub text : List ℕ
   pub filled : Bool
+
+-- one without a value
+abbrev pub no_column : ColumnShown
+no_column = record { text = []; filled = false }
+
+-- the one at a place, of those that a line has
+abbrev pub column_at : List ColumnShown → Option ℕ → ColumnShown
+column_at columns None = no_column
+column_at columns (Some place) = slice_index_or columns place no_column
 
 -- whether one more value is shown
 abbrev pub is_wanted : Occurrence → Bool → Bool

@@ -1,4 +1,6 @@
 pub mod Columns
+pub mod Laws
 pub mod Lines
+pub mod Places
 pub mod Summary
 pub mod ValueText

@@ -2,6 +2,8 @@
 #![tactic(auto)]
 
 mod column;
+mod columns;
+mod laws;
 mod lines;
 mod style;
 mod summary;
@@ -9,6 +11,7 @@ mod summary;
 mod tests;
 mod value_text;
 
-pub use lines::{field_line, header_line};
+pub use laws::kept_trees_have_the_same_line;
+pub use lines::{LineWriter, field_line, header_line};
 pub use style::{Occurrence, Quote, Style};
 pub use summary::summary_line;

@@ -1,25 +1,75 @@
 // The line of a frame's fields, and the line of their names.
-ghost use Rattle.std.specs.Prelude.{◌≡◌, ℕ, List, ◌++◌, ◌∷◌, [], IfOk, OnOk};
+ghost use Rattle.std.specs.Prelude.{◌≡◌, ◌++◌, ◌∷◌, [], length, IfOk, OnOk};
 ghost use Rattle.std.specs.List.{join_by, flat_map};
 ghost use Rattle.pk_fields.specs.Fields.{row_of};
 ghost use Rattle.out_lines.specs.Columns.{written};
-ghost use Rattle.out_lines.specs.Lines.{column_text, doubled, field_line_of, header_of, in_quotes, quoted};
+ghost use Rattle.out_lines.specs.Lines.{doubled, field_line_of, header_of, in_quotes, quoted};
+ghost use Rattle.out_lines.specs.Places.{ArePlaces, ArePlanned, AreWritten, column_in};
+ghost use Rattle.pk_tree.specs.Trees.{TreeShown};
 
-use crate::column::{Column, add_layers};
+use crate::column::Column;
+use crate::columns::{add_layers, clear_columns, place_of, plan_columns};
 use crate::style::{Quote, Style};
 use crate::value_text::put_text;
 use pk_base::NoMemory;
 use pk_fields::{FieldId, name};
 use pk_tree::Tree;
 use std::alloc::Global;
+use std::marker::Model;
 
 /// How many bytes a line has room for from the start. Most lines are shorter.
 pub(crate) const LINE_ROOM: usize = 128;
 
+/// Writes the lines of some fields, one tree after the other, always in the same memory.
+#[derive(Drop)]
+pub struct LineWriter {
+    fields: Vec<FieldId>,
+    columns: Vec<Column>,
+    /// By the number of a field, the place of its column.
+    places: Vec<Option<usize>>,
+}
+
+impl Model for LineWriter {
+    ghost use Rattle.std.specs.Prelude.{ℕ, List, length};
+    ghost use Rattle.out_lines.specs.Places.{ArePlanned};
+
+    ghost Value = { List ℕ };
+
+    ghost view = { λ writer. writer.fields.items };
+
+    ghost invariant = { λ writer. ArePlanned writer.fields.items (length writer.columns.items) writer.places.items };
+}
+
+impl LineWriter {
+    pub fn new(alloc: Global, fields: &[FieldId]) -> Result<LineWriter, NoMemory>
+        ensures { IfOk result (λ writer. writer ≡ fields.now) }
+    {
+        let mut all = Vec::with_capacity(alloc, fields.len())?;
+        all.extend_from_slice(fields)?;
+        let mut columns = Vec::with_capacity(alloc, fields.len())?;
+        let mut places = Vec::new(alloc);
+        plan_columns(alloc, fields, &mut columns, &mut places)?;
+        Ok(LineWriter {
+            fields: all,
+            columns,
+            places,
+        })
+    }
+
+    /// Appends the line of a tree, as `field_line` makes it.
+    pub fn write(&mut self, line: &mut Vec<u8>, tree: &Tree, style: &Style) -> Result<(), NoMemory>
+        ensures line { OnOk result (line.new.items ≡ line.old.items
+            ++ field_line_of self.old tree.now style.now) }
+        ensures fields { self.new ≡ self.old }
+    {
+        fill(&mut self.columns, &self.places, style, tree)?;
+        put_line(line, &self.columns, &self.places, &self.fields, style)
+    }
+}
+
 /// The line of a tree: the fields' columns, joined by the separator, and a line feed. A column has the field's values
 /// that the style chooses, joined by the aggregator, and stands in quotes, where the style has some; a quote inside is
 /// doubled. A column without values is empty.
-#[tactic(auto, unfolding(crate::specs::Lines::field_line_of))]
 pub fn field_line(
     alloc: Global,
     tree: &Tree,
@@ -28,9 +78,9 @@ pub fn field_line(
 ) -> Result<Vec<u8>, NoMemory>
     ensures { IfOk result (λ line. line.items ≡ field_line_of fields.now tree.now style.now) }
 {
+    let mut writer = LineWriter::new(alloc, fields)?;
     let mut line = Vec::with_capacity(alloc, LINE_ROOM)?;
-    put_columns(alloc, &mut line, tree, fields, style)?;
-    line.push(b'\n')?;
+    writer.write(&mut line, tree, style)?;
     Ok(line)
 }
 
@@ -68,21 +118,54 @@ fn put_further_names(line: &mut Vec<u8>, fields: &[FieldId], separator: u8) -> R
     Ok(())
 }
 
-fn put_columns(
-    alloc: Global,
-    line: &mut Vec<u8>,
+/// Fills the columns with what a tree has.
+#[tactic(auto, using(crate::proofs::PlaceLemmas::all_written))]
+fn fill(
+    columns: &mut [Column],
+    places: &[Option<usize>],
+    style: &Style,
     tree: &Tree,
+) -> Result<(), NoMemory>
+    requires { ArePlaces (length columns.old) places.now }
+    ensures written { OnOk result (AreWritten style.now columns.new places.now tree.now) }
+    ensures count { length columns.new ≡ length columns.old }
+{
+    clear_columns(columns);
+    add_layers(columns, places, style, tree.layers())
+}
+
+/// Appends a line of columns.
+fn put_line(
+    line: &mut Vec<u8>,
+    columns: &[Column],
+    places: &[Option<usize>],
     fields: &[FieldId],
     style: &Style,
 ) -> Result<(), NoMemory>
-    ensures { OnOk result (line.new.items ≡ line.old.items ++ join_by (column_text tree.now style.now) (style.now.separator ∷ []) fields.now) }
+    requires { ArePlanned fields.now (length columns.now) places.now }
+    ensures { OnOk result ((t : TreeShown) → AreWritten style.now columns.now places.now t
+        → line.new.items ≡ line.old.items ++ field_line_of fields.now t style.now) }
 {
-    let mut column = Column::new(alloc)?;
+    put_columns(line, columns, places, fields, style)?;
+    line.push(b'\n')?;
+    Ok(())
+}
+
+fn put_columns(
+    line: &mut Vec<u8>,
+    columns: &[Column],
+    places: &[Option<usize>],
+    fields: &[FieldId],
+    style: &Style,
+) -> Result<(), NoMemory>
+    requires { ArePlaces (length columns.now) places.now }
+    ensures { OnOk result (line.new.items ≡ line.old.items ++ join_by (λ field. written style.now.quote (column_in columns.now places.now field)) (style.now.separator ∷ []) fields.now) }
+{
     match fields {
         [] => Ok(()),
         [first, others @ ..] => {
-            put_column(line, &mut column, tree, *first, style)?;
-            put_further(line, &mut column, tree, others, style)
+            put_column(line, columns, places, *first, style.quote)?;
+            put_further(line, columns, places, others, style)
         }
     }
 }
@@ -90,39 +173,35 @@ fn put_columns(
 /// Columns behind the first, each behind a separator.
 fn put_further(
     line: &mut Vec<u8>,
-    column: &mut Column,
-    tree: &Tree,
+    columns: &[Column],
+    places: &[Option<usize>],
     fields: &[FieldId],
     style: &Style,
 ) -> Result<(), NoMemory>
-    ensures { OnOk result (line.new.items ≡ line.old.items ++ flat_map (λ field. style.now.separator ∷ column_text tree.now style.now field) fields.now) }
+    requires { ArePlaces (length columns.now) places.now }
+    ensures { OnOk result (line.new.items ≡ line.old.items ++ flat_map (λ field. style.now.separator ∷ written style.now.quote (column_in columns.now places.now field)) fields.now) }
 {
     for field in fields {
         line.push(style.separator)?;
-        put_column(line, column, tree, *field, style)?;
+        put_column(line, columns, places, *field, style.quote)?;
     }
     Ok(())
 }
 
 fn put_column(
     line: &mut Vec<u8>,
-    column: &mut Column,
-    tree: &Tree,
+    columns: &[Column],
+    places: &[Option<usize>],
     field: FieldId,
-    style: &Style,
+    quote: Quote,
 ) -> Result<(), NoMemory>
-    ensures { OnOk result (line.new.items ≡ line.old.items ++ column_text tree.now style.now field) }
+    requires { ArePlaces (length columns.now) places.now }
+    ensures { OnOk result (line.new.items ≡ line.old.items ++ written quote (column_in columns.now places.now field)) }
 {
-    fill(column, tree, field, style)?;
-    put_filled(line, column, style.quote)
-}
-
-fn fill(column: &mut Column, tree: &Tree, field: FieldId, style: &Style) -> Result<(), NoMemory>
-    ensures { OnOk result (written style.now.quote column.new ≡ column_text tree.now style.now field) }
-{
-    column.clear();
-    add_layers(column, style, field, tree.layers())?;
-    Ok(())
+    match place_of(places, field) {
+        Some(place) => put_filled(line, &columns[place], quote),
+        None => Ok(()),
+    }
 }
 
 fn put_filled(line: &mut Vec<u8>, column: &Column, quote: Quote) -> Result<(), NoMemory>

@@ -3,7 +3,7 @@ ghost use Rattle.pk_buffer.specs.Buffers.{IsInside};
 ghost use Rattle.pk_tree.specs.Layouts.{StepsFit};
 ghost use Rattle.pk_tree.specs.Values.{IsProtocol};
 
-use crate::{Occurrence, Quote, Style, field_line, header_line, summary_line};
+use crate::{LineWriter, Occurrence, Quote, Style, field_line, header_line, summary_line};
 use pk_base::{NoMemory, Octets, Span};
 use pk_fields::{FieldId, ids};
 use pk_tree::{Mode, Step, Tree, TreeBuilder, Value, read_layer};
@@ -232,6 +232,22 @@ fn a_quote_inside_is_doubled_and_an_empty_text_is_a_value(rt: HostRuntime) -> Re
         let fields = [ids::TCP_PORT, ids::DNS_TXT, ids::HTTP_HOST];
         check(&rt, rt.alloc(), &tree, &fields, &style, wanted)?;
     }
+    Ok(())
+}
+
+#[test]
+fn a_writer_writes_tree_after_tree(rt: HostRuntime) -> Result<(), NoMemory> {
+    let trees = [several(&rt)?, request(&rt, 60)?.finish(), several(&rt)?];
+    let fields = [ids::IP, ids::IP_SRC, ids::ETH_SRC, ids::IP];
+    let mut writer = LineWriter::new(rt.alloc(), &fields)?;
+    let mut lines = Vec::new(rt.alloc());
+    for tree in &trees {
+        writer.write(&mut lines, tree, &Style::default())?;
+    }
+    assert!(rt;
+        lines.as_slice()
+            == b"ip,ip,ip\t10.0.0.1,10.0.0.3\t\tip,ip,ip\n\t\t02:00:00:00:00:01\t\nip,ip,ip\t10.0.0.1,10.0.0.3\t\tip,ip,ip\n".as_slice()
+    );
     Ok(())
 }
 
