@@ -6,5 +6,6 @@ mod RuleLemmas
 mod Times
 mod Together
 mod ToldLemmas
+mod WantedLemmas
 mod WayLemmas
 mod WordLemmas

@@ -11,5 +11,6 @@ pub mod PlanErrors
 pub mod Reading
 pub mod Statuses
 pub mod Taken
+pub mod Wanted
 pub mod Way
 pub mod Wrote

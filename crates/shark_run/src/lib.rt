@@ -12,6 +12,7 @@ mod plan;
 mod status;
 mod text;
 mod top;
+mod wanted;
 mod words;
 
 pub use laws::{

@@ -12,15 +12,18 @@ ghost use Rattle.dissect.specs.Times.{IsTime};
 ghost use Rattle.dissect.specs.Trees.{tree_at};
 ghost use Rattle.shark_run.specs.Lines.{shown};
 ghost use Rattle.shark_run.specs.Reading.{frames_read};
+ghost use Rattle.shark_run.specs.Wanted.{HasPlan};
 ghost use Rattle.shark_run.specs.Way.{IsBroken, IsFullNear, WroteTaken};
 ghost use Rattle.shark_run.specs.Wrote.{WroteAll, WrotePart};
 
 use crate::lines::satisfies;
 use crate::plan::Plan;
+use crate::wanted::wanted_fields;
 use capture_read::{Ending, Frame, FrameReader, NextFrame, ReadError};
 use dissect::{DecodeAs, Dissector, PortRules, TakeFault};
-use out_lines::{Style, field_line};
+use out_lines::{LineWriter, Style};
 use pk_base::NoMemory;
+use pk_fields::FieldSet;
 use pk_outside::{Capture, Sink, SinkFault, write_whole};
 use pk_tree::Tree;
 use std::alloc::Global;
@@ -44,14 +47,33 @@ fn new_dissector(alloc: Global) -> Dissector
     Dissector::new(alloc, DecodeAs { rules })
 }
 
-// The line of a tree, where the filter lets it through.
-fn line_of(alloc: Global, plan: &Plan, tree: &Tree) -> Result<Vec<u8>, NoMemory>
-    ensures { IfOk result (λ line. line.items ≡ shown plan.now tree.now) }
+// A line, with what writes it.
+#[derive(Drop)]
+struct LineMaker {
+    writer: LineWriter,
+    line: Vec<u8>,
+}
+
+fn new_line_maker(alloc: Global, plan: &Plan) -> Result<LineMaker, NoMemory>
+    ensures { IfOk result (λ lines. lines.writer ≡ plan.now.fields) }
 {
+    Ok(LineMaker {
+        writer: LineWriter::new(alloc, plan.fields.slice())?,
+        line: Vec::new(alloc),
+    })
+}
+
+// Makes the line of a tree, where the filter lets it through, else one of no bytes.
+fn make_line(alloc: Global, plan: &Plan, tree: &Tree, lines: &mut LineMaker) -> Result<(), NoMemory>
+    requires { lines.old.writer ≡ plan.now.fields }
+    ensures line { OnOk result (lines.new.line.items ≡ shown plan.now tree.now) }
+    ensures writer { lines.new.writer ≡ lines.old.writer }
+{
+    lines.line.clear();
     if !satisfies(alloc, &plan.filter, tree)? {
-        return Ok(Vec::new(alloc));
+        return Ok(());
     }
-    field_line(alloc, tree, plan.fields.slice(), &Style::default())
+    lines.writer.write(&mut lines.line, tree, &Style::default())
 }
 
 // Writes the line of a tree, where the filter lets it through.
@@ -59,29 +81,37 @@ fn write_tree<O: Sink>(
     alloc: Global,
     plan: &Plan,
     tree: &Tree,
+    lines: &mut LineMaker,
     out: &mut O,
 ) -> Result<(), SinkFault>
+    requires { lines.old.writer ≡ plan.now.fields }
     ensures whole { OnOk result
         (Appends (O.written out.old) (O.written out.new) (shown plan.now tree.now)) }
     ensures part { AppendsPart (O.written out.old) (O.written out.new) (shown plan.now tree.now) }
     ensures fault { IsErrOf result SinkFault.Failed → Rose (O.faults out.old) (O.faults out.new) }
     ensures faults_stay { O.faults out.old ≤ O.faults out.new }
+    ensures writer { lines.new.writer ≡ lines.old.writer }
 {
-    let line = match line_of(alloc, plan, tree) {
-        Ok(line) => line,
-        Err(NoMemory) => return Err(SinkFault::NoMemory),
-    };
-    write_whole(out, line.as_slice())
+    match make_line(alloc, plan, tree, lines) {
+        Ok(()) => write_whole(out, lines.line.as_slice()),
+        Err(NoMemory) => Err(SinkFault::NoMemory),
+    }
 }
 
-// Takes a frame, and writes its line where the filter lets it through.
+// Takes a frame, of which only the wanted fields are read, and writes its line where the filter
+// lets it through.
+#[tactic(auto, using(crate::proofs::WantedLemmas::shown_kept))]
 fn write_frame<O: Sink>(
     alloc: Global,
     plan: &Plan,
     frame: &Frame,
+    wanted: FieldSet,
     dissector: &mut Dissector,
+    lines: &mut LineMaker,
     out: &mut O,
 ) -> Result<(), RunFault>
+    requires wanted { HasPlan wanted plan.now }
+    requires lines { lines.old.writer ≡ plan.now.fields }
     requires number { frame.now.number ≡ dissector.old.taken + 1 }
     requires time { IfSome frame.now.time IsTime }
     requires captured { dissector.old.captured + length frame.now.bytes ≤ 2 ^ 28 }
@@ -96,17 +126,18 @@ fn write_frame<O: Sink>(
     ensures part { (past : List FrameValue) → Stands past dissector.old
         → AppendsPart (O.written out.old) (O.written out.new)
         (shown plan.now (tree_at past frame.now)) }
+    ensures writer { lines.new.writer ≡ lines.old.writer }
     ensures read { IsErrOf result RunFault.ReadFault → ⊥ }
     ensures fault { IsErrOf result RunFault.WriteFault
         → Rose (O.faults out.old) (O.faults out.new) }
     ensures faults_stay { O.faults out.old ≤ O.faults out.new }
 {
-    let tree = match dissector.take(frame) {
+    let tree = match dissector.take_kept(frame, wanted) {
         Ok(tree) => tree,
         // The first error ends the run, so that this one is never `Spent`.
         Err(TakeFault::NoMemory | TakeFault::Spent) => return Err(RunFault::NoMemory),
     };
-    match write_tree(alloc, plan, &tree, out) {
+    match write_tree(alloc, plan, &tree, lines, out) {
         Ok(()) => Ok(()),
         Err(SinkFault::Failed) => Err(RunFault::WriteFault),
         Err(SinkFault::NoMemory) => Err(RunFault::NoMemory),
@@ -137,11 +168,15 @@ fn one_less(most: Option<u32>) -> Option<u32>
 fn write_rest<C: Capture, O: Sink>(
     alloc: Global,
     plan: &Plan,
+    wanted: FieldSet,
     reader: &mut FrameReader,
     dissector: &mut Dissector,
+    lines: &mut LineMaker,
     capture: &mut C,
     out: &mut O,
 ) -> Result<Ending, RunFault>
+    requires wanted { HasPlan wanted plan.now }
+    requires lines { lines.old.writer ≡ plan.now.fields }
     requires reads { (left : List ℕ) → StandsFor reader.old (Some left) left [] }
     requires number { reader.old.state.number ≡ 1 }
     requires at { reader.old.state.at ≡ 0 }
@@ -184,7 +219,7 @@ fn write_rest<C: Capture, O: Sink>(
             // The first error ends the run, so that this one is never `Spent`.
             Err(ReadError::NoMemory | ReadError::Spent) => return Err(RunFault::NoMemory),
         };
-        match write_frame(alloc, plan, &frame, dissector, out) {
+        match write_frame(alloc, plan, &frame, wanted, dissector, lines, out) {
             Ok(()) => {}
             Err(fault) => return Err(fault),
         }
@@ -222,8 +257,17 @@ pub(crate) fn write_output<C: Capture, O: Sink>(
 {
     let mut reader = FrameReader::new(alloc);
     let mut dissector = new_dissector(alloc);
-    match write_rest(alloc, plan, &mut reader, &mut dissector, capture, out) {
-        Ok(ending) => Ok(ending),
-        Err(fault) => Err(fault),
+    match new_line_maker(alloc, plan) {
+        Ok(mut lines) => write_rest(
+            alloc,
+            plan,
+            wanted_fields(plan),
+            &mut reader,
+            &mut dissector,
+            &mut lines,
+            capture,
+            out,
+        ),
+        Err(NoMemory) => Err(RunFault::NoMemory),
     }
 }

@@ -10,6 +10,7 @@ invariant-loop-alloc g l = record {
   way : AreOnTheWay l.plan l.most (g.C.Capture.left l.fn.capture) l.reader (g.C.Capture.left l.capture) l.dissector (g.O.Sink.written l.fn.out) (g.O.Sink.written l.out);
   together : AreTogether l.reader.state l.dissector;
   took : TookAtMost (suc file_limit) (g.C.Capture.left l.fn.capture) (g.C.Capture.left l.capture);
+  writer : l.lines.writer ≡ l.plan.fields;
   asked : g.C.Capture.asked l.capture ≡ g.C.Capture.asked l.fn.capture;
   begun : g.C.Capture.begun l.capture ≡ g.C.Capture.begun l.fn.capture;
   missed : g.C.Capture.missed l.capture ≡ g.C.Capture.missed l.fn.capture;

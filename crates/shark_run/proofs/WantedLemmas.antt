@@ -1,0 +1,49 @@
+-- A tree that has only the wanted items is shown as the whole tree.
+use Rattle.std.proofs.Common.{◌≡◌, ◌==◌, ◌||◌, ◌<◌, ◌+◌, ℕ, zero, suc, Bool, true, false, List, [], ◌∷◌, length, get_or, Option, Some, None, refl, sym, ap, ◌∙◌, subst, arith, if◌then◌else◌}
+use Rattle.std.specs.List.{AllByRecursion as Each}
+use Rattle.std.proofs.lemmas.Bool.{eq-eqb}
+use Rattle.pk_fields.specs.FieldSets.{is_in}
+use Rattle.pk_tree.specs.Trees.{TreeShown, IsKept, kept_tree}
+use Rattle.out_lines.specs.Lines.{field_line_of, default_style}
+use Rattle.out_lines.proofs.KeptLines.{line_same}
+use Rattle.flt_types.specs.declared.typed.Typed.{Typed}
+use Rattle.flt_mean.proofs.KeptMeaning.{meaning_kept}
+use Rattle.shark_run.specs.declared.plan.Plan.{Plan}
+use Rattle.shark_run.specs.Lines.{satisfies, shown}
+use Rattle.shark_run.specs.Wanted.{HasAsked, HasFields, HasPlan}
+
+-- a set that grows still has what a filter asks for
+pub still_asked : (old new : List ℕ) (filter : Option Typed) → HasAsked old filter → ((f : ℕ) → is_in old f ≡ true → is_in new f ≡ true) →
+    HasAsked new filter
+still_asked old new None has grown = tt
+still_asked old new (Some filter) has grown = λ f asked. grown f (has f asked)
+
+-- a field that was there before, and one that was added
+either_true : (a b : Bool) → (a || (b || true)) ≡ true
+either_true true b = refl
+either_true false true = refl
+either_true false false = refl
+
+pub added_before : (field home f : ℕ) (before after : Bool) → after ≡ (f == field || (f == home || before)) → before ≡ true → after ≡ true
+added_before field home f before after is there =
+    is ∙ ap (λ (b : Bool). f == field || (f == home || b)) there ∙ either_true (f == field) (f == home)
+
+pub added_now : (f field home : ℕ) (before after : Bool) → f ≡ field → after ≡ (f == field || (f == home || before)) → after ≡ true
+added_now f field home before after same is = is ∙ ap (λ (b : Bool). b || (f == home || before)) (eq-eqb f field same)
+
+pub each_at : (P : ℕ → Type 0) (xs : List ℕ) → ((k : ℕ) → k < length xs → P (get_or xs k 0)) → Each P xs
+each_at P [] at = tt
+each_at P (x ∷ xs) at = (at 0 (omega arith), each_at P xs (λ k below. at (suc k) (omega arith)))
+
+satisfies_same : (wanted : List ℕ) (filter : Option Typed) (t : TreeShown) → HasAsked wanted filter → satisfies filter (kept_tree wanted t) ≡ satisfies filter t
+unfolding satisfies
+satisfies_same wanted None t has = refl
+satisfies_same wanted (Some filter) t has = meaning_kept wanted filter t has
+
+shown_same : (wanted : List ℕ) (plan : Plan) (t : TreeShown) → HasPlan wanted plan → shown plan (kept_tree wanted t) ≡ shown plan t
+shown_same wanted plan t has =
+    ap (λ (truth : Bool). if truth then field_line_of plan.fields (kept_tree wanted t) default_style else []) (satisfies_same wanted plan.filter t has.filter)
+    ∙ ap (λ (line : List ℕ). if satisfies plan.filter t then line else []) (line_same wanted plan.fields t default_style has.columns)
+
+pub shown_kept : (wanted : List ℕ) (plan : Plan) (whole tree : TreeShown) → HasPlan wanted plan → IsKept wanted whole tree → shown plan tree ≡ shown plan whole
+shown_kept wanted plan whole tree has kept = ap (shown plan) kept.same ∙ shown_same wanted plan whole has

@@ -1,0 +1,10 @@
+use Rattle.std.proofs.Common.{ℕ, List, subst}
+use Rattle.shark_run.specs.Wanted.{HasFields}
+use Rattle.shark_run.proofs.WantedLemmas.{still_asked}
+use Rattle.shark_run.proofs.wanted.wanted_fields.Goals as goal
+
+pub returns : goal.returns
+returns c = record {
+  filter = still_asked c.add_filter.new.wanted c.add_columns.new.wanted c.args.plan.now.filter c.add_filter.ensures c.add_columns.ensures.kept;
+  columns = subst (λ (fields : List ℕ). HasFields c.add_columns.new.wanted fields) c.slice.ensures c.add_columns.ensures.all;
+}
