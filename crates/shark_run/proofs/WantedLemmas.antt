@@ -28,8 +28,8 @@ pub added_before : (field home f : ℕ) (before after : Bool) → after ≡ (f =
 added_before field home f before after is there =
     is ∙ ap (λ (b : Bool). f == field || (f == home || b)) there ∙ either_true (f == field) (f == home)
 
-pub added_now : (field home : ℕ) (before after : Bool) → after ≡ (field == field || (field == home || before)) → after ≡ true
-added_now field home before after is = is ∙ ap (λ (b : Bool). b || (field == home || before)) (eq-eqb field field refl)
+pub added_now : (f field home : ℕ) (before after : Bool) → f ≡ field → after ≡ (f == field || (f == home || before)) → after ≡ true
+added_now f field home before after same is = is ∙ ap (λ (b : Bool). b || (f == home || before)) (eq-eqb f field same)
 
 pub each_at : (P : ℕ → Type 0) (xs : List ℕ) → ((k : ℕ) → k < length xs → P (get_or xs k 0)) → Each P xs
 each_at P [] at = tt
