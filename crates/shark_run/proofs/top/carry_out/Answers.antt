@@ -19,7 +19,7 @@ pub returns-in-Ok-write_output-clause-part : goal.returns-in-Ok-write_output-cla
 returns-in-Ok-write_output-clause-part g c = rw (← c.in-Ok.ensures.left) c.write_output.ensures.part
 
 pub returns-in-Ok-write_output-clause-taken : goal.returns-in-Ok-write_output-clause-taken
-returns-in-Ok-write_output-clause-taken g c = 
+returns-in-Ok-write_output-clause-taken g c =
     took_begun (file_of c.args.plan.now (g.C.Capture.file c.args.capture.now)) (g.C.Capture.left c.args.capture.now) (g.C.Capture.left c.begin_file.new.capture) (g.C.Capture.left c.write_output.new.capture)
     (g.C.Capture.begun c.args.capture.now) (g.C.Capture.begun c.begin_file.new.capture) (g.C.Capture.begun c.write_output.new.capture) c.in-Ok.ensures.left c.in-Ok.ensures.begun c.write_output.ensures.begun c.write_output.ensures.took
 
@@ -27,7 +27,7 @@ pub returns-in-Err-ReadFault-clause-part : goal.returns-in-Err-ReadFault-clause-
 returns-in-Err-ReadFault-clause-part g c = rw (← c.in-Ok.ensures.left) c.write_output.ensures.part
 
 pub returns-in-Err-ReadFault-clause-taken : goal.returns-in-Err-ReadFault-clause-taken
-returns-in-Err-ReadFault-clause-taken g c = 
+returns-in-Err-ReadFault-clause-taken g c =
     took_begun (file_of c.args.plan.now (g.C.Capture.file c.args.capture.now)) (g.C.Capture.left c.args.capture.now) (g.C.Capture.left c.begin_file.new.capture) (g.C.Capture.left c.write_output.new.capture)
     (g.C.Capture.begun c.args.capture.now) (g.C.Capture.begun c.begin_file.new.capture) (g.C.Capture.begun c.write_output.new.capture) c.in-Ok.ensures.left c.in-Ok.ensures.begun c.write_output.ensures.begun c.write_output.ensures.took
 
@@ -35,7 +35,7 @@ pub returns-in-Err-WriteFault-clause-part : goal.returns-in-Err-WriteFault-claus
 returns-in-Err-WriteFault-clause-part g c = rw (← c.in-Ok.ensures.left) c.write_output.ensures.part
 
 pub returns-in-Err-WriteFault-clause-taken : goal.returns-in-Err-WriteFault-clause-taken
-returns-in-Err-WriteFault-clause-taken g c = 
+returns-in-Err-WriteFault-clause-taken g c =
     took_begun (file_of c.args.plan.now (g.C.Capture.file c.args.capture.now)) (g.C.Capture.left c.args.capture.now) (g.C.Capture.left c.begin_file.new.capture) (g.C.Capture.left c.write_output.new.capture)
     (g.C.Capture.begun c.args.capture.now) (g.C.Capture.begun c.begin_file.new.capture) (g.C.Capture.begun c.write_output.new.capture) c.in-Ok.ensures.left c.in-Ok.ensures.begun c.write_output.ensures.begun c.write_output.ensures.took
 
@@ -43,6 +43,6 @@ pub returns-in-Err-NoMemory-write_output-clause-part : goal.returns-in-Err-NoMem
 returns-in-Err-NoMemory-write_output-clause-part g c = rw (← c.in-Ok.ensures.left) c.write_output.ensures.part
 
 pub returns-in-Err-NoMemory-write_output-clause-taken : goal.returns-in-Err-NoMemory-write_output-clause-taken
-returns-in-Err-NoMemory-write_output-clause-taken g c = 
+returns-in-Err-NoMemory-write_output-clause-taken g c =
     took_begun (file_of c.args.plan.now (g.C.Capture.file c.args.capture.now)) (g.C.Capture.left c.args.capture.now) (g.C.Capture.left c.begin_file.new.capture) (g.C.Capture.left c.write_output.new.capture)
     (g.C.Capture.begun c.args.capture.now) (g.C.Capture.begun c.begin_file.new.capture) (g.C.Capture.begun c.write_output.new.capture) c.in-Ok.ensures.left c.in-Ok.ensures.begun c.write_output.ensures.begun c.write_output.ensures.took
