@@ -1,8 +1,8 @@
 -- How far a run is on its way through a file, and what it wrote then.
-use Rattle.std.proofs.Common.{◌≡◌, ◌≢◌, ◌≤◌, ◌<◌, ℕ, zero, suc, ◌+◌, ◌-◌, ◌^◌, Bool, List, [], ◌∷◌, ◌++◌, length, Option, None, Some, refl, sym, ◌∙◌, ap, subst, append_assoc, append-nil, inr, arith}
+use Rattle.std.proofs.Common.{◌≡◌, ◌≢◌, ◌<◌, ℕ, zero, suc, ◌+◌, ◌-◌, Bool, List, [], ◌∷◌, ◌++◌, length, Option, None, Some, refl, sym, ◌∙◌, ap, subst, append_assoc, append-nil, inr, arith}
 use Rattle.std.specs.Prelude.{IfSome}
 use Rattle.std.specs.Option.{option_map}
-use Rattle.std.specs.Io.KnownBytes.{Appends, Consumes}
+use Rattle.std.specs.Io.KnownBytes.{Appends}
 use Rattle.std.proofs.KnownBytes.{Appends-nil, Appends-trans}
 use Rattle.std.proofs.Math.Dec.{leb-zero, leb-suc-zero}
 use Rattle.pk_base.specs.Limits.{file_limit}
@@ -11,7 +11,7 @@ use Rattle.pk_outside.proofs.Parts.{part_after, part_more}
 use Rattle.capture_read.specs.Answers.{Answers, Fails, HoldsExactly, IsFrontOf, IsNear, TakesFewOf}
 use Rattle.capture_read.specs.Capture.{Reading, capture_of, ended, with_frame}
 use Rattle.capture_read.specs.Reader.{ReaderShown, StandsFor, with_past}
-use Rattle.capture_read.specs.Taken.{TookAtMost, TookFew}
+use Rattle.capture_read.specs.Taken.{TookAtMost}
 use Rattle.capture_read.specs.declared.ending.Ending.{Ending}
 use Rattle.capture_read.specs.declared.ending.Ending.TheVariants.{Whole}
 use Rattle.capture_read.specs.declared.frame.Frame.{Frame}
@@ -22,7 +22,7 @@ use Rattle.shark_run.specs.declared.plan.Plan.{Plan}
 use Rattle.shark_run.specs.Lines.{all_lines, lines_of, trees_after, shown, frame_lines, opening, closing, output_of}
 use Rattle.shark_run.specs.Reading.{front_if, limited, frames_read}
 use Rattle.shark_run.specs.Taken.{Took}
-use Rattle.shark_run.specs.Way.{IsBroken, IsFewer, IsFullNear, IsNearAfter, IsReadSoFar, WroteTaken}
+use Rattle.shark_run.specs.Way.{IsBroken, IsFewer, IsFullNear, IsNearAfter, WroteTaken}
 use Rattle.shark_run.specs.Wrote.{WroteAll, WrotePart}
 use Rattle.shark_run.proofs.FrontLemmas.{limited_frame}
 
