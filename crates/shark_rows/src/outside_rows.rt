@@ -48,6 +48,7 @@ fn a_file_that_is_not_there_cannot_be_opened(rt: HostRuntime) -> Result<(), Fail
     Ok(())
 }
 
+// The first frame ends with the first read.
 #[test]
 fn a_read_that_fails_is_no_end_of_the_file(rt: HostRuntime) -> Result<(), Fail> {
     let faults = Faults {
@@ -57,7 +58,65 @@ fn a_read_that_fails_is_no_end_of_the_file(rt: HostRuntime) -> Result<(), Fail> 
         step: 100,
     };
     let told = "shark: read fault\n";
-    assert!(rt; fails(rt.alloc(), &faults, "f", Status::ReadFault, "", told)?);
+    assert!(rt; fails(rt.alloc(), &faults, "f", Status::ReadFault, "1\n", told)?);
+    Ok(())
+}
+
+/// Three requests, of which the first two end at bytes 100 and 176.
+static THREE_REQUESTS: [&str; 10] = [
+    HEADER,
+    REQUEST_HEAD,
+    REQUEST,
+    PADDING,
+    REQUEST_HEAD,
+    REQUEST,
+    PADDING,
+    REQUEST_HEAD,
+    REQUEST,
+    PADDING,
+];
+
+/// Whether a run over three requests comes to this, where each read gives one byte and one fails.
+fn ends_byte_by_byte(
+    alloc: Global,
+    words: &'static str,
+    failing: &'static [u64],
+    status: Status,
+    out: &'static str,
+) -> Result<bool, AllocError> {
+    let faults = Faults {
+        capture: failing,
+        out: &[],
+        err: &[],
+        step: 1,
+    };
+    let row = Run {
+        shows: "lines before a read that fails",
+        words,
+        filter: "",
+        file: &[],
+        status,
+        out,
+        err: if status == Status::ReadFault {
+            "shark: read fault\n"
+        } else {
+            ""
+        },
+    };
+    comes_to(alloc, &row, "f", bytes_of(alloc, &THREE_REQUESTS)?, &faults)
+}
+
+const FIRST_NUMBER: &str = "-r f -c 1 -T fields -e frame.number";
+
+#[test]
+fn lines_before_a_read_that_fails_are_written(rt: HostRuntime) -> Result<(), Fail> {
+    let alloc = rt.alloc();
+    assert!(rt; ends_byte_by_byte(alloc, NUMBERS, &[202], Status::ReadFault, "1\n2\n")?);
+    assert!(rt; ends_byte_by_byte(alloc, NUMBERS, &[177], Status::ReadFault, "1\n")?);
+    assert!(rt; ends_byte_by_byte(alloc, NUMBERS, &[26], Status::ReadFault, "")?);
+    assert!(rt; ends_byte_by_byte(alloc, NUMBERS, &[], Status::Done, "1\n2\n3\n")?);
+    // What follows the last frame asked for isn't read.
+    assert!(rt; ends_byte_by_byte(alloc, FIRST_NUMBER, &[102], Status::Done, "1\n")?);
     Ok(())
 }
 
