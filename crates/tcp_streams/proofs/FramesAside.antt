@@ -97,28 +97,28 @@ put_alike l m ls ms h k at bytes same p =
     (or_alike (l ∷ ls) (m ∷ ms) (get h p) (get k p) (run_cell at bytes l.segment.frame p) (run_cell at bytes m.segment.frame p)
     (pair_more l m ls ms (get h p) (get k p) (same p)) (run_alike l m ls ms at bytes p)))
 
-first_same : (s t : Segment) → IsSameButFrame s t → first_number s ≡ first_number t
+pub first_same : (s t : Segment) → IsSameButFrame s t → first_number s ≡ first_number t
 first_same s t same = λ i. (same.seq i + cond (same.syn i) 1 0) % 2 ^ 32
 
-end_same : (ls ms : List Sided) (v w : WayState) → IsSameWay ls ms v w → end_of v ≡ end_of w
+pub end_same : (ls ms : List Sided) (v w : WayState) → IsSameWay ls ms v w → end_of v ≡ end_of w
 end_same ls ms v w same = λ i. same.start i + length (same.front i)
 
-lost_same : (ls ms : List Sided) (v w : WayState) → IsSameWay ls ms v w → lost_in v ≡ lost_in w
+pub lost_same : (ls ms : List Sided) (v w : WayState) → IsSameWay ls ms v w → lost_in v ≡ lost_in w
 lost_same ls ms v w same =
     gaps_alike (v.acked - end_of v) v.held w.held v.acked (end_of v) (alike ls ms v w same)
     ∙ (λ i. gaps (same.acked i - end_same ls ms v w same i) w.held (same.acked i) (end_same ls ms v w same i))
 
-start_same : (ls ms : List Sided) (v w : WayState) → IsSameWay ls ms v w → start_for v ≡ start_for w
+pub start_same : (ls ms : List Sided) (v w : WayState) → IsSameWay ls ms v w → start_for v ≡ start_for w
 start_same ls ms v w same = λ i. start_past (same.start i) (lost_same ls ms v w same i)
 
-front_same : (ls ms : List Sided) (v w : WayState) → IsSameWay ls ms v w → front_for v ≡ front_for w
+pub front_same : (ls ms : List Sided) (v w : WayState) → IsSameWay ls ms v w → front_for v ≡ front_for w
 front_same ls ms v w same =
     end_alike v.held w.held (end_of v) (lost_in v) (alike ls ms v w same) ∙ (λ i. end_past w.held (end_same ls ms v w same i) (lost_same ls ms v w same i))
 
-origin_same : (ls ms : List Sided) (v w : WayState) (s t : Segment) → IsSameWay ls ms v w → IsSameButFrame s t → origin_for v s ≡ origin_for w t
+pub origin_same : (ls ms : List Sided) (v w : WayState) (s t : Segment) → IsSameWay ls ms v w → IsSameButFrame s t → origin_for v s ≡ origin_for w t
 origin_same ls ms v w s t way same = λ i. unwrap_or (way.origin i) (first_same s t same i)
 
-ahead_same : (ls ms : List Sided) (v w : WayState) (s t : Segment) → IsSameWay ls ms v w → IsSameButFrame s t
+pub ahead_same : (ls ms : List Sided) (v w : WayState) (s t : Segment) → IsSameWay ls ms v w → IsSameButFrame s t
     → ahead (origin_for v s) (front_for v) (first_number s) ≡ ahead (origin_for w t) (front_for w) (first_number t)
 ahead_same ls ms v w s t way same =
     λ i. ahead (origin_same ls ms v w s t way same i) (front_same ls ms v w way i) (first_same s t same i)
@@ -141,7 +141,7 @@ held_alike ls ms h k same = record {
   byte = λ p. cell_byte ls ms (get h p) (get k p) (same p);
 }
 
-own_same : (l m : Sided) (ls ms : List Sided) (v w : WayState) → IsSameWay ls ms v w → IsSameButFrame l.segment m.segment
+pub own_same : (l m : Sided) (ls ms : List Sided) (v w : WayState) → IsSameWay ls ms v w → IsSameButFrame l.segment m.segment
     → IsSameWay (l ∷ ls) (m ∷ ms) (own_step v l.segment) (own_step w m.segment)
 unfolding own_step
 own_same l m ls ms v w way same =

@@ -7,3 +7,5 @@ pub mod Keys
 pub mod OrderLemmas
 pub mod ReadLemmas
 pub mod FramesAside
+pub mod Keyed
+pub mod Isolating

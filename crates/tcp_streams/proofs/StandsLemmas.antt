@@ -81,7 +81,7 @@ pub below_more : (n m : ℕ) (ls : List Label) → n ≤ m → AllBelow n ls →
 below_more n m [] less below = tt
 below_more n m (l ∷ ls) less below = (omega (arith, below.0), below_more n m ls less below.1)
 
-none_new : (n : ℕ) (ls : List Label) → AllBelow n ls → sided_of n ls ≡ []
+pub none_new : (n : ℕ) (ls : List Label) → AllBelow n ls → sided_of n ls ≡ []
 none_new n [] below = refl
 none_new n (l ∷ ls) below = elim (eqb_tells l.stream n) [
   | inl w ↦ absurd (omega (arith, below.0, w.1))

@@ -6,6 +6,7 @@ ghost use Rattle.tcp_streams.specs.Ways.{end_of, IsWay};
 ghost use Rattle.tcp_streams.specs.States.{state_of};
 ghost use Rattle.tcp_streams.specs.Conversations.{ends_of as ends_value, same_ends, number_of};
 ghost use Rattle.tcp_streams.specs.Labels.{labels, sided_of, opened, side_from, taken_after};
+ghost use Rattle.tcp_streams.specs.Isolation.{HaveSameBetween, IsIsolated};
 ghost use Rattle.tcp_streams.specs.Order.{IsOrderFree};
 ghost use Rattle.tcp_streams.specs.Stands.{Agrees, IsSound, IsSoundStream, IsStepped, IsOpened, current_in};
 ghost use Rattle.tcp_streams.specs.Standing.{StandsFor, taken_so_far, stream_count};
@@ -59,6 +60,7 @@ impl Streams {
         ensures taken { IfOk result (λ taken. (past : List SegmentValue) → StandsFor past self.old → taken ≡ taken_after past s.now) }
         ensures stands { OnOk result ((past : List SegmentValue) → StandsFor past self.old → StandsFor (s.now ∷ past) self.new) }
         ensures counted { taken_so_far self.new ≤ taken_so_far self.old + 1 }
+        ensures isolated { (past ys : List SegmentValue) → HaveSameBetween s.now past ys → IsIsolated s.now past ys }
         ensures order { (past : List SegmentValue) (stream origin : ℕ) (side : Bool)
             → IsOrderFree origin side (sided_of stream (labels (s.now ∷ past))) }
     {

@@ -1,4 +1,5 @@
 use Rattle.std.proofs.Common.{arith}
+use Rattle.tcp_streams.proofs.Isolating.{is_isolated}
 use Rattle.tcp_streams.proofs.streams.Streams.take.Goals as goal
 
 -- src/streams.rt:69:9
@@ -8,3 +9,12 @@ invariant_of-kept-2 c = record {
   few = omega (arith, c.take_next.ensures.count, c.args.self.now.kept.count, c.requires);
   sound = λ _. c.in_ok-taken.ensures.sound c.args.self.now.kept.taken (c.args.self.now.kept.sound c.if-kept.false);
 }
+
+pub returns-clause-isolated : goal.returns-clause-isolated
+returns-clause-isolated c = is_isolated c.args.s.now
+
+pub returns-then-kept-clause-isolated : goal.returns-then-kept-clause-isolated
+returns-then-kept-clause-isolated c = is_isolated c.args.s.now
+
+pub returns-in_err-taken-clause-isolated : goal.returns-in_err-taken-clause-isolated
+returns-in_err-taken-clause-isolated c = is_isolated c.args.s.now
