@@ -1,0 +1,10 @@
+//! Two protocols of local networks: IGMP, which tells of groups, and NTP, which tells the time.
+#![tactic(auto)]
+
+mod igmp;
+mod ntp;
+#[cfg(test)]
+mod tests;
+
+pub use igmp::read_igmp;
+pub use ntp::read_ntp;
