@@ -4,12 +4,12 @@ use Rattle.pk_base.specs.declared.span.Span.{Span}
 use Rattle.pk_tree.specs.declared.heads.After.{After}
 use Rattle.pk_tree.specs.declared.heads.After.TheVariants.{End}
 use Rattle.pk_tree.specs.declared.heads.Next.{Next}
-use Rattle.pk_tree.specs.declared.heads.Next.TheVariants.{Ip4, Ip6, Icmp, Icmp6, Udp, Tcp, HopOpts, Routing, DstOpts, FragHdr, Rest}
+use Rattle.pk_tree.specs.declared.heads.Next.TheVariants.{Ip4, Ip6, Icmp, Icmp6, Udp, Tcp, HopOpts, Routing, DstOpts, FragHdr, Igmp, Rest}
 use Rattle.pk_tree.specs.Following.{carried}
 
--- numbers that mean a protocol under IPv4 alone: 1 ICMP (RFC 792)
+-- numbers that mean a protocol under IPv4 alone: 1 ICMP (RFC 792) and 2 IGMP (RFC 2236)
 abbrev pub next_under_ip4 : ℕ → Next
-next_under_ip4 number = if number == 1 then Icmp else Rest
+next_under_ip4 number = if number == 1 then Icmp else (if number == 2 then Igmp else Rest)
 
 -- and under IPv6 alone: 58 ICMPv6 (RFC 4443, 2.1), and the extension headers 0, 43, 44 and 60 (RFC 8200, 4)
 abbrev pub next_under_ip6 : ℕ → Next

@@ -13,6 +13,8 @@ const HOP_BY_HOP_OPTIONS: u8 = 0;
 
 const ICMP: u8 = 1;
 
+const IGMP: u8 = 2;
+
 const IP4: u8 = 4;
 
 const TCP: u8 = 6;
@@ -71,6 +73,7 @@ fn next_under_ip4(number: u8) -> Next
 {
     match number {
         ICMP => Next::Icmp,
+        IGMP => Next::Igmp,
         _ => Next::Rest,
     }
 }

@@ -439,7 +439,8 @@ fn a_protocol_number_leads_to_its_protocol(rt: HostRuntime) -> Result<(), NoMemo
     for (protocol, next) in [
         (0, Next::Rest),
         (1, Next::Icmp),
-        (2, Next::Rest),
+        (2, Next::Igmp),
+        (3, Next::Rest),
         (6, Next::Tcp),
         (17, Next::Udp),
         (43, Next::Rest),
