@@ -26,7 +26,7 @@ const FRACTION_DIGITS: usize = 9;
 
 /// Appends the text of a field's value.
 #[tactic(auto, unfolding(crate::specs::ValueText::shown_value))]
-pub(crate) fn put_value(
+pub fn put_value(
     alloc: Global,
     line: &mut Vec<u8>,
     field: FieldId,
@@ -48,14 +48,15 @@ pub(crate) fn put_value(
 }
 
 /// Appends a text.
-pub(crate) fn put_text(line: &mut Vec<u8>, text: &str) -> Result<(), NoMemory>
+pub fn put_text(line: &mut Vec<u8>, text: &str) -> Result<(), NoMemory>
     ensures { OnOk result (line.new.items ≡ line.old.items ++ text.now) }
 {
     line.extend_from_slice(text.as_bytes())?;
     Ok(())
 }
 
-fn put_number(line: &mut Vec<u8>, number: u64) -> Result<(), NoMemory>
+/// Appends a number in decimal.
+pub fn put_number(line: &mut Vec<u8>, number: u64) -> Result<(), NoMemory>
     ensures { OnOk result (line.new.items ≡ line.old.items ++ decimal number) }
 {
     let mut buffer = Buffer::new();
@@ -69,8 +70,9 @@ fn put_truth(line: &mut Vec<u8>, truth: bool) -> Result<(), NoMemory>
     Ok(())
 }
 
+/// Appends bytes in hexadecimal.
 #[tactic(auto, unfolding(crate::specs::ValueText::hex_shown))]
-fn put_hex(line: &mut Vec<u8>, bytes: &[u8]) -> Result<(), NoMemory>
+pub fn put_hex(line: &mut Vec<u8>, bytes: &[u8]) -> Result<(), NoMemory>
     ensures { OnOk result (line.new.items ≡ line.old.items ++ hex_shown bytes.now) }
 {
     for byte in bytes {
