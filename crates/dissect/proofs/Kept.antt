@@ -1,7 +1,7 @@
 -- Reading a frame with some fields is reading all of it and keeping those.
 use Rattle.std.proofs.Common.{◌≡◌, ◌==◌, ℕ, zero, suc, ◌-◌, Bool, true, false, if◌then◌else◌, List, [], ◌∷◌, length, Option, Some, None, refl, sym, subst}
 use Rattle.pk_base.specs.declared.span.Span.{Span}
-use Rattle.pk_fields.specs.Ids.{UDP_STREAM, UDP_PAYLOAD, TCP_LEN, TCP_PAYLOAD}
+use Rattle.pk_fields.specs.Ids.{UDP_STREAM, UDP_PAYLOAD, TCP_STREAM, TCP_SEQ, TCP_ACK, TCP_LEN, TCP_PAYLOAD, TCP_LOST}
 use Rattle.pk_tree.specs.declared.heads.After.{After}
 use Rattle.pk_tree.specs.declared.heads.After.TheVariants as afters
 use Rattle.pk_tree.specs.declared.heads.FragmentHead.{FragmentHead}
@@ -21,6 +21,8 @@ use Rattle.dis_link.proofs.LinkKept.{link_kept}
 use Rattle.ip_join.specs.declared.joined.Datagram.{Datagram}
 use Rattle.ip_join.specs.declared.joined.Joined.{Joined}
 use Rattle.ip_join.specs.declared.joined.Joined.TheVariants.{Pending, Whole, Conflict}
+use Rattle.tcp_streams.specs.declared.segment.Taken.{Taken}
+use Rattle.tcp_streams.specs.Gaps.{lost_bytes}
 use Rattle.capture_read.specs.declared.frame.Frame.{Frame}
 use Rattle.dissect.specs.declared.decode.App.{App}
 use Rattle.dissect.specs.declared.decode.App.TheVariants.{Http, Dns, Dhcp, Plain}
@@ -33,7 +35,7 @@ use Rattle.dissect.specs.DataLayer.{data_over}
 use Rattle.dissect.specs.Events.{Event}
 use Rattle.dissect.specs.Fragments.{number_told, conflict_told, error_field, frame_field, length_field, frames_told, joined_told, joined_todo}
 use Rattle.dissect.specs.FrameLayer.{frame_span, is_cut, kept_frame, frame_tree}
-use Rattle.dissect.specs.Payloads.{with_payload, datagram_told, segment_told}
+use Rattle.dissect.specs.Payloads.{with_number, with_ack, with_payload, with_lost, datagram_told, place_told, segment_told}
 use Rattle.dissect.specs.Trees.{kept_walk, walk_of}
 use Rattle.dissect.specs.Walks.{Walk, going, stop, rest_met, joined_met, fragment_by, fragment_met, datagram_met, segment_met, followed, layer_met, message_met, head_by, head_met, step_on, step, rest_on, chain, layers_left, link_met, all_met, no_packet}
 
@@ -116,11 +118,30 @@ datagram_same wanted frame packet es head span t u k =
     let told = payload_kept wanted UDP_PAYLOAD span _ _ (item_kept wanted t u (made_of UDP_STREAM _) k) in
     same_going wanted _ _ _ todos.Done (kept_if wanted (span.len == 0) _ _ _ _ told (message_kept wanted _ (is_cut frame) span _ _ told))
 
+number_kept : (wanted : List ℕ) (field number : ℕ) (t u : TreeShown) → IsKeptTree wanted t u → IsKeptTree wanted (with_number t field number) (with_number u field number)
+number_kept wanted field number t u k = item_kept wanted t u (made_of field (Uint number)) k
+
+ack_kept : (wanted : List ℕ) (ack : Option ℕ) (t u : TreeShown) → IsKeptTree wanted t u → IsKeptTree wanted (with_ack t ack) (with_ack u ack)
+ack_kept wanted None t u k = k
+ack_kept wanted (Some ack) t u k = number_kept wanted TCP_ACK ack t u k
+
+place_kept : (wanted : List ℕ) (taken : Taken) (t u : TreeShown) → IsKeptTree wanted t u → IsKeptTree wanted (place_told t taken) (place_told u taken)
+unfolding place_told
+place_kept wanted taken t u k = ack_kept wanted taken.ack _ _ (number_kept wanted TCP_SEQ taken.seq _ _ (number_kept wanted TCP_STREAM taken.stream t u k))
+
+lost_kept : (wanted : List ℕ) (lost : ℕ) (t u : TreeShown) → IsKeptTree wanted t u → IsKeptTree wanted (with_lost t lost) (with_lost u lost)
+lost_kept wanted lost t u k = kept_if wanted (lost == 0) t u _ _ k (number_kept wanted TCP_LOST lost t u k)
+
+segment_kept : (wanted : List ℕ) (taken : Taken) (span : Span) (t u : TreeShown) → IsKeptTree wanted t u → IsKeptTree wanted (segment_told t taken span) (segment_told u taken span)
+unfolding segment_told
+segment_kept wanted taken span t u k =
+    lost_kept wanted (lost_bytes taken.lost) _ _ (payload_kept wanted TCP_PAYLOAD span _ _ (number_kept wanted TCP_LEN span.len _ _ (place_kept wanted taken t u k)))
+
 segment_same : (wanted : List ℕ) (frame : Frame) (packet : PacketHead) (es : List Event) (head : TcpHead) (span : Span) (t u : TreeShown) → IsKeptTree wanted t u →
     IsSameWay wanted (segment_met frame packet t es head span) (segment_met frame packet u es head span)
-unfolding segment_met segment_told
+unfolding segment_met
 segment_same wanted frame packet es head span t u k =
-    rest_same wanted _ _ es span (payload_kept wanted TCP_PAYLOAD span _ _ (item_kept wanted t u (made_of TCP_LEN (Uint span.len)) k))
+    way_as wanted (λ v. segment_met frame packet v es head span) t u k (λ one. rest_same wanted _ _ _ span (segment_kept wanted _ span t (kept_tree wanted t) one))
 
 -- what follows a header
 followed_same : (wanted : List ℕ) (frame : Frame) (packet : PacketHead) (mode : Mode) (es : List Event) (after : After) (t u : TreeShown) → IsKeptTree wanted t u →

@@ -30,6 +30,8 @@ use Rattle.dis_ports.specs.Udp.{udp_span, udp_layout, udp_after}
 use Rattle.ip_join.specs.declared.joined.Joined.{Joined}
 use Rattle.ip_join.specs.declared.joined.Joined.TheVariants.{Pending, Whole, Conflict}
 use Rattle.ip_join.specs.Stands.{joined_by}
+use Rattle.tcp_streams.specs.declared.segment.Taken.{Taken}
+use Rattle.tcp_streams.specs.Labels.{taken_after}
 use Rattle.capture_read.specs.declared.frame.Frame.{Frame}
 use Rattle.dissect.specs.declared.todo.Head.{Head}
 use Rattle.dissect.specs.declared.todo.Todo.{Todo}
@@ -37,10 +39,11 @@ use Rattle.dissect.specs.declared.todo.Todo.TheVariants as todos
 use Rattle.dissect.specs.Applications.{usual_udp, app_of, payload_over}
 use Rattle.dissect.specs.Conversations.{udp_stream}
 use Rattle.dissect.specs.DataLayer.{data_over}
-use Rattle.dissect.specs.Events.{Event, Piece, Udp}
+use Rattle.dissect.specs.Events.{Event, Piece, Udp, Tcp}
 use Rattle.dissect.specs.Fragments.{fragment_from, fragments_of, conflict_told, joined_told, joined_todo}
 use Rattle.dissect.specs.FrameLayer.{frame_span, is_cut}
 use Rattle.dissect.specs.Payloads.{datagram_told, segment_told}
+use Rattle.dissect.specs.Segments.{segment_from, segments_of}
 
 -- how far a frame is read: the tree so far, all events up to here, the newest first, and what is to be read next
 pub record Walk : Type 0 where
@@ -94,9 +97,18 @@ unfoldable pub datagram_met : Frame → PacketHead → TreeShown → List Event 
 datagram_met frame packet t es head span =
     stop (payload_over (app_of usual_udp head) (datagram_told t (udp_stream es packet head) span) (is_cut frame) span) (Udp frame.number packet head ∷ es)
 
--- what a TCP header carries; so far it is shown as data, beside items in the header's layer
+-- a segment is told in its header's layer; then comes its payload, as data
+abbrev pub told_met : TreeShown → List Event → Taken → Span → Walk
+told_met t es taken span = rest_met (segment_told t taken span) es span
+
+-- a segment, by the segments before it
+abbrev pub taken_met : TreeShown → List Event → ℕ → PacketHead → TcpHead → List ℕ → Span → Walk
+taken_met t es frame packet head bytes span =
+    told_met t (Tcp frame packet head bytes ∷ es) (taken_after (segments_of es) (segment_from frame packet head bytes)) span
+
+-- what a TCP header carries
 unfoldable pub segment_met : Frame → PacketHead → TreeShown → List Event → TcpHead → Span → Walk
-segment_met frame packet t es head span = rest_met (segment_told t span) es span
+segment_met frame packet t es head span = taken_met t es frame.number packet head (bytes_of t.buffers span) span
 
 -- what follows a header, given the IP header of the packet that it is in
 unfoldable pub followed : Frame → PacketHead → Mode → TreeShown → List Event → After → Walk
