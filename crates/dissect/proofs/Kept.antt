@@ -25,12 +25,12 @@ use Rattle.tcp_streams.specs.declared.segment.Taken.{Taken}
 use Rattle.tcp_streams.specs.Gaps.{lost_bytes}
 use Rattle.capture_read.specs.declared.frame.Frame.{Frame}
 use Rattle.dissect.specs.declared.decode.App.{App}
-use Rattle.dissect.specs.declared.decode.App.TheVariants.{Http, Dns, Dhcp, Plain}
+use Rattle.dissect.specs.declared.decode.App.TheVariants.{Http, Dns, Dhcp, Ntp, Plain}
 use Rattle.dissect.specs.declared.times.Times.{Times}
 use Rattle.dissect.specs.declared.todo.Head.{Head}
 use Rattle.dissect.specs.declared.todo.Todo.{Todo}
 use Rattle.dissect.specs.declared.todo.Todo.TheVariants as todos
-use Rattle.dissect.specs.Applications.{message_over, payload_over}
+use Rattle.dissect.specs.Applications.{data_behind, message_over, payload_over}
 use Rattle.dissect.specs.DataLayer.{data_over}
 use Rattle.dissect.specs.Events.{Event}
 use Rattle.dissect.specs.Fragments.{number_told, conflict_told, error_field, frame_field, length_field, frames_told, joined_told, joined_todo}
@@ -102,11 +102,22 @@ payload_kept : (wanted : List ℕ) (field : ℕ) (span : Span) (t u : TreeShown)
 payload_kept wanted field span t u k =
     tree_as wanted (λ v. with_payload v field span) t u k (λ one. kept_if wanted (span.len == 0) t (kept_tree wanted t) _ _ one (item_kept wanted t (kept_tree wanted t) (read_of t.buffers field span) one))
 
+behind_kept : (wanted : List ℕ) (after : After) (t u : TreeShown) → IsKeptTree wanted t u → IsKeptTree wanted (data_behind t after) (data_behind u after)
+behind_kept wanted (afters.Next which span) t u k = data_kept wanted t u span k
+behind_kept wanted (afters.Packet which span packet) t u k = k
+behind_kept wanted (afters.Fragment head span) t u k = k
+behind_kept wanted (afters.Datagram head span) t u k = k
+behind_kept wanted (afters.Segment head span) t u k = k
+behind_kept wanted afters.End t u k = k
+
 message_kept : (wanted : List ℕ) (app : Option App) (cut : Bool) (span : Span) (t u : TreeShown) → IsKeptTree wanted t u → IsKeptTree wanted (message_over app t cut span) (message_over app u cut span)
 message_kept wanted (Some Dns) cut span t u k =
     tree_as wanted (λ v. message_over (Some Dns) v cut span) t u k (λ one. layer_kept wanted t (kept_tree wanted t) _ span _ PlainMode cut one)
 message_kept wanted (Some Dhcp) cut span t u k =
     tree_as wanted (λ v. message_over (Some Dhcp) v cut span) t u k (λ one. layer_kept wanted t (kept_tree wanted t) _ span _ PlainMode cut one)
+message_kept wanted (Some Ntp) cut span t u k =
+    tree_as wanted (λ v. message_over (Some Ntp) v cut span) t u k
+    (λ one. behind_kept wanted _ _ _ (layer_kept wanted t (kept_tree wanted t) _ span _ PlainMode cut one))
 message_kept wanted (Some Http) cut span t u k = data_kept wanted t u span k
 message_kept wanted (Some Plain) cut span t u k = data_kept wanted t u span k
 message_kept wanted None cut span t u k = data_kept wanted t u span k
@@ -180,7 +191,7 @@ head_in wanted nexts.Routing frame head es t k = layer_same wanted frame head es
 head_in wanted nexts.DstOpts frame head es t k = layer_same wanted frame head es _ _ _ _ t (kept_tree wanted t) k
 head_in wanted nexts.FragHdr frame head es t k = layer_same wanted frame head es _ _ _ _ t (kept_tree wanted t) k
 head_in wanted (nexts.Neigh kind) frame head es t k = rest_same wanted t (kept_tree wanted t) es head.span k
-head_in wanted nexts.Igmp frame head es t k = rest_same wanted t (kept_tree wanted t) es head.span k
+head_in wanted nexts.Igmp frame head es t k = layer_same wanted frame head es _ _ _ _ t (kept_tree wanted t) k
 head_in wanted nexts.Rest frame head es t k = rest_same wanted t (kept_tree wanted t) es head.span k
 
 step_same : (wanted : List ℕ) (frame : Frame) (es : List Event) (todo : Todo) (t u : TreeShown) → IsKeptTree wanted t u → IsSameWay wanted (step_on frame t es todo) (step_on frame u es todo)

@@ -30,13 +30,13 @@ impl State {
         requires inside { IsInside tree.old.buffers span }
         requires last { LastIs UDP tree.old.layers }
         requires bytes { length frame.now.bytes < 2 ^ 32 }
-        requires ready { IsReady 2 self.old tree.old }
+        requires ready { IsReady 4 self.old tree.old }
         ensures inside { IfOk result (λ todo. IsTodoInside tree.new.buffers todo) }
         ensures walked { IfOk result (λ todo. (es : List Event) → StandsAt es self.old → IsWalked (datagram_met frame.now packet tree.old es head span) self.new tree.new todo) }
         ensures adds { IfOk result (λ todo. AddsOneThenEnds self.old self.new todo) }
         ensures added { AddsAtMost 1 self.old self.new }
         ensures buffers { tree.new.buffers ≡ tree.old.buffers }
-        ensures most { OnOk result (length tree.new.layers ≤ length tree.old.layers + 2) }
+        ensures most { OnOk result (length tree.new.layers ≤ length tree.old.layers + 4) }
     {
         let stream = self.udp.number(udp_ends(&packet, head))?;
         tell_datagram(stream, span, tree)?;

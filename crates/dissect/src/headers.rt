@@ -11,6 +11,7 @@ use capture_read::Frame;
 use dis_icmp::{read_icmp, read_icmp6};
 use dis_ip::{read_extension, read_ip4, read_ip6};
 use dis_link::{read_arp, read_vlan};
+use dis_more::read_igmp;
 use dis_ports::{read_tcp, read_udp};
 use pk_base::NoMemory;
 use pk_tree::{Mode, Next, TreeBuilder};
@@ -26,13 +27,13 @@ impl State {
     ) -> Result<Todo, NoMemory>
         requires inside { IsInside tree.old.buffers head.span }
         requires bytes { length frame.now.bytes < 2 ^ 32 }
-        requires ready { IsReady 4 self.old tree.old }
+        requires ready { IsReady 6 self.old tree.old }
         ensures inside { IfOk result (λ todo. IsTodoInside tree.new.buffers todo) }
         ensures walked { IfOk result (λ todo. (es : List Event) → StandsAt es self.old → IsWalked (head_met frame.now head tree.old es) self.new tree.new todo) }
         ensures adds { IfOk result (λ todo. AddsOneThenEnds self.old self.new todo) }
         ensures added { AddsAtMost 1 self.old self.new }
         ensures buffers { OnOk result (length tree.new.buffers ≤ length tree.old.buffers + 1) }
-        ensures most { OnOk result (length tree.new.layers ≤ length tree.old.layers + 4) }
+        ensures most { OnOk result (length tree.new.layers ≤ length tree.old.layers + 6) }
     {
         match head.which {
             Next::Arp => {
@@ -79,7 +80,10 @@ impl State {
                 self.follow(frame, head.packet, Mode::Embedded, after, tree)
             }
             Next::Neigh(_) => self.rest(head.span, tree),
-            Next::Igmp => self.rest(head.span, tree),
+            Next::Igmp => {
+                let after = read_igmp(head.span, is_cut(frame), head.mode, tree)?;
+                self.follow(frame, head.packet, head.mode, after, tree)
+            }
             Next::Rest => self.rest(head.span, tree),
         }
     }

@@ -45,13 +45,13 @@ impl State {
         requires inside { LeadsInside tree.old.buffers after }
         requires last { ComesBehind after tree.old.layers }
         requires bytes { length frame.now.bytes < 2 ^ 32 }
-        requires ready { IsReady 2 self.old tree.old }
+        requires ready { IsReady 4 self.old tree.old }
         ensures inside { IfOk result (λ todo. IsTodoInside tree.new.buffers todo) }
         ensures walked { IfOk result (λ todo. (es : List Event) → StandsAt es self.old → IsWalked (followed frame.now packet mode tree.old es after) self.new tree.new todo) }
         ensures adds { IfOk result (λ todo. AddsOneThenEnds self.old self.new todo) }
         ensures added { AddsAtMost 1 self.old self.new }
         ensures buffers { OnOk result (length tree.new.buffers ≤ length tree.old.buffers + 1) }
-        ensures most { OnOk result (length tree.new.layers ≤ length tree.old.layers + 2) }
+        ensures most { OnOk result (length tree.new.layers ≤ length tree.old.layers + 4) }
     {
         match after {
             After::Next(which, span) => Ok(Todo::Head(Head {

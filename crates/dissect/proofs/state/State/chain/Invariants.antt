@@ -13,7 +13,7 @@ invariant-loop-todo l = record {
   adds : (before : State) → AddsOneThenEnds before l.initial.self l.fn.first → AddsOneThenEnds before l.self l.todo;
   room : HasRoom l.self l.todo;
   buffers : length l.tree.buffers + l.left ≤ length l.initial.tree.buffers + l.fn.most;
-  few : length l.tree.layers + 4 * l.left ≤ length l.initial.tree.layers + 4 * l.fn.most;
+  few : length l.tree.layers + 6 * l.left ≤ length l.initial.tree.layers + 6 * l.fn.most;
 }
 
 abbrev pub decreases-loop-todo : goal.decreases-loop-todo
