@@ -24,7 +24,7 @@ const NEIGHBOUR_SOLICITATION: u8 = 135;
 const NEIGHBOUR_ADVERTISEMENT: u8 = 136;
 
 /// Reads a message of neighbour discovery with its options (RFC 4861, 4), from the byte behind the checksum of ICMPv6 on.
-/// `kind` is the message's type. Nothing follows.
+/// `kind` is the message's type, 133 to 137; any other is read as 137 is. Nothing follows.
 #[tactic(auto, using(crate::proofs::OptionBound::options_reach), unfolding(pk_fields::specs::Fields::row_of, pk_fields::specs::Table::rows))]
 pub fn read_neigh(
     kind: u8,
@@ -33,8 +33,6 @@ pub fn read_neigh(
     mode: Mode,
     b: &mut TreeBuilder,
 ) -> Result<After, NoMemory>
-    requires first { 133 ≤ kind }
-    requires last { kind ≤ 137 }
     requires inside { IsInside b.old.buffers span }
     requires room { length b.old.layers + 2 < 2 ^ 32 }
     ensures layer { IfOk result (λ _. b.new ≡ layer_read b.old ND span (neigh_layout kind (bytes_of b.old.buffers span)) mode cut) }

@@ -37,7 +37,7 @@ use Rattle.dissect.specs.Fragments.{number_told, conflict_told, error_field, fra
 use Rattle.dissect.specs.FrameLayer.{frame_span, is_cut, kept_frame, frame_tree}
 use Rattle.dissect.specs.Payloads.{with_number, with_ack, with_payload, with_lost, datagram_told, place_told, segment_told}
 use Rattle.dissect.specs.Trees.{kept_walk, walk_of}
-use Rattle.dissect.specs.Walks.{Walk, going, stop, rest_met, joined_met, fragment_by, fragment_met, datagram_met, segment_met, followed, layer_met, message_met, head_by, head_met, step_on, step, rest_on, chain, layers_left, link_met, all_met, no_packet}
+use Rattle.dissect.specs.Walks.{Walk, going, stop, rest_met, joined_met, fragment_by, fragment_met, datagram_met, segment_met, followed, layer_met, message_met, mode_behind, head_by, head_met, step_on, step, rest_on, chain, layers_left, link_met, all_met, no_packet}
 
 -- two ways that differ in the items that are kept alone
 pub record IsSameWay (wanted : List ℕ) (v x : Walk) : Type 0 where
@@ -174,7 +174,7 @@ layer_same wanted frame head es proto span steps after t u k =
 message_same : (wanted : List ℕ) (frame : Frame) (head : Head) (es : List Event) (proto : ℕ) (steps : List Step) (after : After) (t u : TreeShown) → IsKeptTree wanted t u →
     IsSameWay wanted (message_met frame head t es proto steps after) (message_met frame head u es proto steps after)
 message_same wanted frame head es proto steps after t u k =
-    followed_same wanted frame head.packet Embedded es after _ _ (layer_kept wanted t u proto head.span steps head.mode (is_cut frame) k)
+    followed_same wanted frame head.packet (mode_behind head.mode after) es after _ _ (layer_kept wanted t u proto head.span steps head.mode (is_cut frame) k)
 
 head_in : (wanted : List ℕ) (which : Next) (frame : Frame) (head : Head) (es : List Event) (t : TreeShown) → IsKeptTree wanted t (kept_tree wanted t) → IsSameWay wanted (head_by which frame head t es) (head_by which frame head (kept_tree wanted t) es)
 unfolding head_by
@@ -190,7 +190,7 @@ head_in wanted nexts.HopOpts frame head es t k = layer_same wanted frame head es
 head_in wanted nexts.Routing frame head es t k = layer_same wanted frame head es _ _ _ _ t (kept_tree wanted t) k
 head_in wanted nexts.DstOpts frame head es t k = layer_same wanted frame head es _ _ _ _ t (kept_tree wanted t) k
 head_in wanted nexts.FragHdr frame head es t k = layer_same wanted frame head es _ _ _ _ t (kept_tree wanted t) k
-head_in wanted (nexts.Neigh kind) frame head es t k = rest_same wanted t (kept_tree wanted t) es head.span k
+head_in wanted (nexts.Neigh kind) frame head es t k = layer_same wanted frame head es _ _ _ _ t (kept_tree wanted t) k
 head_in wanted nexts.Igmp frame head es t k = layer_same wanted frame head es _ _ _ _ t (kept_tree wanted t) k
 head_in wanted nexts.Rest frame head es t k = rest_same wanted t (kept_tree wanted t) es head.span k
 

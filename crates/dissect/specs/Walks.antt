@@ -2,7 +2,7 @@
 use Rattle.std.specs.Prelude.{◌==◌, ℕ, zero, suc, ◌-◌, ◌<◌, Bool, true, false, List, ◌∷◌, length, if◌then◌else◌}
 use Rattle.pk_base.specs.declared.span.Span.{Span}
 use Rattle.pk_buffer.specs.Buffers.{IsInside, bytes_of}
-use Rattle.pk_fields.specs.Ids.{ARP, VLAN, IP, IPV6, UDP, TCP, ICMP, ICMPV6, IGMP}
+use Rattle.pk_fields.specs.Ids.{ARP, VLAN, IP, IPV6, UDP, TCP, ICMP, ICMPV6, IGMP, ND}
 use Rattle.pk_tree.specs.declared.heads.Address.TheVariants.{Four}
 use Rattle.pk_tree.specs.declared.heads.After.{After}
 use Rattle.pk_tree.specs.declared.heads.After.TheVariants as afters
@@ -26,6 +26,7 @@ use Rattle.dis_ip.specs.Extensions.{extension_proto, extension_layout, extension
 use Rattle.dis_ip.specs.Ip4.{ip4_span, ip4_layout, ip4_after}
 use Rattle.dis_ip.specs.Ip6.{ip6_span, ip6_layout, ip6_after}
 use Rattle.dis_ports.specs.Tcp.{tcp_layout, tcp_after}
+use Rattle.dis_neigh.specs.Neigh.{neigh_layout}
 use Rattle.dis_more.specs.Igmp.{igmp_layout, igmp_after}
 use Rattle.dis_ports.specs.Udp.{udp_span, udp_layout, udp_after}
 use Rattle.ip_join.specs.declared.joined.Joined.{Joined}
@@ -130,17 +131,22 @@ abbrev pub layer_met : Frame → Head → TreeShown → List Event → ℕ → S
 layer_met frame head t es proto span steps after =
     followed frame head.packet head.mode (layer_read t proto span steps head.mode (is_cut frame)) es after
 
--- a message of ICMP; the packet that one about a packet carries is read as an embedded one
+-- behind a message of ICMP: the packet that one about a packet carries is read as an embedded one, what neighbour discovery says is not
+abbrev pub mode_behind : Mode → After → Mode
+mode_behind mode (afters.Next (nexts.Neigh kind) span) = mode
+mode_behind mode after = Embedded
+
+-- a message of ICMP
 abbrev pub message_met : Frame → Head → TreeShown → List Event → ℕ → List Step → After → Walk
 message_met frame head t es proto steps after =
-    followed frame head.packet Embedded (layer_read t proto head.span steps head.mode (is_cut frame)) es after
+    followed frame head.packet (mode_behind head.mode after) (layer_read t proto head.span steps head.mode (is_cut frame)) es after
 
 -- an extension header of IPv6
 abbrev pub extension_met : Next → Frame → Head → TreeShown → List Event → Walk
 extension_met which frame head t es =
     layer_met frame head t es (extension_proto which) head.span (extension_layout which (head_bytes head t)) (extension_after which head.packet head.mode head.span (head_bytes head t))
 
--- a header by its protocol: its layer, and what follows it; messages of neighbour discovery aren't read yet
+-- a header by its protocol: its layer, and what follows it
 unfoldable pub head_by : Next → Frame → Head → TreeShown → List Event → Walk
 head_by nexts.Ip4 frame head t es =
     layer_met frame head t es IP (ip4_span head.span (head_bytes head t)) (ip4_layout (head_bytes head t)) (ip4_after head.mode (is_cut frame) head.span (head_bytes head t))
@@ -159,7 +165,7 @@ head_by nexts.HopOpts frame head t es = extension_met nexts.HopOpts frame head t
 head_by nexts.Routing frame head t es = extension_met nexts.Routing frame head t es
 head_by nexts.DstOpts frame head t es = extension_met nexts.DstOpts frame head t es
 head_by nexts.FragHdr frame head t es = extension_met nexts.FragHdr frame head t es
-head_by (nexts.Neigh kind) frame head t es = rest_met t es head.span
+head_by (nexts.Neigh kind) frame head t es = layer_met frame head t es ND head.span (neigh_layout kind (head_bytes head t)) afters.End
 head_by nexts.Igmp frame head t es = layer_met frame head t es IGMP head.span igmp_layout (igmp_after head.span)
 head_by nexts.Rest frame head t es = rest_met t es head.span
 

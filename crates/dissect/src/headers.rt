@@ -2,7 +2,7 @@ ghost use Rattle.std.specs.Prelude.{◌≡◌, ◌+◌, ◌<◌, ◌≤◌, ◌^
 ghost use Rattle.pk_buffer.specs.Buffers.{IsInside};
 ghost use Rattle.dissect.specs.Events.{Event};
 ghost use Rattle.dissect.specs.Stands.{StandsAt, IsWalked, IsReady, AddsAtMost, AddsOneThenEnds};
-ghost use Rattle.dissect.specs.Walks.{IsTodoInside, head_met};
+ghost use Rattle.dissect.specs.Walks.{IsTodoInside, head_met, mode_behind};
 
 use crate::frame_layer::is_cut;
 use crate::state::State;
@@ -12,9 +12,10 @@ use dis_icmp::{read_icmp, read_icmp6};
 use dis_ip::{read_extension, read_ip4, read_ip6};
 use dis_link::{read_arp, read_vlan};
 use dis_more::read_igmp;
+use dis_neigh::read_neigh;
 use dis_ports::{read_tcp, read_udp};
 use pk_base::NoMemory;
-use pk_tree::{Mode, Next, TreeBuilder};
+use pk_tree::{After, Mode, Next, TreeBuilder};
 
 impl State {
     /// Reads a header by its protocol. What an ICMP message carries is read as an embedded packet.
@@ -73,18 +74,33 @@ impl State {
             }
             Next::Icmp => {
                 let after = read_icmp(head.span, is_cut(frame), head.mode, tree)?;
-                self.follow(frame, head.packet, Mode::Embedded, after, tree)
+                let mode = mode_behind(head.mode, &after);
+                self.follow(frame, head.packet, mode, after, tree)
             }
             Next::Icmp6 => {
                 let after = read_icmp6(head.span, is_cut(frame), head.mode, tree)?;
-                self.follow(frame, head.packet, Mode::Embedded, after, tree)
+                let mode = mode_behind(head.mode, &after);
+                self.follow(frame, head.packet, mode, after, tree)
             }
-            Next::Neigh(_) => self.rest(head.span, tree),
+            Next::Neigh(kind) => {
+                let after = read_neigh(kind, head.span, is_cut(frame), head.mode, tree)?;
+                self.follow(frame, head.packet, head.mode, after, tree)
+            }
             Next::Igmp => {
                 let after = read_igmp(head.span, is_cut(frame), head.mode, tree)?;
                 self.follow(frame, head.packet, head.mode, after, tree)
             }
             Next::Rest => self.rest(head.span, tree),
         }
+    }
+}
+
+/// How what is behind a message of ICMP is read: a packet that it carries as an embedded one.
+fn mode_behind(mode: Mode, after: &After) -> Mode
+    ensures { result ≡ mode_behind mode after.now }
+{
+    match after {
+        After::Next(Next::Neigh(_), _) => mode,
+        _ => Mode::Embedded,
     }
 }
