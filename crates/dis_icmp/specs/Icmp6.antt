@@ -14,7 +14,7 @@ use Rattle.pk_base.specs.declared.span.Span.{Span}
 use Rattle.pk_fields.specs.Ids.{ICMPV6_TYPE, ICMPV6_CODE, ICMPV6_CHECKSUM, ICMPV6_ECHO_IDENTIFIER, ICMPV6_ECHO_SEQUENCE_NUMBER, ICMPV6_REST}
 use Rattle.pk_tree.specs.declared.heads.After.{After}
 use Rattle.pk_tree.specs.declared.heads.Next.{Next}
-use Rattle.pk_tree.specs.declared.heads.Next.TheVariants.{Ip6, Rest}
+use Rattle.pk_tree.specs.declared.heads.Next.TheVariants.{Ip6, Neigh, Rest}
 use Rattle.pk_tree.specs.declared.layout.Step.{Step}
 use Rattle.pk_tree.specs.declared.layout.Step.TheVariants.{Row, Part}
 use Rattle.pk_tree.specs.Following.{carried}
@@ -32,16 +32,30 @@ is_echo number = number == 128 || number == 129
 abbrev pub is_about_packet : ℕ → Bool
 is_about_packet number = nat_le 1 number && nat_le number 4
 
--- the rows of an echo, or of another message
-unfoldable pub icmp6_rows : Bool → List Step
-icmp6_rows true =
+-- a message of neighbour discovery (RFC 4861, 4): the bytes behind its checksum are a layer of their own
+abbrev pub is_neighbour : ℕ → Bool
+is_neighbour number = nat_le 133 number && nat_le number 137
+
+-- the bytes of a message up to what follows
+abbrev pub header_size : Bool → ℕ
+header_size true = 4
+header_size false = 8
+
+-- the rows of a message of neighbour discovery, of an echo, or of another message
+unfoldable pub icmp6_rows : (neighbour echo : Bool) → List Step
+icmp6_rows true echo =
+    Row ICMPV6_TYPE 0 ∷
+    Row ICMPV6_CODE 1 ∷
+    Row ICMPV6_CHECKSUM 2 ∷
+    []
+icmp6_rows false true =
     Row ICMPV6_TYPE 0 ∷
     Row ICMPV6_CODE 1 ∷
     Row ICMPV6_CHECKSUM 2 ∷
     Row ICMPV6_ECHO_IDENTIFIER 4 ∷
     Row ICMPV6_ECHO_SEQUENCE_NUMBER 6 ∷
     []
-icmp6_rows false =
+icmp6_rows false false =
     Row ICMPV6_TYPE 0 ∷
     Row ICMPV6_CODE 1 ∷
     Row ICMPV6_CHECKSUM 2 ∷
@@ -49,10 +63,11 @@ icmp6_rows false =
     []
 
 abbrev pub icmp6_layout : List ℕ → List Step
-icmp6_layout bytes = icmp6_rows (is_echo (icmp6_type bytes))
+icmp6_layout bytes = icmp6_rows (is_neighbour (icmp6_type bytes)) (is_echo (icmp6_type bytes))
 
 abbrev pub next_of_message : ℕ → Next
-next_of_message number = if is_about_packet number then Ip6 else Rest
+next_of_message number = if is_neighbour number then Neigh number else (if is_about_packet number then Ip6 else Rest)
 
 unfoldable pub icmp6_after : Span → List ℕ → After
-icmp6_after span bytes = carried (next_of_message (icmp6_type bytes)) span 8
+icmp6_after span bytes =
+    carried (next_of_message (icmp6_type bytes)) span (header_size (is_neighbour (icmp6_type bytes)))

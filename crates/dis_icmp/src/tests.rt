@@ -141,15 +141,19 @@ fn other_messages_carry_data(rt: HostRuntime) -> Result<(), NoMemory> {
             follow(rt.alloc(), FOUR, &message)?,
             After::Next(four, part(8, 1))
         );
-        let six = match kind {
-            1 | 2 | 3 | 4 => Next::Ip6,
-            _ => Next::Rest,
+        let (six, start) = match kind {
+            1 | 2 | 3 | 4 => (Next::Ip6, 8),
+            133..=137 => (Next::Neigh(kind), 4),
+            _ => (Next::Rest, 8),
         };
         assert_eq!(rt;
             follow(rt.alloc(), SIX, &message)?,
-            After::Next(six, part(8, 1))
+            After::Next(six, part(start, 9 - start))
         );
-        assert_eq!(rt; follow(rt.alloc(), SIX, &message[..8])?, After::End);
+        assert_eq!(rt;
+            follow(rt.alloc(), SIX, &message[..start as usize])?,
+            After::End
+        );
     }
     Ok(())
 }

@@ -27,6 +27,7 @@ use Rattle.dis_link.specs.Null.{null_after}
 use Rattle.dis_link.specs.Vlan.{vlan_after}
 use Rattle.dis_icmp.specs.Icmp.{icmp_after}
 use Rattle.dis_icmp.specs.Icmp6.{icmp6_after}
+use Rattle.dis_more.specs.Igmp.{igmp_after}
 use Rattle.dis_ip.specs.Extensions.{extension_after}
 use Rattle.dis_ip.specs.FragmentHeader.{fragment_after, fragment_part}
 use Rattle.dis_ip.specs.Fragments.{part_after, is_fragment, LastIsPart}
@@ -112,6 +113,10 @@ icmp_behind layers span bytes = carried_behind layers _ _ _
 pub icmp6_behind : (layers : List Layer) (span : Span) (bytes : List ℕ) → ComesBehind (icmp6_after span bytes) layers
 unfolding icmp6_after
 icmp6_behind layers span bytes = carried_behind layers _ _ _
+
+pub igmp_behind : (layers : List Layer) (span : Span) → ComesBehind (igmp_after span) layers
+unfolding igmp_after
+igmp_behind layers span = carried_behind layers _ _ _
 
 pub ip4_behind : (layers : List Layer) (mode : Mode) (cut : Bool) (span : Span) (bytes : List ℕ) → 0 < length layers
     → LastIsPart layers (ip4_after mode cut span bytes) → ComesBehind (ip4_after mode cut span bytes) layers

@@ -1,7 +1,7 @@
 -- Reading a frame with some fields is reading all of it and keeping those.
 use Rattle.std.proofs.Common.{◌≡◌, ◌==◌, ℕ, zero, suc, ◌-◌, Bool, true, false, if◌then◌else◌, List, [], ◌∷◌, length, Option, Some, None, refl, sym, subst}
 use Rattle.pk_base.specs.declared.span.Span.{Span}
-use Rattle.pk_fields.specs.Ids.{UDP_STREAM, UDP_PAYLOAD, TCP_LEN, TCP_PAYLOAD}
+use Rattle.pk_fields.specs.Ids.{UDP_STREAM, UDP_PAYLOAD, TCP_STREAM, TCP_SEQ, TCP_ACK, TCP_LEN, TCP_PAYLOAD, TCP_LOST}
 use Rattle.pk_tree.specs.declared.heads.After.{After}
 use Rattle.pk_tree.specs.declared.heads.After.TheVariants as afters
 use Rattle.pk_tree.specs.declared.heads.FragmentHead.{FragmentHead}
@@ -21,21 +21,23 @@ use Rattle.dis_link.proofs.LinkKept.{link_kept}
 use Rattle.ip_join.specs.declared.joined.Datagram.{Datagram}
 use Rattle.ip_join.specs.declared.joined.Joined.{Joined}
 use Rattle.ip_join.specs.declared.joined.Joined.TheVariants.{Pending, Whole, Conflict}
+use Rattle.tcp_streams.specs.declared.segment.Taken.{Taken}
+use Rattle.tcp_streams.specs.Gaps.{lost_bytes}
 use Rattle.capture_read.specs.declared.frame.Frame.{Frame}
 use Rattle.dissect.specs.declared.decode.App.{App}
-use Rattle.dissect.specs.declared.decode.App.TheVariants.{Http, Dns, Dhcp, Plain}
+use Rattle.dissect.specs.declared.decode.App.TheVariants.{Http, Dns, Dhcp, Ntp, Plain}
 use Rattle.dissect.specs.declared.times.Times.{Times}
 use Rattle.dissect.specs.declared.todo.Head.{Head}
 use Rattle.dissect.specs.declared.todo.Todo.{Todo}
 use Rattle.dissect.specs.declared.todo.Todo.TheVariants as todos
-use Rattle.dissect.specs.Applications.{message_over, payload_over}
+use Rattle.dissect.specs.Applications.{data_behind, message_over, payload_over}
 use Rattle.dissect.specs.DataLayer.{data_over}
 use Rattle.dissect.specs.Events.{Event}
 use Rattle.dissect.specs.Fragments.{number_told, conflict_told, error_field, frame_field, length_field, frames_told, joined_told, joined_todo}
 use Rattle.dissect.specs.FrameLayer.{frame_span, is_cut, kept_frame, frame_tree}
-use Rattle.dissect.specs.Payloads.{with_payload, datagram_told, segment_told}
+use Rattle.dissect.specs.Payloads.{with_number, with_ack, with_payload, with_lost, datagram_told, place_told, segment_told}
 use Rattle.dissect.specs.Trees.{kept_walk, walk_of}
-use Rattle.dissect.specs.Walks.{Walk, going, stop, rest_met, joined_met, fragment_by, fragment_met, datagram_met, segment_met, followed, layer_met, message_met, head_by, head_met, step_on, step, rest_on, chain, layers_left, link_met, all_met, no_packet}
+use Rattle.dissect.specs.Walks.{Walk, going, stop, rest_met, joined_met, fragment_by, fragment_met, datagram_met, segment_met, followed, layer_met, message_met, mode_behind, head_by, head_met, step_on, step, rest_on, chain, layers_left, link_met, all_met, no_packet}
 
 -- two ways that differ in the items that are kept alone
 pub record IsSameWay (wanted : List ℕ) (v x : Walk) : Type 0 where
@@ -100,11 +102,22 @@ payload_kept : (wanted : List ℕ) (field : ℕ) (span : Span) (t u : TreeShown)
 payload_kept wanted field span t u k =
     tree_as wanted (λ v. with_payload v field span) t u k (λ one. kept_if wanted (span.len == 0) t (kept_tree wanted t) _ _ one (item_kept wanted t (kept_tree wanted t) (read_of t.buffers field span) one))
 
+behind_kept : (wanted : List ℕ) (after : After) (t u : TreeShown) → IsKeptTree wanted t u → IsKeptTree wanted (data_behind t after) (data_behind u after)
+behind_kept wanted (afters.Next which span) t u k = data_kept wanted t u span k
+behind_kept wanted (afters.Packet which span packet) t u k = k
+behind_kept wanted (afters.Fragment head span) t u k = k
+behind_kept wanted (afters.Datagram head span) t u k = k
+behind_kept wanted (afters.Segment head span) t u k = k
+behind_kept wanted afters.End t u k = k
+
 message_kept : (wanted : List ℕ) (app : Option App) (cut : Bool) (span : Span) (t u : TreeShown) → IsKeptTree wanted t u → IsKeptTree wanted (message_over app t cut span) (message_over app u cut span)
 message_kept wanted (Some Dns) cut span t u k =
     tree_as wanted (λ v. message_over (Some Dns) v cut span) t u k (λ one. layer_kept wanted t (kept_tree wanted t) _ span _ PlainMode cut one)
 message_kept wanted (Some Dhcp) cut span t u k =
     tree_as wanted (λ v. message_over (Some Dhcp) v cut span) t u k (λ one. layer_kept wanted t (kept_tree wanted t) _ span _ PlainMode cut one)
+message_kept wanted (Some Ntp) cut span t u k =
+    tree_as wanted (λ v. message_over (Some Ntp) v cut span) t u k
+    (λ one. behind_kept wanted _ _ _ (layer_kept wanted t (kept_tree wanted t) _ span _ PlainMode cut one))
 message_kept wanted (Some Http) cut span t u k = data_kept wanted t u span k
 message_kept wanted (Some Plain) cut span t u k = data_kept wanted t u span k
 message_kept wanted None cut span t u k = data_kept wanted t u span k
@@ -116,11 +129,30 @@ datagram_same wanted frame packet es head span t u k =
     let told = payload_kept wanted UDP_PAYLOAD span _ _ (item_kept wanted t u (made_of UDP_STREAM _) k) in
     same_going wanted _ _ _ todos.Done (kept_if wanted (span.len == 0) _ _ _ _ told (message_kept wanted _ (is_cut frame) span _ _ told))
 
+number_kept : (wanted : List ℕ) (field number : ℕ) (t u : TreeShown) → IsKeptTree wanted t u → IsKeptTree wanted (with_number t field number) (with_number u field number)
+number_kept wanted field number t u k = item_kept wanted t u (made_of field (Uint number)) k
+
+ack_kept : (wanted : List ℕ) (ack : Option ℕ) (t u : TreeShown) → IsKeptTree wanted t u → IsKeptTree wanted (with_ack t ack) (with_ack u ack)
+ack_kept wanted None t u k = k
+ack_kept wanted (Some ack) t u k = number_kept wanted TCP_ACK ack t u k
+
+place_kept : (wanted : List ℕ) (taken : Taken) (t u : TreeShown) → IsKeptTree wanted t u → IsKeptTree wanted (place_told t taken) (place_told u taken)
+unfolding place_told
+place_kept wanted taken t u k = ack_kept wanted taken.ack _ _ (number_kept wanted TCP_SEQ taken.seq _ _ (number_kept wanted TCP_STREAM taken.stream t u k))
+
+lost_kept : (wanted : List ℕ) (lost : ℕ) (t u : TreeShown) → IsKeptTree wanted t u → IsKeptTree wanted (with_lost t lost) (with_lost u lost)
+lost_kept wanted lost t u k = kept_if wanted (lost == 0) t u _ _ k (number_kept wanted TCP_LOST lost t u k)
+
+segment_kept : (wanted : List ℕ) (taken : Taken) (span : Span) (t u : TreeShown) → IsKeptTree wanted t u → IsKeptTree wanted (segment_told t taken span) (segment_told u taken span)
+unfolding segment_told
+segment_kept wanted taken span t u k =
+    lost_kept wanted (lost_bytes taken.lost) _ _ (payload_kept wanted TCP_PAYLOAD span _ _ (number_kept wanted TCP_LEN span.len _ _ (place_kept wanted taken t u k)))
+
 segment_same : (wanted : List ℕ) (frame : Frame) (packet : PacketHead) (es : List Event) (head : TcpHead) (span : Span) (t u : TreeShown) → IsKeptTree wanted t u →
     IsSameWay wanted (segment_met frame packet t es head span) (segment_met frame packet u es head span)
-unfolding segment_met segment_told
+unfolding segment_met
 segment_same wanted frame packet es head span t u k =
-    rest_same wanted _ _ es span (payload_kept wanted TCP_PAYLOAD span _ _ (item_kept wanted t u (made_of TCP_LEN (Uint span.len)) k))
+    way_as wanted (λ v. segment_met frame packet v es head span) t u k (λ one. rest_same wanted _ _ _ span (segment_kept wanted _ span t (kept_tree wanted t) one))
 
 -- what follows a header
 followed_same : (wanted : List ℕ) (frame : Frame) (packet : PacketHead) (mode : Mode) (es : List Event) (after : After) (t u : TreeShown) → IsKeptTree wanted t u →
@@ -142,7 +174,7 @@ layer_same wanted frame head es proto span steps after t u k =
 message_same : (wanted : List ℕ) (frame : Frame) (head : Head) (es : List Event) (proto : ℕ) (steps : List Step) (after : After) (t u : TreeShown) → IsKeptTree wanted t u →
     IsSameWay wanted (message_met frame head t es proto steps after) (message_met frame head u es proto steps after)
 message_same wanted frame head es proto steps after t u k =
-    followed_same wanted frame head.packet Embedded es after _ _ (layer_kept wanted t u proto head.span steps head.mode (is_cut frame) k)
+    followed_same wanted frame head.packet (mode_behind head.mode after) es after _ _ (layer_kept wanted t u proto head.span steps head.mode (is_cut frame) k)
 
 head_in : (wanted : List ℕ) (which : Next) (frame : Frame) (head : Head) (es : List Event) (t : TreeShown) → IsKeptTree wanted t (kept_tree wanted t) → IsSameWay wanted (head_by which frame head t es) (head_by which frame head (kept_tree wanted t) es)
 unfolding head_by
@@ -158,8 +190,8 @@ head_in wanted nexts.HopOpts frame head es t k = layer_same wanted frame head es
 head_in wanted nexts.Routing frame head es t k = layer_same wanted frame head es _ _ _ _ t (kept_tree wanted t) k
 head_in wanted nexts.DstOpts frame head es t k = layer_same wanted frame head es _ _ _ _ t (kept_tree wanted t) k
 head_in wanted nexts.FragHdr frame head es t k = layer_same wanted frame head es _ _ _ _ t (kept_tree wanted t) k
-head_in wanted (nexts.Neigh kind) frame head es t k = rest_same wanted t (kept_tree wanted t) es head.span k
-head_in wanted nexts.Igmp frame head es t k = rest_same wanted t (kept_tree wanted t) es head.span k
+head_in wanted (nexts.Neigh kind) frame head es t k = layer_same wanted frame head es _ _ _ _ t (kept_tree wanted t) k
+head_in wanted nexts.Igmp frame head es t k = layer_same wanted frame head es _ _ _ _ t (kept_tree wanted t) k
 head_in wanted nexts.Rest frame head es t k = rest_same wanted t (kept_tree wanted t) es head.span k
 
 step_same : (wanted : List ℕ) (frame : Frame) (es : List Event) (todo : Todo) (t u : TreeShown) → IsKeptTree wanted t u → IsSameWay wanted (step_on frame t es todo) (step_on frame u es todo)

@@ -4,4 +4,5 @@ mod Joining
 mod Kept
 pub mod NoRules
 mod Opens
+mod Segmenting
 mod Taken

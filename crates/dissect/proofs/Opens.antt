@@ -1,33 +1,36 @@
--- How many conversations the headers of a frame open, one header after the other.
-use Rattle.std.proofs.Common.{◌≡◌, ◌+◌, ◌≤◌, ◌<◌, ◌^◌, length, subst, arith}
+-- How much the headers of a frame add to what is kept, one header after the other.
+use Rattle.std.proofs.Common.{◌≡◌, subst, arith}
 use Rattle.dissect.specs.declared.state.State.{State}
 use Rattle.dissect.specs.declared.todo.Head.{Head}
 use Rattle.dissect.specs.declared.todo.Todo.{Todo}
 use Rattle.dissect.specs.declared.todo.Todo.TheVariants as todos
-use Rattle.dissect.specs.Stands.{HasRoom, OpensAtMostOne}
+use Rattle.dissect.specs.Stands.{HasRoom, HasRoomForOne, AddsAtMost, AddsOneThenEnds}
 
--- before a header none were opened
-pub opens-none : (first state : State) (now : Todo) (head : Head) → now ≡ todos.Head head → OpensAtMostOne first state now → length state.udp ≤ length first.udp
-opens-none first state now head is_head opens = subst (OpensAtMostOne first state) is_head opens
+-- before a header nothing was added
+pub adds-none : (first state : State) (now : Todo) (head : Head) → now ≡ todos.Head head → AddsOneThenEnds first state now → AddsAtMost 0 first state
+adds-none first state now head is_head adds = subst (AddsOneThenEnds first state) is_head adds
 
-pub room-now : (state : State) (now : Todo) (head : Head) → now ≡ todos.Head head → HasRoom state now → length state.udp + 1 < 2 ^ 32
+pub room-now : (state : State) (now : Todo) (head : Head) → now ≡ todos.Head head → HasRoom state now → HasRoomForOne state
 room-now state now head is_head room = subst (HasRoom state) is_head room
 
-by_none : (first before state : State) (todo : Todo) → length before.udp ≤ length first.udp → OpensAtMostOne before state todo → OpensAtMostOne first state todo
-by_none first before state todos.Done none opens = omega (arith, none, opens)
-by_none first before state (todos.Head head) none opens = omega (arith, none, opens)
+pub adds-both : (first before state : State) → AddsAtMost 0 first before → AddsAtMost 1 before state → AddsAtMost 1 first state
+adds-both first before state none adds = record { udp = omega (arith, none.udp, adds.udp); tcp = omega (arith, none.tcp, adds.tcp) }
+
+by_none : (first before state : State) (todo : Todo) → AddsAtMost 0 first before → AddsOneThenEnds before state todo → AddsOneThenEnds first state todo
+by_none first before state todos.Done none adds = adds-both first before state none adds
+by_none first before state (todos.Head head) none adds = record { udp = omega (arith, none.udp, adds.udp); tcp = omega (arith, none.tcp, adds.tcp) }
 
 -- a header more
-pub opens-on : (first before state : State) (now todo : Todo) (head : Head) → now ≡ todos.Head head → OpensAtMostOne first before now → OpensAtMostOne before state todo
-    → OpensAtMostOne first state todo
-opens-on first before state now todo head is_head none opens = by_none first before state todo (opens-none first before now head is_head none) opens
+pub adds-on : (first before state : State) (now todo : Todo) (head : Head) → now ≡ todos.Head head → AddsOneThenEnds first before now → AddsOneThenEnds before state todo
+    → AddsOneThenEnds first state todo
+adds-on first before state now todo head is_head none adds = by_none first before state todo (adds-none first before now head is_head none) adds
 
 -- there is room for a header more
-pub room-on : (before state : State) (todo : Todo) → length before.udp + 1 < 2 ^ 32 → OpensAtMostOne before state todo → HasRoom state todo
-room-on before state todos.Done room opens = tt
-room-on before state (todos.Head head) room opens = omega (arith, room, opens)
+pub room-on : (before state : State) (todo : Todo) → HasRoomForOne before → AddsOneThenEnds before state todo → HasRoom state todo
+room-on before state todos.Done room adds = tt
+room-on before state (todos.Head head) room adds = record { udp = omega (arith, room.udp, adds.udp); tcp = omega (arith, room.tcp, adds.tcp) }
 
 -- in the end at most one
-pub opens-most : (first state : State) (todo : Todo) → OpensAtMostOne first state todo → length state.udp ≤ length first.udp + 1
-opens-most first state todos.Done opens = opens
-opens-most first state (todos.Head head) opens = omega (arith, opens)
+pub adds-most : (first state : State) (todo : Todo) → AddsOneThenEnds first state todo → AddsAtMost 1 first state
+adds-most first state todos.Done adds = adds
+adds-most first state (todos.Head head) adds = record { udp = omega (arith, adds.udp); tcp = omega (arith, adds.tcp) }

@@ -1,5 +1,4 @@
--- What of a frame can bear on how later frames are read: its fragments, and its packets of conversations. So far those of TCP
--- don't.
+-- What of a frame can bear on how later frames are read: its fragments, and its packets of conversations.
 use Rattle.std.specs.Prelude.{ℕ, List}
 use Rattle.pk_tree.specs.declared.heads.FragmentHead.{FragmentHead}
 use Rattle.pk_tree.specs.declared.heads.PacketHead.{PacketHead}

@@ -1,5 +1,5 @@
 -- Fragments: what each one makes of those that were met before it, and what its header's layer tells of that.
-use Rattle.std.specs.Prelude.{ℕ, ◌≤◌, Bool, true, List, [], ◌∷◌, length, if◌then◌else◌}
+use Rattle.std.specs.Prelude.{ℕ, Bool, true, List, [], ◌∷◌, length, if◌then◌else◌}
 use Rattle.pk_base.specs.declared.span.Span.{Span}
 use Rattle.pk_fields.specs.Ids.{IP_FRAGMENT, IP_REASSEMBLED_LENGTH, IP_FRAGMENT_ERROR, IPV6_FRAGMENT, IPV6_REASSEMBLED_LENGTH, IPV6_FRAGMENT_ERROR}
 use Rattle.pk_tree.specs.declared.heads.After.{After}
@@ -14,8 +14,6 @@ use Rattle.ip_join.specs.declared.fragment.Fragment.{Fragment}
 use Rattle.ip_join.specs.declared.joined.ConflictKind.{ConflictKind}
 use Rattle.ip_join.specs.declared.joined.ConflictKind.TheVariants.{TooLong, MultipleTails, Overlap6}
 use Rattle.ip_join.specs.declared.joined.Datagram.{Datagram}
-use Rattle.ip_join.specs.declared.joined.Joined.{Joined}
-use Rattle.ip_join.specs.declared.joined.Joined.TheVariants.{Pending, Whole, Conflict}
 use Rattle.dissect.specs.declared.todo.Todo.{Todo}
 use Rattle.dissect.specs.declared.todo.Todo.TheVariants as todos
 use Rattle.dissect.specs.Events.{Event, Piece, Udp, Tcp}

@@ -6,6 +6,7 @@ pub mod Events
 pub mod Fragments
 pub mod FrameLayer
 pub mod Payloads
+pub mod Segments
 pub mod Stands
 pub mod Times
 pub mod Trees

@@ -1,9 +1,10 @@
 -- What a dissector keeps, and what it stands for.
-use Rattle.std.specs.Prelude.{◌≡◌, ℕ, ◌+◌, ◌<◌, ◌≤◌, ◌^◌, Bool, false, List, length}
+use Rattle.std.specs.Prelude.{◌≡◌, ℕ, ◌+◌, ◌-◌, ◌<◌, ◌≤◌, ◌^◌, Bool, false, List, length}
 use Rattle.capture_read.specs.declared.frame.Frame.{Frame}
 use Rattle.capture_read.specs.FrameList.{captured_bytes}
 use Rattle.pk_tree.specs.Trees.{TreeShown}
-use Rattle.ip_join.specs.Stands.{Stands as StandsFor}
+use Rattle.ip_join.specs.Stands.{Stands as JoinsStandFor}
+use Rattle.tcp_streams.specs.Standing.{StandsFor, taken_so_far}
 use Rattle.dissect.specs.declared.decode.DecodeAs.{DecodeAs}
 use Rattle.dissect.specs.declared.state.State.{State}
 use Rattle.dissect.specs.declared.times.Times.{Times}
@@ -12,6 +13,7 @@ use Rattle.dissect.specs.declared.todo.Todo.TheVariants as todos
 use Rattle.dissect.specs.Conversations.{udp_opened}
 use Rattle.dissect.specs.Events.{Event}
 use Rattle.dissect.specs.Fragments.{fragments_of}
+use Rattle.dissect.specs.Segments.{segments_of}
 use Rattle.dissect.specs.Times.{AreTimes}
 use Rattle.dissect.specs.Trees.{times_of, events_of}
 use Rattle.dissect.specs.Walks.{Walk}
@@ -26,20 +28,37 @@ pub record DissectorShown : Type 0 where
   pub times : Times
   pub state : State
 
--- what is kept of events: the fragments of datagrams that aren't whole yet, and the conversations over UDP
+-- what is kept of events: the fragments of datagrams that aren't whole yet, the conversations over UDP, and the streams of TCP
 pub record StandsAt (es : List Event) (state : State) : Type 0 where
-  pub joins : StandsFor (fragments_of es) state.joins
+  pub joins : JoinsStandFor (fragments_of es) state.joins
   pub udp : state.udp ≡ udp_opened es
+  pub streams : StandsFor (segments_of es) state.streams
 
--- a header opens at most one conversation, and then nothing more is to be read of its frame
-abbrev pub OpensAtMostOne : State → State → Todo → Type 0
-OpensAtMostOne old new todos.Done = length new.udp ≤ length old.udp + 1
-OpensAtMostOne old new (todos.Head head) = length new.udp ≤ length old.udp
+-- at most so many conversations over UDP were opened, and segments of TCP taken
+pub record AddsAtMost (most : ℕ) (old new : State) : Type 0 where
+  pub udp : length new.udp ≤ length old.udp + most
+  pub tcp : taken_so_far new.streams ≤ taken_so_far old.streams + most
 
--- where a header is still to be read, there is room for one conversation more
+-- a header adds at most one, and then nothing more is to be read of its frame
+abbrev pub AddsOneThenEnds : State → State → Todo → Type 0
+AddsOneThenEnds old new todos.Done = AddsAtMost 1 old new
+AddsOneThenEnds old new (todos.Head head) = AddsAtMost 0 old new
+
+-- there is room for one conversation and one segment more
+pub record HasRoomForOne (state : State) : Type 0 where
+  pub udp : length state.udp + 1 < 2 ^ 32
+  pub tcp : taken_so_far state.streams < 2 ^ 32 - 1
+
+-- so there is where a header is still to be read
 abbrev pub HasRoom : State → Todo → Type 0
 HasRoom state todos.Done = Unit {0}
-HasRoom state (todos.Head head) = length state.udp + 1 < 2 ^ 32
+HasRoom state (todos.Head head) = HasRoomForOne state
+
+-- there is room for a header more: for what it adds to the state, for so many layers, and for a buffer
+pub record IsReady (most : ℕ) (st : State) (t : TreeShown) : Type 0 where
+  pub state : HasRoomForOne st
+  pub layers : length t.layers + most < 2 ^ 32
+  pub buffers : length t.buffers + 1 < 2 ^ 32
 
 -- how far a frame is read, with what is kept then
 pub record IsWalked (w : Walk) (state : State) (t : TreeShown) (next : Todo) : Type 0 where
@@ -59,8 +78,10 @@ pub record IsAfter (past : List Frame) (d : DissectorShown) : Type 0 where
 unfoldable pub Stands : List Frame → DissectorShown → Type 0
 Stands past d = IsAfter past d
 
--- a dissector that has answered no error has at most as many conversations over UDP as it took frames
+-- a dissector that has answered no error has opened at most as many conversations over UDP as it took frames, and taken at most
+-- as many segments
 pub record IsKept (d : DissectorShown) : Type 0 where
   pub times : AreTimes d.times
   pub udp : length d.state.udp < 2 ^ 32
   pub udp_few : d.spent ≡ false → length d.state.udp ≤ d.taken
+  pub tcp_few : d.spent ≡ false → taken_so_far d.state.streams ≤ d.taken

@@ -2,7 +2,7 @@
 use Rattle.std.specs.Prelude.{◌==◌, ℕ, zero, suc, ◌-◌, ◌<◌, Bool, true, false, List, ◌∷◌, length, if◌then◌else◌}
 use Rattle.pk_base.specs.declared.span.Span.{Span}
 use Rattle.pk_buffer.specs.Buffers.{IsInside, bytes_of}
-use Rattle.pk_fields.specs.Ids.{ARP, VLAN, IP, IPV6, UDP, TCP, ICMP, ICMPV6}
+use Rattle.pk_fields.specs.Ids.{ARP, VLAN, IP, IPV6, UDP, TCP, ICMP, ICMPV6, IGMP, ND}
 use Rattle.pk_tree.specs.declared.heads.Address.TheVariants.{Four}
 use Rattle.pk_tree.specs.declared.heads.After.{After}
 use Rattle.pk_tree.specs.declared.heads.After.TheVariants as afters
@@ -26,10 +26,14 @@ use Rattle.dis_ip.specs.Extensions.{extension_proto, extension_layout, extension
 use Rattle.dis_ip.specs.Ip4.{ip4_span, ip4_layout, ip4_after}
 use Rattle.dis_ip.specs.Ip6.{ip6_span, ip6_layout, ip6_after}
 use Rattle.dis_ports.specs.Tcp.{tcp_layout, tcp_after}
+use Rattle.dis_neigh.specs.Neigh.{neigh_layout}
+use Rattle.dis_more.specs.Igmp.{igmp_layout, igmp_after}
 use Rattle.dis_ports.specs.Udp.{udp_span, udp_layout, udp_after}
 use Rattle.ip_join.specs.declared.joined.Joined.{Joined}
 use Rattle.ip_join.specs.declared.joined.Joined.TheVariants.{Pending, Whole, Conflict}
 use Rattle.ip_join.specs.Stands.{joined_by}
+use Rattle.tcp_streams.specs.declared.segment.Taken.{Taken}
+use Rattle.tcp_streams.specs.Labels.{taken_after}
 use Rattle.capture_read.specs.declared.frame.Frame.{Frame}
 use Rattle.dissect.specs.declared.todo.Head.{Head}
 use Rattle.dissect.specs.declared.todo.Todo.{Todo}
@@ -37,10 +41,11 @@ use Rattle.dissect.specs.declared.todo.Todo.TheVariants as todos
 use Rattle.dissect.specs.Applications.{usual_udp, app_of, payload_over}
 use Rattle.dissect.specs.Conversations.{udp_stream}
 use Rattle.dissect.specs.DataLayer.{data_over}
-use Rattle.dissect.specs.Events.{Event, Piece, Udp}
+use Rattle.dissect.specs.Events.{Event, Piece, Udp, Tcp}
 use Rattle.dissect.specs.Fragments.{fragment_from, fragments_of, conflict_told, joined_told, joined_todo}
 use Rattle.dissect.specs.FrameLayer.{frame_span, is_cut}
 use Rattle.dissect.specs.Payloads.{datagram_told, segment_told}
+use Rattle.dissect.specs.Segments.{segment_from, segments_of}
 
 -- how far a frame is read: the tree so far, all events up to here, the newest first, and what is to be read next
 pub record Walk : Type 0 where
@@ -94,9 +99,18 @@ unfoldable pub datagram_met : Frame → PacketHead → TreeShown → List Event 
 datagram_met frame packet t es head span =
     stop (payload_over (app_of usual_udp head) (datagram_told t (udp_stream es packet head) span) (is_cut frame) span) (Udp frame.number packet head ∷ es)
 
--- what a TCP header carries; so far it is shown as data, beside items in the header's layer
+-- a segment is told in its header's layer; then comes its payload, as data
+abbrev pub told_met : TreeShown → List Event → Taken → Span → Walk
+told_met t es taken span = rest_met (segment_told t taken span) es span
+
+-- a segment, by the segments before it
+abbrev pub taken_met : TreeShown → List Event → ℕ → PacketHead → TcpHead → List ℕ → Span → Walk
+taken_met t es frame packet head bytes span =
+    told_met t (Tcp frame packet head bytes ∷ es) (taken_after (segments_of es) (segment_from frame packet head bytes)) span
+
+-- what a TCP header carries
 unfoldable pub segment_met : Frame → PacketHead → TreeShown → List Event → TcpHead → Span → Walk
-segment_met frame packet t es head span = rest_met (segment_told t span) es span
+segment_met frame packet t es head span = taken_met t es frame.number packet head (bytes_of t.buffers span) span
 
 -- what follows a header, given the IP header of the packet that it is in
 unfoldable pub followed : Frame → PacketHead → Mode → TreeShown → List Event → After → Walk
@@ -117,17 +131,22 @@ abbrev pub layer_met : Frame → Head → TreeShown → List Event → ℕ → S
 layer_met frame head t es proto span steps after =
     followed frame head.packet head.mode (layer_read t proto span steps head.mode (is_cut frame)) es after
 
--- a message of ICMP; the packet that one about a packet carries is read as an embedded one
+-- behind a message of ICMP: the packet that one about a packet carries is read as an embedded one, what neighbour discovery says is not
+abbrev pub mode_behind : Mode → After → Mode
+mode_behind mode (afters.Next (nexts.Neigh kind) span) = mode
+mode_behind mode after = Embedded
+
+-- a message of ICMP
 abbrev pub message_met : Frame → Head → TreeShown → List Event → ℕ → List Step → After → Walk
 message_met frame head t es proto steps after =
-    followed frame head.packet Embedded (layer_read t proto head.span steps head.mode (is_cut frame)) es after
+    followed frame head.packet (mode_behind head.mode after) (layer_read t proto head.span steps head.mode (is_cut frame)) es after
 
 -- an extension header of IPv6
 abbrev pub extension_met : Next → Frame → Head → TreeShown → List Event → Walk
 extension_met which frame head t es =
     layer_met frame head t es (extension_proto which) head.span (extension_layout which (head_bytes head t)) (extension_after which head.packet head.mode head.span (head_bytes head t))
 
--- a header by its protocol: its layer, and what follows it; messages of neighbour discovery and of IGMP aren't read yet
+-- a header by its protocol: its layer, and what follows it
 unfoldable pub head_by : Next → Frame → Head → TreeShown → List Event → Walk
 head_by nexts.Ip4 frame head t es =
     layer_met frame head t es IP (ip4_span head.span (head_bytes head t)) (ip4_layout (head_bytes head t)) (ip4_after head.mode (is_cut frame) head.span (head_bytes head t))
@@ -146,8 +165,8 @@ head_by nexts.HopOpts frame head t es = extension_met nexts.HopOpts frame head t
 head_by nexts.Routing frame head t es = extension_met nexts.Routing frame head t es
 head_by nexts.DstOpts frame head t es = extension_met nexts.DstOpts frame head t es
 head_by nexts.FragHdr frame head t es = extension_met nexts.FragHdr frame head t es
-head_by (nexts.Neigh kind) frame head t es = rest_met t es head.span
-head_by nexts.Igmp frame head t es = rest_met t es head.span
+head_by (nexts.Neigh kind) frame head t es = layer_met frame head t es ND head.span (neigh_layout kind (head_bytes head t)) afters.End
+head_by nexts.Igmp frame head t es = layer_met frame head t es IGMP head.span igmp_layout (igmp_after head.span)
 head_by nexts.Rest frame head t es = rest_met t es head.span
 
 abbrev pub head_met : Frame → Head → TreeShown → List Event → Walk

@@ -1,13 +1,15 @@
 ghost use Rattle.std.specs.Prelude.{◌≡◌, ◌+◌, ◌<◌, ◌≤◌, ◌^◌, length, IfOk, OnOk};
 ghost use Rattle.pk_buffer.specs.Buffers.{IsInside};
-ghost use Rattle.dissect.specs.Applications.{usual_udp, app_in, app_of, message_over, payload_over};
+ghost use Rattle.pk_tree.specs.Following.{LeadsInside};
+ghost use Rattle.dissect.specs.Applications.{usual_udp, app_in, app_of, data_behind, message_over, payload_over};
 
 use crate::data_layer::add_data;
 use crate::decode::App;
 use dis_dhcp::read_dhcp;
 use dis_dns::read_dns;
+use dis_more::read_ntp;
 use pk_base::{NoMemory, Span};
-use pk_tree::{PortsHead, TreeBuilder};
+use pk_tree::{After, PortsHead, TreeBuilder};
 
 /// The application of a datagram, by its ports.
 #[tactic(auto, unfolding(crate::specs::Applications::app_of))]
@@ -34,6 +36,7 @@ fn usual_udp(port: u16) -> Option<App>
     match port {
         53 => Some(App::Dns),
         67 | 68 => Some(App::Dhcp),
+        123 => Some(App::Ntp),
         _ => None,
     }
 }
@@ -47,10 +50,10 @@ pub(crate) fn add_message(
     tree: &mut TreeBuilder,
 ) -> Result<(), NoMemory>
     requires inside { IsInside tree.old.buffers span }
-    requires room { length tree.old.layers + 2 < 2 ^ 32 }
+    requires room { length tree.old.layers + 4 < 2 ^ 32 }
     ensures tree { IfOk result (λ _. tree.new ≡ payload_over app tree.old cut span) }
     ensures buffers { tree.new.buffers ≡ tree.old.buffers }
-    ensures most { OnOk result (length tree.new.layers ≤ length tree.old.layers + 2) }
+    ensures most { OnOk result (length tree.new.layers ≤ length tree.old.layers + 4) }
 {
     if span.len == 0 {
         return Ok(());
@@ -58,6 +61,28 @@ pub(crate) fn add_message(
     match app {
         Some(App::Dns) => read_dns(span, false, cut, tree),
         Some(App::Dhcp) => read_dhcp(span, cut, tree),
+        Some(App::Ntp) => {
+            let after = read_ntp(span, cut, tree)?;
+            add_rest(after, tree)
+        }
         Some(App::Http) | Some(App::Plain) | None => add_data(span, tree),
+    }
+}
+
+/// Shows what follows a layer as data.
+fn add_rest(after: After, tree: &mut TreeBuilder) -> Result<(), NoMemory>
+    requires inside { LeadsInside tree.old.buffers after }
+    requires room { length tree.old.layers + 2 < 2 ^ 32 }
+    ensures tree { IfOk result (λ _. tree.new ≡ data_behind tree.old after) }
+    ensures buffers { tree.new.buffers ≡ tree.old.buffers }
+    ensures most { OnOk result (length tree.new.layers ≤ length tree.old.layers + 2) }
+{
+    match after {
+        After::Next(_, span) => add_data(span, tree),
+        After::Packet(_, _, _)
+        | After::Fragment(_, _)
+        | After::Datagram(_, _)
+        | After::Segment(_, _)
+        | After::End => Ok(()),
     }
 }

@@ -8,6 +8,7 @@ pub enum App {
     Http,
     Dns,
     Dhcp,
+    Ntp,
     /// Shown as data, whatever the port.
     Plain,
 }

@@ -4,7 +4,9 @@ ghost use Rattle.pk_tree.specs.Trees.{IsKept as IsKeptTree};
 ghost use Rattle.dissect.specs.Conversations.{udp_opened};
 ghost use Rattle.dissect.specs.DecodeRules.{AreRules};
 ghost use Rattle.dissect.specs.Events.{Event};
-ghost use Rattle.dissect.specs.Stands.{Stands, StandsAt, IsWalked};
+ghost use Rattle.tcp_streams.specs.Standing.{StandsFor};
+ghost use Rattle.dissect.specs.Segments.{segments_of};
+ghost use Rattle.dissect.specs.Stands.{Stands, StandsAt, IsWalked, HasRoomForOne, AddsAtMost};
 ghost use Rattle.dissect.specs.Times.{IsTime, AreTimes};
 ghost use Rattle.dissect.specs.Trees.{tree_at, events_of, kept_walk};
 
@@ -21,6 +23,7 @@ use pk_fields::FieldSet;
 use pk_tree::Tree;
 use std::alloc::Global;
 use std::marker::Model;
+use tcp_streams::Streams;
 
 /// Why a frame has no tree.
 #[derive(Clone, Copy, Debug, PartialEq, Eq)]
@@ -64,7 +67,7 @@ impl Model for Dissector {
 
 impl Dissector {
     /// A dissector that has taken no frame yet.
-    #[tactic(auto, unfolding(crate::specs::Stands::Stands, crate::specs::Fragments::fragments_of, crate::specs::Conversations::udp_opened, crate::specs::Trees::times_of, crate::specs::Trees::events_of))]
+    #[tactic(auto, unfolding(crate::specs::Stands::Stands, crate::specs::Fragments::fragments_of, crate::specs::Conversations::udp_opened, crate::specs::Segments::segments_of, crate::specs::Trees::times_of, crate::specs::Trees::events_of))]
     pub fn new(alloc: Global, decode: DecodeAs) -> Dissector
         requires rules { AreRules decode.rules }
         ensures stands { Stands [] result }
@@ -82,6 +85,7 @@ impl Dissector {
             state: State {
                 joins: Joins::new(alloc),
                 udp: Conversations::new(alloc),
+                streams: Streams::new(alloc),
             },
         }
     }
@@ -92,6 +96,14 @@ impl Dissector {
         ensures { (past : List FrameValue) → Stands past self.now → result ≡ length (udp_opened (events_of past)) }
     {
         self.state.udp.count()
+    }
+
+    /// The streams of TCP that the frames taken have. Takes no memory.
+    #[tactic(auto, unfolding(crate::specs::Stands::Stands))]
+    pub fn streams(&self) -> &Streams
+        ensures { (past : List FrameValue) → Stands past self.now → StandsFor (segments_of (events_of past)) result.now }
+    {
+        &self.state.streams
     }
 
     /// The tree of the next frame, given those that were taken before. Frames are taken in the order of their numbers,
@@ -162,9 +174,9 @@ fn make_tree(
     requires bytes { length frame.now.bytes < 2 ^ 32 }
     requires before { AreTimes before }
     requires time { IfSome frame.now.time IsTime }
-    requires udp { length state.old.udp + 1 < 2 ^ 32 }
+    requires few { HasRoomForOne state.old }
     ensures walked { IfOk result (λ tree. (es : List Event) → StandsAt es state.old → IsWalked (kept_walk wanted before es frame.now) state.new tree Todo.Done) }
-    ensures udp { length state.new.udp ≤ length state.old.udp + 1 }
+    ensures added { AddsAtMost 1 state.old state.new }
 {
     let mut tree = begin_tree(alloc, before, frame, wanted)?;
     state.read_frame(frame, &mut tree)?;

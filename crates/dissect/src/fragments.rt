@@ -6,7 +6,7 @@ ghost use Rattle.dis_ip.specs.Fragments.{part_proto};
 ghost use Rattle.dissect.specs.declared.state.State.{State as StateValue};
 ghost use Rattle.dissect.specs.Fragments.{error_number, error_field, frame_field, length_field, number_told, conflict_told, frames_told, joined_told, joined_span, joined_packet, joined_todo, todo_by};
 ghost use Rattle.dissect.specs.Payloads.{LastIs};
-ghost use Rattle.dissect.specs.Stands.{OpensAtMostOne};
+ghost use Rattle.dissect.specs.Stands.{AddsOneThenEnds};
 ghost use Rattle.dissect.specs.Walks.{IsTodoInside};
 
 use crate::todo::{Head, Todo};
@@ -130,7 +130,7 @@ pub(crate) fn begin_datagram(
     ensures inside { IfOk result (λ todo. IsTodoInside tree.new.buffers todo) }
     ensures tree { IfOk result (λ _. tree.new ≡ joined_told tree.old head.now.six datagram) }
     ensures todo { IfOk result (λ todo. todo ≡ joined_todo tree.old head.now datagram) }
-    ensures opens { IfOk result (λ todo. (old new : StateValue) → length new.udp ≤ length old.udp → OpensAtMostOne old new todo) }
+    ensures adds { IfOk result (λ todo. (state : StateValue) → AddsOneThenEnds state state todo) }
     ensures buffers { OnOk result (length tree.new.buffers ≤ length tree.old.buffers + 1) }
     ensures count { OnOk result (length tree.new.layers ≡ length tree.old.layers) }
 {
@@ -159,7 +159,7 @@ fn joined_packet(head: &FragmentHead) -> PacketHead
 fn todo_by(packet: PacketHead, after: After) -> Todo
     ensures todo { result ≡ todo_by packet after }
     ensures inside { (buffers : List (List ℕ)) → LeadsInside buffers after → IsTodoInside buffers result }
-    ensures opens { (old new : StateValue) → length new.udp ≤ length old.udp → OpensAtMostOne old new result }
+    ensures adds { (state : StateValue) → AddsOneThenEnds state state result }
 {
     match after {
         After::Next(which, span) => Todo::Head(Head {

@@ -4,11 +4,17 @@
 mod applications;
 mod conversations;
 mod data_layer;
+mod datagrams;
 mod decode;
 mod dissector;
 mod fragments;
 mod frame_layer;
+mod headers;
 mod payload;
+mod pieces;
+#[cfg(test)]
+mod segment_tests;
+mod segments;
 mod state;
 #[cfg(test)]
 mod tests;

@@ -1,5 +1,6 @@
 use crate::conversations::Conversations;
 use ip_join::Joins;
+use tcp_streams::Streams;
 
 /// What is kept of earlier frames' packets.
 #[derive(Drop)]
@@ -7,4 +8,6 @@ pub(crate) struct State {
     /// The fragments of datagrams that aren't whole yet.
     pub joins: Joins,
     pub udp: Conversations,
+    /// The streams of TCP.
+    pub streams: Streams,
 }

@@ -26,7 +26,7 @@ const REQUEST: &[u8] =
 
 /// The rules that stand for no option.
 #[tactic(auto, using(crate::proofs::NoRules::no_rules))]
-fn no_rules(alloc: Global) -> DecodeAs
+pub(crate) fn no_rules(alloc: Global) -> DecodeAs
     ensures { AreRules result.rules }
 {
     DecodeAs {
@@ -47,7 +47,7 @@ fn layer_text(alloc: Global, layer: &Layer) -> Result<String, AllocError> {
     Ok(text)
 }
 
-fn value_text(alloc: Global, value: &Value) -> Result<String, AllocError> {
+pub(crate) fn value_text(alloc: Global, value: &Value) -> Result<String, AllocError> {
     match value {
         Value::Uint(number) => format!(in alloc; "={number}"),
         Value::Bool(truth) => format!(in alloc; "={truth}"),
@@ -460,7 +460,7 @@ fn what_a_segment_carries_is_told_and_shown_as_data(rt: HostRuntime) -> Result<(
             IP_ADDRESSES,
             "tcp 20+22:",
             SYN_ITEMS,
-            " tcp.len=2 tcp.payload=[104, 105]\ndata 40+2: data.data=[104, 105] data.len=2\n",
+            " tcp.stream=0 tcp.seq=0 tcp.len=2 tcp.payload=[104, 105]\ndata 40+2: data.data=[104, 105] data.len=2\n",
         ],
     )
 }
@@ -485,7 +485,7 @@ fn a_segment_of_no_bytes_has_a_length_alone(rt: HostRuntime) -> Result<(), Fail>
             IP_ADDRESSES,
             "tcp 20+20:",
             SYN_ITEMS,
-            " tcp.len=0\n",
+            " tcp.stream=0 tcp.seq=0 tcp.len=0\n",
         ],
     )
 }

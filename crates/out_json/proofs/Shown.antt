@@ -1,18 +1,18 @@
 -- What the texts of values have in them.
-use Rattle.std.proofs.Common.{◌≡◌, ℕ, ◌+◌, ◌/◌, ◌%◌, ◌≤◌, ◌==◌, ◌&&◌, Bool, true, false, cond, ltb, leb, List, [], ◌∷◌, ◌++◌, codes, ℤ, refl, arith, lit≤}
+use Rattle.std.proofs.Common.{◌≡◌, ℕ, ◌+◌, ◌≤◌, ◌==◌, ◌&&◌, Bool, true, false, cond, ltb, leb, List, [], ◌∷◌, codes, ℤ, refl, arith, lit≤}
 use Rattle.std.specs.List.{All, AllByRecursion as Each, flat_map}
-use Rattle.std.specs.Fmt.{decimal, digits, digit_glyph, sign_text}
+use Rattle.std.specs.Fmt.{decimal, digits, sign_text}
 use Rattle.std.specs.Int.{is_negative, w32, to_be_bytes}
 use Rattle.std.proofs.lemmas.Bool.{and_parts, leb-true}
 use Rattle.std.proofs.lemmas.List.Elements.{All-from_recursion}
 use Rattle.std.proofs.ByRecursion.{All-append as Each-append}
-use Rattle.json.specs.Print.{escape, escape_byte}
+use Rattle.json.specs.Print.{escape_byte}
 use Rattle.pk_text.specs.Digits.{hex_pair}
 use Rattle.pk_text.specs.Escape.{escape_byte as escape_text_byte, escaped}
 use Rattle.pk_text.specs.Ether.{ether_shown}
 use Rattle.pk_text.specs.Ip4.{ip4_shown}
 use Rattle.pk_text.specs.Ip6.{ip6_shown, groups_of, groups_shown, groups_written, best_run_from}
-use Rattle.pk_text.specs.Time.{time_shown, whole_seconds, nanoseconds_over, decimal_in}
+use Rattle.pk_text.specs.Time.{time_shown, whole_seconds, nanoseconds_over}
 use Rattle.pk_tree.specs.declared.value.Value.{Value}
 use Rattle.pk_tree.specs.declared.value.Value.TheVariants as values
 use Rattle.out_lines.specs.ValueText.{shown_value}

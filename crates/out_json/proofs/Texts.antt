@@ -1,5 +1,5 @@
 -- The texts of objects, with their keys spelled out, and of strings that need no escape.
-use Rattle.std.proofs.Common.{◌≡◌, ℕ, ◌+◌, ◌<◌, Bool, true, false, List, [], ◌∷◌, ◌++◌, append_assoc, codes, decimal, map, length, drop, get_or, refl, ap, ◌∙◌, arith}
+use Rattle.std.proofs.Common.{◌≡◌, ℕ, ◌+◌, ◌<◌, true, false, List, [], ◌∷◌, ◌++◌, append_assoc, codes, decimal, map, length, drop, get_or, refl, ap, ◌∙◌, arith}
 use Rattle.std.proofs.lemmas.List.{drop_more}
 use Rattle.json.specs.Print.{escape_byte}
 use Rattle.pk_base.specs.declared.span.Span.{Span}

@@ -1,18 +1,17 @@
 -- What a direction is doesn't depend on the numbers of the frames.
-use Rattle.std.proofs.Common.{◌≡◌, ℕ, zero, suc, ◌+◌, ◌-◌, ◌^◌, ◌%◌, max, Bool, true, false, cond, ◌&&◌, List, [], ◌∷◌, ◌++◌, length, slice_index, Option, None, Some, is_some, unwrap_or, leb, ltb, refl, sym, ap, ◌∙◌, subst, ◌⊎◌, inl, inr}
+use Rattle.std.proofs.Common.{◌≡◌, ℕ, zero, suc, ◌+◌, ◌-◌, ◌^◌, ◌%◌, max, Bool, true, false, cond, ◌&&◌, List, [], ◌∷◌, ◌++◌, length, Option, None, Some, is_some, unwrap_or, leb, ltb, refl, sym, ap, ◌∙◌, subst, inl, inr}
 use Rattle.std.specs.Ordering.{nat_cmp}
 use Rattle.std.specs.FinMap.{get, empty, get-empty}
 use Rattle.std.specs.Option.{option_or}
 use Rattle.std.proofs.lemmas.Bool.{cases_Bool}
 use Rattle.pk_base.specs.declared.lost.Lost.{Lost}
-use Rattle.pk_base.specs.declared.stretch.Stretch.{Stretch}
 use Rattle.range_bytes.specs.Held.{Held, Cell, put_run, run_cell, byte_of, bytes_at}
 use Rattle.range_bytes.proofs.Runs.{get-put_run}
 use Rattle.tcp_streams.specs.declared.segment.Segment.{Segment}
 use Rattle.tcp_streams.specs.Numbers.{first_number, ahead, place, taken_bytes, window}
 use Rattle.tcp_streams.specs.Gaps.{free_from, first_free, next_from, gaps_on, gaps, start_past, end_past, left_behind}
-use Rattle.tcp_streams.specs.Ways.{WayState, Sided, nothing, end_of, lost_in, start_for, front_for, origin_for, held_with, held_after, own_step, other_step, acked_by, way_step, way_after, same_side}
-use Rattle.tcp_streams.specs.Isolation.{IsSameButFrame, IsSameSided, AreSameSided, IsPair, IsSameCell, IsSameWay}
+use Rattle.tcp_streams.specs.Ways.{WayState, Sided, end_of, lost_in, start_for, front_for, origin_for, held_after, own_step, other_step, acked_by, way_step, way_after, same_side}
+use Rattle.tcp_streams.specs.Isolation.{IsSameButFrame, AreSameSided, IsSameCell, IsSameWay}
 
 -- all that the definitions read of a map
 record LookAlike (h k : Held) : Type 0 where

@@ -1,10 +1,10 @@
 -- The loop that passes over gaps.
-use Rattle.std.proofs.Common.{◌≡◌, ℕ, ◌+◌, ◌-◌, ◌^◌, ◌<◌, ◌≤◌, List, [], ◌∷◌, ◌++◌, Option, None, Some, IsSome, refl, sym, ap, ◌∙◌, subst, inl, inr, arith, append_assoc, append-nil}
+use Rattle.std.proofs.Common.{◌≡◌, ℕ, ◌+◌, ◌-◌, ◌^◌, ◌<◌, ◌≤◌, List, [], ◌∷◌, ◌++◌, None, Some, refl, sym, ap, ◌∙◌, subst, inl, inr, arith, append_assoc, append-nil}
 use Rattle.std.specs.FinMap.{get}
 use Rattle.std.proofs.lemmas.Bool.{cases_lt}
 use Rattle.pk_base.specs.declared.lost.Lost.{Lost}
 use Rattle.pk_base.specs.declared.stretch.Stretch.{Stretch}
-use Rattle.range_bytes.specs.Held.{Held, IsFreeFrom, IsFirstHeld, IsNextHeld, bytes_at}
+use Rattle.range_bytes.specs.Held.{Held, IsFreeFrom, IsNextHeld, bytes_at}
 use Rattle.range_bytes.proofs.Runs.{none_is_not_some}
 use Rattle.tcp_streams.specs.Numbers.{window}
 use Rattle.tcp_streams.specs.Gaps.{first_free, next_from, gaps_behind, start_past, end_past, left_behind}

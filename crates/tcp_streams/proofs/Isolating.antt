@@ -1,18 +1,16 @@
 -- A conversation's streams depend on its own segments alone.
-use Rattle.std.proofs.Common.{◌≡◌, ℕ, ◌+◌, ◌%◌, ◌^◌, Bool, true, false, cond, not, ◌&&◌, List, [], ◌∷◌, length, Option, None, Some, unwrap_or, is_some, option_map, eqb, refl, sym, ap, ◌∙◌, subst, ◌⊎◌, inl, inr}
+use Rattle.std.proofs.Common.{◌≡◌, ℕ, ◌+◌, ◌%◌, ◌^◌, Bool, true, false, cond, not, ◌&&◌, List, [], ◌∷◌, length, Option, None, Some, unwrap_or, is_some, option_map, eqb, refl, sym, ap, ◌∙◌, subst, inl, inr}
 use Rattle.std.proofs.lemmas.Bool.{false≢true, cases_Bool}
-use Rattle.pk_tree.specs.declared.heads.Endpoint.{Endpoint}
 use Rattle.tcp_streams.specs.declared.segment.Segment.{Segment}
-use Rattle.tcp_streams.specs.declared.segment.Taken.{Taken}
 use Rattle.tcp_streams.specs.declared.ends.End.{End}
 use Rattle.tcp_streams.specs.declared.ends.Ends.{Ends}
 use Rattle.tcp_streams.specs.Numbers.{position_ahead}
-use Rattle.tcp_streams.specs.Ways.{WayState, Sided, way_after, end_of, own_step}
+use Rattle.tcp_streams.specs.Ways.{WayState, Sided}
 use Rattle.tcp_streams.specs.Conversations.{end_of_endpoint, same_bool, same_end, same_ends, ends_between, ends_of}
-use Rattle.tcp_streams.specs.Labels.{Label, latest, opened, opener, sided_of, way_of, side_from, side_in, restarts, opening, following, goes_on, label_on, label_of, labels, number_in, ack_in, number_of_side, told, told_at, taken_after}
-use Rattle.tcp_streams.specs.Isolation.{IsSameButFrame, IsSameSided, AreSameSided, IsSameWay, AreSameSegments, between, HaveSameBetween, streams_of, IsSameStream, AreSameStreams, IsSameTaken, IsIsolated}
+use Rattle.tcp_streams.specs.Labels.{Label, latest, opened, opener, sided_of, way_of, side_in, restarts, opening, following, goes_on, label_on, label_of, labels, number_in, ack_in, told, told_at}
+use Rattle.tcp_streams.specs.Isolation.{IsSameButFrame, AreSameSided, IsSameWay, AreSameSegments, between, HaveSameBetween, streams_of, AreSameStreams, IsSameTaken, IsIsolated}
 use Rattle.tcp_streams.proofs.StandsLemmas.{none_new, same_ends_is}
-use Rattle.tcp_streams.proofs.FramesAside.{first_same, end_same, lost_same, front_same, origin_same, ahead_same, own_same, frames_aside}
+use Rattle.tcp_streams.proofs.FramesAside.{end_same, lost_same, front_same, origin_same, ahead_same, own_same, frames_aside}
 use Rattle.tcp_streams.proofs.Keyed.{AllLow, Falling, first_of, Known, known, Apart, low_apart, mine_apart, label_cases, latest_key, latest_keyed, same_number}
 
 -- keys

@@ -1,12 +1,11 @@
 -- Streams of different conversations have different numbers.
-use Rattle.std.proofs.Common.{◌≡◌, ℕ, zero, suc, ◌+◌, ◌<◌, ◌≤◌, Bool, true, false, cond, ◌&&◌, List, [], ◌∷◌, Option, None, Some, unwrap_or, is_some, option_map, eqb, refl, sym, ap, ◌∙◌, subst, ◌⊎◌, inl, inr, arith}
+use Rattle.std.proofs.Common.{◌≡◌, ℕ, ◌+◌, ◌<◌, ◌≤◌, Bool, true, false, cond, ◌&&◌, List, [], ◌∷◌, Option, None, Some, unwrap_or, is_some, option_map, eqb, refl, sym, ap, ◌∙◌, subst, ◌⊎◌, inl, inr, arith}
 use Rattle.std.proofs.lemmas.Bool.{false≢true, cases_Bool, eq-eqb}
 use Rattle.std.proofs.lemmas.Bool.Decides.{eqb_tells}
-use Rattle.pk_tree.specs.declared.heads.Endpoint.{Endpoint}
 use Rattle.tcp_streams.specs.declared.segment.Segment.{Segment}
 use Rattle.tcp_streams.specs.declared.ends.Ends.{Ends}
 use Rattle.tcp_streams.specs.Conversations.{same_ends, ends_of}
-use Rattle.tcp_streams.specs.Labels.{Label, latest, opened, opener, sided_of, way_of, side_in, restarts, opening, following, goes_on, label_on, label_of, labels}
+use Rattle.tcp_streams.specs.Labels.{Label, latest, opened, way_of, side_in, restarts, opening, following, goes_on, label_on, label_of, labels}
 use Rattle.tcp_streams.specs.Stands.{AllBelow}
 use Rattle.tcp_streams.specs.Isolation.{streams_of}
 use Rattle.tcp_streams.proofs.StandsLemmas.{same_ends_is, below_more}

@@ -5,6 +5,7 @@ pub mod StandsLemmas
 pub mod TakeLemmas
 pub mod Keys
 pub mod OrderLemmas
+pub mod FewLemmas
 pub mod ReadLemmas
 pub mod FramesAside
 pub mod Keyed

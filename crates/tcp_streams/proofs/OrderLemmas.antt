@@ -1,20 +1,19 @@
 -- What a direction holds is what its segments say, in whatever order they come.
-use Rattle.std.proofs.Common.{◌≡◌, ℕ, zero, suc, ◌+◌, ◌-◌, ◌%◌, ◌^◌, ◌<◌, ◌≤◌, max, Bool, true, false, cond, List, [], ◌∷◌, ◌++◌, length, take, drop, slice_index, Option, None, Some, IsSome, is_some, unwrap_or, ltb, leb, refl, sym, ap, ◌∙◌, subst, ◌⊎◌, inl, inr, arith}
+use Rattle.std.proofs.Common.{◌≡◌, ℕ, zero, suc, ◌+◌, ◌-◌, ◌%◌, ◌^◌, ◌<◌, ◌≤◌, max, Bool, true, false, cond, List, [], ◌∷◌, ◌++◌, length, take, drop, slice_index, Option, None, Some, IsSome, is_some, unwrap_or, refl, sym, ap, ◌∙◌, subst, ◌⊎◌, inl, inr, arith}
 use Rattle.std.specs.Ordering.{nat_cmp}
-use Rattle.std.specs.FinMap.{get, empty, get-empty}
+use Rattle.std.specs.FinMap.{get, get-empty}
 use Rattle.std.specs.Option.{option_or}
-use Rattle.std.proofs.lemmas.Bool.{false≢true, cases_Bool, cases_lt, cases_order, lt-ltb, le-ltb, cond-true, cond-false}
-use Rattle.std.proofs.lemmas.List.{length-take, length-drop, get_or-take, get_or-drop, ext_get_or, nil_from_length}
+use Rattle.std.proofs.lemmas.Bool.{false≢true, cases_lt, cases_order, lt-ltb, le-ltb, cond-true, cond-false}
+use Rattle.std.proofs.lemmas.List.{length-take, length-drop, get_or-take, get_or-drop, ext_get_or}
 use Rattle.pk_base.specs.declared.lost.Lost.{Lost}
-use Rattle.pk_base.specs.declared.stretch.Stretch.{Stretch}
-use Rattle.range_bytes.specs.Held.{Held, Cell, HoldsAll, put_run, run_cell, byte_of, bytes_at}
-use Rattle.range_bytes.proofs.Runs.{some_is, get-put_run, run_cell-in, run_cell-before, run_cell-after, none_is_not_some}
+use Rattle.range_bytes.specs.Held.{Held, Cell, run_cell, byte_of, bytes_at}
+use Rattle.range_bytes.proofs.Runs.{some_is, get-put_run, run_cell-in, run_cell-before, run_cell-after}
 use Rattle.tcp_streams.specs.declared.segment.Segment.{Segment}
 use Rattle.tcp_streams.specs.Numbers.{first_number, ahead, place, skipped, taken_bytes, window}
-use Rattle.tcp_streams.specs.Gaps.{gaps_behind, start_past, end_past, left_behind}
-use Rattle.tcp_streams.specs.Ways.{WayState, Sided, nothing, end_of, lost_in, start_for, front_for, origin_for, held_with, held_after, own_step, other_step, way_step, way_after, same_side, IsPlace, IsWay}
-use Rattle.tcp_streams.specs.Order.{offset, Gives, IsSent, IsGiven, AllAgree, AllInWindow, AllShort, HasOrigin, IsOrderly, HoldsSent, HoldsGiven, IsRunOf, IsAlike, HasAlike, HaveSameSent, IsOrderFree}
-use Rattle.tcp_streams.proofs.Places.{place_past, put_stays, length-bytes_at}
+use Rattle.tcp_streams.specs.Gaps.{start_past, left_behind}
+use Rattle.tcp_streams.specs.Ways.{WayState, Sided, end_of, lost_in, start_for, front_for, origin_for, held_with, held_after, own_step, other_step, way_step, way_after, same_side, IsPlace}
+use Rattle.tcp_streams.specs.Order.{offset, Gives, IsSent, IsGiven, AllInWindow, AllShort, HasOrigin, IsOrderly, HoldsSent, HoldsGiven, IsRunOf, IsAlike, HasAlike, HaveSameSent}
+use Rattle.tcp_streams.proofs.Places.{place_past, put_stays}
 use Rattle.tcp_streams.proofs.WayLemmas.{after_is}
 
 -- numbers: by a front end, and by the origin alone
@@ -226,18 +225,18 @@ last_none : {X : Type 0} (xs ys : List X) → xs ++ ys ≡ [] → ys ≡ []
 last_none [] ys e = e
 last_none (x ∷ xs) ys e = absurd (let size : length (x ∷ xs ++ ys) ≡ 0 = ap length e in omega (arith, size))
 
-record IsPlain (w : WayState) (s : Segment) : Type 0 where
-  earlier : w.earlier ≡ []
-  none : lost_in w ≡ []
+pub record IsPlain (w : WayState) (s : Segment) : Type 0 where
+  pub earlier : w.earlier ≡ []
+  pub none : lost_in w ≡ []
 
-own_plain : (w : WayState) (s : Segment) → (own_step w s).earlier ≡ [] → IsPlain w s
+pub own_plain : (w : WayState) (s : Segment) → (own_step w s).earlier ≡ [] → IsPlain w s
 unfolding own_step
 own_plain w s e = record {
   earlier = first_none w.earlier (left_behind w.held w.start (lost_in w)) e;
   none = left_none w.held w.start (lost_in w) (last_none w.earlier (left_behind w.held w.start (lost_in w)) e);
 }
 
-earlier_back : (w : WayState) (s : Segment) (own : Bool) → (way_step own w s).earlier ≡ [] → w.earlier ≡ []
+pub earlier_back : (w : WayState) (s : Segment) (own : Bool) → (way_step own w s).earlier ≡ [] → w.earlier ≡ []
 unfolding other_step
 earlier_back w s true e = (own_plain w s e).earlier
 earlier_back w s false e = e
@@ -391,11 +390,3 @@ order_is_free origin side ls ms is other same =
       | inr (inl less) ↦ absurd (run.ends (slice_index ys (length xs)) (given_alike origin side ms ls (length xs) (slice_index ys (length xs)) same.back (more.given (length xs) less)))
       | inr (inr greater) ↦ absurd (more.ends (slice_index xs (length ys)) (given_alike origin side ls ms (length ys) (slice_index xs (length ys)) same.there (run.given (length ys) greater)))
     ]
-
-pub is_order_free : (origin : ℕ) (side : Bool) (ls : List Sided) → IsOrderFree origin side ls
-is_order_free origin side ls = record {
-  sent = holds_sent origin side ls;
-  given = holds_given origin side ls;
-  run = run_is origin side ls;
-  free = order_is_free origin side ls;
-}

@@ -1,11 +1,11 @@
 -- Starts and front ends, as gaps are passed and bytes are put in.
-use Rattle.std.proofs.Common.{◌≡◌, ℕ, zero, suc, ◌+◌, ◌-◌, ◌<◌, ◌≤◌, Bool, true, false, List, [], ◌∷◌, ◌++◌, length, Option, None, Some, IsSome, is_some, refl, sym, ap, ◌∙◌, subst, inl, inr, arith}
+use Rattle.std.proofs.Common.{◌≡◌, ℕ, zero, suc, ◌+◌, ◌-◌, ◌<◌, ◌≤◌, true, false, List, [], ◌∷◌, ◌++◌, length, Option, None, Some, IsSome, is_some, refl, sym, ap, ◌∙◌, subst, inl, inr, arith}
 use Rattle.std.specs.Option.{option_or}
 use Rattle.std.specs.FinMap.{get}
 use Rattle.std.proofs.lemmas.Bool.{false≢true, cases_Bool, cases_lt, cases_order}
 use Rattle.pk_base.specs.declared.lost.Lost.{Lost}
 use Rattle.pk_base.specs.declared.stretch.Stretch.{Stretch}
-use Rattle.range_bytes.specs.Held.{Held, HoldsAll, IsFreeFrom, IsFirstHeld, IsNextHeld, put_run, run_cell, bytes_at}
+use Rattle.range_bytes.specs.Held.{Held, IsFreeFrom, IsFirstHeld, IsNextHeld, put_run, run_cell, bytes_at}
 use Rattle.range_bytes.proofs.Runs.{get-put_run, run_cell-before, run_cell-after, none_is_not_some}
 use Rattle.tcp_streams.specs.Numbers.{window}
 use Rattle.tcp_streams.specs.Gaps.{free_from, first_free, next_from, gaps_on, gaps, gaps_behind, start_past, end_past, left_behind}

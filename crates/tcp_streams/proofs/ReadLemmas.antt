@@ -1,12 +1,9 @@
 -- What is kept of a direction is what it is after the segments.
-use Rattle.std.proofs.Common.{◌≡◌, ℕ, ◌<◌, Bool, true, false, List, length, Option, None, Some, slice_get, eqb, inl, inr, refl, ap, ◌∙◌}
+use Rattle.std.proofs.Common.{◌≡◌, ℕ, ◌<◌, List, Option, eqb, inl, inr, ap, ◌∙◌}
 use Rattle.std.proofs.lemmas.Bool.{cases_Bool}
 use Rattle.tcp_streams.specs.declared.segment.Segment.{Segment}
 use Rattle.tcp_streams.specs.declared.stream.Stream.{Stream}
 use Rattle.tcp_streams.specs.declared.streams.Streams.{Streams}
-use Rattle.tcp_streams.specs.Ways.{WayState}
-use Rattle.tcp_streams.specs.States.{state_of}
-use Rattle.tcp_streams.specs.Labels.{labels, way_of}
 use Rattle.tcp_streams.specs.Standing.{StandsFor, stream_count, way_kept, way_in, way_for}
 use Rattle.tcp_streams.proofs.TakeLemmas.{at_stream}
 

@@ -1,5 +1,5 @@
 -- What the streams stand for after one segment more.
-use Rattle.std.proofs.Common.{◌≡◌, ℕ, zero, suc, ◌+◌, ◌*◌, ◌^◌, ◌<◌, ◌≤◌, Bool, true, false, cond, not, ◌&&◌, List, [], ◌∷◌, ◌++◌, length, Option, None, Some, unwrap_or, is_some, slice_get, slice_set, option_map, eqb, refl, sym, ap, ◌∙◌, subst, ◌⊎◌, inl, inr, arith, length-append}
+use Rattle.std.proofs.Common.{◌≡◌, ℕ, zero, suc, ◌+◌, ◌*◌, ◌^◌, ◌<◌, ◌≤◌, Bool, true, false, cond, ◌&&◌, List, [], ◌∷◌, ◌++◌, length, Option, None, Some, unwrap_or, is_some, slice_get, slice_set, option_map, eqb, refl, sym, ap, ◌∙◌, subst, inl, inr, arith, length-append}
 use Rattle.std.proofs.lemmas.Bool.{false≢true, cases_Bool, cases_lt, and_parts, eqb-true, eq-eqb}
 use Rattle.std.proofs.lemmas.Bool.Decides.{eqb_tells}
 use Rattle.std.proofs.lemmas.Option.{slice_get_within}
@@ -14,7 +14,7 @@ use Rattle.tcp_streams.specs.declared.stream.Stream.{Stream}
 use Rattle.tcp_streams.specs.Ways.{WayState, Sided, nothing, end_of, way_after, own_step, other_step, way_step, same_side, IsWay}
 use Rattle.tcp_streams.specs.States.{state_of}
 use Rattle.tcp_streams.specs.Conversations.{same_bool, same_end, same_ends, ends_of, number_of}
-use Rattle.tcp_streams.specs.Labels.{Label, latest, opened, opener, sided_of, way_of, side_from, side_in, restarts, opening, following, goes_on, label_on, label_of, told, told_at}
+use Rattle.tcp_streams.specs.Labels.{Label, latest, opened, sided_of, way_of, side_from, side_in, restarts, opening, goes_on, label_on, label_of, told, told_at}
 use Rattle.tcp_streams.specs.Stands.{AllBelow, IsStreamOf, Agrees, IsSoundStream, IsSound, origin_in, IsStepped, IsOpened, current_on, current_at, current_in}
 use Rattle.tcp_streams.proofs.WayLemmas.{step_keeps, step_room, nothing_is}
 

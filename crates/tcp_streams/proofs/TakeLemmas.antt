@@ -10,7 +10,7 @@ use Rattle.tcp_streams.specs.Ways.{way_step, same_side}
 use Rattle.tcp_streams.specs.States.{state_of}
 use Rattle.tcp_streams.specs.Conversations.{same_ends, ends_of, number_of}
 use Rattle.tcp_streams.specs.Labels.{Label, side_from, told, label_of, told_at}
-use Rattle.tcp_streams.specs.Stands.{Agrees, IsSoundStream, IsSound, IsStepped, IsOpened, current_in}
+use Rattle.tcp_streams.specs.Stands.{Agrees, IsSound, IsStepped, IsOpened, current_in}
 use Rattle.tcp_streams.proofs.StandsLemmas.{is_there, told_next, agrees_next, told_new, agrees_new, sound_next, sound_new}
 
 abbrev pub Followed : List Stream → ℕ → Segment → Taken → List Stream → Type 0

@@ -1,16 +1,16 @@
 -- One direction's step.
-use Rattle.std.proofs.Common.{◌≡◌, ℕ, zero, suc, ◌+◌, ◌-◌, ◌^◌, ◌<◌, ◌≤◌, max, Bool, true, false, List, [], ◌∷◌, ◌++◌, length, take, drop, Option, None, Some, IsSome, refl, sym, ap, ◌∙◌, subst, inl, inr, arith}
+use Rattle.std.proofs.Common.{◌≡◌, ℕ, zero, suc, ◌+◌, ◌-◌, ◌^◌, ◌<◌, ◌≤◌, max, Bool, true, false, List, [], ◌∷◌, ◌++◌, length, take, drop, None, Some, IsSome, refl, sym, ap, ◌∙◌, subst, inl, inr, arith}
 use Rattle.std.specs.Ordering.{nat_cmp}
-use Rattle.std.specs.FinMap.{get, empty, get-empty}
+use Rattle.std.specs.FinMap.{get, get-empty}
 use Rattle.std.specs.Option.{option_or}
 use Rattle.std.proofs.lemmas.Bool.{false≢true, cases_lt, lt-ltb, le-ltb, cond-true, cond-false}
 use Rattle.std.proofs.lemmas.List.{length-take}
-use Rattle.range_bytes.specs.Held.{Held, Cell, HoldsAll, IsFreeFrom, put_run, run_cell, byte_of, bytes_at}
+use Rattle.range_bytes.specs.Held.{Held, HoldsAll, IsFreeFrom, put_run, run_cell, bytes_at}
 use Rattle.range_bytes.proofs.Runs.{get-put_run, bytes_at-append, none_is_not_some}
 use Rattle.tcp_streams.specs.declared.segment.Segment.{Segment}
 use Rattle.pk_base.specs.declared.lost.Lost.{Lost}
 use Rattle.pk_base.specs.declared.stretch.Stretch.{Stretch}
-use Rattle.tcp_streams.specs.Gaps.{first_free, next_from, gaps_on, gaps, start_past, end_past, left_behind}
+use Rattle.tcp_streams.specs.Gaps.{first_free, next_from, gaps_on, gaps, start_past, end_past, left_behind, lost_bytes, AreBetween}
 use Rattle.tcp_streams.specs.Ways.{WayState, Sided, nothing, end_of, lost_in, start_for, front_for, origin_for, held_with, held_after, own_step, other_step, way_step, way_after, same_side, IsPlace, IsWay}
 use Rattle.tcp_streams.proofs.Places.{length-bytes_at, next_is, jump_free, place_jump, place_past, apart_past, apart_append, free_same, put_stays, put_after, put_free, place_put}
 use Rattle.tcp_streams.specs.Numbers.{first_number, ahead, place, skipped, taken_bytes, window}
@@ -163,6 +163,41 @@ past_near (suc n) held acked start front top place low none =
           let free = jump_free held start front next place (omega arith) in
           past_near n held acked next (first_free held next) top (place_jump held start front next place found.first) (free_near held next (first_free held next) top found.first.there free none) none
     ] refl
+
+-- gaps lie in order behind the front end
+pub gaps_between : (n : ℕ) (held : Held) (acked start front low top : ℕ) → IsPlace held start front → low ≤ front → front ≤ top → ((q : ℕ) → top ≤ q → get held q ≡ None)
+    → AreBetween low (gaps n held acked front) top
+gaps_between zero held acked start front low top place order room none = omega arith
+gaps_between (suc n) held acked start front low top place order room none =
+    elim (next_from (acked - front) held (front + 1)) as (λ o. next_from (acked - front) held (front + 1) ≡ o → AreBetween low (gaps_on (gaps n held acked) held front o) top) [
+      | None ↦ λ e. omega arith
+      | Some next ↦ λ e.
+          let found = next_is (acked - front) held (front + 1) next e in
+          let far : front + 1 ≤ next = found.first.order in
+          let past : front < next = omega (arith, far) in
+          let free = jump_free held start front next place (omega arith) in (
+            order,
+            (
+              past,
+              gaps_between n held acked next (first_free held next) next top (place_jump held start front next place found.first) free.order
+                  (free_near held next (first_free held next) top found.first.there free none) none,
+            ),
+          )
+    ] refl
+
+pub lost_between : (w : WayState) → IsWay w → AreBetween (end_of w) (lost_in w) (end_of w + window)
+lost_between w way =
+    gaps_between (w.acked - end_of w) w.held w.acked w.start (end_of w) (end_of w) (end_of w + window) way.place (omega arith) (omega arith) way.place.window_is
+
+pub lost_most : (low : ℕ) (gaps : List Lost) (high : ℕ) → AreBetween low gaps high → low + lost_bytes gaps ≤ high
+lost_most low [] high between = omega (arith, between)
+lost_most low (gap ∷ gaps) high between =
+    let rest = lost_most gap.to gaps high between.1.1 in
+    omega (arith, between.0, between.1.0, rest)
+
+pub lost_few : (low : ℕ) (gaps : List Lost) → AreBetween low gaps (low + window) → lost_bytes gaps < 2 ^ 32
+unfolding window
+lost_few low gaps between = omega (arith, lost_most low gaps (low + window) between)
 
 reach : (start front last old : ℕ) (bytes : List ℕ) → start ≤ front → front ≤ old + window → last ≤ front + window → length bytes ≡ last - start → start + length bytes ≤ old + window + window
 reach start front last old bytes order far near size = omega arith

@@ -1,6 +1,6 @@
 -- Gaps that are passed over: where the other side has acknowledged bytes that lie behind a gap, the receiver had the bytes
 -- of the gap, and the capture missed them. (A rule of this dissector.)
-use Rattle.std.specs.Prelude.{ℕ, zero, suc, ◌+◌, ◌-◌, if◌then◌else◌, List, [], ◌∷◌, Option, None, Some, is_some}
+use Rattle.std.specs.Prelude.{ℕ, zero, suc, ◌+◌, ◌-◌, ◌<◌, ◌≤◌, if◌then◌else◌, List, [], ◌∷◌, Option, None, Some, is_some}
 use Rattle.std.specs.FinMap.{get}
 use Rattle.pk_base.specs.declared.lost.Lost.{Lost}
 use Rattle.pk_base.specs.declared.stretch.Stretch.{Stretch}
@@ -49,3 +49,13 @@ end_past held end (gap ∷ gaps) = end_past held (first_free held gap.to) gaps
 abbrev pub left_behind : Held → ℕ → List Lost → List Stretch
 left_behind held start [] = []
 left_behind held start (gap ∷ gaps) = record { start = start; bytes = bytes_at held start (gap.from - start) } ∷ left_behind held gap.to gaps
+
+-- how many bytes the capture hasn't
+abbrev pub lost_bytes : List Lost → ℕ
+lost_bytes [] = 0
+lost_bytes (gap ∷ gaps) = gap.to - gap.from + lost_bytes gaps
+
+-- gaps in order, from a position up to another, each of one byte at least
+abbrev pub AreBetween : ℕ → List Lost → ℕ → Type 0
+AreBetween low [] high = low ≤ high
+AreBetween low (gap ∷ gaps) high = (low ≤ gap.from) × ((gap.from < gap.to) × AreBetween gap.to gaps high)

@@ -5,9 +5,9 @@ use Rattle.std.specs.FinMap.{get}
 use Rattle.range_bytes.specs.Held.{Cell}
 use Rattle.tcp_streams.specs.declared.segment.Segment.{Segment}
 use Rattle.tcp_streams.specs.declared.segment.Taken.{Taken}
-use Rattle.tcp_streams.specs.Ways.{WayState, Sided, way_after}
+use Rattle.tcp_streams.specs.Ways.{WayState, Sided}
 use Rattle.tcp_streams.specs.Conversations.{same_ends, ends_of}
-use Rattle.tcp_streams.specs.Labels.{Label, labels, way_of, sided_of, label_of, taken_after}
+use Rattle.tcp_streams.specs.Labels.{Label, labels, way_of, sided_of, taken_after}
 
 -- the same segment, whatever its frame
 pub record IsSameButFrame (s t : Segment) : Type 0 where

@@ -5,7 +5,8 @@ use Rattle.std.specs.Prelude.{◌==◌, ℕ, ◌+◌, ◌-◌, ◌%◌, ◌^◌,
 use Rattle.pk_tree.specs.declared.heads.Endpoint.{Endpoint}
 use Rattle.tcp_streams.specs.declared.segment.Segment.{Segment}
 use Rattle.tcp_streams.specs.declared.segment.Taken.{Taken}
-use Rattle.tcp_streams.specs.Numbers.{first_number, ahead, position_ahead}
+use Rattle.tcp_streams.specs.Numbers.{first_number, ahead, position_ahead, window}
+use Rattle.tcp_streams.specs.Gaps.{AreBetween}
 use Rattle.tcp_streams.specs.Ways.{WayState, Sided, end_of, lost_in, origin_for, front_for, own_step, way_after}
 use Rattle.tcp_streams.specs.Conversations.{end_of_endpoint, same_end, same_ends, ends_of}
 
@@ -97,6 +98,10 @@ told stream side own other s = record {
   front_after = end_of (own_step own s);
   lost = lost_in own;
 }
+
+-- the gaps that a segment passes begin behind the front end before it, and end in its window
+abbrev pub PassesNear : Taken → Type 0
+PassesNear taken = AreBetween taken.front_before taken.lost (taken.front_before + window)
 
 abbrev pub told_at : Label → List Label → Taken
 told_at l ls = told l.stream l.side (way_of l.stream l.side ls) (way_of l.stream (not l.side) ls) l.segment

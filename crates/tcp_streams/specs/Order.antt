@@ -1,11 +1,11 @@
 -- Bytes whatever the order: what the segments of a direction say of its positions, with no front, no acknowledgement and
 -- no order in it; and when that is what the direction holds.
-use Rattle.std.specs.Prelude.{◌≡◌, ℕ, ◌+◌, ◌-◌, ◌^◌, ◌<◌, ◌≤◌, ◌⊎◌, Bool, true, List, [], ◌∷◌, length, slice_index, Some, unwrap_or}
+use Rattle.std.specs.Prelude.{◌≡◌, ℕ, ◌+◌, ◌-◌, ◌^◌, ◌<◌, ◌≤◌, ◌⊎◌, Bool, true, if◌then◌else◌, List, [], ◌∷◌, length, slice_index, Some, unwrap_or}
 use Rattle.std.specs.FinMap.{get}
 use Rattle.range_bytes.specs.Held.{Cell}
 use Rattle.tcp_streams.specs.declared.segment.Segment.{Segment}
 use Rattle.tcp_streams.specs.Numbers.{first_number, ahead, window}
-use Rattle.tcp_streams.specs.Ways.{WayState, Sided, same_side, front_for, way_after}
+use Rattle.tcp_streams.specs.Ways.{Sided, same_side, front_for, way_after}
 
 -- a segment's first position, by the origin alone
 abbrev pub offset : ℕ → Segment → ℕ
@@ -40,6 +40,11 @@ AllInWindow origin side (l ∷ ls) =
 -- no segment with bytes reaches so far that its number could mean another position
 abbrev pub AllShort : ℕ → Bool → List Sided → Type 0
 AllShort origin side ls = (s : Segment) → IsSent side ls s → 0 < length s.payload → offset origin s + length s.payload < 2 ^ 31
+
+-- how many bytes a direction's segments have
+abbrev pub bytes_sent : Bool → List Sided → ℕ
+bytes_sent side [] = 0
+bytes_sent side (l ∷ ls) = (if same_side side l.side then length l.segment.payload else 0) + bytes_sent side ls
 
 -- the direction's origin, where a segment has set it
 abbrev pub HasOrigin : ℕ → Bool → List Sided → Type 0
@@ -87,4 +92,6 @@ pub record IsOrderFree (origin : ℕ) (side : Bool) (ls : List Sided) : Type 0 w
   pub sent : HasOrigin origin side ls → AllShort origin side ls → HoldsSent origin side ls
   pub given : IsOrderly origin side ls → HoldsGiven origin side ls
   pub run : IsOrderly origin side ls → IsRunOf origin side ls (way_after side ls).front
+  -- that none reaches too far follows where they have few bytes
+  pub short : AllInWindow origin side ls → (way_after side ls).earlier ≡ [] → bytes_sent side ls ≤ 2 ^ 30 → AllShort origin side ls
   pub free : (ms : List Sided) → IsOrderly origin side ls → IsOrderly origin side ms → HaveSameSent side ls ms → (way_after side ls).front ≡ (way_after side ms).front

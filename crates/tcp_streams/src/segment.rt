@@ -1,3 +1,7 @@
+ghost use Rattle.std.specs.Prelude.{◌≡◌, ◌^◌, ◌<◌};
+ghost use Rattle.tcp_streams.specs.Gaps.{lost_bytes};
+ghost use Rattle.tcp_streams.specs.Labels.{PassesNear};
+
 use pk_base::{LostList, Octets};
 use pk_tree::Endpoint;
 
@@ -33,4 +37,19 @@ pub struct Taken {
     pub front_after: u64,
     /// The gaps that it passes.
     pub lost: LostList,
+}
+
+impl Taken {
+    /// How many bytes the gaps have that the segment passes. Takes no memory.
+    pub fn lost_bytes(&self) -> u32
+        requires { PassesNear self.now }
+        ensures bytes { result ≡ lost_bytes self.now.lost }
+        ensures fits { result < 2 ^ 32 }
+    {
+        let mut bytes = 0;
+        for gap in self.lost.slice() {
+            bytes += gap.to - gap.from;
+        }
+        bytes as u32
+    }
 }

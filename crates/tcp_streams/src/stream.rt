@@ -1,7 +1,7 @@
 ghost use Rattle.std.specs.Prelude.{◌≡◌, ◌%◌, ◌^◌, ◌+◌, ◌<◌, not, true, false, Some, IfOk, OnOk, if◌then◌else◌};
 ghost use Rattle.tcp_streams.specs.Ways.{nothing, end_of, own_step, other_step, way_step, same_side, IsWay};
 ghost use Rattle.tcp_streams.specs.States.{state_of};
-ghost use Rattle.tcp_streams.specs.Labels.{told, number_in, ack_in, side_from, restarts};
+ghost use Rattle.tcp_streams.specs.Labels.{told, number_in, ack_in, side_from, restarts, PassesNear};
 ghost use Rattle.tcp_streams.specs.Stands.{origin_in};
 
 use crate::ends::end_of_endpoint;
@@ -59,6 +59,7 @@ impl Stream {
         requires one_room { end_of (state_of self.old.one) < 2 ^ 60 }
         ensures told { IfOk result (λ taken. taken ≡ (if side then told number true (state_of self.old.one) (state_of self.old.zero) s.now
             else told number false (state_of self.old.zero) (state_of self.old.one) s.now)) }
+        ensures near { IfOk result (λ taken. PassesNear taken) }
         ensures first { OnOk result (self.new.first ≡ self.old.first) }
         ensures zero { OnOk result (state_of self.new.zero ≡ way_step (same_side false side) (state_of self.old.zero) s.now) }
         ensures one { OnOk result (state_of self.new.one ≡ way_step (same_side true side) (state_of self.old.one) s.now) }
@@ -96,6 +97,7 @@ fn tell(
     requires room { end_of (state_of own.old) < 2 ^ 60 }
     requires other_room { end_of (state_of other.old) < 2 ^ 60 }
     ensures told { IfOk result (λ taken. taken ≡ told stream side (state_of own.old) (state_of other.old) s.now) }
+    ensures near { IfOk result (λ taken. PassesNear taken) }
     ensures own { OnOk result (state_of own.new ≡ own_step (state_of own.old) s.now) }
     ensures other { OnOk result (state_of other.new ≡ other_step (state_of other.old) s.now) }
 {

@@ -5,7 +5,7 @@ ghost use Rattle.tcp_streams.specs.declared.ends.Ends.{Ends as EndsValue};
 ghost use Rattle.tcp_streams.specs.Ways.{end_of, IsWay};
 ghost use Rattle.tcp_streams.specs.States.{state_of};
 ghost use Rattle.tcp_streams.specs.Conversations.{ends_of as ends_value, same_ends, number_of};
-ghost use Rattle.tcp_streams.specs.Labels.{labels, sided_of, opened, side_from, taken_after};
+ghost use Rattle.tcp_streams.specs.Labels.{labels, sided_of, opened, side_from, taken_after, PassesNear};
 ghost use Rattle.tcp_streams.specs.Isolation.{HaveSameBetween, IsIsolated};
 ghost use Rattle.tcp_streams.specs.Order.{IsOrderFree};
 ghost use Rattle.tcp_streams.specs.Stands.{Agrees, IsSound, IsSoundStream, IsStepped, IsOpened, current_in};
@@ -54,11 +54,12 @@ impl Streams {
     }
 
     /// Takes a segment, and tells what it is to those before it. After `NoMemory` nothing more is known of the streams.
-    #[tactic(auto, using(crate::proofs::OrderLemmas::is_order_free), unfolding(crate::specs::Standing::StandsFor))]
+    #[tactic(auto, using(crate::proofs::FewLemmas::is_order_free), unfolding(crate::specs::Standing::StandsFor))]
     pub fn take(&mut self, s: &Segment) -> Result<Taken, NoMemory>
         requires { taken_so_far self.old < 2 ^ 32 - 1 }
         ensures taken { IfOk result (λ taken. (past : List SegmentValue) → StandsFor past self.old → taken ≡ taken_after past s.now) }
         ensures stands { OnOk result ((past : List SegmentValue) → StandsFor past self.old → StandsFor (s.now ∷ past) self.new) }
+        ensures near { IfOk result (λ taken. PassesNear taken) }
         ensures counted { taken_so_far self.new ≤ taken_so_far self.old + 1 }
         ensures isolated { (past ys : List SegmentValue) → HaveSameBetween s.now past ys → IsIsolated s.now past ys }
         ensures order { (past : List SegmentValue) (stream origin : ℕ) (side : Bool)
@@ -86,6 +87,7 @@ fn take_next(
     ensures count { length streams.new.items ≤ length streams.old.items + 1 }
     ensures sound { OnOk result ((taken : ℕ) → IsSound newest.old streams.old.items taken → IsSound newest.new streams.new.items (taken + 1)) }
     ensures taken { IfOk result (λ taken. (past : List SegmentValue) → Agrees (labels past) newest.old streams.old.items → taken ≡ taken_after past s.now) }
+    ensures near { IfOk result (λ taken. PassesNear taken) }
     ensures agrees { OnOk result ((past : List SegmentValue) → Agrees (labels past) newest.old streams.old.items → Agrees (labels (s.now ∷ past)) newest.new streams.new.items) }
 {
     match current(newest, streams, s) {
@@ -113,6 +115,7 @@ fn follow(streams: &mut Vec<Stream>, number: u32, s: &Segment) -> Result<Taken, 
     requires within { number < length streams.old.items }
     requires sound { (taken : ℕ) × ((old : StreamValue) → slice_get streams.old.items number ≡ Some old → IsSoundStream taken old) × (taken < 2 ^ 32) }
     ensures count { length streams.new.items ≡ length streams.old.items }
+    ensures near { IfOk result (λ taken. PassesNear taken) }
     ensures followed { IfOk result (λ taken. (old : StreamValue) → slice_get streams.old.items number ≡ Some old → (new : StreamValue)
         × (streams.new.items ≡ slice_set streams.old.items number new) × IsStepped number (side_from old.first s.now) s.now old new taken) }
 {
@@ -130,6 +133,7 @@ fn start(
 ) -> Result<Taken, NoMemory>
     requires { length streams.old.items < 2 ^ 32 }
     ensures count { length streams.new.items ≤ length streams.old.items + 1 }
+    ensures near { IfOk result (λ taken. PassesNear taken) }
     ensures opened { IfOk result (λ taken. (new : StreamValue) × (streams.new.items ≡ streams.old.items ++ new ∷ []) × IsOpened (length streams.old.items) s.now new taken) }
     ensures newest { OnOk result ((ends : EndsValue) → number_of newest.new ends ≡ (if same_ends (ends_value s.now) ends then Some (length streams.old.items) else number_of newest.old ends)) }
 {

@@ -1,7 +1,7 @@
-ghost use Rattle.std.specs.Prelude.{◌≡◌, ◌-◌, ◌^◌, ◌≤◌, ◌<◌, take, drop, IfOk, OnOk};
+ghost use Rattle.std.specs.Prelude.{◌≡◌, ◌+◌, ◌-◌, ◌^◌, ◌≤◌, ◌<◌, take, drop, IfOk, OnOk};
 ghost use Rattle.range_bytes.specs.Held.{HoldsAll, bytes_at};
-ghost use Rattle.tcp_streams.specs.Numbers.{first_number, ahead, position_ahead, taken_bytes};
-ghost use Rattle.tcp_streams.specs.Gaps.{start_past, end_past};
+ghost use Rattle.tcp_streams.specs.Numbers.{first_number, ahead, position_ahead, taken_bytes, window};
+ghost use Rattle.tcp_streams.specs.Gaps.{start_past, end_past, AreBetween};
 ghost use Rattle.tcp_streams.specs.Ways.{nothing, end_of, lost_in, origin_for, front_for, held_with, own_step, other_step, IsPlace, IsWay};
 ghost use Rattle.tcp_streams.specs.States.{state_of};
 
@@ -86,6 +86,7 @@ impl Way {
         requires way { IsWay (state_of self.old) }
         requires room { end_of (state_of self.old) < 2 ^ 60 }
         ensures lost { IfOk result (λ entered. entered.lost ≡ lost_in (state_of self.old)) }
+        ensures between { IfOk result (λ entered. AreBetween (end_of (state_of self.old)) entered.lost (end_of (state_of self.old) + window)) }
         ensures position { IfOk result (λ entered. entered.position ≡ position_ahead (front_for (state_of self.old))
             (ahead (origin_for (state_of self.old) s.now) (front_for (state_of self.old)) (first_number s.now))) }
         ensures step { OnOk result (state_of self.new ≡ own_step (state_of self.old) s.now) }

@@ -1,4 +1,4 @@
-use Rattle.std.proofs.Common.{◌≡◌, ◌+◌, None, Some, sym, subst, Option, ℕ}
+use Rattle.std.proofs.Common.{◌+◌, sym, subst, Option, ℕ}
 use Rattle.range_bytes.specs.Held.{IsNextHeld}
 use Rattle.tcp_streams.proofs.GapLemmas.{here, beyond, nowhere}
 use Rattle.tcp_streams.proofs.passing.next_within.Goals as goal

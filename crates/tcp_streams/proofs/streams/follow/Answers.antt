@@ -1,4 +1,3 @@
-use Rattle.std.proofs.Common.{◌≡◌, sym, ◌∙◌}
 use Rattle.tcp_streams.proofs.TakeLemmas.{followed, at_here}
 use Rattle.tcp_streams.proofs.streams.follow.Goals as goal
 

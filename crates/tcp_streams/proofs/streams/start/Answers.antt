@@ -1,4 +1,4 @@
-use Rattle.std.proofs.Common.{◌≡◌, ℕ, sym, ap, ◌∙◌, subst, false}
+use Rattle.std.proofs.Common.{ℕ, sym, ap, ◌∙◌, subst, false}
 use Rattle.tcp_streams.specs.Ways.{WayState, nothing, IsWay, own_step, other_step}
 use Rattle.tcp_streams.specs.States.{state_of}
 use Rattle.tcp_streams.specs.Labels.{told}

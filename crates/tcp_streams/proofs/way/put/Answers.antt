@@ -1,5 +1,4 @@
-use Rattle.std.proofs.Common.{arith, ◌≡◌, ◌+◌, ◌-◌, ℕ, List, ap, subst, ◌∙◌, take, drop}
-use Rattle.tcp_streams.specs.Numbers.{skipped, window}
+use Rattle.std.proofs.Common.{◌≡◌, ◌-◌, ℕ, subst, take, drop}
 use Rattle.tcp_streams.proofs.WayLemmas.{put_room}
 use Rattle.tcp_streams.proofs.way.put.Goals as goal
 

@@ -20,11 +20,15 @@ returns-in-Ok-clause-stands c = λ past stands.
     (c.with-self-inside.ensures.with ∙ ap (λ (d : DissectorShown). with_time frame.time d.times) c.self.view_is)
     stands reads
 
-pub make_tree-requires-clause-udp : goal.make_tree-requires-clause-udp
-make_tree-requires-clause-udp c =
-    let few = c.self.invariant.udp_few c.if-self.false in
+pub make_tree-requires-clause-few : goal.make_tree-requires-clause-few
+make_tree-requires-clause-few c =
+    let udp = c.self.invariant.udp_few c.if-self.false in
+    let tcp = c.self.invariant.tcp_few c.if-self.false in
     let taken = ap (λ (d : DissectorShown). d.taken) c.self.view_is in
-    omega (arith, few, taken, c.requires.number, c.number_of-number.ensures.number, c.number_of-number.ensures.fits)
+    record {
+      udp = omega (arith, udp, taken, c.requires.number, c.number_of-number.ensures.number, c.number_of-number.ensures.fits);
+      tcp = omega (arith, tcp, taken, c.requires.number, c.number_of-number.ensures.number, c.number_of-number.ensures.fits);
+    }
 
 pub invariant_of-self-in-Err : goal.invariant_of-self-in-Err
 invariant_of-self-in-Err c =
@@ -32,6 +36,7 @@ invariant_of-self-in-Err c =
     let taken = ap (λ (d : DissectorShown). d.taken) c.self.view_is in
     record {
       times = c.self.invariant.times;
-      udp = omega (arith, few, taken, c.requires.number, c.number_of-number.ensures.number, c.number_of-number.ensures.fits, c.make_tree.ensures.udp);
+      udp = omega (arith, few, taken, c.requires.number, c.number_of-number.ensures.number, c.number_of-number.ensures.fits, c.make_tree.ensures.added.udp);
       udp_few = λ not_spent. absurd (true≢false not_spent);
+      tcp_few = λ not_spent. absurd (true≢false not_spent);
     }

@@ -1,6 +1,6 @@
 use Rattle.std.proofs.Common.{◌+◌, ◌*◌, ◌≤◌, length}
 use Rattle.dissect.specs.declared.state.State.{State}
-use Rattle.dissect.specs.Stands.{HasRoom, OpensAtMostOne}
+use Rattle.dissect.specs.Stands.{HasRoom, AddsOneThenEnds}
 use Rattle.dissect.specs.Walks.{IsTodoInside}
 use Rattle.dissect.proofs.Chains.{Goes}
 use Rattle.dissect.proofs.state.State.chain.Given as goal
@@ -10,10 +10,10 @@ abbrev pub invariant-loop-todo : goal.invariant-loop-todo
 invariant-loop-todo l = record {
   goes : Goes l.frame l.fn.most l.initial.self l.initial.tree l.fn.first l.left l.self l.tree l.todo;
   inside : IsTodoInside l.tree.buffers l.todo;
-  opens : (before : State) → OpensAtMostOne before l.initial.self l.fn.first → OpensAtMostOne before l.self l.todo;
+  adds : (before : State) → AddsOneThenEnds before l.initial.self l.fn.first → AddsOneThenEnds before l.self l.todo;
   room : HasRoom l.self l.todo;
   buffers : length l.tree.buffers + l.left ≤ length l.initial.tree.buffers + l.fn.most;
-  few : length l.tree.layers + 4 * l.left ≤ length l.initial.tree.layers + 4 * l.fn.most;
+  few : length l.tree.layers + 6 * l.left ≤ length l.initial.tree.layers + 6 * l.fn.most;
 }
 
 abbrev pub decreases-loop-todo : goal.decreases-loop-todo

@@ -5,7 +5,7 @@ use Rattle.pk_tree.specs.declared.heads.After.TheVariants as afters
 use Rattle.pk_tree.specs.Trees.{last_proto}
 use Rattle.dis_ip.specs.Fragments.{LastIsPart}
 use Rattle.dissect.specs.Payloads.{ComesBehind}
-use Rattle.dissect.proofs.Behind.{vlan_behind, icmp_behind, icmp6_behind, ip4_behind, ip6_behind, extension_behind, udp_behind, tcp_behind}
+use Rattle.dissect.proofs.Behind.{vlan_behind, icmp_behind, icmp6_behind, igmp_behind, ip4_behind, ip6_behind, extension_behind, udp_behind, tcp_behind}
 use Rattle.dissect.proofs.state.State.head.Goals as goal
 
 pub follow-requires-in-Vlan-clause-last : goal.follow-requires-in-Vlan-clause-last
@@ -22,6 +22,11 @@ pub follow-requires-in-Icmp6-clause-last : goal.follow-requires-in-Icmp6-clause-
 follow-requires-in-Icmp6-clause-last c =
     subst (λ (after : After). ComesBehind after c.read_icmp6.new.b.layers) (sym c.in_ok-after-in-Icmp6.ensures.after)
     (icmp6_behind c.read_icmp6.new.b.layers _ _)
+
+pub follow-requires-in-Igmp-clause-last : goal.follow-requires-in-Igmp-clause-last
+follow-requires-in-Igmp-clause-last c =
+    subst (λ (after : After). ComesBehind after c.read_igmp.new.b.layers) (sym c.in_ok-after-in-Igmp.ensures.after)
+    (igmp_behind c.read_igmp.new.b.layers _)
 
 pub follow-requires-in-Ip4-clause-last : goal.follow-requires-in-Ip4-clause-last
 follow-requires-in-Ip4-clause-last c =

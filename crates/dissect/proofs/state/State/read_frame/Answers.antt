@@ -15,8 +15,8 @@ returns c = record {
       let rest = c.in_ok-chain.ensures.walked w.events first.stands in
       all-met frame w c.link.new.self c.link.new.tree c.in_ok-first.first c.chain.new.self c.chain.new.tree first
       (subst (λ (n : ℕ). IsWalked (chain (32 - n) frame (going c.link.new.tree w.events c.in_ok-first.first)) c.chain.new.self c.chain.new.tree todos.Done) c.layer_count-left.ensures rest);
-  opened = c.chain.ensures.opened c.args.self.now c.in_ok-first.ensures.opens;
+  added = c.chain.ensures.added c.args.self.now c.in_ok-first.ensures.adds;
 }
 
 pub chain-requires-clause-few : goal.chain-requires-clause-few
-chain-requires-clause-few c = room-on c.args.self.now c.link.new.self c.in_ok-first.first c.requires.few c.in_ok-first.ensures.opens
+chain-requires-clause-few c = room-on c.args.self.now c.link.new.self c.in_ok-first.first c.requires.few c.in_ok-first.ensures.adds

@@ -1,4 +1,4 @@
-use Rattle.std.proofs.Common.{◌≡◌, ◌∙◌, Bool, Some, cond, ap, sym}
+use Rattle.std.proofs.Common.{◌∙◌, Bool, Some, cond, ap, sym}
 use Rattle.indexmap.specs.IndexMap.{get}
 use Rattle.tcp_streams.specs.declared.ends.Ends.{Ends}
 use Rattle.tcp_streams.proofs.Keys.{ends_eq_is}

@@ -1,9 +1,11 @@
-use Rattle.std.proofs.Common.{rules, ◌≡◌, ◌++◌, ◌<◌, ◌^◌, ℕ, List, sym, ap, ◌∙◌, subst, arith}
+use Rattle.std.proofs.Common.{rules, ◌≡◌, ◌+◌, ◌++◌, ◌<◌, ◌^◌, ℕ, List, sym, ap, ◌∙◌, subst, arith}
 use Rattle.pk_base.specs.declared.stretch.Stretch.{Stretch}
-use Rattle.tcp_streams.specs.Gaps.{gaps_behind, start_past, end_past, left_behind}
-use Rattle.tcp_streams.specs.Ways.{end_of, lost_in, start_for, front_for}
+use Rattle.pk_base.specs.declared.lost.Lost.{Lost}
+use Rattle.tcp_streams.specs.Gaps.{gaps_behind, start_past, end_past, left_behind, AreBetween}
+use Rattle.tcp_streams.specs.Numbers.{window}
+use Rattle.tcp_streams.specs.Ways.{end_of, lost_in}
 use Rattle.tcp_streams.specs.States.{state_of}
-use Rattle.tcp_streams.proofs.WayLemmas.{no_length, renew_same, renew_run, end_small, step_is, near_is}
+use Rattle.tcp_streams.proofs.WayLemmas.{no_length, renew_same, renew_run, end_small, step_is, near_is, lost_between}
 use Rattle.tcp_streams.proofs.way.Way.take.Goals as goal
 
 pub put-requires-clause-room : goal.put-requires-clause-room
@@ -45,6 +47,12 @@ returns-clause-step c =
     c.in_ok-put.ensures
     (c.in_ok-append.ensures.items ∙ ap (λ (left : List Stretch). w.earlier ++ left) (c.in_ok-passed.ensures.left ∙ ap (λ (e : ℕ). left_behind w.held w.start (gaps_behind w.held w.acked e)) at))
     c.in_ok-passed.ensures.place c.first_free-to.ensures c.in_ok-renew.ensures
+
+pub returns-clause-between : goal.returns-clause-between
+returns-clause-between c =
+    let w = state_of c.args.self.now in
+    let lost = ap (gaps_behind w.held w.acked) (sym c.end-end.ensures) ∙ sym c.in_ok-passed.ensures.lost ∙ sym c.from_vec.ensures in
+    subst (λ (gaps : List Lost). AreBetween (end_of w) gaps (end_of w + window)) lost (lost_between w c.requires.way)
 
 pub returns-clause-near : goal.returns-clause-near
 returns-clause-near c = near_is (state_of c.args.self.now) _ c.args.s.now c.requires.way c.requires.room (returns-clause-step c)

@@ -1,0 +1,2 @@
+pub mod OptionBound
+pub mod NeighLemmas

@@ -1,0 +1,2 @@
+pub mod Neigh
+pub mod NeighOptions

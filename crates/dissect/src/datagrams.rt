@@ -1,0 +1,46 @@
+ghost use Rattle.std.specs.Prelude.{◌≡◌, ◌+◌, ◌<◌, ◌≤◌, ◌^◌, List, length, IfOk, OnOk};
+ghost use Rattle.pk_buffer.specs.Buffers.{IsInside};
+ghost use Rattle.pk_fields.specs.Ids.{UDP};
+ghost use Rattle.dissect.specs.Events.{Event};
+ghost use Rattle.dissect.specs.Payloads.{LastIs};
+ghost use Rattle.dissect.specs.Stands.{StandsAt, IsWalked, IsReady, AddsAtMost, AddsOneThenEnds};
+ghost use Rattle.dissect.specs.Walks.{IsTodoInside, datagram_met};
+
+use crate::applications::{add_message, app_of};
+use crate::conversations::udp_ends;
+use crate::frame_layer::is_cut;
+use crate::payload::tell_datagram;
+use crate::state::State;
+use crate::todo::Todo;
+use capture_read::Frame;
+use pk_base::{NoMemory, Span};
+use pk_tree::{PacketHead, PortsHead, TreeBuilder};
+
+impl State {
+    /// Takes a packet of UDP: tells the number of its conversation, and reads what it carries.
+    #[tactic(auto, unfolding(crate::specs::Walks::datagram_met, crate::specs::Fragments::fragments_of, crate::specs::Segments::segments_of, crate::specs::Conversations::udp_opened))]
+    pub(crate) fn datagram(
+        &mut self,
+        frame: &Frame,
+        packet: PacketHead,
+        head: PortsHead,
+        span: Span,
+        tree: &mut TreeBuilder,
+    ) -> Result<Todo, NoMemory>
+        requires inside { IsInside tree.old.buffers span }
+        requires last { LastIs UDP tree.old.layers }
+        requires bytes { length frame.now.bytes < 2 ^ 32 }
+        requires ready { IsReady 4 self.old tree.old }
+        ensures inside { IfOk result (λ todo. IsTodoInside tree.new.buffers todo) }
+        ensures walked { IfOk result (λ todo. (es : List Event) → StandsAt es self.old → IsWalked (datagram_met frame.now packet tree.old es head span) self.new tree.new todo) }
+        ensures adds { IfOk result (λ todo. AddsOneThenEnds self.old self.new todo) }
+        ensures added { AddsAtMost 1 self.old self.new }
+        ensures buffers { tree.new.buffers ≡ tree.old.buffers }
+        ensures most { OnOk result (length tree.new.layers ≤ length tree.old.layers + 4) }
+    {
+        let stream = self.udp.number(udp_ends(&packet, head))?;
+        tell_datagram(stream, span, tree)?;
+        add_message(app_of(head), is_cut(frame), span, tree)?;
+        Ok(Todo::Done)
+    }
+}

@@ -1,0 +1,67 @@
+ghost use Rattle.std.specs.Prelude.{◌≡◌, ◌+◌, ◌<◌, ◌≤◌, ◌^◌, List, length, IfOk, OnOk};
+ghost use Rattle.pk_buffer.specs.Buffers.{IsInside};
+ghost use Rattle.pk_fields.specs.Ids.{TCP};
+ghost use Rattle.dissect.specs.Events.{Event};
+ghost use Rattle.dissect.specs.Payloads.{LastIs};
+ghost use Rattle.dissect.specs.Segments.{segment_from};
+ghost use Rattle.dissect.specs.Stands.{StandsAt, IsWalked, IsReady, AddsAtMost, AddsOneThenEnds};
+ghost use Rattle.dissect.specs.Walks.{IsTodoInside, segment_met};
+
+use crate::data_layer::add_data;
+use crate::payload::tell_segment;
+use crate::state::State;
+use crate::todo::Todo;
+use capture_read::Frame;
+use pk_base::{NoMemory, Octets, Span};
+use pk_tree::{Endpoint, PacketHead, TcpHead, TreeBuilder};
+use tcp_streams::Segment;
+
+impl State {
+    /// Takes a segment of TCP: tells its place in its stream, and shows what it carries as data.
+    pub(crate) fn segment(
+        &mut self,
+        frame: &Frame,
+        packet: PacketHead,
+        head: TcpHead,
+        span: Span,
+        tree: &mut TreeBuilder,
+    ) -> Result<Todo, NoMemory>
+        requires inside { IsInside tree.old.buffers span }
+        requires last { LastIs TCP tree.old.layers }
+        requires ready { IsReady 2 self.old tree.old }
+        ensures inside { IfOk result (λ todo. IsTodoInside tree.new.buffers todo) }
+        ensures walked { IfOk result (λ todo. (es : List Event) → StandsAt es self.old → IsWalked (segment_met frame.now packet tree.old es head span) self.new tree.new todo) }
+        ensures adds { IfOk result (λ todo. AddsOneThenEnds self.old self.new todo) }
+        ensures added { AddsAtMost 1 self.old self.new }
+        ensures buffers { tree.new.buffers ≡ tree.old.buffers }
+        ensures most { OnOk result (length tree.new.layers ≤ length tree.old.layers + 2) }
+    {
+        let segment = segment_from(frame.number, &packet, head, tree.part(span)?);
+        let taken = self.streams.take(&segment)?;
+        tell_segment(&taken, span, tree)?;
+        add_data(span, tree)?;
+        Ok(Todo::Done)
+    }
+}
+
+/// A segment between the ends of the packet that it is in.
+fn segment_from(frame: u32, packet: &PacketHead, head: TcpHead, payload: Octets) -> Segment
+    ensures { result ≡ segment_from frame packet.now head payload }
+{
+    Segment {
+        frame,
+        from: Endpoint {
+            address: packet.source,
+            port: head.source,
+        },
+        to: Endpoint {
+            address: packet.target,
+            port: head.target,
+        },
+        seq: head.seq,
+        ack: head.ack,
+        syn: head.syn,
+        acked: head.acked,
+        payload,
+    }
+}
