@@ -58,7 +58,7 @@ begins_field : (f : Field) (r : List ℕ) → IsField f → begins is_token_byte
 begins_field f r is =
     ap (begins is_token_byte) (print_field-append f r) ∙ begins-append is_token_byte f.name _ is.name.0 is.name.1
 
-section-cons : (f : Field) (fs : List Field) (last : LineEnd) (r : List ℕ) → print_section (f ∷ fs) last ++ r ≡ print_field f ++ (print_section fs last ++ r)
+pub section-cons : (f : Field) (fs : List Field) (last : LineEnd) (r : List ℕ) → print_section (f ∷ fs) last ++ r ≡ print_field f ++ (print_section fs last ++ r)
 section-cons f fs last r =
     ap (λ (t : List ℕ). t ++ r) (append_assoc (print_field f) (flat_map print_field fs) (print_end last))
     ∙ append_assoc (print_field f) (flat_map print_field fs ++ print_end last) r

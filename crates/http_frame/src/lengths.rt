@@ -4,8 +4,9 @@ ghost use Rattle.std.specs.Str.Parse.{AllDigits, digits_value};
 ghost use Rattle.std.specs.Str.{str_eq_ignore_ascii_case};
 ghost use Rattle.std.specs.List.{list_all};
 ghost use Rattle.std.specs.Option.{option_map};
+ghost use Rattle.httparse.specs.Grammar.{is_ows, trim_ows};
 ghost use Rattle.httparse.specs.Spans.{IsHeaderWithin, IsWithin, header_bytes, span_bytes};
-ghost use Rattle.http_frame.specs.Fields.{is_length, last_of_name, length_in, lengths_of, merged, newer_value, with_field};
+ghost use Rattle.http_frame.specs.Fields.{is_chunked, is_length, last_element, last_of_name, length_in, lengths_of, merged, newer_value, with_field};
 
 use httparse::spans::{HeaderSpan, Span};
 
@@ -143,4 +144,46 @@ fn digit_value(digit: u8) -> u64
         b'A'..=b'F' => digit - b'A' + 10,
         _ => digit - b'a' + 10,
     })
+}
+
+/// Whether the last transfer coding is chunked.
+#[tactic(auto, unfolding(crate::specs::Fields::is_chunked))]
+pub(crate) fn is_chunked(value: &[u8]) -> bool
+    ensures { result ≡ is_chunked value.now }
+{
+    is_named(trim(last_element(value)), b"chunked")
+}
+
+/// The element behind the last comma of a list.
+fn last_element(value: &[u8]) -> &[u8]
+    ensures { result.now ≡ last_element value.now }
+{
+    let mut start = 0;
+    for place in 0..value.len() {
+        if value[place] == b',' {
+            start = place + 1;
+        }
+    }
+    &value[start..]
+}
+
+/// The bytes without the spaces and tabs at both ends.
+fn trim(bytes: &[u8]) -> &[u8]
+    ensures { result.now ≡ trim_ows bytes.now }
+{
+    let mut start = 0;
+    while start < bytes.len() && is_ows(bytes[start]) {
+        start += 1;
+    }
+    let mut end = bytes.len();
+    while start < end && is_ows(bytes[end - 1]) {
+        end -= 1;
+    }
+    &bytes[start..end]
+}
+
+fn is_ows(byte: u8) -> bool
+    ensures { result ≡ is_ows byte }
+{
+    byte == b' ' || byte == b'\t'
 }
