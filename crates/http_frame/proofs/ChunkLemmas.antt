@@ -1,5 +1,5 @@
 -- Lists of chunks, when more bytes come.
-use Rattle.std.proofs.Common.{◌≡◌, ℕ, zero, suc, ◌+◌, ◌-◌, ◌<◌, ◌≤◌, List, ◌++◌, length, drop, refl, sym, ap, ◌∙◌, subst, ap₂, arith, length-drop, Some, None}
+use Rattle.std.proofs.Common.{◌≡◌, ℕ, zero, suc, ◌+◌, ◌-◌, ◌<◌, ◌≤◌, List, ◌++◌, length, drop, refl, sym, ap, ◌∙◌, subst, ap₂, arith, length-drop, Some, None, ◌∷◌, []}
 use Rattle.std.specs.Prelude.{if◌then◌else◌}
 use Rattle.http_frame.specs.declared.plans.Start.{Start}
 use Rattle.http_frame.specs.declared.shape.Body.TheVariants.{Chunked, NotShown}
@@ -10,7 +10,8 @@ use Rattle.http_frame.specs.declared.chunks.Place.{Place}
 use Rattle.http_frame.specs.declared.chunks.Turn.{Turn}
 use Rattle.http_frame.specs.declared.chunks.Turn.TheVariants.{Chunk, Last, Long, Trailing, End, Waits, Fails}
 use Rattle.http_frame.specs.Lines.{line_of, line_by, text_from}
-use Rattle.http_frame.specs.Limits.{line_limit, trailer_limit}
+use Rattle.http_frame.specs.Limits.{body_limit, line_limit, trailer_limit}
+use Rattle.http_frame.specs.Sizes.{size_of_pieces}
 use Rattle.http_frame.specs.Chunks.{shape_of, trailing_turn, size_turn, turn_at, looked_at, on_turn, chunks, behind_chunk, behind_last, behind_line}
 use Rattle.http_frame.specs.ChunkFacts.{TurnFits}
 use Rattle.http_frame.proofs.TextLemmas.{drop_append, text_same}
@@ -178,3 +179,31 @@ chunks_none turns i start bytes place pieces e = by (turns - i)
     by : (n : ℕ) → chunks n start bytes place pieces ≡ None
     by zero = refl
     by (suc n) = ap (on_turn (chunks n start bytes) start place pieces) (sym e)
+
+-- ---- the bytes of the chunks
+
+size_push : (pieces : List Piece) (piece : Piece) → size_of_pieces (pieces ++ piece ∷ []) ≡ size_of_pieces pieces + piece.len
+size_push [] piece = omega arith
+size_push (first ∷ pieces) piece = omega (arith, size_push pieces piece)
+
+pub chunks_short : (turns : ℕ) (start : Start) (bytes : List ℕ) (place : Place) (pieces all : List Piece) (s : Shape)
+    → size_of_pieces pieces ≡ place.sum → place.sum ≤ body_limit → chunks turns start bytes place pieces ≡ Some s → s.body ≡ Chunked all
+    → size_of_pieces all ≤ body_limit
+unfolding chunks
+chunks_short zero start bytes place pieces all s same within e body = absurd (cc)
+chunks_short (suc turns) start bytes place pieces all s same within e body =
+    by (λ next more same within f. chunks_short turns start bytes next more all s same within f body) (turn_at place (drop place.at bytes)) (turn_fits place (drop place.at bytes)) e
+  where
+    by : ((next : Place) (more : List Piece) → size_of_pieces more ≡ next.sum → next.sum ≤ body_limit → chunks turns start bytes next more ≡ Some s → size_of_pieces all ≤ body_limit)
+        → (t : Turn) → TurnFits place (length (drop place.at bytes)) t → on_turn (chunks turns start bytes) start place pieces t ≡ Some s → size_of_pieces all ≤ body_limit
+    by go (Chunk line size) fits e = go (behind_chunk place line size) _ (size_push pieces (record { start = place.at + line; len = size }) ∙ ap (λ (n : ℕ). n + size) same) fits.2 e
+    by go (Last line) fits e = go (behind_last place line) _ same within e
+    by go (Trailing line) fits e = go (behind_line place line) _ same within e
+    by go (Long line) fits e =
+        let none : NotShown ≡ Chunked all = ap (λ (s : Shape). s.body) (same_shape (shape_of start NotShown (place.at + line) Opaque) s e) ∙ body in absurd (cc)
+    by go End fits e =
+        let both : Chunked pieces ≡ Chunked all = ap (λ (s : Shape). s.body) (same_shape (shape_of start (Chunked pieces) (place.at + 2) (Follows 0)) s e) ∙ body in
+        let whole : pieces ≡ all = cc in
+        subst (λ (list : List Piece). size_of_pieces list ≤ body_limit) whole (omega (arith, same, within))
+    by go Waits fits e = absurd (cc)
+    by go Fails fits e = absurd (cc)

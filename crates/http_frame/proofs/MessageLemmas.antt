@@ -1,19 +1,24 @@
 -- The laws of the first message.
-use Rattle.std.proofs.Common.{zero, suc, ◌≡◌, ℕ, ◌<◌, ◌≤◌, Bool, true, List, [], ◌++◌, length, refl, sym, ap, ◌∙◌, subst, arith, length-append, Option, Some, None}
+use Rattle.std.proofs.Common.{zero, suc, ◌≡◌, ℕ, ◌<◌, ◌≤◌, Bool, true, List, [], ◌++◌, length, refl, sym, ap, ◌∙◌, subst, arith, length-append, Option, Some, None, ◌+◌}
 use Rattle.std.specs.Prelude.{nat_le}
 use Rattle.http_frame.specs.declared.plans.Plan.{Plan}
 use Rattle.http_frame.specs.declared.plans.Plan.TheVariants.{Bare, Chunks, Fixed, Pass, Unknown}
 use Rattle.http_frame.specs.declared.plans.Start.{Start}
+use Rattle.http_frame.specs.declared.shape.Body.{Body}
+use Rattle.http_frame.specs.declared.shape.Body.TheVariants.{None as Bodiless, Plain, Chunked, NotShown}
+use Rattle.http_frame.specs.declared.shape.Piece.{Piece}
+use Rattle.http_frame.specs.declared.shape.Then.TheVariants.{Follows, Opaque}
 use Rattle.http_frame.specs.declared.shape.Shape.{Shape}
 use Rattle.http_frame.specs.Heads.{Head, Request, Response, print_head, is_request_at, head_of}
 use Rattle.http_frame.specs.Plans.{start_of, plan_of}
-use Rattle.http_frame.specs.Chunks.{first_place}
-use Rattle.http_frame.specs.Limits.{turn_limit}
+use Rattle.http_frame.specs.Chunks.{first_place, shape_of}
+use Rattle.http_frame.specs.Limits.{body_limit, turn_limit}
+use Rattle.http_frame.specs.Sizes.{size_of_pieces}
 use Rattle.http_frame.specs.Messages.{if_there, shape_by, by_shape, by_head, first_message, FirstLaws}
 use Rattle.http_frame.proofs.HeadLemmas.{chosen}
 use Rattle.http_frame.proofs.HeadLawProofs.{head_of-stays, head_of-shrinks}
 use Rattle.http_frame.proofs.GoingLemmas.{there_is}
-use Rattle.http_frame.proofs.ChunkLemmas.{chunks_within, chunks_stay, chunks_shrink}
+use Rattle.http_frame.proofs.ChunkLemmas.{chunks_within, chunks_stay, chunks_shrink, chunks_short}
 
 le_says : (a b : ℕ) → nat_le a b ≡ true → a ≤ b
 le_says a b e = grind arith
@@ -109,5 +114,28 @@ first_shrinks asked bytes more s e room = by (head_of (bytes ++ more)) refl e
         ap (λ (o : Option Head). by_head asked o bytes) (head_of-shrinks bytes more h is (omega (arith, behind, room)))
         ∙ planned_shrinks (start_of h) (shape_by (start_of h) (plan_of asked h)) bytes more s e room
 
+there_body : (shape s : Shape) (bytes : List ℕ) (body : Body) → if_there shape bytes ≡ Some s → s.body ≡ body → shape.body ≡ body
+there_body shape s bytes body e is = ap (λ (s : Shape). s.body) (there_says shape s bytes e).0 ∙ is
+
+planned_short : (start : Start) (plan : Plan) (bytes : List ℕ) (s : Shape) (pieces : List Piece) → by_shape start (shape_by start plan) bytes ≡ Some s
+    → s.body ≡ Chunked pieces → size_of_pieces pieces ≤ body_limit
+planned_short start Bare bytes s pieces e body = let other : Bodiless ≡ Chunked pieces = there_body (shape_of start Bodiless start.head (Follows 0)) s bytes (Chunked pieces) e body in absurd (cc)
+planned_short start (Fixed n) bytes s pieces e body =
+    let other : Plain n ≡ Chunked pieces = there_body (shape_of start (Plain n) (start.head + n) (Follows 0)) s bytes (Chunked pieces) e body in absurd (cc)
+planned_short start (Pass n) bytes s pieces e body =
+    let other : NotShown ≡ Chunked pieces = there_body (shape_of start NotShown start.head (Follows n)) s bytes (Chunked pieces) e body in absurd (cc)
+planned_short start Unknown bytes s pieces e body =
+    let other : NotShown ≡ Chunked pieces = there_body (shape_of start NotShown start.head Opaque) s bytes (Chunked pieces) e body in absurd (cc)
+planned_short start Chunks bytes s pieces e body = chunks_short turn_limit start bytes (first_place start.head) [] pieces s refl (omega arith) e body
+
+pub first_short : (asked : Bool) (bytes : List ℕ) (s : Shape) (pieces : List Piece) → first_message asked bytes ≡ Some s → s.body ≡ Chunked pieces
+    → size_of_pieces pieces ≤ body_limit
+unfolding first_message
+first_short asked bytes s pieces e body = by (head_of bytes) e
+  where
+    by : (o : Option Head) → by_head asked o bytes ≡ Some s → size_of_pieces pieces ≤ body_limit
+    by None e = absurd (cc)
+    by (Some h) e = planned_short (start_of h) (plan_of asked h) bytes s pieces e body
+
 pub laws_of_messages : FirstLaws
-laws_of_messages = record { some = first_some; within = first_within; stays = first_stays; shrinks = first_shrinks }
+laws_of_messages = record { some = first_some; within = first_within; stays = first_stays; shrinks = first_shrinks; short = first_short }

@@ -10,3 +10,4 @@ pub mod LineFacts
 pub mod Chunks
 pub mod ChunkFacts
 pub mod Messages
+pub mod Sizes

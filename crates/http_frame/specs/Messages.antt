@@ -6,7 +6,8 @@ use Rattle.http_frame.specs.declared.plans.Plan.{Plan}
 use Rattle.http_frame.specs.declared.plans.Plan.TheVariants.{Bare, Chunks, Fixed, Pass, Unknown}
 use Rattle.http_frame.specs.declared.plans.Planned.{Planned}
 use Rattle.http_frame.specs.declared.plans.Start.{Start}
-use Rattle.http_frame.specs.declared.shape.Body.TheVariants.{None as Bodiless, Plain, NotShown}
+use Rattle.http_frame.specs.declared.shape.Body.TheVariants.{None as Bodiless, Plain, Chunked, NotShown}
+use Rattle.http_frame.specs.declared.shape.Piece.{Piece}
 use Rattle.http_frame.specs.declared.shape.Shape.{Shape}
 use Rattle.http_frame.specs.declared.shape.Then.TheVariants.{Follows, Opaque}
 use Rattle.http_frame.specs.declared.progress.Progress.{Progress}
@@ -17,7 +18,8 @@ use Rattle.http_frame.specs.declared.progress.Framing.{Framing}
 use Rattle.http_frame.specs.declared.progress.Framing.TheVariants.{Unfinished, Message}
 use Rattle.http_frame.specs.declared.message.Framed.{Framed}
 use Rattle.http_frame.specs.declared.message.Framed.TheVariants.{Unfinished as NoMessage, Message as OneMessage}
-use Rattle.http_frame.specs.Limits.{head_limit, turn_limit}
+use Rattle.http_frame.specs.Limits.{body_limit, head_limit, turn_limit}
+use Rattle.http_frame.specs.Sizes.{size_of_pieces}
 use Rattle.http_frame.specs.Heads.{Head, head_of}
 use Rattle.http_frame.specs.Ends.{behind_from}
 use Rattle.http_frame.specs.Plans.{planned}
@@ -100,10 +102,12 @@ pub record GoesOn (meaning : List ℕ → Option Shape) (bytes : List ℕ) (r : 
 abbrev pub BeginLaw : Type 0
 BeginLaw = (asked : Bool) (bytes : List ℕ) → resumed (begun asked) bytes ≡ first_message asked bytes
 
--- a first message has a byte, lies in the bytes, and depends on nothing behind it
+-- a first message has a byte, lies in the bytes, and depends on nothing behind it; its chunks are within the limit of a body
 pub record FirstLaws : Type 0 where
   pub some : (asked : Bool) (bytes : List ℕ) (s : Shape) → first_message asked bytes ≡ Some s → 0 < s.end
   pub within : (asked : Bool) (bytes : List ℕ) (s : Shape) → first_message asked bytes ≡ Some s → s.end ≤ length bytes
   pub stays : (asked : Bool) (bytes more : List ℕ) (s : Shape) → first_message asked bytes ≡ Some s → first_message asked (bytes ++ more) ≡ Some s
   pub shrinks : (asked : Bool) (bytes more : List ℕ) (s : Shape) → first_message asked (bytes ++ more) ≡ Some s → s.end ≤ length bytes
       → first_message asked bytes ≡ Some s
+  pub short : (asked : Bool) (bytes : List ℕ) (s : Shape) (pieces : List Piece) → first_message asked bytes ≡ Some s → s.body ≡ Chunked pieces
+      → size_of_pieces pieces ≤ body_limit

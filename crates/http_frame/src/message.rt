@@ -39,7 +39,7 @@ pub fn begin_law()
     ensures { BeginLaw }
 {}
 
-/// A first message has a byte, lies in the bytes, and depends on nothing behind it.
+/// A first message has a byte, lies in the bytes, and depends on nothing behind it. Its chunks are within the limit of a body.
 pub fn message_laws()
     ensures { FirstLaws }
 {}
