@@ -1,0 +1,14 @@
+pub mod RunLemmas
+pub mod SplitLemmas
+pub mod HeadLemmas
+pub mod HeadLawProofs
+pub mod LengthLemmas
+pub mod EndLemmas
+pub mod GoingLemmas
+pub mod MessageLemmas
+pub mod BeginLemmas
+pub mod ChunkLemmas
+pub mod TurnLemmas
+pub mod TextLemmas
+pub mod SizeLemmas
+pub mod ListingLemmas

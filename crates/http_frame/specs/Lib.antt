@@ -1,0 +1,13 @@
+pub mod Limits
+pub mod Heads
+pub mod Fields
+pub mod Ends
+pub mod Searches
+pub mod Plans
+pub mod PlanFacts
+pub mod Lines
+pub mod LineFacts
+pub mod Chunks
+pub mod ChunkFacts
+pub mod Messages
+pub mod Sizes
