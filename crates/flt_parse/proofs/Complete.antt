@@ -4,7 +4,7 @@ use Rattle.std.proofs.lemmas.Bool.{lt-ltb, le-leb}
 use Rattle.std.proofs.lemmas.Bool.Decides.{nat_tests}
 use Rattle.std.proofs.lemmas.List.{append-nil}
 use Rattle.flt_parse.specs.Grammar.{IsFilter, IsGrouped, IsOperand, IsTail, binds, calls, calls_behind, depth, element, last_layer, more_elements, more_layers, more_ranges, operand, place, range, ranges, sign_of_place, spelled, strength, tail, takes_mask, takes_operator, takes_slice, unary}
-use Rattle.flt_parse.specs.Reading.{Left, LeftOf, Frame, Call, Side, OnLeft, OnRight, LayerWanted, RangeSpot, RangeWanted, PlaceRead, ColonRead, EndWanted, PartRead, Spot, OperandWanted, OperandRead, InLayers, InRanges, ElementWanted, InSet, State, Want, Have, InOperand, InTail, Answer, Whole, have, no_frame, open_around, open_at, read, settle, start, with_part}
+use Rattle.flt_parse.specs.Parser.Reading.{Left, LeftOf, Frame, Call, Side, OnLeft, OnRight, LayerWanted, RangeSpot, RangeWanted, PlaceRead, ColonRead, EndWanted, PartRead, Spot, OperandWanted, OperandRead, InLayers, InRanges, ElementWanted, InSet, State, Want, Have, InOperand, InTail, Answer, Whole, have, no_frame, open_around, open_at, read, settle, start, with_part}
 use Rattle.flt_parse.specs.Written.{Written, WrittenOperand, WrittenTail, TextOf, NamedOf, OnLayerOf, OnLayersOf, SlicedOf, MaskedOf, CalledOf, CompareOf, InOf, MatchesOf, JoinedOf, NotOf, GroupOf, AloneOf, TestOf}
 use Rattle.flt_parse.specs.declared.ast.Choice.{Choice}
 use Rattle.flt_parse.specs.declared.ast.Element.{Element}

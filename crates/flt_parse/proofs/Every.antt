@@ -1,13 +1,13 @@
 -- Each text is a filter or has a first fault, and a filter has no more tokens than its text has bytes.
-use Rattle.std.proofs.Common.{◌≡◌, ◌⊎◌, inl, inr, ℕ, zero, suc, ◌+◌, ◌-◌, ◌^◌, ◌<◌, ◌≤◌, Bool, true, false, List, [], ◌∷◌, length, Ok, Err, Result, refl, sym, ap, ◌∙◌, subst, arith}
+use Rattle.std.proofs.Common.{◌≡◌, ◌⊎◌, inl, inr, ℕ, zero, suc, ◌+◌, ◌-◌, ◌^◌, ◌<◌, ◌≤◌, Bool, true, false, List, [], ◌∷◌, length, Ok, Err, Result, refl, ap, subst, arith}
 use Rattle.std.proofs.Math.Dec.{leb}
 use Rattle.std.proofs.lemmas.Bool.{leb-true, leb-false}
 use Rattle.flt_parse.specs.Filters.{IsFilterText, IsFirstFault, kinds_of, most_bytes, most_open, place_of}
 use Rattle.flt_parse.specs.Grammar.{spelled}
 use Rattle.flt_parse.specs.Laws.{FilterOrFault}
 use Rattle.flt_parse.specs.Letters.{is_blank}
-use Rattle.flt_parse.specs.Reading.{Answer, Whole, Bad, start}
-use Rattle.flt_parse.specs.Answers.{tokens_read}
+use Rattle.flt_parse.specs.Parser.Reading.{Answer, Whole, Bad, start}
+use Rattle.flt_parse.specs.Parser.Answers.{tokens_read}
 use Rattle.flt_parse.specs.Tokens.{before, mode_behind, then_read, token_at, tokens_from, tokens_of}
 use Rattle.flt_parse.specs.Written.{Written}
 use Rattle.flt_parse.specs.declared.fault.FilterError.TheVariants.{Fault}

@@ -1,9 +1,9 @@
 -- Moves of the reading, as the parser comes to them.
 use Rattle.std.proofs.Common.{◌≡◌, ℕ, ◌+◌, ◌==◌, true, false, List, [], ◌∷◌, ◌++◌, length, Option, Some, None, Result, Err, ltb, zero-add, sym, ap, ◌∙◌, refl, subst}
 use Rattle.flt_parse.specs.Grammar.{takes_mask, takes_slice, is_open}
-use Rattle.flt_parse.specs.Reading.{Frame, Call, Side, OnLeft, OnRight, Spot, OperandWanted, OperandRead, LayersWanted, InLayers, InRanges, MaskWanted, TailSpot, InOperand, InTail, Move, Go, Stop, LayerSpot, RangeSpot, RangeWanted, behind_hash, have, left_end, operand_end, operand_move, operand_step, tail_move, whole_have, whole_operand}
-use Rattle.flt_parse.specs.Answers.{further, goes_on, operand_read}
-use Rattle.flt_parse.specs.States.{IsMove, IsSpot, IsTailMove, IsWhole, around_of, calls_of}
+use Rattle.flt_parse.specs.Parser.Reading.{Frame, Call, Side, OnLeft, OnRight, Spot, OperandWanted, OperandRead, LayersWanted, InLayers, InRanges, MaskWanted, TailSpot, InOperand, InTail, Move, Go, Stop, LayerSpot, RangeSpot, RangeWanted, behind_hash, have, left_end, operand_end, operand_move, operand_step, tail_move, whole_have, whole_operand}
+use Rattle.flt_parse.specs.Parser.Answers.{further, goes_on, operand_read}
+use Rattle.flt_parse.specs.Parser.States.{IsMove, IsSpot, IsTailMove, IsWhole, around_of, calls_of}
 use Rattle.flt_parse.specs.Written.{Written, WrittenOperand, WrittenTail, TestOf}
 use Rattle.flt_parse.specs.declared.ast.Ast.{Ast}
 use Rattle.flt_parse.specs.declared.ast.Choice.{Choice}

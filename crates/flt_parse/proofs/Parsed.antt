@@ -3,9 +3,9 @@ use Rattle.std.proofs.Common.{◌≡◌, ℕ, zero, suc, ◌+◌, ◌-◌, ◌<�
 use Rattle.std.specs.Char.{is_ascii_digit}
 use Rattle.flt_parse.specs.Filters.{IsFault, IsFaultFor, IsFilterText, IsLexicalFault, IsSyntaxFault, IsRefusal, kinds_of, most_bytes, most_open}
 use Rattle.flt_parse.specs.Grammar.{IsFilter}
-use Rattle.flt_parse.specs.Reading.{State, Go, Answer, Whole, Bad, ended, start, step, then_go, whole}
-use Rattle.flt_parse.specs.Answers.{IsParseError, IsReadError, refused, tokens_read}
-use Rattle.flt_parse.specs.States.{IsMove, IsWhole}
+use Rattle.flt_parse.specs.Parser.Reading.{State, Go, Answer, Whole, Bad, ended, start, step, then_go, whole}
+use Rattle.flt_parse.specs.Parser.Answers.{IsParseError, IsReadError, refused, tokens_read}
+use Rattle.flt_parse.specs.Parser.States.{IsMove, IsWhole}
 use Rattle.flt_parse.specs.Letters.{is_blank}
 use Rattle.flt_parse.specs.Strings.{raw_inside, string_inside}
 use Rattle.flt_parse.specs.Tokens.{IsTokensError, before, bracket_token, digits_lexeme, first_sign, lexeme, mode_behind, next_place, plain_token, sign_lexeme, text_lexeme, then_read, token_at, tokens_from, tokens_of}

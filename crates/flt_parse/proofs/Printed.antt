@@ -1,7 +1,7 @@
 -- The tokens that lead to a state of the reading, and what holds of every state that is reached.
 use Rattle.std.proofs.Common.{◌≡◌, ℕ, ◌+◌, ◌<◌, ◌≤◌, true, List, [], ◌∷◌, ◌++◌, length, append_assoc, sym, ap, ◌∙◌, refl}
 use Rattle.flt_parse.specs.Grammar.{IsFilled, IsGrouped, IsOperand, binds, calls, choice, depth, element, layer_range, layers, literal, more_elements, more_layers, more_ranges, not_before, operand, place, range, ranges, set, spelled, strength, takes_mask, takes_operator, takes_slice, unary}
-use Rattle.flt_parse.specs.Reading.{Left, LeftOf, Frame, Call, Side, OnLeft, OnRight, LayerSpot, LayerWanted, FirstRead, LastWanted, LastRead, RangeSpot, RangeWanted, DigitsWanted, PlaceRead, ColonRead, EndWanted, EndDigitsWanted, CountWanted, PartRead, Spot, OperandWanted, OperandRead, LayersWanted, InLayers, InRanges, MaskWanted, ElementSpot, ElementWanted, LiteralRead, SecondWanted, SecondRead, TailSpot, InWanted, SetWanted, InSet, PatternWanted, State, Want, Have, InOperand, InTail, open_around, open_at}
+use Rattle.flt_parse.specs.Parser.Reading.{Left, LeftOf, Frame, Call, Side, OnLeft, OnRight, LayerSpot, LayerWanted, FirstRead, LastWanted, LastRead, RangeSpot, RangeWanted, DigitsWanted, PlaceRead, ColonRead, EndWanted, EndDigitsWanted, CountWanted, PartRead, Spot, OperandWanted, OperandRead, LayersWanted, InLayers, InRanges, MaskWanted, ElementSpot, ElementWanted, LiteralRead, SecondWanted, SecondRead, TailSpot, InWanted, SetWanted, InSet, PatternWanted, State, Want, Have, InOperand, InTail, open_around, open_at}
 use Rattle.flt_parse.specs.declared.ast.Element.{Element}
 use Rattle.flt_parse.specs.declared.ast.LayerRange.{LayerRange}
 use Rattle.flt_parse.specs.declared.ast.Negation.{Negation}

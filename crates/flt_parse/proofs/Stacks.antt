@@ -3,8 +3,8 @@ use Rattle.std.proofs.Common.{◌≡◌, ℕ, suc, ◌+◌, ◌-◌, ◌<◌, �
 use Rattle.std.proofs.Math.Seq.{take-length}
 use Rattle.std.proofs.lemmas.Bool.Decides.{nat_tests}
 use Rattle.flt_parse.specs.Grammar.{binds}
-use Rattle.flt_parse.specs.Reading as reading
-use Rattle.flt_parse.specs.States.{around_of, frame_of, left_of, reversed}
+use Rattle.flt_parse.specs.Parser.Reading as reading
+use Rattle.flt_parse.specs.Parser.States.{around_of, frame_of, left_of, reversed}
 use Rattle.flt_parse.specs.Written.{Written, JoinedOf, written}
 use Rattle.flt_parse.specs.declared.state.Frame.{Frame}
 use Rattle.flt_parse.specs.declared.state.Left.{Left}

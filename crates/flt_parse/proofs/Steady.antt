@@ -4,7 +4,7 @@ use Rattle.std.proofs.lemmas.Bool.{ltb-true, leb-true}
 use Rattle.std.proofs.lemmas.Bool.Decides.{nat_tests}
 use Rattle.std.proofs.lemmas.List.{append-nil}
 use Rattle.flt_parse.specs.Grammar.{IsFilter, IsGrouped, IsOperand, IsTail, binds, calls, calls_behind, choice, depth, element, layer_range, literal, not_before, operand, range, spelled, strength, tail, takes_mask, takes_operator, takes_slice, unary}
-use Rattle.flt_parse.specs.Reading.{Left, LeftOf, Frame, Call, Side, OnLeft, OnRight, LayerSpot, LayerWanted, FirstRead, LastWanted, LastRead, RangeSpot, RangeWanted, DigitsWanted, PlaceRead, ColonRead, EndWanted, EndDigitsWanted, CountWanted, PartRead, Spot, OperandWanted, OperandRead, LayersWanted, InLayers, InRanges, MaskWanted, ElementSpot, ElementWanted, LiteralRead, SecondWanted, SecondRead, TailSpot, InWanted, SetWanted, InSet, PatternWanted, State, Want, Have, InOperand, InTail, Move, Go, Stop, begin, behind, behind_hash, call_begin, call_end, closing, have, joined, layers_end, layers_step, left_alone, left_end, literal_step, negated, no_frame, not_before_in, open_around, open_at, operand_end, operand_move, operand_step, otherwise, ranges_end, ranges_step, set_done, set_step, settle, step, tail_done, tail_move, tail_step, whole, whole_have, whole_operand, whole_test}
+use Rattle.flt_parse.specs.Parser.Reading.{Left, LeftOf, Frame, Call, Side, OnLeft, OnRight, LayerSpot, LayerWanted, FirstRead, LastWanted, LastRead, RangeSpot, RangeWanted, DigitsWanted, PlaceRead, ColonRead, EndWanted, EndDigitsWanted, CountWanted, PartRead, Spot, OperandWanted, OperandRead, LayersWanted, InLayers, InRanges, MaskWanted, ElementSpot, ElementWanted, LiteralRead, SecondWanted, SecondRead, TailSpot, InWanted, SetWanted, InSet, PatternWanted, State, Want, Have, InOperand, InTail, Move, Go, Stop, begin, behind, behind_hash, call_begin, call_end, closing, have, joined, layers_end, layers_step, left_alone, left_end, literal_step, negated, no_frame, not_before_in, open_around, open_at, operand_end, operand_move, operand_step, otherwise, ranges_end, ranges_step, set_done, set_step, settle, step, tail_done, tail_move, tail_step, whole, whole_have, whole_operand, whole_test}
 use Rattle.flt_parse.specs.Written.{Written, WrittenOperand, WrittenTail, NamedOf, CompareOf, JoinedOf, NotOf, GroupOf, AloneOf, TestOf}
 use Rattle.flt_parse.specs.declared.ast.Choice.{Choice}
 use Rattle.flt_parse.specs.declared.ast.Element.{Element}

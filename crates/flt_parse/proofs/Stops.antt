@@ -4,7 +4,7 @@ use Rattle.std.proofs.Common.{◌≡◌, ℕ, suc, ◌≤◌, ⊎_elim, max, Lis
 use Rattle.std.proofs.lemmas.List.{append-nil}
 use Rattle.flt_parse.specs.Filters.{BeginsFilter, IsFault, IsTokenFault, kinds_of, most_open, place_of}
 use Rattle.flt_parse.specs.Grammar.{IsFilter}
-use Rattle.flt_parse.specs.Reading.{State, Move, Go, Stop, Answer, Whole, Bad, ended, read, start, step, then_go, whole}
+use Rattle.flt_parse.specs.Parser.Reading.{State, Move, Go, Stop, Answer, Whole, Bad, ended, read, start, step, then_go, whole}
 use Rattle.flt_parse.specs.Written.{Written}
 use Rattle.flt_parse.specs.declared.fault.FilterFault.{FilterFault}
 use Rattle.flt_parse.specs.declared.fault.FilterReason.{FilterReason}

@@ -1,7 +1,7 @@
 -- From each state some tokens lead to a filter; more may be open under a larger limit.
 use Rattle.std.proofs.Common.{◌≡◌, ℕ, suc, ◌+◌, ◌<◌, ◌≤◌, ◌⊎◌, inl, inr, Bool, true, false, List, [], ◌∷◌, length, Option, Some, None, cond, ltb, arith, sym, ap, ◌∙◌, refl, subst}
 use Rattle.std.proofs.lemmas.Bool.{lt-ltb, ltb-true}
-use Rattle.flt_parse.specs.Reading.{Left, Frame, Call, Side, OnLeft, OnRight, LayerWanted, FirstRead, LastWanted, LastRead, RangeWanted, DigitsWanted, PlaceRead, ColonRead, EndWanted, EndDigitsWanted, CountWanted, PartRead, Spot, OperandWanted, OperandRead, LayersWanted, InLayers, InRanges, MaskWanted, ElementWanted, LiteralRead, SecondWanted, SecondRead, TailSpot, InWanted, SetWanted, InSet, PatternWanted, State, Want, Have, InOperand, InTail, Move, Go, Stop, Whole, Bad, begin, behind, call_begin, call_end, closing, have, joined, left_alone, left_end, negated, not_before_in, open_at, operand_end, operand_move, operand_step, opens, otherwise, step, tail_done, tail_move, tail_step, then_go}
+use Rattle.flt_parse.specs.Parser.Reading.{Left, Frame, Call, Side, OnLeft, OnRight, LayerWanted, FirstRead, LastWanted, LastRead, RangeWanted, DigitsWanted, PlaceRead, ColonRead, EndWanted, EndDigitsWanted, CountWanted, PartRead, Spot, OperandWanted, OperandRead, LayersWanted, InLayers, InRanges, MaskWanted, ElementWanted, LiteralRead, SecondWanted, SecondRead, TailSpot, InWanted, SetWanted, InSet, PatternWanted, State, Want, Have, InOperand, InTail, Move, Go, Stop, Whole, Bad, begin, behind, call_begin, call_end, closing, have, joined, left_alone, left_end, negated, not_before_in, open_at, operand_end, operand_move, operand_step, opens, otherwise, step, tail_done, tail_move, tail_step, then_go}
 use Rattle.flt_parse.specs.Written.{Written, WrittenOperand, WrittenTail, CalledOf, CompareOf, MatchesOf, GroupOf, AloneOf, TestOf}
 use Rattle.flt_parse.specs.declared.ast.Choice.{Choice}
 use Rattle.flt_parse.specs.declared.ast.Element.{Element}

@@ -1,10 +1,8 @@
-pub mod Answers
 pub mod Filters
 pub mod Grammar
 pub mod Laws
 pub mod Letters
-pub mod Reading
-pub mod States
+pub mod Parser
 pub mod Strings
 pub mod Tokens
 pub mod Written

@@ -2,8 +2,8 @@
 ghost use Rattle.std.specs.Prelude.{◌≡◌, ◌+◌, ℕ, Some, List, [], ◌∷◌, nat_lt, IfOk};
 ghost use Rattle.flt_parse.specs.Filters.{most_open};
 ghost use Rattle.flt_parse.specs.Grammar.{binds as binding};
-ghost use Rattle.flt_parse.specs.Reading as reading;
-ghost use Rattle.flt_parse.specs.States.{IsMove, around_of, frame_of, left_of, reversed};
+ghost use Rattle.flt_parse.specs.Parser.Reading as reading;
+ghost use Rattle.flt_parse.specs.Parser.States.{IsMove, around_of, behind_of, frame_of, left_of, reversed};
 ghost use Rattle.flt_parse.specs.Written.{JoinedOf, written};
 
 use crate::ast::{Ast, Negation};
@@ -86,10 +86,10 @@ pub fn negate(alloc: Global, nots: Vec<Negation>, filter: Ast) -> Result<Ast, No
 }
 
 /// Behind a filter in parentheses, or in none.
-pub fn have(alloc: Global, inside: Open, filter: Ast) -> Result<State, Refusal>
-    ensures { IsMove (reading.Go (reading.have (frame_of inside.frame) (around_of inside.around.items) (written filter))) result }
+pub fn have(alloc: Global, outer: Open, filter: Ast) -> Result<State, Refusal>
+    ensures { IsMove (reading.Go (behind_of outer (written filter))) result }
 {
-    let Open { frame, around } = inside;
+    let Open { frame, around } = outer;
     let Frame { lefts, nots } = frame;
     let all = negate(alloc, nots, filter)?;
     Ok(State::Have(lefts, all, around))
@@ -164,10 +164,10 @@ fn close_all(
 }
 
 /// At a token behind a test.
-pub fn behind_test(alloc: Global, inside: Open, test: Ast, kind: Kind) -> Result<State, Refusal>
-    ensures { IsMove (reading.behind (reversed left_of inside.frame.lefts.items) (reading.negated (reversed (λ n. n) inside.frame.nots.items) (written test)) (around_of inside.around.items) kind) result }
+pub fn behind_test(alloc: Global, outer: Open, test: Ast, kind: Kind) -> Result<State, Refusal>
+    ensures { IsMove (reading.step most_open (behind_of outer (written test)) kind) result }
 {
-    let Open { frame, around } = inside;
+    let Open { frame, around } = outer;
     let Frame { lefts, nots } = frame;
     let all = negate(alloc, nots, test)?;
     behind(alloc, lefts, all, around, kind)
@@ -181,14 +181,14 @@ pub fn unexpected() -> Result<State, Refusal>
 
 /// Whether one more may be open.
 #[tactic(auto, unfolding(crate::specs::Filters::most_open), using(crate::proofs::Stacks::room_within, crate::proofs::Stacks::room_beyond))]
-pub fn has_room(calls: usize, inside: &Open) -> bool
-    ensures { result ≡ nat_lt (calls + reading.open_at (frame_of inside.now.frame) (around_of inside.now.around.items)) most_open }
+pub fn has_room(calls: usize, outer: &Open) -> bool
+    ensures { result ≡ nat_lt (calls + reading.open_at (frame_of outer.now.frame) (around_of outer.now.around.items)) most_open }
 {
-    let used = calls.saturating_add(inside.frame.nots.len());
+    let used = calls.saturating_add(outer.frame.nots.len());
     if used > FILTER_DEPTH_LIMIT {
         return false;
     }
-    has_room_around(&inside.around, FILTER_DEPTH_LIMIT - used)
+    has_room_around(&outer.around, FILTER_DEPTH_LIMIT - used)
 }
 
 #[tactic(auto, using(crate::proofs::Stacks::frame_within, crate::proofs::Stacks::frame_beyond))]

@@ -2,8 +2,8 @@
 // token, or nothing where the token doesn't go on with it.
 ghost use Rattle.std.specs.Prelude.{◌≡◌, ◌++◌, [], ◌∷◌, Some, None};
 ghost use Rattle.flt_parse.specs.Grammar.{takes_mask as may_mask, takes_slice as may_slice};
-ghost use Rattle.flt_parse.specs.Reading as reading;
-ghost use Rattle.flt_parse.specs.States.{IsSpot, spot_of};
+ghost use Rattle.flt_parse.specs.Parser.Reading as reading;
+ghost use Rattle.flt_parse.specs.Parser.States.{IsSpot, spot_of};
 ghost use Rattle.flt_parse.specs.Written.{OnLayersOf, SlicedOf, operand_of};
 
 use crate::ast::{LayerRange, Operand, Place, RangePart, SliceRange};
@@ -11,17 +11,6 @@ use crate::state::{LayerSpot, RangeSpot, Refusal, Spot};
 use crate::token::Kind;
 use crate::word::Word;
 use std::alloc::Global;
-
-/// Where an operand is wanted, but for a call.
-pub fn operand_begun(kind: Kind) -> Option<Spot>
-    ensures { IsSpot (reading.operand_step reading.OperandWanted kind) (Ok result) }
-{
-    match kind {
-        Kind::Text(quote) => Some(Spot::Read(Operand::Text(quote))),
-        Kind::Name(word) => Some(Spot::Read(Operand::Named(word))),
-        _ => None,
-    }
-}
 
 /// Behind the `#` of a word.
 pub fn layers_begun(alloc: Global, word: Word, kind: Kind) -> Option<Spot>

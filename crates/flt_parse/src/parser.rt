@@ -2,9 +2,9 @@
 ghost use Rattle.std.specs.Prelude.{◌≡◌, ◌≤◌, IfOk, IfErr, length};
 ghost use Rattle.flt_parse.specs.Filters.{IsFilterText, IsRefusal, kinds_of, most_bytes, most_open};
 ghost use Rattle.flt_parse.specs.Grammar.{IsFilter};
-ghost use Rattle.flt_parse.specs.Reading as reading;
-ghost use Rattle.flt_parse.specs.Answers.{IsParseError, IsReadError, refused as refused_as, tokens_read};
-ghost use Rattle.flt_parse.specs.States.{state_of};
+ghost use Rattle.flt_parse.specs.Parser.Reading as reading;
+ghost use Rattle.flt_parse.specs.Parser.Answers.{IsParseError, IsReadError, refused as refused_as, tokens_read};
+ghost use Rattle.flt_parse.specs.Parser.States.{state_of};
 ghost use Rattle.flt_parse.specs.Written.{written};
 
 use crate::ast::Ast;

@@ -104,6 +104,15 @@ pub struct Open {
     pub around: Vec<Frame>,
 }
 
+/// Where an operand stands: on which side of a test, in which functions whose `)` isn't read, and what is open around
+/// the test.
+#[derive(Drop)]
+pub struct Inside {
+    pub side: Side,
+    pub calls: Vec<Call>,
+    pub outer: Open,
+}
+
 /// How far a filter is read.
 #[derive(Drop)]
 pub enum State {
@@ -111,7 +120,7 @@ pub enum State {
     Want(Open),
     /// Behind a filter, before which others wait.
     Have(Vec<Left>, Ast, Vec<Frame>),
-    InOperand(Spot, Side, Vec<Call>, Open),
+    InOperand(Spot, Inside),
     InTail(TailSpot, Option<Choice>, Operand, Open),
 }
 

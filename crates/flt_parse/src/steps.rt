@@ -1,12 +1,12 @@
 // One token further: what the parser's state becomes, or why the token isn't read.
-ghost use Rattle.std.specs.Prelude.{◌≡◌, ◌+◌, ℕ, Some, None, List, [], ◌∷◌, true, Option};
+ghost use Rattle.std.specs.Prelude.{◌≡◌, Some, None, true, Option};
 ghost use Rattle.std.specs.Option.{option_map};
-ghost use Rattle.flt_parse.specs.Answers.{further, goes_on as goes_on_with, operand_read as read_operand};
 ghost use Rattle.flt_parse.specs.Filters.{most_open};
 ghost use Rattle.flt_parse.specs.Grammar.{is_open as asks_none};
-ghost use Rattle.flt_parse.specs.Reading as reading;
-ghost use Rattle.flt_parse.specs.States.{IsMove, IsSpot, IsWhole, around_of, call_of, calls_of, frame_of, left_of, reversed, side_of, spot_of, state_of, tail_spot_of};
 ghost use Rattle.flt_parse.specs.Written.{operand_of, written};
+ghost use Rattle.flt_parse.specs.Parser.Answers.{goes_on as goes_on_with, operand_read as read_operand};
+ghost use Rattle.flt_parse.specs.Parser.Reading as reading;
+ghost use Rattle.flt_parse.specs.Parser.States.{IsMove, IsSpot, IsWhole, around_of, begun_at, behind_of, call_end_in, call_of, end_in, frame_of, further_in, go_in, in_spot, left_end_in, left_of, not_in_of, range_spot, reversed, side_end_in, side_of, spot_of, state_of, step_in, tail_spot_of, want, in_tail as at_tail};
 
 use crate::ast::{Ast, Choice, LayerRange, Negation, Operand, Operator, Tail};
 use crate::fault::FilterReason;
@@ -15,7 +15,8 @@ use crate::operands::{
     Slice, layers_begun, layers_step, mask_wanted, ranges_step, takes_mask, takes_slice,
 };
 use crate::state::{
-    Call, Frame, LayerSpot, Left, Open, RangeSpot, Refusal, Side, Spot, State, TailMove, TailSpot,
+    Call, Frame, Inside, LayerSpot, Left, Open, RangeSpot, Refusal, Side, Spot, State, TailMove,
+    TailSpot,
 };
 use crate::tails::tail_step;
 use crate::token::Kind;
@@ -27,46 +28,36 @@ pub fn step(alloc: Global, state: State, kind: Kind) -> Result<State, Refusal>
     ensures { IsMove (reading.step most_open (state_of state) kind) result }
 {
     match state {
-        State::Want(inside) => begin(alloc, inside, kind),
+        State::Want(outer) => begin(alloc, outer, kind),
         State::Have(lefts, filter, around) => behind(alloc, lefts, filter, around, kind),
-        State::InOperand(spot, side, calls, inside) => in_operand(
-            alloc, spot, side, calls, inside, kind,
-        ),
-        State::InTail(spot, choice, operand, inside) => in_tail(
-            alloc, spot, choice, operand, inside, kind,
+        State::InOperand(spot, inside) => in_operand(alloc, spot, inside, kind),
+        State::InTail(spot, choice, operand, outer) => in_tail(
+            alloc, spot, choice, operand, outer, kind,
         ),
     }
 }
 
 /// Where a filter begins.
-fn begin(alloc: Global, inside: Open, kind: Kind) -> Result<State, Refusal>
-    ensures { IsMove (reading.begin most_open (frame_of inside.frame) (around_of inside.around.items) kind) result }
+fn begin(alloc: Global, outer: Open, kind: Kind) -> Result<State, Refusal>
+    ensures { IsMove (reading.step most_open (want outer) kind) result }
 {
     match kind {
-        Kind::Negates(negation) => open_not(inside, negation),
-        Kind::Open => open_group(alloc, inside),
-        Kind::Chooses(choice) => choose(alloc, inside, choice),
-        Kind::Calls(function, at) => open_call(
-            Side::OnLeft(None),
-            Vec::new(alloc),
-            inside,
-            Call { function, at },
-        ),
-        Kind::Text(quote) => begun(alloc, inside, Operand::Text(quote)),
-        Kind::Name(word) => begun(alloc, inside, Operand::Named(word)),
-        _ => unexpected(),
+        Kind::Negates(negation) => open_not(outer, negation),
+        Kind::Open => open_group(alloc, outer),
+        Kind::Chooses(choice) => choose(alloc, outer, choice),
+        _ => begin_test(alloc, outer, kind),
     }
 }
 
 /// Behind `not`.
 #[tactic(auto, using(crate::proofs::Stacks::reversed_push, crate::proofs::Moves::no_calls))]
-fn open_not(inside: Open, negation: Negation) -> Result<State, Refusal>
-    ensures { IsMove (reading.begin most_open (frame_of inside.frame) (around_of inside.around.items) (Kind.Negates negation)) result }
+fn open_not(outer: Open, negation: Negation) -> Result<State, Refusal>
+    ensures { IsMove (reading.step most_open (want outer) (Kind.Negates negation)) result }
 {
-    if !has_room(0, &inside) {
+    if !has_room(0, &outer) {
         return too_deep();
     }
-    let Open { frame, around } = inside;
+    let Open { frame, around } = outer;
     let Frame { lefts, mut nots } = frame;
     nots.push(negation)?;
     let frame = Frame { lefts, nots };
@@ -75,13 +66,13 @@ fn open_not(inside: Open, negation: Negation) -> Result<State, Refusal>
 
 /// Behind `(`.
 #[tactic(auto, using(crate::proofs::Stacks::reversed_push, crate::proofs::Moves::no_calls))]
-fn open_group(alloc: Global, inside: Open) -> Result<State, Refusal>
-    ensures { IsMove (reading.begin most_open (frame_of inside.frame) (around_of inside.around.items) Kind.Open) result }
+fn open_group(alloc: Global, outer: Open) -> Result<State, Refusal>
+    ensures { IsMove (reading.step most_open (want outer) Kind.Open) result }
 {
-    if !has_room(0, &inside) {
+    if !has_room(0, &outer) {
         return too_deep();
     }
-    let Open { frame, mut around } = inside;
+    let Open { frame, mut around } = outer;
     around.push(frame)?;
     let frame = Frame {
         lefts: Vec::new(alloc),
@@ -97,85 +88,56 @@ fn too_deep() -> Result<State, Refusal>
 }
 
 /// Behind `any` or `all`.
-fn choose(alloc: Global, inside: Open, choice: Choice) -> Result<State, Refusal>
-    ensures { IsMove (reading.begin most_open (frame_of inside.frame) (around_of inside.around.items) (Kind.Chooses choice)) result }
+fn choose(alloc: Global, outer: Open, choice: Choice) -> Result<State, Refusal>
+    ensures { IsMove (reading.step most_open (want outer) (Kind.Chooses choice)) result }
 {
-    Ok(State::InOperand(
-        Spot::Wanted,
-        Side::OnLeft(Some(choice)),
-        Vec::new(alloc),
-        inside,
-    ))
+    let inside = Inside {
+        side: Side::OnLeft(Some(choice)),
+        calls: Vec::new(alloc),
+        outer,
+    };
+    Ok(State::InOperand(Spot::Wanted, inside))
 }
 
-/// Behind a word or a string with which a filter begins.
-fn begun(alloc: Global, inside: Open, operand: Operand) -> Result<State, Refusal>
-    ensures { IsMove (reading.Go (reading.InOperand (reading.OperandRead (operand_of operand)) (reading.OnLeft None) [] (frame_of inside.frame) (around_of inside.around.items))) result }
+/// Where a test without `any` and `all` begins.
+fn begin_test(alloc: Global, outer: Open, kind: Kind) -> Result<State, Refusal>
+    ensures { IsMove (reading.step most_open (begun_at (reading.OnLeft None) outer) kind) result }
 {
-    Ok(State::InOperand(
-        Spot::Read(operand),
-        Side::OnLeft(None),
-        Vec::new(alloc),
-        inside,
-    ))
-}
-
-/// Behind a function and its `(`.
-#[tactic(auto, using(crate::proofs::Stacks::reversed_push, crate::proofs::Stacks::length_reversed))]
-fn open_call(side: Side, calls: Vec<Call>, inside: Open, call: Call) -> Result<State, Refusal>
-    ensures { IsMove (reading.call_begin most_open (side_of side) (calls_of calls.items) (frame_of inside.frame) (around_of inside.around.items) (Kind.Calls call.function call.at)) result }
-{
-    if !has_room(calls.len(), &inside) {
-        return too_deep();
-    }
-    let mut calls = calls;
-    calls.push(call)?;
-    Ok(State::InOperand(Spot::Wanted, side, calls, inside))
+    let inside = Inside {
+        side: Side::OnLeft(None),
+        calls: Vec::new(alloc),
+        outer,
+    };
+    wanted(inside, kind)
 }
 
 /// In an operand.
-fn in_operand(
-    alloc: Global,
-    spot: Spot,
-    side: Side,
-    calls: Vec<Call>,
-    inside: Open,
-    kind: Kind,
-) -> Result<State, Refusal>
-    ensures { IsMove (reading.operand_move most_open (reading.operand_step (spot_of spot) kind) (spot_of spot) (side_of side) (calls_of calls.items) (frame_of inside.frame) (around_of inside.around.items) kind) result }
+fn in_operand(alloc: Global, spot: Spot, inside: Inside, kind: Kind) -> Result<State, Refusal>
+    ensures { IsMove (step_in (spot_of spot) inside kind) result }
 {
     match spot {
-        Spot::Wanted => wanted(side, calls, inside, kind),
-        Spot::Read(operand) => read(alloc, operand, side, calls, inside, kind),
-        Spot::LayersWanted(word) => behind_sharp(alloc, word, side, calls, inside, kind),
-        Spot::InLayers(word, done, at, spot) => {
-            in_layers(word, done, at, spot, side, calls, inside, kind)
-        }
+        Spot::Wanted => wanted(inside, kind),
+        Spot::Read(operand) => read(alloc, operand, inside, kind),
+        Spot::LayersWanted(word) => behind_sharp(alloc, word, inside, kind),
+        Spot::InLayers(word, done, at, spot) => in_layers(word, done, at, spot, inside, kind),
         Spot::InRanges(operand, bracket, done, at, spot) => {
             let slice = Slice {
                 operand,
                 bracket,
                 done,
             };
-            in_ranges(alloc, slice, at, spot, side, calls, inside, kind)
+            in_ranges(alloc, slice, at, spot, inside, kind)
         }
-        Spot::MaskWanted(operand, at) => behind_mask(alloc, operand, at, side, calls, inside, kind),
+        Spot::MaskWanted(operand, at) => behind_mask(alloc, operand, at, inside, kind),
     }
 }
 
 /// Behind the `#` of a word.
 #[tactic(auto, using(crate::proofs::Moves::layers_wanted))]
-fn behind_sharp(
-    alloc: Global,
-    word: Word,
-    side: Side,
-    calls: Vec<Call>,
-    inside: Open,
-    kind: Kind,
-) -> Result<State, Refusal>
-    ensures { IsMove (reading.operand_move most_open (reading.operand_step (reading.LayersWanted word) kind) (reading.LayersWanted word) (side_of side) (calls_of calls.items) (frame_of inside.frame) (around_of inside.around.items) kind) result }
+fn behind_sharp(alloc: Global, word: Word, inside: Inside, kind: Kind) -> Result<State, Refusal>
+    ensures { IsMove (step_in (reading.LayersWanted word) inside kind) result }
 {
-    on_if(Ok(layers_begun(alloc, word, kind)), side, calls, inside)
+    on_if(Ok(layers_begun(alloc, word, kind)), inside)
 }
 
 /// In the brackets of layers.
@@ -185,14 +147,12 @@ fn in_layers(
     done: Vec<LayerRange>,
     at: u32,
     spot: LayerSpot,
-    side: Side,
-    calls: Vec<Call>,
-    inside: Open,
+    inside: Inside,
     kind: Kind,
 ) -> Result<State, Refusal>
-    ensures { IsMove (reading.operand_move most_open (reading.operand_step (reading.InLayers word done.items at spot) kind) (reading.InLayers word done.items at spot) (side_of side) (calls_of calls.items) (frame_of inside.frame) (around_of inside.around.items) kind) result }
+    ensures { IsMove (step_in (reading.InLayers word done.items at spot) inside kind) result }
 {
-    on_if(layers_step(word, done, at, spot, kind), side, calls, inside)
+    on_if(layers_step(word, done, at, spot, kind), inside)
 }
 
 /// In the brackets of a slice.
@@ -202,19 +162,12 @@ fn in_ranges(
     slice: Slice,
     at: u32,
     spot: RangeSpot,
-    side: Side,
-    calls: Vec<Call>,
-    inside: Open,
+    inside: Inside,
     kind: Kind,
 ) -> Result<State, Refusal>
-    ensures { IsMove (reading.operand_move most_open (reading.operand_step (reading.InRanges (operand_of slice.operand) slice.bracket slice.done.items at spot) kind) (reading.InRanges (operand_of slice.operand) slice.bracket slice.done.items at spot) (side_of side) (calls_of calls.items) (frame_of inside.frame) (around_of inside.around.items) kind) result }
+    ensures { IsMove (step_in (range_spot slice at spot) inside kind) result }
 {
-    on_if(
-        ranges_step(alloc, slice, at, spot, kind),
-        side,
-        calls,
-        inside,
-    )
+    on_if(ranges_step(alloc, slice, at, spot, kind), inside)
 }
 
 /// Behind the `&` of an operand.
@@ -223,51 +176,59 @@ fn behind_mask(
     alloc: Global,
     operand: Operand,
     at: u32,
-    side: Side,
-    calls: Vec<Call>,
-    inside: Open,
+    inside: Inside,
     kind: Kind,
 ) -> Result<State, Refusal>
-    ensures { IsMove (reading.operand_move most_open (reading.operand_step (reading.MaskWanted (operand_of operand) at) kind) (reading.MaskWanted (operand_of operand) at) (side_of side) (calls_of calls.items) (frame_of inside.frame) (around_of inside.around.items) kind) result }
+    ensures { IsMove (step_in (reading.MaskWanted (operand_of operand) at) inside kind) result }
 {
-    on_if(mask_wanted(alloc, operand, at, kind), side, calls, inside)
+    on_if(mask_wanted(alloc, operand, at, kind), inside)
 }
 
 /// Where an operand is wanted.
-fn wanted(side: Side, calls: Vec<Call>, inside: Open, kind: Kind) -> Result<State, Refusal>
-    ensures { IsMove (reading.operand_move most_open (reading.operand_step reading.OperandWanted kind) reading.OperandWanted (side_of side) (calls_of calls.items) (frame_of inside.frame) (around_of inside.around.items) kind) result }
+fn wanted(inside: Inside, kind: Kind) -> Result<State, Refusal>
+    ensures { IsMove (step_in reading.OperandWanted inside kind) result }
 {
     match kind {
-        Kind::Calls(function, at) => open_call(side, calls, inside, Call { function, at }),
-        Kind::Text(quote) => on(Spot::Read(Operand::Text(quote)), side, calls, inside),
-        Kind::Name(word) => on(Spot::Read(Operand::Named(word)), side, calls, inside),
+        Kind::Calls(function, at) => open_call(inside, Call { function, at }),
+        Kind::Text(quote) => on(Spot::Read(Operand::Text(quote)), inside),
+        Kind::Name(word) => on(Spot::Read(Operand::Named(word)), inside),
         _ => unexpected(),
     }
 }
 
-/// Further on in an operand.
-fn on(spot: Spot, side: Side, calls: Vec<Call>, inside: Open) -> Result<State, Refusal>
-    ensures { IsMove (reading.Go (reading.InOperand (spot_of spot) (side_of side) (calls_of calls.items) (frame_of inside.frame) (around_of inside.around.items))) result }
+/// Behind a function and its `(`.
+#[tactic(auto, using(crate::proofs::Stacks::reversed_push, crate::proofs::Stacks::length_reversed))]
+fn open_call(inside: Inside, call: Call) -> Result<State, Refusal>
+    ensures { IsMove (step_in reading.OperandWanted inside (Kind.Calls call.function call.at)) result }
 {
-    Ok(State::InOperand(spot, side, calls, inside))
+    if !has_room(inside.calls.len(), &inside.outer) {
+        return too_deep();
+    }
+    let Inside {
+        side,
+        mut calls,
+        outer,
+    } = inside;
+    calls.push(call)?;
+    on(Spot::Wanted, Inside { side, calls, outer })
+}
+
+/// Further on in an operand.
+fn on(spot: Spot, inside: Inside) -> Result<State, Refusal>
+    ensures { IsMove (go_in (spot_of spot) inside) result }
+{
+    Ok(State::InOperand(spot, inside))
 }
 
 /// Behind an operand that is whole, as far as it is read.
 #[tactic(auto, using(crate::proofs::Moves::read_other))]
-fn read(
-    alloc: Global,
-    operand: Operand,
-    side: Side,
-    calls: Vec<Call>,
-    inside: Open,
-    kind: Kind,
-) -> Result<State, Refusal>
-    ensures { IsMove (reading.operand_move most_open (reading.operand_step (reading.OperandRead (operand_of operand)) kind) (reading.OperandRead (operand_of operand)) (side_of side) (calls_of calls.items) (frame_of inside.frame) (around_of inside.around.items) kind) result }
+fn read(alloc: Global, operand: Operand, inside: Inside, kind: Kind) -> Result<State, Refusal>
+    ensures { IsMove (step_in (reading.OperandRead (operand_of operand)) inside kind) result }
 {
     if goes_on(&kind) {
-        return read_on(alloc, operand, side, calls, inside, kind);
+        return read_on(alloc, operand, inside, kind);
     }
-    operand_end(alloc, side, calls, operand, inside, kind)
+    operand_end(alloc, operand, inside, kind)
 }
 
 fn goes_on(kind: &Kind) -> bool
@@ -279,32 +240,25 @@ fn goes_on(kind: &Kind) -> bool
     }
 }
 
-fn read_on(
-    alloc: Global,
-    operand: Operand,
-    side: Side,
-    calls: Vec<Call>,
-    inside: Open,
-    kind: Kind,
-) -> Result<State, Refusal>
+fn read_on(alloc: Global, operand: Operand, inside: Inside, kind: Kind) -> Result<State, Refusal>
     requires { goes_on_with kind ≡ true }
-    ensures { IsMove (reading.operand_move most_open (reading.operand_step (reading.OperandRead (operand_of operand)) kind) (reading.OperandRead (operand_of operand)) (side_of side) (calls_of calls.items) (frame_of inside.frame) (around_of inside.around.items) kind) result }
+    ensures { IsMove (step_in (reading.OperandRead (operand_of operand)) inside kind) result }
 {
     match kind {
-        Kind::Hash => layers_of(operand, side, calls, inside),
-        Kind::OpenRanges(at, next) => slice_of(alloc, operand, at, next, side, calls, inside),
-        Kind::Mask(at) => mask_of(operand, at, side, calls, inside),
+        Kind::Hash => layers_of(operand, inside),
+        Kind::OpenRanges(at, next) => slice_of(alloc, operand, at, next, inside),
+        Kind::Mask(at) => mask_of(operand, at, inside),
         _ => unexpected(),
     }
 }
 
 /// Behind an operand and `#`.
 #[tactic(auto, using(crate::proofs::Moves::layers_begun, crate::proofs::Moves::no_layers))]
-fn layers_of(operand: Operand, side: Side, calls: Vec<Call>, inside: Open) -> Result<State, Refusal>
-    ensures { IsMove (reading.operand_move most_open (reading.operand_step (reading.OperandRead (operand_of operand)) Kind.Hash) (reading.OperandRead (operand_of operand)) (side_of side) (calls_of calls.items) (frame_of inside.frame) (around_of inside.around.items) Kind.Hash) result }
+fn layers_of(operand: Operand, inside: Inside) -> Result<State, Refusal>
+    ensures { IsMove (step_in (reading.OperandRead (operand_of operand)) inside Kind.Hash) result }
 {
     match spot_behind_hash(operand) {
-        Some(spot) => on(spot, side, calls, inside),
+        Some(spot) => on(spot, inside),
         None => unexpected(),
     }
 }
@@ -325,48 +279,35 @@ fn slice_of(
     operand: Operand,
     at: u32,
     next: u32,
-    side: Side,
-    calls: Vec<Call>,
-    inside: Open,
+    inside: Inside,
 ) -> Result<State, Refusal>
-    ensures { IsMove (reading.operand_move most_open (reading.operand_step (reading.OperandRead (operand_of operand)) (Kind.OpenRanges at next)) (reading.OperandRead (operand_of operand)) (side_of side) (calls_of calls.items) (frame_of inside.frame) (around_of inside.around.items) (Kind.OpenRanges at next)) result }
+    ensures { IsMove (step_in (reading.OperandRead (operand_of operand)) inside (Kind.OpenRanges at next)) result }
 {
     if !takes_slice(&operand) {
         return unexpected();
     }
     let spot = Spot::InRanges(operand, at, Vec::new(alloc), next, RangeSpot::RangeWanted);
-    on(spot, side, calls, inside)
+    on(spot, inside)
 }
 
 /// Behind an operand and `&`.
 #[tactic(auto, using(crate::proofs::Moves::mask_begun, crate::proofs::Moves::no_mask))]
-fn mask_of(
-    operand: Operand,
-    at: u32,
-    side: Side,
-    calls: Vec<Call>,
-    inside: Open,
-) -> Result<State, Refusal>
-    ensures { IsMove (reading.operand_move most_open (reading.operand_step (reading.OperandRead (operand_of operand)) (Kind.Mask at)) (reading.OperandRead (operand_of operand)) (side_of side) (calls_of calls.items) (frame_of inside.frame) (around_of inside.around.items) (Kind.Mask at)) result }
+fn mask_of(operand: Operand, at: u32, inside: Inside) -> Result<State, Refusal>
+    ensures { IsMove (step_in (reading.OperandRead (operand_of operand)) inside (Kind.Mask at)) result }
 {
     if !takes_mask(&operand) {
         return unexpected();
     }
-    on(Spot::MaskWanted(operand, at), side, calls, inside)
+    on(Spot::MaskWanted(operand, at), inside)
 }
 
 /// Further on in an operand, if the token goes on with it.
 #[tactic(auto, using(crate::proofs::Moves::spot_error, crate::proofs::Moves::further_some, crate::proofs::Moves::further_none))]
-fn on_if(
-    next: Result<Option<Spot>, Refusal>,
-    side: Side,
-    calls: Vec<Call>,
-    inside: Open,
-) -> Result<State, Refusal>
-    ensures { (n : Option reading.Spot) → IsSpot n next → IsMove (further n (side_of side) (calls_of calls.items) (frame_of inside.frame) (around_of inside.around.items)) result }
+fn on_if(next: Result<Option<Spot>, Refusal>, inside: Inside) -> Result<State, Refusal>
+    ensures { (n : Option reading.Spot) → IsSpot n next → IsMove (further_in n inside) result }
 {
     match next {
-        Ok(Some(spot)) => Ok(State::InOperand(spot, side, calls, inside)),
+        Ok(Some(spot)) => Ok(State::InOperand(spot, inside)),
         Ok(None) => unexpected(),
         Err(error) => Err(error),
     }
@@ -376,18 +317,20 @@ fn on_if(
 #[tactic(auto, using(crate::proofs::Stacks::reversed_push))]
 fn operand_end(
     alloc: Global,
-    side: Side,
-    calls: Vec<Call>,
     operand: Operand,
-    inside: Open,
+    inside: Inside,
     kind: Kind,
 ) -> Result<State, Refusal>
-    ensures { IsMove (reading.operand_end (side_of side) (calls_of calls.items) (operand_of operand) (frame_of inside.frame) (around_of inside.around.items) kind) result }
+    ensures { IsMove (end_in (operand_of operand) inside kind) result }
 {
-    let mut outer = calls;
-    match outer.pop() {
-        Some(call) => call_end(alloc, call, operand, side, outer, inside, kind),
-        None => side_end(alloc, side, operand, inside, kind),
+    let Inside {
+        side,
+        mut calls,
+        outer,
+    } = inside;
+    match calls.pop() {
+        Some(call) => call_end(alloc, call, operand, Inside { side, calls, outer }, kind),
+        None => side_end(alloc, side, operand, outer, kind),
     }
 }
 
@@ -396,17 +339,15 @@ fn call_end(
     alloc: Global,
     call: Call,
     operand: Operand,
-    side: Side,
-    calls: Vec<Call>,
-    inside: Open,
+    inside: Inside,
     kind: Kind,
 ) -> Result<State, Refusal>
-    ensures { IsMove (reading.call_end (call_of call) (operand_of operand) (side_of side) (calls_of calls.items) (frame_of inside.frame) (around_of inside.around.items) kind) result }
+    ensures { IsMove (call_end_in (call_of call) (operand_of operand) inside kind) result }
 {
     match kind {
         Kind::Close => {
             let called = Operand::Called(call.function, call.at, Box::new(alloc, operand)?);
-            on(Spot::Read(called), side, calls, inside)
+            on(Spot::Read(called), inside)
         }
         _ => unexpected(),
     }
@@ -417,32 +358,32 @@ fn side_end(
     alloc: Global,
     side: Side,
     operand: Operand,
-    inside: Open,
+    outer: Open,
     kind: Kind,
 ) -> Result<State, Refusal>
-    ensures { IsMove (reading.operand_end (side_of side) [] (operand_of operand) (frame_of inside.frame) (around_of inside.around.items) kind) result }
+    ensures { IsMove (side_end_in (side_of side) (operand_of operand) outer kind) result }
 {
     match side {
-        Side::OnLeft(None) => left_end(alloc, operand, inside, kind),
-        Side::OnLeft(Some(choice)) => chosen_end(alloc, choice, operand, inside, kind),
+        Side::OnLeft(None) => left_end(alloc, operand, outer, kind),
+        Side::OnLeft(Some(choice)) => chosen_end(alloc, choice, operand, outer, kind),
         Side::OnRight(choice, left, operator, at) => {
             let test = Ast::Test(choice, left, Tail::Compare(operator, at, operand));
-            behind_test(alloc, inside, test, kind)
+            behind_test(alloc, outer, test, kind)
         }
     }
 }
 
 /// At a token behind a left operand without `any` and `all`.
-fn left_end(alloc: Global, operand: Operand, inside: Open, kind: Kind) -> Result<State, Refusal>
-    ensures { IsMove (reading.left_end None (operand_of operand) (frame_of inside.frame) (around_of inside.around.items) kind) result }
+fn left_end(alloc: Global, operand: Operand, outer: Open, kind: Kind) -> Result<State, Refusal>
+    ensures { IsMove (left_end_in None (operand_of operand) outer kind) result }
 {
     match kind {
-        Kind::Compares(operator, at) => compare(alloc, None, operand, operator, at, inside),
-        Kind::Negates(negation) => not_in(negation, None, operand, inside),
-        Kind::In => Ok(State::InTail(TailSpot::SetWanted(false), None, operand, inside)),
-        Kind::Matches(at) => Ok(State::InTail(TailSpot::PatternWanted(at), None, operand, inside)),
-        Kind::Joins(join) => behind_test(alloc, inside, Ast::Alone(operand), Kind::Joins(join)),
-        Kind::Close => behind_test(alloc, inside, Ast::Alone(operand), Kind::Close),
+        Kind::Compares(operator, at) => compare(alloc, None, operand, operator, at, outer),
+        Kind::Negates(negation) => not_in(negation, None, operand, outer),
+        Kind::In => Ok(State::InTail(TailSpot::SetWanted(false), None, operand, outer)),
+        Kind::Matches(at) => Ok(State::InTail(TailSpot::PatternWanted(at), None, operand, outer)),
+        Kind::Joins(join) => behind_test(alloc, outer, Ast::Alone(operand), Kind::Joins(join)),
+        Kind::Close => behind_test(alloc, outer, Ast::Alone(operand), Kind::Close),
         _ => unexpected(),
     }
 }
@@ -452,22 +393,20 @@ fn chosen_end(
     alloc: Global,
     choice: Choice,
     operand: Operand,
-    inside: Open,
+    outer: Open,
     kind: Kind,
 ) -> Result<State, Refusal>
-    ensures { IsMove (reading.left_end (Some choice) (operand_of operand) (frame_of inside.frame) (around_of inside.around.items) kind) result }
+    ensures { IsMove (left_end_in (Some choice) (operand_of operand) outer kind) result }
 {
     match kind {
-        Kind::Compares(operator, at) => compare_chosen(
-            alloc, choice, operand, operator, at, inside,
-        ),
-        Kind::Negates(negation) => not_in(negation, Some(choice), operand, inside),
-        Kind::In => Ok(State::InTail(TailSpot::SetWanted(false), Some(choice), operand, inside)),
+        Kind::Compares(operator, at) => compare_chosen(alloc, choice, operand, operator, at, outer),
+        Kind::Negates(negation) => not_in(negation, Some(choice), operand, outer),
+        Kind::In => Ok(State::InTail(TailSpot::SetWanted(false), Some(choice), operand, outer)),
         Kind::Matches(at) => Ok(State::InTail(
             TailSpot::PatternWanted(at),
             Some(choice),
             operand,
-            inside,
+            outer,
         )),
         _ => unexpected(),
     }
@@ -480,12 +419,16 @@ fn compare(
     operand: Operand,
     operator: Operator,
     at: u32,
-    inside: Open,
+    outer: Open,
 ) -> Result<State, Refusal>
-    ensures { IsMove (reading.Go (reading.InOperand reading.OperandWanted (reading.OnRight choice (operand_of operand) operator at) [] (frame_of inside.frame) (around_of inside.around.items))) result }
+    ensures { IsMove (reading.Go (begun_at (reading.OnRight choice (operand_of operand) operator at) outer)) result }
 {
-    let side = Side::OnRight(choice, operand, operator, at);
-    Ok(State::InOperand(Spot::Wanted, side, Vec::new(alloc), inside))
+    let inside = Inside {
+        side: Side::OnRight(choice, operand, operator, at),
+        calls: Vec::new(alloc),
+        outer,
+    };
+    Ok(State::InOperand(Spot::Wanted, inside))
 }
 
 #[tactic(auto, using(crate::proofs::Moves::takes_open, crate::proofs::Moves::takes_none))]
@@ -495,14 +438,14 @@ fn compare_chosen(
     operand: Operand,
     operator: Operator,
     at: u32,
-    inside: Open,
+    outer: Open,
 ) -> Result<State, Refusal>
-    ensures { IsMove (reading.left_end (Some choice) (operand_of operand) (frame_of inside.frame) (around_of inside.around.items) (Kind.Compares operator at)) result }
+    ensures { IsMove (left_end_in (Some choice) (operand_of operand) outer (Kind.Compares operator at)) result }
 {
     if !is_open(operator) {
         return unexpected();
     }
-    compare(alloc, Some(choice), operand, operator, at, inside)
+    compare(alloc, Some(choice), operand, operator, at, outer)
 }
 
 /// Whether an operator says nothing yet of which pairs it asks.
@@ -521,12 +464,12 @@ fn not_in(
     negation: Negation,
     choice: Option<Choice>,
     operand: Operand,
-    inside: Open,
+    outer: Open,
 ) -> Result<State, Refusal>
-    ensures { IsMove (reading.not_before_in negation choice (operand_of operand) (frame_of inside.frame) (around_of inside.around.items)) result }
+    ensures { IsMove (not_in_of negation choice (operand_of operand) outer) result }
 {
     match negation {
-        Negation::Word => Ok(State::InTail(TailSpot::InWanted, choice, operand, inside)),
+        Negation::Word => Ok(State::InTail(TailSpot::InWanted, choice, operand, outer)),
         Negation::Sign => unexpected(),
     }
 }
@@ -538,14 +481,14 @@ fn in_tail(
     spot: TailSpot,
     choice: Option<Choice>,
     operand: Operand,
-    inside: Open,
+    outer: Open,
     kind: Kind,
 ) -> Result<State, Refusal>
-    ensures { IsMove (reading.step most_open (reading.InTail (tail_spot_of spot) choice (operand_of operand) (frame_of inside.frame) (around_of inside.around.items)) kind) result }
+    ensures { IsMove (reading.step most_open (at_tail (tail_spot_of spot) choice (operand_of operand) outer) kind) result }
 {
     match tail_step(alloc, spot, kind) {
-        Ok(TailMove::Further(next)) => Ok(State::InTail(next, choice, operand, inside)),
-        Ok(TailMove::Done(tail)) => have(alloc, inside, Ast::Test(choice, operand, tail)),
+        Ok(TailMove::Further(next)) => Ok(State::InTail(next, choice, operand, outer)),
+        Ok(TailMove::Done(tail)) => have(alloc, outer, Ast::Test(choice, operand, tail)),
         Ok(TailMove::Wrong) => unexpected(),
         Err(error) => Err(error),
     }
@@ -557,7 +500,7 @@ pub fn finish(alloc: Global, state: State) -> Result<Ast, Refusal>
 {
     match state {
         State::Have(lefts, filter, around) => whole(alloc, lefts, filter, around),
-        State::InOperand(spot, side, calls, inside) => whole_spot(alloc, spot, side, calls, inside),
+        State::InOperand(spot, inside) => whole_spot(alloc, spot, inside),
         State::Want(_) | State::InTail(_, _, _, _) => cut_off(),
     }
 }
@@ -579,17 +522,11 @@ fn whole(alloc: Global, lefts: Vec<Left>, filter: Ast, around: Vec<Frame>) -> Re
 }
 
 #[tactic(auto, using(crate::proofs::Moves::spot_whole, crate::proofs::Moves::spot_not_whole))]
-fn whole_spot(
-    alloc: Global,
-    spot: Spot,
-    side: Side,
-    calls: Vec<Call>,
-    inside: Open,
-) -> Result<Ast, Refusal>
-    ensures { IsWhole (reading.whole_operand (spot_of spot) (calls_of calls.items) (side_of side) (frame_of inside.frame) (around_of inside.around.items)) result }
+fn whole_spot(alloc: Global, spot: Spot, inside: Inside) -> Result<Ast, Refusal>
+    ensures { IsWhole (reading.whole (in_spot (spot_of spot) inside)) result }
 {
     match operand_read(spot) {
-        Some(operand) => whole_operand(alloc, operand, side, calls, inside),
+        Some(operand) => whole_operand(alloc, operand, inside),
         None => cut_off(),
     }
 }
@@ -605,38 +542,32 @@ fn operand_read(spot: Spot) -> Option<Operand>
 }
 
 #[tactic(auto, using(crate::proofs::Moves::call_not_whole))]
-fn whole_operand(
-    alloc: Global,
-    operand: Operand,
-    side: Side,
-    calls: Vec<Call>,
-    inside: Open,
-) -> Result<Ast, Refusal>
-    ensures { IsWhole (reading.whole_operand (reading.OperandRead (operand_of operand)) (calls_of calls.items) (side_of side) (frame_of inside.frame) (around_of inside.around.items)) result }
+fn whole_operand(alloc: Global, operand: Operand, inside: Inside) -> Result<Ast, Refusal>
+    ensures { IsWhole (reading.whole (in_spot (reading.OperandRead (operand_of operand)) inside)) result }
 {
-    if !calls.is_empty() {
+    if !inside.calls.is_empty() {
         return cut_off();
     }
-    whole_test(alloc, operand, side, inside)
+    whole_test(alloc, operand, inside.side, inside.outer)
 }
 
-fn whole_test(alloc: Global, operand: Operand, side: Side, inside: Open) -> Result<Ast, Refusal>
-    ensures { IsWhole (reading.whole_test (side_of side) (operand_of operand) (frame_of inside.frame) (around_of inside.around.items)) result }
+fn whole_test(alloc: Global, operand: Operand, side: Side, outer: Open) -> Result<Ast, Refusal>
+    ensures { IsWhole (reading.whole_test (side_of side) (operand_of operand) (frame_of outer.frame) (around_of outer.around.items)) result }
 {
     match side {
-        Side::OnLeft(None) => whole_behind(alloc, Ast::Alone(operand), inside),
+        Side::OnLeft(None) => whole_behind(alloc, Ast::Alone(operand), outer),
         Side::OnLeft(Some(_)) => cut_off(),
         Side::OnRight(choice, left, operator, at) => {
             let test = Ast::Test(choice, left, Tail::Compare(operator, at, operand));
-            whole_behind(alloc, test, inside)
+            whole_behind(alloc, test, outer)
         }
     }
 }
 
-fn whole_behind(alloc: Global, test: Ast, inside: Open) -> Result<Ast, Refusal>
-    ensures { IsWhole (reading.whole_have (reading.joined (reversed left_of inside.frame.lefts.items) (reading.negated (reversed (λ n. n) inside.frame.nots.items) (written test))) (around_of inside.around.items)) result }
+fn whole_behind(alloc: Global, test: Ast, outer: Open) -> Result<Ast, Refusal>
+    ensures { IsWhole (reading.whole (behind_of outer (written test))) result }
 {
-    let Open { frame, around } = inside;
+    let Open { frame, around } = outer;
     let Frame { lefts, nots } = frame;
     let all = negate(alloc, nots, test)?;
     whole(alloc, lefts, all, around)

@@ -6,6 +6,8 @@ use Rattle.std.specs.List.{list_any, list_all}
 use Rattle.std.specs.Option.{option_map}
 use Rattle.std.specs.Str.{bytes_eq}
 use Rattle.flt_values.specs.declared.literal.Constant.{Constant}
+use Rattle.flt_values.specs.declared.literal.Family.{Family}
+use Rattle.flt_values.specs.declared.literal.Family.TheVariants.{Ip4, Ip6}
 use Rattle.flt_values.specs.declared.literal.Reading.{Reading}
 use Rattle.flt_values.specs.declared.literal.Reading.TheVariants as readings
 use Rattle.pk_fields.specs.declared.value_kind.ValueKind.{ValueKind}
@@ -64,24 +66,27 @@ leading_read most (Some address) None = readings.Unread
 leading_read most (Some address) (Some wides.Beyond) = readings.Beyond
 leading_read most (Some address) (Some (wides.Fits n)) = if nat_le n most then readings.Reads (plain address (Some n)) else readings.Beyond
 
+-- the bits of an address, and the address that a text writes
+abbrev pub bits_of : Family → ℕ
+bits_of Ip4 = 32
+bits_of Ip6 = 128
+
+abbrev pub address_of : Family → List ℕ → Option Value
+address_of Ip4 text = option_map values.Ip4 (ip4_of text)
+address_of Ip6 text = option_map values.Ip6 (ip6_of text)
+
 -- an address, with a prefix length where one is written; it isn't read where none may stand
-abbrev pub address_cut : ℕ → (List ℕ → Option Value) → Truth → List ℕ → Option (List ℕ × List ℕ) → Reading
-address_cut most address prefixed text None = value_read (address text)
-address_cut most address prefixed text (Some parts) =
-    if prefixed then leading_read most (address parts.0) (prefix_of parts.1) else readings.Unread
+abbrev pub address_cut : Family → Truth → List ℕ → Option (List ℕ × List ℕ) → Reading
+address_cut family prefixed text None = value_read (address_of family text)
+address_cut family prefixed text (Some parts) =
+    if prefixed then leading_read (bits_of family) (address_of family parts.0) (prefix_of parts.1) else readings.Unread
 
 -- 47 is `/`
-abbrev pub address_read : ℕ → (List ℕ → Option Value) → Truth → List ℕ → Reading
-address_read most address prefixed text = address_cut most address prefixed text (cut_at 47 text)
+abbrev pub address_read : Family → Truth → List ℕ → Reading
+address_read family prefixed text = address_cut family prefixed text (cut_at 47 text)
 
 abbrev pub ether_value : List ℕ → Option Value
 ether_value text = option_map values.Ether (ether_of text)
-
-abbrev pub ip4_value : List ℕ → Option Value
-ip4_value text = option_map values.Ip4 (ip4_of text)
-
-abbrev pub ip6_value : List ℕ → Option Value
-ip6_value text = option_map values.Ip6 (ip6_of text)
 
 -- what a word writes as a literal of a kind, which may have a prefix length or not. Text is written as strings alone.
 unfoldable pub word_read : Truth → ValueKind → List ℕ → Reading
@@ -90,8 +95,8 @@ word_read prefixed kinds.Bool text = value_read (option_map values.Bool (truth_o
 word_read prefixed kinds.Bytes text = value_read (option_map values.Bytes (bytes_of text))
 word_read prefixed kinds.Text text = readings.Unread
 word_read prefixed kinds.Ether text = value_read (ether_value text)
-word_read prefixed kinds.Ip4 text = address_read 32 ip4_value prefixed text
-word_read prefixed kinds.Ip6 text = address_read 128 ip6_value prefixed text
+word_read prefixed kinds.Ip4 text = address_read Ip4 prefixed text
+word_read prefixed kinds.Ip6 text = address_read Ip6 prefixed text
 word_read prefixed kinds.Time text = value_read (option_map values.Time (time_of text))
 word_read prefixed kinds.Proto text = value_read (option_map values.Proto (bytes_of text))
 

@@ -2,7 +2,7 @@
 ghost use Rattle.std.specs.Prelude.{◌≡◌, ◌^◌, nat_lt, IfOk};
 ghost use Rattle.std.specs.Char.{is_ascii_digit};
 ghost use Rattle.std.specs.List.{list_all};
-ghost use Rattle.flt_values.specs.Literals.{true_words, false_words, is_one_of, number_read, truth_of, prefix_of, leading_read, value_read, address_read, ether_value, ip4_value, ip6_value, word_read, quote_read};
+ghost use Rattle.flt_values.specs.Literals.{true_words, false_words, is_one_of, number_read, truth_of, prefix_of, leading_read, value_read, bits_of, address_of, address_read, ether_value, word_read, quote_read};
 
 use pk_base::{NoMemory, Octets};
 use pk_fields::ValueKind;
@@ -68,8 +68,8 @@ pub fn read_word(
         }
         ValueKind::Text => Ok(Reading::Unread),
         ValueKind::Ether => Ok(value_read(ether_value(text))),
-        ValueKind::Ip4 => Ok(read_ip4_literal(prefixed, text)),
-        ValueKind::Ip6 => Ok(read_ip6_literal(prefixed, text)),
+        ValueKind::Ip4 => Ok(read_address(Family::Ip4, prefixed, text)),
+        ValueKind::Ip6 => Ok(read_address(Family::Ip6, prefixed, text)),
         ValueKind::Time => Ok(value_read(read_time(text).map(|time| Value::Time(time)))),
         ValueKind::Proto => {
             let bytes = read_bytes(alloc, text)?;
@@ -138,25 +138,41 @@ fn is_false_word(text: &str) -> bool
     FALSE_WORDS.iter().any(|word| text == *word)
 }
 
-fn read_ip4_literal(prefixed: bool, text: &str) -> Reading
-    ensures { result ≡ address_read 32 ip4_value prefixed text.now }
-{
-    match text.split_once('/') {
-        None => value_read(ip4_value(text)),
-        Some((address, prefix)) if prefixed => {
-            leading_read(32, ip4_value(address), read_prefix(prefix))
+/// The addresses that may have a prefix length.
+#[derive(Clone, Copy, Debug, PartialEq, Eq)]
+enum Family {
+    Ip4,
+    Ip6,
+}
+
+impl Family {
+    /// The bits of an address.
+    fn bits(self) -> u8
+        ensures { result ≡ bits_of self }
+    {
+        match self {
+            Family::Ip4 => 32,
+            Family::Ip6 => 128,
         }
-        Some(_) => Reading::Unread,
+    }
+
+    fn read(self, text: &str) -> Option<Value>
+        ensures { result ≡ address_of self text.now }
+    {
+        match self {
+            Family::Ip4 => read_ip4(text).map(|address| Value::Ip4(address)),
+            Family::Ip6 => read_ip6(text).map(|address| Value::Ip6(address)),
+        }
     }
 }
 
-fn read_ip6_literal(prefixed: bool, text: &str) -> Reading
-    ensures { result ≡ address_read 128 ip6_value prefixed text.now }
+fn read_address(family: Family, prefixed: bool, text: &str) -> Reading
+    ensures { result ≡ address_read family prefixed text.now }
 {
     match text.split_once('/') {
-        None => value_read(ip6_value(text)),
+        None => value_read(family.read(text)),
         Some((address, prefix)) if prefixed => {
-            leading_read(128, ip6_value(address), read_prefix(prefix))
+            leading_read(family.bits(), family.read(address), read_prefix(prefix))
         }
         Some(_) => Reading::Unread,
     }
@@ -167,18 +183,6 @@ fn ether_value(text: &str) -> Option<Value>
 {
     let address = read_ether(text)?;
     Some(Value::Ether(address))
-}
-
-fn ip4_value(text: &str) -> Option<Value>
-    ensures { result ≡ ip4_value text.now }
-{
-    read_ip4(text).map(|address| Value::Ip4(address))
-}
-
-fn ip6_value(text: &str) -> Option<Value>
-    ensures { result ≡ ip6_value text.now }
-{
-    read_ip6(text).map(|address| Value::Ip6(address))
 }
 
 /// The number behind the `/` of a prefix: decimal digits without a leading zero.

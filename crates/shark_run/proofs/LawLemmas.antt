@@ -6,14 +6,9 @@ use Rattle.pk_tree.specs.Trees.{TreeShown}
 use Rattle.out_lines.specs.Lines.{field_line_of, default_style}
 use Rattle.flt_parse.specs.declared.fault.FilterFault.{FilterFault}
 use Rattle.flt_parse.specs.declared.fault.FilterError.TheVariants.{Fault}
-use Rattle.flt_parse.specs.declared.fault.FilterReason.{FilterReason}
-use Rattle.flt_parse.specs.declared.fault.FilterReason.TheVariants.{BadPattern, PatternSize}
-use Rattle.flt_parse.specs.Written.{Written}
-use Rattle.flt_parse.proofs.Faults.{never_both, one_fault, one_filter}
-use Rattle.flt_pattern.specs.Patterns.{IsNoPattern}
-use Rattle.flt_types.specs.Faults.{Found, At, PatternAt, IsFirst, IsPatternFault, faults}
 use Rattle.flt_types.specs.Texts.{IsFilterFault}
 use Rattle.flt_types.specs.declared.typed.Typed.{Typed}
+use Rattle.flt_types.proofs.Unique.{one_fault_but_size}
 use Rattle.flt_mean.proofs.OneMeaning.{one_meaning}
 use Rattle.shark_words.specs.declared.options.Options.{Options}
 use Rattle.shark_words.specs.Options.{options_of}
@@ -25,58 +20,18 @@ use Rattle.shark_run.specs.Laws.{AreAlike, NeverBoth, OneReason, PlansAreAlike}
 use Rattle.shark_run.specs.Lines.{shown, frame_lines, trees_after, opening, closing, output_of, satisfies}
 use Rattle.shark_run.specs.Plan.{IsFaultAsked, IsFilterAsked, IsPlan, IsPlanFor, IsRefusal, IsRefusalFor}
 use Rattle.shark_run.specs.Reading.{limited, frames_read}
-use Rattle.shark_run.proofs.PlanLemmas.{filter_or_fault, pattern_or_none, refused_not_planned, same_options}
+use Rattle.shark_run.proofs.PlanLemmas.{filter_or_fault, of_size, refused_not_planned, same_options}
 
 pub never_refused : NeverBoth
 never_refused words plan reason asked is sure = refused_not_planned words plan reason asked is sure
-
--- a pattern that is refused for no size is none
-no_pattern : (pattern : List ℕ) (reason : FilterReason) → ¬ IsTrue (is_of_size reason) → IsPatternFault pattern reason → IsNoPattern pattern
-no_pattern pattern BadPattern sure is = is
-no_pattern pattern PatternSize sure is = absurd (sure refl)
-no_pattern pattern reason sure is = absurd is
-
-bad_pattern : (pattern : List ℕ) (reason : FilterReason) → ¬ IsTrue (is_of_size reason) → IsPatternFault pattern reason → reason ≡ BadPattern
-bad_pattern pattern BadPattern sure is = refl
-bad_pattern pattern PatternSize sure is = absurd (sure refl)
-bad_pattern pattern reason sure is = absurd is
-
--- the first fault of a list, but for a pattern's size, is one
-one_first : (found : List Found) (at place : ℕ) (one other : FilterReason) → ¬ IsTrue (is_of_size one) → ¬ IsTrue (is_of_size other)
-    → IsFirst found at one → IsFirst found place other → (at ≡ place) × (one ≡ other)
-one_first [] at place one other sure certain is also = absurd is
-one_first (At there why ∷ found) at place one other sure certain is also = (sym is.0 ∙ also.0, sym is.1 ∙ also.1)
-one_first (PatternAt there pattern ∷ found) at place one other sure certain is also =
-    ⊎_elim
-    (λ bad. ⊎_elim
-    (λ worse. (sym bad.0 ∙ worse.0, bad_pattern pattern one sure bad.1 ∙ sym (bad_pattern pattern other certain worse.1)))
-    (λ on. absurd (pattern_or_none pattern on.0 (no_pattern pattern one sure bad.1)))
-    also)
-    (λ on. ⊎_elim
-    (λ worse. absurd (pattern_or_none pattern on.0 (no_pattern pattern other certain worse.1)))
-    (λ further. one_first found at place one other sure certain on.1 further.1)
-    also)
-    is
-
-same_fault : (f g : FilterFault) → (f.at ≡ g.at) × (f.reason ≡ g.reason) → f ≡ g
-same_fault f g same =
-    ap (λ (n : ℕ). let r : FilterFault = record { at = n; reason = f.reason } in r) same.0
-    ∙ ap (λ (s : FilterReason). let r : FilterFault = record { at = g.at; reason = s } in r) same.1
-
-one_type_fault : (text : List ℕ) (tree other : Written) (f g : FilterFault) → tree ≡ other → ¬ IsTrue (is_of_size f.reason)
-    → ¬ IsTrue (is_of_size g.reason) → IsFirst (faults tree) f.at f.reason → IsFirst (faults other) g.at g.reason → f ≡ g
-one_type_fault text tree other f g same sure certain is also =
-    same_fault f g (one_first (faults other) f.at g.at f.reason g.reason sure certain
-    (subst (λ (t : Written). IsFirst (faults t) f.at f.reason) same is) also)
 
 one_filter_fault : (text : List ℕ) (f g : FilterFault) → ¬ IsTrue (is_of_size f.reason) → ¬ IsTrue (is_of_size g.reason)
     → IsFilterFault text (Fault f) → IsFilterFault text (Fault g) → f ≡ g
 one_filter_fault text f g sure certain is also =
     ⊎_elim
-    (λ first. ⊎_elim (λ second. one_fault text f g first second) (λ types. absurd (never_both text types.0 f types.1 first)) also)
-    (λ types. ⊎_elim (λ first. absurd (never_both text types.0 g types.1 first))
-    (λ again. one_type_fault text types.0 again.0 f g (one_filter text types.0 again.0 types.1 again.1) sure certain types.2 again.2) also)
-    is
+    (λ same. same)
+    (λ size. ⊎_elim (λ large. absurd (sure (of_size f.reason large))) (λ large. absurd (certain (of_size g.reason large))) size)
+    (one_fault_but_size text f g is also)
 
 one_asked : (text : Option (List ℕ)) (f g : FilterFault) → ¬ IsTrue (is_of_size f.reason) → ¬ IsTrue (is_of_size g.reason)
     → IsFaultAsked text f → IsFaultAsked text g → f ≡ g

@@ -1,20 +1,13 @@
 -- What words ask for is asked for once.
-use Rattle.std.proofs.Common.{◌≡◌, ◌⊎◌, ⊎_elim, inl, inr, ℕ, ◌<◌, ◌≤◌, List, [], ◌∷◌, Option, None, Some, Result, Ok, Err, refl, sym, ◌∙◌, subst, arith}
-use Rattle.std.specs.Prelude.{IsTrue, IfSome, IsSomeAnd}
+use Rattle.std.proofs.Common.{◌≡◌, ◌⊎◌, ⊎_elim, inl, inr, ℕ, List, [], ◌∷◌, Option, None, Some, Result, Ok, Err, refl, sym, ◌∙◌, subst}
+use Rattle.std.specs.Prelude.{IsTrue, IfSome}
 use Rattle.capture_read.specs.Capture.{capture_of}
 use Rattle.pk_fields.specs.Fields.{field_named}
 use Rattle.flt_parse.specs.declared.fault.FilterFault.{FilterFault}
-use Rattle.flt_parse.specs.declared.fault.FilterError.TheVariants.{Fault}
 use Rattle.flt_parse.specs.declared.fault.FilterReason.{FilterReason}
-use Rattle.flt_parse.specs.declared.fault.FilterReason.TheVariants.{BadPattern, PatternSize}
-use Rattle.flt_parse.specs.Written.{Written}
-use Rattle.flt_parse.proofs.Faults.{never_both, one_filter}
-use Rattle.flt_pattern.specs.Patterns.{IsPattern, IsNoPattern, most_nested, reading}
+use Rattle.flt_parse.specs.declared.fault.FilterReason.TheVariants.{PatternSize}
 use Rattle.flt_types.specs.declared.typed.Typed.{Typed}
-use Rattle.flt_types.specs.Faults.{Found, At, PatternAt, IsClear, IsFirst, IsPatternFault, faults}
-use Rattle.flt_types.specs.Typing.{HasType}
-use Rattle.flt_types.proofs.Clear.{type_clear}
-use Rattle.flt_types.specs.Texts.{IsTypedText, IsFilterFault}
+use Rattle.flt_types.proofs.Unique.{typed_or_fault}
 use Rattle.shark_words.specs.declared.options.Options.{Options}
 use Rattle.shark_words.specs.Options.{options_of}
 use Rattle.shark_run.specs.declared.plan.Plan.{Plan}
@@ -34,43 +27,8 @@ use Rattle.shark_run.specs.Statuses.{refusal_status, status_of}
 pub same_options : (words : List (List ℕ)) (one other : Options) → options_of words ≡ Ok one → options_of words ≡ Ok other → one ≡ other
 same_options words one other is also = let both : Ok one ≡ Ok other = sym is ∙ also in cc
 
--- what is read has P, so it isn't without a reading nor Q
-read_or_none : {A : Type 0} (P Q : A → Type 0) → ((a : A) → P a → Q a → ⊥) → (found : Option A) → IsSomeAnd found P →
-    (found ≡ None) ⊎ IfSome found Q → ⊥
-read_or_none P Q never None is none = is
-read_or_none P Q never (Some a) is none = ⊎_elim (λ bad. absurd (cc bad)) (λ other. never a is other) none
-
--- no text is a pattern and none
-pub pattern_or_none : (pattern : List ℕ) → IsPattern pattern → IsNoPattern pattern → ⊥
-pattern_or_none pattern is none = ⊎_elim (λ bad. bad is.utf8)
-    (λ unread. read_or_none (λ (re, names). re.depth ≤ most_nested) (λ (re, names). most_nested < re.depth)
-    (λ a few deep. omega (arith, few, deep)) (reading pattern) is.read unread) none
-
--- a pattern is refused for its size alone
-pattern_reason : (pattern : List ℕ) (reason : FilterReason) → IsPattern pattern → IsPatternFault pattern reason → IsTrue (is_of_size reason)
-pattern_reason pattern BadPattern pattern_is is = absurd (pattern_or_none pattern pattern_is is)
-pattern_reason pattern PatternSize pattern_is is = refl
-pattern_reason pattern reason pattern_is is = absurd is
-
--- where there is no fault, a pattern's size alone may be one
-clear_or_large : (found : List Found) (at : ℕ) (reason : FilterReason) → IsClear found → IsFirst found at reason → IsTrue (is_of_size reason)
-clear_or_large [] at reason clear is = absurd is
-clear_or_large (At place why ∷ found) at reason clear is = absurd clear
-clear_or_large (PatternAt place pattern ∷ found) at reason clear is =
-    ⊎_elim (λ refused. pattern_reason pattern reason clear.0 refused.1) (λ on. clear_or_large found at reason clear.1 on.1) is
-
-type_fault : (text : List ℕ) (tree other : Written) (filter : Typed) (fault : FilterFault) → tree ≡ other → HasType tree filter
-    → IsFirst (faults other) fault.at fault.reason → IsTrue (is_of_size fault.reason)
-type_fault text tree other filter fault same typed is =
-    clear_or_large (faults other) fault.at fault.reason (subst (λ (t : Written). IsClear (faults t)) same (type_clear tree filter typed)) is
-
--- a text that is a filter has no fault but a pattern's size
-typed_or_fault : (text : List ℕ) (filter : Typed) (fault : FilterFault) → IsTypedText text filter → IsFilterFault text (Fault fault)
-    → IsTrue (is_of_size fault.reason)
-typed_or_fault text filter fault typed is = ⊎_elim
-    (λ first. absurd (never_both text typed.0 fault typed.1 first))
-    (λ types. type_fault text typed.0 types.0 filter fault (one_filter text typed.0 types.0 typed.1 types.1) typed.2 types.2)
-    is
+pub of_size : (reason : FilterReason) → reason ≡ PatternSize → IsTrue (is_of_size reason)
+of_size reason same = subst (λ (r : FilterReason). IsTrue (is_of_size r)) (sym same) refl
 
 -- the reason is a pattern's size
 abbrev IsOfSize : Refused → Type 0
@@ -79,7 +37,7 @@ IsOfSize reason = ⊥
 
 pub filter_or_fault : (text : Option (List ℕ)) (filter : Option Typed) (fault : FilterFault) → IsFilterAsked text filter → IsFaultAsked text fault
     → IsTrue (is_of_size fault.reason)
-filter_or_fault (Some text) (Some filter) fault asked is = typed_or_fault text filter fault asked is
+filter_or_fault (Some text) (Some filter) fault asked is = of_size fault.reason (typed_or_fault text filter fault asked is)
 filter_or_fault (Some text) None fault asked is = absurd asked
 filter_or_fault None filter fault asked is = absurd is
 

@@ -1,6 +1,6 @@
 use Rattle.std.proofs.Common.{◌≡◌, vec_len}
-use Rattle.flt_parse.specs.Reading as reading
-use Rattle.flt_parse.specs.States.{left_of, reversed}
+use Rattle.flt_parse.specs.Parser.Reading as reading
+use Rattle.flt_parse.specs.Parser.States.{left_of, reversed}
 use Rattle.flt_parse.specs.Written.{written}
 use Rattle.flt_parse.proofs.joins.join_all.Given as goal
 

@@ -1,8 +1,8 @@
 use Rattle.std.proofs.Common.{◌≡◌, length}
 use Rattle.flt_parse.specs.Filters.{most_open}
-use Rattle.flt_parse.specs.Reading as reading
-use Rattle.flt_parse.specs.Answers.{tokens_read}
-use Rattle.flt_parse.specs.States.{state_of}
+use Rattle.flt_parse.specs.Parser.Reading as reading
+use Rattle.flt_parse.specs.Parser.Answers.{tokens_read}
+use Rattle.flt_parse.specs.Parser.States.{state_of}
 use Rattle.flt_parse.proofs.parser.read_tokens.Given as goal
 
 abbrev pub invariant-tokens : goal.invariant-tokens

@@ -1,7 +1,7 @@
 -- What the parser answers, beside the reading.
 use Rattle.std.specs.Prelude.{◌≡◌, ℕ, Bool, true, false, List, Option, Some, None}
 use Rattle.flt_parse.specs.Filters.{IsTokenFault, place_of}
-use Rattle.flt_parse.specs.Reading as reading
+use Rattle.flt_parse.specs.Parser.Reading as reading
 use Rattle.flt_parse.specs.Written.{WrittenOperand}
 use Rattle.flt_parse.specs.declared.fault.FilterError.{FilterError}
 use Rattle.flt_parse.specs.declared.fault.FilterError.TheVariants as errors

@@ -1,12 +1,20 @@
 -- The parser's state as the reading's, without the places in memory of its parts.
-use Rattle.std.specs.Prelude.{◌≡◌, List, [], ◌∷◌, ◌++◌, Option, Some, None, Result, Ok, Err}
-use Rattle.flt_parse.specs.Reading as reading
-use Rattle.flt_parse.specs.Written.{Written, WrittenTail, operand_of, tail_of, written}
+use Rattle.std.specs.Prelude.{◌≡◌, ℕ, List, [], ◌∷◌, ◌++◌, Option, Some, None, Result, Ok, Err}
+use Rattle.flt_parse.specs.Filters.{most_open}
+use Rattle.flt_parse.specs.Parser.Answers.{further}
+use Rattle.flt_parse.specs.Parser.Reading as reading
+use Rattle.flt_parse.specs.Written.{Written, WrittenOperand, WrittenTail, operand_of, tail_of, written}
 use Rattle.flt_parse.specs.declared.ast.Ast.{Ast}
+use Rattle.flt_parse.specs.declared.ast.Choice.{Choice}
+use Rattle.flt_parse.specs.declared.ast.Negation.{Negation}
 use Rattle.flt_parse.specs.declared.fault.FilterReason.TheVariants.{Unexpected}
+use Rattle.flt_parse.specs.declared.operands.Slice.{Slice}
 use Rattle.flt_parse.specs.declared.state.Call.{Call}
 use Rattle.flt_parse.specs.declared.state.Frame.{Frame}
+use Rattle.flt_parse.specs.declared.state.Inside.{Inside}
 use Rattle.flt_parse.specs.declared.state.Left.{Left}
+use Rattle.flt_parse.specs.declared.state.Open.{Open}
+use Rattle.flt_parse.specs.declared.state.RangeSpot.{RangeSpot}
 use Rattle.flt_parse.specs.declared.state.Refusal.{Refusal}
 use Rattle.flt_parse.specs.declared.state.Refusal.TheVariants.{Fault, NoMemory}
 use Rattle.flt_parse.specs.declared.state.Side.{Side}
@@ -19,6 +27,7 @@ use Rattle.flt_parse.specs.declared.state.TailMove.{TailMove}
 use Rattle.flt_parse.specs.declared.state.TailMove.TheVariants.{Further, Done, Wrong}
 use Rattle.flt_parse.specs.declared.state.TailSpot.{TailSpot}
 use Rattle.flt_parse.specs.declared.state.TailSpot.TheVariants.{InWanted, SetWanted, InSet, PatternWanted}
+use Rattle.flt_parse.specs.declared.token.Kind.{Kind}
 
 -- a list whose last is the first
 abbrev pub reversed : {A B : Type 0} → (A → B) → List A → List B
@@ -58,11 +67,60 @@ tail_spot_of (SetWanted n) = reading.SetWanted n
 tail_spot_of (InSet n done spot) = reading.InSet n done.items spot
 tail_spot_of (PatternWanted at) = reading.PatternWanted at
 
+-- a filter that begins
+abbrev pub want : Open → reading.State
+want outer = reading.Want (frame_of outer.frame) (around_of outer.around.items)
+
+-- a filter behind which more may come, and the negations before it
+abbrev pub behind_of : Open → Written → reading.State
+behind_of outer t = reading.have (frame_of outer.frame) (around_of outer.around.items) t
+
+-- an operand
+abbrev pub in_spot : reading.Spot → Inside → reading.State
+in_spot spot i = reading.InOperand spot (side_of i.side) (calls_of i.calls.items) (frame_of i.outer.frame) (around_of i.outer.around.items)
+
+-- an operand that begins on one side of a test
+abbrev pub begun_at : reading.Side → Open → reading.State
+begun_at side outer = reading.InOperand reading.OperandWanted side [] (frame_of outer.frame) (around_of outer.around.items)
+
+-- what follows a left operand
+abbrev pub in_tail : reading.TailSpot → Option Choice → WrittenOperand → Open → reading.State
+in_tail spot c o outer = reading.InTail spot c o (frame_of outer.frame) (around_of outer.around.items)
+
 abbrev pub state_of : State → reading.State
-state_of (Want open') = reading.Want (frame_of open'.frame) (around_of open'.around.items)
+state_of (Want outer) = want outer
 state_of (Have lefts t around) = reading.Have (reversed left_of lefts.items) (written t) (around_of around.items)
-state_of (InOperand spot side calls open') = reading.InOperand (spot_of spot) (side_of side) (calls_of calls.items) (frame_of open'.frame) (around_of open'.around.items)
-state_of (InTail spot c o open') = reading.InTail (tail_spot_of spot) c (operand_of o) (frame_of open'.frame) (around_of open'.around.items)
+state_of (InOperand spot inside) = in_spot (spot_of spot) inside
+state_of (InTail spot c o outer) = in_tail (tail_spot_of spot) c (operand_of o) outer
+
+-- the range of a slice that is read
+abbrev pub range_spot : Slice → ℕ → RangeSpot → reading.Spot
+range_spot slice at spot = reading.InRanges (operand_of slice.operand) slice.bracket slice.done.items at spot
+
+-- the reading's moves at an operand, which goes on or ends, by what is open around it
+abbrev pub go_in : reading.Spot → Inside → reading.Move
+go_in spot i = reading.Go (in_spot spot i)
+
+abbrev pub step_in : reading.Spot → Inside → Kind → reading.Move
+step_in spot i kind = reading.step most_open (in_spot spot i) kind
+
+abbrev pub further_in : Option reading.Spot → Inside → reading.Move
+further_in next i = further next (side_of i.side) (calls_of i.calls.items) (frame_of i.outer.frame) (around_of i.outer.around.items)
+
+abbrev pub end_in : WrittenOperand → Inside → Kind → reading.Move
+end_in o i kind = reading.operand_end (side_of i.side) (calls_of i.calls.items) o (frame_of i.outer.frame) (around_of i.outer.around.items) kind
+
+abbrev pub call_end_in : reading.Call → WrittenOperand → Inside → Kind → reading.Move
+call_end_in call o i kind = reading.call_end call o (side_of i.side) (calls_of i.calls.items) (frame_of i.outer.frame) (around_of i.outer.around.items) kind
+
+abbrev pub side_end_in : reading.Side → WrittenOperand → Open → Kind → reading.Move
+side_end_in side o outer kind = reading.operand_end side [] o (frame_of outer.frame) (around_of outer.around.items) kind
+
+abbrev pub left_end_in : Option Choice → WrittenOperand → Open → Kind → reading.Move
+left_end_in c o outer kind = reading.left_end c o (frame_of outer.frame) (around_of outer.around.items) kind
+
+abbrev pub not_in_of : Negation → Option Choice → WrittenOperand → Open → reading.Move
+not_in_of n c o outer = reading.not_before_in n c o (frame_of outer.frame) (around_of outer.around.items)
 
 -- what a step of the parser answers, where memory allows
 abbrev pub IsMove : reading.Move → Result State Refusal → Type 0

@@ -1,0 +1,4 @@
+-- What the parser's own functions cite, and no public contract.
+pub mod Answers
+pub mod Reading
+pub mod States
