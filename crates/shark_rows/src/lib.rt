@@ -9,6 +9,8 @@ mod fragment_rows;
 #[cfg(test)]
 mod layer_rows;
 #[cfg(test)]
+mod line_rows;
+#[cfg(test)]
 mod outside_rows;
 #[cfg(test)]
 mod packet_rows;
