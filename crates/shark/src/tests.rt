@@ -12,13 +12,15 @@ use std::test::Fail;
 const HELP: &str = "\
 shark reads a capture file and prints a line for each frame that satisfies a display filter.
 
-Usage: shark -r FILE [-Y FILTER] [-c N] -T fields -e FIELD [-e FIELD]...
+Usage: shark -r FILE [-Y FILTER] [-c N] [-q] [-T text | -T fields -e FIELD... [-E KEY=V]...]
 
   -r FILE      the capture file, pcap or pcapng
   -Y FILTER    show only the frames that satisfy this filter; without it all are shown
   -c N         read at most N frames, 1 to 4294967295
-  -T fields    the kind of line: the values of fields, a tab between two columns
-  -e FIELD     a column, again and again: any field or protocol
+  -T KIND      the kind of line: text, a summary, which is the default, or fields, the values of fields
+  -e FIELD     with -T fields a column, again and again: any field or protocol
+  -E KEY=V     with -T fields: header=y, separator=, aggregator=, occurrence=f or l, quote=d or s
+  -q           no header line and no lines of frames
 
   --help       this text, where it is the only word
   --version    the version, where it is the only word
@@ -26,6 +28,10 @@ Usage: shark -r FILE [-Y FILTER] [-c N] -T fields -e FIELD [-e FIELD]...
 A filter is one of Wireshark's display filters: fields and protocols compared with values or each other (==, !=, ===, !==,
 <, <=, >, >=, contains, matches, in {..}), slices, layers, masks, len, count, upper and lower, joined by and, or and not.
 For example: ip.addr == 10.0.0.0/8 and not udp.port in {53, 5353}
+
+  shark -r web.pcap
+  shark -r web.pcap -Y dns -T fields -e dns.qry.name
+  shark -r web.pcap -T fields -E header=y -E separator=, -E quote=d -e frame.number -e ip.src
 
 The exit status is 0 where the whole file was read and the whole output written, and else says what went wrong:
 1 bad words, 2 bad filter, 3 unknown field, 4 can't open, 5 read fault, 6 damaged file, 7 file too large, 8 write fault,
@@ -106,11 +112,10 @@ fn words_that_are_not_utf8_are_told(rt: HostRuntime) -> Result<(), Fail> {
     Ok(())
 }
 
-// Whether an option of this letter is known, where it is the only word and has a value.
+// Whether an option of this letter is known, where it is the only word.
 fn is_known(alloc: Global, letter: u8) -> Result<bool, AllocError> {
     let mut word = String::from_str(alloc, "-")?;
     word.push(char::from(letter))?;
-    word.push_str("1")?;
     let mut words = Vec::new(alloc);
     words.push(word)?;
     let unknown = WordsError::Fault(WordFault {

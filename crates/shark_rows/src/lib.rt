@@ -9,6 +9,8 @@ mod fragment_rows;
 #[cfg(test)]
 mod layer_rows;
 #[cfg(test)]
+mod line_rows;
+#[cfg(test)]
 mod local_rows;
 #[cfg(test)]
 mod outside_rows;
@@ -21,6 +23,8 @@ mod pcapng_rows;
 #[cfg(test)]
 mod runs;
 mod sure;
+#[cfg(test)]
+mod stream_rows;
 #[cfg(test)]
 mod udp_rows;
 #[cfg(test)]

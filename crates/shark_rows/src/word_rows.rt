@@ -120,7 +120,7 @@ static WORDS: [Run; 26] = [
         file: &[HEADER, REQUEST_HEAD, REQUEST, PADDING],
         status: Status::BadWords,
         out: "",
-        err: "shark: word 5: A7 NoFields\n",
+        err: "shark: word 3: A8 Unused\n",
     },
     Run {
         shows: "no file",

@@ -46,8 +46,16 @@ OptionsAnswered options =
 with_names : (options : Options) (filter : Option Typed) (fields : Result (List ℕ) Refused) → IsFilterAsked options.filter filter
     → IsOfName fields → fields_named options.names ≡ fields → OptionsAnswered options
 with_names options filter (Ok fields) asked alone is =
-    let plan : Plan = record { name = name_in options.source; filter = filter; fields = fields; most = options.most } in
-    inl (plan, record { name = refl; filter = asked; fields = is; most = refl })
+    let plan : Plan = record {
+      name = name_in options.source;
+      filter = filter;
+      fields = fields;
+      most = options.most;
+      kind = options.kind;
+      style = options.style;
+      quiet = options.quiet;
+    } in
+    inl (plan, record { name = refl; filter = asked; fields = is; most = refl; kind = refl; style = refl; quiet = refl })
 with_names options filter (Err (refused.Field name)) asked alone is = inr (refused.Field name, ((filter, asked), is), tt)
 with_names options filter (Err reason) asked alone is = absurd alone
 

@@ -1,9 +1,12 @@
 -- Two plans of the same words, and two reasons to refuse them.
-use Rattle.std.proofs.Common.{◌≡◌, ⊎_elim, ℕ, Bool, List, [], ◌∷◌, ◌++◌, Option, None, Some, Ok, Err, IsTrue, if◌then◌else◌, refl, sym, ◌∙◌, ap, subst}
+use Rattle.std.proofs.Common.{◌≡◌, ⊎_elim, ℕ, Bool, false, not, ◌&&◌, List, [], ◌∷◌, ◌++◌, Option, None, Some, Ok, Err, IsTrue, if◌then◌else◌, refl, sym, ◌∙◌, ap, subst}
 use Rattle.capture_read.specs.Capture.{capture_of}
 use Rattle.capture_read.specs.declared.frame.Frame.{Frame}
 use Rattle.pk_tree.specs.Trees.{TreeShown}
-use Rattle.out_lines.specs.Lines.{field_line_of, default_style}
+use Rattle.out_lines.specs.Lines.{field_line_of, header_of}
+use Rattle.out_lines.specs.declared.style.Style.{Style}
+use Rattle.shark_words.specs.declared.options.LineKind.{LineKind}
+use Rattle.shark_words.specs.declared.options.LineKind.TheVariants.{Text, Fields}
 use Rattle.flt_parse.specs.declared.fault.FilterFault.{FilterFault}
 use Rattle.flt_parse.specs.declared.fault.FilterError.TheVariants.{Fault}
 use Rattle.flt_types.specs.Texts.{IsFilterFault}
@@ -17,7 +20,7 @@ use Rattle.shark_run.specs.declared.plan.Refused.{Refused}
 use Rattle.shark_run.specs.declared.plan.Refused.TheVariants as refused
 use Rattle.shark_run.specs.Answers.{is_of_size, IsSure}
 use Rattle.shark_run.specs.Laws.{AreAlike, NeverBoth, OneReason, PlansAreAlike}
-use Rattle.shark_run.specs.Lines.{shown, frame_lines, trees_after, opening, closing, output_of, satisfies}
+use Rattle.shark_run.specs.Lines.{shown, frame_lines, trees_after, is_headed, line_by, line_of, opening, closing, output_of, satisfies}
 use Rattle.shark_run.specs.Plan.{IsFaultAsked, IsFilterAsked, IsPlan, IsPlanFor, IsRefusal, IsRefusalFor}
 use Rattle.shark_run.specs.Reading.{limited, frames_read}
 use Rattle.shark_run.proofs.PlanLemmas.{filter_or_fault, of_size, refused_not_planned, same_options}
@@ -72,11 +75,25 @@ one_reason words (refused.Filter f) (refused.Field name) is also sure certain = 
 one_reason words (refused.Field name) (refused.Filter g) is also sure certain = one_of_options words (refused.Field name) (refused.Filter g) sure certain is also
 one_reason words (refused.Field name) (refused.Field known) is also sure certain = one_of_options words (refused.Field name) (refused.Field known) sure certain is also
 
-same_shown : (one other : Plan) (tree : TreeShown) → one.fields ≡ other.fields → satisfies one.filter tree ≡ satisfies other.filter tree
+-- the same kind of line, of the same fields, in the same style
+pub record AreWrittenAlike (one other : Plan) : Type 0 where
+  kind : one.kind ≡ other.kind
+  fields : one.fields ≡ other.fields
+  style : one.style ≡ other.style
+  quiet : one.quiet ≡ other.quiet
+
+same_line : (kind : LineKind) (one other : Plan) (tree : TreeShown) → one.fields ≡ other.fields → one.style ≡ other.style → line_by kind one tree ≡ line_by kind other tree
+same_line Text one other tree fields style = refl
+same_line Fields one other tree fields style =
+    ap (λ (f : List ℕ). field_line_of f tree one.style) fields ∙ ap (λ (s : Style). field_line_of other.fields tree s) style
+
+same_shown : (one other : Plan) (tree : TreeShown) → AreWrittenAlike one other → satisfies one.filter tree ≡ satisfies other.filter tree
     → shown one tree ≡ shown other tree
-same_shown one other tree fields truth =
-    ap (λ (b : Bool). if b then field_line_of one.fields tree default_style else []) truth
-    ∙ ap (λ (f : List ℕ). if satisfies other.filter tree then field_line_of f tree default_style else []) fields
+same_shown one other tree alike truth =
+    ap (λ (q : Bool). if q then [] else if satisfies one.filter tree then line_of one tree else []) alike.quiet
+    ∙ ap (λ (b : Bool). if other.quiet then [] else if b then line_of one tree else []) truth
+    ∙ ap (λ (line : List ℕ). if other.quiet then [] else if satisfies other.filter tree then line else [])
+    (ap (λ (k : LineKind). line_by k one tree) alike.kind ∙ same_line other.kind one other tree alike.fields alike.style)
 
 same_lines : (one other : Plan) (trees : List TreeShown) → ((tree : TreeShown) → shown one tree ≡ shown other tree)
     → frame_lines one trees ≡ frame_lines other trees
@@ -85,12 +102,34 @@ same_lines one other (tree ∷ trees) same =
     ap (λ (line : List ℕ). line ++ frame_lines one trees) (same tree)
     ∙ ap (λ (lines : List ℕ). shown other tree ++ lines) (same_lines one other trees same)
 
-same_output : (one other : Plan) (frames : List Frame) → one.fields ≡ other.fields
+headed : LineKind → Style → Bool → Bool
+headed Text style quiet = false
+headed Fields style quiet = style.header && not quiet
+
+is_headed_so : (kind : LineKind) (plan : Plan) → is_headed kind plan ≡ headed kind plan.style plan.quiet
+unfolding headed
+is_headed_so Text plan = refl
+is_headed_so Fields plan = refl
+
+same_opening : (one other : Plan) → AreWrittenAlike one other → opening one ≡ opening other
+unfolding opening
+same_opening one other alike =
+    ap (λ (b : Bool). if b then header_of one.fields one.style else [])
+    (is_headed_so one.kind one
+    ∙ ap (λ (k : LineKind). headed k one.style one.quiet) alike.kind
+    ∙ ap (λ (s : Style). headed other.kind s one.quiet) alike.style
+    ∙ ap (λ (q : Bool). headed other.kind other.style q) alike.quiet
+    ∙ sym (is_headed_so other.kind other))
+    ∙ ap (λ (f : List ℕ). if is_headed other.kind other then header_of f one.style else []) alike.fields
+    ∙ ap (λ (s : Style). if is_headed other.kind other then header_of other.fields s else []) alike.style
+
+same_output : (one other : Plan) (frames : List Frame) → AreWrittenAlike one other
     → ((tree : TreeShown) → satisfies one.filter tree ≡ satisfies other.filter tree) → output_of one frames ≡ output_of other frames
-unfolding output_of opening closing
-same_output one other frames fields truth =
-    ap (λ (lines : List ℕ). lines ++ [])
-    (same_lines one other (trees_after [] frames) (λ tree. same_shown one other tree fields (truth tree)))
+unfolding output_of closing
+same_output one other frames alike truth =
+    ap (λ (start : List ℕ). start ++ (frame_lines one (trees_after [] frames) ++ [])) (same_opening one other alike)
+    ∙ ap (λ (lines : List ℕ). opening other ++ (lines ++ []))
+    (same_lines one other (trees_after [] frames) (λ tree. same_shown one other tree alike (truth tree)))
 
 same_read : (one other : Plan) (file : List ℕ) → one.most ≡ other.most → frames_read one file ≡ frames_read other file
 unfolding frames_read
@@ -111,12 +150,14 @@ alike_for : (options : Options) (one other : Plan) → IsPlanFor options one →
 alike_for options one other is also =
     let both : Ok one.fields ≡ Ok other.fields = sym is.fields ∙ also.fields in
     let fields : one.fields ≡ other.fields = cc both in
+    let alike : AreWrittenAlike one other
+    = record { kind = is.kind ∙ sym also.kind; fields = fields; style = is.style ∙ sym also.style; quiet = is.quiet ∙ sym also.quiet } in
     let truth = λ (tree : TreeShown). same_truth options.filter one.filter other.filter tree is.filter also.filter in
     record {
       name = is.name ∙ sym also.name;
       read = λ file. same_read one other file (is.most ∙ sym also.most);
       lets = truth;
-      written = λ frames. same_output one other frames fields truth;
+      written = λ frames. same_output one other frames alike truth;
     }
 
 pub plans_alike : PlansAreAlike

@@ -1,6 +1,7 @@
 mod EitherLemmas
 mod FrontLemmas
 mod LawLemmas
+mod OpeningLemmas
 mod PlanLemmas
 mod RuleLemmas
 mod Times

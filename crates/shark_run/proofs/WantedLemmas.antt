@@ -4,12 +4,13 @@ use Rattle.std.specs.List.{AllByRecursion as Each}
 use Rattle.std.proofs.lemmas.Bool.{eq-eqb}
 use Rattle.pk_fields.specs.FieldSets.{is_in}
 use Rattle.pk_tree.specs.Trees.{TreeShown, IsKept, kept_tree}
-use Rattle.out_lines.specs.Lines.{field_line_of, default_style}
+use Rattle.shark_words.specs.declared.options.LineKind.{LineKind}
+use Rattle.shark_words.specs.declared.options.LineKind.TheVariants.{Text, Fields}
 use Rattle.out_lines.proofs.KeptLines.{line_same}
 use Rattle.flt_types.specs.declared.typed.Typed.{Typed}
 use Rattle.flt_mean.proofs.KeptMeaning.{meaning_kept}
 use Rattle.shark_run.specs.declared.plan.Plan.{Plan}
-use Rattle.shark_run.specs.Lines.{satisfies, shown}
+use Rattle.shark_run.specs.Lines.{line_by, line_of, satisfies, shown}
 use Rattle.shark_run.specs.Wanted.{HasAsked, HasFields, HasPlan}
 
 -- a set that grows still has what a filter asks for
@@ -40,10 +41,16 @@ unfolding satisfies
 satisfies_same wanted None t has = refl
 satisfies_same wanted (Some filter) t has = meaning_kept wanted filter t has
 
-shown_same : (wanted : List ℕ) (plan : Plan) (t : TreeShown) → HasPlan wanted plan → shown plan (kept_tree wanted t) ≡ shown plan t
-shown_same wanted plan t has =
-    ap (λ (truth : Bool). if truth then field_line_of plan.fields (kept_tree wanted t) default_style else []) (satisfies_same wanted plan.filter t has.filter)
-    ∙ ap (λ (line : List ℕ). if satisfies plan.filter t then line else []) (line_same wanted plan.fields t default_style has.columns)
+line_kept : (wanted : List ℕ) (plan : Plan) (kind : LineKind) (t : TreeShown) → kind ≡ Fields → HasPlan wanted plan
+    → line_by kind plan (kept_tree wanted t) ≡ line_by kind plan t
+line_kept wanted plan Text t is has = absurd (cc is)
+line_kept wanted plan Fields t is has = line_same wanted plan.fields t plan.style has.columns
 
-pub shown_kept : (wanted : List ℕ) (plan : Plan) (whole tree : TreeShown) → HasPlan wanted plan → IsKept wanted whole tree → shown plan tree ≡ shown plan whole
-shown_kept wanted plan whole tree has kept = ap (shown plan) kept.same ∙ shown_same wanted plan whole has
+shown_same : (wanted : List ℕ) (plan : Plan) (t : TreeShown) → plan.kind ≡ Fields → HasPlan wanted plan → shown plan (kept_tree wanted t) ≡ shown plan t
+shown_same wanted plan t is has =
+    ap (λ (truth : Bool). if plan.quiet then [] else if truth then line_of plan (kept_tree wanted t) else []) (satisfies_same wanted plan.filter t has.filter)
+    ∙ ap (λ (line : List ℕ). if plan.quiet then [] else if satisfies plan.filter t then line else []) (line_kept wanted plan plan.kind t is has)
+
+pub shown_kept : (wanted : List ℕ) (plan : Plan) (whole tree : TreeShown) → plan.kind ≡ Fields → HasPlan wanted plan → IsKept wanted whole tree
+    → shown plan tree ≡ shown plan whole
+shown_kept wanted plan whole tree is has kept = ap (shown plan) kept.same ∙ shown_same wanted plan whole is has

@@ -19,11 +19,11 @@ use Rattle.capture_read.specs.declared.next_frame.NextFrame.TheVariants as next
 use Rattle.dissect.specs.Stands.{DissectorShown, Stands}
 use Rattle.dissect.specs.Trees.{tree_at}
 use Rattle.shark_run.specs.declared.plan.Plan.{Plan}
-use Rattle.shark_run.specs.Lines.{all_lines, lines_of, trees_after, shown, frame_lines, opening, closing, output_of}
+use Rattle.shark_run.specs.Lines.{all_lines, lines_of, trees_after, shown, frame_lines}
 use Rattle.shark_run.specs.Reading.{front_if, limited, frames_read}
 use Rattle.shark_run.specs.Taken.{Took}
-use Rattle.shark_run.specs.Way.{IsBroken, IsFewer, IsFullNear, IsNearAfter, WroteTaken}
-use Rattle.shark_run.specs.Wrote.{WroteAll, WrotePart}
+use Rattle.shark_run.specs.Way.{IsBrokenBehind, IsFewer, IsFullNear, IsNearAfter, WroteTakenBehind}
+use Rattle.shark_run.specs.Wrote.{WroteLines, WroteSomeLines}
 use Rattle.shark_run.proofs.FrontLemmas.{limited_frame}
 
 -- the lines of frames answered, and of those that are still to come
@@ -76,21 +76,11 @@ read_way plan most file past rest asked read =
     ∙ ap (limited (asked_before most (length past))) read
     ∙ limited_before most past rest
 
--- the output is the frames' lines alone
-output_is_lines : (plan : Plan) (reading : Reading) → output_of plan reading.frames ≡ all_lines plan reading
-unfolding output_of opening closing
-output_is_lines plan reading = append-nil (all_lines plan reading)
-
-behind_opening : (plan : Plan) (bytes : List ℕ) → bytes ≡ opening plan ++ bytes
-unfolding opening
-behind_opening plan bytes = refl
-
 all_read : (plan : Plan) (most : Option ℕ) (file : List ℕ) (past : List Frame) (rest : Reading) → plan.most ≡ asked_before most (length past)
     → capture_of file ≡ with_past past rest
-    → output_of plan (frames_read plan file).frames ≡ lines_of plan past ++ frame_lines plan (trees_after past (limited most rest).frames)
+    → all_lines plan (frames_read plan file) ≡ lines_of plan past ++ frame_lines plan (trees_after past (limited most rest).frames)
 all_read plan most file past rest asked read =
-    output_is_lines plan (frames_read plan file)
-    ∙ ap (all_lines plan) (read_way plan most file past rest asked read)
+    ap (all_lines plan) (read_way plan most file past rest asked read)
     ∙ lines_past plan past (limited most rest)
 
 -- the bytes taken of a file end near the last frame answered
@@ -155,7 +145,7 @@ way_further plan most (Some file) r after left left_after d dissected old now la
 
 -- a front of the output was written
 pub way_stopped : (plan : Plan) (most : Option ℕ) (told : Option (List ℕ)) (r : ReaderShown) (left : Option (List ℕ)) (d : DissectorShown) (old now : Option (List ℕ))
-    → AreOnTheWay plan most told r left d old now → IfSome told (λ file. WrotePart plan (frames_read plan file) old now)
+    → AreOnTheWay plan most told r left d old now → IfSome told (λ file. WroteSomeLines plan (frames_read plan file) old now)
 way_stopped plan most None r left d old now way = tt
 way_stopped plan most (Some file) r left d old now way = (
   lines_of plan way.past,
@@ -167,7 +157,7 @@ way_stopped plan most (Some file) r left d old now way = (
 -- the whole output, where nothing more is to be read
 whole_way : (plan : Plan) (most : Option ℕ) (file : List ℕ) (past : List Frame) (rest : Reading) (ending : Ending) (old now : Option (List ℕ))
     → plan.most ≡ asked_before most (length past) → capture_of file ≡ with_past past rest → limited most rest ≡ ended ending → Appends old now (lines_of plan past)
-    → WroteAll plan (frames_read plan file) old now × (ending ≡ (frames_read plan file).ending)
+    → WroteLines plan (frames_read plan file) old now × (ending ≡ (frames_read plan file).ending)
 whole_way plan most file past rest ending old now asked read over wrote = (
   subst (λ (bytes : List ℕ). Appends old now bytes)
       (sym (all_read plan most file past rest asked read
@@ -181,7 +171,7 @@ limited_zero reading = ap (λ (b : Bool). front_if b 0 reading) (leb-zero (lengt
 -- as many frames were read as are asked for
 pub way_full : (plan : Plan) (most : Option ℕ) (told : Option (List ℕ)) (r : ReaderShown) (left : Option (List ℕ)) (d : DissectorShown) (old now : Option (List ℕ))
     → most ≡ Some 0 → AreOnTheWay plan most told r left d old now
-    → IfSome told (λ file. WroteAll plan (frames_read plan file) old now × (Whole ≡ (frames_read plan file).ending))
+    → IfSome told (λ file. WroteLines plan (frames_read plan file) old now × (Whole ≡ (frames_read plan file).ending))
 way_full plan most None r left d old now full way = tt
 way_full plan most (Some file) r left d old now full way =
     whole_way plan most file way.past way.front.0 Whole old now way.asked way.front.1 (ap (λ (m : Option ℕ). limited m way.front.0) full ∙ limited_zero way.front.0) way.appended
@@ -207,7 +197,7 @@ limited_ended (Some (suc n)) ending some = ap (λ (b : Bool). front_if b (suc n)
 
 pub way_ended : (plan : Plan) (most : Option ℕ) (told : Option (List ℕ)) (r after : ReaderShown) (left left_after : Option (List ℕ)) (d : DissectorShown) (old now : Option (List ℕ)) (ending : Ending)
     → most ≢ Some 0 → AreOnTheWay plan most told r left d old now → Answers (next.End ending) r after left left_after
-    → IfSome told (λ file. WroteAll plan (frames_read plan file) old now × (ending ≡ (frames_read plan file).ending))
+    → IfSome told (λ file. WroteLines plan (frames_read plan file) old now × (ending ≡ (frames_read plan file).ending))
 way_ended plan most None r after left left_after d old now ending some way answers = tt
 way_ended plan most (Some file) r after left left_after d old now ending some way answers =
     whole_way plan most file way.past (ended ending) ending old now way.asked (answers file way.past way.stands).1 (limited_ended most ending some) way.appended
@@ -233,7 +223,7 @@ is_fewer None most count some is = tt
 is_fewer (Some asked) most count some is = more_asked most count asked some is
 
 read_so_far : (plan : Plan) (most : Option ℕ) (file : List ℕ) (past : List Frame) (left old now : Option (List ℕ)) → most ≢ Some 0 → plan.most ≡ asked_before most (length past)
-    → Appends old now (lines_of plan past) → HoldsExactly file past left → WroteTaken plan file left old now
+    → Appends old now (lines_of plan past) → HoldsExactly file past left → WroteTakenBehind [] plan file left old now
 read_so_far plan most file past None old now some asked wrote exactly = tt
 read_so_far plan most file past (Some left) old now some asked wrote exactly =
     let count : length (capture_of exactly.0).frames ≡ length past =
@@ -243,14 +233,14 @@ read_so_far plan most file past (Some left) old now some asked wrote exactly =
       whole = exactly.1;
       fewer = subst (IsFewer plan.most) (sym count) (is_fewer plan.most most (length past) some asked);
       wrote = subst (λ (bytes : List ℕ). Appends old now bytes)
-          (sym (ap (all_lines plan) exactly.2.1 ∙ lines_past plan past (ended exactly.2.0) ∙ append-nil (lines_of plan past)) ∙ behind_opening plan (all_lines plan (capture_of exactly.0))) wrote;
+          (sym (ap (all_lines plan) exactly.2.1 ∙ lines_past plan past (ended exactly.2.0) ∙ append-nil (lines_of plan past))) wrote;
     }
   where
     none : (n : ℕ) → n + 0 ≡ n
     none n = omega arith
 
 pub way_unread : (plan : Plan) (most : Option ℕ) (told : Option (List ℕ)) (r : ReaderShown) (left left_after : Option (List ℕ)) (d : DissectorShown) (old now : Option (List ℕ))
-    → most ≢ Some 0 → AreOnTheWay plan most told r left d old now → Fails r left left_after → IfSome told (λ file. WroteTaken plan file left_after old now)
+    → most ≢ Some 0 → AreOnTheWay plan most told r left d old now → Fails r left left_after → IfSome told (λ file. WroteTakenBehind [] plan file left_after old now)
 way_unread plan most None r left left_after d old now some way fails = tt
 way_unread plan most (Some file) r left left_after d old now some way fails =
     read_so_far plan most file way.past left_after old now some way.asked way.appended (fails file way.past way.stands)
@@ -259,11 +249,11 @@ way_unread plan most (Some file) r left left_after d old now some way fails =
 pub broken_part : (plan : Plan) (most : Option ℕ) (told : Option (List ℕ)) (r after : ReaderShown) (left left_after : Option (List ℕ)) (d : DissectorShown) (old now later : Option (List ℕ)) (frame : Frame)
     → most ≢ Some 0 → AreOnTheWay plan most told r left d old now → Answers (next.Frame frame) r after left left_after
     → ((past : List Frame) → Stands past d → AppendsPart now later (shown plan (tree_at past frame)))
-    → IfSome told (λ file. WrotePart plan (frames_read plan file) old later)
+    → IfSome told (λ file. WroteSomeLines plan (frames_read plan file) old later)
 broken_part plan most None r after left left_after d old now later frame some way answers part = tt
 broken_part plan most (Some file) r after left left_after d old now later frame some way answers part =
     let front = (answers file way.past way.stands).1 in
-    let whole : output_of plan (frames_read plan file).frames ≡ lines_of plan way.past
+    let whole : all_lines plan (frames_read plan file) ≡ lines_of plan way.past
     ++ (shown plan (tree_at way.past frame) ++ frame_lines plan (trees_after (frame ∷ way.past) (limited (option_map (λ n. n - 1) most) front.0).frames)) =
     all_read plan most file way.past (with_frame frame front.0) way.asked front.1
     ∙ ap (λ (reading : Reading). lines_of plan way.past ++ frame_lines plan (trees_after way.past reading.frames)) (limited_frame most frame front.0 some) in
@@ -274,7 +264,7 @@ broken_part plan most (Some file) r after left left_after d old now later frame 
 pub broken_near : (plan : Plan) (most : Option ℕ) (told : Option (List ℕ)) (r after : ReaderShown) (left left_after : Option (List ℕ)) (d : DissectorShown) (old now later : Option (List ℕ)) (frame : Frame)
     → AreOnTheWay plan most told r left d old now → Answers (next.Frame frame) r after left left_after
     → ((past : List Frame) → Stands past d → AppendsPart now later (shown plan (tree_at past frame)))
-    → IfSome told (λ file. IsBroken plan file left_after old later)
+    → IfSome told (λ file. IsBrokenBehind [] plan file left_after old later)
 broken_near plan most None r after left left_after d old now later frame way answers part = tt
 broken_near plan most (Some file) r after left left_after d old now later frame way answers part =
     let answer = answers file way.past way.stands in
@@ -287,8 +277,7 @@ broken_near plan most (Some file) r after left left_after d old now later frame 
       piece = piece.0;
       rest = piece.1;
       line = piece.2;
-      wrote = subst (λ (bytes : List ℕ). Appends old later bytes) (behind_opening plan (lines_of plan way.past ++ piece.0))
-          (Appends-trans old now later (lines_of plan way.past) piece.0 way.appended piece.3);
+      wrote = Appends-trans old now later (lines_of plan way.past) piece.0 way.appended piece.3;
     }
 
 -- few bytes of the file were taken

@@ -30,6 +30,9 @@ pub record IsPlanFor (options : Options) (plan : Plan) : Type 0 where
   pub filter : IsFilterAsked options.filter plan.filter
   pub fields : fields_named options.names ≡ Ok plan.fields
   pub most : plan.most ≡ options.most
+  pub kind : plan.kind ≡ options.kind
+  pub style : plan.style ≡ options.style
+  pub quiet : plan.quiet ≡ options.quiet
 
 -- why options are refused: for their filter, or, where they have a filter or need none, for the first name that isn't known
 abbrev pub IsRefusalFor : Options → Refused → Type 0

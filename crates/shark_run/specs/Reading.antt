@@ -3,10 +3,8 @@ use Rattle.std.specs.Prelude.{ℕ, List, length, take, Option, None, Some, Bool,
 use Rattle.capture_read.specs.Capture.{Reading, capture_of}
 use Rattle.capture_read.specs.declared.ending.Ending.TheVariants.{Whole}
 use Rattle.shark_run.specs.declared.plan.Plan.{Plan}
-
--- the name of the file
-abbrev pub name_of : Plan → List ℕ
-name_of plan = plan.name
+pub use Rattle.shark_run.specs.Accessors.{name_of}
+use Rattle.shark_run.specs.Accessors.{most_of}
 
 -- the bytes of the file, where the capture tells them
 abbrev pub file_of : Plan → (List ℕ → Option (List ℕ)) → Option (List ℕ)
@@ -24,4 +22,4 @@ limited (Some most) reading = front_if (nat_le most (length reading.frames)) mos
 
 -- the frames that are read, and how the reading ends
 unfoldable pub frames_read : Plan → List ℕ → Reading
-frames_read plan file = limited plan.most (capture_of file)
+frames_read plan file = limited (most_of plan) (capture_of file)

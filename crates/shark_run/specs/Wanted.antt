@@ -5,6 +5,7 @@ use Rattle.pk_fields.specs.FieldSets.{is_in}
 use Rattle.flt_types.specs.declared.typed.Typed.{Typed}
 use Rattle.flt_types.specs.Asked.{HasFilter}
 use Rattle.shark_run.specs.declared.plan.Plan.{Plan}
+use Rattle.shark_run.specs.Accessors.{fields_of, filter_of}
 
 -- a set has the fields that a filter asks for; no filter asks for none
 abbrev pub HasAsked : List ℕ → Option Typed → Type 0
@@ -17,5 +18,5 @@ HasFields wanted fields = Each (λ field. is_in wanted field ≡ true) fields
 
 -- a set has the fields of a plan's filter and of its columns
 pub record HasPlan (wanted : List ℕ) (plan : Plan) : Type 0 where
-  pub filter : HasAsked wanted plan.filter
-  pub columns : HasFields wanted plan.fields
+  pub filter : HasAsked wanted (filter_of plan)
+  pub columns : HasFields wanted (fields_of plan)

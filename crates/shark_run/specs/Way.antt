@@ -1,11 +1,13 @@
 -- How far a run came, by the bytes that it took of its file.
-use Rattle.std.specs.Prelude.{◌≡◌, ◌<◌, ◌≤◌, ℕ, suc, ◌+◌, ◌^◌, List, ◌∷◌, ◌++◌, length, take, Option, Some, None}
+use Rattle.std.specs.Prelude.{◌≡◌, ◌⊎◌, ◌<◌, ◌≤◌, ℕ, suc, ◌+◌, ◌^◌, List, ◌∷◌, ◌++◌, length, take, Option, Some, None}
 use Rattle.std.specs.Io.KnownBytes.{Appends}
+use Rattle.pk_outside.specs.Outside.{AppendsPart}
 use Rattle.capture_read.specs.Answers.{IsFrontOf, IsNear}
 use Rattle.capture_read.specs.Capture.{capture_of}
 use Rattle.capture_read.specs.declared.frame.Frame.{Frame}
 use Rattle.dissect.specs.Trees.{tree_at}
 use Rattle.shark_run.specs.declared.plan.Plan.{Plan}
+use Rattle.shark_run.specs.Accessors.{most_of}
 use Rattle.shark_run.specs.Lines.{all_lines, lines_of, opening, shown}
 
 -- fewer frames than are asked for
@@ -13,21 +15,25 @@ abbrev pub IsFewer : Option ℕ → ℕ → Type 0
 IsFewer None count = Unit {0}
 IsFewer (Some most) count = count < most
 
--- the lines of the frames were written that the bytes taken of the file hold, as a file by themselves; they are fewer than
--- are asked for
-pub record IsReadSoFar (plan : Plan) (file left : List ℕ) (old new : Option (List ℕ)) : Type 0 where
+-- behind such a front, the lines of the frames were written that the bytes taken of the file hold, as a file by themselves; they
+-- are fewer than are asked for
+pub record IsReadSoFar (front : List ℕ) (plan : Plan) (file left : List ℕ) (old new : Option (List ℕ)) : Type 0 where
   pub taken : List ℕ
   pub whole : file ≡ taken ++ left
-  pub fewer : IsFewer plan.most (length (capture_of taken).frames)
-  pub wrote : Appends old new (opening plan ++ all_lines plan (capture_of taken))
+  pub fewer : IsFewer (most_of plan) (length (capture_of taken).frames)
+  pub wrote : Appends old new (front ++ all_lines plan (capture_of taken))
 
 -- the same where the capture tells what is left of the file
-abbrev pub WroteTaken : Plan → List ℕ → Option (List ℕ) → Option (List ℕ) → Option (List ℕ) → Type 0
-WroteTaken plan file None old new = Unit {0}
-WroteTaken plan file (Some left) old new = IsReadSoFar plan file left old new
+abbrev pub WroteTakenBehind : List ℕ → Plan → List ℕ → Option (List ℕ) → Option (List ℕ) → Option (List ℕ) → Type 0
+WroteTakenBehind front plan file None old new = Unit {0}
+WroteTakenBehind front plan file (Some left) old new = IsReadSoFar front plan file left old new
 
--- the lines before a frame's were written, and a piece of its own; the bytes taken of the file end near that frame
-pub record IsBroken (plan : Plan) (file : List ℕ) (left old new : Option (List ℕ)) : Type 0 where
+abbrev pub WroteTaken : Plan → List ℕ → Option (List ℕ) → Option (List ℕ) → Option (List ℕ) → Type 0
+WroteTaken plan file left old new = WroteTakenBehind (opening plan) plan file left old new
+
+-- behind such a front, the lines before a frame's were written, and a piece of its own; the bytes taken of the file end near
+-- that frame
+pub record IsBrokenBehind (start : List ℕ) (plan : Plan) (file : List ℕ) (left old new : Option (List ℕ)) : Type 0 where
   pub past : List Frame
   pub frame : Frame
   pub front : IsFrontOf (frame ∷ past) file
@@ -35,7 +41,12 @@ pub record IsBroken (plan : Plan) (file : List ℕ) (left old new : Option (List
   pub piece : List ℕ
   pub rest : List ℕ
   pub line : piece ++ rest ≡ shown plan (tree_at past frame)
-  pub wrote : Appends old new (opening plan ++ (lines_of plan past ++ piece))
+  pub wrote : Appends old new (start ++ (lines_of plan past ++ piece))
+
+-- a write failed: of the line of the fields' names, before anything was taken of the file, or of a frame's line
+abbrev pub IsBroken : Plan → List ℕ → Option (List ℕ) → Option (List ℕ) → Option (List ℕ) → Type 0
+IsBroken plan file left old new =
+    ((left ≡ Some file) × AppendsPart old new (opening plan)) ⊎ IsBrokenBehind (opening plan) plan file left old new
 
 -- the bytes taken of a file end near the frame behind so many: a front that ends 65,536 bytes before them holds no frame more
 abbrev pub IsNearAfter : List ℕ → ℕ → Option (List ℕ) → Type 0
@@ -44,4 +55,4 @@ IsNearAfter file count (Some left) = (front : ℕ) → front + 2 ^ 16 + length l
 
 -- where a file has as many frames as are asked for at most, the bytes taken of it end near the last of them
 abbrev pub IsFullNear : Plan → List ℕ → Option (List ℕ) → Type 0
-IsFullNear plan file left = (count : ℕ) → plan.most ≡ Some (suc count) → suc count ≤ length (capture_of file).frames → IsNearAfter file count left
+IsFullNear plan file left = (count : ℕ) → most_of plan ≡ Some (suc count) → suc count ≤ length (capture_of file).frames → IsNearAfter file count left

@@ -10,22 +10,23 @@ ghost use Rattle.capture_read.specs.declared.frame.Frame.{Frame as FrameValue};
 ghost use Rattle.dissect.specs.Stands.{Stands};
 ghost use Rattle.dissect.specs.Times.{IsTime};
 ghost use Rattle.dissect.specs.Trees.{tree_at};
-ghost use Rattle.shark_run.specs.Lines.{shown};
+ghost use Rattle.shark_run.specs.Lines.{line_of, opening, shown};
 ghost use Rattle.shark_run.specs.Reading.{frames_read};
 ghost use Rattle.shark_run.specs.Wanted.{HasPlan};
-ghost use Rattle.shark_run.specs.Way.{IsBroken, IsFullNear, WroteTaken};
-ghost use Rattle.shark_run.specs.Wrote.{WroteAll, WrotePart};
+ghost use Rattle.shark_run.specs.Way.{IsBroken, IsBrokenBehind, IsFullNear, WroteTaken, WroteTakenBehind};
+ghost use Rattle.shark_run.specs.Wrote.{WroteAll, WroteLines, WrotePart, WroteSomeLines};
 
 use crate::lines::satisfies;
 use crate::plan::Plan;
 use crate::wanted::wanted_fields;
 use capture_read::{Ending, Frame, FrameReader, NextFrame, ReadError};
 use dissect::{DecodeAs, Dissector, PortRules, TakeFault};
-use out_lines::{LineWriter, Style};
+use out_lines::{LineWriter, header_line, summary_line};
 use pk_base::NoMemory;
 use pk_fields::FieldSet;
 use pk_outside::{Capture, Sink, SinkFault, write_whole};
 use pk_tree::Tree;
+use shark_words::LineKind;
 use std::alloc::Global;
 
 /// Why a run didn't come to the end of its file.
@@ -63,6 +64,22 @@ fn new_line_maker(alloc: Global, plan: &Plan) -> Result<LineMaker, NoMemory>
     })
 }
 
+// Puts the line of a tree, of the kind that is asked for.
+fn put_line(alloc: Global, plan: &Plan, tree: &Tree, lines: &mut LineMaker) -> Result<(), NoMemory>
+    requires writer { lines.old.writer ≡ plan.now.fields }
+    requires empty { lines.old.line.items ≡ [] }
+    ensures line { OnOk result (lines.new.line.items ≡ line_of plan.now tree.now) }
+    ensures writer { lines.new.writer ≡ lines.old.writer }
+{
+    match plan.kind {
+        LineKind::Text => {
+            lines.line = summary_line(alloc, tree)?;
+            Ok(())
+        }
+        LineKind::Fields => lines.writer.write(&mut lines.line, tree, &plan.style),
+    }
+}
+
 // Makes the line of a tree, where the filter lets it through, else one of no bytes.
 fn make_line(alloc: Global, plan: &Plan, tree: &Tree, lines: &mut LineMaker) -> Result<(), NoMemory>
     requires { lines.old.writer ≡ plan.now.fields }
@@ -70,10 +87,13 @@ fn make_line(alloc: Global, plan: &Plan, tree: &Tree, lines: &mut LineMaker) -> 
     ensures writer { lines.new.writer ≡ lines.old.writer }
 {
     lines.line.clear();
+    if plan.quiet {
+        return Ok(());
+    }
     if !satisfies(alloc, &plan.filter, tree)? {
         return Ok(());
     }
-    lines.writer.write(&mut lines.line, tree, &Style::default())
+    put_line(alloc, plan, tree, lines)
 }
 
 // Writes the line of a tree, where the filter lets it through.
@@ -98,9 +118,33 @@ fn write_tree<O: Sink>(
     }
 }
 
-// Takes a frame, of which only the wanted fields are read, and writes its line where the filter
-// lets it through.
+// Takes a frame, of which only the wanted fields are read where its line has no others.
 #[tactic(auto, using(crate::proofs::WantedLemmas::shown_kept))]
+fn take_frame(
+    plan: &Plan,
+    frame: &Frame,
+    wanted: FieldSet,
+    dissector: &mut Dissector,
+) -> Result<Tree, TakeFault>
+    requires wanted { HasPlan wanted plan.now }
+    requires number { frame.now.number ≡ dissector.old.taken + 1 }
+    requires time { IfSome frame.now.time IsTime }
+    requires captured { dissector.old.captured + length frame.now.bytes ≤ 2 ^ 28 }
+    ensures line { IfOk result (λ tree. (past : List FrameValue) → Stands past dissector.old
+        → shown plan.now tree ≡ shown plan.now (tree_at past frame.now)) }
+    ensures stands { OnOk result ((past : List FrameValue) → Stands past dissector.old
+        → Stands (frame.now ∷ past) dissector.new) }
+    ensures taken { OnOk result (dissector.new.taken ≡ dissector.old.taken + 1) }
+    ensures captured { OnOk result (dissector.new.captured
+        ≡ dissector.old.captured + length frame.now.bytes) }
+{
+    match plan.kind {
+        LineKind::Text => dissector.take(frame),
+        LineKind::Fields => dissector.take_kept(frame, wanted),
+    }
+}
+
+// Takes a frame and writes its line where the filter lets it through.
 fn write_frame<O: Sink>(
     alloc: Global,
     plan: &Plan,
@@ -132,7 +176,7 @@ fn write_frame<O: Sink>(
         → Rose (O.faults out.old) (O.faults out.new) }
     ensures faults_stay { O.faults out.old ≤ O.faults out.new }
 {
-    let tree = match dissector.take_kept(frame, wanted) {
+    let tree = match take_frame(plan, frame, wanted, dissector) {
         Ok(tree) => tree,
         // The first error ends the run, so that this one is never `Spent`.
         Err(TakeFault::NoMemory | TakeFault::Spent) => return Err(RunFault::NoMemory),
@@ -186,16 +230,16 @@ fn write_rest<C: Capture, O: Sink>(
 
     // What was written, and how far the file was read then.
     ensures ended { IfOk result (λ ending. IfSome (C.left capture.old) (λ file.
-        WroteAll plan.now (frames_read plan.now file) (O.written out.old) (O.written out.new)
+        WroteLines plan.now (frames_read plan.now file) (O.written out.old) (O.written out.new)
         × (ending ≡ (frames_read plan.now file).ending))) }
     ensures full { OnOk result (IfSome (C.left capture.old) (λ file.
         IsFullNear plan.now file (C.left capture.new))) }
     ensures part { IfSome (C.left capture.old) (λ file.
-        WrotePart plan.now (frames_read plan.now file) (O.written out.old) (O.written out.new)) }
+        WroteSomeLines plan.now (frames_read plan.now file) (O.written out.old) (O.written out.new)) }
     ensures so_far { IsErrOf result RunFault.ReadFault → IfSome (C.left capture.old) (λ file.
-        WroteTaken plan.now file (C.left capture.new) (O.written out.old) (O.written out.new)) }
+        WroteTakenBehind [] plan.now file (C.left capture.new) (O.written out.old) (O.written out.new)) }
     ensures near { IsErrOf result RunFault.WriteFault → IfSome (C.left capture.old) (λ file.
-        IsBroken plan.now file (C.left capture.new) (O.written out.old) (O.written out.new)) }
+        IsBrokenBehind [] plan.now file (C.left capture.new) (O.written out.old) (O.written out.new)) }
     ensures took { TookAtMost (suc limit_of_file) (C.left capture.old) (C.left capture.new) }
 
     // The causes of errors, and what stays of the capture.
@@ -227,6 +271,83 @@ fn write_rest<C: Capture, O: Sink>(
     }
 }
 
+// Reads the begun file and writes the lines of its frames, and answers how the reading ends.
+fn write_frames<C: Capture, O: Sink>(
+    alloc: Global,
+    plan: &Plan,
+    capture: &mut C,
+    out: &mut O,
+) -> Result<Ending, RunFault>
+    ensures ended { IfOk result (λ ending. IfSome (C.left capture.old) (λ file.
+        WroteLines plan.now (frames_read plan.now file) (O.written out.old) (O.written out.new)
+        × (ending ≡ (frames_read plan.now file).ending))) }
+    ensures full { OnOk result (IfSome (C.left capture.old) (λ file.
+        IsFullNear plan.now file (C.left capture.new))) }
+    ensures part { IfSome (C.left capture.old) (λ file.
+        WroteSomeLines plan.now (frames_read plan.now file) (O.written out.old) (O.written out.new)) }
+    ensures so_far { IsErrOf result RunFault.ReadFault → IfSome (C.left capture.old) (λ file.
+        WroteTakenBehind [] plan.now file (C.left capture.new) (O.written out.old) (O.written out.new)) }
+    ensures near { IsErrOf result RunFault.WriteFault → IfSome (C.left capture.old) (λ file.
+        IsBrokenBehind [] plan.now file (C.left capture.new) (O.written out.old) (O.written out.new)) }
+    ensures took { TookAtMost (suc limit_of_file) (C.left capture.old) (C.left capture.new) }
+    ensures read_fault { IsErrOf result RunFault.ReadFault
+        → Rose (C.faults capture.old) (C.faults capture.new) }
+    ensures write_fault { IsErrOf result RunFault.WriteFault
+        → Rose (O.faults out.old) (O.faults out.new) }
+    ensures asked { C.asked capture.new ≡ C.asked capture.old }
+    ensures begun { C.begun capture.new ≡ C.begun capture.old }
+    ensures missed { C.missed capture.new ≡ C.missed capture.old }
+{
+    let mut reader = FrameReader::new(alloc);
+    let mut dissector = new_dissector(alloc);
+    match new_line_maker(alloc, plan) {
+        Ok(mut lines) => write_rest(
+            alloc,
+            plan,
+            wanted_fields(plan),
+            &mut reader,
+            &mut dissector,
+            &mut lines,
+            capture,
+            out,
+        ),
+        Err(NoMemory) => Err(RunFault::NoMemory),
+    }
+}
+
+// What stands before the lines of the frames.
+#[tactic(auto, unfolding(crate::specs::Lines::opening))]
+fn opening_line(alloc: Global, plan: &Plan) -> Result<Vec<u8>, NoMemory>
+    ensures { IfOk result (λ line. line.items ≡ opening plan.now) }
+{
+    match plan.kind {
+        LineKind::Fields if plan.style.header && !plan.quiet => {
+            header_line(alloc, plan.fields.slice(), &plan.style)
+        }
+        LineKind::Fields | LineKind::Text => Ok(Vec::new(alloc)),
+    }
+}
+
+fn write_opening<O: Sink>(alloc: Global, plan: &Plan, out: &mut O) -> Result<(), RunFault>
+    ensures whole { OnOk result
+        (Appends (O.written out.old) (O.written out.new) (opening plan.now)) }
+    ensures part { AppendsPart (O.written out.old) (O.written out.new) (opening plan.now) }
+    ensures read { IsErrOf result RunFault.ReadFault → ⊥ }
+    ensures fault { IsErrOf result RunFault.WriteFault
+        → Rose (O.faults out.old) (O.faults out.new) }
+    ensures faults_stay { O.faults out.old ≤ O.faults out.new }
+{
+    let line = match opening_line(alloc, plan) {
+        Ok(line) => line,
+        Err(NoMemory) => return Err(RunFault::NoMemory),
+    };
+    match write_whole(out, line.as_slice()) {
+        Ok(()) => Ok(()),
+        Err(SinkFault::Failed) => Err(RunFault::WriteFault),
+        Err(SinkFault::NoMemory) => Err(RunFault::NoMemory),
+    }
+}
+
 /// Reads the begun file and writes the whole output over its frames, and answers how the reading
 /// ends.
 pub(crate) fn write_output<C: Capture, O: Sink>(
@@ -255,19 +376,8 @@ pub(crate) fn write_output<C: Capture, O: Sink>(
     ensures begun { C.begun capture.new ≡ C.begun capture.old }
     ensures missed { C.missed capture.new ≡ C.missed capture.old }
 {
-    let mut reader = FrameReader::new(alloc);
-    let mut dissector = new_dissector(alloc);
-    match new_line_maker(alloc, plan) {
-        Ok(mut lines) => write_rest(
-            alloc,
-            plan,
-            wanted_fields(plan),
-            &mut reader,
-            &mut dissector,
-            &mut lines,
-            capture,
-            out,
-        ),
-        Err(NoMemory) => Err(RunFault::NoMemory),
+    match write_opening(alloc, plan, out) {
+        Ok(()) => write_frames(alloc, plan, capture, out),
+        Err(fault) => Err(fault),
     }
 }

@@ -3,9 +3,10 @@ ghost use Rattle.std.specs.Prelude.{◌≡◌};
 use crate::text::Text;
 use flt_parse::FilterFault;
 use flt_types::Filter;
+use out_lines::Style;
 use pk_base::{NoMemory, Octets};
 use pk_fields::FieldId;
-use shark_words::WordFault;
+use shark_words::{LineKind, WordFault};
 use std::alloc::{AllocError, AllocFailed};
 use std::marker::Model;
 
@@ -48,6 +49,12 @@ pub struct Plan {
     pub fields: FieldList,
     /// How many frames are read at most, where there is a limit.
     pub most: Option<u32>,
+    /// The kind of line.
+    pub kind: LineKind,
+    /// How the lines of fields are written.
+    pub style: Style,
+    /// Whether the line of the fields' names and the lines of frames are left out.
+    pub quiet: bool,
 }
 
 /// Why words are refused.

@@ -89,6 +89,9 @@ fn plan_with(alloc: Global, options: &Options) -> Result<Plan, PlanError>
         filter,
         fields,
         most: options.most,
+        kind: options.kind,
+        style: options.style,
+        quiet: options.quiet,
     })
 }
 

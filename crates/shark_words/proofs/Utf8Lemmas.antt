@@ -1,28 +1,27 @@
 -- What follows an option's letter in a word is a text.
-use Rattle.std.proofs.Common.{◌≡◌, ◌<◌, ◌≤◌, ◌==◌, ◌++◌, ℕ, suc, Bool, true, false, List, [], ◌∷◌, length, Option, None, Some, Result, Ok, Err, String, refl, arith, subst, sym, ◌∙◌, ⊎_elim, if◌then◌else◌}
-use Rattle.std.specs.Prelude.{◌&&◌, IfSome, IfOk, All, option_and_then}
+use Rattle.std.proofs.Common.{◌≡◌, ◌<◌, ◌≤◌, ◌==◌, ◌++◌, ℕ, suc, Bool, true, false, List, [], ◌∷◌, length, Option, None, Some, Result, Ok, Err, String, refl, arith, eqb-true, subst, sym, ◌∙◌, ⊎_elim, if◌then◌else◌}
+use Rattle.std.specs.Prelude.{◌||◌, IfSome, IfOk, All}
 use Rattle.std.specs.List.{AllByRecursion as Each}
 use Rattle.std.specs.Str.{IsUtf8}
-use Rattle.std.proofs.lemmas.Bool.{cases_lt}
+use Rattle.std.proofs.lemmas.Bool.{both_ways, cases_lt}
 use Rattle.std.proofs.lemmas.Bool.Decides.{nat_tests}
 use Rattle.std.proofs.lemmas.List.Elements.{All-nil, All-cons}
 use Rattle.std.proofs.lemmas.Str.{IsUtf8-string_bytes, IsUtf8-drop, IsCharBoundary-after_ascii}
 use Rattle.shark_words.specs.declared.fault.WordFault.{WordFault}
 use Rattle.shark_words.specs.declared.letter.Letter.{Letter}
-use Rattle.shark_words.specs.declared.letter.Letter.TheVariants.{Capture, Filter, Kind, Name, Most}
+use Rattle.shark_words.specs.declared.letter.Letter.TheVariants.{Capture, Filter, Kind, Name, Style, Most, Quiet}
 use Rattle.shark_words.specs.declared.options.Options.{Options}
 use Rattle.shark_words.specs.declared.uses.Value.{Value}
 use Rattle.shark_words.specs.declared.uses.Use.{Use}
 use Rattle.shark_words.specs.declared.uses.Use.TheVariants as use_
-use Rattle.shark_words.specs.declared.fault.WordReason.TheVariants.{NoFields}
 use Rattle.shark_words.specs.declared.fault.WordsError.{WordsError}
-use Rattle.shark_words.specs.declared.options.LineKind.TheVariants.{Fields}
 use Rattle.shark_words.specs.declared.options.Source.TheVariants.{Named}
-use Rattle.shark_words.specs.Faults.{fault, is_given, first_fault}
-use Rattle.shark_words.specs.Values.{count_of, is_blank, shown_filter}
-use Rattle.shark_words.specs.Letters.{is_same, letter_of}
-use Rattle.shark_words.specs.Options.{asked, judged, head_of, value_in, value_of, value_text, values_of, options_of, Gives}
-use Rattle.shark_words.specs.Uses.{option_at, uses_at, uses_from, uses_of}
+use Rattle.shark_words.specs.Faults.{first_fault}
+use Rattle.shark_words.specs.Values.{is_blank, kind_asked, shown_filter}
+use Rattle.shark_words.specs.Letters.{has_value, is_same, letter_of}
+use Rattle.shark_words.specs.Asked.{head_of, value_in, value_of, value_text, values_of}
+use Rattle.shark_words.specs.Options.{asked, column_fault, judged, options_by, options_of, unless, Gives}
+use Rattle.shark_words.specs.Uses.{cluster_uses, is_cluster, is_known_before, letter_uses, option_at, uses_at, uses_from, uses_of, value_uses, without_value}
 use Rattle.shark_words.specs.Utf8.{AreUtf8}
 use Rattle.shark_words.specs.Words.{texts}
 
@@ -42,28 +41,54 @@ IsNothing (Some letter) = ⊥
 ascii_of_letter : (b : ℕ) (letter : Letter) → letter_of b ≡ Some letter → b < 128
 ascii_of_letter b letter is = ⊎_elim (λ less. less) (λ large. absurd (subst IsNothing (sym (letter_is_ascii b large) ∙ is) tt)) (cases_lt b 128)
 
-behind_letter : (first second : ℕ) (rest : List ℕ) → second < 128 → IsUtf8 (first ∷ second ∷ rest) → IsUtf8 rest
-behind_letter first second rest small utf8 =
-    IsUtf8-drop (first ∷ second ∷ rest) 2 utf8 (IsCharBoundary-after_ascii (first ∷ second ∷ rest) 1 utf8 (omega arith) small)
+behind_letter : (first : ℕ) (rest : List ℕ) → first < 128 → IsUtf8 (first ∷ rest) → IsUtf8 rest
+behind_letter first rest small utf8 = IsUtf8-drop (first ∷ rest) 1 utf8 (IsCharBoundary-after_ascii (first ∷ rest) 0 utf8 (omega arith) small)
 
-option_has_text : (number first second : ℕ) (rest : List ℕ) (behind : Option Letter → List Use) (letter : Option Letter) → letter_of second ≡ letter
-    → IsUtf8 (first ∷ second ∷ rest) → ((waiting : Option Letter) → Each HasText (behind waiting)) → Each HasText (option_at number letter rest behind)
-option_has_text number first second rest behind None is utf8 others = (tt, others None)
-option_has_text number first second [] behind (Some letter) is utf8 others = others (Some letter)
-option_has_text number first second (b ∷ rest) behind (Some letter) is utf8 others =
-    (behind_letter first second (b ∷ rest) (ascii_of_letter second letter is) utf8, others None)
+value_has_uses : (number : ℕ) (letter : Letter) (rest : List ℕ) (behind : Option Letter → List Use) → IsUtf8 rest
+    → ((waiting : Option Letter) → Each HasText (behind waiting)) → Each HasText (value_uses number letter rest behind)
+value_has_uses number letter [] behind utf8 others = others (Some letter)
+value_has_uses number letter (b ∷ rest) behind utf8 others = (utf8, others None)
 
-dashed_has_text : (dash : Bool) (number first second : ℕ) (rest : List ℕ) (behind : Option Letter → List Use)
-    → IsUtf8 (first ∷ second ∷ rest) → ((waiting : Option Letter) → Each HasText (behind waiting))
-    → Each HasText (if dash then option_at number (letter_of second) rest behind else use_.Stray number ∷ behind None)
-dashed_has_text true number first second rest behind utf8 others = option_has_text number first second rest behind (letter_of second) refl utf8 others
-dashed_has_text false number first second rest behind utf8 others = (tt, others None)
+by_value : (some known : Bool) (number : ℕ) (letter : Letter) (rest : List ℕ) (behind : Option Letter → List Use) (more : List Use) → (some || known) ≡ true → IsUtf8 rest
+    → ((waiting : Option Letter) → Each HasText (behind waiting)) → (known ≡ true → Each HasText more)
+    → Each HasText (if some then value_uses number letter rest behind else without_value number letter ∷ more)
+by_value true known number letter rest behind more is utf8 others further = value_has_uses number letter rest behind utf8 others
+by_value false known number letter rest behind more is utf8 others further = (tt, further is)
+
+letter_has_text : (number first : ℕ) (rest : List ℕ) (behind : Option Letter → List Use) (more : List Use) (letter : Option Letter) → letter_of first ≡ letter
+    → is_known_before letter (is_cluster rest) ≡ true → IsUtf8 (first ∷ rest) → ((waiting : Option Letter) → Each HasText (behind waiting))
+    → (IsUtf8 rest → is_cluster rest ≡ true → Each HasText more) → Each HasText (letter_uses number letter rest behind more)
+letter_has_text number first rest behind more None is known utf8 others further = absurd (both_ways false refl known)
+letter_has_text number first rest behind more (Some letter) is known utf8 others further =
+    let behind_it = behind_letter first rest (ascii_of_letter first letter is) utf8 in
+    by_value (has_value letter) (is_cluster rest) number letter rest behind more known behind_it others (λ known. further behind_it known)
+
+cluster_has_text : (number : ℕ) (letters : List ℕ) (behind : Option Letter → List Use) → is_cluster letters ≡ true → IsUtf8 letters
+    → ((waiting : Option Letter) → Each HasText (behind waiting)) → Each HasText (cluster_uses number letters behind)
+cluster_has_text number [] behind known utf8 others = others None
+cluster_has_text number (b ∷ rest) behind known utf8 others =
+    letter_has_text number b rest behind (cluster_uses number rest behind) (letter_of b) refl known utf8 others
+    (λ utf8 known. cluster_has_text number rest behind known utf8 others)
+
+option_has_text : (known : Bool) (number : ℕ) (letters : List ℕ) (behind : Option Letter → List Use) → is_cluster letters ≡ known → IsUtf8 letters
+    → ((waiting : Option Letter) → Each HasText (behind waiting))
+    → Each HasText (if known then cluster_uses number letters behind else use_.Unknown number ∷ behind None)
+option_has_text true number letters behind is utf8 others = cluster_has_text number letters behind is utf8 others
+option_has_text false number letters behind is utf8 others = (tt, others None)
+
+dashed_has_text : (dash : Bool) (number first : ℕ) (letters : List ℕ) (behind : Option Letter → List Use) → (first == 45) ≡ dash
+    → IsUtf8 (first ∷ letters) → ((waiting : Option Letter) → Each HasText (behind waiting))
+    → Each HasText (if dash then option_at number letters behind else use_.Stray number ∷ behind None)
+dashed_has_text true number first letters behind is utf8 others =
+    let small : first < 128 = omega (arith, eqb-true first 45 is) in
+    option_has_text (is_cluster letters) number letters behind refl (behind_letter first letters small utf8) others
+dashed_has_text false number first letters behind is utf8 others = (tt, others None)
 
 word_has_text : (number : ℕ) (word : List ℕ) (behind : Option Letter → List Use) → IsUtf8 word → ((waiting : Option Letter) → Each HasText (behind waiting))
     → Each HasText (uses_at number word behind)
 word_has_text number [] behind utf8 others = (tt, others None)
 word_has_text number (first ∷ []) behind utf8 others = (tt, others None)
-word_has_text number (first ∷ second ∷ rest) behind utf8 others = dashed_has_text (first == 45) number first second rest behind utf8 others
+word_has_text number (first ∷ second ∷ rest) behind utf8 others = dashed_has_text (first == 45) number first (second ∷ rest) behind refl utf8 others
 
 uses_have_texts : (before : ℕ) (waiting : Option Letter) (words : List (List ℕ)) → Each IsUtf8 words → Each HasText (uses_from before waiting words)
 unfolding uses_from
@@ -111,19 +136,18 @@ all_from_each : (xs : List (List ℕ)) → Each IsUtf8 xs → All IsUtf8 xs
 all_from_each [] each = All-nil IsUtf8
 all_from_each (x ∷ xs) each = All-cons IsUtf8 x xs each.0 (all_from_each xs each.1)
 
+unless_is_utf8 : (first : Option WordFault) (options : Options) → AreUtf8 options → IfOk (unless first options) AreUtf8
+unless_is_utf8 None options are = are
+unless_is_utf8 (Some first) options are = tt
+
 asked_is_utf8 : (behind : ℕ) (uses : List Use) (name : Option (List ℕ)) → Each HasText uses → IfSome name IsUtf8 → IfOk (asked behind uses name) AreUtf8
 asked_is_utf8 behind uses None have named = tt
-asked_is_utf8 behind uses (Some name) have named = by_names (is_given Kind uses && is_given Name uses)
-  where
-    by_names : (both : Bool) → IfOk (if both then Ok (record {
-      source = Named name;
-      filter = shown_filter (value_of Filter uses);
-      kind = Fields;
-      names = values_of Name uses;
-      most = option_and_then count_of (value_of Most uses);
-    }) else Err (fault behind NoFields)) AreUtf8
-    by_names true = record { source = named; filter = shown_is_text (value_of Filter uses) (head_is_text (values_of Filter uses) (values_are_texts Filter uses have)); names = all_from_each (values_of Name uses) (values_are_texts Name uses have) }
-    by_names false = tt
+asked_is_utf8 behind uses (Some name) have named =
+    unless_is_utf8 (column_fault behind uses (kind_asked (value_of Kind uses))) (options_by name uses) (record {
+      source = named;
+      filter = shown_is_text (value_of Filter uses) (head_is_text (values_of Filter uses) (values_are_texts Filter uses have));
+      names = all_from_each (values_of Name uses) (values_are_texts Name uses have);
+    })
 
 judged_is_utf8 : (behind : ℕ) (uses : List Use) (first : Option WordFault) → Each HasText uses → IfOk (judged behind uses first) AreUtf8
 judged_is_utf8 behind uses None have = asked_is_utf8 behind uses (value_of Capture uses) have (head_is_text (values_of Capture uses) (values_are_texts Capture uses have))

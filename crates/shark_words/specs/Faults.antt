@@ -1,8 +1,9 @@
--- What is wrong with words, each by itself and in view of those before it.
-use Rattle.std.specs.Prelude.{ℕ, Bool, false, not, ◌&&◌, List, [], ◌∷◌, ◌++◌, Option, Some, None, if◌then◌else◌}
+-- What is wrong with words.
+use Rattle.std.specs.Prelude.{ℕ, Bool, true, false, List, [], ◌∷◌, ◌++◌, Option, Some, None, if◌then◌else◌}
 use Rattle.std.specs.List.{list_any}
 use Rattle.std.specs.Option.{option_or}
 use Rattle.shark_words.specs.declared.letter.Letter.{Letter}
+use Rattle.shark_words.specs.declared.slot.Slot.{Slot}
 use Rattle.shark_words.specs.declared.uses.Value.{Value}
 use Rattle.shark_words.specs.declared.uses.Given.{Given}
 use Rattle.shark_words.specs.declared.uses.Use.{Use}
@@ -10,7 +11,8 @@ use Rattle.shark_words.specs.declared.uses.Use.TheVariants as use_
 use Rattle.shark_words.specs.declared.fault.WordFault.{WordFault}
 use Rattle.shark_words.specs.declared.fault.WordReason.{WordReason}
 use Rattle.shark_words.specs.declared.fault.WordReason.TheVariants.{UnknownOption, MissingValue, StrayWord, Repeated, BadValue}
-use Rattle.shark_words.specs.Letters.{is_same, may_repeat}
+use Rattle.shark_words.specs.Letters.{is_same, has_value}
+use Rattle.shark_words.specs.Slots.{slot_of, is_slot}
 use Rattle.shark_words.specs.Values.{is_value}
 
 abbrev pub fault : ℕ → WordReason → WordFault
@@ -24,15 +26,35 @@ is_use_of letter other = false
 abbrev pub is_given : Letter → List Use → Bool
 is_given letter uses = list_any (is_use_of letter) uses
 
+-- what a use gives that may come once
+abbrev pub text_in : Option Value → List ℕ
+text_in None = []
+text_in (Some value) = value.text
+
+abbrev pub slot_in : Use → Option Slot
+slot_in (use_.Given given) = slot_of given.letter (text_in given.value)
+slot_in other = None
+
+unfoldable pub is_use_for : Slot → Use → Bool
+is_use_for slot used = is_slot slot (slot_in used)
+
+-- whether uses give what may come once
+abbrev pub is_held : Slot → List Use → Bool
+is_held slot uses = list_any (is_use_for slot) uses
+
+abbrev pub is_taken : Option Slot → List Use → Bool
+is_taken None uses = false
+is_taken (Some slot) uses = is_held slot uses
+
 -- what is wrong with an option's value
 abbrev pub value_fault : ℕ → Letter → Option Value → Option WordFault
-value_fault word letter None = Some (fault word MissingValue)
+value_fault word letter None = if has_value letter then Some (fault word MissingValue) else None
 value_fault word letter (Some value) = if is_value letter value.text then None else Some (fault value.word BadValue)
 
 -- what is wrong with an option, given the uses before it
 abbrev pub given_fault : List Use → Given → Option WordFault
 given_fault before given =
-    if not (may_repeat given.letter) && is_given given.letter before then Some (fault given.word Repeated)
+    if is_taken (slot_of given.letter (text_in given.value)) before then Some (fault given.word Repeated)
     else value_fault given.word given.letter given.value
 
 -- what is wrong with a use, given those before it

@@ -1,6 +1,9 @@
+pub mod Asked
 pub mod Faults
+pub mod Keys
 pub mod Letters
 pub mod Options
+pub mod Slots
 pub mod Spelled
 pub mod Uses
 pub mod Values

@@ -1,55 +1,132 @@
--- Options as they are written: a letter and its value, in one word or in two.
-use Rattle.std.specs.Prelude.{◌≡◌, ℕ, ◌<◌, ◌≤◌, Bool, true, false, ◌&&◌, length, List, [], ◌∷◌, ◌++◌, option_and_then, if◌then◌else◌}
+-- Options as they are written: clusters of letters, and values in the same word or the next.
+use Rattle.std.specs.Prelude.{◌≡◌, ℕ, ◌+◌, ◌<◌, ◌≤◌, nat_lt, Bool, true, false, not, ◌&&◌, length, map, List, [], ◌∷◌, ◌++◌, Option, Some, None, option_and_then, option_to_list, if◌then◌else◌}
+use Rattle.std.specs.List.{list_all, list_any}
 use Rattle.shark_words.specs.declared.letter.Letter.{Letter}
-use Rattle.shark_words.specs.declared.letter.Letter.TheVariants.{Capture, Filter, Kind, Name, Most}
-use Rattle.shark_words.specs.declared.options.LineKind.TheVariants.{Fields}
+use Rattle.shark_words.specs.declared.letter.Letter.TheVariants.{Capture, Filter, Kind, Name, Style, Most, Quiet}
+use Rattle.shark_words.specs.declared.slot.Slot.{Slot}
+use Rattle.shark_words.specs.declared.options.LineKind.{LineKind}
+use Rattle.shark_words.specs.declared.options.LineKind.TheVariants.{Text, Fields}
 use Rattle.shark_words.specs.declared.options.Source.TheVariants.{Named}
 use Rattle.shark_words.specs.declared.options.Options.{Options}
-use Rattle.shark_words.specs.Letters.{letter_byte, is_same, may_repeat}
-use Rattle.shark_words.specs.Values.{is_value, count_of, shown_filter}
-use Rattle.shark_words.specs.Options.{head_of}
+use Rattle.shark_words.specs.Letters.{letter_byte, is_same, has_value}
+use Rattle.shark_words.specs.Slots.{slot_of, is_slot}
+use Rattle.shark_words.specs.Values.{is_value, count_of, kind_asked, shown_filter}
+use Rattle.shark_words.specs.Asked.{head_of, style_of}
 
--- `-c2`, where the value has a first byte, or `-c 2`
-pub data Spelled : Type 0 where
-  Together : Letter → ℕ → List ℕ → Spelled
-  Apart : Letter → List ℕ → Spelled
+-- how a cluster ends: `q`; `c2`, where the value has a first byte; `c`, where the value is the next word
+pub data End : Type 0 where
+  Bare : End
+  Together : Letter → ℕ → List ℕ → End
+  Apart : Letter → List ℕ → End
+
+-- a cluster: letters without a value, then its end
+pub record Spelled : Type 0 where
+  pub flags : List Letter
+  pub end : End
+
+abbrev pub end_letters : End → List ℕ
+end_letters Bare = []
+end_letters (Together letter first rest) = letter_byte letter ∷ first ∷ rest
+end_letters (Apart letter text) = letter_byte letter ∷ []
+
+abbrev pub end_words : End → List (List ℕ)
+end_words Bare = []
+end_words (Together letter first rest) = []
+end_words (Apart letter text) = text ∷ []
+
+abbrev pub letters_of : Spelled → List ℕ
+letters_of one = map letter_byte one.flags ++ end_letters one.end
 
 -- the words; 45 is `-`
 abbrev pub spelled_words : List Spelled → List (List ℕ)
 spelled_words [] = []
-spelled_words (Together letter first rest ∷ more) = (45 ∷ letter_byte letter ∷ first ∷ rest) ∷ spelled_words more
-spelled_words (Apart letter text ∷ more) = (45 ∷ letter_byte letter ∷ []) ∷ text ∷ spelled_words more
+spelled_words (one ∷ more) = (45 ∷ letters_of one) ∷ (end_words one.end ++ spelled_words more)
+
+-- a cluster has a letter; its end alone has a value
+abbrev pub is_end : End → Bool
+is_end Bare = true
+is_end (Together letter first rest) = has_value letter
+is_end (Apart letter text) = has_value letter
+
+abbrev pub is_cluster : Spelled → Bool
+is_cluster one = list_all (λ letter. not (has_value letter)) one.flags && (is_end one.end && nat_lt 0 (length (letters_of one)))
+
+-- an option that is given, with its value, if it has one
+pub record Written : Type 0 where
+  pub letter : Letter
+  pub text : Option (List ℕ)
+
+abbrev pub flag : Letter → Written
+flag letter = record { letter = letter; text = None }
+
+abbrev pub valued : Letter → List ℕ → Written
+valued letter text = record { letter = letter; text = Some text }
+
+abbrev pub end_written : End → List Written
+end_written Bare = []
+end_written (Together letter first rest) = valued letter (first ∷ rest) ∷ []
+end_written (Apart letter text) = valued letter text ∷ []
+
+abbrev pub written_by : List Spelled → List Written
+written_by [] = []
+written_by (one ∷ more) = map flag one.flags ++ (end_written one.end ++ written_by more)
+
+-- whether an option's value is one of its own
+abbrev pub fits_text : Letter → Option (List ℕ) → Bool
+fits_text letter None = not (has_value letter)
+fits_text letter (Some text) = is_value letter text
+
+abbrev pub fits : Written → Bool
+fits one = fits_text one.letter one.text
+
+-- how often what may come once is given
+abbrev pub text_or_none : Option (List ℕ) → List ℕ
+text_or_none None = []
+text_or_none (Some text) = text
+
+abbrev pub one_if : Bool → ℕ
+one_if true = 1
+one_if false = 0
+
+abbrev pub times : Slot → List Written → ℕ
+times slot [] = 0
+times slot (one ∷ more) = one_if (is_slot slot (slot_of one.letter (text_or_none one.text))) + times slot more
 
 -- the values of one option
+abbrev pub values_in : Letter → List Written → List (List ℕ)
+values_in letter [] = []
+values_in letter (one ∷ more) = (if is_same letter one.letter then option_to_list one.text else []) ++ values_in letter more
+
 abbrev pub spelled_values : Letter → List Spelled → List (List ℕ)
-spelled_values letter [] = []
-spelled_values letter (Together other first rest ∷ more) =
-    (if is_same letter other then (first ∷ rest) ∷ [] else []) ++ spelled_values letter more
-spelled_values letter (Apart other text ∷ more) = (if is_same letter other then text ∷ [] else []) ++ spelled_values letter more
+spelled_values letter all = values_in letter (written_by all)
 
--- whether each value is one of its option's
-abbrev pub are_values : List Spelled → Bool
-are_values [] = true
-are_values (Together letter first rest ∷ more) = is_value letter (first ∷ rest) && are_values more
-are_values (Apart letter text ∷ more) = is_value letter text && are_values more
+-- columns are named for the lines of fields, and for no others
+abbrev pub HasColumns : LineKind → List Written → Type 0
+HasColumns Fields all = 0 < length (values_in Name all)
+HasColumns Text all = (values_in Name all ≡ []) × (values_in Style all ≡ [])
 
--- a command line that names this capture: each value is one of its option's, no option but `-e` comes twice,
--- and `-r`, `-T` and `-e` are there
+abbrev pub kind_by : List Spelled → LineKind
+kind_by all = kind_asked (head_of (spelled_values Kind all))
+
+-- a command line that names this capture: each value is one of its option's, nothing comes twice that may come once, `-r` is there,
+-- and the columns are those of the kind of line
 pub record IsCommand (name : List ℕ) (all : List Spelled) : Type 0 where
-  pub values : are_values all ≡ true
-  pub once : (letter : Letter) → may_repeat letter ≡ false → length (spelled_values letter all) ≤ 1
+  pub clusters : list_all is_cluster all ≡ true
+  pub values : list_all fits (written_by all) ≡ true
+  pub once : (slot : Slot) → times slot (written_by all) ≤ 1
   pub named : spelled_values Capture all ≡ name ∷ []
-  pub kind : 0 < length (spelled_values Kind all)
-  pub names : 0 < length (spelled_values Name all)
+  pub columns : HasColumns (kind_by all) (written_by all)
 
 -- what it asks for
 abbrev pub asked_by : List ℕ → List Spelled → Options
 asked_by name all = record {
   source = Named name;
   filter = shown_filter (head_of (spelled_values Filter all));
-  kind = Fields;
+  kind = kind_by all;
   names = spelled_values Name all;
+  style = style_of (spelled_values Style all);
   most = option_and_then count_of (head_of (spelled_values Most all));
+  quiet = list_any (λ one. is_same Quiet one.letter) (written_by all);
 }
 
 -- such options, and no others, are asked for

@@ -1,10 +1,11 @@
 -- What the words are used for: options with their values, and words that are neither.
--- A word that begins with `-` and has more is an option. Its value is what is left of the word behind the letter, or the next word where nothing is left.
-use Rattle.std.specs.Prelude.{ℕ, suc, ◌==◌, List, [], ◌∷◌, Option, Some, None, if◌then◌else◌}
+-- A word that begins with `-` and has more is a cluster of letters. The value of a letter that has one is what is left of the word behind it,
+-- or the next word where nothing is left.
+use Rattle.std.specs.Prelude.{ℕ, suc, ◌==◌, Bool, true, false, ◌||◌, List, [], ◌∷◌, Option, Some, None, if◌then◌else◌}
 use Rattle.shark_words.specs.declared.letter.Letter.{Letter}
 use Rattle.shark_words.specs.declared.uses.Use.{Use}
 use Rattle.shark_words.specs.declared.uses.Use.TheVariants as use_
-use Rattle.shark_words.specs.Letters.{letter_of}
+use Rattle.shark_words.specs.Letters.{letter_of, has_value}
 
 -- an option in a word, with its value in another word or the same
 abbrev pub with_value : ℕ → Letter → ℕ → List ℕ → Use
@@ -13,17 +14,40 @@ with_value word letter place text = use_.Given (record { word = word; letter = l
 abbrev pub without_value : ℕ → Letter → Use
 without_value word letter = use_.Given (record { word = word; letter = letter; value = None })
 
--- the uses from an option on, with what is left of its word;
+-- whether each letter is known, up to the first with a value
+abbrev pub is_known_before : Option Letter → Bool → Bool
+is_known_before None more = false
+is_known_before (Some letter) more = has_value letter || more
+
+abbrev pub is_cluster : List ℕ → Bool
+is_cluster [] = true
+is_cluster (b ∷ rest) = is_known_before (letter_of b) (is_cluster rest)
+
+-- the use of a letter with a value, of which so much of the word is left;
 -- `behind` are those of the words behind, of which the first may be the value of an option
-abbrev pub option_at : ℕ → Option Letter → List ℕ → (Option Letter → List Use) → List Use
-option_at word None rest behind = use_.Unknown word ∷ behind None
-option_at word (Some letter) [] behind = behind (Some letter)
-option_at word (Some letter) (b ∷ rest) behind = with_value word letter word (b ∷ rest) ∷ behind None
+abbrev pub value_uses : ℕ → Letter → List ℕ → (Option Letter → List Use) → List Use
+value_uses word letter [] behind = behind (Some letter)
+value_uses word letter (b ∷ rest) behind = with_value word letter word (b ∷ rest) ∷ behind None
+
+-- the uses of a letter, and of the letters behind it
+abbrev pub letter_uses : ℕ → Option Letter → List ℕ → (Option Letter → List Use) → List Use → List Use
+letter_uses word None rest behind more = more
+letter_uses word (Some letter) rest behind more =
+    if has_value letter then value_uses word letter rest behind else without_value word letter ∷ more
+
+-- the uses of a cluster
+abbrev pub cluster_uses : ℕ → List ℕ → (Option Letter → List Use) → List Use
+cluster_uses word [] behind = behind None
+cluster_uses word (b ∷ rest) behind = letter_uses word (letter_of b) rest behind (cluster_uses word rest behind)
+
+-- the uses from an option on, by its letters
+abbrev pub option_at : ℕ → List ℕ → (Option Letter → List Use) → List Use
+option_at word letters behind = if is_cluster letters then cluster_uses word letters behind else use_.Unknown word ∷ behind None
 
 -- the uses from a word on that is no option's value; 45 is `-`
 abbrev pub uses_at : ℕ → List ℕ → (Option Letter → List Use) → List Use
 uses_at word (first ∷ second ∷ rest) behind =
-    if first == 45 then option_at word (letter_of second) rest behind else use_.Stray word ∷ behind None
+    if first == 45 then option_at word (second ∷ rest) behind else use_.Stray word ∷ behind None
 uses_at word text behind = use_.Stray word ∷ behind None
 
 -- the uses of the words that follow so many others, of which the last may be an option whose value is still to come

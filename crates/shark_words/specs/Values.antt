@@ -1,13 +1,15 @@
 -- What an option's value may be.
-use Rattle.std.specs.Prelude.{ℕ, ◌==◌, ◌^◌, ◌-◌, min, nat_lt, Bool, true, ◌&&◌, ◌||◌, List, [], ◌∷◌, length, codes, Option, Some, None, is_some, if◌then◌else◌}
+use Rattle.std.specs.Prelude.{ℕ, ◌==◌, ◌^◌, ◌-◌, min, nat_lt, Bool, true, false, ◌&&◌, ◌||◌, List, [], ◌∷◌, length, codes, Option, Some, None, is_some, if◌then◌else◌}
 use Rattle.std.specs.List.{list_all}
+use Rattle.std.specs.Option.{unwrap_or}
 use Rattle.std.specs.Char.{is_digit}
 use Rattle.std.specs.Str.{bytes_eq}
 use Rattle.std.specs.Str.Parse.{digits_value}
 use Rattle.shark_words.specs.declared.letter.Letter.{Letter}
-use Rattle.shark_words.specs.declared.letter.Letter.TheVariants.{Capture, Filter, Kind, Name, Most}
+use Rattle.shark_words.specs.declared.letter.Letter.TheVariants.{Capture, Filter, Kind, Name, Style, Most, Quiet}
 use Rattle.shark_words.specs.declared.options.LineKind.{LineKind}
-use Rattle.shark_words.specs.declared.options.LineKind.TheVariants.{Fields}
+use Rattle.shark_words.specs.declared.options.LineKind.TheVariants.{Text, Fields}
+use Rattle.shark_words.specs.Keys.{is_setting}
 
 abbrev pub are_digits : List ℕ → Bool
 are_digits text = list_all (λ b. is_digit b 10) text
@@ -26,15 +28,25 @@ count_of (first ∷ rest) =
 
 -- a kind of line
 abbrev pub kind_of : List ℕ → Option LineKind
-kind_of text = if bytes_eq text (codes "fields") then Some Fields else None
+kind_of text =
+    if bytes_eq text (codes "text") then Some Text
+    else if bytes_eq text (codes "fields") then Some Fields
+    else None
 
--- whether a text is one of an option's values
+-- the kind that a value asks for, a summary where there is none
+abbrev pub kind_asked : Option (List ℕ) → LineKind
+kind_asked None = Text
+kind_asked (Some text) = unwrap_or (kind_of text) Text
+
+-- whether a text is one of an option's values; `-q` has none
 abbrev pub is_value : Letter → List ℕ → Bool
 is_value Capture text = nat_lt 0 (length text)
 is_value Filter text = true
 is_value Kind text = is_some (kind_of text)
 is_value Name text = true
+is_value Style text = is_setting text
 is_value Most text = is_some (count_of text)
+is_value Quiet text = false
 
 -- spaces, tabs, line feeds and carriage returns alone
 abbrev pub is_blank : List ℕ → Bool

@@ -1,5 +1,5 @@
 ghost use Rattle.std.specs.Prelude.{◌≡◌};
-ghost use Rattle.shark_words.specs.Letters.{letter_of as letter_of_byte, may_repeat};
+ghost use Rattle.shark_words.specs.Letters.{has_value, letter_of as letter_of_byte};
 
 /// An option, by its letter.
 #[derive(Clone, Copy, Debug, PartialEq, Eq)]
@@ -12,8 +12,12 @@ pub(crate) enum Letter {
     Kind,
     /// `-e NAME`: a field.
     Name,
+    /// `-E KEY=VALUE`: how the lines of fields are written.
+    Style,
     /// `-c N`: how many frames are read at most.
     Most,
+    /// `-q`: no lines of frames.
+    Quiet,
 }
 
 impl Letter {
@@ -25,15 +29,17 @@ impl Letter {
             b'Y' => Some(Letter::Filter),
             b'T' => Some(Letter::Kind),
             b'e' => Some(Letter::Name),
+            b'E' => Some(Letter::Style),
             b'c' => Some(Letter::Most),
+            b'q' => Some(Letter::Quiet),
             _ => None,
         }
     }
 
-    /// Whether the option may come more than once.
-    pub(crate) fn may_repeat(self) -> bool
-        ensures { result ≡ may_repeat self }
+    /// Whether a value belongs to the option.
+    pub(crate) fn has_value(self) -> bool
+        ensures { result ≡ has_value self }
     {
-        matches!(self, Letter::Name)
+        !matches!(self, Letter::Quiet)
     }
 }

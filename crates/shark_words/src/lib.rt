@@ -1,11 +1,14 @@
 //! The words of a command line: the options that they give, or the first reason to refuse them.
 #![tactic(auto)]
 
+mod asked;
 mod fault;
 mod faults;
+mod key;
 mod letter;
 mod options;
 mod read;
+mod slot;
 #[cfg(test)]
 mod tests;
 mod uses;

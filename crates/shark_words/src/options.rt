@@ -1,5 +1,6 @@
 ghost use Rattle.std.specs.Prelude.{◌≡◌};
 
+use out_lines::Style;
 use pk_base::Octets;
 use std::marker::Model;
 
@@ -13,6 +14,8 @@ pub enum Source {
 /// What kind of line a frame has.
 #[derive(Clone, Copy, Debug, PartialEq, Eq)]
 pub enum LineKind {
+    /// A summary.
+    Text,
     /// The values of the named fields.
     Fields,
 }
@@ -54,6 +57,10 @@ pub struct Options {
     pub kind: LineKind,
     /// The names after `-e`. Whether there are such fields isn't asked here.
     pub names: NameList,
+    /// How the lines of fields are written.
+    pub style: Style,
     /// How many frames are read at most.
     pub most: Option<u32>,
+    /// Whether the header line and the lines of frames are left out.
+    pub quiet: bool,
 }

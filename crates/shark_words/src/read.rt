@@ -1,57 +1,20 @@
-ghost use Rattle.std.specs.Prelude.{◌≡◌, ℕ, List, Ok, IfOk, option_and_then, option_to_list};
+ghost use Rattle.std.specs.Prelude.{◌≡◌, ℕ, List, Ok, IfOk, option_and_then};
 ghost use Rattle.std.specs.Option.{option_copied};
 ghost use Rattle.shark_words.specs.Utf8.{AreUtf8};
 ghost use Rattle.shark_words.specs.Words.{texts};
-ghost use Rattle.shark_words.specs.Values.{count_of, shown_filter as filter_shown};
+ghost use Rattle.shark_words.specs.Values.{count_of, kind_asked, shown_filter as filter_shown};
 ghost use Rattle.shark_words.specs.Spelled.{Spelled, spelled_words, asked_by, IsCommand, IsAsked};
-ghost use Rattle.shark_words.specs.Options.{value_in as value_in_use, value_of as value_given, values_of as values_given, options_of, Gives};
+ghost use Rattle.shark_words.specs.Options.{column_fault as column_fault_of, options_of, Gives};
 
+use crate::asked::{column_word, style_of, value_of, values_of};
 use crate::fault::{WordFault, WordReason, WordsError};
 use crate::faults::{first_fault, is_given};
 use crate::letter::Letter;
 use crate::options::{LineKind, NameList, Options, Source};
 use crate::uses::{Use, uses_of};
-use crate::values::{is_blank, read_count};
+use crate::values::{is_blank, read_count, read_kind};
 use pk_base::{NoMemory, Octets};
 use std::alloc::Global;
-
-// The value of a use, where it is one of this option.
-fn value_in(used: &Use, letter: Letter) -> Option<&Octets>
-    ensures { option_to_list (option_copied result) ≡ value_in_use letter used.now }
-{
-    match used {
-        Use::Given(given) if given.letter == letter => match &given.value {
-            Some(value) => Some(&value.text),
-            None => None,
-        },
-        Use::Given(_) | Use::Stray(_) | Use::Unknown(_) => None,
-    }
-}
-
-// The first value of an option.
-fn value_of(uses: &[Use], letter: Letter) -> Option<&Octets>
-    ensures { option_copied result ≡ value_given letter uses.now }
-{
-    for used in uses {
-        if let Some(value) = value_in(used, letter) {
-            return Some(value);
-        }
-    }
-    None
-}
-
-// The values of an option, in the order of the words.
-fn values_of(alloc: Global, uses: &[Use], letter: Letter) -> Result<Vec<Octets>, NoMemory>
-    ensures { IfOk result (λ values. values.items ≡ values_given letter uses.now) }
-{
-    let mut values = Vec::new(alloc);
-    for used in uses {
-        if let Some(value) = value_in(used, letter) {
-            values.push(value.clone()?)?;
-        }
-    }
-    Ok(values)
-}
 
 // A filter that isn't blank.
 fn shown_filter(filter: Option<&Octets>) -> Result<Option<Octets>, NoMemory>
@@ -69,11 +32,39 @@ fn read_most(most: Option<&Octets>) -> Option<u32>
     read_count(most?.bytes())
 }
 
+// The kind of line that is asked for, a summary where none is.
+fn line_kind(kind: Option<&Octets>) -> LineKind
+    ensures { result ≡ kind_asked (option_copied kind.entry) }
+{
+    match kind {
+        Some(kind) => read_kind(kind.bytes()).unwrap_or(LineKind::Text),
+        None => LineKind::Text,
+    }
+}
+
+// What is wrong with the columns for this kind of line.
+fn column_fault(behind: u64, uses: &[Use], kind: LineKind) -> Option<WordFault>
+    ensures { result ≡ column_fault_of behind uses.now kind }
+{
+    match kind {
+        LineKind::Fields if is_given(uses, Letter::Name) => None,
+        LineKind::Fields => Some(WordFault {
+            word: behind,
+            reason: WordReason::NoFields,
+        }),
+        LineKind::Text => Some(WordFault {
+            word: column_word(uses)?,
+            reason: WordReason::Unused,
+        }),
+    }
+}
+
 /// Reads the options that the words of a command line give, or refuses them.
 ///
-/// A word that begins with `-` and has more is an option: `-r`, `-Y`, `-T`, `-e` or `-c`. Its value is what is left of the
-/// word, or the next word where nothing is left. Words are numbered from 1, and the first fault in their order is told.
-#[tactic(auto, using(crate::proofs::Spelling::options_found, crate::proofs::Spelling::options_only, crate::proofs::Utf8Lemmas::answered_are_utf8))]
+/// A word that begins with `-` and has more is a cluster of letters: `-r`, `-Y`, `-T`, `-e`, `-E` and `-c`, whose value is
+/// what is left of the word, or the next word where nothing is left, and `-q`, which has none. Words are numbered from 1, and
+/// the first fault in their order is told.
+#[tactic(auto, using(crate::proofs::Utf8Lemmas::answered_are_utf8))]
 pub fn read_words(alloc: Global, words: &[String]) -> Result<Options, WordsError>
     ensures computed { Gives result (options_of (texts words.now)) }
     ensures found { (name : List ℕ) → (all : List Spelled) → texts words.now ≡ spelled_words all → IsCommand name all
@@ -84,7 +75,7 @@ pub fn read_words(alloc: Global, words: &[String]) -> Result<Options, WordsError
     options_in(alloc, words)
 }
 
-// First the faults word by word, then what is missing in all.
+// First the faults word by word, then what is missing in all, then what is of no use.
 #[tactic(auto, unfolding(crate::specs::Options::options_of))]
 fn options_in(alloc: Global, words: &[String]) -> Result<Options, WordsError>
     ensures { Gives result (options_of (texts words.now)) }
@@ -100,17 +91,17 @@ fn options_in(alloc: Global, words: &[String]) -> Result<Options, WordsError>
             reason: WordReason::NoFile,
         }));
     };
-    if !is_given(&uses, Letter::Kind) || !is_given(&uses, Letter::Name) {
-        return Err(WordsError::Fault(WordFault {
-            word: behind,
-            reason: WordReason::NoFields,
-        }));
+    let kind = line_kind(value_of(&uses, Letter::Kind));
+    if let Some(fault) = column_fault(behind, &uses, kind) {
+        return Err(WordsError::Fault(fault));
     }
     Ok(Options {
         source: Source::Named(name.clone()?),
         filter: shown_filter(value_of(&uses, Letter::Filter))?,
-        kind: LineKind::Fields,
+        kind,
         names: NameList::from_vec(values_of(alloc, &uses, Letter::Name)?),
+        style: style_of(&uses),
         most: read_most(value_of(&uses, Letter::Most)),
+        quiet: is_given(&uses, Letter::Quiet),
     })
 }

@@ -1,6 +1,7 @@
 //! Command lines as a user writes them, a word each, and what is asked for or refused.
 
 use super::*;
+use out_lines::{Occurrence, Quote, Style};
 use pk_base::Octets;
 use std::alloc::{AllocError, Global};
 use std::process::Abort;
@@ -74,10 +75,9 @@ fn first_fault_is_told_with_its_word(rt: HostRuntime) -> Result<(), Fail> {
         &rt,
         rt.alloc(),
         &["-r", "f", "-e", "ip.src"],
-        5,
-        WordReason::NoFields,
+        3,
+        WordReason::Unused,
     )?;
-    is_refused(&rt, rt.alloc(), &["-r", "f"], 3, WordReason::NoFields)?;
     is_refused(
         &rt,
         rt.alloc(),
@@ -105,6 +105,8 @@ fn options_are_read_in_any_order(rt: HostRuntime) -> Result<(), Fail> {
         ],
     )?;
     let options = read_words(rt.alloc(), &words)?;
+    assert_eq!(rt; options.style, Style::default());
+    assert!(rt; !options.quiet);
     let Source::Named(name) = &options.source;
     assert_eq!(rt; name.bytes(), b"one.pcap".as_slice());
     assert_eq!(rt; bytes_of(&options.filter), Some(b"arp".as_slice()));
@@ -166,13 +168,7 @@ fn words_that_are_no_options(rt: HostRuntime) -> Result<(), Fail> {
     is_refused(&rt, rt.alloc(), &["--filter"], 1, WordReason::UnknownOption)?;
     is_refused(&rt, rt.alloc(), &["-\u{E9}"], 1, WordReason::UnknownOption)?;
     is_refused(&rt, rt.alloc(), &["-xrf"], 1, WordReason::UnknownOption)?;
-    is_refused(
-        &rt,
-        rt.alloc(),
-        &["-E", "header=y"],
-        1,
-        WordReason::UnknownOption,
-    )?;
+    is_refused(&rt, rt.alloc(), &["-E", "header=y"], 3, WordReason::NoFile)?;
     is_refused(&rt, rt.alloc(), &["-R", "f"], 1, WordReason::UnknownOption)?;
     Ok(())
 }
@@ -180,7 +176,7 @@ fn words_that_are_no_options(rt: HostRuntime) -> Result<(), Fail> {
 #[test]
 fn values_that_are_refused_at_their_word(rt: HostRuntime) -> Result<(), Fail> {
     is_refused(&rt, rt.alloc(), &["-r", ""], 2, WordReason::BadValue)?;
-    is_refused(&rt, rt.alloc(), &["-T", "text"], 2, WordReason::BadValue)?;
+    is_refused(&rt, rt.alloc(), &["-T", "json"], 2, WordReason::BadValue)?;
     is_refused(&rt, rt.alloc(), &["-T", ""], 2, WordReason::BadValue)?;
     is_refused(&rt, rt.alloc(), &["-Tfieldss"], 1, WordReason::BadValue)?;
     is_refused(&rt, rt.alloc(), &["-c", ""], 2, WordReason::BadValue)?;
@@ -247,5 +243,167 @@ fn many_names_are_read(rt: HostRuntime) -> Result<(), Fail> {
         words.push(String::from_str(rt.alloc(), "frame.number")?)?;
     }
     assert_eq!(rt; read_words(rt.alloc(), &words)?.names.slice().len(), 20_000);
+    Ok(())
+}
+
+/// Command lines, a space between two words, each behind what is answered: `ok`, or the word and the reason of the refusal.
+static COMMANDS: [&str; 82] = [
+    // Each letter in a word of its own, in a cluster, twice, without a value, with a bad value.
+    "ok: -r f",
+    "ok: -rf",
+    "ok: -qr f",
+    "ok: -qrf",
+    "ok: -r f -q",
+    "3 A5: -r f -rg",
+    "2 A2: -q -r",
+    "1 A2: -qr",
+    "ok: -r f -Y arp",
+    "ok: -r f -Yarp",
+    "ok: -r f -qYarp",
+    "5 A5: -r f -Y arp -Y arp",
+    "3 A2: -r f -Y",
+    "ok: -r f -c 1",
+    "ok: -r f -c1",
+    "ok: -r f -qc1",
+    "5 A5: -r f -c 1 -c 1",
+    "3 A2: -r f -c",
+    "4 A6: -r f -c x",
+    "3 A6: -r f -qcx",
+    "ok: -r f -T text",
+    "ok: -r f -Ttext",
+    "ok: -r f -qTtext",
+    "5 A5: -r f -T text -T text",
+    "3 A2: -r f -T",
+    "4 A6: -r f -T Text",
+    "3 A6: -r f -Ttexts",
+    "4 A6: -r f -T pdml",
+    "ok: -r f -T fields -e a",
+    "ok: -r f -Tfields -ea -e a",
+    "ok: -r f -qe a -T fields",
+    "5 A2: -r f -T fields -e",
+    "4 A7: -r f -Tfields",
+    "7 A7: -r f -T fields -E header=y",
+    "3 A8: -r f -e a",
+    "4 A8: -r f -q -e a -e b",
+    "4 A8: -r f -Ttext -E header=y -e a",
+    "3 A8: -r f -E header=y",
+    "3 A8: -r f -qe a",
+    "4 A5: -r f -q -q",
+    "3 A5: -r f -qq",
+    "3 A1: -r f -qqx",
+    "3 A1: -r f -qx",
+    "4 A1: -r f -q -qx",
+    "4 A5: -r f -q -qc",
+    "4 A5: -r f -q -qcx",
+    "2 A3: -q - -r f",
+    "1 A3: q -r f",
+    "2 A1: -q --q",
+    "1 A1: -2 -r f",
+    "1 A1: -d tcp.port==80,http",
+    "1 A1: -z follow,tcp,raw,0",
+    "1 A1: --filter-stats -r f",
+    "1 A1: --self-run 1,1",
+    "1 A1: --self-run=1,1",
+    "1 A1: -w - -r f",
+    "2 A4: -q",
+    // Each key of `-E`, its values, twice, with a bad value.
+    "ok: -r f -Tfields -e a -E header=y",
+    "ok: -r f -Tfields -e a -E header=n",
+    "6 A2: -r f -Tfields -e a -E",
+    "7 A6: -r f -Tfields -e a -E header=",
+    "7 A6: -r f -Tfields -e a -E header=yes",
+    "8 A5: -r f -Tfields -e a -E header=y -E header=y",
+    "8 A5: -r f -Tfields -e a -E header=y -E header=x",
+    "ok: -r f -Tfields -e a -Eseparator=; -Eaggregator=;",
+    "6 A6: -r f -Tfields -e a -Eseparator=",
+    "6 A6: -r f -Tfields -e a -Eseparator=/x",
+    "6 A6: -r f -Tfields -e a -Eseparator=;;",
+    "7 A5: -r f -Tfields -e a -Eseparator=; -Eseparator=",
+    "ok: -r f -Tfields -e a -E aggregator=/s",
+    "7 A6: -r f -Tfields -e a -E aggregator=/n",
+    "8 A5: -r f -Tfields -e a -E aggregator=/s -E aggregator=/s",
+    "ok: -r f -Tfields -e a -E occurrence=f",
+    "7 A6: -r f -Tfields -e a -E occurrence=first",
+    "8 A5: -r f -Tfields -e a -E occurrence=f -E occurrence=q",
+    "ok: -r f -Tfields -e a -E quote=d -E header=y -E separator=/t -E aggregator=/t -E occurrence=a",
+    "7 A6: -r f -Tfields -e a -E quote=x",
+    "8 A5: -r f -Tfields -e a -E quote=s -E quote=s",
+    "7 A6: -r f -Tfields -e a -E quote",
+    "7 A6: -r f -Tfields -e a -E Quote=d",
+    "7 A6: -r f -Tfields -e a -E bom=y",
+    "4 A6: -r f -E header=q -x -e",
+];
+
+fn code_of(reason: WordReason) -> &'static str {
+    match reason {
+        WordReason::UnknownOption => "A1",
+        WordReason::MissingValue => "A2",
+        WordReason::StrayWord => "A3",
+        WordReason::NoFile => "A4",
+        WordReason::Repeated => "A5",
+        WordReason::BadValue => "A6",
+        WordReason::NoFields => "A7",
+        WordReason::Unused => "A8",
+    }
+}
+
+/// What is answered to words.
+fn answer_to(alloc: Global, words: &str) -> Result<String, AllocError> {
+    let mut all = Vec::new(alloc);
+    for word in words.split(' ') {
+        if !word.is_empty() {
+            all.push(String::from_str(alloc, word)?)?;
+        }
+    }
+    match read_words(alloc, &all) {
+        Ok(_) => String::from_str(alloc, "ok"),
+        Err(WordsError::Fault(fault)) => {
+            let word = fault.word;
+            let code = code_of(fault.reason);
+            format!(in alloc; "{word} {code}")
+        }
+        Err(WordsError::NoMemory) => Err(AllocError),
+    }
+}
+
+#[test]
+fn command_lines_are_read_or_refused(rt: HostRuntime) -> Result<(), Fail> {
+    for row in &COMMANDS {
+        if let Some((answer, words)) = row.split_once(':') {
+            let given = answer_to(rt.alloc(), words)?;
+            assert_eq!(rt; given.as_str(), answer, "{words}");
+        }
+    }
+    Ok(())
+}
+
+#[test]
+fn style_is_what_is_set(rt: HostRuntime) -> Result<(), Fail> {
+    let words = words_of(
+        rt.alloc(),
+        &[
+            "-qrf",
+            "-Tfields",
+            "-ea",
+            "-Eheader=y",
+            "-E",
+            "separator= ",
+            "-E",
+            "aggregator=/t",
+            "-Eoccurrence=l",
+            "-Equote=s",
+        ],
+    )?;
+    let options = read_words(rt.alloc(), &words)?;
+    let style = Style {
+        header: true,
+        separator: b' ',
+        occurrence: Occurrence::Last,
+        aggregator: b'\t',
+        quote: Quote::Single,
+    };
+    assert_eq!(rt; options.style, style);
+    assert_eq!(rt; options.kind, LineKind::Fields);
+    assert!(rt; options.quiet);
     Ok(())
 }

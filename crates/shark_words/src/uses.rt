@@ -3,7 +3,7 @@ ghost use Rattle.std.specs.Prelude.{◌≡◌, ◌<◌, ◌+◌, ◌-◌, ◌^�
 ghost use Rattle.shark_words.specs.Words.{texts};
 ghost use Rattle.shark_words.specs.declared.letter.Letter.{Letter as IsLetter};
 ghost use Rattle.shark_words.specs.declared.uses.Use.{Use as IsUse};
-ghost use Rattle.shark_words.specs.Uses.{uses_at, uses_from, with_value, without_value, uses_of as uses_of_words};
+ghost use Rattle.shark_words.specs.Uses.{cluster_uses, is_cluster as is_cluster_of, uses_at, uses_from, value_uses, with_value, without_value, uses_of as uses_of_words};
 
 use crate::letter::Letter;
 use pk_base::{NoMemory, Octets};
@@ -56,7 +56,63 @@ impl Use {
     }
 }
 
-// Adds the use of a word that is no option's value. Answers the option whose value the next word is.
+// Whether each letter is known, up to the first with a value.
+fn is_cluster(letters: &[u8]) -> bool
+    ensures { result ≡ is_cluster_of letters.now }
+{
+    for byte in letters {
+        match Letter::of_byte(*byte) {
+            None => return false,
+            Some(letter) if letter.has_value() => return true,
+            Some(_) => {}
+        }
+    }
+    true
+}
+
+// Adds the use of an option whose value is what is left of its word. Answers the option where nothing is left.
+fn take_value(
+    alloc: Global,
+    uses: &mut Vec<Use>,
+    number: u64,
+    letter: Letter,
+    rest: &[u8],
+) -> Result<Option<Letter>, NoMemory>
+    ensures { IfOk result (λ waiting. (behind : Option IsLetter → List IsUse) →
+        uses.old.items ++ value_uses number letter rest.now behind ≡ uses.new.items ++ behind waiting) }
+{
+    if rest.is_empty() {
+        return Ok(Some(letter));
+    }
+    let text = Octets::copy(alloc, rest)?;
+    uses.push(Use::with_value(number, letter, number, text))?;
+    Ok(None)
+}
+
+// Adds the uses of a cluster's letters. Answers the option whose value the next word is.
+fn take_letters(
+    alloc: Global,
+    uses: &mut Vec<Use>,
+    number: u64,
+    letters: &[u8],
+) -> Result<Option<Letter>, NoMemory>
+    ensures { IfOk result (λ waiting. (behind : Option IsLetter → List IsUse) →
+        uses.old.items ++ cluster_uses number letters.now behind ≡ uses.new.items ++ behind waiting) }
+{
+    for (at, byte) in letters.iter().enumerate() {
+        // All letters are known, up to the first with a value.
+        let Some(letter) = Letter::of_byte(*byte) else {
+            continue;
+        };
+        if letter.has_value() {
+            return take_value(alloc, uses, number, letter, &letters[at + 1..]);
+        }
+        uses.push(Use::without_value(number, letter))?;
+    }
+    Ok(None)
+}
+
+// Adds the uses of a word that is no option's value. Answers the option whose value the next word is.
 fn take_option(
     alloc: Global,
     uses: &mut Vec<Use>,
@@ -66,19 +122,15 @@ fn take_option(
     ensures { IfOk result (λ waiting. (behind : Option IsLetter → List IsUse) →
         uses.old.items ++ uses_at number word.now behind ≡ uses.new.items ++ behind waiting) }
 {
-    let [b'-', byte, rest @ ..] = word else {
+    let [b'-', _, ..] = word else {
         uses.push(Use::Stray(number))?;
         return Ok(None);
     };
-    let Some(letter) = Letter::of_byte(*byte) else {
-        uses.push(Use::Unknown(number))?;
-        return Ok(None);
-    };
-    if rest.is_empty() {
-        return Ok(Some(letter));
+    let letters = &word[1..];
+    if is_cluster(letters) {
+        return take_letters(alloc, uses, number, letters);
     }
-    let text = Octets::copy(alloc, rest)?;
-    uses.push(Use::with_value(number, letter, number, text))?;
+    uses.push(Use::Unknown(number))?;
     Ok(None)
 }
 

@@ -2,6 +2,7 @@
 ghost use Rattle.std.specs.Prelude.{◌≡◌};
 ghost use Rattle.shark_words.specs.Values.{count_of, digits_read, kind_of as kind_of_text, is_value as is_value_of, is_blank as is_blank_text};
 
+use crate::key::is_setting;
 use crate::letter::Letter;
 use crate::options::LineKind;
 
@@ -31,7 +32,9 @@ pub(crate) fn read_count(text: &[u8]) -> Option<u32>
 pub(crate) fn read_kind(text: &[u8]) -> Option<LineKind>
     ensures { result ≡ kind_of_text text.now }
 {
-    if text == b"fields".as_slice() {
+    if text == b"text".as_slice() {
+        Some(LineKind::Text)
+    } else if text == b"fields".as_slice() {
         Some(LineKind::Fields)
     } else {
         None
@@ -46,7 +49,9 @@ pub(crate) fn is_value(letter: Letter, text: &[u8]) -> bool
         Letter::Capture => !text.is_empty(),
         Letter::Filter | Letter::Name => true,
         Letter::Kind => read_kind(text).is_some(),
+        Letter::Style => is_setting(text),
         Letter::Most => read_count(text).is_some(),
+        Letter::Quiet => false,
     }
 }
 

@@ -1,6 +1,6 @@
 use Rattle.std.proofs.Common.{◌≡◌, drop}
-use Rattle.shark_words.specs.Options.{values_of}
-use Rattle.shark_words.proofs.read.value_of.Given as goal
+use Rattle.shark_words.specs.Asked.{values_of}
+use Rattle.shark_words.proofs.asked.value_of.Given as goal
 
 abbrev pub invariant-loop-used : goal.invariant-loop-used
 invariant-loop-used l = values_of l.letter l.uses ≡ values_of l.letter (drop l.used-index l.uses)

@@ -1,0 +1,74 @@
+// Kinds of lines, and how the lines of fields are written, with expected lines worked by hand.
+use crate::pcap_rows::{HEADER, PADDING, REQUEST, REQUEST_HEAD};
+use crate::runs::{Expected, NO_FAULTS, bytes_of, ends_so, words_of};
+use shark_run::Status;
+use std::alloc::{AllocError, Global};
+use std::test::Fail;
+
+/// An ARP request of one frame.
+static REQUEST_FILE: [&str; 4] = [HEADER, REQUEST_HEAD, REQUEST, PADDING];
+
+/// An IPv4 header in another: 10.0.0.1 and 192.168.0.1 are the sources, 10.0.0.2 and 192.168.0.2 the targets.
+static NESTED_FILE: [&str; 3] = [
+    "d4c3b2a1 02000400 00000000 00000000 00000400 65000000",
+    "00000000 00000000 28000000 28000000",
+    "45000028 00000000 40040000 0a000001 0a000002 45000014 00000000 40fd0000 c0a80001 c0a80002",
+];
+
+/// Words behind `-r f`, and the output behind `@`.
+static REQUEST_LINES: [&str; 12] = [
+    "@1 0.000000000 02:00:00:00:00:01 -> ff:ff:ff:ff:ff:ff arp 60\n",
+    "-T text@1 0.000000000 02:00:00:00:00:01 -> ff:ff:ff:ff:ff:ff arp 60\n",
+    "-Y tcp@",
+    "-q@",
+    "-q -T fields -e frame.number -E header=y@",
+    "-T fields -E header=y -E separator=; -E quote=d -e frame.number -e eth.src -e tcp.port@frame.number;eth.src;tcp.port\n\"1\";\"02:00:00:00:00:01\";\n",
+    "-T fields -E header=n -e frame.number@1\n",
+    "-T fields -E header=y -Y tcp -e arp@arp\n",
+    "-T fields -E quote=s -E separator=/s -e arp.opcode -e tcp.port@'1' \n",
+    "-T fields -E separator=/t -e arp.opcode -e eth.type@1\t2054\n",
+    "-T fields -E separator== -e arp.opcode -e eth.type@1=2054\n",
+    "-T fields -E quote=n -E separator=\" -e arp.opcode -e eth.type@1\"2054\n",
+];
+
+static NESTED_LINES: [&str; 11] = [
+    "@1 0.000000000 10.0.0.1 -> 10.0.0.2 ip 40\n",
+    "-T fields -e ip.src@10.0.0.1,192.168.0.1\n",
+    "-T fields -E aggregator=/s -e ip.src@10.0.0.1 192.168.0.1\n",
+    "-T fields -E aggregator=/t -e ip.src@10.0.0.1\t192.168.0.1\n",
+    "-T fields -E aggregator=; -e ip.src@10.0.0.1;192.168.0.1\n",
+    "-T fields -E occurrence=l -e ip.src@192.168.0.1\n",
+    "-T fields -E occurrence=f -e ip.src@10.0.0.1\n",
+    "-T fields -E occurrence=a -e ip.src@10.0.0.1,192.168.0.1\n",
+    "-T fields -E quote=d -e ip.src -e ip.dst@\"10.0.0.1,192.168.0.1\"\t\"10.0.0.2,192.168.0.2\"\n",
+    "-T fields -E quote=d -E occurrence=l -E header=y -e ip.src -e tcp.port@ip.src\ttcp.port\n\"192.168.0.1\"\t\n",
+    "-T fields -E aggregator=| -E separator=, -e ip.src -e ip.dst@10.0.0.1|192.168.0.1,10.0.0.2|192.168.0.2\n",
+];
+
+/// Whether a row's words write what it tells.
+fn writes(alloc: Global, file: &[&str], row: &str) -> Result<bool, AllocError> {
+    let Some((words, out)) = row.split_once('@') else {
+        return Ok(false);
+    };
+    let mut all = String::from_str(alloc, "-r f ")?;
+    all.push_str(words)?;
+    let words = words_of(alloc, all.as_str(), "")?;
+    let expected = Expected {
+        status: Status::Done,
+        out,
+        err: "",
+    };
+    let bytes = bytes_of(alloc, file)?;
+    ends_so(alloc, words.as_slice(), "f", bytes, &NO_FAULTS, expected)
+}
+
+#[test]
+fn lines_are_written_in_each_style(rt: HostRuntime) -> Result<(), Fail> {
+    for row in &REQUEST_LINES {
+        assert!(rt; writes(rt.alloc(), &REQUEST_FILE, row)?, "{row}");
+    }
+    for row in &NESTED_LINES {
+        assert!(rt; writes(rt.alloc(), &NESTED_FILE, row)?, "{row}");
+    }
+    Ok(())
+}

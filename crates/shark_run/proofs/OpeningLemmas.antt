@@ -1,0 +1,79 @@
+-- What is written behind the line of the fields' names.
+use Rattle.std.proofs.Common.{◌≡◌, ℕ, List, [], ◌++◌, Option, None, Some, inl, inr, refl, sym, ap, ◌∙◌, subst, append-nil}
+use Rattle.std.specs.Prelude.{IfOk, IfSome, Result, Ok, Err}
+use Rattle.std.specs.Io.KnownBytes.{Appends}
+use Rattle.std.proofs.KnownBytes.{Appends-trans}
+use Rattle.pk_outside.specs.Outside.{AppendsPart}
+use Rattle.pk_outside.proofs.Parts.{part_after, part_more}
+use Rattle.capture_read.specs.Capture.{Reading, capture_of}
+use Rattle.capture_read.specs.declared.ending.Ending.{Ending}
+use Rattle.shark_run.specs.declared.output.RunFault.{RunFault}
+use Rattle.shark_run.specs.declared.plan.Plan.{Plan}
+use Rattle.shark_run.specs.Lines.{all_lines, lines_of, opening, closing, output_of}
+use Rattle.shark_run.specs.Reading.{frames_read}
+use Rattle.shark_run.specs.Way.{IsBroken, IsBrokenBehind, IsReadSoFar, WroteTaken, WroteTakenBehind}
+use Rattle.shark_run.specs.Wrote.{WroteAll, WroteLines, WrotePart, WroteSomeLines}
+
+-- the output is the opening and the frames' lines
+whole_output : (plan : Plan) (reading : Reading) → output_of plan reading.frames ≡ opening plan ++ all_lines plan reading
+unfolding output_of closing
+whole_output plan reading = ap (λ (lines : List ℕ). opening plan ++ lines) (append-nil (all_lines plan reading))
+
+all_behind : (plan : Plan) (reading : Reading) (old now new : Option (List ℕ)) → Appends old now (opening plan) → WroteLines plan reading now new → WroteAll plan reading old new
+all_behind plan reading old now new opened wrote =
+    subst (λ (bytes : List ℕ). Appends old new bytes) (sym (whole_output plan reading)) (Appends-trans old now new (opening plan) (all_lines plan reading) opened wrote)
+
+pub ended_behind : (plan : Plan) (told : Option (List ℕ)) (old now new : Option (List ℕ)) (P : List ℕ → Type 0) → Appends old now (opening plan)
+    → IfSome told (λ file. WroteLines plan (frames_read plan file) now new × P file) → IfSome told (λ file. WroteAll plan (frames_read plan file) old new × P file)
+ended_behind plan None old now new P opened wrote = tt
+ended_behind plan (Some file) old now new P opened wrote = (all_behind plan (frames_read plan file) old now new opened wrote.0, wrote.1)
+
+pub all_ended_behind : (answer : Result Ending RunFault) (plan : Plan) (told : Option (List ℕ)) (old now new : Option (List ℕ)) → Appends old now (opening plan)
+    → IfOk answer (λ ending. IfSome told (λ file. WroteLines plan (frames_read plan file) now new × (ending ≡ (frames_read plan file).ending)))
+    → IfOk answer (λ ending. IfSome told (λ file. WroteAll plan (frames_read plan file) old new × (ending ≡ (frames_read plan file).ending)))
+all_ended_behind (Ok ending) plan told old now new opened wrote = ended_behind plan told old now new (λ file. ending ≡ (frames_read plan file).ending) opened wrote
+all_ended_behind (Err fault) plan told old now new opened wrote = tt
+
+pub part_behind : (plan : Plan) (told : Option (List ℕ)) (old now new : Option (List ℕ)) → Appends old now (opening plan)
+    → IfSome told (λ file. WroteSomeLines plan (frames_read plan file) now new) → IfSome told (λ file. WrotePart plan (frames_read plan file) old new)
+part_behind plan None old now new opened part = tt
+part_behind plan (Some file) old now new opened part =
+    subst (AppendsPart old new) (sym (whole_output plan (frames_read plan file))) (part_after old now new (opening plan) (all_lines plan (frames_read plan file)) opened part)
+
+pub part_opened : (plan : Plan) (told : Option (List ℕ)) (old new : Option (List ℕ)) → AppendsPart old new (opening plan) → IfSome told (λ file. WrotePart plan (frames_read plan file) old new)
+part_opened plan None old new part = tt
+part_opened plan (Some file) old new part =
+    subst (AppendsPart old new) (sym (whole_output plan (frames_read plan file))) (part_more old new (opening plan) (all_lines plan (frames_read plan file)) part)
+
+taken_behind : (plan : Plan) (file : List ℕ) (left old now new : Option (List ℕ)) → Appends old now (opening plan) → WroteTakenBehind [] plan file left now new → WroteTaken plan file left old new
+taken_behind plan file None old now new opened wrote = tt
+taken_behind plan file (Some left) old now new opened wrote = record {
+  taken = wrote.taken;
+  whole = wrote.whole;
+  fewer = wrote.fewer;
+  wrote = Appends-trans old now new (opening plan) (all_lines plan (capture_of wrote.taken)) opened wrote.wrote;
+}
+
+pub so_far_behind : (plan : Plan) (told left old now new : Option (List ℕ)) → Appends old now (opening plan)
+    → IfSome told (λ file. WroteTakenBehind [] plan file left now new) → IfSome told (λ file. WroteTaken plan file left old new)
+so_far_behind plan None left old now new opened wrote = tt
+so_far_behind plan (Some file) left old now new opened wrote = taken_behind plan file left old now new opened wrote
+
+pub near_behind : (plan : Plan) (told left old now new : Option (List ℕ)) → Appends old now (opening plan)
+    → IfSome told (λ file. IsBrokenBehind [] plan file left now new) → IfSome told (λ file. IsBroken plan file left old new)
+near_behind plan None left old now new opened broken = tt
+near_behind plan (Some file) left old now new opened broken = inr (record {
+  past = broken.past;
+  frame = broken.frame;
+  front = broken.front;
+  near = broken.near;
+  piece = broken.piece;
+  rest = broken.rest;
+  line = broken.line;
+  wrote = Appends-trans old now new (opening plan) (lines_of plan broken.past ++ broken.piece) opened broken.wrote;
+})
+
+-- the opening itself was not wholly written
+pub near_opened : (plan : Plan) (told old new : Option (List ℕ)) → AppendsPart old new (opening plan) → IfSome told (λ file. IsBroken plan file told old new)
+near_opened plan None old new part = tt
+near_opened plan (Some file) old new part = inl (refl, part)

@@ -1,0 +1,33 @@
+-- What a plan asks for. Only these words look into it.
+use Rattle.std.specs.Prelude.{ℕ, Bool, List, Option}
+use Rattle.flt_types.specs.declared.typed.Typed.{Typed}
+use Rattle.out_lines.specs.declared.style.Style.{Style}
+use Rattle.shark_words.specs.declared.options.LineKind.{LineKind}
+use Rattle.shark_run.specs.declared.plan.Plan.{Plan}
+
+-- the name of the file
+abbrev pub name_of : Plan → List ℕ
+name_of plan = plan.name
+
+-- what a frame's tree has to satisfy
+abbrev pub filter_of : Plan → Option Typed
+filter_of plan = plan.filter
+
+-- the kind of line
+abbrev pub kind_of : Plan → LineKind
+kind_of plan = plan.kind
+
+-- the columns of the lines of fields, and how they are written
+abbrev pub fields_of : Plan → List ℕ
+fields_of plan = plan.fields
+
+abbrev pub style_of : Plan → Style
+style_of plan = plan.style
+
+-- how many frames are read at most
+abbrev pub most_of : Plan → Option ℕ
+most_of plan = plan.most
+
+-- whether no lines of frames are written
+abbrev pub is_quiet : Plan → Bool
+is_quiet plan = plan.quiet

@@ -1,0 +1,9 @@
+use Rattle.shark_words.specs.Words.{texts}
+use Rattle.shark_words.proofs.Spelling.{answered_found, answered_only}
+use Rattle.shark_words.proofs.read.read_words.Goals as goal
+
+pub returns-clause-found : goal.returns-clause-found
+returns-clause-found c = answered_found (texts c.args.words.now) c.options_in.result c.options_in.ensures
+
+pub returns-clause-only : goal.returns-clause-only
+returns-clause-only c = answered_only (texts c.args.words.now) c.options_in.result c.options_in.ensures

@@ -1,0 +1,32 @@
+use Rattle.std.proofs.Common.{◌≡◌, ◌<◌, ◌+◌, ◌++◌, ℕ, true, List, [], ◌∷◌, length, Option, Some, None, Result, Ok, Err, get_or, drop, refl, sym, ◌∙◌, ap, add-one, drop-cons, length-drop, arith, rules}
+use Rattle.std.specs.Prelude.{IfOk}
+use Rattle.std.proofs.lemmas.List.{take_all}
+use Rattle.shark_words.specs.declared.letter.Letter.{Letter}
+use Rattle.shark_words.specs.declared.uses.Use.{Use}
+use Rattle.shark_words.specs.Letters.{letter_of, has_value}
+use Rattle.shark_words.specs.Uses.{cluster_uses, value_uses}
+use Rattle.shark_words.proofs.uses.take_letters.Goals as goal
+
+value_at : (number b : ℕ) (rest : List ℕ) (letter : Letter) (behind : Option Letter → List Use) → Some letter ≡ letter_of b → true ≡ has_value letter
+    → cluster_uses number (b ∷ rest) behind ≡ value_uses number letter rest behind
+value_at number b rest letter behind is some = rw (← is) (rw (← some) refl)
+
+then_value : {E : Type 0} (answer : Result (Option Letter) E) (number : ℕ) (letters : List ℕ) (at : ℕ) (letter : Letter) (old now new : List Use) (rest : List ℕ) → at < length letters
+    → Some letter ≡ letter_of (get_or letters at 0) → true ≡ has_value letter
+    → ((behind : Option Letter → List Use) → old ++ cluster_uses number letters behind ≡ now ++ cluster_uses number (drop at letters) behind)
+    → IfOk answer (λ waiting. (behind : Option Letter → List Use) → now ++ value_uses number letter rest behind ≡ new ++ behind waiting)
+    → rest ≡ drop (at + 1) letters
+    → IfOk answer (λ waiting. (behind : Option Letter → List Use) → old ++ cluster_uses number letters behind ≡ new ++ behind waiting)
+then_value (Err e) number letters at letter old now new rest inside is some so value left = tt
+then_value (Ok waiting) number letters at letter old now new rest inside is some so value left = λ behind.
+    let front : drop at letters ≡ get_or letters at 0 ∷ drop (at + 1) letters = rw (add-one at) (drop-cons letters at 0 inside) in
+    so behind
+    ∙ ap (λ (left : List ℕ). now ++ cluster_uses number left behind) front
+    ∙ ap (λ (uses : List Use). now ++ uses) (value_at number (get_or letters at 0) (drop (at + 1) letters) letter behind is some)
+    ∙ ap (λ (bytes : List ℕ). now ++ value_uses number letter bytes behind) (sym left)
+    ∙ value behind
+
+pub returns-then-has_value : goal.returns-then-has_value
+returns-then-has_value c =
+    then_value c.take_value.result c.args.number c.args.letters.now c.loop-at.at c.in-Some.letter c.args.uses.now.items c.loop-at.uses.items c.take_value.new.uses.items _
+    (omega arith) (search rules) (search rules) c.loop-at.invariant c.take_value.ensures (take_all _ _ (omega (arith, length-drop (c.loop-at.at + 1) c.args.letters.now)))

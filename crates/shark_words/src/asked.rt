@@ -1,0 +1,135 @@
+// Options that are looked up among the uses of words.
+ghost use Rattle.std.specs.Prelude.{◌≡◌, IfOk, option_and_then, option_to_list};
+ghost use Rattle.std.specs.Option.{option_copied};
+ghost use Rattle.shark_words.specs.Asked.{column_use as column_use_of, column_word as column_word_in, is_column as is_column_letter, keyed, style_of as style_of_values, value_in as value_in_use, value_of as value_given, values_of as values_given};
+ghost use Rattle.shark_words.specs.Keys.{character_of, header_of, occurrence_of, quote_of};
+ghost use Rattle.shark_words.specs.declared.key.Key.TheVariants.{Header, Occurrence as OccurrenceKey, Quote as QuoteKey};
+ghost use Rattle.shark_words.specs.declared.letter.Letter.TheVariants.{Style as StyleLetter};
+
+use crate::key::{Key, read_character, read_header, read_occurrence, read_quote};
+use crate::letter::Letter;
+use crate::uses::Use;
+use out_lines::{Occurrence, Quote, Style};
+use pk_base::{NoMemory, Octets};
+use std::alloc::Global;
+
+// The value of a use, where it is one of this option.
+fn value_in(used: &Use, letter: Letter) -> Option<&Octets>
+    ensures { option_to_list (option_copied result) ≡ value_in_use letter used.now }
+{
+    match used {
+        Use::Given(given) if given.letter == letter => match &given.value {
+            Some(value) => Some(&value.text),
+            None => None,
+        },
+        Use::Given(_) | Use::Stray(_) | Use::Unknown(_) => None,
+    }
+}
+
+/// The first value of an option.
+pub(crate) fn value_of(uses: &[Use], letter: Letter) -> Option<&Octets>
+    ensures { option_copied result ≡ value_given letter uses.now }
+{
+    for used in uses {
+        if let Some(value) = value_in(used, letter) {
+            return Some(value);
+        }
+    }
+    None
+}
+
+/// The values of an option, in the order of the words.
+pub(crate) fn values_of(
+    alloc: Global,
+    uses: &[Use],
+    letter: Letter,
+) -> Result<Vec<Octets>, NoMemory>
+    ensures { IfOk result (λ values. values.items ≡ values_given letter uses.now) }
+{
+    let mut values = Vec::new(alloc);
+    for used in uses {
+        if let Some(value) = value_in(used, letter) {
+            values.push(value.clone()?)?;
+        }
+    }
+    Ok(values)
+}
+
+// What `-E` sets a key to.
+fn setting_of(uses: &[Use], key: Key) -> Option<&[u8]>
+    ensures { option_copied result ≡ keyed key (values_given StyleLetter uses.now) }
+{
+    for used in uses {
+        if let Some(value) = value_in(used, Letter::Style) {
+            if let Some(text) = key.strip_from(value.bytes()) {
+                return Some(text);
+            }
+        }
+    }
+    None
+}
+
+fn header_set(uses: &[Use]) -> Option<bool>
+    ensures { result ≡ option_and_then header_of (keyed Header (values_given StyleLetter uses.now)) }
+{
+    read_header(setting_of(uses, Key::Header)?)
+}
+
+fn character_set(uses: &[Use], key: Key) -> Option<u8>
+    ensures { result ≡ option_and_then character_of (keyed key (values_given StyleLetter uses.now)) }
+{
+    read_character(setting_of(uses, key)?)
+}
+
+fn occurrence_set(uses: &[Use]) -> Option<Occurrence>
+    ensures { result ≡ option_and_then occurrence_of (keyed OccurrenceKey (values_given StyleLetter uses.now)) }
+{
+    read_occurrence(setting_of(uses, Key::Occurrence)?)
+}
+
+fn quote_set(uses: &[Use]) -> Option<Quote>
+    ensures { result ≡ option_and_then quote_of (keyed QuoteKey (values_given StyleLetter uses.now)) }
+{
+    read_quote(setting_of(uses, Key::Quote)?)
+}
+
+/// How the lines of fields are written.
+pub(crate) fn style_of(uses: &[Use]) -> Style
+    ensures { result ≡ style_of_values (values_given StyleLetter uses.now) }
+{
+    Style {
+        header: header_set(uses).unwrap_or(false),
+        separator: character_set(uses, Key::Separator).unwrap_or(b'\t'),
+        occurrence: occurrence_set(uses).unwrap_or(Occurrence::All),
+        aggregator: character_set(uses, Key::Aggregator).unwrap_or(b','),
+        quote: quote_set(uses).unwrap_or(Quote::None),
+    }
+}
+
+fn is_column(letter: Letter) -> bool
+    ensures { result ≡ is_column_letter letter }
+{
+    matches!(letter, Letter::Name | Letter::Style)
+}
+
+fn column_use(used: &Use) -> Option<u64>
+    ensures { result ≡ column_use_of used.now }
+{
+    match used {
+        Use::Given(given) if is_column(given.letter) => Some(given.word),
+        Use::Given(_) | Use::Stray(_) | Use::Unknown(_) => None,
+    }
+}
+
+/// The word of the first option that is of use for the lines of fields alone.
+pub(crate) fn column_word(uses: &[Use]) -> Option<u64>
+    ensures { result ≡ column_word_in uses.now }
+{
+    for used in uses {
+        let word = column_use(used);
+        if word.is_some() {
+            return word;
+        }
+    }
+    None
+}
