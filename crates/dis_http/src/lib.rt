@@ -4,5 +4,7 @@
 
 mod heads;
 mod http;
+#[cfg(test)]
+mod tests;
 
 pub use http::read_http;
