@@ -22,9 +22,9 @@ mod pcap_rows;
 mod pcapng_rows;
 #[cfg(test)]
 mod runs;
-mod sure;
 #[cfg(test)]
 mod stream_rows;
+mod sure;
 #[cfg(test)]
 mod udp_rows;
 #[cfg(test)]
