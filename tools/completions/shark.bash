@@ -366,9 +366,10 @@ _shark() {
     -r) mapfile -t COMPREPLY < <(compgen -f -- "$word") ;;
     -Y) mapfile -t COMPREPLY < <(compgen -W "$_shark_fields" -- "$word") && compopt -o nospace ;;
     -c) COMPREPLY=() ;;
-    -T) mapfile -t COMPREPLY < <(compgen -W "fields" -- "$word") ;;
+    -T) COMPREPLY=() ;;
     -e) mapfile -t COMPREPLY < <(compgen -W "$_shark_fields" -- "$word") ;;
-    *) mapfile -t COMPREPLY < <(compgen -W "-r -Y -c -T -e --help --version" -- "$word") ;;
+    -E) COMPREPLY=() ;;
+    *) mapfile -t COMPREPLY < <(compgen -W "-r -Y -c -T -e -E -q --help --version" -- "$word") ;;
   esac
 }
 complete -F _shark shark
