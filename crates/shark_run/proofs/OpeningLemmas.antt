@@ -1,5 +1,5 @@
 -- What is written behind the line of the fields' names.
-use Rattle.std.proofs.Common.{◌≡◌, ℕ, List, [], ◌++◌, Option, None, Some, inl, inr, refl, sym, ap, ◌∙◌, subst, append-nil}
+use Rattle.std.proofs.Common.{◌≡◌, ◌<◌, ℕ, List, [], length, ◌++◌, Option, None, Some, inl, inr, refl, sym, ap, ◌∙◌, subst, append-nil}
 use Rattle.std.specs.Prelude.{IfOk, IfSome, Result, Ok, Err}
 use Rattle.std.specs.Io.KnownBytes.{Appends}
 use Rattle.std.proofs.KnownBytes.{Appends-trans}
@@ -74,6 +74,6 @@ near_behind plan (Some file) left old now new opened broken = inr (record {
 })
 
 -- the opening itself was not wholly written
-pub near_opened : (plan : Plan) (told old new : Option (List ℕ)) → AppendsPart old new (opening plan) → IfSome told (λ file. IsBroken plan file told old new)
-near_opened plan None old new part = tt
-near_opened plan (Some file) old new part = inl (refl, part)
+pub near_opened : (plan : Plan) (told old new : Option (List ℕ)) → 0 < length (opening plan) → AppendsPart old new (opening plan) → IfSome told (λ file. IsBroken plan file told old new)
+near_opened plan None old new some part = tt
+near_opened plan (Some file) old new some part = inl (some, refl, part)

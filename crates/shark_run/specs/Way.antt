@@ -43,10 +43,11 @@ pub record IsBrokenBehind (start : List ℕ) (plan : Plan) (file : List ℕ) (le
   pub line : piece ++ rest ≡ shown plan (tree_at past frame)
   pub wrote : Appends old new (start ++ (lines_of plan past ++ piece))
 
--- a write failed: of the line of the fields' names, before anything was taken of the file, or of a frame's line
+-- a write failed: of the line of the fields' names, where there is one, before anything was taken of the file, or of a frame's
+-- line
 abbrev pub IsBroken : Plan → List ℕ → Option (List ℕ) → Option (List ℕ) → Option (List ℕ) → Type 0
 IsBroken plan file left old new =
-    ((left ≡ Some file) × AppendsPart old new (opening plan)) ⊎ IsBrokenBehind (opening plan) plan file left old new
+    ((0 < length (opening plan)) × (left ≡ Some file) × AppendsPart old new (opening plan)) ⊎ IsBrokenBehind (opening plan) plan file left old new
 
 -- the bytes taken of a file end near the frame behind so many: a front that ends 65,536 bytes before them holds no frame more
 abbrev pub IsNearAfter : List ℕ → ℕ → Option (List ℕ) → Type 0

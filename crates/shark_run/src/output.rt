@@ -1,5 +1,5 @@
 // Reading a file and writing the output over its frames.
-ghost use Rattle.std.specs.Prelude.{◌≡◌, ◌≢◌, ◌≤◌, ◌+◌, ◌-◌, ◌^◌, ℕ, suc, true, false, IfOk, IfSome, IsErrOf, OnOk, [], ◌∷◌, List, Some, length};
+ghost use Rattle.std.specs.Prelude.{◌≡◌, ◌≢◌, ◌<◌, ◌≤◌, ◌+◌, ◌-◌, ◌^◌, ℕ, suc, true, false, IfOk, IfSome, IsErrOf, OnOk, [], ◌∷◌, List, Some, length};
 ghost use Rattle.std.specs.Option.{option_map};
 ghost use Rattle.std.specs.Io.KnownBytes.{Appends};
 ghost use Rattle.pk_base.specs.Limits.{file_limit as limit_of_file};
@@ -333,6 +333,7 @@ fn write_opening<O: Sink>(alloc: Global, plan: &Plan, out: &mut O) -> Result<(),
         (Appends (O.written out.old) (O.written out.new) (opening plan.now)) }
     ensures part { AppendsPart (O.written out.old) (O.written out.new) (opening plan.now) }
     ensures read { IsErrOf result RunFault.ReadFault → ⊥ }
+    ensures some { IsErrOf result RunFault.WriteFault → 0 < length (opening plan.now) }
     ensures fault { IsErrOf result RunFault.WriteFault
         → Rose (O.faults out.old) (O.faults out.new) }
     ensures faults_stay { O.faults out.old ≤ O.faults out.new }
@@ -341,6 +342,9 @@ fn write_opening<O: Sink>(alloc: Global, plan: &Plan, out: &mut O) -> Result<(),
         Ok(line) => line,
         Err(NoMemory) => return Err(RunFault::NoMemory),
     };
+    if line.is_empty() {
+        return Ok(());
+    }
     match write_whole(out, line.as_slice()) {
         Ok(()) => Ok(()),
         Err(SinkFault::Failed) => Err(RunFault::WriteFault),
