@@ -11,7 +11,7 @@ use Rattle.pk_fields.specs.Fields.{row_of}
 use Rattle.pk_fields.specs.declared.value_kind.ValueKind.TheVariants.{Proto}
 use Rattle.pk_fields.proofs.Passes.{passes_at}
 use Rattle.pk_text.specs.Digits.{hex_pair}
-use Rattle.out_lines.specs.ValueText.{hex_shown}
+use Rattle.pk_text.specs.Digits.{hex_shown}
 
 abbrev pub IsBare : List ℕ → Type 0
 IsBare text = escape text ≡ text

@@ -8,7 +8,8 @@ use Rattle.pk_tree.specs.declared.item.Item.{Item}
 use Rattle.pk_tree.specs.declared.layer.Layer.{Layer}
 use Rattle.pk_tree.specs.declared.value.Value.{Value}
 use Rattle.pk_tree.specs.Trees.{TreeShown}
-use Rattle.out_lines.specs.ValueText.{hex_shown, shown_value}
+use Rattle.pk_text.specs.Digits.{hex_shown}
+use Rattle.out_lines.specs.ValueText.{shown_value}
 use Rattle.serde_json.specs.View.{items_of}
 use Rattle.serde_json.specs.Written.{compact_text, items_text}
 use Rattle.out_json.specs.Lines.{buffer_json, is_bare, item_json, json_line_of, layer_json, made_json, placed_json, string_text, tree_json, value_json}

@@ -10,7 +10,8 @@ use Rattle.pk_tree.specs.declared.item.Place.TheVariants as places
 use Rattle.pk_tree.specs.declared.item.Item.{Item}
 use Rattle.pk_tree.specs.declared.layer.Layer.{Layer}
 use Rattle.pk_tree.specs.Trees.{TreeShown}
-use Rattle.out_lines.specs.ValueText.{hex_shown, shown_value}
+use Rattle.pk_text.specs.Digits.{hex_shown}
+use Rattle.out_lines.specs.ValueText.{shown_value}
 use Rattle.serde_json.specs.Data.{Data, boolean, number, string, array, object, unsigned, no_members, member}
 use Rattle.serde_json.specs.View.{items_of}
 use Rattle.serde_json.specs.Written.{compact_text}

@@ -4,7 +4,7 @@ ghost use Rattle.std.specs.List.{All};
 ghost use Rattle.json.specs.Print.{escape, escape_byte};
 ghost use Rattle.pk_fields.specs.Fields.{row_of};
 ghost use Rattle.out_json.specs.Lines.{string_text};
-ghost use Rattle.out_lines.specs.ValueText.{hex_shown};
+ghost use Rattle.pk_text.specs.Digits.{hex_shown};
 
 use out_lines::{put_hex, put_text};
 use pk_base::NoMemory;

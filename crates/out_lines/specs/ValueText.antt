@@ -1,8 +1,7 @@
 -- The text of a value.
 use Rattle.std.specs.Prelude.{ℕ, List, codes, decimal, if◌then◌else◌}
-use Rattle.std.specs.List.{flat_map}
 use Rattle.pk_fields.specs.Fields.{row_of}
-use Rattle.pk_text.specs.Digits.{hex_pair}
+use Rattle.pk_text.specs.Digits.{hex_shown}
 use Rattle.pk_text.specs.Escape.{escaped}
 use Rattle.pk_text.specs.Ether.{ether_shown}
 use Rattle.pk_text.specs.Ip4.{ip4_shown}
@@ -10,10 +9,6 @@ use Rattle.pk_text.specs.Ip6.{ip6_shown}
 use Rattle.pk_text.specs.Time.{time_shown}
 use Rattle.pk_tree.specs.declared.value.Value.{Value}
 use Rattle.pk_tree.specs.declared.value.Value.TheVariants as values
-
--- bytes in lower-case hexadecimal, two digits for each
-unfoldable pub hex_shown : List ℕ → List ℕ
-hex_shown bytes = flat_map hex_pair bytes
 
 -- the text of a field's value; that of a protocol's is the protocol's name
 unfoldable pub shown_value : ℕ → Value → List ℕ

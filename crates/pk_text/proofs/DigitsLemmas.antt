@@ -1,18 +1,18 @@
 -- What `digits_read` answers, in the words of std's `parse`.
-use Rattle.std.proofs.Common.{◌≡◌, ℕ, ◌+◌, ◌-◌, ◌^◌, ◌<◌, ◌≤◌, true, false, ◌&&◌, List, [], ◌∷◌, ltb, leb, length, get_or, take, Option, Some, None, option_and_then, refl, sym, ap, ◌∙◌, arith, inl, inr}
+use Rattle.std.proofs.Common.{◌≡◌, ℕ, ◌+◌, ◌^◌, ◌<◌, ◌≤◌, true, ◌&&◌, List, [], ◌∷◌, ltb, leb, length, get_or, take, Option, Some, None, option_and_then, refl, sym, ap, ◌∙◌, arith, inl, inr}
 use Rattle.std.specs.Char.{is_digit, digit_value}
 use Rattle.std.specs.Str.Parse.{AllDigits, IsNumeral, digits_value}
 use Rattle.std.proofs.lemmas.Bool.{cases_lt, and_parts, ltb-true, leb-true, le-leb, lt-ltb, cond_both, cond-true}
 use Rattle.std.proofs.lemmas.Bool.Decides.{nat_tests}
-use Rattle.std.specs.Fmt.{decimal, digits, padded_integral, format_spec}
-use Rattle.std.proofs.lemmas.Fmt.{hex_byte, decimal_digit, first_decimal}
+use Rattle.std.specs.Fmt.{decimal}
+use Rattle.std.proofs.lemmas.Fmt.{decimal_digit, first_decimal}
 use Rattle.std.proofs.lemmas.Option.{cond_some, none-some, same_Some}
 use Rattle.std.proofs.lemmas.Int.Digits.{digits_value-lt}
 use Rattle.std.proofs.Math.Nat.{pow-le-pow_right}
 use Rattle.std.proofs.lemmas.List.Folds.{list_all_more}
 use Rattle.pk_text.specs.declared.number.Wide.{Wide}
 use Rattle.pk_text.specs.declared.number.Wide.TheVariants.{Fits, Beyond}
-use Rattle.pk_text.specs.Digits.{fitting, wide, are_digits, digits_read, short_read, hex_pair}
+use Rattle.pk_text.specs.Digits.{fitting, wide, are_digits, digits_read, short_read}
 
 are_digits-from_AllDigits : (radix : ℕ) (ds : List ℕ) → AllDigits radix ds → are_digits radix ds ≡ true
 are_digits-from_AllDigits radix [] h = refl
@@ -82,10 +82,6 @@ IsNumeral-short_read radix most ds n h =
 pub are_digits_more : (radix : ℕ) (ds : List ℕ) (i : ℕ) → i < length ds → are_digits radix (take i ds) ≡ true → digit_value (get_or ds i 0) < radix → are_digits radix (take (i + 1) ds) ≡ true
 are_digits_more radix ds i h front digit =
     let e = list_all_more (λ c. is_digit c radix) ds i 0 h in grind (arith, nat_tests)
-
--- what `{:02x}` writes of a byte
-pub hex_written : (byte : ℕ) → byte < 256 → padded_integral (format_spec 32 0 4 2 (2 ^ 64 - 1)) false [] (digits 16 false byte) ≡ hex_pair byte
-hex_written byte small = hex_byte false byte small
 
 -- a number that is written with a leading zero is the zero
 pub decimal_leading : (n : ℕ) → n < 2 ^ 64 → get_or (decimal n) 0 0 ≡ 48 → length (decimal n) ≡ 1

@@ -1,23 +1,16 @@
 -- `ether_of` reads the texts of an Ethernet address's forms, and no other.
-use Rattle.std.proofs.Common.{◌≡◌, ℕ, ◌<◌, ◌≤◌, true, ◌||◌, eqb, List, [], ◌∷◌, ◌++◌, codes, length, map, get_or, drop, take, Option, Some, None, IfSome, refl, sym, ap, ◌∙◌, arith, ◌⊎◌, inl, inr, ⊎_elim}
+use Rattle.std.proofs.Common.{◌≡◌, ℕ, ◌<◌, true, ◌||◌, eqb, List, [], ◌∷◌, ◌++◌, codes, length, map, get_or, Option, Some, None, IfSome, refl, sym, ap, ◌∙◌, arith, ◌⊎◌, inl, inr, ⊎_elim}
 use Rattle.std.specs.Option.{option_and_then}
-use Rattle.std.specs.List.{AllByRecursion, flat_map, join_by}
+use Rattle.std.specs.List.{AllByRecursion, join_by}
 use Rattle.std.specs.Str.Parse.{digits_value}
 use Rattle.std.proofs.lemmas.Bool.{cond-true, or_cases, eqb-true}
 use Rattle.std.proofs.lemmas.Option.{none-some, cond_some, option_and_then_some}
-use Rattle.std.proofs.lemmas.List.{take_all, length-map}
+use Rattle.std.proofs.lemmas.List.{length-map}
 use Rattle.std.proofs.lemmas.List.Folds.{flat_map-map}
 use Rattle.pk_text.specs.Digits.{hex_pair}
 use Rattle.pk_text.specs.Pairs.{PairsForm, IsPair, pairs_text, pairs_value, pairs_exactly}
 use Rattle.pk_text.specs.Ether.{IsEtherForm, ether_separator, ether_shown, ether_of}
 use Rattle.pk_text.proofs.PairsLemmas.{led, pairs_found, pairs_reading, all_hex_pairs}
-
--- the text, when the loop has written all behind the first byte
-pub shown_from_front : (v : List ℕ) (i : ℕ) → 0 < length v → length (drop 1 v) ≤ i → hex_pair (get_or v 0 0) ++ flat_map (λ byte. codes ":" ++ hex_pair byte) (take i (drop 1 v)) ≡ ether_shown v
-unfolding ether_shown
-shown_from_front [] i some all = absurd (omega arith)
-shown_from_front (byte ∷ bytes) i some all =
-    ap (λ rest. hex_pair byte ++ flat_map (λ byte'. codes ":" ++ hex_pair byte') rest) (take_all i bytes all)
 
 ether_separator-led : (c : ℕ) (first second : List ℕ) (pairs : List (List ℕ)) → (eqb c 58 || eqb c 45) ≡ true → IsPair first → ether_separator (first ++ led (Some c) (second ∷ pairs)) ≡ Some c
 ether_separator-led c [] second pairs h pair = absurd (omega (arith, pair.0))

@@ -3,7 +3,7 @@ use Rattle.std.proofs.Common.{◌≡◌, ◌≢◌, ℕ, zero, suc, ◌+◌, ◌
 use Rattle.std.specs.Prelude.{option_and_then}
 use Rattle.std.specs.Option.{option_map}
 use Rattle.std.specs.Char.{encode_utf8, digit_value}
-use Rattle.std.specs.Fmt.{decimal, digits, sign_text, padded_integral, format_spec, char_count}
+use Rattle.std.specs.Fmt.{decimal, digits, sign_text}
 use Rattle.std.specs.Int.{is_negative}
 use Rattle.std.specs.Int.RustNames.{unsigned_abs}
 use Rattle.std.specs.Str.Parse.{starts_with_minus, AllDigits, IsNumeral, digits_value}
@@ -129,14 +129,6 @@ time_reading t v h = from (starts_with_minus t) refl h
 pub time_only : (t : List ℕ) (r : Option ℤ) → r ≡ time_of t → IfSome r (IsReading t)
 time_only t None e = tt
 time_only t (Some v) e = time_reading t v (sym e)
-
--- what `{:09}` writes
-pub nine_written : (n : ℕ) → padded_integral (format_spec 32 0 4 9 (2 ^ 64 - 1)) false [] (decimal n) ≡ decimal_in 9 n
-unfolding padded_integral char_count
-nine_written n =
-    let len = length (decimal n) in
-    let rest : 9 - len - 0 - 0 ≡ 9 - len = omega arith in
-    ap (λ (xs : List ℕ). replicate (9 - len - 0 - 0) 48 ++ xs) (append-nil (decimal n)) ∙ ap (λ k. replicate k 48 ++ decimal n) rest
 
 AllDigits-zeros : (k : ℕ) (ds : List ℕ) → AllDigits 10 ds → AllDigits 10 (replicate k 48 ++ ds)
 AllDigits-zeros zero ds h = h

@@ -1,6 +1,6 @@
 -- Digits in a radix, the highest first, and the number that they write.
 use Rattle.std.specs.Prelude.{ℕ, ◌/◌, ◌%◌, ◌^◌, Bool, false, ◌&&◌, nat_lt, nat_le, if◌then◌else◌, List, [], ◌∷◌, length, Option, Some, None, option_and_then}
-use Rattle.std.specs.List.{list_all}
+use Rattle.std.specs.List.{flat_map, list_all}
 use Rattle.std.specs.Char.{is_digit}
 use Rattle.std.specs.Fmt.{digit_glyph}
 use Rattle.std.specs.Str.Parse.{digits_value}
@@ -31,3 +31,7 @@ short_read radix most ds = if nat_le (length ds) most then option_and_then fitti
 -- a byte as two lower-case hexadecimal digits
 abbrev pub hex_pair : ℕ → List ℕ
 hex_pair byte = digit_glyph false (byte / 16) ∷ digit_glyph false (byte % 16) ∷ []
+
+-- bytes in lower-case hexadecimal, two digits for each
+unfoldable pub hex_shown : List ℕ → List ℕ
+hex_shown bytes = flat_map hex_pair bytes

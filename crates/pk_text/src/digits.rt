@@ -1,9 +1,7 @@
-ghost use Rattle.std.specs.Prelude.{◌≡◌, ℕ, ◌+◌, ◌*◌, ◌≤◌, ◌++◌, ◌<◌, ◌^◌, length, OnOk, IfSome};
-ghost use Rattle.std.specs.String.{string_bytes};
-ghost use Rattle.pk_text.specs.Digits.{digits_read, hex_pair, short_read, wide};
+ghost use Rattle.std.specs.Prelude.{◌≡◌, ℕ, ◌+◌, ◌*◌, ◌≤◌, ◌<◌, ◌^◌, length, IfSome};
+ghost use Rattle.pk_text.specs.Digits.{digits_read, short_read, wide};
 
 use crate::number::Wide;
-use std::alloc::AllocError;
 
 /// The number that digits in a radix write, the highest first; None where there is no digit, or a byte that is none.
 #[tactic(auto, unfolding(crate::specs::Digits::digits_read))]
@@ -58,13 +56,4 @@ fn with_digit(number: Wide, radix: u32, digit: u32) -> Wide
         Some(n) => Wide::Fits(n),
         None => Wide::Beyond,
     }
-}
-
-/// Adds a byte as two lower-case hexadecimal digits.
-#[tactic(auto, using(crate::proofs::DigitsLemmas::hex_written))]
-pub fn push_hex(text: &mut String, byte: u8) -> Result<(), AllocError>
-    ensures { OnOk result (string_bytes text.new ≡ string_bytes text.old ++ hex_pair byte) }
-{
-    write!(text, "{byte:02x}")?;
-    Ok(())
 }

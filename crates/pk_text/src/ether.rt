@@ -1,10 +1,12 @@
-ghost use Rattle.std.specs.Prelude.{◌≡◌, ℕ, ◌<◌, length, slice_index, IfOk, IfSome};
+ghost use Rattle.std.specs.Prelude.{◌≡◌, ℕ, ◌<◌, ◌++◌, codes, length, slice_index, IfOk, IfSome, OnOk};
 ghost use Rattle.std.specs.String.{string_bytes};
+ghost use Rattle.std.specs.List.{flat_map};
+ghost use Rattle.pk_text.specs.Digits.{hex_pair};
 ghost use Rattle.pk_text.specs.Ether.{IsEtherForm, ether_of, ether_separator, ether_shown};
 ghost use Rattle.pk_text.specs.Pairs.{PairsForm, pairs_text, pairs_value};
 
-use crate::digits::push_hex;
 use crate::pairs::read_pairs;
+use crate::puts::{TextSink, put_pair};
 use pk_base::NoMemory;
 use std::alloc::Global;
 
@@ -17,19 +19,39 @@ pub fn ether_text(alloc: Global, v: [u8; 6]) -> Result<String, NoMemory>
     joined(alloc, &v)
 }
 
-#[tactic(auto, using(crate::proofs::EtherLemmas::shown_from_front))]
 fn joined(alloc: Global, bytes: &[u8]) -> Result<String, NoMemory>
     requires { length bytes.now ≡ 6 }
     ensures text { IfOk result (λ text. string_bytes text ≡ ether_shown bytes.now) }
     ensures bytes { (i : ℕ) → slice_index bytes.now i < 256 }
 {
     let mut text = String::with_capacity(alloc, 3 * bytes.len() - 1)?;
-    push_hex(&mut text, bytes[0])?;
-    for byte in &bytes[1..] {
-        text.push(':')?;
-        push_hex(&mut text, *byte)?;
-    }
+    put_ether(&mut text, bytes)?;
     Ok(text)
+}
+
+/// Appends bytes as pairs of lower-case hexadecimal digits, joined by `:`, which is the text of an address.
+#[tactic(auto, unfolding(crate::specs::Ether::ether_shown))]
+pub fn put_ether<S: TextSink>(sink: &mut S, bytes: &[u8]) -> Result<(), NoMemory>
+    ensures { OnOk result (S.taken sink.new ≡ S.taken sink.old ++ ether_shown bytes.now) }
+{
+    match bytes {
+        [] => Ok(()),
+        [first, others @ ..] => {
+            put_pair(sink, *first)?;
+            put_further_pairs(sink, others)
+        }
+    }
+}
+
+/// Pairs behind the first, each behind a colon.
+fn put_further_pairs<S: TextSink>(sink: &mut S, bytes: &[u8]) -> Result<(), NoMemory>
+    ensures { OnOk result (S.taken sink.new ≡ S.taken sink.old ++ flat_map (λ byte. codes ":" ++ hex_pair byte) bytes.now) }
+{
+    for byte in bytes {
+        sink.put_ascii(b':')?;
+        put_pair(sink, *byte)?;
+    }
+    Ok(())
 }
 
 /// Reads an Ethernet address: six pairs of hexadecimal digits, joined by `:` throughout or by `-` throughout.

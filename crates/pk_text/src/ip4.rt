@@ -1,8 +1,9 @@
-ghost use Rattle.std.specs.Prelude.{◌≡◌, ℕ, ◌^◌, ◌<◌, IfOk, IfSome};
+ghost use Rattle.std.specs.Prelude.{◌≡◌, ℕ, ◌^◌, ◌<◌, ◌++◌, codes, decimal, IfOk, IfSome, OnOk};
 ghost use Rattle.std.specs.String.{string_bytes};
 ghost use Rattle.pk_text.specs.Ip4.{ip4_of, ip4_shown, part_read};
 
 use crate::digits::read_short;
+use crate::puts::{TextSink, put_number};
 use pk_base::NoMemory;
 use std::alloc::Global;
 
@@ -13,15 +14,33 @@ const TEXT_LEN: usize = 15;
 const PART_DIGITS: usize = 3;
 
 /// An IPv4 address as four decimal numbers, joined by `.`.
-#[tactic(auto, unfolding(crate::specs::Ip4::ip4_shown))]
+#[tactic(auto, using(crate::proofs::Ip4Lemmas::ip4_from_shown))]
 pub fn ip4_text(alloc: Global, v: u32) -> Result<String, NoMemory>
     ensures text { IfOk result (λ text. string_bytes text ≡ ip4_shown v) }
     ensures reads_back { IfOk result (λ text. ip4_of (string_bytes text) ≡ Some v) }
 {
-    let [a, b, c, d] = v.to_be_bytes();
     let mut text = String::with_capacity(alloc, TEXT_LEN)?;
-    write!(text, "{a}.{b}.{c}.{d}")?;
+    put_ip4(&mut text, v)?;
     Ok(text)
+}
+
+/// Appends an IPv4 address as four decimal numbers, joined by `.`.
+#[tactic(auto, unfolding(crate::specs::Ip4::ip4_shown))]
+pub fn put_ip4<S: TextSink>(sink: &mut S, address: u32) -> Result<(), NoMemory>
+    ensures { OnOk result (S.taken sink.new ≡ S.taken sink.old ++ ip4_shown address) }
+{
+    let [a, b, c, d] = address.to_be_bytes();
+    put_number(sink, u64::from(a))?;
+    put_part(sink, b)?;
+    put_part(sink, c)?;
+    put_part(sink, d)
+}
+
+fn put_part<S: TextSink>(sink: &mut S, part: u8) -> Result<(), NoMemory>
+    ensures { OnOk result (S.taken sink.new ≡ S.taken sink.old ++ (codes "." ++ decimal part)) }
+{
+    sink.put_ascii(b'.')?;
+    put_number(sink, u64::from(part))
 }
 
 /// Reads an IPv4 address: four decimal numbers from 0 to 255 without leading zeros, joined by `.`.

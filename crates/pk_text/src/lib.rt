@@ -10,14 +10,17 @@ mod ip6;
 mod number;
 mod octets;
 mod pairs;
+mod puts;
 #[cfg(test)]
 mod tests;
 mod time;
 
-pub use escape::escape_text;
-pub use ether::{ether_text, read_ether};
-pub use ip4::{ip4_text, read_ip4};
+pub use digits::read_digits;
+pub use escape::{escape_text, put_escaped};
+pub use ether::{ether_text, put_ether, read_ether};
+pub use ip4::{ip4_text, put_ip4, read_ip4};
 pub use ip6::{ip6_text, read_ip6};
 pub use number::{Wide, number_text, read_number};
 pub use octets::read_bytes;
-pub use time::{read_time, time_text};
+pub use puts::{TextSink, put_hex, put_number};
+pub use time::{put_time, read_time, time_text};

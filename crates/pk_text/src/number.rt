@@ -5,6 +5,7 @@ ghost use Rattle.pk_text.specs.Number.{NumberForm, IsNumberForm, number_form_tex
 ghost use Rattle.pk_text.specs.Digits.{wide};
 
 use crate::digits::read_digits;
+use crate::puts::put_number;
 use pk_base::NoMemory;
 use std::alloc::Global;
 
@@ -27,7 +28,7 @@ pub fn number_text(alloc: Global, n: u64) -> Result<String, NoMemory>
     ensures reads_back { IfOk result (λ text. number_of (string_bytes text) ≡ Some (Wide.Fits n)) }
 {
     let mut text = String::with_capacity(alloc, TEXT_LEN)?;
-    write!(text, "{n}")?;
+    put_number(&mut text, n)?;
     Ok(text)
 }
 

@@ -1,9 +1,11 @@
-ghost use Rattle.std.specs.Prelude.{◌≡◌, ◌+◌, ◌^◌, ◌<◌, ◌≤◌, IfOk, IfSome};
+ghost use Rattle.std.specs.Prelude.{◌≡◌, ◌+◌, ◌-◌, ◌^◌, ◌<◌, ◌≤◌, ◌++◌, decimal, replicate, IfOk, IfSome, OnOk};
 ghost use Rattle.std.specs.String.{string_bytes};
 ghost use Rattle.std.specs.Fmt.{sign_text};
-ghost use Rattle.pk_text.specs.Time.{TimeForm, IsTimeForm, time_form_text, time_form_value, time_of, time_shown, whole_seconds, size_read, seconds_read, fraction_read};
+ghost use Rattle.pk_text.specs.Time.{TimeForm, IsTimeForm, decimal_in, time_form_text, time_form_value, time_of, time_shown, whole_seconds, size_read, seconds_read, fraction_read};
 
 use crate::digits::read_short;
+use crate::puts::TextSink;
+use itoa::Buffer;
 use pk_base::NoMemory;
 use std::alloc::Global;
 
@@ -19,25 +21,58 @@ const FRACTION_DIGITS: usize = 9;
 const WHOLE_DIGITS: usize = 18;
 
 /// A time in nanoseconds as seconds: `-` if it is negative, the whole seconds, a point and nine digits.
-#[tactic(auto, using(crate::proofs::TimeLemmas::nine_written, crate::proofs::TimeLemmas::time_from_shown), unfolding(crate::specs::Time::time_shown))]
+#[tactic(auto, using(crate::proofs::TimeLemmas::time_from_shown))]
 pub fn time_text(alloc: Global, ns: i128) -> Result<String, NoMemory>
     ensures text { IfOk result (λ text. string_bytes text ≡ time_shown ns) }
     // Whole seconds of at most 18 digits are read back.
     ensures reads_back { whole_seconds ns < 10 ^ 18 → IfOk result (λ text. time_of (string_bytes text) ≡ Some ns) }
 {
-    let sign = sign(ns < 0);
-    let size = ns.unsigned_abs();
-    let whole = size / SECOND;
-    let over = size % SECOND;
     let mut text = String::with_capacity(alloc, TEXT_LEN)?;
-    write!(text, "{sign}{whole}.{over:09}")?;
+    put_time(&mut text, ns)?;
     Ok(text)
 }
 
-fn sign(negative: bool) -> &'static str
-    ensures { result.now ≡ sign_text negative }
+/// Appends that text of a time.
+#[tactic(auto, unfolding(crate::specs::Time::time_shown))]
+pub fn put_time<S: TextSink>(sink: &mut S, time: i128) -> Result<(), NoMemory>
+    ensures { OnOk result (S.taken sink.new ≡ S.taken sink.old ++ time_shown time) }
 {
-    if negative { "-" } else { "" }
+    let size = time.unsigned_abs();
+    put_sign(sink, time < 0)?;
+    put_seconds(sink, size / SECOND)?;
+    sink.put_ascii(b'.')?;
+    put_fraction(sink, (size % SECOND) as u32)
+}
+
+fn put_sign<S: TextSink>(sink: &mut S, negative: bool) -> Result<(), NoMemory>
+    ensures { OnOk result (S.taken sink.new ≡ S.taken sink.old ++ sign_text negative) }
+{
+    sink.put_text(if negative { "-" } else { "" })
+}
+
+fn put_seconds<S: TextSink>(sink: &mut S, seconds: u128) -> Result<(), NoMemory>
+    ensures { OnOk result (S.taken sink.new ≡ S.taken sink.old ++ decimal seconds) }
+{
+    let mut buffer = Buffer::new();
+    sink.put_text(buffer.format(seconds))
+}
+
+fn put_fraction<S: TextSink>(sink: &mut S, nanoseconds: u32) -> Result<(), NoMemory>
+    ensures { OnOk result (S.taken sink.new ≡ S.taken sink.old ++ decimal_in 9 nanoseconds) }
+{
+    let mut buffer = Buffer::new();
+    let digits = buffer.format(nanoseconds);
+    put_zeros(sink, FRACTION_DIGITS.saturating_sub(digits.len()))?;
+    sink.put_text(digits)
+}
+
+fn put_zeros<S: TextSink>(sink: &mut S, count: usize) -> Result<(), NoMemory>
+    ensures { OnOk result (S.taken sink.new ≡ S.taken sink.old ++ replicate count 48) }
+{
+    for _ in 0..count {
+        sink.put_ascii(b'0')?;
+    }
+    Ok(())
 }
 
 /// Reads a time in seconds as nanoseconds: `-` or nothing, 1 to 18 digits, then nothing or a point and 1 to 9 digits.

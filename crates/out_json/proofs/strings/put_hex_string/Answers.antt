@@ -1,6 +1,6 @@
 use Rattle.std.proofs.Common.{◌≡◌, [], ◌∷◌, ◌++◌, arith, sym, ap, ◌∙◌}
 use Rattle.std.proofs.lemmas.Grind.{common_steps}
-use Rattle.out_lines.specs.ValueText.{hex_shown}
+use Rattle.pk_text.specs.Digits.{hex_shown}
 use Rattle.out_json.proofs.Texts.{hex_string}
 use Rattle.out_json.proofs.strings.put_hex_string.Goals as goal
 

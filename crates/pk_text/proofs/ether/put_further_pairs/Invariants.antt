@@ -1,0 +1,9 @@
+use Rattle.std.proofs.Common.{◌≡◌, ℕ, ◌++◌, codes, drop}
+use Rattle.std.specs.List.{flat_map}
+use Rattle.pk_text.specs.Digits.{hex_pair}
+use Rattle.pk_text.proofs.ether.put_further_pairs.Given as goal
+
+abbrev pub invariant-loop-byte : goal.invariant-loop-byte
+invariant-loop-byte g l =
+    g.S.TextSink.taken l.sink ++ flat_map (λ (byte : ℕ). codes ":" ++ hex_pair byte) (drop l.byte-index l.bytes)
+    ≡ g.S.TextSink.taken l.initial.sink ++ flat_map (λ (byte : ℕ). codes ":" ++ hex_pair byte) l.bytes

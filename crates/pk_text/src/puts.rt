@@ -1,0 +1,89 @@
+// What the texts of values are appended to, and the texts that several values share.
+ghost use Rattle.std.specs.Prelude.{◌≡◌, ℕ, ◌<◌, ◌++◌, List, [], ◌∷◌, decimal, false, OnOk};
+ghost use Rattle.std.specs.Fmt.{digit_glyph};
+ghost use Rattle.pk_text.specs.Digits.{hex_pair, hex_shown};
+
+use itoa::Buffer;
+use pk_base::NoMemory;
+
+const HEX_DIGITS: &[u8; 16] = b"0123456789abcdef";
+
+/// Takes texts, and keeps their bytes in the order in which they came. After an error a front of the text may be taken.
+pub trait TextSink {
+    /// The bytes taken so far.
+    ghost taken: { Self → List ℕ };
+
+    /// Appends a text.
+    fn put_text(&mut self, text: &str) -> Result<(), NoMemory>
+        ensures { OnOk result (taken self.new ≡ taken self.old ++ text.now) };
+
+    /// Appends a character of ASCII.
+    fn put_ascii(&mut self, character: u8) -> Result<(), NoMemory>
+        requires { character < 128 }
+        ensures { OnOk result (taken self.new ≡ taken self.old ++ (character ∷ [])) };
+}
+
+impl TextSink for Vec<u8> {
+    ghost taken = { λ s. s.items };
+
+    fn put_text(&mut self, text: &str) -> Result<(), NoMemory> {
+        self.extend_from_slice(text.as_bytes())?;
+        Ok(())
+    }
+
+    fn put_ascii(&mut self, character: u8) -> Result<(), NoMemory> {
+        self.push(character)?;
+        Ok(())
+    }
+}
+
+impl TextSink for String {
+    ghost use Rattle.std.specs.String.{string_bytes};
+
+    ghost taken = { string_bytes };
+
+    fn put_text(&mut self, text: &str) -> Result<(), NoMemory> {
+        self.push_str(text)?;
+        Ok(())
+    }
+
+    fn put_ascii(&mut self, character: u8) -> Result<(), NoMemory> {
+        self.push(char::from(character))?;
+        Ok(())
+    }
+}
+
+/// Appends a number in decimal.
+pub fn put_number<S: TextSink>(sink: &mut S, number: u64) -> Result<(), NoMemory>
+    ensures { OnOk result (S.taken sink.new ≡ S.taken sink.old ++ decimal number) }
+{
+    let mut buffer = Buffer::new();
+    sink.put_text(buffer.format(number))
+}
+
+/// Appends bytes in hexadecimal, two lower-case digits for each.
+#[tactic(auto, unfolding(crate::specs::Digits::hex_shown))]
+pub fn put_hex<S: TextSink>(sink: &mut S, bytes: &[u8]) -> Result<(), NoMemory>
+    ensures { OnOk result (S.taken sink.new ≡ S.taken sink.old ++ hex_shown bytes.now) }
+{
+    for byte in bytes {
+        put_pair(sink, *byte)?;
+    }
+    Ok(())
+}
+
+/// Appends a byte as two lower-case hexadecimal digits.
+pub(crate) fn put_pair<S: TextSink>(sink: &mut S, byte: u8) -> Result<(), NoMemory>
+    ensures { OnOk result (S.taken sink.new ≡ S.taken sink.old ++ hex_pair byte) }
+{
+    sink.put_ascii(hex_digit(byte / 16))?;
+    sink.put_ascii(hex_digit(byte % 16))
+}
+
+fn hex_digit(digit: u8) -> u8
+    requires { digit < 16 }
+    ensures value { result ≡ digit_glyph false digit }
+    ensures ascii { result < 128 }
+{
+    HEX_DIGITS[digit as usize]
+}
