@@ -7,6 +7,7 @@ pub mod Keys
 pub mod OrderLemmas
 pub mod FewLemmas
 pub mod ReadLemmas
+pub mod PartLemmas
 pub mod FramesAside
 pub mod Keyed
 pub mod Isolating

@@ -11,7 +11,7 @@ use Rattle.tcp_streams.specs.declared.segment.Segment.{Segment}
 use Rattle.pk_base.specs.declared.lost.Lost.{Lost}
 use Rattle.pk_base.specs.declared.stretch.Stretch.{Stretch}
 use Rattle.tcp_streams.specs.Gaps.{first_free, next_from, gaps_on, gaps, start_past, end_past, left_behind, lost_bytes, AreBetween}
-use Rattle.tcp_streams.specs.Ways.{WayState, Sided, nothing, end_of, lost_in, start_for, front_for, origin_for, held_with, held_after, own_step, other_step, way_step, way_after, same_side, IsPlace, IsWay}
+use Rattle.tcp_streams.specs.Ways.{WayState, Sided, nothing, end_of, lost_in, start_for, front_for, origin_for, held_with, held_after, own_step, other_step, way_step, way_after, same_side, IsPlace, IsWay, AreApart}
 use Rattle.tcp_streams.proofs.Places.{length-bytes_at, next_is, jump_free, place_jump, place_past, apart_past, apart_append, free_same, put_stays, put_after, put_free, place_put}
 use Rattle.tcp_streams.specs.Numbers.{first_number, ahead, place, skipped, taken_bytes, window}
 
@@ -95,6 +95,12 @@ step_is w s origin held earlier start end u to front origin_is start_is end_is u
     let bytes : front ≡ bytes_at held start (first_free held end - start) = front_is ∙ ap (λ (p : ℕ). bytes_at held start (p - start)) final in
     cc
 
+-- the stretches before the last stay apart
+pub own_apart : (w : WayState) → IsWay w → AreApart 0 (w.earlier ++ left_behind w.held w.start (lost_in w)) (start_for w)
+own_apart w way =
+    apart_append 0 w.earlier w.start (left_behind w.held w.start (lost_in w)) (start_for w) way.apart
+    (apart_past (w.acked - end_of w) w.held w.acked w.start (end_of w) w.start way.place (omega arith))
+
 -- a step keeps what is known of a direction
 pub own_keeps : (w : WayState) (s : Segment) → IsWay w → IsWay (own_step w s)
 unfolding own_step
@@ -109,8 +115,7 @@ own_keeps w s way =
     record {
       place = subst (IsPlace (held_after w s) (start_for w)) (sym same) after;
       bytes = ap (bytes_at (held_after w s) (start_for w)) (sym size);
-      apart = apart_append 0 w.earlier w.start (left_behind w.held w.start (lost_in w)) (start_for w) way.apart
-          (apart_past (w.acked - end_of w) w.held w.acked w.start (end_of w) w.start way.place (omega arith));
+      apart = own_apart w way;
     }
 
 pub other_keeps : (w : WayState) (s : Segment) → IsWay w → IsWay (other_step w s)

@@ -7,4 +7,5 @@ pub mod Labels
 pub mod Stands
 pub mod Standing
 pub mod Order
+pub mod Parts
 pub mod Isolation

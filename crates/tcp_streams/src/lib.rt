@@ -10,6 +10,7 @@ mod reads;
 mod segment;
 #[cfg(test)]
 mod sequences;
+mod steps;
 mod stream;
 mod streams;
 #[cfg(test)]

@@ -1,10 +1,10 @@
 ghost use Rattle.std.specs.Prelude.{◌-◌, ◌^◌, ◌<◌, ◌≤◌, ◌+◌};
-ghost use Rattle.tcp_streams.specs.Standing.{taken_so_far};
+ghost use Rattle.tcp_streams.specs.Standing.{taken_so_far, stream_count};
 
 // Segments one after the other, and what each is to the streams, in words.
 use crate::segment::{Segment, Taken};
 use crate::streams::Streams;
-use pk_base::{NoMemory, Octets};
+use pk_base::{NoMemory, Octets, Stretch};
 use pk_tree::{Address, Endpoint};
 use std::alloc::Global;
 
@@ -118,6 +118,22 @@ fn taken(alloc: Global, lines: &[&str]) -> Result<Option<Streams>, NoMemory> {
     Ok(Some(streams))
 }
 
+/// Whether a direction hands out a stretch and its second half as parts, and nothing past its end.
+fn is_part(streams: &Streams, stream: u32, side: u8, stretch: &Stretch) -> bool
+    requires stream { stream < stream_count streams.now }
+    requires side { side < 2 }
+{
+    let bytes = stretch.bytes.bytes();
+    let (_, second) = bytes.split_at(bytes.len() / 2);
+    let end = stretch.start.saturating_add(bytes.len() as u64);
+    let middle = end.saturating_sub(second.len() as u64);
+    streams.has_part(stream, side, stretch.start, end)
+        && streams.has_part(stream, side, middle, end)
+        && !streams.has_part(stream, side, middle, end.saturating_add(1))
+        && streams.part(stream, side, stretch.start, end) == bytes
+        && streams.part(stream, side, middle, end) == second
+}
+
 /// Whether a direction has these stretches, the last of which is its front.
 fn ends_so(
     alloc: Global,
@@ -135,6 +151,9 @@ fn ends_so(
     for stretch in stretches.slice() {
         if !text.is_empty() {
             text.push_str(" ")?;
+        }
+        if !is_part(streams, stream, side, stretch) {
+            return Ok(false);
         }
         let start = stretch.start;
         last = stretch.bytes.bytes();

@@ -1,12 +1,8 @@
-ghost use Rattle.std.specs.Prelude.{◌≡◌, ◌+◌, ◌-◌, ◌^◌, ◌≤◌, ◌<◌, take, drop, IfOk, OnOk};
+ghost use Rattle.std.specs.Prelude.{◌≡◌, ◌-◌, ◌^◌, ◌≤◌, ◌<◌, take, drop, IfOk, OnOk};
 ghost use Rattle.range_bytes.specs.Held.{HoldsAll, bytes_at};
-ghost use Rattle.tcp_streams.specs.Numbers.{first_number, ahead, position_ahead, taken_bytes, window};
-ghost use Rattle.tcp_streams.specs.Gaps.{start_past, end_past, AreBetween};
-ghost use Rattle.tcp_streams.specs.Ways.{nothing, end_of, lost_in, origin_for, front_for, held_with, own_step, other_step, IsPlace, IsWay};
-ghost use Rattle.tcp_streams.specs.States.{state_of};
+ghost use Rattle.tcp_streams.specs.Ways.{held_with, IsPlace, AreApart, apart_prop};
 
-use crate::numbers::{ahead, first_number, place, position_ahead, skipped, window_end};
-use crate::passing::pass;
+use crate::numbers::{place, skipped, window_end};
 use crate::segment::Segment;
 use pk_base::{LostList, NoMemory, Octets, Stretch};
 use range_bytes::Ranges;
@@ -27,6 +23,7 @@ pub(crate) struct Way {
     pub front: Vec<u8>,
     /// Up to where the other side has acknowledged.
     pub acked: u64,
+    ghost apart: { AreApart 0 earlier.items start } by { apart_prop 0 earlier.items start },
 }
 
 /// How a segment entered its direction.
@@ -36,89 +33,14 @@ pub(crate) struct Entered {
     pub position: i64,
 }
 
-impl Way {
-    pub fn new(alloc: Global) -> Way
-        ensures { state_of result ≡ nothing }
-    {
-        Way {
-            alloc,
-            origin: None,
-            held: Ranges::new(alloc),
-            earlier: Vec::new(alloc),
-            start: 0,
-            front: Vec::new(alloc),
-            acked: 0,
-        }
-    }
-
-    /// The front end.
-    pub fn end(&self) -> u64
-        requires { end_of (state_of self.now) < 2 ^ 62 }
-        ensures { result ≡ end_of (state_of self.now) }
-    {
-        self.start + self.front.len() as u64
-    }
-
-    /// The number of the byte at position 0, which the first segment sets.
-    pub fn origin_for(&self, s: &Segment) -> u32
-        ensures { result ≡ origin_for (state_of self.now) s.now }
-    {
-        self.origin.unwrap_or(first_number(s))
-    }
-
-    /// Takes a segment of the other direction.
-    #[tactic(auto, unfolding(crate::specs::Ways::other_step))]
-    pub fn note(&mut self, s: &Segment)
-        requires { end_of (state_of self.old) < 2 ^ 61 }
-        ensures { state_of self.new ≡ other_step (state_of self.old) s.now }
-    {
-        let Some(origin) = self.origin else {
-            return;
-        };
-        if s.acked {
-            let end = self.end();
-            self.acked = self.acked.max(place(0, end, ahead(origin, end, s.ack)));
-        }
-    }
-
-    /// Takes a segment of this direction. After `NoMemory` nothing more is known of the direction.
-    pub fn take(&mut self, s: &Segment) -> Result<Entered, NoMemory>
-        requires way { IsWay (state_of self.old) }
-        requires room { end_of (state_of self.old) < 2 ^ 60 }
-        ensures lost { IfOk result (λ entered. entered.lost ≡ lost_in (state_of self.old)) }
-        ensures between { IfOk result (λ entered. AreBetween (end_of (state_of self.old)) entered.lost (end_of (state_of self.old) + window)) }
-        ensures position { IfOk result (λ entered. entered.position ≡ position_ahead (front_for (state_of self.old))
-            (ahead (origin_for (state_of self.old) s.now) (front_for (state_of self.old)) (first_number s.now))) }
-        ensures step { OnOk result (state_of self.new ≡ own_step (state_of self.old) s.now) }
-        ensures near { OnOk result (end_of (state_of self.new) < 2 ^ 61) }
-    {
-        let number = first_number(s);
-        let origin = self.origin_for(s);
-        let end = self.end();
-        let mut passed = pass(self.alloc, &self.held, self.start, end, self.acked)?;
-        let ahead = ahead(origin, passed.end, number);
-        put(&mut self.held, passed.start, passed.end, ahead, s)?;
-        let to = self.held.first_free(passed.end);
-        renew(
-            &mut self.front,
-            &self.held,
-            passed.lost.len(),
-            passed.start,
-            passed.end,
-            to,
-        )?;
-        self.earlier.append(&mut passed.left)?;
-        self.origin = Some(origin);
-        self.start = passed.start;
-        Ok(Entered {
-            lost: LostList::from_vec(passed.lost),
-            position: position_ahead(passed.end, ahead),
-        })
-    }
-}
-
 /// Puts in the bytes of a segment from the start on that lie in the window.
-fn put(held: &mut Ranges, start: u64, front: u64, ahead: u32, s: &Segment) -> Result<(), NoMemory>
+pub(crate) fn put(
+    held: &mut Ranges,
+    start: u64,
+    front: u64,
+    ahead: u32,
+    s: &Segment,
+) -> Result<(), NoMemory>
     requires place { IsPlace held.old start front }
     requires room { front < 2 ^ 61 }
     ensures { OnOk result (held.new ≡ held_with held.old start front ahead s.now) }
@@ -145,7 +67,7 @@ fn part_taken(payload: &Octets, from: u64, skipped: u64, end: u64) -> Result<Oct
 }
 
 /// Brings the bytes of the last stretch up to its end: more of them, or all of them anew behind gaps.
-fn renew(
+pub(crate) fn renew(
     front: &mut Vec<u8>,
     held: &Ranges,
     gaps: usize,

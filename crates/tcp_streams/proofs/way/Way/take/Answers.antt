@@ -3,9 +3,9 @@ use Rattle.pk_base.specs.declared.stretch.Stretch.{Stretch}
 use Rattle.pk_base.specs.declared.lost.Lost.{Lost}
 use Rattle.tcp_streams.specs.Gaps.{gaps_behind, start_past, end_past, left_behind, AreBetween}
 use Rattle.tcp_streams.specs.Numbers.{window}
-use Rattle.tcp_streams.specs.Ways.{end_of, lost_in}
+use Rattle.tcp_streams.specs.Ways.{end_of, lost_in, start_for, AreApart}
 use Rattle.tcp_streams.specs.States.{state_of}
-use Rattle.tcp_streams.proofs.WayLemmas.{no_length, renew_same, renew_run, end_small, step_is, near_is, lost_between}
+use Rattle.tcp_streams.proofs.WayLemmas.{no_length, renew_same, renew_run, end_small, step_is, own_apart, near_is, lost_between}
 use Rattle.tcp_streams.proofs.way.Way.take.Goals as goal
 
 pub put-requires-clause-room : goal.put-requires-clause-room
@@ -56,3 +56,14 @@ returns-clause-between c =
 
 pub returns-clause-near : goal.returns-clause-near
 returns-clause-near c = near_is (state_of c.args.self.now) _ c.args.s.now c.requires.way c.requires.room (returns-clause-step c)
+
+pub invariant_of-self-2 : goal.invariant_of-self-2
+invariant_of-self-2 c =
+    let w = state_of c.args.self.now in
+    let at = c.end-end.ensures in
+    let start : c.in_ok-passed.passed.start ≡ start_for w = c.in_ok-passed.ensures.start ∙ ap (λ (e : ℕ). start_past w.start (gaps_behind w.held w.acked e)) at in
+    let earlier : c.append.new.self.items ≡ w.earlier ++ left_behind w.held w.start (lost_in w) =
+    c.in_ok-append.ensures.items ∙ ap (λ (left : List Stretch). w.earlier ++ left) (c.in_ok-passed.ensures.left ∙ ap (λ (e : ℕ). left_behind w.held w.start (gaps_behind w.held w.acked e)) at) in
+    record {
+      apart = subst (λ (p : ℕ). AreApart 0 c.append.new.self.items p) (sym start) (subst (λ (xs : List Stretch). AreApart 0 xs (start_for w)) (sym earlier) (own_apart w c.requires.way));
+    }
