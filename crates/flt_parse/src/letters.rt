@@ -1,9 +1,9 @@
 // The bytes of a filter's text, and its words.
-ghost use Rattle.std.specs.Prelude.{◌≡◌, drop, true, ◌≤◌, ◌<◌, ◌^◌, length, IfSome};
-ghost use Rattle.std.specs.Char.{is_ascii_digit};
-ghost use Rattle.std.specs.List.{list_all};
+ghost use Rattle.std.specs.Prelude.{◌≡◌, true, ◌≤◌, ◌<◌, length, IfSome};
 ghost use Rattle.std.specs.Str.Parse.{digits_value};
 ghost use Rattle.flt_parse.specs.Letters.{is_blank as blank, blanks as blanks_of, is_word_byte as in_word, word_len as len_of_word, digits_len as len_of_digits, is_number as is_of_digits, opening as opening_of};
+
+use pk_base::are_digits;
 
 /// The digits of a number in brackets or behind `#`, at most.
 const MOST_DIGITS: usize = 9;
@@ -12,14 +12,6 @@ pub fn is_blank(byte: u8) -> bool
     ensures { result ≡ blank byte }
 {
     matches!(byte, b' ' | b'\t' | b'\n' | b'\r')
-}
-
-/// What stands from a place on.
-pub fn rest_from(bytes: &[u8], at: usize) -> &[u8]
-    requires { at ≤ length bytes.now }
-    ensures { result.now ≡ drop at bytes.now }
-{
-    &bytes[at..]
 }
 
 /// How many blanks stand in front.
@@ -75,12 +67,6 @@ pub fn is_number(text: &[u8]) -> bool
         return false;
     }
     are_digits(text)
-}
-
-fn are_digits(text: &[u8]) -> bool
-    ensures { result ≡ list_all is_ascii_digit text.now }
-{
-    text.iter().all(|byte| byte.is_ascii_digit())
 }
 
 /// How many bytes there are up to and with the `(` that follows, if only blanks stand before it.

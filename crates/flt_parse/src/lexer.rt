@@ -7,14 +7,12 @@ ghost use Rattle.flt_parse.specs.Tokens.{first_sign as sign_in_front, digits_lex
 use crate::ast::Layer;
 use crate::fault::{FilterError, FilterFault, FilterReason};
 use crate::keywords::{function_of, keyword_kind, keyword_of};
-use crate::letters::{
-    blanks, digits_len, is_blank, is_number, number_of, opening, rest_from, word_len,
-};
+use crate::letters::{blanks, digits_len, is_blank, is_number, number_of, opening, word_len};
 use crate::signs::{first_sign, sign_kind, sign_text};
 use crate::strings::{Inside, read_raw, read_string};
 use crate::token::{Kind, Lexeme, Mode, Token};
 use crate::word::{Quote, Word, WordText};
-use pk_base::NoMemory;
+use pk_base::{NoMemory, bytes_from};
 use std::alloc::Global;
 use std::collections::VecDeque;
 
@@ -72,7 +70,7 @@ fn token_at(alloc: Global, text: &str, mode: Mode, at: usize) -> Result<Lexeme, 
     ensures err { IfErr result (IsTokenError at (token_read mode at (drop at text.now))) }
 {
     match mode {
-        Mode::InBrackets => bracket_token(rest_from(text.as_bytes(), at), at),
+        Mode::InBrackets => bracket_token(bytes_from(text.as_bytes(), at), at),
         Mode::Plain | Mode::BehindHash => plain_token(alloc, text, mode, at),
     }
 }
@@ -84,13 +82,13 @@ fn plain_token(alloc: Global, text: &str, mode: Mode, at: usize) -> Result<Lexem
     ensures within { IfOk result (λ l. (0 < l.width) × (at + l.width ≤ length text.now)) }
     ensures err { IfErr result (IsTokenError at (token_outside mode at (drop at text.now))) }
 {
-    let rest = rest_from(text.as_bytes(), at);
+    let rest = bytes_from(text.as_bytes(), at);
     if rest.starts_with(b"\"") {
-        let inside = read_string(alloc, rest_from(rest, 1))?;
+        let inside = read_string(alloc, bytes_from(rest, 1))?;
         return text_lexeme(at, 1, inside);
     }
     if rest.starts_with(b"r\"") {
-        let inside = read_raw(alloc, rest_from(rest, 2))?;
+        let inside = read_raw(alloc, bytes_from(rest, 2))?;
         return text_lexeme(at, 2, inside);
     }
     if word_len(rest) > 0 {
@@ -99,7 +97,7 @@ fn plain_token(alloc: Global, text: &str, mode: Mode, at: usize) -> Result<Lexem
             mode,
             at,
             word_in(text, at),
-            rest_from(rest, word_len(rest)),
+            bytes_from(rest, word_len(rest)),
         )?);
     }
     sign_lexeme(mode, at, rest)
@@ -111,7 +109,7 @@ fn word_in(text: &str, at: usize) -> &str
     requires word { 0 < len_of_word (drop at text.now) }
     ensures { result.now ≡ take (len_of_word (drop at text.now)) (drop at text.now) }
 {
-    let end = at + word_len(rest_from(text.as_bytes(), at));
+    let end = at + word_len(bytes_from(text.as_bytes(), at));
     &text[at..end]
 }
 
@@ -204,7 +202,7 @@ fn next_place(at: usize, rest: &[u8]) -> u32
     requires short { at + length rest.now ≤ 4096 }
     ensures { result ≡ place_behind at rest.now }
 {
-    (at + 1 + blanks(rest_from(rest, 1))) as u32
+    (at + 1 + blanks(bytes_from(rest, 1))) as u32
 }
 
 /// The token from a place on in brackets.

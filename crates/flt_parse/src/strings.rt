@@ -3,8 +3,7 @@ ghost use Rattle.std.specs.Prelude.{◌≡◌, ◌==◌, position, ◌≤◌, �
 ghost use Rattle.std.specs.Option.{option_map};
 ghost use Rattle.flt_parse.specs.Strings.{hex_byte as byte_of_hex, escape as escape_of, piece as piece_of, string_inside, raw_inside};
 
-use crate::letters::rest_from;
-use pk_base::{NoMemory, Octets};
+use pk_base::{NoMemory, Octets, bytes_from};
 use std::alloc::Global;
 
 /// A byte of a string, and how many bytes spell it.
@@ -30,7 +29,7 @@ pub fn read_string(alloc: Global, text: &[u8]) -> Result<Option<Inside>, NoMemor
     let mut bytes = Vec::new(alloc);
     let mut at = 0;
     'pieces: while at < text.len() && text[at] != b'"' {
-        let Some(piece) = piece_at(rest_from(text, at)) else {
+        let Some(piece) = piece_at(bytes_from(text, at)) else {
             return Ok(None);
         };
         bytes.push(piece.value)?;

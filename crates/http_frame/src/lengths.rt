@@ -1,14 +1,14 @@
 ghost use Rattle.std.specs.Prelude.{◌≡◌, ◌≤◌, ◌<◌, ◌^◌, ℕ, List, length, map, take, All, Some, None, IfSome, IsTrue};
-ghost use Rattle.std.specs.Char.{digit_value, is_ascii_digit};
+ghost use Rattle.std.specs.Char.{digit_value};
 ghost use Rattle.std.specs.Str.Parse.{AllDigits, digits_value};
 ghost use Rattle.std.specs.Str.{str_eq_ignore_ascii_case};
-ghost use Rattle.std.specs.List.{list_all};
 ghost use Rattle.std.specs.Option.{option_map};
 ghost use Rattle.httparse.specs.Grammar.{is_ows, trim_ows};
 ghost use Rattle.httparse.specs.Spans.{IsHeaderWithin, IsWithin, header_bytes, span_bytes};
 ghost use Rattle.http_frame.specs.Fields.{is_chunked, is_length, last_element, last_of_name, length_in, lengths_of, merged, newer_value, with_field};
 
 use httparse::spans::{HeaderSpan, Span};
+use pk_base::are_digits;
 
 /// What the fields named Content-Length of a head say together.
 #[derive(Clone, Copy, Debug, PartialEq, Eq)]
@@ -111,13 +111,6 @@ fn is_length(value: &[u8]) -> bool
     ensures fits { IsTrue result → digits_value 10 value.now < 2 ^ 64 }
 {
     !value.is_empty() && value.len() <= 18 && are_digits(value)
-}
-
-/// Whether all bytes are digits.
-fn are_digits(value: &[u8]) -> bool
-    ensures { result ≡ list_all is_ascii_digit value.now }
-{
-    value.iter().all(|byte| byte.is_ascii_digit())
 }
 
 /// The number that digits write.

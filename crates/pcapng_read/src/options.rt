@@ -1,9 +1,9 @@
-ghost use Rattle.std.specs.Prelude.{◌≡◌, ◌≤◌, ◌+◌, length, drop};
+ghost use Rattle.std.specs.Prelude.{◌≡◌, ◌≤◌, ◌+◌, length};
 ghost use Rattle.pk_base.specs.Endian.{number_at};
 ghost use Rattle.pcapng_read.specs.Options.{option_of, settings_of, padded, after_one, IsOptionWithin};
 
 use byteorder::{BigEndian, ByteOrder, LittleEndian};
-use pk_base::u16_at;
+use pk_base::{bytes_from, u16_at};
 
 const OPTION_HEAD_SIZE: usize = 4;
 
@@ -74,13 +74,6 @@ pub fn read_options(little: bool, bytes: &[u8]) -> Option<Settings>
         }
     }
     Some(settings)
-}
-
-fn bytes_from(bytes: &[u8], at: usize) -> &[u8]
-    requires { at ≤ length bytes.now }
-    ensures { result.now ≡ drop at bytes.now }
-{
-    &bytes[at..]
 }
 
 fn with(settings: Settings, setting: Setting) -> Settings

@@ -10,6 +10,7 @@ mod lost;
 mod memory;
 mod number_list;
 mod octets;
+mod plain_bytes;
 mod span;
 mod stretch;
 
@@ -25,5 +26,6 @@ pub use lost::{Lost, LostList};
 pub use memory::NoMemory;
 pub use number_list::Numbers;
 pub use octets::Octets;
+pub use plain_bytes::{are_digits, bytes_from};
 pub use span::Span;
 pub use stretch::{Stretch, Stretches};

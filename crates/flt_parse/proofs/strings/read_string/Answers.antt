@@ -7,7 +7,7 @@ use Rattle.flt_parse.proofs.strings.read_string.Goals as goal
 pub pieces-preserved : goal.pieces-preserved
 pieces-preserved c =
     let pushed = chosen _ _ _ _ c.push.ensures.items (ap is_ok c.in_ok-push.was) in
-    let rest : c.rest_from.result.now ≡ drop c.pieces.at c.args.text.now = c.rest_from.ensures in
+    let rest : c.bytes_from.result.now ≡ drop c.pieces.at c.args.text.now = c.bytes_from.ensures in
     let read : piece (drop c.pieces.at c.args.text.now) ≡ Some (c.in-Some.piece.value, c.in-Some.piece.width) = ap piece (sym rest) ∙ sym c.in-Some.ensures.value in
     let within = c.in-Some.ensures.within in
     record {
