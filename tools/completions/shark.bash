@@ -366,7 +366,7 @@ _shark() {
     -r) mapfile -t COMPREPLY < <(compgen -f -- "$word") ;;
     -Y) mapfile -t COMPREPLY < <(compgen -W "$_shark_fields" -- "$word") && compopt -o nospace ;;
     -c) COMPREPLY=() ;;
-    -T) COMPREPLY=() ;;
+    -T) mapfile -t COMPREPLY < <(compgen -W "text fields json" -- "$word") ;;
     -e) mapfile -t COMPREPLY < <(compgen -W "$_shark_fields" -- "$word") ;;
     -E) COMPREPLY=() ;;
     *) mapfile -t COMPREPLY < <(compgen -W "-r -Y -c -T -e -E -q --help --version" -- "$word") ;;

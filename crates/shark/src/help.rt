@@ -6,7 +6,7 @@ pub(crate) static OPTIONS: [&str; 7] = [
     "-r FILE      the capture file, pcap or pcapng",
     "-Y FILTER    show only the frames that satisfy this filter; without it all are shown",
     "-c N         read at most N frames, 1 to 4294967295",
-    "-T KIND      the kind of line: text, a summary, which is the default, or fields, the values of fields",
+    "-T KIND      the kind of line: text, a summary, which is the default; fields, the values of fields; json, all of a frame",
     "-e FIELD     with -T fields a column, again and again: any field or protocol",
     "-E KEY=V     with -T fields: header=y, separator=, aggregator=, occurrence=f or l, quote=d or s",
     "-q           no header line and no lines of frames",
@@ -15,7 +15,7 @@ pub(crate) static OPTIONS: [&str; 7] = [
 const HEAD: &str = "\
 shark reads a capture file and prints a line for each frame that satisfies a display filter.
 
-Usage: shark -r FILE [-Y FILTER] [-c N] [-q] [-T text | -T fields -e FIELD... [-E KEY=V]...]
+Usage: shark -r FILE [-Y FILTER] [-c N] [-q] [-T text | -T json | -T fields -e FIELD... [-E KEY=V]...]
 
 ";
 
@@ -30,6 +30,7 @@ For example: ip.addr == 10.0.0.0/8 and not udp.port in {53, 5353}
   shark -r web.pcap
   shark -r web.pcap -Y dns -T fields -e dns.qry.name
   shark -r web.pcap -T fields -E header=y -E separator=, -E quote=d -e frame.number -e ip.src
+  shark -r web.pcap -Y tcp -T json | jq .layers
 
 The exit status is 0 where the whole file was read and the whole output written, and else says what went wrong:
 1 bad words, 2 bad filter, 3 unknown field, 4 can't open, 5 read fault, 6 damaged file, 7 file too large, 8 write fault,

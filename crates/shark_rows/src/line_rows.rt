@@ -16,11 +16,13 @@ static NESTED_FILE: [&str; 3] = [
 ];
 
 /// Words behind `-r f`, and the output behind `@`.
-static REQUEST_LINES: [&str; 12] = [
+static REQUEST_LINES: [&str; 14] = [
     "@1 0.000000000 02:00:00:00:00:01 -> ff:ff:ff:ff:ff:ff arp 60\n",
     "-T text@1 0.000000000 02:00:00:00:00:01 -> ff:ff:ff:ff:ff:ff arp 60\n",
     "-Y tcp@",
     "-q@",
+    "-q -T json@",
+    "-T json -Y tcp@",
     "-q -T fields -e frame.number -E header=y@",
     "-T fields -E header=y -E separator=; -E quote=d -e frame.number -e eth.src -e tcp.port@frame.number;eth.src;tcp.port\n\"1\";\"02:00:00:00:00:01\";\n",
     "-T fields -E header=n -e frame.number@1\n",
@@ -45,11 +47,35 @@ static NESTED_LINES: [&str; 11] = [
     "-T fields -E aggregator=| -E separator=, -e ip.src -e ip.dst@10.0.0.1|192.168.0.1,10.0.0.2|192.168.0.2\n",
 ];
 
+/// A frame of two bytes, whose layers don't fit it.
+static SHORT_FILE: [&str; 3] = [HEADER, "00000000 00000000 02000000 02000000", "0102"];
+
+const SHORT_LINE: &str = concat!(
+    r#"{"buffers":["0102"],"layers":[{"buf":0,"items":["#,
+    r#"{"name":"frame.number","value":1},"#,
+    r#"{"name":"frame.time_epoch","value":"0.000000000"},"#,
+    r#"{"name":"frame.time_relative","value":"0.000000000"},"#,
+    r#"{"name":"frame.time_delta","value":"0.000000000"},"#,
+    r#"{"name":"frame.len","value":2},{"name":"frame.cap_len","value":2}],"#,
+    r#""nth":1,"pos":0,"proto":"frame","size":2},"#,
+    r#"{"buf":0,"items":[],"nth":1,"pos":0,"proto":"eth","size":2},"#,
+    r#"{"buf":0,"items":[],"nth":1,"pos":2,"proto":"_ws.malformed","size":0}]}"#,
+    "\n"
+);
+
+/// Words behind `-r f` that write this line: all items stand in it, whatever the filter asks for.
+static SHORT_WORDS: [&str; 3] = ["-T json", "-Tjson -c 1", "-T json -Y eth"];
+
 /// Whether a row's words write what it tells.
 fn writes(alloc: Global, file: &[&str], row: &str) -> Result<bool, AllocError> {
-    let Some((words, out)) = row.split_once('@') else {
-        return Ok(false);
-    };
+    match row.split_once('@') {
+        Some((words, out)) => writes_so(alloc, file, words, out),
+        None => Ok(false),
+    }
+}
+
+/// Whether these words write this output.
+fn writes_so(alloc: Global, file: &[&str], words: &str, out: &str) -> Result<bool, AllocError> {
     let mut all = String::from_str(alloc, "-r f ")?;
     all.push_str(words)?;
     let words = words_of(alloc, all.as_str(), "")?;
@@ -69,6 +95,12 @@ fn lines_are_written_in_each_style(rt: HostRuntime) -> Result<(), Fail> {
     }
     for row in &NESTED_LINES {
         assert!(rt; writes(rt.alloc(), &NESTED_FILE, row)?, "{row}");
+    }
+    for words in &SHORT_WORDS {
+        assert!(rt;
+            writes_so(rt.alloc(), &SHORT_FILE, words, SHORT_LINE)?,
+            "{words}"
+        );
     }
     Ok(())
 }

@@ -37,6 +37,14 @@ pub(crate) static NO_FAULTS: Faults = Faults {
     step: 1000,
 };
 
+/// A read gives one byte.
+static BYTE_BY_BYTE: Faults = Faults {
+    capture: &[],
+    out: &[],
+    err: &[],
+    step: 1,
+};
+
 /// The bytes that pieces of hexadecimal digits spell.
 pub(crate) fn bytes_of(alloc: Global, pieces: &[&str]) -> Result<Vec<u8>, AllocError> {
     let mut digits = String::new(alloc);
@@ -118,7 +126,10 @@ pub(crate) fn comes_to(
     ends_so(alloc, words.as_slice(), name, bytes, faults, expected)
 }
 
-/// Whether a run that nothing outside fails comes to what its row says.
+/// Whether a run that nothing outside fails comes to what its row says, however many bytes a read gives.
 pub(crate) fn holds(alloc: Global, row: &Run) -> Result<bool, AllocError> {
-    comes_to(alloc, row, "f", bytes_of(alloc, row.file)?, &NO_FAULTS)
+    Ok(
+        comes_to(alloc, row, "f", bytes_of(alloc, row.file)?, &NO_FAULTS)?
+            && comes_to(alloc, row, "f", bytes_of(alloc, row.file)?, &BYTE_BY_BYTE)?,
+    )
 }

@@ -4,7 +4,7 @@ use crate::runs::{Run, holds};
 use shark_run::Status;
 use std::test::Fail;
 
-static WORDS: [Run; 26] = [
+static WORDS: [Run; 27] = [
     Run {
         shows: "no words",
         words: "",
@@ -121,6 +121,15 @@ static WORDS: [Run; 26] = [
         status: Status::BadWords,
         out: "",
         err: "shark: word 3: A8 Unused\n",
+    },
+    Run {
+        shows: "fields beside a whole tree",
+        words: "-r f -T json -e ip.src",
+        filter: "",
+        file: &[HEADER, REQUEST_HEAD, REQUEST, PADDING],
+        status: Status::BadWords,
+        out: "",
+        err: "shark: word 5: A8 Unused\n",
     },
     Run {
         shows: "no file",

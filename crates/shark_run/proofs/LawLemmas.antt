@@ -6,7 +6,7 @@ use Rattle.pk_tree.specs.Trees.{TreeShown}
 use Rattle.out_lines.specs.Lines.{field_line_of, header_of}
 use Rattle.out_lines.specs.declared.style.Style.{Style}
 use Rattle.shark_words.specs.declared.options.LineKind.{LineKind}
-use Rattle.shark_words.specs.declared.options.LineKind.TheVariants.{Text, Fields}
+use Rattle.shark_words.specs.declared.options.LineKind.TheVariants.{Text, Fields, Json}
 use Rattle.flt_parse.specs.declared.fault.FilterFault.{FilterFault}
 use Rattle.flt_parse.specs.declared.fault.FilterError.TheVariants.{Fault}
 use Rattle.flt_types.specs.Texts.{IsFilterFault}
@@ -84,6 +84,7 @@ pub record AreWrittenAlike (one other : Plan) : Type 0 where
 
 same_line : (kind : LineKind) (one other : Plan) (tree : TreeShown) → one.fields ≡ other.fields → one.style ≡ other.style → line_by kind one tree ≡ line_by kind other tree
 same_line Text one other tree fields style = refl
+same_line Json one other tree fields style = refl
 same_line Fields one other tree fields style =
     ap (λ (f : List ℕ). field_line_of f tree one.style) fields ∙ ap (λ (s : Style). field_line_of other.fields tree s) style
 
@@ -104,11 +105,13 @@ same_lines one other (tree ∷ trees) same =
 
 headed : LineKind → Style → Bool → Bool
 headed Text style quiet = false
+headed Json style quiet = false
 headed Fields style quiet = style.header && not quiet
 
 is_headed_so : (kind : LineKind) (plan : Plan) → is_headed kind plan ≡ headed kind plan.style plan.quiet
 unfolding headed
 is_headed_so Text plan = refl
+is_headed_so Json plan = refl
 is_headed_so Fields plan = refl
 
 same_opening : (one other : Plan) → AreWrittenAlike one other → opening one ≡ opening other

@@ -5,7 +5,7 @@ use Rattle.std.proofs.lemmas.Bool.{eq-eqb}
 use Rattle.pk_fields.specs.FieldSets.{is_in}
 use Rattle.pk_tree.specs.Trees.{TreeShown, IsKept, kept_tree}
 use Rattle.shark_words.specs.declared.options.LineKind.{LineKind}
-use Rattle.shark_words.specs.declared.options.LineKind.TheVariants.{Text, Fields}
+use Rattle.shark_words.specs.declared.options.LineKind.TheVariants.{Text, Fields, Json}
 use Rattle.out_lines.proofs.KeptLines.{line_same}
 use Rattle.flt_types.specs.declared.typed.Typed.{Typed}
 use Rattle.flt_mean.proofs.KeptMeaning.{meaning_kept}
@@ -44,6 +44,7 @@ satisfies_same wanted (Some filter) t has = meaning_kept wanted filter t has
 line_kept : (wanted : List ℕ) (plan : Plan) (kind : LineKind) (t : TreeShown) → kind ≡ Fields → HasPlan wanted plan
     → line_by kind plan (kept_tree wanted t) ≡ line_by kind plan t
 line_kept wanted plan Text t is has = absurd (cc is)
+line_kept wanted plan Json t is has = absurd (cc is)
 line_kept wanted plan Fields t is has = line_same wanted plan.fields t plan.style has.columns
 
 shown_same : (wanted : List ℕ) (plan : Plan) (t : TreeShown) → plan.kind ≡ Fields → HasPlan wanted plan → shown plan (kept_tree wanted t) ≡ shown plan t
@@ -54,3 +55,9 @@ shown_same wanted plan t is has =
 pub shown_kept : (wanted : List ℕ) (plan : Plan) (whole tree : TreeShown) → plan.kind ≡ Fields → HasPlan wanted plan → IsKept wanted whole tree
     → shown plan tree ≡ shown plan whole
 shown_kept wanted plan whole tree is has kept = ap (shown plan) kept.same ∙ shown_same wanted plan whole is has
+
+-- where no lines of frames are written, every tree is shown alike
+pub shown_quiet : (plan : Plan) (one other : TreeShown) → plan.quiet ≡ true → shown plan one ≡ shown plan other
+shown_quiet plan one other is =
+    ap (λ (quiet : Bool). if quiet then [] else if satisfies plan.filter one then line_of plan one else []) is
+    ∙ sym (ap (λ (quiet : Bool). if quiet then [] else if satisfies plan.filter other then line_of plan other else []) is)

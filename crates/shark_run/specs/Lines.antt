@@ -4,12 +4,13 @@ use Rattle.pk_tree.specs.Trees.{TreeShown}
 use Rattle.capture_read.specs.Capture.{Reading}
 use Rattle.capture_read.specs.declared.frame.Frame.{Frame}
 use Rattle.dissect.specs.Trees.{tree_at}
+use Rattle.out_json.specs.Lines.{json_line_of}
 use Rattle.out_lines.specs.Lines.{field_line_of, header_of}
 use Rattle.out_lines.specs.Summary.{summary_of}
 use Rattle.flt_types.specs.declared.typed.Typed.{Typed}
 use Rattle.flt_mean.specs.Meaning.{meaning}
 use Rattle.shark_words.specs.declared.options.LineKind.{LineKind}
-use Rattle.shark_words.specs.declared.options.LineKind.TheVariants.{Text, Fields}
+use Rattle.shark_words.specs.declared.options.LineKind.TheVariants.{Text, Fields, Json}
 use Rattle.shark_run.specs.declared.plan.Plan.{Plan}
 use Rattle.shark_run.specs.Accessors.{fields_of, filter_of, is_quiet, kind_of, style_of}
 
@@ -27,6 +28,7 @@ satisfies (Some filter) tree = meaning filter tree
 abbrev pub line_by : LineKind → Plan → TreeShown → List ℕ
 line_by Text plan tree = summary_of tree
 line_by Fields plan tree = field_line_of (fields_of plan) tree (style_of plan)
+line_by Json plan tree = json_line_of tree
 
 abbrev pub line_of : Plan → TreeShown → List ℕ
 line_of plan tree = line_by (kind_of plan) plan tree
@@ -51,6 +53,7 @@ lines_of plan (frame ∷ past) = lines_of plan past ++ shown plan (tree_at past 
 -- whether the line of the fields' names is written
 abbrev pub is_headed : LineKind → Plan → Bool
 is_headed Text plan = false
+is_headed Json plan = false
 is_headed Fields plan = (style_of plan).header && not (is_quiet plan)
 
 -- what stands before the frames' lines

@@ -21,6 +21,7 @@ use crate::plan::Plan;
 use crate::wanted::wanted_fields;
 use capture_read::{Ending, Frame, FrameReader, NextFrame, ReadError};
 use dissect::{DecodeAs, Dissector, PortRules, TakeFault};
+use out_json::JsonWriter;
 use out_lines::{LineWriter, header_line, summary_line};
 use pk_base::NoMemory;
 use pk_fields::FieldSet;
@@ -52,6 +53,7 @@ fn new_dissector(alloc: Global) -> Dissector
 #[derive(Drop)]
 struct LineMaker {
     writer: LineWriter,
+    json: JsonWriter,
     line: Vec<u8>,
 }
 
@@ -60,6 +62,7 @@ fn new_line_maker(alloc: Global, plan: &Plan) -> Result<LineMaker, NoMemory>
 {
     Ok(LineMaker {
         writer: LineWriter::new(alloc, plan.fields.slice())?,
+        json: JsonWriter::new(alloc),
         line: Vec::new(alloc),
     })
 }
@@ -77,6 +80,7 @@ fn put_line(alloc: Global, plan: &Plan, tree: &Tree, lines: &mut LineMaker) -> R
             Ok(())
         }
         LineKind::Fields => lines.writer.write(&mut lines.line, tree, &plan.style),
+        LineKind::Json => lines.json.write(&mut lines.line, tree),
     }
 }
 
@@ -118,8 +122,8 @@ fn write_tree<O: Sink>(
     }
 }
 
-// Takes a frame, of which only the wanted fields are read where its line has no others.
-#[tactic(auto, using(crate::proofs::WantedLemmas::shown_kept))]
+// Takes a frame, of which only the wanted fields are read where its line has no others, and none where it has no line.
+#[tactic(auto, using(crate::proofs::WantedLemmas::shown_kept, crate::proofs::WantedLemmas::shown_quiet))]
 fn take_frame(
     plan: &Plan,
     frame: &Frame,
@@ -138,8 +142,11 @@ fn take_frame(
     ensures captured { OnOk result (dissector.new.captured
         ≡ dissector.old.captured + length frame.now.bytes) }
 {
+    if plan.quiet {
+        return dissector.take_kept(frame, FieldSet::none());
+    }
     match plan.kind {
-        LineKind::Text => dissector.take(frame),
+        LineKind::Text | LineKind::Json => dissector.take(frame),
         LineKind::Fields => dissector.take_kept(frame, wanted),
     }
 }
@@ -324,7 +331,7 @@ fn opening_line(alloc: Global, plan: &Plan) -> Result<Vec<u8>, NoMemory>
         LineKind::Fields if plan.style.header && !plan.quiet => {
             header_line(alloc, plan.fields.slice(), &plan.style)
         }
-        LineKind::Fields | LineKind::Text => Ok(Vec::new(alloc)),
+        LineKind::Fields | LineKind::Text | LineKind::Json => Ok(Vec::new(alloc)),
     }
 }
 

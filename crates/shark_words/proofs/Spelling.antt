@@ -22,7 +22,7 @@ use Rattle.shark_words.specs.declared.fault.WordFault.{WordFault}
 use Rattle.shark_words.specs.declared.fault.WordReason.TheVariants.{NoFields, Unused}
 use Rattle.shark_words.specs.declared.fault.WordsError.{WordsError}
 use Rattle.shark_words.specs.declared.options.LineKind.{LineKind}
-use Rattle.shark_words.specs.declared.options.LineKind.TheVariants.{Text, Fields}
+use Rattle.shark_words.specs.declared.options.LineKind.TheVariants.{Text, Fields, Json}
 use Rattle.shark_words.specs.declared.options.Options.{Options}
 use Rattle.shark_words.specs.declared.options.Source.TheVariants.{Named}
 use Rattle.shark_words.specs.Letters.{letter_of, letter_byte, is_same, has_value}
@@ -582,11 +582,13 @@ columns_had : (behind : ℕ) (uses : List Use) (kind : LineKind) → list_all fi
     → HasColumns kind (all_written uses)
 columns_had behind uses Fields fit h = given_names (is_given Name uses) (fault behind NoFields) (values_in Name (all_written uses)) (names_written uses fit) h
 columns_had behind uses Text fit h = columns_none uses (no_word (λ (word : ℕ). fault word Unused) (column_word uses) h)
+columns_had behind uses Json fit h = columns_none uses (no_word (λ (word : ℕ). fault word Unused) (column_word uses) h)
 
 columns_fine : (behind : ℕ) (uses : List Use) (kind : LineKind) → list_all fits (all_written uses) ≡ true → HasColumns kind (all_written uses)
     → column_fault behind uses kind ≡ None
 columns_fine behind uses Fields fit has = names_given (is_given Name uses) (fault behind NoFields) (values_in Name (all_written uses)) (names_written uses fit) has
 columns_fine behind uses Text fit has = ap (option_map (λ (word : ℕ). fault word Unused)) (none_columns uses fit has)
+columns_fine behind uses Json fit has = ap (option_map (λ (word : ℕ). fault word Unused)) (none_columns uses fit has)
 
 -- what written options ask for
 abbrev asked_written : List ℕ → List Written → Options

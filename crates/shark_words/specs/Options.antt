@@ -7,7 +7,7 @@ use Rattle.shark_words.specs.declared.fault.WordReason.TheVariants.{NoFile, NoFi
 use Rattle.shark_words.specs.declared.fault.WordsError.{WordsError}
 use Rattle.shark_words.specs.declared.fault.WordsError.TheVariants as error
 use Rattle.shark_words.specs.declared.options.LineKind.{LineKind}
-use Rattle.shark_words.specs.declared.options.LineKind.TheVariants.{Text, Fields}
+use Rattle.shark_words.specs.declared.options.LineKind.TheVariants.{Text, Fields, Json}
 use Rattle.shark_words.specs.declared.options.Source.TheVariants.{Named}
 use Rattle.shark_words.specs.declared.options.Options.{Options}
 use Rattle.shark_words.specs.Asked.{column_word, style_of, value_of, values_of}
@@ -32,6 +32,7 @@ options_by name uses = record {
 abbrev pub column_fault : ℕ → List Use → LineKind → Option WordFault
 column_fault behind uses Fields = if is_given Name uses then None else Some (fault behind NoFields)
 column_fault behind uses Text = option_map (λ word. fault word Unused) (column_word uses)
+column_fault behind uses Json = option_map (λ word. fault word Unused) (column_word uses)
 
 abbrev pub unless : Option WordFault → Options → Result Options WordFault
 unless None options = Ok options

@@ -5,7 +5,7 @@ use Rattle.shark_words.specs.declared.letter.Letter.{Letter}
 use Rattle.shark_words.specs.declared.letter.Letter.TheVariants.{Capture, Filter, Kind, Name, Style, Most, Quiet}
 use Rattle.shark_words.specs.declared.slot.Slot.{Slot}
 use Rattle.shark_words.specs.declared.options.LineKind.{LineKind}
-use Rattle.shark_words.specs.declared.options.LineKind.TheVariants.{Text, Fields}
+use Rattle.shark_words.specs.declared.options.LineKind.TheVariants.{Text, Fields, Json}
 use Rattle.shark_words.specs.declared.options.Source.TheVariants.{Named}
 use Rattle.shark_words.specs.declared.options.Options.{Options}
 use Rattle.shark_words.specs.Letters.{letter_byte, is_same, has_value}
@@ -104,6 +104,7 @@ spelled_values letter all = values_in letter (written_by all)
 abbrev pub HasColumns : LineKind → List Written → Type 0
 HasColumns Fields all = 0 < length (values_in Name all)
 HasColumns Text all = (values_in Name all ≡ []) × (values_in Style all ≡ [])
+HasColumns Json all = (values_in Name all ≡ []) × (values_in Style all ≡ [])
 
 abbrev pub kind_by : List Spelled → LineKind
 kind_by all = kind_asked (head_of (spelled_values Kind all))

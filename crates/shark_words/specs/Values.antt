@@ -8,7 +8,7 @@ use Rattle.std.specs.Str.Parse.{digits_value}
 use Rattle.shark_words.specs.declared.letter.Letter.{Letter}
 use Rattle.shark_words.specs.declared.letter.Letter.TheVariants.{Capture, Filter, Kind, Name, Style, Most, Quiet}
 use Rattle.shark_words.specs.declared.options.LineKind.{LineKind}
-use Rattle.shark_words.specs.declared.options.LineKind.TheVariants.{Text, Fields}
+use Rattle.shark_words.specs.declared.options.LineKind.TheVariants.{Text, Fields, Json}
 use Rattle.shark_words.specs.Keys.{is_setting}
 
 abbrev pub are_digits : List ℕ → Bool
@@ -31,6 +31,7 @@ abbrev pub kind_of : List ℕ → Option LineKind
 kind_of text =
     if bytes_eq text (codes "text") then Some Text
     else if bytes_eq text (codes "fields") then Some Fields
+    else if bytes_eq text (codes "json") then Some Json
     else None
 
 -- the kind that a value asks for, a summary where there is none

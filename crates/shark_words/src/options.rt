@@ -18,6 +18,8 @@ pub enum LineKind {
     Text,
     /// The values of the named fields.
     Fields,
+    /// The whole tree, as JSON.
+    Json,
 }
 
 /// The names of fields, in the order of the words.

@@ -52,7 +52,7 @@ fn column_fault(behind: u64, uses: &[Use], kind: LineKind) -> Option<WordFault>
             word: behind,
             reason: WordReason::NoFields,
         }),
-        LineKind::Text => Some(WordFault {
+        LineKind::Text | LineKind::Json => Some(WordFault {
             word: column_word(uses)?,
             reason: WordReason::Unused,
         }),

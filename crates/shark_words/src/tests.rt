@@ -176,7 +176,7 @@ fn words_that_are_no_options(rt: HostRuntime) -> Result<(), Fail> {
 #[test]
 fn values_that_are_refused_at_their_word(rt: HostRuntime) -> Result<(), Fail> {
     is_refused(&rt, rt.alloc(), &["-r", ""], 2, WordReason::BadValue)?;
-    is_refused(&rt, rt.alloc(), &["-T", "json"], 2, WordReason::BadValue)?;
+    is_refused(&rt, rt.alloc(), &["-T", "jsonl"], 2, WordReason::BadValue)?;
     is_refused(&rt, rt.alloc(), &["-T", ""], 2, WordReason::BadValue)?;
     is_refused(&rt, rt.alloc(), &["-Tfieldss"], 1, WordReason::BadValue)?;
     is_refused(&rt, rt.alloc(), &["-c", ""], 2, WordReason::BadValue)?;
@@ -247,7 +247,7 @@ fn many_names_are_read(rt: HostRuntime) -> Result<(), Fail> {
 }
 
 /// Command lines, a space between two words, each behind what is answered: `ok`, or the word and the reason of the refusal.
-static COMMANDS: [&str; 82] = [
+static COMMANDS: [&str; 90] = [
     // Each letter in a word of its own, in a cluster, twice, without a value, with a bad value.
     "ok: -r f",
     "ok: -rf",
@@ -277,6 +277,14 @@ static COMMANDS: [&str; 82] = [
     "4 A6: -r f -T Text",
     "3 A6: -r f -Ttexts",
     "4 A6: -r f -T pdml",
+    "ok: -r f -T json",
+    "ok: -r f -Tjson",
+    "ok: -qTjson -r f -Y arp -c 1",
+    "4 A6: -r f -T jso",
+    "4 A6: -r f -T JSON",
+    "5 A5: -r f -T json -T fields",
+    "5 A8: -r f -T json -e a",
+    "5 A8: -r f -T json -qE header=y -e a",
     "ok: -r f -T fields -e a",
     "ok: -r f -Tfields -ea -e a",
     "ok: -r f -qe a -T fields",

@@ -36,6 +36,8 @@ pub(crate) fn read_kind(text: &[u8]) -> Option<LineKind>
         Some(LineKind::Text)
     } else if text == b"fields".as_slice() {
         Some(LineKind::Fields)
+    } else if text == b"json".as_slice() {
+        Some(LineKind::Json)
     } else {
         None
     }
