@@ -20,7 +20,7 @@ use Rattle.pk_tree.specs.Values.{IsOfKind}
 use Rattle.pk_tree.proofs.KeptLemmas.{kept-append}
 use Rattle.dis_dns.specs.declared.steps.Taken.{Taken}
 use Rattle.dis_dns.specs.declared.steps.Taken.TheVariants as takens
-use Rattle.dis_dns.specs.Collected.{StepsShown, HoldsSteps, IsTaken, Takes, is_plain, no_steps, shown_step, shown_value, with_step, with_steps}
+use Rattle.dis_dns.specs.Collected.{StepsShown, FitsTaken, HoldsSteps, IsTaken, Takes, is_plain, no_steps, shown_step, shown_value, with_step, with_steps}
 
 pub with_steps_append : (s : StepsShown) (xs ys : List Step) → with_steps s (xs ++ ys) ≡ with_steps (with_steps s xs) ys
 unfolding with_steps
@@ -55,18 +55,17 @@ passed_reach s (x ∷ xs) keeps =
     rw one (passed_reach (record s { reach = reach_after s.reach (step_reach s.end x) }) xs keeps
     ∙ ap (λ (r : Reach). record s { reach = r }) (after_twice s.reach (step_reach s.end x) (reach s.end xs)))
 
-pub holds_taken : (wanted : List ℕ) (proto : ℕ) (keeps : Bool) (end : ℕ) (steps : List Step) (s : StepsShown) (taken : Taken) → s ≡ with_steps (no_steps wanted keeps end) steps → IsTaken s taken →
-    (keeps ≡ false → (f : ℕ) → (row_of f).proto ≡ proto → is_in wanted f ≡ false) → HoldsSteps wanted proto end steps taken
-holds_taken wanted proto true end steps s (takens.List list) is taken none =
+pub holds_taken : (wanted : List ℕ) (keeps : Bool) (end : ℕ) (steps : List Step) (s : StepsShown) (taken : Taken) → s ≡ with_steps (no_steps wanted keeps end) steps → IsTaken s taken → HoldsSteps wanted end steps taken
+holds_taken wanted true end steps s (takens.List list) is taken =
     taken.1 ∙ ap (λ (u : StepsShown). u.list) (is ∙ kept_list (no_steps wanted true end) steps refl)
-holds_taken wanted proto false end steps s (takens.List list) is taken none =
+holds_taken wanted false end steps s (takens.List list) is taken =
     let off : s.keeps ≡ false = ap (λ (u : StepsShown). u.keeps) (is ∙ passed_reach (no_steps wanted false end) steps refl) in
     absurd (cc)
-holds_taken wanted proto true end steps s (takens.Reach r) is taken none =
+holds_taken wanted true end steps s (takens.Reach r) is taken =
     let on : s.keeps ≡ true = ap (λ (u : StepsShown). u.keeps) (is ∙ kept_list (no_steps wanted true end) steps refl) in
     absurd (cc)
-holds_taken wanted proto false end steps s (takens.Reach r) is taken none =
-    (taken.1 ∙ ap (λ (u : StepsShown). u.reach) (is ∙ passed_reach (no_steps wanted false end) steps refl), none refl)
+holds_taken wanted false end steps s (takens.Reach r) is taken =
+    taken.1 ∙ ap (λ (u : StepsShown). u.reach) (is ∙ passed_reach (no_steps wanted false end) steps refl)
 
 -- a step other than a name is kept as it is
 pub plain_shown : (wanted : List ℕ) (step : Step) → is_plain step ≡ true → shown_step wanted step ≡ step
@@ -221,3 +220,14 @@ pub shown_fit : (wanted : List ℕ) (proto : ℕ) (steps : List Step) → StepsF
 unfolding StepsFit
 shown_fit wanted proto [] fit = tt
 shown_fit wanted proto (x ∷ xs) fit = (shown_fits wanted proto x fit.0, shown_fit wanted proto xs fit.1)
+
+-- so what was taken of steps that may stand in a layout may
+pub fits_taken : (wanted : List ℕ) (proto : ℕ) (keeps : Bool) (end : ℕ) (steps : List Step) (s : StepsShown) (taken : Taken) → s ≡ with_steps (no_steps wanted keeps end) steps → IsTaken s taken →
+    (keeps ≡ false → (f : ℕ) → (row_of f).proto ≡ proto → is_in wanted f ≡ false) → StepsFit proto steps → FitsTaken wanted proto taken
+fits_taken wanted proto keeps end steps s (takens.List list) is taken none fit =
+    let listed : list.items ≡ map (shown_step wanted) steps = holds_taken wanted keeps end steps s (takens.List list) is taken in
+    rw listed (shown_fit wanted proto steps fit)
+fits_taken wanted proto true end steps s (takens.Reach r) is taken none fit =
+    let on : s.keeps ≡ true = ap (λ (u : StepsShown). u.keeps) (is ∙ kept_list (no_steps wanted true end) steps refl) in
+    absurd (cc)
+fits_taken wanted proto false end steps s (takens.Reach r) is taken none fit = none refl

@@ -86,7 +86,7 @@ turn_root bytes w inside none =
     let end : (slice_index bytes w.place == 0) ≡ true = grind (arith, nat_tests) in
     rw (on, end) refl
 
-turn_label : (bytes : List ℕ) (w : Walk) → w.place + 1 + slice_index bytes w.place ≤ w.limit → 0 < slice_index bytes w.place → slice_index bytes w.place < 64 → w.size + 1 + slice_index bytes w.place + 1 ≤ 255 →
+pub turn_label : (bytes : List ℕ) (w : Walk) → w.place + 1 + slice_index bytes w.place ≤ w.limit → 0 < slice_index bytes w.place → slice_index bytes w.place < 64 → w.size + 1 + slice_index bytes w.place + 1 ≤ 255 →
     turn_of bytes w ≡ Label (slice_index bytes w.place) (behind_label w (slice_index bytes w.place))
 unfolding turn_of
 turn_label bytes w room some small short =

@@ -9,7 +9,7 @@ use Rattle.pk_tree.specs.declared.layout.Step.TheVariants.{Row, Part, Whole, Der
 use Rattle.pk_tree.specs.declared.value.Value.{Value}
 use Rattle.pk_tree.specs.declared.value.Value.TheVariants as values
 use Rattle.pk_tree.specs.Entries.{Entry}
-use Rattle.pk_tree.specs.Layouts.{reach, reach_after, step_reach}
+use Rattle.pk_tree.specs.Layouts.{StepsFit, reach, reach_after, step_reach}
 use Rattle.dis_dns.specs.declared.steps.Taken.{Taken}
 use Rattle.dis_dns.specs.declared.steps.Taken.TheVariants as takens
 
@@ -73,9 +73,12 @@ abbrev pub IsTaken : StepsShown → Taken → Type 0
 IsTaken s (takens.List list) = (s.keeps ≡ true) × (list.items ≡ s.list)
 IsTaken s (takens.Reach reach) = (s.keeps ≡ false) × (reach ≡ s.reach)
 
--- what was taken of steps in a layer of so many bytes: the steps, or where no field of the protocol is wanted, how far they are
--- read
-abbrev pub HoldsSteps : List ℕ → ℕ → ℕ → List Step → Taken → Type 0
-HoldsSteps wanted proto end steps (takens.List list) = list.items ≡ map (shown_step wanted) steps
-HoldsSteps wanted proto end steps (takens.Reach r) =
-    (r ≡ reach end steps) × ((f : ℕ) → (row_of f).proto ≡ proto → is_in wanted f ≡ false)
+-- what was taken of steps in a layer of so many bytes: the steps, or how far they are read
+abbrev pub HoldsSteps : List ℕ → ℕ → List Step → Taken → Type 0
+HoldsSteps wanted end steps (takens.List list) = list.items ≡ map (shown_step wanted) steps
+HoldsSteps wanted end steps (takens.Reach r) = r ≡ reach end steps
+
+-- steps that were taken may stand in the protocol's layout; where none are, no field of the protocol is wanted
+abbrev pub FitsTaken : List ℕ → ℕ → Taken → Type 0
+FitsTaken wanted proto (takens.List list) = StepsFit proto list.items
+FitsTaken wanted proto (takens.Reach r) = (f : ℕ) → (row_of f).proto ≡ proto → is_in wanted f ≡ false

@@ -106,6 +106,19 @@ abbrev pub ReadsNames : Type 0
 ReadsNames = (bytes : List ℕ) (end place after : ℕ) (text : List ℕ) → end ≤ length bytes →
     (name_at bytes end place ≡ (Name after, text)) ↔ ((labels : List (List ℕ)) × IsName bytes end place labels after × (text ≡ text_on [] labels))
 
+-- the run at a place goes past an end: it is at the end, or a label or a pointer there doesn't fit before it, or one behind
+-- labels that make no name too long; the size is that of the labels so far
+pub data IsLeaving (bytes : List ℕ) (end : ℕ) : ℕ → ℕ → Type 0 where
+  at_end : (place size : ℕ) → end ≤ place → IsLeaving bytes end place size
+  in_label : (place size : ℕ) → place < end → 0 < slice_index bytes place → slice_index bytes place < 64 → end < place + 1 + slice_index bytes place → IsLeaving bytes end place size
+  in_pointer : (place size : ℕ) → place < end → 192 ≤ slice_index bytes place → end < place + 2 → IsLeaving bytes end place size
+  past_label : (place size : ℕ) → place + 1 + slice_index bytes place ≤ end → 0 < slice_index bytes place → slice_index bytes place < 64 → size + 1 + slice_index bytes place + 1 ≤ 255 →
+      IsLeaving bytes end (place + 1 + slice_index bytes place) (size + 1 + slice_index bytes place) → IsLeaving bytes end place size
+
+-- a name leaves its message, or its record's data, exactly where its first run does: any other run's end is the message's
+abbrev pub TellsLeaving : Type 0
+TellsLeaving = (bytes : List ℕ) (end place : ℕ) → ((name_at bytes end place).0 ≡ Leaves) ↔ IsLeaving bytes end place 0
+
 -- a name ends behind its place, inside its message
 abbrev pub EndsIn : ℕ → ℕ → NameEnd → Type 0
 EndsIn place most (Name after) = (place < after) × (after ≤ most)

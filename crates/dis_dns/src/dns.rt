@@ -1,20 +1,23 @@
-ghost use Rattle.std.specs.Prelude.{◌≡◌, ℕ, ◌+◌, ◌<◌, ◌≤◌, ◌^◌, ◌++◌, length, drop, IfOk, IfSome, OnOk};
+ghost use Rattle.std.specs.Prelude.{◌≡◌, ℕ, List, ◌+◌, ◌<◌, ◌≤◌, ◌^◌, ◌++◌, length, drop, IfOk, IfSome, OnOk};
 ghost use Rattle.pk_buffer.specs.Buffers.{IsInside, bytes_of};
-ghost use Rattle.pk_fields.specs.Ids.{DNS};
+ghost use Rattle.pk_fields.specs.Ids.{DNS, MDNS};
 ghost use Rattle.pk_tree.specs.Entries.{repeated};
-ghost use Rattle.pk_tree.specs.Layouts.{layer_read};
+ghost use Rattle.pk_tree.specs.Layouts.{StepsFit, layer_read};
+ghost use Rattle.pk_tree.specs.Values.{IsProtocol};
+ghost use Rattle.pk_tree.specs.declared.layout.Step.{Step as StepValue};
 ghost use Rattle.dis_dns.specs.Chains.{AreChainEnds};
-ghost use Rattle.dis_dns.specs.Collected.{HoldsSteps, Takes, with_steps};
-ghost use Rattle.dis_dns.specs.Dns.{dns_layout, header_rows, message_steps, record_count, sections};
-ghost use Rattle.dis_dns.specs.Names.{ReadsNames};
+ghost use Rattle.dis_dns.specs.Collected.{FitsTaken, HoldsSteps, Takes, with_steps};
+ghost use Rattle.dis_dns.specs.Dns.{dns_layout, header_rows, mdns_layout, message_steps, record_count, sections};
+ghost use Rattle.dis_dns.specs.Names.{ReadsNames, TellsLeaving};
 ghost use Rattle.dis_dns.specs.Records.{question, resource, word_at};
 ghost use Rattle.dis_dns.specs.Texts.{AllStrings};
 
 use crate::chains::chain_ends;
+use crate::fields::{DnsFields, dns_fields, mdns_fields};
 use crate::records::{Message, push_question, push_record, word_at};
 use crate::steps::{Steps, Taken};
 use pk_base::{NoMemory, Span};
-use pk_fields::ids;
+use pk_fields::{FieldId, ids};
 use pk_tree::{Mode, Step, TreeBuilder, pass_layer, read_layer};
 use std::alloc::Global;
 
@@ -31,18 +34,59 @@ pub fn read_dns(span: Span, prefixed: bool, cut: bool, b: &mut TreeBuilder) -> R
     requires room { length b.old.layers + 2 < 2 ^ 32 }
     ensures layer { IfOk result (λ _. b.new ≡ layer_read b.old DNS span (dns_layout prefixed (bytes_of b.old.buffers span)) Mode.Plain cut) }
     ensures names { ReadsNames }
+    ensures leaving { TellsLeaving }
     ensures texts { AllStrings }
     ensures buffers { b.new.buffers ≡ b.old.buffers }
     ensures some { OnOk result (0 < length b.new.layers) }
     ensures most { OnOk result (length b.new.layers ≤ length b.old.layers + 2) }
 {
-    match dns_steps(b, prefixed, b.bytes(span))? {
+    let taken = dns_steps(b, prefixed, b.bytes(span))?;
+    add_layer(b, ids::DNS, span, taken, cut)?;
+    Ok(())
+}
+
+/// Reads a message of multicast DNS (RFC 6762, 18). Nothing follows it. `cut` says that the frame was captured only in part.
+#[tactic(auto, unfolding(pk_fields::specs::Fields::row_of, pk_fields::specs::Table::rows))]
+pub fn read_mdns(span: Span, cut: bool, b: &mut TreeBuilder) -> Result<(), NoMemory>
+    requires inside { IsInside b.old.buffers span }
+    requires room { length b.old.layers + 2 < 2 ^ 32 }
+    ensures layer { IfOk result (λ _. b.new ≡ layer_read b.old MDNS span (mdns_layout (bytes_of b.old.buffers span)) Mode.Plain cut) }
+    ensures names { ReadsNames }
+    ensures leaving { TellsLeaving }
+    ensures texts { AllStrings }
+    ensures buffers { b.new.buffers ≡ b.old.buffers }
+    ensures some { OnOk result (0 < length b.new.layers) }
+    ensures most { OnOk result (length b.new.layers ≤ length b.old.layers + 2) }
+{
+    let taken = mdns_steps(b, b.bytes(span))?;
+    add_layer(b, ids::MDNS, span, taken, cut)?;
+    Ok(())
+}
+
+/// Adds the layer of a message whose steps were taken.
+fn add_layer(
+    b: &mut TreeBuilder,
+    protocol: FieldId,
+    span: Span,
+    taken: Taken,
+    cut: bool,
+) -> Result<(), NoMemory>
+    requires inside { IsInside b.old.buffers span }
+    requires protocol { IsProtocol protocol }
+    requires room { length b.old.layers + 2 < 2 ^ 32 }
+    requires fits { FitsTaken b.old.wanted protocol taken }
+    ensures layer { OnOk result ((layout : List StepValue) → StepsFit protocol layout → HoldsSteps b.old.wanted span.len layout taken → b.new ≡ layer_read b.old protocol span layout Mode.Plain cut) }
+    ensures buffers { b.new.buffers ≡ b.old.buffers }
+    ensures some { OnOk result (0 < length b.new.layers) }
+    ensures most { OnOk result (length b.new.layers ≤ length b.old.layers + 2) }
+{
+    match taken {
         Taken::List(steps) => {
-            read_layer(b, ids::DNS, span, &steps, Mode::Plain, cut)?;
+            read_layer(b, protocol, span, &steps, Mode::Plain, cut)?;
             Ok(())
         }
         Taken::Reach(reach) => {
-            pass_layer(b, ids::DNS, span, reach, Mode::Plain, cut)?;
+            pass_layer(b, protocol, span, reach, Mode::Plain, cut)?;
             Ok(())
         }
     }
@@ -51,48 +95,71 @@ pub fn read_dns(span: Span, prefixed: bool, cut: bool, b: &mut TreeBuilder) -> R
 /// The steps of a layer that has these bytes, or how far they are read where no field of it is wanted.
 fn dns_steps(tree: &TreeBuilder, prefixed: bool, bytes: &[u8]) -> Result<Taken, NoMemory>
     requires { length bytes.now < 2 ^ 32 }
-    ensures { IfOk result (λ taken. HoldsSteps tree.now.wanted DNS (length bytes.now) (dns_layout prefixed bytes.now) taken) }
+    ensures holds { IfOk result (λ taken. HoldsSteps tree.now.wanted (length bytes.now) (dns_layout prefixed bytes.now) taken) }
+    ensures fits { IfOk result (λ taken. FitsTaken tree.now.wanted DNS taken) }
 {
     let mut steps = Steps::new(tree, ids::DNS, bytes.len())?;
-    push_layer(tree.alloc(), &mut steps, prefixed, bytes)?;
+    push_dns(tree.alloc(), &mut steps, prefixed, bytes)?;
+    Ok(steps.finish())
+}
+
+/// The same of multicast DNS.
+fn mdns_steps(tree: &TreeBuilder, bytes: &[u8]) -> Result<Taken, NoMemory>
+    requires { length bytes.now < 2 ^ 32 }
+    ensures holds { IfOk result (λ taken. HoldsSteps tree.now.wanted (length bytes.now) (mdns_layout bytes.now) taken) }
+    ensures fits { IfOk result (λ taken. FitsTaken tree.now.wanted MDNS taken) }
+{
+    let mut steps = Steps::new(tree, ids::MDNS, bytes.len())?;
+    push_mdns(tree.alloc(), &mut steps, bytes)?;
     Ok(steps.finish())
 }
 
 #[tactic(auto, unfolding(crate::specs::Dns::dns_layout, crate::specs::Collected::with_steps))]
-fn push_layer(
-    alloc: Global,
-    steps: &mut Steps,
-    prefixed: bool,
-    bytes: &[u8],
-) -> Result<(), NoMemory>
+fn push_dns(alloc: Global, steps: &mut Steps, prefixed: bool, bytes: &[u8]) -> Result<(), NoMemory>
     requires { length bytes.now < 2 ^ 32 }
     ensures { OnOk result (steps.new ≡ with_steps steps.old (dns_layout prefixed bytes.now)) }
 {
     if !prefixed {
         let base = 0;
-        return push_message(alloc, steps, bytes, base);
+        return push_message(alloc, steps, dns_fields(), bytes, base);
     }
     steps.push(Step::Row(ids::DNS_LENGTH, 0))?;
     let bytes = behind_prefix(bytes);
     let base = PREFIX;
-    push_message(alloc, steps, bytes, base)
+    push_message(alloc, steps, dns_fields(), bytes, base)
+}
+
+#[tactic(auto, unfolding(crate::specs::Dns::mdns_layout))]
+fn push_mdns(alloc: Global, steps: &mut Steps, bytes: &[u8]) -> Result<(), NoMemory>
+    requires { length bytes.now < 2 ^ 32 }
+    ensures { OnOk result (steps.new ≡ with_steps steps.old (mdns_layout bytes.now)) }
+{
+    let base = 0;
+    push_message(alloc, steps, mdns_fields(), bytes, base)
 }
 
 /// Adds the steps of a message before which its layer has so many bytes.
 #[tactic(auto, using(crate::proofs::CollectedLemmas::with_steps_append), unfolding(crate::specs::Dns::message_steps))]
-fn push_message(alloc: Global, steps: &mut Steps, bytes: &[u8], base: usize) -> Result<(), NoMemory>
+fn push_message(
+    alloc: Global,
+    steps: &mut Steps,
+    fields: DnsFields,
+    bytes: &[u8],
+    base: usize,
+) -> Result<(), NoMemory>
     requires base { base ≤ 2 }
     requires short { length bytes.now < 2 ^ 32 }
-    ensures { OnOk result (steps.new ≡ with_steps steps.old (message_steps base bytes.now)) }
+    ensures { OnOk result (steps.new ≡ with_steps steps.old (message_steps fields base bytes.now)) }
 {
     let ends = chain_ends(alloc, bytes)?;
     let message = Message {
+        fields,
         bytes,
         chain_ends: &ends,
         base,
         alloc,
     };
-    push_header(steps, base)?;
+    push_header(steps, &message)?;
     push_sections(steps, &message)?;
     Ok(())
 }
@@ -104,28 +171,30 @@ fn behind_prefix(bytes: &[u8]) -> &[u8]
     &bytes[PREFIX.min(bytes.len())..]
 }
 
-/// Adds the rows of the header of a message before which its layer has so many bytes.
+/// Adds the rows of a message's header.
 #[tactic(auto, unfolding(crate::specs::Dns::header_rows, crate::specs::Collected::with_steps))]
-fn push_header(steps: &mut Steps, base: usize) -> Result<(), NoMemory>
-    requires { base ≤ 2 }
-    ensures { OnOk result (steps.new ≡ with_steps steps.old (header_rows base)) }
+fn push_header(steps: &mut Steps, message: &Message) -> Result<(), NoMemory>
+    requires { message.now.base ≤ 2 }
+    ensures { OnOk result (steps.new ≡ with_steps steps.old (header_rows message.now.fields.header message.now.base)) }
 {
-    steps.push(Step::Row(ids::DNS_ID, base))?;
-    steps.push(Step::Row(ids::DNS_FLAGS, base + 2))?;
-    steps.push(Step::Row(ids::DNS_FLAGS_RESPONSE, base + 2))?;
-    steps.push(Step::Row(ids::DNS_FLAGS_OPCODE, base + 2))?;
-    steps.push(Step::Row(ids::DNS_FLAGS_AUTHORITATIVE, base + 2))?;
-    steps.push(Step::Row(ids::DNS_FLAGS_TRUNCATED, base + 2))?;
-    steps.push(Step::Row(ids::DNS_FLAGS_RECDESIRED, base + 2))?;
-    steps.push(Step::Row(ids::DNS_FLAGS_RECAVAIL, base + 3))?;
-    steps.push(Step::Row(ids::DNS_FLAGS_Z, base + 3))?;
-    steps.push(Step::Row(ids::DNS_FLAGS_AUTHENTICATED, base + 3))?;
-    steps.push(Step::Row(ids::DNS_FLAGS_CHECKDISABLE, base + 3))?;
-    steps.push(Step::Row(ids::DNS_FLAGS_RCODE, base + 3))?;
-    steps.push(Step::Row(ids::DNS_COUNT_QUERIES, base + 4))?;
-    steps.push(Step::Row(ids::DNS_COUNT_ANSWERS, base + 6))?;
-    steps.push(Step::Row(ids::DNS_COUNT_AUTH_RR, base + 8))?;
-    steps.push(Step::Row(ids::DNS_COUNT_ADD_RR, base + 10))?;
+    let fields = message.fields.header;
+    let base = message.base;
+    steps.push(Step::Row(fields.id, base))?;
+    steps.push(Step::Row(fields.flags, base + 2))?;
+    steps.push(Step::Row(fields.response, base + 2))?;
+    steps.push(Step::Row(fields.opcode, base + 2))?;
+    steps.push(Step::Row(fields.authoritative, base + 2))?;
+    steps.push(Step::Row(fields.truncated, base + 2))?;
+    steps.push(Step::Row(fields.recursion_desired, base + 2))?;
+    steps.push(Step::Row(fields.recursion_available, base + 3))?;
+    steps.push(Step::Row(fields.reserved, base + 3))?;
+    steps.push(Step::Row(fields.authenticated, base + 3))?;
+    steps.push(Step::Row(fields.checking_disabled, base + 3))?;
+    steps.push(Step::Row(fields.response_code, base + 3))?;
+    steps.push(Step::Row(fields.questions, base + 4))?;
+    steps.push(Step::Row(fields.answers, base + 6))?;
+    steps.push(Step::Row(fields.name_servers, base + 8))?;
+    steps.push(Step::Row(fields.further_records, base + 10))?;
     Ok(())
 }
 
@@ -135,7 +204,7 @@ fn push_sections(steps: &mut Steps, message: &Message) -> Result<(), NoMemory>
     requires chains { AreChainEnds message.now.bytes.now message.now.chain_ends.now }
     requires base { message.now.base ≤ 2 }
     requires short { length message.now.bytes.now < 2 ^ 32 }
-    ensures { OnOk result (steps.new ≡ with_steps steps.old (sections message.now.base message.now.bytes.now).steps) }
+    ensures { OnOk result (steps.new ≡ with_steps steps.old (sections message.now.fields message.now.base message.now.bytes.now).steps) }
 {
     let questions = word_at(message.bytes, 4);
     let Some(at) = push_questions(steps, message, questions, HEADER)? else {
@@ -164,7 +233,7 @@ fn push_questions(
     requires base { message.now.base ≤ 2 }
     requires short { length message.now.bytes.now < 2 ^ 32 }
     requires place { at < 2 ^ 33 }
-    ensures adds { IfOk result (Takes steps.old steps.new (repeated count (question message.now.base message.now.bytes.now) at)) }
+    ensures adds { IfOk result (Takes steps.old steps.new (repeated count (question message.now.fields.question message.now.base message.now.bytes.now) at)) }
     ensures bound { IfOk result (λ next. IfSome next (λ place. place < 2 ^ 33)) }
 {
     let mut place = at;
@@ -188,7 +257,7 @@ fn push_records(
     requires base { message.now.base ≤ 2 }
     requires short { length message.now.bytes.now < 2 ^ 32 }
     requires place { at < 2 ^ 33 }
-    ensures { OnOk result (steps.new ≡ with_steps steps.old (repeated count (resource message.now.base message.now.bytes.now) at).steps) }
+    ensures { OnOk result (steps.new ≡ with_steps steps.old (repeated count (resource message.now.fields message.now.base message.now.bytes.now) at).steps) }
 {
     let mut place = at;
     for _record in 0..count {

@@ -3,16 +3,17 @@ ghost use Rattle.pk_tree.specs.Entries.{repeated};
 ghost use Rattle.dis_dns.specs.Chains.{AreChainEnds};
 ghost use Rattle.dis_dns.specs.Collected.{Takes, with_steps};
 ghost use Rattle.dis_dns.specs.Names.{EndsIn, name_at};
-ghost use Rattle.dis_dns.specs.Records.{data_row, data_steps, mail_data, name_entry, question, record_head, record_tail, resource, shown_name, text_string, word_at, zone_data, zone_numbers};
+ghost use Rattle.dis_dns.specs.Records.{class_rows, data_row, data_steps, mail_data, name_entry, question, record_head, record_tail, resource, service_data, service_or_data, shown_name, text_string, word_at, zone_data, zone_numbers};
 
+use crate::fields::{ClassFields, DnsFields, ServiceFields};
 use crate::names::{NameEnd, read_name};
 use crate::steps::Steps;
 use pk_base::{NAME_LIMIT, NoMemory, Octets};
-use pk_fields::{FieldId, ids};
+use pk_fields::FieldId;
 use pk_tree::{Step, peek};
 use std::alloc::Global;
 
-/// The types of records whose data is read (RFC 1035, 3.2.2; RFC 3596, 2.1).
+/// The types of records whose data is read (RFC 1035, 3.2.2; RFC 3596, 2.1; RFC 2782).
 const ADDRESS: usize = 1;
 
 const NAME_SERVER: usize = 2;
@@ -29,12 +30,16 @@ const TEXT: usize = 16;
 
 const ADDRESS_6: usize = 28;
 
+const SERVICE: usize = 33;
+
 /// The bytes between a record's name and its data.
 const RECORD_HEAD: usize = 10;
 
-/// A message, where its chains of bare pointers end, and how many bytes of its layer stand before it.
+/// A message, where its chains of bare pointers end, how many bytes of its layer stand before it, and the fields that it
+/// is shown as.
 #[derive(Drop)]
 pub(crate) struct Message<'a> {
+    pub(crate) fields: DnsFields,
     pub(crate) bytes: &'a [u8],
     pub(crate) chain_ends: &'a [u16],
     pub(crate) base: usize,
@@ -61,16 +66,31 @@ pub(crate) fn push_question(
     requires base { message.now.base ≤ 2 }
     requires short { length message.now.bytes.now < 2 ^ 32 }
     requires place { at < 2 ^ 33 }
-    ensures adds { IfOk result (Takes steps.old steps.new (question message.now.base message.now.bytes.now at)) }
+    ensures adds { IfOk result (Takes steps.old steps.new (question message.now.fields.question message.now.base message.now.bytes.now at)) }
     ensures bound { IfOk result (λ next. IfSome next (λ place. place < 2 ^ 33)) }
 {
+    let fields = message.fields.question;
     let end = message.bytes.len();
-    let Some(at) = push_name(steps, message, ids::DNS_QRY_NAME, end, at)? else {
+    let Some(at) = push_name(steps, message, fields.name, end, at)? else {
         return Ok(None);
     };
-    steps.push(Step::Row(ids::DNS_QRY_TYPE, message.base + at))?;
-    steps.push(Step::Row(ids::DNS_QRY_CLASS, message.base + at + 2))?;
+    steps.push(Step::Row(fields.kind, message.base + at))?;
+    push_class(steps, fields.class, message.base + at + 2)?;
     Ok(Some(at + 4))
+}
+
+/// Adds the steps of a class.
+#[tactic(auto, unfolding(crate::specs::Collected::with_steps))]
+fn push_class(steps: &mut Steps, fields: ClassFields, at: usize) -> Result<(), NoMemory>
+    ensures { OnOk result (steps.new ≡ with_steps steps.old (class_rows fields at)) }
+{
+    match fields {
+        ClassFields::Full(class) => steps.push(Step::Row(class, at)),
+        ClassFields::Split(top, class) => {
+            steps.push(Step::Row(top, at))?;
+            steps.push(Step::Row(class, at))
+        }
+    }
 }
 
 /// Adds the steps of the record at a place, and answers where the next one is.
@@ -84,11 +104,11 @@ pub(crate) fn push_record(
     requires base { message.now.base ≤ 2 }
     requires short { length message.now.bytes.now < 2 ^ 32 }
     requires place { at < 2 ^ 33 }
-    ensures adds { IfOk result (Takes steps.old steps.new (resource message.now.base message.now.bytes.now at)) }
+    ensures adds { IfOk result (Takes steps.old steps.new (resource message.now.fields message.now.base message.now.bytes.now at)) }
     ensures bound { IfOk result (λ next. IfSome next (λ place. place < 2 ^ 33)) }
 {
     let end = message.bytes.len();
-    let Some(at) = push_name(steps, message, ids::DNS_RESP_NAME, end, at)? else {
+    let Some(at) = push_name(steps, message, message.fields.record_head.name, end, at)? else {
         return Ok(None);
     };
     let next = push_record_tail(steps, message, at)?;
@@ -102,26 +122,27 @@ fn push_record_tail(steps: &mut Steps, message: &Message, at: usize) -> Result<u
     requires base { message.now.base ≤ 2 }
     requires short { length message.now.bytes.now < 2 ^ 32 }
     requires place { at ≤ length message.now.bytes.now }
-    ensures adds { IfOk result (λ next. Takes steps.old steps.new (record_tail message.now.base message.now.bytes.now at) (Some next)) }
+    ensures adds { IfOk result (λ next. Takes steps.old steps.new (record_tail message.now.fields message.now.base message.now.bytes.now at) (Some next)) }
     ensures bound { IfOk result (λ next. next < 2 ^ 33) }
 {
     let kind = word_at(message.bytes, at);
     let len = word_at(message.bytes, at + 8);
-    push_record_head(steps, message.base + at)?;
+    push_record_head(steps, message, message.base + at)?;
     push_data(steps, message, kind, at + RECORD_HEAD, len)?;
     Ok(at + RECORD_HEAD + len)
 }
 
-/// Adds the steps of a record's numbers.
-#[tactic(auto, unfolding(crate::specs::Collected::with_steps))]
-fn push_record_head(steps: &mut Steps, at: usize) -> Result<(), NoMemory>
+/// Adds the steps of a record's numbers, at a place of the layer.
+#[tactic(auto, using(crate::proofs::CollectedLemmas::with_steps_append), unfolding(crate::specs::Collected::with_steps))]
+fn push_record_head(steps: &mut Steps, message: &Message, at: usize) -> Result<(), NoMemory>
     requires { at < 2 ^ 34 }
-    ensures { OnOk result (steps.new ≡ with_steps steps.old (record_head at)) }
+    ensures { OnOk result (steps.new ≡ with_steps steps.old (record_head message.now.fields.record_head at)) }
 {
-    steps.push(Step::Row(ids::DNS_RESP_TYPE, at))?;
-    steps.push(Step::Row(ids::DNS_RESP_CLASS, at + 2))?;
-    steps.push(Step::Row(ids::DNS_RESP_TTL, at + 4))?;
-    steps.push(Step::Row(ids::DNS_RESP_LEN, at + 8))?;
+    let fields = message.fields.record_head;
+    steps.push(Step::Row(fields.kind, at))?;
+    push_class(steps, fields.class, at + 2)?;
+    steps.push(Step::Row(fields.time_to_live, at + 4))?;
+    steps.push(Step::Row(fields.len, at + 8))?;
     Ok(())
 }
 
@@ -139,20 +160,66 @@ fn push_data(
     requires short { length message.now.bytes.now < 2 ^ 32 }
     requires place { at < 2 ^ 33 }
     requires len { len < 65536 }
-    ensures { OnOk result (steps.new ≡ with_steps steps.old (data_steps message.now.base message.now.bytes.now kind at len)) }
+    ensures { OnOk result (steps.new ≡ with_steps steps.old (data_steps message.now.fields.record_data message.now.base message.now.bytes.now kind at len)) }
 {
+    let fields = message.fields.record_data;
     let place = message.base + at;
     match (kind, len) {
-        (ADDRESS, 4) => steps.push(Step::Row(ids::DNS_A, place))?,
-        (ADDRESS_6, 16) => steps.push(Step::Row(ids::DNS_AAAA, place))?,
-        (NAME_SERVER, _) => push_name_data(steps, message, ids::DNS_NS, at, len)?,
-        (CANONICAL_NAME, _) => push_name_data(steps, message, ids::DNS_CNAME, at, len)?,
-        (POINTER, _) => push_name_data(steps, message, ids::DNS_PTR_DOMAIN_NAME, at, len)?,
+        (ADDRESS, 4) => steps.push(Step::Row(fields.address, place))?,
+        (ADDRESS_6, 16) => steps.push(Step::Row(fields.address_6, place))?,
+        (NAME_SERVER, _) => push_name_data(steps, message, fields.name_server, at, len)?,
+        (CANONICAL_NAME, _) => push_name_data(steps, message, fields.canonical_name, at, len)?,
+        (POINTER, _) => push_name_data(steps, message, fields.pointer, at, len)?,
         (MAIL_EXCHANGE, _) => push_mail(steps, message, at, at + len)?,
         (START_OF_AUTHORITY, _) => push_zone(steps, message, at, at + len)?,
         (TEXT, _) => push_texts(steps, message, at, len)?,
-        _ => steps.push(Step::Part(ids::DNS_DATA, place, len))?,
+        (SERVICE, _) => push_service_or_data(steps, message, at, len)?,
+        _ => steps.push(Step::Part(fields.other, place, len))?,
     }
+    Ok(())
+}
+
+/// Adds the steps of the data of a service where it has fields, else of so many bytes.
+#[tactic(auto, unfolding(crate::specs::Collected::with_steps))]
+fn push_service_or_data(
+    steps: &mut Steps,
+    message: &Message,
+    at: usize,
+    len: usize,
+) -> Result<(), NoMemory>
+    requires chains { AreChainEnds message.now.bytes.now message.now.chain_ends.now }
+    requires base { message.now.base ≤ 2 }
+    requires short { length message.now.bytes.now < 2 ^ 32 }
+    requires place { at < 2 ^ 33 }
+    requires len { len < 65536 }
+    ensures { OnOk result (steps.new ≡ with_steps steps.old (service_or_data message.now.fields.record_data.service message.now.fields.record_data.other message.now.base message.now.bytes.now at len)) }
+{
+    match message.fields.record_data.service {
+        Some(fields) => push_service(steps, message, fields, at, at + len),
+        None => steps.push(Step::Part(message.fields.record_data.other, message.base + at, len)),
+    }
+}
+
+/// Adds the steps of a service, whose data ends at a place.
+#[tactic(auto, using(crate::proofs::CollectedLemmas::with_steps_append), unfolding(crate::specs::Records::service_data, crate::specs::Collected::with_steps))]
+fn push_service(
+    steps: &mut Steps,
+    message: &Message,
+    fields: ServiceFields,
+    at: usize,
+    end: usize,
+) -> Result<(), NoMemory>
+    requires chains { AreChainEnds message.now.bytes.now message.now.chain_ends.now }
+    requires base { message.now.base ≤ 2 }
+    requires short { length message.now.bytes.now < 2 ^ 32 }
+    requires place { at < 2 ^ 33 }
+    ensures { OnOk result (steps.new ≡ with_steps steps.old (service_data fields message.now.base message.now.bytes.now at end)) }
+{
+    push_row(steps, message, end, fields.priority, at, 2)?;
+    push_row(steps, message, end, fields.weight, at + 2, 2)?;
+    push_row(steps, message, end, fields.port, at + 4, 2)?;
+    let limit = end.min(message.bytes.len());
+    push_name(steps, message, fields.target, limit, at + 6)?;
     Ok(())
 }
 
@@ -183,11 +250,12 @@ fn push_mail(steps: &mut Steps, message: &Message, at: usize, end: usize) -> Res
     requires base { message.now.base ≤ 2 }
     requires short { length message.now.bytes.now < 2 ^ 32 }
     requires place { at < 2 ^ 33 }
-    ensures { OnOk result (steps.new ≡ with_steps steps.old (mail_data message.now.base message.now.bytes.now at end)) }
+    ensures { OnOk result (steps.new ≡ with_steps steps.old (mail_data message.now.fields.record_data message.now.base message.now.bytes.now at end)) }
 {
-    push_row(steps, message, end, ids::DNS_MX_PREFERENCE, at, 2)?;
+    let fields = message.fields.record_data;
+    push_row(steps, message, end, fields.preference, at, 2)?;
     let limit = end.min(message.bytes.len());
-    push_name(steps, message, ids::DNS_MX_MAIL_EXCHANGE, limit, at + 2)?;
+    push_name(steps, message, fields.mail_exchange, limit, at + 2)?;
     Ok(())
 }
 
@@ -198,13 +266,14 @@ fn push_zone(steps: &mut Steps, message: &Message, at: usize, end: usize) -> Res
     requires base { message.now.base ≤ 2 }
     requires short { length message.now.bytes.now < 2 ^ 32 }
     requires place { at < 2 ^ 33 }
-    ensures { OnOk result (steps.new ≡ with_steps steps.old (zone_data message.now.base message.now.bytes.now at end).steps) }
+    ensures { OnOk result (steps.new ≡ with_steps steps.old (zone_data message.now.fields.record_data.zone message.now.base message.now.bytes.now at end).steps) }
 {
+    let fields = message.fields.record_data.zone;
     let limit = end.min(message.bytes.len());
-    let Some(at) = push_name(steps, message, ids::DNS_SOA_MNAME, limit, at)? else {
+    let Some(at) = push_name(steps, message, fields.server, limit, at)? else {
         return Ok(());
     };
-    let Some(at) = push_name(steps, message, ids::DNS_SOA_RNAME, limit, at)? else {
+    let Some(at) = push_name(steps, message, fields.mailbox, limit, at)? else {
         return Ok(());
     };
     push_zone_numbers(steps, message, at, end)
@@ -220,20 +289,14 @@ fn push_zone_numbers(
 ) -> Result<(), NoMemory>
     requires base { message.now.base ≤ 2 }
     requires place { at < 2 ^ 33 }
-    ensures { OnOk result (steps.new ≡ with_steps steps.old (zone_numbers message.now.base end at).steps) }
+    ensures { OnOk result (steps.new ≡ with_steps steps.old (zone_numbers message.now.fields.record_data.zone message.now.base end at).steps) }
 {
-    push_row(steps, message, end, ids::DNS_SOA_SERIAL_NUMBER, at, 4)?;
-    push_row(
-        steps,
-        message,
-        end,
-        ids::DNS_SOA_REFRESH_INTERVAL,
-        at + 4,
-        4,
-    )?;
-    push_row(steps, message, end, ids::DNS_SOA_RETRY_INTERVAL, at + 8, 4)?;
-    push_row(steps, message, end, ids::DNS_SOA_EXPIRE_LIMIT, at + 12, 4)?;
-    push_row(steps, message, end, ids::DNS_SOA_MINIMUM_TTL, at + 16, 4)?;
+    let fields = message.fields.record_data.zone;
+    push_row(steps, message, end, fields.serial, at, 4)?;
+    push_row(steps, message, end, fields.refresh, at + 4, 4)?;
+    push_row(steps, message, end, fields.retry, at + 8, 4)?;
+    push_row(steps, message, end, fields.expire, at + 12, 4)?;
+    push_row(steps, message, end, fields.minimum, at + 16, 4)?;
     Ok(())
 }
 
@@ -263,7 +326,7 @@ fn push_texts(steps: &mut Steps, message: &Message, at: usize, len: usize) -> Re
     requires short { length message.now.bytes.now < 2 ^ 32 }
     requires place { at < 2 ^ 33 }
     requires len { len < 65536 }
-    ensures { OnOk result (steps.new ≡ with_steps steps.old (repeated len (text_string message.now.base message.now.bytes.now (at + len)) at).steps) }
+    ensures { OnOk result (steps.new ≡ with_steps steps.old (repeated len (text_string message.now.base message.now.bytes.now message.now.fields.record_data.text (at + len)) at).steps) }
 {
     let mut place = at;
     for _string in 0..len {
@@ -285,7 +348,7 @@ fn push_text(
 ) -> Result<Option<usize>, NoMemory>
     requires base { message.now.base ≤ 2 }
     requires short { length message.now.bytes.now < 2 ^ 32 }
-    ensures { IfOk result (Takes steps.old steps.new (text_string message.now.base message.now.bytes.now end at)) }
+    ensures { IfOk result (Takes steps.old steps.new (text_string message.now.base message.now.bytes.now message.now.fields.record_data.text end at)) }
 {
     if end <= at {
         return Ok(None);
@@ -297,7 +360,7 @@ fn push_text(
     let len = usize::from(*len);
     let next = at + 1 + len;
     steps.push(Step::Room(next <= end))?;
-    steps.push(Step::Whole(ids::DNS_TXT, message.base + at + 1, len))?;
+    steps.push(Step::Whole(message.fields.record_data.text, message.base + at + 1, len))?;
     Ok(Some(next))
 }
 

@@ -25,7 +25,7 @@ use Rattle.tcp_streams.specs.declared.segment.Taken.{Taken}
 use Rattle.tcp_streams.specs.Gaps.{lost_bytes}
 use Rattle.capture_read.specs.declared.frame.Frame.{Frame}
 use Rattle.dissect.specs.declared.decode.App.{App}
-use Rattle.dissect.specs.declared.decode.App.TheVariants.{Http, Dns, Dhcp, Ntp, Plain}
+use Rattle.dissect.specs.declared.decode.App.TheVariants.{Http, Dns, Dhcp, Ntp, Mdns, Plain}
 use Rattle.dissect.specs.declared.times.Times.{Times}
 use Rattle.dissect.specs.declared.todo.Head.{Head}
 use Rattle.dissect.specs.declared.todo.Todo.{Todo}
@@ -118,6 +118,8 @@ message_kept wanted (Some Dhcp) cut span t u k =
 message_kept wanted (Some Ntp) cut span t u k =
     tree_as wanted (λ v. message_over (Some Ntp) v cut span) t u k
     (λ one. behind_kept wanted _ _ _ (layer_kept wanted t (kept_tree wanted t) _ span _ PlainMode cut one))
+message_kept wanted (Some Mdns) cut span t u k =
+    tree_as wanted (λ v. message_over (Some Mdns) v cut span) t u k (λ one. layer_kept wanted t (kept_tree wanted t) _ span _ PlainMode cut one)
 message_kept wanted (Some Http) cut span t u k = data_kept wanted t u span k
 message_kept wanted (Some Plain) cut span t u k = data_kept wanted t u span k
 message_kept wanted None cut span t u k = data_kept wanted t u span k

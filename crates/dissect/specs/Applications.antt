@@ -3,7 +3,7 @@ use Rattle.std.specs.Prelude.{◌==◌, ℕ, Bool, false, ◌||◌, nat_le, if�
 use Rattle.std.specs.Option.{option_or}
 use Rattle.pk_base.specs.declared.span.Span.{Span}
 use Rattle.pk_buffer.specs.Buffers.{bytes_of}
-use Rattle.pk_fields.specs.Ids.{DNS, DHCP, NTP}
+use Rattle.pk_fields.specs.Ids.{DNS, DHCP, NTP, MDNS}
 use Rattle.pk_tree.specs.declared.heads.After.{After}
 use Rattle.pk_tree.specs.declared.heads.After.TheVariants as afters
 use Rattle.pk_tree.specs.declared.heads.Mode.TheVariants.{Plain as PlainMode}
@@ -11,16 +11,21 @@ use Rattle.pk_tree.specs.declared.heads.PortsHead.{PortsHead}
 use Rattle.pk_tree.specs.Layouts.{layer_read}
 use Rattle.pk_tree.specs.Trees.{TreeShown}
 use Rattle.dis_dhcp.specs.Dhcp.{dhcp_layout}
-use Rattle.dis_dns.specs.Dns.{dns_layout}
+use Rattle.dis_dns.specs.Dns.{dns_layout, mdns_layout}
 use Rattle.dis_more.specs.Ntp.{ntp_layout, ntp_after}
 use Rattle.dissect.specs.declared.decode.App.{App}
-use Rattle.dissect.specs.declared.decode.App.TheVariants.{Http, Dns, Dhcp, Ntp, Plain}
+use Rattle.dissect.specs.declared.decode.App.TheVariants.{Http, Dns, Dhcp, Ntp, Mdns, Plain}
 use Rattle.dissect.specs.DataLayer.{data_over}
 
 -- the application of a port of UDP: DNS has 53 (RFC 1035, 4.2.1), DHCP's server 67 and its client 68 (RFC 2131, 4.1), NTP 123
--- (RFC 5905, 7.2)
+-- (RFC 5905, 7.2), multicast DNS 5353 (RFC 6762, 3)
 abbrev pub usual_udp : ℕ → Option App
-usual_udp port = if port == 53 then Some Dns else (if port == 67 || port == 68 then Some Dhcp else (if port == 123 then Some Ntp else None))
+usual_udp port =
+    if port == 53 then Some Dns
+    else (if port == 67 || port == 68 then Some Dhcp
+    else (if port == 123 then Some Ntp
+    else (if port == 5353 then Some Mdns
+    else None)))
 
 -- the lower port is asked first, then the higher
 abbrev pub app_in : (ℕ → Option App) → ℕ → ℕ → Option App
@@ -45,6 +50,7 @@ message_over (Some Dns) t cut span = layer_read t DNS span (dns_layout false (by
 message_over (Some Dhcp) t cut span = layer_read t DHCP span (dhcp_layout (bytes_of t.buffers span)) PlainMode cut
 message_over (Some Ntp) t cut span =
     data_behind (layer_read t NTP span (ntp_layout (bytes_of t.buffers span)) PlainMode cut) (ntp_after span (bytes_of t.buffers span))
+message_over (Some Mdns) t cut span = layer_read t MDNS span (mdns_layout (bytes_of t.buffers span)) PlainMode cut
 message_over (Some Http) t cut span = data_over t span
 message_over (Some Plain) t cut span = data_over t span
 message_over None t cut span = data_over t span

@@ -2,15 +2,16 @@
 use Rattle.std.specs.Prelude.{◌==◌, Bool, true, false, ◌&&◌, not, List, All, IsTrue}
 use Rattle.std.specs.List.{IsDistinct}
 use Rattle.dissect.specs.declared.decode.App.{App}
-use Rattle.dissect.specs.declared.decode.App.TheVariants.{Http, Dns, Dhcp, Ntp, Plain}
+use Rattle.dissect.specs.declared.decode.App.TheVariants.{Http, Dns, Dhcp, Ntp, Mdns, Plain}
 use Rattle.dissect.specs.declared.decode.PortRule.{PortRule}
 
--- HTTP is read in streams alone, DHCP and NTP in datagrams alone
+-- HTTP is read in streams alone, DHCP, NTP and multicast DNS in datagrams alone
 abbrev pub app_fits : Bool → App → Bool
 app_fits tcp Http = tcp
 app_fits tcp Dns = true
 app_fits tcp Dhcp = not tcp
 app_fits tcp Ntp = not tcp
+app_fits tcp Mdns = not tcp
 app_fits tcp Plain = true
 
 abbrev pub same_transport : Bool → Bool → Bool

@@ -6,7 +6,7 @@ ghost use Rattle.dissect.specs.Applications.{usual_udp, app_in, app_of, data_beh
 use crate::data_layer::add_data;
 use crate::decode::App;
 use dis_dhcp::read_dhcp;
-use dis_dns::read_dns;
+use dis_dns::{read_dns, read_mdns};
 use dis_more::read_ntp;
 use pk_base::{NoMemory, Span};
 use pk_tree::{After, PortsHead, TreeBuilder};
@@ -37,6 +37,7 @@ fn usual_udp(port: u16) -> Option<App>
         53 => Some(App::Dns),
         67 | 68 => Some(App::Dhcp),
         123 => Some(App::Ntp),
+        5353 => Some(App::Mdns),
         _ => None,
     }
 }
@@ -65,6 +66,7 @@ pub(crate) fn add_message(
             let after = read_ntp(span, cut, tree)?;
             add_rest(after, tree)
         }
+        Some(App::Mdns) => read_mdns(span, cut, tree),
         Some(App::Http) | Some(App::Plain) | None => add_data(span, tree),
     }
 }

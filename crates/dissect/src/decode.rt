@@ -9,6 +9,7 @@ pub enum App {
     Dns,
     Dhcp,
     Ntp,
+    Mdns,
     /// Shown as data, whatever the port.
     Plain,
 }

@@ -1,0 +1,42 @@
+use Rattle.std.proofs.Common.{List, ℕ}
+use Rattle.pk_buffer.specs.Buffers.{bytes_of}
+use Rattle.dis_dns.specs.Collected.{HoldsSteps}
+use Rattle.dis_dns.specs.Dns.{mdns_layout}
+use Rattle.dis_dns.proofs.DnsFits.{mdns_layout_fits}
+use Rattle.dis_dns.proofs.LeavingLaw.{tells_leaving}
+use Rattle.dis_dns.proofs.NameLaw.{reads_names}
+use Rattle.dis_dns.proofs.TextLemmas.{all_strings}
+use Rattle.dis_dns.proofs.dns.read_mdns.Goals as goal
+
+pub returns-clause-layer : goal.returns-clause-layer
+returns-clause-layer c =
+    let bytes : List ℕ = bytes_of c.args.b.now.buffers c.args.span in
+    let holds : HoldsSteps c.args.b.now.wanted c.args.span.len (mdns_layout bytes) c.in_ok-taken.taken = rw (c.bytes.ensures.len, c.bytes.ensures.bytes) at c.in_ok-taken.ensures.holds in
+    c.in_ok-add_layer.ensures.layer (mdns_layout bytes) (mdns_layout_fits bytes) holds
+
+pub returns-in_err-taken-clause-names : goal.returns-in_err-taken-clause-names
+returns-in_err-taken-clause-names c = reads_names
+
+pub returns-in_err-taken-clause-leaving : goal.returns-in_err-taken-clause-leaving
+returns-in_err-taken-clause-leaving c = tells_leaving
+
+pub returns-in_err-taken-clause-texts : goal.returns-in_err-taken-clause-texts
+returns-in_err-taken-clause-texts c = all_strings
+
+pub returns-in_err-add_layer-clause-names : goal.returns-in_err-add_layer-clause-names
+returns-in_err-add_layer-clause-names c = reads_names
+
+pub returns-in_err-add_layer-clause-leaving : goal.returns-in_err-add_layer-clause-leaving
+returns-in_err-add_layer-clause-leaving c = tells_leaving
+
+pub returns-in_err-add_layer-clause-texts : goal.returns-in_err-add_layer-clause-texts
+returns-in_err-add_layer-clause-texts c = all_strings
+
+pub returns-clause-names : goal.returns-clause-names
+returns-clause-names c = reads_names
+
+pub returns-clause-leaving : goal.returns-clause-leaving
+returns-clause-leaving c = tells_leaving
+
+pub returns-clause-texts : goal.returns-clause-texts
+returns-clause-texts c = all_strings
