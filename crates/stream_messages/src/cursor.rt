@@ -1,4 +1,4 @@
-ghost use Rattle.std.specs.Prelude.{◌≡◌, ◌+◌, ◌≤◌, ◌^◌, ◌<◌, if◌then◌else◌, length, nat_lt, Some, None, IfSome, IfOk, OnOk};
+ghost use Rattle.std.specs.Prelude.{◌≡◌, ◌+◌, ◌^◌, ◌<◌, if◌then◌else◌, nat_lt, Some, None, IfOk};
 ghost use Rattle.stream_messages.specs.Tellings.{end_of, passed};
 ghost use Rattle.stream_messages.specs.Cursors.{answers_before, begun, mark_behind, next_at, next_behind};
 ghost use Rattle.stream_messages.specs.declared.cursor.Mark.{Mark as MarkValue};

@@ -1,4 +1,4 @@
-ghost use Rattle.std.specs.Prelude.{◌≡◌, ◌+◌, ◌++◌, ◌^◌, ◌<◌, ◌≤◌, ℕ, Bool, false, true, IsTrue, List, All, length, drop, get_or, Some, None, IfOk, IfSome, IfNone};
+ghost use Rattle.std.specs.Prelude.{◌≡◌, ◌+◌, ◌++◌, ◌^◌, ◌<◌, ◌≤◌, ℕ, Bool, false, true, List, All, length, drop, get_or, IfOk, IfSome, IfNone};
 ghost use Rattle.stream_messages.specs.Messages.{Asked, AgreeBelow};
 ghost use Rattle.stream_messages.specs.Cursors.{AsksBetween, IsAskedOf, IsBehind, IsCut, IsKnown, IsLook, IsPartCut, IsSound, IsWhole, goes, next_at};
 ghost use Rattle.stream_messages.specs.declared.told.App.{App as AppValue};
