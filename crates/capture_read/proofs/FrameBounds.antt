@@ -1,19 +1,20 @@
 -- The frames of a capture file are few, and numbered in order.
-use Rattle.std.proofs.Common.{◌≤◌, ℕ, zero, suc, ◌-◌, ◌^◌, Bool, List, [], ◌∷◌, length, drop, refl, arith, length-take, length-drop}
+use Rattle.std.proofs.Common.{◌≡◌, ◌≤◌, ℕ, zero, suc, ◌-◌, ◌^◌, Bool, List, [], ◌∷◌, length, drop, refl, arith, length-take, length-drop}
 use Rattle.pk_base.specs.Limits.{file_limit}
 use Rattle.pcap_read.specs.Pcap.{pcap_head}
 use Rattle.pcap_read.specs.declared.header.PcapHead.{PcapHead}
 use Rattle.pcap_read.specs.declared.header.HeadStep.TheVariants as head
 use Rattle.capture_read.specs.declared.ending.Ending.{Ending}
+use Rattle.capture_read.specs.declared.frame.Frame.{Frame}
 use Rattle.pk_base.proofs.Choices.{by_case}
 use Rattle.capture_read.specs.Capture.{Reading, ended, capture_of, pieces, held_part, is_large, is_pcapng, after_head, after_piece}
-use Rattle.capture_read.specs.FrameList.{AreBytes, AreNumbered, AreTimesSmall, captured_bytes}
+use Rattle.capture_read.specs.FrameList.{AreTimesSmall, captured_bytes}
 use Rattle.capture_read.specs.Pieces.{record_at, head_behind, block_at, blocks_behind, IsPieceWithin}
 use Rattle.capture_read.specs.declared.piece.Piece.{Piece}
 use Rattle.capture_read.specs.declared.piece.Piece.TheVariants.{End, Packet, Passed}
 use Rattle.capture_read.proofs.Limit.{length-held_part}
 use Rattle.capture_read.proofs.PieceBounds.{record-within, block-within}
-use Rattle.capture_read.proofs.SmallTimes.{IsTimely, AreBlocks, record-timely, block-timely, bytes-take, bytes-drop}
+use Rattle.capture_read.proofs.SmallTimes.{AreBytes, IsTimely, AreBlocks, record-timely, block-timely, bytes-take, bytes-drop}
 
 -- what holds of each reading of records or blocks, and of a file that ends at its header, holds of the file
 pub by_format : (P : Reading → Type 0) (file : List ℕ)
@@ -29,6 +30,11 @@ by_format P file none records blocks =
       | head.Head h ↦ records h
       | head.Bad reason ↦ none _
     ])
+
+-- the frames have numbers one after the other, from this one on
+abbrev pub AreNumbered : ℕ → List Frame → Type 0
+AreNumbered number [] = Unit {0}
+AreNumbered number (frame ∷ frames) = (frame.number ≡ number) × AreNumbered (suc number) frames
 
 -- frames are numbered from the given number on
 pieces-numbered : {S : Type 0} (read : S → ℕ → List ℕ → Piece) (behind : S → List ℕ → S) (large : Bool) (known : S) (number at skip : ℕ) (bytes : List ℕ)

@@ -1,5 +1,5 @@
 -- What bytes stand for from a place of a file on is the first header, record or block, and what follows it.
-use Rattle.std.proofs.Common.{◌≡◌, ℕ, ◌+◌, Bool, true, false, List, [], ◌∷◌, length, drop, Option, Some, None, refl, sym, ap, ◌∙◌, arith, if◌then◌else◌}
+use Rattle.std.proofs.Common.{◌≡◌, ℕ, suc, ◌+◌, Bool, true, false, List, [], ◌∷◌, length, drop, Option, Some, None, refl, sym, ap, ◌∙◌, arith, if◌then◌else◌}
 use Rattle.pk_base.specs.declared.found.Found.{Found}
 use Rattle.pk_base.specs.declared.found.Reason.TheVariants.{ShortHeader, RecordCut, BlockCut}
 use Rattle.pcap_read.specs.Pcap.{pcap_head, pcap_item}
@@ -11,16 +11,24 @@ use Rattle.pcapng_read.specs.Sections.{Scope, block_in, scope_after, scope_of, s
 use Rattle.pcapng_read.specs.declared.step.BlockStep.{BlockStep}
 use Rattle.pcapng_read.specs.declared.step.BlockStep.TheVariants as step
 use Rattle.pcapng_read.proofs.Within.{block_at-within}
-use Rattle.capture_read.specs.Capture.{Reading, after_head, after_piece, is_pcapng, pieces}
-use Rattle.capture_read.specs.Ending.{end_of_bytes, unfinished}
+use Rattle.capture_read.specs.Capture.{Reading, after_head, after_piece, ended, frame_of, is_pcapng, pieces, with_frame}
+use Rattle.capture_read.specs.Ending.{damage_at, end_of_bytes, unfinished}
 use Rattle.capture_read.specs.Pieces.{block_at, blocks_behind, record_at, head_behind, of_record, of_block}
-use Rattle.capture_read.specs.Reader.{IsPlaced, after_step, cut_here, kind_of_head, kind_then, reading_here, scope_then, step_here, step_of_head, step_of_item, told_kind}
+use Rattle.capture_read.specs.Reader.{IsPlaced, cut_here, kind_of_head, kind_then, reading_here, scope_then, step_here, step_of_head, step_of_item, told_kind}
 use Rattle.capture_read.specs.State.{scoped_block, scope_behind}
+use Rattle.capture_read.specs.declared.ending.Ending.{Ending}
 use Rattle.capture_read.specs.declared.kind.Kind.{Kind}
 use Rattle.capture_read.specs.declared.kind.Kind.TheVariants.{Pcap, Pcapng}
 use Rattle.capture_read.proofs.KnownBlocks.{scoped-pieces}
 use Rattle.capture_read.proofs.PieceBounds.{record-within, of_block-within}
 use Rattle.capture_read.proofs.PieceSteps.{pieces-some}
+
+-- what bytes stand for by the first header, record or block of them, and what follows it
+abbrev pub after_step : ℕ → ℕ → List ℕ → (ℕ → ℕ → Reading) → Ending → BlockStep → Reading
+after_step number at bytes follows cut (step.Need n) = ended cut
+after_step number at bytes follows cut (step.Item found) = with_frame (frame_of number found bytes) (follows (suc number) found.end)
+after_step number at bytes follows cut (step.Skipped size) = follows number size
+after_step number at bytes follows cut (step.Bad reason) = ended (damage_at at reason)
 
 -- what follows a step, by what is known then
 abbrev pub follows_here : Bool → Option Kind → Scope → ℕ → List ℕ → ℕ → ℕ → Reading

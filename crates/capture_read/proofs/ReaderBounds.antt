@@ -6,12 +6,11 @@ use Rattle.pk_base.specs.declared.memory.NoMemory.{NoMemory}
 use Rattle.pcapng_read.specs.Sections.{Scope, IsStepWithin}
 use Rattle.pcapng_read.specs.declared.step.BlockStep.{BlockStep}
 use Rattle.pcapng_read.specs.declared.step.BlockStep.TheVariants as step
-use Rattle.capture_read.specs.FrameList.{AreBytes}
 use Rattle.capture_read.specs.Offsets.{AreInterfaces, IsStepTimely}
 use Rattle.capture_read.specs.Reader.{Reader, IsKept, scope_then, step_here}
 use Rattle.capture_read.specs.declared.kind.Kind.{Kind}
 use Rattle.capture_read.specs.declared.read_error.ReadError.{ReadError}
-use Rattle.capture_read.proofs.SmallTimes.{scope_then-offsets, step-timely}
+use Rattle.capture_read.proofs.SmallTimes.{AreBytes, scope_then-offsets, step-timely}
 
 below_limit : (n : ℕ) → n ≤ file_limit → n ≤ 2 ^ 28
 unfolding file_limit

@@ -9,11 +9,11 @@ use Rattle.pcapng_read.specs.Sections.{Scope, IsStepWithin}
 use Rattle.pcapng_read.specs.declared.step.BlockStep.{BlockStep}
 use Rattle.pcapng_read.specs.declared.step.BlockStep.TheVariants as step
 use Rattle.capture_read.specs.Capture.{Reading, capture_of, is_large, with_frame}
-use Rattle.capture_read.specs.Reader.{Reader, IsOver, IsPlaced, HasFew, after_step, cut_here, kind_then, reading_here, scope_then, step_here, with_past}
+use Rattle.capture_read.specs.Reader.{Reader, IsOver, IsPlaced, HasFew, cut_here, kind_then, reading_here, scope_then, step_here, with_past}
 use Rattle.capture_read.specs.declared.ending.Ending.{Ending}
 use Rattle.capture_read.specs.declared.frame.Frame.{Frame}
 use Rattle.capture_read.specs.declared.kind.Kind.{Kind}
-use Rattle.capture_read.proofs.HereSteps.{follows_here, here_steps}
+use Rattle.capture_read.proofs.HereSteps.{after_step, follows_here, here_steps}
 use Rattle.capture_read.proofs.SameSteps.{IsStepDecided, step_same, step_within}
 
 -- how many frames there are behind those answered

@@ -14,7 +14,7 @@ use Rattle.capture_read.specs.Answers.{IsFrontOf, IsNear, HoldsExactly, Finds, G
 use Rattle.capture_read.specs.Capture.{capture_of, ended, frame_of, is_large, reading_of, with_frame}
 use Rattle.capture_read.specs.Ending.{damage_at}
 use Rattle.capture_read.specs.Fill.{IsFilled, IsFilledTo, IsUnfilled}
-use Rattle.capture_read.specs.Reader.{Reader, IsKept, IsOver, IsReading, IsSeenBehind, HasFew, Stands, after_step, cut_here, kind_then, reading_here, scope_then, step_here, with_past}
+use Rattle.capture_read.specs.Reader.{Reader, IsKept, IsOver, IsReading, IsSeenBehind, HasFew, Stands, cut_here, kind_then, reading_here, scope_then, step_here, with_past}
 use Rattle.capture_read.specs.Taken.{TookAtMost, TookFew}
 use Rattle.capture_read.specs.declared.ending.Ending.{Ending}
 use Rattle.capture_read.specs.declared.fill.Filled.{Filled}
@@ -23,7 +23,7 @@ use Rattle.capture_read.specs.declared.kind.Kind.{Kind}
 use Rattle.capture_read.specs.declared.kind.Seen.{Seen}
 use Rattle.capture_read.specs.declared.kind.Seen.TheVariants as seen
 use Rattle.capture_read.specs.declared.next_frame.NextFrame.TheVariants as next
-use Rattle.capture_read.proofs.HereSteps.{follows_here}
+use Rattle.capture_read.proofs.HereSteps.{after_step, follows_here}
 use Rattle.capture_read.proofs.ReaderSteps.{IsSoon, few_front, front-append, over_step}
 use Rattle.capture_read.proofs.TakenLemmas.{took_more}
 use Rattle.capture_read.proofs.SameSteps.{IsStepDecided, step_same, scope_same, kind_same}

@@ -30,7 +30,7 @@ use Rattle.pcapng_read.specs.declared.options.Setting.TheVariants.{Resolution, O
 use Rattle.pcapng_read.specs.declared.options.Settings.{Settings}
 use Rattle.pcapng_read.proofs.Numbers.{number_at-small}
 use Rattle.pk_base.proofs.Choices.{by_case}
-use Rattle.capture_read.specs.FrameList.{AreBytes, IsSmallTime}
+use Rattle.capture_read.specs.FrameList.{IsSmallTime}
 use Rattle.capture_read.specs.Offsets.{IsOffset, AreInterfaces, IsStepTimely}
 use Rattle.capture_read.specs.Capture.{is_pcapng}
 use Rattle.capture_read.specs.Reader.{step_here, step_of_head, step_of_item, scope_then}
@@ -39,6 +39,10 @@ use Rattle.capture_read.specs.declared.kind.Kind.TheVariants.{Pcap, Pcapng}
 use Rattle.capture_read.specs.Pieces.{of_record, of_block, record_at, block_at, blocks_behind}
 use Rattle.capture_read.specs.declared.piece.Piece.{Piece}
 use Rattle.capture_read.specs.declared.piece.Piece.TheVariants.{End, Packet, Passed}
+
+-- the numbers are bytes
+abbrev pub AreBytes : List ℕ → Type 0
+AreBytes bytes = (k : ℕ) → slice_index bytes k < 2 ^ 8
 
 small-pos : (n : ℕ) → n < 2 ^ 96 → IsSmallTime (Some (pos n))
 small-pos n few = (omega (arith, ints), omega (arith, ints))

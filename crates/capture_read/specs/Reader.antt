@@ -11,8 +11,8 @@ use Rattle.pcap_read.specs.declared.packet.ItemStep.TheVariants as item
 use Rattle.pcapng_read.specs.Sections.{Scope, block_in, scope_after, scope_of, step_of}
 use Rattle.pcapng_read.specs.declared.step.BlockStep.{BlockStep}
 use Rattle.pcapng_read.specs.declared.step.BlockStep.TheVariants as step
-use Rattle.capture_read.specs.Capture.{Reading, capture_of, ended, with_frame, frame_of, is_large, is_pcapng, pieces, reading_of}
-use Rattle.capture_read.specs.Ending.{end_of_bytes, unfinished, damage_at}
+use Rattle.capture_read.specs.Capture.{Reading, capture_of, ended, with_frame, is_large, is_pcapng, pieces, reading_of}
+use Rattle.capture_read.specs.Ending.{end_of_bytes, unfinished}
 use Rattle.capture_read.specs.Offsets.{AreInterfaces}
 use Rattle.capture_read.specs.Pieces.{record_at, head_behind}
 use Rattle.capture_read.specs.State.{scoped_block, scope_behind}
@@ -100,13 +100,6 @@ abbrev pub cut_here : Option Kind → Bool → ℕ → List ℕ → Ending
 cut_here None large at bytes = unfinished large at (if is_pcapng bytes then BlockCut else ShortHeader)
 cut_here (Some (Pcap h)) large at bytes = ending_where large bytes (unfinished large at RecordCut)
 cut_here (Some Pcapng) large at bytes = ending_where large bytes (unfinished large at BlockCut)
-
--- what bytes stand for by the first header, record or block of them, and what follows it
-abbrev pub after_step : ℕ → ℕ → List ℕ → (ℕ → ℕ → Reading) → Ending → BlockStep → Reading
-after_step number at bytes follows cut (step.Need n) = ended cut
-after_step number at bytes follows cut (step.Item found) = with_frame (frame_of number found bytes) (follows (suc number) found.end)
-after_step number at bytes follows cut (step.Skipped size) = follows number size
-after_step number at bytes follows cut (step.Bad reason) = ended (damage_at at reason)
 
 -- a file's start, or behind it; a block of a pcapng file stands behind a section
 abbrev pub IsPlaced : Option Kind → Scope → ℕ → ℕ → Type 0

@@ -1,11 +1,11 @@
-ghost use Rattle.std.specs.Prelude.{◌≡◌, ◌≤◌, ◌-◌, ◌+◌, length, drop, List, ℕ, IfOk, OnErr};
+ghost use Rattle.std.specs.Prelude.{◌≡◌, ◌≤◌, ◌-◌, length, drop, List, ℕ, IfOk, OnErr};
 ghost use Rattle.capture_read.specs.Pieces.{IsPieceWithin};
 ghost use Rattle.capture_read.specs.State.{reading_from, IsBegun, Reads, UnlessPassed, WhenRead};
 
 use crate::format::Format;
 use crate::piece::{Piece, read_block, read_record};
 use pcapng_read::Sections;
-use pk_base::NoMemory;
+use pk_base::{NoMemory, bytes_from};
 
 /// Reads the record or block at a place of the bytes that are looked at.
 #[tactic(auto, using(crate::proofs::FormatSteps::reads_record, crate::proofs::FormatSteps::reads_block, crate::proofs::FormatSteps::left_at, crate::proofs::FormatSteps::unless_passed, crate::proofs::FormatSteps::record_begun))]
@@ -30,11 +30,4 @@ pub fn next_piece(
         Format::Pcap(head) => read_record(large, &head, at, rest),
         Format::Pcapng => read_block(large, sections, at, rest)?,
     })
-}
-
-fn bytes_from(bytes: &[u8], at: usize) -> &[u8]
-    requires { at ≤ length bytes.now }
-    ensures { result.now ≡ drop at bytes.now }
-{
-    &bytes[at..]
 }

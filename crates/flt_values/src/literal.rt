@@ -1,10 +1,8 @@
 // What the literals of filters write.
 ghost use Rattle.std.specs.Prelude.{◌≡◌, ◌^◌, nat_lt, IfOk};
-ghost use Rattle.std.specs.Char.{is_ascii_digit};
-ghost use Rattle.std.specs.List.{list_all};
 ghost use Rattle.flt_values.specs.Literals.{true_words, false_words, is_one_of, number_read, truth_of, prefix_of, leading_read, value_read, bits_of, address_of, address_read, ether_value, word_read, quote_read};
 
-use pk_base::{NoMemory, Octets};
+use pk_base::{NoMemory, Octets, are_digits};
 use pk_fields::ValueKind;
 use pk_text::{Wide, read_bytes, read_ether, read_ip4, read_ip6, read_number, read_time};
 use pk_tree::Value;
@@ -195,12 +193,6 @@ fn read_prefix(digits: &str) -> Option<Wide>
     } else {
         None
     }
-}
-
-fn are_digits(text: &[u8]) -> bool
-    ensures { result ≡ list_all is_ascii_digit text.now }
-{
-    text.iter().all(|c| c.is_ascii_digit())
 }
 
 /// An address, and a prefix length of at most so many bits.
