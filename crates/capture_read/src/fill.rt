@@ -47,6 +47,7 @@ fn read_more<C: Capture>(
         × Consumes (C.left capture.old) (C.left capture.new) got) }
     ensures unread { IsErrOf result ReadError.ReadFault → C.left capture.new ≡ C.left capture.old }
     ensures took { TookAtMost (length piece.old) (C.left capture.old) (C.left capture.new) }
+    ensures file { (n : List ℕ) → C.file capture.new n ≡ C.file capture.old n }
     ensures asked { C.asked capture.new ≡ C.asked capture.old }
     ensures refused { C.refused capture.new ≡ C.refused capture.old }
     ensures begun { C.begun capture.new ≡ C.begun capture.old }
@@ -75,6 +76,7 @@ fn read_beyond<C: Capture>(capture: &mut C, piece: &mut [u8]) -> Result<Seen, Re
         × (length beyond ≤ 1) × (open_count seen ≡ 0)) }
     ensures unread { IsErrOf result ReadError.ReadFault → C.left capture.new ≡ C.left capture.old }
     ensures took { TookAtMost 1 (C.left capture.old) (C.left capture.new) }
+    ensures file { (n : List ℕ) → C.file capture.new n ≡ C.file capture.old n }
     ensures asked { C.asked capture.new ≡ C.asked capture.old }
     ensures refused { C.refused capture.new ≡ C.refused capture.old }
     ensures begun { C.begun capture.new ≡ C.begun capture.old }
@@ -113,6 +115,7 @@ pub fn fill<C: Capture>(
         → IsUnfilled held.now need most (C.left capture.old) (C.left capture.new) }
     ensures took { TookAtMost (suc most - length held.now)
         (C.left capture.old) (C.left capture.new) }
+    ensures file { (n : List ℕ) → C.file capture.new n ≡ C.file capture.old n }
     ensures asked { C.asked capture.new ≡ C.asked capture.old }
     ensures refused { C.refused capture.new ≡ C.refused capture.old }
     ensures begun { C.begun capture.new ≡ C.begun capture.old }

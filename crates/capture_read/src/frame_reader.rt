@@ -79,6 +79,7 @@ impl FrameReader {
         ensures spent_after { OnErr result (self.new.phase ≡ phase.Spent) }
 
         // What stays of the capture.
+        ensures file { (n : List ℕ) → C.file capture.new n ≡ C.file capture.old n }
         ensures asked { C.asked capture.new ≡ C.asked capture.old }
         ensures refused { C.refused capture.new ≡ C.refused capture.old }
         ensures begun { C.begun capture.new ≡ C.begun capture.old }

@@ -118,6 +118,7 @@ impl Position {
             → Rose (C.faults capture.old) (C.faults capture.new) }
         ensures took { TakesFew self.old (C.left capture.old) (C.left capture.new) }
         ensures spent { IsErrOf result ReadError.Spent → ⊥ }
+        ensures file { (n : List ℕ) → C.file capture.new n ≡ C.file capture.old n }
         ensures asked { C.asked capture.new ≡ C.asked capture.old }
         ensures refused { C.refused capture.new ≡ C.refused capture.old }
         ensures begun { C.begun capture.new ≡ C.begun capture.old }
@@ -168,6 +169,7 @@ impl Position {
             → Rose (C.faults capture.old) (C.faults capture.new) }
         ensures took { TakesFew self.old (C.left capture.old) (C.left capture.new) }
         ensures spent { IsErrOf result ReadError.Spent → ⊥ }
+        ensures file { (n : List ℕ) → C.file capture.new n ≡ C.file capture.old n }
         ensures asked { C.asked capture.new ≡ C.asked capture.old }
         ensures refused { C.refused capture.new ≡ C.refused capture.old }
         ensures begun { C.begun capture.new ≡ C.begun capture.old }
@@ -204,6 +206,7 @@ impl Position {
             → Rose (C.faults capture.old) (C.faults capture.new) }
         ensures took { TakesFew self.old (C.left capture.old) (C.left capture.new) }
         ensures spent { IsErrOf result ReadError.Spent → ⊥ }
+        ensures file { (n : List ℕ) → C.file capture.new n ≡ C.file capture.old n }
         ensures asked { C.asked capture.new ≡ C.asked capture.old }
         ensures refused { C.refused capture.new ≡ C.refused capture.old }
         ensures begun { C.begun capture.new ≡ C.begun capture.old }

@@ -21,7 +21,7 @@ use Rattle.capture_write.proofs.PcapBack.{pcap-back}
 use Rattle.capture_write.proofs.PcapngBack.{pcapng-back}
 
 -- the bytes that are still to come, and whether these frames fit
-abbrev bytes_from : Kept → List Frame → List ℕ
+abbrev pub bytes_from : Kept → List Frame → List ℕ
 bytes_from kept [] = end_at kept
 bytes_from kept (frame ∷ frames) = piece_at kept frame ++ bytes_from (kept_with kept frame) frames
 
@@ -55,7 +55,7 @@ blocks-from : (little : Bool) (links : List ℕ) (frames : List Frame)
 blocks-from little links [] = refl
 blocks-from little links (frame ∷ frames) = ap (λ (rest : List ℕ). pcapng_piece little links frame ++ rest) (blocks-from little (links_with frame.link links) frames)
 
-whole-file : (format : Format) (frames : List Frame) → bytes_from (nothing_kept format) frames ≡ written format frames
+pub whole-file : (format : Format) (frames : List Frame) → bytes_from (nothing_kept format) frames ≡ written format frames
 unfolding pcap_bytes pcapng_bytes
 whole-file Pcap [] = sym (append-nil (pcap_header true 1))
 whole-file Pcap (frame ∷ frames) =

@@ -9,6 +9,7 @@ invariant-loop-bytes g l = record {
   within : length l.bytes.items ≤ l.fn.most;
   few : length l.bytes.items < l.fn.need + 2 ^ 16;
   read : (got : List ℕ) × (l.bytes.items ≡ l.fn.held ++ got) × Consumes (g.C.Capture.left l.fn.capture) (g.C.Capture.left l.capture) got;
+  file : (n : List ℕ) → g.C.Capture.file l.capture n ≡ g.C.Capture.file l.fn.capture n;
   asked : g.C.Capture.asked l.capture ≡ g.C.Capture.asked l.fn.capture;
   refused : g.C.Capture.refused l.capture ≡ g.C.Capture.refused l.fn.capture;
   begun : g.C.Capture.begun l.capture ≡ g.C.Capture.begun l.fn.capture;

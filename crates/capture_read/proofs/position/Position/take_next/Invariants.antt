@@ -1,4 +1,4 @@
-use Rattle.std.proofs.Common.{◌≡◌, ◌≤◌}
+use Rattle.std.proofs.Common.{◌≡◌, ◌≤◌, ℕ, List}
 use Rattle.capture_read.specs.Answers.{GoesOn, work_left}
 use Rattle.capture_read.proofs.position.Position.take_next.Given as goal
 
@@ -8,6 +8,7 @@ invariant-loop-next g l = record {
   on : GoesOn l.fn.self l.self (g.C.Capture.left l.fn.capture) (g.C.Capture.left l.capture);
   number : l.self.number ≡ l.fn.self.number;
   at : l.fn.self.at ≤ l.self.at;
+  file : (n : List ℕ) → g.C.Capture.file l.capture n ≡ g.C.Capture.file l.fn.capture n;
   asked : g.C.Capture.asked l.capture ≡ g.C.Capture.asked l.fn.capture;
   refused : g.C.Capture.refused l.capture ≡ g.C.Capture.refused l.fn.capture;
   begun : g.C.Capture.begun l.capture ≡ g.C.Capture.begun l.fn.capture;

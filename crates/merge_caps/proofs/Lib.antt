@@ -1,0 +1,5 @@
+pub mod FileSteps
+pub mod FilesSteps
+pub mod TopSteps
+pub mod WordSteps
+pub mod WriteSteps

@@ -1,0 +1,180 @@
+-- From the stages of merging to the whole.
+use Rattle.std.proofs.Common.{◌≡◌, ◌≢◌, ◌<◌, ◌≤◌, ◌⊎◌, inl, inr, ℕ, suc, Bool, true, false, List, [], ◌∷◌, ◌++◌, length, get_or, Option, Some, None, Result, Ok, Err, IfSome, IfOk, IfErr, slice_get, refl, sym, ap, ◌∙◌, subst, append-nil, ⊎_elim}
+use Rattle.std.specs.Prelude.{◌||◌}
+use Rattle.std.specs.List.{list_any}
+use Rattle.std.specs.Io.KnownBytes.{Appends}
+use Rattle.std.proofs.lemmas.Option.{slice_get_read}
+use Rattle.std.proofs.KnownBytes.{Appends-nil}
+use Rattle.pk_outside.specs.Outside.{AppendsPart}
+use Rattle.pk_outside.proofs.Parts.{part_none}
+use Rattle.pk_outside.specs.declared.sink.SinkFault.{SinkFault}
+use Rattle.pk_outside.specs.declared.sink.SinkFault.TheVariants as sink
+use Rattle.capture_read.specs.declared.ending.Ending.{Ending}
+use Rattle.capture_read.specs.declared.ending.Ending.TheVariants as ending
+use Rattle.capture_write.specs.declared.format.Format.{Format}
+use Rattle.shark_words.specs.declared.fault.WordFault.{WordFault}
+use Rattle.run_texts.specs.FaultTexts.{cannot_open_text, cannot_write_text, word_fault_text}
+use Rattle.merge_caps.specs.declared.place.Entry.{Entry}
+use Rattle.merge_caps.specs.declared.readings.Cause.{Cause}
+use Rattle.merge_caps.specs.declared.readings.Cause.TheVariants as cause
+use Rattle.merge_caps.specs.declared.readings.Stopped.{Stopped}
+use Rattle.merge_caps.specs.declared.status.MergeStatus.{MergeStatus}
+use Rattle.merge_caps.specs.declared.status.MergeStatus.TheVariants as status
+use Rattle.merge_caps.specs.Causes.{IsLargeAt, IsUnopened, IsUnread}
+use Rattle.merge_caps.specs.Merged.{IsInOrder, IsMerged, frames_of}
+use Rattle.merge_caps.specs.Reading.{AreSmallUpTo, ReadSoFar, endings_of, files_of, read_of}
+use Rattle.merge_caps.specs.Statuses.{IsNoFault, IsRefused, IsWritten, WhenRead, WhenUnread, WhenWritten, WrotePart, are_damaged, is_damaged_end, written_status}
+use Rattle.merge_caps.specs.Stopped.{IsCause, IsStopped, Seen}
+use Rattle.merge_caps.specs.Texts.{AreEndings, IsDamageText, IsStatusText, IsUnfitAt, IsUnfitText, Told, ToldRefusal, ToldRefusalWhole, ToldWhole, damage_line, damage_lines}
+use Rattle.merge_caps.specs.Told.{IsStoppedText, IsWrittenText, cause_status, cause_text, status_by, unfit_in, unfit_text}
+use Rattle.merge_caps.specs.Words.{Wanted}
+use Rattle.merge_caps.specs.Written.{IsPartOf, IsWrittenOf, file_of, first_unfit}
+use Rattle.merge_caps.proofs.FilesSteps.{IsReadOf}
+
+-- no line is told of files that aren't damaged
+or_none : (a b : Bool) → (a || b) ≡ false → (a ≡ false) × (b ≡ false)
+or_none false b none = (refl, none)
+or_none true b none = let bad : true ≡ false = none in absurd (cc bad)
+
+line_none : (name : List ℕ) (e : Ending) → is_damaged_end e ≡ false → damage_line name e ≡ []
+unfolding damage_line
+line_none name ending.Whole none = refl
+line_none name (ending.Damaged damage) none = let bad : true ≡ false = none in absurd (cc bad)
+line_none name ending.TooLarge none = refl
+
+lines_none : (names : List (List ℕ)) (endings : List Ending) → are_damaged endings ≡ false → damage_lines names endings ≡ []
+lines_none [] endings none = refl
+lines_none (name ∷ names) [] none = refl
+lines_none (name ∷ names) (e ∷ endings) none =
+    let both = or_none (is_damaged_end e) (are_damaged endings) none in
+    ap (λ (l : List ℕ). l ++ damage_lines names endings) (line_none name e both.0) ∙ lines_none names endings both.1
+
+-- what standard error is told
+are_endings : (tell : List ℕ → Option (List ℕ)) (names : List (List ℕ)) (o : Option (List (List ℕ))) (read : ReadSoFar)
+    → IfSome o (λ files. read ≡ read_of files) → IfSome o (λ files. read.endings ≡ endings_of files)
+are_endings tell names None read is = tt
+are_endings tell names (Some files) read is = ap (λ (r : ReadSoFar). r.endings) is
+
+unfit_at : (format : Format) (o : Option (List (List ℕ))) (read : ReadSoFar) (number : ℕ) (old new : Option (List ℕ))
+    → IfSome o (λ files. read ≡ read_of files) → IsWrittenOf format read.entries (Some number) old new → IfSome o (λ files. IsUnfitAt format files number)
+unfit_at format None read number old new is wrote = tt
+unfit_at format (Some files) read number old new is wrote = (
+  frames_of wrote.order,
+  record { order = wrote.order; ordered = subst (λ (r : ReadSoFar). IsInOrder r.entries wrote.order) is wrote.ordered; frames = refl },
+  sym wrote.unfit_is,
+)
+
+text_by : (wanted : Wanted) (tell : List ℕ → Option (List ℕ)) (asked : List ℕ) (read : ReadSoFar) (unfit : Option ℕ) (damaged : Bool) (old new : Option (List ℕ)) (text : List ℕ)
+    → IsReadOf tell wanted.names read → length read.endings ≡ length wanted.names → damaged ≡ are_damaged read.endings → IsWrittenOf wanted.format read.entries unfit old new
+    → text ≡ damage_lines wanted.names read.endings ++ unfit_text unfit → IsStatusText wanted tell asked (written_status unfit damaged) text
+text_by wanted tell asked read (Some number) damaged old new text is count same wrote told =
+    let endings : AreEndings tell wanted.names read.endings = record { count = count; told = are_endings tell wanted.names (files_of tell wanted.names) read is } in
+    (number, unfit_at wanted.format (files_of tell wanted.names) read number old new is wrote, (damage_lines wanted.names read.endings, (read.endings, endings, refl), told))
+text_by wanted tell asked read None true old new text is count same wrote told =
+    (read.endings, record { count = count; told = are_endings tell wanted.names (files_of tell wanted.names) read is }, told ∙ append-nil (damage_lines wanted.names read.endings))
+text_by wanted tell asked read None false old new text is count same wrote told =
+    told ∙ append-nil (damage_lines wanted.names read.endings) ∙ lines_none wanted.names read.endings (sym same)
+
+pub text_told : (wanted : Wanted) (tell : List ℕ → Option (List ℕ)) (asked : List ℕ) (read : ReadSoFar) (written : Result (Option ℕ) SinkFault) (old new : Option (List ℕ))
+    (answer : MergeStatus) (text : List ℕ) → IsReadOf tell wanted.names read → length read.endings ≡ length wanted.names
+    → IfOk written (λ unfit. IsWrittenOf wanted.format read.entries unfit old new) → IsWrittenText wanted.names read.endings written answer text
+    → IsStatusText wanted tell asked answer text
+text_told wanted tell asked read (Ok unfit) old new answer text is count wrote (inl told) =
+    subst (λ (a : MergeStatus). IsStatusText wanted tell asked a text) (sym told.0)
+    (text_by wanted tell asked read unfit (are_damaged read.endings) old new text is count refl wrote told.1)
+text_told wanted tell asked read (Err sink.Failed) old new answer text is count wrote (inl told) =
+    subst (λ (a : MergeStatus). IsStatusText wanted tell asked a text) (sym told.0)
+    (read.endings, record { count = count; told = are_endings tell wanted.names (files_of tell wanted.names) read is }, told.1 ∙ append-nil (damage_lines wanted.names read.endings))
+text_told wanted tell asked read (Err sink.NoMemory) old new answer text is count wrote (inl told) =
+    subst (λ (a : MergeStatus). IsStatusText wanted tell asked a text) (sym told.0)
+    (inr (read.endings, record { count = count; told = are_endings tell wanted.names (files_of tell wanted.names) read is }, told.1 ∙ append-nil (damage_lines wanted.names read.endings)))
+text_told wanted tell asked read written old new answer text is count wrote (inr told) =
+    subst (λ (a : MergeStatus). IsStatusText wanted tell asked a text) (sym told.0) (inl told.1)
+
+asked_name : (names : List (List ℕ)) (place : ℕ) (name asked : List ℕ) → place < length names → name ≡ get_or names place name → slice_get names place ≡ Some asked → name ≡ asked
+asked_name names place name asked within is last = let same : Some name ≡ Some asked = sym (slice_get_read names (length names) place name refl within is) ∙ last in cc same
+
+stop_text : (wanted : Wanted) (c : Cause) (place : ℕ) (name : List ℕ) (old new : Seen) (text : List ℕ) → place < length wanted.names → name ≡ get_or wanted.names place name
+    → IsCause c wanted.names place old new → text ≡ cause_text c name → IsStatusText wanted old.tell new.asked (cause_status c) text
+stop_text wanted cause.CannotOpen place name old new text within is why told = told ∙ ap cannot_open_text (asked_name wanted.names place name new.asked within is why.name)
+stop_text wanted cause.ReadFault place name old new text within is why told = told
+stop_text wanted cause.TooLarge place name old new text within is why told = told
+stop_text wanted cause.NoMemory place name old new text within is why told = inl told
+
+pub stop_told : (wanted : Wanted) (stopped : Stopped) (name : List ℕ) (old new : Seen) (answer : MergeStatus) (text : List ℕ) → IsStopped wanted.names stopped old new
+    → name ≡ get_or wanted.names stopped.place name → IsStoppedText stopped.cause name answer text → IsStatusText wanted old.tell new.asked answer text
+stop_told wanted stopped name old new answer text why is (inl told) =
+    subst (λ (a : MergeStatus). IsStatusText wanted old.tell new.asked a text) (sym told.0)
+    (stop_text wanted stopped.cause stopped.place name old new text why.within is why.cause told.1)
+stop_told wanted stopped name old new answer text why is (inr told) = subst (λ (a : MergeStatus). IsStatusText wanted old.tell new.asked a text) (sym told.0) (inl told.1)
+
+-- standard error got the text
+pub told : (wanted : Wanted) (tell : List ℕ → Option (List ℕ)) (asked : List ℕ) (answer : MergeStatus) (text : List ℕ) (old new : Option (List ℕ))
+    → IsStatusText wanted tell asked answer text → AppendsPart old new text → Told wanted tell asked answer old new
+unfolding Told
+told wanted tell asked answer text old new is part = (text, is, part)
+
+pub told_whole : (wanted : Wanted) (tell : List ℕ → Option (List ℕ)) (asked : List ℕ) (answer : MergeStatus) (text : List ℕ) (old new : Option (List ℕ))
+    → IsStatusText wanted tell asked answer text → Appends old new text → ToldWhole wanted tell asked answer old new
+unfolding ToldWhole
+told_whole wanted tell asked answer text old new is whole = (text, is, whole)
+
+pub refusal_told : (fault : WordFault) (text : List ℕ) (old new : Option (List ℕ)) → text ≡ word_fault_text fault → AppendsPart old new text
+    → ToldRefusal fault status.BadWords old new
+unfolding ToldRefusal
+refusal_told fault text old new is part = (text, is, part)
+
+pub refusal_whole : (fault : WordFault) (text : List ℕ) (old new : Option (List ℕ)) → text ≡ word_fault_text fault → Appends old new text
+    → ToldRefusalWhole fault status.BadWords old new
+unfolding ToldRefusalWhole
+refusal_whole fault text old new is whole = (text, is, whole)
+
+pub refusal_starved : (fault : WordFault) (a : Option (List ℕ)) → ToldRefusal fault status.NoMemory a a
+unfolding ToldRefusal
+refusal_starved fault a = ([], refl, part_none a [])
+
+pub refusal_starved_whole : (fault : WordFault) (a : Option (List ℕ)) → ToldRefusalWhole fault status.NoMemory a a
+unfolding ToldRefusalWhole
+refusal_starved_whole fault a = ([], refl, Appends-nil a)
+
+pub starved : (wanted : Wanted) (tell : List ℕ → Option (List ℕ)) (asked : List ℕ) (a : Option (List ℕ)) → Told wanted tell asked status.NoMemory a a
+starved wanted tell asked a = told wanted tell asked status.NoMemory [] a a (inl refl) (part_none a [])
+
+pub starved_whole : (wanted : Wanted) (tell : List ℕ → Option (List ℕ)) (asked : List ℕ) (a : Option (List ℕ)) → ToldWhole wanted tell asked status.NoMemory a a
+starved_whole wanted tell asked a = told_whole wanted tell asked status.NoMemory [] a a (inl refl) (Appends-nil a)
+
+-- words without memory
+pub none_told : (r : Result Wanted WordFault) (tell : List ℕ → Option (List ℕ)) (asked : List ℕ) (a : Option (List ℕ)) → IfOk r (λ wanted. Told wanted tell asked status.NoMemory a a)
+none_told (Ok wanted) tell asked a = starved wanted tell asked a
+none_told (Err fault) tell asked a = tt
+
+pub none_told_whole : (r : Result Wanted WordFault) (tell : List ℕ → Option (List ℕ)) (asked : List ℕ) (a : Option (List ℕ)) → IfOk r (λ wanted. ToldWhole wanted tell asked status.NoMemory a a)
+none_told_whole (Ok wanted) tell asked a = starved_whole wanted tell asked a
+none_told_whole (Err fault) tell asked a = tt
+
+pub none_refused : (r : Result Wanted WordFault) (a : Option (List ℕ)) → IfErr r (λ fault. ToldRefusal fault status.NoMemory a a)
+none_refused (Ok wanted) a = tt
+none_refused (Err fault) a = refusal_starved fault a
+
+pub none_refused_whole : (r : Result Wanted WordFault) (a : Option (List ℕ)) → IfErr r (λ fault. ToldRefusalWhole fault status.NoMemory a a)
+none_refused_whole (Ok wanted) a = tt
+none_refused_whole (Err fault) a = refusal_starved_whole fault a
+
+-- the same, where the names are those of a slice
+pub stop_told_by : (wanted : Wanted) (names : List (List ℕ)) (stopped : Stopped) (name : List ℕ) (old new : Seen) (answer : MergeStatus) (text : List ℕ) → names ≡ wanted.names
+    → IsStopped names stopped old new → name ≡ get_or names stopped.place name → IsStoppedText stopped.cause name answer text → IsStatusText wanted old.tell new.asked answer text
+stop_told_by wanted names stopped name old new answer text same why is told =
+    stop_told wanted stopped name old new answer text (subst (λ (ns : List (List ℕ)). IsStopped ns stopped old new) same why)
+    (is ∙ ap (λ (ns : List (List ℕ)). get_or ns stopped.place name) same) told
+
+pub text_told_by : (wanted : Wanted) (tell : List ℕ → Option (List ℕ)) (asked : List ℕ) (read : ReadSoFar) (written : Result (Option ℕ) SinkFault) (old new : Option (List ℕ))
+    (answer : MergeStatus) (text : List ℕ) (names : List (List ℕ)) (endings : List Ending) → names ≡ wanted.names → endings ≡ read.endings
+    → IsReadOf tell names read → length read.endings ≡ length names
+    → IfOk written (λ unfit. IsWrittenOf wanted.format read.entries unfit old new) → IsWrittenText names endings written answer text
+    → IsStatusText wanted tell asked answer text
+text_told_by wanted tell asked read written old new answer text names endings same_names same_endings is count wrote told =
+    text_told wanted tell asked read written old new answer text
+    (subst (λ (ns : List (List ℕ)). IsReadOf tell ns read) same_names is)
+    (count ∙ ap length same_names) wrote
+    (subst (λ (ns : List (List ℕ)). IsWrittenText ns read.endings written answer text) same_names
+    (subst (λ (es : List Ending). IsWrittenText names es written answer text) same_endings told))

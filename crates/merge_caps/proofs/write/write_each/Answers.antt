@@ -1,0 +1,24 @@
+use Rattle.std.proofs.Common.{map, arith}
+use Rattle.merge_caps.specs.Merged.{frame_of}
+use Rattle.merge_caps.specs.Written.{unfit_from, written_from}
+use Rattle.merge_caps.proofs.WriteSteps.{unfit_further, wrote_further, wrote_part}
+use Rattle.merge_caps.proofs.write.write_each.Goals as goal
+
+pub returns-in-Err-clause-part : goal.returns-in-Err-clause-part
+returns-in-Err-clause-part g c =
+    wrote_part c.args.entries.now c.loop-index.index c.index-entries-index.result c.loop-index-test.true c.index-entries-index.is
+    (g.O.Sink.written c.args.out.now) (g.O.Sink.written c.loop-index.out) (g.O.Sink.written c.write_frame.new.out) c.loop-index.writer
+    (written_from c.args.writer.now (map frame_of c.args.entries.now)) c.loop-index.invariant.wrote c.write_frame.ensures.part
+
+pub loop-index-preserved : goal.loop-index-preserved
+loop-index-preserved g c =
+    let steps = rw c.in-Ok-true.field-0-test at c.in-Ok-true.ensures.steps in
+    record {
+      wrote = wrote_further c.args.entries.now c.loop-index.index c.index-entries-index.result c.loop-index-test.true c.index-entries-index.is
+          (g.O.Sink.written c.args.out.now) (g.O.Sink.written c.loop-index.out) (g.O.Sink.written c.write_frame.new.out) c.loop-index.writer c.write_frame.new.writer
+          (written_from c.args.writer.now (map frame_of c.args.entries.now)) c.loop-index.invariant.wrote steps;
+      unfit = unfit_further c.args.entries.now c.loop-index.index c.index-entries-index.result c.loop-index-test.true c.index-entries-index.is
+          c.loop-index.writer c.write_frame.new.writer (g.O.Sink.written c.loop-index.out) (g.O.Sink.written c.write_frame.new.out)
+          (unfit_from 1 c.args.writer.now (map frame_of c.args.entries.now)) c.loop-index.invariant.unfit steps;
+      faults = omega (arith, c.loop-index.invariant.faults, c.write_frame.ensures.faults_stay);
+    }

@@ -1,0 +1,9 @@
+pub mod Causes
+pub mod Merged
+pub mod Reading
+pub mod Statuses
+pub mod Stopped
+pub mod Texts
+pub mod Told
+pub mod Words
+pub mod Written

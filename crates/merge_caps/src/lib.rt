@@ -1,0 +1,16 @@
+//! Merges capture files: their frames in the order of their times, as one capture file.
+#![tactic(auto)]
+
+mod order;
+mod place;
+mod read_file;
+mod read_files;
+mod readings;
+mod status;
+mod told;
+mod top;
+mod words;
+mod write;
+
+pub use status::MergeStatus;
+pub use top::merge;

@@ -1,0 +1,232 @@
+// What standard error is told.
+ghost use Rattle.std.specs.Prelude.{◌≡◌, ◌<◌, ◌++◌, ◌⊎◌, ℕ, List, [], length, IfOk, OnOk, string_bytes};
+ghost use Rattle.std.specs.Io.KnownBytes.{Appends};
+ghost use Rattle.pk_outside.specs.Outside.{AppendsPart, Rose};
+ghost use Rattle.pk_text.specs.Escape.{escaped};
+ghost use Rattle.merge_caps.specs.Statuses.{IsRefused, are_damaged as are_some_damaged, is_damaged_end};
+ghost use Rattle.merge_caps.specs.Texts.{ToldRefusal, ToldRefusalWhole, damage_line, damage_lines, damage_front as front_of_line, damage_back as back_of_line};
+ghost use Rattle.merge_caps.specs.Told.{IsStoppedText, IsWrittenText, cause_status, cause_text, status_by as status_of_write, unfit_in as unfit_of, unfit_text};
+
+use crate::readings::Cause;
+use crate::status::{MergeStatus, status_of};
+use capture_read::{Damage, Ending};
+use pk_base::NoMemory;
+use pk_outside::{Sink, SinkFault};
+use pk_text::escape_text;
+use run_texts::{
+    Text, cannot_open_text, cannot_write_text, read_fault_text, reason_text, tell, too_large_text,
+    word_fault_text,
+};
+use shark_words::WordFault;
+use std::alloc::Global;
+
+// The line of a damaged file up to the place of the damage; the name is given as it is told.
+#[tactic(auto, unfolding(crate::specs::Texts::damage_front))]
+fn damage_front(alloc: Global, name: &str) -> Result<String, NoMemory>
+    ensures { IfOk result (λ text. string_bytes text ≡ front_of_line name.now) }
+{
+    Ok(format!(in alloc; "shark: {name} damaged at byte ")?)
+}
+
+// The rest of the line.
+#[tactic(auto, unfolding(crate::specs::Texts::damage_back))]
+fn damage_back(alloc: Global, damage: Damage) -> Result<String, NoMemory>
+    ensures { IfOk result (λ text. string_bytes text ≡ back_of_line damage) }
+{
+    let at = damage.at;
+    let reason = reason_text(damage.reason);
+    Ok(format!(in alloc; "{at}: {reason}\n")?)
+}
+
+// The line of a damaged file.
+fn damage_text(alloc: Global, name: &Text, damage: Damage) -> Result<String, NoMemory>
+    ensures { IfOk result (λ text. string_bytes text
+        ≡ front_of_line (escaped name.now) ++ back_of_line damage) }
+{
+    let name = escape_text(alloc, name.as_str().as_bytes())?;
+    let mut text = damage_front(alloc, name.as_str())?;
+    text.push_str(damage_back(alloc, damage)?.as_str())?;
+    Ok(text)
+}
+
+// The line of a file that ends so, where it is damaged.
+#[tactic(auto, unfolding(crate::specs::Texts::damage_line))]
+fn line_text(alloc: Global, name: &Text, ending: Ending) -> Result<String, NoMemory>
+    ensures { IfOk result (λ text. string_bytes text ≡ damage_line name.now ending) }
+{
+    match ending {
+        Ending::Damaged(damage) => damage_text(alloc, name, damage),
+        Ending::Whole | Ending::TooLarge => Ok(String::new(alloc)),
+    }
+}
+
+// Adds the line of a file that ends so, where it is damaged.
+fn push_line(alloc: Global, text: &mut String, name: &Text, ending: Ending) -> Result<(), NoMemory>
+    ensures { OnOk result (string_bytes text.new
+        ≡ string_bytes text.old ++ damage_line name.now ending) }
+{
+    let line = line_text(alloc, name, ending)?;
+    text.push_str(line.as_str())?;
+    Ok(())
+}
+
+// Adds the lines of the damaged files.
+fn push_lines(
+    alloc: Global,
+    text: &mut String,
+    names: &[Text],
+    endings: &[Ending],
+) -> Result<(), NoMemory>
+    requires { length endings.now ≡ length names.now }
+    ensures { OnOk result (string_bytes text.new
+        ≡ string_bytes text.old ++ damage_lines names.now endings.now) }
+{
+    for (place, name) in names.iter().enumerate() {
+        push_line(alloc, text, name, endings[place])?;
+    }
+    Ok(())
+}
+
+// Adds the line of the first frame that doesn't fit.
+fn push_unfit(alloc: Global, text: &mut String, unfit: Option<usize>) -> Result<(), NoMemory>
+    ensures { OnOk result (string_bytes text.new ≡ string_bytes text.old ++ unfit_text unfit) }
+{
+    if let Some(number) = unfit {
+        let line = cannot_write_text(alloc, number as u64)?;
+        text.push_str(line.as_str())?;
+    }
+    Ok(())
+}
+
+fn written_text(
+    alloc: Global,
+    names: &[Text],
+    endings: &[Ending],
+    unfit: Option<usize>,
+) -> Result<String, NoMemory>
+    requires { length endings.now ≡ length names.now }
+    ensures { IfOk result (λ text. string_bytes text
+        ≡ damage_lines names.now endings.now ++ unfit_text unfit) }
+{
+    let mut text = String::new(alloc);
+    push_lines(alloc, &mut text, names, endings)?;
+    push_unfit(alloc, &mut text, unfit)?;
+    Ok(text)
+}
+
+fn unfit_in(written: Result<Option<usize>, SinkFault>) -> Option<usize>
+    ensures { result ≡ unfit_of written }
+{
+    match written {
+        Ok(unfit) => unfit,
+        Err(_) => None,
+    }
+}
+
+fn status_by(written: Result<Option<usize>, SinkFault>, damaged: bool) -> MergeStatus
+    ensures { result ≡ status_of_write written damaged }
+{
+    match written {
+        Ok(unfit) => status_of(unfit, damaged),
+        Err(SinkFault::Failed) => MergeStatus::WriteFault,
+        Err(SinkFault::NoMemory) => MergeStatus::NoMemory,
+    }
+}
+
+fn is_damaged(ending: Ending) -> bool
+    ensures { result ≡ is_damaged_end ending }
+{
+    matches!(ending, Ending::Damaged(_))
+}
+
+// Whether one of the files that end so is damaged.
+fn are_damaged(endings: &[Ending]) -> bool
+    ensures { result ≡ are_some_damaged endings.now }
+{
+    endings.iter().any(|ending| is_damaged(*ending))
+}
+
+fn status_of_cause(cause: Cause) -> MergeStatus
+    ensures { result ≡ cause_status cause }
+{
+    match cause {
+        Cause::CannotOpen => MergeStatus::CannotOpen,
+        Cause::ReadFault => MergeStatus::ReadFault,
+        Cause::TooLarge => MergeStatus::TooLarge,
+        Cause::NoMemory => MergeStatus::NoMemory,
+    }
+}
+
+/// Tells of what was written, and answers the status.
+pub(crate) fn tell_written<E: Sink>(
+    alloc: Global,
+    names: &[Text],
+    endings: &[Ending],
+    written: Result<Option<usize>, SinkFault>,
+    err: &mut E,
+) -> MergeStatus
+    requires { length endings.now ≡ length names.now }
+    ensures told { (text : List ℕ) × IsWrittenText names.now endings.now written result text
+        × AppendsPart (E.written err.old) (E.written err.new) text }
+    ensures told_whole { ¬ Rose (E.faults err.old) (E.faults err.new)
+        → ¬ Rose (E.starved err.old) (E.starved err.new)
+        → (text : List ℕ) × IsWrittenText names.now endings.now written result text
+        × Appends (E.written err.old) (E.written err.new) text }
+{
+    let text = match written_text(alloc, names, endings, unfit_in(written)) {
+        Ok(text) => text,
+        Err(NoMemory) => return MergeStatus::NoMemory,
+    };
+    tell(err, text.as_bytes());
+    status_by(written, are_damaged(endings))
+}
+
+fn stopped_text(alloc: Global, name: &Text, cause: Cause) -> Result<String, NoMemory>
+    ensures { IfOk result (λ text. string_bytes text ≡ cause_text cause name.now) }
+{
+    match cause {
+        Cause::CannotOpen => cannot_open_text(alloc, name.as_str()),
+        Cause::ReadFault => Ok(String::from_str(alloc, read_fault_text())?),
+        Cause::TooLarge => Ok(String::from_str(alloc, too_large_text())?),
+        Cause::NoMemory => Ok(String::new(alloc)),
+    }
+}
+
+/// Tells why the file of this name wasn't read, and answers the status.
+pub(crate) fn tell_stopped<E: Sink>(
+    alloc: Global,
+    name: &Text,
+    cause: Cause,
+    err: &mut E,
+) -> MergeStatus
+    ensures told { (text : List ℕ) × IsStoppedText cause name.now result text
+        × AppendsPart (E.written err.old) (E.written err.new) text }
+    ensures told_whole { ¬ Rose (E.faults err.old) (E.faults err.new)
+        → ¬ Rose (E.starved err.old) (E.starved err.new)
+        → (text : List ℕ) × IsStoppedText cause name.now result text
+        × Appends (E.written err.old) (E.written err.new) text }
+{
+    let text = match stopped_text(alloc, name, cause) {
+        Ok(text) => text,
+        Err(NoMemory) => return MergeStatus::NoMemory,
+    };
+    tell(err, text.as_bytes());
+    status_of_cause(cause)
+}
+
+/// Tells of a fault of the words, and answers the status.
+pub(crate) fn tell_refusal<E: Sink>(alloc: Global, fault: WordFault, err: &mut E) -> MergeStatus
+    ensures refused { IsRefused result }
+    ensures told { ToldRefusal fault result (E.written err.old) (E.written err.new) }
+    ensures told_whole { ¬ Rose (E.faults err.old) (E.faults err.new)
+        → ¬ Rose (E.starved err.old) (E.starved err.new)
+        → ToldRefusalWhole fault result (E.written err.old) (E.written err.new) }
+{
+    match word_fault_text(alloc, fault) {
+        Ok(text) => {
+            tell(err, text.as_bytes());
+            MergeStatus::BadWords
+        }
+        Err(NoMemory) => MergeStatus::NoMemory,
+    }
+}
