@@ -9,6 +9,8 @@ mod decode;
 mod dissector;
 mod fragments;
 mod frame_layer;
+#[cfg(test)]
+mod frame_rows;
 mod headers;
 mod payload;
 mod pieces;

@@ -24,11 +24,13 @@ const BACK: &[u8] = b"\x45\0\0\0\0\0\0\0\x40\x06\0\0\x0a\0\0\x02\x0a\0\0\x01\x27
 const UNREACHABLE: &[u8] =
     b"\x45\0\0\0\0\0\0\0\x40\x01\0\0\x0a\0\0\x02\x0a\0\0\x01\x03\x01\0\0\0\0\0\0";
 
-const NONE: u8 = 0;
+const NO_FLAGS: u8 = 0;
 
 const SYN: u8 = 2;
 
 const ACK: u8 = 16;
+
+const SYN_ACK: u8 = 18;
 
 /// A segment behind other headers, up to its ports (RFC 9293, 3.1).
 fn segment(
@@ -70,15 +72,223 @@ fn stream_text(alloc: Global, tree: &Tree) -> Result<String, AllocError> {
     Ok(text)
 }
 
-/// Takes a packet, with the items of some fields, and compares what is told of its stream.
-fn take_segment(
+/// The fields whose items are wanted.
+#[derive(Clone, Copy)]
+enum Asked {
+    All,
+    None,
+    /// `tcp.seq` alone.
+    Numbers,
+}
+
+/// How many streams there are, and the bytes of the first one's two directions.
+#[derive(Clone, Copy)]
+struct Fronts {
+    count: u32,
+    zero: &'static [u8],
+    one: &'static [u8],
+}
+
+/// A segment, what is told of its stream, and the streams behind it where they are compared.
+#[derive(Clone, Copy)]
+struct Sent {
+    headers: &'static [&'static [u8]],
+    seq: u32,
+    ack: u32,
+    flags: u8,
+    payload: &'static [u8],
+    asked: Asked,
+    told: &'static str,
+    fronts: Option<Fronts>,
+}
+
+/// Segments one after the other.
+#[derive(Clone, Copy)]
+struct Talk {
+    shows: &'static str,
+    segments: &'static [Sent],
+}
+
+/// A segment of no flags and no bytes from 10.0.0.1.
+const PLAIN: Sent = Sent {
+    headers: &[THERE],
+    seq: 100,
+    ack: 0,
+    flags: NO_FLAGS,
+    payload: b"",
+    asked: Asked::All,
+    told: "",
+    fronts: None,
+};
+
+static TALKS: [Talk; 4] = [
+    Talk {
+        shows: "numbers are told from the first of a direction",
+        segments: &[
+            Sent {
+                seq: 4294967280,
+                ack: 77,
+                flags: SYN,
+                told: "tcp.stream=0 tcp.seq=0 ",
+                ..PLAIN
+            },
+            Sent {
+                headers: &[BACK],
+                seq: 500,
+                ack: 4294967281,
+                flags: SYN_ACK,
+                told: "tcp.stream=0 tcp.seq=0 tcp.ack=1 ",
+                ..PLAIN
+            },
+            Sent {
+                seq: 5,
+                ack: 501,
+                flags: ACK,
+                payload: b"uvw",
+                told: "tcp.stream=0 tcp.seq=21 tcp.ack=1 ",
+                ..PLAIN
+            },
+            Sent {
+                seq: 4294967281,
+                ack: 501,
+                flags: ACK,
+                payload: b"abcdefghijklmnopqrst",
+                told: "tcp.stream=0 tcp.seq=1 tcp.ack=1 ",
+                fronts: Some(Fronts {
+                    count: 1,
+                    zero: b"abcdefghijklmnopqrstuvw",
+                    one: b"",
+                }),
+                ..PLAIN
+            },
+            Sent {
+                seq: 9,
+                flags: SYN,
+                told: "tcp.stream=1 tcp.seq=0 ",
+                fronts: Some(Fronts {
+                    count: 2,
+                    zero: b"abcdefghijklmnopqrstuvw",
+                    one: b"",
+                }),
+                ..PLAIN
+            },
+        ],
+    },
+    Talk {
+        shows: "what the capture has not is told where it is passed",
+        segments: &[
+            Sent {
+                payload: b"ab",
+                told: "tcp.stream=0 tcp.seq=1 ",
+                ..PLAIN
+            },
+            Sent {
+                seq: 105,
+                payload: b"fg",
+                told: "tcp.stream=0 tcp.seq=6 ",
+                ..PLAIN
+            },
+            Sent {
+                headers: &[BACK],
+                seq: 30,
+                ack: 107,
+                flags: ACK,
+                told: "tcp.stream=0 tcp.seq=1 tcp.ack=8 ",
+                fronts: Some(Fronts {
+                    count: 1,
+                    zero: b"ab",
+                    one: b"",
+                }),
+                ..PLAIN
+            },
+            Sent {
+                seq: 107,
+                payload: b"hi",
+                told: "tcp.stream=0 tcp.seq=8 tcp.lost=3 ",
+                fronts: Some(Fronts {
+                    count: 1,
+                    zero: b"fghi",
+                    one: b"",
+                }),
+                ..PLAIN
+            },
+        ],
+    },
+    Talk {
+        shows: "segments are taken whatever is wanted",
+        segments: &[
+            Sent {
+                payload: b"ab",
+                asked: Asked::None,
+                ..PLAIN
+            },
+            Sent {
+                seq: 102,
+                payload: b"c",
+                asked: Asked::Numbers,
+                told: "tcp.seq=3 ",
+                fronts: Some(Fronts {
+                    count: 1,
+                    zero: b"abc",
+                    one: b"",
+                }),
+                ..PLAIN
+            },
+        ],
+    },
+    Talk {
+        shows: "an embedded segment is of no stream",
+        segments: &[
+            Sent {
+                headers: &[UNREACHABLE, THERE],
+                seq: 9,
+                flags: SYN,
+                fronts: Some(Fronts {
+                    count: 0,
+                    zero: b"",
+                    one: b"",
+                }),
+                ..PLAIN
+            },
+            Sent {
+                flags: SYN,
+                told: "tcp.stream=0 tcp.seq=0 ",
+                ..PLAIN
+            },
+        ],
+    },
+];
+
+fn asked_fields(asked: Asked) -> FieldSet {
+    match asked {
+        Asked::All => FieldSet::all(),
+        Asked::None => FieldSet::none(),
+        Asked::Numbers => {
+            let mut wanted = FieldSet::none();
+            wanted.add(ids::TCP_SEQ);
+            wanted
+        }
+    }
+}
+
+/// Compares the streams.
+fn check_fronts(rt: &impl Abort, dissector: &Dissector, fronts: Fronts) {
+    let streams = dissector.streams();
+    assert_eq!(rt; streams.count(), fronts.count);
+    if streams.count() > 0 {
+        assert_eq!(rt; streams.front(0, 0), fronts.zero);
+        assert_eq!(rt; streams.front(0, 1), fronts.one);
+    }
+}
+
+/// Takes a segment, and compares what is told of its stream.
+fn take_sent(
     rt: &impl Abort,
     alloc: Global,
     dissector: &mut Dissector,
     number: u32,
-    bytes: Octets,
-    wanted: FieldSet,
-    told: &str,
+    shows: &str,
+    sent: &Sent,
 ) -> Result<(), Fail>
     requires number { number ≡ dissector.old.taken + 1 }
     requires captured { dissector.old.captured ≤ 200 * dissector.old.taken }
@@ -90,109 +300,41 @@ fn take_segment(
         time: None,
         link: RAW,
         little: true,
-        bytes,
+        bytes: segment(
+            alloc,
+            sent.headers,
+            sent.seq,
+            sent.ack,
+            sent.flags,
+            sent.payload,
+        )?,
         original: 0,
     };
     assert!(rt; frame.bytes.bytes().len() <= 200);
-    let tree = dissector.take_kept(&frame, wanted)?;
-    assert_eq!(rt; stream_text(alloc, &tree)?.as_str(), told);
+    let tree = dissector.take_kept(&frame, asked_fields(sent.asked))?;
+    assert_eq!(rt; stream_text(alloc, &tree)?.as_str(), sent.told, "{shows}");
     Ok(())
 }
 
-/// Takes a packet, and compares what is told of its stream.
-fn take(
-    rt: &impl Abort,
-    alloc: Global,
-    dissector: &mut Dissector,
-    number: u32,
-    bytes: Octets,
-    told: &str,
-) -> Result<(), Fail>
-    requires number { number ≡ dissector.old.taken + 1 }
-    requires captured { dissector.old.captured ≤ 200 * dissector.old.taken }
-    requires few { number < 100 }
-    ensures counted { OnOk result ((dissector.new.taken ≡ number) × (dissector.new.captured ≤ 200 * number)) }
-{
-    take_segment(rt, alloc, dissector, number, bytes, FieldSet::all(), told)
-}
-
-/// How many streams there are, and the bytes of the first one's two directions.
-fn fronts(rt: &impl Abort, dissector: &Dissector, count: u32, zero: &[u8], one: &[u8]) {
-    let streams = dissector.streams();
-    assert_eq!(rt; streams.count(), count);
-    assert!(rt; streams.count() > 0);
-    assert_eq!(rt; streams.front(0, 0), zero);
-    assert_eq!(rt; streams.front(0, 1), one);
-}
-
-#[test]
-fn numbers_are_told_from_the_first_of_a_direction(rt: HostRuntime) -> Result<(), Fail> {
-    let rt = &rt;
-    let alloc = rt.alloc();
-    let d = &mut Dissector::new(alloc, no_rules(alloc));
-    let syn = segment(alloc, &[THERE], 4294967280, 77, SYN, b"")?;
-    take(rt, alloc, d, 1, syn, "tcp.stream=0 tcp.seq=0 ")?;
-    let answer = segment(alloc, &[BACK], 500, 4294967281, SYN + ACK, b"")?;
-    take(rt, alloc, d, 2, answer, "tcp.stream=0 tcp.seq=0 tcp.ack=1 ")?;
-    let late = segment(alloc, &[THERE], 5, 501, ACK, b"uvw")?;
-    take(rt, alloc, d, 3, late, "tcp.stream=0 tcp.seq=21 tcp.ack=1 ")?;
-    let first = segment(
-        alloc,
-        &[THERE],
-        4294967281,
-        501,
-        ACK,
-        b"abcdefghijklmnopqrst",
-    )?;
-    take(rt, alloc, d, 4, first, "tcp.stream=0 tcp.seq=1 tcp.ack=1 ")?;
-    fronts(rt, d, 1, b"abcdefghijklmnopqrstuvw", b"");
-    let other = segment(alloc, &[THERE], 9, 0, SYN, b"")?;
-    take(rt, alloc, d, 5, other, "tcp.stream=1 tcp.seq=0 ")?;
-    fronts(rt, d, 2, b"abcdefghijklmnopqrstuvw", b"");
+/// Takes segments one after the other, and compares what is told of each, and the streams.
+fn check_talk(rt: &impl Abort, alloc: Global, talk: &Talk) -> Result<(), Fail> {
+    let mut dissector = Dissector::new(alloc, no_rules(alloc));
+    let mut number = 0;
+    for sent in talk.segments {
+        assert!(rt; number < 90);
+        number += 1;
+        take_sent(rt, alloc, &mut dissector, number, talk.shows, sent)?;
+        if let Some(fronts) = sent.fronts {
+            check_fronts(rt, &dissector, fronts);
+        }
+    }
     Ok(())
 }
 
 #[test]
-fn what_the_capture_has_not_is_told_where_it_is_passed(rt: HostRuntime) -> Result<(), Fail> {
-    let rt = &rt;
-    let alloc = rt.alloc();
-    let d = &mut Dissector::new(alloc, no_rules(alloc));
-    let first = segment(alloc, &[THERE], 100, 0, NONE, b"ab")?;
-    take(rt, alloc, d, 1, first, "tcp.stream=0 tcp.seq=1 ")?;
-    let behind = segment(alloc, &[THERE], 105, 0, NONE, b"fg")?;
-    take(rt, alloc, d, 2, behind, "tcp.stream=0 tcp.seq=6 ")?;
-    let answer = segment(alloc, &[BACK], 30, 107, ACK, b"")?;
-    take(rt, alloc, d, 3, answer, "tcp.stream=0 tcp.seq=1 tcp.ack=8 ")?;
-    fronts(rt, d, 1, b"ab", b"");
-    let last = segment(alloc, &[THERE], 107, 0, NONE, b"hi")?;
-    take(rt, alloc, d, 4, last, "tcp.stream=0 tcp.seq=8 tcp.lost=3 ")?;
-    fronts(rt, d, 1, b"fghi", b"");
+fn segments_are_told_of_their_streams(rt: HostRuntime) -> Result<(), Fail> {
+    for talk in &TALKS {
+        check_talk(&rt, rt.alloc(), talk)?;
+    }
     Ok(())
-}
-
-#[test]
-fn segments_are_taken_whatever_is_wanted(rt: HostRuntime) -> Result<(), Fail> {
-    let rt = &rt;
-    let alloc = rt.alloc();
-    let d = &mut Dissector::new(alloc, no_rules(alloc));
-    let first = segment(alloc, &[THERE], 100, 0, NONE, b"ab")?;
-    take_segment(rt, alloc, d, 1, first, FieldSet::none(), "")?;
-    let mut wanted = FieldSet::none();
-    wanted.add(ids::TCP_SEQ);
-    let next = segment(alloc, &[THERE], 102, 0, NONE, b"c")?;
-    take_segment(rt, alloc, d, 2, next, wanted, "tcp.seq=3 ")?;
-    fronts(rt, d, 1, b"abc", b"");
-    Ok(())
-}
-
-#[test]
-fn an_embedded_segment_is_of_no_stream(rt: HostRuntime) -> Result<(), Fail> {
-    let rt = &rt;
-    let alloc = rt.alloc();
-    let d = &mut Dissector::new(alloc, no_rules(alloc));
-    let embedded = segment(alloc, &[UNREACHABLE, THERE], 9, 0, SYN, b"")?;
-    take(rt, alloc, d, 1, embedded, "")?;
-    assert_eq!(rt; d.streams().count(), 0);
-    let syn = segment(alloc, &[THERE], 100, 0, SYN, b"")?;
-    take(rt, alloc, d, 2, syn, "tcp.stream=0 tcp.seq=0 ")
 }
