@@ -1,6 +1,8 @@
 //! TCP streams, whatever the order, loss or repetition of their segments (RFC 9293).
 #![tactic(auto)]
 
+#[cfg(test)]
+mod drawn_orders;
 mod ends;
 mod kept;
 mod newest;

@@ -18,7 +18,7 @@ pub(crate) struct Sequence {
     pub ends: &'static [((u32, u8), &'static str)],
 }
 
-fn endpoint(address: u32, port: u16) -> Endpoint {
+pub(crate) fn endpoint(address: u32, port: u16) -> Endpoint {
     Endpoint {
         address: Address::Four(address),
         port,

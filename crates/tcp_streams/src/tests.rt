@@ -1,3 +1,4 @@
+use crate::drawn_orders::orders_agree;
 use crate::sequences::*;
 use pk_base::NoMemory;
 
@@ -484,7 +485,7 @@ static GAPS: [Sequence; 18] = [
     },
 ];
 
-static WINDOWS: [Sequence; 5] = [
+static WINDOWS: [Sequence; 8] = [
     Sequence {
         shows: "the last byte of the window",
         lines: &[
@@ -530,6 +531,30 @@ static WINDOWS: [Sequence; 5] = [
         ],
         ends: &[((0, 0), "0 ab")],
     },
+    Sequence {
+        shows: "the last byte of the window of no front",
+        lines: &[
+            "client 100 - - -: 0 0 1 - 0 0 0",
+            "client 16777315 - - z: 0 0 16777216 - 16777215 0 0",
+        ],
+        ends: &[((0, 0), "0 -")],
+    },
+    Sequence {
+        shows: "one past the window of no front",
+        lines: &[
+            "client 100 - - -: 0 0 1 - 0 0 0",
+            "client 16777316 - - z: 0 0 16777217 - 16777216 0 0",
+        ],
+        ends: &[((0, 0), "0 -")],
+    },
+    Sequence {
+        shows: "2^31 ahead of no front",
+        lines: &[
+            "client 100 - - -: 0 0 1 - 0 0 0",
+            "client 2147483748 - - z: 0 0 2147483649 - -2147483648 0 0",
+        ],
+        ends: &[((0, 0), "0 -")],
+    },
 ];
 
 #[test]
@@ -545,6 +570,7 @@ fn bytes_come_in_any_order(rt: HostRuntime) -> Result<(), NoMemory> {
     for sequence in &ORDERS {
         assert!(rt; is_told(rt.alloc(), sequence)?, "{}", sequence.shows);
     }
+    assert!(rt; orders_agree(rt.alloc(), 4_294_967_200, 20)?);
     Ok(())
 }
 
@@ -570,5 +596,8 @@ fn frames_of_bytes_are_told(rt: HostRuntime) -> Result<(), NoMemory> {
     assert!(rt; come_from(alloc, &ORDERS[8], 0, 4, &[1, 2, 3])?);
     assert!(rt; come_from(alloc, &ORDERS[8], 1, 3, &[3])?);
     assert!(rt; !come_from(alloc, &ORDERS[8], 3, 5, &[2])?);
+    assert!(rt; come_from(alloc, &WINDOWS[5], 16777215, 16777216, &[2])?);
+    assert!(rt; !come_from(alloc, &WINDOWS[6], 16777216, 16777217, &[2])?);
+    assert!(rt; !come_from(alloc, &WINDOWS[7], 2147483648, 2147483649, &[2])?);
     Ok(())
 }
