@@ -1,5 +1,5 @@
 -- What masks and functions give of single values.
-use Rattle.std.specs.Prelude.{ℕ, ◌==◌, Bool as Truth, true, false, not, List, length, map, bit_and, Option, Some, None}
+use Rattle.std.specs.Prelude.{ℕ, ◌==◌, Bool as Truth, false, not, length, map, bit_and, Option, Some, None}
 use Rattle.std.specs.Char.{to_ascii_uppercase, to_ascii_lowercase}
 use Rattle.std.specs.Option.{option_map}
 use Rattle.flt_parse.specs.declared.ast.Function.{Function}

@@ -1,5 +1,5 @@
 -- What a filter may do with the values of a kind.
-use Rattle.std.specs.Prelude.{ℕ, Bool as Truth, true, false, not}
+use Rattle.std.specs.Prelude.{Bool as Truth, true, false, not}
 use Rattle.flt_parse.specs.declared.ast.Function.{Function}
 use Rattle.flt_parse.specs.declared.ast.Function.TheVariants.{Len, Count, Upper, Lower}
 use Rattle.flt_values.specs.declared.kinds.Class.{Class}

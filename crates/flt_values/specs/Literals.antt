@@ -1,6 +1,6 @@
 -- What the literals of filters write (wireshark-filter(4)): a value of the kind that is asked for, or that its kind
 -- doesn't read them, or that they write what is out of its range.
-use Rattle.std.specs.Prelude.{ℕ, ◌^◌, ◌==◌, ◌||◌, ◌<◌, Bool as Truth, true, false, if◌then◌else◌, nat_lt, nat_le, List, [], ◌∷◌, codes, Option, Some, None, ℤ}
+use Rattle.std.specs.Prelude.{ℕ, ◌^◌, Bool as Truth, true, false, if◌then◌else◌, nat_lt, nat_le, List, [], ◌∷◌, codes, Option, Some, None}
 use Rattle.std.specs.Char.{is_ascii_digit}
 use Rattle.std.specs.List.{list_any, list_all}
 use Rattle.std.specs.Option.{option_map}
