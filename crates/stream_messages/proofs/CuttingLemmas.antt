@@ -1,0 +1,347 @@
+-- The messages that are cut one behind the other, and the cursor behind them.
+use Rattle.std.proofs.Common.{◌≡◌, ℕ, ◌+◌, ◌-◌, ◌<◌, ◌≤◌, inl, inr, Bool, true, false, List, [], ◌∷◌, ◌++◌, length, drop, get_or, refl, sym, ap, subst, ◌∙◌, arith, append_assoc, length-append, length-drop, Some, None}
+use Rattle.std.specs.Prelude.{if◌then◌else◌, nat_lt, All}
+use Rattle.std.proofs.lemmas.Bool.{cond-true, lt-ltb, ltb-true, cases_lt}
+use Rattle.std.proofs.lemmas.List.Elements.{All-push}
+use Rattle.std.proofs.lemmas.Option.{cond_some, none-some}
+use Rattle.std.proofs.lemmas.List.{append-nil, drop-append-le, drop-drop, drop_all, append_cancel_left}
+use Rattle.http_frame.specs.declared.shape.Then.{Then}
+use Rattle.http_frame.specs.declared.shape.Then.TheVariants.{Follows, Opaque}
+use Rattle.stream_messages.specs.declared.told.App.{App}
+use Rattle.stream_messages.specs.declared.told.Told.{Told}
+use Rattle.stream_messages.specs.declared.placed.Placed.{Placed}
+use Rattle.stream_messages.specs.declared.cursor.Cursor.{Cursor}
+use Rattle.stream_messages.specs.declared.cursor.Mark.{Mark}
+use Rattle.stream_messages.specs.declared.cursor.Next.{Next}
+use Rattle.stream_messages.specs.declared.cursor.Next.TheVariants.{Never, Awaited, Begun}
+use Rattle.stream_messages.specs.declared.cutting.Cut.{Cut}
+use Rattle.stream_messages.specs.declared.cutting.Cut.TheVariants.{Whole, Rest}
+use Rattle.stream_messages.specs.declared.cutting.Shown.{Shown}
+use Rattle.stream_messages.specs.Tellings.{first_of, end_of, then_of, passed, answers}
+use Rattle.stream_messages.specs.Messages.{Asked, follow, messages, of_front, end_at, above, AgreeBelow, answered}
+use Rattle.stream_messages.specs.Cursors.{IsKnown, next_at, next_behind, mark_behind, cursor_behind, goes, from_cursor, KnowsNext, IsBehind, IsSoundNext, IsSound, AsksBetween, IsCut, IsWhole, IsAskedOf, IsNext, IsRest, IsCutFrom, IsLook}
+use Rattle.stream_messages.proofs.FirstLemmas.{first_some, first_within, first_stays, first_shrinks}
+use Rattle.stream_messages.proofs.MessageLemmas.{all_below, steps, none_left, no_messages}
+use Rattle.stream_messages.proofs.StretchLemmas.{above-append, answered-append}
+use Rattle.stream_messages.proofs.CursorLemmas.{known_front, behind_same, sound_now}
+
+-- what a cursor says by its mark and whether a message may come
+abbrev from_mark : App → Asked → ℕ → Bool → Mark → List ℕ → List Placed
+from_mark app asked start may mark front = if may then of_front app asked mark.answers (start + next_at mark) (drop (next_at mark) front) else []
+
+-- bytes that have a message of their own have a byte
+pub there_are : (app : App) (asked : Bool) (at : ℕ) (front : List ℕ) (told : Told) → first_of app asked (drop at front) ≡ Some told → at + end_of told ≤ length front
+there_are app asked at front told e =
+    let within : end_of told ≤ length (drop at front) = first_within app asked (drop at front) told e in
+    let some : 0 < end_of told = first_some app asked (drop at front) told e in
+    omega (arith, within, some, length-drop at front)
+
+-- where the next message begins, if a byte of it is there
+pub place_is : (at len place : ℕ) → (if nat_lt at len then Some at else None) ≡ Some place → (at ≡ place) × (at < len)
+place_is at len place e = let says = cond_some (nat_lt at len) at place e in (says.1, ltb-true at len says.0)
+
+pub place_none : (at len : ℕ) → (if nat_lt at len then Some at else None) ≡ None → len ≤ at
+place_none at len e = elim (cases_lt at len) [
+  | inl within ↦ absurd (none-some at (sym e ∙ cond-true _ _ _ (lt-ltb at len within)))
+  | inr past ↦ past
+]
+
+-- ---- the messages so far
+
+pub record IsCutting (app : App) (asked : Asked) (count start : ℕ) (old front : List ℕ) (c : Cursor) (ms : List Placed) : Type 0 where
+  pub rest_is : (later : Asked) (more : List ℕ) → AgreeBelow (start + length front) asked later
+      → of_front app later count start (front ++ more) ≡ (of_front app asked count start old ++ ms) ++ from_cursor app later start c (front ++ more)
+  pub counts : c.mark.answers ≡ answered count (of_front app asked count start old ++ ms)
+  pub known : KnowsNext app (asked (start + next_at c.mark) c.mark.answers) (next_at c.mark) old c.next
+  pub new : above (start + length old) ms ≡ ms
+  pub quiet : from_cursor app asked start c old ≡ []
+
+nothing_more : (xs ys : List Placed) → xs ≡ xs ++ ys → ys ≡ []
+nothing_more xs ys e = append_cancel_left xs ys [] (sym e ∙ sym (append-nil xs))
+
+behind_quiet : (app : App) (asked : Asked) (count start : ℕ) (c : Cursor) (front : List ℕ) → IsBehind app asked count start c front → from_cursor app asked start c front ≡ []
+behind_quiet app asked count start c front is =
+    let same : of_front app asked count start (front ++ []) ≡ of_front app asked count start front ++ from_cursor app asked start c (front ++ []) = is.behind asked [] (λ at n low. refl) in
+    nothing_more (of_front app asked count start front) (from_cursor app asked start c front)
+    (subst (λ (bytes : List ℕ). of_front app asked count start bytes ≡ of_front app asked count start front ++ from_cursor app asked start c bytes) (append-nil front) same)
+
+pub cutting_first : (app : App) (asked later : Asked) (count start : ℕ) (old new front : List ℕ) (c : Cursor) → front ≡ old ++ new → AgreeBelow (start + length old) asked later
+    → IsBehind app asked count start c old → IsCutting app later count start old front c []
+cutting_first app asked later count start old new front c is agree behind =
+    subst (λ (all : List ℕ). IsCutting app later count start old all c []) (sym is) (record {
+      rest_is = λ newer more also.
+          ap (of_front app newer count start) (append_assoc old new more)
+          ∙ here.behind newer (new ++ more) (λ at n low. also at n (omega (arith, low, length-append old new)))
+          ∙ ap (λ (ms : List Placed). ms ++ from_cursor app newer start c (old ++ (new ++ more))) (sym (append-nil base))
+          ∙ ap (λ (all : List ℕ). (base ++ []) ++ from_cursor app newer start c all) (sym (append_assoc old new more));
+      counts = here.counts ∙ ap (answered count) (sym (append-nil base));
+      known = here.known;
+      new = refl;
+      quiet = behind_quiet app later count start c old here;
+    })
+  where
+    here : IsBehind app later count start c old
+    here = behind_same app asked later count start c old agree behind
+
+    base : List Placed
+    base = of_front app later count start old
+
+-- what is found is asked of the right request
+pub asks_right : (app : App) (asked : Asked) (count start : ℕ) (old new front : List ℕ) (c : Cursor) (ms : List Placed) (heads : List Bool) → front ≡ old ++ new
+    → AsksBetween (start + length old) (start + length front) heads asked → IsCutting app asked count start old front c ms
+    → IsAskedOf app (asked (start + next_at c.mark) c.mark.answers) heads c.mark.answers c.next (drop (next_at c.mark) front)
+asks_right app asked count start old new front c ms heads is asks cutting = by c.next cutting.known
+  where
+    by : (next : Next) → KnowsNext app (asked (start + next_at c.mark) c.mark.answers) (next_at c.mark) old next
+        → IsAskedOf app (asked (start + next_at c.mark) c.mark.answers) heads c.mark.answers next (drop (next_at c.mark) front)
+    by Never known = tt
+    by Awaited known = λ some. asks (start + next_at c.mark) c.mark.answers (omega (arith, known)) (omega (arith, some, length-drop (next_at c.mark) front))
+    by (Begun part) known =
+        subst (λ (all : List ℕ). IsKnown app (asked (start + next_at c.mark) c.mark.answers) part (drop (next_at c.mark) all)) (sym is)
+        (known_front app (asked (start + next_at c.mark) c.mark.answers) part (next_at c.mark) old new known.0 known.1)
+
+-- a message that is found ends in the new bytes
+ends_late : (app : App) (asked : Asked) (answers start at : ℕ) (old new : List ℕ) (told : Told) → of_front app asked answers (start + at) (drop at old) ≡ []
+    → first_of app (asked (start + at) answers) (drop at (old ++ new)) ≡ Some told → length old < at + end_of told
+ends_late app asked answers start at old new told quiet e = elim (cases_lt (length old) (at + end_of told)) [
+  | inl late ↦ late
+  | inr early ↦
+      let within : at ≤ length old = omega (arith, early) in
+      let split : drop at (old ++ new) ≡ drop at old ++ new = drop-append-le at old new within in
+      let there : first_of app (asked (start + at) answers) (drop at old ++ new) ≡ Some told = ap (first_of app (asked (start + at) answers)) (sym split) ∙ e in
+      let was : first_of app (asked (start + at) answers) (drop at old) ≡ Some told =
+      first_shrinks app (asked (start + at) answers) (drop at old) new told there (omega (arith, early, length-drop at old)) in
+      absurd (some_none _ _ (sym (steps app asked answers (start + at) (drop at old) told was) ∙ quiet))
+]
+  where
+    some_none : (m : Placed) (ms : List Placed) → m ∷ ms ≡ [] → ⊥
+    some_none m ms e = absurd (cc)
+
+-- behind a message
+follows : (app : App) (asked : Asked) (start : ℕ) (mark : Mark) (told : Told) (next : Then) (bytes : List ℕ)
+    → follow next (messages app asked (mark.answers + answers told) ((start + next_at mark) + (end_of told + passed next)) 0 (drop (end_of told + passed next) (drop (next_at mark) bytes)))
+    ≡ (if goes (next_behind next) then of_front app asked (mark.answers + answers told) (start + ((next_at mark + end_of told) + passed next)) (drop ((next_at mark + end_of told) + passed next) bytes) else [])
+follows app asked start mark told Opaque bytes = refl
+follows app asked start mark told (Follows n) bytes =
+    let place : (start + next_at mark) + (end_of told + n) ≡ start + ((next_at mark + end_of told) + n) = omega arith in
+    let size : next_at mark + (end_of told + n) ≡ (next_at mark + end_of told) + n = omega arith in
+    ap (λ (p : ℕ). messages app asked (mark.answers + answers told) p 0 (drop (end_of told + n) (drop (next_at mark) bytes))) place
+    ∙ ap (messages app asked (mark.answers + answers told) (start + ((next_at mark + end_of told) + n)) 0) (drop-drop (end_of told + n) (next_at mark) bytes ∙ ap (λ (k : ℕ). drop k bytes) size)
+
+-- the message that comes next, and those behind it
+one_more : (app : App) (asked : Asked) (start : ℕ) (c : Cursor) (told : Told) (bytes : List ℕ) → goes c.next ≡ true
+    → first_of app (asked (start + next_at c.mark) c.mark.answers) (drop (next_at c.mark) bytes) ≡ Some told
+    → from_cursor app asked start c bytes ≡ record { at = start + next_at c.mark; told = told } ∷ from_cursor app asked start (cursor_behind c.mark told) bytes
+one_more app asked start c told bytes may e =
+    cond-true _ _ _ may
+    ∙ steps app asked c.mark.answers (start + next_at c.mark) (drop (next_at c.mark) bytes) told e
+    ∙ ap (λ (ms : List Placed). record { at = start + next_at c.mark; told = told } ∷ ms) (follows app asked start c.mark told (then_of told) bytes)
+
+pushed : (base ms : List Placed) (m : Placed) (rest : List Placed) → (base ++ ms) ++ m ∷ rest ≡ (base ++ (ms ++ m ∷ [])) ++ rest
+pushed base ms m rest =
+    append_assoc base ms (m ∷ rest) ∙ ap (λ (xs : List Placed). base ++ xs) (sym (append_assoc ms (m ∷ []) rest)) ∙ sym (append_assoc base (ms ++ m ∷ []) rest)
+
+knows_behind : (app : App) (asked : Bool) (at : ℕ) (front : List ℕ) (next : Then) → length front ≤ at → KnowsNext app asked at front (next_behind next)
+knows_behind app asked at front (Follows n) past = past
+knows_behind app asked at front Opaque past = tt
+
+if_none : (t : Bool) (xs : List Placed) → xs ≡ [] → (if t then xs else []) ≡ []
+if_none true xs e = e
+if_none false xs e = refl
+
+quiet_past : (app : App) (asked : Asked) (start : ℕ) (c : Cursor) (front : List ℕ) → length front ≤ next_at c.mark → from_cursor app asked start c front ≡ []
+quiet_past app asked start c front past =
+    if_none (goes c.next) _ (ap (of_front app asked c.mark.answers (start + next_at c.mark)) (drop_all (next_at c.mark) front past) ∙ no_messages app asked c.mark.answers (start + next_at c.mark))
+
+found_longer : (app : App) (asked later : Asked) (start answers at : ℕ) (front more : List ℕ) (told : Told) → AgreeBelow (start + length front) asked later
+    → first_of app (asked (start + at) answers) (drop at front) ≡ Some told → first_of app (later (start + at) answers) (drop at (front ++ more)) ≡ Some told
+found_longer app asked later start answers at front more told agree e =
+    let there : at + end_of told ≤ length front = there_are app (asked (start + at) answers) at front told e in
+    let some : 0 < end_of told = first_some app (asked (start + at) answers) (drop at front) told e in
+    let same : later (start + at) answers ≡ asked (start + at) answers = agree (start + at) answers (omega (arith, there, some)) in
+    ap (λ (a : Bool). first_of app a (drop at (front ++ more))) same
+    ∙ ap (first_of app (asked (start + at) answers)) (drop-append-le at front more (omega (arith, there)))
+    ∙ first_stays app (asked (start + at) answers) (drop at front) more told e
+
+cutting_step : (app : App) (asked : Asked) (count start : ℕ) (old new front : List ℕ) (c : Cursor) (ms : List Placed) (told : Told) → front ≡ old ++ new
+    → IsCutting app asked count start old front c ms → goes c.next ≡ true
+    → first_of app (asked (start + next_at c.mark) c.mark.answers) (drop (next_at c.mark) front) ≡ Some told
+    → IsCutting app asked count start old front (cursor_behind c.mark told) (ms ++ record { at = start + next_at c.mark; told = told } ∷ [])
+cutting_step app asked count start old new front c ms told is cutting may e = record {
+  rest_is = λ later more agree.
+      cutting.rest_is later more agree
+      ∙ ap (λ (xs : List Placed). (base ++ ms) ++ xs) (one_more app later start c told (front ++ more) may (found_longer app asked later start c.mark.answers (next_at c.mark) front more told agree e))
+      ∙ pushed base ms m (from_cursor app later start (cursor_behind c.mark told) (front ++ more));
+  counts =
+      ap (λ (n : ℕ). n + answers told) cutting.counts
+      ∙ sym (answered-append count (base ++ ms) (m ∷ []))
+      ∙ ap (answered count) (append_assoc base ms (m ∷ []));
+  known = knows_behind app _ _ old (then_of told) (omega (arith, late));
+  new =
+      above-append (start + length old) ms (m ∷ [])
+      ∙ ap (λ (xs : List Placed). xs ++ above (start + length old) (m ∷ [])) cutting.new
+      ∙ ap (λ (xs : List Placed). ms ++ xs) (cond-true _ _ _ (lt-ltb (start + length old) (end_at m) (omega (arith, late))));
+  quiet = quiet_past app asked start (cursor_behind c.mark told) old (omega (arith, late));
+}
+  where
+    base : List Placed
+    base = of_front app asked count start old
+
+    m : Placed
+    m = record { at = start + next_at c.mark; told = told }
+
+    was : of_front app asked c.mark.answers (start + next_at c.mark) (drop (next_at c.mark) old) ≡ []
+    was = sym (cond-true _ _ _ may) ∙ cutting.quiet
+
+    late : length old < next_at c.mark + end_of told
+    late = ends_late app asked c.mark.answers start (next_at c.mark) old new told was
+        (subst (λ (all : List ℕ). first_of app (asked (start + next_at c.mark) c.mark.answers) (drop (next_at c.mark) all) ≡ Some told) is e)
+
+pub cutting_more : (app : App) (asked : Asked) (count start : ℕ) (old new front : List ℕ) (c : Cursor) (ms : List Placed) (m : Placed) (behind : Cursor) → front ≡ old ++ new
+    → IsCutting app asked count start old front c ms → goes c.next ≡ true → IsNext app (asked (start + next_at c.mark) c.mark.answers) start front c.mark m behind
+    → IsCutting app asked count start old front behind (ms ++ m ∷ [])
+cutting_more app asked count start old new front c ms m behind is cutting may next =
+    let placed : record { at = start + next_at c.mark; told = m.told } ≡ m = λ i. record { at = sym next.at i; told = m.told } in
+    let here : IsCutting app asked count start old front (cursor_behind c.mark m.told) (ms ++ record { at = start + next_at c.mark; told = m.told } ∷ []) =
+    cutting_step app asked count start old new front c ms m.told is cutting may next.first in
+    let moved : IsCutting app asked count start old front behind (ms ++ record { at = start + next_at c.mark; told = m.told } ∷ []) =
+    subst (λ (d : Cursor). IsCutting app asked count start old front d (ms ++ record { at = start + next_at c.mark; told = m.told } ∷ [])) (sym next.cursor) here in
+    subst (λ (x : Placed). IsCutting app asked count start old front behind (ms ++ x ∷ [])) placed moved
+
+-- ---- nothing more
+
+rest_quiet : (app : App) (asked : Asked) (start : ℕ) (front : List ℕ) (c new : Cursor) → IsRest app (asked (start + next_at c.mark) c.mark.answers) front c new → from_cursor app asked start c front ≡ []
+rest_quiet app asked start front c new rest = by (goes c.next) refl
+  where
+    by : (t : Bool) → goes c.next ≡ t → (if t then of_front app asked c.mark.answers (start + next_at c.mark) (drop (next_at c.mark) front) else []) ≡ []
+    by true may = none_left app asked c.mark.answers (start + next_at c.mark) (drop (next_at c.mark) front) (rest.none may)
+    by false may = refl
+
+pub cutting_last : (app : App) (asked : Asked) (count start : ℕ) (old front : List ℕ) (c : Cursor) (ms : List Placed) (shown : Shown)
+    → IsCutting app asked count start old front c ms → IsRest app (asked (start + next_at c.mark) c.mark.answers) front c shown.cursor → shown.messages ≡ ms
+    → IsCut app asked count start old front shown
+cutting_last app asked count start old front c ms shown cutting rest is = record {
+  messages = is ∙ sym (
+      ap (above (start + length old)) all
+      ∙ above-append (start + length old) base ms
+      ∙ ap (λ (xs : List Placed). xs ++ above (start + length old) ms) (all_below app asked (start + length old) count start 0 old (omega arith))
+      ∙ cutting.new
+      );
+  cursor = record {
+    behind = λ later more agree.
+        cutting.rest_is later more agree
+        ∙ ap (λ (xs : List Placed). xs ++ from_cursor app later start c (front ++ more)) (sym all)
+        ∙ ap (λ (xs : List Placed). of_front app asked count start front ++ xs) (sym (ap (λ (k : Mark). from_mark app later start (goes shown.cursor.next) k (front ++ more)) rest.mark ∙ ap (λ (t : Bool). from_mark app later start t c.mark (front ++ more)) rest.goes_is));
+    counts = ap (λ (k : Mark). k.answers) rest.mark ∙ cutting.counts ∙ ap (answered count) (sym all);
+    known = subst (λ (k : Mark). KnowsNext app (asked (start + next_at k) k.answers) (next_at k) front shown.cursor.next) (sym rest.mark) rest.known;
+  };
+}
+  where
+    base : List Placed
+    base = of_front app asked count start old
+
+    all : of_front app asked count start front ≡ base ++ ms
+    all =
+        ap (of_front app asked count start) (sym (append-nil front))
+        ∙ cutting.rest_is asked [] (λ at n low. refl)
+        ∙ ap (λ (xs : List Placed). (base ++ ms) ++ xs) (ap (from_cursor app asked start c) (append-nil front) ∙ rest_quiet app asked start front c shown.cursor rest)
+        ∙ append-nil (base ++ ms)
+
+-- ---- whatever the cursor
+
+-- some request is the one that a sound cursor is asked of
+pub some_asked : (app : App) (heads : List Bool) (count at : ℕ) (front : List ℕ) (next : Next) → IsSoundNext app at front next
+    → (asked : Bool) × IsAskedOf app asked heads count next (drop at front)
+some_asked app heads count at front Never sound = (false, tt)
+some_asked app heads count at front Awaited sound = (get_or heads count false, λ some. refl)
+some_asked app heads count at front (Begun part) sound = (sound.1.0, sound.1.1)
+
+pub next_whole : (app : App) (asked : Bool) (start : ℕ) (front : List ℕ) (mark : Mark) (m : Placed) (c : Cursor) → IsNext app asked start front mark m c → IsWhole app start front m
+next_whole app asked start front mark m c next =
+    let there : next_at mark + end_of m.told ≤ length front = there_are app asked (next_at mark) front m.told next.first in
+    let place : next_at mark ≡ m.at - start = omega (arith, next.at) in
+    record {
+      from = omega (arith, next.at);
+      within = omega (arith, next.at, there);
+      first = (asked, subst (λ (k : ℕ). first_of app asked (drop k front) ≡ Some m.told) place next.first);
+    }
+
+sound_behind : (app : App) (at : ℕ) (front : List ℕ) (next : Then) → IsSoundNext app at front (next_behind next)
+sound_behind app at front (Follows n) = tt
+sound_behind app at front Opaque = tt
+
+pub next_sound : (app : App) (asked : Bool) (start : ℕ) (front : List ℕ) (mark : Mark) (m : Placed) (c : Cursor) → IsNext app asked start front mark m c → IsSound app c front
+next_sound app asked start front mark m c next =
+    subst (λ (d : Cursor). IsSound app d front) (sym next.cursor) (sound_behind app (next_at (mark_behind mark m.told)) front (then_of m.told))
+
+pub next_nearer : (app : App) (asked : Bool) (start : ℕ) (front : List ℕ) (mark : Mark) (m : Placed) (c : Cursor) → IsNext app asked start front mark m c
+    → length front - c.mark.end < length front - mark.end
+next_nearer app asked start front mark m c next =
+    let there : next_at mark + end_of m.told ≤ length front = there_are app asked (next_at mark) front m.told next.first in
+    let some : 0 < end_of m.told = first_some app asked (drop (next_at mark) front) m.told next.first in
+    let end : c.mark.end ≡ next_at mark + end_of m.told = ap (λ (d : Cursor). d.mark.end) next.cursor in
+    omega (arith, there, some, end)
+
+pub rest_sound : (app : App) (asked : Bool) (front : List ℕ) (old new : Cursor) → IsRest app asked front old new → IsSound app new front
+rest_sound app asked front old new rest =
+    subst (λ (k : Mark). IsSoundNext app (next_at k) front new.next) (sym rest.mark) (sound_now app asked (next_at old.mark) front new.next rest.known)
+
+-- ---- all messages
+
+pub record IsLoop (app : App) (start : ℕ) (front : List ℕ) (heads : List Bool) (first c : Cursor) (ms : List Placed) : Type 0 where
+  pub cutting : (asked later : Asked) (count : ℕ) (old new : List ℕ) → front ≡ old ++ new → AgreeBelow (start + length old) asked later
+      → AsksBetween (start + length old) (start + length front) heads later → IsBehind app asked count start first old → IsCutting app later count start old front c ms
+  pub whole : All (IsWhole app start front) ms
+  pub sound : IsSound app c front
+
+pub loop_first : (app : App) (start : ℕ) (front : List ℕ) (heads : List Bool) (c : Cursor) → IsSound app c front → IsLoop app start front heads c c []
+loop_first app start front heads c sound = record {
+  cutting = λ asked later count old new is agree asks behind. cutting_first app asked later count start old new front c is agree behind;
+  whole = λ k m inside. absurd (omega (arith, inside));
+  sound = sound;
+}
+
+-- the bit of one look, where the look is right for each
+pub loop_asked : (app : App) (start : ℕ) (front : List ℕ) (heads : List Bool) (c : Cursor) (cut : Cut) → IsSound app c front
+    → IsLook app start front heads c cut
+    → (asked : Bool) × IsCutFrom app asked start front c cut
+loop_asked app start front heads c cut sound each =
+    let some = some_asked app heads c.mark.answers (next_at c.mark) front c.next sound in (some.0, each some.0 some.1)
+
+pub loop_more : (app : App) (start : ℕ) (front : List ℕ) (heads : List Bool) (first c : Cursor) (ms : List Placed) (m : Placed) (behind : Cursor)
+    → IsLoop app start front heads first c ms
+    → IsLook app start front heads c (Whole m behind)
+    → IsLoop app start front heads first behind (ms ++ m ∷ [])
+loop_more app start front heads first c ms m behind loop each =
+    let some = loop_asked app start front heads c (Whole m behind) loop.sound each in
+    record {
+      cutting = λ asked later count old new is agree asks from.
+          let cutting : IsCutting app later count start old front c ms = loop.cutting asked later count old new is agree asks from in
+          let here = each (later (start + next_at c.mark) c.mark.answers) (asks_right app later count start old new front c ms heads is asks cutting) in
+          cutting_more app later count start old new front c ms m behind is cutting here.0 here.1;
+      whole = All-push (IsWhole app start front) ms m loop.whole (next_whole app some.0 start front c.mark m behind some.1.1);
+      sound = next_sound app some.0 start front c.mark m behind some.1.1;
+    }
+
+pub loop_nearer : (app : App) (start : ℕ) (front : List ℕ) (heads : List Bool) (c : Cursor) (m : Placed) (behind : Cursor) → IsSound app c front
+    → IsLook app start front heads c (Whole m behind)
+    → length front - behind.mark.end < length front - c.mark.end
+loop_nearer app start front heads c m behind sound each =
+    let some = loop_asked app start front heads c (Whole m behind) sound each in
+    next_nearer app some.0 start front c.mark m behind some.1.1
+
+pub loop_sound : (app : App) (start : ℕ) (front : List ℕ) (heads : List Bool) (c new : Cursor) → IsSound app c front
+    → IsLook app start front heads c (Rest new)
+    → IsSound app new front
+loop_sound app start front heads c new sound each =
+    let some = loop_asked app start front heads c (Rest new) sound each in rest_sound app some.0 front c new some.1
+
+pub loop_cut : (app : App) (start : ℕ) (front : List ℕ) (heads : List Bool) (first c : Cursor) (ms : List Placed) (shown : Shown)
+    → IsLoop app start front heads first c ms
+    → IsLook app start front heads c (Rest shown.cursor)
+    → shown.messages ≡ ms → (asked later : Asked) (count : ℕ) (old new : List ℕ) → front ≡ old ++ new → AgreeBelow (start + length old) asked later
+    → AsksBetween (start + length old) (start + length front) heads later → IsBehind app asked count start first old → IsCut app later count start old front shown
+loop_cut app start front heads first c ms shown loop each same asked later count old new is agree asks from =
+    let cutting : IsCutting app later count start old front c ms = loop.cutting asked later count old new is agree asks from in
+    cutting_last app later count start old front c ms shown cutting
+    (each (later (start + next_at c.mark) c.mark.answers) (asks_right app later count start old new front c ms heads is asks cutting)) same

@@ -1,0 +1,87 @@
+-- The messages of stretches, one behind the other.
+use Rattle.std.proofs.Common.{◌≡◌, ℕ, ◌+◌, ◌≤◌, Bool, List, [], ◌∷◌, ◌++◌, length, refl, sym, ap, subst, ◌∙◌, arith}
+use Rattle.std.proofs.lemmas.List.{append-nil}
+use Rattle.pk_base.specs.declared.stretch.Stretch.{Stretch}
+use Rattle.stream_messages.specs.declared.told.App.{App}
+use Rattle.stream_messages.specs.declared.placed.Placed.{Placed}
+use Rattle.stream_messages.specs.declared.cursor.Cursor.{Cursor}
+use Rattle.stream_messages.specs.declared.cutting.Shown.{Shown}
+use Rattle.stream_messages.specs.Messages.{Asked, of_front, AgreeBelow, answered, of_stretches, AllFrom}
+use Rattle.stream_messages.specs.Cursors.{begun, answers_before, IsBehind, IsBehindAll, AsksBetween, AsksFrom, IsCut}
+use Rattle.stream_messages.proofs.MessageLemmas.{all_above}
+use Rattle.stream_messages.proofs.StretchLemmas.{of_stretches-append, answered-append}
+use Rattle.stream_messages.proofs.CursorLemmas.{laws_of_cursors}
+
+-- stretches that were cut, with what they showed and the cursor behind them
+pub record IsPassed (app : App) (heads : List Bool) (first c : Cursor) (ss : List Stretch) (ms : List Placed) : Type 0 where
+  pub messages : (asked : Asked) (from : ℕ) → AsksFrom from heads asked → AllFrom from ss → ms ≡ of_stretches app asked (answers_before first) ss
+  pub counts : (asked : Asked) (from : ℕ) → AsksFrom from heads asked → AllFrom from ss
+      → answers_before c ≡ answered (answers_before first) (of_stretches app asked (answers_before first) ss)
+  pub cursor : (asked : Asked) (from : ℕ) → AsksFrom from heads asked → AllFrom from ss → IsBehindAll app asked (answers_before first) first ss c
+
+pub passed_first : (app : App) (heads : List Bool) (c : Cursor) → IsPassed app heads c c [] []
+passed_first app heads c = record { messages = λ asked from asks all. refl; counts = λ asked from asks all. refl; cursor = λ asked from asks all. refl }
+
+-- a stretch that is cut by itself
+pub record IsOne (app : App) (asked : Asked) (count : ℕ) (s : Stretch) (shown : Shown) : Type 0 where
+  pub messages : shown.messages ≡ of_front app asked count s.start s.bytes
+  pub cursor : IsBehind app asked count s.start shown.cursor s.bytes
+
+abbrev pub CutsAll : App → List Bool → ℕ → Cursor → List ℕ → Shown → Type 0
+CutsAll app heads start c front shown =
+    (asked later : Asked) (count : ℕ) (old new : List ℕ) → front ≡ old ++ new → AgreeBelow (start + length old) asked later
+    → AsksBetween (start + length old) (start + length front) heads later → IsBehind app asked count start c old → IsCut app later count start old front shown
+
+pub one_cut : (app : App) (heads : List Bool) (count : ℕ) (s : Stretch) (shown : Shown) → CutsAll app heads s.start (begun count) s.bytes shown
+    → (asked : Asked) (from : ℕ) → AsksFrom from heads asked → from ≤ s.start → IsOne app asked count s shown
+one_cut app heads count s shown cuts asked from asks low =
+    let cut : IsCut app asked count s.start [] s.bytes shown =
+    cuts asked asked count [] s.bytes refl (λ at n below. refl) (λ at n above below. asks at n (omega (arith, low, above))) (laws_of_cursors.begins app asked count s.start) in
+    record {
+      messages = cut.messages ∙ all_above app asked (s.start + 0) count s.start 0 s.bytes (omega arith);
+      cursor = cut.cursor;
+    }
+
+from_before : (from : ℕ) (ss : List Stretch) (s : Stretch) → AllFrom from (ss ++ s ∷ []) → AllFrom from ss × (from ≤ s.start)
+from_before from [] s all = (tt, all.0)
+from_before from (t ∷ ss) s all = let rest = from_before from ss s all.1 in ((all.0, rest.0), rest.1)
+
+behind_push : (app : App) (asked : Asked) (count : ℕ) (first new : Cursor) (ss : List Stretch) (s : Stretch)
+    → IsBehind app asked (answered count (of_stretches app asked count ss)) s.start new s.bytes → IsBehindAll app asked count first (ss ++ s ∷ []) new
+behind_push app asked count first new [] s is = is
+behind_push app asked count first new (t ∷ []) s is =
+    subst (λ (n : ℕ). IsBehind app asked n s.start new s.bytes) (ap (answered count) (append-nil (of_front app asked count t.start t.bytes))) is
+behind_push app asked count first new (t ∷ next ∷ ss) s is =
+    let ms : List Placed = of_front app asked count t.start t.bytes in
+    behind_push app asked (answered count ms) first new (next ∷ ss) s
+    (subst (λ (n : ℕ). IsBehind app asked n s.start new s.bytes) (answered-append count ms (of_stretches app asked (answered count ms) (next ∷ ss))) is)
+
+pub passed_more : (app : App) (heads : List Bool) (first c : Cursor) (ss : List Stretch) (ms : List Placed) (s : Stretch) (shown : Shown) → IsPassed app heads first c ss ms
+    → CutsAll app heads s.start (begun (answers_before c)) s.bytes shown → IsPassed app heads first shown.cursor (ss ++ s ∷ []) (ms ++ shown.messages)
+passed_more app heads first c ss ms s shown passed cuts = record {
+  messages = λ asked from asks all.
+      let split = from_before from ss s all in
+      let one = at_count asked from asks all in
+      let here : shown.messages ≡ of_stretches app asked (counted asked) (s ∷ []) = one.messages ∙ sym (append-nil (of_front app asked (counted asked) s.start s.bytes)) in
+      ap (λ (xs : List Placed). xs ++ shown.messages) (passed.messages asked from asks split.0)
+      ∙ ap (λ (xs : List Placed). of_stretches app asked (answers_before first) ss ++ xs) here
+      ∙ sym (of_stretches-append app asked (answers_before first) ss (s ∷ []));
+  counts = λ asked from asks all.
+      (at_count asked from asks all).cursor.counts
+      ∙ sym (
+      ap (answered (answers_before first)) (
+      of_stretches-append app asked (answers_before first) ss (s ∷ [])
+      ∙ ap (λ (xs : List Placed). of_stretches app asked (answers_before first) ss ++ xs) (append-nil (of_front app asked (counted asked) s.start s.bytes))
+      )
+      ∙ answered-append (answers_before first) (of_stretches app asked (answers_before first) ss) (of_front app asked (counted asked) s.start s.bytes)
+      );
+  cursor = λ asked from asks all. behind_push app asked (answers_before first) first shown.cursor ss s (at_count asked from asks all).cursor;
+}
+  where
+    counted : Asked → ℕ
+    counted asked = answered (answers_before first) (of_stretches app asked (answers_before first) ss)
+
+    at_count : (asked : Asked) (from : ℕ) → AsksFrom from heads asked → AllFrom from (ss ++ s ∷ []) → IsOne app asked (counted asked) s shown
+    at_count asked from asks all =
+        let split = from_before from ss s all in
+        subst (λ (n : ℕ). IsOne app asked n s shown) (passed.counts asked from asks split.0) (one_cut app heads (answers_before c) s shown cuts asked from asks split.1)

@@ -1,0 +1,6 @@
+use Rattle.std.proofs.Common.{take}
+use Rattle.stream_messages.proofs.PassingLemmas.{IsPassed}
+use Rattle.stream_messages.proofs.stretches.cut_stretches.Given as goal
+
+abbrev pub invariant-loop-stretch : goal.invariant-loop-stretch
+invariant-loop-stretch l = IsPassed l.app l.heads l.fn.cursor l.cursor (take l.stretch-index l.stretches) l.messages

@@ -1,0 +1,4 @@
+pub mod Tellings
+pub mod Messages
+pub mod Cursors
+pub mod Sides

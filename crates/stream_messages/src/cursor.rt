@@ -1,0 +1,113 @@
+ghost use Rattle.std.specs.Prelude.{◌≡◌, ◌+◌, ◌≤◌, ◌^◌, ◌<◌, if◌then◌else◌, length, nat_lt, Some, None, IfSome, IfOk, OnOk};
+ghost use Rattle.stream_messages.specs.Tellings.{end_of, passed};
+ghost use Rattle.stream_messages.specs.Cursors.{answers_before, begun, mark_behind, next_at, next_behind};
+ghost use Rattle.stream_messages.specs.declared.cursor.Mark.{Mark as MarkValue};
+
+use crate::part::Part;
+use crate::told::Told;
+use http_frame::Then;
+use pk_base::NoMemory;
+
+/// Behind the last whole message of a stretch of a stream's bytes, with what is known of the next one.
+#[derive(Drop)]
+pub struct Cursor {
+    pub(crate) mark: Mark,
+    pub(crate) next: Next,
+}
+
+/// Behind a whole message.
+#[derive(Clone, Copy, Debug, PartialEq, Eq)]
+pub(crate) struct Mark {
+    /// The place behind its last byte, from the stretch's first byte on.
+    pub end: usize,
+    /// The bytes behind it that belong to no message.
+    pub skip: u64,
+    /// The requests that were answered up to there, in earlier stretches too.
+    pub answers: usize,
+}
+
+/// What is known of the next message.
+#[derive(Drop)]
+pub(crate) enum Next {
+    /// None comes.
+    Never,
+    /// No byte of it is there.
+    Awaited,
+    /// A part of it was looked at.
+    Begun(Part),
+}
+
+impl Cursor {
+    /// Before the first byte of a stream.
+    pub fn first() -> Cursor
+        ensures { result ≡ begun 0 }
+    {
+        Cursor::begun(0)
+    }
+
+    /// Before the first byte of the stretch that begins behind lost bytes.
+    pub fn anew(&self) -> Cursor
+        ensures { result ≡ begun (answers_before self.now) }
+    {
+        Cursor::begun(self.mark.answers)
+    }
+
+    fn begun(answers: usize) -> Cursor
+        ensures { result ≡ begun answers }
+    {
+        Cursor {
+            mark: Mark {
+                end: 0,
+                skip: 0,
+                answers,
+            },
+            next: Next::Awaited,
+        }
+    }
+}
+
+impl Mark {
+    /// Where the next message begins, if a byte of it is among so many.
+    pub fn place_within(self, len: usize) -> Option<usize>
+        ensures { result ≡ (if nat_lt (next_at self) len then Some (next_at self) else None) }
+    {
+        let behind = len.saturating_sub(self.end) as u64;
+        if self.skip < behind {
+            Some(self.end + self.skip as usize)
+        } else {
+            None
+        }
+    }
+}
+
+/// Behind a message that begins at a place, and so many answers. No stream has more answers than can be counted.
+pub(crate) fn mark_behind(place: usize, answers: usize, told: &Told) -> Result<Mark, NoMemory>
+    requires { place + end_of told.now < 2 ^ 64 }
+    ensures { IfOk result (λ mark. (old : MarkValue) → next_at old ≡ place → old.answers ≡ answers → mark ≡ mark_behind old told.now) }
+{
+    Ok(Mark {
+        end: place + told.end(),
+        skip: passed(told.then()),
+        answers: answers.checked_add(told.answers()).ok_or(NoMemory)?,
+    })
+}
+
+/// The bytes to be passed over.
+fn passed(follows: Then) -> u64
+    ensures { result ≡ passed follows }
+{
+    match follows {
+        Then::Follows(count) => count,
+        Then::Opaque => 0,
+    }
+}
+
+/// What is known of the message behind another.
+pub(crate) fn next_behind(follows: Then) -> Next
+    ensures { result ≡ next_behind follows }
+{
+    match follows {
+        Then::Follows(_) => Next::Awaited,
+        Then::Opaque => Next::Never,
+    }
+}

@@ -1,0 +1,147 @@
+ghost use Rattle.std.specs.Prelude.{◌≡◌, ◌+◌, ◌++◌, ◌^◌, ◌<◌, ◌≤◌, ℕ, Bool, false, true, IsTrue, List, All, length, drop, get_or, Some, None, IfOk, IfSome, IfNone};
+ghost use Rattle.stream_messages.specs.Messages.{Asked, AgreeBelow};
+ghost use Rattle.stream_messages.specs.Cursors.{AsksBetween, IsAskedOf, IsBehind, IsCut, IsKnown, IsLook, IsPartCut, IsSound, IsWhole, goes, next_at};
+ghost use Rattle.stream_messages.specs.declared.told.App.{App as AppValue};
+
+use crate::cursor::{Cursor, Mark, Next, mark_behind, next_behind};
+use crate::part::{Going, Part};
+use crate::placed::{Placed, PlacedList};
+use crate::told::App;
+use pk_base::NoMemory;
+use std::alloc::Global;
+
+/// The messages that are new in a stretch, and the cursor behind them.
+#[derive(Drop)]
+pub struct Shown {
+    pub messages: PlacedList,
+    pub cursor: Cursor,
+}
+
+/// One look for a message.
+#[derive(Drop)]
+pub(crate) enum Cut {
+    /// A whole message, and the cursor behind it.
+    Whole(Placed, Cursor),
+    /// There is none.
+    Rest(Cursor),
+}
+
+/// Cuts the new messages out of a stretch of a stream's bytes that begins at position `start`: those that end past the bytes
+/// which the cursor was behind. `front` is the stretch so far. `heads` are the requests that the other side has shown, in order:
+/// whether the method of each is HEAD. A response that begins in the new bytes is to HEAD where the request that it answers is; later
+/// requests change nothing. After `NoMemory` the cursor is gone.
+pub fn cut_messages(
+    alloc: Global,
+    app: App,
+    start: u64,
+    front: &[u8],
+    cursor: Cursor,
+    heads: &[bool],
+) -> Result<Shown, NoMemory>
+    requires room { start + length front.now < 2 ^ 64 }
+    requires sound { IsSound app cursor front.now }
+    ensures cut { IfOk result (λ shown. (asked later : Asked) (count : ℕ) (old new : List ℕ) → front.now ≡ old ++ new
+        → AgreeBelow (start + length old) asked later → AsksBetween (start + length old) (start + length front.now) heads.now later
+        → IsBehind app asked count start cursor old → IsCut app later count start old front.now shown) }
+    ensures whole { IfOk result (λ shown. All (IsWhole app start front.now) shown.messages) }
+    ensures sound { IfOk result (λ shown. IsSound app shown.cursor front.now) }
+{
+    let mut messages = Vec::new(alloc);
+    let mut cursor = cursor;
+    loop {
+        match cut_one(alloc, app, start, front, cursor, heads)? {
+            Cut::Whole(message, behind) => {
+                messages.push(message)?;
+                cursor = behind;
+            }
+            Cut::Rest(cursor) => {
+                let messages = PlacedList::from_vec(messages);
+                return Ok(Shown { messages, cursor });
+            }
+        }
+    }
+}
+
+/// Looks for the next message.
+fn cut_one(
+    alloc: Global,
+    app: App,
+    start: u64,
+    front: &[u8],
+    cursor: Cursor,
+    heads: &[bool],
+) -> Result<Cut, NoMemory>
+    requires room { start + length front.now < 2 ^ 64 }
+    requires sound { IsSound app cursor front.now }
+    ensures { IfOk result (IsLook app start front.now heads.now cursor) }
+{
+    let mark = cursor.mark;
+    let Some(place) = mark.place_within(front.len()) else {
+        return Ok(Cut::Rest(cursor));
+    };
+    match part_of(app, heads, mark.answers, cursor.next) {
+        None => Ok(Cut::Rest(Cursor {
+            mark,
+            next: Next::Never,
+        })),
+        Some(part) => cut_part(alloc, start, front, mark, place, part),
+    }
+}
+
+/// What is known of the next message, if one may come. Whether it answers HEAD is fixed when its first byte is there.
+fn part_of(app: App, heads: &[bool], answers: usize, next: Next) -> Option<Part>
+    ensures none { IfNone result (goes next ≡ false) }
+    ensures some { IfSome result (λ part. goes next ≡ true) }
+    ensures known { IfSome result (λ part. (asked : Bool) (bytes : List ℕ) → 0 < length bytes → IsAskedOf app asked heads.now answers next bytes → IsKnown app asked part bytes) }
+{
+    match next {
+        Next::Never => None,
+        Next::Awaited => Some(Part::begun(app, is_head(heads, answers))),
+        Next::Begun(part) => Some(part),
+    }
+}
+
+/// Whether a request is known that is HEAD.
+fn is_head(heads: &[bool], number: usize) -> bool
+    ensures { result ≡ get_or heads.now number false }
+{
+    number < heads.len() && heads[number]
+}
+
+/// Goes on with a message that begins at a place.
+fn cut_part(
+    alloc: Global,
+    start: u64,
+    front: &[u8],
+    mark: Mark,
+    place: usize,
+    part: Part,
+) -> Result<Cut, NoMemory>
+    requires room { start + length front.now < 2 ^ 64 }
+    requires place { (place ≡ next_at mark) × (place < length front.now) }
+    requires known { (app : AppValue) × ((asked : Bool) × IsKnown app asked part (drop place front.now)) }
+    ensures { IfOk result (λ cut. (app : AppValue) (asked : Bool) → IsKnown app asked part (drop place front.now) → IsPartCut app asked start front.now mark cut) }
+{
+    match part.go_on(alloc, tail(front, place))? {
+        Going::Unfinished(part) => Ok(Cut::Rest(Cursor {
+            mark,
+            next: Next::Begun(part),
+        })),
+        Going::Message(told) => {
+            let cursor = Cursor {
+                mark: mark_behind(place, mark.answers, &told)?,
+                next: next_behind(told.then()),
+            };
+            let at = start + place as u64;
+            Ok(Cut::Whole(Placed { at, told }, cursor))
+        }
+    }
+}
+
+/// The bytes from a place on.
+fn tail(bytes: &[u8], from: usize) -> &[u8]
+    requires { from ≤ length bytes.now }
+    ensures { result.now ≡ drop from bytes.now }
+{
+    &bytes[from..]
+}
