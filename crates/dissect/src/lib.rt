@@ -10,6 +10,7 @@ mod dissector;
 mod fragments;
 mod frame_layer;
 mod headers;
+mod messages;
 mod payload;
 mod pieces;
 #[cfg(test)]
@@ -24,3 +25,4 @@ mod walk;
 
 pub use decode::{App, DecodeAs, PortRule, PortRules};
 pub use dissector::{Dissector, TakeFault};
+pub use messages::messages_once;
