@@ -6,7 +6,7 @@ use Rattle.pk_tree.specs.declared.heads.After.{After}
 use Rattle.pk_tree.specs.declared.heads.After.TheVariants as afters
 use Rattle.pk_tree.specs.declared.heads.FragmentHead.{FragmentHead}
 use Rattle.pk_tree.specs.declared.heads.Mode.{Mode}
-use Rattle.pk_tree.specs.declared.heads.Mode.TheVariants.{Plain as PlainMode, Embedded}
+use Rattle.pk_tree.specs.declared.heads.Mode.TheVariants.{Plain as PlainMode}
 use Rattle.pk_tree.specs.declared.heads.Next.{Next}
 use Rattle.pk_tree.specs.declared.heads.Next.TheVariants as nexts
 use Rattle.pk_tree.specs.declared.heads.PacketHead.{PacketHead}

@@ -1,5 +1,6 @@
 mod Behind
 mod Chains
+mod Growing
 mod Joining
 mod Kept
 pub mod NoRules

@@ -8,6 +8,7 @@ pub mod FrameLayer
 pub mod Payloads
 pub mod Segments
 pub mod Stands
+pub mod StreamMessages
 pub mod Times
 pub mod Trees
 pub mod Walks

@@ -12,6 +12,7 @@ mod frame_layer;
 #[cfg(test)]
 mod frame_rows;
 mod headers;
+mod messages;
 mod payload;
 mod pieces;
 #[cfg(test)]
@@ -26,3 +27,4 @@ mod walk;
 
 pub use decode::{App, DecodeAs, PortRule, PortRules};
 pub use dissector::{Dissector, TakeFault};
+pub use messages::messages_once;
