@@ -3,7 +3,7 @@ use Rattle.std.proofs.Common.{◌≡◌, ◌<◌, ℕ, Bool as Truth, true, fals
 use Rattle.std.proofs.lemmas.List.Elements.{All-pop, All-push}
 use Rattle.std.specs.List.{All}
 use Rattle.flt_mean.specs.Chains.{joined_truth, parts, truth_by}
-use Rattle.flt_mean.specs.Meaning.{meaning}
+use Rattle.flt_mean.specs.Meaning.{exactly_one, meaning}
 use Rattle.flt_mean.specs.declared.chain.Right.{Right}
 use Rattle.flt_parse.specs.declared.token.Join.{Join}
 use Rattle.flt_parse.specs.declared.token.Join.TheVariants as joins
@@ -48,3 +48,6 @@ true_and j a b new is first more = rw (is, first, more) refl
 
 pub false_and : (j : Join) (a b : Truth) → j ≡ joins.And → a ≡ false → truth_by j a b ≡ a
 false_and j a b is first = rw (is, first) refl
+
+pub either_xor : (j : Join) (a b new : Truth) → j ≡ joins.Xor → new ≡ exactly_one a b → truth_by j a b ≡ new
+either_xor j a b new is one = rw (is, one) refl

@@ -4,7 +4,7 @@ use Rattle.flt_types.specs.Asked.{HasFilter, HasTerm, asks, asks_term}
 use Rattle.flt_types.specs.declared.typed.Term.{Term}
 use Rattle.flt_types.specs.declared.typed.Term.TheVariants as terms
 use Rattle.flt_types.specs.declared.typed.Typed.{Typed}
-use Rattle.flt_types.specs.declared.typed.Typed.TheVariants.{Either', Both', Not', Exists, AnyBit, Compare, Among, Matches}
+use Rattle.flt_types.specs.declared.typed.Typed.TheVariants.{Either', Differ', Both', Not', Exists, AnyBit, Compare, Among, Matches}
 use Rattle.flt_mean.specs.Laws.{KeptMeaning}
 use Rattle.flt_mean.specs.Meaning.{meaning}
 use Rattle.flt_mean.specs.Values.{values_of_term}
@@ -39,6 +39,8 @@ term_kept wanted (terms.Called' function p term) t has = rw (term_kept wanted te
 
 pub meaning_kept : KeptMeaning
 meaning_kept wanted (Either' p left q right) t has =
+    rw (meaning_kept wanted left t (left_has wanted (asks left) (asks right) has), meaning_kept wanted right t (right_has wanted (asks left) (asks right) has)) refl
+meaning_kept wanted (Differ' p left q right) t has =
     rw (meaning_kept wanted left t (left_has wanted (asks left) (asks right) has), meaning_kept wanted right t (right_has wanted (asks left) (asks right) has)) refl
 meaning_kept wanted (Both' p left q right) t has =
     rw (meaning_kept wanted left t (left_has wanted (asks left) (asks right) has), meaning_kept wanted right t (right_has wanted (asks left) (asks right) has)) refl

@@ -14,7 +14,7 @@ use Rattle.flt_types.specs.declared.typed.Member.TheVariants as members
 use Rattle.flt_types.specs.declared.typed.Term.{Term}
 use Rattle.flt_types.specs.declared.typed.Term.TheVariants as terms
 use Rattle.flt_types.specs.declared.typed.Typed.{Typed}
-use Rattle.flt_types.specs.declared.typed.Typed.TheVariants.{Either', Both', Not', Exists, AnyBit, Compare, Among, Matches}
+use Rattle.flt_types.specs.declared.typed.Typed.TheVariants.{Either', Differ', Both', Not', Exists, AnyBit, Compare, Among, Matches}
 use Rattle.flt_types.specs.Faults.{kind_written}
 use Rattle.flt_types.proofs.Clear.{term_kind}
 use Rattle.flt_values.specs.Literals.{word_read}
@@ -141,6 +141,8 @@ one_alone o f g tree p q = absurd p
 same_meaning : (t : Written) (f g : Typed) (tree : TreeShown) → HasType t f → HasType t g → meaning f tree ≡ meaning g tree
 same_meaning (JoinedOf joins.Or l r) (Either' a left b right) (Either' c first d second) tree p q =
     rw (same_meaning l left first tree p.0 q.0, same_meaning r right second tree p.1 q.1) refl
+same_meaning (JoinedOf joins.Xor l r) (Differ' a left b right) (Differ' c first d second) tree p q =
+    rw (same_meaning l left first tree p.0 q.0, same_meaning r right second tree p.1 q.1) refl
 same_meaning (JoinedOf joins.And l r) (Both' a left b right) (Both' c first d second) tree p q =
     rw (same_meaning l left first tree p.0 q.0, same_meaning r right second tree p.1 q.1) refl
 same_meaning (NotOf n t) (Not' a f) (Not' b g) tree p q = rw (same_meaning t f g tree p q) refl
@@ -148,6 +150,7 @@ same_meaning (GroupOf t) f g tree p q = same_meaning t f g tree p q
 same_meaning (AloneOf o) f g tree p q = one_alone o f g tree p q
 same_meaning (TestOf choice o tail) f g tree p q = one_test choice o tail f g tree p q
 same_meaning (JoinedOf joins.Or l r) (Either' a left b right) g tree p q = absurd q
+same_meaning (JoinedOf joins.Xor l r) (Differ' a left b right) g tree p q = absurd q
 same_meaning (JoinedOf joins.And l r) (Both' a left b right) g tree p q = absurd q
 same_meaning (NotOf n t) (Not' a f) g tree p q = absurd q
 same_meaning t f g tree p q = absurd p

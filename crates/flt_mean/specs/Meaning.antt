@@ -5,7 +5,7 @@ use Rattle.flt_lists.specs.Passes.{compares, is_some_value, passes}
 use Rattle.flt_lists.specs.Questions.{is_among, is_matched}
 use Rattle.flt_mean.specs.Values.{values_of_term, prefix_of_term}
 use Rattle.flt_types.specs.declared.typed.Typed.{Typed}
-use Rattle.flt_types.specs.declared.typed.Typed.TheVariants.{Either', Both', Not', Exists, AnyBit, Compare, Among, Matches}
+use Rattle.flt_types.specs.declared.typed.Typed.TheVariants.{Either', Differ', Both', Not', Exists, AnyBit, Compare, Among, Matches}
 use Rattle.flt_values.specs.Calls.{is_nonzero}
 use Rattle.pk_tree.specs.Trees.{TreeShown}
 
@@ -13,9 +13,14 @@ abbrev pub opposite : Truth → Truth → Truth
 opposite true truth = not truth
 opposite false truth = truth
 
+-- whether exactly one of two is true
+abbrev pub exactly_one : Truth → Truth → Truth
+exactly_one left right = (left || right) && not (left && right)
+
 -- the truth of a filter in a tree
 abbrev pub meaning : Typed → TreeShown → Truth
 meaning (Either' p left q right) tree = meaning left tree || meaning right tree
+meaning (Differ' p left q right) tree = exactly_one (meaning left tree) (meaning right tree)
 meaning (Both' p left q right) tree = meaning left tree && meaning right tree
 meaning (Not' p filter) tree = not (meaning filter tree)
 meaning (Exists term) tree = is_some_value (values_of_term term tree)

@@ -42,6 +42,13 @@ pub(crate) fn chain_of<'f>(alloc: Global, filter: &'f Typed) -> Result<Chain<'f>
                 })?;
                 first = left;
             }
+            Typed::Differ(left, right) => {
+                rights.push(Right {
+                    join: Join::Xor,
+                    filter: right,
+                })?;
+                first = left;
+            }
             Typed::Both(left, right) => {
                 rights.push(Right {
                     join: Join::And,

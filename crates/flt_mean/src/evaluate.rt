@@ -3,7 +3,7 @@ ghost use Rattle.std.specs.Prelude.{◌≡◌, IfOk, IsTrue};
 ghost use Rattle.flt_mean.specs.Chains.{is_single};
 ghost use Rattle.flt_lists.specs.Passes.{compares, is_some_value, passes};
 ghost use Rattle.flt_lists.specs.Questions.{is_among, is_matched, is_so};
-ghost use Rattle.flt_mean.specs.Meaning.{meaning, opposite};
+ghost use Rattle.flt_mean.specs.Meaning.{exactly_one, meaning, opposite};
 ghost use Rattle.flt_mean.specs.Values.{prefix_of_term, values_of_term};
 
 use crate::chain::{Chain, chain_of};
@@ -34,10 +34,21 @@ pub(crate) fn is_true(alloc: Global, filter: &Typed, tree: &Tree) -> Result<bool
     'rights: while let Some(right) = rights.pop() {
         truth = match right.join {
             Join::Or => truth || is_true(alloc, right.filter, tree)?,
+            Join::Xor => {
+                let other = is_true(alloc, right.filter, tree)?;
+                differ(truth, other)
+            }
             Join::And => truth && is_true(alloc, right.filter, tree)?,
         };
     }
     Ok(truth)
+}
+
+/// Whether exactly one of two is true.
+fn differ(left: bool, right: bool) -> bool
+    ensures { result ≡ exactly_one left right }
+{
+    left != right
 }
 
 /// The same of a part that is no chain of signs.
@@ -57,7 +68,7 @@ fn is_single_true(alloc: Global, filter: &Typed, tree: &Tree) -> Result<bool, No
             among(alloc, *negated, *choice, term, members, tree)
         }
         Typed::Matches(choice, term, pattern) => match_in(alloc, *choice, term, pattern, tree),
-        Typed::Either(_, _) | Typed::Both(_, _) => unreachable!(),
+        Typed::Either(_, _) | Typed::Differ(_, _) | Typed::Both(_, _) => unreachable!(),
     }
 }
 

@@ -126,6 +126,11 @@ fn what_is_there_is_joined(rt: HostRuntime) -> Result<(), NoMemory> {
     let udp = Box::new(rt.alloc(), Typed::Exists(every(ids::UDP)))?;
     let no_udp = Box::new(rt.alloc(), Typed::Not(udp))?;
     assert!(rt; truth(rt.alloc(), Typed::Both(port, no_udp))?);
+    for (field, wanted) in [(ids::UDP, true), (ids::TCP_PORT, false)] {
+        let tcp = Box::new(rt.alloc(), Typed::Exists(every(ids::TCP)))?;
+        let other = Box::new(rt.alloc(), Typed::Exists(every(field)))?;
+        assert_eq!(rt; truth(rt.alloc(), Typed::Differ(tcp, other))?, wanted);
+    }
     for (mask, wanted) in [(2, true), (4, false)] {
         let flags = Box::new(rt.alloc(), every(ids::TCP_FLAGS))?;
         let bit = Typed::AnyBit(Term::Mask(flags, mask));

@@ -316,6 +316,7 @@ of_unary limit t e reads = record {
 
 loose : (j : Join) → unary ≤ binds j → ⊥
 loose joins.Or h = omega arith
+loose joins.Xor h = omega arith
 loose joins.And h = omega arith
 
 pub reads : (limit : ℕ) (t : Written) → IsGrouped t → Reads limit t

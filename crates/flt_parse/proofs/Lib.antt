@@ -2,6 +2,7 @@ mod Examples
 pub mod Complete
 pub mod Every
 pub mod Faults
+pub mod Fronts
 pub mod Inside
 pub mod Lexing
 pub mod Moves

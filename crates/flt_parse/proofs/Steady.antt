@@ -129,6 +129,7 @@ have_good limit f k t lefts around is =
 
 binds_less : (j : Join) → binds j < unary
 binds_less joins.Or = omega arith
+binds_less joins.Xor = omega arith
 binds_less joins.And = omega arith
 
 below_unary : (lefts : List Left) (n : ℕ) → unary ≤ n → IsBelow lefts n

@@ -1,7 +1,8 @@
 -- The grammar of filters, as what each tree is written as:
 --
 --   filter  = or
---   or      = and { ( "or" | "||" ) and }
+--   or      = xor { ( "or" | "||" ) xor }
+--   xor     = and { ( "xor" | "^^" ) and }
 --   and     = unary { ( "and" | "&&" ) unary }
 --   unary   = ( "not" | "!" ) unary | "(" or ")" | test
 --   test    = ( "any" | "all" ) operand tail | operand [ tail ]
@@ -170,6 +171,7 @@ IsTail c (MatchesOf at q) = Unit {0}
 -- how strongly a filter's outermost sign binds: `or` less than `and`, and all others more
 abbrev pub binds : Join → ℕ
 binds joins.Or = 10
+binds joins.Xor = 20
 binds joins.And = 30
 
 abbrev pub unary : ℕ

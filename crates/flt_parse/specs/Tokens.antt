@@ -38,6 +38,7 @@ sign_text signs.AtLeast = codes ">="
 sign_text signs.AtMost = codes "<="
 sign_text signs.And = codes "&&"
 sign_text signs.Or = codes "||"
+sign_text signs.Xor = codes "^^"
 sign_text signs.DotDot = codes ".."
 sign_text signs.Open = codes "("
 sign_text signs.Close = codes ")"
@@ -56,8 +57,8 @@ sign_text signs.Not = codes "!"
 -- all of them, each before those that it begins with
 abbrev pub all_signs : List Sign
 all_signs =
-    signs.AllEqual ∷ signs.AnyUnequal ∷ signs.Equal ∷ signs.Unequal ∷ signs.AtLeast ∷ signs.AtMost ∷ signs.And ∷ signs.Or ∷ signs.DotDot
-    ∷ signs.Open ∷ signs.Close ∷ signs.OpenBrace ∷ signs.CloseBrace ∷ signs.OpenBracket ∷ signs.CloseBracket ∷ signs.Comma ∷ signs.Hash
+    signs.AllEqual ∷ signs.AnyUnequal ∷ signs.Equal ∷ signs.Unequal ∷ signs.AtLeast ∷ signs.AtMost ∷ signs.And ∷ signs.Or ∷ signs.Xor
+    ∷ signs.DotDot ∷ signs.Open ∷ signs.Close ∷ signs.OpenBrace ∷ signs.CloseBrace ∷ signs.OpenBracket ∷ signs.CloseBracket ∷ signs.Comma ∷ signs.Hash
     ∷ signs.Greater ∷ signs.Less ∷ signs.Tilde ∷ signs.Mask ∷ signs.Not ∷ []
 
 -- the longest sign in front
@@ -78,6 +79,7 @@ sign_kind mode at next signs.AtLeast = kinds.Compares operators.AtLeast at
 sign_kind mode at next signs.AtMost = kinds.Compares operators.AtMost at
 sign_kind mode at next signs.And = kinds.Joins joins.And
 sign_kind mode at next signs.Or = kinds.Joins joins.Or
+sign_kind mode at next signs.Xor = kinds.Joins joins.Xor
 sign_kind mode at next signs.DotDot = kinds.DotDot
 sign_kind mode at next signs.Open = kinds.Open
 sign_kind mode at next signs.Close = kinds.Close
@@ -97,6 +99,7 @@ sign_kind mode at next signs.Not = kinds.Negates negations.Sign
 abbrev pub keyword_text : Keyword → List ℕ
 keyword_text words.And = codes "and"
 keyword_text words.Or = codes "or"
+keyword_text words.Xor = codes "xor"
 keyword_text words.Not = codes "not"
 keyword_text words.Any = codes "any"
 keyword_text words.All = codes "all"
@@ -116,7 +119,7 @@ keyword_text words.AnyNe = codes "any_ne"
 
 abbrev pub keywords : List Keyword
 keywords =
-    words.And ∷ words.Or ∷ words.Not ∷ words.Any ∷ words.All ∷ words.In ∷ words.Contains ∷ words.Matches ∷ words.Eq ∷ words.Ne
+    words.And ∷ words.Or ∷ words.Xor ∷ words.Not ∷ words.Any ∷ words.All ∷ words.In ∷ words.Contains ∷ words.Matches ∷ words.Eq ∷ words.Ne
     ∷ words.Gt ∷ words.Lt ∷ words.Ge ∷ words.Le ∷ words.AnyEq ∷ words.AllNe ∷ words.AllEq ∷ words.AnyNe ∷ []
 
 abbrev pub keyword_of : List ℕ → Option Keyword
@@ -125,6 +128,7 @@ keyword_of word = find (λ k. bytes_eq (keyword_text k) word) keywords
 abbrev pub keyword_kind : ℕ → Keyword → Kind
 keyword_kind at words.And = kinds.Joins joins.And
 keyword_kind at words.Or = kinds.Joins joins.Or
+keyword_kind at words.Xor = kinds.Joins joins.Xor
 keyword_kind at words.Not = kinds.Negates negations.Word
 keyword_kind at words.Any = kinds.Chooses choices.Any
 keyword_kind at words.All = kinds.Chooses choices.All

@@ -1,7 +1,7 @@
 -- A filter as it is written: the tree of `Ast` without the places in memory of its parts.
 use Rattle.std.specs.Prelude.{ℕ, Bool, List, Option}
 use Rattle.flt_parse.specs.declared.ast.Ast.{Ast}
-use Rattle.flt_parse.specs.declared.ast.Ast.TheVariants.{Or', And', Not', Group', Alone, Test}
+use Rattle.flt_parse.specs.declared.ast.Ast.TheVariants.{Or', Xor', And', Not', Group', Alone, Test}
 use Rattle.flt_parse.specs.declared.ast.Choice.{Choice}
 use Rattle.flt_parse.specs.declared.ast.Element.{Element}
 use Rattle.flt_parse.specs.declared.ast.Function.{Function}
@@ -60,6 +60,7 @@ tail_of (Matches at pattern) = MatchesOf at pattern
 -- the tree that a value of `Ast` is
 abbrev pub written : Ast → Written
 written (Or' p l q r) = JoinedOf joins.Or (written l) (written r)
+written (Xor' p l q r) = JoinedOf joins.Xor (written l) (written r)
 written (And' p l q r) = JoinedOf joins.And (written l) (written r)
 written (Not' n p t) = NotOf n (written t)
 written (Group' p t) = GroupOf (written t)

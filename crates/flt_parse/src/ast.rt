@@ -147,9 +147,10 @@ pub enum Tail {
     Matches(u32, Quote),
 }
 
-/// A filter as it is written. `or` and `and` bind to the left.
+/// A filter as it is written. `or`, `xor` and `and` bind to the left.
 pub enum Ast {
     Or(Box<Ast>, Box<Ast>),
+    Xor(Box<Ast>, Box<Ast>),
     And(Box<Ast>, Box<Ast>),
     Not(Negation, Box<Ast>),
     /// What stands in parentheses.
@@ -165,6 +166,10 @@ impl Drop for Ast {
         loop {
             match self {
                 Ast::Or(first, right) => {
+                    drop(right);
+                    self = Box::into_inner(first);
+                }
+                Ast::Xor(first, right) => {
                     drop(right);
                     self = Box::into_inner(first);
                 }

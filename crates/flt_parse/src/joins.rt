@@ -19,6 +19,7 @@ fn binds(join: Join) -> u32
 {
     match join {
         Join::Or => 10,
+        Join::Xor => 20,
         Join::And => 30,
     }
 }
@@ -31,6 +32,7 @@ fn join_left(alloc: Global, left: Left, right: Ast) -> Result<Ast, NoMemory>
     let r = Box::new(alloc, right)?;
     match left.join {
         Join::Or => Ok(Ast::Or(l, r)),
+        Join::Xor => Ok(Ast::Xor(l, r)),
         Join::And => Ok(Ast::And(l, r)),
     }
 }

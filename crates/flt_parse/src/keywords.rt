@@ -5,9 +5,10 @@ ghost use Rattle.flt_parse.specs.Tokens.{keyword_text as text_of_keyword, keywor
 use crate::ast::{Choice, Function, Negation, Operator};
 use crate::token::{Join, Keyword, Kind};
 
-const KEYWORDS: [Keyword; 18] = [
+const KEYWORDS: [Keyword; 19] = [
     Keyword::And,
     Keyword::Or,
+    Keyword::Xor,
     Keyword::Not,
     Keyword::Any,
     Keyword::All,
@@ -39,6 +40,7 @@ fn keyword_text(keyword: Keyword) -> &'static str
     match keyword {
         Keyword::And => "and",
         Keyword::Or => "or",
+        Keyword::Xor => "xor",
         Keyword::Not => "not",
         Keyword::Any => "any",
         Keyword::All => "all",
@@ -75,6 +77,7 @@ pub fn keyword_kind(at: u32, keyword: Keyword) -> Kind
     match keyword {
         Keyword::And => Kind::Joins(Join::And),
         Keyword::Or => Kind::Joins(Join::Or),
+        Keyword::Xor => Kind::Joins(Join::Xor),
         Keyword::Not => Kind::Negates(Negation::Word),
         Keyword::Any => Kind::Chooses(Choice::Any),
         Keyword::All => Kind::Chooses(Choice::All),

@@ -6,7 +6,7 @@ use crate::ast::{Negation, Operator};
 use crate::token::{Join, Kind, Mode, Sign};
 
 /// All signs, each before those that it begins with.
-const SIGNS: [Sign; 22] = [
+const SIGNS: [Sign; 23] = [
     Sign::AllEqual,
     Sign::AnyUnequal,
     Sign::Equal,
@@ -15,6 +15,7 @@ const SIGNS: [Sign; 22] = [
     Sign::AtMost,
     Sign::And,
     Sign::Or,
+    Sign::Xor,
     Sign::DotDot,
     Sign::Open,
     Sign::Close,
@@ -44,6 +45,7 @@ pub fn sign_text(sign: Sign) -> &'static [u8]
         Sign::AtMost => b"<=",
         Sign::And => b"&&",
         Sign::Or => b"||",
+        Sign::Xor => b"^^",
         Sign::DotDot => b"..",
         Sign::Open => b"(",
         Sign::Close => b")",
@@ -62,8 +64,10 @@ pub fn sign_text(sign: Sign) -> &'static [u8]
 }
 
 /// The longest sign in front.
+#[tactic(auto, using(crate::proofs::Fronts::sign_fits))]
 pub fn first_sign(bytes: &[u8]) -> Option<Sign>
-    ensures { result ≡ sign_in_front bytes.now }
+    ensures value { result ≡ sign_in_front bytes.now }
+    ensures within { IfSome result (λ s. length (text_of_sign s) ≤ length bytes.now) }
 {
     SIGNS
         .iter()
@@ -84,6 +88,7 @@ pub fn sign_kind(mode: Mode, at: u32, next: u32, sign: Sign) -> Kind
         Sign::AtMost => Kind::Compares(Operator::AtMost, at),
         Sign::And => Kind::Joins(Join::And),
         Sign::Or => Kind::Joins(Join::Or),
+        Sign::Xor => Kind::Joins(Join::Xor),
         Sign::DotDot => Kind::DotDot,
         Sign::Open => Kind::Open,
         Sign::Close => Kind::Close,

@@ -30,7 +30,7 @@ fn after(alloc: Global, times: usize, before: &str, text: &str) -> Result<String
     Ok(all)
 }
 
-const FILTERS: [&str; 15] = [
+const FILTERS: [&str; 16] = [
     "ip.src == 10.0.0.1 and not (tcp.port in {80, 443..445})",
     "eth.src[0:2,-1] == 02:00:01 || !arp",
     "any len(upper(dns.qry.name)[1-3]) >= 2",
@@ -46,6 +46,7 @@ const FILTERS: [&str; 15] = [
     "count(a & 1)[0] ~ \"b\"",
     "\"a\" == r\"\\\"",
     "2001:db8::/32 == a-b_c.d",
+    "a xor len(b) == 1^^not(xor_)",
 ];
 
 #[test]
@@ -99,7 +100,7 @@ fn at_most_64_are_open(rt: HostRuntime) -> Result<(), Fail> {
     Ok(())
 }
 
-const LEXICAL: [(&str, u32, FilterReason); 16] = [
+const LEXICAL: [(&str, u32, FilterReason); 17] = [
     ("arp.opcode == 1 @", 16, FilterReason::BadChar),
     (") == 1 @", 7, FilterReason::BadChar),
     ("@ \"", 0, FilterReason::BadChar),
@@ -108,6 +109,7 @@ const LEXICAL: [(&str, u32, FilterReason); 16] = [
     ("a ! = b", 4, FilterReason::BadChar),
     ("a = b", 2, FilterReason::BadChar),
     ("a | b", 2, FilterReason::BadChar),
+    ("a ^^^ b", 4, FilterReason::BadChar),
     ("\u{e9}", 0, FilterReason::BadChar),
     ("\"", 0, FilterReason::BadString),
     ("a == \"b", 5, FilterReason::BadString),
@@ -149,8 +151,9 @@ const UNEXPECTED: [(&str, u32); 20] = [
     ("a ~ b", 4),
 ];
 
-const RESERVED: [(&str, u32); 9] = [
+const RESERVED: [(&str, u32); 10] = [
     ("or a", 0),
+    ("a == xor", 5),
     ("in", 0),
     ("contains", 0),
     ("any", 3),
@@ -287,6 +290,7 @@ fn strings_are_read(rt: HostRuntime) -> Result<(), Fail> {
 #[derive(Clone, Copy, Debug, PartialEq, Eq)]
 enum Outermost {
     Or,
+    Xor,
     And,
     Other,
 }
@@ -294,6 +298,7 @@ enum Outermost {
 fn outermost_of(filter: &Ast) -> Outermost {
     match filter {
         Ast::Or(_, _) => Outermost::Or,
+        Ast::Xor(_, _) => Outermost::Xor,
         Ast::And(_, _) => Outermost::And,
         _ => Outermost::Other,
     }
@@ -303,6 +308,7 @@ fn outermost_of(filter: &Ast) -> Outermost {
 fn sides_of(filter: &Ast) -> Option<(Outermost, Outermost, Outermost)> {
     match filter {
         Ast::Or(left, right) => Some((Outermost::Or, outermost_of(left), outermost_of(right))),
+        Ast::Xor(left, right) => Some((Outermost::Xor, outermost_of(left), outermost_of(right))),
         Ast::And(left, right) => Some((Outermost::And, outermost_of(left), outermost_of(right))),
         _ => None,
     }
@@ -329,6 +335,18 @@ fn joins_bind_in_their_order(rt: HostRuntime) -> Result<(), Fail> {
     assert_eq!(rt;
         joins(alloc, "a or b or c"),
         Some((Outermost::Or, Outermost::Or, Outermost::Other))
+    );
+    assert_eq!(rt;
+        joins(alloc, "a xor b and c"),
+        Some((Outermost::Xor, Outermost::Other, Outermost::And))
+    );
+    assert_eq!(rt;
+        joins(alloc, "a ^^ b or c"),
+        Some((Outermost::Or, Outermost::Xor, Outermost::Other))
+    );
+    assert_eq!(rt;
+        joins(alloc, "a xor b ^^ c"),
+        Some((Outermost::Xor, Outermost::Xor, Outermost::Other))
     );
     assert_eq!(rt;
         joins(alloc, "not a and b"),

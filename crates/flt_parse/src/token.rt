@@ -7,6 +7,7 @@ use crate::word::{Quote, Word};
 #[derive(Clone, Copy, Debug, PartialEq, Eq)]
 pub enum Join {
     Or,
+    Xor,
     And,
 }
 
@@ -53,7 +54,7 @@ pub enum Kind {
     Mask(u32),
     /// `in`
     In,
-    /// `or` or `and`, as a word or a sign.
+    /// `or`, `xor` or `and`, as a word or a sign.
     Joins(Join),
     /// `not` or `!`
     Negates(Negation),
@@ -102,6 +103,7 @@ pub enum Sign {
     AtMost,
     And,
     Or,
+    Xor,
     DotDot,
     Open,
     Close,
@@ -123,6 +125,7 @@ pub enum Sign {
 pub enum Keyword {
     And,
     Or,
+    Xor,
     Not,
     Any,
     All,

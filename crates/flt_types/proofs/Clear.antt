@@ -27,7 +27,7 @@ use Rattle.flt_types.specs.declared.typed.Member.TheVariants as members
 use Rattle.flt_types.specs.declared.typed.Term.{Term}
 use Rattle.flt_types.specs.declared.typed.Term.TheVariants as terms
 use Rattle.flt_types.specs.declared.typed.Typed.{Typed}
-use Rattle.flt_types.specs.declared.typed.Typed.TheVariants.{Either', Both', Not', Exists, AnyBit, Compare, Among, Matches}
+use Rattle.flt_types.specs.declared.typed.Typed.TheVariants.{Either', Differ', Both', Not', Exists, AnyBit, Compare, Among, Matches}
 use Rattle.flt_types.proofs.Answers.{answer_right, clear_both, clear_unless, given_answer, given_clear}
 use Rattle.flt_values.specs.Kinds.{is_masked, is_searched, is_sliced, kind_of_call, same_class, takes}
 use Rattle.flt_values.specs.Literals.{word_read}
@@ -174,6 +174,7 @@ alone_clear o filter h = absurd h
 -- a filter with a type has no fault
 pub type_clear : (t : Written) (filter : Typed) → HasType t filter → IsClear (faults t)
 type_clear (JoinedOf joins.Or l r) (Either' p left q right) h = clear_both (faults l) (faults r) (type_clear l left h.0) (type_clear r right h.1)
+type_clear (JoinedOf joins.Xor l r) (Differ' p left q right) h = clear_both (faults l) (faults r) (type_clear l left h.0) (type_clear r right h.1)
 type_clear (JoinedOf joins.And l r) (Both' p left q right) h = clear_both (faults l) (faults r) (type_clear l left h.0) (type_clear r right h.1)
 type_clear (NotOf n t) (Not' p filter) h = type_clear t filter h
 type_clear (GroupOf t) filter h = type_clear t filter h

@@ -35,7 +35,7 @@ use Rattle.flt_types.specs.declared.typed.Member.TheVariants as members
 use Rattle.flt_types.specs.declared.typed.Term.{Term}
 use Rattle.flt_types.specs.declared.typed.Term.TheVariants as terms
 use Rattle.flt_types.specs.declared.typed.Typed.{Typed}
-use Rattle.flt_types.specs.declared.typed.Typed.TheVariants.{Either', Both', Not', Exists, AnyBit, Compare, Among, Matches}
+use Rattle.flt_types.specs.declared.typed.Typed.TheVariants.{Either', Differ', Both', Not', Exists, AnyBit, Compare, Among, Matches}
 use Rattle.flt_types.proofs.Clear.{right_term, same_takes, term_kind}
 use Rattle.flt_types.proofs.Few.{IsFew, few_elements, few_left, few_ranges, few_rest, few_right}
 use Rattle.flt_values.specs.Kinds.{is_masked, is_searched, is_sliced, same_class, takes}
@@ -267,6 +267,7 @@ FilterIs t = (filter : Typed) × HasType t filter
 
 joined_is : (j : Join) (l r : Written) → FilterIs l → FilterIs r → FilterIs (JoinedOf j l r)
 joined_is joins.Or l r (left, is) (right, also) = (Either' place left place right, (is, also))
+joined_is joins.Xor l r (left, is) (right, also) = (Differ' place left place right, (is, also))
 joined_is joins.And l r (left, is) (right, also) = (Both' place left place right, (is, also))
 
 negated_is : (n : Negation) (t : Written) → FilterIs t → FilterIs (NotOf n t)

@@ -3,7 +3,7 @@ use Rattle.std.specs.Prelude.{◌≡◌, ◌==◌, ◌||◌, ℕ, Bool as Truth,
 use Rattle.flt_types.specs.declared.typed.Term.{Term}
 use Rattle.flt_types.specs.declared.typed.Term.TheVariants as terms
 use Rattle.flt_types.specs.declared.typed.Typed.{Typed}
-use Rattle.flt_types.specs.declared.typed.Typed.TheVariants.{Either', Both', Not', Exists, AnyBit, Compare, Among, Matches}
+use Rattle.flt_types.specs.declared.typed.Typed.TheVariants.{Either', Differ', Both', Not', Exists, AnyBit, Compare, Among, Matches}
 use Rattle.pk_fields.specs.Fields.{row_of}
 use Rattle.pk_fields.specs.FieldSets.{is_in}
 
@@ -17,6 +17,7 @@ asks_term (terms.Called' function p term) f = asks_term term f
 
 abbrev pub asks : Typed → ℕ → Truth
 asks (Either' p left q right) f = asks left f || asks right f
+asks (Differ' p left q right) f = asks left f || asks right f
 asks (Both' p left q right) f = asks left f || asks right f
 asks (Not' p filter) f = asks filter f
 asks (Exists term) f = asks_term term f

@@ -17,7 +17,7 @@ use Rattle.flt_types.specs.declared.typed.Member.TheVariants as members
 use Rattle.flt_types.specs.declared.typed.Term.{Term}
 use Rattle.flt_types.specs.declared.typed.Term.TheVariants as terms
 use Rattle.flt_types.specs.declared.typed.Typed.{Typed}
-use Rattle.flt_types.specs.declared.typed.Typed.TheVariants.{Either', Both', Not', Exists, AnyBit, Compare, Among, Matches}
+use Rattle.flt_types.specs.declared.typed.Typed.TheVariants.{Either', Differ', Both', Not', Exists, AnyBit, Compare, Among, Matches}
 use Rattle.flt_values.specs.Kinds.{is_searched, same_class, takes}
 use Rattle.flt_values.specs.declared.literal.Reading.TheVariants.{Reads}
 use Rattle.flt_values.specs.declared.relation.Relation.{Relation}
@@ -91,6 +91,7 @@ IsAlone o filter = ⊥
 -- the tree is this filter
 abbrev pub HasType : Written → Typed → Type 0
 HasType (JoinedOf joins.Or l r) (Either' p left q right) = HasType l left × HasType r right
+HasType (JoinedOf joins.Xor l r) (Differ' p left q right) = HasType l left × HasType r right
 HasType (JoinedOf joins.And l r) (Both' p left q right) = HasType l left × HasType r right
 HasType (NotOf n t) (Not' p filter) = HasType t filter
 HasType (GroupOf t) filter = HasType t filter

@@ -23,7 +23,7 @@ fn add_asked(filter: &Typed, set: &mut FieldSet)
     let mut first = filter;
     'signs: loop {
         match first {
-            Typed::Either(left, right) | Typed::Both(left, right) => {
+            Typed::Either(left, right) | Typed::Differ(left, right) | Typed::Both(left, right) => {
                 add_asked(right, set);
                 first = left;
             }

@@ -45,6 +45,10 @@ pub(crate) fn first_test<'a>(around: &mut Vec<Open<'a>>, part: &'a Ast) -> Resul
                 around.push(Open::Before(Join::Or, right))?;
                 first = left;
             }
+            Ast::Xor(left, right) => {
+                around.push(Open::Before(Join::Xor, right))?;
+                first = left;
+            }
             Ast::And(left, right) => {
                 around.push(Open::Before(Join::And, right))?;
                 first = left;
@@ -103,6 +107,7 @@ fn join(alloc: Global, join: Join, left: Typed, right: Typed) -> Result<Typed, N
     let right = Box::new(alloc, right)?;
     match join {
         Join::Or => Ok(Typed::Either(left, right)),
+        Join::Xor => Ok(Typed::Differ(left, right)),
         Join::And => Ok(Typed::Both(left, right)),
     }
 }

@@ -33,6 +33,8 @@ pub enum Member {
 pub enum Typed {
     /// `or`
     Either(Box<Typed>, Box<Typed>),
+    /// `xor`
+    Differ(Box<Typed>, Box<Typed>),
     /// `and`
     Both(Box<Typed>, Box<Typed>),
     Not(Box<Typed>),
@@ -53,6 +55,10 @@ impl Drop for Typed {
         loop {
             match self {
                 Typed::Either(first, right) => {
+                    drop(right);
+                    self = Box::into_inner(first);
+                }
+                Typed::Differ(first, right) => {
                     drop(right);
                     self = Box::into_inner(first);
                 }

@@ -63,6 +63,7 @@ fn typed_test(alloc: Global, ast: &Ast) -> Result<Typed, FilterError>
     match ast {
         Ast::Alone(operand) => alone(alloc, operand),
         Ast::Test(choice, operand, tail) => test(alloc, *choice, operand, tail),
-        Ast::Or(_, _) | Ast::And(_, _) | Ast::Not(_, _) | Ast::Group(_) => unreachable!(),
+        Ast::Or(_, _) | Ast::Xor(_, _) | Ast::And(_, _) | Ast::Not(_, _) | Ast::Group(_) =>
+            unreachable!(),
     }
 }

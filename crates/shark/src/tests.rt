@@ -26,7 +26,7 @@ Usage: shark -r FILE [-Y FILTER] [-c N] [-q] [-T text | -T json | -T fields -e F
   --version    the version, where it is the only word
 
 A filter is one of Wireshark's display filters: fields and protocols compared with values or each other (==, !=, ===, !==,
-<, <=, >, >=, contains, matches, in {..}), slices, layers, masks, len, count, upper and lower, joined by and, or and not.
+<, <=, >, >=, contains, matches, in {..}), slices, layers, masks, len, count, upper and lower, joined by not, and, xor, or.
 For example: ip.addr == 10.0.0.0/8 and not udp.port in {53, 5353}
 
   shark -r web.pcap

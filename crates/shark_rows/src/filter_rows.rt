@@ -126,6 +126,8 @@ fn the_longest_chains_are_asked(rt: HostRuntime) -> Result<(), Fail> {
     let alloc = rt.alloc();
     let any = chain(alloc, "||")?;
     assert!(rt; gives(alloc, any.as_str(), "1\n", "")?);
+    let odd = chain(alloc, "^^")?;
+    assert!(rt; gives(alloc, odd.as_str(), "1\n", "")?);
     let all = chain(alloc, "&&")?;
     assert!(rt; gives(alloc, all.as_str(), "1\n", "")?);
     Ok(())
@@ -180,7 +182,7 @@ fn operands_that_stand_alone(rt: HostRuntime) -> Result<(), Fail> {
     Ok(())
 }
 
-static JOINS: [(&str, &str); 12] = [
+static JOINS: [(&str, &str); 16] = [
     ("not arp", "2\n3\n"),
     ("!arp && !ip", "3\n"),
     ("arp or ip and ipv6", "1\n"),
@@ -193,6 +195,10 @@ static JOINS: [(&str, &str); 12] = [
     ("! ! arp", "1\n"),
     ("not(arp)and(tcp)", "2\n"),
     ("arp or ip or udp", "1\n2\n3\n"),
+    ("arp xor ip", "1\n2\n"),
+    ("arp xor ip xor eth", "3\n"),
+    ("arp ^^ eth && ip", "1\n2\n"),
+    ("eth or arp xor eth", "1\n2\n3\n"),
 ];
 
 #[test]

@@ -20,6 +20,19 @@ parts-preserved-in-Or c =
       count = omega (arith, waiting_push c.parts.around.items c.push.new.self.items x more, c.parts.invariant.count, ap tests is);
     }
 
+pub parts-preserved-in-Xor : goal.parts-preserved-in-Xor
+parts-preserved-in-Xor c =
+    let x : Open = Before joins.Xor c.deref-in-Xor.result in
+    let more = c.in_ok-push-in-Xor.ensures.items in
+    let is : written c.parts.first.now ≡ JoinedOf joins.Xor (written c.deref-first-in-Xor.result.now) (written c.deref-in-Xor.result.now) =
+    ap written c.in-Xor.is ∙ ap (λ t. JoinedOf joins.Xor t (written c.in-Xor.right.value)) (ap written (sym c.deref-first-in-Xor.ensures))
+    ∙ ap (λ t. JoinedOf joins.Xor (written c.deref-first-in-Xor.result.now) t) (ap written (sym c.deref-in-Xor.ensures)) in
+    record {
+      inside = λ tree h. plugs_push c.parts.around.items c.push-in-Xor.new.self.items x (written c.deref-first-in-Xor.result.now) (written c.parts.first.now) tree
+          (c.parts.invariant.inside tree h) is more;
+      count = omega (arith, waiting_push c.parts.around.items c.push-in-Xor.new.self.items x more, c.parts.invariant.count, ap tests is);
+    }
+
 pub parts-preserved-in-And : goal.parts-preserved-in-And
 parts-preserved-in-And c =
     let x : Open = Before joins.And c.deref-in-And.result in
