@@ -1,5 +1,5 @@
 -- Reading a file frame by frame.
-use Rattle.std.proofs.Common.{◌≡◌, ◌≤◌, ℕ, zero, suc, ℤ, ◌+◌, ◌^◌, List, [], ◌∷◌, ◌++◌, length, Option, Some, None, IfSome, refl, sym, ap, ◌∙◌, append_assoc, append-nil, arith}
+use Rattle.std.proofs.Common.{◌≡◌, ◌≤◌, ℕ, ℤ, ◌+◌, ◌^◌, List, [], ◌∷◌, ◌++◌, length, Option, Some, None, IfSome, refl, sym, ap, ◌∙◌, append_assoc, append-nil, arith}
 use Rattle.std.specs.Option.{option_or}
 use Rattle.pk_base.specs.Limits.{file_limit}
 use Rattle.capture_read.specs.Answers.{Answers}
@@ -12,7 +12,7 @@ use Rattle.capture_read.specs.declared.next_frame.NextFrame.TheVariants as next
 use Rattle.capture_write.specs.Kept.{in_order}
 use Rattle.merge_caps.specs.declared.place.Entry.{Entry}
 use Rattle.merge_caps.specs.Merged.{placed, placed_from}
-use Rattle.merge_caps.specs.Reading.{ReadSoFar, with_frames, with_reading}
+use Rattle.merge_caps.specs.Reading.{ReadSoFar, with_frames}
 
 pub limit_small : file_limit ≤ 2 ^ 28
 unfolding file_limit

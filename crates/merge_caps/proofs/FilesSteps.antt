@@ -1,23 +1,21 @@
 -- Reading one file after the other.
-use Rattle.std.proofs.Common.{◌≡◌, ◌<◌, ◌≤◌, ℕ, zero, suc, ◌+◌, Bool, true, false, List, [], ◌∷◌, ◌++◌, length, take, Option, Some, None, IfSome, refl, sym, ap, ◌∙◌, subst, append_assoc, append-nil, arith, get_or, ⊎_elim}
-use Rattle.std.specs.Prelude.{◌||◌, nat_lt}
-use Rattle.std.specs.List.{list_any}
+use Rattle.std.proofs.Common.{◌≡◌, ◌<◌, ◌≤◌, ℕ, suc, ◌+◌, Bool, true, false, List, [], ◌∷◌, ◌++◌, length, take, Option, Some, None, IfSome, refl, sym, ap, ◌∙◌, subst, append_assoc, append-nil, arith, get_or, ⊎_elim}
+use Rattle.std.specs.Prelude.{nat_lt}
 use Rattle.std.proofs.lemmas.List.{take_more}
-use Rattle.std.proofs.lemmas.List.Folds.{list_any-append}
 use Rattle.std.proofs.lemmas.Bool.{cases_eq}
 use Rattle.std.proofs.lemmas.Bool.Decides.{nat_tests}
 use Rattle.std.proofs.lemmas.Option.{slice_get_read}
 use Rattle.pk_base.specs.Limits.{file_limit}
 use Rattle.pk_outside.specs.Outside.{Rose, counted}
-use Rattle.capture_read.specs.Capture.{Reading, capture_of}
+use Rattle.capture_read.specs.Capture.{capture_of}
 use Rattle.capture_read.specs.FrameList.{captured_bytes}
 use Rattle.capture_read.specs.declared.ending.Ending.{Ending}
 use Rattle.merge_caps.specs.declared.place.Entry.{Entry}
 use Rattle.merge_caps.specs.declared.readings.Cause.{Cause}
 use Rattle.merge_caps.specs.declared.readings.Cause.TheVariants as cause
-use Rattle.merge_caps.specs.Causes.{IsUnopened, IsUnread, IsLargeAt}
+use Rattle.merge_caps.specs.Causes.{IsLargeAt}
 use Rattle.merge_caps.specs.Merged.{all_placed, placed_from}
-use Rattle.merge_caps.specs.Reading.{ReadSoFar, with_file, files_of, endings_of, captured_of, is_large_end, is_large_after, is_too_much, is_too_much_of, are_too_large, with_reading, read_of, AreSmallUpTo}
+use Rattle.merge_caps.specs.Reading.{ReadSoFar, with_file, files_of, endings_of, captured_of, is_too_much, is_too_much_of, are_too_large, with_reading, read_of, AreSmallUpTo}
 use Rattle.merge_caps.specs.Stopped.{Seen, IsCause}
 
 -- the files of names, and of one more

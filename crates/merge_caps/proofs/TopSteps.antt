@@ -1,7 +1,6 @@
 -- From the stages of merging to the whole.
-use Rattle.std.proofs.Common.{◌≡◌, ◌≢◌, ◌<◌, ◌≤◌, ◌⊎◌, inl, inr, ℕ, suc, Bool, true, false, List, [], ◌∷◌, ◌++◌, length, get_or, Option, Some, None, Result, Ok, Err, IfSome, IfOk, IfErr, slice_get, refl, sym, ap, ◌∙◌, subst, append-nil, ⊎_elim}
+use Rattle.std.proofs.Common.{◌≡◌, ◌<◌, inl, inr, ℕ, Bool, true, false, List, [], ◌∷◌, ◌++◌, length, get_or, Option, Some, None, Result, Ok, Err, IfSome, IfOk, IfErr, slice_get, refl, sym, ap, ◌∙◌, subst, append-nil}
 use Rattle.std.specs.Prelude.{◌||◌}
-use Rattle.std.specs.List.{list_any}
 use Rattle.std.specs.Io.KnownBytes.{Appends}
 use Rattle.std.proofs.lemmas.Option.{slice_get_read}
 use Rattle.std.proofs.KnownBytes.{Appends-nil}
@@ -13,22 +12,20 @@ use Rattle.capture_read.specs.declared.ending.Ending.{Ending}
 use Rattle.capture_read.specs.declared.ending.Ending.TheVariants as ending
 use Rattle.capture_write.specs.declared.format.Format.{Format}
 use Rattle.shark_words.specs.declared.fault.WordFault.{WordFault}
-use Rattle.run_texts.specs.FaultTexts.{cannot_open_text, cannot_write_text, word_fault_text}
-use Rattle.merge_caps.specs.declared.place.Entry.{Entry}
+use Rattle.run_texts.specs.FaultTexts.{cannot_open_text, word_fault_text}
 use Rattle.merge_caps.specs.declared.readings.Cause.{Cause}
 use Rattle.merge_caps.specs.declared.readings.Cause.TheVariants as cause
 use Rattle.merge_caps.specs.declared.readings.Stopped.{Stopped}
 use Rattle.merge_caps.specs.declared.status.MergeStatus.{MergeStatus}
 use Rattle.merge_caps.specs.declared.status.MergeStatus.TheVariants as status
-use Rattle.merge_caps.specs.Causes.{IsLargeAt, IsUnopened, IsUnread}
-use Rattle.merge_caps.specs.Merged.{IsInOrder, IsMerged, frames_of}
-use Rattle.merge_caps.specs.Reading.{AreSmallUpTo, ReadSoFar, endings_of, files_of, read_of}
-use Rattle.merge_caps.specs.Statuses.{IsNoFault, IsRefused, IsWritten, WhenRead, WhenUnread, WhenWritten, WrotePart, are_damaged, is_damaged_end, written_status}
+use Rattle.merge_caps.specs.Merged.{IsInOrder, frames_of}
+use Rattle.merge_caps.specs.Reading.{ReadSoFar, endings_of, files_of, read_of}
+use Rattle.merge_caps.specs.Statuses.{are_damaged, is_damaged_end, written_status}
 use Rattle.merge_caps.specs.Stopped.{IsCause, IsStopped, Seen}
-use Rattle.merge_caps.specs.Texts.{AreEndings, IsDamageText, IsStatusText, IsUnfitAt, IsUnfitText, Told, ToldRefusal, ToldRefusalWhole, ToldWhole, damage_line, damage_lines}
-use Rattle.merge_caps.specs.Told.{IsStoppedText, IsWrittenText, cause_status, cause_text, status_by, unfit_in, unfit_text}
+use Rattle.merge_caps.specs.Texts.{AreEndings, IsStatusText, IsUnfitAt, Told, ToldRefusal, ToldRefusalWhole, ToldWhole, damage_line, damage_lines}
+use Rattle.merge_caps.specs.Told.{IsStoppedText, IsWrittenText, cause_status, cause_text, unfit_text}
 use Rattle.merge_caps.specs.Words.{Wanted}
-use Rattle.merge_caps.specs.Written.{IsPartOf, IsWrittenOf, file_of, first_unfit}
+use Rattle.merge_caps.specs.Written.{IsWrittenOf}
 use Rattle.merge_caps.proofs.FilesSteps.{IsReadOf}
 
 -- no line is told of files that aren't damaged

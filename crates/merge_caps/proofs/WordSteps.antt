@@ -1,12 +1,11 @@
 -- Words one after the other.
-use Rattle.std.proofs.Common.{◌≡◌, ◌<◌, ◌≤◌, ℕ, suc, ◌+◌, List, [], ◌∷◌, length, drop, get_or, map, String, string_bytes, Result, Ok, Err, refl, sym, ap, ◌∙◌, arith}
+use Rattle.std.proofs.Common.{◌≡◌, ◌<◌, ℕ, suc, ◌+◌, List, ◌∷◌, length, drop, get_or, String, string_bytes, Result, Ok, Err, sym, ap, ◌∙◌, arith}
 use Rattle.std.proofs.lemmas.List.{at_drop_more}
 use Rattle.shark_words.specs.declared.fault.WordFault.{WordFault}
 use Rattle.shark_words.specs.declared.fault.WordsError.{WordsError}
 use Rattle.shark_words.specs.declared.fault.WordsError.TheVariants as error
 use Rattle.shark_words.specs.Words.{texts}
-use Rattle.merge_caps.specs.declared.words.Wanted.{Wanted as WantedValue}
-use Rattle.merge_caps.specs.Words.{Heard, Hears, Wants, Wanted, ended_words, heard_from, nothing_heard, then_words, wanted_of, with_word}
+use Rattle.merge_caps.specs.Words.{Heard, Hears, Wants, ended_words, heard_from, nothing_heard, then_words, wanted_of, with_word}
 
 -- what the rest of the words comes to, by the next
 next_word : {A : Type 0} (words : List (String A)) (i : ℕ) (word : String A) (so_far : Heard) → i < length words → word ≡ get_or words i word

@@ -1,12 +1,12 @@
 -- Writing frames one after the other.
-use Rattle.std.proofs.Common.{◌≡◌, ◌<◌, ◌≤◌, ℕ, suc, ℤ, ◌+◌, Bool, true, false, List, [], ◌∷◌, ◌++◌, length, map, drop, get_or, Option, Some, None, refl, sym, ap, ◌∙◌, subst, append_assoc, arith}
+use Rattle.std.proofs.Common.{◌≡◌, ◌<◌, ℕ, suc, ℤ, ◌+◌, Bool, true, false, List, [], ◌∷◌, ◌++◌, length, map, drop, get_or, Option, Some, None, refl, sym, ap, ◌∙◌, subst, append_assoc, arith}
 use Rattle.std.specs.Prelude.{if◌then◌else◌, ◌&&◌, not, nat_lt}
 use Rattle.std.specs.Io.KnownBytes.{Appends}
-use Rattle.std.proofs.KnownBytes.{Appends-nil, Appends-trans}
-use Rattle.std.proofs.lemmas.List.{at_drop_more, at_drop_all}
+use Rattle.std.proofs.KnownBytes.{Appends-trans}
+use Rattle.std.proofs.lemmas.List.{at_drop_more}
 use Rattle.pk_base.specs.Limits.{captured_limit}
 use Rattle.pk_outside.specs.Outside.{AppendsPart}
-use Rattle.pk_outside.proofs.Parts.{part_front, part_more, part_after_front}
+use Rattle.pk_outside.proofs.Parts.{part_more, part_after_front}
 use Rattle.capture_read.specs.declared.frame.Frame.{Frame}
 use Rattle.capture_write.specs.Kept.{Kept, nothing_kept, order_by, link_by, fits_by, fits_at, start_by, packet_of, piece_at, kept_with, end_at}
 use Rattle.capture_write.specs.Pcap.{fits_pcap}

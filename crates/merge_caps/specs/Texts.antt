@@ -1,9 +1,7 @@
 -- What standard error is told: a line for each damaged file, and then one that names the fault.
-use Rattle.std.specs.Prelude.{◌≡◌, ◌⊎◌, ℕ, decimal, List, [], ◌∷◌, ◌++◌, length, codes, Option, Some, None, Result, Ok, Err, IfSome, slice_get}
+use Rattle.std.specs.Prelude.{◌≡◌, ◌⊎◌, ℕ, decimal, List, [], ◌∷◌, ◌++◌, length, codes, Option, Some, IfSome}
 use Rattle.std.specs.Io.KnownBytes.{Appends}
 use Rattle.pk_outside.specs.Outside.{AppendsPart}
-use Rattle.pk_outside.specs.declared.sink.SinkFault.{SinkFault}
-use Rattle.pk_outside.specs.declared.sink.SinkFault.TheVariants as sink
 use Rattle.pk_text.specs.Escape.{escaped}
 use Rattle.capture_read.specs.declared.ending.Damage.{Damage}
 use Rattle.capture_read.specs.declared.ending.Ending.{Ending}
@@ -12,8 +10,6 @@ use Rattle.capture_read.specs.declared.frame.Frame.{Frame}
 use Rattle.capture_write.specs.declared.format.Format.{Format}
 use Rattle.shark_words.specs.declared.fault.WordFault.{WordFault}
 use Rattle.run_texts.specs.FaultTexts.{reason_text, word_fault_text, cannot_open_text, cannot_write_text, read_fault_text, too_large_text}
-use Rattle.merge_caps.specs.declared.readings.Cause.{Cause}
-use Rattle.merge_caps.specs.declared.readings.Cause.TheVariants as cause
 use Rattle.merge_caps.specs.declared.status.MergeStatus.{MergeStatus}
 use Rattle.merge_caps.specs.declared.status.MergeStatus.TheVariants.{Done, BadWords, CannotOpen, ReadFault, Damaged, TooLarge, WriteFault, NoMemory, CannotWrite}
 use Rattle.merge_caps.specs.Merged.{IsMerged}

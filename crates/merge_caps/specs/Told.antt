@@ -1,6 +1,5 @@
 -- What standard error is told of each stage of merging.
-use Rattle.std.specs.Prelude.{◌≡◌, ◌⊎◌, ℕ, Bool, List, [], ◌++◌, Option, Some, None, Result, Ok, Err, slice_get}
-use Rattle.std.specs.Io.KnownBytes.{Appends}
+use Rattle.std.specs.Prelude.{◌≡◌, ◌⊎◌, ℕ, Bool, List, [], ◌++◌, Option, Some, None, Result, Ok, Err}
 use Rattle.pk_outside.specs.declared.sink.SinkFault.{SinkFault}
 use Rattle.pk_outside.specs.declared.sink.SinkFault.TheVariants as sink
 use Rattle.capture_read.specs.declared.ending.Ending.{Ending}

@@ -1,5 +1,5 @@
-use Rattle.std.proofs.Common.{Err, refl, ap, ◌∙◌, ◌+◌, List, length, take, false, arith}
-use Rattle.merge_caps.specs.Reading.{is_too_much_of, so_far}
+use Rattle.std.proofs.Common.{Err, refl, ap, ◌∙◌, ◌+◌, length, take, false, arith}
+use Rattle.merge_caps.specs.Reading.{so_far}
 use Rattle.merge_caps.specs.Stopped.{Seen}
 use Rattle.merge_caps.proofs.FilesSteps.{cause_is, judged, large_next, little_first, reads_next, small_first, small_more}
 use Rattle.merge_caps.proofs.read_files.read_files.Goals as goal

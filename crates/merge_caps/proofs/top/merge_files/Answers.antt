@@ -1,6 +1,4 @@
-use Rattle.std.proofs.Common.{refl}
 use Rattle.merge_caps.specs.Reading.{so_far}
-use Rattle.merge_caps.specs.Stopped.{Seen}
 use Rattle.merge_caps.specs.Words.{wanted}
 use Rattle.merge_caps.proofs.TopSteps.{stop_told_by, text_told_by, told, told_whole}
 use Rattle.merge_caps.proofs.top.merge_files.Goals as goal
