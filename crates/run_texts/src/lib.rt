@@ -2,6 +2,8 @@
 #![tactic(auto)]
 
 mod fault_text;
+#[cfg(test)]
+mod tests;
 mod text;
 
 pub use fault_text::{
