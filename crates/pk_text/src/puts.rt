@@ -1,5 +1,5 @@
 // What the texts of values are appended to, and the texts that several values share.
-ghost use Rattle.std.specs.Prelude.{◌≡◌, ℕ, ◌<◌, ◌++◌, List, [], ◌∷◌, decimal, false, OnOk};
+ghost use Rattle.std.specs.Prelude.{◌≡◌, ℕ, ◌<◌, ◌++◌, List, [], ◌∷◌, decimal, false, OnOk, All, length, ◌/◌, ◌%◌};
 ghost use Rattle.std.specs.Fmt.{digit_glyph};
 ghost use Rattle.pk_text.specs.Digits.{hex_pair, hex_shown};
 
@@ -21,6 +21,11 @@ pub trait TextSink {
     fn put_ascii(&mut self, character: u8) -> Result<(), NoMemory>
         requires { character < 128 }
         ensures { OnOk result (taken self.new ≡ taken self.old ++ (character ∷ [])) };
+
+    /// Appends the hexadecimal digits of four bytes.
+    fn put_digits(&mut self, digits: &[u8; 8]) -> Result<(), NoMemory>
+        requires { All (λ digit. digit < 128) digits.now }
+        ensures { OnOk result (taken self.new ≡ taken self.old ++ digits.now) };
 }
 
 impl TextSink for Vec<u8> {
@@ -33,6 +38,11 @@ impl TextSink for Vec<u8> {
 
     fn put_ascii(&mut self, character: u8) -> Result<(), NoMemory> {
         self.push(character)?;
+        Ok(())
+    }
+
+    fn put_digits(&mut self, digits: &[u8; 8]) -> Result<(), NoMemory> {
+        self.extend_from_slice(digits)?;
         Ok(())
     }
 }
@@ -51,6 +61,13 @@ impl TextSink for String {
         self.push(char::from(character))?;
         Ok(())
     }
+
+    fn put_digits(&mut self, digits: &[u8; 8]) -> Result<(), NoMemory> {
+        for digit in digits {
+            self.push(char::from(*digit))?;
+        }
+        Ok(())
+    }
 }
 
 /// Appends a number in decimal.
@@ -66,18 +83,56 @@ pub fn put_number<S: TextSink>(sink: &mut S, number: u64) -> Result<(), NoMemory
 pub fn put_hex<S: TextSink>(sink: &mut S, bytes: &[u8]) -> Result<(), NoMemory>
     ensures { OnOk result (S.taken sink.new ≡ S.taken sink.old ++ hex_shown bytes.now) }
 {
-    for byte in bytes {
+    let mut left = bytes;
+    while left.len() >= 4 {
+        let (four, more) = left.split_at(4);
+        put_four(sink, four)?;
+        left = more;
+    }
+    for byte in left {
         put_pair(sink, *byte)?;
     }
     Ok(())
+}
+
+/// Appends four bytes at once: a look for room costs as much as the digits do.
+#[tactic(auto, unfolding(crate::specs::Digits::hex_shown))]
+fn put_four<S: TextSink>(sink: &mut S, four: &[u8]) -> Result<(), NoMemory>
+    requires { length four.now ≡ 4 }
+    ensures { OnOk result (S.taken sink.new ≡ S.taken sink.old ++ hex_shown four.now) }
+{
+    sink.put_digits(&[
+        high_digit(four[0]),
+        low_digit(four[0]),
+        high_digit(four[1]),
+        low_digit(four[1]),
+        high_digit(four[2]),
+        low_digit(four[2]),
+        high_digit(four[3]),
+        low_digit(four[3]),
+    ])
 }
 
 /// Appends a byte as two lower-case hexadecimal digits.
 pub(crate) fn put_pair<S: TextSink>(sink: &mut S, byte: u8) -> Result<(), NoMemory>
     ensures { OnOk result (S.taken sink.new ≡ S.taken sink.old ++ hex_pair byte) }
 {
-    sink.put_ascii(hex_digit(byte / 16))?;
-    sink.put_ascii(hex_digit(byte % 16))
+    sink.put_ascii(high_digit(byte))?;
+    sink.put_ascii(low_digit(byte))
+}
+
+fn high_digit(byte: u8) -> u8
+    ensures value { result ≡ digit_glyph false (byte / 16) }
+    ensures ascii { result < 128 }
+{
+    hex_digit(byte / 16)
+}
+
+fn low_digit(byte: u8) -> u8
+    ensures value { result ≡ digit_glyph false (byte % 16) }
+    ensures ascii { result < 128 }
+{
+    hex_digit(byte % 16)
 }
 
 fn hex_digit(digit: u8) -> u8
