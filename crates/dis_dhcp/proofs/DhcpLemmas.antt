@@ -1,5 +1,5 @@
 -- The steps of DHCP's options are of the protocol's own fields.
-use Rattle.std.proofs.Common.{◌≡◌, ℕ, ◌+◌, Bool, true, false, if◌then◌else◌, List, [], ◌∷◌, length, rules}
+use Rattle.std.proofs.Common.{ℕ, ◌+◌, Bool, true, false, if◌then◌else◌, List, [], ◌∷◌, length, rules}
 use Rattle.std.specs.Prelude.{◌==◌, IsTrue, is_none, ◌&&◌, ◌/◌, slice_index}
 use Rattle.pk_fields.specs.Fields.{row_of}
 use Rattle.pk_fields.specs.Ids.{DHCP, DHCP_OPTION_TYPE, DHCP_OPTION_LENGTH, DHCP_OPTION_VALUE, DHCP_OPTION_SUBNET_MASK, DHCP_OPTION_ROUTER, DHCP_OPTION_DOMAIN_NAME_SERVER, DHCP_OPTION_HOSTNAME, DHCP_OPTION_REQUESTED_IP_ADDRESS, DHCP_OPTION_IP_ADDRESS_LEASE_TIME, DHCP_OPTION_DHCP, DHCP_OPTION_DHCP_SERVER_ID}

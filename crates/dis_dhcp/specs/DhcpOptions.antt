@@ -44,8 +44,10 @@ address field at = goes_on (Row field at ∷ []) (at + 4)
 unfoldable pub option_data : ℕ → ℕ → ℕ → List Step
 option_data code len at =
     if code == 1 && len == 4 then Row DHCP_OPTION_SUBNET_MASK at ∷ []
-    else (if code == 3 && len % 4 == 0 then (repeated (len / 4) (address DHCP_OPTION_ROUTER) at).steps
-    else (if code == 6 && len % 4 == 0 then (repeated (len / 4) (address DHCP_OPTION_DOMAIN_NAME_SERVER) at).steps
+    else (if code == 3 && len % 4 == 0
+    then (repeated (len / 4) (address DHCP_OPTION_ROUTER) at).steps
+    else (if code == 6 && len % 4 == 0
+    then (repeated (len / 4) (address DHCP_OPTION_DOMAIN_NAME_SERVER) at).steps
     else (if code == 12 then Part DHCP_OPTION_HOSTNAME at len ∷ []
     else (if code == 50 && len == 4 then Row DHCP_OPTION_REQUESTED_IP_ADDRESS at ∷ []
     else (if code == 51 && len == 4 then Row DHCP_OPTION_IP_ADDRESS_LEASE_TIME at ∷ []
@@ -56,7 +58,8 @@ option_data code len at =
 -- an option that has a length; where its data goes past the end, that is a row that doesn't fit
 unfoldable pub option_with_length : ℕ → ℕ → ℕ → Entry
 option_with_length code len at =
-    goes_on (Row DHCP_OPTION_TYPE at ∷ Row DHCP_OPTION_LENGTH (at + 1) ∷ Part DHCP_OPTION_VALUE (at + 2) len ∷ option_data code len (at + 2)) (at + 2 + len)
+    goes_on (Row DHCP_OPTION_TYPE at ∷ Row DHCP_OPTION_LENGTH (at + 1)
+    ∷ Part DHCP_OPTION_VALUE (at + 2) len ∷ option_data code len (at + 2)) (at + 2 + len)
 
 -- the option at a place in a message; a length byte that isn't there is a row that doesn't fit, and counts as 0
 unfoldable pub option_at : List ℕ → ℕ → Entry

@@ -39,7 +39,9 @@ const MAGIC_COOKIE: u64 = 0x6382_5363;
 pub fn read_dhcp(span: Span, cut: bool, b: &mut TreeBuilder) -> Result<(), NoMemory>
     requires inside { IsInside b.old.buffers span }
     requires room { length b.old.layers + 2 < 2 ^ 32 }
-    ensures layer { IfOk result (λ _. b.new ≡ layer_read b.old DHCP span (dhcp_layout (bytes_of b.old.buffers span)) Mode.Plain cut) }
+    ensures layer { IfOk result (λ _.
+        b.new ≡ layer_read b.old DHCP span
+        (dhcp_layout (bytes_of b.old.buffers span)) Mode.Plain cut) }
     ensures options { AllOptions }
     ensures buffers { b.new.buffers ≡ b.old.buffers }
     ensures some { OnOk result (0 < length b.new.layers) }

@@ -146,7 +146,8 @@ fn push_addresses(
 ) -> Result<(), NoMemory>
     requires at { at ≤ 2 ^ 63 + 1 }
     requires count { count < 64 }
-    ensures { OnOk result (steps.new.items ≡ steps.old.items ++ (repeated count (address field) at).steps) }
+    ensures { OnOk result (steps.new.items
+        ≡ steps.old.items ++ (repeated count (address field) at).steps) }
 {
     let mut place = at;
     for _address in 0..count {

@@ -12,7 +12,8 @@ pub record IsBare (bytes : List ℕ) (place : ℕ) : Type 0 where
 -- bare pointers lead from a place to another, which may be the same one
 pub data Leads (bytes : List ℕ) : ℕ → ℕ → Type 0 where
   arrived : (place : ℕ) → Leads bytes place place
-  onward : (place end : ℕ) → IsBare bytes place → Leads bytes (target_at bytes place) end → Leads bytes place end
+  onward : (place end : ℕ) → IsBare bytes place → Leads bytes (target_at bytes place) end
+      → Leads bytes place end
 
 -- where the chain from a place on ends: where its last bare pointer leads, or at the place itself if none stands there
 pub record IsChainEnd (bytes : List ℕ) (place end : ℕ) : Type 0 where

@@ -22,7 +22,8 @@ pub record StepsShown : Type 0 where
   pub reach : Reach
 
 abbrev pub no_steps : List ℕ → Bool → ℕ → StepsShown
-no_steps wanted keeps end = record { wanted = wanted; keeps = keeps; end = end; list = []; reach = All }
+no_steps wanted keeps end =
+    record { wanted = wanted; keeps = keeps; end = end; list = []; reach = All }
 
 -- whether the text of a field's name is kept
 abbrev pub shows : StepsShown → ℕ → Bool
@@ -48,7 +49,8 @@ abbrev pub shown_step : List ℕ → Step → Step
 shown_step wanted (Row field at) = Row field at
 shown_step wanted (Part field at len) = Part field at len
 shown_step wanted (Whole field at len) = Whole field at len
-shown_step wanted (Derived field value at len) = Derived field (shown_value (is_in wanted field) value) at len
+shown_step wanted (Derived field value at len) =
+    Derived field (shown_value (is_in wanted field) value) at len
 shown_step wanted (Made field value) = Made field value
 shown_step wanted (Check holds) = Check holds
 shown_step wanted (Room room) = Room room
@@ -56,7 +58,8 @@ shown_step wanted (Room room) = Room room
 -- one more step
 unfoldable pub with_step : StepsShown → Step → StepsShown
 with_step s step =
-    if s.keeps then record s { list = s.list ++ shown_step s.wanted step ∷ [] } else record s { reach = reach_after s.reach (step_reach s.end step) }
+    if s.keeps then record s { list = s.list ++ shown_step s.wanted step ∷ [] }
+    else record s { reach = reach_after s.reach (step_reach s.end step) }
 
 -- more steps
 unfoldable pub with_steps : StepsShown → List Step → StepsShown
@@ -81,4 +84,5 @@ HoldsSteps wanted end steps (takens.Reach r) = r ≡ reach end steps
 -- steps that were taken may stand in the protocol's layout; where none are, no field of the protocol is wanted
 abbrev pub FitsTaken : List ℕ → ℕ → Taken → Type 0
 FitsTaken wanted proto (takens.List list) = StepsFit proto list.items
-FitsTaken wanted proto (takens.Reach r) = (f : ℕ) → (row_of f).proto ≡ proto → is_in wanted f ≡ false
+FitsTaken wanted proto (takens.Reach r) = (f : ℕ) → (row_of f).proto ≡ proto
+    → is_in wanted f ≡ false

@@ -48,16 +48,19 @@ record_count bytes = word_at bytes 6 + word_at bytes 8 + word_at bytes 10
 -- the questions, then the records, as many as the header's counts say
 unfoldable pub sections : DnsFields → ℕ → List ℕ → Entry
 sections fields base bytes =
-    then_on (repeated (word_at bytes 4) (question fields.question base bytes) 12) (repeated (record_count bytes) (resource fields base bytes))
+    then_on (repeated (word_at bytes 4) (question fields.question base bytes) 12)
+    (repeated (record_count bytes) (resource fields base bytes))
 
 -- a message before which its layer has so many bytes
 unfoldable pub message_steps : DnsFields → ℕ → List ℕ → List Step
-message_steps fields base bytes = header_rows fields.header base ++ (sections fields base bytes).steps
+message_steps fields base bytes =
+    header_rows fields.header base ++ (sections fields base bytes).steps
 
 -- in a stream the message's length stands before it (RFC 1035, 4.2.2)
 unfoldable pub dns_layout : Bool → List ℕ → List Step
 dns_layout prefixed bytes =
-    if prefixed then Row DNS_LENGTH 0 ∷ message_steps dns_fields 2 (drop 2 bytes) else message_steps dns_fields 0 bytes
+    if prefixed then Row DNS_LENGTH 0 ∷ message_steps dns_fields 2 (drop 2 bytes)
+    else message_steps dns_fields 0 bytes
 
 -- a message of multicast DNS, which has no length before it (RFC 6762, 18)
 unfoldable pub mdns_layout : List ℕ → List Step

@@ -36,7 +36,13 @@ unfoldable pub dns_question : QuestionFields
 dns_question = record { name = DNS_QRY_NAME; kind = DNS_QRY_TYPE; class = Full DNS_QRY_CLASS }
 
 unfoldable pub dns_record : RecordFields
-dns_record = record { name = DNS_RESP_NAME; kind = DNS_RESP_TYPE; class = Full DNS_RESP_CLASS; time_to_live = DNS_RESP_TTL; len = DNS_RESP_LEN }
+dns_record = record {
+  name = DNS_RESP_NAME;
+  kind = DNS_RESP_TYPE;
+  class = Full DNS_RESP_CLASS;
+  time_to_live = DNS_RESP_TTL;
+  len = DNS_RESP_LEN;
+}
 
 unfoldable pub dns_zone : ZoneFields
 dns_zone = record {
@@ -65,7 +71,13 @@ dns_data = record {
 }
 
 unfoldable pub dns_fields : DnsFields
-dns_fields = record { protocol = DNS; header = dns_header; question = dns_question; record_head = dns_record; record_data = dns_data }
+dns_fields = record {
+  protocol = DNS;
+  header = dns_header;
+  question = dns_question;
+  record_head = dns_record;
+  record_data = dns_data;
+}
 
 unfoldable pub mdns_header : HeaderFields
 mdns_header = record {
@@ -89,11 +101,18 @@ mdns_header = record {
 
 -- the top bit of a question's class asks for an answer to the asker alone (RFC 6762, 18.12)
 unfoldable pub mdns_question : QuestionFields
-mdns_question = record { name = MDNS_QRY_NAME; kind = MDNS_QRY_TYPE; class = Split MDNS_QRY_QU MDNS_QRY_CLASS }
+mdns_question =
+    record { name = MDNS_QRY_NAME; kind = MDNS_QRY_TYPE; class = Split MDNS_QRY_QU MDNS_QRY_CLASS }
 
 -- that of a record's class says that the record replaces those kept before (RFC 6762, 18.13)
 unfoldable pub mdns_record : RecordFields
-mdns_record = record { name = MDNS_RESP_NAME; kind = MDNS_RESP_TYPE; class = Split MDNS_RESP_CACHE_FLUSH MDNS_RESP_CLASS; time_to_live = MDNS_RESP_TTL; len = MDNS_RESP_LEN }
+mdns_record = record {
+  name = MDNS_RESP_NAME;
+  kind = MDNS_RESP_TYPE;
+  class = Split MDNS_RESP_CACHE_FLUSH MDNS_RESP_CLASS;
+  time_to_live = MDNS_RESP_TTL;
+  len = MDNS_RESP_LEN;
+}
 
 unfoldable pub mdns_zone : ZoneFields
 mdns_zone = record {
@@ -107,7 +126,12 @@ mdns_zone = record {
 }
 
 unfoldable pub mdns_service : ServiceFields
-mdns_service = record { priority = MDNS_SRV_PRIORITY; weight = MDNS_SRV_WEIGHT; port = MDNS_SRV_PORT; target = MDNS_SRV_TARGET }
+mdns_service = record {
+  priority = MDNS_SRV_PRIORITY;
+  weight = MDNS_SRV_WEIGHT;
+  port = MDNS_SRV_PORT;
+  target = MDNS_SRV_TARGET;
+}
 
 unfoldable pub mdns_data : DataFields
 mdns_data = record {
@@ -125,4 +149,10 @@ mdns_data = record {
 }
 
 unfoldable pub mdns_fields : DnsFields
-mdns_fields = record { protocol = MDNS; header = mdns_header; question = mdns_question; record_head = mdns_record; record_data = mdns_data }
+mdns_fields = record {
+  protocol = MDNS;
+  header = mdns_header;
+  question = mdns_question;
+  record_head = mdns_record;
+  record_data = mdns_data;
+}

@@ -19,11 +19,16 @@ target_at bytes place = (slice_index bytes place - 192) * 256 + slice_index byte
 -- the labels from a place on in a run that begins at a start and may not go past a limit, with those of the runs that it
 -- leads to, and the place behind the run; a pointer leads to a run that begins before the one that it ends
 pub data IsRun (bytes : List ℕ) : ℕ → ℕ → ℕ → List (List ℕ) → ℕ → Type 0 where
-  root : (start limit place : ℕ) → place < limit → slice_index bytes place ≡ 0 → IsRun bytes start limit place [] (place + 1)
-  labelled : (start limit place : ℕ) (labels : List (List ℕ)) (after : ℕ) → place + 1 + slice_index bytes place ≤ limit → 0 < slice_index bytes place → slice_index bytes place < 64 →
+  root : (start limit place : ℕ) → place < limit → slice_index bytes place ≡ 0
+      → IsRun bytes start limit place [] (place + 1)
+  labelled : (start limit place : ℕ) (labels : List (List ℕ)) (after : ℕ)
+      → place + 1 + slice_index bytes place ≤ limit → 0 < slice_index bytes place
+      → slice_index bytes place < 64 →
       IsRun bytes start limit (place + 1 + slice_index bytes place) labels after →
-      IsRun bytes start limit place (slice_range bytes (place + 1) (place + 1 + slice_index bytes place) ∷ labels) after
-  pointed : (start limit place : ℕ) (labels : List (List ℕ)) (after : ℕ) → place + 2 ≤ limit → 192 ≤ slice_index bytes place → target_at bytes place < start →
+      IsRun bytes start limit place
+      (slice_range bytes (place + 1) (place + 1 + slice_index bytes place) ∷ labels) after
+  pointed : (start limit place : ℕ) (labels : List (List ℕ)) (after : ℕ) → place + 2 ≤ limit
+      → 192 ≤ slice_index bytes place → target_at bytes place < start →
       IsRun bytes (target_at bytes place) (length bytes) (target_at bytes place) labels after →
       IsRun bytes start limit place labels (place + 2)
 
@@ -34,7 +39,8 @@ size_of_labels (label ∷ labels) = 1 + length label + size_of_labels labels
 
 -- the name at a place of a message: its labels, and the place behind its first run, which may not go past an end; its
 -- lengths, bytes and last zero are at most 255 (RFC 1035, 2.3.4)
-pub record IsName (bytes : List ℕ) (end place : ℕ) (labels : List (List ℕ)) (after : ℕ) : Type 0 where
+pub record IsName (bytes : List ℕ) (end place : ℕ) (labels : List (List ℕ))
+    (after : ℕ) : Type 0 where
   pub run : IsRun bytes place end place labels after
   pub short : size_of_labels labels + 1 ≤ 255
 
@@ -69,7 +75,13 @@ abbrev pub pointer_turn : List ℕ → Walk → Turn
 pointer_turn bytes w =
     if nat_lt w.limit (w.place + 2) then Over (left_by w.after)
     else (if nat_lt (target_at bytes w.place) w.start
-    then Jump (record { start = target_at bytes w.place; limit = length bytes; place = target_at bytes w.place; size = w.size; after = Some (after_or w.after (w.place + 2)) })
+    then Jump (record {
+      start = target_at bytes w.place;
+      limit = length bytes;
+      place = target_at bytes w.place;
+      size = w.size;
+      after = Some (after_or w.after (w.place + 2));
+    })
     else Over Fails)
 
 -- what stands at the place that a name's reading has come to
@@ -81,8 +93,10 @@ turn_of bytes w =
     else (if nat_le 192 (slice_index bytes w.place) then pointer_turn bytes w
     else Over Fails)))
 
-abbrev pub on_turn : (Walk → List ℕ → NameEnd × List ℕ) → List ℕ → Walk → List ℕ → Turn → NameEnd × List ℕ
-on_turn go bytes w text (Label len next) = go next (dotted text (slice_range bytes (w.place + 1) (w.place + 1 + len)))
+abbrev pub on_turn : (Walk → List ℕ → NameEnd × List ℕ) → List ℕ → Walk → List ℕ → Turn
+    → NameEnd × List ℕ
+on_turn go bytes w text (Label len next) =
+    go next (dotted text (slice_range bytes (w.place + 1) (w.place + 1 + len)))
 on_turn go bytes w text (Jump next) = go next text
 on_turn go bytes w text (Over end) = (end, text)
 
@@ -104,20 +118,29 @@ name_at bytes end place = walked (turns_left (first_walk end place)) bytes (firs
 -- the reading finds exactly the names that there are
 abbrev pub ReadsNames : Type 0
 ReadsNames = (bytes : List ℕ) (end place after : ℕ) (text : List ℕ) → end ≤ length bytes →
-    (name_at bytes end place ≡ (Name after, text)) ↔ ((labels : List (List ℕ)) × IsName bytes end place labels after × (text ≡ text_on [] labels))
+    (name_at bytes end place ≡ (Name after, text))
+    ↔ ((labels : List (List ℕ)) × IsName bytes end place labels after
+    × (text ≡ text_on [] labels))
 
 -- the run at a place goes past an end: it is at the end, or a label or a pointer there doesn't fit before it, or one behind
 -- labels that make no name too long; the size is that of the labels so far
 pub data IsLeaving (bytes : List ℕ) (end : ℕ) : ℕ → ℕ → Type 0 where
   at_end : (place size : ℕ) → end ≤ place → IsLeaving bytes end place size
-  in_label : (place size : ℕ) → place < end → 0 < slice_index bytes place → slice_index bytes place < 64 → end < place + 1 + slice_index bytes place → IsLeaving bytes end place size
-  in_pointer : (place size : ℕ) → place < end → 192 ≤ slice_index bytes place → end < place + 2 → IsLeaving bytes end place size
-  past_label : (place size : ℕ) → place + 1 + slice_index bytes place ≤ end → 0 < slice_index bytes place → slice_index bytes place < 64 → size + 1 + slice_index bytes place + 1 ≤ 255 →
-      IsLeaving bytes end (place + 1 + slice_index bytes place) (size + 1 + slice_index bytes place) → IsLeaving bytes end place size
+  in_label : (place size : ℕ) → place < end → 0 < slice_index bytes place
+      → slice_index bytes place < 64 → end < place + 1 + slice_index bytes place
+      → IsLeaving bytes end place size
+  in_pointer : (place size : ℕ) → place < end → 192 ≤ slice_index bytes place → end < place + 2
+      → IsLeaving bytes end place size
+  past_label : (place size : ℕ) → place + 1 + slice_index bytes place ≤ end
+      → 0 < slice_index bytes place → slice_index bytes place < 64
+      → size + 1 + slice_index bytes place + 1 ≤ 255 →
+      IsLeaving bytes end (place + 1 + slice_index bytes place) (size + 1 + slice_index bytes place)
+      → IsLeaving bytes end place size
 
 -- a name leaves its message, or its record's data, exactly where its first run does: any other run's end is the message's
 abbrev pub TellsLeaving : Type 0
-TellsLeaving = (bytes : List ℕ) (end place : ℕ) → ((name_at bytes end place).0 ≡ Leaves) ↔ IsLeaving bytes end place 0
+TellsLeaving = (bytes : List ℕ) (end place : ℕ)
+    → ((name_at bytes end place).0 ≡ Leaves) ↔ IsLeaving bytes end place 0
 
 -- a name ends behind its place, inside its message
 abbrev pub EndsIn : ℕ → ℕ → NameEnd → Type 0
@@ -137,6 +160,9 @@ pub record IsWalkIn (most first : ℕ) (w : Walk) : Type 0 where
   pub ends : FirstFits w.after first most w.place
 
 abbrev pub TurnFits : List ℕ → ℕ → Walk → Turn → Type 0
-TurnFits bytes first w (Label len next) = IsWalkIn (length bytes) first next × (turns_left next < turns_left w) × (0 < len) × (w.place + 1 + len ≤ length bytes)
-TurnFits bytes first w (Jump next) = IsWalkIn (length bytes) first next × (turns_left next < turns_left w)
+TurnFits bytes first w (Label len next) =
+    IsWalkIn (length bytes) first next × (turns_left next < turns_left w) × (0 < len)
+    × (w.place + 1 + len ≤ length bytes)
+TurnFits bytes first w (Jump next) =
+    IsWalkIn (length bytes) first next × (turns_left next < turns_left w)
 TurnFits bytes first w (Over end) = EndsIn first (length bytes) end

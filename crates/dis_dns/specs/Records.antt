@@ -43,13 +43,15 @@ shown_name (letter ∷ text) = letter ∷ text
 -- that doesn't fit, and what else is no name a condition that fails
 abbrev pub name_of : ℕ → ℕ → ℕ → NameEnd → List ℕ → Entry
 name_of base field place (Name after) text =
-    goes_on (Derived field (values.Text (shown_name text)) (base + place) (after - place) ∷ []) after
+    goes_on (Derived field (values.Text (shown_name text)) (base + place) (after - place) ∷ [])
+    after
 name_of base field place Leaves text = ends (Room false ∷ [])
 name_of base field place Fails text = ends (Check false ∷ [])
 
 -- the name at a place, whose first run may not go past an end
 unfoldable pub name_entry : ℕ → List ℕ → ℕ → ℕ → ℕ → Entry
-name_entry base bytes field end place = name_of base field place (name_at bytes end place).0 (name_at bytes end place).1
+name_entry base bytes field end place =
+    name_of base field place (name_at bytes end place).0 (name_at bytes end place).1
 
 -- a class: all of its bits, or the top bit and then the others
 abbrev pub class_rows : ClassFields → ℕ → List Step
@@ -61,7 +63,8 @@ question_tail fields base at =
     goes_on (Row fields.kind (base + at) ∷ class_rows fields.class (base + at + 2)) (at + 4)
 
 unfoldable pub question : QuestionFields → ℕ → List ℕ → ℕ → Entry
-question fields base bytes at = then_on (name_entry base bytes fields.name (length bytes) at) (question_tail fields base)
+question fields base bytes at =
+    then_on (name_entry base bytes fields.name (length bytes) at) (question_tail fields base)
 
 -- a row of a record's data, which ends at a place: so many bytes of it must fit there
 abbrev pub data_row : ℕ → ℕ → ℕ → ℕ → ℕ → List Step
@@ -70,7 +73,8 @@ data_row base end field at len = Room (nat_le (at + len) end) ∷ Row field (bas
 -- a mail exchange (RFC 1035, 3.3.9)
 unfoldable pub mail_data : DataFields → ℕ → List ℕ → ℕ → ℕ → List Step
 mail_data fields base bytes at end =
-    data_row base end fields.preference at 2 ++ (name_entry base bytes fields.mail_exchange (min end (length bytes)) (at + 2)).steps
+    data_row base end fields.preference at 2
+    ++ (name_entry base bytes fields.mail_exchange (min end (length bytes)) (at + 2)).steps
 
 -- a service (RFC 2782)
 unfoldable pub service_data : ServiceFields → ℕ → List ℕ → ℕ → ℕ → List Step
@@ -82,7 +86,8 @@ service_data fields base bytes at end =
 
 -- where it has no fields it is as data of another type
 abbrev pub service_or_data : Option ServiceFields → ℕ → ℕ → List ℕ → ℕ → ℕ → List Step
-service_or_data (Some service) other base bytes at len = service_data service base bytes at (at + len)
+service_or_data (Some service) other base bytes at len =
+    service_data service base bytes at (at + len)
 service_or_data None other base bytes at len = Part other (base + at) len ∷ []
 
 -- the numbers of a zone's start of authority
@@ -99,7 +104,8 @@ zone_numbers fields base end at = goes_on
 unfoldable pub zone_data : ZoneFields → ℕ → List ℕ → ℕ → ℕ → Entry
 zone_data fields base bytes at end =
     then_on (name_entry base bytes fields.server (min end (length bytes)) at)
-    (λ at. then_on (name_entry base bytes fields.mailbox (min end (length bytes)) at) (zone_numbers fields base end))
+    (λ at. then_on (name_entry base bytes fields.mailbox (min end (length bytes)) at)
+    (zone_numbers fields base end))
 
 -- a string of a text: a length and so many bytes (RFC 1035, 3.3); none begins at the data's end, and one whose length
 -- isn't there doesn't fit
@@ -108,7 +114,8 @@ text_string base bytes field end at =
     if nat_le end at then ends []
     else (if nat_le (length bytes) at then ends (Room false ∷ [])
     else goes_on
-    (Room (nat_le (at + 1 + slice_index bytes at) end) ∷ Whole field (base + at + 1) (slice_index bytes at) ∷ [])
+    (Room (nat_le (at + 1 + slice_index bytes at) end)
+    ∷ Whole field (base + at + 1) (slice_index bytes at) ∷ [])
     (at + 1 + slice_index bytes at))
 
 -- the data of a type, of so many bytes from a place on: addresses (RFC 1035, 3.4.1; RFC 3596, 2.2), names (RFC 1035,
@@ -117,9 +124,12 @@ unfoldable pub data_steps : DataFields → ℕ → List ℕ → ℕ → ℕ → 
 data_steps fields base bytes kind at len =
     if kind == 1 && len == 4 then Row fields.address (base + at) ∷ []
     else (if kind == 28 && len == 16 then Row fields.address_6 (base + at) ∷ []
-    else (if kind == 2 then (name_entry base bytes fields.name_server (min (at + len) (length bytes)) at).steps
-    else (if kind == 5 then (name_entry base bytes fields.canonical_name (min (at + len) (length bytes)) at).steps
-    else (if kind == 12 then (name_entry base bytes fields.pointer (min (at + len) (length bytes)) at).steps
+    else (if kind == 2 then (name_entry base bytes fields.name_server
+    (min (at + len) (length bytes)) at).steps
+    else (if kind == 5 then (name_entry base bytes fields.canonical_name
+    (min (at + len) (length bytes)) at).steps
+    else (if kind == 12 then (name_entry base bytes fields.pointer
+    (min (at + len) (length bytes)) at).steps
     else (if kind == 15 then mail_data fields base bytes at (at + len)
     else (if kind == 6 then (zone_data fields.zone base bytes at (at + len)).steps
     else (if kind == 16 then (repeated len (text_string base bytes fields.text (at + len)) at).steps
@@ -129,14 +139,18 @@ data_steps fields base bytes kind at len =
 -- the numbers of a record, at a place of the layer
 abbrev pub record_head : RecordFields → ℕ → List Step
 record_head fields at =
-    Row fields.kind at ∷ class_rows fields.class (at + 2) ++ Row fields.time_to_live (at + 4) ∷ Row fields.len (at + 8) ∷ []
+    Row fields.kind at ∷ class_rows fields.class (at + 2)
+    ++ Row fields.time_to_live (at + 4) ∷ Row fields.len (at + 8) ∷ []
 
 -- what follows a record's name; the next record begins behind its data, whose length tells where that is
 unfoldable pub record_tail : DnsFields → ℕ → List ℕ → ℕ → Entry
 record_tail fields base bytes at = goes_on
-    (record_head fields.record_head (base + at) ++ data_steps fields.record_data base bytes (word_at bytes at) (at + 10) (word_at bytes (at + 8)))
+    (record_head fields.record_head (base + at)
+    ++ data_steps fields.record_data base bytes (word_at bytes at) (at + 10)
+    (word_at bytes (at + 8)))
     (at + 10 + word_at bytes (at + 8))
 
 unfoldable pub resource : DnsFields → ℕ → List ℕ → ℕ → Entry
 resource fields base bytes at =
-    then_on (name_entry base bytes fields.record_head.name (length bytes) at) (record_tail fields base bytes)
+    then_on (name_entry base bytes fields.record_head.name (length bytes) at)
+    (record_tail fields base bytes)

@@ -27,7 +27,8 @@ fn chain_end(bytes: &[u8], ends: &[u16], place: usize) -> u16
     requires place { place < length bytes.now }
     requires most { place < 2 ^ 14 }
     requires size { length ends.now ≡ place }
-    requires each { (before : ℕ) → before < place → IsChainEnd bytes.now before (slice_index ends.now before) }
+    requires each { (before : ℕ) → before < place
+        → IsChainEnd bytes.now before (slice_index ends.now before) }
     ensures { IsChainEnd bytes.now place result }
 {
     if bytes.len() - place < 2 || usize::from(bytes[place]) < POINTER {

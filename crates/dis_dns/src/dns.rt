@@ -32,7 +32,9 @@ const PREFIX: usize = 2;
 pub fn read_dns(span: Span, prefixed: bool, cut: bool, b: &mut TreeBuilder) -> Result<(), NoMemory>
     requires inside { IsInside b.old.buffers span }
     requires room { length b.old.layers + 2 < 2 ^ 32 }
-    ensures layer { IfOk result (λ _. b.new ≡ layer_read b.old DNS span (dns_layout prefixed (bytes_of b.old.buffers span)) Mode.Plain cut) }
+    ensures layer { IfOk result (λ _.
+        b.new ≡ layer_read b.old DNS span
+        (dns_layout prefixed (bytes_of b.old.buffers span)) Mode.Plain cut) }
     ensures names { ReadsNames }
     ensures leaving { TellsLeaving }
     ensures texts { AllStrings }
@@ -50,7 +52,9 @@ pub fn read_dns(span: Span, prefixed: bool, cut: bool, b: &mut TreeBuilder) -> R
 pub fn read_mdns(span: Span, cut: bool, b: &mut TreeBuilder) -> Result<(), NoMemory>
     requires inside { IsInside b.old.buffers span }
     requires room { length b.old.layers + 2 < 2 ^ 32 }
-    ensures layer { IfOk result (λ _. b.new ≡ layer_read b.old MDNS span (mdns_layout (bytes_of b.old.buffers span)) Mode.Plain cut) }
+    ensures layer { IfOk result (λ _.
+        b.new ≡ layer_read b.old MDNS span
+        (mdns_layout (bytes_of b.old.buffers span)) Mode.Plain cut) }
     ensures names { ReadsNames }
     ensures leaving { TellsLeaving }
     ensures texts { AllStrings }
@@ -75,7 +79,9 @@ fn add_layer(
     requires protocol { IsProtocol protocol }
     requires room { length b.old.layers + 2 < 2 ^ 32 }
     requires fits { FitsTaken b.old.wanted protocol taken }
-    ensures layer { OnOk result ((layout : List StepValue) → StepsFit protocol layout → HoldsSteps b.old.wanted span.len layout taken → b.new ≡ layer_read b.old protocol span layout Mode.Plain cut) }
+    ensures layer { OnOk result ((layout : List StepValue) → StepsFit protocol layout
+        → HoldsSteps b.old.wanted span.len layout taken
+        → b.new ≡ layer_read b.old protocol span layout Mode.Plain cut) }
     ensures buffers { b.new.buffers ≡ b.old.buffers }
     ensures some { OnOk result (0 < length b.new.layers) }
     ensures most { OnOk result (length b.new.layers ≤ length b.old.layers + 2) }
@@ -95,7 +101,8 @@ fn add_layer(
 /// The steps of a layer that has these bytes, or how far they are read where no field of it is wanted.
 fn dns_steps(tree: &TreeBuilder, prefixed: bool, bytes: &[u8]) -> Result<Taken, NoMemory>
     requires { length bytes.now < 2 ^ 32 }
-    ensures holds { IfOk result (λ taken. HoldsSteps tree.now.wanted (length bytes.now) (dns_layout prefixed bytes.now) taken) }
+    ensures holds { IfOk result (λ taken.
+        HoldsSteps tree.now.wanted (length bytes.now) (dns_layout prefixed bytes.now) taken) }
     ensures fits { IfOk result (λ taken. FitsTaken tree.now.wanted DNS taken) }
 {
     let mut steps = Steps::new(tree, ids::DNS, bytes.len())?;
@@ -106,7 +113,8 @@ fn dns_steps(tree: &TreeBuilder, prefixed: bool, bytes: &[u8]) -> Result<Taken, 
 /// The same of multicast DNS.
 fn mdns_steps(tree: &TreeBuilder, bytes: &[u8]) -> Result<Taken, NoMemory>
     requires { length bytes.now < 2 ^ 32 }
-    ensures holds { IfOk result (λ taken. HoldsSteps tree.now.wanted (length bytes.now) (mdns_layout bytes.now) taken) }
+    ensures holds { IfOk result (λ taken.
+        HoldsSteps tree.now.wanted (length bytes.now) (mdns_layout bytes.now) taken) }
     ensures fits { IfOk result (λ taken. FitsTaken tree.now.wanted MDNS taken) }
 {
     let mut steps = Steps::new(tree, ids::MDNS, bytes.len())?;
@@ -175,7 +183,8 @@ fn behind_prefix(bytes: &[u8]) -> &[u8]
 #[tactic(auto, unfolding(crate::specs::Dns::header_rows, crate::specs::Collected::with_steps))]
 fn push_header(steps: &mut Steps, message: &Message) -> Result<(), NoMemory>
     requires { message.now.base ≤ 2 }
-    ensures { OnOk result (steps.new ≡ with_steps steps.old (header_rows message.now.fields.header message.now.base)) }
+    ensures { OnOk result (steps.new
+        ≡ with_steps steps.old (header_rows message.now.fields.header message.now.base)) }
 {
     let fields = message.fields.header;
     let base = message.base;
@@ -204,7 +213,9 @@ fn push_sections(steps: &mut Steps, message: &Message) -> Result<(), NoMemory>
     requires chains { AreChainEnds message.now.bytes.now message.now.chain_ends.now }
     requires base { message.now.base ≤ 2 }
     requires short { length message.now.bytes.now < 2 ^ 32 }
-    ensures { OnOk result (steps.new ≡ with_steps steps.old (sections message.now.fields message.now.base message.now.bytes.now).steps) }
+    ensures { OnOk result (steps.new
+        ≡ with_steps steps.old
+        (sections message.now.fields message.now.base message.now.bytes.now).steps) }
 {
     let questions = word_at(message.bytes, 4);
     let Some(at) = push_questions(steps, message, questions, HEADER)? else {
@@ -233,7 +244,10 @@ fn push_questions(
     requires base { message.now.base ≤ 2 }
     requires short { length message.now.bytes.now < 2 ^ 32 }
     requires place { at < 2 ^ 33 }
-    ensures adds { IfOk result (Takes steps.old steps.new (repeated count (question message.now.fields.question message.now.base message.now.bytes.now) at)) }
+    ensures adds { IfOk result
+        (Takes steps.old steps.new
+        (repeated count (question message.now.fields.question message.now.base
+        message.now.bytes.now) at)) }
     ensures bound { IfOk result (λ next. IfSome next (λ place. place < 2 ^ 33)) }
 {
     let mut place = at;
@@ -257,7 +271,10 @@ fn push_records(
     requires base { message.now.base ≤ 2 }
     requires short { length message.now.bytes.now < 2 ^ 32 }
     requires place { at < 2 ^ 33 }
-    ensures { OnOk result (steps.new ≡ with_steps steps.old (repeated count (resource message.now.fields message.now.base message.now.bytes.now) at).steps) }
+    ensures { OnOk result (steps.new
+        ≡ with_steps steps.old
+        (repeated count (resource message.now.fields message.now.base message.now.bytes.now)
+        at).steps) }
 {
     let mut place = at;
     for _record in 0..count {

@@ -119,7 +119,8 @@ fn next_turn(bytes: &[u8], walk: Walk) -> Turn
     requires limit { walk.limit ≤ length bytes.now }
     requires short { walk.size + 1 ≤ 255 }
     ensures turn { result ≡ turn_of bytes.now walk }
-    ensures fits { (first : ℕ) → IsWalkIn (length bytes.now) first walk → TurnFits bytes.now first walk result }
+    ensures fits { (first : ℕ) → IsWalkIn (length bytes.now) first walk
+        → TurnFits bytes.now first walk result }
 {
     if walk.limit <= walk.place {
         return Turn::Over(left_by(walk.after));

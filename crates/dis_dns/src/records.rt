@@ -66,7 +66,9 @@ pub(crate) fn push_question(
     requires base { message.now.base ≤ 2 }
     requires short { length message.now.bytes.now < 2 ^ 32 }
     requires place { at < 2 ^ 33 }
-    ensures adds { IfOk result (Takes steps.old steps.new (question message.now.fields.question message.now.base message.now.bytes.now at)) }
+    ensures adds { IfOk result
+        (Takes steps.old steps.new
+        (question message.now.fields.question message.now.base message.now.bytes.now at)) }
     ensures bound { IfOk result (λ next. IfSome next (λ place. place < 2 ^ 33)) }
 {
     let fields = message.fields.question;
@@ -104,7 +106,9 @@ pub(crate) fn push_record(
     requires base { message.now.base ≤ 2 }
     requires short { length message.now.bytes.now < 2 ^ 32 }
     requires place { at < 2 ^ 33 }
-    ensures adds { IfOk result (Takes steps.old steps.new (resource message.now.fields message.now.base message.now.bytes.now at)) }
+    ensures adds { IfOk result
+        (Takes steps.old steps.new
+        (resource message.now.fields message.now.base message.now.bytes.now at)) }
     ensures bound { IfOk result (λ next. IfSome next (λ place. place < 2 ^ 33)) }
 {
     let end = message.bytes.len();
@@ -122,7 +126,10 @@ fn push_record_tail(steps: &mut Steps, message: &Message, at: usize) -> Result<u
     requires base { message.now.base ≤ 2 }
     requires short { length message.now.bytes.now < 2 ^ 32 }
     requires place { at ≤ length message.now.bytes.now }
-    ensures adds { IfOk result (λ next. Takes steps.old steps.new (record_tail message.now.fields message.now.base message.now.bytes.now at) (Some next)) }
+    ensures adds { IfOk result (λ next.
+        Takes steps.old steps.new
+        (record_tail message.now.fields message.now.base message.now.bytes.now at)
+        (Some next)) }
     ensures bound { IfOk result (λ next. next < 2 ^ 33) }
 {
     let kind = word_at(message.bytes, at);
@@ -136,7 +143,8 @@ fn push_record_tail(steps: &mut Steps, message: &Message, at: usize) -> Result<u
 #[tactic(auto, using(crate::proofs::CollectedLemmas::with_steps_append), unfolding(crate::specs::Collected::with_steps))]
 fn push_record_head(steps: &mut Steps, message: &Message, at: usize) -> Result<(), NoMemory>
     requires { at < 2 ^ 34 }
-    ensures { OnOk result (steps.new ≡ with_steps steps.old (record_head message.now.fields.record_head at)) }
+    ensures { OnOk result (steps.new
+        ≡ with_steps steps.old (record_head message.now.fields.record_head at)) }
 {
     let fields = message.fields.record_head;
     steps.push(Step::Row(fields.kind, at))?;
@@ -160,7 +168,10 @@ fn push_data(
     requires short { length message.now.bytes.now < 2 ^ 32 }
     requires place { at < 2 ^ 33 }
     requires len { len < 65536 }
-    ensures { OnOk result (steps.new ≡ with_steps steps.old (data_steps message.now.fields.record_data message.now.base message.now.bytes.now kind at len)) }
+    ensures { OnOk result (steps.new
+        ≡ with_steps steps.old
+        (data_steps message.now.fields.record_data message.now.base message.now.bytes.now kind
+        at len)) }
 {
     let fields = message.fields.record_data;
     let place = message.base + at;
@@ -192,7 +203,11 @@ fn push_service_or_data(
     requires short { length message.now.bytes.now < 2 ^ 32 }
     requires place { at < 2 ^ 33 }
     requires len { len < 65536 }
-    ensures { OnOk result (steps.new ≡ with_steps steps.old (service_or_data message.now.fields.record_data.service message.now.fields.record_data.other message.now.base message.now.bytes.now at len)) }
+    ensures { OnOk result (steps.new
+        ≡ with_steps steps.old
+        (service_or_data message.now.fields.record_data.service
+        message.now.fields.record_data.other message.now.base message.now.bytes.now at
+        len)) }
 {
     match message.fields.record_data.service {
         Some(fields) => push_service(steps, message, fields, at, at + len),
@@ -213,7 +228,9 @@ fn push_service(
     requires base { message.now.base ≤ 2 }
     requires short { length message.now.bytes.now < 2 ^ 32 }
     requires place { at < 2 ^ 33 }
-    ensures { OnOk result (steps.new ≡ with_steps steps.old (service_data fields message.now.base message.now.bytes.now at end)) }
+    ensures { OnOk result (steps.new
+        ≡ with_steps steps.old
+        (service_data fields message.now.base message.now.bytes.now at end)) }
 {
     push_row(steps, message, end, fields.priority, at, 2)?;
     push_row(steps, message, end, fields.weight, at + 2, 2)?;
@@ -236,7 +253,10 @@ fn push_name_data(
     requires short { length message.now.bytes.now < 2 ^ 32 }
     requires place { at < 2 ^ 33 }
     requires len { len < 65536 }
-    ensures { OnOk result (steps.new ≡ with_steps steps.old (name_entry message.now.base message.now.bytes.now field (min (at + len) (length message.now.bytes.now)) at).steps) }
+    ensures { OnOk result (steps.new
+        ≡ with_steps steps.old
+        (name_entry message.now.base message.now.bytes.now field
+        (min (at + len) (length message.now.bytes.now)) at).steps) }
 {
     let end = message.bytes.len().min(at + len);
     push_name(steps, message, field, end, at)?;
@@ -250,7 +270,10 @@ fn push_mail(steps: &mut Steps, message: &Message, at: usize, end: usize) -> Res
     requires base { message.now.base ≤ 2 }
     requires short { length message.now.bytes.now < 2 ^ 32 }
     requires place { at < 2 ^ 33 }
-    ensures { OnOk result (steps.new ≡ with_steps steps.old (mail_data message.now.fields.record_data message.now.base message.now.bytes.now at end)) }
+    ensures { OnOk result (steps.new
+        ≡ with_steps steps.old
+        (mail_data message.now.fields.record_data message.now.base message.now.bytes.now at
+        end)) }
 {
     let fields = message.fields.record_data;
     push_row(steps, message, end, fields.preference, at, 2)?;
@@ -266,7 +289,10 @@ fn push_zone(steps: &mut Steps, message: &Message, at: usize, end: usize) -> Res
     requires base { message.now.base ≤ 2 }
     requires short { length message.now.bytes.now < 2 ^ 32 }
     requires place { at < 2 ^ 33 }
-    ensures { OnOk result (steps.new ≡ with_steps steps.old (zone_data message.now.fields.record_data.zone message.now.base message.now.bytes.now at end).steps) }
+    ensures { OnOk result (steps.new
+        ≡ with_steps steps.old
+        (zone_data message.now.fields.record_data.zone message.now.base message.now.bytes.now at
+        end).steps) }
 {
     let fields = message.fields.record_data.zone;
     let limit = end.min(message.bytes.len());
@@ -289,7 +315,9 @@ fn push_zone_numbers(
 ) -> Result<(), NoMemory>
     requires base { message.now.base ≤ 2 }
     requires place { at < 2 ^ 33 }
-    ensures { OnOk result (steps.new ≡ with_steps steps.old (zone_numbers message.now.fields.record_data.zone message.now.base end at).steps) }
+    ensures { OnOk result (steps.new
+        ≡ with_steps steps.old
+        (zone_numbers message.now.fields.record_data.zone message.now.base end at).steps) }
 {
     let fields = message.fields.record_data.zone;
     push_row(steps, message, end, fields.serial, at, 4)?;
@@ -313,7 +341,8 @@ fn push_row(
     requires base { message.now.base ≤ 2 }
     requires place { at < 2 ^ 34 }
     requires len { len ≤ 4 }
-    ensures { OnOk result (steps.new ≡ with_steps steps.old (data_row message.now.base end field at len)) }
+    ensures { OnOk result (steps.new
+        ≡ with_steps steps.old (data_row message.now.base end field at len)) }
 {
     steps.push(Step::Room(at + len <= end))?;
     steps.push(Step::Row(field, message.base + at))?;
@@ -326,7 +355,10 @@ fn push_texts(steps: &mut Steps, message: &Message, at: usize, len: usize) -> Re
     requires short { length message.now.bytes.now < 2 ^ 32 }
     requires place { at < 2 ^ 33 }
     requires len { len < 65536 }
-    ensures { OnOk result (steps.new ≡ with_steps steps.old (repeated len (text_string message.now.base message.now.bytes.now message.now.fields.record_data.text (at + len)) at).steps) }
+    ensures { OnOk result (steps.new
+        ≡ with_steps steps.old
+        (repeated len (text_string message.now.base message.now.bytes.now
+        message.now.fields.record_data.text (at + len)) at).steps) }
 {
     let mut place = at;
     for _string in 0..len {
@@ -348,7 +380,9 @@ fn push_text(
 ) -> Result<Option<usize>, NoMemory>
     requires base { message.now.base ≤ 2 }
     requires short { length message.now.bytes.now < 2 ^ 32 }
-    ensures { IfOk result (Takes steps.old steps.new (text_string message.now.base message.now.bytes.now message.now.fields.record_data.text end at)) }
+    ensures { IfOk result (Takes steps.old steps.new
+        (text_string message.now.base message.now.bytes.now message.now.fields.record_data.text end
+        at)) }
 {
     if end <= at {
         return Ok(None);
@@ -377,8 +411,11 @@ fn push_name(
     requires base { message.now.base ≤ 2 }
     requires end { end ≤ length message.now.bytes.now }
     requires place { place < 2 ^ 34 }
-    ensures adds { IfOk result (Takes steps.old steps.new (name_entry message.now.base message.now.bytes.now field end place)) }
-    ensures bound { IfOk result (λ next. IfSome next (λ after. after ≤ length message.now.bytes.now)) }
+    ensures adds { IfOk result
+        (Takes steps.old steps.new
+        (name_entry message.now.base message.now.bytes.now field end place)) }
+    ensures bound { IfOk result (λ next.
+        IfSome next (λ after. after ≤ length message.now.bytes.now)) }
 {
     let (name, text) = name_text(message, steps.shows(field), end, place)?;
     match name {
@@ -408,7 +445,8 @@ fn name_text(
     requires end { end ≤ length message.now.bytes.now }
     requires place { place < 2 ^ 34 }
     ensures end_is { IfOk result (λ read. read.0 ≡ (name_at message.now.bytes.now end place).0) }
-    ensures text { IfOk result (λ read. shown ≡ true → read.1 ≡ shown_name (name_at message.now.bytes.now end place).1) }
+    ensures text { IfOk result (λ read. shown ≡ true
+        → read.1 ≡ shown_name (name_at message.now.bytes.now end place).1) }
     ensures none { IfOk result (λ read. shown ≡ false → read.1 ≡ []) }
     ensures bound { IfOk result (λ read. EndsIn place (length message.now.bytes.now) read.0) }
 {

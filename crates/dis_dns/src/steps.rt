@@ -40,7 +40,13 @@ impl<'a> Model for Steps<'a> {
 
     ghost Value = { StepsShown };
 
-    ghost view = { λ s. record { wanted = s.tree.now.wanted; keeps = s.keeps; end = s.end; list = s.list.items; reach = s.reach } };
+    ghost view = { λ s. record {
+      wanted = s.tree.now.wanted;
+      keeps = s.keeps;
+      end = s.end;
+      list = s.list.items;
+      reach = s.reach;
+    } };
 }
 
 impl<'a> Steps<'a> {
@@ -51,7 +57,8 @@ impl<'a> Steps<'a> {
         end: usize,
     ) -> Result<Steps<'a>, NoMemory>
         ensures steps { IfOk result (λ s. s ≡ no_steps tree.now.wanted s.keeps end) }
-        ensures none { IfOk result (λ s. s.keeps ≡ false → (f : ℕ) → (row_of f).proto ≡ protocol → is_in tree.now.wanted f ≡ false) }
+        ensures none { IfOk result (λ s. s.keeps ≡ false → (f : ℕ) → (row_of f).proto ≡ protocol
+            → is_in tree.now.wanted f ≡ false) }
     {
         let keeps = tree.asks(protocol);
         let room = if keeps { FEW_STEPS } else { 0 };
@@ -96,7 +103,9 @@ impl<'a> Steps<'a> {
         len: usize,
     ) -> Result<(), NoMemory>
         requires none { shows self.old field ≡ false → text ≡ [] }
-        ensures { OnOk result ((whole : List ℕ) → (shows self.old field ≡ true → text ≡ whole) → self.new ≡ with_step self.old (steps_of_layers.Derived field (values.Text whole) at len)) }
+        ensures { OnOk result ((whole : List ℕ) → (shows self.old field ≡ true → text ≡ whole)
+            → self.new ≡ with_step self.old
+            (steps_of_layers.Derived field (values.Text whole) at len)) }
     {
         if self.keeps {
             self.list

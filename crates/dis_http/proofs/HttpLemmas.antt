@@ -1,6 +1,6 @@
 -- The steps of an HTTP message are of the protocol's own fields, and its chunks are short.
-use Rattle.std.proofs.Common.{◌≡◌, ℕ, zero, suc, ◌+◌, ◌-◌, ◌*◌, ◌^◌, ◌<◌, ◌≤◌, Bool, true, false, List, [], ◌∷◌, ◌++◌, length, take, drop, refl, sym, ap, ◌∙◌, subst, arith, rules, get_or, length-append, Option, Some, None, if◌then◌else◌}
-use Rattle.std.specs.Prelude.{◌==◌, IsTrue, is_none, ◌&&◌, codes, nat_le}
+use Rattle.std.proofs.Common.{◌≡◌, ℕ, zero, suc, ◌+◌, ◌-◌, ◌*◌, ◌^◌, ◌<◌, ◌≤◌, Bool, true, false, List, [], ◌∷◌, ◌++◌, length, take, drop, sym, ap, ◌∙◌, arith, rules, get_or, length-append, Option, Some, None, if◌then◌else◌}
+use Rattle.std.specs.Prelude.{IsTrue, is_none, ◌&&◌, codes}
 use Rattle.std.specs.Str.{str_eq_ignore_ascii_case}
 use Rattle.pk_fields.specs.Fields.{row_of}
 use Rattle.pk_fields.specs.Ids.{HTTP, HTTP_REQUEST, HTTP_REQUEST_METHOD, HTTP_REQUEST_URI, HTTP_REQUEST_VERSION, HTTP_RESPONSE, HTTP_RESPONSE_VERSION, HTTP_RESPONSE_CODE, HTTP_RESPONSE_PHRASE, HTTP_HEADER_NAME, HTTP_HEADER_VALUE, HTTP_FILE_DATA, HTTP_HOST, HTTP_USER_AGENT, HTTP_CONTENT_TYPE, HTTP_CONTENT_LENGTH_HEADER, HTTP_TRANSFER_ENCODING, HTTP_CONTENT_ENCODING, HTTP_SERVER, HTTP_LOCATION, HTTP_CONNECTION, HTTP_COOKIE, HTTP_SET_COOKIE, HTTP_REFERER, HTTP_ACCEPT, HTTP_DATE}
@@ -17,7 +17,7 @@ use Rattle.http_frame.specs.declared.shape.Shape.{Shape}
 use Rattle.http_frame.specs.declared.shape.Body.{Body}
 use Rattle.http_frame.specs.declared.shape.Body.TheVariants.{None as Bodiless, Plain, Chunked, NotShown}
 use Rattle.http_frame.proofs.MessageLemmas.{first_short}
-use Rattle.dis_http.specs.Heads.{byte_at, code_at, further_field, value_field, value_steps, value_len, lead_of, field_rows, field_line, request_line, status_line, start_line, start_place}
+use Rattle.dis_http.specs.Heads.{byte_at, code_at, value_field, value_steps, value_len, lead_of, field_rows, field_line, request_line, status_line, start_line, start_place}
 use Rattle.http_frame.specs.declared.shape.Piece.{Piece}
 use Rattle.http_frame.specs.Sizes.{size_of_pieces}
 use Rattle.dis_http.specs.Http.{joined, piece_bytes, body_steps, http_layout, IsShape, plain_read, chunked_read, body_read}

@@ -51,15 +51,18 @@ request_rows bytes at target version =
     []
 
 abbrev pub request_at : List ℕ → ℕ → ℕ → ℕ → Entry
-request_at bytes at target version = goes_on (request_rows bytes at target version) (behind_end bytes (version + 8))
+request_at bytes at target version =
+    goes_on (request_rows bytes at target version) (behind_end bytes (version + 8))
 
 unfoldable pub request_line : List ℕ → ℕ → Entry
-request_line bytes at = request_at bytes at (target_place bytes at) (version_place bytes (target_place bytes at))
+request_line bytes at =
+    request_at bytes at (target_place bytes at) (version_place bytes (target_place bytes at))
 
 -- three digits
 unfoldable pub code_at : List ℕ → ℕ → ℕ
 code_at bytes at =
-    (byte_at bytes at - digit_zero) * 100 + (byte_at bytes (at + 1) - digit_zero) * 10 + (byte_at bytes (at + 2) - digit_zero)
+    (byte_at bytes at - digit_zero) * 100 + (byte_at bytes (at + 1) - digit_zero) * 10
+    + (byte_at bytes (at + 2) - digit_zero)
 
 -- the reason phrase behind its space, where the line has one
 unfoldable pub phrase_len : List ℕ → ℕ → ℕ
@@ -74,7 +77,8 @@ status_rows bytes at =
     []
 
 unfoldable pub status_line : List ℕ → ℕ → Entry
-status_line bytes at = goes_on (status_rows bytes at) (behind_end bytes (at + 12 + run_at is_text bytes (at + 12)))
+status_line bytes at =
+    goes_on (status_rows bytes at) (behind_end bytes (at + 12 + run_at is_text bytes (at + 12)))
 
 -- the item that a field's value has besides, by the field's name, whose case is ignored (RFC 9110, 5.1)
 abbrev pub further_field : List ℕ → Option ℕ
@@ -93,9 +97,12 @@ value_field name =
     if str_eq_ignore_ascii_case name (codes "host") then Some HTTP_HOST
     else (if str_eq_ignore_ascii_case name (codes "user-agent") then Some HTTP_USER_AGENT
     else (if str_eq_ignore_ascii_case name (codes "content-type") then Some HTTP_CONTENT_TYPE
-    else (if str_eq_ignore_ascii_case name (codes "content-length") then Some HTTP_CONTENT_LENGTH_HEADER
-    else (if str_eq_ignore_ascii_case name (codes "transfer-encoding") then Some HTTP_TRANSFER_ENCODING
-    else (if str_eq_ignore_ascii_case name (codes "content-encoding") then Some HTTP_CONTENT_ENCODING
+    else (if str_eq_ignore_ascii_case name (codes "content-length")
+    then Some HTTP_CONTENT_LENGTH_HEADER
+    else (if str_eq_ignore_ascii_case name (codes "transfer-encoding")
+    then Some HTTP_TRANSFER_ENCODING
+    else (if str_eq_ignore_ascii_case name (codes "content-encoding")
+    then Some HTTP_CONTENT_ENCODING
     else (if str_eq_ignore_ascii_case name (codes "server") then Some HTTP_SERVER
     else further_field name))))))
 
@@ -124,16 +131,20 @@ abbrev pub name_at : List ℕ → ℕ → List ℕ
 name_at bytes at = take (run_at (is_other colon) bytes at) (drop at bytes)
 
 abbrev pub field_by : List ℕ → ℕ → List ℕ → ℕ → List ℕ → Entry
-field_by bytes at name place raw = goes_on (field_rows at name place raw) (behind_end bytes (place + length raw))
+field_by bytes at name place raw =
+    goes_on (field_rows at name place raw) (behind_end bytes (place + length raw))
 
 -- the field line at a place; the head ends where none is
 unfoldable pub field_line : List ℕ → ℕ → Entry
 field_line bytes at =
     if run_at is_text bytes at == 0 then ends []
-    else field_by bytes at (name_at bytes at) (at + length (name_at bytes at) + 1) (raw_at bytes (at + length (name_at bytes at) + 1))
+    else field_by bytes at (name_at bytes at) (at + length (name_at bytes at) + 1)
+    (raw_at bytes (at + length (name_at bytes at) + 1))
 
 unfoldable pub start_place : List ℕ → ℕ
 start_place bytes = prefix_len is_newline bytes
 
 unfoldable pub start_line : Truth → List ℕ → Entry
-start_line request bytes = if request then request_line bytes (start_place bytes) else status_line bytes (start_place bytes)
+start_line request bytes =
+    if request then request_line bytes (start_place bytes)
+    else status_line bytes (start_place bytes)

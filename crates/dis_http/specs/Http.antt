@@ -1,5 +1,5 @@
 -- A whole HTTP/1 message (RFC 9112): its head, and its body, whose chunks are joined in a buffer of their own.
-use Rattle.std.specs.Prelude.{◌≡◌, ℕ, ◌&&◌, Bool, false, if◌then◌else◌, List, [], ◌∷◌, ◌++◌, length, take, drop, nat_lt, Option, Some, None}
+use Rattle.std.specs.Prelude.{◌≡◌, ℕ, ◌&&◌, Bool, false, if◌then◌else◌, List, [], ◌∷◌, ◌++◌, length, take, drop, nat_lt, Some}
 use Rattle.std.specs.List.{flat_map}
 use Rattle.pk_base.specs.declared.span.Span.{Span}
 use Rattle.pk_buffer.specs.Buffers.{bytes_of}
@@ -27,11 +27,13 @@ body_steps head NotShown = []
 
 unfoldable pub http_layout : Shape → List ℕ → List Step
 http_layout shape bytes =
-    (then_on (start_line shape.request bytes) (repeated field_limit (field_line bytes))).steps ++ body_steps shape.head shape.body
+    (then_on (start_line shape.request bytes) (repeated field_limit (field_line bytes))).steps
+    ++ body_steps shape.head shape.body
 
 -- these bytes are one message, of this shape; it may be a response to HEAD
 abbrev pub IsShape : Shape → List ℕ → Type 0
-IsShape shape bytes = (asked : Bool) × (first_message asked bytes ≡ Some shape) × (shape.end ≡ length bytes)
+IsShape shape bytes = (asked : Bool) × (first_message asked bytes ≡ Some shape)
+    × (shape.end ≡ length bytes)
 
 -- the bytes of the chunks of a body
 abbrev pub piece_bytes : List ℕ → Piece → List ℕ
@@ -43,14 +45,17 @@ joined bytes pieces = flat_map (piece_bytes bytes) pieces
 -- the item of joined chunks, which are buffer `number`; no item for none
 abbrev pub with_content : TreeShown → Bool → ℕ → List ℕ → TreeShown
 with_content t whole number content =
-    if whole && nat_lt 0 (length content) then with_item t (read_of t.buffers HTTP_FILE_DATA (record { buffer = number; start = 0; len = length content })) else t
+    if whole && nat_lt 0 (length content)
+    then with_item t (read_of t.buffers HTTP_FILE_DATA
+    (record { buffer = number; start = 0; len = length content })) else t
 
 abbrev pub plain_read : TreeShown → Span → List Step → TreeShown
 plain_read t span steps = layer_read t HTTP span steps InPlain false
 
 abbrev pub chunked_read : TreeShown → Span → List Step → List ℕ → TreeShown
 chunked_read t span steps content =
-    with_content (plain_read (with_buffer t content) span steps) (is_all (reach span.len steps)) (length t.buffers) content
+    with_content (plain_read (with_buffer t content) span steps) (is_all (reach span.len steps))
+    (length t.buffers) content
 
 abbrev pub body_read : TreeShown → Span → List Step → List ℕ → Body → TreeShown
 body_read t span steps bytes (Chunked pieces) = chunked_read t span steps (joined bytes pieces)
@@ -60,4 +65,6 @@ body_read t span steps bytes NotShown = plain_read t span steps
 
 -- the tree with the layer of a message, and before it the buffer of a chunked body
 unfoldable pub http_read : TreeShown → Span → Shape → TreeShown
-http_read t span shape = body_read t span (http_layout shape (bytes_of t.buffers span)) (bytes_of t.buffers span) shape.body
+http_read t span shape =
+    body_read t span (http_layout shape (bytes_of t.buffers span))
+    (bytes_of t.buffers span) shape.body

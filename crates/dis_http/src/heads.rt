@@ -32,7 +32,8 @@ pub(crate) fn push_start(
     bytes: &[u8],
 ) -> Result<usize, NoMemory>
     requires { length bytes.now < 2 ^ 32 }
-    ensures adds { IfOk result (λ next. Adds steps.old.items steps.new.items (start_line request bytes.now) (Some next)) }
+    ensures adds { IfOk result (λ next.
+        Adds steps.old.items steps.new.items (start_line request bytes.now) (Some next)) }
     ensures bound { IfOk result (λ next. next ≤ length bytes.now + 16) }
 {
     let at = start_place(bytes);
@@ -65,7 +66,8 @@ fn push_request(
 ) -> Result<usize, NoMemory>
     requires at { at ≤ length bytes.now }
     requires short { length bytes.now < 2 ^ 32 }
-    ensures adds { IfOk result (λ next. Adds steps.old.items steps.new.items (request_line bytes.now at) (Some next)) }
+    ensures adds { IfOk result (λ next.
+        Adds steps.old.items steps.new.items (request_line bytes.now at) (Some next)) }
     ensures bound { IfOk result (λ next. next ≤ length bytes.now + 16) }
 {
     let target = target_place(bytes, at);
@@ -110,7 +112,8 @@ fn push_status(
 ) -> Result<usize, NoMemory>
     requires at { at ≤ length bytes.now }
     requires short { length bytes.now < 2 ^ 32 }
-    ensures adds { IfOk result (λ next. Adds steps.old.items steps.new.items (status_line bytes.now at) (Some next)) }
+    ensures adds { IfOk result (λ next.
+        Adds steps.old.items steps.new.items (status_line bytes.now at) (Some next)) }
     ensures bound { IfOk result (λ next. next ≤ length bytes.now + 16) }
 {
     let text = version_at(alloc, bytes, at)?;
@@ -158,7 +161,8 @@ fn phrase_len(bytes: &[u8], at: usize) -> usize
 pub(crate) fn push_fields(steps: &mut Vec<Step>, bytes: &[u8], at: usize) -> Result<(), NoMemory>
     requires at { at ≤ length bytes.now + 16 }
     requires short { length bytes.now < 2 ^ 32 }
-    ensures { OnOk result (steps.new.items ≡ steps.old.items ++ (repeated field_limit_is (field_line bytes.now) at).steps) }
+    ensures { OnOk result (steps.new.items
+        ≡ steps.old.items ++ (repeated field_limit_is (field_line bytes.now) at).steps) }
 {
     push_lines(steps, bytes, field_limit(), at)
 }
@@ -167,7 +171,8 @@ pub(crate) fn push_fields(steps: &mut Vec<Step>, bytes: &[u8], at: usize) -> Res
 fn push_lines(steps: &mut Vec<Step>, bytes: &[u8], most: usize, at: usize) -> Result<(), NoMemory>
     requires at { at ≤ length bytes.now + 16 }
     requires short { length bytes.now < 2 ^ 32 }
-    ensures { OnOk result (steps.new.items ≡ steps.old.items ++ (repeated most (field_line bytes.now) at).steps) }
+    ensures { OnOk result (steps.new.items
+        ≡ steps.old.items ++ (repeated most (field_line bytes.now) at).steps) }
 {
     let mut place = at;
     for _field in 0..most {
@@ -215,7 +220,8 @@ fn push_rows(
 ) -> Result<(), NoMemory>
     requires place { place < 2 ^ 40 }
     requires short { length raw.now < 2 ^ 32 }
-    ensures { OnOk result (steps.new.items ≡ steps.old.items ++ field_rows at name.now place raw.now) }
+    ensures { OnOk result (steps.new.items
+        ≡ steps.old.items ++ field_rows at name.now place raw.now) }
 {
     let value = place + lead_of(raw);
     let len = value_len(raw);

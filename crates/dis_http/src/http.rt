@@ -63,7 +63,9 @@ fn read_chunked(
     requires buffers { length b.old.buffers + 1 < 2 ^ 32 }
     requires short { size_of_pieces pieces.now < 2 ^ 32 }
     requires fits { StepsFit HTTP steps.now }
-    ensures layer { IfOk result (λ _. b.new ≡ chunked_read b.old span steps.now (joined (bytes_of b.old.buffers span) pieces.now)) }
+    ensures layer { IfOk result (λ _.
+        b.new ≡ chunked_read b.old span steps.now
+        (joined (bytes_of b.old.buffers span) pieces.now)) }
     ensures some { OnOk result (0 < length b.new.layers) }
     ensures most { OnOk result (length b.new.layers ≤ length b.old.layers + 2) }
 {
@@ -123,7 +125,8 @@ fn push_layout(
 
 /// Adds the step of a body that is as it stands.
 fn push_body(steps: &mut Vec<Step>, shape: &Shape) -> Result<(), NoMemory>
-    ensures { OnOk result (steps.new.items ≡ steps.old.items ++ body_steps shape.now.head shape.now.body) }
+    ensures { OnOk result (steps.new.items
+        ≡ steps.old.items ++ body_steps shape.now.head shape.now.body) }
 {
     if let Body::Plain(len) = &shape.body {
         steps.push(Step::Part(ids::HTTP_FILE_DATA, shape.head, *len))?;

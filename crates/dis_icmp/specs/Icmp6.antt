@@ -66,8 +66,10 @@ abbrev pub icmp6_layout : List ℕ → List Step
 icmp6_layout bytes = icmp6_rows (is_neighbour (icmp6_type bytes)) (is_echo (icmp6_type bytes))
 
 abbrev pub next_of_message : ℕ → Next
-next_of_message number = if is_neighbour number then Neigh number else (if is_about_packet number then Ip6 else Rest)
+next_of_message number =
+    if is_neighbour number then Neigh number else (if is_about_packet number then Ip6 else Rest)
 
 unfoldable pub icmp6_after : Span → List ℕ → After
 icmp6_after span bytes =
-    carried (next_of_message (icmp6_type bytes)) span (header_size (is_neighbour (icmp6_type bytes)))
+    carried (next_of_message (icmp6_type bytes)) span
+    (header_size (is_neighbour (icmp6_type bytes)))

@@ -63,7 +63,9 @@ static OTHER_ROWS: [Slot; 4] = [
 pub fn read_icmp6(span: Span, cut: bool, mode: Mode, b: &mut TreeBuilder) -> Result<After, NoMemory>
     requires inside { IsInside b.old.buffers span }
     requires room { length b.old.layers + 2 < 2 ^ 32 }
-    ensures layer { IfOk result (λ _. b.new ≡ layer_read b.old ICMPV6 span (icmp6_layout (bytes_of b.old.buffers span)) mode cut) }
+    ensures layer { IfOk result (λ _.
+        b.new ≡ layer_read b.old ICMPV6 span
+        (icmp6_layout (bytes_of b.old.buffers span)) mode cut) }
     ensures after { IfOk result (λ after. after ≡ icmp6_after span (bytes_of b.old.buffers span)) }
     ensures inside { IfOk result (LeadsInside b.old.buffers) }
     ensures whole { IfOk result (λ after. after ≢ After.End → last_proto b.new.layers ≡ ICMPV6) }

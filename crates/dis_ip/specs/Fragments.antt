@@ -22,7 +22,8 @@ is_fragment head = head.more || nat_lt 0 head.offset
 -- packet's fragments aren't joined: the first is read on, and the others carry data
 unfoldable pub part_after : Mode → FragmentHead → Span → ℕ → After
 part_after Plain head span header =
-    if is_fragment head then afters.Fragment head (within span header (span.len - header)) else carried_by head.six head.next span header
+    if is_fragment head then afters.Fragment head (within span header (span.len - header))
+    else carried_by head.six head.next span header
 part_after Embedded head span header =
     if head.offset == 0 then carried_by head.six head.next span header else carried Rest span header
 

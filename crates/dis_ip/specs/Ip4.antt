@@ -130,4 +130,5 @@ ip4_carried mode packet layer bytes =
 
 unfoldable pub ip4_after : Mode → Bool → Span → List ℕ → After
 ip4_after mode cut span bytes =
-    if ip4_is_read span bytes then ip4_carried mode (ip4_packet cut span bytes) (ip4_span span bytes) bytes else End
+    if ip4_is_read span bytes
+    then ip4_carried mode (ip4_packet cut span bytes) (ip4_span span bytes) bytes else End

@@ -75,4 +75,6 @@ ip6_packet cut span bytes = record {
 
 unfoldable pub ip6_after : Bool → Span → List ℕ → After
 ip6_after cut span bytes =
-    if ip6_is_read span bytes then in_packet (ip6_packet cut span bytes) (carried_by true (ip6_next bytes) (ip6_span span bytes) 40) else End
+    if ip6_is_read span bytes
+    then in_packet (ip6_packet cut span bytes)
+    (carried_by true (ip6_next bytes) (ip6_span span bytes) 40) else End

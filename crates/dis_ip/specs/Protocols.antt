@@ -14,12 +14,18 @@ next_under_ip4 number = if number == 1 then Icmp else (if number == 2 then Igmp 
 -- and under IPv6 alone: 58 ICMPv6 (RFC 4443, 2.1), and the extension headers 0, 43, 44 and 60 (RFC 8200, 4)
 abbrev pub next_under_ip6 : ℕ → Next
 next_under_ip6 number =
-    if number == 58 then Icmp6 else (if number == 0 then HopOpts else (if number == 43 then Routing else (if number == 44 then FragHdr else (if number == 60 then DstOpts else Rest))))
+    if number == 58 then Icmp6
+    else (if number == 0 then HopOpts
+    else (if number == 43 then Routing
+    else (if number == 44 then FragHdr else (if number == 60 then DstOpts else Rest))))
 
 -- under both: 4 IPv4 (RFC 2003, 3.1), 41 IPv6 (RFC 2473, 3), 6 TCP (RFC 9293) and 17 UDP (RFC 768); `six` says which version
 unfoldable pub next_of_protocol : Bool → ℕ → Next
 next_of_protocol six number =
-    if number == 4 then Ip4 else (if number == 41 then Ip6 else (if number == 6 then Tcp else (if number == 17 then Udp else (if six then next_under_ip6 number else next_under_ip4 number))))
+    if number == 4 then Ip4 else (if number == 41 then Ip6
+    else (if number == 6 then Tcp
+    else (if number == 17 then Udp
+    else (if six then next_under_ip6 number else next_under_ip4 number))))
 
 -- 59 says that no header follows, and bytes behind it are passed over (RFC 8200, 4.7); so under IPv4 too
 abbrev pub ends_chain : ℕ → Bool

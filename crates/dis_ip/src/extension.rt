@@ -26,10 +26,14 @@ pub fn read_extension(
     requires which { IsTrue (is_extension which) }
     requires inside { IsInside b.old.buffers span }
     requires room { length b.old.layers + 2 < 2 ^ 32 }
-    ensures layer { IfOk result (λ _. b.new ≡ layer_read b.old (extension_proto which) span (extension_layout which (bytes_of b.old.buffers span)) mode cut) }
-    ensures after { IfOk result (λ after. after ≡ extension_after which packet.now mode span (bytes_of b.old.buffers span)) }
+    ensures layer { IfOk result (λ _.
+        b.new ≡ layer_read b.old (extension_proto which) span
+        (extension_layout which (bytes_of b.old.buffers span)) mode cut) }
+    ensures after { IfOk result (λ after.
+        after ≡ extension_after which packet.now mode span (bytes_of b.old.buffers span)) }
     ensures inside { IfOk result (LeadsInside b.old.buffers) }
-    ensures whole { IfOk result (λ after. after ≢ After.End → last_proto b.new.layers ≡ extension_proto which) }
+    ensures whole { IfOk result (λ after. after ≢ After.End
+        → last_proto b.new.layers ≡ extension_proto which) }
     ensures part { IfOk result (LastIsPart b.new.layers) }
     ensures buffers { b.new.buffers ≡ b.old.buffers }
     ensures some { OnOk result (0 < length b.new.layers) }

@@ -16,8 +16,10 @@ pub(crate) fn part_after(mode: Mode, head: FragmentHead, span: Span, header: u32
     requires end { span.start + span.len < 2 ^ 32 }
     requires header { header ≤ span.len }
     ensures after { result ≡ part_after mode head span header }
-    ensures inside { (buffers : List (List ℕ)) → IsInside buffers span → LeadsInside buffers result }
-    ensures part { (layers : List Layer) → last_proto layers ≡ part_proto head.six → LastIsPart layers result }
+    ensures inside { (buffers : List (List ℕ)) → IsInside buffers span
+        → LeadsInside buffers result }
+    ensures part { (layers : List Layer) → last_proto layers ≡ part_proto head.six
+        → LastIsPart layers result }
 {
     match mode {
         Mode::Plain if is_fragment(&head) => After::Fragment(head, behind(span, header)),

@@ -37,10 +37,13 @@ pub(crate) fn read_fragment_header(
 ) -> Result<After, NoMemory>
     requires inside { IsInside b.old.buffers span }
     requires room { length b.old.layers + 2 < 2 ^ 32 }
-    ensures layer { IfOk result (λ _. b.new ≡ layer_read b.old IPV6_FRAGHDR span fragment_layout mode cut) }
-    ensures after { IfOk result (λ after. after ≡ fragment_after mode packet.now span (bytes_of b.old.buffers span)) }
+    ensures layer { IfOk result (λ _.
+        b.new ≡ layer_read b.old IPV6_FRAGHDR span fragment_layout mode cut) }
+    ensures after { IfOk result (λ after.
+        after ≡ fragment_after mode packet.now span (bytes_of b.old.buffers span)) }
     ensures inside { IfOk result (LeadsInside b.old.buffers) }
-    ensures whole { IfOk result (λ after. after ≢ After.End → last_proto b.new.layers ≡ IPV6_FRAGHDR) }
+    ensures whole { IfOk result (λ after. after ≢ After.End
+        → last_proto b.new.layers ≡ IPV6_FRAGHDR) }
     ensures part { IfOk result (LastIsPart b.new.layers) }
     ensures buffers { b.new.buffers ≡ b.old.buffers }
     ensures some { OnOk result (0 < length b.new.layers) }

@@ -54,8 +54,11 @@ static SLOTS: [Slot; 22] = [
 pub fn read_ip4(span: Span, cut: bool, mode: Mode, b: &mut TreeBuilder) -> Result<After, NoMemory>
     requires inside { IsInside b.old.buffers span }
     requires room { length b.old.layers + 2 < 2 ^ 32 }
-    ensures layer { IfOk result (λ _. b.new ≡ layer_read b.old IP (ip4_span span (bytes_of b.old.buffers span)) (ip4_layout (bytes_of b.old.buffers span)) mode cut) }
-    ensures after { IfOk result (λ after. after ≡ ip4_after mode cut span (bytes_of b.old.buffers span)) }
+    ensures layer { IfOk result (λ _.
+        b.new ≡ layer_read b.old IP (ip4_span span (bytes_of b.old.buffers span))
+        (ip4_layout (bytes_of b.old.buffers span)) mode cut) }
+    ensures after { IfOk result (λ after.
+        after ≡ ip4_after mode cut span (bytes_of b.old.buffers span)) }
     ensures inside { IfOk result (LeadsInside b.old.buffers) }
     ensures whole { IfOk result (λ after. after ≢ After.End → last_proto b.new.layers ≡ IP) }
     ensures part { IfOk result (LastIsPart b.new.layers) }

@@ -40,8 +40,11 @@ static SLOTS: [Slot; 11] = [
 pub fn read_ip6(span: Span, cut: bool, mode: Mode, b: &mut TreeBuilder) -> Result<After, NoMemory>
     requires inside { IsInside b.old.buffers span }
     requires room { length b.old.layers + 2 < 2 ^ 32 }
-    ensures layer { IfOk result (λ _. b.new ≡ layer_read b.old IPV6 (ip6_span span (bytes_of b.old.buffers span)) (ip6_layout (bytes_of b.old.buffers span)) mode cut) }
-    ensures after { IfOk result (λ after. after ≡ ip6_after cut span (bytes_of b.old.buffers span)) }
+    ensures layer { IfOk result (λ _.
+        b.new ≡ layer_read b.old IPV6 (ip6_span span (bytes_of b.old.buffers span))
+        (ip6_layout (bytes_of b.old.buffers span)) mode cut) }
+    ensures after { IfOk result (λ after.
+        after ≡ ip6_after cut span (bytes_of b.old.buffers span)) }
     ensures inside { IfOk result (LeadsInside b.old.buffers) }
     ensures whole { IfOk result (λ after. after ≢ After.End → last_proto b.new.layers ≡ IPV6) }
     ensures part { IfOk result (LastIsPart b.new.layers) }
@@ -88,7 +91,8 @@ fn is_read(span: Span, bytes: &[u8], six: bool) -> bool
     requires bytes { length bytes.now ≡ span.len }
     requires six { six ≡ (ip6_version bytes.now == 6) }
     ensures read { result ≡ ip6_is_read span bytes.now }
-    ensures whole { IsTrue result → reach (ip6_span span bytes.now).len (ip6_layout bytes.now) ≡ Reach.All }
+    ensures whole { IsTrue result
+        → reach (ip6_span span bytes.now).len (ip6_layout bytes.now) ≡ Reach.All }
     ensures header { IsTrue result → 40 ≤ length bytes.now }
 {
     bytes.len() >= HEADER as usize && six

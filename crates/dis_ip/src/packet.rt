@@ -33,7 +33,8 @@ pub(crate) fn is_whole(cut: bool, span: Span, size: Option<u32>) -> bool
 /// What follows in a packet, with what its IP header says of it.
 pub(crate) fn in_packet(packet: PacketHead, after: After) -> After
     ensures after { result ≡ in_packet packet after }
-    ensures inside { (buffers : List (List ℕ)) → LeadsInside buffers after → LeadsInside buffers result }
+    ensures inside { (buffers : List (List ℕ)) → LeadsInside buffers after
+        → LeadsInside buffers result }
     ensures part { (layers : List Layer) → LastIsPart layers after → LastIsPart layers result }
 {
     match after {

@@ -38,7 +38,8 @@ const DESTINATION_OPTIONS: u8 = 60;
 pub fn carried_by(six: bool, number: u8, span: Span, header: u32) -> After
     requires end { span.start + span.len < 2 ^ 32 }
     ensures after { result ≡ carried_by six number span header }
-    ensures inside { (buffers : List (List ℕ)) → IsInside buffers span → LeadsInside buffers result }
+    ensures inside { (buffers : List (List ℕ)) → IsInside buffers span
+        → LeadsInside buffers result }
     ensures part { (layers : List Layer) → LastIsPart layers result }
 {
     if number == NO_NEXT_HEADER {

@@ -33,10 +33,13 @@ pub(crate) fn read_routing(
 ) -> Result<After, NoMemory>
     requires inside { IsInside b.old.buffers span }
     requires room { length b.old.layers + 2 < 2 ^ 32 }
-    ensures layer { IfOk result (λ _. b.new ≡ layer_read b.old IPV6_ROUTING span (routing_layout (bytes_of b.old.buffers span)) mode cut) }
+    ensures layer { IfOk result (λ _.
+        b.new ≡ layer_read b.old IPV6_ROUTING span
+        (routing_layout (bytes_of b.old.buffers span)) mode cut) }
     ensures after { IfOk result (λ after. after ≡ sized_after span (bytes_of b.old.buffers span)) }
     ensures inside { IfOk result (LeadsInside b.old.buffers) }
-    ensures whole { IfOk result (λ after. after ≢ After.End → last_proto b.new.layers ≡ IPV6_ROUTING) }
+    ensures whole { IfOk result (λ after. after ≢ After.End
+        → last_proto b.new.layers ≡ IPV6_ROUTING) }
     ensures part { IfOk result (LastIsPart b.new.layers) }
     ensures buffers { b.new.buffers ≡ b.old.buffers }
     ensures some { OnOk result (0 < length b.new.layers) }

@@ -23,7 +23,8 @@ proto_size bytes = peeked bytes 40 8
 -- Ethernet addresses of 6 bytes for IPv4 addresses of 4
 unfoldable pub is_ip_over_ether : List ℕ → Bool
 is_ip_over_ether bytes =
-    peeked bytes 0 16 == 1 && hw_size bytes == 6 && peeked bytes 16 16 == 2048 && proto_size bytes == 4
+    peeked bytes 0 16 == 1 && hw_size bytes == 6 && peeked bytes 16 16 == 2048
+    && proto_size bytes == 4
 
 -- an address as a row of its own kind where its form is known, else as so many bytes
 abbrev pub address : Bool → ℕ → ℕ → ℕ → ℕ → Step
@@ -37,9 +38,12 @@ arp_layout bytes =
     Row ARP_PROTO_SIZE 5 ∷
     Row ARP_OPCODE 6 ∷
     address (is_ip_over_ether bytes) ARP_SRC_HW_MAC ARP_SRC_HW 8 (hw_size bytes) ∷
-    address (is_ip_over_ether bytes) ARP_SRC_PROTO_IPV4 ARP_SRC_PROTO (8 + hw_size bytes) (proto_size bytes) ∷
-    address (is_ip_over_ether bytes) ARP_DST_HW_MAC ARP_DST_HW (8 + hw_size bytes + proto_size bytes) (hw_size bytes) ∷
-    address (is_ip_over_ether bytes) ARP_DST_PROTO_IPV4 ARP_DST_PROTO (8 + hw_size bytes + proto_size bytes + hw_size bytes) (proto_size bytes) ∷
+    address (is_ip_over_ether bytes) ARP_SRC_PROTO_IPV4 ARP_SRC_PROTO (8 + hw_size bytes)
+    (proto_size bytes) ∷
+    address (is_ip_over_ether bytes) ARP_DST_HW_MAC ARP_DST_HW
+    (8 + hw_size bytes + proto_size bytes) (hw_size bytes) ∷
+    address (is_ip_over_ether bytes) ARP_DST_PROTO_IPV4 ARP_DST_PROTO
+    (8 + hw_size bytes + proto_size bytes + hw_size bytes) (proto_size bytes) ∷
     []
 
 -- the sizes of a hardware address and of a protocol address, and where the addresses behind the first begin

@@ -21,4 +21,6 @@ is_tag number = number == 33024 || number == 34984
 -- the protocol of a type: IPv4 is 0x0800 and ARP 0x0806 (RFC 894, RFC 826), IPv6 0x86DD (RFC 2464, 3)
 abbrev pub next_of_type : ℕ → Next
 next_of_type number =
-    if number == 2048 then Ip4 else (if number == 2054 then Arp else (if number == 34525 then Ip6 else (if is_tag number then Vlan else Rest)))
+    if number == 2048 then Ip4
+    else (if number == 2054 then Arp
+    else (if number == 34525 then Ip6 else (if is_tag number then Vlan else Rest)))

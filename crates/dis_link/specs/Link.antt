@@ -19,20 +19,29 @@ use Rattle.dis_link.specs.Null.{null_layout, null_after}
 -- LINKTYPE_NULL, LINKTYPE_ETHERNET, LINKTYPE_RAW, LINKTYPE_LINUX_SLL and LINKTYPE_LINUX_SLL2
 abbrev pub link_of : ℕ → Link
 link_of number =
-    if number == 0 then Null else (if number == 1 then Ethernet else (if number == 101 then Raw else (if number == 113 then LinuxCooked else (if number == 276 then LinuxCooked2 else Unknown))))
+    if number == 0 then Null
+    else (if number == 1 then Ethernet
+    else (if number == 101 then Raw
+    else (if number == 113 then LinuxCooked
+    else (if number == 276 then LinuxCooked2 else Unknown))))
 
 -- an IP header begins with its version (RFC 791, 3.1; RFC 8200, 3)
 abbrev pub next_of_version : ℕ → Next
-next_of_version version = if version == 4 then nexts.Ip4 else (if version == 6 then nexts.Ip6 else nexts.Rest)
+next_of_version version =
+    if version == 4 then nexts.Ip4 else (if version == 6 then nexts.Ip6 else nexts.Rest)
 
 -- the tree with the header's layer; raw IP and unknown link types have none
 unfoldable pub link_read : Link → Bool → TreeShown → Span → Bool → TreeShown
-link_read Null little t span cut = layer_read t NULL span (null_layout little (bytes_of t.buffers span)) Plain cut
+link_read Null little t span cut =
+    layer_read t NULL span (null_layout little (bytes_of t.buffers span)) Plain cut
 link_read Ethernet little t span cut =
-    layer_read t ETH (eth_span span (bytes_of t.buffers span)) (eth_layout (bytes_of t.buffers span)) Plain cut
+    layer_read t ETH (eth_span span (bytes_of t.buffers span))
+    (eth_layout (bytes_of t.buffers span)) Plain cut
 link_read Raw little t span cut = t
-link_read LinuxCooked little t span cut = layer_read t SLL span (sll_layout (bytes_of t.buffers span)) Plain cut
-link_read LinuxCooked2 little t span cut = layer_read t SLL2 span (sll2_layout (bytes_of t.buffers span)) Plain cut
+link_read LinuxCooked little t span cut =
+    layer_read t SLL span (sll_layout (bytes_of t.buffers span)) Plain cut
+link_read LinuxCooked2 little t span cut =
+    layer_read t SLL2 span (sll2_layout (bytes_of t.buffers span)) Plain cut
 link_read Unknown little t span cut = t
 
 -- what follows it

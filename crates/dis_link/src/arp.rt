@@ -63,7 +63,8 @@ static OTHER: [Slot; 9] = [
 pub fn read_arp(span: Span, cut: bool, mode: Mode, b: &mut TreeBuilder) -> Result<After, NoMemory>
     requires inside { IsInside b.old.buffers span }
     requires room { length b.old.layers + 2 < 2 ^ 32 }
-    ensures layer { IfOk result (λ _. b.new ≡ layer_read b.old ARP span (arp_layout (bytes_of b.old.buffers span)) mode cut) }
+    ensures layer { IfOk result (λ _.
+        b.new ≡ layer_read b.old ARP span (arp_layout (bytes_of b.old.buffers span)) mode cut) }
     ensures after { IfOk result (λ after. after ≡ After.End) }
     ensures buffers { b.new.buffers ≡ b.old.buffers }
     ensures most { OnOk result (length b.new.layers ≤ length b.old.layers + 2) }

@@ -38,7 +38,9 @@ static SIZED: [Slot; 5] = [
 pub(crate) fn read_ethernet(span: Span, cut: bool, b: &mut TreeBuilder) -> Result<After, NoMemory>
     requires inside { IsInside b.old.buffers span }
     requires room { length b.old.layers + 2 < 2 ^ 32 }
-    ensures layer { IfOk result (λ _. b.new ≡ layer_read b.old ETH (eth_span span (bytes_of b.old.buffers span)) (eth_layout (bytes_of b.old.buffers span)) Plain cut) }
+    ensures layer { IfOk result (λ _.
+        b.new ≡ layer_read b.old ETH (eth_span span (bytes_of b.old.buffers span))
+        (eth_layout (bytes_of b.old.buffers span)) Plain cut) }
     ensures after { IfOk result (λ after. after ≡ eth_after span (bytes_of b.old.buffers span)) }
     ensures inside { IfOk result (LeadsInside b.old.buffers) }
     ensures whole { IfOk result (λ after. after ≢ After.End → last_proto b.new.layers ≡ ETH) }

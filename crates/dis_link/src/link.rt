@@ -46,9 +46,11 @@ pub fn read_link(
     requires inside { IsInside b.old.buffers span }
     requires room { length b.old.layers + 2 < 2 ^ 32 }
     ensures tree { IfOk result (λ _. b.new ≡ link_read (link_of link) little b.old span cut) }
-    ensures after { IfOk result (λ after. after ≡ link_after (link_of link) little span (bytes_of b.old.buffers span)) }
+    ensures after { IfOk result (λ after.
+        after ≡ link_after (link_of link) little span (bytes_of b.old.buffers span)) }
     ensures inside { IfOk result (LeadsInside b.old.buffers) }
-    ensures whole { IfOk result (λ after. after ≢ After.End → last_proto b.new.layers ≡ last_behind (link_of link) (last_proto b.old.layers)) }
+    ensures whole { IfOk result (λ after. after ≢ After.End
+        → last_proto b.new.layers ≡ last_behind (link_of link) (last_proto b.old.layers)) }
     ensures buffers { b.new.buffers ≡ b.old.buffers }
     ensures most { OnOk result (length b.new.layers ≤ length b.old.layers + 2) }
 {

@@ -43,7 +43,8 @@ static ROWS_2: [Slot; 7] = [
 pub(crate) fn read_sll(span: Span, cut: bool, b: &mut TreeBuilder) -> Result<After, NoMemory>
     requires inside { IsInside b.old.buffers span }
     requires room { length b.old.layers + 2 < 2 ^ 32 }
-    ensures layer { IfOk result (λ _. b.new ≡ layer_read b.old SLL span (sll_layout (bytes_of b.old.buffers span)) Plain cut) }
+    ensures layer { IfOk result (λ _.
+        b.new ≡ layer_read b.old SLL span (sll_layout (bytes_of b.old.buffers span)) Plain cut) }
     ensures after { IfOk result (λ after. after ≡ sll_after span (bytes_of b.old.buffers span)) }
     ensures inside { IfOk result (LeadsInside b.old.buffers) }
     ensures whole { IfOk result (λ after. after ≢ After.End → last_proto b.new.layers ≡ SLL) }
@@ -77,7 +78,8 @@ fn sll_slots() -> &'static [Slot]
 pub(crate) fn read_sll2(span: Span, cut: bool, b: &mut TreeBuilder) -> Result<After, NoMemory>
     requires inside { IsInside b.old.buffers span }
     requires room { length b.old.layers + 2 < 2 ^ 32 }
-    ensures layer { IfOk result (λ _. b.new ≡ layer_read b.old SLL2 span (sll2_layout (bytes_of b.old.buffers span)) Plain cut) }
+    ensures layer { IfOk result (λ _.
+        b.new ≡ layer_read b.old SLL2 span (sll2_layout (bytes_of b.old.buffers span)) Plain cut) }
     ensures after { IfOk result (λ after. after ≡ sll2_after span (bytes_of b.old.buffers span)) }
     ensures inside { IfOk result (LeadsInside b.old.buffers) }
     ensures whole { IfOk result (λ after. after ≢ After.End → last_proto b.new.layers ≡ SLL2) }

@@ -35,8 +35,11 @@ pub(crate) fn read_null(
 ) -> Result<After, NoMemory>
     requires inside { IsInside b.old.buffers span }
     requires room { length b.old.layers + 2 < 2 ^ 32 }
-    ensures layer { IfOk result (λ _. b.new ≡ layer_read b.old NULL span (null_layout little (bytes_of b.old.buffers span)) Plain cut) }
-    ensures after { IfOk result (λ after. after ≡ null_after little span (bytes_of b.old.buffers span)) }
+    ensures layer { IfOk result (λ _.
+        b.new ≡ layer_read b.old NULL span
+        (null_layout little (bytes_of b.old.buffers span)) Plain cut) }
+    ensures after { IfOk result (λ after.
+        after ≡ null_after little span (bytes_of b.old.buffers span)) }
     ensures inside { IfOk result (LeadsInside b.old.buffers) }
     ensures whole { IfOk result (λ after. after ≢ After.End → last_proto b.new.layers ≡ NULL) }
     ensures buffers { b.new.buffers ≡ b.old.buffers }

@@ -35,7 +35,9 @@ static SIZED: [Slot; 4] = [
 pub fn read_vlan(span: Span, cut: bool, mode: Mode, b: &mut TreeBuilder) -> Result<After, NoMemory>
     requires inside { IsInside b.old.buffers span }
     requires room { length b.old.layers + 2 < 2 ^ 32 }
-    ensures layer { IfOk result (λ _. b.new ≡ layer_read b.old VLAN (vlan_span span (bytes_of b.old.buffers span)) (vlan_layout (bytes_of b.old.buffers span)) mode cut) }
+    ensures layer { IfOk result (λ _.
+        b.new ≡ layer_read b.old VLAN (vlan_span span (bytes_of b.old.buffers span))
+        (vlan_layout (bytes_of b.old.buffers span)) mode cut) }
     ensures after { IfOk result (λ after. after ≡ vlan_after span (bytes_of b.old.buffers span)) }
     ensures inside { IfOk result (LeadsInside b.old.buffers) }
     ensures whole { IfOk result (λ after. after ≢ After.End → last_proto b.new.layers ≡ VLAN) }

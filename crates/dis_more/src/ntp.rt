@@ -54,7 +54,8 @@ static FLAG_ROWS: [Slot; 3] = [
 pub fn read_ntp(span: Span, cut: bool, b: &mut TreeBuilder) -> Result<After, NoMemory>
     requires inside { IsInside b.old.buffers span }
     requires room { length b.old.layers + 2 < 2 ^ 32 }
-    ensures layer { IfOk result (λ _. b.new ≡ layer_read b.old NTP span (ntp_layout (bytes_of b.old.buffers span)) Plain cut) }
+    ensures layer { IfOk result (λ _.
+        b.new ≡ layer_read b.old NTP span (ntp_layout (bytes_of b.old.buffers span)) Plain cut) }
     ensures after { IfOk result (λ after. after ≡ ntp_after span (bytes_of b.old.buffers span)) }
     ensures inside { IfOk result (LeadsInside b.old.buffers) }
     ensures whole { IfOk result (λ after. after ≢ After.End → last_proto b.new.layers ≡ NTP) }

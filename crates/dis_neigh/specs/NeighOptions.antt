@@ -53,7 +53,8 @@ option_data kind len at =
 unfoldable pub option_with_length : ℕ → ℕ → ℕ → Entry
 option_with_length kind len at =
     if len == 0 then ends (Row ND_OPT_TYPE at ∷ Row ND_OPT_LEN (at + 1) ∷ Check false ∷ [])
-    else goes_on (Row ND_OPT_TYPE at ∷ Row ND_OPT_LEN (at + 1) ∷ Part ND_OPT_VALUE (at + 2) (8 * len - 2) ∷ option_data kind len at) (at + 8 * len)
+    else goes_on (Row ND_OPT_TYPE at ∷ Row ND_OPT_LEN (at + 1)
+    ∷ Part ND_OPT_VALUE (at + 2) (8 * len - 2) ∷ option_data kind len at) (at + 8 * len)
 
 -- the option at a place in a message; a length byte that isn't there is a row that doesn't fit, and counts as 0
 unfoldable pub option_at : List ℕ → ℕ → Entry

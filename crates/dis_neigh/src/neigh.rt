@@ -35,7 +35,9 @@ pub fn read_neigh(
 ) -> Result<After, NoMemory>
     requires inside { IsInside b.old.buffers span }
     requires room { length b.old.layers + 2 < 2 ^ 32 }
-    ensures layer { IfOk result (λ _. b.new ≡ layer_read b.old ND span (neigh_layout kind (bytes_of b.old.buffers span)) mode cut) }
+    ensures layer { IfOk result (λ _.
+        b.new ≡ layer_read b.old ND span
+        (neigh_layout kind (bytes_of b.old.buffers span)) mode cut) }
     ensures after { IfOk result (λ after. after ≡ After.End) }
     ensures options { AllOptions }
     ensures buffers { b.new.buffers ≡ b.old.buffers }

@@ -26,7 +26,8 @@ pub(crate) fn push_options(
     bytes: &[u8],
     start: usize,
 ) -> Result<(), NoMemory>
-    ensures { OnOk result (steps.new.items ≡ steps.old.items ++ (neigh_options bytes.now start).steps) }
+    ensures { OnOk result (steps.new.items
+        ≡ steps.old.items ++ (neigh_options bytes.now start).steps) }
 {
     let mut at = start;
     for _option in 0..bytes.len() {

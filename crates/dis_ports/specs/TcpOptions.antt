@@ -32,7 +32,8 @@ use Rattle.pk_tree.specs.Entries.{Entry, ReadsTo, goes_on, ends, repeated}
 
 -- a block of a SACK option
 abbrev pub sack_block : ℕ → Entry
-sack_block at = goes_on (Row TCP_OPTIONS_SACK_LE at ∷ Row TCP_OPTIONS_SACK_RE (at + 4) ∷ []) (at + 8)
+sack_block at =
+    goes_on (Row TCP_OPTIONS_SACK_LE at ∷ Row TCP_OPTIONS_SACK_RE (at + 4) ∷ []) (at + 8)
 
 -- the rows of an option's data by its kind and its length, at its first byte; of other kinds, and of another length than
 -- the kind's, there are none
@@ -42,7 +43,9 @@ option_data kind len at =
     else (if kind == 3 && len == 3 then Row TCP_OPTIONS_WSCALE_SHIFT (at + 2) ∷ []
     else (if kind == 4 && len == 2 then Part TCP_OPTIONS_SACK_PERM at 2 ∷ []
     else (if kind == 5 && len % 8 == 2 then (repeated (len / 8) sack_block (at + 2)).steps
-    else (if kind == 8 && len == 10 then Row TCP_OPTIONS_TIMESTAMP_TSVAL (at + 2) ∷ Row TCP_OPTIONS_TIMESTAMP_TSECR (at + 6) ∷ []
+    else (if kind == 8 && len == 10
+    then Row TCP_OPTIONS_TIMESTAMP_TSVAL (at + 2) ∷ Row TCP_OPTIONS_TIMESTAMP_TSECR (at + 6)
+    ∷ []
     else []))))
 
 -- an option that has a length; one that is too short for its two first bytes, or longer than what is left of the header,
@@ -50,7 +53,8 @@ option_data kind len at =
 unfoldable pub option_with_length : ℕ → ℕ → ℕ → ℕ → Entry
 option_with_length kind len at end =
     if nat_le 2 len && nat_le len (end - at)
-    then goes_on (Row TCP_OPTION_KIND at ∷ Row TCP_OPTION_LEN (at + 1) ∷ option_data kind len at) (at + len)
+    then goes_on (Row TCP_OPTION_KIND at ∷ Row TCP_OPTION_LEN (at + 1) ∷ option_data kind len at)
+    (at + len)
     else ends (Part TCP_OPTIONS_BAD at (end - at) ∷ [])
 
 -- the option at a place in a header; a length byte that isn't there counts as 0
@@ -59,7 +63,8 @@ option_at header at =
     if nat_le (length header) at then ends []
     else (if slice_index header at == 0 then ends (Row TCP_OPTION_KIND at ∷ [])
     else (if slice_index header at == 1 then goes_on (Row TCP_OPTION_KIND at ∷ []) (at + 1)
-    else option_with_length (slice_index header at) (slice_index header (at + 1)) at (length header)))
+    else option_with_length (slice_index header at) (slice_index header (at + 1)) at
+    (length header)))
 
 -- a header has at most 60 bytes, and so at most 40 options: these are all of them (AllOptions)
 unfoldable pub tcp_options : List ℕ → Entry

@@ -58,4 +58,5 @@ udp_carries Failed mode ports span = afters.End
 
 unfoldable pub udp_after : Mode → Span → List ℕ → After
 udp_after mode span bytes =
-    udp_carries (reach (udp_span span bytes).len (udp_layout bytes)) mode (udp_ports bytes) (udp_span span bytes)
+    udp_carries (reach (udp_span span bytes).len (udp_layout bytes)) mode (udp_ports bytes)
+    (udp_span span bytes)

@@ -29,8 +29,10 @@ const BEHIND_DATA_OFFSET: u32 = 13;
 pub fn read_tcp(span: Span, cut: bool, mode: Mode, b: &mut TreeBuilder) -> Result<After, NoMemory>
     requires inside { IsInside b.old.buffers span }
     requires room { length b.old.layers + 2 < 2 ^ 32 }
-    ensures layer { IfOk result (λ _. b.new ≡ layer_read b.old TCP span (tcp_layout (bytes_of b.old.buffers span)) mode cut) }
-    ensures after { IfOk result (λ after. after ≡ tcp_after mode span (bytes_of b.old.buffers span)) }
+    ensures layer { IfOk result (λ _.
+        b.new ≡ layer_read b.old TCP span (tcp_layout (bytes_of b.old.buffers span)) mode cut) }
+    ensures after { IfOk result (λ after.
+        after ≡ tcp_after mode span (bytes_of b.old.buffers span)) }
     ensures options { AllOptions }
     ensures inside { IfOk result (LeadsInside b.old.buffers) }
     ensures whole { IfOk result (λ after. after ≢ After.End → last_proto b.new.layers ≡ TCP) }
@@ -59,7 +61,8 @@ fn read_header(
     requires room { length b.old.layers + 2 < 2 ^ 32 }
     requires header { header ≡ header_len (bytes_of b.old.buffers span) }
     requires most { header ≤ 60 }
-    ensures layer { IfOk result (λ _. b.new ≡ layer_read b.old TCP span (tcp_layout (bytes_of b.old.buffers span)) mode cut) }
+    ensures layer { IfOk result (λ _.
+        b.new ≡ layer_read b.old TCP span (tcp_layout (bytes_of b.old.buffers span)) mode cut) }
     ensures why { IfOk result (λ r. r ≡ reach span.len (tcp_layout (bytes_of b.old.buffers span))) }
     ensures header { IfOk result (λ r. r ≡ Reach.All → header ≤ span.len) }
     ensures last { IfOk result (λ r. r ≡ Reach.All → last_proto b.new.layers ≡ TCP) }
@@ -94,8 +97,10 @@ fn read_rows(
     requires inside { IsInside b.old.buffers span }
     requires room { length b.old.layers + 2 < 2 ^ 32 }
     requires more { StepsFit TCP more.now }
-    ensures layer { OnOk result ((bytes : List ℕ) → header ≡ header_len bytes → b.new ≡ layer_read b.old TCP span (tcp_rows bytes ++ more.now) mode cut) }
-    ensures last { OnOk result ((bytes : List ℕ) → header ≡ header_len bytes → reach span.len (tcp_rows bytes ++ more.now) ≡ Reach.All → last_proto b.new.layers ≡ TCP) }
+    ensures layer { OnOk result ((bytes : List ℕ) → header ≡ header_len bytes
+        → b.new ≡ layer_read b.old TCP span (tcp_rows bytes ++ more.now) mode cut) }
+    ensures last { OnOk result ((bytes : List ℕ) → header ≡ header_len bytes
+        → reach span.len (tcp_rows bytes ++ more.now) ≡ Reach.All → last_proto b.new.layers ≡ TCP) }
     ensures buffers { b.new.buffers ≡ b.old.buffers }
     ensures some { OnOk result (0 < length b.new.layers) }
     ensures most { OnOk result (length b.new.layers ≤ length b.old.layers + 2) }
@@ -156,8 +161,11 @@ static SLOTS: [Slot; 21] = [
 
 #[tactic(auto, unfolding(crate::specs::Tcp::tcp_rows, pk_tree::specs::Tables::steps_of, pk_tree::specs::Layouts::StepsFit, pk_fields::specs::Fields::row_of, pk_fields::specs::Table::rows))]
 fn tcp_slots() -> &'static [Slot]
-    ensures fits { (holds : List Truth) (sizes : List ℕ) → StepsFit TCP (steps_of holds sizes result.now) }
-    ensures rows { (bytes : List ℕ) → steps_of (nat_le 20 (header_len bytes) ∷ []) ((header_len bytes - 20) ∷ []) result.now ≡ tcp_rows bytes }
+    ensures fits { (holds : List Truth) (sizes : List ℕ)
+        → StepsFit TCP (steps_of holds sizes result.now) }
+    ensures rows { (bytes : List ℕ)
+        → steps_of (nat_le 20 (header_len bytes) ∷ []) ((header_len bytes - 20) ∷ []) result.now
+        ≡ tcp_rows bytes }
 {
     &SLOTS
 }
@@ -165,7 +173,8 @@ fn tcp_slots() -> &'static [Slot]
 /// How far the rows of a header of so many bytes are read in a layer of so many.
 #[tactic(auto, unfolding(crate::specs::Tcp::tcp_rows, pk_tree::specs::Layouts::reach, pk_tree::specs::Layouts::step_reach, pk_fields::specs::Fields::row_of, pk_fields::specs::Table::rows))]
 fn rows_reach(len: u32, header: u32) -> Reach
-    ensures reach { (bytes : List ℕ) → header ≡ header_len bytes → result ≡ reach len (tcp_rows bytes) }
+    ensures reach { (bytes : List ℕ) → header ≡ header_len bytes
+        → result ≡ reach len (tcp_rows bytes) }
     ensures header { result ≡ Reach.All → header ≤ len }
 {
     if len < BEHIND_DATA_OFFSET {
@@ -228,7 +237,8 @@ fn tcp_carries(reach: Reach, mode: Mode, head: TcpHead, header: u32, span: Span)
     requires header { reach ≡ Reach.All → header ≤ span.len }
     requires end { span.start + span.len < 2 ^ 32 }
     ensures after { result ≡ tcp_carries reach mode head header span }
-    ensures inside { (buffers : List (List ℕ)) → IsInside buffers span → LeadsInside buffers result }
+    ensures inside { (buffers : List (List ℕ)) → IsInside buffers span
+        → LeadsInside buffers result }
     ensures whole { result ≢ After.End → reach ≡ Reach.All }
 {
     match reach {

@@ -90,7 +90,8 @@ fn push_with_length(
 ) -> Result<Option<usize>, NoMemory>
     requires at { at < end }
     requires end { end < 2 ^ 63 }
-    ensures { IfOk result (Adds steps.old.items steps.new.items (option_with_length kind len at end)) }
+    ensures { IfOk result (Adds steps.old.items steps.new.items
+        (option_with_length kind len at end)) }
 {
     let left = end - at;
     if len < HEAD || left < len {
@@ -126,7 +127,8 @@ fn push_data(steps: &mut Vec<Step>, kind: u8, len: usize, at: usize) -> Result<(
 /// Adds the steps of so many blocks of a SACK option.
 fn push_blocks(steps: &mut Vec<Step>, count: usize, at: usize) -> Result<(), NoMemory>
     requires { at + 8 * count < 2 ^ 63 }
-    ensures { OnOk result (steps.new.items ≡ steps.old.items ++ (repeated count sack_block at).steps) }
+    ensures { OnOk result (steps.new.items
+        ≡ steps.old.items ++ (repeated count sack_block at).steps) }
 {
     let mut place = at;
     for _block in 0..count {

@@ -24,8 +24,11 @@ const HEADER: u32 = 8;
 pub fn read_udp(span: Span, cut: bool, mode: Mode, b: &mut TreeBuilder) -> Result<After, NoMemory>
     requires inside { IsInside b.old.buffers span }
     requires room { length b.old.layers + 2 < 2 ^ 32 }
-    ensures layer { IfOk result (λ _. b.new ≡ layer_read b.old UDP (udp_span span (bytes_of b.old.buffers span)) (udp_layout (bytes_of b.old.buffers span)) mode cut) }
-    ensures after { IfOk result (λ after. after ≡ udp_after mode span (bytes_of b.old.buffers span)) }
+    ensures layer { IfOk result (λ _.
+        b.new ≡ layer_read b.old UDP (udp_span span (bytes_of b.old.buffers span))
+        (udp_layout (bytes_of b.old.buffers span)) mode cut) }
+    ensures after { IfOk result (λ after.
+        after ≡ udp_after mode span (bytes_of b.old.buffers span)) }
     ensures inside { IfOk result (LeadsInside b.old.buffers) }
     ensures whole { IfOk result (λ after. after ≢ After.End → last_proto b.new.layers ≡ UDP) }
     ensures buffers { b.new.buffers ≡ b.old.buffers }
@@ -52,10 +55,13 @@ fn read_rows(
 ) -> Result<Reach, NoMemory>
     requires inside { IsInside b.old.buffers span }
     requires room { length b.old.layers + 2 < 2 ^ 32 }
-    ensures layer { OnOk result ((bytes : List ℕ) → sound ≡ is_udp_length (udp_length bytes) → b.new ≡ layer_read b.old UDP span (udp_layout bytes) mode cut) }
-    ensures why { IfOk result (λ r. (bytes : List ℕ) → sound ≡ is_udp_length (udp_length bytes) → r ≡ reach span.len (udp_layout bytes)) }
+    ensures layer { OnOk result ((bytes : List ℕ) → sound ≡ is_udp_length (udp_length bytes)
+        → b.new ≡ layer_read b.old UDP span (udp_layout bytes) mode cut) }
+    ensures why { IfOk result (λ r. (bytes : List ℕ) → sound ≡ is_udp_length (udp_length bytes)
+        → r ≡ reach span.len (udp_layout bytes)) }
     ensures header { IfOk result (λ r. r ≡ Reach.All → 8 ≤ span.len) }
-    ensures last { IfOk result (λ r. (bytes : List ℕ) → sound ≡ is_udp_length (udp_length bytes) → r ≡ Reach.All → last_proto b.new.layers ≡ UDP) }
+    ensures last { IfOk result (λ r. (bytes : List ℕ) → sound ≡ is_udp_length (udp_length bytes)
+        → r ≡ Reach.All → last_proto b.new.layers ≡ UDP) }
     ensures buffers { b.new.buffers ≡ b.old.buffers }
     ensures some { OnOk result (0 < length b.new.layers) }
     ensures most { OnOk result (length b.new.layers ≤ length b.old.layers + 2) }
@@ -92,8 +98,10 @@ static SLOTS: [Slot; 7] = [
 
 #[tactic(auto, unfolding(crate::specs::Udp::udp_layout, pk_tree::specs::Tables::steps_of, pk_tree::specs::Layouts::StepsFit, pk_fields::specs::Fields::row_of, pk_fields::specs::Table::rows))]
 fn udp_slots() -> &'static [Slot]
-    ensures fits { (holds : List Truth) (sizes : List ℕ) → StepsFit UDP (steps_of holds sizes result.now) }
-    ensures layout { (bytes : List ℕ) → steps_of (is_udp_length (udp_length bytes) ∷ []) [] result.now ≡ udp_layout bytes }
+    ensures fits { (holds : List Truth) (sizes : List ℕ)
+        → StepsFit UDP (steps_of holds sizes result.now) }
+    ensures layout { (bytes : List ℕ)
+        → steps_of (is_udp_length (udp_length bytes) ∷ []) [] result.now ≡ udp_layout bytes }
 {
     &SLOTS
 }
@@ -101,7 +109,8 @@ fn udp_slots() -> &'static [Slot]
 /// How far the rows are read in a layer of so many bytes.
 #[tactic(auto, unfolding(crate::specs::Udp::udp_layout, pk_tree::specs::Layouts::reach, pk_tree::specs::Layouts::step_reach, pk_fields::specs::Fields::row_of, pk_fields::specs::Table::rows))]
 fn rows_reach(len: u32, sound: bool) -> Reach
-    ensures reach { (bytes : List ℕ) → sound ≡ is_udp_length (udp_length bytes) → result ≡ reach len (udp_layout bytes) }
+    ensures reach { (bytes : List ℕ) → sound ≡ is_udp_length (udp_length bytes)
+        → result ≡ reach len (udp_layout bytes) }
     ensures header { result ≡ Reach.All → 8 ≤ len }
 {
     if len < HEADER {
@@ -148,7 +157,8 @@ fn udp_carries(reach: Reach, mode: Mode, ports: PortsHead, span: Span) -> After
     requires header { reach ≡ Reach.All → 8 ≤ span.len }
     requires end { span.start + span.len < 2 ^ 32 }
     ensures after { result ≡ udp_carries reach mode ports span }
-    ensures inside { (buffers : List (List ℕ)) → IsInside buffers span → LeadsInside buffers result }
+    ensures inside { (buffers : List (List ℕ)) → IsInside buffers span
+        → LeadsInside buffers result }
     ensures whole { result ≢ After.End → reach ≡ Reach.All }
 {
     match reach {

@@ -10,7 +10,10 @@ use Rattle.flt_pattern.specs.declared.fault.PatternFault.TheVariants.{NoPattern,
 
 -- `regex`'s defaults, but letters match in either case, and what matches need not be UTF-8
 abbrev pub options : Config
-options = record default_config { flags = record default_config.flags { case_insensitive = true }; utf8 = false }
+options = record default_config {
+  flags = record default_config.flags { case_insensitive = true };
+  utf8 = false;
+}
 
 -- what the grammar reads in a text, with how deep it is nested and the names of its groups; none where it is no pattern
 unfoldable pub reading : List ℕ → Option (Nested Re × Names)
@@ -36,7 +39,8 @@ pub record IsPattern (text : List ℕ) : Type 0 where
 -- a text that is none: it is no UTF-8, the grammar reads nothing in it, or it is nested too deep
 abbrev pub IsNoPattern : List ℕ → Type 0
 IsNoPattern pattern =
-    (¬ IsUtf8 pattern) ⊎ ((reading pattern ≡ None) ⊎ IfSome (reading pattern) (λ (re, names). most_nested < re.depth))
+    (¬ IsUtf8 pattern) ⊎ ((reading pattern ≡ None) ⊎ IfSome (reading pattern) (λ (re, names).
+    most_nested < re.depth))
 
 -- a pattern of so many bytes without a `{` isn't refused for its size
 abbrev pub sure_length : ℕ

@@ -34,7 +34,8 @@ pub(crate) fn fault_of(error: Error, text: &str) -> PatternFault
 }
 
 fn may_be_large(text: &str) -> bool
-    ensures { IsTrue result ↔ ((sure_length < length text.now) ⊎ IsTrue (list_any (λ byte. byte == 0x7B) text.now)) }
+    ensures { IsTrue result ↔ ((sure_length < length text.now) ⊎ IsTrue
+        (list_any (λ byte. byte == 0x7B) text.now)) }
 {
     text.len() > SURE_LENGTH || text.as_bytes().contains(&b'{')
 }

@@ -18,7 +18,16 @@ use Rattle.http_frame.specs.Lines.{crlf_at, line_of, size_in, text_from}
 
 -- a message whose head is known
 abbrev pub shape_of : Start → Body → ℕ → Then → Shape
-shape_of start body end next = record { request = start.request; asks_head = start.asks_head; interim = start.interim; head = start.head; body = body; end = end; then = next }
+shape_of start body end next =
+    record {
+      request = start.request;
+      asks_head = start.asks_head;
+      interim = start.interim;
+      head = start.head;
+      body = body;
+      end = end;
+      then = next;
+    }
 
 -- a line behind the last chunk
 abbrev pub trailing_turn : Line → Turn
@@ -53,24 +62,49 @@ turn_at place bytes =
 
 -- the place behind a chunk, behind the last one, and behind a line after it
 abbrev pub behind_chunk : Place → ℕ → ℕ → Place
-behind_chunk place line size = record { at = place.at + line + size + 2; sum = place.sum + size; trailer = false; used = 0; text = 0 }
+behind_chunk place line size =
+    record {
+      at = place.at + line + size + 2;
+      sum = place.sum + size;
+      trailer = false;
+      used = 0;
+      text = 0;
+    }
 
 abbrev pub behind_last : Place → ℕ → Place
-behind_last place line = record { at = place.at + line; sum = place.sum; trailer = true; used = 0; text = 0 }
+behind_last place line =
+    record { at = place.at + line; sum = place.sum; trailer = true; used = 0; text = 0 }
 
 abbrev pub behind_line : Place → ℕ → Place
-behind_line place line = record { at = place.at + line; sum = place.sum; trailer = place.trailer; used = place.used + line; text = 0 }
+behind_line place line =
+    record {
+      at = place.at + line;
+      sum = place.sum;
+      trailer = place.trailer;
+      used = place.used + line;
+      text = 0;
+    }
 
 -- a place, and how many bytes of its line are there
 abbrev pub looked_at : Place → List ℕ → Place
-looked_at place bytes = record { at = place.at; sum = place.sum; trailer = place.trailer; used = place.used; text = text_from place.text (drop place.at bytes) }
+looked_at place bytes = record {
+  at = place.at;
+  sum = place.sum;
+  trailer = place.trailer;
+  used = place.used;
+  text = text_from place.text (drop place.at bytes);
+}
 
-abbrev pub on_turn : (Place → List Piece → Option Shape) → Start → Place → List Piece → Turn → Option Shape
-on_turn go start place pieces (Chunk line size) = go (behind_chunk place line size) (pieces ++ record { start = place.at + line; len = size } ∷ [])
+abbrev pub on_turn : (Place → List Piece → Option Shape) → Start → Place → List Piece → Turn
+    → Option Shape
+on_turn go start place pieces (Chunk line size) =
+    go (behind_chunk place line size)
+    (pieces ++ record { start = place.at + line; len = size } ∷ [])
 on_turn go start place pieces (Last line) = go (behind_last place line) pieces
 on_turn go start place pieces (Trailing line) = go (behind_line place line) pieces
 on_turn go start place pieces (Long line) = Some (shape_of start NotShown (place.at + line) Opaque)
-on_turn go start place pieces End = Some (shape_of start (Chunked pieces) (place.at + 2) (Follows 0))
+on_turn go start place pieces End =
+    Some (shape_of start (Chunked pieces) (place.at + 2) (Follows 0))
 on_turn go start place pieces Waits = None
 on_turn go start place pieces Fails = None
 

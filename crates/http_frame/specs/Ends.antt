@@ -9,7 +9,8 @@ use Rattle.http_frame.specs.declared.ends.Seek.TheVariants.{Before, Inside, Feed
 abbrev pub seek_on : Seek → ℕ → Option Seek
 seek_on Before b = if is_newline b then Some Before else Some Inside
 seek_on Inside b = if b == line_feed then Some Feed else Some Inside
-seek_on Feed b = if b == line_feed then None else (if b == carriage_return then Some Return else Some Inside)
+seek_on Feed b =
+    if b == line_feed then None else (if b == carriage_return then Some Return else Some Inside)
 seek_on Return b = if b == line_feed then None else Some Inside
 
 abbrev pub on_seek : (Seek → Option (List ℕ)) → List ℕ → Option Seek → Option (List ℕ)

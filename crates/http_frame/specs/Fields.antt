@@ -26,7 +26,8 @@ is_chunked value = str_eq_ignore_ascii_case (trim_ows (last_element value)) (cod
 
 -- a Content-Length of 1 to 18 digits (RFC 9110, 8.6)
 abbrev pub is_length : List ℕ → Bool
-is_length value = not (length value == 0) && (nat_le (length value) 18 && list_all is_ascii_digit value)
+is_length value =
+    not (length value == 0) && (nat_le (length value) 18 && list_all is_ascii_digit value)
 
 unfoldable pub length_in : List ℕ → Option ℕ
 length_in value = if is_length value then Some (digits_value 10 value) else None
@@ -42,7 +43,8 @@ merged Bad more = Bad
 -- all Content-Lengths of a head
 abbrev pub with_field : Lengths → List ℕ × List ℕ → Lengths
 with_field before field =
-    if str_eq_ignore_ascii_case field.0 (codes "content-length") then merged before (length_in field.1) else before
+    if str_eq_ignore_ascii_case field.0 (codes "content-length")
+    then merged before (length_in field.1) else before
 
 abbrev pub lengths_of : List (List ℕ × List ℕ) → Lengths
 lengths_of fields = fold with_field Absent fields

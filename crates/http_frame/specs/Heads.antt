@@ -102,7 +102,8 @@ request_in most bytes = record {
 
 -- a response's parts, from its start line on
 abbrev pub reason_in : List ℕ → Option (List ℕ)
-reason_in bytes = if begins (λ b. b == space) bytes then Some (run is_value_byte (drop 1 bytes)) else None
+reason_in bytes =
+    if begins (λ b. b == space) bytes then Some (run is_value_byte (drop 1 bytes)) else None
 
 abbrev pub response_section : List ℕ → List ℕ
 response_section start = behind_end (behind is_value_byte (drop 12 start))
@@ -138,13 +139,15 @@ starts_with front bytes = bytes_eq (take (length front) bytes) front
 
 abbrev pub fits : List ℕ → List Field → List ℕ → Bool
 fits front fields bytes =
-    starts_with front bytes && (nat_le (length front) head_limit && nat_le (length fields) field_limit)
+    starts_with front bytes && (nat_le (length front) head_limit
+    && nat_le (length fields) field_limit)
 
 abbrev pub request_if : List ℕ → RequestHead → Option RequestHead
 request_if bytes h = if is_request h && fits (print_request h) h.fields bytes then Some h else None
 
 abbrev pub response_if : List ℕ → ResponseHead → Option ResponseHead
-response_if bytes h = if is_response h && fits (print_response h) h.fields bytes then Some h else None
+response_if bytes h =
+    if is_response h && fits (print_response h) h.fields bytes then Some h else None
 
 -- the request's head and the response's head at the front
 unfoldable pub request_of : List ℕ → Option RequestHead
@@ -185,6 +188,9 @@ pub record StartsWith (bytes : List ℕ) (head : Head) (rest : List ℕ) : Type 
 
 -- the head that is found is exactly the one that there is, and nothing that stands behind a head changes it
 pub record HeadLaws : Type 0 where
-  pub exact : (bytes : List ℕ) (h : Head) → (head_of bytes ≡ Some h) ↔ StartsWith bytes h (drop (length (print_head h)) bytes)
-  pub stays : (bytes more : List ℕ) (h : Head) → head_of bytes ≡ Some h → head_of (bytes ++ more) ≡ Some h
-  pub shrinks : (bytes more : List ℕ) (h : Head) → head_of (bytes ++ more) ≡ Some h → length (print_head h) ≤ length bytes → head_of bytes ≡ Some h
+  pub exact : (bytes : List ℕ) (h : Head)
+      → (head_of bytes ≡ Some h) ↔ StartsWith bytes h (drop (length (print_head h)) bytes)
+  pub stays : (bytes more : List ℕ) (h : Head) → head_of bytes ≡ Some h
+      → head_of (bytes ++ more) ≡ Some h
+  pub shrinks : (bytes more : List ℕ) (h : Head) → head_of (bytes ++ more) ≡ Some h
+      → length (print_head h) ≤ length bytes → head_of bytes ≡ Some h

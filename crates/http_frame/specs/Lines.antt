@@ -39,8 +39,10 @@ is_tail (b ∷ rest) = is_ows b || b == semicolon
 
 abbrev pub size_by : List ℕ → List ℕ → Option ℕ
 size_by digits tail =
-    if (nat_lt 0 (length digits) && nat_le (length digits) 8) && is_tail tail then Some (digits_value 16 digits) else None
+    if (nat_lt 0 (length digits) && nat_le (length digits) 8) && is_tail tail
+    then Some (digits_value 16 digits) else None
 
 -- the size that a chunk's line tells: 1 to 8 hexadecimal digits and a tail
 unfoldable pub size_in : List ℕ → Option ℕ
-size_in line = size_by (take (prefix_len is_ascii_hexdigit line) line) (drop (prefix_len is_ascii_hexdigit line) line)
+size_in line = size_by (take (prefix_len is_ascii_hexdigit line) line)
+    (drop (prefix_len is_ascii_hexdigit line) line)

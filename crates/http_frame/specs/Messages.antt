@@ -65,7 +65,8 @@ head_within front = if nat_le (length front) head_limit then head_of front else 
 -- the message whose head ends in front of these bytes
 abbrev pub by_end : Bool → List ℕ → Option (List ℕ) → Option Shape
 by_end asked bytes None = None
-by_end asked bytes (Some rest) = by_head asked (head_within (take (length bytes - length rest) bytes)) bytes
+by_end asked bytes (Some rest) =
+    by_head asked (head_within (take (length bytes - length rest) bytes)) bytes
 
 abbrev pub resumed_head : HeadProgress → List ℕ → Option Shape
 resumed_head head bytes = by_end head.asked bytes (behind_from head.seek (drop head.looked bytes))
@@ -104,10 +105,15 @@ BeginLaw = (asked : Bool) (bytes : List ℕ) → resumed (begun asked) bytes ≡
 
 -- a first message has a byte, lies in the bytes, and depends on nothing behind it; its chunks are within the limit of a body
 pub record FirstLaws : Type 0 where
-  pub some : (asked : Bool) (bytes : List ℕ) (s : Shape) → first_message asked bytes ≡ Some s → 0 < s.end
-  pub within : (asked : Bool) (bytes : List ℕ) (s : Shape) → first_message asked bytes ≡ Some s → s.end ≤ length bytes
-  pub stays : (asked : Bool) (bytes more : List ℕ) (s : Shape) → first_message asked bytes ≡ Some s → first_message asked (bytes ++ more) ≡ Some s
-  pub shrinks : (asked : Bool) (bytes more : List ℕ) (s : Shape) → first_message asked (bytes ++ more) ≡ Some s → s.end ≤ length bytes
+  pub some : (asked : Bool) (bytes : List ℕ) (s : Shape) → first_message asked bytes ≡ Some s
+      → 0 < s.end
+  pub within : (asked : Bool) (bytes : List ℕ) (s : Shape) → first_message asked bytes ≡ Some s
+      → s.end ≤ length bytes
+  pub stays : (asked : Bool) (bytes more : List ℕ) (s : Shape) → first_message asked bytes ≡ Some s
+      → first_message asked (bytes ++ more) ≡ Some s
+  pub shrinks : (asked : Bool) (bytes more : List ℕ) (s : Shape)
+      → first_message asked (bytes ++ more) ≡ Some s → s.end ≤ length bytes
       → first_message asked bytes ≡ Some s
-  pub short : (asked : Bool) (bytes : List ℕ) (s : Shape) (pieces : List Piece) → first_message asked bytes ≡ Some s → s.body ≡ Chunked pieces
+  pub short : (asked : Bool) (bytes : List ℕ) (s : Shape) (pieces : List Piece)
+      → first_message asked bytes ≡ Some s → s.body ≡ Chunked pieces
       → size_of_pieces pieces ≤ body_limit

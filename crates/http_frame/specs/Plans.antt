@@ -32,7 +32,8 @@ by_coding request fields (Some value) = if is_chunked value then Chunks else Unk
 by_coding request fields None = by_lengths request (lengths_of fields)
 
 unfoldable pub by_fields : Bool → List (List ℕ × List ℕ) → Plan
-by_fields request fields = by_coding request fields (last_of_name (codes "transfer-encoding") fields)
+by_fields request fields =
+    by_coding request fields (last_of_name (codes "transfer-encoding") fields)
 
 abbrev pub by_code : Bool → ℕ → List (List ℕ × List ℕ) → Plan
 by_code asked code fields = if is_bare asked code then Bare else by_fields false fields
@@ -44,8 +45,18 @@ plan_of asked (Response h) = by_code asked (status_code h) (map name_and_value h
 
 -- what else the layers above ask of a head: methods are case-sensitive (RFC 9110, 9.1)
 abbrev pub start_of : Head → Start
-start_of (Request h) = record { request = true; asks_head = bytes_eq h.method (codes "HEAD"); interim = false; head = length (print_head (Request h)) }
-start_of (Response h) = record { request = false; asks_head = false; interim = is_interim (status_code h); head = length (print_head (Response h)) }
+start_of (Request h) = record {
+  request = true;
+  asks_head = bytes_eq h.method (codes "HEAD");
+  interim = false;
+  head = length (print_head (Request h));
+}
+start_of (Response h) = record {
+  request = false;
+  asks_head = false;
+  interim = is_interim (status_code h);
+  head = length (print_head (Response h));
+}
 
 abbrev pub planned : Bool → Head → Planned
 planned asked h = record { start = start_of h; plan = plan_of asked h }

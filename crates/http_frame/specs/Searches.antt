@@ -7,6 +7,7 @@ use Rattle.http_frame.specs.Ends.{behind_from, seek_after}
 
 abbrev pub IsSearch : Seek → ℕ → List ℕ → Search → Type 0
 IsSearch seek from bytes (Ends end) =
-    (behind_from seek (drop from bytes) ≡ Some (drop end bytes)) × (from < end) × (end ≤ length bytes)
+    (behind_from seek (drop from bytes) ≡ Some (drop end bytes)) × (from < end)
+    × (end ≤ length bytes)
 IsSearch seek from bytes (Goes next) =
     (behind_from seek (drop from bytes) ≡ None) × (seek_after seek (drop from bytes) ≡ next)

@@ -123,7 +123,8 @@ pub(crate) fn turn_at(place: Place, bytes: &[u8]) -> Turn
 
 /// A line behind the last chunk.
 fn trailing_turn(place: Place, bytes: &[u8]) -> Turn
-    ensures { result ≡ trailing_turn (line_of (trailer_limit_is - place.used) place.text bytes.now) }
+    ensures { result ≡ trailing_turn
+        (line_of (trailer_limit_is - place.used) place.text bytes.now) }
 {
     let most = trailer_limit().saturating_sub(place.used);
     match line_of(most, place.text, bytes) {

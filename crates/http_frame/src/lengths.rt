@@ -41,7 +41,8 @@ fn newer_value(bytes: &[u8], header: HeaderSpan, name: &[u8], found: Option<Span
     requires found { IfSome found (IsWithin (length bytes.now)) }
     ensures within { IfSome result (IsWithin (length bytes.now)) }
     ensures value { option_map (span_bytes bytes.now) result
-        ≡ newer_value name.now (option_map (span_bytes bytes.now) found) (header_bytes bytes.now header) }
+        ≡ newer_value name.now (option_map (span_bytes bytes.now) found)
+        (header_bytes bytes.now header) }
 {
     if is_named(header.name.of(bytes), name) {
         Some(header.value)

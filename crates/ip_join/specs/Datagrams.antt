@@ -18,12 +18,14 @@ is_too_long new = nat_lt 65535 (end_of new)
 -- the end is known, and the fragment leaves it behind or gives another
 abbrev pub misses_end : Option ℕ → Fragment → Bool
 misses_end None new = false
-misses_end (Some end) new = nat_lt end (end_of new) || (not new.head.more && not (end_of new == end))
+misses_end (Some end) new =
+    nat_lt end (end_of new) || (not new.head.more && not (end_of new == end))
 
 -- or the fragment gives an end that held bytes stand at or past
 abbrev pub has_two_ends : List Fragment → Fragment → Bool
 has_two_ends counted new =
-    misses_end (known_end counted) new || (not new.head.more && list_any (reaches_past (end_of new)) counted)
+    misses_end (known_end counted) new
+    || (not new.head.more && list_any (reaches_past (end_of new)) counted)
 
 -- IPv6 fragments that overlap are an error (RFC 5722, 3), where one isn't the other once more
 abbrev pub is_overlap_six : List Fragment → Fragment → Bool
@@ -47,7 +49,9 @@ whole_end fragments = end_if_held fragments (known_end fragments)
 -- what the datagram carries: under IPv6 the next header of the first fragment with offset 0 (RFC 8200, 4.5)
 abbrev pub next_of : List Fragment → FragmentHead → ℕ
 next_of fragments head =
-    if head.six then unwrap_or (option_map (λ g. g.head.next) (find (λ g. g.head.offset == 0) fragments)) head.next else head.next
+    if head.six then unwrap_or
+    (option_map (λ g. g.head.next) (find (λ g. g.head.offset == 0) fragments)) head.next
+    else head.next
 
 -- the datagram of fragments that hold all positions below an end, by the head of the last of them
 abbrev pub datagram_of : List Fragment → FragmentHead → ℕ → Datagram

@@ -17,11 +17,14 @@ last_end last (g ∷ gs) = last_end (if has_bytes g then max last (end_of g) els
 -- the bytes of the first IPv6 fragment with bytes at an offset
 abbrev pub first_copy : ℕ → List Fragment → Option (List ℕ)
 first_copy offset [] = None
-first_copy offset (g ∷ gs) = if g.head.six && (g.head.offset == offset && has_bytes g) then Some g.bytes else first_copy offset gs
+first_copy offset (g ∷ gs) =
+    if g.head.six && (g.head.offset == offset && has_bytes g) then Some g.bytes
+    else first_copy offset gs
 
 abbrev pub AreFirstIn : List Fragment → List Fragment → Type 0
 AreFirstIn all [] = Unit {0}
-AreFirstIn all (g ∷ gs) = (has_bytes g ≡ true → first_copy g.head.offset all ≡ Some g.bytes) × AreFirstIn all gs
+AreFirstIn all (g ∷ gs) =
+    (has_bytes g ≡ true → first_copy g.head.offset all ≡ Some g.bytes) × AreFirstIn all gs
 
 -- at each offset all fragments with bytes are the first once more
 abbrev pub AreFirst : List Fragment → Type 0
@@ -32,7 +35,8 @@ abbrev pub AreShort : List Fragment → Type 0
 AreShort [] = Unit {0}
 AreShort (g ∷ gs) = (end_of g ≤ 65535) × AreShort gs
 
-pub record IsKept (fragments : List Fragment) (held : Held) (end : Option ℕ) (last : ℕ) (firsts : tree.BTreeMap ℕ (List ℕ)) : Type 0 where
+pub record IsKept (fragments : List Fragment) (held : Held) (end : Option ℕ) (last : ℕ)
+    (firsts : tree.BTreeMap ℕ (List ℕ)) : Type 0 where
   pub held_is : held ≡ map_of fragments
   pub end_is : end ≡ known_end fragments
   pub last_is : last ≡ last_end 0 fragments

@@ -26,4 +26,7 @@ abbrev pub host_cmp : Host → Host → Ordering
 host_cmp a b = ordering_then (bool_cmp a.six b.six) (nat_cmp a.number b.number)
 
 abbrev pub key_cmp : Key → Key → Ordering
-key_cmp a b = ordering_then (bool_cmp a.six b.six) (ordering_then (host_cmp a.source b.source) (ordering_then (host_cmp a.target b.target) (ordering_then (nat_cmp a.protocol b.protocol) (nat_cmp a.ident b.ident))))
+key_cmp a b = ordering_then (bool_cmp a.six b.six)
+    (ordering_then (host_cmp a.source b.source)
+    (ordering_then (host_cmp a.target b.target)
+    (ordering_then (nat_cmp a.protocol b.protocol) (nat_cmp a.ident b.ident))))

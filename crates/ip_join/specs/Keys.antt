@@ -14,4 +14,6 @@ same_address (Six a) (Six b) = a == b
 
 abbrev pub same_key : FragmentHead → FragmentHead → Bool
 same_key f g =
-    beq f.six g.six && (same_address f.source g.source && (same_address f.target g.target && ((f.six || (f.next == g.next)) && (f.ident == g.ident))))
+    beq f.six g.six && (same_address f.source g.source
+    && (same_address f.target g.target
+    && ((f.six || (f.next == g.next)) && (f.ident == g.ident))))

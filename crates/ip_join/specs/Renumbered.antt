@@ -5,9 +5,15 @@ use Rattle.ip_join.specs.declared.joined.Joined.TheVariants.{Pending, Whole, Con
 use Rattle.ip_join.specs.declared.fragment.Fragment.{Fragment}
 
 abbrev pub renumbered : (ℕ → ℕ) → Fragment → Fragment
-renumbered renumber fragment = record { head = fragment.head; frame = renumber fragment.frame; bytes = fragment.bytes }
+renumbered renumber fragment =
+    record { head = fragment.head; frame = renumber fragment.frame; bytes = fragment.bytes }
 
 abbrev pub answer_renumbered : (ℕ → ℕ) → Joined → Joined
 answer_renumbered renumber Pending = Pending
-answer_renumbered renumber (Whole datagram) = Whole (record { next = datagram.next; bytes = datagram.bytes; frames = map renumber datagram.frames })
+answer_renumbered renumber (Whole datagram) =
+    Whole (record {
+      next = datagram.next;
+      bytes = datagram.bytes;
+      frames = map renumber datagram.frames;
+    })
 answer_renumbered renumber (Conflict kind) = Conflict kind

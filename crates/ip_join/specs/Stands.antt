@@ -20,7 +20,8 @@ left_after (Conflict kind) fragments = []
 abbrev pub counted_for : Fragment → List Fragment → List Fragment
 counted_for f [] = []
 counted_for f (g ∷ past) = if same_key g.head f.head
-    then left_after (joined_of (counted_for f past) g) (counted_for f past ++ g ∷ []) else counted_for f past
+    then left_after (joined_of (counted_for f past) g) (counted_for f past ++ g ∷ [])
+    else counted_for f past
 
 -- what a fragment makes of all that were taken before it
 unfoldable pub joined_by : List Fragment → Fragment → Joined
@@ -32,4 +33,5 @@ of_key head past = filter (λ g. same_key g.head head) past
 
 -- the joins keep, by keys, the fragments that count
 unfoldable pub Stands : List Fragment → Joins → Type 0
-Stands past joins = (f : Fragment) → unwrap_or (tree.get key_cmp joins.parts (key_of f.head)) [] ≡ counted_for f past
+Stands past joins = (f : Fragment)
+    → unwrap_or (tree.get key_cmp joins.parts (key_of f.head)) [] ≡ counted_for f past

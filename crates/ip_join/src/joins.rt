@@ -45,17 +45,30 @@ impl Joins {
     ) -> Result<Joined, NoMemory>
         requires { head.now.whole ≡ true }
         ensures joined { IfOk result (λ joined. (past : List FragmentValue) → Stands past self.old
-            → joined ≡ joined_by past (record { head = head.now; frame = frame; bytes = payload.now })) }
+            → joined ≡ joined_by past
+            (record { head = head.now; frame = frame; bytes = payload.now })) }
         ensures stands { OnOk result ((past : List FragmentValue) → Stands past self.old
-            → Stands (record { head = head.now; frame = frame; bytes = payload.now } ∷ past) self.new) }
+            → Stands (record { head = head.now; frame = frame; bytes = payload.now } ∷ past)
+            self.new) }
         // whatever else was taken, and in between
-        ensures isolated { IfOk result (λ joined. (past others : List FragmentValue) → Stands past self.old
+        ensures isolated { IfOk result (λ joined. (past others : List FragmentValue)
+            → Stands past self.old
             → of_key head.now past ≡ of_key head.now others
-            → joined ≡ joined_by others (record { head = head.now; frame = frame; bytes = payload.now })) }
+            → joined ≡ joined_by others
+            (record { head = head.now; frame = frame; bytes = payload.now })) }
         // and whatever the numbers of the frames: the answer names each frame by the place of its fragment
-        ensures renumbered { IfOk result (λ joined. (past others : List FragmentValue) (one other : ℕ → ℕ) (number : ℕ) → Stands past self.old
-            → map (renumbered one) (of_key head.now past) ≡ map (renumbered other) (of_key head.now others) → one frame ≡ other number
-            → answer_renumbered one joined ≡ answer_renumbered other (joined_by others (record { head = head.now; frame = number; bytes = payload.now }))) }
+        ensures renumbered { IfOk result (λ joined.
+            (past others : List FragmentValue) (one other : ℕ → ℕ) (number : ℕ)
+            → Stands past self.old
+            → map (renumbered one) (of_key head.now past)
+            ≡ map (renumbered other) (of_key head.now others) → one frame ≡ other number
+            → answer_renumbered one joined
+            ≡ answer_renumbered other
+            (joined_by others (record {
+              head = head.now;
+              frame = number;
+              bytes = payload.now;
+            }))) }
         ensures short { IfOk result (λ joined. IsShort joined) }
     {
         self.join(Fragment {
@@ -66,8 +79,10 @@ impl Joins {
     }
 
     fn join(&mut self, new: Fragment) -> Result<Joined, NoMemory>
-        ensures joined { IfOk result (λ joined. (past : List FragmentValue) → Stands past self.old → joined ≡ joined_by past new) }
-        ensures stands { OnOk result ((past : List FragmentValue) → Stands past self.old → Stands (new ∷ past) self.new) }
+        ensures joined { IfOk result (λ joined. (past : List FragmentValue) → Stands past self.old
+            → joined ≡ joined_by past new) }
+        ensures stands { OnOk result ((past : List FragmentValue) → Stands past self.old
+            → Stands (new ∷ past) self.new) }
         ensures short { IfOk result (λ joined. IsShort joined) }
     {
         let head = new.head;
@@ -89,7 +104,9 @@ impl Joins {
     /// Takes out what is kept by a key.
     fn remove(&mut self, key: Key) -> Parts
         ensures parts { result ≡ unwrap_or (tree.get key_cmp self.old.parts key) [] }
-        ensures rest { (q : KeyValue) → tree.get key_cmp self.new.parts q ≡ cond (eq_by_cmp key_cmp key q) None (tree.get key_cmp self.old.parts q) }
+        ensures rest { (q : KeyValue)
+            → tree.get key_cmp self.new.parts q
+            ≡ cond (eq_by_cmp key_cmp key q) None (tree.get key_cmp self.old.parts q) }
     {
         match self.parts.remove(&key) {
             Some(parts) => parts,
@@ -98,7 +115,9 @@ impl Joins {
     }
 
     fn keep(&mut self, key: Key, parts: Parts) -> Result<(), NoMemory>
-        ensures { OnOk result ((q : KeyValue) → tree.get key_cmp self.new.parts q ≡ cond (eq_by_cmp key_cmp key q) (Some parts) (tree.get key_cmp self.old.parts q)) }
+        ensures { OnOk result ((q : KeyValue)
+            → tree.get key_cmp self.new.parts q
+            ≡ cond (eq_by_cmp key_cmp key q) (Some parts) (tree.get key_cmp self.old.parts q)) }
     {
         self.parts.insert(key, parts)?;
         Ok(())

@@ -41,7 +41,8 @@ impl Model for Parts {
 
     ghost view = { λ parts. parts.counted.items };
 
-    ghost invariant = { λ parts. IsKept parts.counted.items parts.held parts.end parts.last parts.firsts };
+    ghost invariant = { λ parts.
+        IsKept parts.counted.items parts.held parts.end parts.last parts.firsts };
 }
 
 impl Parts {
@@ -60,7 +61,8 @@ impl Parts {
 
     /// How a fragment goes against these, if it does.
     pub(crate) fn conflict(&self, new: &Fragment) -> Option<ConflictKind>
-        ensures kind { (new.now.head.six ≡ true → AreFirst self.now) → result ≡ conflict_of self.now new.now }
+        ensures kind { (new.now.head.six ≡ true → AreFirst self.now)
+            → result ≡ conflict_of self.now new.now }
         ensures short { IfNone result (end_of new.now ≤ 65535) }
     {
         if u64::from(DATAGRAM_LIMIT) < new.end() {
@@ -82,14 +84,17 @@ impl Parts {
     }
 
     fn is_overlap_six(&self, new: &Fragment) -> bool
-        ensures { (new.now.head.six ≡ true → AreFirst self.now) → result ≡ is_overlap_six self.now new.now }
+        ensures { (new.now.head.six ≡ true → AreFirst self.now)
+            → result ≡ is_overlap_six self.now new.now }
     {
         new.head.six && self.overlaps_anew(new)
     }
 
     /// Whether a fragment has a position in common with one of these, and isn't one of them once more.
     fn overlaps_anew(&self, new: &Fragment) -> bool
-        ensures { AreFirst self.now → result ≡ (list_any (overlaps new.now) self.now && not (list_any (repeats new.now) self.now)) }
+        ensures { AreFirst self.now
+            → result ≡ (list_any (overlaps new.now) self.now
+            && not (list_any (repeats new.now) self.now)) }
     {
         self.overlaps(new) && !self.repeats(new)
     }
@@ -106,7 +111,8 @@ impl Parts {
 
     /// Whether a fragment has the bytes of the first one at its offset.
     fn repeats(&self, new: &Fragment) -> bool
-        ensures { AreFirst self.now → has_bytes new.now ≡ true → result ≡ list_any (repeats new.now) self.now }
+        ensures { AreFirst self.now → has_bytes new.now ≡ true
+            → result ≡ list_any (repeats new.now) self.now }
     {
         match self.firsts.get(&new.head.offset) {
             Some(bytes) => bytes.bytes() == new.bytes.bytes(),
@@ -204,7 +210,9 @@ fn last_with(last: u64, new: &Fragment) -> u64
 
 /// Keeps the bytes of an IPv6 fragment, if it is the first with bytes at its offset.
 fn keep_first(firsts: &mut BTreeMap<u32, Octets>, new: &Fragment) -> Result<(), NoMemory>
-    ensures { OnOk result ((offset : ℕ) → tree.get nat_cmp firsts.new offset ≡ option_or (tree.get nat_cmp firsts.old offset) (first_copy offset (new.now ∷ []))) }
+    ensures { OnOk result ((offset : ℕ)
+        → tree.get nat_cmp firsts.new offset
+        ≡ option_or (tree.get nat_cmp firsts.old offset) (first_copy offset (new.now ∷ []))) }
 {
     if new.head.six && new.has_bytes() && !firsts.contains_key(&new.head.offset) {
         firsts.insert(new.head.offset, new.bytes.clone()?)?;
@@ -235,7 +243,8 @@ fn next_of(fragments: &[Fragment], head: FragmentHead) -> u8
 }
 
 fn first_next(fragments: &[Fragment], default: u8) -> u8
-    ensures { result ≡ unwrap_or (option_map (λ g. g.head.next) (find (λ g. g.head.offset == 0) fragments.now)) default }
+    ensures { result ≡ unwrap_or
+        (option_map (λ g. g.head.next) (find (λ g. g.head.offset == 0) fragments.now)) default }
 {
     for g in fragments {
         if g.head.offset == 0 {

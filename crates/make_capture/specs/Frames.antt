@@ -34,7 +34,8 @@ arp_request c =
 -- flags and offset, time to live, protocol, checksum, source, target
 unfoldable pub ip_header : ℕ → ℕ → List ℕ → List ℕ → List ℕ
 ip_header size protocol source target =
-    0x45 ∷ 0 ∷ [] ++ to_be_bytes w16 (20 + size) ++ 0 ∷ 0 ∷ 0 ∷ 0 ∷ 64 ∷ protocol ∷ 0 ∷ 0 ∷ [] ++ source ++ target
+    0x45 ∷ 0 ∷ [] ++ to_be_bytes w16 (20 + size) ++ 0 ∷ 0 ∷ 0 ∷ 0 ∷ 64 ∷ protocol ∷ 0 ∷ 0 ∷ []
+    ++ source ++ target
 
 -- a UDP header before so many bytes: ports, length, checksum
 unfoldable pub udp_header : ℕ → ℕ → ℕ → List ℕ
@@ -50,7 +51,8 @@ tcp_header source target number =
 -- the header of a DNS message: its id, flags, one question, so many answers
 unfoldable pub dns_header : ℕ → ℕ → ℕ → List ℕ
 dns_header id flags answers =
-    to_be_bytes w16 id ++ to_be_bytes w16 flags ++ to_be_bytes w16 1 ++ to_be_bytes w16 answers ++ 0 ∷ 0 ∷ 0 ∷ 0 ∷ []
+    to_be_bytes w16 id ++ to_be_bytes w16 flags ++ to_be_bytes w16 1 ++ to_be_bytes w16 answers
+    ++ 0 ∷ 0 ∷ 0 ∷ 0 ∷ []
 
 -- the question for the address (type 1) of `h.test` in the internet (class 1)
 unfoldable pub question : List ℕ
@@ -58,7 +60,8 @@ question = 1 ∷ 104 ∷ 4 ∷ 116 ∷ 101 ∷ 115 ∷ 116 ∷ 0 ∷ 0 ∷ 1 ∷
 
 -- the answer to it: a pointer to the question's name, type, class, 60 seconds to live, the address
 unfoldable pub answer : ℕ → List ℕ
-answer c = 0xC0 ∷ 0x0C ∷ 0 ∷ 1 ∷ 0 ∷ 1 ∷ [] ++ to_be_bytes w32 60 ++ to_be_bytes w16 4 ++ told_address c
+answer c =
+    0xC0 ∷ 0x0C ∷ 0 ∷ 1 ∷ 0 ∷ 1 ∷ [] ++ to_be_bytes w32 60 ++ to_be_bytes w16 4 ++ told_address c
 
 -- an HTTP request of 27 bytes: GET / HTTP/1.1, Host: h, and an empty line
 unfoldable pub request : List ℕ

@@ -33,7 +33,8 @@ sent_in client word = if kind_of word == 3 && client_of word == client then size
 -- how many the first frames carry for it
 unfoldable pub sent_before : ℕ → ℕ → ℕ → ℕ
 sent_before start client zero = 0
-sent_before start client (suc index) = sent_before start client index + sent_in client (word_of start index)
+sent_before start client (suc index) =
+    sent_before start client index + sent_in client (word_of start index)
 
 -- the frame of a word, before which its client sent so many bytes of requests
 unfoldable pub frame_of : ℕ → ℕ → List ℕ
@@ -49,7 +50,8 @@ first_second = 0x00 ∷ 0xF1 ∷ 0x53 ∷ 0x65 ∷ []
 
 -- the head of a record: the time, which is a microsecond later for each frame, and the captured and the original length
 unfoldable pub record_head : ℕ → ℕ → List ℕ
-record_head index size = first_second ++ to_le_bytes w32 index ++ to_le_bytes w32 size ++ to_le_bytes w32 size
+record_head index size =
+    first_second ++ to_le_bytes w32 index ++ to_le_bytes w32 size ++ to_le_bytes w32 size
 
 abbrev pub record_of : ℕ → List ℕ → List ℕ
 record_of index frame = record_head index (length frame) ++ frame
@@ -58,12 +60,14 @@ unfoldable pub records : ℕ → ℕ → List ℕ
 records start zero = []
 records start (suc index) =
     records start index
-    ++ record_of index (frame_of (word_of start index) (sent_before start (client_of (word_of start index)) index))
+    ++ record_of index (frame_of (word_of start index)
+    (sent_before start (client_of (word_of start index)) index))
 
 -- magic number, version 2.4, zone, accuracy, 262,144 captured bytes at most, link type 1 (Ethernet)
 unfoldable pub file_header : List ℕ
 file_header =
-    0xD4 ∷ 0xC3 ∷ 0xB2 ∷ 0xA1 ∷ 2 ∷ 0 ∷ 4 ∷ 0 ∷ 0 ∷ 0 ∷ 0 ∷ 0 ∷ 0 ∷ 0 ∷ 0 ∷ 0 ∷ 0 ∷ 0 ∷ 4 ∷ 0 ∷ 1 ∷ 0 ∷ 0 ∷ 0 ∷ []
+    0xD4 ∷ 0xC3 ∷ 0xB2 ∷ 0xA1 ∷ 2 ∷ 0 ∷ 4 ∷ 0 ∷ 0 ∷ 0 ∷ 0 ∷ 0 ∷ 0 ∷ 0 ∷ 0 ∷ 0 ∷ 0 ∷ 0 ∷ 4 ∷ 0 ∷ 1
+    ∷ 0 ∷ 0 ∷ 0 ∷ []
 
 -- the file of so many frames from a number
 unfoldable pub made : ℕ → ℕ → List ℕ

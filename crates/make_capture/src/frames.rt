@@ -58,7 +58,8 @@ fn put_ip(
     target: [u8; 4],
 ) -> Result<(), NoMemory>
     requires { size < 2 ^ 15 }
-    ensures { OnOk result (out.new.items ≡ out.old.items ++ frames.ip_header size protocol source target) }
+    ensures { OnOk result (out.new.items
+        ≡ out.old.items ++ frames.ip_header size protocol source target) }
 {
     out.put_slice(&[0x45, 0])?;
     out.put_u16(IP_HEADER + size)?;
@@ -82,7 +83,8 @@ fn put_udp(out: &mut Vec<u8>, size: u16, source: u16, target: u16) -> Result<(),
 
 #[tactic(auto, unfolding(crate::specs::Frames::tcp_header))]
 fn put_tcp(out: &mut Vec<u8>, source: u16, target: u16, number: u32) -> Result<(), NoMemory>
-    ensures { OnOk result (out.new.items ≡ out.old.items ++ frames.tcp_header source target number) }
+    ensures { OnOk result (out.new.items
+        ≡ out.old.items ++ frames.tcp_header source target number) }
 {
     out.put_u16(source)?;
     out.put_u16(target)?;
@@ -164,7 +166,8 @@ pub fn put_request_frame(
 ) -> Result<(), NoMemory>
     requires before { before < 2 ^ 31 }
     requires size { size ≤ 16 }
-    ensures { OnOk result (out.new.items ≡ out.old.items ++ frames.request_frame client before size) }
+    ensures { OnOk result (out.new.items
+        ≡ out.old.items ++ frames.request_frame client before size) }
 {
     put_ethernet(out, ETHERTYPE_IPV4)?;
     put_ip(

@@ -48,7 +48,8 @@ impl JsonWriter {
 
     /// Appends layers, and the bracket behind them.
     fn put_layers(&mut self, line: &mut Vec<u8>, layers: &[Layer]) -> Result<(), NoMemory>
-        ensures { OnOk result (line.new.items ≡ line.old.items ++ items_text false (items_of (map layer_json layers.now))) }
+        ensures { OnOk result (line.new.items
+            ≡ line.old.items ++ items_text false (items_of (map layer_json layers.now))) }
     {
         match layers {
             [] => put_text(line, "]"),
@@ -61,7 +62,8 @@ impl JsonWriter {
 
     /// Appends layers behind the first, and the bracket.
     fn put_further_layers(&mut self, line: &mut Vec<u8>, layers: &[Layer]) -> Result<(), NoMemory>
-        ensures { OnOk result (line.new.items ≡ line.old.items ++ items_text true (items_of (map layer_json layers.now))) }
+        ensures { OnOk result (line.new.items
+            ≡ line.old.items ++ items_text true (items_of (map layer_json layers.now))) }
     {
         for layer in layers {
             line.push(b',')?;
@@ -71,7 +73,8 @@ impl JsonWriter {
     }
 
     fn put_layer(&mut self, line: &mut Vec<u8>, layer: &Layer) -> Result<(), NoMemory>
-        ensures { OnOk result (line.new.items ≡ line.old.items ++ compact_text (layer_json layer.now)) }
+        ensures { OnOk result (line.new.items
+            ≡ line.old.items ++ compact_text (layer_json layer.now)) }
     {
         put_count(line, "{\"buf\":", layer.span.buffer)?;
         put_text(line, ",\"items\":[")?;
@@ -85,7 +88,8 @@ impl JsonWriter {
 
     /// Appends items, and the bracket behind them.
     fn put_items(&mut self, line: &mut Vec<u8>, items: &[Item]) -> Result<(), NoMemory>
-        ensures { OnOk result (line.new.items ≡ line.old.items ++ items_text false (items_of (map item_json items.now))) }
+        ensures { OnOk result (line.new.items
+            ≡ line.old.items ++ items_text false (items_of (map item_json items.now))) }
     {
         match items {
             [] => put_text(line, "]"),
@@ -98,7 +102,8 @@ impl JsonWriter {
 
     /// Appends items behind the first, and the bracket.
     fn put_further_items(&mut self, line: &mut Vec<u8>, items: &[Item]) -> Result<(), NoMemory>
-        ensures { OnOk result (line.new.items ≡ line.old.items ++ items_text true (items_of (map item_json items.now))) }
+        ensures { OnOk result (line.new.items
+            ≡ line.old.items ++ items_text true (items_of (map item_json items.now))) }
     {
         for item in items {
             line.push(b',')?;
@@ -109,7 +114,8 @@ impl JsonWriter {
 
     #[tactic(auto, unfolding(crate::specs::Lines::item_json))]
     fn put_item(&mut self, line: &mut Vec<u8>, item: &Item) -> Result<(), NoMemory>
-        ensures { OnOk result (line.new.items ≡ line.old.items ++ compact_text (item_json item.now)) }
+        ensures { OnOk result (line.new.items
+            ≡ line.old.items ++ compact_text (item_json item.now)) }
     {
         match item.place {
             Place::Read(span) | Place::Derived(span) => self.put_placed(line, item, span),
@@ -118,7 +124,8 @@ impl JsonWriter {
     }
 
     fn put_placed(&mut self, line: &mut Vec<u8>, item: &Item, span: Span) -> Result<(), NoMemory>
-        ensures { OnOk result (line.new.items ≡ line.old.items ++ compact_text (placed_json item.now span)) }
+        ensures { OnOk result (line.new.items
+            ≡ line.old.items ++ compact_text (placed_json item.now span)) }
     {
         put_count(line, "{\"buf\":", span.buffer)?;
         put_named(line, ",\"name\":", item.field)?;
@@ -130,7 +137,8 @@ impl JsonWriter {
     }
 
     fn put_made(&mut self, line: &mut Vec<u8>, item: &Item) -> Result<(), NoMemory>
-        ensures { OnOk result (line.new.items ≡ line.old.items ++ compact_text (made_json item.now)) }
+        ensures { OnOk result (line.new.items
+            ≡ line.old.items ++ compact_text (made_json item.now)) }
     {
         put_named(line, "{\"name\":", item.field)?;
         put_text(line, ",\"value\":")?;
@@ -146,7 +154,8 @@ impl JsonWriter {
         field: FieldId,
         value: &Value,
     ) -> Result<(), NoMemory>
-        ensures { OnOk result (line.new.items ≡ line.old.items ++ compact_text (value_json field value.now)) }
+        ensures { OnOk result (line.new.items
+            ≡ line.old.items ++ compact_text (value_json field value.now)) }
     {
         match value {
             Value::Uint(number) => put_number(line, *number),
@@ -169,7 +178,8 @@ impl JsonWriter {
         value: &Value,
     ) -> Result<(), NoMemory>
         requires { is_bare value.now ≡ false }
-        ensures { OnOk result (line.new.items ≡ line.old.items ++ string_text (shown_value field value.now)) }
+        ensures { OnOk result (line.new.items
+            ≡ line.old.items ++ string_text (shown_value field value.now)) }
     {
         self.text.clear();
         put_value(self.alloc, &mut self.text, field, value)?;
@@ -187,7 +197,8 @@ fn put_count(line: &mut Vec<u8>, key: &str, number: u32) -> Result<(), NoMemory>
 
 /// Appends a key and the name of a field or a protocol.
 fn put_named(line: &mut Vec<u8>, key: &str, field: FieldId) -> Result<(), NoMemory>
-    ensures { OnOk result (line.new.items ≡ line.old.items ++ (key.now ++ string_text (row_of field).name)) }
+    ensures { OnOk result (line.new.items
+        ≡ line.old.items ++ (key.now ++ string_text (row_of field).name)) }
 {
     put_text(line, key)?;
     put_name(line, field)
@@ -207,7 +218,8 @@ fn put_bare_text(
     value: &Value,
 ) -> Result<(), NoMemory>
     requires { is_bare value.now ≡ true }
-    ensures { OnOk result (line.new.items ≡ line.old.items ++ string_text (shown_value field value.now)) }
+    ensures { OnOk result (line.new.items
+        ≡ line.old.items ++ string_text (shown_value field value.now)) }
 {
     line.push(b'"')?;
     put_value(alloc, line, field, value)?;
@@ -219,7 +231,8 @@ fn put_bare_text(
 #[tactic(auto, using(crate::proofs::Texts::first_buffer, crate::proofs::Texts::further_buffer, crate::proofs::Texts::last_buffer))]
 fn put_buffers(line: &mut Vec<u8>, buffers: &Buffers) -> Result<(), NoMemory>
     requires { 0 < length buffers.now }
-    ensures { OnOk result (line.new.items ≡ line.old.items ++ items_text false (items_of (map buffer_json buffers.now))) }
+    ensures { OnOk result (line.new.items
+        ≡ line.old.items ++ items_text false (items_of (map buffer_json buffers.now))) }
 {
     put_buffer(line, buffers, 0)?;
     for number in 1..buffers.count() {
@@ -232,7 +245,8 @@ fn put_buffers(line: &mut Vec<u8>, buffers: &Buffers) -> Result<(), NoMemory>
 #[tactic(auto, unfolding(crate::specs::Lines::buffer_json, crate::specs::Lines::string_text, pk_buffer::specs::Buffers::bytes_of))]
 fn put_buffer(line: &mut Vec<u8>, buffers: &Buffers, number: u32) -> Result<(), NoMemory>
     requires { number < length buffers.now }
-    ensures { OnOk result (line.new.items ≡ line.old.items ++ compact_text (buffer_json (buffer_of buffers.now number))) }
+    ensures { OnOk result (line.new.items
+        ≡ line.old.items ++ compact_text (buffer_json (buffer_of buffers.now number))) }
 {
     let whole = Span {
         buffer: number,

@@ -33,7 +33,8 @@ is_wanted All filled = true
 abbrev pub front_of : Occurrence → ℕ → ColumnShown → List ℕ
 front_of First aggregator column = column.text
 front_of Last aggregator column = []
-front_of All aggregator column = if column.filled then column.text ++ aggregator ∷ [] else column.text
+front_of All aggregator column =
+    if column.filled then column.text ++ aggregator ∷ [] else column.text
 
 abbrev pub with_text : Occurrence → ℕ → ColumnShown → List ℕ → ColumnShown
 with_text occurrence aggregator column text =
@@ -48,7 +49,8 @@ with_value occurrence aggregator field column value =
 
 -- with these values
 abbrev pub with_values : Style → ℕ → ColumnShown → List Value → ColumnShown
-with_values style field column values = fold (with_value style.occurrence style.aggregator field) column values
+with_values style field column values =
+    fold (with_value style.occurrence style.aggregator field) column values
 
 -- what a line gets of it: nothing where there was no value
 abbrev pub written : Quote → ColumnShown → List ℕ

@@ -40,17 +40,26 @@ column_of style field (value ∷ values) =
 
 -- a field's column
 unfoldable pub column_text : TreeShown → Style → ℕ → List ℕ
-column_text t style field = column_of style field (chosen style.occurrence (values_of t field AllLayers))
+column_text t style field =
+    column_of style field (chosen style.occurrence (values_of t field AllLayers))
 
 -- a line: the fields' columns, joined by the separator, and a line feed, 10
 unfoldable pub field_line_of : List ℕ → TreeShown → Style → List ℕ
-field_line_of fields t style = join_by (column_text t style) (style.separator ∷ []) fields ++ 10 ∷ []
+field_line_of fields t style =
+    join_by (column_text t style) (style.separator ∷ []) fields ++ 10 ∷ []
 
 -- the line of the fields' names
 unfoldable pub header_of : List ℕ → Style → List ℕ
-header_of fields style = join_by (λ field. (row_of field).name) (style.separator ∷ []) fields ++ 10 ∷ []
+header_of fields style =
+    join_by (λ field. (row_of field).name) (style.separator ∷ []) fields ++ 10 ∷ []
 
 -- the style where none is asked for: a tab, 9, between columns, a comma, 44, between values
 abbrev pub default_style : Style
 default_style =
-    record { header = false; separator = 9; occurrence = occurrences.All; aggregator = 44; quote = quotes.None }
+    record {
+      header = false;
+      separator = 9;
+      occurrence = occurrences.All;
+      aggregator = 44;
+      quote = quotes.None;
+    }

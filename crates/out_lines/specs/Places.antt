@@ -19,7 +19,8 @@ place_in places f = slice_index_or places f None
 -- places are among so many columns, and no two fields have the same
 pub record ArePlaces (count : ℕ) (places : List (Option ℕ)) : Type 0 where
   pub within : (f place : ℕ) → place_in places f ≡ Some place → place < count
-  pub apart : (f g place : ℕ) → place_in places f ≡ Some place → place_in places g ≡ Some place → f ≡ g
+  pub apart : (f g place : ℕ) → place_in places f ≡ Some place → place_in places g ≡ Some place
+      → f ≡ g
 
 -- these fields have places among so many columns
 pub record ArePlanned (fields : List ℕ) (count : ℕ) (places : List (Option ℕ)) : Type 0 where
@@ -31,13 +32,17 @@ abbrev pub column_in : List ColumnShown → List (Option ℕ) → ℕ → Column
 column_in columns places f = column_at columns (place_in places f)
 
 -- each column got the values of its field
-pub record HasAdded (style : Style) (places : List (Option ℕ)) (old new : List ColumnShown) (values : ℕ → List Value) : Type 0 where
+pub record HasAdded (style : Style) (places : List (Option ℕ)) (old new : List ColumnShown)
+    (values : ℕ → List Value) : Type 0 where
   pub count : length new ≡ length old
-  pub added : (f : ℕ) → IsSome (place_in places f) → column_in new places f ≡ with_values style f (column_in old places f) (values f)
+  pub added : (f : ℕ) → IsSome (place_in places f)
+      → column_in new places f ≡ with_values style f (column_in old places f) (values f)
 
 -- the columns of all fields are those of a tree
-pub record AreWritten (style : Style) (columns : List ColumnShown) (places : List (Option ℕ)) (t : TreeShown) : Type 0 where
-  pub each : (f : ℕ) → IsSome (place_in places f) → written style.quote (column_in columns places f) ≡ column_text t style f
+pub record AreWritten (style : Style) (columns : List ColumnShown) (places : List (Option ℕ))
+    (t : TreeShown) : Type 0 where
+  pub each : (f : ℕ) → IsSome (place_in places f)
+      → written style.quote (column_in columns places f) ≡ column_text t style f
 
 -- what a field that is a protocol has of a layer of some protocol
 abbrev pub name_values : ℕ → List ℕ → ℕ → List Value

@@ -38,32 +38,39 @@ first_ip t = find is_ip t.layers
 abbrev pub ip_address : ℕ → ℕ → Option Layer → Option (List ℕ)
 ip_address four six None = None
 ip_address four six (Some layer) =
-    let field = if layer.proto == IP then four else six in first_shown field (item_values field layer.items)
+    let field =
+    if layer.proto == IP then four else six in first_shown field (item_values field layer.items)
 
 -- an address of the first IP header, where it has one, else the first of the link
 unfoldable pub address_in : TreeShown → ℕ → ℕ → ℕ → List ℕ
-address_in t four six link = or_dash (option_or (ip_address four six (first_ip t)) (first_in_tree t link))
+address_in t four six link =
+    or_dash (option_or (ip_address four six (first_ip t)) (first_in_tree t link))
 
 -- data and faults are no protocols to tell
 abbrev pub is_told : Layer → Bool
-is_told layer = not (layer.proto == DATA || (layer.proto == WS_SHORT || layer.proto == WS_MALFORMED))
+is_told layer =
+    not (layer.proto == DATA || (layer.proto == WS_SHORT || layer.proto == WS_MALFORMED))
 
 abbrev pub last_told : List Layer → Option Layer
 last_told layers = find is_told (reverse layers)
 
 -- the name of the last protocol
 unfoldable pub protocol_of : TreeShown → List ℕ
-protocol_of t = or_dash (option_map (λ (layer : Layer). (row_of layer.proto).name) (last_told t.layers))
+protocol_of t =
+    or_dash (option_map (λ (layer : Layer). (row_of layer.proto).name) (last_told t.layers))
 
 -- NUMBER TIME SOURCE -> TARGET PROTO LENGTH, with a line feed, 10
 abbrev pub times_of : TreeShown → List ℕ
 times_of t =
-    or_dash (first_in_tree t FRAME_NUMBER) ++ (codes " " ++ (or_dash (first_in_tree t FRAME_TIME_RELATIVE) ++ codes " "))
+    or_dash (first_in_tree t FRAME_NUMBER)
+    ++ (codes " " ++ (or_dash (first_in_tree t FRAME_TIME_RELATIVE) ++ codes " "))
 
 abbrev pub addresses_of : TreeShown → List ℕ
 addresses_of t =
-    address_in t IP_SRC IPV6_SRC ETH_SRC ++ (codes " -> " ++ (address_in t IP_DST IPV6_DST ETH_DST ++ codes " "))
+    address_in t IP_SRC IPV6_SRC ETH_SRC
+    ++ (codes " -> " ++ (address_in t IP_DST IPV6_DST ETH_DST ++ codes " "))
 
 unfoldable pub summary_of : TreeShown → List ℕ
 summary_of t =
-    times_of t ++ (addresses_of t ++ (protocol_of t ++ (codes " " ++ (or_dash (first_in_tree t FRAME_LEN) ++ 10 ∷ []))))
+    times_of t ++ (addresses_of t
+    ++ (protocol_of t ++ (codes " " ++ (or_dash (first_in_tree t FRAME_LEN) ++ 10 ∷ []))))

@@ -71,7 +71,11 @@ impl Column {
 
     /// Makes ready for one more value.
     fn begin_value(&mut self, style: &Style) -> Result<(), NoMemory>
-        ensures { OnOk result (self.new ≡ record { text = front_of style.now.occurrence style.now.aggregator self.old; filled = true }) }
+        ensures { OnOk result (self.new
+            ≡ record {
+              text = front_of style.now.occurrence style.now.aggregator self.old;
+              filled = true;
+            }) }
     {
         match style.occurrence {
             Occurrence::First => {}
@@ -93,7 +97,8 @@ impl Column {
         field: FieldId,
         value: &Value,
     ) -> Result<(), NoMemory>
-        ensures { OnOk result (self.new ≡ with_value style.now.occurrence style.now.aggregator field self.old value.now) }
+        ensures { OnOk result (self.new
+            ≡ with_value style.now.occurrence style.now.aggregator field self.old value.now) }
     {
         if !self.wants(style.occurrence) {
             return Ok(());
@@ -103,7 +108,8 @@ impl Column {
     }
 
     pub(crate) fn add_text(&mut self, style: &Style, text: &str) -> Result<(), NoMemory>
-        ensures { OnOk result (self.new ≡ with_text style.now.occurrence style.now.aggregator self.old text.now) }
+        ensures { OnOk result (self.new
+            ≡ with_text style.now.occurrence style.now.aggregator self.old text.now) }
     {
         if !self.wants(style.occurrence) {
             return Ok(());

@@ -52,7 +52,8 @@ fn add_column(
     requires { ArePlaces (length columns.old.items) places.old.items }
     ensures places { OnOk result (ArePlaces (length columns.new.items) places.new.items) }
     ensures there { OnOk result (IsSome (place_in places.new.items field)) }
-    ensures kept { OnOk result ((f : ℕ) → IsSome (place_in places.old.items f) → IsSome (place_in places.new.items f)) }
+    ensures kept { OnOk result ((f : ℕ) → IsSome (place_in places.old.items f)
+        → IsSome (place_in places.new.items f)) }
 {
     if place_of(places, field).is_some() {
         return Ok(());
@@ -67,7 +68,8 @@ fn add_column(
 /// Makes room for the place of one more number, which has none.
 fn make_room(places: &mut Vec<Option<usize>>, number: usize) -> Result<(), NoMemory>
     ensures room { OnOk result (number < length places.new.items) }
-    ensures same { OnOk result ((f : ℕ) → place_in places.new.items f ≡ place_in places.old.items f) }
+    ensures same { OnOk result ((f : ℕ)
+        → place_in places.new.items f ≡ place_in places.old.items f) }
 {
     while places.len() <= number {
         places.push(None)?;
@@ -94,7 +96,9 @@ pub(crate) fn add_layers(
 ) -> Result<(), NoMemory>
     requires places { ArePlaces (length columns.old) places.now }
     requires fit { (buffers : List (List ℕ)) × LayersFit buffers [] layers.now }
-    ensures added { OnOk result ((buffers : List (List ℕ)) → HasAdded style.now places.now columns.old columns.new (λ f. flat_map (layer_values buffers f) layers.now)) }
+    ensures added { OnOk result ((buffers : List (List ℕ))
+        → HasAdded style.now places.now columns.old columns.new (λ f.
+        flat_map (layer_values buffers f) layers.now)) }
     ensures count { length columns.new ≡ length columns.old }
 {
     for layer in layers {
@@ -112,7 +116,9 @@ fn add_layer(
 ) -> Result<(), NoMemory>
     requires places { ArePlaces (length columns.old) places.now }
     requires proto { IsProtocol layer.now.proto }
-    ensures added { OnOk result ((buffers : List (List ℕ)) → HasAdded style.now places.now columns.old columns.new (λ f. layer_values buffers f layer.now)) }
+    ensures added { OnOk result ((buffers : List (List ℕ))
+        → HasAdded style.now places.now columns.old columns.new (λ f.
+        layer_values buffers f layer.now)) }
     ensures count { length columns.new ≡ length columns.old }
 {
     add_name(columns, places, style, layer.proto)?;
@@ -128,7 +134,8 @@ fn add_name(
 ) -> Result<(), NoMemory>
     requires places { ArePlaces (length columns.old) places.now }
     requires proto { IsProtocol protocol }
-    ensures added { OnOk result ((bytes : List ℕ) → HasAdded style.now places.now columns.old columns.new (name_values protocol bytes)) }
+    ensures added { OnOk result ((bytes : List ℕ)
+        → HasAdded style.now places.now columns.old columns.new (name_values protocol bytes)) }
     ensures count { length columns.new ≡ length columns.old }
 {
     if let Some(place) = place_of(places, protocol) {
@@ -144,7 +151,8 @@ fn add_items(
     items: &[Item],
 ) -> Result<(), NoMemory>
     requires places { ArePlaces (length columns.old) places.now }
-    ensures added { OnOk result (HasAdded style.now places.now columns.old columns.new (λ f. own_values f items.now)) }
+    ensures added { OnOk result
+        (HasAdded style.now places.now columns.old columns.new (λ f. own_values f items.now)) }
     ensures count { length columns.new ≡ length columns.old }
 {
     for item in items {
@@ -161,7 +169,9 @@ fn add_item(
     item: &Item,
 ) -> Result<(), NoMemory>
     requires places { ArePlaces (length columns.old) places.now }
-    ensures added { OnOk result (HasAdded style.now places.now columns.old columns.new (λ f. own_values f (item.now ∷ []))) }
+    ensures added { OnOk result
+        (HasAdded style.now places.now columns.old columns.new (λ f.
+        own_values f (item.now ∷ []))) }
     ensures count { length columns.new ≡ length columns.old }
 {
     let Some(place) = place_of(places, item.field) else {

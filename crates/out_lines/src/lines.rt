@@ -37,7 +37,8 @@ impl Model for LineWriter {
 
     ghost view = { λ writer. writer.fields.items };
 
-    ghost invariant = { λ writer. ArePlanned writer.fields.items (length writer.columns.items) writer.places.items };
+    ghost invariant = { λ writer.
+        ArePlanned writer.fields.items (length writer.columns.items) writer.places.items };
 }
 
 impl LineWriter {
@@ -96,7 +97,8 @@ pub fn header_line(alloc: Global, fields: &[FieldId], style: &Style) -> Result<V
 }
 
 fn put_names(line: &mut Vec<u8>, fields: &[FieldId], separator: u8) -> Result<(), NoMemory>
-    ensures { OnOk result (line.new.items ≡ line.old.items ++ join_by (λ field. (row_of field).name) (separator ∷ []) fields.now) }
+    ensures { OnOk result (line.new.items
+        ≡ line.old.items ++ join_by (λ field. (row_of field).name) (separator ∷ []) fields.now) }
 {
     match fields {
         [] => Ok(()),
@@ -109,7 +111,8 @@ fn put_names(line: &mut Vec<u8>, fields: &[FieldId], separator: u8) -> Result<()
 
 /// Names behind the first, each behind a separator.
 fn put_further_names(line: &mut Vec<u8>, fields: &[FieldId], separator: u8) -> Result<(), NoMemory>
-    ensures { OnOk result (line.new.items ≡ line.old.items ++ flat_map (λ field. separator ∷ (row_of field).name) fields.now) }
+    ensures { OnOk result (line.new.items
+        ≡ line.old.items ++ flat_map (λ field. separator ∷ (row_of field).name) fields.now) }
 {
     for field in fields {
         line.push(separator)?;
@@ -159,7 +162,10 @@ fn put_columns(
     style: &Style,
 ) -> Result<(), NoMemory>
     requires { ArePlaces (length columns.now) places.now }
-    ensures { OnOk result (line.new.items ≡ line.old.items ++ join_by (λ field. written style.now.quote (column_in columns.now places.now field)) (style.now.separator ∷ []) fields.now) }
+    ensures { OnOk result (line.new.items
+        ≡ line.old.items ++ join_by (λ field.
+        written style.now.quote (column_in columns.now places.now field))
+        (style.now.separator ∷ []) fields.now) }
 {
     match fields {
         [] => Ok(()),
@@ -179,7 +185,10 @@ fn put_further(
     style: &Style,
 ) -> Result<(), NoMemory>
     requires { ArePlaces (length columns.now) places.now }
-    ensures { OnOk result (line.new.items ≡ line.old.items ++ flat_map (λ field. style.now.separator ∷ written style.now.quote (column_in columns.now places.now field)) fields.now) }
+    ensures { OnOk result (line.new.items
+        ≡ line.old.items ++ flat_map (λ field.
+        style.now.separator ∷ written style.now.quote (column_in columns.now places.now field))
+        fields.now) }
 {
     for field in fields {
         line.push(style.separator)?;
@@ -196,7 +205,8 @@ fn put_column(
     quote: Quote,
 ) -> Result<(), NoMemory>
     requires { ArePlaces (length columns.now) places.now }
-    ensures { OnOk result (line.new.items ≡ line.old.items ++ written quote (column_in columns.now places.now field)) }
+    ensures { OnOk result (line.new.items
+        ≡ line.old.items ++ written quote (column_in columns.now places.now field)) }
 {
     match place_of(places, field) {
         Some(place) => put_filled(line, &columns[place], quote),

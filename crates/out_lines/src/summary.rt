@@ -60,7 +60,8 @@ fn put_addresses(alloc: Global, line: &mut Vec<u8>, tree: &Tree) -> Result<(), N
 
 #[tactic(auto, unfolding(pk_fields::specs::Fields::row_of, pk_fields::specs::Table::rows))]
 fn put_length(alloc: Global, line: &mut Vec<u8>, tree: &Tree) -> Result<(), NoMemory>
-    ensures { OnOk result (line.new.items ≡ line.old.items ++ or_dash (first_in_tree tree.now FRAME_LEN)) }
+    ensures { OnOk result (line.new.items
+        ≡ line.old.items ++ or_dash (first_in_tree tree.now FRAME_LEN)) }
 {
     put_first(alloc, line, tree, ids::FRAME_LEN)
 }
@@ -69,7 +70,8 @@ fn put_length(alloc: Global, line: &mut Vec<u8>, tree: &Tree) -> Result<(), NoMe
 #[tactic(auto, using(crate::proofs::ColumnLemmas::tree_values_of_field), unfolding(crate::specs::Summary::first_in_tree))]
 fn put_first(alloc: Global, line: &mut Vec<u8>, tree: &Tree, field: FieldId) -> Result<(), NoMemory>
     requires { is_proto (row_of field).kind ≡ false }
-    ensures { OnOk result (line.new.items ≡ line.old.items ++ or_dash (first_in_tree tree.now field)) }
+    ensures { OnOk result (line.new.items
+        ≡ line.old.items ++ or_dash (first_in_tree tree.now field)) }
 {
     match first_value(tree.layers(), field) {
         Some(value) => put_value(alloc, line, field, value),
@@ -78,7 +80,8 @@ fn put_first(alloc: Global, line: &mut Vec<u8>, tree: &Tree, field: FieldId) -> 
 }
 
 fn first_value(layers: &[Layer], field: FieldId) -> Option<&Value>
-    ensures { option_copied result ≡ first_value (flat_map (λ (layer : Layer). item_values field layer.items) layers.now) }
+    ensures { option_copied result
+        ≡ first_value (flat_map (λ (layer : Layer). item_values field layer.items) layers.now) }
 {
     for layer in layers {
         if let Some(value) = first_item(layer.items.slice(), field) {

@@ -43,7 +43,8 @@ fn add(builder: &mut TreeBuilder, proto: FieldId, items: &[Step]) -> Result<(), 
 /// An ARP request of 60 bytes, of which `captured` were captured, to everyone on an Ethernet.
 #[tactic(auto, unfolding(pk_tree::specs::Layouts::StepsFit, pk_fields::specs::Fields::row_of, pk_fields::specs::Table::rows))]
 fn request(rt: &HostRuntime, captured: u32) -> Result<TreeBuilder, NoMemory>
-    ensures inside { IfOk result (λ builder. IsInside builder.buffers (record { buffer = 0; start = 0; len = 5 })) }
+    ensures inside { IfOk result (λ builder.
+        IsInside builder.buffers (record { buffer = 0; start = 0; len = 5 })) }
     ensures most { IfOk result (λ builder. length builder.layers ≤ 6) }
 {
     let mut builder = TreeBuilder::new(rt.alloc(), Octets::copy(rt.alloc(), BYTES)?)?;

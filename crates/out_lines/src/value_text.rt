@@ -48,7 +48,8 @@ pub fn put_number(line: &mut Vec<u8>, number: u64) -> Result<(), NoMemory>
 }
 
 fn put_truth(line: &mut Vec<u8>, truth: bool) -> Result<(), NoMemory>
-    ensures { OnOk result (line.new.items ≡ line.old.items ++ (if truth then codes "1" else codes "0")) }
+    ensures { OnOk result (line.new.items
+        ≡ line.old.items ++ (if truth then codes "1" else codes "0")) }
 {
     line.push(if truth { b'1' } else { b'0' })?;
     Ok(())

@@ -33,7 +33,11 @@ abbrev pub header_after_magic : Bool → Bool → List ℕ → HeadStep
 header_after_magic little nano bytes =
     if nat_lt (length bytes) 24 then head.Need 24
     else if number_at little 2 4 bytes == major_version
-    then head.Head (record { little = little; nano = nano; link = number_at little 4 20 bytes % 2 ^ 16 })
+    then head.Head (record {
+      little = little;
+      nano = nano;
+      link = number_at little 4 20 bytes % 2 ^ 16;
+    })
     else head.Bad BadVersion
 
 -- what the first bytes of a file are. Its byte order is the one in which the magic number reads right
@@ -48,7 +52,8 @@ pcap_head bytes =
 
 -- nanoseconds since 1970
 abbrev pub nanoseconds : Bool → ℕ → ℕ → ℤ
-nanoseconds nano seconds fraction = pos (seconds * 10 ^ 9 + (if nano then fraction else fraction * 10 ^ 3))
+nanoseconds nano seconds fraction =
+    pos (seconds * 10 ^ 9 + (if nano then fraction else fraction * 10 ^ 3))
 
 -- what the bytes are from a record's first on
 unfoldable pub pcap_item : PcapHead → List ℕ → ItemStep
@@ -78,5 +83,6 @@ IsHeadWithin (head.Bad reason) held = Unit {0}
 -- a record ends within so many bytes and its frame within the record, and more are needed only where there are fewer
 abbrev pub IsItemWithin : ItemStep → ℕ → Type 0
 IsItemWithin (item.Need n) held = (held < n) × (n ≤ 16 + captured_limit)
-IsItemWithin (item.Item found) held = (0 < found.end) × (found.end ≤ held) × (found.start + found.len ≤ found.end)
+IsItemWithin (item.Item found) held =
+    (0 < found.end) × (found.end ≤ held) × (found.start + found.len ≤ found.end)
 IsItemWithin (item.Bad reason) held = Unit {0}

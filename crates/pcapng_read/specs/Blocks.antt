@@ -65,23 +65,32 @@ total_length little bytes = number_at little 4 4 bytes
 -- a section of the only major version
 abbrev pub section_of : Bool → List ℕ → BlockRead
 section_of little bytes =
-    if number_at little 2 12 bytes == 1 then Whole (block.Section little) (total_length little bytes) else Bad BadVersion
+    if number_at little 2 12 bytes == 1
+    then Whole (block.Section little) (total_length little bytes) else Bad BadVersion
 
 -- an interface whose options are read, by its clock's rate
 abbrev pub interface_with : Bool → List ℕ → Settings → Option ℕ → BlockRead
 interface_with little bytes settings None = Bad BadResolution
 interface_with little bytes settings (Some rate) =
-    Whole (block.Interface (record { link = number_at little 2 8 bytes; snap = number_at little 4 12 bytes; rate = rate; offset = settings.offset }))
+    Whole (block.Interface (record {
+      link = number_at little 2 8 bytes;
+      snap = number_at little 4 12 bytes;
+      rate = rate;
+      offset = settings.offset;
+    }))
     (total_length little bytes)
 
 -- an interface, by what its options say
 abbrev pub interface_by : Bool → List ℕ → Option Settings → BlockRead
 interface_by little bytes None = Bad BadOption
-interface_by little bytes (Some settings) = interface_with little bytes settings (ticks_per_second settings.resolution)
+interface_by little bytes (Some settings) =
+    interface_with little bytes settings (ticks_per_second settings.resolution)
 
 -- an interface, whose options stand behind its snaplen
 abbrev pub interface_of : Bool → List ℕ → BlockRead
-interface_of little bytes = interface_by little bytes (settings_of little (slice_range bytes 16 (total_length little bytes - 4)))
+interface_of little bytes =
+    interface_by little bytes
+    (settings_of little (slice_range bytes 16 (total_length little bytes - 4)))
 
 -- the packet of an enhanced or obsolete packet block of an interface
 abbrev pub timed_packet : Bool → List ℕ → Interface → Found
@@ -128,9 +137,14 @@ abbrev pub whole_block : List Interface → Bool → ℕ → List ℕ → BlockR
 whole_block interfaces little kind bytes =
     if kind == section_type then section_of little bytes
     else if kind == interface_type then interface_of little bytes
-    else if kind == obsolete_packet_type then packet_of (timed_packet little bytes) (slice_get interfaces (number_at little 2 8 bytes))
-    else if kind == simple_packet_type then packet_of (simple_packet little bytes) (slice_get interfaces 0)
-    else if kind == enhanced_packet_type then packet_of (timed_packet little bytes) (slice_get interfaces (number_at little 4 8 bytes))
+    else if kind == obsolete_packet_type
+    then packet_of (timed_packet little bytes)
+    (slice_get interfaces (number_at little 2 8 bytes))
+    else if kind == simple_packet_type
+    then packet_of (simple_packet little bytes) (slice_get interfaces 0)
+    else if kind == enhanced_packet_type
+    then packet_of (timed_packet little bytes)
+    (slice_get interfaces (number_at little 4 8 bytes))
     else Whole block.Other (total_length little bytes)
 
 -- a block in a known byte order, by its length's cases and then its type's
@@ -138,7 +152,8 @@ abbrev pub measured_block : List Interface → Bool → List ℕ → BlockRead
 measured_block interfaces little bytes =
     if nat_lt total (least_length kind) || not (total % 4 == 0) then Bad BlockLength
     else if nat_lt (length bytes) total then Need total
-    else if number_at little 4 (total - 4) bytes == total then whole_block interfaces little kind bytes
+    else if number_at little 4 (total - 4) bytes == total
+    then whole_block interfaces little kind bytes
     else Bad BlockLength
   where
     kind : ℕ
@@ -163,7 +178,8 @@ ordered_block interfaces bytes (Some little) = measured_block interfaces little 
 unfoldable pub block_at : Option Bool → List Interface → List ℕ → BlockRead
 block_at order interfaces bytes =
     if nat_lt (length bytes) 12 then Need 12
-    else ordered_block interfaces bytes (if number_at true 4 0 bytes == section_type then told_order bytes else order)
+    else ordered_block interfaces bytes (if number_at true 4 0 bytes == section_type
+    then told_order bytes else order)
 
 -- a block ends within so many bytes and its packet within the block, and more are needed only where there are fewer
 abbrev pub IsPacketWithin : Block → ℕ → Type 0

@@ -34,8 +34,13 @@ option_of little bytes =
     if nat_lt (length bytes) 4 then step.Bad
     else if code == end_code then step.End
     else if nat_lt (length bytes) size then step.Bad
-    else if code == resolution_code then (if value_length == 1 then step.Sets (Resolution (slice_index bytes 4)) size else step.Bad)
-    else if code == offset_code then (if value_length == 8 then step.Sets (Offset (cast_signed w64 (number_at little 8 4 bytes))) size else step.Bad)
+    else if code == resolution_code
+    then (if value_length == 1 then step.Sets (Resolution (slice_index bytes 4)) size
+    else step.Bad)
+    else if code == offset_code
+    then (if value_length == 8
+    then step.Sets (Offset (cast_signed w64 (number_at little 8 4 bytes))) size
+    else step.Bad)
     else step.Sets Other size
   where
     code : ℕ
@@ -51,7 +56,8 @@ option_of little bytes =
 abbrev pub after_option : (ℕ → Option (List Setting)) → OptionStep → Option (List Setting)
 after_option follows step.End = Some []
 after_option follows step.Bad = None
-after_option follows (step.Sets setting size) = option_map (λ settings. setting ∷ settings) (follows size)
+after_option follows (step.Sets setting size) =
+    option_map (λ settings. setting ∷ settings) (follows size)
 
 -- what the options say, in their order, of which the first begins `skip` bytes further on; nothing where one of them
 -- runs past the bytes or has another length than its code's
@@ -59,7 +65,8 @@ unfoldable pub options_of : Bool → ℕ → List ℕ → Option (List Setting)
 options_of little (suc skip) [] = Some []
 options_of little (suc skip) (b ∷ rest) = options_of little skip rest
 options_of little zero [] = Some []
-options_of little zero (b ∷ rest) = after_option (λ size. options_of little (size - 1) rest) (option_of little (b ∷ rest))
+options_of little zero (b ∷ rest) =
+    after_option (λ size. options_of little (size - 1) rest) (option_of little (b ∷ rest))
 
 -- the last resolution, or the one given where there is none
 abbrev pub last_resolution : ℕ → List Setting → ℕ
@@ -77,7 +84,10 @@ last_offset given (Other ∷ later) = last_offset given later
 
 -- what holds after these options, where the last of each code counts
 abbrev pub after_all : Settings → List Setting → Settings
-after_all given all = record { resolution = last_resolution given.resolution all; offset = last_offset given.offset all }
+after_all given all = record {
+  resolution = last_resolution given.resolution all;
+  offset = last_offset given.offset all;
+}
 
 -- what holds after one option more
 abbrev pub after_one : Settings → Setting → Settings

@@ -69,7 +69,8 @@ block_in scope bytes = block_at scope.order scope.interfaces bytes
 -- a block more
 abbrev pub scope_with : Scope → Block → Scope
 scope_with scope (block.Section little) = record { order = Some little; interfaces = [] }
-scope_with scope (block.Interface interface) = record { order = scope.order; interfaces = scope.interfaces ++ interface ∷ [] }
+scope_with scope (block.Interface interface) =
+    record { order = scope.order; interfaces = scope.interfaces ++ interface ∷ [] }
 scope_with scope (block.Packet found) = scope
 scope_with scope block.Other = scope
 
@@ -100,6 +101,7 @@ WhenUntaken (step.Bad reason) P = P
 -- a block ends within so many bytes and its packet within the block, and more are needed only where there are fewer
 abbrev pub IsStepWithin : BlockStep → ℕ → Type 0
 IsStepWithin (step.Need n) held = held < n
-IsStepWithin (step.Item found) held = (0 < found.end) × (found.end ≤ held) × (found.start + found.len ≤ found.end)
+IsStepWithin (step.Item found) held =
+    (0 < found.end) × (found.end ≤ held) × (found.start + found.len ≤ found.end)
 IsStepWithin (step.Skipped n) held = (0 < n) × (n ≤ held)
 IsStepWithin (step.Bad reason) held = Unit {0}

@@ -12,4 +12,5 @@ binary_rate n = if nat_lt 63 n then None else Some (2 ^ n)
 -- how many ticks make a second, or nothing where they are too fine: the low seven bits of the resolution are n, and its
 -- top bit says which of the two
 abbrev pub ticks_per_second : ℕ → Option ℕ
-ticks_per_second resolution = if nat_lt resolution 128 then decimal_rate resolution else binary_rate (resolution - 128)
+ticks_per_second resolution =
+    if nat_lt resolution 128 then decimal_rate resolution else binary_rate (resolution - 128)

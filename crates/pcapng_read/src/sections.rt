@@ -39,8 +39,10 @@ impl Sections {
     /// section's type, `0A 0D 0D 0A`. After an error, `Need` or `Bad` the sections are as before.
     pub fn next_block(&mut self, rest: &[u8]) -> Result<BlockStep, NoMemory>
         requires { IsReady self.old rest.now }
-        ensures step { (before : List Block) → Stands self.old before → IfOk result (λ step. step ≡ step_of (block_of before rest.now)) }
-        ensures stands { (before : List Block) → Stands self.old before → OnOk result (Stands self.new (blocks_after (block_of before rest.now) before)) }
+        ensures step { (before : List Block) → Stands self.old before
+            → IfOk result (λ step. step ≡ step_of (block_of before rest.now)) }
+        ensures stands { (before : List Block) → Stands self.old before
+            → OnOk result (Stands self.new (blocks_after (block_of before rest.now) before)) }
         ensures scope_step { IfOk result (λ step. step ≡ step_of (block_in self.old rest.now)) }
         ensures scope { OnOk result (self.new ≡ scope_after (block_in self.old rest.now) self.old) }
         ensures untaken { IfOk result (λ step. WhenUntaken step (self.new ≡ self.old)) }

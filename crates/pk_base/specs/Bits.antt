@@ -13,4 +13,5 @@ sum_below (suc n) f = sum_below n f + f n
 
 -- the number that width bits from first on spell, the most significant first
 unfoldable pub number_of_bits : List ℕ → ℕ → ℕ → ℕ
-number_of_bits bytes first width = sum_below width (λ j. bit_of bytes (first + j) * 2 ^ (width - 1 - j))
+number_of_bits bytes first width =
+    sum_below width (λ j. bit_of bytes (first + j) * 2 ^ (width - 1 - j))

@@ -15,7 +15,8 @@ buffer_of buffers number = slice_index_or buffers number []
 -- there is such a buffer, and it has all the span's bytes
 abbrev pub IsInside : List (List ℕ) → Span → Type 0
 IsInside buffers span =
-    (span.buffer < length buffers) × (span.start + span.len ≤ length (buffer_of buffers span.buffer))
+    (span.buffer < length buffers)
+    × (span.start + span.len ≤ length (buffer_of buffers span.buffer))
 
 -- the span's bytes
 unfoldable pub bytes_of : List (List ℕ) → Span → List ℕ

@@ -25,14 +25,22 @@ pub record FieldRow : Type 0 where
 -- a field that is read from bits: the first, how many, and the factor that their number is taken by
 abbrev pub placed : List ℕ → ValueKind → ℕ → ℕ → ℕ → ℕ → FieldRow
 placed name kind proto first width scale =
-    record { name = name; kind = kind; proto = proto; bits = Some (record { first = first; width = width; scale = scale }); mark = Plain }
+    record {
+      name = name;
+      kind = kind;
+      proto = proto;
+      bits = Some (record { first = first; width = width; scale = scale });
+      mark = Plain;
+    }
 
 -- a field whose value is all its item's bytes, or a protocol, whose value is the bytes of its layer
 abbrev pub whole : List ℕ → ValueKind → ℕ → FieldRow
-whole name kind proto = record { name = name; kind = kind; proto = proto; bits = None; mark = Plain }
+whole name kind proto =
+    record { name = name; kind = kind; proto = proto; bits = None; mark = Plain }
 
 abbrev pub derived : List ℕ → ValueKind → ℕ → FieldRow
-derived name kind proto = record { name = name; kind = kind; proto = proto; bits = None; mark = Derived }
+derived name kind proto =
+    record { name = name; kind = kind; proto = proto; bits = None; mark = Derived }
 
 abbrev pub made : List ℕ → ValueKind → ℕ → FieldRow
 made name kind proto = record { name = name; kind = kind; proto = proto; bits = None; mark = Made }
@@ -45,7 +53,8 @@ IsKind kind = Unit {0}
 -- bits that begin in the item's first byte, and whose number, taken by the factor, is a value of the kind
 abbrev pub IsSound : ValueKind → BitPlace → Type 0
 IsSound (Uint width) place =
-    (place.first < 8) × (1 ≤ place.width) × (place.width ≤ 64) × (1 ≤ place.scale) × (place.scale * 2 ^ place.width ≤ 2 ^ width) × (2 ^ width ≤ 2 ^ 64)
+    (place.first < 8) × (1 ≤ place.width) × (place.width ≤ 64) × (1 ≤ place.scale)
+    × (place.scale * 2 ^ place.width ≤ 2 ^ width) × (2 ^ width ≤ 2 ^ 64)
 IsSound Bool place = (place.first < 8) × (place.width ≡ 1) × (place.scale ≡ 1)
 IsSound Ether place = (place.first ≡ 0) × (place.width ≡ 48) × (place.scale ≡ 1)
 IsSound Ip4 place = (place.first ≡ 0) × (place.width ≡ 32) × (place.scale ≡ 1)
@@ -92,4 +101,10 @@ mark_of origins.Made = Made
 -- what a row of the program's table says
 abbrev pub row_shown : Row → FieldRow
 row_shown row =
-    record { name = row.name.now; kind = row.kind; proto = row.proto; bits = bits_of row.origin; mark = mark_of row.origin }
+    record {
+      name = row.name.now;
+      kind = row.kind;
+      proto = row.proto;
+      bits = bits_of row.origin;
+      mark = mark_of row.origin;
+    }

@@ -52,14 +52,16 @@ impl FieldSet {
 
     /// Whether the protocol or a field of it may be in the set.
     pub fn has_any_of(&self, protocol: FieldId) -> bool
-        ensures { result ≡ false → (f : ℕ) → (row_of f).proto ≡ protocol → is_in self.now f ≡ false }
+        ensures { result ≡ false → (f : ℕ) → (row_of f).proto ≡ protocol
+            → is_in self.now f ≡ false }
     {
         has_bit(&self.words, protocol)
     }
 
     /// Adds a field and its protocol.
     pub fn add(&mut self, field: FieldId)
-        ensures { (f : ℕ) → is_in self.new f ≡ (f == field || (f == (row_of field).proto || is_in self.old f)) }
+        ensures { (f : ℕ) → is_in self.new f
+            ≡ (f == field || (f == (row_of field).proto || is_in self.old f)) }
     {
         let home = proto(field);
         set_bit(&mut self.words, home);

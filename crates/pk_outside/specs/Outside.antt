@@ -16,11 +16,13 @@ Rose old new = counted old ≤ new
 abbrev pub Moves : Option (List ℕ) → Option (List ℕ) → List ℕ → List ℕ → ℕ → Type 0
 Moves None left to_old to_new n = left ≡ None
 Moves (Some bytes) left to_old to_new n =
-    (n ≤ length bytes) × (left ≡ Some (drop n bytes)) × (to_new ≡ take n bytes ++ drop n to_old) × ((n ≡ 0) ↔ (bytes ≡ []))
+    (n ≤ length bytes) × (left ≡ Some (drop n bytes)) × (to_new ≡ take n bytes ++ drop n to_old)
+    × ((n ≡ 0) ↔ (bytes ≡ []))
 
 -- known bytes grow by a front of the whole
 abbrev pub AppendsPart : Option (List ℕ) → Option (List ℕ) → List ℕ → Type 0
-AppendsPart old new whole = (piece : List ℕ) × (rest : List ℕ) × (piece ++ rest ≡ whole) × Appends old new piece
+AppendsPart old new whole =
+    (piece : List ℕ) × (rest : List ℕ) × (piece ++ rest ≡ whole) × Appends old new piece
 
 -- the count of one kind of fault goes up by one, and the other count stays
 pub record CountsOne (old new other_old other_new : ℕ) : Type 0 where
@@ -29,5 +31,7 @@ pub record CountsOne (old new other_old other_new : ℕ) : Type 0 where
 
 -- a write that answers this fault is counted as one of its kind
 abbrev pub CountsFault : SinkFault → ℕ → ℕ → ℕ → ℕ → Type 0
-CountsFault Failed faults_old faults_new starved_old starved_new = CountsOne faults_old faults_new starved_old starved_new
-CountsFault NoMemory faults_old faults_new starved_old starved_new = CountsOne starved_old starved_new faults_old faults_new
+CountsFault Failed faults_old faults_new starved_old starved_new =
+    CountsOne faults_old faults_new starved_old starved_new
+CountsFault NoMemory faults_old faults_new starved_old starved_new =
+    CountsOne starved_old starved_new faults_old faults_new

@@ -14,4 +14,5 @@ bytes_from files (Some place) = drop place.at (bytes_of files place.file)
 -- the place is in one of the files
 abbrev pub IsInFiles : List (List ℕ × List ℕ) → Option Place → Type 0
 IsInFiles files None = ⊤
-IsInFiles files (Some place) = (place.file < length files) × (place.at ≤ length (bytes_of files place.file))
+IsInFiles files (Some place) =
+    (place.file < length files) × (place.at ≤ length (bytes_of files place.file))

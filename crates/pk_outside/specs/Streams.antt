@@ -7,7 +7,9 @@ abbrev pub stream_of : {W : Type 0} → StdSink W → W
 stream_of sink = sink.stream
 
 -- a read of an open file gave what the file gave, and with no open file it gave nothing
-abbrev pub ReadsFile : {F E : Type 0} → (F → Option (List ℕ)) → Option F → Option F → Result ℕ E → List ℕ → Type 0
+abbrev pub ReadsFile : {F E : Type 0} → (F → Option (List ℕ)) → Option F → Option F → Result ℕ E
+    → List ℕ → Type 0
 ReadsFile remaining None new result to = (new ≡ None) × (result ≡ Ok 0)
 ReadsFile remaining (Some old) None result to = ⊥
-ReadsFile remaining (Some old) (Some new) result to = ReadConsumes (remaining old) (remaining new) result to
+ReadsFile remaining (Some old) (Some new) result to =
+    ReadConsumes (remaining old) (remaining new) result to

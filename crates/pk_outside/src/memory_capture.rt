@@ -122,7 +122,8 @@ fn index_of(files: &[NamedFile], name: &str) -> Option<usize>
 #[tactic(auto, using(crate::proofs::Files::file_at_index))]
 fn start_of(files: &[NamedFile], name: &str) -> Option<Place>
     ensures within { IsInFiles files.now result }
-    ensures found { OnSome result (file_named files.now name.now ≡ Some (bytes_from files.now result)) }
+    ensures found { OnSome result (file_named files.now name.now
+        ≡ Some (bytes_from files.now result)) }
     ensures unknown { IfNone result (file_named files.now name.now ≡ None) }
 {
     index_of(files, name).map(|file| Place { file, at: 0 })
@@ -133,8 +134,10 @@ fn read_on(files: &[NamedFile], place: &mut Place, most: usize, to: &mut [u8]) -
     requires { IsInFiles files.now (Some place.old) }
     ensures count { result
         ≡ min most (min (length to.old) (length (bytes_from files.now (Some place.old)))) }
-    ensures moved { to.new ≡ take result (bytes_from files.now (Some place.old)) ++ drop result to.old }
-    ensures left { bytes_from files.now (Some place.new) ≡ drop result (bytes_from files.now (Some place.old)) }
+    ensures moved { to.new ≡ take result (bytes_from files.now (Some place.old))
+        ++ drop result to.old }
+    ensures left { bytes_from files.now (Some place.new)
+        ≡ drop result (bytes_from files.now (Some place.old)) }
     ensures within { IsInFiles files.now (Some place.new) }
 {
     let file = &files[place.file];
@@ -170,7 +173,8 @@ impl Capture for MemoryCapture {
         ensures refused { self.new.refused ≡ is_err result }
         ensures faults { self.new.faults ≡ self.old.faults }
 
-        ensures left { OnOk result (Some self.new.left ≡ file_named self.old.files (string_bytes name)) }
+        ensures left { OnOk result (Some self.new.left
+            ≡ file_named self.old.files (string_bytes name)) }
         ensures begun { OnOk result (self.new.begun ≡ counted self.old.begun) }
         ensures not_missed { OnOk result (self.new.missed ≡ self.old.missed) }
 
@@ -199,7 +203,8 @@ impl Capture for MemoryCapture {
         // It fails where its number is one of those that are to fail, and nowhere else.
         ensures failed { is_err result ≡ is_to_fail self.old.failing self.new.calls }
         ensures calls { self.new.calls ≡ counted self.old.calls }
-        ensures count { IfOk result (λ n. n ≡ min self.old.step (min (length to.old) (length self.old.left))) }
+        ensures count { IfOk result (λ n.
+            n ≡ min self.old.step (min (length to.old) (length self.old.left))) }
         ensures moved { IfOk result (λ n. to.new ≡ take n self.old.left ++ drop n to.old) }
         ensures at_end { IfOk result (λ n. (n ≡ 0) ↔ (self.old.left ≡ [])) }
         ensures left { IfOk result (λ n. self.new

@@ -28,15 +28,18 @@ pub trait Sink {
         requires { 0 < length from.now }
         ensures some { IfOk result (λ n. 0 < n) }
         ensures within { IfOk result (λ n. n ≤ length from.now) }
-        ensures written { IfOk result (λ n. Appends (written self.old) (written self.new) (take n from.now)) }
+        ensures written { IfOk result (λ n.
+            Appends (written self.old) (written self.new) (take n from.now)) }
         ensures no_fault { OnOk result (faults self.new ≡ faults self.old) }
         ensures not_starved { OnOk result (starved self.new ≡ starved self.old) }
 
         ensures kept { OnErr result (Keeps (written self.old) (written self.new)) }
         ensures counts { IfErr result (λ fault.
-            CountsFault fault (faults self.old) (faults self.new) (starved self.old) (starved self.new)) }
+            CountsFault fault (faults self.old) (faults self.new) (starved self.old)
+            (starved self.new)) }
         ensures fault { IsErrOf result SinkFault.Failed → Rose (faults self.old) (faults self.new) }
-        ensures starve { IsErrOf result SinkFault.NoMemory → Rose (starved self.old) (starved self.new) }
+        ensures starve { IsErrOf result SinkFault.NoMemory
+            → Rose (starved self.old) (starved self.new) }
 
         // However the call ends.
         ensures faults_stay { faults self.old ≤ faults self.new }
@@ -51,9 +54,11 @@ pub fn write_whole<S: Sink>(sink: &mut S, from: &[u8]) -> Result<(), SinkFault>
     ensures not_starved { OnOk result (S.starved sink.new ≡ S.starved sink.old) }
 
     ensures counts { IfErr result (λ fault.
-        CountsFault fault (S.faults sink.old) (S.faults sink.new) (S.starved sink.old) (S.starved sink.new)) }
+        CountsFault fault (S.faults sink.old) (S.faults sink.new) (S.starved sink.old)
+        (S.starved sink.new)) }
     ensures fault { IsErrOf result SinkFault.Failed → Rose (S.faults sink.old) (S.faults sink.new) }
-    ensures starve { IsErrOf result SinkFault.NoMemory → Rose (S.starved sink.old) (S.starved sink.new) }
+    ensures starve { IsErrOf result SinkFault.NoMemory
+        → Rose (S.starved sink.old) (S.starved sink.new) }
 
     // However the call ends.
     ensures part { AppendsPart (S.written sink.old) (S.written sink.new) from.now }

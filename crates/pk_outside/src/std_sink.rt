@@ -37,7 +37,8 @@ impl<W: Write + Drop> Sink for StdSink<W> {
     // A stream that takes nothing of a piece would be asked again without end, so that counts as a failure.
     fn write(&mut self, from: &[u8]) -> Result<usize, SinkFault>
         requires { 0 < length from.now }
-        ensures handed { WriteAppends (W.contents (stream_of self.old)) (W.contents (stream_of self.new))
+        ensures handed { WriteAppends (W.contents (stream_of self.old))
+            (W.contents (stream_of self.new))
             result from.now }
         ensures some { IfOk result (λ n. 0 < n) }
         ensures within { IfOk result (λ n. n ≤ length from.now) }

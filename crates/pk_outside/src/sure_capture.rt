@@ -80,7 +80,8 @@ impl Capture for SureCapture {
         ensures ok { IsOk result }
         ensures count { IfOk result (λ n. n ≡ min (length to.old) (length self.old.left)) }
         ensures moved { IfOk result (λ n. to.new ≡ take n self.old.left ++ drop n to.old) }
-        ensures left { IfOk result (λ n. self.new ≡ record self.old { left = drop n self.old.left }) }
+        ensures left { IfOk result (λ n.
+            self.new ≡ record self.old { left = drop n self.old.left }) }
     {
         let count = move_front(&self.bytes[self.at..], usize::MAX, to);
         self.at += count;

@@ -17,7 +17,8 @@ are_digits radix ds = list_all (λ c. is_digit c radix) ds
 
 -- the number that a text of digits writes, which has at least one and nothing else
 unfoldable pub digits_read : ℕ → List ℕ → Option Wide
-digits_read radix ds = if nat_lt 0 (length ds) && are_digits radix ds then Some (wide (digits_value radix ds)) else None
+digits_read radix ds = if nat_lt 0 (length ds) && are_digits radix ds
+    then Some (wide (digits_value radix ds)) else None
 
 -- the number where it fits 64 bits
 abbrev pub fitting : Wide → Option ℕ
@@ -26,7 +27,8 @@ fitting Beyond = None
 
 -- the number that a text of at most so many digits writes
 unfoldable pub short_read : ℕ → ℕ → List ℕ → Option ℕ
-short_read radix most ds = if nat_le (length ds) most then option_and_then fitting (digits_read radix ds) else None
+short_read radix most ds =
+    if nat_le (length ds) most then option_and_then fitting (digits_read radix ds) else None
 
 -- a byte as two lower-case hexadecimal digits
 abbrev pub hex_pair : ℕ → List ℕ

@@ -21,4 +21,5 @@ ether_separator _ = None
 
 -- the address that a text writes, computed
 unfoldable pub ether_of : List ℕ → Option (List ℕ)
-ether_of text = option_and_then (λ separator. pairs_exactly 6 None (Some separator) text) (ether_separator text)
+ether_of text =
+    option_and_then (λ separator. pairs_exactly 6 None (Some separator) text) (ether_separator text)

@@ -9,7 +9,8 @@ use Rattle.pk_text.specs.Digits.{short_read}
 
 -- the eight groups of 16 bits of an address, the highest first
 unfoldable pub groups_of : ℕ → List ℕ
-groups_of address = map (λ place. address / 2 ^ place % 2 ^ 16) (112 ∷ 96 ∷ 80 ∷ 64 ∷ 48 ∷ 32 ∷ 16 ∷ 0 ∷ [])
+groups_of address =
+    map (λ place. address / 2 ^ place % 2 ^ 16) (112 ∷ 96 ∷ 80 ∷ 64 ∷ 48 ∷ 32 ∷ 16 ∷ 0 ∷ [])
 
 -- groups in lower case without leading zeros (RFC 5952, 4.1 and 4.3), joined by `:`
 abbrev pub groups_shown : List ℕ → List ℕ
@@ -30,7 +31,8 @@ pub record IsBestRun (groups : List ℕ) (at count : ℕ) : Type 0 where
 abbrev pub IsIp6Text : List ℕ → List ℕ → Type 0
 IsIp6Text groups text =
     ((at : ℕ) × (count : ℕ) × IsBestRun groups at count × (2 ≤ count)
-    × (text ≡ groups_shown (take at groups) ++ (codes "::" ++ groups_shown (drop (at + count) groups))))
+    × (text ≡ groups_shown (take at groups)
+    ++ (codes "::" ++ groups_shown (drop (at + count) groups))))
     ⊎ (((at count : ℕ) → IsRun groups at count → count < 2) × (text ≡ groups_shown groups))
 
 -- the best run, computed: its place and how many groups; best is the best of those before place at, from which groups stand
@@ -43,7 +45,8 @@ best_run_from at best (group ∷ groups) =
 abbrev pub groups_written : List ℕ → ℕ × ℕ → List ℕ
 groups_written groups run =
     if nat_lt run.1 2 then groups_shown groups
-    else groups_shown (take run.0 groups) ++ (codes "::" ++ groups_shown (drop (run.0 + run.1) groups))
+    else groups_shown (take run.0 groups)
+    ++ (codes "::" ++ groups_shown (drop (run.0 + run.1) groups))
 
 -- that text, computed
 unfoldable pub ip6_shown : ℕ → List ℕ
@@ -61,7 +64,8 @@ IsWord word = IsNumeral 16 word × (length word ≤ 4)
 -- `::` stands for at least one group
 abbrev pub IsIp6Form : Ip6Form → Type 0
 IsIp6Form (Whole words) = AllByRecursion IsWord words × (length words ≡ 8)
-IsIp6Form (Shortened front back) = AllByRecursion IsWord front × AllByRecursion IsWord back × (length front + length back ≤ 7)
+IsIp6Form (Shortened front back) =
+    AllByRecursion IsWord front × AllByRecursion IsWord back × (length front + length back ≤ 7)
 
 -- the text
 abbrev pub joined : List (List ℕ) → List ℕ
@@ -78,13 +82,16 @@ words_values words = map (digits_value 16) words
 abbrev pub ip6_form_value : Ip6Form → ℕ
 ip6_form_value (Whole words) = number_from_digits (2 ^ 16) (words_values words)
 ip6_form_value (Shortened front back) =
-    number_from_digits (2 ^ 16) (words_values front ++ (replicate (8 - (length front + length back)) 0 ++ words_values back))
+    number_from_digits (2 ^ 16)
+    (words_values front ++ (replicate (8 - (length front + length back)) 0
+    ++ words_values back))
 
 -- what stands before the first `::` and behind it, computed; 58 is `:`
 unfoldable pub gap_in : List ℕ → Option (List ℕ × List ℕ)
 gap_in [] = None
 gap_in (c ∷ []) = None
-gap_in (c ∷ d ∷ rest) = if c == 58 && d == 58 then Some ([], rest) else option_map (λ p. (c ∷ p.0, p.1)) (gap_in (d ∷ rest))
+gap_in (c ∷ d ∷ rest) = if c == 58 && d == 58 then Some ([], rest)
+    else option_map (λ p. (c ∷ p.0, p.1)) (gap_in (d ∷ rest))
 
 -- one more group behind those of a side, which are eight at most; a side is how many groups, and the number that they make
 abbrev pub side_more : ℕ × ℕ → ℕ → Option (ℕ × ℕ)
@@ -93,7 +100,8 @@ side_more side group = if nat_lt side.0 8 then Some (side.0 + 1, side.1 * 2 ^ 16
 abbrev pub side_after : ℕ × ℕ → List (List ℕ) → Option (ℕ × ℕ)
 side_after side [] = Some side
 side_after side (word ∷ words) =
-    option_and_then (λ more. side_after more words) (option_and_then (side_more side) (short_read 16 4 word))
+    option_and_then (λ more.
+    side_after more words) (option_and_then (side_more side) (short_read 16 4 word))
 
 -- what stands between colons
 abbrev pub words_in : List ℕ → List (List ℕ)
@@ -107,7 +115,8 @@ side_of text = if length text == 0 then Some (0, 0) else side_after (0, 0) (word
 unfoldable pub shortened_of : List ℕ × List ℕ → Option ℕ
 shortened_of sides =
     option_and_then (λ front. option_and_then (λ back.
-    if nat_le (front.0 + back.0) 7 then Some (front.1 * (2 ^ 16) ^ (8 - front.0) + back.1) else None)
+    if nat_le (front.0 + back.0) 7 then Some (front.1 * (2 ^ 16) ^ (8 - front.0) + back.1)
+    else None)
     (side_of sides.1)) (side_of sides.0)
 
 unfoldable pub whole_of : List ℕ → Option ℕ

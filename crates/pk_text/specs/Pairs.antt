@@ -23,9 +23,11 @@ pairs_value f = map (digits_value 16) f.pairs
 
 -- the byte of two digits and what stands behind them, computed; first the separator is passed over, if there is one
 unfoldable pub next_pair : Option ℕ → List ℕ → Option (ℕ × List ℕ)
-next_pair None (high ∷ low ∷ rest) = option_map (λ byte. (byte, rest)) (short_read 16 2 (high ∷ low ∷ []))
+next_pair None (high ∷ low ∷ rest) =
+    option_map (λ byte. (byte, rest)) (short_read 16 2 (high ∷ low ∷ []))
 next_pair (Some separator) (first ∷ high ∷ low ∷ rest) =
-    if first == separator then option_map (λ byte. (byte, rest)) (short_read 16 2 (high ∷ low ∷ [])) else None
+    if first == separator then option_map (λ byte. (byte, rest)) (short_read 16 2 (high ∷ low ∷ []))
+    else None
 next_pair _ _ = None
 
 -- n such bytes, and nothing behind them: what stands before the first, and what between two
@@ -33,4 +35,5 @@ unfoldable pub pairs_exactly : ℕ → Option ℕ → Option ℕ → List ℕ �
 pairs_exactly zero before between [] = Some []
 pairs_exactly zero before between (c ∷ text) = None
 pairs_exactly (suc n) before between text =
-    option_and_then (λ p. option_map (λ bytes. p.0 ∷ bytes) (pairs_exactly n between between p.1)) (next_pair before text)
+    option_and_then (λ p. option_map (λ bytes. p.0 ∷ bytes) (pairs_exactly n between between p.1))
+    (next_pair before text)

@@ -20,7 +20,8 @@ decimal_in n number = replicate (n - length (decimal number)) 48 ++ decimal numb
 
 -- the text of a time: `-` if it is negative, the whole seconds, a point, nine digits
 unfoldable pub time_shown : ℤ → List ℕ
-time_shown time = sign_text (is_negative time) ++ (decimal (whole_seconds time) ++ (46 ∷ decimal_in 9 (nanoseconds_over time)))
+time_shown time = sign_text (is_negative time)
+    ++ (decimal (whole_seconds time) ++ (46 ∷ decimal_in 9 (nanoseconds_over time)))
 
 -- a time as it is written: whether a minus stands first, the digits of the whole seconds, and those of a fraction, if any
 pub record TimeForm : Type 0 where
@@ -30,7 +31,8 @@ pub record TimeForm : Type 0 where
 
 -- 1 to 18 digits, and 1 to 9 of a fraction
 abbrev pub IsTimeForm : TimeForm → Type 0
-IsTimeForm f = IsNumeral 10 f.whole × (length f.whole ≤ 18) × IfSome f.fraction (λ ds. IsNumeral 10 ds × (length ds ≤ 9))
+IsTimeForm f = IsNumeral 10 f.whole × (length f.whole ≤ 18)
+    × IfSome f.fraction (λ ds. IsNumeral 10 ds × (length ds ≤ 9))
 
 -- the text of a fraction behind its point, 46, and its nanoseconds
 abbrev pub fraction_text : Option (List ℕ) → List ℕ
@@ -61,7 +63,8 @@ fraction_read ds = option_map (λ n. n * 10 ^ (9 - length ds)) (short_read 10 9 
 
 abbrev pub size_from : List ℕ → Option (List ℕ × List ℕ) → Option ℕ
 size_from t None = seconds_read t
-size_from t (Some p) = option_and_then (λ s. option_map (λ f. s + f) (fraction_read p.1)) (seconds_read p.0)
+size_from t (Some p) =
+    option_and_then (λ s. option_map (λ f. s + f) (fraction_read p.1)) (seconds_read p.0)
 
 -- the nanoseconds of a time without a sign, computed
 unfoldable pub size_read : List ℕ → Option ℕ
@@ -69,4 +72,5 @@ size_read t = size_from t (cut_at 46 t)
 
 -- the time that a text writes, computed
 unfoldable pub time_of : List ℕ → Option ℤ
-time_of t = option_map (signed (starts_with_minus t)) (size_read (if starts_with_minus t then drop 1 t else t))
+time_of t = option_map (signed (starts_with_minus t))
+    (size_read (if starts_with_minus t then drop 1 t else t))

@@ -45,7 +45,8 @@ pub fn put_ether<S: TextSink>(sink: &mut S, bytes: &[u8]) -> Result<(), NoMemory
 
 /// Pairs behind the first, each behind a colon.
 fn put_further_pairs<S: TextSink>(sink: &mut S, bytes: &[u8]) -> Result<(), NoMemory>
-    ensures { OnOk result (S.taken sink.new ≡ S.taken sink.old ++ flat_map (λ byte. codes ":" ++ hex_pair byte) bytes.now) }
+    ensures { OnOk result (S.taken sink.new
+        ≡ S.taken sink.old ++ flat_map (λ byte. codes ":" ++ hex_pair byte) bytes.now) }
 {
     for byte in bytes {
         sink.put_ascii(b':')?;
@@ -58,7 +59,8 @@ fn put_further_pairs<S: TextSink>(sink: &mut S, bytes: &[u8]) -> Result<(), NoMe
 #[tactic(auto, using(crate::proofs::EtherLemmas::ether_found, crate::proofs::EtherLemmas::ether_only))]
 pub fn read_ether(text: &str) -> Option<[u8; 6]>
     ensures computed { result ≡ ether_of text.now }
-    ensures found { (f : PairsForm) → IsEtherForm f → text.now ≡ pairs_text f → result ≡ Some (pairs_value f) }
+    ensures found { (f : PairsForm) → IsEtherForm f → text.now ≡ pairs_text f
+        → result ≡ Some (pairs_value f) }
     ensures only { IfSome result (λ address. (f : PairsForm) × IsEtherForm f
         × (text.now ≡ pairs_text f) × (address ≡ pairs_value f)) }
 {

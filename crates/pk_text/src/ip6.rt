@@ -88,7 +88,8 @@ fn groups_text(alloc: Global, groups: &[u16]) -> Result<String, NoMemory>
 }
 
 fn push_groups(text: &mut String, groups: &[u16]) -> Result<(), NoMemory>
-    ensures { OnOk result (string_bytes text.new ≡ string_bytes text.old ++ groups_shown groups.now) }
+    ensures { OnOk result (string_bytes text.new
+        ≡ string_bytes text.old ++ groups_shown groups.now) }
 {
     let [first, rest @ ..] = groups else {
         return Ok(());
@@ -129,7 +130,8 @@ fn zeros_in_front(groups: &[u16]) -> usize
 #[tactic(auto, using(crate::proofs::Ip6FormLemmas::ip6_found, crate::proofs::Ip6FormLemmas::ip6_only))]
 pub fn read_ip6(text: &str) -> Option<u128>
     ensures computed { result ≡ ip6_of text.now }
-    ensures found { (f : Ip6Form) → IsIp6Form f → text.now ≡ ip6_form_text f → result ≡ Some (ip6_form_value f) }
+    ensures found { (f : Ip6Form) → IsIp6Form f → text.now ≡ ip6_form_text f
+        → result ≡ Some (ip6_form_value f) }
     ensures only { IfSome result (λ address. (f : Ip6Form) × IsIp6Form f
         × (text.now ≡ ip6_form_text f) × (address ≡ ip6_form_value f)) }
 {

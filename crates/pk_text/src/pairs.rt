@@ -8,7 +8,8 @@ use crate::digits::read_short;
 /// Reads as many bytes as there is room for, the separator between each two; None where the text is no such bytes, or
 /// more stands behind them.
 pub fn read_pairs(text: &[u8], separator: Option<u8>, bytes: &mut [u8]) -> Option<()>
-    ensures read { OnSome result (pairs_exactly (length bytes.old) None separator text.now ≡ Some bytes.new) }
+    ensures read { OnSome result (pairs_exactly (length bytes.old) None separator text.now
+        ≡ Some bytes.new) }
     ensures none { IfNone result (pairs_exactly (length bytes.old) None separator text.now ≡ None) }
 {
     let mut rest = text;

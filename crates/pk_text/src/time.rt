@@ -25,7 +25,8 @@ const WHOLE_DIGITS: usize = 18;
 pub fn time_text(alloc: Global, ns: i128) -> Result<String, NoMemory>
     ensures text { IfOk result (λ text. string_bytes text ≡ time_shown ns) }
     // Whole seconds of at most 18 digits are read back.
-    ensures reads_back { whole_seconds ns < 10 ^ 18 → IfOk result (λ text. time_of (string_bytes text) ≡ Some ns) }
+    ensures reads_back { whole_seconds ns < 10 ^ 18
+        → IfOk result (λ text. time_of (string_bytes text) ≡ Some ns) }
 {
     let mut text = String::with_capacity(alloc, TEXT_LEN)?;
     put_time(&mut text, ns)?;
@@ -79,7 +80,8 @@ fn put_zeros<S: TextSink>(sink: &mut S, count: usize) -> Result<(), NoMemory>
 #[tactic(auto, using(crate::proofs::TimeLemmas::time_found, crate::proofs::TimeLemmas::time_only))]
 pub fn read_time(text: &str) -> Option<i128>
     ensures computed { result ≡ time_of text.now }
-    ensures found { (f : TimeForm) → IsTimeForm f → text.now ≡ time_form_text f → result ≡ Some (time_form_value f) }
+    ensures found { (f : TimeForm) → IsTimeForm f → text.now ≡ time_form_text f
+        → result ≡ Some (time_form_value f) }
     ensures only { IfSome result (λ time. (f : TimeForm) × IsTimeForm f
         × (text.now ≡ time_form_text f) × (time ≡ time_form_value f)) }
 {

@@ -14,7 +14,8 @@ use Rattle.pk_tree.specs.Values.{is_proto}
 
 -- the values of a field among items
 abbrev pub item_values : ℕ → List Item → List Value
-item_values field items = map (λ (item : Item). item.value) (filter (λ (item : Item). item.field == field) items)
+item_values field items =
+    map (λ (item : Item). item.value) (filter (λ (item : Item). item.field == field) items)
 
 -- a layer's value as one of a protocol: all its bytes
 abbrev pub proto_values : List (List ℕ) → ℕ → Layer → List Value
@@ -23,7 +24,8 @@ proto_values buffers proto layer =
 
 unfoldable pub layer_values : List (List ℕ) → ℕ → Layer → List Value
 layer_values buffers field layer =
-    if is_proto (row_of field).kind then proto_values buffers field layer else item_values field layer.items
+    if is_proto (row_of field).kind then proto_values buffers field layer
+    else item_values field layer.items
 
 abbrev pub chosen_values : List (List ℕ) → ℕ → Layers → Layer → List Value
 chosen_values buffers field layers layer =

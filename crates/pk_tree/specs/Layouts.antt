@@ -18,7 +18,8 @@ use Rattle.pk_tree.specs.Values.{IsOfKind, is_read, size_of}
 
 -- the number that bits spell, or 0 where not all of them are there
 unfoldable pub peeked : List ℕ → ℕ → ℕ → ℕ
-peeked bytes first width = if nat_le (first + width) (8 * length bytes) then number_of_bits bytes first width else 0
+peeked bytes first width =
+    if nat_le (first + width) (8 * length bytes) then number_of_bits bytes first width else 0
 
 -- so many bytes of a span, from a place in it on
 abbrev pub within : Span → ℕ → ℕ → Span
@@ -46,9 +47,11 @@ step_reach end (Room room) = if room then All else Short
 -- the items of one step
 unfoldable pub step_items : List (List ℕ) → Span → Step → List Item
 step_items buffers span (Row field at) = read_of buffers field (within span at (size_of field)) ∷ []
-step_items buffers span (Part field at len) = if len == 0 then [] else read_of buffers field (within span at len) ∷ []
+step_items buffers span (Part field at len) =
+    if len == 0 then [] else read_of buffers field (within span at len) ∷ []
 step_items buffers span (Whole field at len) = read_of buffers field (within span at len) ∷ []
-step_items buffers span (Derived field value at len) = derived_of field value (within span at len) ∷ []
+step_items buffers span (Derived field value at len) =
+    derived_of field value (within span at len) ∷ []
 step_items buffers span (Made field value) = made_of field value ∷ []
 step_items buffers span (Check holds) = []
 step_items buffers span (Room room) = []
@@ -68,7 +71,8 @@ reach_after Failed reach = Failed
 unfoldable pub items_read : List (List ℕ) → Span → List Step → List Item
 items_read buffers span [] = []
 items_read buffers span (step ∷ steps) =
-    items_after (step_reach span.len step) (step_items buffers span step ++ items_read buffers span steps)
+    items_after (step_reach span.len step)
+    (step_items buffers span step ++ items_read buffers span steps)
 
 -- how far the steps are read in a layer of so many bytes
 unfoldable pub reach : ℕ → List Step → Reach
@@ -98,7 +102,8 @@ with_fault t span (Some fault) = with_layer t fault (end_of span) []
 -- that the frame was captured only in part
 unfoldable pub layer_read : TreeShown → ℕ → Span → List Step → Mode → Bool → TreeShown
 layer_read t proto span steps mode cut =
-    with_fault (with_layer t proto span (items_read t.buffers span steps)) span (fault_of mode (cut && reaches_end t.buffers span) (reach span.len steps))
+    with_fault (with_layer t proto span (items_read t.buffers span steps)) span
+    (fault_of mode (cut && reaches_end t.buffers span) (reach span.len steps))
 
 -- the field belongs to the protocol
 abbrev pub belongs : ℕ → ℕ → Bool
@@ -107,10 +112,14 @@ belongs proto field = (row_of field).proto == proto
 -- a step that may stand in a protocol's layout; Part and Whole are for fields without bits
 abbrev pub StepFits : ℕ → Step → Type 0
 StepFits proto (Row field at) = IsTrue (belongs proto field && is_read (row_of field))
-StepFits proto (Part field at len) = IsTrue (belongs proto field && is_read (row_of field) && is_none (row_of field).bits)
-StepFits proto (Whole field at len) = IsTrue (belongs proto field && is_read (row_of field) && is_none (row_of field).bits)
-StepFits proto (Derived field value at len) = IsTrue (belongs proto field) × IsOfKind (row_of field).kind value
-StepFits proto (Made field value) = IsTrue (belongs proto field) × IsOfKind (row_of field).kind value
+StepFits proto (Part field at len) =
+    IsTrue (belongs proto field && is_read (row_of field) && is_none (row_of field).bits)
+StepFits proto (Whole field at len) =
+    IsTrue (belongs proto field && is_read (row_of field) && is_none (row_of field).bits)
+StepFits proto (Derived field value at len) =
+    IsTrue (belongs proto field) × IsOfKind (row_of field).kind value
+StepFits proto (Made field value) =
+    IsTrue (belongs proto field) × IsOfKind (row_of field).kind value
 StepFits proto (Check holds) = Unit {0}
 StepFits proto (Room room) = Unit {0}
 

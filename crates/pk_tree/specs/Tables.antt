@@ -10,7 +10,8 @@ use Rattle.pk_tree.specs.declared.table.Slot.TheVariants as slots
 abbrev pub step_of : List Bool → List ℕ → Slot → Step
 step_of holds sizes (slots.Row field at) = steps.Row field at
 step_of holds sizes (slots.Part field at size) = steps.Part field at (slice_index_or sizes size 0)
-step_of holds sizes (slots.PartAt field at size) = steps.Part field (slice_index_or sizes at 0) (slice_index_or sizes size 0)
+step_of holds sizes (slots.PartAt field at size) =
+    steps.Part field (slice_index_or sizes at 0) (slice_index_or sizes size 0)
 step_of holds sizes (slots.Whole field at size) = steps.Whole field at (slice_index_or sizes size 0)
 step_of holds sizes (slots.Check test) = steps.Check (slice_index_or holds test false)
 step_of holds sizes (slots.Room test) = steps.Room (slice_index_or holds test false)

@@ -26,7 +26,8 @@ layers_of proto layers = count_by (λ (layer : Layer). layer.proto == proto) lay
 -- a value that is read is what its field's row, which is one that reads, reads from a span of the row's size
 abbrev pub PlaceFits : List (List ℕ) → ℕ → Value → Place → Type 0
 PlaceFits buffers field value (places.Read span) =
-    IsInside buffers span × HasSize (row_of field).bits span.len × (value ≡ value_of field (bytes_of buffers span)) × IsTrue (is_read (row_of field))
+    IsInside buffers span × HasSize (row_of field).bits span.len
+    × (value ≡ value_of field (bytes_of buffers span)) × IsTrue (is_read (row_of field))
 PlaceFits buffers field value (places.Derived span) = IsInside buffers span
 PlaceFits buffers field value places.Made = Unit {0}
 
@@ -61,7 +62,15 @@ kept wanted items = filter (λ (item : Item). is_in wanted item.field) items
 -- the tree with one more layer, which has these items as far as they are wanted
 unfoldable pub with_layer : TreeShown → ℕ → Span → List Item → TreeShown
 with_layer t proto span items =
-    record t { layers = t.layers ++ (record { proto = proto; nth = layers_of proto t.layers + 1; span = span; items = kept t.wanted items }) ∷ [] }
+    record t {
+      layers = t.layers
+          ++ (record {
+            proto = proto;
+            nth = layers_of proto t.layers + 1;
+            span = span;
+            items = kept t.wanted items;
+          }) ∷ [];
+    }
 
 -- the layers with one more item in the one at a place
 abbrev pub layer_gets : List Layer → ℕ → Item → List Layer
@@ -110,7 +119,11 @@ pub record IsKept (wanted : List ℕ) (whole kept : TreeShown) : Type 0 where
 -- an item whose value its field's row reads
 abbrev pub read_of : List (List ℕ) → ℕ → Span → Item
 read_of buffers field span =
-    record { field = field; value = value_of field (bytes_of buffers span); place = places.Read span }
+    record {
+      field = field;
+      value = value_of field (bytes_of buffers span);
+      place = places.Read span;
+    }
 
 -- an item whose value a rule works out from a place
 abbrev pub derived_of : ℕ → Value → Span → Item

@@ -69,4 +69,5 @@ value_with kinds.Proto bytes number = values.Proto bytes
 -- what a field's row reads from bytes
 unfoldable pub value_of : ℕ → List ℕ → Value
 value_of field bytes =
-    value_with (row_of field).kind bytes (option_map_or (λ place. scaled bytes place) (row_of field).bits 0)
+    value_with (row_of field).kind bytes
+    (option_map_or (λ place. scaled bytes place) (row_of field).bits 0)

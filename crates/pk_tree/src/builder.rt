@@ -33,16 +33,22 @@ impl Model for TreeBuilder {
 
     ghost Value = { TreeShown };
 
-    ghost view = { λ t. record { layers = t.layers.items; buffers = t.buffers; wanted = t.wanted } };
+    ghost view = { λ t. record {
+      layers = t.layers.items;
+      buffers = t.buffers;
+      wanted = t.wanted;
+    } };
 
-    ghost invariant = { λ t. IsTree (record { layers = t.layers.items; buffers = t.buffers; wanted = t.wanted }) };
+    ghost invariant = { λ t.
+        IsTree (record { layers = t.layers.items; buffers = t.buffers; wanted = t.wanted }) };
 }
 
 impl TreeBuilder {
     /// A tree without layers, whose first buffer is the frame's bytes.
     pub fn new(alloc: Global, frame: Octets) -> Result<TreeBuilder, NoMemory>
         requires { length frame < 2 ^ 32 }
-        ensures { IfOk result (λ t. t ≡ record { layers = []; buffers = frame ∷ []; wanted = every_field }) }
+        ensures { IfOk result (λ t.
+            t ≡ record { layers = []; buffers = frame ∷ []; wanted = every_field }) }
     {
         TreeBuilder::keeping(alloc, frame, FieldSet::all())
     }
@@ -50,7 +56,8 @@ impl TreeBuilder {
     /// As `new`, for a tree that has only the items of the wanted fields.
     pub fn keeping(alloc: Global, frame: Octets, wanted: FieldSet) -> Result<TreeBuilder, NoMemory>
         requires { length frame < 2 ^ 32 }
-        ensures { IfOk result (λ t. t ≡ record { layers = []; buffers = frame ∷ []; wanted = wanted }) }
+        ensures { IfOk result (λ t.
+            t ≡ record { layers = []; buffers = frame ∷ []; wanted = wanted }) }
     {
         let mut buffers = Buffers::new(alloc);
         buffers.add(frame)?;
@@ -72,7 +79,8 @@ impl TreeBuilder {
 
     /// Whether items of a protocol's fields may be kept.
     pub fn asks(&self, protocol: FieldId) -> bool
-        ensures { result ≡ false → (f : ℕ) → (row_of f).proto ≡ protocol → is_in self.now.wanted f ≡ false }
+        ensures { result ≡ false → (f : ℕ) → (row_of f).proto ≡ protocol
+            → is_in self.now.wanted f ≡ false }
     {
         self.wanted.has_any_of(protocol)
     }
@@ -125,7 +133,8 @@ impl TreeBuilder {
         requires size { HasSize (row_of field).bits span.len }
         requires layer { 0 < length self.old.layers }
         requires belongs { (row_of field).proto ≡ last_proto self.old.layers }
-        ensures ok { OnOk result (self.new ≡ with_item self.old (read_of self.old.buffers field span)) }
+        ensures ok { OnOk result (self.new
+            ≡ with_item self.old (read_of self.old.buffers field span)) }
         ensures err { OnErr result (self.new ≡ self.old) }
         ensures buffers { self.new.buffers ≡ self.old.buffers }
         ensures count { length self.new.layers ≡ length self.old.layers }

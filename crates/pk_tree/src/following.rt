@@ -9,7 +9,8 @@ use pk_base::Span;
 pub fn carried(next: Next, span: Span, header: u32) -> After
     requires end { span.start + span.len < 2 ^ 32 }
     ensures after { result ≡ carried next span header }
-    ensures inside { (buffers : List (List ℕ)) → IsInside buffers span → LeadsInside buffers result }
+    ensures inside { (buffers : List (List ℕ)) → IsInside buffers span
+        → LeadsInside buffers result }
 {
     if header < span.len {
         After::Next(next, behind(span, header))

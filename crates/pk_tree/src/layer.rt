@@ -65,7 +65,8 @@ pub(crate) fn next_number(layers: &[Layer], proto: FieldId) -> u32
 /// Adds an item to the last layer.
 pub(crate) fn push_last(layers: &mut Vec<Layer>, item: Item) -> Result<(), NoMemory>
     requires { 0 < vec_len layers.old }
-    ensures ok { OnOk result (layers.new.items ≡ layer_gets layers.old.items (length layers.old.items - 1) item) }
+    ensures ok { OnOk result (layers.new.items
+        ≡ layer_gets layers.old.items (length layers.old.items - 1) item) }
     ensures err { OnErr result (layers.new.items ≡ layers.old.items) }
 {
     let last = layers.len() - 1;

@@ -87,7 +87,8 @@ pub fn read_layer(
     requires proto { IsProtocol proto }
     requires room { length tree.old.layers + 2 < 2 ^ 32 }
     requires fits { StepsFit proto steps.now }
-    ensures layer { IfOk result (λ _. tree.new ≡ layer_read tree.old proto span steps.now mode cut) }
+    ensures layer { IfOk result (λ _.
+        tree.new ≡ layer_read tree.old proto span steps.now mode cut) }
     ensures why { IfOk result (λ r. r ≡ reach span.len steps.now) }
     ensures buffers { tree.new.buffers ≡ tree.old.buffers }
     ensures some { OnOk result (0 < length tree.new.layers) }
@@ -109,7 +110,8 @@ pub(crate) fn read_steps(
     requires inside { IsInside tree.old.buffers span }
     requires layer { 0 < length tree.old.layers }
     requires fits { StepsFit (last_proto tree.old.layers) steps.now }
-    ensures tree { IfOk result (λ _. tree.new ≡ with_items tree.old (items_read tree.old.buffers span steps.now)) }
+    ensures tree { IfOk result (λ _.
+        tree.new ≡ with_items tree.old (items_read tree.old.buffers span steps.now)) }
     ensures why { IfOk result (λ r. r ≡ reach span.len steps.now) }
     ensures buffers { tree.new.buffers ≡ tree.old.buffers }
     ensures count { length tree.new.layers ≡ length tree.old.layers }
@@ -129,7 +131,9 @@ fn read_step(tree: &mut TreeBuilder, span: Span, step: &Step) -> Result<Reach, N
     requires inside { IsInside tree.old.buffers span }
     requires layer { 0 < length tree.old.layers }
     requires fits { StepFits (last_proto tree.old.layers) step.now }
-    ensures tree { IfOk result (λ r. tree.new ≡ with_items tree.old (items_after r (step_items tree.old.buffers span step.now))) }
+    ensures tree { IfOk result (λ r.
+        tree.new ≡ with_items tree.old
+        (items_after r (step_items tree.old.buffers span step.now))) }
     ensures why { IfOk result (λ r. r ≡ step_reach span.len step.now) }
     ensures buffers { tree.new.buffers ≡ tree.old.buffers }
     ensures count { length tree.new.layers ≡ length tree.old.layers }
@@ -159,7 +163,10 @@ pub(crate) fn read_some(
     requires belongs { (row_of field).proto ≡ last_proto tree.old.layers }
     requires read { IsTrue (is_read (row_of field)) }
     requires size { HasSize (row_of field).bits len }
-    ensures tree { IfOk result (λ r. tree.new ≡ with_items tree.old (items_after r (if len == 0 then [] else read_of tree.old.buffers field (within span at len) ∷ []))) }
+    ensures tree { IfOk result (λ r.
+        tree.new ≡ with_items tree.old
+        (items_after r (if len == 0 then []
+        else read_of tree.old.buffers field (within span at len) ∷ []))) }
     ensures why { IfOk result (λ r. r ≡ (if len == 0 then Reach.All else fitted span.len at len)) }
     ensures buffers { tree.new.buffers ≡ tree.old.buffers }
     ensures count { length tree.new.layers ≡ length tree.old.layers }
@@ -184,7 +191,9 @@ pub(crate) fn read_part(
     requires belongs { (row_of field).proto ≡ last_proto tree.old.layers }
     requires read { IsTrue (is_read (row_of field)) }
     requires size { HasSize (row_of field).bits len }
-    ensures tree { IfOk result (λ r. tree.new ≡ with_items tree.old (items_after r (read_of tree.old.buffers field (within span at len) ∷ []))) }
+    ensures tree { IfOk result (λ r.
+        tree.new ≡ with_items tree.old
+        (items_after r (read_of tree.old.buffers field (within span at len) ∷ []))) }
     ensures why { IfOk result (λ r. r ≡ fitted span.len at len) }
     ensures buffers { tree.new.buffers ≡ tree.old.buffers }
     ensures count { length tree.new.layers ≡ length tree.old.layers }
@@ -212,7 +221,9 @@ fn derive_part(
     requires layer { 0 < length tree.old.layers }
     requires belongs { (row_of field).proto ≡ last_proto tree.old.layers }
     requires kind { IsOfKind (row_of field).kind value.now }
-    ensures tree { IfOk result (λ r. tree.new ≡ with_items tree.old (items_after r (derived_of field value.now (within span at len) ∷ []))) }
+    ensures tree { IfOk result (λ r.
+        tree.new ≡ with_items tree.old
+        (items_after r (derived_of field value.now (within span at len) ∷ []))) }
     ensures why { IfOk result (λ r. r ≡ fitted span.len at len) }
     ensures buffers { tree.new.buffers ≡ tree.old.buffers }
     ensures count { length tree.new.layers ≡ length tree.old.layers }
@@ -235,7 +246,8 @@ fn make(tree: &mut TreeBuilder, field: FieldId, value: &Value) -> Result<Reach, 
     requires layer { 0 < length tree.old.layers }
     requires belongs { (row_of field).proto ≡ last_proto tree.old.layers }
     requires kind { IsOfKind (row_of field).kind value.now }
-    ensures tree { IfOk result (λ r. tree.new ≡ with_items tree.old (items_after r (made_of field value.now ∷ []))) }
+    ensures tree { IfOk result (λ r.
+        tree.new ≡ with_items tree.old (items_after r (made_of field value.now ∷ []))) }
     ensures why { IfOk result (λ r. r ≡ Reach.All) }
     ensures buffers { tree.new.buffers ≡ tree.old.buffers }
     ensures count { length tree.new.layers ≡ length tree.old.layers }
@@ -284,7 +296,9 @@ pub(crate) fn close_layer(
 ) -> Result<(), NoMemory>
     requires inside { IsInside tree.old.buffers span }
     requires room { length tree.old.layers + 1 < 2 ^ 32 }
-    ensures tree { IfOk result (λ _. tree.new ≡ with_fault tree.old span (fault_of mode (cut && reaches_end tree.old.buffers span) reach)) }
+    ensures tree { IfOk result (λ _.
+        tree.new ≡ with_fault tree.old span
+        (fault_of mode (cut && reaches_end tree.old.buffers span) reach)) }
     ensures buffers { tree.new.buffers ≡ tree.old.buffers }
     ensures least { OnOk result (length tree.old.layers ≤ length tree.new.layers) }
     ensures most { OnOk result (length tree.new.layers ≤ length tree.old.layers + 1) }

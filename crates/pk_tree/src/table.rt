@@ -53,8 +53,11 @@ pub fn read_table(
     requires room { length tree.old.layers + 2 < 2 ^ 32 }
     requires fits { StepsFit proto (steps_of holds.now sizes.now slots.now) }
     requires more_fit { StepsFit proto more.now }
-    ensures layer { IfOk result (λ _. tree.new ≡ layer_read tree.old proto span (steps_of holds.now sizes.now slots.now ++ more.now) mode cut) }
-    ensures why { IfOk result (λ r. r ≡ reach span.len (steps_of holds.now sizes.now slots.now ++ more.now)) }
+    ensures layer { IfOk result (λ _.
+        tree.new ≡ layer_read tree.old proto span
+        (steps_of holds.now sizes.now slots.now ++ more.now) mode cut) }
+    ensures why { IfOk result (λ r.
+        r ≡ reach span.len (steps_of holds.now sizes.now slots.now ++ more.now)) }
     ensures buffers { tree.new.buffers ≡ tree.old.buffers }
     ensures some { OnOk result (0 < length tree.new.layers) }
     ensures most { OnOk result (length tree.new.layers ≤ length tree.old.layers + 2) }
@@ -79,7 +82,9 @@ pub fn pass_layer(
     requires proto { IsProtocol proto }
     requires room { length tree.old.layers + 2 < 2 ^ 32 }
     requires none { (f : ℕ) → (row_of f).proto ≡ proto → is_in tree.old.wanted f ≡ false }
-    ensures layer { OnOk result ((steps : List StepValue) → StepsFit proto steps → reach ≡ reach_of span.len steps → tree.new ≡ layer_read tree.old proto span steps mode cut) }
+    ensures layer { OnOk result ((steps : List StepValue) → StepsFit proto steps
+        → reach ≡ reach_of span.len steps
+        → tree.new ≡ layer_read tree.old proto span steps mode cut) }
     ensures buffers { tree.new.buffers ≡ tree.old.buffers }
     ensures some { OnOk result (0 < length tree.new.layers) }
     ensures most { OnOk result (length tree.new.layers ≤ length tree.old.layers + 2) }
@@ -103,8 +108,12 @@ fn read_both(
     requires layer { 0 < length tree.old.layers }
     requires fits { StepsFit (last_proto tree.old.layers) (steps_of holds.now sizes.now slots.now) }
     requires more_fit { StepsFit (last_proto tree.old.layers) more.now }
-    ensures tree { IfOk result (λ _. tree.new ≡ with_items tree.old (items_read tree.old.buffers span (steps_of holds.now sizes.now slots.now ++ more.now))) }
-    ensures why { IfOk result (λ r. r ≡ reach span.len (steps_of holds.now sizes.now slots.now ++ more.now)) }
+    ensures tree { IfOk result (λ _.
+        tree.new ≡ with_items tree.old
+        (items_read tree.old.buffers span
+        (steps_of holds.now sizes.now slots.now ++ more.now))) }
+    ensures why { IfOk result (λ r.
+        r ≡ reach span.len (steps_of holds.now sizes.now slots.now ++ more.now)) }
     ensures buffers { tree.new.buffers ≡ tree.old.buffers }
     ensures count { length tree.new.layers ≡ length tree.old.layers }
     ensures last { last_proto tree.new.layers ≡ last_proto tree.old.layers }
@@ -128,7 +137,9 @@ fn read_slots(
     requires inside { IsInside tree.old.buffers span }
     requires layer { 0 < length tree.old.layers }
     requires fits { StepsFit (last_proto tree.old.layers) (steps_of holds.now sizes.now slots.now) }
-    ensures tree { IfOk result (λ _. tree.new ≡ with_items tree.old (items_read tree.old.buffers span (steps_of holds.now sizes.now slots.now))) }
+    ensures tree { IfOk result (λ _.
+        tree.new ≡ with_items tree.old
+        (items_read tree.old.buffers span (steps_of holds.now sizes.now slots.now))) }
     ensures why { IfOk result (λ r. r ≡ reach span.len (steps_of holds.now sizes.now slots.now)) }
     ensures buffers { tree.new.buffers ≡ tree.old.buffers }
     ensures count { length tree.new.layers ≡ length tree.old.layers }
@@ -154,7 +165,9 @@ fn read_slot(
     requires inside { IsInside tree.old.buffers span }
     requires layer { 0 < length tree.old.layers }
     requires fits { StepFits (last_proto tree.old.layers) (step_of holds.now sizes.now slot) }
-    ensures tree { IfOk result (λ r. tree.new ≡ with_items tree.old (items_after r (step_items tree.old.buffers span (step_of holds.now sizes.now slot)))) }
+    ensures tree { IfOk result (λ r.
+        tree.new ≡ with_items tree.old
+        (items_after r (step_items tree.old.buffers span (step_of holds.now sizes.now slot)))) }
     ensures why { IfOk result (λ r. r ≡ step_reach span.len (step_of holds.now sizes.now slot)) }
     ensures buffers { tree.new.buffers ≡ tree.old.buffers }
     ensures count { length tree.new.layers ≡ length tree.old.layers }

@@ -206,7 +206,8 @@ static ROWS: [Slot; 5] = [
 
 #[tactic(auto, unfolding(crate::specs::Tables::steps_of, crate::specs::Layouts::StepsFit, pk_fields::specs::Fields::row_of, pk_fields::specs::Table::rows))]
 fn rows() -> &'static [Slot]
-    ensures { (holds : List Truth) (sizes : List ℕ) → StepsFit IP (steps_of holds sizes result.now) }
+    ensures { (holds : List Truth) (sizes : List ℕ)
+        → StepsFit IP (steps_of holds sizes result.now) }
 {
     &ROWS
 }

@@ -32,9 +32,14 @@ impl Model for Tree {
 
     ghost Value = { TreeShown };
 
-    ghost view = { λ t. record { layers = t.layers.items; buffers = t.buffers; wanted = t.wanted } };
+    ghost view = { λ t. record {
+      layers = t.layers.items;
+      buffers = t.buffers;
+      wanted = t.wanted;
+    } };
 
-    ghost invariant = { λ t. IsTree (record { layers = t.layers.items; buffers = t.buffers; wanted = t.wanted }) };
+    ghost invariant = { λ t.
+        IsTree (record { layers = t.layers.items; buffers = t.buffers; wanted = t.wanted }) };
 }
 
 impl Tree {
@@ -73,7 +78,8 @@ impl Tree {
     /// layers, the layer's bytes.
     #[tactic(auto, unfolding(crate::specs::FieldValues::values_of))]
     pub fn values(&self, field: FieldId, layers: &Layers) -> Result<Vec<Value>, NoMemory>
-        ensures values { IfOk result (λ values. values.items ≡ values_of self.now field layers.now) }
+        ensures values { IfOk result (λ values.
+            values.items ≡ values_of self.now field layers.now) }
         ensures kind { IfOk result (λ values. Each (IsOfKind (row_of field).kind) values.items) }
     {
         let mut values = Vec::new(self.alloc);
@@ -115,7 +121,8 @@ fn push_values(
     layer: &Layer,
 ) -> Result<(), NoMemory>
     requires { (before : List Layer) × LayerFits buffers.now before layer.now }
-    ensures { OnOk result (values.new.items ≡ values.old.items ++ layer_values buffers.now field layer.now) }
+    ensures { OnOk result (values.new.items
+        ≡ values.old.items ++ layer_values buffers.now field layer.now) }
 {
     if is_protocol(field) {
         return push_layer(values, buffers, field, layer);
@@ -139,7 +146,8 @@ fn push_layer(
     layer: &Layer,
 ) -> Result<(), NoMemory>
     requires { IsInside buffers.now layer.now.span }
-    ensures { OnOk result (values.new.items ≡ values.old.items ++ proto_values buffers.now proto layer.now) }
+    ensures { OnOk result (values.new.items
+        ≡ values.old.items ++ proto_values buffers.now proto layer.now) }
 {
     if layer.proto == proto {
         values.push(Value::Proto(buffers.part(layer.span)?))?;

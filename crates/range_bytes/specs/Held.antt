@@ -19,12 +19,14 @@ put_new held position cell = if is_some (get held position) then held else inser
 -- a run of bytes from a position on, each where nothing is held yet
 abbrev pub put_run : Held → ℕ → List ℕ → ℕ → Held
 put_run held position [] frame = held
-put_run held position (byte ∷ bytes) frame = put_run (put_new held position (byte, frame)) (position + 1) bytes frame
+put_run held position (byte ∷ bytes) frame =
+    put_run (put_new held position (byte, frame)) (position + 1) bytes frame
 
 -- what a run of bytes from a position on has at a position
 abbrev pub run_cell : ℕ → List ℕ → ℕ → ℕ → Option Cell
 run_cell start bytes frame position =
-    if nat_le start position && nat_lt position (start + length bytes) then Some (slice_index bytes (position - start), frame) else None
+    if nat_le start position && nat_lt position (start + length bytes)
+    then Some (slice_index bytes (position - start), frame) else None
 
 -- the least position that isn't held
 pub record IsFront (held : Held) (front : ℕ) : Type 0 where
@@ -50,7 +52,8 @@ IsNextHeld held from (Some next) = IsFirstHeld held from next
 
 -- all positions from one up to and without another are held
 abbrev pub HoldsAll : Held → ℕ → ℕ → Type 0
-HoldsAll held from to = (position : ℕ) → from ≤ position → position < to → IsSome (get held position)
+HoldsAll held from to = (position : ℕ) → from ≤ position → position < to
+    → IsSome (get held position)
 
 abbrev pub byte_of : Option Cell → ℕ
 byte_of None = 0
@@ -68,7 +71,8 @@ bytes_at held from (suc n) = byte_of (get held from) ∷ bytes_at held (from + 1
 -- a number in an ascending list, unless it stands there
 abbrev pub put_number : ℕ → List ℕ → List ℕ
 put_number x [] = x ∷ []
-put_number x (y ∷ ys) = if nat_lt x y then x ∷ y ∷ ys else (if x == y then y ∷ ys else y ∷ put_number x ys)
+put_number x (y ∷ ys) =
+    if nat_lt x y then x ∷ y ∷ ys else (if x == y then y ∷ ys else y ∷ put_number x ys)
 
 -- numbers in an ascending list, each once
 abbrev pub put_numbers : List ℕ → List ℕ → List ℕ

@@ -10,7 +10,8 @@ use Rattle.range_bytes.specs.Held.{Cell, Held, put_run, run_cell}
 -- the pieces put in one after the other
 abbrev pub put_pieces : Held → List Piece → Held
 put_pieces held [] = held
-put_pieces held (piece ∷ pieces) = put_pieces (put_run held piece.start piece.bytes piece.frame) pieces
+put_pieces held (piece ∷ pieces) =
+    put_pieces (put_run held piece.start piece.bytes piece.frame) pieces
 
 -- what the pieces hold
 abbrev pub held_of : List Piece → Held
@@ -23,7 +24,8 @@ IsSized piece = piece.start + length piece.bytes ≡ piece.end
 -- the pieces have bytes and stand in order between two positions, and none overlaps another
 abbrev pub IsApart : ℕ → List Piece → ℕ → Type 0
 IsApart low [] high = low ≤ high
-IsApart low (piece ∷ pieces) high = (low ≤ piece.start) × IsSized piece × (piece.start < piece.end) × IsApart piece.end pieces high
+IsApart low (piece ∷ pieces) high =
+    (low ≤ piece.start) × IsSized piece × (piece.start < piece.end) × IsApart piece.end pieces high
 
 -- pieces by where they start
 abbrev pub IsKeyed : List (ℕ × Piece) → Type 0
@@ -44,18 +46,22 @@ pub record IsCover (held : Held) (at : ℕ) (piece : Piece) : Type 0 where
   pub sized : IsSized piece
   pub low : piece.start ≤ at
   pub high : at < piece.end
-  pub is : (position : ℕ) → piece.start ≤ position → position < piece.end → get held position ≡ run_cell piece.start piece.bytes piece.frame position
+  pub is : (position : ℕ) → piece.start ≤ position → position < piece.end
+      → get held position ≡ run_cell piece.start piece.bytes piece.frame position
 
 -- pieces in a row and others by where they start, all below a position, and no two at one position
 pub record IsKept (row : List Piece) (late : List (ℕ × Piece)) (end : ℕ) : Type 0 where
   pub row_apart : IsApart 0 row end
   pub late_keyed : IsKeyed late
   pub late_apart : IsApart 0 (values_of late) end
-  pub once : (position : ℕ) → (get (held_of row) position ≡ None) ⊎ (get (held_of (values_of late)) position ≡ None)
+  pub once : (position : ℕ)
+      → (get (held_of row) position ≡ None) ⊎ (get (held_of (values_of late)) position ≡ None)
 
 -- what a piece fills: its cells at those positions where nothing is held
 abbrev pub filling : Held → Piece → ℕ → Option Cell
-filling held piece position = if is_some (get held position) then None else run_cell piece.start piece.bytes piece.frame position
+filling held piece position =
+    if is_some (get held position) then None
+    else run_cell piece.start piece.bytes piece.frame position
 
 -- the parts of a piece that lie where nothing is held
 pub record AreGaps (held : Held) (piece : Piece) (gaps : List Piece) : Type 0 where
@@ -78,7 +84,8 @@ pub record AreFree (late : List (ℕ × Piece)) (pieces : List Piece) : Type 0 w
   pub keyed : IsKeyed late
   pub late_apart : IsApart 0 (values_of late) end
   pub apart : IsApart low pieces high
-  pub once : (position : ℕ) → (get (held_of pieces) position ≡ None) ⊎ (get (held_of (values_of late)) position ≡ None)
+  pub once : (position : ℕ)
+      → (get (held_of pieces) position ≡ None) ⊎ (get (held_of (values_of late)) position ≡ None)
 
 -- the lesser of two positions, of which each may be missing
 abbrev pub least_of : Option ℕ → Option ℕ → Option ℕ

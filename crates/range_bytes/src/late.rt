@@ -16,7 +16,8 @@ use std::collections::BTreeMap;
 pub(crate) fn covering(late: &BTreeMap<u64, Piece>, at: u64) -> Option<&Piece>
     requires keyed { IsKeyed late.now.entries }
     requires apart { (high : ℕ) × IsApart 0 (values_of late.now.entries) high }
-    ensures some { IfSome result (λ piece. IsCover (held_of (values_of late.now.entries)) at piece.now) }
+    ensures some { IfSome result (λ piece.
+        IsCover (held_of (values_of late.now.entries)) at piece.now) }
     ensures none { IfNone result (get (held_of (values_of late.now.entries)) at ≡ None) }
 {
     match late.range(..=at).next_back() {
@@ -65,7 +66,8 @@ pub(crate) fn put_all(late: &mut BTreeMap<u64, Piece>, pieces: &[Piece]) -> Resu
 
 /// Takes out the pieces that were put in last.
 fn take_out(late: &mut BTreeMap<u64, Piece>, pieces: &[Piece])
-    ensures { (before : List (ℕ × PieceValue)) → AreFree before pieces.now → late.old.entries ≡ with_pieces before pieces.now → late.new.entries ≡ before }
+    ensures { (before : List (ℕ × PieceValue)) → AreFree before pieces.now
+        → late.old.entries ≡ with_pieces before pieces.now → late.new.entries ≡ before }
 {
     let mut count = pieces.len();
     while 0 < count {

@@ -34,7 +34,8 @@ impl Piece {
         requires start { self.now.start ≤ from }
         requires order { from ≤ to }
         requires end { to ≤ self.now.end }
-        ensures { result.now ≡ slice_range self.now.bytes (from - self.now.start) (to - self.now.start) }
+        ensures { result.now ≡ slice_range self.now.bytes (from - self.now.start)
+            (to - self.now.start) }
     {
         &self.bytes.bytes()[(from - self.start) as usize..(to - self.start) as usize]
     }
@@ -45,7 +46,8 @@ impl Piece {
         requires start { self.now.start ≤ from }
         requires order { from ≤ to }
         requires end { to ≤ self.now.end }
-        ensures { IfOk result (λ octets. octets ≡ slice_range self.now.bytes (from - self.now.start) (to - self.now.start)) }
+        ensures { IfOk result (λ octets.
+            octets ≡ slice_range self.now.bytes (from - self.now.start) (to - self.now.start)) }
     {
         self.bytes
             .part((from - self.start) as usize, (to - self.start) as usize)

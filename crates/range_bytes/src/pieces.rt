@@ -108,7 +108,8 @@ impl Pieces {
         requires order { at < end }
         ensures low { at < result }
         ensures high { result ≤ end }
-        ensures gap { (position : ℕ) → at ≤ position → position < result → get self.now position ≡ None }
+        ensures gap { (position : ℕ) → at ≤ position → position < result
+            → get self.now position ≡ None }
     {
         match self.next_held(at) {
             Some(next) => next.min(end),
@@ -200,7 +201,8 @@ impl Pieces {
     /// The frames of the pieces from position `from` up to and without `to`.
     fn frames(&self, alloc: Global, from: u64, to: u64) -> Result<Vec<u32>, NoMemory>
         requires { HoldsAll self.now from to }
-        ensures { IfOk result (λ frames. put_numbers frames.items [] ≡ frames_at self.now from (to - from)) }
+        ensures { IfOk result (λ frames.
+            put_numbers frames.items [] ≡ frames_at self.now from (to - from)) }
     {
         let mut frames = Vec::new(alloc);
         let mut next = from;

@@ -53,7 +53,8 @@ impl Ranges {
         requires { pos + length bytes.now ≤ 2 ^ 63 }
         ensures ok { OnOk result (self.new ≡ put_run self.old pos bytes.now frame) }
         ensures cells { OnOk result ((position : ℕ)
-            → get self.new position ≡ option_or (get self.old position) (run_cell pos bytes.now frame position)) }
+            → get self.new position ≡ option_or (get self.old position)
+            (run_cell pos bytes.now frame position)) }
         ensures err { OnErr result (self.new ≡ self.old) }
     {
         let end = pos + bytes.bytes().len() as u64;

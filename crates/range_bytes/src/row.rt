@@ -11,8 +11,10 @@ use pk_base::NoMemory;
 /// How many pieces start at or before a position.
 fn place_of(row: &[Piece], at: u64) -> usize
     ensures within { result ≤ length row.now }
-    ensures before { (last : ℕ) (piece : PieceValue) → last + 1 ≡ result → slice_get row.now last ≡ Some piece → piece.start ≤ at }
-    ensures behind { (piece : PieceValue) → slice_get row.now result ≡ Some piece → at < piece.start }
+    ensures before { (last : ℕ) (piece : PieceValue) → last + 1 ≡ result
+        → slice_get row.now last ≡ Some piece → piece.start ≤ at }
+    ensures behind { (piece : PieceValue) → slice_get row.now result ≡ Some piece
+        → at < piece.start }
 {
     let mut low = 0;
     let mut high = row.len();

@@ -33,7 +33,8 @@ resumed_part (parts.Http progress) bytes = option_map Http (resumed progress byt
 
 -- what is known of the first message of bytes says it, whatever follows
 abbrev pub IsKnown : App → Bool → Part → List ℕ → Type 0
-IsKnown app asked part bytes = (more : List ℕ) → first_of app asked (bytes ++ more) ≡ resumed_part part (bytes ++ more)
+IsKnown app asked part bytes = (more : List ℕ)
+    → first_of app asked (bytes ++ more) ≡ resumed_part part (bytes ++ more)
 
 abbrev pub found : Going → Option Told
 found (Unfinished part) = None
@@ -66,7 +67,11 @@ next_behind Opaque = Never
 
 -- behind the message that begins there
 abbrev pub mark_behind : Mark → Told → Mark
-mark_behind mark told = record { end = next_at mark + end_of told; skip = passed (then_of told); answers = mark.answers + answers told }
+mark_behind mark told = record {
+  end = next_at mark + end_of told;
+  skip = passed (then_of told);
+  answers = mark.answers + answers told;
+}
 
 abbrev pub cursor_behind : Mark → Told → Cursor
 cursor_behind mark told = record { mark = mark_behind mark told; next = next_behind (then_of told) }
@@ -87,33 +92,40 @@ goes (Begun part) = true
 -- the messages behind a cursor of a stretch that begins at a position
 abbrev pub from_cursor : App → Asked → ℕ → Cursor → List ℕ → List Placed
 from_cursor app asked start c front =
-    if goes c.next then of_front app asked c.mark.answers (start + next_at c.mark) (drop (next_at c.mark) front) else []
+    if goes c.next then of_front app asked c.mark.answers (start + next_at c.mark)
+    (drop (next_at c.mark) front) else []
 
 -- either no byte of the next message is there, or what is known of it says it
 abbrev pub KnowsNext : App → Bool → ℕ → List ℕ → Next → Type 0
 KnowsNext app asked at front Never = Unit {0}
 KnowsNext app asked at front Awaited = length front ≤ at
-KnowsNext app asked at front (Begun part) = (at < length front) × IsKnown app asked part (drop at front)
+KnowsNext app asked at front (Begun part) =
+    (at < length front) × IsKnown app asked part (drop at front)
 
 -- a cursor is behind the messages of a stretch: all others come behind it, whatever bytes follow, and whatever is asked of them
-pub record IsBehind (app : App) (asked : Asked) (count start : ℕ) (c : Cursor) (front : List ℕ) : Type 0 where
+pub record IsBehind (app : App) (asked : Asked) (count start : ℕ) (c : Cursor)
+    (front : List ℕ) : Type 0 where
   pub behind : (later : Asked) (more : List ℕ) → AgreeBelow (start + length front) asked later
-      → of_front app later count start (front ++ more) ≡ of_front app asked count start front ++ from_cursor app later start c (front ++ more)
+      → of_front app later count start (front ++ more)
+      ≡ of_front app asked count start front ++ from_cursor app later start c (front ++ more)
   pub counts : answers_before c ≡ answered count (of_front app asked count start front)
-  pub known : KnowsNext app (asked (start + next_at c.mark) c.mark.answers) (next_at c.mark) front c.next
+  pub known : KnowsNext app (asked (start + next_at c.mark) c.mark.answers)
+      (next_at c.mark) front c.next
 
 -- what a cursor knows of a message that has begun is right for some request
 abbrev pub IsSoundNext : App → ℕ → List ℕ → Next → Type 0
 IsSoundNext app at front Never = Unit {0}
 IsSoundNext app at front Awaited = Unit {0}
-IsSoundNext app at front (Begun part) = (at < length front) × ((asked : Bool) × IsKnown app asked part (drop at front))
+IsSoundNext app at front (Begun part) =
+    (at < length front) × ((asked : Bool) × IsKnown app asked part (drop at front))
 
 abbrev pub IsSound : App → Cursor → List ℕ → Type 0
 IsSound app c front = IsSoundNext app (next_at c.mark) front c.next
 
 -- the responses that begin between two positions are to HEAD where the request that they answer is
 abbrev pub AsksBetween : ℕ → ℕ → List Bool → Asked → Type 0
-AsksBetween from to heads asked = (at count : ℕ) → from ≤ at → at < to → asked at count ≡ get_or heads count false
+AsksBetween from to heads asked = (at count : ℕ) → from ≤ at → at < to
+    → asked at count ≡ get_or heads count false
 
 -- the same of all responses from a position on
 abbrev pub AsksFrom : ℕ → List Bool → Asked → Type 0
@@ -123,10 +135,13 @@ AsksFrom from heads asked = (at count : ℕ) → from ≤ at → asked at count 
 abbrev pub IsBehindAll : App → Asked → ℕ → Cursor → List Stretch → Cursor → Type 0
 IsBehindAll app asked count old [] new = new ≡ old
 IsBehindAll app asked count old (s ∷ []) new = IsBehind app asked count s.start new s.bytes
-IsBehindAll app asked count old (s ∷ next ∷ ss) new = IsBehindAll app asked (answered count (of_front app asked count s.start s.bytes)) old (next ∷ ss) new
+IsBehindAll app asked count old (s ∷ next ∷ ss) new =
+    IsBehindAll app asked (answered count (of_front app asked count s.start s.bytes)) old
+    (next ∷ ss) new
 
 -- what is shown of a longer stretch are its new messages, and the cursor is behind all of them
-pub record IsCut (app : App) (asked : Asked) (count start : ℕ) (old front : List ℕ) (shown : Shown) : Type 0 where
+pub record IsCut (app : App) (asked : Asked) (count start : ℕ) (old front : List ℕ)
+    (shown : Shown) : Type 0 where
   pub messages : shown.messages ≡ above (start + length old) (of_front app asked count start front)
   pub cursor : IsBehind app asked count start shown.cursor front
 
@@ -139,12 +154,16 @@ pub record IsWhole (app : App) (start : ℕ) (front : List ℕ) (m : Placed) : T
 -- how a cursor is kept: it begins at a stretch, serves whatever is asked further on, and what it knows is right, also of more
 -- bytes
 pub record CursorLaws : Type 0 where
-  pub begins : (app : App) (asked : Asked) (count start : ℕ) → IsBehind app asked count start (begun count) []
-  pub same : (app : App) (asked later : Asked) (count start : ℕ) (c : Cursor) (front : List ℕ) → AgreeBelow (start + length front) asked later
+  pub begins : (app : App) (asked : Asked) (count start : ℕ)
+      → IsBehind app asked count start (begun count) []
+  pub same : (app : App) (asked later : Asked) (count start : ℕ) (c : Cursor) (front : List ℕ)
+      → AgreeBelow (start + length front) asked later
       → IsBehind app asked count start c front → IsBehind app later count start c front
-  pub sound : (app : App) (asked : Asked) (count start : ℕ) (c : Cursor) (front more : List ℕ) → IsBehind app asked count start c front
+  pub sound : (app : App) (asked : Asked) (count start : ℕ) (c : Cursor) (front more : List ℕ)
+      → IsBehind app asked count start c front
       → IsSound app c (front ++ more)
-  pub longer : (app : App) (c : Cursor) (front more : List ℕ) → IsSound app c front → IsSound app c (front ++ more)
+  pub longer : (app : App) (c : Cursor) (front more : List ℕ) → IsSound app c front
+      → IsSound app c (front ++ more)
 
 -- ---- one look for a message
 
@@ -155,7 +174,8 @@ IsAskedOf app asked heads count Awaited bytes = 0 < length bytes → asked ≡ g
 IsAskedOf app asked heads count (Begun part) bytes = IsKnown app asked part bytes
 
 -- a message that begins where the next one does
-pub record IsNext (app : App) (asked : Bool) (start : ℕ) (front : List ℕ) (mark : Mark) (m : Placed) (c : Cursor) : Type 0 where
+pub record IsNext (app : App) (asked : Bool) (start : ℕ) (front : List ℕ) (mark : Mark) (m : Placed)
+    (c : Cursor) : Type 0 where
   pub first : first_of app asked (drop (next_at mark) front) ≡ Some m.told
   pub at : m.at ≡ start + next_at mark
   pub cursor : c ≡ cursor_behind mark m.told
@@ -168,16 +188,19 @@ pub record IsRest (app : App) (asked : Bool) (front : List ℕ) (old new : Curso
   pub known : KnowsNext app asked (next_at old.mark) front new.next
 
 abbrev pub IsCutFrom : App → Bool → ℕ → List ℕ → Cursor → Cut → Type 0
-IsCutFrom app asked start front old (Whole m new) = (goes old.next ≡ true) × IsNext app asked start front old.mark m new
+IsCutFrom app asked start front old (Whole m new) =
+    (goes old.next ≡ true) × IsNext app asked start front old.mark m new
 IsCutFrom app asked start front old (Rest new) = IsRest app asked front old new
 
 -- one look for a message is right for the request that it is asked of
 abbrev pub IsLook : App → ℕ → List ℕ → List Bool → Cursor → Cut → Type 0
 IsLook app start front heads old cut =
-    (asked : Bool) → IsAskedOf app asked heads old.mark.answers old.next (drop (next_at old.mark) front) → IsCutFrom app asked start front old cut
+    (asked : Bool) → IsAskedOf app asked heads old.mark.answers old.next
+    (drop (next_at old.mark) front) → IsCutFrom app asked start front old cut
 
 -- the same of a message that has begun
-pub record IsPartRest (app : App) (asked : Bool) (front : List ℕ) (mark : Mark) (new : Cursor) : Type 0 where
+pub record IsPartRest (app : App) (asked : Bool) (front : List ℕ) (mark : Mark)
+    (new : Cursor) : Type 0 where
   pub same : new.mark ≡ mark
   pub goes_is : goes new.next ≡ true
   pub none : first_of app asked (drop (next_at mark) front) ≡ None

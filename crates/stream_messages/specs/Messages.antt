@@ -27,7 +27,9 @@ unfoldable pub messages : App → Asked → ℕ → ℕ → ℕ → List ℕ →
 messages app asked count at skip [] = []
 messages app asked count at (suc skip) (b ∷ rest) = messages app asked count (suc at) skip rest
 messages app asked count at zero (b ∷ rest) =
-    with_first at (first_of app (asked at count) (b ∷ rest)) (λ told. messages app asked (count + answers told) (suc at) (end_of told - 1 + passed (then_of told)) rest)
+    with_first at (first_of app (asked at count) (b ∷ rest)) (λ told.
+    messages app asked (count + answers told) (suc at)
+    (end_of told - 1 + passed (then_of told)) rest)
 
 -- the messages of a stretch of bytes that begins at a position, behind so many answers
 abbrev pub of_front : App → Asked → ℕ → ℕ → List ℕ → List Placed
@@ -48,9 +50,11 @@ AgreeBelow end asked later = (at count : ℕ) → at < end → later at count �
 
 -- what longer bytes add are the messages that end in the new bytes
 abbrev pub PrefixLaw : Type 0
-PrefixLaw = (app : App) (asked later : Asked) (count start : ℕ) (front more : List ℕ) → AgreeBelow (start + length front) asked later
+PrefixLaw = (app : App) (asked later : Asked) (count start : ℕ) (front more : List ℕ)
+    → AgreeBelow (start + length front) asked later
     → of_front app later count start (front ++ more)
-    ≡ of_front app asked count start front ++ above (start + length front) (of_front app later count start (front ++ more))
+    ≡ of_front app asked count start front
+    ++ above (start + length front) (of_front app later count start (front ++ more))
 
 -- the answers up to behind messages
 abbrev pub answered : ℕ → List Placed → ℕ
@@ -79,18 +83,26 @@ abbrev pub AreLonger : ℕ → List Stretch → List Stretch → Type 0
 AreLonger end [] ts = AllFrom end ts
 AreLonger end (s ∷ ss) [] = ⊥
 AreLonger end (s ∷ []) (t ∷ ts) =
-    (t.start ≡ s.start) × ((more : List ℕ) × (t.bytes ≡ s.bytes ++ more)) × (s.start + length s.bytes ≡ end) × AllFrom end ts
-AreLonger end (s ∷ next ∷ ss) (t ∷ ts) = (t ≡ s) × (s.start + length s.bytes ≤ end) × AreLonger end (next ∷ ss) ts
+    (t.start ≡ s.start) × ((more : List ℕ) × (t.bytes ≡ s.bytes ++ more))
+    × (s.start + length s.bytes ≡ end) × AllFrom end ts
+AreLonger end (s ∷ next ∷ ss) (t ∷ ts) =
+    (t ≡ s) × (s.start + length s.bytes ≤ end) × AreLonger end (next ∷ ss) ts
 
 -- so each message of stretches is new once, when its last byte comes
 abbrev pub StretchLaw : Type 0
-StretchLaw = (app : App) (asked later : Asked) (count end : ℕ) (ss ts : List Stretch) → AreLonger end ss ts → AgreeBelow end asked later
-    → of_stretches app later count ts ≡ of_stretches app asked count ss ++ above end (of_stretches app later count ts)
+StretchLaw = (app : App) (asked later : Asked) (count end : ℕ) (ss ts : List Stretch)
+    → AreLonger end ss ts → AgreeBelow end asked later
+    → of_stretches app later count ts
+    ≡ of_stretches app asked count ss ++ above end (of_stretches app later count ts)
 
 -- where the last of stretches has grown, the new messages are its own; where others begin behind lost bytes, they are all of theirs
 pub record NewLaws : Type 0 where
-  pub grown : (app : App) (asked : Asked) (count end : ℕ) (ss : List Stretch) (t : Stretch) → AllBefore end ss
+  pub grown : (app : App) (asked : Asked) (count end : ℕ) (ss : List Stretch) (t : Stretch)
+      → AllBefore end ss
       → above end (of_stretches app asked count (ss ++ t ∷ []))
-      ≡ above end (of_front app asked (answered count (of_stretches app asked count ss)) t.start t.bytes)
-  pub begun : (app : App) (asked : Asked) (count end : ℕ) (ss ts : List Stretch) → AllBefore end ss → AllFrom end ts
-      → above end (of_stretches app asked count (ss ++ ts)) ≡ of_stretches app asked (answered count (of_stretches app asked count ss)) ts
+      ≡ above end (of_front app asked
+      (answered count (of_stretches app asked count ss)) t.start t.bytes)
+  pub begun : (app : App) (asked : Asked) (count end : ℕ) (ss ts : List Stretch) → AllBefore end ss
+      → AllFrom end ts
+      → above end (of_stretches app asked count (ss ++ ts))
+      ≡ of_stretches app asked (answered count (of_stretches app asked count ss)) ts

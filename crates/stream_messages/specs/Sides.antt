@@ -38,7 +38,8 @@ front_end side ns = end_behind 0 (stretches_in side ns)
 
 abbrev pub shown_in : Bool → List Noted → List Placed
 shown_in side [] = []
-shown_in side (n ∷ ns) = if same_side side n.side then shown_in side ns ++ n.shown else shown_in side ns
+shown_in side (n ∷ ns) =
+    if same_side side n.side then shown_in side ns ++ n.shown else shown_in side ns
 
 -- the requests among messages: whether the method of each is HEAD
 abbrev pub head_of : Told → List Bool
@@ -52,12 +53,14 @@ heads_in (m ∷ ms) = head_of m.told ++ heads_in ms
 -- the segments before the first with which a direction reaches past a position
 abbrev pub before_longer : Bool → ℕ → List Noted → List Noted
 before_longer side at [] = []
-before_longer side at (n ∷ ns) = if nat_lt at (front_end side (n ∷ ns)) then before_longer side at ns else n ∷ ns
+before_longer side at (n ∷ ns) =
+    if nat_lt at (front_end side (n ∷ ns)) then before_longer side at ns else n ∷ ns
 
 -- a response is to HEAD where the request that it answers is HEAD, and was shown before the response's first byte came: a later
 -- request changes nothing (RFC 9112, 6.3 and 9.2; that the first byte decides is a rule of this dissector)
 unfoldable pub asked_in : Bool → List Noted → Asked
-asked_in side ns at count = get_or (heads_in (shown_in (not side) (before_longer side at ns))) count false
+asked_in side ns at count =
+    get_or (heads_in (shown_in (not side) (before_longer side at ns))) count false
 
 -- a frame shows the messages that end past the bytes before it
 abbrev pub note_next : App → List Noted → Brought → Noted
@@ -80,11 +83,13 @@ AreInOrder low (s ∷ ss) = (low ≤ s.start) × AreInOrder (s.start + length s.
 abbrev pub AllGrow : App → List Brought → Type 0
 AllGrow app [] = Unit {0}
 AllGrow app (b ∷ bs) =
-    AreLonger (front_end b.side (noted app bs)) (stretches_in b.side (noted app bs)) b.stretches × (AreInOrder 0 b.stretches × AllGrow app bs)
+    AreLonger (front_end b.side (noted app bs)) (stretches_in b.side (noted app bs)) b.stretches
+    × (AreInOrder 0 b.stretches × AllGrow app bs)
 
 -- what is asked below a direction's end is not changed by a further segment
 abbrev pub AskedLaw : Type 0
-AskedLaw = (side : Bool) (n : Noted) (ns : List Noted) → AgreeBelow (front_end side (n ∷ ns)) (asked_in side ns) (asked_in side (n ∷ ns))
+AskedLaw = (side : Bool) (n : Noted) (ns : List Noted)
+    → AgreeBelow (front_end side (n ∷ ns)) (asked_in side ns) (asked_in side (n ∷ ns))
 
 -- what is asked past it is told by the requests that the other direction has shown
 abbrev pub HeadsLaw : Type 0
@@ -94,7 +99,8 @@ HeadsLaw = (side : Bool) (ns : List Noted) (at count : ℕ) → front_end side n
 -- the messages that the frames show of a direction, one frame behind the other, are those of its stretches: each in one frame
 abbrev pub ShownOnce : Type 0
 ShownOnce = (app : App) (side : Bool) (bs : List Brought) → AllGrow app bs
-    → shown_in side (noted app bs) ≡ of_stretches app (asked_in side (noted app bs)) 0 (stretches_in side (noted app bs))
+    → shown_in side (noted app bs)
+    ≡ of_stretches app (asked_in side (noted app bs)) 0 (stretches_in side (noted app bs))
 
 pub record SideLaws : Type 0 where
   pub asked : AskedLaw

@@ -13,7 +13,8 @@ use Rattle.stream_messages.specs.declared.told.Told.TheVariants.{Dns, Http}
 abbrev pub first_dns : List ℕ → Option ℕ
 first_dns [] = None
 first_dns (high ∷ []) = None
-first_dns (high ∷ low ∷ rest) = if nat_le (high * 256 + low) (length rest) then Some (high * 256 + low + 2) else None
+first_dns (high ∷ low ∷ rest) =
+    if nat_le (high * 256 + low) (length rest) then Some (high * 256 + low + 2) else None
 
 -- the first message; an HTTP response that begins here is to HEAD where it is asked (RFC 9112, 6.3)
 abbrev pub first_of : App → Bool → List ℕ → Option Told
@@ -42,9 +43,13 @@ answers (Http shape) = if shape.request || shape.interim then 0 else 1
 
 -- a first message has a byte, lies in the bytes, and depends on nothing behind it
 pub record ToldLaws : Type 0 where
-  pub some : (app : App) (asked : Bool) (bytes : List ℕ) (told : Told) → first_of app asked bytes ≡ Some told → 0 < end_of told
-  pub within : (app : App) (asked : Bool) (bytes : List ℕ) (told : Told) → first_of app asked bytes ≡ Some told → end_of told ≤ length bytes
-  pub stays : (app : App) (asked : Bool) (bytes more : List ℕ) (told : Told) → first_of app asked bytes ≡ Some told
+  pub some : (app : App) (asked : Bool) (bytes : List ℕ) (told : Told)
+      → first_of app asked bytes ≡ Some told → 0 < end_of told
+  pub within : (app : App) (asked : Bool) (bytes : List ℕ) (told : Told)
+      → first_of app asked bytes ≡ Some told → end_of told ≤ length bytes
+  pub stays : (app : App) (asked : Bool) (bytes more : List ℕ) (told : Told)
+      → first_of app asked bytes ≡ Some told
       → first_of app asked (bytes ++ more) ≡ Some told
-  pub shrinks : (app : App) (asked : Bool) (bytes more : List ℕ) (told : Told) → first_of app asked (bytes ++ more) ≡ Some told
+  pub shrinks : (app : App) (asked : Bool) (bytes more : List ℕ) (told : Told)
+      → first_of app asked (bytes ++ more) ≡ Some told
       → end_of told ≤ length bytes → first_of app asked bytes ≡ Some told

@@ -83,7 +83,8 @@ impl Mark {
 /// Behind a message that begins at a place, and so many answers. No stream has more answers than can be counted.
 pub(crate) fn mark_behind(place: usize, answers: usize, told: &Told) -> Result<Mark, NoMemory>
     requires { place + end_of told.now < 2 ^ 64 }
-    ensures { IfOk result (λ mark. (old : MarkValue) → next_at old ≡ place → old.answers ≡ answers → mark ≡ mark_behind old told.now) }
+    ensures { IfOk result (λ mark. (old : MarkValue) → next_at old ≡ place → old.answers ≡ answers
+        → mark ≡ mark_behind old told.now) }
 {
     Ok(Mark {
         end: place + told.end(),

@@ -40,9 +40,12 @@ pub fn cut_messages(
 ) -> Result<Shown, NoMemory>
     requires room { start + length front.now < 2 ^ 64 }
     requires sound { IsSound app cursor front.now }
-    ensures cut { IfOk result (λ shown. (asked later : Asked) (count : ℕ) (old new : List ℕ) → front.now ≡ old ++ new
-        → AgreeBelow (start + length old) asked later → AsksBetween (start + length old) (start + length front.now) heads.now later
-        → IsBehind app asked count start cursor old → IsCut app later count start old front.now shown) }
+    ensures cut { IfOk result (λ shown. (asked later : Asked) (count : ℕ) (old new : List ℕ)
+        → front.now ≡ old ++ new
+        → AgreeBelow (start + length old) asked later
+        → AsksBetween (start + length old) (start + length front.now) heads.now later
+        → IsBehind app asked count start cursor old
+        → IsCut app later count start old front.now shown) }
     ensures whole { IfOk result (λ shown. All (IsWhole app start front.now) shown.messages) }
     ensures sound { IfOk result (λ shown. IsSound app shown.cursor front.now) }
 {
@@ -92,7 +95,8 @@ fn cut_one(
 fn part_of(app: App, heads: &[bool], answers: usize, next: Next) -> Option<Part>
     ensures none { IfNone result (goes next ≡ false) }
     ensures some { IfSome result (λ part. goes next ≡ true) }
-    ensures known { IfSome result (λ part. (asked : Bool) (bytes : List ℕ) → 0 < length bytes → IsAskedOf app asked heads.now answers next bytes → IsKnown app asked part bytes) }
+    ensures known { IfSome result (λ part. (asked : Bool) (bytes : List ℕ) → 0 < length bytes
+        → IsAskedOf app asked heads.now answers next bytes → IsKnown app asked part bytes) }
 {
     match next {
         Next::Never => None,
@@ -119,8 +123,11 @@ fn cut_part(
 ) -> Result<Cut, NoMemory>
     requires room { start + length front.now < 2 ^ 64 }
     requires place { (place ≡ next_at mark) × (place < length front.now) }
-    requires known { (app : AppValue) × ((asked : Bool) × IsKnown app asked part (drop place front.now)) }
-    ensures { IfOk result (λ cut. (app : AppValue) (asked : Bool) → IsKnown app asked part (drop place front.now) → IsPartCut app asked start front.now mark cut) }
+    requires known { (app : AppValue)
+        × ((asked : Bool) × IsKnown app asked part (drop place front.now)) }
+    ensures { IfOk result (λ cut. (app : AppValue) (asked : Bool)
+        → IsKnown app asked part (drop place front.now)
+        → IsPartCut app asked start front.now mark cut) }
 {
     match part.go_on(alloc, tail(front, place))? {
         Going::Unfinished(part) => Ok(Cut::Rest(Cursor {

@@ -81,7 +81,8 @@ fn go_on_http(alloc: Global, bytes: &[u8], progress: Progress) -> Result<Going, 
 /// The same answer, of one application among others.
 fn told_by(framing: Framing) -> Going
     ensures found { found result ≡ option_map Http (found_in framing) }
-    ensures later { (bytes : List ℕ) → went_on result bytes ≡ option_map Http (framing_on framing bytes) }
+    ensures later { (bytes : List ℕ)
+        → went_on result bytes ≡ option_map Http (framing_on framing bytes) }
 {
     match framing {
         Framing::Unfinished(progress) => Going::Unfinished(Part::Http(progress)),

@@ -19,9 +19,11 @@ pub fn cut_stretches(
     heads: &[bool],
 ) -> Result<Shown, NoMemory>
     requires { All (λ s. s.start + length s.bytes < 2 ^ 64) stretches.now }
-    ensures messages { IfOk result (λ shown. (asked : Asked) (from : ℕ) → AsksFrom from heads.now asked → AllFrom from stretches.now
+    ensures messages { IfOk result (λ shown. (asked : Asked) (from : ℕ)
+        → AsksFrom from heads.now asked → AllFrom from stretches.now
         → shown.messages ≡ of_stretches app asked (answers_before cursor) stretches.now) }
-    ensures cursor { IfOk result (λ shown. (asked : Asked) (from : ℕ) → AsksFrom from heads.now asked → AllFrom from stretches.now
+    ensures cursor { IfOk result (λ shown. (asked : Asked) (from : ℕ)
+        → AsksFrom from heads.now asked → AllFrom from stretches.now
         → IsBehindAll app asked (answers_before cursor) cursor stretches.now shown.cursor) }
 {
     let mut messages = PlacedList::new(alloc);

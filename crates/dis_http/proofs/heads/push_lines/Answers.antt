@@ -1,4 +1,3 @@
-use Rattle.std.proofs.Common.{length, arith, rules}
 use Rattle.pk_tree.specs.Entries.{repeated}
 use Rattle.pk_tree.proofs.EntryLemmas.{repeat_step, repeat_stop, repeat_done}
 use Rattle.dis_http.specs.Heads.{field_line}

@@ -1,4 +1,3 @@
-use Rattle.std.proofs.Common.{subst, sym}
 use Rattle.dis_http.proofs.HttpLemmas.{pieces_short}
 use Rattle.dis_http.proofs.http.read_http.Goals as goal
 
