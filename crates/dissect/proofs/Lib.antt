@@ -5,5 +5,6 @@ mod Joining
 mod Kept
 pub mod NoRules
 mod Opens
+mod Passing
 mod Segmenting
 mod Taken

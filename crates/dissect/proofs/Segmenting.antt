@@ -1,5 +1,5 @@
 -- A segment more: what is shown of it, and what is kept.
-use Rattle.std.proofs.Common.{◌≡◌, List, ◌∷◌, refl, ◌∙◌, ap, subst}
+use Rattle.std.proofs.Common.{◌≡◌, true, List, ◌∷◌, refl, ◌∙◌, ap, subst}
 use Rattle.pk_base.specs.declared.span.Span.{Span}
 use Rattle.pk_buffer.specs.Buffers.{bytes_of}
 use Rattle.pk_tree.specs.declared.heads.PacketHead.{PacketHead}
@@ -23,6 +23,7 @@ use Rattle.dissect.proofs.Joining.{stands-segment}
 -- a segment that was taken, told and shown
 pub record IsShown (frame : Frame) (packet : PacketHead) (head : TcpHead) (span : Span) (segment : Segment) (taken : Taken) (old new : State) (t u v : TreeShown) : Type 0 where
   pub segment_is : segment ≡ segment_from frame.number packet head (bytes_of t.buffers span)
+  pub follows : old.follows ≡ true
   pub joins : new.joins ≡ old.joins
   pub udp : new.udp ≡ old.udp
   pub taken_is : (past : List Segment) → StandsFor past old.streams → taken ≡ taken_after past segment
@@ -37,8 +38,8 @@ shown-walked frame packet head span segment taken old new t u v is es stands =
     let bytes = bytes_of t.buffers span in
     record {
       stands = stands-segment es frame.number packet head bytes old new stands is.joins is.udp
-          (subst (λ (s : Segment). StandsFor (s ∷ segments_of es) new.streams) is.segment_is (is.kept (segments_of es) stands.streams));
-      tree = is.shown ∙ ap (λ (x : TreeShown). data_over x span)
-          (is.told ∙ ap (λ (k : Taken). segment_told t k span) (is.taken_is (segments_of es) stands.streams ∙ ap (taken_after (segments_of es)) is.segment_is));
+          (λ _. subst (λ (s : Segment). StandsFor (s ∷ segments_of es) new.streams) is.segment_is (is.kept (segments_of es) (stands.streams is.follows)));
+      tree = λ _. is.shown ∙ ap (λ (x : TreeShown). data_over x span)
+          (is.told ∙ ap (λ (k : Taken). segment_told t k span) (is.taken_is (segments_of es) (stands.streams is.follows) ∙ ap (taken_after (segments_of es)) is.segment_is));
       todo = refl;
     }

@@ -1,24 +1,25 @@
-use Rattle.std.proofs.Common.{◌+◌, length, subst, ap, ◌∙◌, true≢false, arith}
+use Rattle.std.proofs.Common.{◌+◌, length, subst, sym, ap, ◌∙◌, true≢false, arith}
 use Rattle.dissect.specs.Stands.{DissectorShown}
 use Rattle.dissect.specs.Times.{with_time}
-use Rattle.dissect.proofs.Taken.{Reads, tree-taken, stands-taken}
-use Rattle.dissect.proofs.dissector.Dissector.take_kept.Goals as goal
+use Rattle.dissect.proofs.Taken.{Reads, tree-taken, after-taken}
+use Rattle.dissect.proofs.dissector.Dissector.take_asked.Goals as goal
 
 pub returns-in-Ok-clause-tree : goal.returns-in-Ok-clause-tree
-returns-in-Ok-clause-tree c = λ past stands.
-    let reads = subst (λ (d : DissectorShown). Reads c.args.wanted c.args.frame.now d c.make_tree.new.state c.in-Ok.tree) c.self.view_is c.in-Ok.ensures.walked in
-    tree-taken c.args.wanted past c.args.frame.now c.args.self.now c.make_tree.new.state c.in-Ok.tree stands reads
+returns-in-Ok-clause-tree c = λ past after few.
+    let reads = subst (λ (d : DissectorShown). Reads c.args.asked c.args.frame.now d c.make_tree.new.state c.in-Ok.tree) c.self.view_is c.in-Ok.ensures.walked in
+    tree-taken c.args.asked past c.args.frame.now c.args.self.now c.make_tree.new.state c.in-Ok.tree
+    (c.make_tree.ensures.added.follows ∙ ap (λ (d : DissectorShown). d.state.follows) c.self.view_is) after few reads
 
-pub returns-in-Ok-clause-stands : goal.returns-in-Ok-clause-stands
-returns-in-Ok-clause-stands c = λ past stands.
+pub returns-in-Ok-clause-after : goal.returns-in-Ok-clause-after
+returns-in-Ok-clause-after c = λ past after.
     let frame = c.args.frame.now in
-    let reads = subst (λ (d : DissectorShown). Reads c.args.wanted frame d c.make_tree.new.state c.in-Ok.tree) c.self.view_is c.in-Ok.ensures.walked in
-    stands-taken c.args.wanted past frame c.args.self.now _ c.in-Ok.tree
+    let reads = subst (λ (d : DissectorShown). Reads c.args.asked frame d c.make_tree.new.state c.in-Ok.tree) c.self.view_is c.in-Ok.ensures.walked in
+    after-taken c.args.asked past frame c.args.self.now _ c.in-Ok.tree
     c.if-self.false
     (c.number_of-number.ensures.number ∙ c.requires.number)
     (ap (λ n. c.self.inside.captured + n) c.captured.ensures ∙ ap (λ (d : DissectorShown). d.captured + length frame.bytes) c.self.view_is)
     (c.with-self-inside.ensures.with ∙ ap (λ (d : DissectorShown). with_time frame.time d.times) c.self.view_is)
-    stands reads
+    after reads
 
 pub make_tree-requires-clause-few : goal.make_tree-requires-clause-few
 make_tree-requires-clause-few c =
@@ -39,4 +40,5 @@ invariant_of-self-in-Err c =
       udp = omega (arith, few, taken, c.requires.number, c.number_of-number.ensures.number, c.number_of-number.ensures.fits, c.make_tree.ensures.added.udp);
       udp_few = λ not_spent. absurd (true≢false not_spent);
       tcp_few = λ not_spent. absurd (true≢false not_spent);
+      asked = λ unfollowed. c.self.invariant.asked (sym c.make_tree.ensures.added.follows ∙ unfollowed);
     }
