@@ -14,6 +14,9 @@ falling   segments of one byte each in falling order
 overlaps  segments of one stream that overlap in all but one byte
 payloads  frames of 64 KB
 names     DNS queries whose names have 127 labels
+heads     HTTP requests whose heads never end, in segments of 1,400 bytes
+chunks    HTTP responses in chunks of one byte, in segments of 1,400 bytes
+fields    HTTP requests with 128 field lines, one in each segment
 
 The bytes depend on nothing but the kind, so that every machine measures the same file.
 """
@@ -38,8 +41,8 @@ def udp(source, target, data):
     return struct.pack(">HHHH", source, target, 8 + len(data), 0) + data
 
 
-def tcp(number, data, port=40000, source=0x0A000001, options=b""):
-    head = struct.pack(">HHIIBBHHH", port, 9999, number & 0xFFFFFFFF, 0, (5 + len(options) // 4) << 4, 0x18, 65535, 0, 0)
+def tcp(number, data, port=40000, source=0x0A000001, target=9999, options=b""):
+    head = struct.pack(">HHIIBBHHH", port, target, number & 0xFFFFFFFF, 0, (5 + len(options) // 4) << 4, 0x18, 65535, 0, 0)
     return ether(0x0800, ip4(6, head + options + data, source))
 
 
@@ -107,6 +110,28 @@ def names(place):
     return ether(0x0800, ip4(17, udp(5000 + place % 50000, 53, dns((1, 0, 0, 0), LABELS + struct.pack(">HH", 1, 1), place % 65536, False))))
 
 
+ENDLESS = b"GET / HTTP/1.1\r\n" + b"a: b\r\n" * 12000
+CHUNKED = b"HTTP/1.1 200 OK\r\nTransfer-Encoding: chunked\r\n\r\n" + b"1\r\na\r\n" * 10000 + b"0\r\n\r\n"
+
+
+def sent(whole, place):
+    """A segment of streams that each send the same bytes to port 80, 1,400 in a segment."""
+    stream, number = divmod(place, (len(whole) + 1399) // 1400)
+    return tcp(1 + number * 1400, whole[number * 1400:][:1400], 1024 + stream % 60000, 0x0A000000 + stream // 60000, 80)
+
+
+def heads(place):
+    return sent(ENDLESS, place)
+
+
+def chunks(place):
+    return sent(CHUNKED, place)
+
+
+def fields(place):
+    return tcp(1, b"GET / HTTP/1.1\r\n" + b"a:b\r\n" * 128 + b"\r\n", 1024 + place % 60000, 0x0A000000 + place // 60000, 80)
+
+
 def ordinary(place):
     visit, step = divmod(place, 10)
     port, source = 10000 + visit % 50000, 0x0A000001 + visit // 50000
@@ -118,7 +143,7 @@ def ordinary(place):
     return tcp(1 + (step - 2) * 1000, bytes([place % 256]) * 1000, port, source)
 
 
-KINDS = (ordinary, headers, options, chains, pointers, empty, pads, lone, streams, falling, overlaps, payloads, names)
+KINDS = (ordinary, headers, options, chains, pointers, empty, pads, lone, streams, falling, overlaps, payloads, names, heads, chunks, fields)
 
 
 def main():

@@ -17,7 +17,7 @@ measure() { # NAME CAPTURE WORDS..
   printf '%-10s cpu %7s s  %5s times ordinary traffic  peak %6s MB\n' "$name" "$1" "$(python3 -c "print(f'{$1 / $base:.1f}')")" "$4"
 }
 
-for kind in ordinary headers options chains pointers empty pads lone streams falling overlaps payloads names; do
+for kind in ordinary headers options chains pointers empty pads lone streams falling overlaps payloads names heads chunks fields; do
   capture=bench/out/worst.$kind.pcap
   [ -f "$capture" ] || python3 bench/make_worst.py "$capture" "$kind"
   measure "$kind" "$capture" -T json
