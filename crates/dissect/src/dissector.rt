@@ -7,7 +7,8 @@ ghost use Rattle.dissect.specs.Events.{Event};
 ghost use Rattle.tcp_streams.specs.Standing.{StandsFor};
 ghost use Rattle.dissect.specs.Segments.{segments_of};
 ghost use Rattle.dissect.specs.Stands.{Stands, StandsAt, IsWalked, HasRoomForOne, AddsAtMost};
-ghost use Rattle.dissect.specs.Times.{IsTime, AreTimes};
+ghost use Rattle.capture_read.specs.FrameList.{IsTime};
+ghost use Rattle.dissect.specs.Times.{AreTimes};
 ghost use Rattle.dissect.specs.Trees.{tree_at, events_of, kept_walk};
 
 use crate::conversations::Conversations;
