@@ -1,6 +1,6 @@
 -- The times of a capture file's frames are small.
 use Rattle.std.proofs.Common.{◌<◌, ◌≤◌, ℕ, zero, suc, ◌+◌, ◌-◌, ◌*◌, ◌/◌, ◌^◌, ◌%◌, ℤ, pos, ◌+ℤ◌, ◌*ℤ◌, Bool, true, false, not, ◌||◌, List, [], ◌∷◌, ◌++◌, length, take, drop, slice_index, Option, Some, None, arith}
-use Rattle.std.specs.Prelude.{nat_lt, ◌==◌, if◌then◌else◌, slice_get, slice_range}
+use Rattle.std.specs.Prelude.{nat_lt, ◌==◌, if◌then◌else◌, slice_get, slice_range, IfSome}
 use Rattle.std.specs.Option.{option_map}
 use Rattle.std.specs.Int.{w64, cast_signed}
 use Rattle.std.proofs.lemmas.Int.{ints}
@@ -30,7 +30,7 @@ use Rattle.pcapng_read.specs.declared.options.Setting.TheVariants.{Resolution, O
 use Rattle.pcapng_read.specs.declared.options.Settings.{Settings}
 use Rattle.pcapng_read.proofs.Numbers.{number_at-small}
 use Rattle.pk_base.proofs.Choices.{by_case}
-use Rattle.capture_read.specs.FrameList.{IsSmallTime}
+use Rattle.capture_read.specs.FrameList.{IsTime}
 use Rattle.capture_read.specs.Offsets.{IsOffset, AreInterfaces, IsStepTimely}
 use Rattle.capture_read.specs.Capture.{is_pcapng}
 use Rattle.capture_read.specs.Reader.{step_here, step_of_head, step_of_item, scope_then}
@@ -44,17 +44,17 @@ use Rattle.capture_read.specs.declared.piece.Piece.TheVariants.{End, Packet, Pas
 abbrev pub AreBytes : List ℕ → Type 0
 AreBytes bytes = (k : ℕ) → slice_index bytes k < 2 ^ 8
 
-small-pos : (n : ℕ) → n < 2 ^ 96 → IsSmallTime (Some (pos n))
-small-pos n few = (omega (arith, ints), omega (arith, ints))
+small-pos : (n : ℕ) → n < 2 ^ 96 → IsTime (pos n)
+small-pos n few = few
 
 cast-offset : (n : ℕ) → n < 2 ^ 64 → IsOffset (cast_signed w64 n)
 cast-offset n few = (omega (arith, ints), omega (arith, ints))
 
-small-sum : (n : ℕ) (seconds : ℤ) → n < 2 ^ 94 → IsOffset seconds → IsSmallTime (Some (pos n +ℤ seconds *ℤ pos (10 ^ 9)))
-small-sum n seconds few is = (omega (arith, ints, is.0, is.1), omega (arith, ints, is.0, is.1))
+small-sum : (n : ℕ) (seconds : ℤ) → n < 2 ^ 94 → IsOffset seconds → IsTime (pos n +ℤ seconds *ℤ pos (10 ^ 9))
+small-sum n seconds few is = omega (arith, ints, is.0, is.1)
 
 small-nanoseconds : (interface : Interface) (high low : ℕ) → high < 2 ^ 32 → low < 2 ^ 32 → IsOffset interface.offset
-    → IsSmallTime (Some (nanoseconds interface high low))
+    → IsTime (nanoseconds interface high low)
 small-nanoseconds interface high low top bottom is =
     let ticks : ℕ = (high * 2 ^ 32 + low) * 10 ^ 9 in
     let few : ticks < 2 ^ 94 = omega arith in
@@ -76,16 +76,16 @@ bytes-take (suc n) (b ∷ rest) are (suc k) = bytes-take n rest (λ i. are (suc 
 -- a frame's time is small, if there is a frame
 abbrev pub IsTimely : Piece → Type 0
 IsTimely (End ending) = Unit {0}
-IsTimely (Packet found) = IsSmallTime found.time
+IsTimely (Packet found) = IfSome found.time IsTime
 IsTimely (Passed size) = Unit {0}
 
 -- records of a pcap file
 abbrev IsItemTimely : ItemStep → Type 0
 IsItemTimely (item.Need n) = Unit {0}
-IsItemTimely (item.Item found) = IsSmallTime found.time
+IsItemTimely (item.Item found) = IfSome found.time IsTime
 IsItemTimely (item.Bad reason) = Unit {0}
 
-small-record_time : (nano : Bool) (seconds fraction : ℕ) → seconds < 2 ^ 32 → fraction < 2 ^ 32 → IsSmallTime (Some (record_nanoseconds nano seconds fraction))
+small-record_time : (nano : Bool) (seconds fraction : ℕ) → seconds < 2 ^ 32 → fraction < 2 ^ 32 → IsTime (record_nanoseconds nano seconds fraction)
 small-record_time true seconds fraction few less = small-pos (seconds * 10 ^ 9 + fraction) (omega arith)
 small-record_time false seconds fraction few less = small-pos (seconds * 10 ^ 9 + fraction * 10 ^ 3) (omega arith)
 
@@ -192,11 +192,11 @@ abbrev IsBlock : BlockRead → Type 0
 IsBlock (read.Need n) = Unit {0}
 IsBlock (read.Whole (block.Section little) end) = Unit {0}
 IsBlock (read.Whole (block.Interface interface) end) = IsOffset interface.offset
-IsBlock (read.Whole (block.Packet found) end) = IsSmallTime found.time
+IsBlock (read.Whole (block.Packet found) end) = IfSome found.time IsTime
 IsBlock (read.Whole block.Other end) = Unit {0}
 IsBlock (read.Bad reason) = Unit {0}
 
-is_fitting : (found : Found) → IsSmallTime found.time → IsBlock (fitting found)
+is_fitting : (found : Found) → IfSome found.time IsTime → IsBlock (fitting found)
 is_fitting found is =
     by_case IsBlock (nat_lt captured_limit found.len) _ _ (λ h. tt)
     (λ h. by_case IsBlock (nat_lt found.end (found.start + found.len + 4)) _ _ (λ h. tt) (λ h. is))

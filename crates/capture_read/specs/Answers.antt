@@ -1,8 +1,8 @@
 -- What a reader answers.
-use Rattle.std.specs.Prelude.{◌≡◌, ◌<◌, ◌≤◌, ℕ, ◌+◌, ◌-◌, ◌^◌, List, ◌∷◌, ◌++◌, length, Option, Some, None}
+use Rattle.std.specs.Prelude.{◌≡◌, ◌<◌, ◌≤◌, ℕ, ◌+◌, ◌-◌, ◌^◌, List, ◌∷◌, ◌++◌, length, Option, Some, None, IfSome}
 use Rattle.pk_base.specs.Limits.{file_limit}
 use Rattle.capture_read.specs.Capture.{Reading, capture_of, ended}
-use Rattle.capture_read.specs.FrameList.{IsSmallTime}
+use Rattle.capture_read.specs.FrameList.{IsTime}
 use Rattle.capture_read.specs.Reader.{Reader, ReaderShown, Stands, StandsFor, HasFew, with_past}
 use Rattle.capture_read.specs.Taken.{TookFew}
 use Rattle.capture_read.specs.declared.ending.Ending.{Ending}
@@ -24,28 +24,36 @@ IsFrontOf past file = (rest : Reading) × (capture_of file ≡ with_past past re
 -- ends 65,536 bytes before them holds no frame more. The least front that holds it ends with its record or block
 abbrev pub IsNear : List ℕ → List Frame → Option (List ℕ) → Type 0
 IsNear file past None = Unit {0}
-IsNear file past (Some left) = (front : ℕ) → front + 2 ^ 16 + length left ≤ length file → HasFew file past front
+IsNear file past (Some left) = (front : ℕ) → front + 2 ^ 16 + length left ≤ length file
+    → HasFew file past front
 
 -- the bytes taken of a file hold, as a file by themselves, exactly these frames
 abbrev pub HoldsExactly : List ℕ → List Frame → Option (List ℕ) → Type 0
 HoldsExactly file past None = Unit {0}
 HoldsExactly file past (Some left) =
-    (taken : List ℕ) × (file ≡ taken ++ left) × ((ending : Ending) × (capture_of taken ≡ with_past past (ended ending)))
+    (taken : List ℕ) × (file ≡ taken ++ left)
+    × ((ending : Ending) × (capture_of taken ≡ with_past past (ended ending)))
 
 -- the next frame of each file for which the reader stands, or how the file ends
-abbrev pub Answers : NextFrame → ReaderShown → ReaderShown → Option (List ℕ) → Option (List ℕ) → Type 0
-Answers (next.Frame frame) old new left_old left_new = (file : List ℕ) → (past : List Frame) → StandsFor old left_old file past
-    → StandsFor new left_new file (frame ∷ past) × IsFrontOf (frame ∷ past) file × IsNear file past left_new
-Answers (next.End ending) old new left_old left_new = (file : List ℕ) → (past : List Frame) → StandsFor old left_old file past
+abbrev pub Answers : NextFrame → ReaderShown → ReaderShown → Option (List ℕ) → Option (List ℕ)
+    → Type 0
+Answers (next.Frame frame) old new left_old left_new = (file : List ℕ) → (past : List Frame)
+    → StandsFor old left_old file past
+    → StandsFor new left_new file (frame ∷ past) × IsFrontOf (frame ∷ past) file
+    × IsNear file past left_new
+Answers (next.End ending) old new left_old left_new = (file : List ℕ) → (past : List Frame)
+    → StandsFor old left_old file past
     → StandsFor new left_new file past × (capture_of file ≡ with_past past (ended ending))
 
 -- a read failed: the bytes taken of the file hold exactly the frames answered before
 abbrev pub Fails : ReaderShown → Option (List ℕ) → Option (List ℕ) → Type 0
-Fails old left_old left_new = (file : List ℕ) → (past : List Frame) → StandsFor old left_old file past → HoldsExactly file past left_new
+Fails old left_old left_new = (file : List ℕ) → (past : List Frame)
+    → StandsFor old left_old file past → HoldsExactly file past left_new
 
 -- however a call ends, at most 2^28 + 1 bytes of the file were taken
 abbrev pub TakesFewOf : ReaderShown → Option (List ℕ) → Option (List ℕ) → Type 0
-TakesFewOf old left_old left_new = (file : List ℕ) → (past : List Frame) → StandsFor old left_old file past → TookFew file left_new
+TakesFewOf old left_old left_new = (file : List ℕ) → (past : List Frame)
+    → StandsFor old left_old file past → TookFew file left_new
 
 -- frames are numbered one after the other, the place moves on past each one's bytes, and times lie strictly between -2^96
 -- and 2^96 nanoseconds
@@ -54,7 +62,7 @@ pub record IsCounted (frame : Frame) (old new : Reader) : Type 0 where
   pub after : new.number ≡ old.number + 1
   pub bytes : old.at + length frame.bytes ≤ new.at
   pub moved : old.at < new.at
-  pub time : IsSmallTime frame.time
+  pub time : IfSome frame.time IsTime
 
 abbrev pub CountsNext : NextFrame → Reader → Reader → Type 0
 CountsNext (next.Frame frame) old new = IsCounted frame old new
@@ -68,20 +76,26 @@ KeepsEnd (next.End ending) kept = kept ≡ phase.Ended ending
 -- one step to the next answer
 
 abbrev pub Finds : NextFrame → Reader → Reader → Option (List ℕ) → Option (List ℕ) → Type 0
-Finds (next.Frame frame) old new left_old left_new = (file : List ℕ) → (past : List Frame) → Stands old left_old file past
-    → Stands new left_new file (frame ∷ past) × IsFrontOf (frame ∷ past) file × IsNear file past left_new
-Finds (next.End ending) old new left_old left_new = (file : List ℕ) → (past : List Frame) → Stands old left_old file past
+Finds (next.Frame frame) old new left_old left_new = (file : List ℕ) → (past : List Frame)
+    → Stands old left_old file past
+    → Stands new left_new file (frame ∷ past) × IsFrontOf (frame ∷ past) file
+    × IsNear file past left_new
+Finds (next.End ending) old new left_old left_new = (file : List ℕ) → (past : List Frame)
+    → Stands old left_old file past
     → Stands new left_new file past × (capture_of file ≡ with_past past (ended ending))
 
 -- the reader stands for the same as before
 abbrev pub GoesOn : Reader → Reader → Option (List ℕ) → Option (List ℕ) → Type 0
-GoesOn old new left_old left_new = (file : List ℕ) → (past : List Frame) → Stands old left_old file past → Stands new left_new file past
+GoesOn old new left_old left_new = (file : List ℕ) → (past : List Frame)
+    → Stands old left_old file past → Stands new left_new file past
 
 abbrev pub FailsAt : Reader → Option (List ℕ) → Option (List ℕ) → Type 0
-FailsAt old left_old left_new = (file : List ℕ) → (past : List Frame) → Stands old left_old file past → HoldsExactly file past left_new
+FailsAt old left_old left_new = (file : List ℕ) → (past : List Frame)
+    → Stands old left_old file past → HoldsExactly file past left_new
 
 abbrev pub TakesFew : Reader → Option (List ℕ) → Option (List ℕ) → Type 0
-TakesFew old left_old left_new = (file : List ℕ) → (past : List Frame) → Stands old left_old file past → TookFew file left_new
+TakesFew old left_old left_new = (file : List ℕ) → (past : List Frame)
+    → Stands old left_old file past → TookFew file left_new
 
 -- how much there may be to do before an answer
 abbrev pub open_count : Seen → ℕ
@@ -99,4 +113,5 @@ Turns turn.Again old new left_old left_new = GoesOn old new left_old left_new
 
 abbrev pub CountsTurn : Turn → Reader → Reader → Type 0
 CountsTurn (turn.Next answer) old new = CountsNext answer old new
-CountsTurn turn.Again old new = (new.number ≡ old.number) × (old.at ≤ new.at) × (work_left new < work_left old)
+CountsTurn turn.Again old new =
+    (new.number ≡ old.number) × (old.at ≤ new.at) × (work_left new < work_left old)

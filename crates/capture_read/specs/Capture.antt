@@ -50,15 +50,18 @@ frame_of number found bytes = record {
 -- follows is given by the next frame's number and the size of the record or block
 abbrev pub after_piece : ℕ → List ℕ → (ℕ → ℕ → Reading) → Piece → Reading
 after_piece number bytes follows (End ending) = ended ending
-after_piece number bytes follows (Packet found) = with_frame (frame_of number found bytes) (follows (suc number) found.end)
+after_piece number bytes follows (Packet found) =
+    with_frame (frame_of number found bytes) (follows (suc number) found.end)
 after_piece number bytes follows (Passed size) = follows number size
 
 -- the records or blocks of a file, of which the first begins `skip` bytes further on. The bytes begin at place `at` of the
 -- file, and the next frame has the given number. `read` says what stands at a place where a record or block begins, by
 -- what is known from those before it, and `behind` what is known behind it
-unfoldable pub pieces : {S : Type 0} → (S → ℕ → List ℕ → Piece) → (S → List ℕ → S) → Bool → S → ℕ → ℕ → ℕ → List ℕ → Reading
+unfoldable pub pieces : {S : Type 0} → (S → ℕ → List ℕ → Piece) → (S → List ℕ → S) → Bool → S → ℕ
+    → ℕ → ℕ → List ℕ → Reading
 pieces read behind large known number at (suc skip) [] = ended (end_of_bytes large)
-pieces read behind large known number at (suc skip) (b ∷ rest) = pieces read behind large known number (suc at) skip rest
+pieces read behind large known number at (suc skip) (b ∷ rest) =
+    pieces read behind large known number (suc at) skip rest
 pieces read behind large known number at zero [] = ended (end_of_bytes large)
 pieces read behind large known number at zero (b ∷ rest) =
     after_piece number (b ∷ rest)
@@ -69,7 +72,8 @@ pieces read behind large known number at zero (b ∷ rest) =
 abbrev pub after_head : Bool → List ℕ → HeadStep → Reading
 after_head large bytes (head.Need n) = ended (unfinished large 0 ShortHeader)
 after_head large bytes (head.Bad reason) = ended (damage_at 0 reason)
-after_head large bytes (head.Head h) = pieces (record_at large) head_behind large h 1 24 0 (drop 24 bytes)
+after_head large bytes (head.Head h) =
+    pieces (record_at large) head_behind large h 1 24 0 (drop 24 bytes)
 
 -- whether a file begins with a section's type, as pcapng files do: draft-ietf-opsawg-pcapng, section 4.1
 abbrev pub is_pcapng : List ℕ → Bool

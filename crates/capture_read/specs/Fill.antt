@@ -13,7 +13,8 @@ IsFilledTo seen.Ended beyond size most left = (length beyond ≡ 0) × IsAtEnd l
 IsFilledTo seen.Beyond beyond size most left = (length beyond ≡ 1) × (size ≡ most)
 
 -- bytes were read behind those held: no read was called once there were as many as are needed, nor asked for more than 65,536
-pub record IsFilled (held : List ℕ) (filled : Filled) (need most : ℕ) (old new : Option (List ℕ)) : Type 0 where
+pub record IsFilled (held : List ℕ) (filled : Filled) (need most : ℕ)
+    (old new : Option (List ℕ)) : Type 0 where
   pub got : List ℕ
   pub beyond : List ℕ
   pub bytes : filled.bytes.items ≡ held ++ got

@@ -1,5 +1,5 @@
 -- How many bytes frames have, and how great their times are.
-use Rattle.std.specs.Prelude.{ℕ, ◌+◌, ◌^◌, ℤ, pos, neg_ℤ, ◌<ℤ◌, List, [], ◌∷◌, length, Option, Some, None}
+use Rattle.std.specs.Prelude.{ℕ, ◌+◌, ◌^◌, ◌<◌, ℤ, nat_abs, List, [], ◌∷◌, length, IfSome}
 use Rattle.capture_read.specs.declared.frame.Frame.{Frame}
 
 -- how many bytes were captured of all of them
@@ -7,12 +7,11 @@ abbrev pub captured_bytes : List Frame → ℕ
 captured_bytes [] = 0
 captured_bytes (frame ∷ frames) = length frame.bytes + captured_bytes frames
 
--- a time lies strictly between -2^96 and 2^96 nanoseconds, where there is one
-abbrev pub IsSmallTime : Option ℤ → Type 0
-IsSmallTime None = Unit {0}
-IsSmallTime (Some time) = (neg_ℤ (pos (2 ^ 96)) <ℤ time) × (time <ℤ pos (2 ^ 96))
+-- nanoseconds strictly between -2^96 and 2^96: more than any capture file can say
+abbrev pub IsTime : ℤ → Type 0
+IsTime time = nat_abs time < 2 ^ 96
 
--- so does each frame's
+-- each frame's time is such a time, where there is one
 abbrev pub AreTimesSmall : List Frame → Type 0
 AreTimesSmall [] = Unit {0}
-AreTimesSmall (frame ∷ frames) = IsSmallTime frame.time × AreTimesSmall frames
+AreTimesSmall (frame ∷ frames) = IfSome frame.time IsTime × AreTimesSmall frames

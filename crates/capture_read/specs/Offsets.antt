@@ -1,9 +1,9 @@
 -- The interfaces of a section have offsets of 64 bits: draft-ietf-opsawg-pcapng, section 4.2 (if_tsoffset). So the times of
 -- frames are small.
-use Rattle.std.specs.Prelude.{◌^◌, ℤ, pos, neg_ℤ, ◌<ℤ◌, ◌≤ℤ◌, List, [], ◌∷◌}
+use Rattle.std.specs.Prelude.{◌^◌, ℤ, pos, neg_ℤ, ◌<ℤ◌, ◌≤ℤ◌, List, [], ◌∷◌, IfSome}
 use Rattle.pcapng_read.specs.declared.step.BlockStep.{BlockStep}
 use Rattle.pcapng_read.specs.declared.step.BlockStep.TheVariants as step
-use Rattle.capture_read.specs.FrameList.{IsSmallTime}
+use Rattle.capture_read.specs.FrameList.{IsTime}
 use Rattle.pcapng_read.specs.declared.interface.Interface.{Interface}
 
 -- seconds of 64 bits
@@ -17,6 +17,6 @@ AreInterfaces (interface ∷ later) = IsOffset interface.offset × AreInterfaces
 -- a frame's time is small, where the step finds one
 abbrev pub IsStepTimely : BlockStep → Type 0
 IsStepTimely (step.Need n) = Unit {0}
-IsStepTimely (step.Item found) = IsSmallTime found.time
+IsStepTimely (step.Item found) = IfSome found.time IsTime
 IsStepTimely (step.Skipped size) = Unit {0}
 IsStepTimely (step.Bad reason) = Unit {0}

@@ -48,5 +48,6 @@ where_left large (b ∷ rest) piece = piece
 -- a record or block ends within so many bytes, and its packet within it
 abbrev pub IsPieceWithin : Piece → ℕ → Type 0
 IsPieceWithin (End ending) held = Unit {0}
-IsPieceWithin (Packet found) held = (0 < found.end) × (found.end ≤ held) × (found.start + found.len ≤ found.end)
+IsPieceWithin (Packet found) held =
+    (0 < found.end) × (found.end ≤ held) × (found.start + found.len ≤ found.end)
 IsPieceWithin (Passed size) held = (0 < size) × (size ≤ held)

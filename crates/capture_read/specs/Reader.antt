@@ -48,8 +48,10 @@ with_past (frame ∷ past) reading = with_past past (with_frame frame reading)
 -- what bytes stand for from a place of a file on
 abbrev pub reading_here : Bool → Option Kind → Scope → ℕ → ℕ → List ℕ → Reading
 reading_here large None scope number at bytes = reading_of large bytes
-reading_here large (Some (Pcap h)) scope number at bytes = pieces (record_at large) head_behind large h number at 0 bytes
-reading_here large (Some Pcapng) scope number at bytes = pieces (scoped_block large) scope_behind large scope number at 0 bytes
+reading_here large (Some (Pcap h)) scope number at bytes =
+    pieces (record_at large) head_behind large h number at 0 bytes
+reading_here large (Some Pcapng) scope number at bytes =
+    pieces (scoped_block large) scope_behind large scope number at 0 bytes
 
 -- a pcap file's header is passed over, as a block without a frame is
 abbrev pub step_of_head : HeadStep → BlockStep
@@ -64,7 +66,8 @@ step_of_item (item.Bad reason) = step.Bad reason
 
 -- the header, record or block that begins with the first of the bytes
 abbrev pub step_here : Option Kind → Scope → List ℕ → BlockStep
-step_here None scope bytes = if is_pcapng bytes then step_of (block_in scope bytes) else step_of_head (pcap_head bytes)
+step_here None scope bytes =
+    if is_pcapng bytes then step_of (block_in scope bytes) else step_of_head (pcap_head bytes)
 step_here (Some (Pcap h)) scope bytes = step_of_item (pcap_item h bytes)
 step_here (Some Pcapng) scope bytes = step_of (block_in scope bytes)
 
@@ -87,7 +90,8 @@ kind_then (step.Skipped size) kind bytes = told_kind kind bytes
 kind_then (step.Bad reason) kind bytes = kind
 
 abbrev pub scope_then : Option Kind → Scope → List ℕ → Scope
-scope_then None scope bytes = if is_pcapng bytes then scope_after (block_in scope bytes) scope else scope
+scope_then None scope bytes =
+    if is_pcapng bytes then scope_after (block_in scope bytes) scope else scope
 scope_then (Some (Pcap h)) scope bytes = scope
 scope_then (Some Pcapng) scope bytes = scope_after (block_in scope bytes) scope
 
@@ -97,7 +101,8 @@ ending_where large [] cut = end_of_bytes large
 ending_where large (b ∷ rest) cut = cut
 
 abbrev pub cut_here : Option Kind → Bool → ℕ → List ℕ → Ending
-cut_here None large at bytes = unfinished large at (if is_pcapng bytes then BlockCut else ShortHeader)
+cut_here None large at bytes =
+    unfinished large at (if is_pcapng bytes then BlockCut else ShortHeader)
 cut_here (Some (Pcap h)) large at bytes = ending_where large bytes (unfinished large at RecordCut)
 cut_here (Some Pcapng) large at bytes = ending_where large bytes (unfinished large at BlockCut)
 
@@ -118,7 +123,8 @@ pub record IsKept (r : Reader) : Type 0 where
 -- then what is read from the place on
 abbrev pub IsOver : Reader → List ℕ → List Frame → Type 0
 IsOver r before past = (more : List ℕ) → capture_of (before ++ more)
-    ≡ with_past past (reading_here (is_large (before ++ more)) r.kind r.scope r.number r.at (take (file_limit - r.at) more))
+    ≡ with_past past (reading_here (is_large (before ++ more)) r.kind r.scope r.number r.at
+    (take (file_limit - r.at) more))
 
 -- the first bytes of a file, as a file by themselves, hold no more frames than these
 abbrev pub HasFew : List ℕ → List Frame → ℕ → Type 0
@@ -140,7 +146,8 @@ pub record IsReading (r : Reader) (left file : List ℕ) (past : List Frame) : T
   pub behind : IsSeenBehind r.seen (r.at + length r.held) beyond left
   pub over : IsOver r before past
   pub few : (front : ℕ) → front < r.at → HasFew file past front
-  pub near : (front : ℕ) → front + 2 ^ 16 ≤ r.at + (length r.held + length beyond) → HasFew file past front
+  pub near : (front : ℕ) → front + 2 ^ 16 ≤ r.at + (length r.held + length beyond)
+      → HasFew file past front
 
 -- the same where the capture tells what is left
 unfoldable pub Stands : Reader → Option (List ℕ) → List ℕ → List Frame → Type 0

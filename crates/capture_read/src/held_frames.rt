@@ -51,7 +51,8 @@ impl HeldFrames {
     /// The next frame, whose bytes share the file's memory, or how the file ends, which is then answered again and
     /// again. After an error nothing is changed.
     pub fn next_frame(&mut self) -> Result<NextFrame, NoMemory>
-        ensures { MatchResult result (λ next. Gives next self.old self.new) (λ _. self.new ≡ self.old) }
+        ensures { MatchResult result (λ next. Gives next self.old self.new) (λ _.
+            self.new ≡ self.old) }
     {
         take_frame(&self.file, self.format, &mut self.sections, &mut self.place)
     }

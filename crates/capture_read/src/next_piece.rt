@@ -18,10 +18,13 @@ pub fn next_piece(
 ) -> Result<Piece, NoMemory>
     requires within { at ≤ length held.now }
     requires begun { IsBegun format sections.old (drop at held.now) }
-    ensures reads { IfOk result (λ piece. Reads (reading_from large held.now format sections.old) (reading_from large held.now format sections.new) at (drop at held.now) piece) }
+    ensures reads { IfOk result (λ piece.
+        Reads (reading_from large held.now format sections.old)
+        (reading_from large held.now format sections.new) at (drop at held.now) piece) }
     ensures within { IfOk result (λ piece. IsPieceWithin piece (length held.now - at)) }
     ensures stays { IfOk result (λ piece. UnlessPassed piece (sections.new ≡ sections.old)) }
-    ensures begun { IfOk result (λ piece. WhenRead piece ((bytes : List ℕ) → IsBegun format sections.new bytes)) }
+    ensures begun { IfOk result (λ piece.
+        WhenRead piece ((bytes : List ℕ) → IsBegun format sections.new bytes)) }
     ensures kept { OnErr result (sections.new ≡ sections.old) }
 {
     let rest = bytes_from(held, at);

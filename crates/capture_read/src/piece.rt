@@ -43,8 +43,10 @@ pub fn read_block(
     rest: &[u8],
 ) -> Result<Piece, NoMemory>
     requires { IsReady sections.old rest.now }
-    ensures value { IfOk result (λ piece. piece ≡ where_left large rest.now (scoped_block large sections.old at rest.now)) }
-    ensures behind { IfOk result (λ piece. WhenRead piece (sections.new ≡ scope_behind sections.old rest.now)) }
+    ensures value { IfOk result (λ piece.
+        piece ≡ where_left large rest.now (scoped_block large sections.old at rest.now)) }
+    ensures behind { IfOk result (λ piece.
+        WhenRead piece (sections.new ≡ scope_behind sections.old rest.now)) }
     ensures stays { IfOk result (λ piece. UnlessPassed piece (sections.new ≡ sections.old)) }
     ensures begun { IfOk result (λ piece. WhenRead piece (sections.new.order ≢ None)) }
     ensures kept { OnErr result (sections.new ≡ sections.old) }

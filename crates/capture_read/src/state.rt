@@ -63,8 +63,11 @@ pub fn take_frame(
     place: &mut Place,
 ) -> Result<NextFrame, NoMemory>
     requires { IsReached file.now format sections.old place.old }
-    ensures gives { IfOk result (λ next. Gives next (rest_of file.now format sections.old place.old) (rest_of file.now format sections.new place.new)) }
-    ensures kept { OnErr result (rest_of file.now format sections.new place.new ≡ rest_of file.now format sections.old place.old) }
+    ensures gives { IfOk result (λ next.
+        Gives next (rest_of file.now format sections.old place.old)
+        (rest_of file.now format sections.new place.new)) }
+    ensures kept { OnErr result (rest_of file.now format sections.new place.new
+        ≡ rest_of file.now format sections.old place.old) }
     ensures reached { IsReached file.now format sections.new place.new }
 {
     let large = is_large(file.bytes());
@@ -85,7 +88,8 @@ pub fn take_frame(
 /// The frame found in the record or block at a place of a file.
 fn frame_at(file: &Octets, place: Place, found: &Found) -> Result<Frame, NoMemory>
     requires { place.at + found.now.start + found.now.len ≤ length (held_part file.now) }
-    ensures { IfOk result (λ frame. frame ≡ frame_of place.number found.now (drop place.at (held_part file.now))) }
+    ensures { IfOk result (λ frame.
+        frame ≡ frame_of place.number found.now (drop place.at (held_part file.now))) }
 {
     let start = place.at + found.start;
     Ok(Frame {

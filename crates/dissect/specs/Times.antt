@@ -1,11 +1,8 @@
 -- The times of the frames before a frame.
-use Rattle.std.specs.Prelude.{◌^◌, ◌<◌, ℤ, ◌-ℤ◌, nat_abs, Option, Some, None, IfSome}
+use Rattle.std.specs.Prelude.{ℤ, ◌-ℤ◌, Option, Some, None, IfSome}
 use Rattle.std.specs.Option.{unwrap_or}
+use Rattle.capture_read.specs.FrameList.{IsTime}
 use Rattle.dissect.specs.declared.times.Times.{Times}
-
--- nanoseconds strictly between -2^96 and 2^96: more than any capture file can say
-abbrev pub IsTime : ℤ → Type 0
-IsTime time = nat_abs time < 2 ^ 96
 
 -- both times that are kept are such times
 pub record AreTimes (times : Times) : Type 0 where

@@ -8,7 +8,8 @@ ghost use Rattle.tcp_streams.specs.Standing.{StandsFor};
 ghost use Rattle.dissect.specs.Followed.{asks_streams};
 ghost use Rattle.dissect.specs.Segments.{segments_of};
 ghost use Rattle.dissect.specs.Stands.{Stands, StandsWithin, StandsAt, IsAfter, IsWalked, HasRoomForOne, AddsAtMost};
-ghost use Rattle.dissect.specs.Times.{IsTime, AreTimes};
+ghost use Rattle.capture_read.specs.FrameList.{IsTime};
+ghost use Rattle.dissect.specs.Times.{AreTimes};
 ghost use Rattle.dissect.specs.Trees.{tree_at, events_of, kept_walk};
 
 use crate::conversations::Conversations;

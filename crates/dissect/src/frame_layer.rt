@@ -3,7 +3,8 @@ ghost use Rattle.pk_fields.specs.Ids.{FRAME, FRAME_NUMBER, FRAME_LEN, FRAME_CAP_
 ghost use Rattle.pk_tree.specs.declared.heads.Mode.TheVariants.{Plain};
 ghost use Rattle.pk_tree.specs.Layouts.{StepFits, StepsFit, layer_read};
 ghost use Rattle.dissect.specs.FrameLayer.{is_cut, frame_span, frame_layout, kept_frame};
-ghost use Rattle.dissect.specs.Times.{IsTime, AreTimes};
+ghost use Rattle.capture_read.specs.FrameList.{IsTime};
+ghost use Rattle.dissect.specs.Times.{AreTimes};
 
 use crate::times::{Times, since};
 use capture_read::Frame;

@@ -1,6 +1,6 @@
 ghost use Rattle.std.specs.Prelude.{◌≡◌, ◌+◌, ◌*◌, ◌≤◌, ◌<◌, ◌^◌, IfSome, OnOk};
 ghost use Rattle.dissect.specs.DecodeRules.{AreRules};
-ghost use Rattle.dissect.specs.Times.{IsTime};
+ghost use Rattle.capture_read.specs.FrameList.{IsTime};
 
 use crate::frame_rows::{
     ADDRESSES, Capture, ETHERNET, QUERY, RAW, REQUEST, Row, THERE, TO_DNS, TUNNEL, Told,

@@ -13,7 +13,8 @@ use std::alloc::Global;
 
 /// The slices of those values that have all the bytes. A slice of a single range shares its value's bytes.
 pub fn slices(alloc: Global, values: &[Value], ranges: &[RangePart]) -> Result<Vec<Value>, NoMemory>
-    ensures { IfOk result (λ slices. slices.items ≡ filter_map (λ value. sliced value ranges.now) values.now) }
+    ensures { IfOk result (λ slices.
+        slices.items ≡ filter_map (λ value. sliced value ranges.now) values.now) }
 {
     let mut slices = Vec::new(alloc);
     for value in values {
@@ -26,7 +27,8 @@ pub fn slices(alloc: Global, values: &[Value], ranges: &[RangePart]) -> Result<V
 
 /// The bits of each number that are set in a mask.
 pub fn masked_values(alloc: Global, values: &[Value], mask: u64) -> Result<Vec<Value>, NoMemory>
-    ensures { IfOk result (λ answers. answers.items ≡ filter_map (λ value. masked mask value) values.now) }
+    ensures { IfOk result (λ answers.
+        answers.items ≡ filter_map (λ value. masked mask value) values.now) }
 {
     let mut answers = Vec::new(alloc);
     for value in values {
@@ -52,7 +54,8 @@ pub fn called_values(
 }
 
 fn each_called(alloc: Global, function: Function, values: &[Value]) -> Result<Vec<Value>, NoMemory>
-    ensures { IfOk result (λ answers. answers.items ≡ filter_map (λ value. called function value) values.now) }
+    ensures { IfOk result (λ answers.
+        answers.items ≡ filter_map (λ value. called function value) values.now) }
 {
     let mut answers = Vec::new(alloc);
     for value in values {

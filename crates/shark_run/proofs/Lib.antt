@@ -4,7 +4,6 @@ mod LawLemmas
 mod OpeningLemmas
 mod PlanLemmas
 mod RuleLemmas
-mod Times
 mod Together
 mod ToldLemmas
 mod WantedLemmas

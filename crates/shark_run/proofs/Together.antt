@@ -6,8 +6,7 @@ use Rattle.capture_read.specs.Answers.{IsCounted}
 use Rattle.capture_read.specs.Reader.{Reader}
 use Rattle.capture_read.specs.declared.frame.Frame.{Frame}
 use Rattle.dissect.specs.Stands.{DissectorShown}
-use Rattle.dissect.specs.Times.{IsTime}
-use Rattle.shark_run.proofs.Times.{small_time}
+use Rattle.capture_read.specs.FrameList.{IsTime}
 
 pub record AreTogether (r : Reader) (d : DissectorShown) : Type 0 where
   pub number : r.number ≡ d.taken + 1
@@ -23,7 +22,7 @@ pub takeable : (r after : Reader) (d : DissectorShown) (frame : Frame) → AreTo
     → (frame.number ≡ d.taken + 1) × IfSome frame.time IsTime × (d.captured + length frame.bytes ≤ 2 ^ 28)
 takeable r after d frame are counted limit = (
   omega (arith, counted.number, are.number),
-  small_time frame.time counted.time,
+  counted.time,
   omega (arith, below_limit after.at limit, counted.bytes, are.captured),
 )
 

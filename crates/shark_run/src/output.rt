@@ -8,7 +8,7 @@ ghost use Rattle.capture_read.specs.Reader.{StandsFor};
 ghost use Rattle.capture_read.specs.Taken.{TookAtMost};
 ghost use Rattle.capture_read.specs.declared.frame.Frame.{Frame as FrameValue};
 ghost use Rattle.dissect.specs.Stands.{StandsWithin};
-ghost use Rattle.dissect.specs.Times.{IsTime};
+ghost use Rattle.capture_read.specs.FrameList.{IsTime};
 ghost use Rattle.dissect.specs.Trees.{tree_at};
 ghost use Rattle.shark_run.specs.Lines.{line_of, opening, shown};
 ghost use Rattle.shark_run.specs.Reading.{frames_read};
