@@ -1,5 +1,5 @@
 -- The chain of headers, met one by one.
-use Rattle.std.proofs.Common.{◌≡◌, ℕ, zero, suc, ◌-◌, ◌<◌, false, List, refl, sym, ◌∙◌, ap, subst, arith}
+use Rattle.std.proofs.Common.{◌≡◌, ℕ, zero, suc, ◌-◌, ◌<◌, List, refl, sym, ◌∙◌, ap, subst, arith}
 use Rattle.pk_tree.specs.Trees.{TreeShown}
 use Rattle.capture_read.specs.declared.frame.Frame.{Frame}
 use Rattle.dissect.specs.declared.state.State.{State}
@@ -7,9 +7,9 @@ use Rattle.dissect.specs.declared.todo.Head.{Head}
 use Rattle.dissect.specs.declared.todo.Todo.{Todo}
 use Rattle.dissect.specs.declared.todo.Todo.TheVariants as todos
 use Rattle.dissect.specs.Events.{Event}
-use Rattle.dissect.specs.Followed.{asks_streams}
-use Rattle.dissect.specs.Stands.{StandsAt, IsTold, IsWalked}
+use Rattle.dissect.specs.Stands.{StandsAt, IsToldAs, IsWalked}
 use Rattle.dissect.specs.Walks.{Walk, going, stop, rest_met, head_met, chain, all_met, layers_left}
+use Rattle.dissect.proofs.Told.{told_same, told_head, told_on}
 
 -- after some headers the chain of those that are left is that of all of them
 abbrev pub Goes : Frame → ℕ → State → TreeShown → Todo → ℕ → State → TreeShown → Todo → Type 0
@@ -18,20 +18,12 @@ Goes frame most before t0 first left state t todo =
 
 pub goes-first : (frame : Frame) (most : ℕ) (state : State) (t : TreeShown) (first : Todo) → Goes frame most state t first most state t first
 goes-first frame most state t first =
-    λ es stands. (going t es first, record { stands = stands; tree = λ _. refl; todo = refl }, refl)
-
--- before a header all is told
-told-head : (state : State) (now : Todo) (head : Head) (wanted : List ℕ) → now ≡ todos.Head head → IsTold state now wanted
-told-head state now head wanted is_head = λ done unfollowed. let bad : todos.Head head ≡ todos.Done = sym is_head ∙ done in absurd (cc bad)
+    λ es stands. (going t es first, record { stands = stands; tree = told_same state first t t refl; todo = refl }, refl)
 
 -- a walk is told by its parts
-is_walk : (w : Walk) (state : State) (t : TreeShown) (todo : Todo) → IsTold state todo w.tree.wanted → IsWalked w state t todo → w ≡ going t w.events todo
-is_walk w state t todo told walked =
-    ap (λ (u : TreeShown). going u w.events w.todo) (sym (walked.tree told)) ∙ ap (λ (x : Todo). going t w.events x) (sym walked.todo)
-
--- one that has ended
-is_end : (w : Walk) (todo : Todo) → todo ≡ todos.Done → todo ≡ w.todo → w ≡ stop w.tree w.events
-is_end w todo done is = ap (λ (x : Todo). going w.tree w.events x) (sym is ∙ done)
+is_walk : (w : Walk) (t : TreeShown) (todo : Todo) → t ≡ w.tree → todo ≡ w.todo → w ≡ going t w.events todo
+is_walk w t todo tree is =
+    ap (λ (u : TreeShown). going u w.events w.todo) (sym tree) ∙ ap (λ (x : Todo). going t w.events x) (sym is)
 
 chain-head : (frame : Frame) (left : ℕ) (t : TreeShown) (es : List Event) (head : Head) → 0 < left
     → chain left frame (going t es (todos.Head head)) ≡ chain (left - 1) frame (head_met frame head t es)
@@ -48,7 +40,7 @@ pub goes-on : (frame : Frame) (most : ℕ) (before : State) (t0 : TreeShown) (fi
 goes-on frame most before t0 first left state t now head after t1 todo some is_head goes met = λ es stands.
     let (w, walked, is) = goes es stands in
     let one : going t w.events (todos.Head head) ≡ w =
-    ap (λ (x : Todo). going t w.events x) (sym is_head) ∙ sym (is_walk w state t now (told-head state now head w.tree.wanted is_head) walked) in (
+    ap (λ (x : Todo). going t w.events x) (sym is_head) ∙ sym (is_walk w t now (told_head state now head w.tree t is_head walked.tree) walked.todo) in (
       head_met frame head t w.events,
       met w.events walked.stands,
       sym (chain-head frame left t w.events head some) ∙ ap (chain left frame) one ∙ is,
@@ -64,11 +56,11 @@ pub goes-done : (frame : Frame) (most : ℕ) (before : State) (t0 : TreeShown) (
     → (es : List Event) → StandsAt es before → IsWalked (chain most frame (going t0 es first)) state t todos.Done
 goes-done frame most before t0 first left state t now done goes = λ es stands.
     let (w, walked, is) = goes es stands in
-    let ended : w ≡ stop w.tree w.events = is_end w now done walked.todo in
+    let ended : w ≡ stop w.tree w.events = is_walk w w.tree todos.Done refl (sym done ∙ walked.todo) in
     let end : w ≡ chain most frame (going t0 es first) =
     ended ∙ sym (chain-stop left frame w.tree w.events) ∙ ap (chain left frame) (sym ended) ∙ is in
     subst (λ (v : Walk). IsWalked v state t todos.Done) end
-    (record { stands = walked.stands; tree = λ told. walked.tree (λ _ unfollowed. told refl unfollowed); todo = sym done ∙ walked.todo })
+    (record { stands = walked.stands; tree = subst (λ (x : Todo). IsToldAs state x w.tree t) done walked.tree; todo = sym done ∙ walked.todo })
 
 pub goes-rest : (frame : Frame) (most : ℕ) (before : State) (t0 : TreeShown) (first : Todo) (left : ℕ) (state : State) (t : TreeShown) (now : Todo) (head : Head) (after : State) (t1 : TreeShown) (todo : Todo)
     → left ≡ 0 → now ≡ todos.Head head → Goes frame most before t0 first left state t now
@@ -79,10 +71,10 @@ goes-rest frame most before t0 first left state t now head after t1 todo none is
     let (w, walked, is) = goes es stands in
     let rest : IsWalked (rest_met t w.events head.span) after t1 todo = met w.events walked.stands in
     let one : going t w.events (todos.Head head) ≡ w =
-    ap (λ (x : Todo). going t w.events x) (sym is_head) ∙ sym (is_walk w state t now (told-head state now head w.tree.wanted is_head) walked) in
+    ap (λ (x : Todo). going t w.events x) (sym is_head) ∙ sym (is_walk w t now (told_head state now head w.tree t is_head walked.tree) walked.todo) in
     let end : rest_met t w.events head.span ≡ chain most frame (going t0 es first) =
     ap (chain zero frame) one ∙ ap (λ (n : ℕ). chain n frame w) (sym none) ∙ is in
-    subst (λ (v : Walk). IsWalked v after t1 todos.Done) end (record { stands = rest.stands; tree = λ told. rest.tree (λ _ unfollowed. told refl unfollowed); todo = refl })
+    subst (λ (v : Walk). IsWalked v after t1 todos.Done) end (record { stands = rest.stands; tree = subst (λ (x : Todo). IsToldAs after x (rest_met t w.events head.span).tree t1) rest.todo rest.tree; todo = refl })
 
 -- the first header, and then the others
 pub all-met : (frame : Frame) (w : Walk) (state : State) (t : TreeShown) (todo : Todo) (after : State) (t1 : TreeShown)
@@ -91,18 +83,13 @@ pub all-met : (frame : Frame) (w : Walk) (state : State) (t : TreeShown) (todo :
     → IsWalked (all_met frame w) after t1 todos.Done
 unfolding all_met
 all-met frame w state t todos.Done after t1 same walked rest =
-    let ended : w ≡ stop w.tree w.events = is_end w todos.Done refl walked.todo in
+    let ended : w ≡ stop w.tree w.events = is_walk w w.tree todos.Done refl walked.todo in
     let all : w ≡ chain (layers_left w.tree) frame w =
     ended ∙ sym (chain-stop (layers_left w.tree) frame w.tree w.events) ∙ ap (chain (layers_left w.tree) frame) (sym ended) in
     let none : IsWalked (stop t w.events) after t1 todos.Done =
     subst (λ (v : Walk). IsWalked v after t1 todos.Done) (chain-stop (layers_left t) frame t w.events) rest in
-    subst (λ (v : Walk). IsWalked v after t1 todos.Done) all (record {
-      stands = none.stands;
-      tree = λ told.
-          let first : t ≡ w.tree = walked.tree (λ _ unfollowed. told refl (same ∙ unfollowed)) in
-          none.tree (λ _ unfollowed. ap (λ (u : TreeShown). asks_streams u.wanted) first ∙ told refl unfollowed) ∙ first;
-      todo = walked.todo;
-    })
+    subst (λ (v : Walk). IsWalked v after t1 todos.Done) all
+    (record { stands = none.stands; tree = told_on state after w.tree t t1 same walked.tree none.tree; todo = walked.todo })
 all-met frame w state t (todos.Head head) after t1 same walked rest =
     subst (λ (v : Walk). IsWalked (chain (layers_left v.tree) frame v) after t1 todos.Done)
-    (sym (is_walk w state t (todos.Head head) (told-head state (todos.Head head) head w.tree.wanted refl) walked)) rest
+    (sym (is_walk w t (todos.Head head) (told_head state (todos.Head head) head w.tree t refl walked.tree) walked.todo)) rest

@@ -1,5 +1,6 @@
 mod Behind
 mod Chains
+mod FramePassed
 mod Growing
 mod Joining
 mod Kept
@@ -8,3 +9,4 @@ mod Opens
 mod Passing
 mod Segmenting
 mod Taken
+mod Told

@@ -27,6 +27,7 @@ use Rattle.dissect.specs.Segments.{segment_from, segments_of}
 use Rattle.dissect.specs.Stands.{StandsAt, IsWalked}
 use Rattle.dissect.specs.Walks.{segment_met}
 use Rattle.dissect.proofs.Joining.{stands-segment}
+use Rattle.dissect.proofs.Told.{told_same}
 
 -- ---- what is told leaves the wanted fields as they are
 
@@ -121,10 +122,16 @@ unfolding segment_met
 passed-walked frame packet head span state t v unfollowed shown es stands =
     let bytes = bytes_of t.buffers span in
     let taken = taken_after (segments_of es) (segment_from frame.number packet head bytes) in
+    let whole = data_over (segment_told t taken span) span in
+    let wanted : whole.wanted ≡ t.wanted = data_wanted (segment_told t taken span) span ∙ told_wanted t taken span in
     record {
       stands = stands-segment es frame.number packet head bytes state state stands refl refl (λ follows. absurd (true≢false (sym follows ∙ unfollowed)));
-      tree = λ told.
-          let unasked : asks_streams t.wanted ≡ false = sym (ap asks_streams (data_wanted (segment_told t taken span) span ∙ told_wanted t taken span)) ∙ told refl unfollowed in
-          shown ∙ ap (λ (x : TreeShown). data_over x span) (sym (told_alike t taken span unasked));
+      tree = record {
+        wanted = ap (λ (u : TreeShown). u.wanted) shown ∙ data_wanted (carried_told t span) span ∙ carried_wanted t span ∙ sym wanted;
+        same = λ follows. absurd (true≢false (sym (follows refl) ∙ unfollowed));
+        values = λ unasked.
+            let alike : carried_told t span ≡ segment_told t taken span = sym (told_alike t taken span (sym (ap asks_streams wanted) ∙ unasked)) in
+            (told_same state todos.Done whole v (shown ∙ ap (λ (u : TreeShown). data_over u span) alike)).values unasked;
+      };
       todo = refl;
     }

@@ -19,6 +19,7 @@ use Rattle.dissect.specs.Segments.{segment_from, segments_of}
 use Rattle.dissect.specs.Stands.{StandsAt, IsWalked}
 use Rattle.dissect.specs.Walks.{segment_met}
 use Rattle.dissect.proofs.Joining.{stands-segment}
+use Rattle.dissect.proofs.Told.{told_same}
 
 -- a segment that was taken, told and shown
 pub record IsShown (frame : Frame) (packet : PacketHead) (head : TcpHead) (span : Span) (segment : Segment) (taken : Taken) (old new : State) (t u v : TreeShown) : Type 0 where
@@ -39,7 +40,7 @@ shown-walked frame packet head span segment taken old new t u v is es stands =
     record {
       stands = stands-segment es frame.number packet head bytes old new stands is.joins is.udp
           (λ _. subst (λ (s : Segment). StandsFor (s ∷ segments_of es) new.streams) is.segment_is (is.kept (segments_of es) (stands.streams is.follows)));
-      tree = λ _. is.shown ∙ ap (λ (x : TreeShown). data_over x span)
-          (is.told ∙ ap (λ (k : Taken). segment_told t k span) (is.taken_is (segments_of es) (stands.streams is.follows) ∙ ap (taken_after (segments_of es)) is.segment_is));
+      tree = told_same new todos.Done _ v (is.shown ∙ ap (λ (x : TreeShown). data_over x span)
+          (is.told ∙ ap (λ (k : Taken). segment_told t k span) (is.taken_is (segments_of es) (stands.streams is.follows) ∙ ap (taken_after (segments_of es)) is.segment_is)));
       todo = refl;
     }

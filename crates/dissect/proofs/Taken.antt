@@ -1,14 +1,16 @@
 -- A frame more, taken by a dissector.
-use Rattle.std.proofs.Common.{◌≡◌, ℕ, ◌+◌, false, List, ◌∷◌, length, sym, ◌∙◌, ap, subst, arith}
-use Rattle.pk_fields.specs.FieldSets.{every_field}
+use Rattle.std.proofs.Common.{◌≡◌, ℕ, ◌+◌, Bool, true, false, refl, List, ◌∷◌, length, sym, ◌∙◌, ap, subst, arith}
+use Rattle.pk_fields.specs.FieldSets.{is_in, every_field}
+use Rattle.pk_tree.specs.FieldValues.{values_of}
 use Rattle.pk_tree.specs.Trees.{TreeShown, IsKept as IsKeptTree}
 use Rattle.pk_tree.proofs.KeptTrees.{all_kept}
+use Rattle.pk_tree.proofs.KeptValues.{values_same}
 use Rattle.capture_read.specs.declared.frame.Frame.{Frame}
 use Rattle.dissect.specs.declared.state.State.{State}
 use Rattle.dissect.specs.declared.times.Times.{Times}
 use Rattle.dissect.specs.declared.todo.Todo.TheVariants as todos
 use Rattle.dissect.specs.Events.{Event}
-use Rattle.dissect.specs.Followed.{asks_streams}
+use Rattle.dissect.specs.Followed.{asks_streams, HasSameValues}
 use Rattle.dissect.specs.Stands.{DissectorShown, StandsAt, IsWalked, IsAfter}
 use Rattle.dissect.specs.Times.{with_time}
 use Rattle.dissect.specs.Trees.{kept_walk, times_of, events_of, tree_at}
@@ -25,13 +27,35 @@ walked : (asked : List ℕ) (past : List Frame) (frame : Frame) (d : DissectorSh
 walked asked past frame d state t after reads =
     subst (λ (times : Times). IsWalked (kept_walk asked times (events_of past) frame) state t todos.Done) after.times (reads (events_of past) after.state)
 
+-- where streams are followed, the tree has the wanted items of the whole tree
 pub tree-taken : (asked : List ℕ) (past : List Frame) (frame : Frame) (d : DissectorShown) (state : State) (t : TreeShown) → state.follows ≡ d.state.follows
-    → IsAfter past d → (d.state.follows ≡ false → asks_streams asked ≡ false) → Reads asked frame d state t → IsKeptTree asked (tree_at past frame) t
+    → IsAfter past d → Reads asked frame d state t → d.state.follows ≡ true → IsKeptTree asked (tree_at past frame) t
 unfolding tree_at
-tree-taken asked past frame d state t same after few reads =
-    let whole = (walk_kept asked (times_of past) (events_of past) frame).tree in
-    let told = (walked asked past frame d state t after reads).tree (λ _ unfollowed. ap (λ (u : TreeShown). asks_streams u.wanted) whole.same ∙ few (sym same ∙ unfollowed)) in
-    subst (λ (u : TreeShown). IsKeptTree asked (tree_at past frame) u) (sym told) whole
+tree-taken asked past frame d state t same after reads follows =
+    let told = (walked asked past frame d state t after reads).tree.same (λ _. same ∙ follows) in
+    subst (λ (u : TreeShown). IsKeptTree asked (tree_at past frame) u) (sym told) (walk_kept asked (times_of past) (events_of past) frame).tree
+
+-- else the values, where nothing of streams is asked
+pub values-taken : (asked : List ℕ) (past : List Frame) (frame : Frame) (d : DissectorShown) (state : State) (t : TreeShown)
+    → IsAfter past d → Reads asked frame d state t → asks_streams asked ≡ false → HasSameValues asked (tree_at past frame) t
+unfolding tree_at
+values-taken asked past frame d state t after reads unasked =
+    let kept = (walk_kept asked (times_of past) (events_of past) frame).tree.same in
+    let wanted = ap (λ (u : TreeShown). u.wanted) kept in
+    let told = (walked asked past frame d state t after reads).tree in
+    λ field layers is.
+    told.values (ap asks_streams wanted ∙ unasked) field layers (ap (λ set. is_in set field) wanted ∙ is)
+    ∙ ap (λ (u : TreeShown). values_of u field layers) kept
+    ∙ values_same asked (tree_at past frame) field layers is
+
+pub kept-values : (asked : List ℕ) (whole t : TreeShown) → IsKeptTree asked whole t → HasSameValues asked whole t
+kept-values asked whole t kept = λ field layers is. ap (λ (u : TreeShown). values_of u field layers) kept.same ∙ values_same asked whole field layers is
+
+-- by whether streams are followed
+pub values-read : (follows : Bool) (asked : List ℕ) (whole t : TreeShown) → (follows ≡ true → IsKeptTree asked whole t) → (asks_streams asked ≡ false → HasSameValues asked whole t)
+    → (follows ≡ false → asks_streams asked ≡ false) → HasSameValues asked whole t
+values-read true asked whole t kept values few = kept-values asked whole t (kept refl)
+values-read false asked whole t kept values few = values (few refl)
 
 -- the tree of all fields is the whole tree
 pub whole-taken : (past : List Frame) (frame : Frame) (t : TreeShown) → IsKeptTree every_field (tree_at past frame) t → t ≡ tree_at past frame

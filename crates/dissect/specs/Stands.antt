@@ -12,7 +12,7 @@ use Rattle.dissect.specs.declared.todo.Todo.{Todo}
 use Rattle.dissect.specs.declared.todo.Todo.TheVariants as todos
 use Rattle.dissect.specs.Conversations.{udp_opened}
 use Rattle.dissect.specs.Events.{Event}
-use Rattle.dissect.specs.Followed.{asks_streams}
+use Rattle.dissect.specs.Followed.{asks_streams, HasSameValues}
 use Rattle.dissect.specs.Fragments.{fragments_of}
 use Rattle.dissect.specs.Segments.{segments_of}
 use Rattle.dissect.specs.Times.{AreTimes}
@@ -64,14 +64,17 @@ pub record IsReady (most : ℕ) (st : State) (t : TreeShown) : Type 0 where
   pub layers : length t.layers + most < 2 ^ 32
   pub buffers : length t.buffers + 1 < 2 ^ 32
 
--- what is told doesn't wait for streams: they are followed, there is more to be read, or nothing of them is asked
-abbrev pub IsTold : State → Todo → List ℕ → Type 0
-IsTold state next wanted = next ≡ todos.Done → state.follows ≡ false → asks_streams wanted ≡ false
+-- the tree that a way leads to; where streams aren't followed and the way has ended, it has the same values of the wanted
+-- fields, if nothing of streams is asked
+pub record IsToldAs (state : State) (next : Todo) (whole t : TreeShown) : Type 0 where
+  pub wanted : t.wanted ≡ whole.wanted
+  pub same : (next ≡ todos.Done → state.follows ≡ true) → t ≡ whole
+  pub values : asks_streams whole.wanted ≡ false → HasSameValues whole.wanted whole t
 
 -- how far a frame is read, with what is kept then
 pub record IsWalked (w : Walk) (state : State) (t : TreeShown) (next : Todo) : Type 0 where
   pub stands : StandsAt w.events state
-  pub tree : IsTold state next w.tree.wanted → t ≡ w.tree
+  pub tree : IsToldAs state next w.tree t
   pub todo : next ≡ w.todo
 
 -- the dissector after it took these frames, the newest first

@@ -18,7 +18,7 @@ use pk_tree::{PacketHead, PortsHead, TreeBuilder};
 
 impl State {
     /// Takes a packet of UDP: tells the number of its conversation, and reads what it carries.
-    #[tactic(auto, unfolding(crate::specs::Walks::datagram_met, crate::specs::Fragments::fragments_of, crate::specs::Segments::segments_of, crate::specs::Conversations::udp_opened))]
+    #[tactic(auto, using(crate::proofs::Told::told_same), unfolding(crate::specs::Walks::datagram_met, crate::specs::Fragments::fragments_of, crate::specs::Segments::segments_of, crate::specs::Conversations::udp_opened))]
     pub(crate) fn datagram(
         &mut self,
         frame: &Frame,

@@ -5,7 +5,7 @@ ghost use Rattle.dissect.specs.Conversations.{udp_opened};
 ghost use Rattle.dissect.specs.DecodeRules.{AreRules};
 ghost use Rattle.dissect.specs.Events.{Event};
 ghost use Rattle.tcp_streams.specs.Standing.{StandsFor};
-ghost use Rattle.dissect.specs.Followed.{asks_streams};
+ghost use Rattle.dissect.specs.Followed.{asks_streams, HasSameValues};
 ghost use Rattle.dissect.specs.Segments.{segments_of};
 ghost use Rattle.dissect.specs.Stands.{Stands, StandsWithin, StandsAt, IsAfter, IsWalked, HasRoomForOne, AddsAtMost};
 ghost use Rattle.capture_read.specs.FrameList.{IsTime};
@@ -124,17 +124,22 @@ impl Dissector {
     }
 
     /// How many conversations over UDP the frames taken have opened.
-    #[tactic(auto, unfolding(crate::specs::Stands::Stands))]
+    #[tactic(auto, unfolding(crate::specs::Stands::Stands, crate::specs::Stands::StandsWithin))]
     pub fn udp_count(&self) -> u32
-        ensures { (past : List FrameValue) → Stands past self.now → result ≡ length (udp_opened (events_of past)) }
+        ensures count { (past : List FrameValue) → Stands past self.now → result ≡ length (udp_opened (events_of past)) }
+        ensures within { (past : List FrameValue) → StandsWithin past self.now
+            → result ≡ length (udp_opened (events_of past)) }
     {
         self.state.udp.count()
     }
 
-    /// The streams of TCP that the frames taken have. Takes no memory.
-    #[tactic(auto, unfolding(crate::specs::Stands::Stands))]
+    /// The streams of TCP that the frames taken have, where streams are followed. Takes no memory.
+    #[tactic(auto, unfolding(crate::specs::Stands::Stands, crate::specs::Stands::StandsWithin))]
     pub fn streams(&self) -> &Streams
-        ensures { (past : List FrameValue) → Stands past self.now → StandsFor (segments_of (events_of past)) result.now }
+        ensures streams { (past : List FrameValue) → Stands past self.now → StandsFor (segments_of (events_of past)) result.now }
+        ensures within { asks_streams self.now.wanted ≡ true
+            → (past : List FrameValue) → StandsWithin past self.now
+            → StandsFor (segments_of (events_of past)) result.now }
     {
         &self.state.streams
     }
@@ -173,20 +178,28 @@ impl Dissector {
         self.take_asked(frame, wanted)
     }
 
-    /// As `take`, for a tree that has only the items of the fields that the dissector was made for.
-    #[tactic(auto, unfolding(crate::specs::Stands::StandsWithin))]
+    /// As `take`, for a tree that has only the items of the fields that the dissector was made for, with the same values of these
+    /// as the whole tree.
+    #[tactic(auto, using(crate::proofs::Told::follows_asked), unfolding(crate::specs::Stands::StandsWithin))]
     pub fn take_wanted(&mut self, frame: &Frame) -> Result<Tree, TakeFault>
         requires number { frame.now.number ≡ self.old.taken + 1 }
         requires time { IfSome frame.now.time IsTime }
         requires captured { self.old.captured + length frame.now.bytes ≤ 2 ^ 28 }
         ensures spent { result ≡ Err TakeFault.Spent ↔ self.old.spent ≡ true }
         ensures spent_after { self.new.spent ≡ self.old.spent || is_err result }
-        ensures counted { OnOk result ((self.new.taken ≡ self.old.taken + 1) × (self.new.captured ≡ self.old.captured + length frame.now.bytes)) }
-        ensures uncounted { OnErr result ((self.new.taken ≡ self.old.taken) × (self.new.captured ≡ self.old.captured)) }
+        ensures counted { OnOk result ((self.new.taken ≡ self.old.taken + 1)
+            × (self.new.captured ≡ self.old.captured + length frame.now.bytes)) }
+        ensures uncounted { OnErr result ((self.new.taken ≡ self.old.taken)
+            × (self.new.captured ≡ self.old.captured)) }
         ensures rules { self.new.decode ≡ self.old.decode }
         ensures wanted { self.new.wanted ≡ self.old.wanted }
-        ensures tree { IfOk result (λ tree. (past : List FrameValue) → StandsWithin past self.old → IsKeptTree self.old.wanted (tree_at past frame.now) tree) }
-        ensures stands { OnOk result ((past : List FrameValue) → StandsWithin past self.old → StandsWithin (frame.now ∷ past) self.new) }
+        ensures values { IfOk result (λ tree. (past : List FrameValue) → StandsWithin past self.old
+            → HasSameValues self.old.wanted (tree_at past frame.now) tree) }
+        ensures tree { IfOk result (λ tree. asks_streams self.old.wanted ≡ true
+            → (past : List FrameValue) → StandsWithin past self.old
+            → IsKeptTree self.old.wanted (tree_at past frame.now) tree) }
+        ensures stands { OnOk result ((past : List FrameValue) → StandsWithin past self.old
+            → StandsWithin (frame.now ∷ past) self.new) }
     {
         self.take_asked(frame, self.wanted)
     }
@@ -198,13 +211,21 @@ impl Dissector {
         requires captured { self.old.captured + length frame.now.bytes ≤ 2 ^ 28 }
         ensures spent { result ≡ Err TakeFault.Spent ↔ self.old.spent ≡ true }
         ensures spent_after { self.new.spent ≡ self.old.spent || is_err result }
-        ensures counted { OnOk result ((self.new.taken ≡ self.old.taken + 1) × (self.new.captured ≡ self.old.captured + length frame.now.bytes)) }
-        ensures uncounted { OnErr result ((self.new.taken ≡ self.old.taken) × (self.new.captured ≡ self.old.captured)) }
+        ensures counted { OnOk result ((self.new.taken ≡ self.old.taken + 1)
+            × (self.new.captured ≡ self.old.captured + length frame.now.bytes)) }
+        ensures uncounted { OnErr result ((self.new.taken ≡ self.old.taken)
+            × (self.new.captured ≡ self.old.captured)) }
         ensures rules { self.new.decode ≡ self.old.decode }
         ensures wanted { self.new.wanted ≡ self.old.wanted }
         ensures follows { self.new.state.follows ≡ self.old.state.follows }
-        ensures tree { IfOk result (λ tree. (past : List FrameValue) → IsAfter past self.old → (self.old.state.follows ≡ false → asks_streams asked ≡ false) → IsKeptTree asked (tree_at past frame.now) tree) }
-        ensures after { OnOk result ((past : List FrameValue) → IsAfter past self.old → IsAfter (frame.now ∷ past) self.new) }
+        ensures tree { IfOk result (λ tree. (past : List FrameValue) → IsAfter past self.old
+            → self.old.state.follows ≡ true
+            → IsKeptTree asked (tree_at past frame.now) tree) }
+        ensures values { IfOk result (λ tree. (past : List FrameValue) → IsAfter past self.old
+            → (self.old.state.follows ≡ false → asks_streams asked ≡ false)
+            → HasSameValues asked (tree_at past frame.now) tree) }
+        ensures after { OnOk result ((past : List FrameValue) → IsAfter past self.old
+            → IsAfter (frame.now ∷ past) self.new) }
     {
         if self.spent {
             return Err(TakeFault::Spent);

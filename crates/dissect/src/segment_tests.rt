@@ -352,18 +352,7 @@ fn items_text(alloc: Global, tree: &Tree) -> Result<String, AllocError> {
     Ok(text)
 }
 
-/// A field that a dissector is made for, what is told of it, and how many streams are kept then.
-static ASKED: &[(FieldId, &str, u32)] = &[
-    (ids::TCP_STREAM, "tcp.stream=0 ", 1),
-    (ids::TCP_SEQ, "tcp.seq=0 ", 1),
-    (ids::TCP_ACK, "", 1),
-    (ids::TCP_LOST, "", 1),
-    (ids::TCP_LEN, "tcp.len=2 ", 0),
-    (ids::TCP_DSTPORT, "tcp.dstport=9999 ", 0),
-    (ids::FRAME, "", 0),
-];
-
-/// Takes a segment for one field, and compares what is told of it, and how many streams there are.
+/// Takes a segment for one field, and compares what is told of it, and how many streams are kept.
 fn check_asked(
     rt: &impl Abort,
     alloc: Global,
@@ -391,8 +380,16 @@ fn check_asked(
 
 #[test]
 fn streams_are_followed_where_a_field_of_theirs_is_asked(rt: HostRuntime) -> Result<(), Fail> {
-    for (field, told, streams) in ASKED {
-        check_asked(&rt, rt.alloc(), *field, told, *streams)?;
+    for (field, told, streams) in [
+        (ids::TCP_STREAM, "tcp.stream=0 ", 1),
+        (ids::TCP_SEQ, "tcp.seq=0 ", 1),
+        (ids::TCP_ACK, "", 1),
+        (ids::TCP_LOST, "", 1),
+        (ids::TCP_LEN, "tcp.len=2 ", 0),
+        (ids::TCP_DSTPORT, "tcp.dstport=9999 ", 0),
+        (ids::FRAME, "", 0),
+    ] {
+        check_asked(&rt, rt.alloc(), field, told, streams)?;
     }
     Ok(())
 }

@@ -18,6 +18,7 @@ use pk_tree::{Address, After, Mode, PacketHead, TreeBuilder};
 
 impl State {
     /// Shows the rest as data.
+    #[tactic(auto, using(crate::proofs::Told::told_same))]
     pub(crate) fn rest(&mut self, span: Span, tree: &mut TreeBuilder) -> Result<Todo, NoMemory>
         requires inside { IsInside tree.old.buffers span }
         requires room { length tree.old.layers + 2 < 2 ^ 32 }
@@ -33,7 +34,7 @@ impl State {
     }
 
     /// What is to be read behind a header.
-    #[tactic(auto, unfolding(crate::specs::Walks::followed))]
+    #[tactic(auto, using(crate::proofs::Told::told_same), unfolding(crate::specs::Walks::followed))]
     pub(crate) fn follow(
         &mut self,
         frame: &Frame,

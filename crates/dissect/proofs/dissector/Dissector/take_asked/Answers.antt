@@ -1,14 +1,25 @@
 use Rattle.std.proofs.Common.{◌+◌, length, subst, sym, ap, ◌∙◌, true≢false, arith}
 use Rattle.dissect.specs.Stands.{DissectorShown}
 use Rattle.dissect.specs.Times.{with_time}
-use Rattle.dissect.proofs.Taken.{Reads, tree-taken, after-taken}
+use Rattle.dissect.specs.Trees.{tree_at}
+use Rattle.dissect.proofs.Taken.{Reads, tree-taken, values-taken, values-read, after-taken}
 use Rattle.dissect.proofs.dissector.Dissector.take_asked.Goals as goal
 
 pub returns-in-Ok-clause-tree : goal.returns-in-Ok-clause-tree
-returns-in-Ok-clause-tree c = λ past after few.
+returns-in-Ok-clause-tree c = λ past after follows.
     let reads = subst (λ (d : DissectorShown). Reads c.args.asked c.args.frame.now d c.make_tree.new.state c.in-Ok.tree) c.self.view_is c.in-Ok.ensures.walked in
     tree-taken c.args.asked past c.args.frame.now c.args.self.now c.make_tree.new.state c.in-Ok.tree
-    (c.make_tree.ensures.added.follows ∙ ap (λ (d : DissectorShown). d.state.follows) c.self.view_is) after few reads
+    (c.make_tree.ensures.added.follows ∙ ap (λ (d : DissectorShown). d.state.follows) c.self.view_is) after reads follows
+
+pub returns-in-Ok-clause-values : goal.returns-in-Ok-clause-values
+returns-in-Ok-clause-values c = λ past after few.
+    let frame = c.args.frame.now in
+    let tree = c.in-Ok.tree in
+    let reads = subst (λ (d : DissectorShown). Reads c.args.asked frame d c.make_tree.new.state tree) c.self.view_is c.in-Ok.ensures.walked in
+    values-read c.args.self.now.state.follows c.args.asked (tree_at past frame) tree
+    (tree-taken c.args.asked past frame c.args.self.now c.make_tree.new.state tree
+    (c.make_tree.ensures.added.follows ∙ ap (λ (d : DissectorShown). d.state.follows) c.self.view_is) after reads)
+    (values-taken c.args.asked past frame c.args.self.now c.make_tree.new.state tree after reads) few
 
 pub returns-in-Ok-clause-after : goal.returns-in-Ok-clause-after
 returns-in-Ok-clause-after c = λ past after.
