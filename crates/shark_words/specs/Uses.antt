@@ -1,8 +1,10 @@
 -- What the words are used for: options with their values, and words that are neither.
--- A word that begins with `-` and has more is a cluster of letters. The value of a letter that has one is what is left of the word behind it,
--- or the next word where nothing is left.
-use Rattle.std.specs.Prelude.{ℕ, suc, ◌==◌, Bool, true, false, ◌||◌, List, [], ◌∷◌, Option, Some, None, if◌then◌else◌}
+-- A word that begins with `-` and has more is `--self-run`, whose value is the next word, or a cluster of letters.
+-- The value of a letter that has one is what is left of the word behind it, or the next word where nothing is left.
+use Rattle.std.specs.Prelude.{ℕ, suc, ◌==◌, Bool, true, false, ◌||◌, List, [], ◌∷◌, codes, Option, Some, None, if◌then◌else◌}
+use Rattle.std.specs.Str.{bytes_eq}
 use Rattle.shark_words.specs.declared.letter.Letter.{Letter}
+use Rattle.shark_words.specs.declared.letter.Letter.TheVariants.{SelfRun}
 use Rattle.shark_words.specs.declared.uses.Use.{Use}
 use Rattle.shark_words.specs.declared.uses.Use.TheVariants as use_
 use Rattle.shark_words.specs.Letters.{letter_of, has_value}
@@ -40,9 +42,16 @@ abbrev pub cluster_uses : ℕ → List ℕ → (Option Letter → List Use) → 
 cluster_uses word [] behind = behind None
 cluster_uses word (b ∷ rest) behind = letter_uses word (letter_of b) rest behind (cluster_uses word rest behind)
 
--- the uses from an option on, by its letters
+-- what stands behind the first `-` of `--self-run`
+abbrev pub self_run_name : List ℕ
+self_run_name = codes "-self-run"
+
+-- the uses from an option on, by what stands behind its `-`
 abbrev pub option_at : ℕ → List ℕ → (Option Letter → List Use) → List Use
-option_at word letters behind = if is_cluster letters then cluster_uses word letters behind else use_.Unknown word ∷ behind None
+option_at word letters behind =
+    if bytes_eq letters self_run_name then behind (Some SelfRun)
+    else if is_cluster letters then cluster_uses word letters behind
+    else use_.Unknown word ∷ behind None
 
 -- the uses from a word on that is no option's value; 45 is `-`
 abbrev pub uses_at : ℕ → List ℕ → (Option Letter → List Use) → List Use

@@ -1,13 +1,15 @@
 // Options that are looked up among the uses of words.
 ghost use Rattle.std.specs.Prelude.{◌≡◌, IfOk, option_and_then, option_to_list};
 ghost use Rattle.std.specs.Option.{option_copied};
-ghost use Rattle.shark_words.specs.Asked.{column_use as column_use_of, column_word as column_word_in, is_column as is_column_letter, keyed, style_of as style_of_values, value_in as value_in_use, value_of as value_given, values_of as values_given};
+ghost use Rattle.shark_words.specs.Asked.{clash_word as clash_word_in, is_clashing as is_clashing_letter, is_unused as is_unused_for, keyed, style_of as style_of_values, value_in as value_in_use, value_of as value_given, values_of as values_given, word_of};
+ghost use Rattle.shark_words.specs.Letters.{is_same};
 ghost use Rattle.shark_words.specs.Keys.{character_of, header_of, occurrence_of, quote_of};
 ghost use Rattle.shark_words.specs.declared.key.Key.TheVariants.{Header, Occurrence as OccurrenceKey, Quote as QuoteKey};
-ghost use Rattle.shark_words.specs.declared.letter.Letter.TheVariants.{Style as StyleLetter};
+ghost use Rattle.shark_words.specs.declared.letter.Letter.TheVariants.{Output as OutputLetter, Style as StyleLetter};
 
 use crate::key::{Key, read_character, read_header, read_occurrence, read_quote};
 use crate::letter::Letter;
+use crate::options::LineKind;
 use crate::uses::Use;
 use out_lines::{Occurrence, Quote, Style};
 use pk_base::{NoMemory, Octets};
@@ -106,30 +108,65 @@ pub(crate) fn style_of(uses: &[Use]) -> Style
     }
 }
 
-fn is_column(letter: Letter) -> bool
-    ensures { result ≡ is_column_letter letter }
+// Whether an option has no effect: `-e` and `-E` are for the lines of fields alone, `-F` for a capture that is written.
+fn is_unused(letter: Letter, kind: LineKind, written: bool) -> bool
+    ensures { result ≡ is_unused_for kind written letter }
 {
-    matches!(letter, Letter::Name | Letter::Style)
-}
-
-fn column_use(used: &Use) -> Option<u64>
-    ensures { result ≡ column_use_of used.now }
-{
-    match used {
-        Use::Given(given) if is_column(given.letter) => Some(given.word),
-        Use::Given(_) | Use::Stray(_) | Use::Unknown(_) => None,
+    match letter {
+        Letter::Name | Letter::Style => kind != LineKind::Fields,
+        Letter::Format => !written,
+        _ => false,
     }
 }
 
-/// The word of the first option that is of use for the lines of fields alone.
-pub(crate) fn column_word(uses: &[Use]) -> Option<u64>
-    ensures { result ≡ column_word_in uses.now }
+// Whether an option can't stand beside `-w`.
+fn is_clashing(letter: Letter) -> bool
+    ensures { result ≡ is_clashing_letter letter }
+{
+    matches!(letter, Letter::Kind | Letter::Quiet | Letter::SelfRun)
+}
+
+/// The word of the first option that has no effect.
+pub(crate) fn unused_word(uses: &[Use], kind: LineKind, written: bool) -> Option<u64>
+    ensures { result ≡ word_of (is_unused_for kind written) uses.now }
 {
     for used in uses {
-        let word = column_use(used);
-        if word.is_some() {
-            return word;
+        match used {
+            Use::Given(given) if is_unused(given.letter, kind, written) => return Some(given.word),
+            Use::Given(_) | Use::Stray(_) | Use::Unknown(_) => {}
         }
     }
     None
+}
+
+// The word of the first option that can't stand beside `-w`.
+fn clashing_word(uses: &[Use]) -> Option<u64>
+    ensures { result ≡ word_of is_clashing_letter uses.now }
+{
+    for used in uses {
+        match used {
+            Use::Given(given) if is_clashing(given.letter) => return Some(given.word),
+            Use::Given(_) | Use::Stray(_) | Use::Unknown(_) => {}
+        }
+    }
+    None
+}
+
+fn output_word(uses: &[Use]) -> Option<u64>
+    ensures { result ≡ word_of (is_same OutputLetter) uses.now }
+{
+    for used in uses {
+        match used {
+            Use::Given(given) if given.letter == Letter::Output => return Some(given.word),
+            Use::Given(_) | Use::Stray(_) | Use::Unknown(_) => {}
+        }
+    }
+    None
+}
+
+/// The first word up to which `-w` stands and an option that can't stand beside it.
+pub(crate) fn clash_word(uses: &[Use]) -> Option<u64>
+    ensures { result ≡ clash_word_in uses.now }
+{
+    Some(output_word(uses)?.max(clashing_word(uses)?))
 }

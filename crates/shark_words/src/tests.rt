@@ -352,6 +352,7 @@ fn code_of(reason: WordReason) -> &'static str {
         WordReason::BadValue => "A6",
         WordReason::NoFields => "A7",
         WordReason::Unused => "A8",
+        WordReason::Clash => "A9",
     }
 }
 

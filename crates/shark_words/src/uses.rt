@@ -9,6 +9,9 @@ use crate::letter::Letter;
 use pk_base::{NoMemory, Octets};
 use std::alloc::Global;
 
+/// What stands behind the first `-` of `--self-run`.
+const SELF_RUN: &[u8] = b"-self-run";
+
 /// An option's value, and the number of the word that it stands in.
 #[derive(Drop)]
 pub(crate) struct Value {
@@ -127,6 +130,9 @@ fn take_option(
         return Ok(None);
     };
     let letters = &word[1..];
+    if letters == SELF_RUN {
+        return Ok(Some(Letter::SelfRun));
+    }
     if is_cluster(letters) {
         return take_letters(alloc, uses, number, letters);
     }
