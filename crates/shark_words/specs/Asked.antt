@@ -4,6 +4,8 @@ use Rattle.std.specs.Option.{option_or, unwrap_or}
 use Rattle.out_lines.specs.declared.style.Occurrence.TheVariants as occurrences
 use Rattle.out_lines.specs.declared.style.Quote.TheVariants as quotes
 use Rattle.out_lines.specs.declared.style.Style.{Style}
+use Rattle.shark_words.specs.declared.asked.Sought.{Sought}
+use Rattle.shark_words.specs.declared.asked.Sought.TheVariants as sought
 use Rattle.shark_words.specs.declared.key.Key.{Key}
 use Rattle.shark_words.specs.declared.key.Key.TheVariants.{Header, Separator, Aggregator, Occurrence as OccurrenceKey, Quote as QuoteKey}
 use Rattle.shark_words.specs.declared.letter.Letter.{Letter}
@@ -22,7 +24,8 @@ value_text None = []
 value_text (Some value) = value.text ∷ []
 
 abbrev pub value_in : Letter → Use → List (List ℕ)
-value_in letter (use_.Given given) = if is_same letter given.letter then value_text given.value else []
+value_in letter (use_.Given given) =
+    if is_same letter given.letter then value_text given.value else []
 value_in letter other = []
 
 abbrev pub values_of : Letter → List Use → List (List ℕ)
@@ -48,7 +51,8 @@ abbrev pub style_of : List (List ℕ) → Style
 style_of texts = record {
   header = unwrap_or (option_and_then header_of (keyed Header texts)) false;
   separator = unwrap_or (option_and_then character_of (keyed Separator texts)) 9;
-  occurrence = unwrap_or (option_and_then occurrence_of (keyed OccurrenceKey texts)) occurrences.All;
+  occurrence =
+      unwrap_or (option_and_then occurrence_of (keyed OccurrenceKey texts)) occurrences.All;
   aggregator = unwrap_or (option_and_then character_of (keyed Aggregator texts)) 44;
   quote = unwrap_or (option_and_then quote_of (keyed QuoteKey texts)) quotes.None;
 }
@@ -72,6 +76,12 @@ is_clashing Kind = true
 is_clashing Quiet = true
 is_clashing SelfRun = true
 is_clashing letter = false
+
+-- whether an option is looked for
+abbrev pub is_sought : Sought → Letter → Bool
+is_sought sought.Output letter = is_same Output letter
+is_sought sought.Clashing letter = is_clashing letter
+is_sought (sought.Unused kind written) letter = is_unused kind written letter
 
 abbrev pub word_in : (Letter → Bool) → Use → Option ℕ
 word_in test (use_.Given given) = if test given.letter then Some given.word else None

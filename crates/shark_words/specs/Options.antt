@@ -22,7 +22,7 @@ use Rattle.shark_words.specs.Values.{count_of, format_asked, generated_by, kind_
 abbrev pub source_by : Option (List ℕ) → Option (List ℕ) → Option Source
 source_by name numbers = option_or (option_map Named name) (option_and_then generated_by numbers)
 
-abbrev pub source_of : List Use → Option Source
+unfoldable pub source_of : List Use → Option Source
 source_of uses = source_by (value_of Capture uses) (value_of SelfRun uses)
 
 -- the format of the capture that is written, where `-w` is given
@@ -50,16 +50,18 @@ fields_fault behind uses Json = None
 
 -- the first option that has no effect
 abbrev pub unused_fault : List Use → LineKind → Option WordFault
-unused_fault uses kind = option_map (λ word. fault word Unused) (word_of (is_unused kind (is_given Output uses)) uses)
+unused_fault uses kind =
+    option_map (λ word. fault word Unused) (word_of (is_unused kind (is_given Output uses)) uses)
 
 -- the first option that makes a clash
 abbrev pub clash_fault : List Use → Option WordFault
 clash_fault uses = option_map (λ word. fault word Clash) (clash_word uses)
 
 -- what is wrong with options together
-abbrev pub together_fault : ℕ → List Use → LineKind → Option WordFault
+unfoldable pub together_fault : ℕ → List Use → LineKind → Option WordFault
 together_fault behind uses kind =
-    option_or (fields_fault behind uses kind) (option_or (unused_fault uses kind) (clash_fault uses))
+    option_or (fields_fault behind uses kind)
+    (option_or (unused_fault uses kind) (clash_fault uses))
 
 abbrev pub unless : Option WordFault → Options → Result Options WordFault
 unless None options = Ok options

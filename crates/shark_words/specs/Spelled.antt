@@ -1,5 +1,5 @@
 -- Options as they are written: clusters of letters, with values in the same word or the next, and `--self-run` with its value in the next.
-use Rattle.std.specs.Prelude.{◌≡◌, ℕ, ◌+◌, ◌<◌, ◌≤◌, nat_lt, Bool, true, false, not, ◌&&◌, length, map, List, [], ◌∷◌, ◌++◌, Option, Some, None, option_and_then, option_map, option_to_list, Unit, if◌then◌else◌}
+use Rattle.std.specs.Prelude.{◌≡◌, ℕ, ◌+◌, ◌≤◌, nat_lt, Bool, true, false, not, ◌&&◌, length, map, List, [], ◌∷◌, ◌++◌, Option, Some, None, option_and_then, option_map, option_to_list, if◌then◌else◌}
 use Rattle.std.specs.List.{list_all, list_any}
 use Rattle.shark_words.specs.declared.letter.Letter.{Letter}
 use Rattle.shark_words.specs.declared.letter.Letter.TheVariants.{Capture, Filter, Kind, Name, Style, Most, Quiet, Output, Format, SelfRun}
@@ -45,13 +45,11 @@ abbrev pub letters_of : Cluster → List ℕ
 letters_of one = map letter_byte one.flags ++ end_letters one.end
 
 -- the words; 45 is `-`
-abbrev pub words_by : Spelled → List (List ℕ)
-words_by (Clustered one) = (45 ∷ letters_of one) ∷ end_words one.end
-words_by (Generate text) = (45 ∷ self_run_name) ∷ text ∷ []
-
 abbrev pub spelled_words : List Spelled → List (List ℕ)
 spelled_words [] = []
-spelled_words (one ∷ more) = words_by one ++ spelled_words more
+spelled_words (Clustered one ∷ more) =
+    (45 ∷ letters_of one) ∷ (end_words one.end ++ spelled_words more)
+spelled_words (Generate text ∷ more) = (45 ∷ self_run_name) ∷ text ∷ spelled_words more
 
 -- a cluster has a letter; its end alone has a value
 abbrev pub is_flag : Letter → Bool
@@ -66,7 +64,8 @@ is_end (Together letter first rest) = is_ended_by letter
 is_end (Apart letter text) = is_ended_by letter
 
 abbrev pub is_cluster : Cluster → Bool
-is_cluster one = list_all is_flag one.flags && (is_end one.end && nat_lt 0 (length (letters_of one)))
+is_cluster one =
+    list_all is_flag one.flags && (is_end one.end && nat_lt 0 (length (letters_of one)))
 
 abbrev pub is_spelled : Spelled → Bool
 is_spelled (Clustered one) = is_cluster one
@@ -88,13 +87,10 @@ end_written Bare = []
 end_written (Together letter first rest) = valued letter (first ∷ rest) ∷ []
 end_written (Apart letter text) = valued letter text ∷ []
 
-abbrev pub one_written : Spelled → List Written
-one_written (Clustered one) = map flag one.flags ++ end_written one.end
-one_written (Generate text) = valued SelfRun text ∷ []
-
 abbrev pub written_by : List Spelled → List Written
 written_by [] = []
-written_by (one ∷ more) = one_written one ++ written_by more
+written_by (Clustered one ∷ more) = map flag one.flags ++ (end_written one.end ++ written_by more)
+written_by (Generate text ∷ more) = valued SelfRun text ∷ written_by more
 
 -- whether an option's value is one of its own
 abbrev pub fits_text : Letter → Option (List ℕ) → Bool
@@ -115,37 +111,41 @@ one_if false = 0
 
 abbrev pub times : Slot → List Written → ℕ
 times slot [] = 0
-times slot (one ∷ more) = one_if (is_slot slot (slot_of one.letter (text_or_none one.text))) + times slot more
+times slot (one ∷ more) =
+    one_if (is_slot slot (slot_of one.letter (text_or_none one.text))) + times slot more
 
 -- the values of one option
 abbrev pub values_in : Letter → List Written → List (List ℕ)
 values_in letter [] = []
-values_in letter (one ∷ more) = (if is_same letter one.letter then option_to_list one.text else []) ++ values_in letter more
+values_in letter (one ∷ more) =
+    (if is_same letter one.letter then option_to_list one.text else []) ++ values_in letter more
 
 abbrev pub spelled_values : Letter → List Spelled → List (List ℕ)
 spelled_values letter all = values_in letter (written_by all)
-
--- columns are named for the lines of fields, and for no others
-abbrev pub HasColumns : LineKind → List Written → Type 0
-HasColumns Fields all = 0 < length (values_in Name all)
-HasColumns Text all = (values_in Name all ≡ []) × (values_in Style all ≡ [])
-HasColumns Json all = (values_in Name all ≡ []) × (values_in Style all ≡ [])
-
-abbrev pub kind_by : List Spelled → LineKind
-kind_by all = kind_asked (head_of (spelled_values Kind all))
 
 -- whether an option is written
 abbrev pub is_written : Letter → List Written → Bool
 is_written letter all = list_any (λ one. is_same letter one.letter) all
 
+-- columns are named for the lines of fields, and for no others
+abbrev pub HasColumns : LineKind → List Written → Type 0
+HasColumns Fields all = is_written Name all ≡ true
+HasColumns Text all = (is_written Name all ≡ false) × (is_written Style all ≡ false)
+HasColumns Json all = (is_written Name all ≡ false) × (is_written Style all ≡ false)
+
+abbrev pub kind_by : List Spelled → LineKind
+kind_by all = kind_asked (head_of (spelled_values Kind all))
+
 -- where no capture is written it has no format, and where one is, it comes from a file and nothing is asked for beside it
 abbrev pub HasOutput : Bool → List Written → Type 0
 HasOutput false all = is_written Format all ≡ false
-HasOutput true all = (is_written Kind all ≡ false) × (is_written Quiet all ≡ false) × (is_written SelfRun all ≡ false)
+HasOutput true all = (is_written Kind all ≡ false) × (is_written Quiet all ≡ false)
+    × (is_written SelfRun all ≡ false)
 
 -- where the frames come from
 abbrev pub spelled_source : List Spelled → Option Source
-spelled_source all = source_by (head_of (spelled_values Capture all)) (head_of (spelled_values SelfRun all))
+spelled_source all =
+    source_by (head_of (spelled_values Capture all)) (head_of (spelled_values SelfRun all))
 
 -- a command line with this source: each value is one of its option's, nothing comes twice that may come once, there is a capture,
 -- and the columns are those of the kind of line
@@ -167,10 +167,12 @@ asked_by source all = record {
   style = style_of (spelled_values Style all);
   most = option_and_then count_of (head_of (spelled_values Most all));
   quiet = is_written Quiet (written_by all);
-  written = format_written (is_written Output (written_by all)) (head_of (spelled_values Format all));
+  written =
+      format_written (is_written Output (written_by all)) (head_of (spelled_values Format all));
 }
 
 -- such options, and no others, are asked for
 abbrev pub IsAsked : List (List ℕ) → Options → Type 0
 IsAsked words options =
-    (all : List Spelled) × (source : Source) × (words ≡ spelled_words all) × IsCommand source all × (options ≡ asked_by source all)
+    (all : List Spelled) × (source : Source) × (words ≡ spelled_words all) × IsCommand source all
+    × (options ≡ asked_by source all)

@@ -11,7 +11,12 @@ use Rattle.shark_words.specs.Letters.{letter_of, has_value}
 
 -- an option in a word, with its value in another word or the same
 abbrev pub with_value : ℕ → Letter → ℕ → List ℕ → Use
-with_value word letter place text = use_.Given (record { word = word; letter = letter; value = Some (record { word = place; text = text }) })
+with_value word letter place text =
+    use_.Given (record {
+      word = word;
+      letter = letter;
+      value = Some (record { word = place; text = text });
+    })
 
 abbrev pub without_value : ℕ → Letter → Use
 without_value word letter = use_.Given (record { word = word; letter = letter; value = None })
@@ -32,15 +37,18 @@ value_uses word letter [] behind = behind (Some letter)
 value_uses word letter (b ∷ rest) behind = with_value word letter word (b ∷ rest) ∷ behind None
 
 -- the uses of a letter, and of the letters behind it
-abbrev pub letter_uses : ℕ → Option Letter → List ℕ → (Option Letter → List Use) → List Use → List Use
+abbrev pub letter_uses : ℕ → Option Letter → List ℕ → (Option Letter → List Use) → List Use
+    → List Use
 letter_uses word None rest behind more = more
 letter_uses word (Some letter) rest behind more =
-    if has_value letter then value_uses word letter rest behind else without_value word letter ∷ more
+    if has_value letter then value_uses word letter rest behind
+    else without_value word letter ∷ more
 
 -- the uses of a cluster
 abbrev pub cluster_uses : ℕ → List ℕ → (Option Letter → List Use) → List Use
 cluster_uses word [] behind = behind None
-cluster_uses word (b ∷ rest) behind = letter_uses word (letter_of b) rest behind (cluster_uses word rest behind)
+cluster_uses word (b ∷ rest) behind =
+    letter_uses word (letter_of b) rest behind (cluster_uses word rest behind)
 
 -- what stands behind the first `-` of `--self-run`
 abbrev pub self_run_name : List ℕ
@@ -63,8 +71,10 @@ uses_at word text behind = use_.Stray word ∷ behind None
 unfoldable pub uses_from : ℕ → Option Letter → List (List ℕ) → List Use
 uses_from before None [] = []
 uses_from before (Some letter) [] = without_value before letter ∷ []
-uses_from before (Some letter) (word ∷ words) = with_value before letter (suc before) word ∷ uses_from (suc before) None words
-uses_from before None (word ∷ words) = uses_at (suc before) word (λ waiting. uses_from (suc before) waiting words)
+uses_from before (Some letter) (word ∷ words) =
+    with_value before letter (suc before) word ∷ uses_from (suc before) None words
+uses_from before None (word ∷ words) =
+    uses_at (suc before) word (λ waiting. uses_from (suc before) waiting words)
 
 -- the uses of all words
 abbrev pub uses_of : List (List ℕ) → List Use

@@ -1,6 +1,6 @@
 -- What an option's value may be.
 use Rattle.std.specs.Prelude.{ℕ, suc, ◌==◌, ◌^◌, ◌-◌, nat_le, nat_lt, Bool, true, false, ◌&&◌, ◌||◌, List, [], ◌∷◌, length, take, drop, codes, Option, Some, None, is_some, option_and_then, if◌then◌else◌}
-use Rattle.std.specs.List.{list_all, position}
+use Rattle.std.specs.List.{list_all, position_from}
 use Rattle.std.specs.Option.{unwrap_or}
 use Rattle.std.specs.Str.{bytes_eq}
 use Rattle.pk_text.specs.Digits.{digits_read, fitting}
@@ -21,7 +21,8 @@ has_leading_zero text = false
 
 -- the number of decimal digits without a leading zero, `0` itself aside, where 64 bits hold it
 unfoldable pub decimal_of : List ℕ → Option ℕ
-decimal_of text = if has_leading_zero text then None else option_and_then fitting (digits_read 10 text)
+decimal_of text =
+    if has_leading_zero text then None else option_and_then fitting (digits_read 10 text)
 
 -- a number from 1 on that is no greater than another
 abbrev pub up_to : ℕ → ℕ → Option ℕ
@@ -43,10 +44,14 @@ generated number frames = None
 abbrev pub generated_at : List ℕ → Option ℕ → Option Source
 generated_at text None = None
 generated_at text (Some comma) =
-    generated (decimal_of (take comma text)) (option_and_then (up_to most_generated) (decimal_of (drop (suc comma) text)))
+    generated (decimal_of (take comma text))
+    (option_and_then (up_to most_generated) (decimal_of (drop (suc comma) text)))
+
+abbrev pub comma_in : List ℕ → Option ℕ
+comma_in text = position_from (λ b. b == 44) 0 text
 
 unfoldable pub generated_by : List ℕ → Option Source
-generated_by text = generated_at text (position (λ b. b == 44) text)
+generated_by text = generated_at text (comma_in text)
 
 -- a kind of line
 abbrev pub kind_of : List ℕ → Option LineKind

@@ -1,4 +1,4 @@
-ghost use Rattle.std.specs.Prelude.{◌≡◌, List, Ok, IfOk, option_and_then};
+ghost use Rattle.std.specs.Prelude.{◌≡◌, List, Some, Ok, IfOk, option_and_then};
 ghost use Rattle.std.specs.Option.{option_copied};
 ghost use Rattle.shark_words.specs.declared.letter.Letter.TheVariants.{Output as OutputLetter, Format as FormatLetter};
 ghost use Rattle.shark_words.specs.declared.options.Source.{Source as IsSource};
@@ -9,9 +9,9 @@ ghost use Rattle.shark_words.specs.Sound.{AreSound};
 ghost use Rattle.shark_words.specs.Words.{texts};
 ghost use Rattle.shark_words.specs.Values.{count_of, format_asked, kind_asked, shown_filter as filter_shown};
 ghost use Rattle.shark_words.specs.Spelled.{Spelled, spelled_words, asked_by, IsCommand, IsAsked};
-ghost use Rattle.shark_words.specs.Options.{clash_fault as clash_fault_of, fields_fault as fields_fault_of, format_written as format_written_by, options_of, source_of as source_given, together_fault as together_fault_of, unused_fault as unused_fault_of, Gives};
+ghost use Rattle.shark_words.specs.Options.{asked, clash_fault as clash_fault_of, fields_fault as fields_fault_of, format_written as format_written_by, options_of, source_of as source_given, together_fault as together_fault_of, unused_fault as unused_fault_of, Gives};
 
-use crate::asked::{clash_word, style_of, unused_word, value_of, values_of};
+use crate::asked::{Sought, clash_word, style_of, value_of, values_of, word_of};
 use crate::fault::{WordFault, WordReason, WordsError};
 use crate::faults::{first_fault, is_given};
 use crate::letter::Letter;
@@ -59,7 +59,8 @@ fn asked_format(format: Option<&Octets>) -> Format
 
 // The format of the capture that is written, where one is.
 fn format_written(uses: &[Use]) -> Option<Format>
-    ensures { result ≡ format_written_by (is_given_in OutputLetter uses.now) (value_given FormatLetter uses.now) }
+    ensures { result ≡ format_written_by (is_given_in OutputLetter uses.now)
+        (value_given FormatLetter uses.now) }
 {
     if is_given(uses, Letter::Output) {
         Some(asked_format(value_of(uses, Letter::Format)))
@@ -69,6 +70,7 @@ fn format_written(uses: &[Use]) -> Option<Format>
 }
 
 // Where the frames come from.
+#[tactic(auto, unfolding(crate::specs::Options::source_of))]
 fn source_of(uses: &[Use]) -> Result<Option<Source>, NoMemory>
     ensures { IfOk result (λ source. source ≡ source_given uses.now) }
 {
@@ -98,7 +100,7 @@ fn unused_fault(uses: &[Use], kind: LineKind) -> Option<WordFault>
     ensures { result ≡ unused_fault_of uses.now kind }
 {
     Some(WordFault {
-        word: unused_word(uses, kind, is_given(uses, Letter::Output))?,
+        word: word_of(uses, Sought::Unused(kind, is_given(uses, Letter::Output)))?,
         reason: WordReason::Unused,
     })
 }
@@ -113,6 +115,7 @@ fn clash_fault(uses: &[Use]) -> Option<WordFault>
 }
 
 // What is wrong with the options together.
+#[tactic(auto, unfolding(crate::specs::Options::together_fault))]
 fn together_fault(behind: u64, uses: &[Use], kind: LineKind) -> Option<WordFault>
     ensures { result ≡ together_fault_of behind uses.now kind }
 {
@@ -138,7 +141,7 @@ pub fn read_words(alloc: Global, words: &[String]) -> Result<Options, WordsError
     options_in(alloc, words)
 }
 
-// First the faults word by word, then what is missing in all, then what is of no use, then what can't stand together.
+// First the faults word by word, then what is missing in all.
 #[tactic(auto, unfolding(crate::specs::Options::options_of))]
 fn options_in(alloc: Global, words: &[String]) -> Result<Options, WordsError>
     ensures { Gives result (options_of (texts words.now)) }
@@ -148,24 +151,36 @@ fn options_in(alloc: Global, words: &[String]) -> Result<Options, WordsError>
         return Err(WordsError::Fault(fault));
     }
     let behind = words.len() as u64 + 1;
-    let Some(source) = source_of(&uses)? else {
-        return Err(WordsError::Fault(WordFault {
+    match source_of(&uses)? {
+        Some(source) => options_from(alloc, &uses, behind, source),
+        None => Err(WordsError::Fault(WordFault {
             word: behind,
             reason: WordReason::NoFile,
-        }));
-    };
-    let kind = line_kind(value_of(&uses, Letter::Kind));
-    if let Some(fault) = together_fault(behind, &uses, kind) {
+        })),
+    }
+}
+
+// First what is of no use and what can't stand together, then the options.
+fn options_from(
+    alloc: Global,
+    uses: &[Use],
+    behind: u64,
+    source: Source,
+) -> Result<Options, WordsError>
+    ensures { Gives result (asked behind uses.now (Some source)) }
+{
+    let kind = line_kind(value_of(uses, Letter::Kind));
+    if let Some(fault) = together_fault(behind, uses, kind) {
         return Err(WordsError::Fault(fault));
     }
     Ok(Options {
         source,
-        filter: shown_filter(value_of(&uses, Letter::Filter))?,
+        filter: shown_filter(value_of(uses, Letter::Filter))?,
         kind,
-        names: NameList::from_vec(values_of(alloc, &uses, Letter::Name)?),
-        style: style_of(&uses),
-        most: read_most(value_of(&uses, Letter::Most)),
-        quiet: is_given(&uses, Letter::Quiet),
-        written: format_written(&uses),
+        names: NameList::from_vec(values_of(alloc, uses, Letter::Name)?),
+        style: style_of(uses),
+        most: read_most(value_of(uses, Letter::Most)),
+        quiet: is_given(uses, Letter::Quiet),
+        written: format_written(uses),
     })
 }

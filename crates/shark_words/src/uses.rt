@@ -82,7 +82,8 @@ fn take_value(
     rest: &[u8],
 ) -> Result<Option<Letter>, NoMemory>
     ensures { IfOk result (λ waiting. (behind : Option IsLetter → List IsUse) →
-        uses.old.items ++ value_uses number letter rest.now behind ≡ uses.new.items ++ behind waiting) }
+        uses.old.items ++ value_uses number letter rest.now behind
+        ≡ uses.new.items ++ behind waiting) }
 {
     if rest.is_empty() {
         return Ok(Some(letter));
@@ -100,7 +101,8 @@ fn take_letters(
     letters: &[u8],
 ) -> Result<Option<Letter>, NoMemory>
     ensures { IfOk result (λ waiting. (behind : Option IsLetter → List IsUse) →
-        uses.old.items ++ cluster_uses number letters.now behind ≡ uses.new.items ++ behind waiting) }
+        uses.old.items ++ cluster_uses number letters.now behind
+        ≡ uses.new.items ++ behind waiting) }
 {
     for (at, byte) in letters.iter().enumerate() {
         // All letters are known, up to the first with a value.
@@ -151,7 +153,8 @@ fn take_word(
 ) -> Result<Option<Letter>, NoMemory>
     requires { before < 2 ^ 64 - 1 }
     ensures { IfOk result (λ next. (words : List (List ℕ)) →
-        uses.old.items ++ uses_from before waiting (word.now ∷ words) ≡ uses.new.items ++ uses_from (before + 1) next words) }
+        uses.old.items ++ uses_from before waiting (word.now ∷ words)
+        ≡ uses.new.items ++ uses_from (before + 1) next words) }
 {
     let number = before + 1;
     match waiting {

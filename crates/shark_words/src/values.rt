@@ -1,6 +1,6 @@
 // What an option's value may be.
-ghost use Rattle.std.specs.Prelude.{◌≡◌, option_and_then};
-ghost use Rattle.shark_words.specs.Values.{count_of, decimal_of, format_of as format_of_text, generated_by, is_blank as is_blank_text, is_value as is_value_of, kind_of as kind_of_text, most_generated, up_to as up_to_most};
+ghost use Rattle.std.specs.Prelude.{◌≡◌, ◌<◌, length, IfSome, option_and_then};
+ghost use Rattle.shark_words.specs.Values.{comma_in as comma_place, count_of, decimal_of, format_of as format_of_text, generated_by, is_blank as is_blank_text, is_value as is_value_of, kind_of as kind_of_text, most_generated, up_to as up_to_most};
 
 use crate::key::is_setting;
 use crate::letter::Letter;
@@ -52,12 +52,20 @@ fn read_frames(text: &[u8]) -> Option<u32>
     u32::try_from(frames).ok()
 }
 
-// The number before the comma, and how many frames stand behind it.
+// The place of the first comma.
+fn comma_in(text: &[u8]) -> Option<usize>
+    ensures place { result ≡ comma_place text.now }
+    ensures inside { IfSome result (λ at. at < length text.now) }
+{
+    text.iter().position(|byte| *byte == b',')
+}
+
+/// A generated capture: its number, a comma, and how many frames it has.
 #[tactic(auto, unfolding(crate::specs::Values::generated_by))]
 pub(crate) fn read_generated(text: &[u8]) -> Option<Source>
     ensures { result ≡ generated_by text.now }
 {
-    let comma = text.iter().position(|byte| *byte == b',')?;
+    let comma = comma_in(text)?;
     let number = read_decimal(&text[..comma])?;
     let frames = read_frames(&text[comma + 1..])?;
     Some(Source::Generated(number, frames))
