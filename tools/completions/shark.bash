@@ -369,7 +369,10 @@ _shark() {
     -T) mapfile -t COMPREPLY < <(compgen -W "text fields json" -- "$word") ;;
     -e) mapfile -t COMPREPLY < <(compgen -W "$_shark_fields" -- "$word") ;;
     -E) COMPREPLY=() ;;
-    *) mapfile -t COMPREPLY < <(compgen -W "-r -Y -c -T -e -E -q --help --version" -- "$word") ;;
+    -w) mapfile -t COMPREPLY < <(compgen -W "-" -- "$word") ;;
+    -F) mapfile -t COMPREPLY < <(compgen -W "pcap pcapng" -- "$word") ;;
+    --self-run) COMPREPLY=() ;;
+    *) mapfile -t COMPREPLY < <(compgen -W "-r -Y -c -T -e -E -q -w -F --self-run --help --version" -- "$word") ;;
   esac
 }
 complete -F _shark shark

@@ -16,7 +16,8 @@ nanoseconds_of (Some (negsuc n)) = 0
 
 -- frames of link type 0 (LINKTYPE_NULL) begin with a number in the file's byte order, so they keep theirs
 abbrev pub is_order_kept : Bool → Frame → Bool
-is_order_kept little frame = if frame.link == 0 then (if little then frame.little else not frame.little) else true
+is_order_kept little frame =
+    if frame.link == 0 then (if little then frame.little else not frame.little) else true
 
 -- the byte order of a file is that of its first frame
 abbrev pub order_of : List Frame → Bool
@@ -52,9 +53,11 @@ read_back little number frame = record {
 -- all of them, numbered one after the other
 abbrev pub all_read_back : Bool → ℕ → List Frame → List Frame
 all_read_back little number [] = []
-all_read_back little number (frame ∷ frames) = read_back little number frame ∷ all_read_back little (suc number) frames
+all_read_back little number (frame ∷ frames) =
+    read_back little number frame ∷ all_read_back little (suc number) frames
 
 -- the byte order of each frame of link type 0 is the file's
 abbrev pub AreOrdersKept : Bool → List Frame → Type 0
 AreOrdersKept little [] = Unit {0}
-AreOrdersKept little (frame ∷ frames) = (frame.link ≡ 0 → frame.little ≡ little) × AreOrdersKept little frames
+AreOrdersKept little (frame ∷ frames) =
+    (frame.link ≡ 0 → frame.little ≡ little) × AreOrdersKept little frames

@@ -53,7 +53,8 @@ packet_of Pcapng little links frame = pcapng_piece little links frame
 
 -- the bytes that one frame more brings
 abbrev pub piece_at : Kept → Frame → List ℕ
-piece_at kept frame = start_by kept.format kept.order frame ++ packet_of kept.format (order_by kept.order frame) kept.links frame
+piece_at kept frame = start_by kept.format kept.order frame
+    ++ packet_of kept.format (order_by kept.order frame) kept.links frame
 
 -- what is kept then
 abbrev pub kept_with : Kept → Frame → Kept
@@ -73,7 +74,8 @@ end_at kept = end_by kept.format kept.order
 
 -- a frame was added, or doesn't fit
 abbrev pub Adds : Kept → Kept → Frame → Added → Type 0
-Adds old new frame (Bytes bytes) = (fits_at old frame ≡ true) × (bytes ≡ piece_at old frame) × (new ≡ kept_with old frame)
+Adds old new frame (Bytes bytes) =
+    (fits_at old frame ≡ true) × (bytes ≡ piece_at old frame) × (new ≡ kept_with old frame)
 Adds old new frame Unfit = (fits_at old frame ≡ false) × (new ≡ old)
 
 -- what is kept after these frames, of which the newest stands first
@@ -113,6 +115,8 @@ fits Pcapng frames = fits_in_pcapng frames
 -- what is kept, and the bytes so far, after one frame more. A frame is unfit exactly where the list with it doesn't fit
 abbrev pub StandsAfter : Kept → Kept → Frame → Added → List Frame → Type 0
 StandsAfter old new frame (Bytes bytes) past =
-    Stands new (frame ∷ past) × (bytes_of old.format past ++ bytes ≡ bytes_of old.format (frame ∷ past))
+    Stands new (frame ∷ past)
+    × (bytes_of old.format past ++ bytes ≡ bytes_of old.format (frame ∷ past))
     × (fits old.format (in_order past (frame ∷ [])) ≡ true)
-StandsAfter old new frame Unfit past = Stands new past × (fits old.format (in_order past (frame ∷ [])) ≡ false)
+StandsAfter old new frame Unfit past =
+    Stands new past × (fits old.format (in_order past (frame ∷ [])) ≡ false)

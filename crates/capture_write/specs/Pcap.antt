@@ -16,13 +16,16 @@ use Rattle.capture_write.specs.Numbers.{bytes_in}
 -- version 2.4, no time zone, and the most bytes of a record as snaplen
 abbrev pub pcap_header : Bool → ℕ → List ℕ
 pcap_header little link =
-    bytes_in little 4 nanosecond_magic ++ (bytes_in little 2 major_version ++ (bytes_in little 2 4 ++ (bytes_in little 4 0
+    bytes_in little 4 nanosecond_magic
+    ++ (bytes_in little 2 major_version ++ (bytes_in little 2 4 ++ (bytes_in little 4 0
     ++ (bytes_in little 4 0 ++ (bytes_in little 4 captured_limit ++ bytes_in little 4 link)))))
 
 abbrev pub pcap_record : Bool → Frame → List ℕ
 pcap_record little frame =
-    bytes_in little 4 (nanoseconds_of frame.time / 10 ^ 9) ++ (bytes_in little 4 (nanoseconds_of frame.time % 10 ^ 9)
-    ++ (bytes_in little 4 (length frame.bytes) ++ (bytes_in little 4 frame.original ++ frame.bytes)))
+    bytes_in little 4 (nanoseconds_of frame.time / 10 ^ 9)
+    ++ (bytes_in little 4 (nanoseconds_of frame.time % 10 ^ 9)
+    ++ (bytes_in little 4 (length frame.bytes)
+    ++ (bytes_in little 4 frame.original ++ frame.bytes)))
 
 abbrev pub pcap_records : Bool → List Frame → List ℕ
 pcap_records little [] = []
@@ -36,11 +39,13 @@ fits_pcap little link frame =
 
 abbrev pub all_fit_pcap : Bool → ℕ → List Frame → Bool
 all_fit_pcap little link [] = true
-all_fit_pcap little link (frame ∷ frames) = fits_pcap little link frame && all_fit_pcap little link frames
+all_fit_pcap little link (frame ∷ frames) =
+    fits_pcap little link frame && all_fit_pcap little link frames
 
 -- the whole file
 unfoldable pub pcap_bytes : List Frame → List ℕ
-pcap_bytes frames = pcap_header (order_of frames) (link_of frames) ++ pcap_records (order_of frames) frames
+pcap_bytes frames =
+    pcap_header (order_of frames) (link_of frames) ++ pcap_records (order_of frames) frames
 
 -- whether all frames fit into it
 unfoldable pub fits_in_pcap : List Frame → Bool

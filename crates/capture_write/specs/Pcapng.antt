@@ -25,12 +25,14 @@ use Rattle.capture_write.specs.Numbers.{bytes_in}
 -- a block by its type and its body
 abbrev pub block_bytes : Bool → ℕ → List ℕ → List ℕ
 block_bytes little kind body =
-    bytes_in little 4 kind ++ (bytes_in little 4 (12 + length body) ++ (body ++ bytes_in little 4 (12 + length body)))
+    bytes_in little 4 kind ++ (bytes_in little 4 (12 + length body)
+    ++ (body ++ bytes_in little 4 (12 + length body)))
 
 -- version 1.0, of unknown length
 abbrev pub section_body : Bool → List ℕ
 section_body little =
-    bytes_in little 4 byte_order_magic ++ (bytes_in little 2 1 ++ (bytes_in little 2 0 ++ bytes_in little 8 (2 ^ 64 - 1)))
+    bytes_in little 4 byte_order_magic
+    ++ (bytes_in little 2 1 ++ (bytes_in little 2 0 ++ bytes_in little 8 (2 ^ 64 - 1)))
 
 -- no limit to the bytes kept of a packet, and a clock that counts units of 10^-9 seconds
 abbrev pub interface_body : Bool → ℕ → List ℕ
@@ -45,8 +47,10 @@ padded_bytes bytes = bytes ++ replicate (padded (length bytes) - length bytes) 0
 
 abbrev pub enhanced_body : Bool → ℕ → Frame → List ℕ
 enhanced_body little place frame =
-    bytes_in little 4 place ++ (bytes_in little 4 (nanoseconds_of frame.time / 2 ^ 32) ++ (bytes_in little 4 (nanoseconds_of frame.time % 2 ^ 32)
-    ++ (bytes_in little 4 (length frame.bytes) ++ (bytes_in little 4 frame.original ++ padded_bytes frame.bytes))))
+    bytes_in little 4 place ++ (bytes_in little 4 (nanoseconds_of frame.time / 2 ^ 32)
+    ++ (bytes_in little 4 (nanoseconds_of frame.time % 2 ^ 32)
+    ++ (bytes_in little 4 (length frame.bytes)
+    ++ (bytes_in little 4 frame.original ++ padded_bytes frame.bytes))))
 
 abbrev pub simple_body : Bool → Frame → List ℕ
 simple_body little frame = bytes_in little 4 frame.original ++ padded_bytes frame.bytes
@@ -60,7 +64,8 @@ interface_block little link = block_bytes little interface_type (interface_body 
 -- the block of a frame of the interface with this number, by the frame's time
 abbrev pub packet_by : Bool → ℕ → Frame → Option ℤ → List ℕ
 packet_by little place frame None = block_bytes little simple_packet_type (simple_body little frame)
-packet_by little place frame (Some time) = block_bytes little enhanced_packet_type (enhanced_body little place frame)
+packet_by little place frame (Some time) =
+    block_bytes little enhanced_packet_type (enhanced_body little place frame)
 
 -- the number of a link type's interface, given the link types so far in the order of their first frames: interfaces are
 -- numbered from 0, and a new link type's comes next
@@ -88,25 +93,30 @@ new_interface little link links = if is_new link links then interface_block litt
 -- what is written of a frame: its interface, if it is new, and its packet
 abbrev pub pcapng_piece : Bool → List ℕ → Frame → List ℕ
 pcapng_piece little links frame =
-    new_interface little frame.link links ++ packet_by little (place_of frame.link links) frame frame.time
+    new_interface little frame.link links
+    ++ packet_by little (place_of frame.link links) frame frame.time
 
 abbrev pub pcapng_pieces : Bool → List ℕ → List Frame → List ℕ
 pcapng_pieces little links [] = []
-pcapng_pieces little links (frame ∷ frames) = pcapng_piece little links frame ++ pcapng_pieces little (links_with frame.link links) frames
+pcapng_pieces little links (frame ∷ frames) =
+    pcapng_piece little links frame ++ pcapng_pieces little (links_with frame.link links) frames
 
 -- a frame without a time is a simple packet, which is of interface 0 and tells its original length alone; a time is one of
 -- 64 bits of nanoseconds
 abbrev pub fits_by_time : List ℕ → Frame → Option ℤ → Bool
-fits_by_time links frame None = (place_of frame.link links == 0) && (frame.original == length frame.bytes)
+fits_by_time links frame None =
+    (place_of frame.link links == 0) && (frame.original == length frame.bytes)
 fits_by_time links frame (Some time) = is_time_below (2 ^ 64) (Some time)
 
 abbrev pub fits_pcapng : Bool → List ℕ → Frame → Bool
 fits_pcapng little links frame =
-    is_order_kept little frame && (not (nat_lt captured_limit (length frame.bytes)) && fits_by_time links frame frame.time)
+    is_order_kept little frame
+    && (not (nat_lt captured_limit (length frame.bytes)) && fits_by_time links frame frame.time)
 
 abbrev pub all_fit_pcapng : Bool → List ℕ → List Frame → Bool
 all_fit_pcapng little links [] = true
-all_fit_pcapng little links (frame ∷ frames) = fits_pcapng little links frame && all_fit_pcapng little (links_with frame.link links) frames
+all_fit_pcapng little links (frame ∷ frames) =
+    fits_pcapng little links frame && all_fit_pcapng little (links_with frame.link links) frames
 
 -- the whole file
 unfoldable pub pcapng_bytes : List Frame → List ℕ

@@ -51,7 +51,8 @@ pub fn push_packet(
     frame: &Frame,
 ) -> Result<(), NoMemory>
     requires { fits_by format little links.now frame.now ≡ true }
-    ensures { OnOk result (bytes.new.items ≡ bytes.old.items ++ packet_of format little links.now frame.now) }
+    ensures { OnOk result (bytes.new.items
+        ≡ bytes.old.items ++ packet_of format little links.now frame.now) }
 {
     match format {
         Format::Pcap => push_record(bytes, little, frame),
@@ -68,14 +69,16 @@ fn push_piece(
     frame: &Frame,
 ) -> Result<(), NoMemory>
     requires { fits_pcapng little links.now frame.now ≡ true }
-    ensures { OnOk result (bytes.new.items ≡ bytes.old.items ++ pcapng_piece little links.now frame.now) }
+    ensures { OnOk result (bytes.new.items
+        ≡ bytes.old.items ++ pcapng_piece little links.now frame.now) }
 {
     push_new(bytes, little, links, frame.link)?;
     push_by(bytes, little, links.place(frame.link), frame)
 }
 
 fn push_new(bytes: &mut Vec<u8>, little: bool, links: &Links, link: u16) -> Result<(), NoMemory>
-    ensures { OnOk result (bytes.new.items ≡ bytes.old.items ++ new_interface little link links.now) }
+    ensures { OnOk result (bytes.new.items
+        ≡ bytes.old.items ++ new_interface little link links.now) }
 {
     if links.is_new(link) {
         push_interface(bytes, little, link)?;
@@ -87,7 +90,8 @@ fn push_new(bytes: &mut Vec<u8>, little: bool, links: &Links, link: u16) -> Resu
 fn push_by(bytes: &mut Vec<u8>, little: bool, place: u32, frame: &Frame) -> Result<(), NoMemory>
     requires time { nanoseconds_of frame.now.time < 2 ^ 64 }
     requires short { length frame.now.bytes ≤ captured_limit }
-    ensures { OnOk result (bytes.new.items ≡ bytes.old.items ++ packet_by little place frame.now frame.now.time) }
+    ensures { OnOk result (bytes.new.items
+        ≡ bytes.old.items ++ packet_by little place frame.now frame.now.time) }
 {
     match frame.time {
         Some(_) => push_enhanced(bytes, little, place, frame),

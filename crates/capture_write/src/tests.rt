@@ -52,38 +52,300 @@ const ETHERNET: Row = Row {
     original: 60,
 };
 
-fn at(time: i128) -> Row {
-    Row {
-        time: Some(time),
-        ..ETHERNET
-    }
+/// A frame without a time.
+const UNTIMED: Row = Row {
+    time: None,
+    len: 4,
+    original: 4,
+    ..ETHERNET
+};
+
+const EARLY: Row = Row {
+    time: Some(0),
+    ..ETHERNET
+};
+
+const BEFORE_1970: Row = Row {
+    time: Some(-1),
+    ..ETHERNET
+};
+
+/// The last time of a pcap file, and the one behind it.
+const LAST_SECOND: Row = Row {
+    time: Some(4_294_967_295_999_999_999),
+    ..ETHERNET
+};
+
+const PAST_SECONDS: Row = Row {
+    time: Some(4_294_967_296_000_000_000),
+    ..ETHERNET
+};
+
+/// The last time of a pcapng file, and the one behind it.
+const LAST_TICK: Row = Row {
+    time: Some(18_446_744_073_709_551_615),
+    ..ETHERNET
+};
+
+const PAST_TICKS: Row = Row {
+    time: Some(18_446_744_073_709_551_616),
+    ..ETHERNET
+};
+
+const BIG_ENDIAN: Row = Row {
+    little: false,
+    ..ETHERNET
+};
+
+/// Loopback frames, whose first bytes are in the byte order of the machine.
+const LOOPBACK: Row = Row {
+    link: 0,
+    ..ETHERNET
+};
+
+const BIG_LOOPBACK: Row = Row {
+    link: 0,
+    little: false,
+    ..ETHERNET
+};
+
+/// A Linux cooked capture's frame.
+const COOKED: Row = Row {
+    link: 113,
+    ..ETHERNET
+};
+
+const UNTIMED_COOKED: Row = Row {
+    link: 113,
+    ..UNTIMED
+};
+
+const RAW: Row = Row {
+    link: 101,
+    ..ETHERNET
+};
+
+const LAST_LINK: Row = Row {
+    link: 65_535,
+    ..ETHERNET
+};
+
+const NO_BYTES: Row = Row {
+    len: 0,
+    original: 0,
+    ..ETHERNET
+};
+
+const ALL_CUT: Row = Row {
+    len: 0,
+    original: 9,
+    ..ETHERNET
+};
+
+const ONE_OF_MANY: Row = Row {
+    len: 1,
+    original: 2_000_000_000,
+    ..ETHERNET
+};
+
+const TWO_OF_FIVE: Row = Row {
+    len: 2,
+    original: 5,
+    ..ETHERNET
+};
+
+const THREE_OF_FOUR: Row = Row {
+    len: 3,
+    original: 4,
+    ..ETHERNET
+};
+
+const LONGEST: Row = Row {
+    len: 262_144,
+    original: 262_144,
+    ..ETHERNET
+};
+
+const TOO_LONG: Row = Row {
+    len: 262_145,
+    original: 262_145,
+    ..ETHERNET
+};
+
+const UNTIMED_CUT: Row = Row {
+    original: 5,
+    ..UNTIMED
+};
+
+const UNTIMED_EMPTY: Row = Row {
+    len: 0,
+    original: 0,
+    ..UNTIMED
+};
+
+/// Frames, and the places of those that don't fit into a pcap file and into a pcapng file.
+struct List {
+    rows: &'static [Row],
+    pcap: &'static [usize],
+    pcapng: &'static [usize],
 }
 
-fn untimed(link: u16, len: usize, original: u32) -> Row {
-    Row {
-        time: None,
-        link,
-        little: true,
-        len,
-        original,
-    }
-}
+/// Frames that all fit into both.
+const FITTING: List = List {
+    rows: &[],
+    pcap: &[],
+    pcapng: &[],
+};
 
-fn of_link(link: u16, little: bool) -> Row {
-    Row {
-        link,
-        little,
-        ..ETHERNET
-    }
-}
-
-fn captured(len: usize, original: u32) -> Row {
-    Row {
-        len,
-        original,
-        ..ETHERNET
-    }
-}
+static LISTS: [List; 32] = [
+    FITTING,
+    List {
+        rows: &[ETHERNET, EARLY, ETHERNET],
+        ..FITTING
+    },
+    List {
+        rows: &[UNTIMED_EMPTY],
+        pcap: &[0],
+        ..FITTING
+    },
+    List {
+        rows: &[LAST_SECOND, EARLY],
+        ..FITTING
+    },
+    List {
+        rows: &[PAST_SECONDS, LAST_SECOND],
+        pcap: &[0],
+        ..FITTING
+    },
+    List {
+        rows: &[LAST_TICK, EARLY],
+        pcap: &[0],
+        ..FITTING
+    },
+    List {
+        rows: &[PAST_TICKS, LAST_TICK],
+        pcap: &[0, 1],
+        pcapng: &[0],
+    },
+    List {
+        rows: &[EARLY, BEFORE_1970, EARLY],
+        pcap: &[1],
+        pcapng: &[1],
+    },
+    List {
+        rows: &[BEFORE_1970],
+        pcap: &[0],
+        pcapng: &[0],
+    },
+    List {
+        rows: &[NO_BYTES, ONE_OF_MANY],
+        ..FITTING
+    },
+    List {
+        rows: &[ALL_CUT, TWO_OF_FIVE, THREE_OF_FOUR, NO_BYTES],
+        ..FITTING
+    },
+    List {
+        rows: &[LONGEST, ETHERNET],
+        ..FITTING
+    },
+    List {
+        rows: &[TOO_LONG, ETHERNET],
+        pcap: &[0],
+        pcapng: &[0],
+    },
+    List {
+        rows: &[ETHERNET, TOO_LONG, LONGEST, TOO_LONG],
+        pcap: &[1, 3],
+        pcapng: &[1, 3],
+    },
+    List {
+        rows: &[TOO_LONG],
+        pcap: &[0],
+        pcapng: &[0],
+    },
+    List {
+        rows: &[BIG_LOOPBACK, BIG_LOOPBACK],
+        ..FITTING
+    },
+    List {
+        rows: &[LOOPBACK, BIG_LOOPBACK, LOOPBACK],
+        pcap: &[1],
+        pcapng: &[1],
+    },
+    List {
+        rows: &[BIG_LOOPBACK, LOOPBACK, BIG_LOOPBACK],
+        pcap: &[1],
+        pcapng: &[1],
+    },
+    List {
+        rows: &[BIG_ENDIAN, ETHERNET],
+        ..FITTING
+    },
+    List {
+        rows: &[ETHERNET, BIG_ENDIAN, THREE_OF_FOUR],
+        ..FITTING
+    },
+    List {
+        rows: &[BIG_ENDIAN, BIG_LOOPBACK, LOOPBACK],
+        pcap: &[1, 2],
+        pcapng: &[2],
+    },
+    List {
+        rows: &[BIG_LOOPBACK, BIG_LOOPBACK, ETHERNET],
+        pcap: &[2],
+        ..FITTING
+    },
+    List {
+        rows: &[ETHERNET, LOOPBACK, BIG_ENDIAN, LOOPBACK],
+        pcap: &[1, 3],
+        ..FITTING
+    },
+    List {
+        rows: &[LAST_LINK],
+        ..FITTING
+    },
+    List {
+        rows: &[ETHERNET, COOKED, ETHERNET],
+        pcap: &[1],
+        ..FITTING
+    },
+    List {
+        rows: &[RAW, LAST_LINK, COOKED, RAW, ETHERNET, COOKED],
+        pcap: &[1, 2, 4, 5],
+        ..FITTING
+    },
+    List {
+        rows: &[UNTIMED_COOKED, ETHERNET, UNTIMED_COOKED],
+        pcap: &[0, 2],
+        ..FITTING
+    },
+    List {
+        rows: &[ETHERNET, UNTIMED, ETHERNET],
+        pcap: &[1],
+        ..FITTING
+    },
+    List {
+        rows: &[ETHERNET, UNTIMED_COOKED, COOKED, UNTIMED_COOKED],
+        pcap: &[1, 2, 3],
+        pcapng: &[1, 3],
+    },
+    List {
+        rows: &[UNTIMED_CUT, UNTIMED, ETHERNET],
+        pcap: &[0, 1],
+        pcapng: &[0],
+    },
+    List {
+        rows: &[BEFORE_1970, PAST_SECONDS, ETHERNET, UNTIMED],
+        pcap: &[0, 1, 3],
+        pcapng: &[0],
+    },
+    List {
+        rows: &[BEFORE_1970, PAST_TICKS, ETHERNET, UNTIMED_CUT, UNTIMED],
+        pcap: &[0, 1, 3, 4],
+        pcapng: &[0, 1, 3],
+    },
+];
 
 fn frame(alloc: Global, row: Row, bytes: &[u8]) -> Result<Frame, NoMemory> {
     Ok(Frame {
@@ -108,19 +370,30 @@ fn frames_of(alloc: Global, rows: &[Row]) -> Result<Vec<Frame>, NoMemory> {
     Ok(list)
 }
 
-/// The bytes of the file of the frames that fit, and how many those are.
-fn write(alloc: Global, format: Format, list: &[Frame]) -> Result<(Vec<u8>, Vec<usize>), NoMemory> {
+/// The bytes of the file of the frames that fit, the places of these, and those of the others.
+#[derive(Drop)]
+struct Written {
+    file: Vec<u8>,
+    fit: Vec<usize>,
+    unfit: Vec<usize>,
+}
+
+fn write(alloc: Global, format: Format, list: &[Frame]) -> Result<Written, NoMemory> {
     let mut writer = Writer::new(alloc, format);
     let mut file = Vec::new(alloc);
+    let mut fit = Vec::new(alloc);
     let mut unfit = Vec::new(alloc);
     for (place, frame) in list.iter().enumerate() {
         match writer.add(frame)? {
-            Added::Bytes(bytes) => file.extend_from_slice(bytes.bytes())?,
+            Added::Bytes(bytes) => {
+                file.extend_from_slice(bytes.bytes())?;
+                fit.push(place)?;
+            }
             Added::Unfit => unfit.push(place)?,
         }
     }
     file.extend_from_slice(writer.finish()?.bytes())?;
-    Ok((file, unfit))
+    Ok(Written { file, fit, unfit })
 }
 
 /// Whether a frame is the one that was written, but for the file's byte order.
@@ -131,28 +404,28 @@ fn is_same(read: &Frame, written: &Frame) -> bool {
         && read.bytes.bytes() == written.bytes.bytes()
 }
 
-/// Whether the frames all fit and are read back, numbered from 1.
-fn is_read_back(alloc: Global, format: Format, rows: &[Row]) -> Result<bool, NoMemory> {
-    let list = frames_of(alloc, rows)?;
-    let (file, unfit) = write(alloc, format, list.as_slice())?;
-    let (read, ending) = frames(alloc, file.as_slice())?;
-    let mut same = unfit.is_empty() && read.slice().len() == list.len();
-    for (place, (read, written)) in read.slice().iter().zip(list.as_slice()).enumerate() {
-        same = same && read.number as usize == place + 1 && is_same(read, written);
-    }
-    Ok(same && ending == Ending::Whole)
-}
-
-/// Whether these frames are unfit, and no other.
-fn are_unfit(
+/// Whether the frames that don't fit are those of these places, and the others are read back, numbered from 1.
+fn is_written(
     alloc: Global,
     format: Format,
     rows: &[Row],
     places: &[usize],
 ) -> Result<bool, NoMemory> {
     let list = frames_of(alloc, rows)?;
-    let (_, unfit) = write(alloc, format, list.as_slice())?;
-    Ok(unfit.as_slice() == places)
+    let written = write(alloc, format, list.as_slice())?;
+    let (read, ending) = frames(alloc, written.file.as_slice())?;
+    let mut same = written.unfit.as_slice() == places
+        && ending == Ending::Whole
+        && read.slice().len() == written.fit.len();
+    for (at, (frame, place)) in read.slice().iter().zip(written.fit.as_slice()).enumerate() {
+        same = same
+            && frame.number as usize == at + 1
+            && match list.get(*place) {
+                Some(wanted) => is_same(frame, wanted),
+                None => false,
+            };
+    }
+    Ok(same)
 }
 
 fn joined(alloc: Global, parts: &[&[u8]]) -> Result<Vec<u8>, NoMemory> {
@@ -166,156 +439,37 @@ fn joined(alloc: Global, parts: &[&[u8]]) -> Result<Vec<u8>, NoMemory> {
 #[test]
 fn files_are_written_byte_by_byte(rt: HostRuntime) -> Result<(), Fail> {
     let alloc = rt.alloc();
-    let request = [frame(alloc, at(0), &REQUEST)?];
-    let (pcap, _) = write(alloc, Format::Pcap, &request)?;
+    let request = [frame(alloc, EARLY, &REQUEST)?];
+    let pcap = write(alloc, Format::Pcap, &request)?.file;
     let records = joined(alloc, &[&HEADER, &RECORD_HEAD, &REQUEST])?;
     assert_eq!(rt; pcap.len(), 100);
     assert_eq!(rt; pcap.as_slice(), records.as_slice());
-    let (pcapng, _) = write(alloc, Format::Pcapng, &request)?;
+    let pcapng = write(alloc, Format::Pcapng, &request)?.file;
     let blocks = joined(
         alloc,
         &[&SECTION, &INTERFACE_AND_HEAD, &REQUEST, &PACKET_TAIL],
     )?;
     assert_eq!(rt; pcapng.len(), 152);
     assert_eq!(rt; pcapng.as_slice(), blocks.as_slice());
-    let (empty, _) = write(alloc, Format::Pcap, &[])?;
+    let empty = write(alloc, Format::Pcap, &[])?.file;
     assert_eq!(rt; empty.as_slice(), HEADER.as_slice());
-    let (section, _) = write(alloc, Format::Pcapng, &[])?;
+    let section = write(alloc, Format::Pcapng, &[])?.file;
     assert_eq!(rt; section.as_slice(), SECTION.as_slice());
     Ok(())
 }
 
 #[test]
-fn frames_of_a_pcap_file_are_read_back(rt: HostRuntime) -> Result<(), Fail> {
+fn frames_that_fit_are_read_back(rt: HostRuntime) -> Result<(), Fail> {
     let alloc = rt.alloc();
-    assert!(rt; is_read_back(alloc, Format::Pcap, &[])?);
-    assert!(rt; is_read_back(alloc, Format::Pcap, &[ETHERNET, at(0), at(1)])?);
-    assert!(rt; is_read_back(alloc, Format::Pcap, &[at(4_294_967_295_999_999_999), at(0)])?);
-    assert!(rt;
-        is_read_back(
-            alloc,
-            Format::Pcap,
-            &[captured(0, 0), captured(1, 2_000_000_000)]
-        )?
-    );
-    assert!(rt; is_read_back(alloc, Format::Pcap, &[captured(262_144, 262_144), ETHERNET])?);
-    assert!(rt; is_read_back(alloc, Format::Pcap, &[of_link(0, false), of_link(0, false)])?);
-    assert!(rt; is_read_back(alloc, Format::Pcap, &[of_link(1, false), of_link(1, true)])?);
-    assert!(rt; is_read_back(alloc, Format::Pcap, &[of_link(65_535, true)])?);
-    Ok(())
-}
-
-#[test]
-fn frames_of_a_pcapng_file_are_read_back(rt: HostRuntime) -> Result<(), Fail> {
-    let alloc = rt.alloc();
-    assert!(rt; is_read_back(alloc, Format::Pcapng, &[])?);
-    assert!(rt; is_read_back(alloc, Format::Pcapng, &[ETHERNET, at(0), at(1)])?);
-    assert!(rt;
-        is_read_back(
-            alloc,
-            Format::Pcapng,
-            &[at(18_446_744_073_709_551_615), at(0)]
-        )?
-    );
-    assert!(rt;
-        is_read_back(
-            alloc,
-            Format::Pcapng,
-            &[
-                captured(0, 9),
-                captured(1, 1),
-                captured(2, 5),
-                captured(3, 4)
-            ]
-        )?
-    );
-    assert!(rt;
-        is_read_back(
-            alloc,
-            Format::Pcapng,
-            &[captured(262_144, 262_144), ETHERNET]
-        )?
-    );
-    assert!(rt;
-        is_read_back(
-            alloc,
-            Format::Pcapng,
-            &[untimed(113, 5, 5), ETHERNET, untimed(113, 0, 0)]
-        )?
-    );
-    assert!(rt;
-        is_read_back(
-            alloc,
-            Format::Pcapng,
-            &[ETHERNET, untimed(1, 3, 3), ETHERNET]
-        )?
-    );
-    assert!(rt;
-        is_read_back(
-            alloc,
-            Format::Pcapng,
-            &[of_link(0, false), of_link(0, false), of_link(1, true)]
-        )?
-    );
-    assert!(rt;
-        is_read_back(
-            alloc,
-            Format::Pcapng,
-            &[
-                of_link(1, true),
-                of_link(0, true),
-                of_link(113, false),
-                of_link(0, true)
-            ]
-        )?
-    );
-    Ok(())
-}
-
-#[test]
-fn frames_that_do_not_fit_are_left_out(rt: HostRuntime) -> Result<(), Fail> {
-    let alloc = rt.alloc();
-    let long = captured(262_145, 262_145);
-    let swapped = [of_link(0, false), of_link(0, true), of_link(0, false)];
-    let times = [
-        at(-1),
-        at(4_294_967_296_000_000_000),
-        ETHERNET,
-        untimed(1, 4, 4),
-    ];
-    assert!(rt; are_unfit(alloc, Format::Pcap, &times, &[0, 1, 3])?);
-    assert!(rt;
-        are_unfit(
-            alloc,
-            Format::Pcap,
-            &[ETHERNET, of_link(113, true), ETHERNET],
-            &[1]
-        )?
-    );
-    assert!(rt; are_unfit(alloc, Format::Pcap, &[long, ETHERNET], &[0])?);
-    assert!(rt; are_unfit(alloc, Format::Pcap, &swapped, &[1])?);
-    let late = [
-        at(-1),
-        at(18_446_744_073_709_551_616),
-        ETHERNET,
-        untimed(1, 4, 5),
-        untimed(1, 4, 4),
-    ];
-    assert!(rt; are_unfit(alloc, Format::Pcapng, &late, &[0, 1, 3])?);
-    assert!(rt;
-        are_unfit(
-            alloc,
-            Format::Pcapng,
-            &[
-                ETHERNET,
-                untimed(113, 4, 4),
-                of_link(113, true),
-                untimed(113, 4, 4)
-            ],
-            &[1, 3]
-        )?
-    );
-    assert!(rt; are_unfit(alloc, Format::Pcapng, &[long, ETHERNET], &[0])?);
-    assert!(rt; are_unfit(alloc, Format::Pcapng, &swapped, &[1])?);
+    for (index, list) in LISTS.iter().enumerate() {
+        assert!(rt;
+            is_written(alloc, Format::Pcap, list.rows, list.pcap)?,
+            "{index}"
+        );
+        assert!(rt;
+            is_written(alloc, Format::Pcapng, list.rows, list.pcapng)?,
+            "{index}"
+        );
+    }
     Ok(())
 }

@@ -1,5 +1,6 @@
 pub mod FileSteps
 pub mod FilesSteps
+pub mod OneOrder
 pub mod TopSteps
 pub mod WordSteps
 pub mod WriteSteps

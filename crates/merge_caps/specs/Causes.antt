@@ -4,14 +4,17 @@ use Rattle.pk_outside.specs.Outside.{Rose}
 use Rattle.merge_caps.specs.Reading.{files_of, are_too_large}
 
 -- a `begin` of the file with this place among the names failed, and no more than those before it were begun
-pub record IsUnopened (names : List (List ℕ)) (place missed_old missed_new begun_old begun_new : ℕ) (refused : Bool) (asked : List ℕ) : Type 0 where
+pub record IsUnopened (names : List (List ℕ)) (place missed_old missed_new begun_old begun_new : ℕ)
+    (refused : Bool) (asked : List ℕ) : Type 0 where
   pub name : slice_get names place ≡ Some asked
   pub rose : Rose missed_old missed_new
   pub begun : begun_new ≤ begun_old + place
   pub last : refused ≡ true
 
 -- a read of that file failed, which was begun, and no more than it and those before it were
-pub record IsUnread (names : List (List ℕ)) (place faults_old faults_new begun_old begun_new missed_old missed_new : ℕ) (asked : List ℕ) : Type 0 where
+pub record IsUnread (names : List (List ℕ))
+    (place faults_old faults_new begun_old begun_new missed_old missed_new : ℕ)
+    (asked : List ℕ) : Type 0 where
   pub name : slice_get names place ≡ Some asked
   pub rose : Rose faults_old faults_new
   pub begun : Rose begun_old begun_new
@@ -20,4 +23,5 @@ pub record IsUnread (names : List (List ℕ)) (place faults_old faults_new begun
 
 -- the files up to this one are too large
 abbrev pub IsLargeAt : (List ℕ → Option (List ℕ)) → List (List ℕ) → ℕ → Type 0
-IsLargeAt tell names place = IfSome (files_of tell (take (suc place) names)) (λ files. are_too_large files ≡ true)
+IsLargeAt tell names place =
+    IfSome (files_of tell (take (suc place) names)) (λ files. are_too_large files ≡ true)

@@ -1,4 +1,5 @@
 pub mod Causes
+pub mod Laws
 pub mod Merged
 pub mod Reading
 pub mod Statuses

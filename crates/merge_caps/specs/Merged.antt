@@ -19,17 +19,20 @@ placed latest file frame = record {
 -- the frames of a file behind others of it, of which the latest time is given
 abbrev pub placed_from : Option ℤ → ℕ → List Frame → List Entry
 placed_from latest file [] = []
-placed_from latest file (frame ∷ frames) = placed latest file frame ∷ placed_from (option_or frame.time latest) file frames
+placed_from latest file (frame ∷ frames) =
+    placed latest file frame ∷ placed_from (option_or frame.time latest) file frames
 
 -- the frames of files, of which the first has this place among all files
 abbrev pub all_placed : ℕ → List (List ℕ) → List Entry
 all_placed place [] = []
-all_placed place (file ∷ files) = placed_from None place (capture_of file).frames ++ all_placed (suc place) files
+all_placed place (file ∷ files) =
+    placed_from None place (capture_of file).frames ++ all_placed (suc place) files
 
 -- places in ascending order: by the time, where none comes first, then by the file, then by the number
 abbrev pub place_cmp : Place → Place → Ordering
 place_cmp a b =
-    ordering_then (option_cmp int_cmp a.time b.time) (ordering_then (nat_cmp a.file b.file) (nat_cmp a.number b.number))
+    ordering_then (option_cmp int_cmp a.time b.time)
+    (ordering_then (nat_cmp a.file b.file) (nat_cmp a.number b.number))
 
 abbrev pub place_of : Entry → Place
 place_of entry = entry.place

@@ -50,7 +50,11 @@ pub record ReadSoFar : Type 0 where
   pub captured : ℕ
 
 abbrev pub so_far : Readings → ReadSoFar
-so_far readings = record { entries = readings.entries.items; endings = readings.endings.items; captured = readings.captured }
+so_far readings = record {
+  entries = readings.entries.items;
+  endings = readings.endings.items;
+  captured = readings.captured;
+}
 
 -- the frames of one more file
 abbrev pub with_frames : List Frame → ReadSoFar → ReadSoFar
@@ -77,9 +81,14 @@ is_large_after ending captured = is_large_end ending || nat_lt file_limit captur
 
 -- all these files
 abbrev pub read_of : List (List ℕ) → ReadSoFar
-read_of files = record { entries = all_placed 0 files; endings = endings_of files; captured = captured_of files }
+read_of files = record {
+  entries = all_placed 0 files;
+  endings = endings_of files;
+  captured = captured_of files;
+}
 
 -- of the first names' files none is too large, nor are they together
 abbrev pub AreSmallUpTo : (List ℕ → Option (List ℕ)) → List (List ℕ) → ℕ → Type 0
 AreSmallUpTo tell names count =
-    (n : ℕ) → n ≤ count → IfSome (files_of tell (take n names)) (λ files. are_too_large files ≡ false)
+    (n : ℕ) → n ≤ count → IfSome (files_of tell (take n names)) (λ files.
+    are_too_large files ≡ false)

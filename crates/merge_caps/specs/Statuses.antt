@@ -41,7 +41,8 @@ written_status None true = Damaged
 written_status None false = Done
 
 -- the file of the merged frames was written, up to the first that doesn't fit, and nothing else
-pub record IsWritten (format : Format) (files : List (List ℕ)) (answer : MergeStatus) (old new : Option (List ℕ)) : Type 0 where
+pub record IsWritten (format : Format) (files : List (List ℕ)) (answer : MergeStatus)
+    (old new : Option (List ℕ)) : Type 0 where
   pub merged : List Frame
   pub all : IsMerged files merged
   pub wrote : Appends old new (file_of format merged)
@@ -49,7 +50,8 @@ pub record IsWritten (format : Format) (files : List (List ℕ)) (answer : Merge
 
 -- a front of that file was written, and nothing else
 abbrev pub WrotePart : Format → List (List ℕ) → Option (List ℕ) → Option (List ℕ) → Type 0
-WrotePart format files old new = (merged : List Frame) × IsMerged files merged × AppendsPart old new (file_of format merged)
+WrotePart format files old new =
+    (merged : List Frame) × IsMerged files merged × AppendsPart old new (file_of format merged)
 
 -- the status of words that are refused, unless there is no memory
 abbrev pub IsRefused : MergeStatus → Type 0

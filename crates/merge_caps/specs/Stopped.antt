@@ -17,7 +17,8 @@ pub record Seen : Type 0 where
 
 -- a cause, at this place among the names
 abbrev pub IsCause : Cause → List (List ℕ) → ℕ → Seen → Seen → Type 0
-IsCause cause.CannotOpen names place old new = IsUnopened names place old.missed new.missed old.begun new.begun new.refused new.asked
+IsCause cause.CannotOpen names place old new =
+    IsUnopened names place old.missed new.missed old.begun new.begun new.refused new.asked
 IsCause cause.ReadFault names place old new =
     IsUnread names place old.faults new.faults old.begun new.begun old.missed new.missed new.asked
 IsCause cause.TooLarge names place old new = IsLargeAt old.tell names place

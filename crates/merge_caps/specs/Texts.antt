@@ -33,27 +33,36 @@ damage_line name ending.TooLarge = []
 abbrev pub damage_lines : List (List ℕ) → List Ending → List ℕ
 damage_lines [] endings = []
 damage_lines (name ∷ names) [] = []
-damage_lines (name ∷ names) (ending ∷ endings) = damage_line name ending ++ damage_lines names endings
+damage_lines (name ∷ names) (ending ∷ endings) =
+    damage_line name ending ++ damage_lines names endings
 
 -- how the files of these names end
-pub record AreEndings (tell : List ℕ → Option (List ℕ)) (names : List (List ℕ)) (endings : List Ending) : Type 0 where
+pub record AreEndings (tell : List ℕ → Option (List ℕ)) (names : List (List ℕ))
+    (endings : List Ending) : Type 0 where
   pub count : length endings ≡ length names
   pub told : IfSome (files_of tell names) (λ files. endings ≡ endings_of files)
 
 -- the lines of the damaged ones among these files
 abbrev pub IsDamageText : Wanted → (List ℕ → Option (List ℕ)) → List ℕ → Type 0
-IsDamageText wanted tell text = (endings : List Ending) × AreEndings tell wanted.names endings × (text ≡ damage_lines wanted.names endings)
+IsDamageText wanted tell text =
+    (endings : List Ending) × AreEndings tell wanted.names endings
+    × (text ≡ damage_lines wanted.names endings)
 
 -- the first of the merged frames that doesn't fit has this number
 abbrev pub IsUnfitAt : Format → List (List ℕ) → ℕ → Type 0
-IsUnfitAt format files number = (merged : List Frame) × IsMerged files merged × (first_unfit format merged ≡ Some number)
+IsUnfitAt format files number =
+    (merged : List Frame) × IsMerged files merged × (first_unfit format merged ≡ Some number)
 
 abbrev pub IsUnfitText : Wanted → (List ℕ → Option (List ℕ)) → List ℕ → Type 0
-IsUnfitText wanted tell text = (number : ℕ) × IfSome (files_of tell wanted.names) (λ files. IsUnfitAt wanted.format files number)
-    × ((lines : List ℕ) × IsDamageText wanted tell lines × (text ≡ lines ++ cannot_write_text number))
+IsUnfitText wanted tell text =
+    (number : ℕ) × IfSome (files_of tell wanted.names) (λ files.
+    IsUnfitAt wanted.format files number)
+    × ((lines : List ℕ) × IsDamageText wanted tell lines
+    × (text ≡ lines ++ cannot_write_text number))
 
 -- the text of a status, where the name asked for last is given
-abbrev pub IsStatusText : Wanted → (List ℕ → Option (List ℕ)) → List ℕ → MergeStatus → List ℕ → Type 0
+abbrev pub IsStatusText : Wanted → (List ℕ → Option (List ℕ)) → List ℕ → MergeStatus → List ℕ
+    → Type 0
 IsStatusText wanted tell asked Done text = text ≡ []
 IsStatusText wanted tell asked BadWords text = ⊥
 IsStatusText wanted tell asked CannotOpen text = text ≡ cannot_open_text asked
@@ -71,15 +80,22 @@ IsRefusalText fault NoMemory text = text ≡ []
 IsRefusalText fault answer text = ⊥
 
 -- standard error got a front of the text, and nothing else
-unfoldable pub Told : Wanted → (List ℕ → Option (List ℕ)) → List ℕ → MergeStatus → Option (List ℕ) → Option (List ℕ) → Type 0
-Told wanted tell asked answer old new = (text : List ℕ) × IsStatusText wanted tell asked answer text × AppendsPart old new text
+unfoldable pub Told : Wanted → (List ℕ → Option (List ℕ)) → List ℕ → MergeStatus → Option (List ℕ)
+    → Option (List ℕ) → Type 0
+Told wanted tell asked answer old new =
+    (text : List ℕ) × IsStatusText wanted tell asked answer text × AppendsPart old new text
 
 unfoldable pub ToldRefusal : WordFault → MergeStatus → Option (List ℕ) → Option (List ℕ) → Type 0
-ToldRefusal fault answer old new = (text : List ℕ) × IsRefusalText fault answer text × AppendsPart old new text
+ToldRefusal fault answer old new =
+    (text : List ℕ) × IsRefusalText fault answer text × AppendsPart old new text
 
 -- standard error got the text, and nothing else
-unfoldable pub ToldWhole : Wanted → (List ℕ → Option (List ℕ)) → List ℕ → MergeStatus → Option (List ℕ) → Option (List ℕ) → Type 0
-ToldWhole wanted tell asked answer old new = (text : List ℕ) × IsStatusText wanted tell asked answer text × Appends old new text
+unfoldable pub ToldWhole : Wanted → (List ℕ → Option (List ℕ)) → List ℕ → MergeStatus
+    → Option (List ℕ) → Option (List ℕ) → Type 0
+ToldWhole wanted tell asked answer old new =
+    (text : List ℕ) × IsStatusText wanted tell asked answer text × Appends old new text
 
-unfoldable pub ToldRefusalWhole : WordFault → MergeStatus → Option (List ℕ) → Option (List ℕ) → Type 0
-ToldRefusalWhole fault answer old new = (text : List ℕ) × IsRefusalText fault answer text × Appends old new text
+unfoldable pub ToldRefusalWhole : WordFault → MergeStatus → Option (List ℕ) → Option (List ℕ)
+    → Type 0
+ToldRefusalWhole fault answer old new =
+    (text : List ℕ) × IsRefusalText fault answer text × Appends old new text

@@ -27,9 +27,11 @@ unfit_in (Ok unfit) = unfit
 unfit_in (Err fault) = None
 
 -- the text of what was written, or no text where there was no memory for it
-abbrev pub IsWrittenText : List (List ℕ) → List Ending → Result (Option ℕ) SinkFault → MergeStatus → List ℕ → Type 0
+abbrev pub IsWrittenText : List (List ℕ) → List Ending → Result (Option ℕ) SinkFault → MergeStatus
+    → List ℕ → Type 0
 IsWrittenText names endings written answer text =
-    ((answer ≡ status_by written (are_damaged endings)) × (text ≡ damage_lines names endings ++ unfit_text (unfit_in written)))
+    ((answer ≡ status_by written (are_damaged endings))
+    × (text ≡ damage_lines names endings ++ unfit_text (unfit_in written)))
     ⊎ ((answer ≡ NoMemory) × (text ≡ []))
 
 -- the status of a reading that stopped
@@ -48,4 +50,5 @@ cause_text cause.NoMemory name = []
 
 abbrev pub IsStoppedText : Cause → List ℕ → MergeStatus → List ℕ → Type 0
 IsStoppedText cause name answer text =
-    ((answer ≡ cause_status cause) × (text ≡ cause_text cause name)) ⊎ ((answer ≡ NoMemory) × (text ≡ []))
+    ((answer ≡ cause_status cause) × (text ≡ cause_text cause name)) ⊎ ((answer ≡ NoMemory)
+    × (text ≡ []))

@@ -11,7 +11,8 @@ use Rattle.merge_caps.specs.Merged.{IsInOrder, frames_of}
 -- the frames up to the first that doesn't fit behind those before it
 abbrev pub fitting_from : Kept → List Frame → List Frame
 fitting_from kept [] = []
-fitting_from kept (frame ∷ frames) = if fits_at kept frame then frame ∷ fitting_from (kept_with kept frame) frames else []
+fitting_from kept (frame ∷ frames) =
+    if fits_at kept frame then frame ∷ fitting_from (kept_with kept frame) frames else []
 
 unfoldable pub fitting : Format → List Frame → List Frame
 fitting format frames = fitting_from (nothing_kept format) frames
@@ -19,7 +20,9 @@ fitting format frames = fitting_from (nothing_kept format) frames
 -- the place of the first that doesn't fit, where the first frame has this number
 abbrev pub unfit_from : ℕ → Kept → List Frame → Option ℕ
 unfit_from number kept [] = None
-unfit_from number kept (frame ∷ frames) = if fits_at kept frame then unfit_from (suc number) (kept_with kept frame) frames else Some number
+unfit_from number kept (frame ∷ frames) =
+    if fits_at kept frame then unfit_from (suc number) (kept_with kept frame) frames
+    else Some number
 
 -- its number, counted from 1
 unfoldable pub first_unfit : Format → List Frame → Option ℕ
@@ -33,7 +36,8 @@ file_of format frames = written format (fitting format frames)
 abbrev pub written_from : Kept → List Frame → List ℕ
 written_from kept [] = end_at kept
 written_from kept (frame ∷ frames) =
-    if fits_at kept frame then piece_at kept frame ++ written_from (kept_with kept frame) frames else end_at kept
+    if fits_at kept frame then piece_at kept frame ++ written_from (kept_with kept frame) frames
+    else end_at kept
 
 -- the bytes that one frame brings
 abbrev pub piece_if : Kept → Frame → List ℕ
@@ -41,11 +45,14 @@ piece_if kept frame = if fits_at kept frame then piece_at kept frame else []
 
 -- a frame that fits was written, or nothing
 abbrev pub Steps : Bool → Kept → Kept → Frame → Option (List ℕ) → Option (List ℕ) → Type 0
-Steps true old new frame before now = (fits_at old frame ≡ true) × (new ≡ kept_with old frame) × Appends before now (piece_at old frame)
+Steps true old new frame before now =
+    (fits_at old frame ≡ true) × (new ≡ kept_with old frame)
+    × Appends before now (piece_at old frame)
 Steps false old new frame before now = (fits_at old frame ≡ false) × (new ≡ old) × (now ≡ before)
 
 -- the file of frames in the order of their places was written, up to the first that doesn't fit
-pub record IsWrittenOf (format : Format) (entries : List Entry) (unfit : Option ℕ) (old new : Option (List ℕ)) : Type 0 where
+pub record IsWrittenOf (format : Format) (entries : List Entry) (unfit : Option ℕ)
+    (old new : Option (List ℕ)) : Type 0 where
   pub order : List Entry
   pub ordered : IsInOrder entries order
   pub wrote : Appends old new (file_of format (frames_of order))
@@ -53,4 +60,6 @@ pub record IsWrittenOf (format : Format) (entries : List Entry) (unfit : Option 
 
 -- a front of it was written
 abbrev pub IsPartOf : Format → List Entry → Option (List ℕ) → Option (List ℕ) → Type 0
-IsPartOf format entries old new = (order : List Entry) × IsInOrder entries order × AppendsPart old new (file_of format (frames_of order))
+IsPartOf format entries old new =
+    (order : List Entry) × IsInOrder entries order
+    × AppendsPart old new (file_of format (frames_of order))

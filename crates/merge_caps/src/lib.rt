@@ -1,6 +1,7 @@
 //! Merges capture files: their frames in the order of their times, as one capture file.
 #![tactic(auto)]
 
+mod laws;
 mod order;
 mod place;
 mod read_file;
@@ -14,5 +15,6 @@ mod top;
 mod words;
 mod write;
 
+pub use laws::merged_frames_are_unique;
 pub use status::MergeStatus;
 pub use top::merge;

@@ -118,6 +118,94 @@ const DAMAGED: [File; 3] = [
     },
 ];
 
+/// Files of both formats, one without frames, and times that fall.
+const MIXED: [File; 3] = [
+    File {
+        name: "x",
+        format: Format::Pcap,
+        rows: &[(Some(9), 1), (Some(8), 2), (Some(1), 3)],
+        cut: 0,
+    },
+    File {
+        name: "y",
+        format: Format::Pcapng,
+        rows: &[(Some(8), 4), (Some(1), 5)],
+        cut: 0,
+    },
+    File {
+        name: "e",
+        format: Format::Pcap,
+        rows: &[],
+        cut: 0,
+    },
+];
+
+/// Frames of the same time in each file.
+const EQUAL: [File; 3] = [
+    File {
+        name: "x",
+        format: Format::Pcap,
+        rows: &[(Some(1), 1), (Some(1), 2)],
+        cut: 0,
+    },
+    File {
+        name: "y",
+        format: Format::Pcapng,
+        rows: &[(Some(1), 3)],
+        cut: 0,
+    },
+    File {
+        name: "z",
+        format: Format::Pcap,
+        rows: &[(Some(1), 4), (Some(1), 5)],
+        cut: 0,
+    },
+];
+
+/// Frames without a time before all that have one, and behind one.
+const UNTIMED: [File; 3] = [
+    File {
+        name: "x",
+        format: Format::Pcapng,
+        rows: &[(None, 1), (None, 2)],
+        cut: 0,
+    },
+    File {
+        name: "y",
+        format: Format::Pcapng,
+        rows: &[(None, 3), (Some(0), 4)],
+        cut: 0,
+    },
+    File {
+        name: "z",
+        format: Format::Pcapng,
+        rows: &[(Some(1), 5), (None, 6), (Some(3), 7)],
+        cut: 0,
+    },
+];
+
+/// Files that are cut in their header, in a record's head, and behind a frame without a time.
+const BROKEN: [File; 3] = [
+    File {
+        name: "h",
+        format: Format::Pcap,
+        rows: &[],
+        cut: 14,
+    },
+    File {
+        name: "r",
+        format: Format::Pcap,
+        rows: &[(Some(5), 1), (Some(6), 2)],
+        cut: 10,
+    },
+    File {
+        name: "b",
+        format: Format::Pcapng,
+        rows: &[(None, 3), (Some(2), 4)],
+        cut: 2,
+    },
+];
+
 /// What comes of words over files: the status, what standard error is told, and the frames of what is written.
 struct Merge {
     files: &'static [File],
@@ -142,7 +230,7 @@ const PLAIN: Merge = Merge {
 
 const SIXTEEN: [&str; 16] = ["x"; 16];
 
-static MERGES: [Merge; 16] = [
+static MERGES: [Merge; 39] = [
     PLAIN,
     // Equal times stand in the order of the words.
     Merge {
@@ -254,6 +342,216 @@ static MERGES: [Merge; 16] = [
         status: MergeStatus::Damaged,
         err: "shark: y damaged at byte 0: B1 ShortHeader\n",
         rows: &[],
+        ..PLAIN
+    },
+    // Times that fall within a file, in files of both formats.
+    Merge {
+        files: &MIXED,
+        rows: &[
+            (Some(1), 3),
+            (Some(1), 5),
+            (Some(8), 2),
+            (Some(8), 4),
+            (Some(9), 1),
+        ],
+        ..PLAIN
+    },
+    Merge {
+        files: &MIXED,
+        words: &["y", "x"],
+        rows: &[
+            (Some(1), 5),
+            (Some(1), 3),
+            (Some(8), 4),
+            (Some(8), 2),
+            (Some(9), 1),
+        ],
+        ..PLAIN
+    },
+    Merge {
+        files: &MIXED,
+        words: &["x", "-Fpcap", "y"],
+        rows: &[
+            (Some(1), 3),
+            (Some(1), 5),
+            (Some(8), 2),
+            (Some(8), 4),
+            (Some(9), 1),
+        ],
+        ..PLAIN
+    },
+    Merge {
+        files: &MIXED,
+        words: &["-F", "pcapng", "y"],
+        rows: &[(Some(1), 5), (Some(8), 4)],
+        ..PLAIN
+    },
+    // A file without frames, alone, twice, and among others.
+    Merge {
+        files: &MIXED,
+        words: &["e"],
+        rows: &[],
+        ..PLAIN
+    },
+    Merge {
+        files: &MIXED,
+        words: &["e", "-Fpcap", "e"],
+        rows: &[],
+        ..PLAIN
+    },
+    Merge {
+        files: &MIXED,
+        words: &["e", "x", "e"],
+        rows: &[(Some(1), 3), (Some(8), 2), (Some(9), 1)],
+        ..PLAIN
+    },
+    // Equal times stand by the file, and within a file by the frame.
+    Merge {
+        files: &EQUAL,
+        words: &["x", "y", "z"],
+        rows: &[
+            (Some(1), 1),
+            (Some(1), 2),
+            (Some(1), 3),
+            (Some(1), 4),
+            (Some(1), 5),
+        ],
+        ..PLAIN
+    },
+    Merge {
+        files: &EQUAL,
+        words: &["z", "y", "x"],
+        rows: &[
+            (Some(1), 4),
+            (Some(1), 5),
+            (Some(1), 3),
+            (Some(1), 1),
+            (Some(1), 2),
+        ],
+        ..PLAIN
+    },
+    Merge {
+        files: &EQUAL,
+        words: &["x", "y", "x"],
+        rows: &[
+            (Some(1), 1),
+            (Some(1), 2),
+            (Some(1), 3),
+            (Some(1), 1),
+            (Some(1), 2),
+        ],
+        ..PLAIN
+    },
+    Merge {
+        files: &EQUAL,
+        words: &["-Fpcap", "y", "y", "z"],
+        rows: &[(Some(1), 3), (Some(1), 3), (Some(1), 4), (Some(1), 5)],
+        ..PLAIN
+    },
+    // Frames without a time.
+    Merge {
+        files: &UNTIMED,
+        words: &["x", "y"],
+        rows: &[(None, 1), (None, 2), (None, 3), (Some(0), 4)],
+        ..PLAIN
+    },
+    Merge {
+        files: &UNTIMED,
+        words: &["z", "y", "x"],
+        rows: &[
+            (None, 3),
+            (None, 1),
+            (None, 2),
+            (Some(0), 4),
+            (Some(1), 5),
+            (None, 6),
+            (Some(3), 7),
+        ],
+        ..PLAIN
+    },
+    Merge {
+        files: &UNTIMED,
+        words: &["z"],
+        rows: &[(Some(1), 5), (None, 6), (Some(3), 7)],
+        ..PLAIN
+    },
+    Merge {
+        files: &UNTIMED,
+        words: &["z", "-Fpcap"],
+        status: MergeStatus::CannotWrite,
+        err: "shark: cannot write frame 2\n",
+        rows: &[(Some(1), 5)],
+        ..PLAIN
+    },
+    Merge {
+        files: &UNTIMED,
+        words: &["-Fpcap", "x"],
+        status: MergeStatus::CannotWrite,
+        err: "shark: cannot write frame 1\n",
+        rows: &[],
+        ..PLAIN
+    },
+    // Damage in a header and in the head of a record.
+    Merge {
+        files: &BROKEN,
+        words: &["h", "r"],
+        status: MergeStatus::Damaged,
+        err: "shark: h damaged at byte 0: B1 ShortHeader\n\
+              shark: r damaged at byte 41: B4 RecordCut\n",
+        rows: &[(Some(5), 1)],
+        ..PLAIN
+    },
+    Merge {
+        files: &BROKEN,
+        words: &["b", "r", "b"],
+        status: MergeStatus::Damaged,
+        err: "shark: b damaged at byte 80: B7 BlockCut\n\
+              shark: r damaged at byte 41: B4 RecordCut\n\
+              shark: b damaged at byte 80: B7 BlockCut\n",
+        rows: &[(None, 3), (None, 3), (Some(5), 1)],
+        ..PLAIN
+    },
+    // Damage is told before a frame that doesn't fit.
+    Merge {
+        files: &BROKEN,
+        words: &["r", "-Fpcap", "b"],
+        status: MergeStatus::CannotWrite,
+        err: "shark: r damaged at byte 41: B4 RecordCut\n\
+              shark: b damaged at byte 80: B7 BlockCut\n\
+              shark: cannot write frame 1\n",
+        rows: &[],
+        ..PLAIN
+    },
+    // Damage isn't told where not all files are read.
+    Merge {
+        files: &DAMAGED,
+        words: &["y", "x"],
+        failing: &[3],
+        status: MergeStatus::CannotOpen,
+        err: "shark: cannot open x\n",
+        rows: &[],
+        ..PLAIN
+    },
+    Merge {
+        files: &DAMAGED,
+        words: &["y", "x"],
+        failing: &[4],
+        status: MergeStatus::ReadFault,
+        err: "shark: read fault\n",
+        rows: &[],
+        ..PLAIN
+    },
+    // The first write, and one behind three frames.
+    Merge {
+        writes: &[1],
+        status: MergeStatus::WriteFault,
+        rows: &[],
+        ..PLAIN
+    },
+    Merge {
+        writes: &[4],
+        status: MergeStatus::WriteFault,
+        rows: &[(Some(0), 1), (Some(1), 3), (Some(2), 2)],
         ..PLAIN
     },
     Merge {

@@ -118,16 +118,19 @@ pub fn merge<C: Capture, O: Sink, E: Sink>(
     ensures nothing { WhenUnread result (out.new ≡ out.old) }
 
     // The causes of the other answers.
-    ensures unopened { result ≡ MergeStatus.CannotOpen → IfOk (wanted_of (texts words.now)) (λ wanted. (place : ℕ)
+    ensures unopened { result ≡ MergeStatus.CannotOpen
+        → IfOk (wanted_of (texts words.now)) (λ wanted. (place : ℕ)
         × AreSmallUpTo (C.file capture.old) wanted.names place
         × IsUnopened wanted.names place (C.missed capture.old) (C.missed capture.new)
         (C.begun capture.old) (C.begun capture.new) (C.refused capture.new) (C.asked capture.new)) }
-    ensures unread { result ≡ MergeStatus.ReadFault → IfOk (wanted_of (texts words.now)) (λ wanted. (place : ℕ)
+    ensures unread { result ≡ MergeStatus.ReadFault
+        → IfOk (wanted_of (texts words.now)) (λ wanted. (place : ℕ)
         × AreSmallUpTo (C.file capture.old) wanted.names place
         × IsUnread wanted.names place (C.faults capture.old) (C.faults capture.new)
         (C.begun capture.old) (C.begun capture.new) (C.missed capture.old) (C.missed capture.new)
         (C.asked capture.new)) }
-    ensures large { result ≡ MergeStatus.TooLarge → IfOk (wanted_of (texts words.now)) (λ wanted. (place : ℕ)
+    ensures large { result ≡ MergeStatus.TooLarge
+        → IfOk (wanted_of (texts words.now)) (λ wanted. (place : ℕ)
         × (place < length wanted.names) × IsLargeAt (C.file capture.old) wanted.names place) }
     ensures small { WhenRead result (IfOk (wanted_of (texts words.now)) (λ wanted.
         AreSmallUpTo (C.file capture.old) wanted.names (length wanted.names))) }

@@ -3,12 +3,12 @@ ghost use Rattle.std.specs.Prelude.{◌≡◌, ◌<◌, ◌-◌, ◌^◌};
 ghost use Rattle.shark_words.specs.Words.{texts};
 ghost use Rattle.shark_words.specs.Faults.{fault as fault_at};
 ghost use Rattle.shark_words.specs.declared.fault.WordsError.TheVariants as error;
-ghost use Rattle.merge_caps.specs.Words.{Hears, Wants, format_named, heard as heard_of, wanted_at_end, wanted_of, with_format, with_letters, with_name, with_option, with_rest, with_use, with_word};
+ghost use Rattle.merge_caps.specs.Words.{Hears, Wants, heard as heard_of, wanted_at_end, wanted_of, with_format, with_letters, with_name, with_option, with_rest, with_use, with_word};
 
 use capture_write::Format;
 use pk_base::NoMemory;
 use run_texts::Text;
-use shark_words::{WordFault, WordReason, WordsError};
+use shark_words::{WordFault, WordReason, WordsError, read_format};
 use std::alloc::Global;
 
 /// The files that are merged at most.
@@ -36,18 +36,6 @@ fn word_fault(word: u64, reason: WordReason) -> WordsError
     ensures { result ≡ error.Fault (fault_at word reason) }
 {
     WordsError::Fault(WordFault { word, reason })
-}
-
-fn read_format(text: &[u8]) -> Option<Format>
-    ensures { result ≡ format_named text.now }
-{
-    if text == b"pcap".as_slice() {
-        Some(Format::Pcap)
-    } else if text == b"pcapng".as_slice() {
-        Some(Format::Pcapng)
-    } else {
-        None
-    }
 }
 
 // Takes the value of `-F`, in the word of this number.
@@ -87,7 +75,8 @@ fn take_option(word: u64, heard: &mut Heard, rest: &[u8]) -> Result<(), WordsErr
 
 // Takes a word that begins with `-`, by its letters.
 fn take_letters(word: u64, heard: &mut Heard, letters: &[u8]) -> Result<(), WordsError>
-    ensures { Hears result (heard_of heard.new) (with_letters word (heard_of heard.old) letters.now) }
+    ensures { Hears result (heard_of heard.new)
+        (with_letters word (heard_of heard.old) letters.now) }
 {
     match letters {
         [] => Err(word_fault(word, WordReason::StrayWord)),

@@ -42,7 +42,8 @@ fn write_each<O: Sink>(
     ensures whole { OnOk result ((done : List ℕ)
         × Appends (O.written out.old) (O.written out.new) done
         × (done ++ end_at writer.new ≡ written_from writer.old (map frame_of entries.now))) }
-    ensures unfit { IfOk result (λ unfit. unfit ≡ unfit_from 1 writer.old (map frame_of entries.now)) }
+    ensures unfit { IfOk result (λ unfit.
+        unfit ≡ unfit_from 1 writer.old (map frame_of entries.now)) }
     ensures part { AppendsPart (O.written out.old) (O.written out.new)
         (written_from writer.old (map frame_of entries.now)) }
     ensures fault { IsErrOf result SinkFault.Failed → Rose (O.faults out.old) (O.faults out.new) }

@@ -5,7 +5,7 @@ use Rattle.pk_base.specs.declared.found.Reason.TheVariants.{ShortHeader, Unknown
 use Rattle.pk_text.specs.Escape.{escaped}
 use Rattle.shark_words.specs.declared.fault.WordFault.{WordFault}
 use Rattle.shark_words.specs.declared.fault.WordReason.{WordReason}
-use Rattle.shark_words.specs.declared.fault.WordReason.TheVariants.{UnknownOption, MissingValue, StrayWord, NoFile, Repeated, BadValue, NoFields, Unused}
+use Rattle.shark_words.specs.declared.fault.WordReason.TheVariants.{UnknownOption, MissingValue, StrayWord, NoFile, Repeated, BadValue, NoFields, Unused, Clash}
 
 -- the code and name of a reason why a file is damaged
 abbrev pub reason_text : Reason → List ℕ
@@ -30,11 +30,13 @@ word_reason_text Repeated = codes "A5 Repeated"
 word_reason_text BadValue = codes "A6 BadValue"
 word_reason_text NoFields = codes "A7 NoFields"
 word_reason_text Unused = codes "A8 Unused"
+word_reason_text Clash = codes "A9 Clash"
 
 -- what is told of a fault of the words
 unfoldable pub word_fault_text : WordFault → List ℕ
 word_fault_text fault =
-    codes "shark: word " ++ (decimal fault.word ++ (codes ": " ++ (word_reason_text fault.reason ++ codes "\n")))
+    codes "shark: word " ++ (decimal fault.word
+    ++ (codes ": " ++ (word_reason_text fault.reason ++ codes "\n")))
 
 -- what is told of a file that can't be opened, and of a frame that doesn't fit into the file that is written
 unfoldable pub cannot_open_text : List ℕ → List ℕ

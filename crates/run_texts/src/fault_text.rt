@@ -54,6 +54,7 @@ pub fn word_reason_text(reason: WordReason) -> &'static str
         WordReason::BadValue => "A6 BadValue",
         WordReason::NoFields => "A7 NoFields",
         WordReason::Unused => "A8 Unused",
+        WordReason::Clash => "A9 Clash",
     }
 }
 

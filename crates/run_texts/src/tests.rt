@@ -19,7 +19,7 @@ const REASONS: [(Reason, &str); 10] = [
     (Reason::BadResolution, "B10 BadResolution"),
 ];
 
-const WORDS: [(u64, WordReason, &str); 8] = [
+const WORDS: [(u64, WordReason, &str); 9] = [
     (
         1,
         WordReason::UnknownOption,
@@ -40,6 +40,7 @@ const WORDS: [(u64, WordReason, &str); 8] = [
         WordReason::Unused,
         "shark: word 18446744073709551615: A8 Unused\n",
     ),
+    (11, WordReason::Clash, "shark: word 11: A9 Clash\n"),
 ];
 
 const NAMES: [(&str, &str); 3] = [

@@ -1,8 +1,8 @@
 // The text of `--help`.
 use pk_outside::{Sink, SinkFault, write_whole};
 
-/// The options, a line each: behind the dash stands the letter.
-pub(crate) static OPTIONS: [&str; 7] = [
+/// The options, a line each: behind the dash stands the letter, or a long name.
+pub(crate) static OPTIONS: [&str; 10] = [
     "-r FILE      the capture file, pcap or pcapng",
     "-Y FILTER    show only the frames that satisfy this filter; without it all are shown",
     "-c N         read at most N frames, 1 to 4294967295",
@@ -10,12 +10,17 @@ pub(crate) static OPTIONS: [&str; 7] = [
     "-e FIELD     with -T fields a column, again and again: any field or protocol",
     "-E KEY=V     with -T fields: header=y, separator=, aggregator=, occurrence=f or l, quote=d or s",
     "-q           no header line and no lines of frames",
+    "-w -         the frames as a capture file on standard output, in place of lines",
+    "-F FORMAT    with -w the format of that file: pcapng, which is the default, or pcap, with times in nanoseconds",
+    "--self-run NUMBER,FRAMES    in place of -r a capture made from a number, 1 to 200000 frames; one line sums it up",
 ];
 
 const HEAD: &str = "\
 shark reads a capture file and prints a line for each frame that satisfies a display filter.
 
 Usage: shark -r FILE [-Y FILTER] [-c N] [-q] [-T text | -T json | -T fields -e FIELD... [-E KEY=V]...]
+       shark -r FILE [-Y FILTER] [-c N] -w - [-F pcap | -F pcapng]
+       shark --self-run NUMBER,FRAMES [-Y FILTER] [-c N]
 
 ";
 
@@ -31,10 +36,11 @@ For example: ip.addr == 10.0.0.0/8 and not udp.port in {53, 5353}
   shark -r web.pcap -Y dns -T fields -e dns.qry.name
   shark -r web.pcap -T fields -E header=y -E separator=, -E quote=d -e frame.number -e ip.src
   shark -r web.pcap -Y tcp -T json | jq .layers
+  shark -r web.pcap -Y dns -w - -F pcap > dns.pcap
 
 The exit status is 0 where the whole file was read and the whole output written, and else says what went wrong:
 1 bad words, 2 bad filter, 3 unknown field, 4 can't open, 5 read fault, 6 damaged file, 7 file too large, 8 write fault,
-9 no memory. A line on standard error says more.
+9 no memory, 10 a frame that doesn't fit into the file that is written. A line on standard error says more.
 ";
 
 /// Writes the text.

@@ -13,6 +13,8 @@ const HELP: &str = "\
 shark reads a capture file and prints a line for each frame that satisfies a display filter.
 
 Usage: shark -r FILE [-Y FILTER] [-c N] [-q] [-T text | -T json | -T fields -e FIELD... [-E KEY=V]...]
+       shark -r FILE [-Y FILTER] [-c N] -w - [-F pcap | -F pcapng]
+       shark --self-run NUMBER,FRAMES [-Y FILTER] [-c N]
 
   -r FILE      the capture file, pcap or pcapng
   -Y FILTER    show only the frames that satisfy this filter; without it all are shown
@@ -21,6 +23,9 @@ Usage: shark -r FILE [-Y FILTER] [-c N] [-q] [-T text | -T json | -T fields -e F
   -e FIELD     with -T fields a column, again and again: any field or protocol
   -E KEY=V     with -T fields: header=y, separator=, aggregator=, occurrence=f or l, quote=d or s
   -q           no header line and no lines of frames
+  -w -         the frames as a capture file on standard output, in place of lines
+  -F FORMAT    with -w the format of that file: pcapng, which is the default, or pcap, with times in nanoseconds
+  --self-run NUMBER,FRAMES    in place of -r a capture made from a number, 1 to 200000 frames; one line sums it up
 
   --help       this text, where it is the only word
   --version    the version, where it is the only word
@@ -33,10 +38,11 @@ For example: ip.addr == 10.0.0.0/8 and not udp.port in {53, 5353}
   shark -r web.pcap -Y dns -T fields -e dns.qry.name
   shark -r web.pcap -T fields -E header=y -E separator=, -E quote=d -e frame.number -e ip.src
   shark -r web.pcap -Y tcp -T json | jq .layers
+  shark -r web.pcap -Y dns -w - -F pcap > dns.pcap
 
 The exit status is 0 where the whole file was read and the whole output written, and else says what went wrong:
 1 bad words, 2 bad filter, 3 unknown field, 4 can't open, 5 read fault, 6 damaged file, 7 file too large, 8 write fault,
-9 no memory. A line on standard error says more.
+9 no memory, 10 a frame that doesn't fit into the file that is written. A line on standard error says more.
 ";
 
 /// Words, and what the program answers by itself: its text, or nothing where it goes on to its run.
@@ -113,12 +119,9 @@ fn words_that_are_not_utf8_are_told(rt: HostRuntime) -> Result<(), Fail> {
     Ok(())
 }
 
-// Whether an option of this letter is known, where it is the only word.
-fn is_known(alloc: Global, letter: u8) -> Result<bool, AllocError> {
-    let mut word = String::from_str(alloc, "-")?;
-    word.push(char::from(letter))?;
-    let mut words = Vec::new(alloc);
-    words.push(word)?;
+// Whether an option is known, where it is the only word.
+fn is_known(alloc: Global, word: &str) -> Result<bool, AllocError> {
+    let words = words_of(alloc, &[word])?;
     let unknown = WordsError::Fault(WordFault {
         word: 1,
         reason: WordReason::UnknownOption,
@@ -132,7 +135,14 @@ fn help_lists_the_options_that_are_known(rt: HostRuntime) -> Result<(), Fail> {
         let listed = OPTIONS.iter().any(|option| option
             .as_bytes()
             .starts_with(&[b'-', letter, b' ']));
-        assert_eq!(rt; is_known(rt.alloc(), letter)?, listed, "{letter}");
+        let mut word = String::from_str(rt.alloc(), "-")?;
+        word.push(char::from(letter))?;
+        assert_eq!(rt; is_known(rt.alloc(), word.as_str())?, listed, "{letter}");
+    }
+    for option in &OPTIONS {
+        if let Some((name, _)) = option.split_once(' ') {
+            assert!(rt; is_known(rt.alloc(), name)?, "{name}");
+        }
     }
     Ok(())
 }

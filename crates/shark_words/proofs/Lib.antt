@@ -1,3 +1,5 @@
+mod Commands
 mod Examples
 mod Spelling
+mod SoundLemmas
 mod Utf8Lemmas

@@ -1,15 +1,17 @@
--- Words without a fault are options as they are written, and the values that are looked up are those that were written.
-use Rattle.std.proofs.Common.{◌≡◌, ℕ, ◌+◌, ◌<◌, ◌≤◌, length, map, suc, Bool, true, false, not, ◌||◌, ◌&&◌, ◌==◌, List, [], ◌∷◌, ◌++◌, Option, Some, None, refl, sym, ap, subst, ◌∙◌, arith, eqb-true, eq-eqb, append_assoc, if◌then◌else◌}
-use Rattle.std.specs.Prelude.{nat_lt, option_and_then, option_map, option_to_list, Result, Ok, Err, IfOk}
-use Rattle.std.specs.List.{list_all, list_any}
+-- Words without a fault are options as they are written.
+use Rattle.std.proofs.Common.{◌≡◌, ℕ, ◌+◌, ◌≤◌, length, map, suc, Bool, true, false, not, ◌||◌, ◌&&◌, ◌==◌, List, [], ◌∷◌, ◌++◌, Option, Some, None, refl, sym, ap, subst, ◌∙◌, arith, eqb-true, eq-eqb, if◌then◌else◌}
+use Rattle.std.specs.Prelude.{nat_lt, option_map}
+use Rattle.std.specs.List.{list_all}
 use Rattle.std.specs.Option.{option_or}
+use Rattle.std.specs.Str.{bytes_eq}
 use Rattle.std.proofs.lemmas.Option.{none-some, same_Some}
-use Rattle.std.proofs.lemmas.Bool.{both_ways, and_parts, ltb-true, lt-ltb}
+use Rattle.std.proofs.lemmas.Bool.{both_ways, and_parts, lt-ltb}
 use Rattle.std.specs.Cmp.Derive.{both_true}
 use Rattle.std.proofs.lemmas.Bool.Decides.{nat_tests}
 use Rattle.std.proofs.lemmas.List.Folds.{list_any-append}
+use Rattle.std.proofs.lemmas.Slice.Eq.{bytes_eq-Decides}
 use Rattle.shark_words.specs.declared.letter.Letter.{Letter}
-use Rattle.shark_words.specs.declared.letter.Letter.TheVariants.{Capture, Filter, Kind, Name, Style, Most, Quiet}
+use Rattle.shark_words.specs.declared.letter.Letter.TheVariants.{Capture, Filter, Kind, Name, Style, Most, Quiet, Output, Format, SelfRun}
 use Rattle.shark_words.specs.declared.key.Key.{Key}
 use Rattle.shark_words.specs.declared.key.Key.TheVariants as keys
 use Rattle.shark_words.specs.declared.slot.Slot.{Slot}
@@ -19,39 +21,79 @@ use Rattle.shark_words.specs.declared.uses.Given.{Given}
 use Rattle.shark_words.specs.declared.uses.Use.{Use}
 use Rattle.shark_words.specs.declared.uses.Use.TheVariants as use_
 use Rattle.shark_words.specs.declared.fault.WordFault.{WordFault}
-use Rattle.shark_words.specs.declared.fault.WordReason.TheVariants.{NoFields, Unused}
-use Rattle.shark_words.specs.declared.fault.WordsError.{WordsError}
-use Rattle.shark_words.specs.declared.options.LineKind.{LineKind}
-use Rattle.shark_words.specs.declared.options.LineKind.TheVariants.{Text, Fields, Json}
-use Rattle.shark_words.specs.declared.options.Options.{Options}
-use Rattle.shark_words.specs.declared.options.Source.TheVariants.{Named}
-use Rattle.shark_words.specs.Letters.{letter_of, letter_byte, is_same, has_value}
+use Rattle.shark_words.specs.Letters.{letter_of, letter_byte, is_same, has_letter, has_value}
 use Rattle.shark_words.specs.Keys.{is_same_key, key_number}
 use Rattle.shark_words.specs.Slots.{slot_of, is_slot, is_same_slot}
-use Rattle.shark_words.specs.Values.{is_value, count_of, kind_asked, shown_filter}
-use Rattle.shark_words.specs.Uses.{uses_from, uses_at, option_at, cluster_uses, letter_uses, value_uses, with_value, without_value, is_cluster as is_known, is_known_before}
-use Rattle.shark_words.specs.Faults.{fault, first_fault, fault_of, value_fault, is_given, is_taken, is_use_for, slot_in, text_in}
-use Rattle.shark_words.specs.Asked.{column_word, column_use, is_column, head_of, style_of, value_of, value_text, values_of}
-use Rattle.shark_words.specs.Options.{asked, column_fault, judged, options_by, options_of, unless, Gives}
-use Rattle.shark_words.specs.Spelled.{End, Bare, Together, Apart, Spelled, spelled_words, end_letters, end_words, letters_of, is_end, is_cluster, Written, flag, valued, end_written, written_by, fits, fits_text, text_or_none, one_if, times, values_in, HasColumns, IsCommand, asked_by, IsAsked}
+use Rattle.shark_words.specs.Values.{is_value}
+use Rattle.shark_words.specs.Uses.{uses_from, uses_at, option_at, cluster_uses, letter_uses, value_uses, with_value, without_value, is_cluster as is_known, is_known_before, self_run_name}
+use Rattle.shark_words.specs.Faults.{fault, first_fault, fault_of, value_fault, is_taken, is_use_for, slot_in, text_in}
+use Rattle.shark_words.specs.Spelled.{End, Bare, Together, Apart, Cluster, Spelled, Clustered, Generate, spelled_words, end_letters, end_words, letters_of, is_flag, is_ended_by, is_end, is_cluster, is_spelled, Written, flag, valued, end_written, written_by, fits, fits_text, text_or_none, one_if, times}
 
-letter_of_byte : (letter : Letter) → letter_of (letter_byte letter) ≡ Some letter
-letter_of_byte Capture = refl
-letter_of_byte Filter = refl
-letter_of_byte Kind = refl
-letter_of_byte Name = refl
-letter_of_byte Style = refl
-letter_of_byte Most = refl
-letter_of_byte Quiet = refl
+same_bytes : (one other : List ℕ) → bytes_eq one other ≡ true → one ≡ other
+same_bytes one other h = (bytes_eq-Decides one other).0 h
+
+letter_of_byte : (letter : Letter) → has_letter letter ≡ true → letter_of (letter_byte letter) ≡ Some letter
+letter_of_byte Capture h = refl
+letter_of_byte Filter h = refl
+letter_of_byte Kind h = refl
+letter_of_byte Name h = refl
+letter_of_byte Style h = refl
+letter_of_byte Most h = refl
+letter_of_byte Quiet h = refl
+letter_of_byte Output h = refl
+letter_of_byte Format h = refl
+letter_of_byte SelfRun h = absurd (both_ways false refl h)
 
 byte_of_letter : (b : ℕ) (letter : Letter) → letter_of b ≡ Some letter → b ≡ letter_byte letter
 byte_of_letter b letter h = grind (arith, nat_tests)
 
-same_letter : (one other : Letter) → is_same one other ≡ true → one ≡ other
-same_letter one other h =
-    same_Some one other (sym (letter_of_byte one) ∙ ap letter_of (eqb-true (letter_byte one) (letter_byte other) h) ∙ letter_of_byte other)
+not_so : (b : Bool) → not b ≡ true → b ≡ false
+not_so true h = absurd (both_ways false refl h)
+not_so false h = refl
 
-is_same_itself : (letter : Letter) → is_same letter letter ≡ true
+-- a letter that was read is one
+lettered : (b : ℕ) (letter : Letter) → letter_of b ≡ Some letter → has_letter letter ≡ true
+lettered b letter h = grind (arith, nat_tests)
+
+flag_parts : (letter : Letter) → is_flag letter ≡ true → (letter_of (letter_byte letter) ≡ Some letter) × (has_value letter ≡ false)
+flag_parts letter is =
+    let both = and_parts (has_letter letter) (not (has_value letter)) is in (letter_of_byte letter both.0, not_so (has_value letter) both.1)
+
+end_parts : (letter : Letter) → is_ended_by letter ≡ true → (letter_of (letter_byte letter) ≡ Some letter) × (has_value letter ≡ true)
+end_parts letter is =
+    let both = and_parts (has_letter letter) (has_value letter) is in (letter_of_byte letter both.0, both.1)
+
+letter_at : ℕ → Letter
+letter_at n =
+    if n == 114 then Capture
+    else if n == 89 then Filter
+    else if n == 84 then Kind
+    else if n == 101 then Name
+    else if n == 69 then Style
+    else if n == 99 then Most
+    else if n == 113 then Quiet
+    else if n == 119 then Output
+    else if n == 70 then Format
+    else SelfRun
+
+letter_of_number : (letter : Letter) → letter_at (letter_byte letter) ≡ letter
+unfolding letter_at
+letter_of_number Capture = refl
+letter_of_number Filter = refl
+letter_of_number Kind = refl
+letter_of_number Name = refl
+letter_of_number Style = refl
+letter_of_number Most = refl
+letter_of_number Quiet = refl
+letter_of_number Output = refl
+letter_of_number Format = refl
+letter_of_number SelfRun = refl
+
+pub same_letter : (one other : Letter) → is_same one other ≡ true → one ≡ other
+same_letter one other h =
+    sym (letter_of_number one) ∙ ap letter_at (eqb-true (letter_byte one) (letter_byte other) h) ∙ letter_of_number other
+
+pub is_same_itself : (letter : Letter) → is_same letter letter ≡ true
 is_same_itself letter = eq-eqb (letter_byte letter) (letter_byte letter) refl
 
 key_at : ℕ → Key
@@ -90,10 +132,6 @@ neither (Some fault) other h = absurd (none-some fault (sym h))
 first_of_none : (one other : Option WordFault) → one ≡ None → other ≡ None → option_or one other ≡ None
 first_of_none one other e h = rw e h
 
-not_so : (b : Bool) → not b ≡ true → b ≡ false
-not_so true h = absurd (both_ways false refl h)
-not_so false h = refl
-
 so_not : (b : Bool) → b ≡ false → not b ≡ true
 so_not true h = absurd (both_ways true h refl)
 so_not false h = refl
@@ -102,19 +140,19 @@ so_not false h = refl
 text_of : Option Value → Option (List ℕ)
 text_of value = option_map (λ v. v.text) value
 
-abbrev use_written : Use → List Written
+abbrev pub use_written : Use → List Written
 use_written (use_.Given given) = (record { letter = given.letter; text = option_map (λ (v : Value). v.text) given.value }) ∷ []
 use_written other = []
 
-abbrev all_written : List Use → List Written
+abbrev pub all_written : List Use → List Written
 all_written [] = []
 all_written (used ∷ uses) = use_written used ++ all_written uses
 
-abbrev is_option : Use → Bool
+abbrev pub is_option : Use → Bool
 is_option (use_.Given given) = true
 is_option other = false
 
-abbrev IsWrittenAs : List Use → List Written → Type 0
+abbrev pub IsWrittenAs : List Use → List Written → Type 0
 IsWrittenAs uses all = (list_all is_option uses ≡ true) × (all_written uses ≡ all)
 
 -- the uses of a cluster
@@ -136,27 +174,29 @@ known_value : (b : ℕ) (letter : Letter) (rest : List ℕ) → letter_of b ≡ 
 known_value b letter rest is some = rw is (rw some refl)
 
 abbrev are_flags : List Letter → Bool
-are_flags flags = list_all (λ letter. not (has_value letter)) flags
+are_flags flags = list_all is_flag flags
 
 flags_known : (flags : List Letter) (tail : List ℕ) → are_flags flags ≡ true → is_known (map letter_byte flags ++ tail) ≡ is_known tail
 flags_known [] tail are = refl
 flags_known (letter ∷ flags) tail are =
-    let both = and_parts (not (has_value letter)) (are_flags flags) are in
-    known_letter (letter_byte letter) letter (map letter_byte flags ++ tail) (letter_of_byte letter) (not_so (has_value letter) both.0)
+    let both = and_parts (is_flag letter) (are_flags flags) are in
+    let parts = flag_parts letter both.0 in
+    known_letter (letter_byte letter) letter (map letter_byte flags ++ tail) parts.0 parts.1
     ∙ flags_known flags tail both.1
 
 flags_uses : (word : ℕ) (flags : List Letter) (tail : List ℕ) (behind : Option Letter → List Use) → are_flags flags ≡ true
     → cluster_uses word (map letter_byte flags ++ tail) behind ≡ map (without_value word) flags ++ cluster_uses word tail behind
 flags_uses word [] tail behind are = refl
 flags_uses word (letter ∷ flags) tail behind are =
-    let both = and_parts (not (has_value letter)) (are_flags flags) are in
-    letter_step word (letter_byte letter) letter (map letter_byte flags ++ tail) behind (letter_of_byte letter) (not_so (has_value letter) both.0)
+    let both = and_parts (is_flag letter) (are_flags flags) are in
+    let parts = flag_parts letter both.0 in
+    letter_step word (letter_byte letter) letter (map letter_byte flags ++ tail) behind parts.0 parts.1
     ∙ ap (λ (uses : List Use). without_value word letter ∷ uses) (flags_uses word flags tail behind both.1)
 
 end_known : (end : End) → is_end end ≡ true → is_known (end_letters end) ≡ true
 end_known Bare is = refl
-end_known (Together letter first rest) is = known_value (letter_byte letter) letter (first ∷ rest) (letter_of_byte letter) is
-end_known (Apart letter text) is = known_value (letter_byte letter) letter [] (letter_of_byte letter) is
+end_known (Together letter first rest) is = let parts = end_parts letter is in known_value (letter_byte letter) letter (first ∷ rest) parts.0 parts.1
+end_known (Apart letter text) is = let parts = end_parts letter is in known_value (letter_byte letter) letter [] parts.0 parts.1
 
 -- the uses of a cluster's end, and of the words behind
 abbrev end_uses : ℕ → End → List (List ℕ) → List Use
@@ -169,16 +209,27 @@ end_used : (number : ℕ) (end : End) (words : List (List ℕ)) → is_end end �
 unfolding uses_from
 end_used number Bare words is = refl
 end_used number (Together letter first rest) words is =
-    value_step (suc number) (letter_byte letter) letter (first ∷ rest) (λ waiting. uses_from (suc number) waiting words) (letter_of_byte letter) is
+    let parts = end_parts letter is in
+    value_step (suc number) (letter_byte letter) letter (first ∷ rest) (λ waiting. uses_from (suc number) waiting words) parts.0 parts.1
 end_used number (Apart letter text) words is =
-    value_step (suc number) (letter_byte letter) letter [] (λ waiting. uses_from (suc number) waiting (text ∷ words)) (letter_of_byte letter) is
+    let parts = end_parts letter is in
+    value_step (suc number) (letter_byte letter) letter [] (λ waiting. uses_from (suc number) waiting (text ∷ words)) parts.0 parts.1
+
+-- letters that are known are not those of `--self-run`
+self_unknown : is_known self_run_name ≡ false
+self_unknown = refl
+
+no_self_run : (letters : List ℕ) (self : Bool) → bytes_eq letters self_run_name ≡ self → is_known letters ≡ true → self ≡ false
+no_self_run letters false is known = refl
+no_self_run letters true is known =
+    absurd (both_ways (is_known letters) (ap is_known (same_bytes letters self_run_name is) ∙ self_unknown) known)
 
 dashed_uses : (word : ℕ) (letters : List ℕ) (behind : Option Letter → List Use) → nat_lt 0 (length letters) ≡ true → is_known letters ≡ true
     → uses_at word (45 ∷ letters) behind ≡ cluster_uses word letters behind
 dashed_uses word [] behind some known = absurd (both_ways false refl some)
-dashed_uses word (b ∷ rest) behind some known = rw known refl
+dashed_uses word (b ∷ rest) behind some known = rw (no_self_run (b ∷ rest) (bytes_eq (b ∷ rest) self_run_name) refl known) (rw known refl)
 
-cluster_used : (number : ℕ) (one : Spelled) (words : List (List ℕ)) → is_cluster one ≡ true
+cluster_used : (number : ℕ) (one : Cluster) (words : List (List ℕ)) → is_cluster one ≡ true
     → uses_from number None ((45 ∷ letters_of one) ∷ (end_words one.end ++ words)) ≡ map (without_value (suc number)) one.flags ++ end_uses number one.end words
 unfolding uses_from
 cluster_used number one words is =
@@ -204,22 +255,25 @@ end_as_written number (Apart letter text) words all is =
     let more = is (suc (suc number)) in (more.0, ap (λ (ws : List Written). valued letter text ∷ ws) more.1)
 
 -- the uses of clusters are what was written
-spelled_uses : (number : ℕ) (all : List Spelled) → list_all is_cluster all ≡ true → IsWrittenAs (uses_from number None (spelled_words all)) (written_by all)
+pub spelled_uses : (number : ℕ) (all : List Spelled) → list_all is_spelled all ≡ true → IsWrittenAs (uses_from number None (spelled_words all)) (written_by all)
 unfolding uses_from
 spelled_uses number [] are = (refl, refl)
-spelled_uses number (one ∷ all) are =
-    let both = and_parts (is_cluster one) (list_all is_cluster all) are in
-    subst (λ (uses : List Use). IsWrittenAs uses (written_by (one ∷ all))) (sym (cluster_used number one (spelled_words all) both.0))
+spelled_uses number (Generate text ∷ all) are =
+    let more = spelled_uses (suc (suc number)) all are in (more.0, ap (λ (ws : List Written). valued SelfRun text ∷ ws) more.1)
+spelled_uses number (Clustered one ∷ all) are =
+    let both = and_parts (is_cluster one) (list_all is_spelled all) are in
+    subst (λ (uses : List Use). IsWrittenAs uses (written_by (Clustered one ∷ all))) (sym (cluster_used number one (spelled_words all) both.0))
     (flags_written (suc number) one.flags (end_uses number one.end (spelled_words all)) (end_written one.end ++ written_by all)
     (end_as_written number one.end (spelled_words all) (written_by all) (λ number. spelled_uses number all both.1)))
 
 -- words behind others, of which the last may be an option that waits for its value
-abbrev IsSpelled : List (List ℕ) → Type 0
-IsSpelled words = (all : List Spelled) × (words ≡ spelled_words all) × (list_all is_cluster all ≡ true)
+abbrev pub IsSpelled : List (List ℕ) → Type 0
+IsSpelled words = (all : List Spelled) × (words ≡ spelled_words all) × (list_all is_spelled all ≡ true)
 
 abbrev IsSpelledAfter : Option Letter → List (List ℕ) → Type 0
 IsSpelledAfter None words = IsSpelled words
-IsSpelledAfter (Some letter) words = (text : List ℕ) × (all : List Spelled) × (words ≡ text ∷ spelled_words all) × (list_all is_cluster all ≡ true)
+IsSpelledAfter (Some letter) words =
+    (text : List ℕ) × (all : List Spelled) × (words ≡ text ∷ spelled_words all) × (list_all is_spelled all ≡ true)
 
 -- the letters of a cluster and the words behind
 pub record IsClusterThen (letters : List ℕ) (words : List (List ℕ)) : Type 0 where
@@ -228,7 +282,7 @@ pub record IsClusterThen (letters : List ℕ) (words : List (List ℕ)) : Type 0
   all : List Spelled
   are : are_flags flags ≡ true
   is : is_end end ≡ true
-  clusters : list_all is_cluster all ≡ true
+  spelled : list_all is_spelled all ≡ true
   letters_are : letters ≡ map letter_byte flags ++ end_letters end
   words_are : words ≡ end_words end ++ spelled_words all
 
@@ -249,8 +303,8 @@ value_spelled word b letter [] words before is some behind h =
       end = Apart letter more.0;
       all = more.1;
       are = refl;
-      is = some;
-      clusters = more.3;
+      is = both_true (lettered b letter is) some;
+      spelled = more.3;
       letters_are = ap (λ (c : ℕ). c ∷ []) (byte_of_letter b letter is);
       words_are = more.2;
     }
@@ -262,8 +316,8 @@ value_spelled word b letter (c ∷ rest) words before is some behind h =
       end = Together letter c rest;
       all = more.0;
       are = refl;
-      is = some;
-      clusters = more.2;
+      is = both_true (lettered b letter is) some;
+      spelled = more.2;
       letters_are = ap (λ (d : ℕ). d ∷ c ∷ rest) (byte_of_letter b letter is);
       words_are = more.1;
     }
@@ -274,9 +328,9 @@ one_more b letter rest words is none more = record {
   flags = letter ∷ more.flags;
   end = more.end;
   all = more.all;
-  are = both_true (so_not (has_value letter) none) more.are;
+  are = both_true (both_true (lettered b letter is) (so_not (has_value letter) none)) more.are;
   is = more.is;
-  clusters = more.clusters;
+  spelled = more.spelled;
   letters_are = ap (λ (c : ℕ). c ∷ rest) (byte_of_letter b letter is) ∙ ap (λ (cs : List ℕ). letter_byte letter ∷ cs) more.letters_are;
   words_are = more.words_are;
 }
@@ -310,7 +364,7 @@ cluster_spelled : (word : ℕ) (letters : List ℕ) (words : List (List ℕ)) (b
     → first_fault before (cluster_uses word letters (λ waiting. uses_from word waiting words)) ≡ None → IsClusterThen letters words
 cluster_spelled word [] words before known behind h =
     let more = behind None before tt h in
-    record { flags = []; end = Bare; all = more.0; are = refl; is = refl; clusters = more.2; letters_are = refl; words_are = more.1 }
+    record { flags = []; end = Bare; all = more.0; are = refl; is = refl; spelled = more.2; letters_are = refl; words_are = more.1 }
 cluster_spelled word (b ∷ rest) words before known behind h =
     letter_spelled word b (letter_of b) (value_test (letter_of b)) rest words before refl (value_tested (letter_of b)) known behind
     (λ before known h. cluster_spelled word rest words before known behind h) h
@@ -320,25 +374,39 @@ first_some first rest letters is = subst (λ (cs : List ℕ). nat_lt 0 (length c
 
 then_spelled : (first : ℕ) (rest : List ℕ) (words : List (List ℕ)) → IsClusterThen (first ∷ rest) words → IsSpelled ((45 ∷ first ∷ rest) ∷ words)
 then_spelled first rest words behind =
-    let one : Spelled = record { flags = behind.flags; end = behind.end } in (
-      one ∷ behind.all,
+    let one : Cluster = record { flags = behind.flags; end = behind.end } in (
+      Clustered one ∷ behind.all,
       ap (λ (cs : List ℕ). (45 ∷ cs) ∷ words) behind.letters_are ∙ ap (λ (ws : List (List ℕ)). (45 ∷ letters_of one) ∷ ws) behind.words_are,
-      both_true (both_true behind.are (both_true behind.is (first_some first rest (letters_of one) behind.letters_are))) behind.clusters,
+      both_true (both_true behind.are (both_true behind.is (first_some first rest (letters_of one) behind.letters_are))) behind.spelled,
     )
 
-option_spelled : (word first : ℕ) (known : Bool) (rest : List ℕ) (words : List (List ℕ)) (before : List Use) → is_known (first ∷ rest) ≡ known → Behind word words
-    → first_fault before (if known then cluster_uses word (first ∷ rest) (λ waiting. uses_from word waiting words) else use_.Unknown word ∷ uses_from word None words) ≡ None
+abbrev option_uses : ℕ → Bool → Bool → List ℕ → List (List ℕ) → List Use
+option_uses word self known letters words =
+    if self then uses_from word (Some SelfRun) words
+    else if known then cluster_uses word letters (λ waiting. uses_from word waiting words)
+    else use_.Unknown word ∷ uses_from word None words
+
+option_spelled : (word first : ℕ) (self known : Bool) (rest : List ℕ) (words : List (List ℕ)) (before : List Use) → bytes_eq (first ∷ rest) self_run_name ≡ self
+    → is_known (first ∷ rest) ≡ known → Behind word words → first_fault before (option_uses word self known (first ∷ rest) words) ≡ None
     → IsSpelled ((45 ∷ first ∷ rest) ∷ words)
 unfolding first_fault
-option_spelled word first true rest words before is behind h = then_spelled first rest words (cluster_spelled word (first ∷ rest) words before is behind h)
-option_spelled word first false rest words before is behind h = absurd (none-some _ (sym h))
+option_spelled word first true known rest words before same is behind h =
+    let more = behind (Some SelfRun) before refl h in (
+      Generate more.0 ∷ more.1,
+      ap (λ (letters : List ℕ). (45 ∷ letters) ∷ words) (same_bytes (first ∷ rest) self_run_name same)
+          ∙ ap (λ (after : List (List ℕ)). (45 ∷ self_run_name) ∷ after) more.2,
+      more.3,
+    )
+option_spelled word first false true rest words before same is behind h = then_spelled first rest words (cluster_spelled word (first ∷ rest) words before is behind h)
+option_spelled word first false false rest words before same is behind h = absurd (none-some _ (sym h))
 
 word_spelled : (word first second : ℕ) (dash : Bool) (rest : List ℕ) (words : List (List ℕ)) (before : List Use) → (first == 45) ≡ dash → Behind word words
     → first_fault before (if dash then option_at word (second ∷ rest) (λ waiting. uses_from word waiting words) else use_.Stray word ∷ uses_from word None words) ≡ None
     → IsSpelled ((first ∷ second ∷ rest) ∷ words)
 unfolding first_fault
 word_spelled word first second true rest words before is behind h =
-    rw (eqb-true first 45 is) (option_spelled word second (is_known (second ∷ rest)) rest words before refl behind h)
+    rw (eqb-true first 45 is)
+    (option_spelled word second (bytes_eq (second ∷ rest) self_run_name) (is_known (second ∷ rest)) rest words before refl refl behind h)
 word_spelled word first second false rest words before is behind h = absurd (none-some _ (sym h))
 
 -- an option that waits for its value has one
@@ -363,11 +431,11 @@ spelled_after number None ((first ∷ second ∷ rest) ∷ words) before waits h
     word_spelled (suc number) first second (first == 45) rest words before refl (λ waiting before waits h. spelled_after (suc number) waiting words before waits h) h
 
 -- words without a fault are options as they are written
-words_spelled : (words : List (List ℕ)) → first_fault [] (uses_from 0 None words) ≡ None → IsSpelled words
+pub words_spelled : (words : List (List ℕ)) → first_fault [] (uses_from 0 None words) ≡ None → IsSpelled words
 words_spelled words h = spelled_after 0 None words [] tt h
 
 -- the values of these, behind such uses: each is one of its option's, and nothing comes again that may come once
-abbrev IsSound : List Use → List Written → Type 0
+abbrev pub IsSound : List Use → List Written → Type 0
 IsSound before all = (list_all fits all ≡ true) × ((slot : Slot) → one_if (is_taken (Some slot) before) + times slot all ≤ 1)
 
 at_most_once : (given : Bool) → one_if given + 0 ≤ 1
@@ -450,7 +518,7 @@ given_sound before given uses here more =
           (fresh slot (slot_of given.letter (text_in given.value)) before parts.0) counts),
     )
 
-sound : (before uses : List Use) → first_fault before uses ≡ None → IsSound before (all_written uses)
+pub sound : (before uses : List Use) → first_fault before uses ≡ None → IsSound before (all_written uses)
 unfolding first_fault
 sound before [] h = (refl, λ slot. at_most_once (is_taken (Some slot) before))
 sound before (use_.Stray word ∷ uses) h = absurd (none-some _ (sym h))
@@ -473,7 +541,7 @@ clean : (taken : Bool) (one : WordFault) (other : Option WordFault) → taken �
 clean true one other new none = absurd (both_ways true new refl)
 clean false one other new none = none
 
-faultless : (before uses : List Use) → list_all is_option uses ≡ true → IsSound before (all_written uses) → first_fault before uses ≡ None
+pub faultless : (before uses : List Use) → list_all is_option uses ≡ true → IsSound before (all_written uses) → first_fault before uses ≡ None
 unfolding first_fault
 faultless before [] are fine = refl
 faultless before (use_.Stray word ∷ uses) are fine = absurd (both_ways false refl are)
@@ -490,227 +558,3 @@ faultless before (use_.Given given ∷ uses) are fine =
           subst (λ (b : Bool). one_if b + times slot (all_written uses) ≤ 1) (sym (given_more slot before (use_.Given given)))
           (taken_less (is_taken (Some slot) before) (is_slot slot (slot_of given.letter (text_in given.value))) (times slot (all_written uses)) (once slot)),
     ))
-
--- the values looked up are those written
-value_written : (value : Option Value) → value_text value ≡ option_to_list (option_map (λ (v : Value). v.text) value)
-value_written None = refl
-value_written (Some value) = refl
-
-values_written : (letter : Letter) (uses : List Use) → values_of letter uses ≡ values_in letter (all_written uses)
-values_written letter [] = refl
-values_written letter (use_.Stray word ∷ uses) = values_written letter uses
-values_written letter (use_.Unknown word ∷ uses) = values_written letter uses
-values_written letter (use_.Given given ∷ uses) =
-    ap (λ (ts : List (List ℕ)). (if is_same letter given.letter then ts else []) ++ values_of letter uses) (value_written given.value)
-    ∙ ap (λ (ts : List (List ℕ)). (if is_same letter given.letter then option_to_list (option_map (λ (v : Value). v.text) given.value) else []) ++ ts) (values_written letter uses)
-
-quiet_written : (uses : List Use) → is_given Quiet uses ≡ list_any (λ (one : Written). is_same Quiet one.letter) (all_written uses)
-quiet_written [] = refl
-quiet_written (use_.Stray word ∷ uses) = quiet_written uses
-quiet_written (use_.Unknown word ∷ uses) = quiet_written uses
-quiet_written (use_.Given given ∷ uses) = ap (λ (b : Bool). is_same Quiet given.letter || b) (quiet_written uses)
-
--- a name that is given has a value
-named_more : (same : Bool) (letter : Letter) (value : Option (List ℕ)) (values : List (List ℕ)) (given : Bool) → (same ≡ true → letter ≡ Name) → fits_text letter value ≡ true
-    → given ≡ nat_lt 0 (length values) → (same || given) ≡ nat_lt 0 (length ((if same then option_to_list value else []) ++ values))
-named_more true letter None values given is fit more = absurd (both_ways false refl (subst (λ (l : Letter). fits_text l None ≡ true) (is refl) fit))
-named_more true letter (Some text) values given is fit more = sym (lt-ltb 0 _ (omega arith))
-named_more false letter value values given is fit more = more
-
-names_written : (uses : List Use) → list_all fits (all_written uses) ≡ true → is_given Name uses ≡ nat_lt 0 (length (values_in Name (all_written uses)))
-names_written [] fit = refl
-names_written (use_.Stray word ∷ uses) fit = names_written uses fit
-names_written (use_.Unknown word ∷ uses) fit = names_written uses fit
-names_written (use_.Given given ∷ uses) fit =
-    let both = and_parts (fits_text given.letter (option_map (λ (v : Value). v.text) given.value)) (list_all fits (all_written uses)) fit in
-    named_more (is_same Name given.letter) given.letter (option_map (λ (v : Value). v.text) given.value) (values_in Name (all_written uses)) (is_given Name uses)
-    (λ same. sym (same_letter Name given.letter same)) both.0 (names_written uses both.1)
-
--- where no option is of use for columns alone, none is given, and the other way round
-abbrev NoColumns : List Written → Type 0
-NoColumns all = (values_in Name all ≡ []) × (values_in Style all ≡ [])
-
-column_of : (letter : Letter) (value : Option (List ℕ)) (word : ℕ) (next : Option ℕ) (all : List Written)
-    → option_or (if is_column letter then Some word else None) next ≡ None → (next ≡ None → NoColumns all)
-    → NoColumns ((record { letter = letter; text = value }) ∷ all)
-column_of Name value word next all h more = absurd (none-some word (sym h))
-column_of Style value word next all h more = absurd (none-some word (sym h))
-column_of Capture value word next all h more = more h
-column_of Filter value word next all h more = more h
-column_of Kind value word next all h more = more h
-column_of Most value word next all h more = more h
-column_of Quiet value word next all h more = more h
-
-columns_none : (uses : List Use) → column_word uses ≡ None → NoColumns (all_written uses)
-columns_none [] h = (refl, refl)
-columns_none (use_.Stray word ∷ uses) h = columns_none uses h
-columns_none (use_.Unknown word ∷ uses) h = columns_none uses h
-columns_none (use_.Given given ∷ uses) h =
-    column_of given.letter (option_map (λ (v : Value). v.text) given.value) given.word (column_word uses) (all_written uses) h (λ h. columns_none uses h)
-
-none_column : (letter : Letter) (value : Option (List ℕ)) (word : ℕ) (next : Option ℕ) (all : List Written) → fits_text letter value ≡ true
-    → NoColumns ((record { letter = letter; text = value }) ∷ all) → (NoColumns all → next ≡ None) → option_or (if is_column letter then Some word else None) next ≡ None
-none_column Name None word next all fit none more = absurd (both_ways false refl fit)
-none_column Name (Some text) word next all fit none more = absurd (cc (none.0))
-none_column Style None word next all fit none more = absurd (both_ways false refl fit)
-none_column Style (Some text) word next all fit none more = absurd (cc (none.1))
-none_column Capture value word next all fit none more = more none
-none_column Filter value word next all fit none more = more none
-none_column Kind value word next all fit none more = more none
-none_column Most value word next all fit none more = more none
-none_column Quiet value word next all fit none more = more none
-
-none_columns : (uses : List Use) → list_all fits (all_written uses) ≡ true → NoColumns (all_written uses) → column_word uses ≡ None
-none_columns [] fit none = refl
-none_columns (use_.Stray word ∷ uses) fit none = none_columns uses fit none
-none_columns (use_.Unknown word ∷ uses) fit none = none_columns uses fit none
-none_columns (use_.Given given ∷ uses) fit none =
-    let both = and_parts (fits_text given.letter (option_map (λ (v : Value). v.text) given.value)) (list_all fits (all_written uses)) fit in
-    none_column given.letter (option_map (λ (v : Value). v.text) given.value) given.word (column_word uses) (all_written uses) both.0 none (λ none. none_columns uses both.1 none)
-
-given_names : (given : Bool) (one : WordFault) (values : List (List ℕ)) → given ≡ nat_lt 0 (length values) → (if given then None else Some one) ≡ None → 0 < length values
-given_names given one values is h = ltb-true 0 (length values) (sym is ∙ good_value given one h)
-
-names_given : (given : Bool) (one : WordFault) (values : List (List ℕ)) → given ≡ nat_lt 0 (length values) → 0 < length values → (if given then None else Some one) ≡ None
-names_given given one values is some = fine_value given one (is ∙ lt-ltb 0 (length values) some)
-
-no_word : (f : ℕ → WordFault) (word : Option ℕ) → option_map f word ≡ None → word ≡ None
-no_word f None h = refl
-no_word f (Some word) h = absurd (none-some (f word) (sym h))
-
-columns_had : (behind : ℕ) (uses : List Use) (kind : LineKind) → list_all fits (all_written uses) ≡ true → column_fault behind uses kind ≡ None
-    → HasColumns kind (all_written uses)
-columns_had behind uses Fields fit h = given_names (is_given Name uses) (fault behind NoFields) (values_in Name (all_written uses)) (names_written uses fit) h
-columns_had behind uses Text fit h = columns_none uses (no_word (λ (word : ℕ). fault word Unused) (column_word uses) h)
-columns_had behind uses Json fit h = columns_none uses (no_word (λ (word : ℕ). fault word Unused) (column_word uses) h)
-
-columns_fine : (behind : ℕ) (uses : List Use) (kind : LineKind) → list_all fits (all_written uses) ≡ true → HasColumns kind (all_written uses)
-    → column_fault behind uses kind ≡ None
-columns_fine behind uses Fields fit has = names_given (is_given Name uses) (fault behind NoFields) (values_in Name (all_written uses)) (names_written uses fit) has
-columns_fine behind uses Text fit has = ap (option_map (λ (word : ℕ). fault word Unused)) (none_columns uses fit has)
-columns_fine behind uses Json fit has = ap (option_map (λ (word : ℕ). fault word Unused)) (none_columns uses fit has)
-
--- what written options ask for
-abbrev asked_written : List ℕ → List Written → Options
-asked_written name all = record {
-  source = Named name;
-  filter = shown_filter (head_of (values_in Filter all));
-  kind = kind_asked (head_of (values_in Kind all));
-  names = values_in Name all;
-  style = style_of (values_in Style all);
-  most = option_and_then count_of (head_of (values_in Most all));
-  quiet = list_any (λ (one : Written). is_same Quiet one.letter) all;
-}
-
-options_written : (name : List ℕ) (uses : List Use) → options_by name uses ≡ asked_written name (all_written uses)
-options_written name uses =
-    rw (values_written Filter uses) (rw (values_written Kind uses) (rw (values_written Name uses) (rw (values_written Style uses)
-    (rw (values_written Most uses) (rw (quiet_written uses) refl)))))
-
-kind_written : (uses : List Use) → kind_asked (value_of Kind uses) ≡ kind_asked (head_of (values_in Kind (all_written uses)))
-kind_written uses = ap (λ (texts : List (List ℕ)). kind_asked (head_of texts)) (values_written Kind uses)
-
-unless_none : (first : Option WordFault) (options : Options) → first ≡ None → unless first options ≡ Ok options
-unless_none first options h = rw h refl
-
-unless_ok : (first : Option WordFault) (one options : Options) → unless first one ≡ Ok options → (first ≡ None) × (options ≡ one)
-unless_ok None one options h = (refl, cc)
-unless_ok (Some first) one options h = absurd cc
-
-asked_found : (behind : ℕ) (name : List ℕ) (uses : List Use) → list_all fits (all_written uses) ≡ true → values_in Capture (all_written uses) ≡ name ∷ []
-    → HasColumns (kind_asked (head_of (values_in Kind (all_written uses)))) (all_written uses)
-    → asked behind uses (value_of Capture uses) ≡ Ok (asked_written name (all_written uses))
-asked_found behind name uses fit named has =
-    ap (λ (texts : List (List ℕ)). asked behind uses (head_of texts)) (values_written Capture uses ∙ named)
-    ∙ unless_none (column_fault behind uses (kind_asked (value_of Kind uses))) (options_by name uses)
-    (columns_fine behind uses (kind_asked (value_of Kind uses)) fit (subst (λ (kind : LineKind). HasColumns kind (all_written uses)) (sym (kind_written uses)) has))
-    ∙ ap (λ (options : Options). Ok options) (options_written name uses)
-
--- what is spelled is read
-pub options_found : (name : List ℕ) (all : List Spelled) → IsCommand name all → options_of (spelled_words all) ≡ Ok (asked_by name all)
-unfolding options_of
-options_found name all command =
-    let uses : List Use = uses_from 0 None (spelled_words all) in
-    let are = spelled_uses 0 all command.clusters in
-    let fine : IsSound [] (all_written uses) = subst (IsSound []) (sym are.1) (command.values, λ slot. omega (arith, command.once slot)) in
-    ap (judged (suc (length (spelled_words all))) uses) (faultless [] uses are.0 fine)
-    ∙ asked_found (suc (length (spelled_words all))) name uses fine.0 (ap (values_in Capture) are.1 ∙ command.named)
-    (subst (λ (ws : List Written). HasColumns (kind_asked (head_of (values_in Kind ws))) ws) (sym are.1) command.columns)
-    ∙ ap (λ (ws : List Written). Ok (asked_written name ws)) are.1
-
-judged_ok : (behind : ℕ) (uses : List Use) (first : Option WordFault) (options : Options) → judged behind uses first ≡ Ok options
-    → (first ≡ None) × (asked behind uses (value_of Capture uses) ≡ Ok options)
-judged_ok behind uses (Some fault) options h = absurd cc
-judged_ok behind uses None options h = (refl, h)
-
-single : (values : List (List ℕ)) (name : List ℕ) → head_of values ≡ Some name → length values ≤ 1 → values ≡ name ∷ []
-single [] name h few = absurd (none-some name h)
-single (text ∷ []) name h few = ap (λ (one : List ℕ). one ∷ []) (same_Some text name h)
-single (text ∷ other ∷ values) name h few = absurd (omega arith)
-
-asked_ok : (behind : ℕ) (uses : List Use) (found : Option (List ℕ)) (options : Options) → asked behind uses found ≡ Ok options
-    → (name : List ℕ) × (found ≡ Some name) × (column_fault behind uses (kind_asked (value_of Kind uses)) ≡ None) × (options ≡ options_by name uses)
-asked_ok behind uses None options h = absurd cc
-asked_ok behind uses (Some name) options h = let both = unless_ok (column_fault behind uses (kind_asked (value_of Kind uses))) (options_by name uses) options h in (name, refl, both.0, both.1)
-
--- the capture is named as often as `-r` is given
-capture_times : (letter : Letter) (value : Option (List ℕ)) (all : List Written) → length (values_in Capture all) ≤ times (slots.Letter Capture) all
-    → length ((if is_same Capture letter then option_to_list value else []) ++ values_in Capture all)
-    ≤ one_if (is_slot (slots.Letter Capture) (slot_of letter (text_or_none value))) + times (slots.Letter Capture) all
-capture_times Capture None all more = omega (arith, more)
-capture_times Capture (Some text) all more = omega (arith, more)
-capture_times Filter value all more = omega (arith, more)
-capture_times Kind value all more = omega (arith, more)
-capture_times Name value all more = omega (arith, more)
-capture_times Style value all more = omega (arith, more)
-capture_times Most value all more = omega (arith, more)
-capture_times Quiet value all more = omega (arith, more)
-
-captures : (all : List Written) → length (values_in Capture all) ≤ times (slots.Letter Capture) all
-captures [] = omega arith
-captures (one ∷ all) = capture_times one.letter one.text all (captures all)
-
-only_spelled : (all : List Spelled) (options : Options) → list_all is_cluster all ≡ true → options_of (spelled_words all) ≡ Ok options
-    → (name : List ℕ) × IsCommand name all × (options ≡ asked_by name all)
-unfolding options_of
-only_spelled all options clusters h =
-    let uses : List Use = uses_from 0 None (spelled_words all) in
-    let behind : ℕ = suc (length (spelled_words all)) in
-    let are = spelled_uses 0 all clusters in
-    let judged = judged_ok behind uses (first_fault [] uses) options h in
-    let fine : IsSound [] (all_written uses) = sound [] uses judged.0 in
-    let command : IsSound [] (written_by all) = subst (IsSound []) are.1 fine in
-    let asked = asked_ok behind uses (value_of Capture uses) options judged.1 in
-    let few : times (slots.Letter Capture) (written_by all) ≤ 1 = omega (arith, command.1 (slots.Letter Capture)) in
-    let columns : HasColumns (kind_asked (head_of (values_in Kind (all_written uses)))) (all_written uses)
-    = subst (λ (kind : LineKind). HasColumns kind (all_written uses)) (kind_written uses) (columns_had behind uses (kind_asked (value_of Kind uses)) fine.0 asked.2) in (
-      asked.0,
-      record {
-        clusters = clusters;
-        values = command.0;
-        once = λ slot. omega (arith, command.1 slot);
-        named = single (values_in Capture (written_by all)) asked.0
-            (ap head_of (sym (values_written Capture uses ∙ ap (values_in Capture) are.1)) ∙ asked.1) (omega (arith, few, captures (written_by all)));
-        columns = subst (λ (ws : List Written). HasColumns (kind_asked (head_of (values_in Kind ws))) ws) are.1 columns;
-      },
-      asked.3 ∙ options_written asked.0 uses ∙ ap (asked_written asked.0) are.1,
-    )
-
--- what is read is spelled
-pub options_only : (words : List (List ℕ)) (options : Options) → options_of words ≡ Ok options → IsAsked words options
-unfolding options_of
-options_only words options h =
-    let judged = judged_ok (suc (length words)) (uses_from 0 None words) (first_fault [] (uses_from 0 None words)) options h in
-    let spelled = words_spelled words judged.0 in
-    let only = only_spelled spelled.0 options spelled.2 (subst (λ (ws : List (List ℕ)). options_of ws ≡ Ok options) spelled.1 h) in
-    (spelled.0, only.0, spelled.1, only.1, only.2)
-
--- what is answered
-pub answered_found : (words : List (List ℕ)) (answer : Result Options WordsError) → Gives answer (options_of words) → (name : List ℕ) (all : List Spelled)
-    → words ≡ spelled_words all → IsCommand name all → Gives answer (Ok (asked_by name all))
-answered_found words answer gives name all is command =
-    subst (λ (expected : Result Options WordFault). Gives answer expected) (ap options_of is ∙ options_found name all command) gives
-
-pub answered_only : (words : List (List ℕ)) (answer : Result Options WordsError) → Gives answer (options_of words) → IfOk answer (λ options. IsAsked words options)
-answered_only words (Ok options) gives = options_only words options gives
-answered_only words (Err e) gives = tt

@@ -1,28 +1,29 @@
 -- What follows an option's letter in a word is a text.
 use Rattle.std.proofs.Common.{◌≡◌, ◌<◌, ◌≤◌, ◌==◌, ◌++◌, ℕ, suc, Bool, true, false, List, [], ◌∷◌, length, Option, None, Some, Result, Ok, Err, String, refl, arith, eqb-true, subst, sym, ◌∙◌, ⊎_elim, if◌then◌else◌}
-use Rattle.std.specs.Prelude.{◌||◌, IfSome, IfOk, All}
+use Rattle.std.specs.Prelude.{◌||◌, IfSome, IfOk, All, option_and_then, option_map, take, drop}
 use Rattle.std.specs.List.{AllByRecursion as Each}
-use Rattle.std.specs.Str.{IsUtf8}
+use Rattle.std.specs.Str.{IsUtf8, bytes_eq}
 use Rattle.std.proofs.lemmas.Bool.{both_ways, cases_lt}
 use Rattle.std.proofs.lemmas.Bool.Decides.{nat_tests}
 use Rattle.std.proofs.lemmas.List.Elements.{All-nil, All-cons}
-use Rattle.std.proofs.lemmas.Str.{IsUtf8-string_bytes, IsUtf8-drop, IsCharBoundary-after_ascii}
+use Rattle.std.proofs.lemmas.Str.{IsUtf8-nil, IsUtf8-string_bytes, IsUtf8-drop, IsCharBoundary-after_ascii}
 use Rattle.shark_words.specs.declared.fault.WordFault.{WordFault}
 use Rattle.shark_words.specs.declared.letter.Letter.{Letter}
-use Rattle.shark_words.specs.declared.letter.Letter.TheVariants.{Capture, Filter, Kind, Name, Style, Most, Quiet}
+use Rattle.shark_words.specs.declared.letter.Letter.TheVariants.{Capture, Filter, Kind, Name, SelfRun}
 use Rattle.shark_words.specs.declared.options.Options.{Options}
 use Rattle.shark_words.specs.declared.uses.Value.{Value}
 use Rattle.shark_words.specs.declared.uses.Use.{Use}
 use Rattle.shark_words.specs.declared.uses.Use.TheVariants as use_
 use Rattle.shark_words.specs.declared.fault.WordsError.{WordsError}
-use Rattle.shark_words.specs.declared.options.Source.TheVariants.{Named}
+use Rattle.shark_words.specs.declared.options.Source.{Source}
+use Rattle.shark_words.specs.declared.options.Source.TheVariants.{Named, Generated}
 use Rattle.shark_words.specs.Faults.{first_fault}
-use Rattle.shark_words.specs.Values.{is_blank, kind_asked, shown_filter}
+use Rattle.shark_words.specs.Values.{comma_in, decimal_of, generated, generated_at, generated_by, is_blank, kind_asked, most_generated, shown_filter, up_to}
 use Rattle.shark_words.specs.Letters.{has_value, is_same, letter_of}
 use Rattle.shark_words.specs.Asked.{head_of, value_in, value_of, value_text, values_of}
-use Rattle.shark_words.specs.Options.{asked, column_fault, judged, options_by, options_of, unless, Gives}
-use Rattle.shark_words.specs.Uses.{cluster_uses, is_cluster, is_known_before, letter_uses, option_at, uses_at, uses_from, uses_of, value_uses, without_value}
-use Rattle.shark_words.specs.Utf8.{AreUtf8}
+use Rattle.shark_words.specs.Options.{asked, judged, options_by, options_of, source_by, source_of, together_fault, unless, Gives}
+use Rattle.shark_words.specs.Uses.{cluster_uses, is_cluster, is_known_before, letter_uses, option_at, self_run_name, uses_at, uses_from, uses_of, value_uses, without_value}
+use Rattle.shark_words.specs.Utf8.{AreUtf8, name_in}
 use Rattle.shark_words.specs.Words.{texts}
 
 -- the value of a use is a text
@@ -70,18 +71,19 @@ cluster_has_text number (b ∷ rest) behind known utf8 others =
     letter_has_text number b rest behind (cluster_uses number rest behind) (letter_of b) refl known utf8 others
     (λ utf8 known. cluster_has_text number rest behind known utf8 others)
 
-option_has_text : (known : Bool) (number : ℕ) (letters : List ℕ) (behind : Option Letter → List Use) → is_cluster letters ≡ known → IsUtf8 letters
+option_has_text : (self known : Bool) (number : ℕ) (letters : List ℕ) (behind : Option Letter → List Use) → is_cluster letters ≡ known → IsUtf8 letters
     → ((waiting : Option Letter) → Each HasText (behind waiting))
-    → Each HasText (if known then cluster_uses number letters behind else use_.Unknown number ∷ behind None)
-option_has_text true number letters behind is utf8 others = cluster_has_text number letters behind is utf8 others
-option_has_text false number letters behind is utf8 others = (tt, others None)
+    → Each HasText (if self then behind (Some SelfRun) else if known then cluster_uses number letters behind else use_.Unknown number ∷ behind None)
+option_has_text true known number letters behind is utf8 others = others (Some SelfRun)
+option_has_text false true number letters behind is utf8 others = cluster_has_text number letters behind is utf8 others
+option_has_text false false number letters behind is utf8 others = (tt, others None)
 
 dashed_has_text : (dash : Bool) (number first : ℕ) (letters : List ℕ) (behind : Option Letter → List Use) → (first == 45) ≡ dash
     → IsUtf8 (first ∷ letters) → ((waiting : Option Letter) → Each HasText (behind waiting))
     → Each HasText (if dash then option_at number letters behind else use_.Stray number ∷ behind None)
 dashed_has_text true number first letters behind is utf8 others =
     let small : first < 128 = omega (arith, eqb-true first 45 is) in
-    option_has_text (is_cluster letters) number letters behind refl (behind_letter first letters small utf8) others
+    option_has_text (bytes_eq letters self_run_name) (is_cluster letters) number letters behind refl (behind_letter first letters small utf8) others
 dashed_has_text false number first letters behind is utf8 others = (tt, others None)
 
 word_has_text : (number : ℕ) (word : List ℕ) (behind : Option Letter → List Use) → IsUtf8 word → ((waiting : Option Letter) → Each HasText (behind waiting))
@@ -140,17 +142,43 @@ unless_is_utf8 : (first : Option WordFault) (options : Options) → AreUtf8 opti
 unless_is_utf8 None options are = are
 unless_is_utf8 (Some first) options are = tt
 
-asked_is_utf8 : (behind : ℕ) (uses : List Use) (name : Option (List ℕ)) → Each HasText uses → IfSome name IsUtf8 → IfOk (asked behind uses name) AreUtf8
+-- a generated capture has no name
+abbrev HasNameText : Source → Type 0
+HasNameText source = IsUtf8 (name_in source)
+
+made_is_text : (number frames : Option ℕ) → IfSome (generated number frames) HasNameText
+made_is_text None frames = tt
+made_is_text (Some number) None = tt
+made_is_text (Some number) (Some frames) = IsUtf8-nil
+
+made_at_is_text : (text : List ℕ) (comma : Option ℕ) → IfSome (generated_at text comma) HasNameText
+made_at_is_text text None = tt
+made_at_is_text text (Some comma) =
+    made_is_text (decimal_of (take comma text)) (option_and_then (up_to most_generated) (decimal_of (drop (suc comma) text)))
+
+generated_is_text : (numbers : Option (List ℕ)) → IfSome (option_and_then generated_by numbers) HasNameText
+unfolding generated_by
+generated_is_text None = tt
+generated_is_text (Some text) = made_at_is_text text (comma_in text)
+
+source_is_text : (name numbers : Option (List ℕ)) → IfSome name IsUtf8 → IfSome (source_by name numbers) HasNameText
+source_is_text None numbers named = generated_is_text numbers
+source_is_text (Some name) numbers named = named
+
+asked_is_utf8 : (behind : ℕ) (uses : List Use) (source : Option Source) → Each HasText uses → IfSome source HasNameText → IfOk (asked behind uses source) AreUtf8
 asked_is_utf8 behind uses None have named = tt
-asked_is_utf8 behind uses (Some name) have named =
-    unless_is_utf8 (column_fault behind uses (kind_asked (value_of Kind uses))) (options_by name uses) (record {
+asked_is_utf8 behind uses (Some source) have named =
+    unless_is_utf8 (together_fault behind uses (kind_asked (value_of Kind uses))) (options_by source uses) (record {
       source = named;
       filter = shown_is_text (value_of Filter uses) (head_is_text (values_of Filter uses) (values_are_texts Filter uses have));
       names = all_from_each (values_of Name uses) (values_are_texts Name uses have);
     })
 
 judged_is_utf8 : (behind : ℕ) (uses : List Use) (first : Option WordFault) → Each HasText uses → IfOk (judged behind uses first) AreUtf8
-judged_is_utf8 behind uses None have = asked_is_utf8 behind uses (value_of Capture uses) have (head_is_text (values_of Capture uses) (values_are_texts Capture uses have))
+unfolding source_of
+judged_is_utf8 behind uses None have =
+    asked_is_utf8 behind uses (source_of uses) have
+    (source_is_text (value_of Capture uses) (value_of SelfRun uses) (head_is_text (values_of Capture uses) (values_are_texts Capture uses have)))
 judged_is_utf8 behind uses (Some first) have = tt
 
 words_are_utf8 : {A : Type 0} (words : List (String A)) → Each IsUtf8 (texts words)

@@ -49,12 +49,14 @@ is_taken (Some slot) uses = is_held slot uses
 -- what is wrong with an option's value
 abbrev pub value_fault : ℕ → Letter → Option Value → Option WordFault
 value_fault word letter None = if has_value letter then Some (fault word MissingValue) else None
-value_fault word letter (Some value) = if is_value letter value.text then None else Some (fault value.word BadValue)
+value_fault word letter (Some value) =
+    if is_value letter value.text then None else Some (fault value.word BadValue)
 
 -- what is wrong with an option, given the uses before it
 abbrev pub given_fault : List Use → Given → Option WordFault
 given_fault before given =
-    if is_taken (slot_of given.letter (text_in given.value)) before then Some (fault given.word Repeated)
+    if is_taken (slot_of given.letter (text_in given.value)) before
+    then Some (fault given.word Repeated)
     else value_fault given.word given.letter given.value
 
 -- what is wrong with a use, given those before it
@@ -66,4 +68,5 @@ fault_of before (use_.Given given) = given_fault before given
 -- the first fault of uses that follow others
 unfoldable pub first_fault : List Use → List Use → Option WordFault
 first_fault before [] = None
-first_fault before (used ∷ uses) = option_or (fault_of before used) (first_fault (before ++ used ∷ []) uses)
+first_fault before (used ∷ uses) =
+    option_or (fault_of before used) (first_fault (before ++ used ∷ []) uses)

@@ -18,7 +18,8 @@ key_name QuoteKey = codes "quote="
 -- what stands behind a key in a text that begins with it
 abbrev pub behind_name : List ℕ → List ℕ → Option (List ℕ)
 behind_name name text =
-    if nat_le (length name) (length text) && bytes_eq (take (length name) text) name then Some (drop (length name) text) else None
+    if nat_le (length name) (length text) && bytes_eq (take (length name) text) name
+    then Some (drop (length name) text) else None
 
 abbrev pub behind_key : Key → List ℕ → Option (List ℕ)
 behind_key key text = behind_name (key_name key) text
@@ -44,18 +45,21 @@ header_of text = None
 -- one character from 0x20 to 0x7E, or `/t` for a tab or `/s` for a space
 abbrev pub character_of : List ℕ → Option ℕ
 character_of (b ∷ []) = if nat_le 32 b && nat_le b 126 then Some b else None
-character_of (slash ∷ b ∷ []) = if slash == 47 && b == 116 then Some 9 else if slash == 47 && b == 115 then Some 32 else None
+character_of (slash ∷ b ∷ []) =
+    if slash == 47 && b == 116 then Some 9 else if slash == 47 && b == 115 then Some 32 else None
 character_of text = None
 
 -- `f`, `l` or `a`: the first value, the last or all
 abbrev pub occurrence_of : List ℕ → Option Occurrence
 occurrence_of (b ∷ []) =
-    if b == 102 then Some occurrences.First else if b == 108 then Some occurrences.Last else if b == 97 then Some occurrences.All else None
+    if b == 102 then Some occurrences.First else if b == 108 then Some occurrences.Last
+    else if b == 97 then Some occurrences.All else None
 occurrence_of text = None
 
 -- `d`, `s` or `n`: double quotes, single ones or none
 abbrev pub quote_of : List ℕ → Option Quote
-quote_of (b ∷ []) = if b == 100 then Some quotes.Double else if b == 115 then Some quotes.Single else if b == 110 then Some quotes.None else None
+quote_of (b ∷ []) = if b == 100 then Some quotes.Double else if b == 115 then Some quotes.Single
+    else if b == 110 then Some quotes.None else None
 quote_of text = None
 
 -- whether a text is one of a key's values

@@ -1,9 +1,9 @@
 -- The options, by their letters.
 use Rattle.std.specs.Prelude.{ℕ, ◌==◌, Bool, true, false, Option, Some, None, if◌then◌else◌}
 use Rattle.shark_words.specs.declared.letter.Letter.{Letter}
-use Rattle.shark_words.specs.declared.letter.Letter.TheVariants.{Capture, Filter, Kind, Name, Style, Most, Quiet}
+use Rattle.shark_words.specs.declared.letter.Letter.TheVariants.{Capture, Filter, Kind, Name, Style, Most, Quiet, Output, Format, SelfRun}
 
--- the bytes of the letters `r`, `Y`, `T`, `e`, `E`, `c`, `q`
+-- the bytes of the letters `r`, `Y`, `T`, `e`, `E`, `c`, `q`, `w`, `F`; `--self-run` has no letter, and a number beyond the bytes
 abbrev pub letter_byte : Letter → ℕ
 letter_byte Capture = 114
 letter_byte Filter = 89
@@ -12,6 +12,9 @@ letter_byte Name = 101
 letter_byte Style = 69
 letter_byte Most = 99
 letter_byte Quiet = 113
+letter_byte Output = 119
+letter_byte Format = 70
+letter_byte SelfRun = 256
 
 -- the option of a byte
 abbrev pub letter_of : ℕ → Option Letter
@@ -23,10 +26,17 @@ letter_of b =
     else if b == letter_byte Style then Some Style
     else if b == letter_byte Most then Some Most
     else if b == letter_byte Quiet then Some Quiet
+    else if b == letter_byte Output then Some Output
+    else if b == letter_byte Format then Some Format
     else None
 
 abbrev pub is_same : Letter → Letter → Bool
 is_same one other = letter_byte one == letter_byte other
+
+-- whether an option has a letter
+abbrev pub has_letter : Letter → Bool
+has_letter SelfRun = false
+has_letter letter = true
 
 -- whether a value belongs to an option
 abbrev pub has_value : Letter → Bool

@@ -4,6 +4,7 @@ pub mod Keys
 pub mod Letters
 pub mod Options
 pub mod Slots
+pub mod Sound
 pub mod Spelled
 pub mod Uses
 pub mod Values

@@ -1,30 +1,57 @@
 -- What an option's value may be.
-use Rattle.std.specs.Prelude.{ℕ, ◌==◌, ◌^◌, ◌-◌, min, nat_lt, Bool, true, false, ◌&&◌, ◌||◌, List, [], ◌∷◌, length, codes, Option, Some, None, is_some, if◌then◌else◌}
-use Rattle.std.specs.List.{list_all}
+use Rattle.std.specs.Prelude.{ℕ, suc, ◌==◌, ◌^◌, ◌-◌, nat_le, nat_lt, Bool, true, false, ◌&&◌, ◌||◌, List, [], ◌∷◌, length, take, drop, codes, Option, Some, None, is_some, option_and_then, if◌then◌else◌}
+use Rattle.std.specs.List.{list_all, position_from}
 use Rattle.std.specs.Option.{unwrap_or}
-use Rattle.std.specs.Char.{is_digit}
 use Rattle.std.specs.Str.{bytes_eq}
-use Rattle.std.specs.Str.Parse.{digits_value}
+use Rattle.pk_text.specs.Digits.{digits_read, fitting}
+use Rattle.capture_write.specs.declared.format.Format.{Format as CaptureFormat}
+use Rattle.capture_write.specs.declared.format.Format.TheVariants.{Pcap, Pcapng}
 use Rattle.shark_words.specs.declared.letter.Letter.{Letter}
-use Rattle.shark_words.specs.declared.letter.Letter.TheVariants.{Capture, Filter, Kind, Name, Style, Most, Quiet}
+use Rattle.shark_words.specs.declared.letter.Letter.TheVariants.{Capture, Filter, Kind, Name, Style, Most, Quiet, Output, Format, SelfRun}
 use Rattle.shark_words.specs.declared.options.LineKind.{LineKind}
 use Rattle.shark_words.specs.declared.options.LineKind.TheVariants.{Text, Fields, Json}
+use Rattle.shark_words.specs.declared.options.Source.{Source}
+use Rattle.shark_words.specs.declared.options.Source.TheVariants.{Generated}
 use Rattle.shark_words.specs.Keys.{is_setting}
 
-abbrev pub are_digits : List ℕ → Bool
-are_digits text = list_all (λ b. is_digit b 10) text
+-- whether the first of several digits is a zero, 48
+abbrev pub has_leading_zero : List ℕ → Bool
+has_leading_zero (first ∷ second ∷ rest) = first == 48
+has_leading_zero text = false
 
--- the number of decimal digits, as far as 64 bits hold it
-abbrev pub digits_read : List ℕ → Option ℕ
-digits_read text = if are_digits text then Some (min (digits_value 10 text) (2 ^ 64 - 1)) else None
+-- the number of decimal digits without a leading zero, `0` itself aside, where 64 bits hold it
+unfoldable pub decimal_of : List ℕ → Option ℕ
+decimal_of text =
+    if has_leading_zero text then None else option_and_then fitting (digits_read 10 text)
 
--- a number from 1 to 4,294,967,295, in decimal digits without a leading zero; 48 is `0`
+-- a number from 1 on that is no greater than another
+abbrev pub up_to : ℕ → ℕ → Option ℕ
+up_to most number = if nat_lt 0 number && nat_le number most then Some number else None
+
+-- a number from 1 to 4,294,967,295
 unfoldable pub count_of : List ℕ → Option ℕ
-count_of [] = None
-count_of (first ∷ rest) =
-    if first == 48 then None
-    else if are_digits (first ∷ rest) && nat_lt (digits_value 10 (first ∷ rest)) (2 ^ 32) then Some (digits_value 10 (first ∷ rest))
-    else None
+count_of text = option_and_then (up_to (2 ^ 32 - 1)) (decimal_of text)
+
+-- a capture is generated with 200,000 frames at most
+abbrev pub most_generated : ℕ
+most_generated = 200000
+
+-- a number of 64 bits, a comma, 44, and how many frames
+abbrev pub generated : Option ℕ → Option ℕ → Option Source
+generated (Some number) (Some frames) = Some (Generated number frames)
+generated number frames = None
+
+abbrev pub generated_at : List ℕ → Option ℕ → Option Source
+generated_at text None = None
+generated_at text (Some comma) =
+    generated (decimal_of (take comma text))
+    (option_and_then (up_to most_generated) (decimal_of (drop (suc comma) text)))
+
+abbrev pub comma_in : List ℕ → Option ℕ
+comma_in text = position_from (λ b. b == 44) 0 text
+
+unfoldable pub generated_by : List ℕ → Option Source
+generated_by text = generated_at text (comma_in text)
 
 -- a kind of line
 abbrev pub kind_of : List ℕ → Option LineKind
@@ -39,7 +66,19 @@ abbrev pub kind_asked : Option (List ℕ) → LineKind
 kind_asked None = Text
 kind_asked (Some text) = unwrap_or (kind_of text) Text
 
--- whether a text is one of an option's values; `-q` has none
+-- a format of capture files
+abbrev pub format_of : List ℕ → Option CaptureFormat
+format_of text =
+    if bytes_eq text (codes "pcap") then Some Pcap
+    else if bytes_eq text (codes "pcapng") then Some Pcapng
+    else None
+
+-- the format that a value asks for, pcapng where there is none
+abbrev pub format_asked : Option (List ℕ) → CaptureFormat
+format_asked None = Pcapng
+format_asked (Some text) = unwrap_or (format_of text) Pcapng
+
+-- whether a text is one of an option's values; `-q` has none, and `-w` only `-`, which stands for the standard output
 abbrev pub is_value : Letter → List ℕ → Bool
 is_value Capture text = nat_lt 0 (length text)
 is_value Filter text = true
@@ -48,6 +87,9 @@ is_value Name text = true
 is_value Style text = is_setting text
 is_value Most text = is_some (count_of text)
 is_value Quiet text = false
+is_value Output text = bytes_eq text (codes "-")
+is_value Format text = is_some (format_of text)
+is_value SelfRun text = is_some (generated_by text)
 
 -- spaces, tabs, line feeds and carriage returns alone
 abbrev pub is_blank : List ℕ → Bool

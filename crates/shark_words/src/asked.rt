@@ -1,13 +1,14 @@
 // Options that are looked up among the uses of words.
 ghost use Rattle.std.specs.Prelude.{◌≡◌, IfOk, option_and_then, option_to_list};
 ghost use Rattle.std.specs.Option.{option_copied};
-ghost use Rattle.shark_words.specs.Asked.{column_use as column_use_of, column_word as column_word_in, is_column as is_column_letter, keyed, style_of as style_of_values, value_in as value_in_use, value_of as value_given, values_of as values_given};
+ghost use Rattle.shark_words.specs.Asked.{clash_word as clash_word_in, is_sought, is_unused as is_unused_for, keyed, style_of as style_of_values, value_in as value_in_use, value_of as value_given, values_of as values_given, word_in as word_in_use, word_of as first_word};
 ghost use Rattle.shark_words.specs.Keys.{character_of, header_of, occurrence_of, quote_of};
 ghost use Rattle.shark_words.specs.declared.key.Key.TheVariants.{Header, Occurrence as OccurrenceKey, Quote as QuoteKey};
 ghost use Rattle.shark_words.specs.declared.letter.Letter.TheVariants.{Style as StyleLetter};
 
 use crate::key::{Key, read_character, read_header, read_occurrence, read_quote};
 use crate::letter::Letter;
+use crate::options::LineKind;
 use crate::uses::Use;
 use out_lines::{Occurrence, Quote, Style};
 use pk_base::{NoMemory, Octets};
@@ -70,25 +71,29 @@ fn setting_of(uses: &[Use], key: Key) -> Option<&[u8]>
 }
 
 fn header_set(uses: &[Use]) -> Option<bool>
-    ensures { result ≡ option_and_then header_of (keyed Header (values_given StyleLetter uses.now)) }
+    ensures { result ≡ option_and_then header_of
+        (keyed Header (values_given StyleLetter uses.now)) }
 {
     read_header(setting_of(uses, Key::Header)?)
 }
 
 fn character_set(uses: &[Use], key: Key) -> Option<u8>
-    ensures { result ≡ option_and_then character_of (keyed key (values_given StyleLetter uses.now)) }
+    ensures { result ≡ option_and_then character_of
+        (keyed key (values_given StyleLetter uses.now)) }
 {
     read_character(setting_of(uses, key)?)
 }
 
 fn occurrence_set(uses: &[Use]) -> Option<Occurrence>
-    ensures { result ≡ option_and_then occurrence_of (keyed OccurrenceKey (values_given StyleLetter uses.now)) }
+    ensures { result ≡ option_and_then occurrence_of
+        (keyed OccurrenceKey (values_given StyleLetter uses.now)) }
 {
     read_occurrence(setting_of(uses, Key::Occurrence)?)
 }
 
 fn quote_set(uses: &[Use]) -> Option<Quote>
-    ensures { result ≡ option_and_then quote_of (keyed QuoteKey (values_given StyleLetter uses.now)) }
+    ensures { result ≡ option_and_then quote_of
+        (keyed QuoteKey (values_given StyleLetter uses.now)) }
 {
     read_quote(setting_of(uses, Key::Quote)?)
 }
@@ -106,30 +111,68 @@ pub(crate) fn style_of(uses: &[Use]) -> Style
     }
 }
 
-fn is_column(letter: Letter) -> bool
-    ensures { result ≡ is_column_letter letter }
-{
-    matches!(letter, Letter::Name | Letter::Style)
+/// Which options are looked for.
+#[derive(Clone, Copy)]
+pub(crate) enum Sought {
+    /// `-w`.
+    Output,
+    /// Those that can't stand beside `-w`.
+    Clashing,
+    /// Those that have no effect on lines of this kind, and where a capture is written or not.
+    Unused(LineKind, bool),
 }
 
-fn column_use(used: &Use) -> Option<u64>
-    ensures { result ≡ column_use_of used.now }
+// Whether an option has no effect: `-e` and `-E` are for the lines of fields alone, `-F` for a capture that is written.
+fn is_unused(letter: Letter, kind: LineKind, written: bool) -> bool
+    ensures { result ≡ is_unused_for kind written letter }
+{
+    match letter {
+        Letter::Name | Letter::Style => kind != LineKind::Fields,
+        Letter::Format => !written,
+        _ => false,
+    }
+}
+
+impl Sought {
+    fn includes(self, letter: Letter) -> bool
+        ensures { result ≡ is_sought self letter }
+    {
+        match self {
+            Sought::Output => letter == Letter::Output,
+            Sought::Clashing => matches!(letter, Letter::Kind | Letter::Quiet | Letter::SelfRun),
+            Sought::Unused(kind, written) => is_unused(letter, kind, written),
+        }
+    }
+}
+
+// The word of a use, where it is one of the options that are looked for.
+fn word_in(used: &Use, sought: Sought) -> Option<u64>
+    ensures { result ≡ word_in_use (is_sought sought) used.now }
 {
     match used {
-        Use::Given(given) if is_column(given.letter) => Some(given.word),
+        Use::Given(given) if sought.includes(given.letter) => Some(given.word),
         Use::Given(_) | Use::Stray(_) | Use::Unknown(_) => None,
     }
 }
 
-/// The word of the first option that is of use for the lines of fields alone.
-pub(crate) fn column_word(uses: &[Use]) -> Option<u64>
-    ensures { result ≡ column_word_in uses.now }
+/// The word of the first option that is looked for.
+pub(crate) fn word_of(uses: &[Use], sought: Sought) -> Option<u64>
+    ensures { result ≡ first_word (is_sought sought) uses.now }
 {
     for used in uses {
-        let word = column_use(used);
+        let word = word_in(used, sought);
         if word.is_some() {
             return word;
         }
     }
     None
+}
+
+/// The first word up to which `-w` stands and an option that can't stand beside it.
+pub(crate) fn clash_word(uses: &[Use]) -> Option<u64>
+    ensures { result ≡ clash_word_in uses.now }
+{
+    let output = word_of(uses, Sought::Output)?;
+    let clashing = word_of(uses, Sought::Clashing)?;
+    Some(output.max(clashing))
 }

@@ -1,7 +1,7 @@
 use pk_base::NoMemory;
 use std::alloc::{AllocError, AllocFailed};
 
-/// Why words are refused, in the order of the names A1 to A8.
+/// Why words are refused, in the order of the names A1 to A9.
 #[derive(Clone, Copy, Debug, PartialEq, Eq)]
 pub enum WordReason {
     /// A1: a letter or a long option isn't known.
@@ -10,9 +10,9 @@ pub enum WordReason {
     MissingValue,
     /// A3: a word is neither an option nor an option's value.
     StrayWord,
-    /// A4: no capture file is named.
+    /// A4: there is no capture, neither a file nor a generated one.
     NoFile,
-    /// A5: an option that may come once comes again.
+    /// A5: an option that may come once comes again, or a second capture.
     Repeated,
     /// A6: a value isn't one of its option's.
     BadValue,
@@ -20,6 +20,8 @@ pub enum WordReason {
     NoFields,
     /// A8: an option has no effect.
     Unused,
+    /// A9: an option can't stand beside `-w`.
+    Clash,
 }
 
 /// A reason to refuse words, and the word that shows it, numbered from 1.

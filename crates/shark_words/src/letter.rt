@@ -18,6 +18,12 @@ pub(crate) enum Letter {
     Most,
     /// `-q`: no lines of frames.
     Quiet,
+    /// `-w -`: the frames are written as a capture file, in place of lines.
+    Output,
+    /// `-F FORMAT`: the format of that file.
+    Format,
+    /// `--self-run NUMBER,FRAMES`: a generated capture in place of a file. The one option without a letter.
+    SelfRun,
 }
 
 impl Letter {
@@ -32,6 +38,8 @@ impl Letter {
             b'E' => Some(Letter::Style),
             b'c' => Some(Letter::Most),
             b'q' => Some(Letter::Quiet),
+            b'w' => Some(Letter::Output),
+            b'F' => Some(Letter::Format),
             _ => None,
         }
     }

@@ -17,3 +17,4 @@ mod values;
 pub use fault::{WordFault, WordReason, WordsError};
 pub use options::{LineKind, NameList, Options, Source};
 pub use read::read_words;
+pub use values::read_format;

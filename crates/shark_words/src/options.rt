@@ -1,5 +1,6 @@
 ghost use Rattle.std.specs.Prelude.{◌≡◌};
 
+use capture_write::Format;
 use out_lines::Style;
 use pk_base::Octets;
 use std::marker::Model;
@@ -9,6 +10,8 @@ use std::marker::Model;
 pub enum Source {
     /// The capture file of this name.
     Named(Octets),
+    /// The capture that a number stands for, of so many frames.
+    Generated(u64, u32),
 }
 
 /// What kind of line a frame has.
@@ -63,6 +66,8 @@ pub struct Options {
     pub style: Style,
     /// How many frames are read at most.
     pub most: Option<u32>,
-    /// Whether the header line and the lines of frames are left out.
+    /// Whether `-q` asks for no header line and no lines of frames.
     pub quiet: bool,
+    /// The format of the capture file that is written in place of all lines, where one is.
+    pub written: Option<Format>,
 }

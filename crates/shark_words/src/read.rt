@@ -1,18 +1,24 @@
-ghost use Rattle.std.specs.Prelude.{◌≡◌, ℕ, List, Ok, IfOk, option_and_then};
+ghost use Rattle.std.specs.Prelude.{◌≡◌, List, Some, Ok, IfOk, option_and_then};
 ghost use Rattle.std.specs.Option.{option_copied};
+ghost use Rattle.shark_words.specs.declared.letter.Letter.TheVariants.{Output as OutputLetter, Format as FormatLetter};
+ghost use Rattle.shark_words.specs.declared.options.Source.{Source as IsSource};
+ghost use Rattle.shark_words.specs.Asked.{value_of as value_given};
+ghost use Rattle.shark_words.specs.Faults.{is_given as is_given_in};
 ghost use Rattle.shark_words.specs.Utf8.{AreUtf8};
+ghost use Rattle.shark_words.specs.Sound.{AreSound};
 ghost use Rattle.shark_words.specs.Words.{texts};
-ghost use Rattle.shark_words.specs.Values.{count_of, kind_asked, shown_filter as filter_shown};
+ghost use Rattle.shark_words.specs.Values.{count_of, format_asked, kind_asked, shown_filter as filter_shown};
 ghost use Rattle.shark_words.specs.Spelled.{Spelled, spelled_words, asked_by, IsCommand, IsAsked};
-ghost use Rattle.shark_words.specs.Options.{column_fault as column_fault_of, options_of, Gives};
+ghost use Rattle.shark_words.specs.Options.{asked, clash_fault as clash_fault_of, fields_fault as fields_fault_of, format_written as format_written_by, options_of, source_of as source_given, together_fault as together_fault_of, unused_fault as unused_fault_of, Gives};
 
-use crate::asked::{column_word, style_of, value_of, values_of};
+use crate::asked::{Sought, clash_word, style_of, value_of, values_of, word_of};
 use crate::fault::{WordFault, WordReason, WordsError};
 use crate::faults::{first_fault, is_given};
 use crate::letter::Letter;
 use crate::options::{LineKind, NameList, Options, Source};
 use crate::uses::{Use, uses_of};
-use crate::values::{is_blank, read_count, read_kind};
+use crate::values::{is_blank, read_count, read_format, read_generated, read_kind};
+use capture_write::Format;
 use pk_base::{NoMemory, Octets};
 use std::alloc::Global;
 
@@ -42,40 +48,100 @@ fn line_kind(kind: Option<&Octets>) -> LineKind
     }
 }
 
-// What is wrong with the columns for this kind of line.
-fn column_fault(behind: u64, uses: &[Use], kind: LineKind) -> Option<WordFault>
-    ensures { result ≡ column_fault_of behind uses.now kind }
+fn asked_format(format: Option<&Octets>) -> Format
+    ensures { result ≡ format_asked (option_copied format.entry) }
+{
+    match format {
+        Some(format) => read_format(format.bytes()).unwrap_or(Format::Pcapng),
+        None => Format::Pcapng,
+    }
+}
+
+// The format of the capture that is written, where one is.
+fn format_written(uses: &[Use]) -> Option<Format>
+    ensures { result ≡ format_written_by (is_given_in OutputLetter uses.now)
+        (value_given FormatLetter uses.now) }
+{
+    if is_given(uses, Letter::Output) {
+        Some(asked_format(value_of(uses, Letter::Format)))
+    } else {
+        None
+    }
+}
+
+// Where the frames come from.
+#[tactic(auto, unfolding(crate::specs::Options::source_of))]
+fn source_of(uses: &[Use]) -> Result<Option<Source>, NoMemory>
+    ensures { IfOk result (λ source. source ≡ source_given uses.now) }
+{
+    if let Some(name) = value_of(uses, Letter::Capture) {
+        return Ok(Some(Source::Named(name.clone()?)));
+    }
+    match value_of(uses, Letter::SelfRun) {
+        Some(numbers) => Ok(read_generated(numbers.bytes())),
+        None => Ok(None),
+    }
+}
+
+// What is wrong with the lines of fields: they need a name.
+fn fields_fault(behind: u64, uses: &[Use], kind: LineKind) -> Option<WordFault>
+    ensures { result ≡ fields_fault_of behind uses.now kind }
 {
     match kind {
-        LineKind::Fields if is_given(uses, Letter::Name) => None,
-        LineKind::Fields => Some(WordFault {
+        LineKind::Fields if !is_given(uses, Letter::Name) => Some(WordFault {
             word: behind,
             reason: WordReason::NoFields,
         }),
-        LineKind::Text | LineKind::Json => Some(WordFault {
-            word: column_word(uses)?,
-            reason: WordReason::Unused,
-        }),
+        LineKind::Fields | LineKind::Text | LineKind::Json => None,
     }
+}
+
+fn unused_fault(uses: &[Use], kind: LineKind) -> Option<WordFault>
+    ensures { result ≡ unused_fault_of uses.now kind }
+{
+    Some(WordFault {
+        word: word_of(uses, Sought::Unused(kind, is_given(uses, Letter::Output)))?,
+        reason: WordReason::Unused,
+    })
+}
+
+fn clash_fault(uses: &[Use]) -> Option<WordFault>
+    ensures { result ≡ clash_fault_of uses.now }
+{
+    Some(WordFault {
+        word: clash_word(uses)?,
+        reason: WordReason::Clash,
+    })
+}
+
+// What is wrong with the options together.
+#[tactic(auto, unfolding(crate::specs::Options::together_fault))]
+fn together_fault(behind: u64, uses: &[Use], kind: LineKind) -> Option<WordFault>
+    ensures { result ≡ together_fault_of behind uses.now kind }
+{
+    fields_fault(behind, uses, kind)
+        .or_else(|| unused_fault(uses, kind))
+        .or_else(|| clash_fault(uses))
 }
 
 /// Reads the options that the words of a command line give, or refuses them.
 ///
-/// A word that begins with `-` and has more is a cluster of letters: `-r`, `-Y`, `-T`, `-e`, `-E` and `-c`, whose value is
-/// what is left of the word, or the next word where nothing is left, and `-q`, which has none. Words are numbered from 1, and
-/// the first fault in their order is told.
+/// A word that begins with `-` and has more is `--self-run`, whose value is the next word, or a cluster of letters: `-r`, `-Y`,
+/// `-T`, `-e`, `-E`, `-c`, `-w` and `-F`, whose value is what is left of the word, or the next word where nothing is left, and
+/// `-q`, which has none. Words are numbered from 1, and the first fault in their order is told.
 #[tactic(auto, using(crate::proofs::Utf8Lemmas::answered_are_utf8))]
 pub fn read_words(alloc: Global, words: &[String]) -> Result<Options, WordsError>
     ensures computed { Gives result (options_of (texts words.now)) }
-    ensures found { (name : List ℕ) → (all : List Spelled) → texts words.now ≡ spelled_words all → IsCommand name all
-        → Gives result (Ok (asked_by name all)) }
+    ensures found { (source : IsSource) → (all : List Spelled) → texts words.now ≡ spelled_words all
+        → IsCommand source all → Gives result (Ok (asked_by source all)) }
     ensures only { IfOk result (λ options. IsAsked (texts words.now) options) }
     ensures utf8 { IfOk result AreUtf8 }
+    ensures sound { IfOk result AreSound }
 {
     options_in(alloc, words)
 }
 
-// First the faults word by word, then what is missing in all, then what is of no use.
+// First the faults word by word, then what is missing in all.
 #[tactic(auto, unfolding(crate::specs::Options::options_of))]
 fn options_in(alloc: Global, words: &[String]) -> Result<Options, WordsError>
     ensures { Gives result (options_of (texts words.now)) }
@@ -85,23 +151,36 @@ fn options_in(alloc: Global, words: &[String]) -> Result<Options, WordsError>
         return Err(WordsError::Fault(fault));
     }
     let behind = words.len() as u64 + 1;
-    let Some(name) = value_of(&uses, Letter::Capture) else {
-        return Err(WordsError::Fault(WordFault {
+    match source_of(&uses)? {
+        Some(source) => options_from(alloc, &uses, behind, source),
+        None => Err(WordsError::Fault(WordFault {
             word: behind,
             reason: WordReason::NoFile,
-        }));
-    };
-    let kind = line_kind(value_of(&uses, Letter::Kind));
-    if let Some(fault) = column_fault(behind, &uses, kind) {
+        })),
+    }
+}
+
+// First what is of no use and what can't stand together, then the options.
+fn options_from(
+    alloc: Global,
+    uses: &[Use],
+    behind: u64,
+    source: Source,
+) -> Result<Options, WordsError>
+    ensures { Gives result (asked behind uses.now (Some source)) }
+{
+    let kind = line_kind(value_of(uses, Letter::Kind));
+    if let Some(fault) = together_fault(behind, uses, kind) {
         return Err(WordsError::Fault(fault));
     }
     Ok(Options {
-        source: Source::Named(name.clone()?),
-        filter: shown_filter(value_of(&uses, Letter::Filter))?,
+        source,
+        filter: shown_filter(value_of(uses, Letter::Filter))?,
         kind,
-        names: NameList::from_vec(values_of(alloc, &uses, Letter::Name)?),
-        style: style_of(&uses),
-        most: read_most(value_of(&uses, Letter::Most)),
-        quiet: is_given(&uses, Letter::Quiet),
+        names: NameList::from_vec(values_of(alloc, uses, Letter::Name)?),
+        style: style_of(uses),
+        most: read_most(value_of(uses, Letter::Most)),
+        quiet: is_given(uses, Letter::Quiet),
+        written: format_written(uses),
     })
 }

@@ -21,6 +21,8 @@ pub(crate) fn slot_of(letter: Letter, text: &[u8]) -> Option<Slot>
     match letter {
         Letter::Name => None,
         Letter::Style => key_of(text).map(Slot::Key),
+        // A second capture comes again, whatever names it.
+        Letter::SelfRun => Some(Slot::Letter(Letter::Capture)),
         letter => Some(Slot::Letter(letter)),
     }
 }

@@ -1,6 +1,7 @@
 //! Command lines as a user writes them, a word each, and what is asked for or refused.
 
 use super::*;
+use capture_write::Format;
 use out_lines::{Occurrence, Quote, Style};
 use pk_base::Octets;
 use std::alloc::{AllocError, Global};
@@ -35,6 +36,20 @@ fn bytes_of(text: &Option<Octets>) -> Option<&[u8]> {
     match text {
         Some(text) => Some(text.bytes()),
         None => None,
+    }
+}
+
+fn is_named(source: &Source, name: &[u8]) -> bool {
+    match source {
+        Source::Named(text) => text.bytes() == name,
+        Source::Generated(_, _) => false,
+    }
+}
+
+fn generated_by(source: &Source) -> Option<(u64, u32)> {
+    match source {
+        Source::Named(_) => None,
+        Source::Generated(number, frames) => Some((*number, *frames)),
     }
 }
 
@@ -107,8 +122,8 @@ fn options_are_read_in_any_order(rt: HostRuntime) -> Result<(), Fail> {
     let options = read_words(rt.alloc(), &words)?;
     assert_eq!(rt; options.style, Style::default());
     assert!(rt; !options.quiet);
-    let Source::Named(name) = &options.source;
-    assert_eq!(rt; name.bytes(), b"one.pcap".as_slice());
+    assert!(rt; is_named(&options.source, b"one.pcap"));
+    assert_eq!(rt; options.written, None);
     assert_eq!(rt; bytes_of(&options.filter), Some(b"arp".as_slice()));
     assert_eq!(rt; options.kind, LineKind::Fields);
     assert_eq!(rt; options.most, Some(2));
@@ -129,8 +144,7 @@ fn what_follows_an_option_is_its_value(rt: HostRuntime) -> Result<(), Fail> {
         ],
     )?;
     let options = read_words(rt.alloc(), &words)?;
-    let Source::Named(name) = &options.source;
-    assert_eq!(rt; name.bytes(), b"-".as_slice());
+    assert!(rt; is_named(&options.source, b"-"));
     assert!(rt; options.filter.is_none());
     assert_eq!(rt; options.most, None);
     let names = options.names.slice();
@@ -247,7 +261,7 @@ fn many_names_are_read(rt: HostRuntime) -> Result<(), Fail> {
 }
 
 /// Command lines, a space between two words, each behind what is answered: `ok`, or the word and the reason of the refusal.
-static COMMANDS: [&str; 90] = [
+static COMMANDS: [&str; 135] = [
     // Each letter in a word of its own, in a cluster, twice, without a value, with a bad value.
     "ok: -r f",
     "ok: -rf",
@@ -310,9 +324,56 @@ static COMMANDS: [&str; 90] = [
     "1 A1: -d tcp.port==80,http",
     "1 A1: -z follow,tcp,raw,0",
     "1 A1: --filter-stats -r f",
-    "1 A1: --self-run 1,1",
+    // A generated capture: its number and how many frames, in a word of its own.
+    "ok: --self-run 1,1",
+    "ok: --self-run 0,200000 -q -Y dns -c 3",
+    "ok: -Tfields --self-run 18446744073709551615,1 -e a",
+    "1 A2: --self-run",
+    "2 A6: --self-run 1",
+    "2 A6: --self-run 1,0",
+    "2 A6: --self-run 1,200001",
+    "2 A6: --self-run 18446744073709551616,1",
+    "2 A6: --self-run 01,1",
+    "2 A6: --self-run 1,01",
+    "2 A6: --self-run ,1",
+    "2 A6: --self-run 1,",
+    "2 A6: --self-run 1,1,1",
+    "2 A6: --self-run +1,1",
+    "2 A6: --self-run -r f",
+    "3 A5: --self-run 1,1 --self-run 1,1",
+    "3 A5: --self-run 1,1 -rf",
+    "3 A5: -r f --self-run 1,1",
+    "3 A5: -r f --self-run",
     "1 A1: --self-run=1,1",
-    "1 A1: -w - -r f",
+    "1 A1: --self-runs 1,1",
+    "1 A1: --self 1,1",
+    "1 A1: -self-run 1,1",
+    // A capture that is written, alone and beside other options.
+    "ok: -r f -w -",
+    "ok: -w- -Y arp -rf -c 1",
+    "ok: -F pcap -r f -w -",
+    "ok: -r f -w - -Fpcapng",
+    "4 A6: -r f -w x",
+    "3 A6: -r f -w--",
+    "3 A2: -r f -w",
+    "6 A6: -r f -w - -F Pcap",
+    "5 A6: -r f -w - -Fpcapx",
+    "5 A2: -r f -w - -F",
+    "5 A5: -r f -w - -w -",
+    "7 A5: -r f -w - -F pcap -F pcap",
+    "3 A8: -r f -F pcap",
+    "4 A8: -r f -q -F pcap -e a",
+    "5 A8: -r f -w - -e a",
+    "3 A4: -w -",
+    "7 A7: -r f -w - -T fields",
+    "9 A9: -r f -T fields -e a -e b -w -",
+    "5 A9: -r f -w - -T text",
+    "5 A9: -r f -w - -Tfields -e a",
+    "4 A9: -r f -q -w -",
+    "3 A9: -w - -q -r f -T json",
+    "3 A9: -r f -qw-",
+    "3 A9: --self-run 1,1 -w -",
+    "3 A9: -w - --self-run 1,1",
     "2 A4: -q",
     // Each key of `-E`, its values, twice, with a bad value.
     "ok: -r f -Tfields -e a -E header=y",
@@ -352,6 +413,7 @@ fn code_of(reason: WordReason) -> &'static str {
         WordReason::BadValue => "A6",
         WordReason::NoFields => "A7",
         WordReason::Unused => "A8",
+        WordReason::Clash => "A9",
     }
 }
 
@@ -382,6 +444,23 @@ fn command_lines_are_read_or_refused(rt: HostRuntime) -> Result<(), Fail> {
             assert_eq!(rt; given.as_str(), answer, "{words}");
         }
     }
+    Ok(())
+}
+
+#[test]
+fn captures_are_generated_and_written(rt: HostRuntime) -> Result<(), Fail> {
+    let made = read_words(
+        rt.alloc(),
+        &words_of(rt.alloc(), &["--self-run", "42,200000"])?,
+    )?;
+    assert_eq!(rt; generated_by(&made.source), Some((42, 200_000)));
+    let pcap = read_words(
+        rt.alloc(),
+        &words_of(rt.alloc(), &["-rf", "-w-", "-Fpcap"])?,
+    )?;
+    assert_eq!(rt; pcap.written, Some(Format::Pcap));
+    let pcapng = read_words(rt.alloc(), &words_of(rt.alloc(), &["-w-", "-rf"])?)?;
+    assert_eq!(rt; pcapng.written, Some(Format::Pcapng));
     Ok(())
 }
 

@@ -9,6 +9,9 @@ use crate::letter::Letter;
 use pk_base::{NoMemory, Octets};
 use std::alloc::Global;
 
+/// What stands behind the first `-` of `--self-run`.
+const SELF_RUN: &[u8] = b"-self-run";
+
 /// An option's value, and the number of the word that it stands in.
 #[derive(Drop)]
 pub(crate) struct Value {
@@ -79,7 +82,8 @@ fn take_value(
     rest: &[u8],
 ) -> Result<Option<Letter>, NoMemory>
     ensures { IfOk result (λ waiting. (behind : Option IsLetter → List IsUse) →
-        uses.old.items ++ value_uses number letter rest.now behind ≡ uses.new.items ++ behind waiting) }
+        uses.old.items ++ value_uses number letter rest.now behind
+        ≡ uses.new.items ++ behind waiting) }
 {
     if rest.is_empty() {
         return Ok(Some(letter));
@@ -97,7 +101,8 @@ fn take_letters(
     letters: &[u8],
 ) -> Result<Option<Letter>, NoMemory>
     ensures { IfOk result (λ waiting. (behind : Option IsLetter → List IsUse) →
-        uses.old.items ++ cluster_uses number letters.now behind ≡ uses.new.items ++ behind waiting) }
+        uses.old.items ++ cluster_uses number letters.now behind
+        ≡ uses.new.items ++ behind waiting) }
 {
     for (at, byte) in letters.iter().enumerate() {
         // All letters are known, up to the first with a value.
@@ -127,6 +132,9 @@ fn take_option(
         return Ok(None);
     };
     let letters = &word[1..];
+    if letters == SELF_RUN {
+        return Ok(Some(Letter::SelfRun));
+    }
     if is_cluster(letters) {
         return take_letters(alloc, uses, number, letters);
     }
@@ -145,7 +153,8 @@ fn take_word(
 ) -> Result<Option<Letter>, NoMemory>
     requires { before < 2 ^ 64 - 1 }
     ensures { IfOk result (λ next. (words : List (List ℕ)) →
-        uses.old.items ++ uses_from before waiting (word.now ∷ words) ≡ uses.new.items ++ uses_from (before + 1) next words) }
+        uses.old.items ++ uses_from before waiting (word.now ∷ words)
+        ≡ uses.new.items ++ uses_from (before + 1) next words) }
 {
     let number = before + 1;
     match waiting {

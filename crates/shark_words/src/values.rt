@@ -1,21 +1,39 @@
 // What an option's value may be.
-ghost use Rattle.std.specs.Prelude.{◌≡◌};
-ghost use Rattle.shark_words.specs.Values.{count_of, digits_read, kind_of as kind_of_text, is_value as is_value_of, is_blank as is_blank_text};
+ghost use Rattle.std.specs.Prelude.{◌≡◌, ◌<◌, length, IfSome, option_and_then};
+ghost use Rattle.shark_words.specs.Values.{comma_in as comma_place, count_of, decimal_of, format_of as format_of_text, generated_by, is_blank as is_blank_text, is_value as is_value_of, kind_of as kind_of_text, most_generated, up_to as up_to_most};
 
 use crate::key::is_setting;
 use crate::letter::Letter;
-use crate::options::LineKind;
+use crate::options::{LineKind, Source};
+use capture_write::Format;
+use pk_text::{Wide, read_digits};
 
-// The number of decimal digits, as far as 64 bits hold it.
-fn read_digits(text: &[u8]) -> Option<u64>
-    ensures { result ≡ digits_read text.now }
+/// A capture is generated with so many frames at most.
+const MOST_GENERATED: u64 = 200_000;
+
+// A number in decimal digits without a leading zero, `0` itself aside.
+#[tactic(auto, unfolding(crate::specs::Values::decimal_of))]
+fn read_decimal(text: &[u8]) -> Option<u64>
+    ensures { result ≡ decimal_of text.now }
 {
-    let mut number: u64 = 0;
-    for byte in text {
-        let digit = char::from(*byte).to_digit(10)?;
-        number = number.saturating_mul(10).saturating_add(u64::from(digit));
+    if let [b'0', _, ..] = text {
+        return None;
     }
-    Some(number)
+    match read_digits(text, 10)? {
+        Wide::Fits(number) => Some(number),
+        Wide::Beyond => None,
+    }
+}
+
+// A number from 1 on that is no greater than another.
+fn up_to(most: u64, number: u64) -> Option<u64>
+    ensures { result ≡ up_to_most most number }
+{
+    if number > 0 && number <= most {
+        Some(number)
+    } else {
+        None
+    }
 }
 
 /// A number from 1 to 4,294,967,295 in decimal digits without a leading zero.
@@ -23,10 +41,34 @@ fn read_digits(text: &[u8]) -> Option<u64>
 pub(crate) fn read_count(text: &[u8]) -> Option<u32>
     ensures { result ≡ count_of text.now }
 {
-    match text {
-        [] | [b'0', ..] => None,
-        digits => u32::try_from(read_digits(digits)?).ok(),
-    }
+    let count = up_to(u64::from(u32::MAX), read_decimal(text)?)?;
+    u32::try_from(count).ok()
+}
+
+fn read_frames(text: &[u8]) -> Option<u32>
+    ensures { result ≡ option_and_then (up_to_most most_generated) (decimal_of text.now) }
+{
+    let frames = up_to(MOST_GENERATED, read_decimal(text)?)?;
+    u32::try_from(frames).ok()
+}
+
+// The place of the first comma.
+fn comma_in(text: &[u8]) -> Option<usize>
+    ensures place { result ≡ comma_place text.now }
+    ensures inside { IfSome result (λ at. at < length text.now) }
+{
+    text.iter().position(|byte| *byte == b',')
+}
+
+/// A generated capture: its number, a comma, and how many frames it has.
+#[tactic(auto, unfolding(crate::specs::Values::generated_by))]
+pub(crate) fn read_generated(text: &[u8]) -> Option<Source>
+    ensures { result ≡ generated_by text.now }
+{
+    let comma = comma_in(text)?;
+    let number = read_decimal(&text[..comma])?;
+    let frames = read_frames(&text[comma + 1..])?;
+    Some(Source::Generated(number, frames))
 }
 
 pub(crate) fn read_kind(text: &[u8]) -> Option<LineKind>
@@ -43,6 +85,19 @@ pub(crate) fn read_kind(text: &[u8]) -> Option<LineKind>
     }
 }
 
+/// The format of capture files that has this name.
+pub fn read_format(text: &[u8]) -> Option<Format>
+    ensures { result ≡ format_of_text text.now }
+{
+    if text == b"pcap".as_slice() {
+        Some(Format::Pcap)
+    } else if text == b"pcapng".as_slice() {
+        Some(Format::Pcapng)
+    } else {
+        None
+    }
+}
+
 /// Whether a text is one of an option's values.
 pub(crate) fn is_value(letter: Letter, text: &[u8]) -> bool
     ensures { result ≡ is_value_of letter text.now }
@@ -54,6 +109,9 @@ pub(crate) fn is_value(letter: Letter, text: &[u8]) -> bool
         Letter::Style => is_setting(text),
         Letter::Most => read_count(text).is_some(),
         Letter::Quiet => false,
+        Letter::Output => text == b"-".as_slice(),
+        Letter::Format => read_format(text).is_some(),
+        Letter::SelfRun => read_generated(text).is_some(),
     }
 }
 

@@ -1,5 +1,6 @@
 use Rattle.shark_words.specs.Words.{texts}
-use Rattle.shark_words.proofs.Spelling.{answered_found, answered_only}
+use Rattle.shark_words.proofs.Commands.{answered_found, answered_only}
+use Rattle.shark_words.proofs.SoundLemmas.{answered_sound}
 use Rattle.shark_words.proofs.read.read_words.Goals as goal
 
 pub returns-clause-found : goal.returns-clause-found
@@ -7,3 +8,7 @@ returns-clause-found c = answered_found (texts c.args.words.now) c.options_in.re
 
 pub returns-clause-only : goal.returns-clause-only
 returns-clause-only c = answered_only (texts c.args.words.now) c.options_in.result c.options_in.ensures
+
+pub returns-clause-sound : goal.returns-clause-sound
+returns-clause-sound c =
+    answered_sound (texts c.args.words.now) c.options_in.result (answered_only (texts c.args.words.now) c.options_in.result c.options_in.ensures)
