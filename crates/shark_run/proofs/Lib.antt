@@ -1,3 +1,4 @@
+mod ClosingLemmas
 mod EitherLemmas
 mod FrontLemmas
 mod LawLemmas
@@ -7,6 +8,7 @@ mod RuleLemmas
 mod Times
 mod Together
 mod ToldLemmas
+mod TotalsLemmas
 mod WantedLemmas
 mod WayLemmas
 mod WordLemmas
