@@ -10,12 +10,12 @@ use Rattle.flt_types.proofs.Sure.{typed_or_refused}
 use Rattle.shark_words.specs.declared.options.Options.{Options}
 use Rattle.shark_words.specs.declared.fault.WordFault.{WordFault}
 use Rattle.shark_words.specs.Options.{options_of}
-use Rattle.shark_words.specs.Utf8.{name_in}
 use Rattle.shark_run.specs.declared.plan.Plan.{Plan}
 use Rattle.shark_run.specs.declared.plan.Refused.{Refused}
 use Rattle.shark_run.specs.declared.plan.Refused.TheVariants as refused
 use Rattle.shark_run.specs.Answers.{is_of_size, IsSure}
 use Rattle.shark_run.specs.Columns.{fields_named}
+use Rattle.shark_run.specs.Source.{source_in}
 use Rattle.shark_run.specs.Laws.{PlanOrReason}
 use Rattle.shark_run.specs.Plan.{IsFaultAsked, IsFilterAsked, IsPlan, IsPlanFor, IsRefusal, IsRefusalFor}
 use Rattle.shark_run.proofs.PlanLemmas.{IsOfName, names_alone}
@@ -47,7 +47,7 @@ with_names : (options : Options) (filter : Option Typed) (fields : Result (List 
     → IsOfName fields → fields_named options.names ≡ fields → OptionsAnswered options
 with_names options filter (Ok fields) asked alone is =
     let plan : Plan = record {
-      name = name_in options.source;
+      source = source_in options.source;
       filter = filter;
       fields = fields;
       most = options.most;
@@ -55,7 +55,7 @@ with_names options filter (Ok fields) asked alone is =
       style = options.style;
       quiet = options.quiet;
     } in
-    inl (plan, record { name = refl; filter = asked; fields = is; most = refl; kind = refl; style = refl; quiet = refl })
+    inl (plan, record { source = refl; filter = asked; fields = is; most = refl; kind = refl; style = refl; quiet = refl })
 with_names options filter (Err (refused.Field name)) asked alone is = inr (refused.Field name, ((filter, asked), is), tt)
 with_names options filter (Err reason) asked alone is = absurd alone
 

@@ -1,7 +1,8 @@
 -- Two plans of the same words, and two reasons to refuse them.
-use Rattle.std.proofs.Common.{◌≡◌, ⊎_elim, ℕ, Bool, false, not, ◌&&◌, List, [], ◌∷◌, ◌++◌, Option, None, Some, Ok, Err, IsTrue, if◌then◌else◌, refl, sym, ◌∙◌, ap, subst}
+use Rattle.std.proofs.Common.{◌≡◌, ⊎_elim, ℕ, suc, Bool, false, not, ◌&&◌, ◌||◌, reverse, List, [], ◌∷◌, ◌++◌, Option, None, Some, Ok, Err, IsTrue, if◌then◌else◌, refl, sym, ◌∙◌, ap, subst}
 use Rattle.capture_read.specs.Capture.{capture_of}
 use Rattle.capture_read.specs.declared.frame.Frame.{Frame}
+use Rattle.dissect.specs.Trees.{tree_at}
 use Rattle.pk_tree.specs.Trees.{TreeShown}
 use Rattle.out_lines.specs.Lines.{field_line_of, header_of}
 use Rattle.out_lines.specs.declared.style.Style.{Style}
@@ -20,7 +21,12 @@ use Rattle.shark_run.specs.declared.plan.Refused.{Refused}
 use Rattle.shark_run.specs.declared.plan.Refused.TheVariants as refused
 use Rattle.shark_run.specs.Answers.{is_of_size, IsSure}
 use Rattle.shark_run.specs.Laws.{AreAlike, NeverBoth, OneReason, PlansAreAlike}
-use Rattle.shark_run.specs.Lines.{shown, frame_lines, trees_after, is_headed, line_by, line_of, opening, closing, output_of, satisfies}
+use Rattle.shark_run.specs.declared.source.PlanSource.{PlanSource}
+use Rattle.shark_run.specs.Accessors.{is_quiet}
+use Rattle.shark_run.specs.Lines.{shown, piece, pieces, is_headed, line_by, line_of, opening, closing, output_of}
+use Rattle.shark_run.specs.Satisfied.{satisfies}
+use Rattle.shark_run.specs.SelfRun.{line_with, self_run_line, shown_count, trees_of}
+use Rattle.shark_run.specs.Source.{is_generated_by}
 use Rattle.shark_run.specs.Plan.{IsFaultAsked, IsFilterAsked, IsPlan, IsPlanFor, IsRefusal, IsRefusalFor}
 use Rattle.shark_run.specs.Reading.{limited, frames_read}
 use Rattle.shark_run.proofs.PlanLemmas.{filter_or_fault, of_size, refused_not_planned, same_options}
@@ -75,12 +81,18 @@ one_reason words (refused.Filter f) (refused.Field name) is also sure certain = 
 one_reason words (refused.Field name) (refused.Filter g) is also sure certain = one_of_options words (refused.Field name) (refused.Filter g) sure certain is also
 one_reason words (refused.Field name) (refused.Field known) is also sure certain = one_of_options words (refused.Field name) (refused.Field known) sure certain is also
 
--- the same kind of line, of the same fields, in the same style
+-- the same source, the same kind of line, of the same fields, in the same style
 pub record AreWrittenAlike (one other : Plan) : Type 0 where
+  source : one.source ≡ other.source
   kind : one.kind ≡ other.kind
   fields : one.fields ≡ other.fields
   style : one.style ≡ other.style
   quiet : one.quiet ≡ other.quiet
+
+same_quiet : (one other : Plan) → AreWrittenAlike one other → is_quiet one ≡ is_quiet other
+same_quiet one other alike =
+    ap (λ (source : PlanSource). is_generated_by source || one.quiet) alike.source
+    ∙ ap (λ (quiet : Bool). is_generated_by other.source || quiet) alike.quiet
 
 same_line : (kind : LineKind) (one other : Plan) (tree : TreeShown) → one.fields ≡ other.fields → one.style ≡ other.style → line_by kind one tree ≡ line_by kind other tree
 same_line Text one other tree fields style = refl
@@ -91,24 +103,24 @@ same_line Fields one other tree fields style =
 same_shown : (one other : Plan) (tree : TreeShown) → AreWrittenAlike one other → satisfies one.filter tree ≡ satisfies other.filter tree
     → shown one tree ≡ shown other tree
 same_shown one other tree alike truth =
-    ap (λ (q : Bool). if q then [] else if satisfies one.filter tree then line_of one tree else []) alike.quiet
-    ∙ ap (λ (b : Bool). if other.quiet then [] else if b then line_of one tree else []) truth
-    ∙ ap (λ (line : List ℕ). if other.quiet then [] else if satisfies other.filter tree then line else [])
+    ap (λ (q : Bool). if q then [] else if satisfies one.filter tree then line_of one tree else []) (same_quiet one other alike)
+    ∙ ap (λ (b : Bool). if is_quiet other then [] else if b then line_of one tree else []) truth
+    ∙ ap (λ (line : List ℕ). if is_quiet other then [] else if satisfies other.filter tree then line else [])
     (ap (λ (k : LineKind). line_by k one tree) alike.kind ∙ same_line other.kind one other tree alike.fields alike.style)
 
-same_lines : (one other : Plan) (trees : List TreeShown) → ((tree : TreeShown) → shown one tree ≡ shown other tree)
-    → frame_lines one trees ≡ frame_lines other trees
-same_lines one other [] same = refl
-same_lines one other (tree ∷ trees) same =
-    ap (λ (line : List ℕ). line ++ frame_lines one trees) (same tree)
-    ∙ ap (λ (lines : List ℕ). shown other tree ++ lines) (same_lines one other trees same)
+same_pieces : (one other : Plan) (past frames : List Frame) → ((tree : TreeShown) → shown one tree ≡ shown other tree)
+    → pieces one past frames ≡ pieces other past frames
+same_pieces one other past [] same = refl
+same_pieces one other past (frame ∷ frames) same =
+    ap (λ (line : List ℕ). line ++ pieces one (frame ∷ past) frames) (same (tree_at past frame))
+    ∙ ap (λ (lines : List ℕ). piece other past frame ++ lines) (same_pieces one other (frame ∷ past) frames same)
 
 headed : LineKind → Style → Bool → Bool
 headed Text style quiet = false
 headed Json style quiet = false
 headed Fields style quiet = style.header && not quiet
 
-is_headed_so : (kind : LineKind) (plan : Plan) → is_headed kind plan ≡ headed kind plan.style plan.quiet
+is_headed_so : (kind : LineKind) (plan : Plan) → is_headed kind plan ≡ headed kind plan.style (is_quiet plan)
 unfolding headed
 is_headed_so Text plan = refl
 is_headed_so Json plan = refl
@@ -119,20 +131,41 @@ unfolding opening
 same_opening one other alike =
     ap (λ (b : Bool). if b then header_of one.fields one.style else [])
     (is_headed_so one.kind one
-    ∙ ap (λ (k : LineKind). headed k one.style one.quiet) alike.kind
-    ∙ ap (λ (s : Style). headed other.kind s one.quiet) alike.style
-    ∙ ap (λ (q : Bool). headed other.kind other.style q) alike.quiet
+    ∙ ap (λ (k : LineKind). headed k one.style (is_quiet one)) alike.kind
+    ∙ ap (λ (s : Style). headed other.kind s (is_quiet one)) alike.style
+    ∙ ap (λ (q : Bool). headed other.kind other.style q) (same_quiet one other alike)
     ∙ sym (is_headed_so other.kind other))
     ∙ ap (λ (f : List ℕ). if is_headed other.kind other then header_of f one.style else []) alike.fields
     ∙ ap (λ (s : Style). if is_headed other.kind other then header_of other.fields s else []) alike.style
 
+same_count : (one other : Option Typed) (trees : List TreeShown) → ((tree : TreeShown) → satisfies one tree ≡ satisfies other tree)
+    → shown_count one trees ≡ shown_count other trees
+same_count one other [] same = refl
+same_count one other (tree ∷ trees) same =
+    ap (λ (b : Bool). if b then suc (shown_count one trees) else shown_count one trees) (same tree)
+    ∙ ap (λ (n : ℕ). if satisfies other tree then suc n else n) (same_count one other trees same)
+
+same_self_run : (one other : Option Typed) (past : List Frame) → ((tree : TreeShown) → satisfies one tree ≡ satisfies other tree)
+    → self_run_line one past ≡ self_run_line other past
+unfolding self_run_line
+same_self_run one other past same =
+    ap (λ (shown : ℕ). line_with past shown) (same_count one other (trees_of past) same)
+
+same_closing : (one other : Plan) (past : List Frame) → AreWrittenAlike one other
+    → ((tree : TreeShown) → satisfies one.filter tree ≡ satisfies other.filter tree) → closing one past ≡ closing other past
+unfolding closing
+same_closing one other past alike truth =
+    ap (λ (source : PlanSource). if is_generated_by source then self_run_line one.filter past else []) alike.source
+    ∙ ap (λ (line : List ℕ). if is_generated_by other.source then line else []) (same_self_run one.filter other.filter past truth)
+
 same_output : (one other : Plan) (frames : List Frame) → AreWrittenAlike one other
     → ((tree : TreeShown) → satisfies one.filter tree ≡ satisfies other.filter tree) → output_of one frames ≡ output_of other frames
-unfolding output_of closing
+unfolding output_of
 same_output one other frames alike truth =
-    ap (λ (start : List ℕ). start ++ (frame_lines one (trees_after [] frames) ++ [])) (same_opening one other alike)
-    ∙ ap (λ (lines : List ℕ). opening other ++ (lines ++ []))
-    (same_lines one other (trees_after [] frames) (λ tree. same_shown one other tree alike (truth tree)))
+    ap (λ (start : List ℕ). start ++ (pieces one [] frames ++ closing one (reverse frames))) (same_opening one other alike)
+    ∙ ap (λ (lines : List ℕ). opening other ++ (lines ++ closing one (reverse frames)))
+    (same_pieces one other [] frames (λ tree. same_shown one other tree alike (truth tree)))
+    ∙ ap (λ (end : List ℕ). opening other ++ (pieces other [] frames ++ end)) (same_closing one other (reverse frames) alike truth)
 
 same_read : (one other : Plan) (file : List ℕ) → one.most ≡ other.most → frames_read one file ≡ frames_read other file
 unfolding frames_read
@@ -154,10 +187,10 @@ alike_for options one other is also =
     let both : Ok one.fields ≡ Ok other.fields = sym is.fields ∙ also.fields in
     let fields : one.fields ≡ other.fields = cc both in
     let alike : AreWrittenAlike one other
-    = record { kind = is.kind ∙ sym also.kind; fields = fields; style = is.style ∙ sym also.style; quiet = is.quiet ∙ sym also.quiet } in
+    = record { source = is.source ∙ sym also.source; kind = is.kind ∙ sym also.kind; fields = fields; style = is.style ∙ sym also.style; quiet = is.quiet ∙ sym also.quiet } in
     let truth = λ (tree : TreeShown). same_truth options.filter one.filter other.filter tree is.filter also.filter in
     record {
-      name = is.name ∙ sym also.name;
+      source = is.source ∙ sym also.source;
       read = λ file. same_read one other file (is.most ∙ sym also.most);
       lets = truth;
       written = λ frames. same_output one other frames alike truth;

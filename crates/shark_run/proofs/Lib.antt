@@ -1,3 +1,4 @@
+mod ClosingLemmas
 mod EitherLemmas
 mod FrontLemmas
 mod LawLemmas
@@ -6,6 +7,7 @@ mod PlanLemmas
 mod RuleLemmas
 mod Together
 mod ToldLemmas
+mod TotalsLemmas
 mod WantedLemmas
 mod WayLemmas
 mod WordLemmas

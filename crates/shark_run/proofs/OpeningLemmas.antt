@@ -1,5 +1,5 @@
 -- What is written behind the line of the fields' names.
-use Rattle.std.proofs.Common.{◌≡◌, ◌<◌, ℕ, List, [], length, ◌++◌, Option, None, Some, inl, inr, refl, sym, ap, ◌∙◌, subst, append-nil}
+use Rattle.std.proofs.Common.{◌≡◌, ◌<◌, ℕ, List, [], length, ◌++◌, Option, None, Some, inl, inr, refl, sym, subst}
 use Rattle.std.specs.Prelude.{IfOk, IfSome, Result, Ok, Err}
 use Rattle.std.specs.Io.KnownBytes.{Appends}
 use Rattle.std.proofs.KnownBytes.{Appends-trans}
@@ -9,41 +9,41 @@ use Rattle.capture_read.specs.Capture.{Reading, capture_of}
 use Rattle.capture_read.specs.declared.ending.Ending.{Ending}
 use Rattle.shark_run.specs.declared.output.RunFault.{RunFault}
 use Rattle.shark_run.specs.declared.plan.Plan.{Plan}
-use Rattle.shark_run.specs.Lines.{all_lines, lines_of, opening, closing, output_of}
+use Rattle.shark_run.specs.Lines.{all_pieces, opening, output_of, pieces_of}
 use Rattle.shark_run.specs.Reading.{frames_read}
-use Rattle.shark_run.specs.Way.{IsBroken, IsBrokenBehind, IsReadSoFar, WroteTaken, WroteTakenBehind}
-use Rattle.shark_run.specs.Wrote.{WroteAll, WroteLines, WrotePart, WroteSomeLines}
+use Rattle.shark_run.specs.Way.{IsBrokenFrom, IsBrokenOf, WroteTaken, WroteTakenBehind}
+use Rattle.shark_run.specs.Wrote.{WroteAll, WroteBody, WrotePart, WroteSomeBody, body_of}
 
--- the output is the opening and the frames' lines
-whole_output : (plan : Plan) (reading : Reading) → output_of plan reading.frames ≡ opening plan ++ all_lines plan reading
-unfolding output_of closing
-whole_output plan reading = ap (λ (lines : List ℕ). opening plan ++ lines) (append-nil (all_lines plan reading))
+-- the output is the opening and what stands behind it
+whole_output : (plan : Plan) (reading : Reading) → output_of plan reading.frames ≡ opening plan ++ body_of plan reading
+unfolding output_of
+whole_output plan reading = refl
 
-all_behind : (plan : Plan) (reading : Reading) (old now new : Option (List ℕ)) → Appends old now (opening plan) → WroteLines plan reading now new → WroteAll plan reading old new
+all_behind : (plan : Plan) (reading : Reading) (old now new : Option (List ℕ)) → Appends old now (opening plan) → WroteBody plan reading now new → WroteAll plan reading old new
 all_behind plan reading old now new opened wrote =
-    subst (λ (bytes : List ℕ). Appends old new bytes) (sym (whole_output plan reading)) (Appends-trans old now new (opening plan) (all_lines plan reading) opened wrote)
+    subst (λ (bytes : List ℕ). Appends old new bytes) (sym (whole_output plan reading)) (Appends-trans old now new (opening plan) (body_of plan reading) opened wrote)
 
 pub ended_behind : (plan : Plan) (told : Option (List ℕ)) (old now new : Option (List ℕ)) (P : List ℕ → Type 0) → Appends old now (opening plan)
-    → IfSome told (λ file. WroteLines plan (frames_read plan file) now new × P file) → IfSome told (λ file. WroteAll plan (frames_read plan file) old new × P file)
+    → IfSome told (λ file. WroteBody plan (frames_read plan file) now new × P file) → IfSome told (λ file. WroteAll plan (frames_read plan file) old new × P file)
 ended_behind plan None old now new P opened wrote = tt
 ended_behind plan (Some file) old now new P opened wrote = (all_behind plan (frames_read plan file) old now new opened wrote.0, wrote.1)
 
 pub all_ended_behind : (answer : Result Ending RunFault) (plan : Plan) (told : Option (List ℕ)) (old now new : Option (List ℕ)) → Appends old now (opening plan)
-    → IfOk answer (λ ending. IfSome told (λ file. WroteLines plan (frames_read plan file) now new × (ending ≡ (frames_read plan file).ending)))
+    → IfOk answer (λ ending. IfSome told (λ file. WroteBody plan (frames_read plan file) now new × (ending ≡ (frames_read plan file).ending)))
     → IfOk answer (λ ending. IfSome told (λ file. WroteAll plan (frames_read plan file) old new × (ending ≡ (frames_read plan file).ending)))
 all_ended_behind (Ok ending) plan told old now new opened wrote = ended_behind plan told old now new (λ file. ending ≡ (frames_read plan file).ending) opened wrote
 all_ended_behind (Err fault) plan told old now new opened wrote = tt
 
 pub part_behind : (plan : Plan) (told : Option (List ℕ)) (old now new : Option (List ℕ)) → Appends old now (opening plan)
-    → IfSome told (λ file. WroteSomeLines plan (frames_read plan file) now new) → IfSome told (λ file. WrotePart plan (frames_read plan file) old new)
+    → IfSome told (λ file. WroteSomeBody plan (frames_read plan file) now new) → IfSome told (λ file. WrotePart plan (frames_read plan file) old new)
 part_behind plan None old now new opened part = tt
 part_behind plan (Some file) old now new opened part =
-    subst (AppendsPart old new) (sym (whole_output plan (frames_read plan file))) (part_after old now new (opening plan) (all_lines plan (frames_read plan file)) opened part)
+    subst (AppendsPart old new) (sym (whole_output plan (frames_read plan file))) (part_after old now new (opening plan) (body_of plan (frames_read plan file)) opened part)
 
 pub part_opened : (plan : Plan) (told : Option (List ℕ)) (old new : Option (List ℕ)) → AppendsPart old new (opening plan) → IfSome told (λ file. WrotePart plan (frames_read plan file) old new)
 part_opened plan None old new part = tt
 part_opened plan (Some file) old new part =
-    subst (AppendsPart old new) (sym (whole_output plan (frames_read plan file))) (part_more old new (opening plan) (all_lines plan (frames_read plan file)) part)
+    subst (AppendsPart old new) (sym (whole_output plan (frames_read plan file))) (part_more old new (opening plan) (body_of plan (frames_read plan file)) part)
 
 taken_behind : (plan : Plan) (file : List ℕ) (left old now new : Option (List ℕ)) → Appends old now (opening plan) → WroteTakenBehind [] plan file left now new → WroteTaken plan file left old new
 taken_behind plan file None old now new opened wrote = tt
@@ -51,7 +51,7 @@ taken_behind plan file (Some left) old now new opened wrote = record {
   taken = wrote.taken;
   whole = wrote.whole;
   fewer = wrote.fewer;
-  wrote = Appends-trans old now new (opening plan) (all_lines plan (capture_of wrote.taken)) opened wrote.wrote;
+  wrote = Appends-trans old now new (opening plan) (all_pieces plan (capture_of wrote.taken)) opened wrote.wrote;
 }
 
 pub so_far_behind : (plan : Plan) (told left old now new : Option (List ℕ)) → Appends old now (opening plan)
@@ -59,21 +59,27 @@ pub so_far_behind : (plan : Plan) (told left old now new : Option (List ℕ)) �
 so_far_behind plan None left old now new opened wrote = tt
 so_far_behind plan (Some file) left old now new opened wrote = taken_behind plan file left old now new opened wrote
 
-pub near_behind : (plan : Plan) (told left old now new : Option (List ℕ)) → Appends old now (opening plan)
-    → IfSome told (λ file. IsBrokenBehind [] plan file left now new) → IfSome told (λ file. IsBroken plan file left old new)
-near_behind plan None left old now new opened broken = tt
-near_behind plan (Some file) left old now new opened broken = inr (record {
+near_from : (plan : Plan) (file : List ℕ) (left old now new : Option (List ℕ)) → Appends old now (opening plan)
+    → IsBrokenFrom [] plan file left now new → IsBrokenFrom (opening plan) plan file left old new
+near_from plan file left old now new opened (inl broken) = inl (record {
   past = broken.past;
   frame = broken.frame;
   front = broken.front;
   near = broken.near;
-  piece = broken.piece;
+  begun = broken.begun;
   rest = broken.rest;
   line = broken.line;
-  wrote = Appends-trans old now new (opening plan) (lines_of plan broken.past ++ broken.piece) opened broken.wrote;
+  wrote = Appends-trans old now new (opening plan) (pieces_of plan broken.past ++ broken.begun) opened broken.wrote;
 })
+near_from plan file left old now new opened (inr (begun, rest, joined, wrote)) =
+    inr (begun, rest, joined, Appends-trans old now new (opening plan) (all_pieces plan (frames_read plan file) ++ begun) opened wrote)
+
+pub near_behind : (plan : Plan) (told left old now new : Option (List ℕ)) → Appends old now (opening plan)
+    → IfSome told (λ file. IsBrokenFrom [] plan file left now new) → IfSome told (λ file. IsBrokenOf plan file left old new)
+near_behind plan None left old now new opened broken = tt
+near_behind plan (Some file) left old now new opened broken = inr (near_from plan file left old now new opened broken)
 
 -- the opening itself was not wholly written
-pub near_opened : (plan : Plan) (told old new : Option (List ℕ)) → 0 < length (opening plan) → AppendsPart old new (opening plan) → IfSome told (λ file. IsBroken plan file told old new)
+pub near_opened : (plan : Plan) (told old new : Option (List ℕ)) → 0 < length (opening plan) → AppendsPart old new (opening plan) → IfSome told (λ file. IsBrokenOf plan file told old new)
 near_opened plan None old new some part = tt
 near_opened plan (Some file) old new some part = inl (some, refl, part)

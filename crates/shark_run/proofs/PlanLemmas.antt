@@ -21,7 +21,8 @@ use Rattle.shark_run.specs.Columns.{fields_named, known, with_first, with_others
 use Rattle.shark_run.specs.Plan.{IsFaultAsked, IsFilterAsked, IsPlan, IsPlanFor, IsRefusal, IsRefusalFor}
 use Rattle.shark_run.specs.PlanErrors.{Gives, IsErrorOf}
 use Rattle.shark_run.specs.Answers.{is_of_size, IsAnswered, IsRefusedForSize, IsSure}
-use Rattle.shark_run.specs.Reading.{file_of, frames_read, limited}
+use Rattle.shark_run.specs.declared.source.PlanSource.{PlanSource}
+use Rattle.shark_run.specs.Reading.{file_by, file_of, frames_read, limited}
 use Rattle.shark_run.specs.Statuses.{refusal_status, status_of}
 
 pub same_options : (words : List (List ℕ)) (one other : Options) → options_of words ≡ Ok one → options_of words ≡ Ok other → one ≡ other
@@ -65,12 +66,12 @@ refused_with_plan words plan (refused.Filter fault) answer asked is same =
     (same, (fault, is, plan_or_refusal words plan (refused.Filter fault) asked is))
 refused_with_plan words plan (refused.Field name) answer asked is same = absurd (plan_or_refusal words plan (refused.Field name) asked is)
 
--- two plans of the same words name the same file and stop at the same frame
-pub same_reading : (words : List (List ℕ)) (one other : Plan) → IsPlan words one → IsPlan words other → (one.name ≡ other.name) × (one.most ≡ other.most)
+-- two plans of the same words have the same source and stop at the same frame
+pub same_reading : (words : List (List ℕ)) (one other : Plan) → IsPlan words one → IsPlan words other → (one.source ≡ other.source) × (one.most ≡ other.most)
 unfolding IsPlan
 same_reading words one other is also =
     let asked : IsPlanFor also.0 one = subst (λ (o : Options). IsPlanFor o one) (same_options words is.0 also.0 is.1 also.1) is.2 in
-    (asked.name ∙ sym also.2.name, asked.most ∙ sym also.2.most)
+    (asked.source ∙ sym also.2.source, asked.most ∙ sym also.2.most)
 
 -- a reason that isn't a pattern's size, beside another
 same_fault_status : (words : List (List ℕ)) (wanted found : Refused) (options : Options) → IsSure wanted → IsRefusalFor options wanted → IsRefusalFor options found
@@ -159,10 +160,10 @@ pub complete_planned : (words : List (List ℕ)) (asked plan : Plan) (files : Li
     IfSome (file_of plan files) (λ file. A → B → C → IsAnswered words (status_of (frames_read plan file).ending) answer)
 unfolding frames_read
 complete_planned words asked plan files answer A B C is also complete =
-    let same : (asked.name ≡ plan.name) × (asked.most ≡ plan.most) = same_reading words asked plan is also in
-    subst (λ (name : List ℕ). IfSome (files name) (λ file. A → B → C → IsAnswered words (status_of (limited plan.most (capture_of file)).ending) answer)) same.0
-    (subst (λ (most : Option ℕ). IfSome (files asked.name) (λ file. A → B → C → IsAnswered words (status_of (limited most (capture_of file)).ending) answer)) same.1
-    (each_file (files asked.name)
+    let same : (asked.source ≡ plan.source) × (asked.most ≡ plan.most) = same_reading words asked plan is also in
+    subst (λ (source : PlanSource). IfSome (file_by source files) (λ file. A → B → C → IsAnswered words (status_of (limited plan.most (capture_of file)).ending) answer)) same.0
+    (subst (λ (most : Option ℕ). IfSome (file_by asked.source files) (λ file. A → B → C → IsAnswered words (status_of (limited most (capture_of file)).ending) answer)) same.1
+    (each_file (file_by asked.source files)
     (λ file. A → B → C → (answer ≡ status_of (limited asked.most (capture_of file)).ending) ⊎ (answer ≡ status.NoMemory))
     (λ file. A → B → C → IsAnswered words (status_of (limited asked.most (capture_of file)).ending) answer)
     (λ file run a b c. answered words (status_of (limited asked.most (capture_of file)).ending) answer (run a b c)) complete))

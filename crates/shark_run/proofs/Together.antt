@@ -7,15 +7,23 @@ use Rattle.capture_read.specs.Reader.{Reader}
 use Rattle.capture_read.specs.declared.frame.Frame.{Frame}
 use Rattle.dissect.specs.Stands.{DissectorShown}
 use Rattle.capture_read.specs.FrameList.{IsTime}
+use Rattle.shark_run.specs.declared.totals.Totals.{Totals}
+use Rattle.shark_run.specs.Totals.{AreFew}
+use Rattle.shark_run.proofs.TotalsLemmas.{few_more}
 
 pub record AreTogether (r : Reader) (d : DissectorShown) : Type 0 where
   pub number : r.number ≡ d.taken + 1
   pub captured : d.captured ≤ r.at
+  pub taken : d.taken ≤ r.at
   pub limit : r.at ≤ file_limit
 
 below_limit : (n : ℕ) → n ≤ file_limit → n ≤ 2 ^ 28
 unfolding file_limit
 below_limit n few = few
+
+-- what was counted of the frames taken
+pub few_taken : (r : Reader) (d : DissectorShown) (t : Totals) → AreTogether r d → AreFew d.taken t → AreFew (2 ^ 28) t
+few_taken r d t are few = few_more d.taken (2 ^ 28) t (omega (arith, are.taken, below_limit r.at are.limit)) few
 
 -- the next frame can be taken
 pub takeable : (r after : Reader) (d : DissectorShown) (frame : Frame) → AreTogether r d → IsCounted frame r after → after.at ≤ file_limit
@@ -31,5 +39,6 @@ pub together_after : (r after : Reader) (d taken : DissectorShown) (frame : Fram
 together_after r after d taken frame are counted limit number captured = record {
   number = omega (arith, counted.after, are.number, number);
   captured = omega (arith, counted.bytes, are.captured, captured);
+  taken = omega (arith, counted.moved, are.taken, number);
   limit = limit;
 }

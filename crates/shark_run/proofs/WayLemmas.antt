@@ -1,10 +1,11 @@
 -- How far a run is on its way through a file, and what it wrote then.
-use Rattle.std.proofs.Common.{◌≡◌, ◌≢◌, ◌<◌, ℕ, zero, suc, ◌+◌, ◌-◌, Bool, List, [], ◌∷◌, ◌++◌, length, Option, None, Some, refl, sym, ◌∙◌, ap, subst, append_assoc, append-nil, inr, arith}
+use Rattle.std.proofs.Common.{◌≡◌, ◌≢◌, ◌<◌, ℕ, zero, suc, ◌+◌, ◌-◌, Bool, List, [], ◌∷◌, ◌++◌, length, Option, None, Some, refl, sym, ◌∙◌, ap, subst, append_assoc, append-nil, reverse, inr, arith}
 use Rattle.std.specs.Prelude.{IfSome}
 use Rattle.std.specs.Option.{option_map}
 use Rattle.std.specs.Io.KnownBytes.{Appends}
 use Rattle.std.proofs.KnownBytes.{Appends-nil, Appends-trans}
 use Rattle.std.proofs.Math.Dec.{leb-zero, leb-suc-zero}
+use Rattle.std.proofs.lemmas.List.{reverse-append}
 use Rattle.pk_base.specs.Limits.{file_limit}
 use Rattle.pk_outside.specs.Outside.{AppendsPart, counted}
 use Rattle.pk_outside.proofs.Parts.{part_after, part_more}
@@ -19,20 +20,23 @@ use Rattle.capture_read.specs.declared.next_frame.NextFrame.TheVariants as next
 use Rattle.dissect.specs.Stands.{DissectorShown, StandsWithin}
 use Rattle.dissect.specs.Trees.{tree_at}
 use Rattle.shark_run.specs.declared.plan.Plan.{Plan}
-use Rattle.shark_run.specs.Lines.{all_lines, lines_of, trees_after, shown, frame_lines}
+use Rattle.shark_run.specs.Lines.{all_pieces, piece, pieces, pieces_of}
 use Rattle.shark_run.specs.Reading.{front_if, limited, frames_read}
 use Rattle.shark_run.specs.Taken.{Took}
-use Rattle.shark_run.specs.Way.{IsBrokenBehind, IsFewer, IsFullNear, IsNearAfter, WroteTakenBehind}
-use Rattle.shark_run.specs.Wrote.{WroteLines, WroteSomeLines}
+use Rattle.shark_run.specs.declared.totals.Totals.{Totals}
+use Rattle.shark_run.specs.Ended.{HasRead}
+use Rattle.shark_run.specs.Totals.{counts_of, counts_with}
+use Rattle.shark_run.specs.Way.{IsBrokenBehind, IsFewer, IsFullNearOf, IsNearAfter, WroteTakenBehind}
+use Rattle.shark_run.specs.Wrote.{WrotePieces, WroteSomePieces}
 use Rattle.shark_run.proofs.FrontLemmas.{limited_frame}
 
 -- the lines of frames answered, and of those that are still to come
-lines_past : (plan : Plan) (past : List Frame) (reading : Reading)
-    → all_lines plan (with_past past reading) ≡ lines_of plan past ++ frame_lines plan (trees_after past reading.frames)
-lines_past plan [] reading = refl
-lines_past plan (frame ∷ past) reading =
-    lines_past plan past (with_frame frame reading)
-    ∙ sym (append_assoc (lines_of plan past) (shown plan (tree_at past frame)) (frame_lines plan (trees_after (frame ∷ past) reading.frames)))
+pieces_past : (plan : Plan) (past : List Frame) (reading : Reading)
+    → all_pieces plan (with_past past reading) ≡ pieces_of plan past ++ pieces plan past reading.frames
+pieces_past plan [] reading = refl
+pieces_past plan (frame ∷ past) reading =
+    pieces_past plan past (with_frame frame reading)
+    ∙ sym (append_assoc (pieces_of plan past) (piece plan past frame) (pieces plan (frame ∷ past) reading.frames))
 
 ending_past : (past : List Frame) (reading : Reading) → (with_past past reading).ending ≡ reading.ending
 ending_past [] reading = refl
@@ -78,10 +82,10 @@ read_way plan most file past rest asked read =
 
 all_read : (plan : Plan) (most : Option ℕ) (file : List ℕ) (past : List Frame) (rest : Reading) → plan.most ≡ asked_before most (length past)
     → capture_of file ≡ with_past past rest
-    → all_lines plan (frames_read plan file) ≡ lines_of plan past ++ frame_lines plan (trees_after past (limited most rest).frames)
+    → all_pieces plan (frames_read plan file) ≡ pieces_of plan past ++ pieces plan past (limited most rest).frames
 all_read plan most file past rest asked read =
-    ap (all_lines plan) (read_way plan most file past rest asked read)
-    ∙ lines_past plan past (limited most rest)
+    ap (all_pieces plan) (read_way plan most file past rest asked read)
+    ∙ pieces_past plan past (limited most rest)
 
 -- the bytes taken of a file end near the last frame answered
 abbrev IsLastNear : List Frame → List ℕ → Option (List ℕ) → Type 0
@@ -89,32 +93,34 @@ IsLastNear [] file left = Unit {0}
 IsLastNear (frame ∷ past) file left = IsNear file past left
 
 -- the frames answered are the file's first ones, the reader and the dissector stand for them, and their lines were written
-pub record IsOnTheWay (plan : Plan) (most : Option ℕ) (file : List ℕ) (r : ReaderShown) (left : Option (List ℕ)) (d : DissectorShown) (old now : Option (List ℕ)) : Type 0 where
+pub record IsOnTheWay (plan : Plan) (most : Option ℕ) (file : List ℕ) (r : ReaderShown) (left : Option (List ℕ)) (d : DissectorShown) (t : Totals) (old now : Option (List ℕ)) : Type 0 where
   pub past : List Frame
   pub front : IsFrontOf past file
   pub asked : plan.most ≡ asked_before most (length past)
   pub stands : StandsFor r left file past
   pub dissects : StandsWithin past d
-  pub appended : Appends old now (lines_of plan past)
+  pub counted : t ≡ counts_of plan past
+  pub appended : Appends old now (pieces_of plan past)
   pub last : IsLastNear past file left
 
 -- the same of a file that the capture told when it was begun
-abbrev pub AreOnTheWay : Plan → Option ℕ → Option (List ℕ) → ReaderShown → Option (List ℕ) → DissectorShown → Option (List ℕ) → Option (List ℕ) → Type 0
-AreOnTheWay plan most told r left d old now = IfSome told (λ file. IsOnTheWay plan most file r left d old now)
+abbrev pub AreOnTheWay : Plan → Option ℕ → Option (List ℕ) → ReaderShown → Option (List ℕ) → DissectorShown → Totals → Option (List ℕ) → Option (List ℕ) → Type 0
+AreOnTheWay plan most told r left d t old now = IfSome told (λ file. IsOnTheWay plan most file r left d t old now)
 
 asked_all : (most : Option ℕ) → most ≡ asked_before most 0
 asked_all None = refl
 asked_all (Some n) = let none : n ≡ n + 0 = omega arith in ap Some none
 
-pub way_begun : (plan : Plan) (told : Option (List ℕ)) (r : ReaderShown) (d : DissectorShown) (old : Option (List ℕ))
-    → ((left : List ℕ) → StandsFor r (Some left) left []) → StandsWithin [] d → AreOnTheWay plan plan.most told r told d old old
-way_begun plan None r d old stands dissects = tt
-way_begun plan (Some file) r d old stands dissects = record {
+pub way_begun : (plan : Plan) (told : Option (List ℕ)) (r : ReaderShown) (d : DissectorShown) (t : Totals) (old : Option (List ℕ))
+    → ((left : List ℕ) → StandsFor r (Some left) left []) → StandsWithin [] d → t ≡ counts_of plan [] → AreOnTheWay plan plan.most told r told d t old old
+way_begun plan None r d t old stands dissects counted = tt
+way_begun plan (Some file) r d t old stands dissects counted = record {
   past = [];
   front = (capture_of file, refl);
   asked = asked_all plan.most;
   stands = stands file;
   dissects = dissects;
+  counted = counted;
   appended = Appends-nil old;
   last = tt;
 }
@@ -125,13 +131,14 @@ asked_more (Some zero) count some = absurd (some refl)
 asked_more (Some (suc n)) count some = let same : suc n + count ≡ suc n - 1 + suc count = omega arith in ap Some same
 
 -- a frame was read, taken and written
-pub way_further : (plan : Plan) (most : Option ℕ) (told : Option (List ℕ)) (r after : ReaderShown) (left left_after : Option (List ℕ)) (d dissected : DissectorShown) (old now later : Option (List ℕ)) (frame : Frame)
-    → most ≢ Some 0 → AreOnTheWay plan most told r left d old now → Answers (next.Frame frame) r after left left_after
+pub way_further : (plan : Plan) (most : Option ℕ) (told : Option (List ℕ)) (r after : ReaderShown) (left left_after : Option (List ℕ)) (d dissected : DissectorShown) (t counts : Totals) (old now later : Option (List ℕ)) (frame : Frame)
+    → most ≢ Some 0 → AreOnTheWay plan most told r left d t old now → Answers (next.Frame frame) r after left left_after
     → ((past : List Frame) → StandsWithin past d → StandsWithin (frame ∷ past) dissected)
-    → ((past : List Frame) → StandsWithin past d → Appends now later (shown plan (tree_at past frame)))
-    → AreOnTheWay plan (option_map (λ n. n - 1) most) told after left_after dissected old later
-way_further plan most None r after left left_after d dissected old now later frame some way answers taken wrote = tt
-way_further plan most (Some file) r after left left_after d dissected old now later frame some way answers taken wrote =
+    → ((past : List Frame) → StandsWithin past d → Appends now later (piece plan past frame))
+    → ((past : List Frame) → StandsWithin past d → counts ≡ counts_with plan (tree_at past frame) t)
+    → AreOnTheWay plan (option_map (λ n. n - 1) most) told after left_after dissected counts old later
+way_further plan most None r after left left_after d dissected t counts old now later frame some way answers taken wrote counting = tt
+way_further plan most (Some file) r after left left_after d dissected t counts old now later frame some way answers taken wrote counting =
     let answer = answers file way.past way.stands in
     record {
       past = frame ∷ way.past;
@@ -139,52 +146,79 @@ way_further plan most (Some file) r after left left_after d dissected old now la
       asked = way.asked ∙ asked_more most (length way.past) some;
       stands = answer.0;
       dissects = taken way.past way.dissects;
-      appended = Appends-trans old now later (lines_of plan way.past) (shown plan (tree_at way.past frame)) way.appended (wrote way.past way.dissects);
+      counted = counting way.past way.dissects ∙ ap (λ (before : Totals). counts_with plan (tree_at way.past frame) before) way.counted;
+      appended = Appends-trans old now later (pieces_of plan way.past) (piece plan way.past frame) way.appended (wrote way.past way.dissects);
       last = answer.2;
     }
 
 -- a front of the output was written
-pub way_stopped : (plan : Plan) (most : Option ℕ) (told : Option (List ℕ)) (r : ReaderShown) (left : Option (List ℕ)) (d : DissectorShown) (old now : Option (List ℕ))
-    → AreOnTheWay plan most told r left d old now → IfSome told (λ file. WroteSomeLines plan (frames_read plan file) old now)
-way_stopped plan most None r left d old now way = tt
-way_stopped plan most (Some file) r left d old now way = (
-  lines_of plan way.past,
-  frame_lines plan (trees_after way.past (limited most way.front.0).frames),
+pub way_stopped : (plan : Plan) (most : Option ℕ) (told : Option (List ℕ)) (r : ReaderShown) (left : Option (List ℕ)) (d : DissectorShown) (t : Totals) (old now : Option (List ℕ))
+    → AreOnTheWay plan most told r left d t old now → IfSome told (λ file. WroteSomePieces plan (frames_read plan file) old now)
+way_stopped plan most None r left d t old now way = tt
+way_stopped plan most (Some file) r left d t old now way = (
+  pieces_of plan way.past,
+  pieces plan way.past (limited most way.front.0).frames,
   sym (all_read plan most file way.past way.front.0 way.asked way.front.1),
   way.appended,
 )
 
 -- the whole output, where nothing more is to be read
 whole_way : (plan : Plan) (most : Option ℕ) (file : List ℕ) (past : List Frame) (rest : Reading) (ending : Ending) (old now : Option (List ℕ))
-    → plan.most ≡ asked_before most (length past) → capture_of file ≡ with_past past rest → limited most rest ≡ ended ending → Appends old now (lines_of plan past)
-    → WroteLines plan (frames_read plan file) old now × (ending ≡ (frames_read plan file).ending)
+    → plan.most ≡ asked_before most (length past) → capture_of file ≡ with_past past rest → limited most rest ≡ ended ending → Appends old now (pieces_of plan past)
+    → WrotePieces plan (frames_read plan file) old now × (ending ≡ (frames_read plan file).ending)
 whole_way plan most file past rest ending old now asked read over wrote = (
   subst (λ (bytes : List ℕ). Appends old now bytes)
       (sym (all_read plan most file past rest asked read
-      ∙ ap (λ (reading : Reading). lines_of plan past ++ frame_lines plan (trees_after past reading.frames)) over ∙ append-nil (lines_of plan past))) wrote,
+      ∙ ap (λ (reading : Reading). pieces_of plan past ++ pieces plan past reading.frames) over ∙ append-nil (pieces_of plan past))) wrote,
   sym (ap (λ (reading : Reading). reading.ending) (read_way plan most file past rest asked read ∙ ap (with_past past) over) ∙ ending_past past (ended ending)),
 )
 
 limited_zero : (reading : Reading) → limited (Some 0) reading ≡ ended Whole
 limited_zero reading = ap (λ (b : Bool). front_if b 0 reading) (leb-zero (length reading.frames))
 
+-- the frames that were read, the newest first
+reverse_past : (past : List Frame) (reading : Reading) → reverse (with_past past reading).frames ≡ reverse reading.frames ++ past
+reverse_past [] reading = sym (append-nil (reverse reading.frames))
+reverse_past (frame ∷ past) reading =
+    reverse_past past (with_frame frame reading)
+    ∙ ap (λ (frames : List Frame). frames ++ past) (reverse-append (frame ∷ []) reading.frames)
+    ∙ append_assoc (reverse reading.frames) (frame ∷ []) past
+
+read_past : (plan : Plan) (most : Option ℕ) (file : List ℕ) (past : List Frame) (rest : Reading) (ending : Ending) (d : DissectorShown) (t : Totals)
+    → plan.most ≡ asked_before most (length past) → capture_of file ≡ with_past past rest → limited most rest ≡ ended ending
+    → StandsWithin past d → t ≡ counts_of plan past → HasRead plan file d t
+read_past plan most file past rest ending d t asked read over dissects counted =
+    let same : reverse (frames_read plan file).frames ≡ past =
+    ap (λ (reading : Reading). reverse reading.frames) (read_way plan most file past rest asked read ∙ ap (with_past past) over)
+    ∙ reverse_past past (ended ending) in
+    record {
+      dissects = subst (λ (frames : List Frame). StandsWithin frames d) (sym same) dissects;
+      counted = counted ∙ ap (counts_of plan) (sym same);
+    }
+
 -- as many frames were read as are asked for
-pub way_full : (plan : Plan) (most : Option ℕ) (told : Option (List ℕ)) (r : ReaderShown) (left : Option (List ℕ)) (d : DissectorShown) (old now : Option (List ℕ))
-    → most ≡ Some 0 → AreOnTheWay plan most told r left d old now
-    → IfSome told (λ file. WroteLines plan (frames_read plan file) old now × (Whole ≡ (frames_read plan file).ending))
-way_full plan most None r left d old now full way = tt
-way_full plan most (Some file) r left d old now full way =
+pub way_full : (plan : Plan) (most : Option ℕ) (told : Option (List ℕ)) (r : ReaderShown) (left : Option (List ℕ)) (d : DissectorShown) (t : Totals) (old now : Option (List ℕ))
+    → most ≡ Some 0 → AreOnTheWay plan most told r left d t old now
+    → IfSome told (λ file. WrotePieces plan (frames_read plan file) old now × (Whole ≡ (frames_read plan file).ending))
+way_full plan most None r left d t old now full way = tt
+way_full plan most (Some file) r left d t old now full way =
     whole_way plan most file way.past way.front.0 Whole old now way.asked way.front.1 (ap (λ (m : Option ℕ). limited m way.front.0) full ∙ limited_zero way.front.0) way.appended
+
+pub read_full : (plan : Plan) (most : Option ℕ) (told : Option (List ℕ)) (r : ReaderShown) (left : Option (List ℕ)) (d : DissectorShown) (t : Totals) (old now : Option (List ℕ))
+    → most ≡ Some 0 → AreOnTheWay plan most told r left d t old now → IfSome told (λ file. HasRead plan file d t)
+read_full plan most None r left d t old now full way = tt
+read_full plan most (Some file) r left d t old now full way =
+    read_past plan most file way.past way.front.0 Whole d t way.asked way.front.1 (ap (λ (m : Option ℕ). limited m way.front.0) full ∙ limited_zero way.front.0) way.dissects way.counted
 
 near_after : (file : List ℕ) (past : List Frame) (left : Option (List ℕ)) (count : ℕ) → length past ≡ suc count → IsLastNear past file left → IsNearAfter file count left
 near_after file [] left count is near = absurd (omega (arith, is))
 near_after file (frame ∷ past) None count is near = tt
 near_after file (frame ∷ past) (Some left) count is near = λ front late. omega (arith, is, near front late)
 
-pub full_near : (plan : Plan) (most : Option ℕ) (told : Option (List ℕ)) (r : ReaderShown) (left : Option (List ℕ)) (d : DissectorShown) (old now : Option (List ℕ))
-    → most ≡ Some 0 → AreOnTheWay plan most told r left d old now → IfSome told (λ file. IsFullNear plan file left)
-full_near plan most None r left d old now full way = tt
-full_near plan most (Some file) r left d old now full way = λ count asked some.
+pub full_near : (plan : Plan) (most : Option ℕ) (told : Option (List ℕ)) (r : ReaderShown) (left : Option (List ℕ)) (d : DissectorShown) (t : Totals) (old now : Option (List ℕ))
+    → most ≡ Some 0 → AreOnTheWay plan most told r left d t old now → IfSome told (λ file. IsFullNearOf plan file left)
+full_near plan most None r left d t old now full way = tt
+full_near plan most (Some file) r left d t old now full way = λ count asked some.
     let same : Some (0 + length way.past) ≡ Some (suc count) = ap (λ (m : Option ℕ). asked_before m (length way.past)) (sym full) ∙ sym way.asked ∙ asked in
     let sum : 0 + length way.past ≡ suc count = cc same in
     near_after file way.past left count (omega (arith, sum)) way.last
@@ -195,23 +229,29 @@ limited_ended None ending some = refl
 limited_ended (Some zero) ending some = absurd (some refl)
 limited_ended (Some (suc n)) ending some = ap (λ (b : Bool). front_if b (suc n) (ended ending)) (leb-suc-zero n)
 
-pub way_ended : (plan : Plan) (most : Option ℕ) (told : Option (List ℕ)) (r after : ReaderShown) (left left_after : Option (List ℕ)) (d : DissectorShown) (old now : Option (List ℕ)) (ending : Ending)
-    → most ≢ Some 0 → AreOnTheWay plan most told r left d old now → Answers (next.End ending) r after left left_after
-    → IfSome told (λ file. WroteLines plan (frames_read plan file) old now × (ending ≡ (frames_read plan file).ending))
-way_ended plan most None r after left left_after d old now ending some way answers = tt
-way_ended plan most (Some file) r after left left_after d old now ending some way answers =
+pub way_ended : (plan : Plan) (most : Option ℕ) (told : Option (List ℕ)) (r after : ReaderShown) (left left_after : Option (List ℕ)) (d : DissectorShown) (t : Totals) (old now : Option (List ℕ)) (ending : Ending)
+    → most ≢ Some 0 → AreOnTheWay plan most told r left d t old now → Answers (next.End ending) r after left left_after
+    → IfSome told (λ file. WrotePieces plan (frames_read plan file) old now × (ending ≡ (frames_read plan file).ending))
+way_ended plan most None r after left left_after d t old now ending some way answers = tt
+way_ended plan most (Some file) r after left left_after d t old now ending some way answers =
     whole_way plan most file way.past (ended ending) ending old now way.asked (answers file way.past way.stands).1 (limited_ended most ending some) way.appended
+
+pub read_ended : (plan : Plan) (most : Option ℕ) (told : Option (List ℕ)) (r after : ReaderShown) (left left_after : Option (List ℕ)) (d : DissectorShown) (t : Totals) (old now : Option (List ℕ)) (ending : Ending)
+    → most ≢ Some 0 → AreOnTheWay plan most told r left d t old now → Answers (next.End ending) r after left left_after → IfSome told (λ file. HasRead plan file d t)
+read_ended plan most None r after left left_after d t old now ending some way answers = tt
+read_ended plan most (Some file) r after left left_after d t old now ending some way answers =
+    read_past plan most file way.past (ended ending) ending d t way.asked (answers file way.past way.stands).1 (limited_ended most ending some) way.dissects way.counted
 
 more_asked : (most : Option ℕ) (count asked : ℕ) → most ≢ Some 0 → Some asked ≡ asked_before most count → count < asked
 more_asked None count asked some is = let bad : Some asked ≡ None = is in absurd (cc bad)
 more_asked (Some zero) count asked some is = absurd (some refl)
 more_asked (Some (suc n)) count asked some is = let sum : asked ≡ suc n + count = cc is in omega (arith, sum)
 
-pub ended_near : (plan : Plan) (most : Option ℕ) (told : Option (List ℕ)) (r after : ReaderShown) (left left_after : Option (List ℕ)) (d : DissectorShown) (old now : Option (List ℕ)) (ending : Ending)
-    → most ≢ Some 0 → AreOnTheWay plan most told r left d old now → Answers (next.End ending) r after left left_after
-    → IfSome told (λ file. IsFullNear plan file left_after)
-ended_near plan most None r after left left_after d old now ending some way answers = tt
-ended_near plan most (Some file) r after left left_after d old now ending some way answers = λ count asked many.
+pub ended_near : (plan : Plan) (most : Option ℕ) (told : Option (List ℕ)) (r after : ReaderShown) (left left_after : Option (List ℕ)) (d : DissectorShown) (t : Totals) (old now : Option (List ℕ)) (ending : Ending)
+    → most ≢ Some 0 → AreOnTheWay plan most told r left d t old now → Answers (next.End ending) r after left left_after
+    → IfSome told (λ file. IsFullNearOf plan file left_after)
+ended_near plan most None r after left left_after d t old now ending some way answers = tt
+ended_near plan most (Some file) r after left left_after d t old now ending some way answers = λ count asked many.
     let all : length (capture_of file).frames ≡ length way.past + 0 =
     ap (λ (reading : Reading). length reading.frames) (answers file way.past way.stands).1 ∙ count_past way.past (ended ending) in
     let fewer : length way.past < suc count = more_asked most (length way.past) (suc count) some (sym asked ∙ way.asked) in
@@ -223,7 +263,7 @@ is_fewer None most count some is = tt
 is_fewer (Some asked) most count some is = more_asked most count asked some is
 
 read_so_far : (plan : Plan) (most : Option ℕ) (file : List ℕ) (past : List Frame) (left old now : Option (List ℕ)) → most ≢ Some 0 → plan.most ≡ asked_before most (length past)
-    → Appends old now (lines_of plan past) → HoldsExactly file past left → WroteTakenBehind [] plan file left old now
+    → Appends old now (pieces_of plan past) → HoldsExactly file past left → WroteTakenBehind [] plan file left old now
 read_so_far plan most file past None old now some asked wrote exactly = tt
 read_so_far plan most file past (Some left) old now some asked wrote exactly =
     let count : length (capture_of exactly.0).frames ≡ length past =
@@ -233,58 +273,58 @@ read_so_far plan most file past (Some left) old now some asked wrote exactly =
       whole = exactly.1;
       fewer = subst (IsFewer plan.most) (sym count) (is_fewer plan.most most (length past) some asked);
       wrote = subst (λ (bytes : List ℕ). Appends old now bytes)
-          (sym (ap (all_lines plan) exactly.2.1 ∙ lines_past plan past (ended exactly.2.0) ∙ append-nil (lines_of plan past))) wrote;
+          (sym (ap (all_pieces plan) exactly.2.1 ∙ pieces_past plan past (ended exactly.2.0) ∙ append-nil (pieces_of plan past))) wrote;
     }
   where
     none : (n : ℕ) → n + 0 ≡ n
     none n = omega arith
 
-pub way_unread : (plan : Plan) (most : Option ℕ) (told : Option (List ℕ)) (r : ReaderShown) (left left_after : Option (List ℕ)) (d : DissectorShown) (old now : Option (List ℕ))
-    → most ≢ Some 0 → AreOnTheWay plan most told r left d old now → Fails r left left_after → IfSome told (λ file. WroteTakenBehind [] plan file left_after old now)
-way_unread plan most None r left left_after d old now some way fails = tt
-way_unread plan most (Some file) r left left_after d old now some way fails =
+pub way_unread : (plan : Plan) (most : Option ℕ) (told : Option (List ℕ)) (r : ReaderShown) (left left_after : Option (List ℕ)) (d : DissectorShown) (t : Totals) (old now : Option (List ℕ))
+    → most ≢ Some 0 → AreOnTheWay plan most told r left d t old now → Fails r left left_after → IfSome told (λ file. WroteTakenBehind [] plan file left_after old now)
+way_unread plan most None r left left_after d t old now some way fails = tt
+way_unread plan most (Some file) r left left_after d t old now some way fails =
     read_so_far plan most file way.past left_after old now some way.asked way.appended (fails file way.past way.stands)
 
 -- a write failed, or there was no memory for a frame's tree or line
-pub broken_part : (plan : Plan) (most : Option ℕ) (told : Option (List ℕ)) (r after : ReaderShown) (left left_after : Option (List ℕ)) (d : DissectorShown) (old now later : Option (List ℕ)) (frame : Frame)
-    → most ≢ Some 0 → AreOnTheWay plan most told r left d old now → Answers (next.Frame frame) r after left left_after
-    → ((past : List Frame) → StandsWithin past d → AppendsPart now later (shown plan (tree_at past frame)))
-    → IfSome told (λ file. WroteSomeLines plan (frames_read plan file) old later)
-broken_part plan most None r after left left_after d old now later frame some way answers part = tt
-broken_part plan most (Some file) r after left left_after d old now later frame some way answers part =
+pub broken_part : (plan : Plan) (most : Option ℕ) (told : Option (List ℕ)) (r after : ReaderShown) (left left_after : Option (List ℕ)) (d : DissectorShown) (t : Totals) (old now later : Option (List ℕ)) (frame : Frame)
+    → most ≢ Some 0 → AreOnTheWay plan most told r left d t old now → Answers (next.Frame frame) r after left left_after
+    → ((past : List Frame) → StandsWithin past d → AppendsPart now later (piece plan past frame))
+    → IfSome told (λ file. WroteSomePieces plan (frames_read plan file) old later)
+broken_part plan most None r after left left_after d t old now later frame some way answers part = tt
+broken_part plan most (Some file) r after left left_after d t old now later frame some way answers part =
     let front = (answers file way.past way.stands).1 in
-    let whole : all_lines plan (frames_read plan file) ≡ lines_of plan way.past
-    ++ (shown plan (tree_at way.past frame) ++ frame_lines plan (trees_after (frame ∷ way.past) (limited (option_map (λ n. n - 1) most) front.0).frames)) =
+    let whole : all_pieces plan (frames_read plan file) ≡ pieces_of plan way.past
+    ++ (piece plan way.past frame ++ pieces plan (frame ∷ way.past) (limited (option_map (λ n. n - 1) most) front.0).frames) =
     all_read plan most file way.past (with_frame frame front.0) way.asked front.1
-    ∙ ap (λ (reading : Reading). lines_of plan way.past ++ frame_lines plan (trees_after way.past reading.frames)) (limited_frame most frame front.0 some) in
+    ∙ ap (λ (reading : Reading). pieces_of plan way.past ++ pieces plan way.past reading.frames) (limited_frame most frame front.0 some) in
     subst (AppendsPart old later) (sym whole)
-    (part_after old now later (lines_of plan way.past) (shown plan (tree_at way.past frame) ++ frame_lines plan (trees_after (frame ∷ way.past) (limited (option_map (λ n. n - 1) most) front.0).frames)) way.appended
-    (part_more now later (shown plan (tree_at way.past frame)) (frame_lines plan (trees_after (frame ∷ way.past) (limited (option_map (λ n. n - 1) most) front.0).frames)) (part way.past way.dissects)))
+    (part_after old now later (pieces_of plan way.past) (piece plan way.past frame ++ pieces plan (frame ∷ way.past) (limited (option_map (λ n. n - 1) most) front.0).frames) way.appended
+    (part_more now later (piece plan way.past frame) (pieces plan (frame ∷ way.past) (limited (option_map (λ n. n - 1) most) front.0).frames) (part way.past way.dissects)))
 
-pub broken_near : (plan : Plan) (most : Option ℕ) (told : Option (List ℕ)) (r after : ReaderShown) (left left_after : Option (List ℕ)) (d : DissectorShown) (old now later : Option (List ℕ)) (frame : Frame)
-    → AreOnTheWay plan most told r left d old now → Answers (next.Frame frame) r after left left_after
-    → ((past : List Frame) → StandsWithin past d → AppendsPart now later (shown plan (tree_at past frame)))
+pub broken_near : (plan : Plan) (most : Option ℕ) (told : Option (List ℕ)) (r after : ReaderShown) (left left_after : Option (List ℕ)) (d : DissectorShown) (t : Totals) (old now later : Option (List ℕ)) (frame : Frame)
+    → AreOnTheWay plan most told r left d t old now → Answers (next.Frame frame) r after left left_after
+    → ((past : List Frame) → StandsWithin past d → AppendsPart now later (piece plan past frame))
     → IfSome told (λ file. IsBrokenBehind [] plan file left_after old later)
-broken_near plan most None r after left left_after d old now later frame way answers part = tt
-broken_near plan most (Some file) r after left left_after d old now later frame way answers part =
+broken_near plan most None r after left left_after d t old now later frame way answers part = tt
+broken_near plan most (Some file) r after left left_after d t old now later frame way answers part =
     let answer = answers file way.past way.stands in
-    let piece = part way.past way.dissects in
+    let first = part way.past way.dissects in
     record {
       past = way.past;
       frame = frame;
       front = answer.1;
       near = answer.2;
-      piece = piece.0;
-      rest = piece.1;
-      line = piece.2;
-      wrote = Appends-trans old now later (lines_of plan way.past) piece.0 way.appended piece.3;
+      begun = first.0;
+      rest = first.1;
+      line = first.2;
+      wrote = Appends-trans old now later (pieces_of plan way.past) first.0 way.appended first.3;
     }
 
 -- few bytes of the file were taken
-pub way_took : (plan : Plan) (most : Option ℕ) (told : Option (List ℕ)) (r : ReaderShown) (left left_after : Option (List ℕ)) (d : DissectorShown) (old now : Option (List ℕ))
-    → AreOnTheWay plan most told r left d old now → TakesFewOf r left left_after → TookAtMost (suc file_limit) told left_after
-way_took plan most None r left left_after d old now way takes = ([], tt, omega arith)
-way_took plan most (Some file) r left left_after d old now way takes = takes file way.past way.stands
+pub way_took : (plan : Plan) (most : Option ℕ) (told : Option (List ℕ)) (r : ReaderShown) (left left_after : Option (List ℕ)) (d : DissectorShown) (t : Totals) (old now : Option (List ℕ))
+    → AreOnTheWay plan most told r left d t old now → TakesFewOf r left left_after → TookAtMost (suc file_limit) told left_after
+way_took plan most None r left left_after d t old now way takes = ([], tt, omega arith)
+way_took plan most (Some file) r left left_after d t old now way takes = takes file way.past way.stands
 
 pub took_begun : (file left_old left left_after : Option (List ℕ)) (begun_old begun begun_after : ℕ) → left ≡ file → begun ≡ counted begun_old → begun_after ≡ begun
     → TookAtMost (suc file_limit) left left_after → Took file begun_old begun_after left_old left_after

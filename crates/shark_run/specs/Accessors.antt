@@ -1,13 +1,23 @@
 -- What a plan asks for. Only these words look into it.
-use Rattle.std.specs.Prelude.{ℕ, Bool, List, Option}
+use Rattle.std.specs.Prelude.{ℕ, Bool, ◌||◌, List, Option}
 use Rattle.flt_types.specs.declared.typed.Typed.{Typed}
 use Rattle.out_lines.specs.declared.style.Style.{Style}
 use Rattle.shark_words.specs.declared.options.LineKind.{LineKind}
 use Rattle.shark_run.specs.declared.plan.Plan.{Plan}
+use Rattle.shark_run.specs.declared.source.PlanSource.{PlanSource}
+use Rattle.shark_run.specs.Source.{is_generated_by, name_by}
+
+-- where the frames come from
+abbrev pub source_of : Plan → PlanSource
+source_of plan = plan.source
 
 -- the name of the file
 abbrev pub name_of : Plan → List ℕ
-name_of plan = plan.name
+name_of plan = name_by (source_of plan)
+
+-- whether the capture is generated
+abbrev pub is_generated : Plan → Bool
+is_generated plan = is_generated_by (source_of plan)
 
 -- what a frame's tree has to satisfy
 abbrev pub filter_of : Plan → Option Typed
@@ -28,6 +38,6 @@ style_of plan = plan.style
 abbrev pub most_of : Plan → Option ℕ
 most_of plan = plan.most
 
--- whether no lines of frames are written
+-- whether no lines of frames are written: so it is asked for, or the capture is generated
 abbrev pub is_quiet : Plan → Bool
-is_quiet plan = plan.quiet
+is_quiet plan = is_generated plan || plan.quiet

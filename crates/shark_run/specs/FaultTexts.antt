@@ -10,7 +10,7 @@ use Rattle.capture_read.specs.declared.ending.Ending.TheVariants as ending
 use Rattle.flt_parse.specs.declared.fault.FilterReason.{FilterReason}
 use Rattle.flt_parse.specs.declared.fault.FilterReason.TheVariants as filter
 use Rattle.shark_words.specs.declared.fault.WordReason.{WordReason}
-use Rattle.shark_words.specs.declared.fault.WordReason.TheVariants.{UnknownOption, MissingValue, StrayWord, NoFile, Repeated, BadValue, NoFields, Unused}
+use Rattle.shark_words.specs.declared.fault.WordReason.TheVariants.{UnknownOption, MissingValue, StrayWord, NoFile, Repeated, BadValue, NoFields, Unused, Clash}
 use Rattle.shark_run.specs.declared.outcome.Outcome.{Outcome}
 use Rattle.shark_run.specs.declared.outcome.Outcome.TheVariants as outcome
 use Rattle.shark_run.specs.declared.plan.Plan.{Plan}
@@ -44,6 +44,7 @@ word_reason_text Repeated = codes "A5 Repeated"
 word_reason_text BadValue = codes "A6 BadValue"
 word_reason_text NoFields = codes "A7 NoFields"
 word_reason_text Unused = codes "A8 Unused"
+word_reason_text Clash = codes "A9 Clash"
 
 -- the code and name of a filter's fault
 abbrev pub filter_reason_text : FilterReason → List ℕ

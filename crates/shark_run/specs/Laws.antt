@@ -5,9 +5,11 @@ use Rattle.pk_tree.specs.Trees.{TreeShown}
 use Rattle.shark_run.specs.declared.plan.Plan.{Plan}
 use Rattle.shark_run.specs.declared.plan.Refused.{Refused}
 use Rattle.shark_run.specs.Answers.{IsSure}
-use Rattle.shark_run.specs.Lines.{output_of, satisfies}
+use Rattle.shark_run.specs.Lines.{output_of}
+use Rattle.shark_run.specs.Satisfied.{satisfies}
 use Rattle.shark_run.specs.Plan.{IsPlan, IsRefusal}
-use Rattle.shark_run.specs.Reading.{frames_read, name_of}
+use Rattle.shark_run.specs.Accessors.{source_of}
+use Rattle.shark_run.specs.Reading.{frames_read}
 
 -- words that ask for a plan have no sure reason to be refused
 abbrev pub NeverBoth : Type 0
@@ -22,9 +24,9 @@ abbrev pub OneReason : Type 0
 OneReason = (words : List (List ℕ)) (one other : Refused) → IsRefusal words one → IsRefusal words other → IsSure one → IsSure other
     → one ≡ other
 
--- two plans name the same file and read the same of it, let the same trees through, and write the same over any frames
+-- two plans have the same source and read the same of it, let the same trees through, and write the same over any frames
 pub record AreAlike (one other : Plan) : Type 0 where
-  pub name : name_of one ≡ name_of other
+  pub source : source_of one ≡ source_of other
   pub read : (file : List ℕ) → frames_read one file ≡ frames_read other file
   pub lets : (tree : TreeShown) → satisfies one.filter tree ≡ satisfies other.filter tree
   pub written : (frames : List Frame) → output_of one frames ≡ output_of other frames

@@ -6,11 +6,11 @@ use Rattle.flt_types.specs.declared.typed.Typed.{Typed}
 use Rattle.flt_types.specs.Texts.{IsTypedText, IsFilterFault}
 use Rattle.shark_words.specs.declared.options.Options.{Options}
 use Rattle.shark_words.specs.Options.{options_of}
-use Rattle.shark_words.specs.Utf8.{name_in}
 use Rattle.shark_run.specs.declared.plan.Plan.{Plan}
 use Rattle.shark_run.specs.declared.plan.Refused.{Refused}
 use Rattle.shark_run.specs.declared.plan.Refused.TheVariants as refused
 use Rattle.shark_run.specs.Columns.{fields_named}
+use Rattle.shark_run.specs.Source.{source_in}
 
 -- the filter of the text that is asked for, where one is
 abbrev pub IsFilterAsked : Option (List ℕ) → Option Typed → Type 0
@@ -26,7 +26,7 @@ IsFaultAsked (Some text) fault = IsFilterFault text (Fault fault)
 
 -- the plan that options ask for
 pub record IsPlanFor (options : Options) (plan : Plan) : Type 0 where
-  pub name : plan.name ≡ name_in options.source
+  pub source : plan.source ≡ source_in options.source
   pub filter : IsFilterAsked options.filter plan.filter
   pub fields : fields_named options.names ≡ Ok plan.fields
   pub most : plan.most ≡ options.most

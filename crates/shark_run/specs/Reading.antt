@@ -2,13 +2,20 @@
 use Rattle.std.specs.Prelude.{ℕ, List, length, take, Option, None, Some, Bool, true, false, nat_le}
 use Rattle.capture_read.specs.Capture.{Reading, capture_of}
 use Rattle.capture_read.specs.declared.ending.Ending.TheVariants.{Whole}
+use Rattle.make_capture.specs.Made.{made}
 use Rattle.shark_run.specs.declared.plan.Plan.{Plan}
+use Rattle.shark_run.specs.declared.source.PlanSource.{PlanSource}
+use Rattle.shark_run.specs.declared.source.PlanSource.TheVariants.{Named, Generated}
 pub use Rattle.shark_run.specs.Accessors.{name_of}
-use Rattle.shark_run.specs.Accessors.{most_of}
+use Rattle.shark_run.specs.Accessors.{most_of, source_of}
 
--- the bytes of the file, where the capture tells them
+-- the bytes of the file, where the capture tells them, and those of a generated capture
+abbrev pub file_by : PlanSource → (List ℕ → Option (List ℕ)) → Option (List ℕ)
+file_by (Named name) files = files name
+file_by (Generated capture) files = Some (made capture.start capture.frames)
+
 abbrev pub file_of : Plan → (List ℕ → Option (List ℕ)) → Option (List ℕ)
-file_of plan files = files (name_of plan)
+file_of plan files = file_by (source_of plan) files
 
 -- the first so many frames, and what follows them isn't looked at
 abbrev pub front_if : Bool → ℕ → Reading → Reading

@@ -7,8 +7,10 @@ use Rattle.dissect.specs.Followed.{asks_streams, HasSameValues}
 use Rattle.flt_types.specs.declared.typed.Typed.{Typed}
 use Rattle.flt_types.specs.Asked.{HasFilter}
 use Rattle.shark_run.specs.declared.plan.Plan.{Plan}
-use Rattle.shark_run.specs.Accessors.{fields_of, filter_of}
+use Rattle.shark_run.specs.declared.totals.Totals.{Totals}
+use Rattle.shark_run.specs.Accessors.{fields_of, filter_of, is_generated}
 use Rattle.shark_run.specs.Lines.{shown}
+use Rattle.shark_run.specs.Totals.{counts_with}
 
 -- a set has the fields that a filter asks for; no filter asks for none
 abbrev pub HasAsked : List ℕ → Option Typed → Type 0
@@ -24,7 +26,15 @@ pub record HasPlan (wanted : List ℕ) (plan : Plan) : Type 0 where
   pub filter : HasAsked wanted (filter_of plan)
   pub columns : HasFields wanted (fields_of plan)
 
--- a tree that a dissector makes for these fields is shown as the whole tree
-unfoldable pub IsShownBy : List ℕ → Plan → Type 0
-IsShownBy wanted plan = (whole tree : TreeShown) → HasSameValues wanted whole tree
-    → (asks_streams wanted ≡ true → IsKept wanted whole tree) → shown plan tree ≡ shown plan whole
+-- a tree that a dissector makes for these fields, beside the whole tree
+pub record IsMadeFor (wanted : List ℕ) (whole tree : TreeShown) : Type 0 where
+  pub values : HasSameValues wanted whole tree
+  pub kept : asks_streams wanted ≡ true → IsKept wanted whole tree
+
+-- such a tree is shown and counted as the whole tree, and streams are asked where they are counted
+pub record IsEnough (wanted : List ℕ) (plan : Plan) : Type 0 where
+  pub shown : (whole tree : TreeShown) → IsMadeFor wanted whole tree
+      → shown plan tree ≡ shown plan whole
+  pub counted : (whole tree : TreeShown) → IsMadeFor wanted whole tree
+      → (totals : Totals) → counts_with plan tree totals ≡ counts_with plan whole totals
+  pub streams : is_generated plan ≡ true → asks_streams wanted ≡ true

@@ -1,14 +1,15 @@
 -- How far a run came, by the bytes that it took of its file.
-use Rattle.std.specs.Prelude.{◌≡◌, ◌⊎◌, ◌<◌, ◌≤◌, ℕ, suc, ◌+◌, ◌^◌, List, ◌∷◌, ◌++◌, length, take, Option, Some, None}
+use Rattle.std.specs.Prelude.{◌≡◌, ◌⊎◌, ◌<◌, ◌≤◌, ℕ, suc, ◌+◌, ◌^◌, List, ◌∷◌, ◌++◌, length, reverse, take, Option, Some, None}
 use Rattle.std.specs.Io.KnownBytes.{Appends}
 use Rattle.pk_outside.specs.Outside.{AppendsPart}
 use Rattle.capture_read.specs.Answers.{IsFrontOf, IsNear}
 use Rattle.capture_read.specs.Capture.{capture_of}
 use Rattle.capture_read.specs.declared.frame.Frame.{Frame}
-use Rattle.dissect.specs.Trees.{tree_at}
 use Rattle.shark_run.specs.declared.plan.Plan.{Plan}
-use Rattle.shark_run.specs.Accessors.{most_of}
-use Rattle.shark_run.specs.Lines.{all_lines, lines_of, opening, shown}
+use Rattle.shark_run.specs.Accessors.{most_of, source_of}
+use Rattle.shark_run.specs.Lines.{all_pieces, closing, opening, piece, pieces_of}
+use Rattle.shark_run.specs.Reading.{frames_read}
+use Rattle.shark_run.specs.Source.{IfNamed}
 
 -- fewer frames than are asked for
 abbrev pub IsFewer : Option ℕ → ℕ → Type 0
@@ -21,7 +22,7 @@ pub record IsReadSoFar (front : List ℕ) (plan : Plan) (file left : List ℕ) (
   pub taken : List ℕ
   pub whole : file ≡ taken ++ left
   pub fewer : IsFewer (most_of plan) (length (capture_of taken).frames)
-  pub wrote : Appends old new (front ++ all_lines plan (capture_of taken))
+  pub wrote : Appends old new (front ++ all_pieces plan (capture_of taken))
 
 -- the same where the capture tells what is left of the file
 abbrev pub WroteTakenBehind : List ℕ → Plan → List ℕ → Option (List ℕ) → Option (List ℕ) → Option (List ℕ) → Type 0
@@ -38,16 +39,29 @@ pub record IsBrokenBehind (start : List ℕ) (plan : Plan) (file : List ℕ) (le
   pub frame : Frame
   pub front : IsFrontOf (frame ∷ past) file
   pub near : IsNear file past left
-  pub piece : List ℕ
+  pub begun : List ℕ
   pub rest : List ℕ
-  pub line : piece ++ rest ≡ shown plan (tree_at past frame)
-  pub wrote : Appends old new (start ++ (lines_of plan past ++ piece))
+  pub line : begun ++ rest ≡ piece plan past frame
+  pub wrote : Appends old new (start ++ (pieces_of plan past ++ begun))
 
--- a write failed: of the line of the fields' names, where there is one, before anything was taken of the file, or of a frame's
--- line
+-- behind such a front, all frames' lines were written, and a front of what stands behind them
+abbrev pub IsBrokenAtEnd : List ℕ → Plan → List ℕ → Option (List ℕ) → Option (List ℕ) → Type 0
+IsBrokenAtEnd start plan file old new =
+    (begun : List ℕ) × (rest : List ℕ) × (begun ++ rest ≡ closing plan (reverse (frames_read plan file).frames))
+    × Appends old new (start ++ (all_pieces plan (frames_read plan file) ++ begun))
+
+-- behind such a front, a write failed: of a frame's line, or behind the lines
+abbrev pub IsBrokenFrom : List ℕ → Plan → List ℕ → Option (List ℕ) → Option (List ℕ) → Option (List ℕ) → Type 0
+IsBrokenFrom start plan file left old new = IsBrokenBehind start plan file left old new ⊎ IsBrokenAtEnd start plan file old new
+
+-- a write failed: of the line of the fields' names, where there is one, before anything was taken of the file, or behind it
+abbrev pub IsBrokenOf : Plan → List ℕ → Option (List ℕ) → Option (List ℕ) → Option (List ℕ) → Type 0
+IsBrokenOf plan file left old new =
+    ((0 < length (opening plan)) × (left ≡ Some file) × AppendsPart old new (opening plan)) ⊎ IsBrokenFrom (opening plan) plan file left old new
+
+-- the same where a file is read; nothing is taken of one for a generated capture
 abbrev pub IsBroken : Plan → List ℕ → Option (List ℕ) → Option (List ℕ) → Option (List ℕ) → Type 0
-IsBroken plan file left old new =
-    ((0 < length (opening plan)) × (left ≡ Some file) × AppendsPart old new (opening plan)) ⊎ IsBrokenBehind (opening plan) plan file left old new
+IsBroken plan file left old new = IfNamed (source_of plan) (IsBrokenOf plan file left old new)
 
 -- the bytes taken of a file end near the frame behind so many: a front that ends 65,536 bytes before them holds no frame more
 abbrev pub IsNearAfter : List ℕ → ℕ → Option (List ℕ) → Type 0
@@ -55,5 +69,8 @@ IsNearAfter file count None = Unit {0}
 IsNearAfter file count (Some left) = (front : ℕ) → front + 2 ^ 16 + length left ≤ length file → length (capture_of (take front file)).frames ≤ count
 
 -- where a file has as many frames as are asked for at most, the bytes taken of it end near the last of them
+abbrev pub IsFullNearOf : Plan → List ℕ → Option (List ℕ) → Type 0
+IsFullNearOf plan file left = (count : ℕ) → most_of plan ≡ Some (suc count) → suc count ≤ length (capture_of file).frames → IsNearAfter file count left
+
 abbrev pub IsFullNear : Plan → List ℕ → Option (List ℕ) → Type 0
-IsFullNear plan file left = (count : ℕ) → most_of plan ≡ Some (suc count) → suc count ≤ length (capture_of file).frames → IsNearAfter file count left
+IsFullNear plan file left = IfNamed (source_of plan) (IsFullNearOf plan file left)

@@ -75,6 +75,7 @@ fn word_reason_text(reason: WordReason) -> &'static str
         WordReason::BadValue => "A6 BadValue",
         WordReason::NoFields => "A7 NoFields",
         WordReason::Unused => "A8 Unused",
+        WordReason::Clash => "A9 Clash",
     }
 }
 
@@ -123,7 +124,7 @@ pub(crate) fn outcome_text(
     match outcome {
         Outcome::Ended(ending) => ending_text(alloc, ending),
         Outcome::CannotOpen => {
-            let name = escape_text(alloc, plan.name.as_str().as_bytes())?;
+            let name = escape_text(alloc, plan.source.name().as_bytes())?;
             let text = format!(in alloc; "shark: cannot open {name}\n")?;
             Ok(FaultLine::Made(text))
         }

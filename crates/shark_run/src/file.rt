@@ -1,11 +1,13 @@
 // Beginning the capture file.
-ghost use Rattle.std.specs.Prelude.{◌≡◌, IsErrOf, OnOk, OnErr};
+ghost use Rattle.std.specs.Prelude.{◌≡◌, IsErrOf, IfOk, OnOk, OnErr, Some};
+ghost use Rattle.make_capture.specs.Made.{made};
 ghost use Rattle.pk_outside.specs.Outside.{counted};
 ghost use Rattle.shark_run.specs.Causes.{IsUnopened};
-ghost use Rattle.shark_run.specs.Reading.{name_of, file_of};
 
-use crate::plan::Plan;
-use pk_outside::{Capture, Failed};
+use crate::generated::Generated;
+use crate::text::Text;
+use pk_base::NoMemory;
+use pk_outside::{Capture, Failed, SureCapture};
 use std::alloc::Global;
 
 /// Why no file was begun.
@@ -15,29 +17,41 @@ pub(crate) enum FileFault {
     NoMemory,
 }
 
-/// Begins the plan's file.
+/// Begins the file of a name.
 pub(crate) fn begin_file<C: Capture>(
     alloc: Global,
-    plan: &Plan,
+    name: &Text,
     capture: &mut C,
 ) -> Result<(), FileFault>
-    ensures left { OnOk result (C.left capture.new ≡ file_of plan.now (C.file capture.old)) }
+    ensures left { OnOk result (C.left capture.new ≡ C.file capture.old name.now) }
     ensures begun { OnOk result (C.begun capture.new ≡ counted (C.begun capture.old)) }
     ensures not_missed { OnOk result (C.missed capture.new ≡ C.missed capture.old) }
-    ensures asked { OnOk result (C.asked capture.new ≡ name_of plan.now) }
+    ensures asked { OnOk result (C.asked capture.new ≡ name.now) }
     ensures faults { C.faults capture.new ≡ C.faults capture.old }
     ensures not_begun { OnErr result (C.begun capture.new ≡ C.begun capture.old) }
     ensures left_err { OnErr result (C.left capture.new ≡ C.left capture.old) }
     ensures unopened { IsErrOf result FileFault.CannotOpen
         → IsUnopened (C.missed capture.old) (C.missed capture.new)
-        (C.begun capture.old) (C.begun capture.new) (C.asked capture.new) (name_of plan.now) }
+        (C.begun capture.old) (C.begun capture.new) (C.asked capture.new) name.now }
 {
-    let name = match plan.name.to_string(alloc) {
+    let name = match name.to_string(alloc) {
         Ok(name) => name,
         Err(_) => return Err(FileFault::NoMemory),
     };
     match capture.begin(name) {
         Ok(()) => Ok(()),
         Err(Failed) => Err(FileFault::CannotOpen),
+    }
+}
+
+/// The begun file of a generated capture.
+pub(crate) fn begin_generated(alloc: Global, capture: &Generated) -> Result<SureCapture, NoMemory>
+    ensures { IfOk result (λ begun. Some begun.left ≡ Some (made capture.now.start capture.now.frames)) }
+{
+    let file = capture.file(alloc)?;
+    let mut begun = SureCapture::new(Vec::from_slice(alloc, file.bytes())?);
+    match begun.begin(String::new(alloc)) {
+        Ok(()) => Ok(begun),
+        Err(Failed) => Err(NoMemory),
     }
 }

@@ -4,21 +4,27 @@
 
 mod fault_text;
 mod file;
+mod generated;
 mod laws;
 mod lines;
 mod outcome;
 mod output;
 mod plan;
+mod self_run;
+mod source;
 mod status;
 mod text;
 mod top;
+mod totals;
 mod wanted;
 mod words;
 
+pub use generated::Generated;
 pub use laws::{
     plans_are_alike, plans_are_not_refused, reasons_are_unique, words_are_planned_or_refused,
 };
 pub use plan::{FieldList, Plan, Refused};
+pub use source::PlanSource;
 pub use status::Status;
 pub use text::Text;
 pub use top::{run, run_plan};

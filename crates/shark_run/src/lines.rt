@@ -1,6 +1,6 @@
 // Which frames are shown.
 ghost use Rattle.std.specs.Prelude.{◌≡◌, IfOk};
-ghost use Rattle.shark_run.specs.Lines.{satisfies as is_satisfied};
+ghost use Rattle.shark_run.specs.Satisfied.{satisfies as is_satisfied};
 
 use flt_mean::holds;
 use flt_types::Filter;
@@ -9,7 +9,7 @@ use pk_tree::Tree;
 use std::alloc::Global;
 
 /// Whether a tree satisfies a filter.
-#[tactic(auto, unfolding(crate::specs::Lines::satisfies))]
+#[tactic(auto, unfolding(crate::specs::Satisfied::satisfies))]
 pub(crate) fn satisfies(
     alloc: Global,
     filter: &Option<Filter>,

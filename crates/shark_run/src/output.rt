@@ -1,5 +1,5 @@
 // Reading a file and writing the output over its frames.
-ghost use Rattle.std.specs.Prelude.{◌≡◌, ◌≢◌, ◌<◌, ◌≤◌, ◌+◌, ◌-◌, ◌^◌, ℕ, suc, true, false, IfOk, IfSome, IsErrOf, OnOk, [], ◌∷◌, List, Some, length};
+ghost use Rattle.std.specs.Prelude.{◌≡◌, ◌≢◌, ◌<◌, ◌≤◌, ◌+◌, ◌-◌, ◌^◌, ℕ, suc, true, false, IfOk, IfSome, IsErrOf, OnOk, [], ◌∷◌, List, Some, length, string_bytes};
 ghost use Rattle.std.specs.Option.{option_map};
 ghost use Rattle.std.specs.Io.KnownBytes.{Appends};
 ghost use Rattle.pk_base.specs.Limits.{file_limit as limit_of_file};
@@ -10,15 +10,21 @@ ghost use Rattle.capture_read.specs.declared.frame.Frame.{Frame as FrameValue};
 ghost use Rattle.dissect.specs.Stands.{StandsWithin};
 ghost use Rattle.capture_read.specs.FrameList.{IsTime};
 ghost use Rattle.dissect.specs.Trees.{tree_at};
-ghost use Rattle.shark_run.specs.Lines.{line_of, opening, shown};
+ghost use Rattle.shark_run.specs.declared.totals.Totals.{Totals as TotalsValue};
+ghost use Rattle.shark_run.specs.Accessors.{is_generated};
+ghost use Rattle.shark_run.specs.Ended.{HasRead};
+ghost use Rattle.shark_run.specs.Lines.{closing, line_of, opening, piece, shown};
 ghost use Rattle.shark_run.specs.Reading.{frames_read};
-ghost use Rattle.shark_run.specs.Wanted.{IsShownBy};
-ghost use Rattle.shark_run.specs.Way.{IsBroken, IsBrokenBehind, IsFullNear, WroteTaken, WroteTakenBehind};
-ghost use Rattle.shark_run.specs.Wrote.{WroteAll, WroteLines, WrotePart, WroteSomeLines};
+ghost use Rattle.shark_run.specs.Totals.{AreFew, counts_of, counts_with};
+ghost use Rattle.shark_run.specs.Wanted.{IsEnough};
+ghost use Rattle.shark_run.specs.Way.{IsBrokenBehind, IsBrokenFrom, IsBrokenOf, IsFullNearOf, WroteTaken, WroteTakenBehind};
+ghost use Rattle.shark_run.specs.Wrote.{WroteAll, WroteBody, WrotePart, WrotePieces, WroteSomeBody, WroteSomePieces};
 
 use crate::lines::satisfies;
 use crate::plan::Plan;
-use crate::wanted::shown_fields;
+use crate::self_run::self_run_line;
+use crate::totals::Totals;
+use crate::wanted::needed_fields;
 use capture_read::{Ending, Frame, FrameReader, NextFrame, ReadError};
 use dissect::{DecodeAs, Dissector, PortRules, TakeFault};
 use out_json::JsonWriter;
@@ -50,21 +56,24 @@ fn new_dissector(alloc: Global, wanted: FieldSet) -> Dissector
     Dissector::for_fields(alloc, DecodeAs { rules }, wanted)
 }
 
-// A line, with what writes it.
+// A line, with what writes it, and what was counted so far.
 #[derive(Drop)]
 struct LineMaker {
     writer: LineWriter,
     json: JsonWriter,
     line: Vec<u8>,
+    totals: Totals,
 }
 
 fn new_line_maker(alloc: Global, plan: &Plan) -> Result<LineMaker, NoMemory>
-    ensures { IfOk result (λ lines. lines.writer ≡ plan.now.fields) }
+    ensures writer { IfOk result (λ lines. lines.writer ≡ plan.now.fields) }
+    ensures totals { IfOk result (λ lines. lines.totals ≡ counts_of plan.now []) }
 {
     Ok(LineMaker {
         writer: LineWriter::new(alloc, plan.fields.slice())?,
         json: JsonWriter::new(alloc),
         line: Vec::new(alloc),
+        totals: Totals::none(),
     })
 }
 
@@ -74,6 +83,7 @@ fn put_line(alloc: Global, plan: &Plan, tree: &Tree, lines: &mut LineMaker) -> R
     requires empty { lines.old.line.items ≡ [] }
     ensures line { OnOk result (lines.new.line.items ≡ line_of plan.now tree.now) }
     ensures writer { lines.new.writer ≡ lines.old.writer }
+    ensures totals { lines.new.totals ≡ lines.old.totals }
 {
     match plan.kind {
         LineKind::Text => {
@@ -85,13 +95,22 @@ fn put_line(alloc: Global, plan: &Plan, tree: &Tree, lines: &mut LineMaker) -> R
     }
 }
 
-// Makes the line of a tree, where the filter lets it through, else one of no bytes.
+// Makes the line of a tree, where the filter lets it through, else one of no bytes. A tree of a generated capture is
+// counted in place of this.
 fn make_line(alloc: Global, plan: &Plan, tree: &Tree, lines: &mut LineMaker) -> Result<(), NoMemory>
-    requires { lines.old.writer ≡ plan.now.fields }
+    requires writer { lines.old.writer ≡ plan.now.fields }
+    requires few { AreFew (2 ^ 28) lines.old.totals }
     ensures line { OnOk result (lines.new.line.items ≡ shown plan.now tree.now) }
+    ensures totals { OnOk result (lines.new.totals ≡ counts_with plan.now tree.now lines.old.totals) }
     ensures writer { lines.new.writer ≡ lines.old.writer }
+    ensures few { (most : ℕ) → AreFew most lines.old.totals → AreFew (suc most) lines.new.totals }
 {
     lines.line.clear();
+    if plan.source.is_generated() {
+        let satisfied = satisfies(alloc, &plan.filter, tree)?;
+        lines.totals = lines.totals.with(tree, satisfied);
+        return Ok(());
+    }
     if plan.quiet {
         return Ok(());
     }
@@ -109,18 +128,43 @@ fn write_tree<O: Sink>(
     lines: &mut LineMaker,
     out: &mut O,
 ) -> Result<(), SinkFault>
-    requires { lines.old.writer ≡ plan.now.fields }
+    requires writer { lines.old.writer ≡ plan.now.fields }
+    requires few { AreFew (2 ^ 28) lines.old.totals }
     ensures whole { OnOk result
         (Appends (O.written out.old) (O.written out.new) (shown plan.now tree.now)) }
     ensures part { AppendsPart (O.written out.old) (O.written out.new) (shown plan.now tree.now) }
+    ensures totals { OnOk result (lines.new.totals ≡ counts_with plan.now tree.now lines.old.totals) }
     ensures fault { IsErrOf result SinkFault.Failed → Rose (O.faults out.old) (O.faults out.new) }
     ensures faults_stay { O.faults out.old ≤ O.faults out.new }
     ensures writer { lines.new.writer ≡ lines.old.writer }
+    ensures few { (most : ℕ) → AreFew most lines.old.totals → AreFew (suc most) lines.new.totals }
 {
     match make_line(alloc, plan, tree, lines) {
         Ok(()) => write_whole(out, lines.line.as_slice()),
         Err(NoMemory) => Err(SinkFault::NoMemory),
     }
+}
+
+// Takes a frame, of which only the fields are read that the output is made from.
+#[tactic(auto, using(crate::proofs::WantedLemmas::enough_shown, crate::proofs::WantedLemmas::enough_counted))]
+fn take_frame(plan: &Plan, frame: &Frame, dissector: &mut Dissector) -> Result<Tree, TakeFault>
+    requires enough { IsEnough dissector.old.wanted plan.now }
+    requires number { frame.now.number ≡ dissector.old.taken + 1 }
+    requires time { IfSome frame.now.time IsTime }
+    requires captured { dissector.old.captured + length frame.now.bytes ≤ 2 ^ 28 }
+    ensures line { IfOk result (λ tree. (past : List FrameValue) → StandsWithin past dissector.old
+        → shown plan.now tree ≡ shown plan.now (tree_at past frame.now)) }
+    ensures counts { IfOk result (λ tree. (past : List FrameValue) → StandsWithin past dissector.old
+        → (totals : TotalsValue)
+        → counts_with plan.now tree totals ≡ counts_with plan.now (tree_at past frame.now) totals) }
+    ensures stands { OnOk result ((past : List FrameValue) → StandsWithin past dissector.old
+        → StandsWithin (frame.now ∷ past) dissector.new) }
+    ensures kept { dissector.new.wanted ≡ dissector.old.wanted }
+    ensures taken { OnOk result (dissector.new.taken ≡ dissector.old.taken + 1) }
+    ensures captured { OnOk result (dissector.new.captured
+        ≡ dissector.old.captured + length frame.now.bytes) }
+{
+    dissector.take_wanted(frame)
 }
 
 // Takes a frame and writes its line where the filter lets it through.
@@ -135,6 +179,7 @@ fn write_frame<O: Sink>(
 ) -> Result<(), RunFault>
     requires wanted { IsShownBy dissector.old.wanted plan.now }
     requires lines { lines.old.writer ≡ plan.now.fields }
+    requires few { AreFew (2 ^ 28) lines.old.totals }
     requires number { frame.now.number ≡ dissector.old.taken + 1 }
     requires time { IfSome frame.now.time IsTime }
     requires captured { dissector.old.captured + length frame.now.bytes ≤ 2 ^ 28 }
@@ -145,11 +190,12 @@ fn write_frame<O: Sink>(
     ensures captured { OnOk result (dissector.new.captured
         ≡ dissector.old.captured + length frame.now.bytes) }
     ensures whole { OnOk result ((past : List FrameValue) → StandsWithin past dissector.old
-        → Appends (O.written out.old) (O.written out.new)
-        (shown plan.now (tree_at past frame.now))) }
+        → Appends (O.written out.old) (O.written out.new) (piece plan.now past frame.now)) }
     ensures part { (past : List FrameValue) → StandsWithin past dissector.old
-        → AppendsPart (O.written out.old) (O.written out.new)
-        (shown plan.now (tree_at past frame.now)) }
+        → AppendsPart (O.written out.old) (O.written out.new) (piece plan.now past frame.now) }
+    ensures counts { OnOk result ((past : List FrameValue) → StandsWithin past dissector.old
+        → lines.new.totals ≡ counts_with plan.now (tree_at past frame.now) lines.old.totals) }
+    ensures few { (most : ℕ) → AreFew most lines.old.totals → AreFew (suc most) lines.new.totals }
     ensures writer { lines.new.writer ≡ lines.old.writer }
     ensures read { IsErrOf result RunFault.ReadFault → ⊥ }
     ensures fault { IsErrOf result RunFault.WriteFault
@@ -200,6 +246,7 @@ fn write_rest<C: Capture, O: Sink>(
 ) -> Result<Ending, RunFault>
     requires wanted { IsShownBy dissector.old.wanted plan.now }
     requires lines { lines.old.writer ≡ plan.now.fields }
+    requires totals { lines.old.totals ≡ counts_of plan.now [] }
     requires reads { (left : List ℕ) → StandsFor reader.old (Some left) left [] }
     requires number { reader.old.state.number ≡ 1 }
     requires at { reader.old.state.at ≡ 0 }
@@ -209,12 +256,15 @@ fn write_rest<C: Capture, O: Sink>(
 
     // What was written, and how far the file was read then.
     ensures ended { IfOk result (λ ending. IfSome (C.left capture.old) (λ file.
-        WroteLines plan.now (frames_read plan.now file) (O.written out.old) (O.written out.new)
+        WrotePieces plan.now (frames_read plan.now file) (O.written out.old) (O.written out.new)
         × (ending ≡ (frames_read plan.now file).ending))) }
+    ensures read { OnOk result (IfSome (C.left capture.old) (λ file.
+        HasRead plan.now file dissector.new lines.new.totals)) }
+    ensures enough { OnOk result (IsEnough dissector.new.wanted plan.now) }
     ensures full { OnOk result (IfSome (C.left capture.old) (λ file.
-        IsFullNear plan.now file (C.left capture.new))) }
+        IsFullNearOf plan.now file (C.left capture.new))) }
     ensures part { IfSome (C.left capture.old) (λ file.
-        WroteSomeLines plan.now (frames_read plan.now file) (O.written out.old) (O.written out.new)) }
+        WroteSomePieces plan.now (frames_read plan.now file) (O.written out.old) (O.written out.new)) }
     ensures so_far { IsErrOf result RunFault.ReadFault → IfSome (C.left capture.old) (λ file.
         WroteTakenBehind [] plan.now file (C.left capture.new) (O.written out.old) (O.written out.new)) }
     ensures near { IsErrOf result RunFault.WriteFault → IfSome (C.left capture.old) (λ file.
@@ -226,6 +276,7 @@ fn write_rest<C: Capture, O: Sink>(
         → Rose (C.faults capture.old) (C.faults capture.new) }
     ensures write_fault { IsErrOf result RunFault.WriteFault
         → Rose (O.faults out.old) (O.faults out.new) }
+    ensures faults_stay { O.faults out.old ≤ O.faults out.new }
     ensures asked { C.asked capture.new ≡ C.asked capture.old }
     ensures begun { C.begun capture.new ≡ C.begun capture.old }
     ensures missed { C.missed capture.new ≡ C.missed capture.old }
@@ -250,24 +301,92 @@ fn write_rest<C: Capture, O: Sink>(
     }
 }
 
-// Reads the begun file and writes the lines of its frames, and answers how the reading ends.
-fn write_frames<C: Capture, O: Sink>(
+// What stands behind the lines of the frames.
+#[tactic(auto, using(crate::proofs::ClosingLemmas::no_closing))]
+fn closing_line(
     alloc: Global,
     plan: &Plan,
+    dissector: &Dissector,
+    totals: Totals,
+) -> Result<String, NoMemory>
+    requires { IsEnough dissector.now.wanted plan.now }
+    ensures { IfOk result (λ line. (past : List FrameValue) → StandsWithin past dissector.now
+        → totals ≡ counts_of plan.now past → string_bytes line ≡ closing plan.now past) }
+{
+    if plan.source.is_generated() {
+        match self_run_line(alloc, dissector, totals) {
+            Ok(line) => Ok(line),
+            Err(error) => Err(error),
+        }
+    } else {
+        Ok(String::new(alloc))
+    }
+}
+
+fn write_closing<O: Sink>(
+    alloc: Global,
+    plan: &Plan,
+    dissector: &Dissector,
+    totals: Totals,
+    out: &mut O,
+) -> Result<(), RunFault>
+    requires { IsEnough dissector.now.wanted plan.now }
+    ensures whole { OnOk result ((past : List FrameValue) → StandsWithin past dissector.now
+        → totals ≡ counts_of plan.now past
+        → Appends (O.written out.old) (O.written out.new) (closing plan.now past)) }
+    ensures part { (past : List FrameValue) → StandsWithin past dissector.now
+        → totals ≡ counts_of plan.now past
+        → AppendsPart (O.written out.old) (O.written out.new) (closing plan.now past) }
+    ensures read { IsErrOf result RunFault.ReadFault → ⊥ }
+    ensures fault { IsErrOf result RunFault.WriteFault
+        → Rose (O.faults out.old) (O.faults out.new) }
+    ensures faults_stay { O.faults out.old ≤ O.faults out.new }
+{
+    let line = match closing_line(alloc, plan, dissector, totals) {
+        Ok(line) => line,
+        Err(NoMemory) => return Err(RunFault::NoMemory),
+    };
+    if line.is_empty() {
+        return Ok(());
+    }
+    match write_whole(out, line.as_bytes()) {
+        Ok(()) => Ok(()),
+        Err(SinkFault::Failed) => Err(RunFault::WriteFault),
+        Err(SinkFault::NoMemory) => Err(RunFault::NoMemory),
+    }
+}
+
+// Reads the begun file and writes what stands behind the opening, and answers how the reading ends.
+fn write_body<C: Capture, O: Sink>(
+    alloc: Global,
+    plan: &Plan,
+    reader: &mut FrameReader,
+    dissector: &mut Dissector,
+    lines: &mut LineMaker,
     capture: &mut C,
     out: &mut O,
 ) -> Result<Ending, RunFault>
+    requires enough { IsEnough dissector.old.wanted plan.now }
+    requires lines { lines.old.writer ≡ plan.now.fields }
+    requires totals { lines.old.totals ≡ counts_of plan.now [] }
+    requires reads { (left : List ℕ) → StandsFor reader.old (Some left) left [] }
+    requires number { reader.old.state.number ≡ 1 }
+    requires at { reader.old.state.at ≡ 0 }
+    requires stands { StandsWithin [] dissector.old }
+    requires taken { dissector.old.taken ≡ 0 }
+    requires captured { dissector.old.captured ≡ 0 }
+
     ensures ended { IfOk result (λ ending. IfSome (C.left capture.old) (λ file.
-        WroteLines plan.now (frames_read plan.now file) (O.written out.old) (O.written out.new)
+        WroteBody plan.now (frames_read plan.now file) (O.written out.old) (O.written out.new)
         × (ending ≡ (frames_read plan.now file).ending))) }
     ensures full { OnOk result (IfSome (C.left capture.old) (λ file.
-        IsFullNear plan.now file (C.left capture.new))) }
+        IsFullNearOf plan.now file (C.left capture.new))) }
     ensures part { IfSome (C.left capture.old) (λ file.
-        WroteSomeLines plan.now (frames_read plan.now file) (O.written out.old) (O.written out.new)) }
+        WroteSomeBody plan.now (frames_read plan.now file) (O.written out.old) (O.written out.new)) }
     ensures so_far { IsErrOf result RunFault.ReadFault → IfSome (C.left capture.old) (λ file.
         WroteTakenBehind [] plan.now file (C.left capture.new) (O.written out.old) (O.written out.new)) }
     ensures near { IsErrOf result RunFault.WriteFault → IfSome (C.left capture.old) (λ file.
-        IsBrokenBehind [] plan.now file (C.left capture.new) (O.written out.old) (O.written out.new)) }
+        IsBrokenFrom [] plan.now file (C.left capture.new) (O.written out.old) (O.written out.new)) }
     ensures took { TookAtMost (suc limit_of_file) (C.left capture.old) (C.left capture.new) }
     ensures read_fault { IsErrOf result RunFault.ReadFault
         → Rose (C.faults capture.old) (C.faults capture.new) }
@@ -277,20 +396,59 @@ fn write_frames<C: Capture, O: Sink>(
     ensures begun { C.begun capture.new ≡ C.begun capture.old }
     ensures missed { C.missed capture.new ≡ C.missed capture.old }
 {
-    let mut reader = FrameReader::new(alloc);
-    let mut dissector = new_dissector(alloc, shown_fields(plan));
-    match new_line_maker(alloc, plan) {
-        Ok(mut lines) => write_rest(
-            alloc,
-            plan,
-            &mut reader,
-            &mut dissector,
-            &mut lines,
-            capture,
-            out,
-        ),
-        Err(NoMemory) => Err(RunFault::NoMemory),
+    let ending = match write_rest(alloc, plan, reader, dissector, lines, capture, out) {
+        Ok(ending) => ending,
+        Err(fault) => return Err(fault),
+    };
+    match write_closing(alloc, plan, dissector, lines.totals, out) {
+        Ok(()) => Ok(ending),
+        Err(fault) => Err(fault),
     }
+}
+
+// Reads the begun file and writes what stands behind the opening, and answers how the reading ends.
+#[tactic(auto, using(crate::proofs::ClosingLemmas::none_body))]
+fn write_frames<C: Capture, O: Sink>(
+    alloc: Global,
+    plan: &Plan,
+    capture: &mut C,
+    out: &mut O,
+) -> Result<Ending, RunFault>
+    ensures ended { IfOk result (λ ending. IfSome (C.left capture.old) (λ file.
+        WroteBody plan.now (frames_read plan.now file) (O.written out.old) (O.written out.new)
+        × (ending ≡ (frames_read plan.now file).ending))) }
+    ensures full { OnOk result (IfSome (C.left capture.old) (λ file.
+        IsFullNearOf plan.now file (C.left capture.new))) }
+    ensures part { IfSome (C.left capture.old) (λ file.
+        WroteSomeBody plan.now (frames_read plan.now file) (O.written out.old) (O.written out.new)) }
+    ensures so_far { IsErrOf result RunFault.ReadFault → IfSome (C.left capture.old) (λ file.
+        WroteTakenBehind [] plan.now file (C.left capture.new) (O.written out.old) (O.written out.new)) }
+    ensures near { IsErrOf result RunFault.WriteFault → IfSome (C.left capture.old) (λ file.
+        IsBrokenFrom [] plan.now file (C.left capture.new) (O.written out.old) (O.written out.new)) }
+    ensures took { TookAtMost (suc limit_of_file) (C.left capture.old) (C.left capture.new) }
+    ensures read_fault { IsErrOf result RunFault.ReadFault
+        → Rose (C.faults capture.old) (C.faults capture.new) }
+    ensures write_fault { IsErrOf result RunFault.WriteFault
+        → Rose (O.faults out.old) (O.faults out.new) }
+    ensures asked { C.asked capture.new ≡ C.asked capture.old }
+    ensures begun { C.begun capture.new ≡ C.begun capture.old }
+    ensures missed { C.missed capture.new ≡ C.missed capture.old }
+{
+    let mut lines = match new_line_maker(alloc, plan) {
+        Ok(lines) => lines,
+        Err(NoMemory) => return Err(RunFault::NoMemory),
+    };
+    let mut reader = FrameReader::new(alloc);
+    let mut dissector = new_dissector(alloc, needed_fields(plan));
+    write_body(
+        alloc,
+        plan,
+        &mut reader,
+        &mut dissector,
+        &mut lines,
+        capture,
+        out,
+    )
 }
 
 // What stands before the lines of the frames.
@@ -298,6 +456,9 @@ fn write_frames<C: Capture, O: Sink>(
 fn opening_line(alloc: Global, plan: &Plan) -> Result<Vec<u8>, NoMemory>
     ensures { IfOk result (λ line. line.items ≡ opening plan.now) }
 {
+    if plan.source.is_generated() {
+        return Ok(Vec::new(alloc));
+    }
     match plan.kind {
         LineKind::Fields if plan.style.header && !plan.quiet => {
             header_line(alloc, plan.fields.slice(), &plan.style)
@@ -342,13 +503,13 @@ pub(crate) fn write_output<C: Capture, O: Sink>(
         WroteAll plan.now (frames_read plan.now file) (O.written out.old) (O.written out.new)
         × (ending ≡ (frames_read plan.now file).ending))) }
     ensures full { OnOk result (IfSome (C.left capture.old) (λ file.
-        IsFullNear plan.now file (C.left capture.new))) }
+        IsFullNearOf plan.now file (C.left capture.new))) }
     ensures part { IfSome (C.left capture.old) (λ file.
         WrotePart plan.now (frames_read plan.now file) (O.written out.old) (O.written out.new)) }
     ensures so_far { IsErrOf result RunFault.ReadFault → IfSome (C.left capture.old) (λ file.
         WroteTaken plan.now file (C.left capture.new) (O.written out.old) (O.written out.new)) }
     ensures near { IsErrOf result RunFault.WriteFault → IfSome (C.left capture.old) (λ file.
-        IsBroken plan.now file (C.left capture.new) (O.written out.old) (O.written out.new)) }
+        IsBrokenOf plan.now file (C.left capture.new) (O.written out.old) (O.written out.new)) }
     ensures took { TookAtMost (suc limit_of_file) (C.left capture.old) (C.left capture.new) }
     ensures read_fault { IsErrOf result RunFault.ReadFault
         → Rose (C.faults capture.old) (C.faults capture.new) }

@@ -1,6 +1,6 @@
 ghost use Rattle.std.specs.Prelude.{◌≡◌};
 
-use crate::text::Text;
+use crate::source::PlanSource;
 use flt_parse::FilterFault;
 use flt_types::Filter;
 use out_lines::Style;
@@ -41,8 +41,8 @@ impl FieldList {
 /// What a run is asked for.
 #[derive(Drop)]
 pub struct Plan {
-    /// The name of the capture file.
-    pub name: Text,
+    /// Where the frames come from.
+    pub source: PlanSource,
     /// What a frame's tree has to satisfy, where there is a filter.
     pub filter: Option<Filter>,
     /// The columns, in order.

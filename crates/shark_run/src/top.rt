@@ -1,5 +1,6 @@
 // The top call.
 ghost use Rattle.std.specs.Prelude.{◌≡◌, ◌≤◌, ◌+◌, ◌⊎◌, ℕ, List, Option, IfSome};
+ghost use Rattle.make_capture.specs.Made.{made};
 ghost use Rattle.pk_outside.specs.Outside.{Rose};
 ghost use Rattle.shark_words.specs.Words.{texts};
 ghost use Rattle.shark_run.specs.declared.plan.Plan.{Plan};
@@ -13,19 +14,96 @@ ghost use Rattle.shark_run.specs.Statuses.{IsNoRefusal, IsRefusing, WhenEnded};
 ghost use Rattle.shark_run.specs.FaultTexts.{IsNone, IsSame, Told, ToldWhole};
 ghost use Rattle.shark_run.specs.Outcomes.{IfEnded};
 ghost use Rattle.shark_run.specs.Causes.{IsUnopened, IsUnread};
-ghost use Rattle.shark_run.specs.Way.{IsBroken, IsFullNear, WroteTaken};
+ghost use Rattle.shark_run.specs.Way.{IsBroken, IsBrokenOf, IsFullNear, IsFullNearOf, WroteTaken};
 ghost use Rattle.shark_run.specs.Wrote.{WroteAll, WrotePart};
 
 use crate::fault_text::{outcome_text, refusal_text, tell};
-use crate::file::{FileFault, begin_file};
+use crate::file::{FileFault, begin_file, begin_generated};
+use crate::generated::Generated;
 use crate::outcome::Outcome;
 use crate::output::{RunFault, write_output};
 use crate::plan::{Plan, PlanError, Refused};
+use crate::source::PlanSource;
 use crate::status::{Status, status_of_refusal};
+use crate::text::Text;
 use crate::words::read_plan;
 use pk_base::NoMemory;
 use pk_outside::{Capture, Sink};
 use std::alloc::Global;
+
+// Reads the file of a name and writes the output over its frames.
+fn carry_out_named<C: Capture, O: Sink>(
+    alloc: Global,
+    plan: &Plan,
+    name: &Text,
+    capture: &mut C,
+    out: &mut O,
+) -> Outcome
+    ensures ended { IfEnded result (λ ending.
+        IfSome (C.file capture.old name.now) (λ file.
+        WroteAll plan.now (frames_read plan.now file) (O.written out.old) (O.written out.new)
+        × (ending ≡ (frames_read plan.now file).ending))) }
+    ensures part { IfSome (C.file capture.old name.now) (λ file.
+        WrotePart plan.now (frames_read plan.now file) (O.written out.old) (O.written out.new)) }
+    ensures unopened { result ≡ Outcome.CannotOpen
+        → IsUnopened (C.missed capture.old) (C.missed capture.new)
+        (C.begun capture.old) (C.begun capture.new) (C.asked capture.new) name.now × (out.new ≡ out.old) }
+    ensures unread { result ≡ Outcome.ReadFault
+        → IsUnread (C.faults capture.old) (C.faults capture.new)
+        (C.begun capture.old) (C.begun capture.new) (C.missed capture.old) (C.missed capture.new) (C.asked capture.new) name.now }
+    ensures write_fault { result ≡ Outcome.WriteFault → Rose (O.faults out.old) (O.faults out.new) }
+    ensures taken { Took (C.file capture.old name.now)
+        (C.begun capture.old) (C.begun capture.new) (C.left capture.old) (C.left capture.new) }
+    ensures begun_once { C.begun capture.new ≤ C.begun capture.old + 1 }
+    ensures so_far { result ≡ Outcome.ReadFault
+        → IfSome (C.file capture.old name.now) (λ file.
+        WroteTaken plan.now file (C.left capture.new) (O.written out.old) (O.written out.new)) }
+    ensures near { result ≡ Outcome.WriteFault
+        → IfSome (C.file capture.old name.now) (λ file.
+        IsBrokenOf plan.now file (C.left capture.new) (O.written out.old) (O.written out.new)) }
+    ensures full { IfEnded result (λ _. IfSome (C.file capture.old name.now) (λ file.
+        IsFullNearOf plan.now file (C.left capture.new))) }
+{
+    match begin_file(alloc, name, capture) {
+        Ok(()) => {}
+        Err(FileFault::CannotOpen) => return Outcome::CannotOpen,
+        Err(FileFault::NoMemory) => return Outcome::NoMemory,
+    }
+    match write_output(alloc, plan, capture, out) {
+        Ok(ending) => Outcome::Ended(ending),
+        Err(RunFault::ReadFault) => Outcome::ReadFault,
+        Err(RunFault::WriteFault) => Outcome::WriteFault,
+        Err(RunFault::NoMemory) => Outcome::NoMemory,
+    }
+}
+
+// Writes the output over the frames of a generated capture.
+fn carry_out_generated<O: Sink>(
+    alloc: Global,
+    plan: &Plan,
+    generated: &Generated,
+    out: &mut O,
+) -> Outcome
+    ensures ended { IfEnded result (λ ending. WroteAll plan.now
+        (frames_read plan.now (made generated.now.start generated.now.frames)) (O.written out.old) (O.written out.new)
+        × (ending ≡ (frames_read plan.now (made generated.now.start generated.now.frames)).ending)) }
+    ensures part { WrotePart plan.now (frames_read plan.now (made generated.now.start generated.now.frames))
+        (O.written out.old) (O.written out.new) }
+    ensures opened { result ≡ Outcome.CannotOpen → ⊥ }
+    ensures read { result ≡ Outcome.ReadFault → ⊥ }
+    ensures write_fault { result ≡ Outcome.WriteFault → Rose (O.faults out.old) (O.faults out.new) }
+{
+    let mut capture = match begin_generated(alloc, generated) {
+        Ok(capture) => capture,
+        Err(NoMemory) => return Outcome::NoMemory,
+    };
+    match write_output(alloc, plan, &mut capture, out) {
+        Ok(ending) => Outcome::Ended(ending),
+        Err(RunFault::ReadFault) => Outcome::ReadFault,
+        Err(RunFault::WriteFault) => Outcome::WriteFault,
+        Err(RunFault::NoMemory) => Outcome::NoMemory,
+    }
+}
 
 // Reads a plan's capture file and writes the output over its frames.
 fn carry_out<C: Capture, O: Sink>(
@@ -59,16 +137,9 @@ fn carry_out<C: Capture, O: Sink>(
     ensures full { IfEnded result (λ _. IfSome (file_of plan.now (C.file capture.old)) (λ file.
         IsFullNear plan.now file (C.left capture.new))) }
 {
-    match begin_file(alloc, plan, capture) {
-        Ok(()) => {}
-        Err(FileFault::CannotOpen) => return Outcome::CannotOpen,
-        Err(FileFault::NoMemory) => return Outcome::NoMemory,
-    }
-    match write_output(alloc, plan, capture, out) {
-        Ok(ending) => Outcome::Ended(ending),
-        Err(RunFault::ReadFault) => Outcome::ReadFault,
-        Err(RunFault::WriteFault) => Outcome::WriteFault,
-        Err(RunFault::NoMemory) => Outcome::NoMemory,
+    match &plan.source {
+        PlanSource::Named(name) => carry_out_named(alloc, plan, name, capture, out),
+        PlanSource::Generated(generated) => carry_out_generated(alloc, plan, generated, out),
     }
 }
 

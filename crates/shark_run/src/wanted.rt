@@ -1,18 +1,23 @@
 // The fields that a plan asks for.
 ghost use Rattle.std.specs.Prelude.{◌≡◌, ℕ, true};
 ghost use Rattle.pk_fields.specs.FieldSets.{is_in};
-ghost use Rattle.shark_run.specs.Wanted.{HasAsked, HasFields, HasPlan, IsShownBy};
+ghost use Rattle.shark_run.specs.Wanted.{HasAsked, HasFields, HasPlan, IsEnough};
+ghost use Rattle.dissect.specs.Followed.{asks_streams};
 
 use crate::plan::Plan;
 use flt_types::{Filter, add_fields};
-use pk_fields::{FieldId, FieldSet};
+use pk_fields::{FieldId, FieldSet, ids};
 use shark_words::LineKind;
 
-/// The fields that the lines of frames are made from: none where there are no lines, and all for lines of text and JSON.
-#[tactic(auto, using(crate::proofs::WantedLemmas::shown_by_fields, crate::proofs::WantedLemmas::shown_by_all, crate::proofs::WantedLemmas::shown_by_none))]
-pub(crate) fn shown_fields(plan: &Plan) -> FieldSet
-    ensures { IsShownBy result plan.now }
+/// The fields that the output is made from: none where there are no lines, all for lines of text and JSON, and over a generated
+/// capture those of the filter and what counts streams.
+#[tactic(auto, using(crate::proofs::WantedLemmas::enough_fields, crate::proofs::WantedLemmas::enough_all, crate::proofs::WantedLemmas::enough_none, crate::proofs::WantedLemmas::enough_generated))]
+pub(crate) fn needed_fields(plan: &Plan) -> FieldSet
+    ensures { IsEnough result plan.now }
 {
+    if plan.source.is_generated() {
+        return counted_fields(plan);
+    }
     if plan.quiet {
         return FieldSet::none();
     }
@@ -20,6 +25,17 @@ pub(crate) fn shown_fields(plan: &Plan) -> FieldSet
         LineKind::Text | LineKind::Json => FieldSet::all(),
         LineKind::Fields => wanted_fields(plan),
     }
+}
+
+/// The fields of a plan, and one of the streams of TCP.
+#[tactic(auto, using(crate::proofs::WantedLemmas::grown_plan, crate::proofs::WantedLemmas::stream_asked))]
+fn counted_fields(plan: &Plan) -> FieldSet
+    ensures plan { HasPlan result plan.now }
+    ensures streams { asks_streams result ≡ true }
+{
+    let mut wanted = wanted_fields(plan);
+    wanted.add(ids::TCP_STREAM);
+    wanted
 }
 
 /// The fields of a plan's filter and of its columns.

@@ -1,13 +1,17 @@
 // The plan that words ask for.
 ghost use Rattle.std.specs.Prelude.{◌≡◌, ◌++◌, IfOk, IfErr, IfSome, All};
 ghost use Rattle.std.specs.Str.{IsUtf8};
-ghost use Rattle.shark_words.specs.Utf8.{AreUtf8, name_in as name_of_source};
+ghost use Rattle.shark_words.specs.Sound.{AreSound, HasFrames};
+ghost use Rattle.shark_words.specs.Utf8.{AreUtf8, name_in};
 ghost use Rattle.shark_words.specs.Words.{texts};
 ghost use Rattle.shark_run.specs.Columns.{field_or_refusal, fields_named};
 ghost use Rattle.shark_run.specs.Plan.{IsFilterAsked, IsPlan, IsPlanFor, IsRefusal, IsRefusalFor};
 ghost use Rattle.shark_run.specs.PlanErrors.{Gives, IsErrorOf, IsFilterError};
+ghost use Rattle.shark_run.specs.Source.{source_in as source_asked};
 
+use crate::generated::Generated;
 use crate::plan::{FieldList, Plan, PlanError, Refused};
+use crate::source::PlanSource;
 use crate::text::Text;
 use flt_parse::FilterError;
 use flt_types::{Filter, read_filter};
@@ -67,25 +71,30 @@ fn filter_asked(alloc: Global, filter: &Option<Octets>) -> Result<Option<Filter>
     }
 }
 
-fn name_in(alloc: Global, source: &Source) -> Result<Text, NoMemory>
-    requires { IsUtf8 (name_of_source source.now) }
-    ensures { IfOk result (λ name. name ≡ name_of_source source.now) }
+fn source_in(alloc: Global, source: &Source) -> Result<PlanSource, NoMemory>
+    requires name { IsUtf8 (name_in source.now) }
+    requires frames { HasFrames source.now }
+    ensures { IfOk result (λ found. found ≡ source_asked source.now) }
 {
     match source {
-        Source::Named(name) => Text::copy(alloc, text_of(name)),
+        Source::Named(name) => Ok(PlanSource::Named(Text::copy(alloc, text_of(name))?)),
+        Source::Generated(start, frames) => {
+            Ok(PlanSource::Generated(Generated::new(*start, *frames)))
+        }
     }
 }
 
 #[tactic(auto, using(crate::proofs::PlanLemmas::names_refused))]
 fn plan_with(alloc: Global, options: &Options) -> Result<Plan, PlanError>
-    requires { AreUtf8 options.now }
+    requires utf8 { AreUtf8 options.now }
+    requires sound { AreSound options.now }
     ensures ok { IfOk result (IsPlanFor options.now) }
     ensures err { IfErr result (IsErrorOf (IsRefusalFor options.now)) }
 {
     let filter = filter_asked(alloc, &options.filter)?;
     let fields = find_fields(alloc, options.names.slice())?;
     Ok(Plan {
-        name: name_in(alloc, &options.source)?,
+        source: source_in(alloc, &options.source)?,
         filter,
         fields,
         most: options.most,

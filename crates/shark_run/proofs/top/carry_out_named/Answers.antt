@@ -1,7 +1,6 @@
 use Rattle.std.proofs.Common.{Err, ap}
-use Rattle.shark_run.specs.Reading.{file_of}
 use Rattle.shark_run.proofs.WayLemmas.{took_begun}
-use Rattle.shark_run.proofs.top.carry_out.Goals as goal
+use Rattle.shark_run.proofs.top.carry_out_named.Goals as goal
 
 pub returns-in-Ok-write_output-clause-ended : goal.returns-in-Ok-write_output-clause-ended
 returns-in-Ok-write_output-clause-ended g c = rw (← c.in-Ok.ensures.left) c.in-Ok-write_output.ensures.ended
@@ -20,7 +19,7 @@ returns-in-Ok-write_output-clause-part g c = rw (← c.in-Ok.ensures.left) c.wri
 
 pub returns-in-Ok-write_output-clause-taken : goal.returns-in-Ok-write_output-clause-taken
 returns-in-Ok-write_output-clause-taken g c =
-    took_begun (file_of c.args.plan.now (g.C.Capture.file c.args.capture.now)) (g.C.Capture.left c.args.capture.now) (g.C.Capture.left c.begin_file.new.capture) (g.C.Capture.left c.write_output.new.capture)
+    took_begun (g.C.Capture.file c.args.capture.now c.args.name.now) (g.C.Capture.left c.args.capture.now) (g.C.Capture.left c.begin_file.new.capture) (g.C.Capture.left c.write_output.new.capture)
     (g.C.Capture.begun c.args.capture.now) (g.C.Capture.begun c.begin_file.new.capture) (g.C.Capture.begun c.write_output.new.capture) c.in-Ok.ensures.left c.in-Ok.ensures.begun c.write_output.ensures.begun c.write_output.ensures.took
 
 pub returns-in-Err-ReadFault-clause-part : goal.returns-in-Err-ReadFault-clause-part
@@ -28,7 +27,7 @@ returns-in-Err-ReadFault-clause-part g c = rw (← c.in-Ok.ensures.left) c.write
 
 pub returns-in-Err-ReadFault-clause-taken : goal.returns-in-Err-ReadFault-clause-taken
 returns-in-Err-ReadFault-clause-taken g c =
-    took_begun (file_of c.args.plan.now (g.C.Capture.file c.args.capture.now)) (g.C.Capture.left c.args.capture.now) (g.C.Capture.left c.begin_file.new.capture) (g.C.Capture.left c.write_output.new.capture)
+    took_begun (g.C.Capture.file c.args.capture.now c.args.name.now) (g.C.Capture.left c.args.capture.now) (g.C.Capture.left c.begin_file.new.capture) (g.C.Capture.left c.write_output.new.capture)
     (g.C.Capture.begun c.args.capture.now) (g.C.Capture.begun c.begin_file.new.capture) (g.C.Capture.begun c.write_output.new.capture) c.in-Ok.ensures.left c.in-Ok.ensures.begun c.write_output.ensures.begun c.write_output.ensures.took
 
 pub returns-in-Err-WriteFault-clause-part : goal.returns-in-Err-WriteFault-clause-part
@@ -36,7 +35,7 @@ returns-in-Err-WriteFault-clause-part g c = rw (← c.in-Ok.ensures.left) c.writ
 
 pub returns-in-Err-WriteFault-clause-taken : goal.returns-in-Err-WriteFault-clause-taken
 returns-in-Err-WriteFault-clause-taken g c =
-    took_begun (file_of c.args.plan.now (g.C.Capture.file c.args.capture.now)) (g.C.Capture.left c.args.capture.now) (g.C.Capture.left c.begin_file.new.capture) (g.C.Capture.left c.write_output.new.capture)
+    took_begun (g.C.Capture.file c.args.capture.now c.args.name.now) (g.C.Capture.left c.args.capture.now) (g.C.Capture.left c.begin_file.new.capture) (g.C.Capture.left c.write_output.new.capture)
     (g.C.Capture.begun c.args.capture.now) (g.C.Capture.begun c.begin_file.new.capture) (g.C.Capture.begun c.write_output.new.capture) c.in-Ok.ensures.left c.in-Ok.ensures.begun c.write_output.ensures.begun c.write_output.ensures.took
 
 pub returns-in-Err-NoMemory-write_output-clause-part : goal.returns-in-Err-NoMemory-write_output-clause-part
@@ -44,5 +43,5 @@ returns-in-Err-NoMemory-write_output-clause-part g c = rw (← c.in-Ok.ensures.l
 
 pub returns-in-Err-NoMemory-write_output-clause-taken : goal.returns-in-Err-NoMemory-write_output-clause-taken
 returns-in-Err-NoMemory-write_output-clause-taken g c =
-    took_begun (file_of c.args.plan.now (g.C.Capture.file c.args.capture.now)) (g.C.Capture.left c.args.capture.now) (g.C.Capture.left c.begin_file.new.capture) (g.C.Capture.left c.write_output.new.capture)
+    took_begun (g.C.Capture.file c.args.capture.now c.args.name.now) (g.C.Capture.left c.args.capture.now) (g.C.Capture.left c.begin_file.new.capture) (g.C.Capture.left c.write_output.new.capture)
     (g.C.Capture.begun c.args.capture.now) (g.C.Capture.begun c.begin_file.new.capture) (g.C.Capture.begun c.write_output.new.capture) c.in-Ok.ensures.left c.in-Ok.ensures.begun c.write_output.ensures.begun c.write_output.ensures.took

@@ -1,0 +1,53 @@
+// What is counted of the frames of a generated capture.
+ghost use Rattle.std.specs.Prelude.{◌≡◌, ◌<◌, ◌^◌, ℕ, suc};
+ghost use Rattle.pk_tree.specs.Trees.{layers_of as layers_among};
+ghost use Rattle.shark_run.specs.Totals.{AreFew, with_tree};
+
+use pk_fields::FieldId;
+use pk_fields::ids::{DNS, HTTP};
+use pk_tree::Tree;
+
+/// How many frames there were, how many of their trees the filter let through, and how many layers they had of DNS and HTTP.
+#[derive(Clone, Copy, Debug, PartialEq, Eq)]
+pub(crate) struct Totals {
+    pub(crate) frames: u64,
+    pub(crate) shown: u64,
+    pub(crate) dns: u64,
+    pub(crate) http: u64,
+}
+
+impl Totals {
+    pub(crate) fn none() -> Totals
+        ensures { result ≡ record { frames = 0; shown = 0; dns = 0; http = 0 } }
+    {
+        Totals {
+            frames: 0,
+            shown: 0,
+            dns: 0,
+            http: 0,
+        }
+    }
+
+    /// One tree more, which the filter lets through or not.
+    pub(crate) fn with(self, tree: &Tree, shown: bool) -> Totals
+        requires { AreFew (2 ^ 28) self }
+        ensures value { result ≡ with_tree tree.now shown self }
+        ensures few { (most : ℕ) → AreFew most self → AreFew (suc most) result }
+    {
+        Totals {
+            frames: self.frames + 1,
+            shown: self.shown + u64::from(shown),
+            dns: self.dns + layers_of(tree, DNS),
+            http: self.http + layers_of(tree, HTTP),
+        }
+    }
+}
+
+// How many layers of a protocol a tree has.
+fn layers_of(tree: &Tree, proto: FieldId) -> u64
+    ensures count { result ≡ layers_among proto tree.now.layers }
+    ensures few { result < 2 ^ 32 }
+{
+    let layers = tree.layers();
+    layers.iter().filter(|layer| layer.proto == proto).count() as u64
+}
