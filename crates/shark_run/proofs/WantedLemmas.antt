@@ -62,7 +62,7 @@ grown_plan old new plan has added = record {
 pub stream_asked : (old new : List ℕ) → ((f : ℕ) → is_in new f ≡ (f == TCP_STREAM || (f == (row_of TCP_STREAM).proto || is_in old f))) → asks_streams new ≡ true
 unfolding asks_streams
 stream_asked old new added =
-    ap (λ (b : Bool). b || (is_in new TCP_SEQ || (is_in new TCP_ACK || is_in new TCP_LOST))) (added_now TCP_STREAM TCP_STREAM (row_of TCP_STREAM).proto (is_in old TCP_STREAM) (is_in new TCP_STREAM) refl (added TCP_STREAM))
+    ap (λ (b : Bool). b || is_in new TCP_SEQ || is_in new TCP_ACK || is_in new TCP_LOST) (added_now TCP_STREAM TCP_STREAM (row_of TCP_STREAM).proto (is_in old TCP_STREAM) (is_in new TCP_STREAM) refl (added TCP_STREAM))
 
 satisfies_same : (wanted : List ℕ) (filter : Option Typed) (t u : TreeShown) → HasSameValues wanted t u → HasAsked wanted filter → satisfies filter u ≡ satisfies filter t
 unfolding satisfies
@@ -142,7 +142,7 @@ counted_file plan one other is totals =
     ∙ sym (ap (λ (generated : Bool). if generated then with_tree other (satisfies plan.filter other) totals else totals) is)
 
 not_asked : (plan : Plan) (wanted : List ℕ) → is_generated plan ≡ false → is_generated plan ≡ true → asks_streams wanted ≡ true
-not_asked plan wanted no yes = let bad : false ≡ true = sym no ∙ yes in absurd (cc bad)
+not_asked plan wanted not_made made_so = let bad : false ≡ true = sym not_made ∙ made_so in absurd (cc bad)
 
 -- which fields are enough
 pub enough_generated : (wanted : List ℕ) (plan : Plan) → is_generated plan ≡ true → HasPlan wanted plan → asks_streams wanted ≡ true → IsEnough wanted plan
@@ -153,24 +153,24 @@ enough_generated wanted plan is has asks = record {
 }
 
 pub enough_none : (wanted : List ℕ) (plan : Plan) → is_generated plan ≡ false → plan.quiet ≡ true → IsEnough wanted plan
-enough_none wanted plan no is = record {
-  shown = λ whole tree made. shown_quiet plan tree whole (quiet_asked plan no is);
-  counted = λ whole tree made totals. counted_file plan tree whole no totals;
-  streams = not_asked plan wanted no;
+enough_none wanted plan not_made is = record {
+  shown = λ whole tree made. shown_quiet plan tree whole (quiet_asked plan not_made is);
+  counted = λ whole tree made totals. counted_file plan tree whole not_made totals;
+  streams = not_asked plan wanted not_made;
 }
 
 pub enough_all : (wanted : List ℕ) (plan : Plan) → is_generated plan ≡ false → wanted ≡ every_field → IsEnough wanted plan
-enough_all wanted plan no all = record {
+enough_all wanted plan not_made all = record {
   shown = λ whole tree made. shown_all wanted plan whole tree all made;
-  counted = λ whole tree made totals. counted_file plan tree whole no totals;
-  streams = not_asked plan wanted no;
+  counted = λ whole tree made totals. counted_file plan tree whole not_made totals;
+  streams = not_asked plan wanted not_made;
 }
 
 pub enough_fields : (wanted : List ℕ) (plan : Plan) → is_generated plan ≡ false → plan.kind ≡ Fields → HasPlan wanted plan → IsEnough wanted plan
-enough_fields wanted plan no is has = record {
+enough_fields wanted plan not_made is has = record {
   shown = λ whole tree made. shown_same wanted plan whole tree made.values is has;
-  counted = λ whole tree made totals. counted_file plan tree whole no totals;
-  streams = not_asked plan wanted no;
+  counted = λ whole tree made totals. counted_file plan tree whole not_made totals;
+  streams = not_asked plan wanted not_made;
 }
 
 -- what they are enough for

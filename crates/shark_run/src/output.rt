@@ -168,7 +168,6 @@ fn take_frame(plan: &Plan, frame: &Frame, dissector: &mut Dissector) -> Result<T
 }
 
 // Takes a frame and writes its line where the filter lets it through.
-#[tactic(auto, using(crate::proofs::WantedLemmas::shown_wanted))]
 fn write_frame<O: Sink>(
     alloc: Global,
     plan: &Plan,
@@ -177,7 +176,7 @@ fn write_frame<O: Sink>(
     lines: &mut LineMaker,
     out: &mut O,
 ) -> Result<(), RunFault>
-    requires wanted { IsShownBy dissector.old.wanted plan.now }
+    requires enough { IsEnough dissector.old.wanted plan.now }
     requires lines { lines.old.writer ≡ plan.now.fields }
     requires few { AreFew (2 ^ 28) lines.old.totals }
     requires number { frame.now.number ≡ dissector.old.taken + 1 }
@@ -244,7 +243,7 @@ fn write_rest<C: Capture, O: Sink>(
     capture: &mut C,
     out: &mut O,
 ) -> Result<Ending, RunFault>
-    requires wanted { IsShownBy dissector.old.wanted plan.now }
+    requires enough { IsEnough dissector.old.wanted plan.now }
     requires lines { lines.old.writer ≡ plan.now.fields }
     requires totals { lines.old.totals ≡ counts_of plan.now [] }
     requires reads { (left : List ℕ) → StandsFor reader.old (Some left) left [] }

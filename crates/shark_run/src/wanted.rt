@@ -28,7 +28,6 @@ pub(crate) fn needed_fields(plan: &Plan) -> FieldSet
 }
 
 /// The fields of a plan, and one of the streams of TCP.
-#[tactic(auto, using(crate::proofs::WantedLemmas::grown_plan, crate::proofs::WantedLemmas::stream_asked))]
 fn counted_fields(plan: &Plan) -> FieldSet
     ensures plan { HasPlan result plan.now }
     ensures streams { asks_streams result ≡ true }
