@@ -49,6 +49,10 @@ unfolding satisfies
 satisfies_same wanted None t has = refl
 satisfies_same wanted (Some filter) t has = meaning_kept wanted filter t has
 
+pub truth_kept : (wanted : List ℕ) (plan : Plan) (whole tree : TreeShown) → HasPlan wanted plan → IsKept wanted whole tree
+    → satisfies plan.filter tree ≡ satisfies plan.filter whole
+truth_kept wanted plan whole tree has kept = ap (satisfies plan.filter) kept.same ∙ satisfies_same wanted plan.filter whole has.filter
+
 line_kept : (wanted : List ℕ) (plan : Plan) (kind : LineKind) (t : TreeShown) → kind ≡ Fields → HasPlan wanted plan
     → line_by kind plan (kept_tree wanted t) ≡ line_by kind plan t
 line_kept wanted plan Text t is has = absurd (cc is)
