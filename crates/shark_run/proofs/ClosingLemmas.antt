@@ -5,22 +5,29 @@ use Rattle.std.specs.Io.KnownBytes.{Appends}
 use Rattle.std.proofs.KnownBytes.{Appends-trans}
 use Rattle.pk_outside.specs.Outside.{AppendsPart}
 use Rattle.pk_outside.proofs.Parts.{part_after, part_more, part_none}
-use Rattle.capture_read.specs.declared.ending.Ending.{Ending}
+use Rattle.std.specs.Option.{unwrap_or}
+use Rattle.capture_write.specs.Kept.{Kept, Stands as Written, end_at, kept_of, nothing_kept}
+use Rattle.capture_write.specs.declared.format.Format.{Format}
+use Rattle.capture_write.specs.declared.format.Format.TheVariants.{Pcapng}
+use Rattle.shark_run.specs.declared.run_ending.RunEnding.{RunEnding}
 use Rattle.capture_read.specs.declared.frame.Frame.{Frame}
 use Rattle.dissect.specs.Stands.{DissectorShown, StandsWithin}
 use Rattle.dissect.specs.Trees.{tree_at}
 use Rattle.flt_types.specs.declared.typed.Typed.{Typed}
 use Rattle.shark_run.specs.declared.plan.Plan.{Plan}
 use Rattle.shark_run.specs.declared.totals.Totals.{Totals}
-use Rattle.shark_run.specs.Accessors.{filter_of, is_generated}
-use Rattle.shark_run.specs.Ended.{HasRead}
-use Rattle.shark_run.specs.Lines.{all_pieces, closing}
+use Rattle.shark_run.specs.Accessors.{filter_of, is_generated, written_of}
+use Rattle.shark_run.specs.Chosen.{IsWriting, chosen_of}
+use Rattle.shark_run.specs.Ended.{CanClose, HasRead}
+use Rattle.shark_run.specs.Lines.{closing, closing_by, pieces}
 use Rattle.shark_run.specs.Reading.{frames_read}
 use Rattle.shark_run.specs.Satisfied.{satisfies}
 use Rattle.pk_fields.specs.Ids.{DNS, HTTP}
 use Rattle.shark_run.specs.SelfRun.{counts_text, layer_count, self_run_line, shown_count, tcp_count, trees_of, udp_count}
 use Rattle.shark_run.specs.Totals.{counts_of, counts_with, totals_of, with_tree}
+use Rattle.shark_run.specs.Steps.{KeepsUp}
 use Rattle.shark_run.specs.Way.{IsBrokenAtEnd, IsBrokenBehind, IsBrokenFrom}
+use Rattle.shark_run.proofs.PacketLemmas.{kept_is}
 use Rattle.shark_run.specs.Wrote.{WroteBody, WrotePieces, WroteSomeBody, WroteSomePieces, body_of}
 
 -- the line over frames tells their totals
@@ -46,50 +53,86 @@ totals_so_far plan (frame ∷ past) is =
     ∙ ap (λ (b : Bool). if b then with_tree (tree_at past frame) (satisfies (filter_of plan) (tree_at past frame)) (totals_of (filter_of plan) past) else totals_of (filter_of plan) past) is
     ∙ totals_with plan past frame
 
-pub closing_counted : (plan : Plan) (line : List ℕ) (totals : Totals) (past : List Frame) → is_generated plan ≡ true → totals ≡ counts_of plan past
+pub closing_counted : (plan : Plan) (line : List ℕ) (totals : Totals) (past : List Frame) → written_of plan ≡ None → is_generated plan ≡ true → totals ≡ counts_of plan past
     → (totals ≡ totals_of (filter_of plan) past → line ≡ self_run_line (filter_of plan) past) → line ≡ closing plan past
 unfolding closing
-closing_counted plan line totals past is counted tells =
+closing_counted plan line totals past lines is counted tells =
     tells (counted ∙ totals_so_far plan past is)
-    ∙ sym (ap (λ (b : Bool). if b then self_run_line (filter_of plan) past else []) is)
+    ∙ sym (ap (λ (w : Option Format). closing_by w plan past) lines ∙ ap (λ (b : Bool). if b then self_run_line (filter_of plan) past else []) is)
 
-pub no_closing : (plan : Plan) (past : List Frame) → is_generated plan ≡ false → closing plan past ≡ []
+pub no_closing : (plan : Plan) (past : List Frame) → written_of plan ≡ None → is_generated plan ≡ false → closing plan past ≡ []
 unfolding closing
-no_closing plan past is = ap (λ (b : Bool). if b then self_run_line (filter_of plan) past else []) is
+no_closing plan past lines is =
+    ap (λ (w : Option Format). closing_by w plan past) lines ∙ ap (λ (b : Bool). if b then self_run_line (filter_of plan) past else []) is
+
+-- nothing was written yet
+pub keeps_nothing : (written : Option Format) (plan : Plan) (t : Totals) (k : Kept) → t ≡ counts_of plan [] → k ≡ nothing_kept (unwrap_or written Pcapng) → Written k []
+    → KeepsUp written plan [] t k
+keeps_nothing None plan t k counted is stands = counted
+keeps_nothing (Some format) plan t k counted is stands = (ap (λ (kept : Kept). kept.format) is, stands)
+
+-- what stands at the end is written
+pub closed_line : (plan : Plan) (d : DissectorShown) (t : Totals) (k : Kept) (now new : Option (List ℕ)) → written_of plan ≡ None
+    → ((past : List Frame) → StandsWithin past d → t ≡ counts_of plan past → Appends now new (closing plan past))
+    → (past : List Frame) → CanClose (written_of plan) plan past d t k → Appends now new (closing plan past)
+closed_line plan d t k now new is wrote past can =
+    let both : CanClose None plan past d t k = subst (λ (w : Option Format). CanClose w plan past d t k) is can in wrote past both.0 both.1
+
+pub closed_line_part : (plan : Plan) (d : DissectorShown) (t : Totals) (k : Kept) (now new : Option (List ℕ)) → written_of plan ≡ None
+    → ((past : List Frame) → StandsWithin past d → t ≡ counts_of plan past → AppendsPart now new (closing plan past))
+    → (past : List Frame) → CanClose (written_of plan) plan past d t k → AppendsPart now new (closing plan past)
+closed_line_part plan d t k now new is part past can =
+    let both : CanClose None plan past d t k = subst (λ (w : Option Format). CanClose w plan past d t k) is can in part past both.0 both.1
+
+end_is : (format : Format) (plan : Plan) (past : List Frame) (d : DissectorShown) (t : Totals) (k : Kept) → written_of plan ≡ Some format
+    → CanClose (written_of plan) plan past d t k → end_at k ≡ closing plan past
+unfolding closing
+end_is format plan past d t k is can =
+    let writing : IsWriting (Some format) (filter_of plan) k past = subst (λ (w : Option Format). CanClose w plan past d t k) is can in
+    ap end_at (kept_is k (chosen_of (filter_of plan) past) writing.1 ∙ ap (λ (f : Format). kept_of f (chosen_of (filter_of plan) past)) writing.0)
+    ∙ sym (ap (λ (w : Option Format). closing_by w plan past) is)
+
+pub closed_capture : (format : Format) (plan : Plan) (d : DissectorShown) (t : Totals) (k : Kept) (now new : Option (List ℕ)) → written_of plan ≡ Some format
+    → Appends now new (end_at k) → (past : List Frame) → CanClose (written_of plan) plan past d t k → Appends now new (closing plan past)
+closed_capture format plan d t k now new is wrote past can = subst (λ (bytes : List ℕ). Appends now new bytes) (end_is format plan past d t k is can) wrote
+
+pub closed_capture_part : (format : Format) (plan : Plan) (d : DissectorShown) (t : Totals) (k : Kept) (now new : Option (List ℕ)) → written_of plan ≡ Some format
+    → AppendsPart now new (end_at k) → (past : List Frame) → CanClose (written_of plan) plan past d t k → AppendsPart now new (closing plan past)
+closed_capture_part format plan d t k now new is part past can = subst (AppendsPart now new) (end_is format plan past d t k is can) part
 
 -- behind the frames' lines all was written
-pub closed_whole : (plan : Plan) (told : Option (List ℕ)) (ending : Ending) (d : DissectorShown) (t : Totals) (old now new : Option (List ℕ))
+pub closed_whole : (plan : Plan) (told : Option (List ℕ)) (ending : RunEnding) (d : DissectorShown) (t : Totals) (k : Kept) (old now new : Option (List ℕ))
     → IfSome told (λ file. WrotePieces plan (frames_read plan file) old now × (ending ≡ (frames_read plan file).ending))
-    → IfSome told (λ file. HasRead plan file d t)
-    → ((past : List Frame) → StandsWithin past d → t ≡ counts_of plan past → Appends now new (closing plan past))
+    → IfSome told (λ file. HasRead plan file d t k)
+    → ((past : List Frame) → CanClose (written_of plan) plan past d t k → Appends now new (closing plan past))
     → IfSome told (λ file. WroteBody plan (frames_read plan file) old new × (ending ≡ (frames_read plan file).ending))
-closed_whole plan None ending d t old now new wrote read closed = tt
-closed_whole plan (Some file) ending d t old now new wrote read closed = (
-  Appends-trans old now new (all_pieces plan (frames_read plan file)) (closing plan (reverse (frames_read plan file).frames)) wrote.0
-      (closed (reverse (frames_read plan file).frames) read.dissects read.counted),
+closed_whole plan None ending d t k old now new wrote read closed = tt
+closed_whole plan (Some file) ending d t k old now new wrote read closed = (
+  Appends-trans old now new (pieces plan [] (frames_read plan file).frames) (closing plan (reverse (frames_read plan file).frames)) wrote.0
+      (closed (reverse (frames_read plan file).frames) read),
   wrote.1,
 )
 
 -- a front of it was
-pub closed_part : (plan : Plan) (told : Option (List ℕ)) (ending : Ending) (d : DissectorShown) (t : Totals) (old now new : Option (List ℕ))
+pub closed_part : (plan : Plan) (told : Option (List ℕ)) (ending : RunEnding) (d : DissectorShown) (t : Totals) (k : Kept) (old now new : Option (List ℕ))
     → IfSome told (λ file. WrotePieces plan (frames_read plan file) old now × (ending ≡ (frames_read plan file).ending))
-    → IfSome told (λ file. HasRead plan file d t)
-    → ((past : List Frame) → StandsWithin past d → t ≡ counts_of plan past → AppendsPart now new (closing plan past))
+    → IfSome told (λ file. HasRead plan file d t k)
+    → ((past : List Frame) → CanClose (written_of plan) plan past d t k → AppendsPart now new (closing plan past))
     → IfSome told (λ file. WroteSomeBody plan (frames_read plan file) old new)
-closed_part plan None ending d t old now new wrote read closed = tt
-closed_part plan (Some file) ending d t old now new wrote read closed =
-    part_after old now new (all_pieces plan (frames_read plan file)) (closing plan (reverse (frames_read plan file).frames)) wrote.0
-    (closed (reverse (frames_read plan file).frames) read.dissects read.counted)
+closed_part plan None ending d t k old now new wrote read closed = tt
+closed_part plan (Some file) ending d t k old now new wrote read closed =
+    part_after old now new (pieces plan [] (frames_read plan file).frames) (closing plan (reverse (frames_read plan file).frames)) wrote.0
+    (closed (reverse (frames_read plan file).frames) read)
 
-pub closed_near : (plan : Plan) (told : Option (List ℕ)) (ending : Ending) (d : DissectorShown) (t : Totals) (left old now new : Option (List ℕ))
+pub closed_near : (plan : Plan) (told : Option (List ℕ)) (ending : RunEnding) (d : DissectorShown) (t : Totals) (k : Kept) (left old now new : Option (List ℕ))
     → IfSome told (λ file. WrotePieces plan (frames_read plan file) old now × (ending ≡ (frames_read plan file).ending))
-    → IfSome told (λ file. HasRead plan file d t)
-    → ((past : List Frame) → StandsWithin past d → t ≡ counts_of plan past → AppendsPart now new (closing plan past))
+    → IfSome told (λ file. HasRead plan file d t k)
+    → ((past : List Frame) → CanClose (written_of plan) plan past d t k → AppendsPart now new (closing plan past))
     → IfSome told (λ file. IsBrokenFrom [] plan file left old new)
-closed_near plan None ending d t left old now new wrote read closed = tt
-closed_near plan (Some file) ending d t left old now new wrote read closed =
-    let part = closed (reverse (frames_read plan file).frames) read.dissects read.counted in
-    inr (part.0, part.1, part.2, Appends-trans old now new (all_pieces plan (frames_read plan file)) part.0 wrote.0 part.3)
+closed_near plan None ending d t k left old now new wrote read closed = tt
+closed_near plan (Some file) ending d t k left old now new wrote read closed =
+    let part = closed (reverse (frames_read plan file).frames) read in
+    inr (part.0, part.1, part.2, Appends-trans old now new (pieces plan [] (frames_read plan file).frames) part.0 wrote.0 part.3)
 
 -- nothing was written
 pub none_body : (plan : Plan) (told old : Option (List ℕ)) → IfSome told (λ file. WroteSomeBody plan (frames_read plan file) old old)
@@ -100,7 +143,7 @@ none_body plan (Some file) old = part_none old (body_of plan (frames_read plan f
 pub some_body : (plan : Plan) (told old new : Option (List ℕ)) → IfSome told (λ file. WroteSomePieces plan (frames_read plan file) old new)
     → IfSome told (λ file. WroteSomeBody plan (frames_read plan file) old new)
 some_body plan None old new part = tt
-some_body plan (Some file) old new part = part_more old new (all_pieces plan (frames_read plan file)) (closing plan (reverse (frames_read plan file).frames)) part
+some_body plan (Some file) old new part = part_more old new (pieces plan [] (frames_read plan file).frames) (closing plan (reverse (frames_read plan file).frames)) part
 
 pub near_body : (plan : Plan) (told left old new : Option (List ℕ)) → IfSome told (λ file. IsBrokenBehind [] plan file left old new)
     → IfSome told (λ file. IsBrokenFrom [] plan file left old new)

@@ -54,8 +54,9 @@ with_names options filter (Ok fields) asked alone is =
       kind = options.kind;
       style = options.style;
       quiet = options.quiet;
+      written = options.written;
     } in
-    inl (plan, record { source = refl; filter = asked; fields = is; most = refl; kind = refl; style = refl; quiet = refl })
+    inl (plan, record { source = refl; filter = asked; fields = is; most = refl; kind = refl; style = refl; quiet = refl; written = refl })
 with_names options filter (Err (refused.Field name)) asked alone is = inr (refused.Field name, ((filter, asked), is), tt)
 with_names options filter (Err reason) asked alone is = absurd alone
 

@@ -1,6 +1,10 @@
 -- Two plans of the same words, and two reasons to refuse them.
-use Rattle.std.proofs.Common.{◌≡◌, ⊎_elim, ℕ, suc, Bool, false, not, ◌&&◌, ◌||◌, reverse, List, [], ◌∷◌, ◌++◌, Option, None, Some, Ok, Err, IsTrue, if◌then◌else◌, refl, sym, ◌∙◌, ap, subst}
+use Rattle.std.proofs.Common.{◌≡◌, ◌⊎◌, ⊎_elim, ℕ, suc, Bool, false, not, ◌&&◌, ◌||◌, reverse, List, [], ◌∷◌, ◌++◌, Option, None, Some, Ok, Err, IsTrue, if◌then◌else◌, refl, sym, ◌∙◌, ap, subst}
+use Rattle.std.specs.Prelude.{IfSome}
 use Rattle.capture_read.specs.Capture.{capture_of}
+use Rattle.capture_read.specs.declared.ending.Ending.{Ending}
+use Rattle.capture_write.specs.Kept.{end_at, fits, in_order, kept_of, piece_at, written}
+use Rattle.capture_write.specs.declared.format.Format.{Format}
 use Rattle.capture_read.specs.declared.frame.Frame.{Frame}
 use Rattle.dissect.specs.Trees.{tree_at}
 use Rattle.pk_tree.specs.Trees.{TreeShown}
@@ -19,17 +23,23 @@ use Rattle.shark_words.specs.Options.{options_of}
 use Rattle.shark_run.specs.declared.plan.Plan.{Plan}
 use Rattle.shark_run.specs.declared.plan.Refused.{Refused}
 use Rattle.shark_run.specs.declared.plan.Refused.TheVariants as refused
-use Rattle.shark_run.specs.Answers.{is_of_size, IsSure}
+use Rattle.shark_run.specs.declared.run_ending.RunEnding.TheVariants.{Unfit}
+use Rattle.shark_run.specs.declared.status.Status.{Status}
+use Rattle.shark_run.specs.declared.status.Status.TheVariants as status
+use Rattle.shark_run.specs.Answers.{is_of_size, IsAnswered, IsSure}
+use Rattle.shark_run.specs.Chosen.{chosen, chosen_of, if_shown, is_unfit_in, packet_in}
+use Rattle.shark_run.specs.Fitting.{FramesRead, before, fitting, is_unfit, is_unfit_by, over}
+use Rattle.shark_run.specs.Statuses.{status_of}
 use Rattle.shark_run.specs.Laws.{AreAlike, NeverBoth, OneReason, PlansAreAlike}
 use Rattle.shark_run.specs.declared.source.PlanSource.{PlanSource}
 use Rattle.shark_run.specs.Accessors.{is_quiet}
-use Rattle.shark_run.specs.Lines.{shown, piece, pieces, is_headed, line_by, line_of, opening, closing, output_of}
+use Rattle.shark_run.specs.Lines.{shown, piece, piece_by, pieces, is_headed, line_by, line_of, opening, opening_by, closing, closing_by, output_by, output_of}
 use Rattle.shark_run.specs.Satisfied.{satisfies}
 use Rattle.shark_run.specs.SelfRun.{line_with, self_run_line, shown_count, trees_of}
 use Rattle.shark_run.specs.Source.{is_generated_by}
 use Rattle.shark_run.specs.Plan.{IsFaultAsked, IsFilterAsked, IsPlan, IsPlanFor, IsRefusal, IsRefusalFor}
-use Rattle.shark_run.specs.Reading.{limited, frames_read}
-use Rattle.shark_run.proofs.PlanLemmas.{filter_or_fault, of_size, refused_not_planned, same_options}
+use Rattle.shark_run.specs.Reading.{file_by, file_of, fitting_of, limited, frames_read}
+use Rattle.shark_run.proofs.PlanLemmas.{answered, each_file, filter_or_fault, of_size, refused_not_planned, same_options}
 
 pub never_refused : NeverBoth
 never_refused words plan reason asked is sure = refused_not_planned words plan reason asked is sure
@@ -81,13 +91,14 @@ one_reason words (refused.Filter f) (refused.Field name) is also sure certain = 
 one_reason words (refused.Field name) (refused.Filter g) is also sure certain = one_of_options words (refused.Field name) (refused.Filter g) sure certain is also
 one_reason words (refused.Field name) (refused.Field known) is also sure certain = one_of_options words (refused.Field name) (refused.Field known) sure certain is also
 
--- the same source, the same kind of line, of the same fields, in the same style
+-- the same source, the same kind of line, of the same fields, in the same style, or the same capture
 pub record AreWrittenAlike (one other : Plan) : Type 0 where
   source : one.source ≡ other.source
   kind : one.kind ≡ other.kind
   fields : one.fields ≡ other.fields
   style : one.style ≡ other.style
   quiet : one.quiet ≡ other.quiet
+  written : one.written ≡ other.written
 
 same_quiet : (one other : Plan) → AreWrittenAlike one other → is_quiet one ≡ is_quiet other
 same_quiet one other alike =
@@ -108,12 +119,67 @@ same_shown one other tree alike truth =
     ∙ ap (λ (line : List ℕ). if is_quiet other then [] else if satisfies other.filter tree then line else [])
     (ap (λ (k : LineKind). line_by k one tree) alike.kind ∙ same_line other.kind one other tree alike.fields alike.style)
 
-same_pieces : (one other : Plan) (past frames : List Frame) → ((tree : TreeShown) → shown one tree ≡ shown other tree)
+-- filters that let the same trees through choose the same frames
+abbrev LetAlike : Option Typed → Option Typed → Type 0
+LetAlike one other = (tree : TreeShown) → satisfies one tree ≡ satisfies other tree
+
+same_past : (one other : Option Typed) (past : List Frame) → LetAlike one other → chosen_of one past ≡ chosen_of other past
+same_past one other [] same = refl
+same_past one other (frame ∷ past) same =
+    ap (λ (shown : Bool). if_shown shown frame (chosen_of one past)) (same (tree_at past frame))
+    ∙ ap (if_shown (satisfies other (tree_at past frame)) frame) (same_past one other past same)
+
+same_chosen : (one other : Option Typed) (past frames : List Frame) → LetAlike one other → chosen one past frames ≡ chosen other past frames
+same_chosen one other past [] same = refl
+same_chosen one other past (frame ∷ frames) same =
+    ap (λ (shown : Bool). if_shown shown frame (chosen one (frame ∷ past) frames)) (same (tree_at past frame))
+    ∙ ap (if_shown (satisfies other (tree_at past frame)) frame) (same_chosen one other (frame ∷ past) frames same)
+
+same_unfit_in : (format : Format) (one other : Option Typed) (past : List Frame) (frame : Frame) → LetAlike one other
+    → is_unfit_in format one past frame ≡ is_unfit_in format other past frame
+same_unfit_in format one other past frame same =
+    ap (λ (shown : Bool). shown && not (fits format (in_order (chosen_of one past) (frame ∷ [])))) (same (tree_at past frame))
+    ∙ ap (λ (frames : List Frame). satisfies other (tree_at past frame) && not (fits format (in_order frames (frame ∷ [])))) (same_past one other past same)
+
+same_unfit_by : (written : Option Format) (one other : Plan) (past : List Frame) (frame : Frame) → LetAlike one.filter other.filter
+    → is_unfit_by written one past frame ≡ is_unfit_by written other past frame
+same_unfit_by None one other past frame same = refl
+same_unfit_by (Some format) one other past frame same = same_unfit_in format one.filter other.filter past frame same
+
+same_unfit : (one other : Plan) (past : List Frame) (frame : Frame) → one.written ≡ other.written → LetAlike one.filter other.filter
+    → is_unfit one past frame ≡ is_unfit other past frame
+same_unfit one other past frame written same =
+    ap (λ (w : Option Format). is_unfit_by w one past frame) written ∙ same_unfit_by other.written one other past frame same
+
+same_fitting : (one other : Plan) (past frames : List Frame) (ending : Ending) → one.written ≡ other.written → LetAlike one.filter other.filter
+    → fitting one past frames ending ≡ fitting other past frames ending
+same_fitting one other past [] ending written same = refl
+same_fitting one other past (frame ∷ frames) ending written same =
+    ap (λ (unfit : Bool). if unfit then over (Unfit frame.number) else before frame (fitting one (frame ∷ past) frames ending)) (same_unfit one other past frame written same)
+    ∙ ap (λ (rest : FramesRead). if is_unfit other past frame then over (Unfit frame.number) else before frame rest) (same_fitting one other (frame ∷ past) frames ending written same)
+
+same_packet : (format : Format) (one other : Option Typed) (past : List Frame) (frame : Frame) → LetAlike one other
+    → packet_in format one past frame ≡ packet_in format other past frame
+same_packet format one other past frame same =
+    ap (λ (shown : Bool). if shown then piece_at (kept_of format (chosen_of one past)) frame else []) (same (tree_at past frame))
+    ∙ ap (λ (frames : List Frame). if satisfies other (tree_at past frame) then piece_at (kept_of format frames) frame else []) (same_past one other past same)
+
+same_piece_by : (written : Option Format) (one other : Plan) (past : List Frame) (frame : Frame) → AreWrittenAlike one other → LetAlike one.filter other.filter
+    → piece_by written one past frame ≡ piece_by written other past frame
+same_piece_by None one other past frame alike same = same_shown one other (tree_at past frame) alike (same (tree_at past frame))
+same_piece_by (Some format) one other past frame alike same = same_packet format one.filter other.filter past frame same
+
+same_piece : (one other : Plan) (past : List Frame) (frame : Frame) → AreWrittenAlike one other → LetAlike one.filter other.filter
+    → piece one past frame ≡ piece other past frame
+same_piece one other past frame alike same =
+    ap (λ (w : Option Format). piece_by w one past frame) alike.written ∙ same_piece_by other.written one other past frame alike same
+
+same_pieces : (one other : Plan) (past frames : List Frame) → AreWrittenAlike one other → LetAlike one.filter other.filter
     → pieces one past frames ≡ pieces other past frames
-same_pieces one other past [] same = refl
-same_pieces one other past (frame ∷ frames) same =
-    ap (λ (line : List ℕ). line ++ pieces one (frame ∷ past) frames) (same (tree_at past frame))
-    ∙ ap (λ (lines : List ℕ). piece other past frame ++ lines) (same_pieces one other (frame ∷ past) frames same)
+same_pieces one other past [] alike same = refl
+same_pieces one other past (frame ∷ frames) alike same =
+    ap (λ (line : List ℕ). line ++ pieces one (frame ∷ past) frames) (same_piece one other past frame alike same)
+    ∙ ap (λ (lines : List ℕ). piece other past frame ++ lines) (same_pieces one other (frame ∷ past) frames alike same)
 
 headed : LineKind → Style → Bool → Bool
 headed Text style quiet = false
@@ -126,9 +192,8 @@ is_headed_so Text plan = refl
 is_headed_so Json plan = refl
 is_headed_so Fields plan = refl
 
-same_opening : (one other : Plan) → AreWrittenAlike one other → opening one ≡ opening other
-unfolding opening
-same_opening one other alike =
+same_header : (one other : Plan) → AreWrittenAlike one other → opening_by None one ≡ opening_by None other
+same_header one other alike =
     ap (λ (b : Bool). if b then header_of one.fields one.style else [])
     (is_headed_so one.kind one
     ∙ ap (λ (k : LineKind). headed k one.style (is_quiet one)) alike.kind
@@ -137,6 +202,14 @@ same_opening one other alike =
     ∙ sym (is_headed_so other.kind other))
     ∙ ap (λ (f : List ℕ). if is_headed other.kind other then header_of f one.style else []) alike.fields
     ∙ ap (λ (s : Style). if is_headed other.kind other then header_of other.fields s else []) alike.style
+
+same_opening_by : (written : Option Format) (one other : Plan) → AreWrittenAlike one other → opening_by written one ≡ opening_by written other
+same_opening_by None one other alike = same_header one other alike
+same_opening_by (Some format) one other alike = refl
+
+same_opening : (one other : Plan) → AreWrittenAlike one other → opening one ≡ opening other
+unfolding opening
+same_opening one other alike = ap (λ (w : Option Format). opening_by w one) alike.written ∙ same_opening_by other.written one other alike
 
 same_count : (one other : Option Typed) (trees : List TreeShown) → ((tree : TreeShown) → satisfies one tree ≡ satisfies other tree)
     → shown_count one trees ≡ shown_count other trees
@@ -151,25 +224,38 @@ unfolding self_run_line
 same_self_run one other past same =
     ap (λ (shown : ℕ). line_with past shown) (same_count one other (trees_of past) same)
 
-same_closing : (one other : Plan) (past : List Frame) → AreWrittenAlike one other
-    → ((tree : TreeShown) → satisfies one.filter tree ≡ satisfies other.filter tree) → closing one past ≡ closing other past
-unfolding closing
-same_closing one other past alike truth =
+same_closing_by : (written : Option Format) (one other : Plan) (past : List Frame) → AreWrittenAlike one other → LetAlike one.filter other.filter
+    → closing_by written one past ≡ closing_by written other past
+same_closing_by None one other past alike truth =
     ap (λ (source : PlanSource). if is_generated_by source then self_run_line one.filter past else []) alike.source
     ∙ ap (λ (line : List ℕ). if is_generated_by other.source then line else []) (same_self_run one.filter other.filter past truth)
+same_closing_by (Some format) one other past alike truth =
+    ap (λ (frames : List Frame). end_at (kept_of format frames)) (same_past one.filter other.filter past truth)
 
-same_output : (one other : Plan) (frames : List Frame) → AreWrittenAlike one other
-    → ((tree : TreeShown) → satisfies one.filter tree ≡ satisfies other.filter tree) → output_of one frames ≡ output_of other frames
+same_closing : (one other : Plan) (past : List Frame) → AreWrittenAlike one other → LetAlike one.filter other.filter → closing one past ≡ closing other past
+unfolding closing
+same_closing one other past alike truth =
+    ap (λ (w : Option Format). closing_by w one past) alike.written ∙ same_closing_by other.written one other past alike truth
+
+same_output_by : (w : Option Format) (one other : Plan) (frames : List Frame) → AreWrittenAlike one other → LetAlike one.filter other.filter
+    → output_by w one frames ≡ output_by w other frames
+same_output_by None one other frames alike truth =
+    ap (λ (start : List ℕ). start ++ (pieces one [] frames ++ closing one (reverse frames))) (same_opening one other alike)
+    ∙ ap (λ (lines : List ℕ). opening other ++ (lines ++ closing one (reverse frames))) (same_pieces one other [] frames alike truth)
+    ∙ ap (λ (end : List ℕ). opening other ++ (pieces other [] frames ++ end)) (same_closing one other (reverse frames) alike truth)
+same_output_by (Some format) one other frames alike truth = ap (written format) (same_chosen one.filter other.filter [] frames truth)
+
+same_output : (one other : Plan) (frames : List Frame) → AreWrittenAlike one other → LetAlike one.filter other.filter → output_of one frames ≡ output_of other frames
 unfolding output_of
 same_output one other frames alike truth =
-    ap (λ (start : List ℕ). start ++ (pieces one [] frames ++ closing one (reverse frames))) (same_opening one other alike)
-    ∙ ap (λ (lines : List ℕ). opening other ++ (lines ++ closing one (reverse frames)))
-    (same_pieces one other [] frames (λ tree. same_shown one other tree alike (truth tree)))
-    ∙ ap (λ (end : List ℕ). opening other ++ (pieces other [] frames ++ end)) (same_closing one other (reverse frames) alike truth)
+    ap (λ (w : Option Format). output_by w one frames) alike.written ∙ same_output_by other.written one other frames alike truth
 
-same_read : (one other : Plan) (file : List ℕ) → one.most ≡ other.most → frames_read one file ≡ frames_read other file
+same_read : (one other : Plan) (file : List ℕ) → one.most ≡ other.most → one.written ≡ other.written → LetAlike one.filter other.filter
+    → frames_read one file ≡ frames_read other file
 unfolding frames_read
-same_read one other file most = ap (λ (m : Option ℕ). limited m (capture_of file)) most
+same_read one other file most written same =
+    ap (λ (m : Option ℕ). fitting_of one (limited m (capture_of file))) most
+    ∙ same_fitting one other [] (limited other.most (capture_of file)).frames (limited other.most (capture_of file)).ending written same
 
 -- the filters of a text let the same trees through
 same_truth : (text : Option (List ℕ)) (one other : Option Typed) (tree : TreeShown) → IsFilterAsked text one → IsFilterAsked text other
@@ -187,11 +273,11 @@ alike_for options one other is also =
     let both : Ok one.fields ≡ Ok other.fields = sym is.fields ∙ also.fields in
     let fields : one.fields ≡ other.fields = cc both in
     let alike : AreWrittenAlike one other
-    = record { source = is.source ∙ sym also.source; kind = is.kind ∙ sym also.kind; fields = fields; style = is.style ∙ sym also.style; quiet = is.quiet ∙ sym also.quiet } in
+    = record { source = is.source ∙ sym also.source; kind = is.kind ∙ sym also.kind; fields = fields; style = is.style ∙ sym also.style; quiet = is.quiet ∙ sym also.quiet; written = is.written ∙ sym also.written } in
     let truth = λ (tree : TreeShown). same_truth options.filter one.filter other.filter tree is.filter also.filter in
     record {
       source = is.source ∙ sym also.source;
-      read = λ file. same_read one other file (is.most ∙ sym also.most);
+      read = λ file. same_read one other file (is.most ∙ sym also.most) (is.written ∙ sym also.written) truth;
       lets = truth;
       written = λ frames. same_output one other frames alike truth;
     }
@@ -200,3 +286,17 @@ pub plans_alike : PlansAreAlike
 unfolding IsPlan
 plans_alike words one other is also =
     alike_for also.0 one other (subst (λ (o : Options). IsPlanFor o one) (same_options words is.0 also.0 is.1 also.1) is.2) also.2
+
+-- a run whose words ask for a plan ends as every plan of theirs says, where nothing outside fails
+pub complete_planned : (words : List (List ℕ)) (asked plan : Plan) (files : List ℕ → Option (List ℕ)) (answer : Status) (A B C : Type 0) →
+    IsPlan words asked → IsPlan words plan →
+    IfSome (file_of asked files) (λ file. A → B → C → (answer ≡ status_of (frames_read asked file).ending) ⊎ (answer ≡ status.NoMemory)) →
+    IfSome (file_of plan files) (λ file. A → B → C → IsAnswered words (status_of (frames_read plan file).ending) answer)
+complete_planned words asked plan files answer A B C is also complete =
+    let alike : AreAlike asked plan = plans_alike words asked plan is also in
+    subst (λ (source : PlanSource). IfSome (file_by source files) (λ file. A → B → C → IsAnswered words (status_of (frames_read plan file).ending) answer)) alike.source
+    (each_file (file_of asked files)
+    (λ file. A → B → C → (answer ≡ status_of (frames_read asked file).ending) ⊎ (answer ≡ status.NoMemory))
+    (λ file. A → B → C → IsAnswered words (status_of (frames_read plan file).ending) answer)
+    (λ file run a b c. subst (λ (read : FramesRead). IsAnswered words (status_of read.ending) answer) (alike.read file)
+    (answered words (status_of (frames_read asked file).ending) answer (run a b c))) complete)

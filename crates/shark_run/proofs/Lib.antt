@@ -1,8 +1,10 @@
 mod ClosingLemmas
+mod CompleteLemmas
 mod EitherLemmas
 mod FrontLemmas
 mod LawLemmas
 mod OpeningLemmas
+mod PacketLemmas
 mod PlanLemmas
 mod RuleLemmas
 mod Together

@@ -1,25 +1,38 @@
 -- What is written behind the line of the fields' names.
-use Rattle.std.proofs.Common.{◌≡◌, ◌<◌, ℕ, List, [], length, ◌++◌, Option, None, Some, inl, inr, refl, sym, subst}
+use Rattle.std.proofs.Common.{◌≡◌, ◌<◌, ℕ, List, [], length, ◌++◌, Option, None, Some, inl, inr, refl, sym, ap, ◌∙◌, subst}
 use Rattle.std.specs.Prelude.{IfOk, IfSome, Result, Ok, Err}
 use Rattle.std.specs.Io.KnownBytes.{Appends}
 use Rattle.std.proofs.KnownBytes.{Appends-trans}
 use Rattle.pk_outside.specs.Outside.{AppendsPart}
 use Rattle.pk_outside.proofs.Parts.{part_after, part_more}
-use Rattle.capture_read.specs.Capture.{Reading, capture_of}
-use Rattle.capture_read.specs.declared.ending.Ending.{Ending}
+use Rattle.capture_read.specs.Capture.{capture_of}
+use Rattle.capture_write.specs.declared.format.Format.{Format}
+use Rattle.shark_run.specs.declared.run_ending.RunEnding.{RunEnding}
+use Rattle.shark_run.specs.Accessors.{written_of}
+use Rattle.shark_run.specs.Fitting.{FramesRead}
 use Rattle.shark_run.specs.declared.output.RunFault.{RunFault}
 use Rattle.shark_run.specs.declared.plan.Plan.{Plan}
-use Rattle.shark_run.specs.Lines.{all_pieces, opening, output_of, pieces_of}
+use Rattle.shark_run.specs.Lines.{opening, opening_by, output_by, output_of, pieces, pieces_of}
 use Rattle.shark_run.specs.Reading.{frames_read}
 use Rattle.shark_run.specs.Way.{IsBrokenFrom, IsBrokenOf, WroteTaken, WroteTakenBehind}
+use Rattle.shark_run.proofs.PacketLemmas.{written_whole}
 use Rattle.shark_run.specs.Wrote.{WroteAll, WroteBody, WrotePart, WroteSomeBody, body_of}
 
 -- the output is the opening and what stands behind it
-whole_output : (plan : Plan) (reading : Reading) → output_of plan reading.frames ≡ opening plan ++ body_of plan reading
-unfolding output_of
-whole_output plan reading = refl
+no_opening : (format : Format) (plan : Plan) → written_of plan ≡ Some format → opening plan ≡ []
+unfolding opening
+no_opening format plan is = ap (λ (w : Option Format). opening_by w plan) is
 
-all_behind : (plan : Plan) (reading : Reading) (old now new : Option (List ℕ)) → Appends old now (opening plan) → WroteBody plan reading now new → WroteAll plan reading old new
+whole_by : (w : Option Format) (plan : Plan) (read : FramesRead) → written_of plan ≡ w → output_by w plan read.frames ≡ opening plan ++ body_of plan read
+whole_by None plan read is = refl
+whole_by (Some format) plan read is =
+    written_whole format plan read.frames is ∙ sym (ap (λ (start : List ℕ). start ++ body_of plan read) (no_opening format plan is))
+
+whole_output : (plan : Plan) (read : FramesRead) → output_of plan read.frames ≡ opening plan ++ body_of plan read
+unfolding output_of
+whole_output plan read = whole_by (written_of plan) plan read refl
+
+all_behind : (plan : Plan) (reading : FramesRead) (old now new : Option (List ℕ)) → Appends old now (opening plan) → WroteBody plan reading now new → WroteAll plan reading old new
 all_behind plan reading old now new opened wrote =
     subst (λ (bytes : List ℕ). Appends old new bytes) (sym (whole_output plan reading)) (Appends-trans old now new (opening plan) (body_of plan reading) opened wrote)
 
@@ -28,7 +41,7 @@ pub ended_behind : (plan : Plan) (told : Option (List ℕ)) (old now new : Optio
 ended_behind plan None old now new P opened wrote = tt
 ended_behind plan (Some file) old now new P opened wrote = (all_behind plan (frames_read plan file) old now new opened wrote.0, wrote.1)
 
-pub all_ended_behind : (answer : Result Ending RunFault) (plan : Plan) (told : Option (List ℕ)) (old now new : Option (List ℕ)) → Appends old now (opening plan)
+pub all_ended_behind : (answer : Result RunEnding RunFault) (plan : Plan) (told : Option (List ℕ)) (old now new : Option (List ℕ)) → Appends old now (opening plan)
     → IfOk answer (λ ending. IfSome told (λ file. WroteBody plan (frames_read plan file) now new × (ending ≡ (frames_read plan file).ending)))
     → IfOk answer (λ ending. IfSome told (λ file. WroteAll plan (frames_read plan file) old new × (ending ≡ (frames_read plan file).ending)))
 all_ended_behind (Ok ending) plan told old now new opened wrote = ended_behind plan told old now new (λ file. ending ≡ (frames_read plan file).ending) opened wrote
@@ -51,7 +64,7 @@ taken_behind plan file (Some left) old now new opened wrote = record {
   taken = wrote.taken;
   whole = wrote.whole;
   fewer = wrote.fewer;
-  wrote = Appends-trans old now new (opening plan) (all_pieces plan (capture_of wrote.taken)) opened wrote.wrote;
+  wrote = Appends-trans old now new (opening plan) (pieces plan [] (capture_of wrote.taken).frames) opened wrote.wrote;
 }
 
 pub so_far_behind : (plan : Plan) (told left old now new : Option (List ℕ)) → Appends old now (opening plan)
@@ -72,7 +85,7 @@ near_from plan file left old now new opened (inl broken) = inl (record {
   wrote = Appends-trans old now new (opening plan) (pieces_of plan broken.past ++ broken.begun) opened broken.wrote;
 })
 near_from plan file left old now new opened (inr (begun, rest, joined, wrote)) =
-    inr (begun, rest, joined, Appends-trans old now new (opening plan) (all_pieces plan (frames_read plan file) ++ begun) opened wrote)
+    inr (begun, rest, joined, Appends-trans old now new (opening plan) (pieces plan [] (frames_read plan file).frames ++ begun) opened wrote)
 
 pub near_behind : (plan : Plan) (told left old now new : Option (List ℕ)) → Appends old now (opening plan)
     → IfSome told (λ file. IsBrokenFrom [] plan file left now new) → IfSome told (λ file. IsBrokenOf plan file left old new)

@@ -1,7 +1,6 @@
 -- What words ask for is asked for once.
 use Rattle.std.proofs.Common.{◌≡◌, ◌⊎◌, ⊎_elim, inl, inr, ℕ, List, [], ◌∷◌, Option, None, Some, Result, Ok, Err, refl, sym, ◌∙◌, subst}
 use Rattle.std.specs.Prelude.{IsTrue, IfSome}
-use Rattle.capture_read.specs.Capture.{capture_of}
 use Rattle.pk_fields.specs.Fields.{field_named}
 use Rattle.flt_parse.specs.declared.fault.FilterFault.{FilterFault}
 use Rattle.flt_parse.specs.declared.fault.FilterReason.{FilterReason}
@@ -21,8 +20,7 @@ use Rattle.shark_run.specs.Columns.{fields_named, known, with_first, with_others
 use Rattle.shark_run.specs.Plan.{IsFaultAsked, IsFilterAsked, IsPlan, IsPlanFor, IsRefusal, IsRefusalFor}
 use Rattle.shark_run.specs.PlanErrors.{Gives, IsErrorOf}
 use Rattle.shark_run.specs.Answers.{is_of_size, IsAnswered, IsRefusedForSize, IsSure}
-use Rattle.shark_run.specs.declared.source.PlanSource.{PlanSource}
-use Rattle.shark_run.specs.Reading.{file_by, file_of, frames_read, limited}
+use Rattle.shark_run.specs.Reading.{file_of, frames_read}
 use Rattle.shark_run.specs.Statuses.{refusal_status, status_of}
 
 pub same_options : (words : List (List ℕ)) (one other : Options) → options_of words ≡ Ok one → options_of words ≡ Ok other → one ≡ other
@@ -65,13 +63,6 @@ refused_with_plan words plan (refused.Words fault) answer asked is same = absurd
 refused_with_plan words plan (refused.Filter fault) answer asked is same =
     (same, (fault, is, plan_or_refusal words plan (refused.Filter fault) asked is))
 refused_with_plan words plan (refused.Field name) answer asked is same = absurd (plan_or_refusal words plan (refused.Field name) asked is)
-
--- two plans of the same words have the same source and stop at the same frame
-pub same_reading : (words : List (List ℕ)) (one other : Plan) → IsPlan words one → IsPlan words other → (one.source ≡ other.source) × (one.most ≡ other.most)
-unfolding IsPlan
-same_reading words one other is also =
-    let asked : IsPlanFor also.0 one = subst (λ (o : Options). IsPlanFor o one) (same_options words is.0 also.0 is.1 also.1) is.2 in
-    (asked.source ∙ sym also.2.source, asked.most ∙ sym also.2.most)
 
 -- a reason that isn't a pattern's size, beside another
 same_fault_status : (words : List (List ℕ)) (wanted found : Refused) (options : Options) → IsSure wanted → IsRefusalFor options wanted → IsRefusalFor options found
@@ -142,31 +133,16 @@ names_refused options filter (errors.Refused reason) answer asked same gives =
     reason_of_names options filter reason asked (subst IsOfName fields (names_alone options.names)) fields
 
 -- where a file is known, P of it
-each_file : (file : Option (List ℕ)) (P Q : List ℕ → Type 0) → ((f : List ℕ) → P f → Q f) → IfSome file P → IfSome file Q
+pub each_file : (file : Option (List ℕ)) (P Q : List ℕ → Type 0) → ((f : List ℕ) → P f → Q f) → IfSome file P → IfSome file Q
 each_file None P Q on was = tt
 each_file (Some file) P Q on was = on file was
 
-any_file : (file : Option (List ℕ)) (Q : List ℕ → Type 0) → ((f : List ℕ) → Q f) → IfSome file Q
+pub any_file : (file : Option (List ℕ)) (Q : List ℕ → Type 0) → ((f : List ℕ) → Q f) → IfSome file Q
 any_file None Q on = tt
 any_file (Some file) Q on = on file
 
 pub answered : (words : List (List ℕ)) (wanted answer : Status) → (answer ≡ wanted) ⊎ (answer ≡ status.NoMemory) → IsAnswered words wanted answer
 answered words wanted answer is = ⊎_elim (λ same. inl same) (λ none. inr (inl none)) is
-
--- a run whose words ask for a plan ends as every plan of theirs says, where nothing outside fails
-pub complete_planned : (words : List (List ℕ)) (asked plan : Plan) (files : List ℕ → Option (List ℕ)) (answer : Status) (A B C : Type 0) →
-    IsPlan words asked → IsPlan words plan →
-    IfSome (file_of asked files) (λ file. A → B → C → (answer ≡ status_of (frames_read asked file).ending) ⊎ (answer ≡ status.NoMemory)) →
-    IfSome (file_of plan files) (λ file. A → B → C → IsAnswered words (status_of (frames_read plan file).ending) answer)
-unfolding frames_read
-complete_planned words asked plan files answer A B C is also complete =
-    let same : (asked.source ≡ plan.source) × (asked.most ≡ plan.most) = same_reading words asked plan is also in
-    subst (λ (source : PlanSource). IfSome (file_by source files) (λ file. A → B → C → IsAnswered words (status_of (limited plan.most (capture_of file)).ending) answer)) same.0
-    (subst (λ (most : Option ℕ). IfSome (file_by asked.source files) (λ file. A → B → C → IsAnswered words (status_of (limited most (capture_of file)).ending) answer)) same.1
-    (each_file (file_by asked.source files)
-    (λ file. A → B → C → (answer ≡ status_of (limited asked.most (capture_of file)).ending) ⊎ (answer ≡ status.NoMemory))
-    (λ file. A → B → C → IsAnswered words (status_of (limited asked.most (capture_of file)).ending) answer)
-    (λ file run a b c. answered words (status_of (limited asked.most (capture_of file)).ending) answer (run a b c)) complete))
 
 refused_answer : (words : List (List ℕ)) (plan : Plan) (reason : Refused) (wanted answer : Status) → IsPlan words plan → IsRefusal words reason
     → (answer ≡ refusal_status reason) ⊎ (answer ≡ status.NoMemory) → IsAnswered words wanted answer

@@ -8,12 +8,13 @@ use Rattle.pk_outside.proofs.Parts.{part_none}
 use Rattle.capture_read.specs.declared.ending.Ending.TheVariants as ending
 use Rattle.shark_run.specs.declared.outcome.Outcome.{Outcome}
 use Rattle.shark_run.specs.declared.outcome.Outcome.TheVariants as outcome
+use Rattle.shark_run.specs.declared.run_ending.RunEnding.TheVariants.{Read, Unfit}
 use Rattle.shark_run.specs.declared.plan.Plan.{Plan}
 use Rattle.shark_run.specs.declared.plan.Refused.{Refused}
 use Rattle.shark_run.specs.declared.plan.Refused.TheVariants as refused
 use Rattle.shark_run.specs.declared.status.Status.{Status}
 use Rattle.shark_run.specs.declared.status.Status.TheVariants as status
-use Rattle.shark_run.specs.FaultTexts.{refusal_text, ending_text, outcome_text, IsFaultText, IsNone, IsSame, Told, ToldWhole}
+use Rattle.shark_run.specs.FaultTexts.{refusal_text, ending_text, outcome_text, run_ending_text, IsFaultText, IsNone, IsSame, Told, ToldWhole}
 use Rattle.shark_run.specs.Outcomes.{outcome_status, IfEnded}
 use Rattle.shark_run.specs.Reading.{file_of, frames_read}
 use Rattle.shark_run.specs.Statuses.{refusal_status}
@@ -44,6 +45,7 @@ text_more P Q R S files status.BadFilter text plans reasons is = (is.0, reasons 
 text_more P Q R S files status.BadField text plans reasons is = (is.0, reasons is.0 is.1, is.2, is.3)
 text_more P Q R S files status.CannotOpen text plans reasons is = (is.0, plans is.0 is.1, is.2)
 text_more P Q R S files status.Damaged text plans reasons is = (is.0, plans is.0 is.1, is.2)
+text_more P Q R S files status.CannotWrite text plans reasons is = (is.0, plans is.0 is.1, is.2)
 text_more P Q R S files status.ReadFault text plans reasons is = is
 text_more P Q R S files status.TooLarge text plans reasons is = is
 text_more P Q R S files status.Done text plans reasons is = is
@@ -78,19 +80,29 @@ second (Some file) W P both = both.1
 outcome_as_told : (plan : Plan) (files : List ℕ → Option (List ℕ)) (o : Outcome) (text : List ℕ) (W : List ℕ → Type 0) → text ≡ outcome_text plan o
     → IfEnded o (λ end. IfSome (file_of plan files) (λ file. W file × (end ≡ (frames_read plan file).ending)))
     → IsFaultText (IsSame plan) IsNone files (outcome_status o) text
-unfolding outcome_text ending_text
-outcome_as_told plan files (outcome.Ended ending.Whole) text W is ended = is
-outcome_as_told plan files (outcome.Ended (ending.Damaged damage)) text W is ended = (
+unfolding outcome_text run_ending_text ending_text
+outcome_as_told plan files (outcome.Ended (Read ending.Whole)) text W is ended = is
+outcome_as_told plan files (outcome.Ended (Read (ending.Damaged damage))) text W is ended = (
   plan,
   refl,
   record {
-    ending = ending.Damaged damage;
+    ending = Read (ending.Damaged damage);
     status = refl;
-    read = second (file_of plan files) W (λ file. ending.Damaged damage ≡ (frames_read plan file).ending) ended;
+    read = second (file_of plan files) W (λ file. Read (ending.Damaged damage) ≡ (frames_read plan file).ending) ended;
     text = is;
   },
 )
-outcome_as_told plan files (outcome.Ended ending.TooLarge) text W is ended = is
+outcome_as_told plan files (outcome.Ended (Read ending.TooLarge)) text W is ended = is
+outcome_as_told plan files (outcome.Ended (Unfit number)) text W is ended = (
+  plan,
+  refl,
+  record {
+    ending = Unfit number;
+    status = refl;
+    read = second (file_of plan files) W (λ file. Unfit number ≡ (frames_read plan file).ending) ended;
+    text = is;
+  },
+)
 outcome_as_told plan files outcome.CannotOpen text W is ended = (plan, refl, is)
 outcome_as_told plan files outcome.ReadFault text W is ended = is
 outcome_as_told plan files outcome.WriteFault text W is ended = is

@@ -2,7 +2,7 @@
 use Rattle.std.proofs.Common.{◌≡◌, ◌==◌, ◌||◌, ◌<◌, ◌+◌, ℕ, zero, suc, Bool, true, false, List, [], ◌∷◌, length, map, get_or, Option, Some, None, refl, sym, ap, ◌∙◌, subst, arith, if◌then◌else◌}
 use Rattle.std.specs.List.{AllByRecursion as Each}
 use Rattle.std.proofs.lemmas.Bool.{eq-eqb}
-use Rattle.std.specs.Prelude.{cond}
+use Rattle.std.specs.Prelude.{cond, IsSome}
 use Rattle.std.specs.List.{fold}
 use Rattle.pk_fields.specs.Fields.{row_of}
 use Rattle.pk_fields.specs.FieldSets.{is_in, every_field}
@@ -18,7 +18,7 @@ use Rattle.flt_types.specs.declared.typed.Typed.{Typed}
 use Rattle.flt_mean.proofs.KeptMeaning.{meaning_alike}
 use Rattle.shark_run.specs.declared.plan.Plan.{Plan}
 use Rattle.shark_run.specs.declared.totals.Totals.{Totals}
-use Rattle.shark_run.specs.Accessors.{is_generated, is_quiet}
+use Rattle.shark_run.specs.Accessors.{is_generated, is_quiet, written_of}
 use Rattle.shark_run.specs.Lines.{line_by, line_of, shown}
 use Rattle.shark_run.specs.Satisfied.{satisfies}
 use Rattle.shark_run.specs.Totals.{counts_with, with_tree}
@@ -144,40 +144,59 @@ counted_file plan one other is totals =
 not_asked : (plan : Plan) (wanted : List ℕ) → is_generated plan ≡ false → is_generated plan ≡ true → asks_streams wanted ≡ true
 not_asked plan wanted not_made made_so = let bad : false ≡ true = sym not_made ∙ made_so in absurd (cc bad)
 
+not_written : {A : Type 0} (plan : Plan) → written_of plan ≡ None → IsSome (written_of plan) → A
+not_written plan lines some = absurd (subst IsSome lines some)
+
 -- which fields are enough
 pub enough_generated : (wanted : List ℕ) (plan : Plan) → is_generated plan ≡ true → HasPlan wanted plan → asks_streams wanted ≡ true → IsEnough wanted plan
 enough_generated wanted plan is has asks = record {
-  shown = λ whole tree made. shown_quiet plan tree whole (quiet_generated plan is);
+  shown = λ lines whole tree made. shown_quiet plan tree whole (quiet_generated plan is);
   counted = λ whole tree made totals. counted_kept wanted plan whole tree has made.values (made.kept asks) totals;
+  truth = λ written whole tree made. satisfies_same wanted plan.filter whole tree made.values has.filter;
   streams = λ generated. asks;
 }
 
-pub enough_none : (wanted : List ℕ) (plan : Plan) → is_generated plan ≡ false → plan.quiet ≡ true → IsEnough wanted plan
-enough_none wanted plan not_made is = record {
-  shown = λ whole tree made. shown_quiet plan tree whole (quiet_asked plan not_made is);
+pub enough_written : (wanted : List ℕ) (plan : Plan) → is_generated plan ≡ false → IsSome (written_of plan) → HasPlan wanted plan → IsEnough wanted plan
+enough_written wanted plan not_made some has = record {
+  shown = λ lines whole tree made. not_written plan lines some;
   counted = λ whole tree made totals. counted_file plan tree whole not_made totals;
+  truth = λ written whole tree made. satisfies_same wanted plan.filter whole tree made.values has.filter;
   streams = not_asked plan wanted not_made;
 }
 
-pub enough_all : (wanted : List ℕ) (plan : Plan) → is_generated plan ≡ false → wanted ≡ every_field → IsEnough wanted plan
-enough_all wanted plan not_made all = record {
-  shown = λ whole tree made. shown_all wanted plan whole tree all made;
+pub enough_none : (wanted : List ℕ) (plan : Plan) → is_generated plan ≡ false → written_of plan ≡ None → plan.quiet ≡ true → IsEnough wanted plan
+enough_none wanted plan not_made lines is = record {
+  shown = λ none whole tree made. shown_quiet plan tree whole (quiet_asked plan not_made is);
   counted = λ whole tree made totals. counted_file plan tree whole not_made totals;
+  truth = λ written whole tree made. not_written plan lines written;
   streams = not_asked plan wanted not_made;
 }
 
-pub enough_fields : (wanted : List ℕ) (plan : Plan) → is_generated plan ≡ false → plan.kind ≡ Fields → HasPlan wanted plan → IsEnough wanted plan
-enough_fields wanted plan not_made is has = record {
-  shown = λ whole tree made. shown_same wanted plan whole tree made.values is has;
+pub enough_all : (wanted : List ℕ) (plan : Plan) → is_generated plan ≡ false → written_of plan ≡ None → wanted ≡ every_field → IsEnough wanted plan
+enough_all wanted plan not_made lines all = record {
+  shown = λ none whole tree made. shown_all wanted plan whole tree all made;
   counted = λ whole tree made totals. counted_file plan tree whole not_made totals;
+  truth = λ written whole tree made. not_written plan lines written;
+  streams = not_asked plan wanted not_made;
+}
+
+pub enough_fields : (wanted : List ℕ) (plan : Plan) → is_generated plan ≡ false → written_of plan ≡ None → plan.kind ≡ Fields → HasPlan wanted plan → IsEnough wanted plan
+enough_fields wanted plan not_made lines is has = record {
+  shown = λ none whole tree made. shown_same wanted plan whole tree made.values is has;
+  counted = λ whole tree made totals. counted_file plan tree whole not_made totals;
+  truth = λ written whole tree made. not_written plan lines written;
   streams = not_asked plan wanted not_made;
 }
 
 -- what they are enough for
-pub enough_shown : (wanted : List ℕ) (plan : Plan) (whole tree : TreeShown) → IsEnough wanted plan → HasSameValues wanted whole tree
+pub enough_shown : (wanted : List ℕ) (plan : Plan) (whole tree : TreeShown) → IsEnough wanted plan → written_of plan ≡ None → HasSameValues wanted whole tree
     → (asks_streams wanted ≡ true → IsKept wanted whole tree) → shown plan tree ≡ shown plan whole
-enough_shown wanted plan whole tree enough same kept = enough.shown whole tree (record { values = same; kept = kept })
+enough_shown wanted plan whole tree enough lines same kept = enough.shown lines whole tree (record { values = same; kept = kept })
 
 pub enough_counted : (wanted : List ℕ) (plan : Plan) (whole tree : TreeShown) (totals : Totals) → IsEnough wanted plan → HasSameValues wanted whole tree
     → (asks_streams wanted ≡ true → IsKept wanted whole tree) → counts_with plan tree totals ≡ counts_with plan whole totals
 enough_counted wanted plan whole tree totals enough same kept = enough.counted whole tree (record { values = same; kept = kept }) totals
+
+pub enough_truth : (wanted : List ℕ) (plan : Plan) (whole tree : TreeShown) → IsEnough wanted plan → IsSome (written_of plan) → HasSameValues wanted whole tree
+    → (asks_streams wanted ≡ true → IsKept wanted whole tree) → satisfies plan.filter tree ≡ satisfies plan.filter whole
+enough_truth wanted plan whole tree enough written same kept = enough.truth written whole tree (record { values = same; kept = kept })

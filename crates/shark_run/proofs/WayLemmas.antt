@@ -1,5 +1,5 @@
 -- How far a run is on its way through a file, and what it wrote then.
-use Rattle.std.proofs.Common.{◌≡◌, ◌≢◌, ◌<◌, ℕ, zero, suc, ◌+◌, ◌-◌, Bool, List, [], ◌∷◌, ◌++◌, length, Option, None, Some, refl, sym, ◌∙◌, ap, subst, append_assoc, append-nil, reverse, inr, arith}
+use Rattle.std.proofs.Common.{◌≡◌, ◌≢◌, ◌<◌, ℕ, zero, suc, ◌+◌, ◌-◌, ◌≤◌, Bool, true, false, if◌then◌else◌, List, [], ◌∷◌, ◌++◌, length, Option, None, Some, refl, sym, ◌∙◌, ap, subst, append_assoc, append-nil, reverse, inr, arith}
 use Rattle.std.specs.Prelude.{IfSome}
 use Rattle.std.specs.Option.{option_map}
 use Rattle.std.specs.Io.KnownBytes.{Appends}
@@ -18,29 +18,58 @@ use Rattle.capture_read.specs.declared.ending.Ending.TheVariants.{Whole}
 use Rattle.capture_read.specs.declared.frame.Frame.{Frame}
 use Rattle.capture_read.specs.declared.next_frame.NextFrame.TheVariants as next
 use Rattle.dissect.specs.Stands.{DissectorShown, StandsWithin}
-use Rattle.dissect.specs.Trees.{tree_at}
 use Rattle.shark_run.specs.declared.plan.Plan.{Plan}
-use Rattle.shark_run.specs.Lines.{all_pieces, piece, pieces, pieces_of}
-use Rattle.shark_run.specs.Reading.{front_if, limited, frames_read}
+use Rattle.shark_run.specs.Lines.{piece, pieces, pieces_of}
+use Rattle.shark_run.specs.Reading.{fitting_of, front_if, limited, frames_read}
 use Rattle.shark_run.specs.Taken.{Took}
+use Rattle.capture_write.specs.Kept.{Kept}
+use Rattle.capture_write.specs.declared.format.Format.{Format}
+use Rattle.shark_run.specs.Accessors.{written_of}
+use Rattle.shark_run.specs.declared.run_ending.RunEnding.{RunEnding}
+use Rattle.shark_run.specs.declared.run_ending.RunEnding.TheVariants.{Read, Unfit}
 use Rattle.shark_run.specs.declared.totals.Totals.{Totals}
-use Rattle.shark_run.specs.Ended.{HasRead}
-use Rattle.shark_run.specs.Totals.{counts_of, counts_with}
+use Rattle.shark_run.specs.Ended.{CanClose, HasRead}
+use Rattle.shark_run.specs.Fitting.{FramesRead, before, fitting, is_unfit, is_unfit_by, over}
+use Rattle.shark_run.specs.Steps.{IsAfterFrame, KeepsUp, fit_piece}
 use Rattle.shark_run.specs.Way.{IsBrokenBehind, IsFewer, IsFullNearOf, IsNearAfter, WroteTakenBehind}
 use Rattle.shark_run.specs.Wrote.{WrotePieces, WroteSomePieces}
 use Rattle.shark_run.proofs.FrontLemmas.{limited_frame}
 
--- the lines of frames answered, and of those that are still to come
+-- what is written of frames answered, and of those that are still to come
 pieces_past : (plan : Plan) (past : List Frame) (reading : Reading)
-    → all_pieces plan (with_past past reading) ≡ pieces_of plan past ++ pieces plan past reading.frames
+    → pieces plan [] (with_past past reading).frames ≡ pieces_of plan past ++ pieces plan past reading.frames
 pieces_past plan [] reading = refl
 pieces_past plan (frame ∷ past) reading =
     pieces_past plan past (with_frame frame reading)
     ∙ sym (append_assoc (pieces_of plan past) (piece plan past frame) (pieces plan (frame ∷ past) reading.frames))
 
-ending_past : (past : List Frame) (reading : Reading) → (with_past past reading).ending ≡ reading.ending
-ending_past [] reading = refl
-ending_past (frame ∷ past) reading = ending_past past (with_frame frame reading)
+-- frames that were answered, the newest first, and then those of a reading
+abbrev with_read : List Frame → FramesRead → FramesRead
+with_read [] read = read
+with_read (frame ∷ past) read = with_read past (before frame read)
+
+pieces_read : (plan : Plan) (past : List Frame) (read : FramesRead)
+    → pieces plan [] (with_read past read).frames ≡ pieces_of plan past ++ pieces plan past read.frames
+pieces_read plan [] read = refl
+pieces_read plan (frame ∷ past) read =
+    pieces_read plan past (before frame read)
+    ∙ sym (append_assoc (pieces_of plan past) (piece plan past frame) (pieces plan (frame ∷ past) read.frames))
+
+ending_read : (past : List Frame) (read : FramesRead) → (with_read past read).ending ≡ read.ending
+ending_read [] read = refl
+ending_read (frame ∷ past) read = ending_read past (before frame read)
+
+-- all frames of the past could be written
+abbrev AreFit : Plan → List Frame → Type 0
+AreFit plan [] = Unit {0}
+AreFit plan (frame ∷ past) = (is_unfit plan past frame ≡ false) × AreFit plan past
+
+fitting_past : (plan : Plan) (past : List Frame) (reading : Reading) → AreFit plan past
+    → fitting_of plan (with_past past reading) ≡ with_read past (fitting plan past reading.frames reading.ending)
+fitting_past plan [] reading fit = refl
+fitting_past plan (frame ∷ past) reading fit =
+    fitting_past plan past (with_frame frame reading) fit.1
+    ∙ ap (λ (unfit : Bool). with_read past (if unfit then over (Unfit frame.number) else before frame (fitting plan (frame ∷ past) reading.frames reading.ending))) fit.0
 
 count_past : (past : List Frame) (reading : Reading) → length (with_past past reading).frames ≡ length past + length reading.frames
 count_past [] reading = omega arith
@@ -71,21 +100,26 @@ limited_before : (most : Option ℕ) (past : List Frame) (reading : Reading) →
 limited_before None past reading = refl
 limited_before (Some n) past reading = limited_past n past reading
 
+-- the frames of a reading that are read behind those answered
+abbrev rest_of : Plan → List Frame → Reading → FramesRead
+rest_of plan past reading = fitting plan past reading.frames reading.ending
+
 -- what is read of a file
 read_way : (plan : Plan) (most : Option ℕ) (file : List ℕ) (past : List Frame) (rest : Reading) → plan.most ≡ asked_before most (length past)
-    → capture_of file ≡ with_past past rest → frames_read plan file ≡ with_past past (limited most rest)
+    → capture_of file ≡ with_past past rest → AreFit plan past → frames_read plan file ≡ with_read past (rest_of plan past (limited most rest))
 unfolding frames_read
-read_way plan most file past rest asked read =
-    ap (λ (m : Option ℕ). limited m (capture_of file)) asked
-    ∙ ap (limited (asked_before most (length past))) read
-    ∙ limited_before most past rest
+read_way plan most file past rest asked read fit =
+    ap (λ (m : Option ℕ). fitting_of plan (limited m (capture_of file))) asked
+    ∙ ap (λ (reading : Reading). fitting_of plan (limited (asked_before most (length past)) reading)) read
+    ∙ ap (fitting_of plan) (limited_before most past rest)
+    ∙ fitting_past plan past (limited most rest) fit
 
 all_read : (plan : Plan) (most : Option ℕ) (file : List ℕ) (past : List Frame) (rest : Reading) → plan.most ≡ asked_before most (length past)
-    → capture_of file ≡ with_past past rest
-    → all_pieces plan (frames_read plan file) ≡ pieces_of plan past ++ pieces plan past (limited most rest).frames
-all_read plan most file past rest asked read =
-    ap (all_pieces plan) (read_way plan most file past rest asked read)
-    ∙ pieces_past plan past (limited most rest)
+    → capture_of file ≡ with_past past rest → AreFit plan past
+    → pieces plan [] (frames_read plan file).frames ≡ pieces_of plan past ++ pieces plan past (rest_of plan past (limited most rest)).frames
+all_read plan most file past rest asked read fit =
+    ap (λ (all : FramesRead). pieces plan [] all.frames) (read_way plan most file past rest asked read fit)
+    ∙ pieces_read plan past (rest_of plan past (limited most rest))
 
 -- the bytes taken of a file end near the last frame answered
 abbrev IsLastNear : List Frame → List ℕ → Option (List ℕ) → Type 0
@@ -93,34 +127,36 @@ IsLastNear [] file left = Unit {0}
 IsLastNear (frame ∷ past) file left = IsNear file past left
 
 -- the frames answered are the file's first ones, the reader and the dissector stand for them, and their lines were written
-pub record IsOnTheWay (plan : Plan) (most : Option ℕ) (file : List ℕ) (r : ReaderShown) (left : Option (List ℕ)) (d : DissectorShown) (t : Totals) (old now : Option (List ℕ)) : Type 0 where
+pub record IsOnTheWay (plan : Plan) (most : Option ℕ) (file : List ℕ) (r : ReaderShown) (left : Option (List ℕ)) (d : DissectorShown) (t : Totals) (k : Kept) (old now : Option (List ℕ)) : Type 0 where
   pub past : List Frame
   pub front : IsFrontOf past file
   pub asked : plan.most ≡ asked_before most (length past)
   pub stands : StandsFor r left file past
   pub dissects : StandsWithin past d
-  pub counted : t ≡ counts_of plan past
+  pub keeps : KeepsUp (written_of plan) plan past t k
+  pub fit : AreFit plan past
   pub appended : Appends old now (pieces_of plan past)
   pub last : IsLastNear past file left
 
 -- the same of a file that the capture told when it was begun
-abbrev pub AreOnTheWay : Plan → Option ℕ → Option (List ℕ) → ReaderShown → Option (List ℕ) → DissectorShown → Totals → Option (List ℕ) → Option (List ℕ) → Type 0
-AreOnTheWay plan most told r left d t old now = IfSome told (λ file. IsOnTheWay plan most file r left d t old now)
+abbrev pub AreOnTheWay : Plan → Option ℕ → Option (List ℕ) → ReaderShown → Option (List ℕ) → DissectorShown → Totals → Kept → Option (List ℕ) → Option (List ℕ) → Type 0
+AreOnTheWay plan most told r left d t k old now = IfSome told (λ file. IsOnTheWay plan most file r left d t k old now)
 
 asked_all : (most : Option ℕ) → most ≡ asked_before most 0
 asked_all None = refl
 asked_all (Some n) = let none : n ≡ n + 0 = omega arith in ap Some none
 
-pub way_begun : (plan : Plan) (told : Option (List ℕ)) (r : ReaderShown) (d : DissectorShown) (t : Totals) (old : Option (List ℕ))
-    → ((left : List ℕ) → StandsFor r (Some left) left []) → StandsWithin [] d → t ≡ counts_of plan [] → AreOnTheWay plan plan.most told r told d t old old
-way_begun plan None r d t old stands dissects counted = tt
-way_begun plan (Some file) r d t old stands dissects counted = record {
+pub way_begun : (plan : Plan) (told : Option (List ℕ)) (r : ReaderShown) (d : DissectorShown) (t : Totals) (k : Kept) (old : Option (List ℕ))
+    → ((left : List ℕ) → StandsFor r (Some left) left []) → StandsWithin [] d → KeepsUp (written_of plan) plan [] t k → AreOnTheWay plan plan.most told r told d t k old old
+way_begun plan None r d t k old stands dissects keeps = tt
+way_begun plan (Some file) r d t k old stands dissects keeps = record {
   past = [];
   front = (capture_of file, refl);
   asked = asked_all plan.most;
   stands = stands file;
   dissects = dissects;
-  counted = counted;
+  keeps = keeps;
+  fit = tt;
   appended = Appends-nil old;
   last = tt;
 }
@@ -131,94 +167,108 @@ asked_more (Some zero) count some = absurd (some refl)
 asked_more (Some (suc n)) count some = let same : suc n + count ≡ suc n - 1 + suc count = omega arith in ap Some same
 
 -- a frame was read, taken and written
-pub way_further : (plan : Plan) (most : Option ℕ) (told : Option (List ℕ)) (r after : ReaderShown) (left left_after : Option (List ℕ)) (d dissected : DissectorShown) (t counts : Totals) (old now later : Option (List ℕ)) (frame : Frame)
-    → most ≢ Some 0 → AreOnTheWay plan most told r left d t old now → Answers (next.Frame frame) r after left left_after
+pub way_further : (plan : Plan) (most : Option ℕ) (told : Option (List ℕ)) (r after : ReaderShown) (left left_after : Option (List ℕ)) (d dissected : DissectorShown) (t counts : Totals) (k kept : Kept) (old now later : Option (List ℕ)) (frame : Frame)
+    → most ≢ Some 0 → AreOnTheWay plan most told r left d t k old now → Answers (next.Frame frame) r after left left_after
     → ((past : List Frame) → StandsWithin past d → StandsWithin (frame ∷ past) dissected)
-    → ((past : List Frame) → StandsWithin past d → Appends now later (piece plan past frame))
-    → ((past : List Frame) → StandsWithin past d → counts ≡ counts_with plan (tree_at past frame) t)
-    → AreOnTheWay plan (option_map (λ n. n - 1) most) told after left_after dissected counts old later
-way_further plan most None r after left left_after d dissected t counts old now later frame some way answers taken wrote counting = tt
-way_further plan most (Some file) r after left left_after d dissected t counts old now later frame some way answers taken wrote counting =
+    → ((past : List Frame) → StandsWithin past d → KeepsUp (written_of plan) plan past t k → IsAfterFrame true plan past frame counts kept now later)
+    → AreOnTheWay plan (option_map (λ n. n - 1) most) told after left_after dissected counts kept old later
+way_further plan most None r after left left_after d dissected t counts k kept old now later frame some way answers taken wrote = tt
+way_further plan most (Some file) r after left left_after d dissected t counts k kept old now later frame some way answers taken wrote =
     let answer = answers file way.past way.stands in
+    let written = wrote way.past way.dissects way.keeps in
     record {
       past = frame ∷ way.past;
       front = answer.1;
       asked = way.asked ∙ asked_more most (length way.past) some;
       stands = answer.0;
       dissects = taken way.past way.dissects;
-      counted = counting way.past way.dissects ∙ ap (λ (before : Totals). counts_with plan (tree_at way.past frame) before) way.counted;
-      appended = Appends-trans old now later (pieces_of plan way.past) (piece plan way.past frame) way.appended (wrote way.past way.dissects);
+      keeps = written.keeps;
+      fit = (written.fit, way.fit);
+      appended = Appends-trans old now later (pieces_of plan way.past) (piece plan way.past frame) way.appended written.wrote;
       last = answer.2;
     }
 
 -- a front of the output was written
-pub way_stopped : (plan : Plan) (most : Option ℕ) (told : Option (List ℕ)) (r : ReaderShown) (left : Option (List ℕ)) (d : DissectorShown) (t : Totals) (old now : Option (List ℕ))
-    → AreOnTheWay plan most told r left d t old now → IfSome told (λ file. WroteSomePieces plan (frames_read plan file) old now)
-way_stopped plan most None r left d t old now way = tt
-way_stopped plan most (Some file) r left d t old now way = (
+pub way_stopped : (plan : Plan) (most : Option ℕ) (told : Option (List ℕ)) (r : ReaderShown) (left : Option (List ℕ)) (d : DissectorShown) (t : Totals) (k : Kept) (old now : Option (List ℕ))
+    → AreOnTheWay plan most told r left d t k old now → IfSome told (λ file. WroteSomePieces plan (frames_read plan file) old now)
+way_stopped plan most None r left d t k old now way = tt
+way_stopped plan most (Some file) r left d t k old now way = (
   pieces_of plan way.past,
-  pieces plan way.past (limited most way.front.0).frames,
-  sym (all_read plan most file way.past way.front.0 way.asked way.front.1),
+  pieces plan way.past (rest_of plan way.past (limited most way.front.0)).frames,
+  sym (all_read plan most file way.past way.front.0 way.asked way.front.1 way.fit),
   way.appended,
 )
 
--- the whole output, where nothing more is to be read
-whole_way : (plan : Plan) (most : Option ℕ) (file : List ℕ) (past : List Frame) (rest : Reading) (ending : Ending) (old now : Option (List ℕ))
-    → plan.most ≡ asked_before most (length past) → capture_of file ≡ with_past past rest → limited most rest ≡ ended ending → Appends old now (pieces_of plan past)
-    → WrotePieces plan (frames_read plan file) old now × (ending ≡ (frames_read plan file).ending)
-whole_way plan most file past rest ending old now asked read over wrote = (
+-- all frames were read, where nothing more is to be read
+whole_way : (plan : Plan) (file : List ℕ) (past : List Frame) (ending : RunEnding) (old now : Option (List ℕ)) → frames_read plan file ≡ with_read past (over ending)
+    → Appends old now (pieces_of plan past) → WrotePieces plan (frames_read plan file) old now × (ending ≡ (frames_read plan file).ending)
+whole_way plan file past ending old now read wrote = (
   subst (λ (bytes : List ℕ). Appends old now bytes)
-      (sym (all_read plan most file past rest asked read
-      ∙ ap (λ (reading : Reading). pieces_of plan past ++ pieces plan past reading.frames) over ∙ append-nil (pieces_of plan past))) wrote,
-  sym (ap (λ (reading : Reading). reading.ending) (read_way plan most file past rest asked read ∙ ap (with_past past) over) ∙ ending_past past (ended ending)),
+      (sym (ap (λ (all : FramesRead). pieces plan [] all.frames) read ∙ pieces_read plan past (over ending) ∙ append-nil (pieces_of plan past))) wrote,
+  sym (ap (λ (all : FramesRead). all.ending) read ∙ ending_read past (over ending)),
 )
+
+-- how the reading of a file ends where no frame more is asked for, or it ends
+read_over : (plan : Plan) (most : Option ℕ) (file : List ℕ) (past : List Frame) (rest : Reading) (ending : Ending) → plan.most ≡ asked_before most (length past)
+    → capture_of file ≡ with_past past rest → AreFit plan past → limited most rest ≡ ended ending → frames_read plan file ≡ with_read past (over (Read ending))
+read_over plan most file past rest ending asked read fit is =
+    read_way plan most file past rest asked read fit ∙ ap (λ (reading : Reading). with_read past (rest_of plan past reading)) is
 
 limited_zero : (reading : Reading) → limited (Some 0) reading ≡ ended Whole
 limited_zero reading = ap (λ (b : Bool). front_if b 0 reading) (leb-zero (length reading.frames))
 
 -- the frames that were read, the newest first
-reverse_past : (past : List Frame) (reading : Reading) → reverse (with_past past reading).frames ≡ reverse reading.frames ++ past
-reverse_past [] reading = sym (append-nil (reverse reading.frames))
-reverse_past (frame ∷ past) reading =
-    reverse_past past (with_frame frame reading)
-    ∙ ap (λ (frames : List Frame). frames ++ past) (reverse-append (frame ∷ []) reading.frames)
-    ∙ append_assoc (reverse reading.frames) (frame ∷ []) past
+reverse_past : (past : List Frame) (read : FramesRead) → reverse (with_read past read).frames ≡ reverse read.frames ++ past
+reverse_past [] read = sym (append-nil (reverse read.frames))
+reverse_past (frame ∷ past) read =
+    reverse_past past (before frame read)
+    ∙ ap (λ (frames : List Frame). frames ++ past) (reverse-append (frame ∷ []) read.frames)
+    ∙ append_assoc (reverse read.frames) (frame ∷ []) past
 
-read_past : (plan : Plan) (most : Option ℕ) (file : List ℕ) (past : List Frame) (rest : Reading) (ending : Ending) (d : DissectorShown) (t : Totals)
-    → plan.most ≡ asked_before most (length past) → capture_of file ≡ with_past past rest → limited most rest ≡ ended ending
-    → StandsWithin past d → t ≡ counts_of plan past → HasRead plan file d t
-read_past plan most file past rest ending d t asked read over dissects counted =
+can_close : (written : Option Format) (plan : Plan) (past : List Frame) (d : DissectorShown) (t : Totals) (k : Kept) → StandsWithin past d
+    → KeepsUp written plan past t k → CanClose written plan past d t k
+can_close None plan past d t k dissects keeps = (dissects, keeps)
+can_close (Some format) plan past d t k dissects keeps = keeps
+
+-- a frame that can't be written was taken too
+can_end : (written : Option Format) (plan : Plan) (past : List Frame) (frame : Frame) (d : DissectorShown) (t : Totals) (k : Kept)
+    → is_unfit_by written plan past frame ≡ true → KeepsUp written plan past t k → CanClose written plan past d t k
+can_end None plan past frame d t k is keeps = absurd (cc is)
+can_end (Some format) plan past frame d t k is keeps = keeps
+
+read_past : (plan : Plan) (file : List ℕ) (past : List Frame) (ending : RunEnding) (d : DissectorShown) (t : Totals) (k : Kept)
+    → frames_read plan file ≡ with_read past (over ending) → CanClose (written_of plan) plan past d t k → HasRead plan file d t k
+read_past plan file past ending d t k read closes =
     let same : reverse (frames_read plan file).frames ≡ past =
-    ap (λ (reading : Reading). reverse reading.frames) (read_way plan most file past rest asked read ∙ ap (with_past past) over)
-    ∙ reverse_past past (ended ending) in
-    record {
-      dissects = subst (λ (frames : List Frame). StandsWithin frames d) (sym same) dissects;
-      counted = counted ∙ ap (counts_of plan) (sym same);
-    }
+    ap (λ (all : FramesRead). reverse all.frames) read ∙ reverse_past past (over ending) in
+    subst (λ (frames : List Frame). CanClose (written_of plan) plan frames d t k) (sym same) closes
 
 -- as many frames were read as are asked for
-pub way_full : (plan : Plan) (most : Option ℕ) (told : Option (List ℕ)) (r : ReaderShown) (left : Option (List ℕ)) (d : DissectorShown) (t : Totals) (old now : Option (List ℕ))
-    → most ≡ Some 0 → AreOnTheWay plan most told r left d t old now
-    → IfSome told (λ file. WrotePieces plan (frames_read plan file) old now × (Whole ≡ (frames_read plan file).ending))
-way_full plan most None r left d t old now full way = tt
-way_full plan most (Some file) r left d t old now full way =
-    whole_way plan most file way.past way.front.0 Whole old now way.asked way.front.1 (ap (λ (m : Option ℕ). limited m way.front.0) full ∙ limited_zero way.front.0) way.appended
+pub way_full : (plan : Plan) (most : Option ℕ) (told : Option (List ℕ)) (r : ReaderShown) (left : Option (List ℕ)) (d : DissectorShown) (t : Totals) (k : Kept) (old now : Option (List ℕ))
+    → most ≡ Some 0 → AreOnTheWay plan most told r left d t k old now
+    → IfSome told (λ file. WrotePieces plan (frames_read plan file) old now × (Read Whole ≡ (frames_read plan file).ending))
+way_full plan most None r left d t k old now full way = tt
+way_full plan most (Some file) r left d t k old now full way =
+    whole_way plan file way.past (Read Whole) old now
+    (read_over plan most file way.past way.front.0 Whole way.asked way.front.1 way.fit (ap (λ (m : Option ℕ). limited m way.front.0) full ∙ limited_zero way.front.0)) way.appended
 
-pub read_full : (plan : Plan) (most : Option ℕ) (told : Option (List ℕ)) (r : ReaderShown) (left : Option (List ℕ)) (d : DissectorShown) (t : Totals) (old now : Option (List ℕ))
-    → most ≡ Some 0 → AreOnTheWay plan most told r left d t old now → IfSome told (λ file. HasRead plan file d t)
-read_full plan most None r left d t old now full way = tt
-read_full plan most (Some file) r left d t old now full way =
-    read_past plan most file way.past way.front.0 Whole d t way.asked way.front.1 (ap (λ (m : Option ℕ). limited m way.front.0) full ∙ limited_zero way.front.0) way.dissects way.counted
+pub read_full : (plan : Plan) (most : Option ℕ) (told : Option (List ℕ)) (r : ReaderShown) (left : Option (List ℕ)) (d : DissectorShown) (t : Totals) (k : Kept) (old now : Option (List ℕ))
+    → most ≡ Some 0 → AreOnTheWay plan most told r left d t k old now → IfSome told (λ file. HasRead plan file d t k)
+read_full plan most None r left d t k old now full way = tt
+read_full plan most (Some file) r left d t k old now full way =
+    read_past plan file way.past (Read Whole) d t k
+    (read_over plan most file way.past way.front.0 Whole way.asked way.front.1 way.fit (ap (λ (m : Option ℕ). limited m way.front.0) full ∙ limited_zero way.front.0))
+    (can_close (written_of plan) plan way.past d t k way.dissects way.keeps)
 
 near_after : (file : List ℕ) (past : List Frame) (left : Option (List ℕ)) (count : ℕ) → length past ≡ suc count → IsLastNear past file left → IsNearAfter file count left
 near_after file [] left count is near = absurd (omega (arith, is))
 near_after file (frame ∷ past) None count is near = tt
 near_after file (frame ∷ past) (Some left) count is near = λ front late. omega (arith, is, near front late)
 
-pub full_near : (plan : Plan) (most : Option ℕ) (told : Option (List ℕ)) (r : ReaderShown) (left : Option (List ℕ)) (d : DissectorShown) (t : Totals) (old now : Option (List ℕ))
-    → most ≡ Some 0 → AreOnTheWay plan most told r left d t old now → IfSome told (λ file. IsFullNearOf plan file left)
-full_near plan most None r left d t old now full way = tt
-full_near plan most (Some file) r left d t old now full way = λ count asked some.
+pub full_near : (plan : Plan) (most : Option ℕ) (told : Option (List ℕ)) (r : ReaderShown) (left : Option (List ℕ)) (d : DissectorShown) (t : Totals) (k : Kept) (old now : Option (List ℕ))
+    → most ≡ Some 0 → AreOnTheWay plan most told r left d t k old now → IfSome told (λ file. IsFullNearOf plan file left)
+full_near plan most None r left d t k old now full way = tt
+full_near plan most (Some file) r left d t k old now full way = λ count asked some.
     let same : Some (0 + length way.past) ≡ Some (suc count) = ap (λ (m : Option ℕ). asked_before m (length way.past)) (sym full) ∙ sym way.asked ∙ asked in
     let sum : 0 + length way.past ≡ suc count = cc same in
     near_after file way.past left count (omega (arith, sum)) way.last
@@ -229,29 +279,32 @@ limited_ended None ending some = refl
 limited_ended (Some zero) ending some = absurd (some refl)
 limited_ended (Some (suc n)) ending some = ap (λ (b : Bool). front_if b (suc n) (ended ending)) (leb-suc-zero n)
 
-pub way_ended : (plan : Plan) (most : Option ℕ) (told : Option (List ℕ)) (r after : ReaderShown) (left left_after : Option (List ℕ)) (d : DissectorShown) (t : Totals) (old now : Option (List ℕ)) (ending : Ending)
-    → most ≢ Some 0 → AreOnTheWay plan most told r left d t old now → Answers (next.End ending) r after left left_after
-    → IfSome told (λ file. WrotePieces plan (frames_read plan file) old now × (ending ≡ (frames_read plan file).ending))
-way_ended plan most None r after left left_after d t old now ending some way answers = tt
-way_ended plan most (Some file) r after left left_after d t old now ending some way answers =
-    whole_way plan most file way.past (ended ending) ending old now way.asked (answers file way.past way.stands).1 (limited_ended most ending some) way.appended
+pub way_ended : (plan : Plan) (most : Option ℕ) (told : Option (List ℕ)) (r after : ReaderShown) (left left_after : Option (List ℕ)) (d : DissectorShown) (t : Totals) (k : Kept) (old now : Option (List ℕ)) (ending : Ending)
+    → most ≢ Some 0 → AreOnTheWay plan most told r left d t k old now → Answers (next.End ending) r after left left_after
+    → IfSome told (λ file. WrotePieces plan (frames_read plan file) old now × (Read ending ≡ (frames_read plan file).ending))
+way_ended plan most None r after left left_after d t k old now ending some way answers = tt
+way_ended plan most (Some file) r after left left_after d t k old now ending some way answers =
+    whole_way plan file way.past (Read ending) old now
+    (read_over plan most file way.past (ended ending) ending way.asked (answers file way.past way.stands).1 way.fit (limited_ended most ending some)) way.appended
 
-pub read_ended : (plan : Plan) (most : Option ℕ) (told : Option (List ℕ)) (r after : ReaderShown) (left left_after : Option (List ℕ)) (d : DissectorShown) (t : Totals) (old now : Option (List ℕ)) (ending : Ending)
-    → most ≢ Some 0 → AreOnTheWay plan most told r left d t old now → Answers (next.End ending) r after left left_after → IfSome told (λ file. HasRead plan file d t)
-read_ended plan most None r after left left_after d t old now ending some way answers = tt
-read_ended plan most (Some file) r after left left_after d t old now ending some way answers =
-    read_past plan most file way.past (ended ending) ending d t way.asked (answers file way.past way.stands).1 (limited_ended most ending some) way.dissects way.counted
+pub read_ended : (plan : Plan) (most : Option ℕ) (told : Option (List ℕ)) (r after : ReaderShown) (left left_after : Option (List ℕ)) (d : DissectorShown) (t : Totals) (k : Kept) (old now : Option (List ℕ)) (ending : Ending)
+    → most ≢ Some 0 → AreOnTheWay plan most told r left d t k old now → Answers (next.End ending) r after left left_after → IfSome told (λ file. HasRead plan file d t k)
+read_ended plan most None r after left left_after d t k old now ending some way answers = tt
+read_ended plan most (Some file) r after left left_after d t k old now ending some way answers =
+    read_past plan file way.past (Read ending) d t k
+    (read_over plan most file way.past (ended ending) ending way.asked (answers file way.past way.stands).1 way.fit (limited_ended most ending some))
+    (can_close (written_of plan) plan way.past d t k way.dissects way.keeps)
 
 more_asked : (most : Option ℕ) (count asked : ℕ) → most ≢ Some 0 → Some asked ≡ asked_before most count → count < asked
 more_asked None count asked some is = let bad : Some asked ≡ None = is in absurd (cc bad)
 more_asked (Some zero) count asked some is = absurd (some refl)
 more_asked (Some (suc n)) count asked some is = let sum : asked ≡ suc n + count = cc is in omega (arith, sum)
 
-pub ended_near : (plan : Plan) (most : Option ℕ) (told : Option (List ℕ)) (r after : ReaderShown) (left left_after : Option (List ℕ)) (d : DissectorShown) (t : Totals) (old now : Option (List ℕ)) (ending : Ending)
-    → most ≢ Some 0 → AreOnTheWay plan most told r left d t old now → Answers (next.End ending) r after left left_after
+pub ended_near : (plan : Plan) (most : Option ℕ) (told : Option (List ℕ)) (r after : ReaderShown) (left left_after : Option (List ℕ)) (d : DissectorShown) (t : Totals) (k : Kept) (old now : Option (List ℕ)) (ending : Ending)
+    → most ≢ Some 0 → AreOnTheWay plan most told r left d t k old now → Answers (next.End ending) r after left left_after
     → IfSome told (λ file. IsFullNearOf plan file left_after)
-ended_near plan most None r after left left_after d t old now ending some way answers = tt
-ended_near plan most (Some file) r after left left_after d t old now ending some way answers = λ count asked many.
+ended_near plan most None r after left left_after d t k old now ending some way answers = tt
+ended_near plan most (Some file) r after left left_after d t k old now ending some way answers = λ count asked many.
     let all : length (capture_of file).frames ≡ length way.past + 0 =
     ap (λ (reading : Reading). length reading.frames) (answers file way.past way.stands).1 ∙ count_past way.past (ended ending) in
     let fewer : length way.past < suc count = more_asked most (length way.past) (suc count) some (sym asked ∙ way.asked) in
@@ -273,42 +326,105 @@ read_so_far plan most file past (Some left) old now some asked wrote exactly =
       whole = exactly.1;
       fewer = subst (IsFewer plan.most) (sym count) (is_fewer plan.most most (length past) some asked);
       wrote = subst (λ (bytes : List ℕ). Appends old now bytes)
-          (sym (ap (all_pieces plan) exactly.2.1 ∙ pieces_past plan past (ended exactly.2.0) ∙ append-nil (pieces_of plan past))) wrote;
+          (sym (ap (λ (reading : Reading). pieces plan [] reading.frames) exactly.2.1 ∙ pieces_past plan past (ended exactly.2.0) ∙ append-nil (pieces_of plan past))) wrote;
     }
   where
     none : (n : ℕ) → n + 0 ≡ n
     none n = omega arith
 
-pub way_unread : (plan : Plan) (most : Option ℕ) (told : Option (List ℕ)) (r : ReaderShown) (left left_after : Option (List ℕ)) (d : DissectorShown) (t : Totals) (old now : Option (List ℕ))
-    → most ≢ Some 0 → AreOnTheWay plan most told r left d t old now → Fails r left left_after → IfSome told (λ file. WroteTakenBehind [] plan file left_after old now)
-way_unread plan most None r left left_after d t old now some way fails = tt
-way_unread plan most (Some file) r left left_after d t old now some way fails =
+pub way_unread : (plan : Plan) (most : Option ℕ) (told : Option (List ℕ)) (r : ReaderShown) (left left_after : Option (List ℕ)) (d : DissectorShown) (t : Totals) (k : Kept) (old now : Option (List ℕ))
+    → most ≢ Some 0 → AreOnTheWay plan most told r left d t k old now → Fails r left left_after → IfSome told (λ file. WroteTakenBehind [] plan file left_after old now)
+way_unread plan most None r left left_after d t k old now some way fails = tt
+way_unread plan most (Some file) r left left_after d t k old now some way fails =
     read_so_far plan most file way.past left_after old now some way.asked way.appended (fails file way.past way.stands)
 
--- a write failed, or there was no memory for a frame's tree or line
-pub broken_part : (plan : Plan) (most : Option ℕ) (told : Option (List ℕ)) (r after : ReaderShown) (left left_after : Option (List ℕ)) (d : DissectorShown) (t : Totals) (old now later : Option (List ℕ)) (frame : Frame)
-    → most ≢ Some 0 → AreOnTheWay plan most told r left d t old now → Answers (next.Frame frame) r after left left_after
-    → ((past : List Frame) → StandsWithin past d → AppendsPart now later (piece plan past frame))
-    → IfSome told (λ file. WroteSomePieces plan (frames_read plan file) old later)
-broken_part plan most None r after left left_after d t old now later frame some way answers part = tt
-broken_part plan most (Some file) r after left left_after d t old now later frame some way answers part =
-    let front = (answers file way.past way.stands).1 in
-    let whole : all_pieces plan (frames_read plan file) ≡ pieces_of plan way.past
-    ++ (piece plan way.past frame ++ pieces plan (frame ∷ way.past) (limited (option_map (λ n. n - 1) most) front.0).frames) =
-    all_read plan most file way.past (with_frame frame front.0) way.asked front.1
-    ∙ ap (λ (reading : Reading). pieces_of plan way.past ++ pieces plan way.past reading.frames) (limited_frame most frame front.0 some) in
-    subst (AppendsPart old later) (sym whole)
-    (part_after old now later (pieces_of plan way.past) (piece plan way.past frame ++ pieces plan (frame ∷ way.past) (limited (option_map (λ n. n - 1) most) front.0).frames) way.appended
-    (part_more now later (piece plan way.past frame) (pieces plan (frame ∷ way.past) (limited (option_map (λ n. n - 1) most) front.0).frames) (part way.past way.dissects)))
+-- a frame doesn't fit
+unfit_over : (plan : Plan) (most : Option ℕ) (file : List ℕ) (past : List Frame) (frame : Frame) (rest : Reading) → most ≢ Some 0 → plan.most ≡ asked_before most (length past)
+    → capture_of file ≡ with_past (frame ∷ past) rest → AreFit plan past → is_unfit plan past frame ≡ true → frames_read plan file ≡ with_read past (over (Unfit frame.number))
+unfit_over plan most file past frame rest some asked read fit unfit =
+    read_way plan most file past (with_frame frame rest) asked read fit
+    ∙ ap (λ (reading : Reading). with_read past (rest_of plan past reading)) (limited_frame most frame rest some)
+    ∙ ap (λ (b : Bool). with_read past (if b then over (Unfit frame.number) else before frame (rest_of plan (frame ∷ past) (limited (option_map (λ n. n - 1) most) rest)))) unfit
 
-pub broken_near : (plan : Plan) (most : Option ℕ) (told : Option (List ℕ)) (r after : ReaderShown) (left left_after : Option (List ℕ)) (d : DissectorShown) (t : Totals) (old now later : Option (List ℕ)) (frame : Frame)
-    → AreOnTheWay plan most told r left d t old now → Answers (next.Frame frame) r after left left_after
-    → ((past : List Frame) → StandsWithin past d → AppendsPart now later (piece plan past frame))
+pub way_unfit : (plan : Plan) (most : Option ℕ) (told : Option (List ℕ)) (r after : ReaderShown) (left left_after : Option (List ℕ)) (d : DissectorShown) (t counts : Totals) (k kept : Kept) (old now later : Option (List ℕ)) (frame : Frame)
+    → most ≢ Some 0 → AreOnTheWay plan most told r left d t k old now → Answers (next.Frame frame) r after left left_after
+    → ((past : List Frame) → StandsWithin past d → KeepsUp (written_of plan) plan past t k → IsAfterFrame false plan past frame counts kept now later)
+    → IfSome told (λ file. WrotePieces plan (frames_read plan file) old later × (Unfit frame.number ≡ (frames_read plan file).ending))
+way_unfit plan most None r after left left_after d t counts k kept old now later frame some way answers wrote = tt
+way_unfit plan most (Some file) r after left left_after d t counts k kept old now later frame some way answers wrote =
+    let front = (answers file way.past way.stands).1 in
+    let after_frame = wrote way.past way.dissects way.keeps in
+    whole_way plan file way.past (Unfit frame.number) old later
+    (unfit_over plan most file way.past frame front.0 some way.asked front.1 way.fit after_frame.0)
+    (subst (λ (written : Option (List ℕ)). Appends old written (pieces_of plan way.past)) (sym after_frame.2) way.appended)
+
+pub read_unfit : (plan : Plan) (most : Option ℕ) (told : Option (List ℕ)) (r after : ReaderShown) (left left_after : Option (List ℕ)) (d dissected : DissectorShown) (t counts : Totals) (k kept : Kept) (old now later : Option (List ℕ)) (frame : Frame)
+    → most ≢ Some 0 → AreOnTheWay plan most told r left d t k old now → Answers (next.Frame frame) r after left left_after
+    → ((past : List Frame) → StandsWithin past d → KeepsUp (written_of plan) plan past t k → IsAfterFrame false plan past frame counts kept now later)
+    → IfSome told (λ file. HasRead plan file dissected counts kept)
+read_unfit plan most None r after left left_after d dissected t counts k kept old now later frame some way answers wrote = tt
+read_unfit plan most (Some file) r after left left_after d dissected t counts k kept old now later frame some way answers wrote =
+    let front = (answers file way.past way.stands).1 in
+    let after_frame = wrote way.past way.dissects way.keeps in
+    read_past plan file way.past (Unfit frame.number) dissected counts kept
+    (unfit_over plan most file way.past frame front.0 some way.asked front.1 way.fit after_frame.0)
+    (can_end (written_of plan) plan way.past frame dissected counts kept after_frame.0 after_frame.1)
+
+few_before : (most : Option ℕ) (count past : ℕ) → most ≢ Some 0 → Some (suc count) ≡ asked_before most past → past ≤ count
+few_before None count past some is = let bad : Some (suc count) ≡ None = is in absurd (cc bad)
+few_before (Some zero) count past some is = absurd (some refl)
+few_before (Some (suc n)) count past some is = let sum : suc count ≡ suc n + past = cc is in omega (arith, sum)
+
+near_by : (file : List ℕ) (past : List Frame) (left : Option (List ℕ)) (count : ℕ) → length past ≤ count → IsNear file past left → IsNearAfter file count left
+near_by file past None count few near = tt
+near_by file past (Some left) count few near = λ front late. omega (arith, few, near front late)
+
+pub unfit_near : (plan : Plan) (most : Option ℕ) (told : Option (List ℕ)) (r after : ReaderShown) (left left_after : Option (List ℕ)) (d : DissectorShown) (t : Totals) (k : Kept) (old now : Option (List ℕ)) (frame : Frame)
+    → most ≢ Some 0 → AreOnTheWay plan most told r left d t k old now → Answers (next.Frame frame) r after left left_after
+    → IfSome told (λ file. IsFullNearOf plan file left_after)
+unfit_near plan most None r after left left_after d t k old now frame some way answers = tt
+unfit_near plan most (Some file) r after left left_after d t k old now frame some way answers = λ count asked many.
+    near_by file way.past left_after count (few_before most count (length way.past) some (sym asked ∙ way.asked)) (answers file way.past way.stands).2
+
+-- a write failed, or there was no memory for a frame's tree or line
+fit_pieces : (plan : Plan) (past : List Frame) (frame : Frame) (reading : Reading)
+    → pieces plan past (rest_of plan past (with_frame frame reading)).frames
+    ≡ fit_piece plan past frame ++ (if is_unfit plan past frame then [] else pieces plan (frame ∷ past) (rest_of plan (frame ∷ past) reading).frames)
+fit_pieces plan past frame reading = by (is_unfit plan past frame)
+  where
+    by : (unfit : Bool) → pieces plan past (if unfit then over (Unfit frame.number) else before frame (rest_of plan (frame ∷ past) reading)).frames
+        ≡ (if unfit then [] else piece plan past frame) ++ (if unfit then [] else pieces plan (frame ∷ past) (rest_of plan (frame ∷ past) reading).frames)
+    by true = refl
+    by false = refl
+
+pub broken_part : (plan : Plan) (most : Option ℕ) (told : Option (List ℕ)) (r after : ReaderShown) (left left_after : Option (List ℕ)) (d : DissectorShown) (t : Totals) (k : Kept) (old now later : Option (List ℕ)) (frame : Frame)
+    → most ≢ Some 0 → AreOnTheWay plan most told r left d t k old now → Answers (next.Frame frame) r after left left_after
+    → ((past : List Frame) → StandsWithin past d → KeepsUp (written_of plan) plan past t k → AppendsPart now later (fit_piece plan past frame))
+    → IfSome told (λ file. WroteSomePieces plan (frames_read plan file) old later)
+broken_part plan most None r after left left_after d t k old now later frame some way answers part = tt
+broken_part plan most (Some file) r after left left_after d t k old now later frame some way answers part =
+    let front = (answers file way.past way.stands).1 in
+    let others : List ℕ = if is_unfit plan way.past frame then [] else pieces plan (frame ∷ way.past) (rest_of plan (frame ∷ way.past) (limited (option_map (λ n. n - 1) most) front.0)).frames in
+    let whole : pieces plan [] (frames_read plan file).frames ≡ pieces_of plan way.past ++ (fit_piece plan way.past frame ++ others) =
+    all_read plan most file way.past (with_frame frame front.0) way.asked front.1 way.fit
+    ∙ ap (λ (reading : Reading). pieces_of plan way.past ++ pieces plan way.past (rest_of plan way.past reading).frames) (limited_frame most frame front.0 some)
+    ∙ ap (λ (bytes : List ℕ). pieces_of plan way.past ++ bytes) (fit_pieces plan way.past frame (limited (option_map (λ n. n - 1) most) front.0)) in
+    subst (AppendsPart old later) (sym whole)
+    (part_after old now later (pieces_of plan way.past) (fit_piece plan way.past frame ++ others) way.appended
+    (part_more now later (fit_piece plan way.past frame) others (part way.past way.dissects way.keeps)))
+
+fit_part : (unfit : Bool) (bytes : List ℕ) (old new : Option (List ℕ)) → AppendsPart old new (if unfit then [] else bytes) → AppendsPart old new bytes
+fit_part true bytes old new part = part_more old new [] bytes part
+fit_part false bytes old new part = part
+
+pub broken_near : (plan : Plan) (most : Option ℕ) (told : Option (List ℕ)) (r after : ReaderShown) (left left_after : Option (List ℕ)) (d : DissectorShown) (t : Totals) (k : Kept) (old now later : Option (List ℕ)) (frame : Frame)
+    → AreOnTheWay plan most told r left d t k old now → Answers (next.Frame frame) r after left left_after
+    → ((past : List Frame) → StandsWithin past d → KeepsUp (written_of plan) plan past t k → AppendsPart now later (fit_piece plan past frame))
     → IfSome told (λ file. IsBrokenBehind [] plan file left_after old later)
-broken_near plan most None r after left left_after d t old now later frame way answers part = tt
-broken_near plan most (Some file) r after left left_after d t old now later frame way answers part =
+broken_near plan most None r after left left_after d t k old now later frame way answers part = tt
+broken_near plan most (Some file) r after left left_after d t k old now later frame way answers part =
     let answer = answers file way.past way.stands in
-    let first = part way.past way.dissects in
+    let first = fit_part (is_unfit plan way.past frame) (piece plan way.past frame) now later (part way.past way.dissects way.keeps) in
     record {
       past = way.past;
       frame = frame;
@@ -321,10 +437,10 @@ broken_near plan most (Some file) r after left left_after d t old now later fram
     }
 
 -- few bytes of the file were taken
-pub way_took : (plan : Plan) (most : Option ℕ) (told : Option (List ℕ)) (r : ReaderShown) (left left_after : Option (List ℕ)) (d : DissectorShown) (t : Totals) (old now : Option (List ℕ))
-    → AreOnTheWay plan most told r left d t old now → TakesFewOf r left left_after → TookAtMost (suc file_limit) told left_after
-way_took plan most None r left left_after d t old now way takes = ([], tt, omega arith)
-way_took plan most (Some file) r left left_after d t old now way takes = takes file way.past way.stands
+pub way_took : (plan : Plan) (most : Option ℕ) (told : Option (List ℕ)) (r : ReaderShown) (left left_after : Option (List ℕ)) (d : DissectorShown) (t : Totals) (k : Kept) (old now : Option (List ℕ))
+    → AreOnTheWay plan most told r left d t k old now → TakesFewOf r left left_after → TookAtMost (suc file_limit) told left_after
+way_took plan most None r left left_after d t k old now way takes = ([], tt, omega arith)
+way_took plan most (Some file) r left left_after d t k old now way takes = takes file way.past way.stands
 
 pub took_begun : (file left_old left left_after : Option (List ℕ)) (begun_old begun begun_after : ℕ) → left ≡ file → begun ≡ counted begun_old → begun_after ≡ begun
     → TookAtMost (suc file_limit) left left_after → Took file begun_old begun_after left_old left_after

@@ -1,5 +1,6 @@
 -- What a plan asks for. Only these words look into it.
 use Rattle.std.specs.Prelude.{ℕ, Bool, ◌||◌, List, Option}
+use Rattle.capture_write.specs.declared.format.Format.{Format}
 use Rattle.flt_types.specs.declared.typed.Typed.{Typed}
 use Rattle.out_lines.specs.declared.style.Style.{Style}
 use Rattle.shark_words.specs.declared.options.LineKind.{LineKind}
@@ -10,6 +11,10 @@ use Rattle.shark_run.specs.Source.{is_generated_by, name_by}
 -- where the frames come from
 abbrev pub source_of : Plan → PlanSource
 source_of plan = plan.source
+
+-- the format of the capture that is written in place of lines, where one is
+abbrev pub written_of : Plan → Option Format
+written_of plan = plan.written
 
 -- the name of the file
 abbrev pub name_of : Plan → List ℕ

@@ -13,6 +13,8 @@ use Rattle.shark_words.specs.declared.fault.WordReason.{WordReason}
 use Rattle.shark_words.specs.declared.fault.WordReason.TheVariants.{UnknownOption, MissingValue, StrayWord, NoFile, Repeated, BadValue, NoFields, Unused, Clash}
 use Rattle.shark_run.specs.declared.outcome.Outcome.{Outcome}
 use Rattle.shark_run.specs.declared.outcome.Outcome.TheVariants as outcome
+use Rattle.shark_run.specs.declared.run_ending.RunEnding.{RunEnding}
+use Rattle.shark_run.specs.declared.run_ending.RunEnding.TheVariants.{Read, Unfit}
 use Rattle.shark_run.specs.declared.plan.Plan.{Plan}
 use Rattle.shark_run.specs.declared.plan.Refused.{Refused}
 use Rattle.shark_run.specs.declared.plan.Refused.TheVariants as refused
@@ -81,20 +83,25 @@ ending_text (ending.Damaged damage) =
     codes "shark: damaged at byte " ++ (decimal damage.at ++ (codes ": " ++ (reason_text damage.reason ++ codes "\n")))
 ending_text ending.TooLarge = too_large_text
 
+-- what is told of a run's end
+unfoldable pub run_ending_text : RunEnding → List ℕ
+run_ending_text (Read ending) = ending_text ending
+run_ending_text (Unfit number) = codes "shark: cannot write frame " ++ (decimal number ++ codes "\n")
+
 -- what is told of carrying out a plan
 unfoldable pub outcome_text : Plan → Outcome → List ℕ
-outcome_text plan (outcome.Ended ending) = ending_text ending
+outcome_text plan (outcome.Ended ending) = run_ending_text ending
 outcome_text plan outcome.CannotOpen = codes "shark: cannot open " ++ (escaped (name_of plan) ++ codes "\n")
 outcome_text plan outcome.ReadFault = read_fault_text
 outcome_text plan outcome.WriteFault = []
 outcome_text plan outcome.NoMemory = []
 
--- the text of a status that a plan's run ended with: of the file's end, where the file was read to its end
+-- the text of a status that a plan's run ended with: of the end of what was read of the file
 pub record EndsSo (plan : Plan) (files : List ℕ → Option (List ℕ)) (answer : Status) (told : List ℕ) : Type 0 where
-  pub ending : Ending
+  pub ending : RunEnding
   pub status : status_of ending ≡ answer
   pub read : IfSome (file_of plan files) (λ file. ending ≡ (frames_read plan file).ending)
-  pub text : told ≡ ending_text ending
+  pub text : told ≡ run_ending_text ending
 
 -- only this one, and none at all
 abbrev pub IsSame : {A : Type 0} → A → A → Type 0
@@ -115,6 +122,7 @@ IsFaultText IsAsked IsReason files status.BadField text = IsRefusalText IsReason
 IsFaultText IsAsked IsReason files status.CannotOpen text = (plan : Plan) × IsAsked plan × (text ≡ outcome_text plan outcome.CannotOpen)
 IsFaultText IsAsked IsReason files status.ReadFault text = text ≡ read_fault_text
 IsFaultText IsAsked IsReason files status.Damaged text = (plan : Plan) × IsAsked plan × EndsSo plan files status.Damaged text
+IsFaultText IsAsked IsReason files status.CannotWrite text = (plan : Plan) × IsAsked plan × EndsSo plan files status.CannotWrite text
 IsFaultText IsAsked IsReason files status.TooLarge text = text ≡ too_large_text
 IsFaultText IsAsked IsReason files status.Done text = text ≡ []
 IsFaultText IsAsked IsReason files status.WriteFault text = text ≡ []

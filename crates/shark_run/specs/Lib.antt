@@ -1,10 +1,12 @@
 pub mod Accessors
 pub mod Answers
 pub mod Causes
+pub mod Chosen
 pub mod Columns
 pub mod Ended
 pub mod FaultLines
 pub mod FaultTexts
+pub mod Fitting
 pub mod Generated
 pub mod Laws
 pub mod Lines
@@ -16,6 +18,7 @@ pub mod Satisfied
 pub mod SelfRun
 pub mod Source
 pub mod Statuses
+pub mod Steps
 pub mod Taken
 pub mod Totals
 pub mod Wanted

@@ -1,9 +1,10 @@
 -- The output: the line of the fields' names, where it is asked for, one line for each frame that the filter lets through, and
--- over a generated capture the line of what was counted.
-use Rattle.std.specs.Prelude.{ℕ, Bool, true, false, not, ◌&&◌, List, [], ◌∷◌, ◌++◌, if◌then◌else◌, reverse}
+-- over a generated capture the line of what was counted. In place of all this, the bytes of a capture may be asked for.
+use Rattle.std.specs.Prelude.{ℕ, Bool, true, false, not, ◌&&◌, List, [], ◌∷◌, ◌++◌, Option, None, Some, if◌then◌else◌, reverse}
 use Rattle.pk_tree.specs.Trees.{TreeShown}
-use Rattle.capture_read.specs.Capture.{Reading}
 use Rattle.capture_read.specs.declared.frame.Frame.{Frame}
+use Rattle.capture_write.specs.Kept.{written}
+use Rattle.capture_write.specs.declared.format.Format.{Format}
 use Rattle.dissect.specs.Trees.{tree_at}
 use Rattle.out_json.specs.Lines.{json_line_of}
 use Rattle.out_lines.specs.Lines.{field_line_of, header_of}
@@ -11,7 +12,8 @@ use Rattle.out_lines.specs.Summary.{summary_of}
 use Rattle.shark_words.specs.declared.options.LineKind.{LineKind}
 use Rattle.shark_words.specs.declared.options.LineKind.TheVariants.{Text, Fields, Json}
 use Rattle.shark_run.specs.declared.plan.Plan.{Plan}
-use Rattle.shark_run.specs.Accessors.{fields_of, filter_of, is_generated, is_quiet, kind_of, style_of}
+use Rattle.shark_run.specs.Accessors.{fields_of, filter_of, is_generated, is_quiet, kind_of, style_of, written_of}
+use Rattle.shark_run.specs.Chosen.{chosen, end_in, packet_in}
 use Rattle.shark_run.specs.Satisfied.{satisfies}
 use Rattle.shark_run.specs.SelfRun.{self_run_line}
 
@@ -29,17 +31,17 @@ abbrev pub shown : Plan → TreeShown → List ℕ
 shown plan tree = if is_quiet plan then [] else if satisfies (filter_of plan) tree then line_of plan tree else []
 
 -- what is written of a frame, given those before it, of which the newest stands first
+abbrev pub piece_by : Option Format → Plan → List Frame → Frame → List ℕ
+piece_by None plan past frame = shown plan (tree_at past frame)
+piece_by (Some format) plan past frame = packet_in format (filter_of plan) past frame
+
 abbrev pub piece : Plan → List Frame → Frame → List ℕ
-piece plan past frame = shown plan (tree_at past frame)
+piece plan past frame = piece_by (written_of plan) plan past frame
 
 -- what is written of the frames behind those of the past
 abbrev pub pieces : Plan → List Frame → List Frame → List ℕ
 pieces plan past [] = []
 pieces plan past (frame ∷ frames) = piece plan past frame ++ pieces plan (frame ∷ past) frames
-
--- what is written of all frames of a reading
-abbrev pub all_pieces : Plan → Reading → List ℕ
-all_pieces plan reading = pieces plan [] reading.frames
 
 -- what is written of frames of which the newest stands first
 abbrev pub pieces_of : Plan → List Frame → List ℕ
@@ -53,13 +55,25 @@ is_headed Json plan = false
 is_headed Fields plan = (style_of plan).header && not (is_quiet plan)
 
 -- what stands before the frames' lines
+abbrev pub opening_by : Option Format → Plan → List ℕ
+opening_by None plan = if is_headed (kind_of plan) plan then header_of (fields_of plan) (style_of plan) else []
+opening_by (Some format) plan = []
+
 unfoldable pub opening : Plan → List ℕ
-opening plan = if is_headed (kind_of plan) plan then header_of (fields_of plan) (style_of plan) else []
+opening plan = opening_by (written_of plan) plan
 
 -- what stands behind the frames' lines, over frames of which the newest stands first
+abbrev pub closing_by : Option Format → Plan → List Frame → List ℕ
+closing_by None plan past = if is_generated plan then self_run_line (filter_of plan) past else []
+closing_by (Some format) plan past = end_in format (filter_of plan) past
+
 unfoldable pub closing : Plan → List Frame → List ℕ
-closing plan past = if is_generated plan then self_run_line (filter_of plan) past else []
+closing plan past = closing_by (written_of plan) plan past
 
 -- the whole output over the frames that were read
+abbrev pub output_by : Option Format → Plan → List Frame → List ℕ
+output_by None plan frames = opening plan ++ (pieces plan [] frames ++ closing plan (reverse frames))
+output_by (Some format) plan frames = written format (chosen (filter_of plan) [] frames)
+
 unfoldable pub output_of : Plan → List Frame → List ℕ
-output_of plan frames = opening plan ++ (pieces plan [] frames ++ closing plan (reverse frames))
+output_of plan frames = output_by (written_of plan) plan frames

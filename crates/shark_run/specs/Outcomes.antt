@@ -1,5 +1,5 @@
 -- How carrying out a plan ends.
-use Rattle.capture_read.specs.declared.ending.Ending.{Ending}
+use Rattle.shark_run.specs.declared.run_ending.RunEnding.{RunEnding}
 use Rattle.shark_run.specs.declared.outcome.Outcome.{Outcome}
 use Rattle.shark_run.specs.declared.outcome.Outcome.TheVariants as outcome
 use Rattle.shark_run.specs.declared.status.Status.{Status}
@@ -14,7 +14,7 @@ outcome_status outcome.WriteFault = status.WriteFault
 outcome_status outcome.NoMemory = status.NoMemory
 
 -- P of the ending, where the output was written to its end
-abbrev pub IfEnded : Outcome → (Ending → Type 0) → Type 0
+abbrev pub IfEnded : Outcome → (RunEnding → Type 0) → Type 0
 IfEnded (outcome.Ended ending) P = P ending
 IfEnded outcome.CannotOpen P = Unit {0}
 IfEnded outcome.ReadFault P = Unit {0}

@@ -33,6 +33,7 @@ pub record IsPlanFor (options : Options) (plan : Plan) : Type 0 where
   pub kind : plan.kind ≡ options.kind
   pub style : plan.style ≡ options.style
   pub quiet : plan.quiet ≡ options.quiet
+  pub written : plan.written ≡ options.written
 
 -- why options are refused: for their filter, or, where they have a filter or need none, for the first name that isn't known
 abbrev pub IsRefusalFor : Options → Refused → Type 0

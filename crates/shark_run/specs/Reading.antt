@@ -1,5 +1,5 @@
 -- The file that a plan reads, and what is read of it.
-use Rattle.std.specs.Prelude.{ℕ, List, length, take, Option, None, Some, Bool, true, false, nat_le}
+use Rattle.std.specs.Prelude.{ℕ, List, [], length, take, Option, None, Some, Bool, true, false, nat_le}
 use Rattle.capture_read.specs.Capture.{Reading, capture_of}
 use Rattle.capture_read.specs.declared.ending.Ending.TheVariants.{Whole}
 use Rattle.make_capture.specs.Made.{made}
@@ -8,6 +8,7 @@ use Rattle.shark_run.specs.declared.source.PlanSource.{PlanSource}
 use Rattle.shark_run.specs.declared.source.PlanSource.TheVariants.{Named, Generated}
 pub use Rattle.shark_run.specs.Accessors.{name_of}
 use Rattle.shark_run.specs.Accessors.{most_of, source_of}
+use Rattle.shark_run.specs.Fitting.{FramesRead, fitting}
 
 -- the bytes of the file, where the capture tells them, and those of a generated capture
 abbrev pub file_by : PlanSource → (List ℕ → Option (List ℕ)) → Option (List ℕ)
@@ -28,5 +29,8 @@ limited None reading = reading
 limited (Some most) reading = front_if (nat_le most (length reading.frames)) most reading
 
 -- the frames that are read, and how the reading ends
-unfoldable pub frames_read : Plan → List ℕ → Reading
-frames_read plan file = limited (most_of plan) (capture_of file)
+abbrev pub fitting_of : Plan → Reading → FramesRead
+fitting_of plan reading = fitting plan [] reading.frames reading.ending
+
+unfoldable pub frames_read : Plan → List ℕ → FramesRead
+frames_read plan file = fitting_of plan (limited (most_of plan) (capture_of file))

@@ -2,10 +2,12 @@
 use Rattle.std.specs.Prelude.{ℕ}
 use Rattle.capture_read.specs.declared.ending.Ending.{Ending}
 use Rattle.capture_read.specs.declared.ending.Ending.TheVariants as ending
+use Rattle.shark_run.specs.declared.run_ending.RunEnding.{RunEnding}
+use Rattle.shark_run.specs.declared.run_ending.RunEnding.TheVariants.{Read, Unfit}
 use Rattle.shark_run.specs.declared.plan.Refused.{Refused}
 use Rattle.shark_run.specs.declared.plan.Refused.TheVariants as refused
 use Rattle.shark_run.specs.declared.status.Status.{Status}
-use Rattle.shark_run.specs.declared.status.Status.TheVariants.{Done, BadWords, BadFilter, BadField, CannotOpen, ReadFault, Damaged, TooLarge, WriteFault, NoMemory}
+use Rattle.shark_run.specs.declared.status.Status.TheVariants.{Done, BadWords, BadFilter, BadField, CannotOpen, ReadFault, Damaged, TooLarge, WriteFault, NoMemory, CannotWrite}
 
 -- the number with which the program ends
 abbrev pub exit_number : Status → ℕ
@@ -19,12 +21,17 @@ exit_number Damaged = 6
 exit_number TooLarge = 7
 exit_number WriteFault = 8
 exit_number NoMemory = 9
+exit_number CannotWrite = 10
 
 -- the status of a whole output, by how the frames that were read end
-abbrev pub status_of : Ending → Status
-status_of ending.Whole = Done
-status_of (ending.Damaged damage) = Damaged
-status_of ending.TooLarge = TooLarge
+abbrev pub status_at : Ending → Status
+status_at ending.Whole = Done
+status_at (ending.Damaged damage) = Damaged
+status_at ending.TooLarge = TooLarge
+
+abbrev pub status_of : RunEnding → Status
+status_of (Read ending) = status_at ending
+status_of (Unfit number) = CannotWrite
 
 -- the status of a refusal
 abbrev pub refusal_status : Refused → Status
@@ -44,6 +51,7 @@ IsNoRefusal Damaged = Unit {0}
 IsNoRefusal TooLarge = Unit {0}
 IsNoRefusal WriteFault = Unit {0}
 IsNoRefusal NoMemory = Unit {0}
+IsNoRefusal CannotWrite = Unit {0}
 
 -- the status of words that are refused
 abbrev pub IsRefusing : Status → Type 0
@@ -57,6 +65,7 @@ IsRefusing Damaged = ⊥
 IsRefusing TooLarge = ⊥
 IsRefusing WriteFault = ⊥
 IsRefusing NoMemory = ⊥
+IsRefusing CannotWrite = ⊥
 
 -- the status of a run that nothing outside failed
 abbrev pub IsNoFault : Status → Type 0
@@ -70,12 +79,14 @@ IsNoFault BadField = Unit {0}
 IsNoFault Damaged = Unit {0}
 IsNoFault TooLarge = Unit {0}
 IsNoFault NoMemory = Unit {0}
+IsNoFault CannotWrite = Unit {0}
 
--- P, where the file was read and the output written to its end
+-- P, where the file was read to its end, or to a frame that can't be written, and the output written to its end
 abbrev pub WhenEnded : Status → Type 0 → Type 0
 WhenEnded Done P = P
 WhenEnded Damaged P = P
 WhenEnded TooLarge P = P
+WhenEnded CannotWrite P = P
 WhenEnded BadWords P = Unit {0}
 WhenEnded BadFilter P = Unit {0}
 WhenEnded BadField P = Unit {0}

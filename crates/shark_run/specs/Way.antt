@@ -1,5 +1,5 @@
 -- How far a run came, by the bytes that it took of its file.
-use Rattle.std.specs.Prelude.{◌≡◌, ◌⊎◌, ◌<◌, ◌≤◌, ℕ, suc, ◌+◌, ◌^◌, List, ◌∷◌, ◌++◌, length, reverse, take, Option, Some, None}
+use Rattle.std.specs.Prelude.{◌≡◌, ◌⊎◌, ◌<◌, ◌≤◌, ℕ, suc, ◌+◌, ◌^◌, List, [], ◌∷◌, ◌++◌, length, reverse, take, Option, Some, None}
 use Rattle.std.specs.Io.KnownBytes.{Appends}
 use Rattle.pk_outside.specs.Outside.{AppendsPart}
 use Rattle.capture_read.specs.Answers.{IsFrontOf, IsNear}
@@ -7,7 +7,7 @@ use Rattle.capture_read.specs.Capture.{capture_of}
 use Rattle.capture_read.specs.declared.frame.Frame.{Frame}
 use Rattle.shark_run.specs.declared.plan.Plan.{Plan}
 use Rattle.shark_run.specs.Accessors.{most_of, source_of}
-use Rattle.shark_run.specs.Lines.{all_pieces, closing, opening, piece, pieces_of}
+use Rattle.shark_run.specs.Lines.{closing, opening, piece, pieces, pieces_of}
 use Rattle.shark_run.specs.Reading.{frames_read}
 use Rattle.shark_run.specs.Source.{IfNamed}
 
@@ -22,7 +22,7 @@ pub record IsReadSoFar (front : List ℕ) (plan : Plan) (file left : List ℕ) (
   pub taken : List ℕ
   pub whole : file ≡ taken ++ left
   pub fewer : IsFewer (most_of plan) (length (capture_of taken).frames)
-  pub wrote : Appends old new (front ++ all_pieces plan (capture_of taken))
+  pub wrote : Appends old new (front ++ pieces plan [] (capture_of taken).frames)
 
 -- the same where the capture tells what is left of the file
 abbrev pub WroteTakenBehind : List ℕ → Plan → List ℕ → Option (List ℕ) → Option (List ℕ) → Option (List ℕ) → Type 0
@@ -48,7 +48,7 @@ pub record IsBrokenBehind (start : List ℕ) (plan : Plan) (file : List ℕ) (le
 abbrev pub IsBrokenAtEnd : List ℕ → Plan → List ℕ → Option (List ℕ) → Option (List ℕ) → Type 0
 IsBrokenAtEnd start plan file old new =
     (begun : List ℕ) × (rest : List ℕ) × (begun ++ rest ≡ closing plan (reverse (frames_read plan file).frames))
-    × Appends old new (start ++ (all_pieces plan (frames_read plan file) ++ begun))
+    × Appends old new (start ++ (pieces plan [] (frames_read plan file).frames ++ begun))
 
 -- behind such a front, a write failed: of a frame's line, or behind the lines
 abbrev pub IsBrokenFrom : List ℕ → Plan → List ℕ → Option (List ℕ) → Option (List ℕ) → Option (List ℕ) → Type 0

@@ -5,11 +5,12 @@ ghost use Rattle.pk_outside.specs.Outside.{Rose, AppendsPart};
 ghost use Rattle.shark_run.specs.FaultLines.{line_bytes};
 ghost use Rattle.shark_run.specs.FaultTexts.{reason_text as text_of_reason, word_reason_text as text_of_word_reason};
 ghost use Rattle.shark_run.specs.FaultTexts.{filter_reason_text as text_of_filter_reason};
-ghost use Rattle.shark_run.specs.FaultTexts.{ending_text as text_of_ending, outcome_text as text_of_outcome};
+ghost use Rattle.shark_run.specs.FaultTexts.{ending_text as text_of_ending, run_ending_text as text_of_run_ending, outcome_text as text_of_outcome};
 ghost use Rattle.shark_run.specs.FaultTexts.{refusal_text as text_of_refusal};
 
 use crate::outcome::Outcome;
 use crate::plan::{Plan, Refused};
+use crate::run_ending::RunEnding;
 use capture_read::Ending;
 use flt_parse::FilterReason;
 use pk_base::{NoMemory, Reason};
@@ -112,6 +113,19 @@ fn ending_text(alloc: Global, ending: Ending) -> Result<FaultLine, NoMemory>
     }
 }
 
+#[tactic(auto, unfolding(crate::specs::FaultTexts::run_ending_text))]
+fn run_ending_text(alloc: Global, ending: RunEnding) -> Result<FaultLine, NoMemory>
+    ensures { IfOk result (λ line. line_bytes line ≡ text_of_run_ending ending) }
+{
+    match ending {
+        RunEnding::Read(ending) => ending_text(alloc, ending),
+        RunEnding::Unfit(number) => {
+            let text = format!(in alloc; "shark: cannot write frame {number}\n")?;
+            Ok(FaultLine::Made(text))
+        }
+    }
+}
+
 /// What is told of carrying out a plan.
 #[tactic(auto, unfolding(crate::specs::FaultTexts::outcome_text))]
 pub(crate) fn outcome_text(
@@ -122,7 +136,7 @@ pub(crate) fn outcome_text(
     ensures { IfOk result (λ line. line_bytes line ≡ text_of_outcome plan.now outcome) }
 {
     match outcome {
-        Outcome::Ended(ending) => ending_text(alloc, ending),
+        Outcome::Ended(ending) => run_ending_text(alloc, ending),
         Outcome::CannotOpen => {
             let name = escape_text(alloc, plan.source.name().as_bytes())?;
             let text = format!(in alloc; "shark: cannot open {name}\n")?;

@@ -1,14 +1,15 @@
 ghost use Rattle.std.specs.Prelude.{◌≡◌};
 ghost use Rattle.shark_run.specs.Outcomes.{outcome_status};
 
+use crate::run_ending::RunEnding;
 use crate::status::Status;
 use capture_read::Ending;
 
 /// How carrying out a plan ended.
 #[derive(Clone, Copy, Debug, PartialEq, Eq)]
 pub(crate) enum Outcome {
-    /// The output over all frames that were read was written, and their file ends so.
-    Ended(Ending),
+    /// The output over all frames that were read was written, and they end so.
+    Ended(RunEnding),
     CannotOpen,
     ReadFault,
     WriteFault,
@@ -20,9 +21,10 @@ impl Outcome {
         ensures { result ≡ outcome_status self }
     {
         match self {
-            Outcome::Ended(Ending::Whole) => Status::Done,
-            Outcome::Ended(Ending::Damaged(_)) => Status::Damaged,
-            Outcome::Ended(Ending::TooLarge) => Status::TooLarge,
+            Outcome::Ended(RunEnding::Read(Ending::Whole)) => Status::Done,
+            Outcome::Ended(RunEnding::Read(Ending::Damaged(_))) => Status::Damaged,
+            Outcome::Ended(RunEnding::Read(Ending::TooLarge)) => Status::TooLarge,
+            Outcome::Ended(RunEnding::Unfit(_)) => Status::CannotWrite,
             Outcome::CannotOpen => Status::CannotOpen,
             Outcome::ReadFault => Status::ReadFault,
             Outcome::WriteFault => Status::WriteFault,

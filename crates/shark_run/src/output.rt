@@ -1,5 +1,5 @@
 // Reading a file and writing the output over its frames.
-ghost use Rattle.std.specs.Prelude.{◌≡◌, ◌≢◌, ◌<◌, ◌≤◌, ◌+◌, ◌-◌, ◌^◌, ℕ, suc, true, false, IfOk, IfSome, IsErrOf, OnOk, [], ◌∷◌, List, Some, length, string_bytes};
+ghost use Rattle.std.specs.Prelude.{◌≡◌, ◌≢◌, ◌<◌, ◌≤◌, ◌+◌, ◌-◌, ◌^◌, ℕ, suc, true, false, IfOk, IfSome, IsSome, IsErrOf, OnOk, [], ◌∷◌, List, None, Some, length, string_bytes};
 ghost use Rattle.std.specs.Option.{option_map};
 ghost use Rattle.std.specs.Io.KnownBytes.{Appends};
 ghost use Rattle.pk_base.specs.Limits.{file_limit as limit_of_file};
@@ -7,13 +7,17 @@ ghost use Rattle.pk_outside.specs.Outside.{Rose, AppendsPart};
 ghost use Rattle.capture_read.specs.Reader.{StandsFor};
 ghost use Rattle.capture_read.specs.Taken.{TookAtMost};
 ghost use Rattle.capture_read.specs.declared.frame.Frame.{Frame as FrameValue};
+ghost use Rattle.capture_write.specs.Kept.{Stands as Written};
 ghost use Rattle.dissect.specs.Stands.{StandsWithin};
 ghost use Rattle.capture_read.specs.FrameList.{IsTime};
 ghost use Rattle.dissect.specs.Trees.{tree_at};
 ghost use Rattle.shark_run.specs.declared.totals.Totals.{Totals as TotalsValue};
 ghost use Rattle.shark_run.specs.Accessors.{is_generated};
-ghost use Rattle.shark_run.specs.Ended.{HasRead};
-ghost use Rattle.shark_run.specs.Lines.{closing, line_of, opening, piece, shown};
+ghost use Rattle.shark_run.specs.Accessors.{written_of};
+ghost use Rattle.shark_run.specs.Ended.{CanClose, HasRead};
+ghost use Rattle.shark_run.specs.Satisfied.{satisfies as is_satisfied};
+ghost use Rattle.shark_run.specs.Steps.{IsAfterFrame, IsPacked, KeepsUp, fit_packet, fit_piece};
+ghost use Rattle.shark_run.specs.Lines.{closing, line_of, opening, shown};
 ghost use Rattle.shark_run.specs.Reading.{frames_read};
 ghost use Rattle.shark_run.specs.Totals.{AreFew, counts_of, counts_with};
 ghost use Rattle.shark_run.specs.Wanted.{IsEnough};
@@ -21,11 +25,14 @@ ghost use Rattle.shark_run.specs.Way.{IsBrokenBehind, IsBrokenFrom, IsBrokenOf, 
 ghost use Rattle.shark_run.specs.Wrote.{WroteAll, WroteBody, WrotePart, WrotePieces, WroteSomeBody, WroteSomePieces};
 
 use crate::lines::satisfies;
+use crate::packet::{write_end, write_packet};
 use crate::plan::Plan;
+use crate::run_ending::RunEnding;
 use crate::self_run::self_run_line;
 use crate::totals::Totals;
 use crate::wanted::needed_fields;
 use capture_read::{Ending, Frame, FrameReader, NextFrame, ReadError};
+use capture_write::{Format, Writer};
 use dissect::{DecodeAs, Dissector, PortRules, TakeFault};
 use out_json::JsonWriter;
 use out_lines::{LineWriter, header_line, summary_line};
@@ -35,6 +42,7 @@ use pk_outside::{Capture, Sink, SinkFault, write_whole};
 use pk_tree::Tree;
 use shark_words::LineKind;
 use std::alloc::Global;
+use std::mem;
 
 /// Why a run didn't come to the end of its file.
 #[derive(Clone, Copy, Debug, PartialEq, Eq)]
@@ -56,24 +64,29 @@ fn new_dissector(alloc: Global, wanted: FieldSet) -> Dissector
     Dissector::for_fields(alloc, DecodeAs { rules }, wanted)
 }
 
-// A line, with what writes it, and what was counted so far.
+// A line, with what writes it, what was counted so far, and what writes a capture.
 #[derive(Drop)]
 struct LineMaker {
     writer: LineWriter,
     json: JsonWriter,
     line: Vec<u8>,
     totals: Totals,
+    capture: Writer,
 }
 
+#[tactic(auto, using(crate::proofs::ClosingLemmas::keeps_nothing))]
 fn new_line_maker(alloc: Global, plan: &Plan) -> Result<LineMaker, NoMemory>
     ensures writer { IfOk result (λ lines. lines.writer ≡ plan.now.fields) }
     ensures totals { IfOk result (λ lines. lines.totals ≡ counts_of plan.now []) }
+    ensures keeps { IfOk result (λ lines.
+        KeepsUp (written_of plan.now) plan.now [] lines.totals lines.capture) }
 {
     Ok(LineMaker {
         writer: LineWriter::new(alloc, plan.fields.slice())?,
         json: JsonWriter::new(alloc),
         line: Vec::new(alloc),
         totals: Totals::none(),
+        capture: Writer::new(alloc, plan.written.unwrap_or(Format::Pcapng)),
     })
 }
 
@@ -145,10 +158,11 @@ fn write_tree<O: Sink>(
     }
 }
 
-// Takes a frame, of which only the fields are read that the output is made from.
+// Takes a frame, of which only the fields are read that the lines are made from.
 #[tactic(auto, using(crate::proofs::WantedLemmas::enough_shown, crate::proofs::WantedLemmas::enough_counted))]
 fn take_frame(plan: &Plan, frame: &Frame, dissector: &mut Dissector) -> Result<Tree, TakeFault>
     requires enough { IsEnough dissector.old.wanted plan.now }
+    requires lines { written_of plan.now ≡ None }
     requires number { frame.now.number ≡ dissector.old.taken + 1 }
     requires time { IfSome frame.now.time IsTime }
     requires captured { dissector.old.captured + length frame.now.bytes ≤ 2 ^ 28 }
@@ -168,7 +182,7 @@ fn take_frame(plan: &Plan, frame: &Frame, dissector: &mut Dissector) -> Result<T
 }
 
 // Takes a frame and writes its line where the filter lets it through.
-fn write_frame<O: Sink>(
+fn write_shown<O: Sink>(
     alloc: Global,
     plan: &Plan,
     frame: &Frame,
@@ -177,6 +191,7 @@ fn write_frame<O: Sink>(
     out: &mut O,
 ) -> Result<(), RunFault>
     requires enough { IsEnough dissector.old.wanted plan.now }
+    requires lines_asked { written_of plan.now ≡ None }
     requires lines { lines.old.writer ≡ plan.now.fields }
     requires few { AreFew (2 ^ 28) lines.old.totals }
     requires number { frame.now.number ≡ dissector.old.taken + 1 }
@@ -189,9 +204,11 @@ fn write_frame<O: Sink>(
     ensures captured { OnOk result (dissector.new.captured
         ≡ dissector.old.captured + length frame.now.bytes) }
     ensures whole { OnOk result ((past : List FrameValue) → StandsWithin past dissector.old
-        → Appends (O.written out.old) (O.written out.new) (piece plan.now past frame.now)) }
+        → Appends (O.written out.old) (O.written out.new)
+        (shown plan.now (tree_at past frame.now))) }
     ensures part { (past : List FrameValue) → StandsWithin past dissector.old
-        → AppendsPart (O.written out.old) (O.written out.new) (piece plan.now past frame.now) }
+        → AppendsPart (O.written out.old) (O.written out.new)
+        (shown plan.now (tree_at past frame.now)) }
     ensures counts { OnOk result ((past : List FrameValue) → StandsWithin past dissector.old
         → lines.new.totals ≡ counts_with plan.now (tree_at past frame.now) lines.old.totals) }
     ensures few { (most : ℕ) → AreFew most lines.old.totals → AreFew (suc most) lines.new.totals }
@@ -210,6 +227,131 @@ fn write_frame<O: Sink>(
         Ok(()) => Ok(()),
         Err(SinkFault::Failed) => Err(RunFault::WriteFault),
         Err(SinkFault::NoMemory) => Err(RunFault::NoMemory),
+    }
+}
+
+// Takes a frame, of which only the fields of the filter are read.
+#[tactic(auto, using(crate::proofs::WantedLemmas::enough_truth))]
+fn take_chosen(
+    plan: &Plan,
+    frame: &Frame,
+    dissector: &mut Dissector,
+) -> Result<Tree, TakeFault>
+    requires enough { IsEnough dissector.old.wanted plan.now }
+    requires written { IsSome (written_of plan.now) }
+    requires number { frame.now.number ≡ dissector.old.taken + 1 }
+    requires time { IfSome frame.now.time IsTime }
+    requires captured { dissector.old.captured + length frame.now.bytes ≤ 2 ^ 28 }
+    ensures truth { IfOk result (λ tree. (past : List FrameValue) → StandsWithin past dissector.old
+        → is_satisfied plan.now.filter tree ≡ is_satisfied plan.now.filter (tree_at past frame.now)) }
+    ensures stands { OnOk result ((past : List FrameValue) → StandsWithin past dissector.old
+        → StandsWithin (frame.now ∷ past) dissector.new) }
+    ensures kept { dissector.new.wanted ≡ dissector.old.wanted }
+    ensures taken { OnOk result (dissector.new.taken ≡ dissector.old.taken + 1) }
+    ensures captured { OnOk result (dissector.new.captured
+        ≡ dissector.old.captured + length frame.now.bytes) }
+{
+    dissector.take_wanted(frame)
+}
+
+// Takes a frame and writes it to the capture where the filter lets it through, and answers whether it fits.
+#[tactic(auto, using(crate::proofs::PacketLemmas::packed_truly, crate::proofs::PacketLemmas::part_truly, crate::proofs::PacketLemmas::packed_none))]
+fn write_chosen<O: Sink>(
+    alloc: Global,
+    plan: &Plan,
+    frame: &Frame,
+    dissector: &mut Dissector,
+    writer: &mut Writer,
+    out: &mut O,
+) -> Result<bool, RunFault>
+    requires enough { IsEnough dissector.old.wanted plan.now }
+    requires written { IsSome (written_of plan.now) }
+    requires number { frame.now.number ≡ dissector.old.taken + 1 }
+    requires time { IfSome frame.now.time IsTime }
+    requires captured { dissector.old.captured + length frame.now.bytes ≤ 2 ^ 28 }
+    ensures stands { OnOk result ((past : List FrameValue) → StandsWithin past dissector.old
+        → StandsWithin (frame.now ∷ past) dissector.new) }
+    ensures kept { dissector.new.wanted ≡ dissector.old.wanted }
+    ensures taken { OnOk result (dissector.new.taken ≡ dissector.old.taken + 1) }
+    ensures captured { OnOk result (dissector.new.captured
+        ≡ dissector.old.captured + length frame.now.bytes) }
+    ensures packed { IfOk result (λ fit. (past chosen : List FrameValue) → StandsWithin past dissector.old
+        → Written writer.old chosen → IsPacked fit (is_satisfied plan.now.filter (tree_at past frame.now))
+        writer.old.format frame.now writer.new chosen (O.written out.old) (O.written out.new)) }
+    ensures part { (past chosen : List FrameValue) → StandsWithin past dissector.old → Written writer.old chosen
+        → AppendsPart (O.written out.old) (O.written out.new)
+        (fit_packet (is_satisfied plan.now.filter (tree_at past frame.now)) writer.old.format chosen frame.now) }
+    ensures read { IsErrOf result RunFault.ReadFault → ⊥ }
+    ensures fault { IsErrOf result RunFault.WriteFault
+        → Rose (O.faults out.old) (O.faults out.new) }
+    ensures faults_stay { O.faults out.old ≤ O.faults out.new }
+{
+    let tree = match take_chosen(plan, frame, dissector) {
+        Ok(tree) => tree,
+        // The first error ends the run, so that this one is never `Spent`.
+        Err(TakeFault::NoMemory | TakeFault::Spent) => return Err(RunFault::NoMemory),
+    };
+    match write_packet(alloc, &plan.filter, frame, &tree, writer, out) {
+        Ok(fit) => Ok(fit),
+        Err(SinkFault::Failed) => Err(RunFault::WriteFault),
+        Err(SinkFault::NoMemory) => Err(RunFault::NoMemory),
+    }
+}
+
+// Takes a frame and writes what is asked for of it, and answers whether it fits.
+#[tactic(auto, using(crate::proofs::PacketLemmas::frame_packed, crate::proofs::PacketLemmas::part_packed, crate::proofs::PacketLemmas::frame_shown, crate::proofs::PacketLemmas::part_shown, crate::proofs::TotalsLemmas::few_suc))]
+fn write_frame<O: Sink>(
+    alloc: Global,
+    plan: &Plan,
+    frame: &Frame,
+    dissector: &mut Dissector,
+    lines: &mut LineMaker,
+    out: &mut O,
+) -> Result<bool, RunFault>
+    requires enough { IsEnough dissector.old.wanted plan.now }
+    requires lines { lines.old.writer ≡ plan.now.fields }
+    requires few { AreFew (2 ^ 28) lines.old.totals }
+    requires number { frame.now.number ≡ dissector.old.taken + 1 }
+    requires time { IfSome frame.now.time IsTime }
+    requires captured { dissector.old.captured + length frame.now.bytes ≤ 2 ^ 28 }
+    ensures stands { OnOk result ((past : List FrameValue) → StandsWithin past dissector.old
+        → StandsWithin (frame.now ∷ past) dissector.new) }
+    ensures kept { dissector.new.wanted ≡ dissector.old.wanted }
+    ensures taken { OnOk result (dissector.new.taken ≡ dissector.old.taken + 1) }
+    ensures captured { OnOk result (dissector.new.captured
+        ≡ dissector.old.captured + length frame.now.bytes) }
+    ensures after { IfOk result (λ fit. (past : List FrameValue) → StandsWithin past dissector.old
+        → KeepsUp (written_of plan.now) plan.now past lines.old.totals lines.old.capture
+        → IsAfterFrame fit plan.now past frame.now lines.new.totals lines.new.capture
+        (O.written out.old) (O.written out.new)) }
+    ensures part { (past : List FrameValue) → StandsWithin past dissector.old
+        → KeepsUp (written_of plan.now) plan.now past lines.old.totals lines.old.capture
+        → AppendsPart (O.written out.old) (O.written out.new) (fit_piece plan.now past frame.now) }
+    ensures few { (most : ℕ) → AreFew most lines.old.totals → AreFew (suc most) lines.new.totals }
+    ensures writer { lines.new.writer ≡ lines.old.writer }
+    ensures read { IsErrOf result RunFault.ReadFault → ⊥ }
+    ensures fault { IsErrOf result RunFault.WriteFault
+        → Rose (O.faults out.old) (O.faults out.new) }
+    ensures faults_stay { O.faults out.old ≤ O.faults out.new }
+{
+    match plan.written {
+        Some(_) => {
+            match write_chosen(
+                alloc,
+                plan,
+                frame,
+                dissector,
+                &mut lines.capture,
+                out,
+            ) {
+                Ok(fit) => Ok(fit),
+                Err(fault) => Err(fault),
+            }
+        }
+        None => match write_shown(alloc, plan, frame, dissector, lines, out) {
+            Ok(()) => Ok(true),
+            Err(fault) => Err(fault),
+        },
     }
 }
 
@@ -242,10 +384,11 @@ fn write_rest<C: Capture, O: Sink>(
     lines: &mut LineMaker,
     capture: &mut C,
     out: &mut O,
-) -> Result<Ending, RunFault>
+) -> Result<RunEnding, RunFault>
     requires enough { IsEnough dissector.old.wanted plan.now }
     requires lines { lines.old.writer ≡ plan.now.fields }
     requires totals { lines.old.totals ≡ counts_of plan.now [] }
+    requires keeps { KeepsUp (written_of plan.now) plan.now [] lines.old.totals lines.old.capture }
     requires reads { (left : List ℕ) → StandsFor reader.old (Some left) left [] }
     requires number { reader.old.state.number ≡ 1 }
     requires at { reader.old.state.at ≡ 0 }
@@ -258,7 +401,7 @@ fn write_rest<C: Capture, O: Sink>(
         WrotePieces plan.now (frames_read plan.now file) (O.written out.old) (O.written out.new)
         × (ending ≡ (frames_read plan.now file).ending))) }
     ensures read { OnOk result (IfSome (C.left capture.old) (λ file.
-        HasRead plan.now file dissector.new lines.new.totals)) }
+        HasRead plan.now file dissector.new lines.new.totals lines.new.capture)) }
     ensures enough { OnOk result (IsEnough dissector.new.wanted plan.now) }
     ensures full { OnOk result (IfSome (C.left capture.old) (λ file.
         IsFullNearOf plan.now file (C.left capture.new))) }
@@ -283,17 +426,18 @@ fn write_rest<C: Capture, O: Sink>(
     let mut most = plan.most;
     loop {
         if is_full(most) {
-            return Ok(Ending::Whole);
+            return Ok(RunEnding::Read(Ending::Whole));
         }
         let frame = match reader.next_frame(capture) {
             Ok(NextFrame::Frame(frame)) => frame,
-            Ok(NextFrame::End(ending)) => return Ok(ending),
+            Ok(NextFrame::End(ending)) => return Ok(RunEnding::Read(ending)),
             Err(ReadError::ReadFault) => return Err(RunFault::ReadFault),
             // The first error ends the run, so that this one is never `Spent`.
             Err(ReadError::NoMemory | ReadError::Spent) => return Err(RunFault::NoMemory),
         };
         match write_frame(alloc, plan, &frame, dissector, lines, out) {
-            Ok(()) => {}
+            Ok(true) => {}
+            Ok(false) => return Ok(RunEnding::Unfit(frame.number)),
             Err(fault) => return Err(fault),
         }
         most = one_less(most);
@@ -308,7 +452,8 @@ fn closing_line(
     dissector: &Dissector,
     totals: Totals,
 ) -> Result<String, NoMemory>
-    requires { IsEnough dissector.now.wanted plan.now }
+    requires enough { IsEnough dissector.now.wanted plan.now }
+    requires lines { written_of plan.now ≡ None }
     ensures { IfOk result (λ line. (past : List FrameValue) → StandsWithin past dissector.now
         → totals ≡ counts_of plan.now past → string_bytes line ≡ closing plan.now past) }
 {
@@ -322,36 +467,65 @@ fn closing_line(
     }
 }
 
-fn write_closing<O: Sink>(
+fn write_closing_line<O: Sink>(
     alloc: Global,
     plan: &Plan,
     dissector: &Dissector,
     totals: Totals,
     out: &mut O,
-) -> Result<(), RunFault>
-    requires { IsEnough dissector.now.wanted plan.now }
+) -> Result<(), SinkFault>
+    requires enough { IsEnough dissector.now.wanted plan.now }
+    requires lines { written_of plan.now ≡ None }
     ensures whole { OnOk result ((past : List FrameValue) → StandsWithin past dissector.now
         → totals ≡ counts_of plan.now past
         → Appends (O.written out.old) (O.written out.new) (closing plan.now past)) }
     ensures part { (past : List FrameValue) → StandsWithin past dissector.now
         → totals ≡ counts_of plan.now past
         → AppendsPart (O.written out.old) (O.written out.new) (closing plan.now past) }
-    ensures read { IsErrOf result RunFault.ReadFault → ⊥ }
-    ensures fault { IsErrOf result RunFault.WriteFault
-        → Rose (O.faults out.old) (O.faults out.new) }
+    ensures fault { IsErrOf result SinkFault.Failed → Rose (O.faults out.old) (O.faults out.new) }
     ensures faults_stay { O.faults out.old ≤ O.faults out.new }
 {
     let line = match closing_line(alloc, plan, dissector, totals) {
         Ok(line) => line,
-        Err(NoMemory) => return Err(RunFault::NoMemory),
+        Err(NoMemory) => return Err(SinkFault::NoMemory),
     };
     if line.is_empty() {
         return Ok(());
     }
-    match write_whole(out, line.as_bytes()) {
-        Ok(()) => Ok(()),
-        Err(SinkFault::Failed) => Err(RunFault::WriteFault),
-        Err(SinkFault::NoMemory) => Err(RunFault::NoMemory),
+    write_whole(out, line.as_bytes())
+}
+
+// Writes what stands behind the lines of the frames, or at the end of the capture.
+#[tactic(auto, using(crate::proofs::ClosingLemmas::closed_line, crate::proofs::ClosingLemmas::closed_line_part, crate::proofs::ClosingLemmas::closed_capture, crate::proofs::ClosingLemmas::closed_capture_part))]
+fn write_closing<O: Sink>(
+    alloc: Global,
+    plan: &Plan,
+    dissector: &Dissector,
+    lines: &mut LineMaker,
+    out: &mut O,
+) -> Result<(), SinkFault>
+    requires { IsEnough dissector.now.wanted plan.now }
+    ensures whole { OnOk result ((past : List FrameValue)
+        → CanClose (written_of plan.now) plan.now past dissector.now lines.old.totals lines.old.capture
+        → Appends (O.written out.old) (O.written out.new) (closing plan.now past)) }
+    ensures part { (past : List FrameValue)
+        → CanClose (written_of plan.now) plan.now past dissector.now lines.old.totals lines.old.capture
+        → AppendsPart (O.written out.old) (O.written out.new) (closing plan.now past) }
+    ensures fault { IsErrOf result SinkFault.Failed → Rose (O.faults out.old) (O.faults out.new) }
+    ensures faults_stay { O.faults out.old ≤ O.faults out.new }
+{
+    match plan.written {
+        Some(format) => {
+            let writer = mem::replace(&mut lines.capture, Writer::new(alloc, format));
+            match write_end(writer, out) {
+                Ok(()) => Ok(()),
+                Err(fault) => Err(fault),
+            }
+        }
+        None => match write_closing_line(alloc, plan, dissector, lines.totals, out) {
+            Ok(()) => Ok(()),
+            Err(fault) => Err(fault),
+        },
     }
 }
 
@@ -364,10 +538,11 @@ fn write_body<C: Capture, O: Sink>(
     lines: &mut LineMaker,
     capture: &mut C,
     out: &mut O,
-) -> Result<Ending, RunFault>
+) -> Result<RunEnding, RunFault>
     requires enough { IsEnough dissector.old.wanted plan.now }
     requires lines { lines.old.writer ≡ plan.now.fields }
     requires totals { lines.old.totals ≡ counts_of plan.now [] }
+    requires keeps { KeepsUp (written_of plan.now) plan.now [] lines.old.totals lines.old.capture }
     requires reads { (left : List ℕ) → StandsFor reader.old (Some left) left [] }
     requires number { reader.old.state.number ≡ 1 }
     requires at { reader.old.state.at ≡ 0 }
@@ -399,9 +574,10 @@ fn write_body<C: Capture, O: Sink>(
         Ok(ending) => ending,
         Err(fault) => return Err(fault),
     };
-    match write_closing(alloc, plan, dissector, lines.totals, out) {
+    match write_closing(alloc, plan, dissector, lines, out) {
         Ok(()) => Ok(ending),
-        Err(fault) => Err(fault),
+        Err(SinkFault::Failed) => Err(RunFault::WriteFault),
+        Err(SinkFault::NoMemory) => Err(RunFault::NoMemory),
     }
 }
 
@@ -412,7 +588,7 @@ fn write_frames<C: Capture, O: Sink>(
     plan: &Plan,
     capture: &mut C,
     out: &mut O,
-) -> Result<Ending, RunFault>
+) -> Result<RunEnding, RunFault>
     ensures ended { IfOk result (λ ending. IfSome (C.left capture.old) (λ file.
         WroteBody plan.now (frames_read plan.now file) (O.written out.old) (O.written out.new)
         × (ending ≡ (frames_read plan.now file).ending))) }
@@ -455,7 +631,7 @@ fn write_frames<C: Capture, O: Sink>(
 fn opening_line(alloc: Global, plan: &Plan) -> Result<Vec<u8>, NoMemory>
     ensures { IfOk result (λ line. line.items ≡ opening plan.now) }
 {
-    if plan.source.is_generated() {
+    if plan.written.is_some() || plan.source.is_generated() {
         return Ok(Vec::new(alloc));
     }
     match plan.kind {
@@ -497,7 +673,7 @@ pub(crate) fn write_output<C: Capture, O: Sink>(
     plan: &Plan,
     capture: &mut C,
     out: &mut O,
-) -> Result<Ending, RunFault>
+) -> Result<RunEnding, RunFault>
     ensures ended { IfOk result (λ ending. IfSome (C.left capture.old) (λ file.
         WroteAll plan.now (frames_read plan.now file) (O.written out.old) (O.written out.new)
         × (ending ≡ (frames_read plan.now file).ending))) }

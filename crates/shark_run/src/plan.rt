@@ -1,6 +1,7 @@
 ghost use Rattle.std.specs.Prelude.{◌≡◌};
 
 use crate::source::PlanSource;
+use capture_write::Format;
 use flt_parse::FilterFault;
 use flt_types::Filter;
 use out_lines::Style;
@@ -55,6 +56,8 @@ pub struct Plan {
     pub style: Style,
     /// Whether the line of the fields' names and the lines of frames are left out.
     pub quiet: bool,
+    /// The format of the capture that is written in place of all lines, where one is.
+    pub written: Option<Format>,
 }
 
 /// Why words are refused.

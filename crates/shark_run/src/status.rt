@@ -26,6 +26,8 @@ pub enum Status {
     WriteFault,
     /// There was no memory for the answer.
     NoMemory,
+    /// A frame doesn't fit into the capture that is written; those before it were written.
+    CannotWrite,
 }
 
 impl Status {
@@ -44,6 +46,7 @@ impl Status {
             Status::TooLarge => 7,
             Status::WriteFault => 8,
             Status::NoMemory => 9,
+            Status::CannotWrite => 10,
         }
     }
 }

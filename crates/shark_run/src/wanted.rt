@@ -1,6 +1,7 @@
 // The fields that a plan asks for.
-ghost use Rattle.std.specs.Prelude.{◌≡◌, ℕ, true};
+ghost use Rattle.std.specs.Prelude.{◌≡◌, ℕ, true, false, None};
 ghost use Rattle.pk_fields.specs.FieldSets.{is_in};
+ghost use Rattle.shark_run.specs.Accessors.{is_generated, written_of};
 ghost use Rattle.shark_run.specs.Wanted.{HasAsked, HasFields, HasPlan, IsEnough};
 ghost use Rattle.dissect.specs.Followed.{asks_streams};
 
@@ -9,15 +10,28 @@ use flt_types::{Filter, add_fields};
 use pk_fields::{FieldId, FieldSet, ids};
 use shark_words::LineKind;
 
-/// The fields that the output is made from: none where there are no lines, all for lines of text and JSON, and over a generated
-/// capture those of the filter and what counts streams.
-#[tactic(auto, using(crate::proofs::WantedLemmas::enough_fields, crate::proofs::WantedLemmas::enough_all, crate::proofs::WantedLemmas::enough_none, crate::proofs::WantedLemmas::enough_generated))]
+/// The fields that the output is made from: over a generated capture those of the filter and what counts streams, and where frames
+/// are written those of the filter.
+#[tactic(auto, using(crate::proofs::WantedLemmas::enough_generated, crate::proofs::WantedLemmas::enough_written))]
 pub(crate) fn needed_fields(plan: &Plan) -> FieldSet
     ensures { IsEnough result plan.now }
 {
     if plan.source.is_generated() {
         return counted_fields(plan);
     }
+    match plan.written {
+        Some(_) => wanted_fields(plan),
+        None => line_fields(plan),
+    }
+}
+
+/// The fields that lines are made from: none where there are no lines, and all for lines of text and JSON.
+#[tactic(auto, using(crate::proofs::WantedLemmas::enough_fields, crate::proofs::WantedLemmas::enough_all, crate::proofs::WantedLemmas::enough_none))]
+fn line_fields(plan: &Plan) -> FieldSet
+    requires lines { written_of plan.now ≡ None }
+    requires file { is_generated plan.now ≡ false }
+    ensures { IsEnough result plan.now }
+{
     if plan.quiet {
         return FieldSet::none();
     }

@@ -101,6 +101,7 @@ fn plan_with(alloc: Global, options: &Options) -> Result<Plan, PlanError>
         kind: options.kind,
         style: options.style,
         quiet: options.quiet,
+        written: options.written,
     })
 }
 

@@ -9,7 +9,7 @@ use Rattle.shark_run.proofs.output.write_rest.Given as goal
 
 abbrev pub invariant-loop-alloc : goal.invariant-loop-alloc
 invariant-loop-alloc g l = record {
-  way : AreOnTheWay l.plan l.most (g.C.Capture.left l.fn.capture) l.reader (g.C.Capture.left l.capture) l.dissector l.lines.totals (g.O.Sink.written l.fn.out) (g.O.Sink.written l.out);
+  way : AreOnTheWay l.plan l.most (g.C.Capture.left l.fn.capture) l.reader (g.C.Capture.left l.capture) l.dissector l.lines.totals l.lines.capture (g.O.Sink.written l.fn.out) (g.O.Sink.written l.out);
   together : AreTogether l.reader.state l.dissector;
   took : TookAtMost (suc file_limit) (g.C.Capture.left l.fn.capture) (g.C.Capture.left l.capture);
   wanted : IsEnough l.dissector.wanted l.plan;

@@ -4,7 +4,8 @@ use Rattle.shark_run.specs.declared.plan.Plan.{Plan}
 use Rattle.shark_run.specs.declared.plan.Refused.{Refused}
 use Rattle.shark_run.specs.FaultTexts.{IsNone, IsSame}
 use Rattle.shark_run.specs.Plan.{IsPlan, IsRefusal}
-use Rattle.shark_run.proofs.PlanLemmas.{complete_planned, complete_refused, reason_given, refused_not_planned, refused_or_none}
+use Rattle.shark_run.proofs.PlanLemmas.{complete_refused, reason_given, refused_not_planned, refused_or_none}
+use Rattle.shark_run.proofs.LawLemmas.{complete_planned}
 use Rattle.shark_run.proofs.ToldLemmas.{told_more, whole_more, told_nothing, whole_nothing}
 use Rattle.shark_run.proofs.top.run.Goals as goal
 

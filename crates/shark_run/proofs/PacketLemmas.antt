@@ -1,0 +1,177 @@
+-- The frames of a capture that is written.
+use Rattle.std.proofs.Common.{◌≡◌, ℕ, Bool, true, false, not, ◌&&◌, List, [], ◌∷◌, ◌++◌, Option, None, Some, refl, sym, ap, ◌∙◌, subst, if◌then◌else◌, append_assoc, append-nil, reverse}
+use Rattle.std.specs.Io.KnownBytes.{Appends}
+use Rattle.std.proofs.KnownBytes.{Appends-nil}
+use Rattle.std.proofs.lemmas.List.{reverse-append}
+use Rattle.pk_outside.specs.Outside.{AppendsPart}
+use Rattle.pk_outside.proofs.Parts.{part_none}
+use Rattle.capture_read.specs.declared.frame.Frame.{Frame}
+use Rattle.capture_write.specs.Kept.{Adds, Kept, Stands, StandsAfter, end_at, fits, in_order, kept_of, kept_with, piece_at, written}
+use Rattle.capture_write.specs.declared.added.Added.TheVariants.{Bytes, Unfit}
+use Rattle.capture_write.specs.declared.format.Format.{Format}
+use Rattle.capture_write.proofs.KeptLaws.{bytes_from, whole-file}
+use Rattle.dissect.specs.Trees.{tree_at}
+use Rattle.flt_types.specs.declared.typed.Typed.{Typed}
+use Rattle.shark_run.specs.declared.plan.Plan.{Plan}
+use Rattle.shark_run.specs.declared.totals.Totals.{Totals}
+use Rattle.shark_run.specs.Accessors.{filter_of, written_of}
+use Rattle.shark_run.specs.Chosen.{IsWriting, chosen, chosen_of, end_in, if_shown, packet_in}
+use Rattle.shark_run.specs.Fitting.{is_unfit, is_unfit_by}
+use Rattle.shark_run.specs.Lines.{closing, closing_by, piece, piece_by, pieces, shown}
+use Rattle.shark_run.specs.Satisfied.{satisfies}
+use Rattle.shark_run.specs.Steps.{IsAfterFrame, IsPacked, KeepsUp, fit_packet, fit_piece, is_unfit_behind, packet_behind}
+use Rattle.shark_run.specs.Totals.{counts_of, counts_with}
+
+-- a frame that isn't chosen
+pub packed_left : (shown : Bool) (frame : Frame) (kept : Kept) (now : Option (List ℕ)) → shown ≡ false
+    → (chosen : List Frame) → Stands kept chosen → IsPacked true shown kept.format frame kept chosen now now
+packed_left true frame kept now is chosen stands = absurd (cc is)
+packed_left false frame kept now is chosen stands = (refl, refl, stands, Appends-nil now)
+
+-- one that was added
+pub kept_is : (kept : Kept) (past : List Frame) → Stands kept past → kept ≡ kept_of kept.format past
+unfolding Stands
+kept_is kept past stands = stands.0
+
+added_piece : (old new : Kept) (frame : Frame) (bytes : List ℕ) (chosen : List Frame) → Adds old new frame (Bytes bytes) → Stands old chosen
+    → bytes ≡ piece_at (kept_of old.format chosen) frame
+added_piece old new frame bytes chosen adds stands = adds.1 ∙ ap (λ (k : Kept). piece_at k frame) (kept_is old chosen stands)
+
+fit_is : (fit : Bool) → fit ≡ true → (true && not fit) ≡ false
+fit_is fit is = ap not is
+
+pub packed_added : (shown : Bool) (old new : Kept) (frame : Frame) (bytes : List ℕ) (before now : Option (List ℕ)) → shown ≡ true → Adds old new frame (Bytes bytes)
+    → ((chosen : List Frame) → Stands old chosen → StandsAfter old new frame (Bytes bytes) chosen) → Appends before now bytes
+    → (chosen : List Frame) → Stands old chosen → IsPacked true shown old.format frame new chosen before now
+packed_added false old new frame bytes before now is adds after wrote chosen stands = absurd (cc is)
+packed_added true old new frame bytes before now is adds after wrote chosen stands = (
+  ap not (after chosen stands).2,
+  ap (λ (k : Kept). k.format) adds.2,
+  (after chosen stands).0,
+  subst (λ (piece : List ℕ). Appends before now piece) (added_piece old new frame bytes chosen adds stands) wrote,
+)
+
+pub packed_part : (shown : Bool) (old new : Kept) (frame : Frame) (bytes : List ℕ) (before now : Option (List ℕ)) → shown ≡ true → Adds old new frame (Bytes bytes)
+    → ((chosen : List Frame) → Stands old chosen → StandsAfter old new frame (Bytes bytes) chosen) → AppendsPart before now bytes
+    → (chosen : List Frame) → Stands old chosen → AppendsPart before now (fit_packet shown old.format chosen frame)
+packed_part false old new frame bytes before now is adds after part chosen stands = absurd (cc is)
+packed_part true old new frame bytes before now is adds after part chosen stands =
+    subst (AppendsPart before now) (added_piece old new frame bytes chosen adds stands
+    ∙ sym (ap (λ (unfit : Bool). if unfit then [] else piece_at (kept_of old.format chosen) frame) (ap not (after chosen stands).2))) part
+
+-- one that doesn't fit
+pub packed_unfit : (shown : Bool) (old new : Kept) (frame : Frame) (now : Option (List ℕ)) → shown ≡ true → Adds old new frame Unfit
+    → ((chosen : List Frame) → Stands old chosen → StandsAfter old new frame Unfit chosen)
+    → (chosen : List Frame) → Stands old chosen → IsPacked false shown old.format frame new chosen now now
+packed_unfit false old new frame now is adds after chosen stands = absurd (cc is)
+packed_unfit true old new frame now is adds after chosen stands = (
+  ap not (after chosen stands).1,
+  ap (λ (k : Kept). k.format) adds.1,
+  (after chosen stands).0,
+  refl,
+)
+
+pub packed_none : (shown : Bool) (old : Kept) (frame : Frame) (now : Option (List ℕ)) (chosen : List Frame) → AppendsPart now now (fit_packet shown old.format chosen frame)
+packed_none shown old frame now chosen = part_none now (fit_packet shown old.format chosen frame)
+
+-- by the tree of a frame, of which only some fields are read
+pub packed_truly : (fit shown truth : Bool) (format : Format) (frame : Frame) (new : Kept) (chosen : List Frame) (before now : Option (List ℕ)) → shown ≡ truth
+    → IsPacked fit shown format frame new chosen before now → IsPacked fit truth format frame new chosen before now
+packed_truly fit shown truth format frame new chosen before now same packed =
+    subst (λ (b : Bool). IsPacked fit b format frame new chosen before now) same packed
+
+pub part_truly : (shown truth : Bool) (format : Format) (frame : Frame) (chosen : List Frame) (before now : Option (List ℕ)) → shown ≡ truth
+    → AppendsPart before now (fit_packet shown format chosen frame) → AppendsPart before now (fit_packet truth format chosen frame)
+part_truly shown truth format frame chosen before now same part =
+    subst (λ (b : Bool). AppendsPart before now (fit_packet b format chosen frame)) same part
+
+-- the same of a run
+pub frame_packed : (fit : Bool) (format : Format) (plan : Plan) (past : List Frame) (frame : Frame) (t counts : Totals) (old new : Kept) (before now : Option (List ℕ))
+    → written_of plan ≡ Some format → KeepsUp (written_of plan) plan past t old
+    → (Stands old (chosen_of (filter_of plan) past)
+    → IsPacked fit (satisfies (filter_of plan) (tree_at past frame)) old.format frame new (chosen_of (filter_of plan) past) before now)
+    → IsAfterFrame fit plan past frame counts new before now
+frame_packed true format plan past frame t counts old new before now is keeps packs =
+    let writing : IsWriting (Some format) (filter_of plan) old past = subst (λ (w : Option Format). KeepsUp w plan past t old) is keeps in
+    let packed : IsPacked true (satisfies (filter_of plan) (tree_at past frame)) format frame new (chosen_of (filter_of plan) past) before now
+    = subst (λ (f : Format). IsPacked true (satisfies (filter_of plan) (tree_at past frame)) f frame new (chosen_of (filter_of plan) past) before now) writing.0 (packs writing.1) in
+    record {
+      fit = ap (λ (w : Option Format). is_unfit_by w plan past frame) is ∙ packed.0;
+      keeps = subst (λ (w : Option Format). KeepsUp w plan (frame ∷ past) counts new) (sym is) (packed.1, packed.2);
+      wrote = subst (λ (w : Option Format). Appends before now (piece_by w plan past frame)) (sym is) packed.3;
+    }
+frame_packed false format plan past frame t counts old new before now is keeps packs =
+    let writing : IsWriting (Some format) (filter_of plan) old past = subst (λ (w : Option Format). KeepsUp w plan past t old) is keeps in
+    let packed : IsPacked false (satisfies (filter_of plan) (tree_at past frame)) format frame new (chosen_of (filter_of plan) past) before now
+    = subst (λ (f : Format). IsPacked false (satisfies (filter_of plan) (tree_at past frame)) f frame new (chosen_of (filter_of plan) past) before now) writing.0 (packs writing.1) in (
+      ap (λ (w : Option Format). is_unfit_by w plan past frame) is ∙ packed.0,
+      subst (λ (w : Option Format). KeepsUp w plan past counts new) (sym is) (packed.1, packed.2),
+      packed.3,
+    )
+
+pub part_packed : (format : Format) (plan : Plan) (past : List Frame) (frame : Frame) (t : Totals) (old : Kept) (before now : Option (List ℕ))
+    → written_of plan ≡ Some format → KeepsUp (written_of plan) plan past t old
+    → (Stands old (chosen_of (filter_of plan) past)
+    → AppendsPart before now (fit_packet (satisfies (filter_of plan) (tree_at past frame)) old.format (chosen_of (filter_of plan) past) frame))
+    → AppendsPart before now (fit_piece plan past frame)
+part_packed format plan past frame t old before now is keeps part =
+    let writing : IsWriting (Some format) (filter_of plan) old past = subst (λ (w : Option Format). KeepsUp w plan past t old) is keeps in
+    subst (λ (w : Option Format). AppendsPart before now (if is_unfit_by w plan past frame then [] else piece_by w plan past frame)) (sym is)
+    (subst (λ (f : Format). AppendsPart before now (fit_packet (satisfies (filter_of plan) (tree_at past frame)) f (chosen_of (filter_of plan) past) frame)) writing.0 (part writing.1))
+
+-- lines of frames
+pub frame_shown : (plan : Plan) (past : List Frame) (frame : Frame) (t counts : Totals) (old new : Kept) (before now : Option (List ℕ))
+    → written_of plan ≡ None → KeepsUp (written_of plan) plan past t old → counts ≡ counts_with plan (tree_at past frame) t
+    → Appends before now (shown plan (tree_at past frame)) → IsAfterFrame true plan past frame counts new before now
+frame_shown plan past frame t counts old new before now is keeps counted wrote = record {
+  fit = ap (λ (w : Option Format). is_unfit_by w plan past frame) is;
+  keeps = subst (λ (w : Option Format). KeepsUp w plan (frame ∷ past) counts new) (sym is)
+      (counted ∙ ap (counts_with plan (tree_at past frame)) (subst (λ (w : Option Format). KeepsUp w plan past t old) is keeps));
+  wrote = subst (λ (w : Option Format). Appends before now (piece_by w plan past frame)) (sym is) wrote;
+}
+
+pub part_shown : (plan : Plan) (past : List Frame) (frame : Frame) (before now : Option (List ℕ)) → written_of plan ≡ None
+    → AppendsPart before now (shown plan (tree_at past frame)) → AppendsPart before now (fit_piece plan past frame)
+part_shown plan past frame before now is part =
+    subst (λ (w : Option Format). AppendsPart before now (if is_unfit_by w plan past frame then [] else piece_by w plan past frame)) (sym is) part
+
+-- the pieces of the frames chosen, and those of the end, are the file of these frames
+packets : Format → Option Typed → List Frame → List Frame → List ℕ
+packets format filter past [] = end_in format filter past
+packets format filter past (frame ∷ frames) = packet_in format filter past frame ++ packets format filter (frame ∷ past) frames
+
+packets_chosen : (format : Format) (filter : Option Typed) (past frames : List Frame)
+    → packets format filter past frames ≡ bytes_from (kept_of format (chosen_of filter past)) (chosen filter past frames)
+unfolding packets
+packets_chosen format filter past [] = refl
+packets_chosen format filter past (frame ∷ frames) =
+    ap (λ (rest : List ℕ). packet_in format filter past frame ++ rest) (packets_chosen format filter (frame ∷ past) frames)
+    ∙ by (satisfies filter (tree_at past frame))
+  where
+    by : (shown : Bool) → (if shown then piece_at (kept_of format (chosen_of filter past)) frame else [])
+        ++ bytes_from (kept_of format (if_shown shown frame (chosen_of filter past))) (chosen filter (frame ∷ past) frames)
+        ≡ bytes_from (kept_of format (chosen_of filter past)) (if_shown shown frame (chosen filter (frame ∷ past) frames))
+    by true = refl
+    by false = refl
+
+reverse_more : (frame : Frame) (frames past : List Frame) → reverse (frame ∷ frames) ++ past ≡ reverse frames ++ (frame ∷ past)
+reverse_more frame frames past =
+    ap (λ (all : List Frame). all ++ past) (reverse-append (frame ∷ []) frames) ∙ append_assoc (reverse frames) (frame ∷ []) past
+
+pieces_packets : (format : Format) (plan : Plan) (past frames : List Frame) → written_of plan ≡ Some format
+    → pieces plan past frames ++ closing plan (reverse frames ++ past) ≡ packets format (filter_of plan) past frames
+unfolding packets closing
+pieces_packets format plan past [] is = ap (λ (w : Option Format). closing_by w plan past) is
+pieces_packets format plan past (frame ∷ frames) is =
+    append_assoc (piece plan past frame) (pieces plan (frame ∷ past) frames) (closing plan (reverse (frame ∷ frames) ++ past))
+    ∙ ap (λ (end : List Frame). piece plan past frame ++ (pieces plan (frame ∷ past) frames ++ closing plan end)) (reverse_more frame frames past)
+    ∙ ap (λ (rest : List ℕ). piece plan past frame ++ rest) (pieces_packets format plan (frame ∷ past) frames is)
+    ∙ ap (λ (w : Option Format). piece_by w plan past frame ++ packets format (filter_of plan) (frame ∷ past) frames) is
+
+pub written_whole : (format : Format) (plan : Plan) (frames : List Frame) → written_of plan ≡ Some format
+    → written format (chosen (filter_of plan) [] frames) ≡ pieces plan [] frames ++ closing plan (reverse frames)
+written_whole format plan frames is =
+    sym (whole-file format (chosen (filter_of plan) [] frames))
+    ∙ sym (packets_chosen format (filter_of plan) [] frames)
+    ∙ sym (pieces_packets format plan [] frames is)
+    ∙ ap (λ (past : List Frame). pieces plan [] frames ++ closing plan past) (append-nil (reverse frames))
