@@ -1,11 +1,10 @@
 -- A token that is read keeps what holds of every state, and the state is printed with it.
-use Rattle.std.proofs.Common.{◌≡◌, ℕ, ◌+◌, ◌<◌, ◌≤◌, Bool, true, false, List, [], ◌∷◌, ◌++◌, length, Option, Some, None, cond, ltb, leb, append_assoc, arith, sym, ap, ◌∙◌, refl, subst}
+use Rattle.std.proofs.Common.{◌≡◌, ℕ, ◌+◌, ◌<◌, ◌≤◌, Bool, true, List, [], ◌∷◌, ◌++◌, length, Option, Some, None, ltb, leb, append_assoc, arith, sym, ap, ◌∙◌, refl, subst}
 use Rattle.std.proofs.lemmas.Bool.{ltb-true, leb-true}
-use Rattle.std.proofs.lemmas.Bool.Decides.{nat_tests}
 use Rattle.std.proofs.lemmas.List.{append-nil}
 use Rattle.flt_parse.specs.Grammar.{IsFilter, IsGrouped, IsOperand, IsTail, IsTestOperand, binds, calls, calls_behind, choice, depth, element, layer_range, literal, not_before, operand, range, spelled, strength, tail, takes_mask, takes_more, takes_operator, takes_slice, tightness, unary}
 use Rattle.flt_parse.specs.Parser.Reading.{Left, LeftOf, Frame, Waiting, Link, Comma, Sign, Call, Side, OnLeft, OnRight, LayerSpot, LayerWanted, FirstRead, LastWanted, LastRead, RangeSpot, RangeWanted, DigitsWanted, PlaceRead, ColonRead, EndWanted, EndDigitsWanted, CountWanted, PartRead, Spot, OperandWanted, OperandRead, LayersWanted, InLayers, InRanges, MaskWanted, ElementSpot, ElementWanted, LiteralRead, SecondWanted, SecondRead, TailSpot, InWanted, SetWanted, InSet, PatternWanted, State, Want, Have, InOperand, InTail, Move, Go, Stop, all_linked, begin, binds_link, behind, behind_hash, call_begin, call_end, closing, have, joined, layers_end, layers_step, left_alone, left_end, literal_step, negated, no_frame, not_before_in, open_around, open_at, operand_end, operand_move, operand_step, otherwise, ranges_end, ranges_step, set_done, set_step, settle, side_end, step, tail_done, tail_move, tail_step, wait, whole, whole_have, whole_operand, whole_test}
-use Rattle.flt_parse.specs.Written.{Written, WrittenOperand, WrittenTail, NamedOf, CalledOf, CompareOf, JoinedOf, NotOf, GroupOf, AloneOf, TestOf}
+use Rattle.flt_parse.specs.Written.{Written, WrittenOperand, WrittenTail, NamedOf, CompareOf, JoinedOf, NotOf, GroupOf, AloneOf, TestOf}
 use Rattle.flt_parse.specs.declared.ast.Choice.{Choice}
 use Rattle.flt_parse.specs.declared.ast.Element.{Element}
 use Rattle.flt_parse.specs.declared.ast.Element.TheVariants as elements
@@ -23,7 +22,7 @@ use Rattle.flt_parse.specs.declared.token.Kind.{Kind}
 use Rattle.flt_parse.specs.declared.token.Kind.TheVariants as kinds
 use Rattle.flt_parse.specs.declared.word.Word.{Word}
 use Rattle.flt_parse.proofs.Linked.{IsLinked, all_linked_good, chosen_by, false_less, least_more, least_sign, least_sum, link_below, under_part, wait_good}
-use Rattle.flt_parse.proofs.Printed.{IsAround, IsBelow, IsFrame, IsGood, IsLefts, IsSide, IsSpot, filled, least_of, link_kind, layers_before, layers_closed, layers_more, print_around, print_calls, print_frame, print_layer, print_lefts, print_nots, print_range, print_side, print_spot, print_tail, print_waiting, printed, ranges_before, ranges_closed, ranges_more, set_before, set_closed, set_more, spot_calls}
+use Rattle.flt_parse.proofs.Printed.{IsAround, IsBelow, IsFrame, IsGood, IsLefts, IsSpot, filled, least_of, link_kind, layers_before, layers_closed, layers_more, print_around, print_calls, print_frame, print_layer, print_lefts, print_nots, print_range, print_side, print_spot, print_tail, print_waiting, printed, ranges_before, ranges_closed, ranges_more, set_before, set_closed, set_more, spot_calls}
 
 -- operands
 abbrev SpotSteady : ℕ → List Kind → Option Spot → Type 0
