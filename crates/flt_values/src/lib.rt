@@ -2,6 +2,7 @@
 //! and how single values are compared, sliced, masked and changed by functions.
 #![tactic(auto)]
 
+mod arithmetic;
 mod calls;
 mod inside;
 mod kinds;
@@ -12,6 +13,7 @@ mod slices;
 #[cfg(test)]
 mod tests;
 
+pub use arithmetic::{Arithmetic, Extreme, calculate, extreme_of};
 pub use calls::{call, is_nonzero, len_of, lowered, masked, uppered};
 pub use inside::contains;
 pub use kinds::{
