@@ -7,20 +7,27 @@
 --   unary   = ( "not" | "!" ) unary | "(" or ")" | test
 --   test    = ( "any" | "all" ) operand tail | operand [ tail ]
 --   tail    = operator operand | [ "not" ] "in" set | ( "matches" | "~" ) string
---   operand = base [ "&" word ]
+--   operand = product { ( "+" | "-" ) product }
+--   product = part { "*" part }
+--   part    = base [ "&" word ]
 --   base    = string | word [ "#" layers ] [ "[" range { "," range } "]" ]
---           | function "(" operand ")" [ "[" range { "," range } "]" ]
+--           | ( "len" | "count" | "upper" | "lower" ) "(" operand ")" [ "[" range { "," range } "]" ]
+--           | ( "min" | "max" ) "(" operand { "," operand } ")"
 --   layers  = digits | "[" layer range { "," layer range } "]"
 --   layer range = digits [ "-" digits ]
 --   range   = n | n ":" digits | n "-" n | ":" digits | n ":"
 --   n       = [ "-" ] digits
 --   set     = "{" element { "," element } "}"
 --   element = literal [ ".." literal ]       literal = word | string
-use Rattle.std.specs.Prelude.{◌≡◌, ◌≤◌, ◌<◌, ℕ, ◌+◌, max, Bool, true, false, IsTrue, List, [], ◌∷◌, ◌++◌, Option, Some, None}
-use Rattle.flt_parse.specs.Written.{Written, WrittenOperand, WrittenTail, TextOf, NamedOf, OnLayerOf, OnLayersOf, SlicedOf, MaskedOf, CalledOf, CompareOf, InOf, MatchesOf, JoinedOf, NotOf, GroupOf, AloneOf, TestOf}
+use Rattle.std.specs.Prelude.{◌≡◌, ◌≤◌, ◌<◌, ℕ, ◌+◌, max, Bool, true, false, not, if◌then◌else◌, IsTrue, List, [], ◌∷◌, ◌++◌, Option, Some, None}
+use Rattle.flt_parse.specs.Written.{Written, WrittenOperand, WrittenTail, TextOf, NamedOf, OnLayerOf, OnLayersOf, SlicedOf, MaskedOf, CalledOf, ComputedOf, ArgumentsOf, CompareOf, InOf, MatchesOf, JoinedOf, NotOf, GroupOf, AloneOf, TestOf}
+use Rattle.flt_parse.specs.declared.ast.Arithmetic.{Arithmetic}
+use Rattle.flt_parse.specs.declared.ast.Arithmetic.TheVariants as arithmetic
 use Rattle.flt_parse.specs.declared.ast.Choice.{Choice}
 use Rattle.flt_parse.specs.declared.ast.Element.{Element}
 use Rattle.flt_parse.specs.declared.ast.Element.TheVariants as elements
+use Rattle.flt_parse.specs.declared.ast.Function.{Function}
+use Rattle.flt_parse.specs.declared.ast.Function.TheVariants.{Min, Max}
 use Rattle.flt_parse.specs.declared.ast.LayerRange.{LayerRange}
 use Rattle.flt_parse.specs.declared.ast.Literal.{Literal}
 use Rattle.flt_parse.specs.declared.ast.Literal.TheVariants as literals
@@ -85,6 +92,8 @@ operand (OnLayersOf w ls) = kinds.Name w ∷ kinds.Hash ∷ layers ls
 operand (SlicedOf o at rs) = operand o ++ ranges at rs
 operand (MaskedOf o at w) = operand o ++ kinds.Mask at ∷ kinds.Name w ∷ []
 operand (CalledOf f at o) = kinds.Calls f at ∷ (operand o ++ kinds.Close ∷ [])
+operand (ComputedOf a at l r) = operand l ++ kinds.Computes a at ∷ operand r
+operand (ArgumentsOf l r) = operand l ++ kinds.Comma ∷ operand r
 
 -- a set
 abbrev pub literal : Literal → Kind
@@ -129,18 +138,52 @@ abbrev pub IsFilled : {A : Type 0} → List A → Type 0
 IsFilled [] = ⊥
 IsFilled (x ∷ xs) = Unit {0}
 
--- words and calls are sliced, and whatever is no mask is masked
+-- `min` and `max` have one argument or more, and no slice
+abbrev pub takes_more : Function → Bool
+takes_more Min = true
+takes_more Max = true
+takes_more f = false
+
+-- words and calls are sliced, and whatever is no mask and nothing computed is masked
 abbrev pub takes_slice : WrittenOperand → Bool
 takes_slice (NamedOf w) = true
 takes_slice (OnLayerOf w l) = true
 takes_slice (OnLayersOf w ls) = true
-takes_slice (CalledOf f at o) = true
+takes_slice (CalledOf f at o) = not (takes_more f)
 takes_slice o = false
 
 abbrev pub takes_mask : WrittenOperand → Bool
 takes_mask (MaskedOf o at w) = false
+takes_mask (ComputedOf a at l r) = false
+takes_mask (ArgumentsOf l r) = false
 takes_mask o = true
 
+-- how tightly an operand's outermost sign binds: the comma of arguments less than `+` and `-`, these less than `*`, and
+-- whatever is a part more
+abbrev pub binds_arithmetic : Arithmetic → ℕ
+binds_arithmetic arithmetic.Sum = 20
+binds_arithmetic arithmetic.Difference = 20
+binds_arithmetic arithmetic.Product = 30
+
+abbrev pub arguments : ℕ
+arguments = 10
+
+abbrev pub sum : ℕ
+sum = 20
+
+abbrev pub part : ℕ
+part = 40
+
+abbrev pub tightness : WrittenOperand → ℕ
+tightness (ComputedOf a at l r) = binds_arithmetic a
+tightness (ArgumentsOf l r) = arguments
+tightness o = part
+
+-- only the calls of `min` and `max` have a comma between arguments
+abbrev pub least_in : Function → ℕ
+least_in f = if takes_more f then arguments else sum
+
+-- what binds less tightly stands to neither side of a sign, and equal signs join from the left
 abbrev pub IsOperand : WrittenOperand → Type 0
 IsOperand (TextOf q) = Unit {0}
 IsOperand (NamedOf w) = Unit {0}
@@ -148,7 +191,13 @@ IsOperand (OnLayerOf w l) = Unit {0}
 IsOperand (OnLayersOf w ls) = IsFilled ls
 IsOperand (SlicedOf o at rs) = IsOperand o × IsTrue (takes_slice o) × IsFilled rs
 IsOperand (MaskedOf o at w) = IsOperand o × IsTrue (takes_mask o)
-IsOperand (CalledOf f at o) = IsOperand o
+IsOperand (CalledOf f at o) = IsOperand o × (least_in f ≤ tightness o)
+IsOperand (ComputedOf a at l r) = IsOperand l × IsOperand r × (binds_arithmetic a ≤ tightness l) × (binds_arithmetic a < tightness r)
+IsOperand (ArgumentsOf l r) = IsOperand l × IsOperand r × (arguments ≤ tightness l) × (arguments < tightness r)
+
+-- an operand of a test, which no comma joins
+abbrev pub IsSide : WrittenOperand → Type 0
+IsSide o = IsOperand o × (sum ≤ tightness o)
 
 -- the operators that say nothing yet of which pairs they ask; `contains` asks any
 abbrev pub is_open : Operator → Bool
@@ -164,7 +213,7 @@ takes_operator None operator = true
 takes_operator (Some c) operator = is_open operator
 
 abbrev pub IsTail : Option Choice → WrittenTail → Type 0
-IsTail c (CompareOf operator at right) = IsOperand right × IsTrue (takes_operator c operator)
+IsTail c (CompareOf operator at right) = IsSide right × IsTrue (takes_operator c operator)
 IsTail c (InOf negated es) = IsFilled es
 IsTail c (MatchesOf at q) = Unit {0}
 
@@ -186,14 +235,16 @@ abbrev pub IsGrouped : Written → Type 0
 IsGrouped (JoinedOf j l r) = IsGrouped l × IsGrouped r × (binds j ≤ strength l) × (binds j < strength r)
 IsGrouped (NotOf n t) = IsGrouped t × (unary ≤ strength t)
 IsGrouped (GroupOf t) = IsGrouped t
-IsGrouped (AloneOf o) = IsOperand o
-IsGrouped (TestOf c o t) = IsOperand o × IsTail c t
+IsGrouped (AloneOf o) = IsSide o
+IsGrouped (TestOf c o t) = IsSide o × IsTail c t
 
 -- how many calls, negations and parentheses are open at once, at most
 abbrev pub calls : WrittenOperand → ℕ
 calls (SlicedOf o at rs) = calls o
 calls (MaskedOf o at w) = calls o
 calls (CalledOf f at o) = calls o + 1
+calls (ComputedOf a at l r) = max (calls l) (calls r)
+calls (ArgumentsOf l r) = max (calls l) (calls r)
 calls o = 0
 
 abbrev pub calls_behind : WrittenTail → ℕ

@@ -1,7 +1,8 @@
 -- The bytes of a filter's text, and its words.
-use Rattle.std.specs.Prelude.{ℕ, suc, ◌+◌, ◌==◌, Bool, not, ◌&&◌, ◌||◌, nat_eq, nat_le, nat_lt, if◌then◌else◌, List, [], ◌∷◌, length, codes, slice_get, Option, Some, None}
+use Rattle.std.specs.Prelude.{ℕ, suc, ◌+◌, ◌==◌, Bool, not, ◌&&◌, ◌||◌, nat_eq, nat_le, nat_lt, if◌then◌else◌, List, [], ◌∷◌, length, take, codes, slice_get, Option, Some, None}
 use Rattle.std.specs.Char.{is_ascii_alphanumeric, is_ascii_digit}
 use Rattle.std.specs.List.{list_all, starts_with}
+use Rattle.std.specs.Str.{bytes_eq}
 
 -- a space, a tab, a line feed, a carriage return: what may stand between tokens
 abbrev pub is_blank : ℕ → Bool
@@ -20,6 +21,10 @@ is_word_byte b = is_ascii_alphanumeric b || (b == 95 || (b == 46 || (b == 58 || 
 abbrev pub word_len : List ℕ → ℕ
 word_len [] = 0
 word_len (b ∷ bytes) = if is_word_byte b && not (starts_with nat_eq (b ∷ bytes) (codes "..")) then suc (word_len bytes) else 0
+
+-- a word stands in front where such a run does, other than `-` alone, which is a sign
+abbrev pub begins_word : List ℕ → Bool
+begins_word bytes = nat_lt 0 (word_len bytes) && not (bytes_eq (take (word_len bytes) bytes) (codes "-"))
 
 -- how many digits stand in front
 abbrev pub digits_len : List ℕ → ℕ

@@ -4,11 +4,12 @@ use Rattle.std.specs.Char.{is_ascii_digit}
 use Rattle.std.specs.List.{find, starts_with}
 use Rattle.std.specs.Str.{bytes_eq}
 use Rattle.std.specs.Str.Parse.{digits_value}
-use Rattle.flt_parse.specs.Letters.{is_blank, blanks, word_len, digits_len, is_number, opening}
+use Rattle.flt_parse.specs.Letters.{is_blank, begins_word, blanks, word_len, digits_len, is_number, opening}
 use Rattle.flt_parse.specs.Strings.{string_inside, raw_inside}
+use Rattle.flt_parse.specs.declared.ast.Arithmetic.TheVariants as arithmetic
 use Rattle.flt_parse.specs.declared.ast.Choice.TheVariants as choices
 use Rattle.flt_parse.specs.declared.ast.Function.{Function}
-use Rattle.flt_parse.specs.declared.ast.Function.TheVariants.{Len, Count, Upper, Lower}
+use Rattle.flt_parse.specs.declared.ast.Function.TheVariants.{Len, Count, Upper, Lower, Min, Max}
 use Rattle.flt_parse.specs.declared.ast.Negation.TheVariants as negations
 use Rattle.flt_parse.specs.declared.ast.Operator.TheVariants as operators
 use Rattle.flt_parse.specs.declared.fault.FilterError.{FilterError}
@@ -53,13 +54,16 @@ sign_text signs.Less = codes "<"
 sign_text signs.Tilde = codes "~"
 sign_text signs.Mask = codes "&"
 sign_text signs.Not = codes "!"
+sign_text signs.Plus = codes "+"
+sign_text signs.Minus = codes "-"
+sign_text signs.Star = codes "*"
 
 -- all of them, each before those that it begins with
 abbrev pub all_signs : List Sign
 all_signs =
     signs.AllEqual ∷ signs.AnyUnequal ∷ signs.Equal ∷ signs.Unequal ∷ signs.AtLeast ∷ signs.AtMost ∷ signs.And ∷ signs.Or ∷ signs.Xor
     ∷ signs.DotDot ∷ signs.Open ∷ signs.Close ∷ signs.OpenBrace ∷ signs.CloseBrace ∷ signs.OpenBracket ∷ signs.CloseBracket ∷ signs.Comma ∷ signs.Hash
-    ∷ signs.Greater ∷ signs.Less ∷ signs.Tilde ∷ signs.Mask ∷ signs.Not ∷ []
+    ∷ signs.Greater ∷ signs.Less ∷ signs.Tilde ∷ signs.Mask ∷ signs.Not ∷ signs.Plus ∷ signs.Minus ∷ signs.Star ∷ []
 
 -- the longest sign in front
 abbrev pub first_sign : List ℕ → Option Sign
@@ -94,6 +98,9 @@ sign_kind mode at next signs.Less = kinds.Compares operators.Less at
 sign_kind mode at next signs.Tilde = kinds.Matches at
 sign_kind mode at next signs.Mask = kinds.Mask at
 sign_kind mode at next signs.Not = kinds.Negates negations.Sign
+sign_kind mode at next signs.Plus = kinds.Computes arithmetic.Sum at
+sign_kind mode at next signs.Minus = kinds.Computes arithmetic.Difference at
+sign_kind mode at next signs.Star = kinds.Computes arithmetic.Product at
 
 -- how the reserved words are written
 abbrev pub keyword_text : Keyword → List ℕ
@@ -152,9 +159,11 @@ function_text Len = codes "len"
 function_text Count = codes "count"
 function_text Upper = codes "upper"
 function_text Lower = codes "lower"
+function_text Min = codes "min"
+function_text Max = codes "max"
 
 abbrev pub functions : List Function
-functions = Len ∷ Count ∷ Upper ∷ Lower ∷ []
+functions = Len ∷ Count ∷ Upper ∷ Lower ∷ Min ∷ Max ∷ []
 
 abbrev pub function_of : List ℕ → Option Function
 function_of word = find (λ f. bytes_eq (function_text f) word) functions
@@ -199,7 +208,7 @@ abbrev pub plain_token : Mode → ℕ → List ℕ → Result Lexeme FilterReaso
 plain_token mode at bytes =
     if starts_with nat_eq bytes (codes "\"") then text_lexeme at 1 (string_inside 0 (drop 1 bytes))
     else if starts_with nat_eq bytes (codes "r\"") then text_lexeme at 2 (raw_inside (drop 2 bytes))
-    else if nat_lt 0 (word_len bytes) then Ok (word_lexeme mode at (take (word_len bytes) bytes) (drop (word_len bytes) bytes))
+    else if begins_word bytes then Ok (word_lexeme mode at (take (word_len bytes) bytes) (drop (word_len bytes) bytes))
     else sign_lexeme mode at bytes (first_sign bytes)
 
 -- one to nine digits are a number

@@ -1,5 +1,6 @@
 -- A filter as it is written: the tree of `Ast` without the places in memory of its parts.
 use Rattle.std.specs.Prelude.{ℕ, Bool, List, Option}
+use Rattle.flt_parse.specs.declared.ast.Arithmetic.{Arithmetic}
 use Rattle.flt_parse.specs.declared.ast.Ast.{Ast}
 use Rattle.flt_parse.specs.declared.ast.Ast.TheVariants.{Or', Xor', And', Not', Group', Alone, Test}
 use Rattle.flt_parse.specs.declared.ast.Choice.{Choice}
@@ -9,7 +10,7 @@ use Rattle.flt_parse.specs.declared.ast.Layer.{Layer}
 use Rattle.flt_parse.specs.declared.ast.LayerRange.{LayerRange}
 use Rattle.flt_parse.specs.declared.ast.Negation.{Negation}
 use Rattle.flt_parse.specs.declared.ast.Operand.{Operand}
-use Rattle.flt_parse.specs.declared.ast.Operand.TheVariants.{Text, Named, OnLayer, OnLayers, Sliced', Masked', Called'}
+use Rattle.flt_parse.specs.declared.ast.Operand.TheVariants.{Text, Named, OnLayer, OnLayers, Sliced', Masked', Called', Computed', Arguments'}
 use Rattle.flt_parse.specs.declared.ast.Operator.{Operator}
 use Rattle.flt_parse.specs.declared.ast.SliceRange.{SliceRange}
 use Rattle.flt_parse.specs.declared.ast.Tail.{Tail}
@@ -19,7 +20,7 @@ use Rattle.flt_parse.specs.declared.token.Join.TheVariants as joins
 use Rattle.flt_parse.specs.declared.word.Quote.{Quote}
 use Rattle.flt_parse.specs.declared.word.Word.{Word}
 
--- an operand; what is sliced, masked or called stands inside
+-- an operand; what is sliced, masked, called or computed stands inside. A comma joins the arguments of a call
 pub data WrittenOperand : Type 0 where
   TextOf : (q : Quote) → WrittenOperand
   NamedOf : (w : Word) → WrittenOperand
@@ -28,6 +29,8 @@ pub data WrittenOperand : Type 0 where
   SlicedOf : (o : WrittenOperand) (at : ℕ) (rs : List SliceRange) → WrittenOperand
   MaskedOf : (o : WrittenOperand) (at : ℕ) (w : Word) → WrittenOperand
   CalledOf : (f : Function) (at : ℕ) (o : WrittenOperand) → WrittenOperand
+  ComputedOf : (a : Arithmetic) (at : ℕ) (l r : WrittenOperand) → WrittenOperand
+  ArgumentsOf : (l r : WrittenOperand) → WrittenOperand
 
 -- what a test asks of its left operand
 pub data WrittenTail : Type 0 where
@@ -51,6 +54,8 @@ operand_of (OnLayers w ls) = OnLayersOf w ls.items
 operand_of (Sliced' p o at rs) = SlicedOf (operand_of o) at rs.items
 operand_of (Masked' p o at w) = MaskedOf (operand_of o) at w
 operand_of (Called' f at p o) = CalledOf f at (operand_of o)
+operand_of (Computed' a at p l q r) = ComputedOf a at (operand_of l) (operand_of r)
+operand_of (Arguments' p l q r) = ArgumentsOf (operand_of l) (operand_of r)
 
 abbrev pub tail_of : Tail → WrittenTail
 tail_of (Compare operator at right) = CompareOf operator at (operand_of right)

@@ -1,5 +1,10 @@
 // The syntax tree of a filter's text. Every `u32` named or described as a place is that of a byte in the text.
 
+ghost use Rattle.std.specs.Prelude.{◌≡◌};
+ghost use Rattle.flt_parse.specs.Grammar.{takes_more as may_take_more};
+ghost use Rattle.flt_parse.specs.Parser.Reading.{word_alone};
+ghost use Rattle.flt_parse.specs.Written.{operand_of};
+
 use crate::word::{Quote, Word};
 
 /// How a negation is written.
@@ -57,6 +62,31 @@ pub enum Function {
     Upper,
     /// `lower`
     Lower,
+    /// `min`
+    Min,
+    /// `max`
+    Max,
+}
+
+/// Whether a function has one argument or more.
+pub fn takes_more(function: Function) -> bool
+    ensures { result ≡ may_take_more function }
+{
+    match function {
+        Function::Min | Function::Max => true,
+        Function::Len | Function::Count | Function::Upper | Function::Lower => false,
+    }
+}
+
+/// What is computed of two numbers.
+#[derive(Clone, Copy, Debug, PartialEq, Eq)]
+pub enum Arithmetic {
+    /// `+`
+    Sum,
+    /// `-`
+    Difference,
+    /// `*`
+    Product,
 }
 
 /// The number behind `#`: its place, and the layer that it chooses, counted from 1.
@@ -103,7 +133,7 @@ pub struct SliceRange {
     pub part: RangePart,
 }
 
-#[derive(Drop)]
+/// An operand as it is written. Products bind more tightly than sums and differences, and all of them to the left.
 pub enum Operand {
     /// A string.
     Text(Quote),
@@ -113,13 +143,54 @@ pub enum Operand {
     OnLayer(Word, Layer),
     /// A word and `#[..]` with at least one range.
     OnLayers(Word, Vec<LayerRange>),
-    /// What is sliced, which is a word, with layers or without, or a function's call; the place of the `[`; and at
-    /// least one range.
+    /// What is sliced, which is a word, with layers or without, or a call of `len`, `count`, `upper` or `lower`; the
+    /// place of the `[`; and at least one range.
     Sliced(Box<Operand>, u32, Vec<SliceRange>),
-    /// What is masked, which is no mask; the place of the `&`; and the mask's word.
+    /// What is masked, which is no mask and nothing computed; the place of the `&`; and the mask's word.
     Masked(Box<Operand>, u32, Word),
-    /// A function, its place, and its argument.
+    /// A function, its place, and its argument. Only `min` and `max` have several.
     Called(Function, u32, Box<Operand>),
+    /// A sum, difference or product, the place of its sign, and its two sides.
+    Computed(Arithmetic, u32, Box<Operand>, Box<Operand>),
+    /// The arguments of `min` or `max` before a comma, which are at least one, and the one behind it.
+    Arguments(Box<Operand>, Box<Operand>),
+}
+
+impl Operand {
+    /// The word that this is, if it is no more than that.
+    pub(crate) fn into_word(self) -> Option<Word>
+        ensures { result ≡ word_alone (operand_of self) }
+    {
+        match self {
+            Operand::Named(word) => Some(word),
+            _ => None,
+        }
+    }
+}
+
+// A chain of signs, or of arguments, is as deep to the left as it is long: a loop goes down there.
+impl Drop for Operand {
+    fn drop(mut self) {
+        loop {
+            match self {
+                Operand::Computed(_, _, first, right) => {
+                    drop(right);
+                    self = Box::into_inner(first);
+                }
+                Operand::Arguments(first, right) => {
+                    drop(right);
+                    self = Box::into_inner(first);
+                }
+                Operand::Sliced(inner, _, _ranges) => self = Box::into_inner(inner),
+                Operand::Masked(inner, _, _word) => self = Box::into_inner(inner),
+                Operand::Called(_, _, inner) => self = Box::into_inner(inner),
+                Operand::Text(_quote) => return,
+                Operand::Named(_word) => return,
+                Operand::OnLayer(_word, _) => return,
+                Operand::OnLayers(_word, _ranges) => return,
+            }
+        }
+    }
 }
 
 /// A word or a string in a set.

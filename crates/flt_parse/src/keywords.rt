@@ -27,11 +27,13 @@ const KEYWORDS: [Keyword; 19] = [
     Keyword::AnyNe,
 ];
 
-const FUNCTIONS: [Function; 4] = [
+const FUNCTIONS: [Function; 6] = [
     Function::Len,
     Function::Count,
     Function::Upper,
     Function::Lower,
+    Function::Min,
+    Function::Max,
 ];
 
 fn keyword_text(keyword: Keyword) -> &'static str
@@ -105,6 +107,8 @@ fn function_text(function: Function) -> &'static str
         Function::Count => "count",
         Function::Upper => "upper",
         Function::Lower => "lower",
+        Function::Min => "min",
+        Function::Max => "max",
     }
 }
 

@@ -1,7 +1,7 @@
 // The bytes of a filter's text, and its words.
-ghost use Rattle.std.specs.Prelude.{◌≡◌, true, ◌≤◌, ◌<◌, length, IfSome};
+ghost use Rattle.std.specs.Prelude.{◌≡◌, true, ◌≤◌, ◌<◌, length, IfSome, OnTrue};
 ghost use Rattle.std.specs.Str.Parse.{digits_value};
-ghost use Rattle.flt_parse.specs.Letters.{is_blank as blank, blanks as blanks_of, is_word_byte as in_word, word_len as len_of_word, digits_len as len_of_digits, is_number as is_of_digits, opening as opening_of};
+ghost use Rattle.flt_parse.specs.Letters.{is_blank as blank, blanks as blanks_of, is_word_byte as in_word, begins_word as word_begins_in, word_len as len_of_word, digits_len as len_of_digits, is_number as is_of_digits, opening as opening_of};
 
 use pk_base::are_digits;
 
@@ -33,7 +33,7 @@ pub fn is_word_byte(byte: u8) -> bool
     byte.is_ascii_alphanumeric() || matches!(byte, b'_' | b'.' | b':' | b'-' | b'/')
 }
 
-/// How many bytes the word in front has: none where no word stands there.
+/// How many bytes the longest run in front has that may be a word.
 pub fn word_len(bytes: &[u8]) -> usize
     ensures value { result ≡ len_of_word bytes.now }
     ensures within { result ≤ length bytes.now }
@@ -44,6 +44,15 @@ pub fn word_len(bytes: &[u8]) -> usize
         }
     }
     bytes.len()
+}
+
+/// Whether a word stands in front. `-` alone is a sign.
+pub fn begins_word(bytes: &[u8]) -> bool
+    ensures value { result ≡ word_begins_in bytes.now }
+    ensures some { OnTrue result (0 < len_of_word bytes.now) }
+{
+    let word = &bytes[..word_len(bytes)];
+    !word.is_empty() && word != b"-".as_slice()
 }
 
 /// How many digits stand in front.

@@ -7,7 +7,7 @@ ghost use Rattle.flt_parse.specs.Tokens.{first_sign as sign_in_front, digits_lex
 use crate::ast::Layer;
 use crate::fault::{FilterError, FilterFault, FilterReason};
 use crate::keywords::{function_of, keyword_kind, keyword_of};
-use crate::letters::{blanks, digits_len, is_blank, is_number, number_of, opening, word_len};
+use crate::letters::{begins_word, blanks, digits_len, is_blank, is_number, number_of, opening, word_len};
 use crate::signs::{first_sign, sign_kind, sign_text};
 use crate::strings::{Inside, read_raw, read_string};
 use crate::token::{Kind, Lexeme, Mode, Token};
@@ -91,7 +91,7 @@ fn plain_token(alloc: Global, text: &str, mode: Mode, at: usize) -> Result<Lexem
         let inside = read_raw(alloc, bytes_from(rest, 2))?;
         return text_lexeme(at, 2, inside);
     }
-    if word_len(rest) > 0 {
+    if begins_word(rest) {
         return Ok(word_lexeme(
             alloc,
             mode,

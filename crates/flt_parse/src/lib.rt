@@ -21,7 +21,7 @@ mod token;
 mod word;
 
 pub use ast::{
-    Ast, Choice, Element, Function, Layer, LayerRange, Literal, Negation, Operand, Operator, Place,
+    Arithmetic, Ast, Choice, Element, Function, Layer, LayerRange, Literal, Negation, Operand, Operator, Place,
     RangePart, SliceRange, Tail,
 };
 pub use fault::{FilterError, FilterFault, FilterReason};

@@ -6,7 +6,7 @@ ghost use Rattle.flt_parse.specs.Parser.Reading as reading;
 ghost use Rattle.flt_parse.specs.Parser.States.{IsSpot, spot_of};
 ghost use Rattle.flt_parse.specs.Written.{OnLayersOf, SlicedOf, operand_of};
 
-use crate::ast::{LayerRange, Operand, Place, RangePart, SliceRange};
+use crate::ast::{LayerRange, Operand, Place, RangePart, SliceRange, takes_more};
 use crate::state::{LayerSpot, RangeSpot, Refusal, Spot};
 use crate::token::Kind;
 use crate::word::Word;
@@ -147,11 +147,13 @@ pub fn takes_slice(operand: &Operand) -> bool
     ensures { result ≡ may_slice (operand_of operand.now) }
 {
     match operand {
-        Operand::Named(_)
-        | Operand::OnLayer(_, _)
-        | Operand::OnLayers(_, _)
-        | Operand::Called(_, _, _) => true,
-        Operand::Text(_) | Operand::Sliced(_, _, _) | Operand::Masked(_, _, _) => false,
+        Operand::Named(_) | Operand::OnLayer(_, _) | Operand::OnLayers(_, _) => true,
+        Operand::Called(function, _, _) => !takes_more(*function),
+        Operand::Text(_)
+        | Operand::Sliced(_, _, _)
+        | Operand::Masked(_, _, _)
+        | Operand::Computed(_, _, _, _)
+        | Operand::Arguments(_, _) => false,
     }
 }
 
@@ -160,7 +162,8 @@ pub fn takes_mask(operand: &Operand) -> bool
     ensures { result ≡ may_mask (operand_of operand.now) }
 {
     match operand {
-        Operand::Masked(_, _, _) => false,
+        Operand::Masked(_, _, _) | Operand::Computed(_, _, _, _) | Operand::Arguments(_, _) =>
+            false,
         _ => true,
     }
 }

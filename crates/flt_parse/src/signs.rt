@@ -2,11 +2,11 @@
 ghost use Rattle.std.specs.Prelude.{◌≡◌, ◌≤◌, ◌<◌, length, IfSome};
 ghost use Rattle.flt_parse.specs.Tokens.{sign_text as text_of_sign, all_signs, first_sign as sign_in_front, sign_kind as kind_of_sign, bracket_kind as kind_of_bracket};
 
-use crate::ast::{Negation, Operator};
+use crate::ast::{Arithmetic, Negation, Operator};
 use crate::token::{Join, Kind, Mode, Sign};
 
 /// All signs, each before those that it begins with.
-const SIGNS: [Sign; 23] = [
+const SIGNS: [Sign; 26] = [
     Sign::AllEqual,
     Sign::AnyUnequal,
     Sign::Equal,
@@ -30,6 +30,9 @@ const SIGNS: [Sign; 23] = [
     Sign::Tilde,
     Sign::Mask,
     Sign::Not,
+    Sign::Plus,
+    Sign::Minus,
+    Sign::Star,
 ];
 
 pub fn sign_text(sign: Sign) -> &'static [u8]
@@ -60,6 +63,9 @@ pub fn sign_text(sign: Sign) -> &'static [u8]
         Sign::Tilde => b"~",
         Sign::Mask => b"&",
         Sign::Not => b"!",
+        Sign::Plus => b"+",
+        Sign::Minus => b"-",
+        Sign::Star => b"*",
     }
 }
 
@@ -103,6 +109,9 @@ pub fn sign_kind(mode: Mode, at: u32, next: u32, sign: Sign) -> Kind
         Sign::Tilde => Kind::Matches(at),
         Sign::Mask => Kind::Mask(at),
         Sign::Not => Kind::Negates(Negation::Sign),
+        Sign::Plus => Kind::Computes(Arithmetic::Sum, at),
+        Sign::Minus => Kind::Computes(Arithmetic::Difference, at),
+        Sign::Star => Kind::Computes(Arithmetic::Product, at),
     }
 }
 

@@ -266,10 +266,7 @@ fn layers_of(operand: Operand, inside: Inside) -> Result<State, Refusal>
 fn spot_behind_hash(operand: Operand) -> Option<Spot>
     ensures { IsSpot (reading.behind_hash (operand_of operand)) (Ok result) }
 {
-    match operand {
-        Operand::Named(word) => Some(Spot::LayersWanted(word)),
-        _ => None,
-    }
+    operand.into_word().map(|word| Spot::LayersWanted(word))
 }
 
 /// Behind an operand and `[`.

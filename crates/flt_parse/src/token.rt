@@ -1,6 +1,6 @@
 // The tokens of a filter's text.
 
-use crate::ast::{Choice, Function, Layer, Negation, Operator};
+use crate::ast::{Arithmetic, Choice, Function, Layer, Negation, Operator};
 use crate::word::{Quote, Word};
 
 /// What joins two filters.
@@ -52,6 +52,8 @@ pub enum Kind {
     Matches(u32),
     /// `&`, and its place.
     Mask(u32),
+    /// `+`, `-` or `*` outside brackets, and its place.
+    Computes(Arithmetic, u32),
     /// `in`
     In,
     /// `or`, `xor` or `and`, as a word or a sign.
@@ -118,6 +120,9 @@ pub enum Sign {
     Tilde,
     Mask,
     Not,
+    Plus,
+    Minus,
+    Star,
 }
 
 /// The reserved words.

@@ -1,6 +1,7 @@
 -- A reading of tokens from left to right, one at a time, which the proofs compare the grammar and the parser with: the
 -- state behind each token, or the fault at it. What a filter is is said by the grammar alone.
 use Rattle.std.specs.Prelude.{ℕ, suc, ◌+◌, Bool, true, false, nat_lt, nat_le, if◌then◌else◌, List, [], ◌∷◌, ◌++◌, length, Option, Some, None}
+use Rattle.std.specs.Option.{option_map}
 use Rattle.flt_parse.specs.Grammar.{binds, takes_mask, takes_operator, takes_slice}
 use Rattle.flt_parse.specs.Written.{Written, WrittenOperand, WrittenTail, TextOf, NamedOf, OnLayerOf, OnLayersOf, SlicedOf, MaskedOf, CalledOf, CompareOf, InOf, MatchesOf, JoinedOf, NotOf, GroupOf, AloneOf, TestOf}
 use Rattle.flt_parse.specs.declared.ast.Choice.{Choice}
@@ -122,9 +123,12 @@ ranges_step o bracket done at (PartRead part) kind = ranges_end o bracket (with_
 ranges_step o bracket done at spot kind = None
 
 -- an operand, as far as no call opens or ends
+abbrev pub word_alone : WrittenOperand → Option Word
+word_alone (NamedOf w) = Some w
+word_alone o = None
+
 abbrev pub behind_hash : WrittenOperand → Option Spot
-behind_hash (NamedOf w) = Some (LayersWanted w)
-behind_hash o = None
+behind_hash o = option_map (λ w. LayersWanted w) (word_alone o)
 
 abbrev pub operand_step : Spot → Kind → Option Spot
 operand_step OperandWanted (kinds.Text q) = Some (OperandRead (TextOf q))
