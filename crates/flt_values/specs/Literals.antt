@@ -36,11 +36,15 @@ abbrev pub value_read : Option Value → Reading
 value_read None = readings.Unread
 value_read (Some value) = readings.Reads (plain value None)
 
--- a number that a width has room for
-abbrev pub number_read : ℕ → Option Wide → Reading
-number_read width None = readings.Unread
-number_read width (Some wides.Beyond) = readings.Beyond
-number_read width (Some (wides.Fits n)) = if nat_lt n (2 ^ width) then readings.Reads (plain (values.Uint n) None) else readings.Beyond
+-- a number, as far as a width has room for it
+abbrev pub number_within : ℕ → Option Wide → Option Wide
+number_within width (Some (wides.Fits n)) = if nat_lt n (2 ^ width) then Some (wides.Fits n) else Some wides.Beyond
+number_within width number = number
+
+abbrev pub number_read : Option Wide → Reading
+number_read None = readings.Unread
+number_read (Some wides.Beyond) = readings.Beyond
+number_read (Some (wides.Fits n)) = readings.Reads (plain (values.Uint n) None)
 
 -- the words for true, and those for false
 abbrev pub true_words : List (List ℕ)
@@ -90,7 +94,7 @@ ether_value text = option_map values.Ether (ether_of text)
 
 -- what a word writes as a literal of a kind, which may have a prefix length or not. Text is written as strings alone.
 unfoldable pub word_read : Truth → ValueKind → List ℕ → Reading
-word_read prefixed (kinds.Uint width) text = number_read width (number_of text)
+word_read prefixed (kinds.Uint width) text = number_read (number_within width (number_of text))
 word_read prefixed kinds.Bool text = value_read (option_map values.Bool (truth_of text))
 word_read prefixed kinds.Bytes text = value_read (option_map values.Bytes (bytes_of text))
 word_read prefixed kinds.Text text = readings.Unread

@@ -2,15 +2,8 @@
 ghost use Rattle.std.specs.Prelude.{◌≡◌, IfSome};
 ghost use Rattle.flt_values.specs.Arithmetic.{IsExtreme, calculated, extreme_number, extreme_of, nearer, nearer_of, number_in, result_of};
 
+use flt_parse::Arithmetic;
 use pk_tree::Value;
-
-/// What is done with two numbers.
-#[derive(Clone, Copy, Debug, PartialEq, Eq)]
-pub enum Arithmetic {
-    Sum,
-    Difference,
-    Product,
-}
 
 /// Which of some numbers is asked for.
 #[derive(Clone, Copy, Debug, PartialEq, Eq)]

@@ -1,7 +1,7 @@
 //! Literals of each kind, slices of each form, and pairs of values of each class.
 
 use super::*;
-use flt_parse::{Function, Place, RangePart};
+use flt_parse::{Arithmetic, Function, Place, RangePart};
 use pk_base::Octets;
 use pk_fields::ValueKind;
 use pk_tree::Value;
@@ -654,7 +654,12 @@ fn results_are_exact_or_none(rt: HostRuntime) -> Result<(), Fail> {
 
 #[test]
 fn the_least_and_the_greatest_are_found(rt: HostRuntime) -> Result<(), Fail> {
-    let numbers = [Value::Uint(7), Value::Uint(3), Value::Ip4(1), Value::Uint(9)];
+    let numbers = [
+        Value::Uint(7),
+        Value::Uint(3),
+        Value::Ip4(1),
+        Value::Uint(9),
+    ];
     assert_eq!(rt; number_of(extreme_of(Extreme::Least, &numbers)), Some(3));
     assert_eq!(rt; number_of(extreme_of(Extreme::Greatest, &numbers)), Some(9));
     assert!(rt; extreme_of(Extreme::Least, &[]).is_none());
