@@ -6,13 +6,16 @@ ghost use Rattle.flt_pattern.specs.Patterns.{HasCause, IsPattern};
 ghost use Rattle.flt_types.specs.Faults.{IsAnswer, faults, right_faults, unless, PatternAt};
 ghost use Rattle.flt_types.specs.Literals.{literal_of};
 ghost use Rattle.flt_types.specs.Terms.{IsTerm};
+ghost use Rattle.flt_types.specs.declared.standing.Standing.TheVariants.{First};
 ghost use Rattle.flt_values.specs.Kinds.{is_searched as is_searched_kind, takes as takes_kind};
 ghost use Rattle.flt_types.specs.Typing.{HasType, IsRight, relation_of as relation_asked, choice_of as own_choice, chosen as choice_between};
 
 use crate::faults::{fault, require};
 use crate::literals::{right_quote, right_word};
 use crate::operand::{kind_of, term};
+use crate::operands::first_sign;
 use crate::sets::members;
+use crate::standing::Standing;
 use crate::typed::{Term, Typed};
 use flt_parse::{Choice, Element, FilterError, FilterReason, Operand, Operator, Quote, Tail};
 use flt_pattern::{Pattern, PatternFault};
@@ -21,15 +24,18 @@ use pk_fields::{ValueKind, by_name};
 use std::alloc::Global;
 
 /// An operand that is a test by itself.
-#[tactic(auto, using(crate::proofs::Clear::alone_behind, crate::proofs::Answers::answer_left))]
+#[tactic(auto, using(crate::proofs::Clear::alone_behind, crate::proofs::Clear::sum_behind, crate::proofs::Answers::answer_left))]
 pub(crate) fn alone(alloc: Global, operand: &Operand) -> Result<Typed, FilterError>
     ensures ok { IfOk result (HasType (AloneOf (operand_of operand.now))) }
     ensures err { IfErr result (IsAnswer (faults (AloneOf (operand_of operand.now)))) }
 {
-    let inner = term(alloc, false, None, operand)?;
+    let inner = term(alloc, Standing::First, operand)?;
     match operand {
         Operand::Masked(_, _, _) => Ok(Typed::AnyBit(inner)),
         Operand::Called(_, at, _) => Err(fault(*at, FilterReason::TypeMismatch)),
+        Operand::Computed(_, at, left, _) => {
+            Err(fault(first_sign(*at, left), FilterReason::TypeMismatch))
+        }
         _ => Ok(Typed::Exists(inner)),
     }
 }
@@ -45,7 +51,7 @@ pub(crate) fn test(
     ensures ok { IfOk result (HasType (TestOf choice (operand_of operand.now) (tail_of tail.now))) }
     ensures err { IfErr result (IsAnswer (faults (TestOf choice (operand_of operand.now) (tail_of tail.now)))) }
 {
-    let left = term(alloc, false, None, operand)?;
+    let left = term(alloc, Standing::First, operand)?;
     test_of(alloc, choice, left, tail)
 }
 
@@ -56,8 +62,8 @@ fn test_of(
     left: Term,
     tail: &Tail,
 ) -> Result<Typed, FilterError>
-    ensures ok { (o : WrittenOperand) → IsTerm o left → IfOk result (HasType (TestOf choice o (tail_of tail.now))) }
-    ensures err { (o : WrittenOperand) → IsTerm o left → IfErr result (IsAnswer (faults (TestOf choice o (tail_of tail.now)))) }
+    ensures ok { (o : WrittenOperand) → IsTerm First o left → IfOk result (HasType (TestOf choice o (tail_of tail.now))) }
+    ensures err { (o : WrittenOperand) → IsTerm First o left → IfErr result (IsAnswer (faults (TestOf choice o (tail_of tail.now)))) }
 {
     match tail {
         Tail::Compare(operator, at, right) => {
@@ -77,9 +83,9 @@ fn compare(
     at: u32,
     right: &Operand,
 ) -> Result<Typed, FilterError>
-    ensures ok { (o : WrittenOperand) → IsTerm o left
+    ensures ok { (o : WrittenOperand) → IsTerm First o left
         → IfOk result (HasType (TestOf choice o (CompareOf operator at (operand_of right.now)))) }
-    ensures err { (o : WrittenOperand) → IsTerm o left
+    ensures err { (o : WrittenOperand) → IsTerm First o left
         → IfErr result (IsAnswer (faults (TestOf choice o (CompareOf operator at (operand_of right.now))))) }
 {
     let relation = relation_of(operator);
@@ -114,9 +120,9 @@ fn among(
     negated: bool,
     elements: &[Element],
 ) -> Result<Typed, FilterError>
-    ensures ok { (o : WrittenOperand) → IsTerm o left
+    ensures ok { (o : WrittenOperand) → IsTerm First o left
         → IfOk result (HasType (TestOf choice o (InOf negated elements.now))) }
-    ensures err { (o : WrittenOperand) → IsTerm o left
+    ensures err { (o : WrittenOperand) → IsTerm First o left
         → IfErr result (IsAnswer (faults (TestOf choice o (InOf negated elements.now)))) }
 {
     let members = members(alloc, kind_of(&left), elements)?;
@@ -132,9 +138,9 @@ fn searched(
     at: u32,
     quote: &Quote,
 ) -> Result<Typed, FilterError>
-    ensures ok { (o : WrittenOperand) → IsTerm o left
+    ensures ok { (o : WrittenOperand) → IsTerm First o left
         → IfOk result (HasType (TestOf choice o (MatchesOf at quote.now))) }
-    ensures err { (o : WrittenOperand) → IsTerm o left
+    ensures err { (o : WrittenOperand) → IsTerm First o left
         → IfErr result (IsAnswer (faults (TestOf choice o (MatchesOf at quote.now)))) }
 {
     let pattern = pattern_for(alloc, kind_of(&left), at, quote)?;
@@ -191,7 +197,7 @@ fn right_term(
     ensures ok { IfOk result (IsRight relation kind (operand_of operand.now)) }
     ensures err { IfErr result (IsAnswer (right_faults relation at kind (operand_of operand.now) None)) }
 {
-    let right = term(alloc, true, None, operand)?;
+    let right = term(alloc, Standing::Free(None), operand)?;
     require(
         same_class(kind, kind_of(&right)),
         at,

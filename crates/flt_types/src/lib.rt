@@ -9,9 +9,11 @@ mod laws;
 mod layers;
 mod literals;
 mod operand;
+mod operands;
 mod parts;
 mod ranges;
 mod sets;
+mod standing;
 mod typed;
 mod typing;
 
