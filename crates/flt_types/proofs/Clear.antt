@@ -18,7 +18,7 @@ use Rattle.flt_parse.specs.declared.fault.FilterError.{FilterError}
 use Rattle.flt_parse.specs.declared.fault.FilterReason.TheVariants.{TypeMismatch, OutOfRange}
 use Rattle.flt_parse.specs.declared.token.Join.TheVariants as joins
 use Rattle.flt_parse.specs.declared.word.Word.{Word}
-use Rattle.flt_types.specs.Faults.{Found, At, PatternAt, IsAnswer, IsClear, are_numbers_written, call_faults, class_faults, element_faults, elements_faults, faults, first_sign, given, is_name, is_number_written, kind_of_word, kind_written, layers_faults, mask_faults, number_faults, operand_faults, ranges_faults, reading_faults, right_faults, slice_faults, tail_faults, takes_written, unless, word_faults}
+use Rattle.flt_types.specs.Faults.{Found, PatternAt, IsAnswer, IsClear, are_numbers_written, call_faults, class_faults, element_faults, elements_faults, faults, first_sign, given, is_name, is_number_written, kind_of_word, kind_written, layers_faults, mask_faults, number_faults, operand_faults, ranges_faults, reading_faults, right_faults, slice_faults, tail_faults, takes_written, unless, word_faults}
 use Rattle.flt_types.specs.Layers.{is_layer, is_layers}
 use Rattle.flt_types.specs.Literals.{end_read, literal_of, literal_read, place_of_literal, side_read, word_or_name}
 use Rattle.flt_types.specs.Ranges.{is_range}
@@ -26,7 +26,7 @@ use Rattle.flt_types.specs.Standing.{argument, in_slice, sign_for, within}
 use Rattle.flt_types.specs.Terms.{IsNumber, IsTerm, are_numbers, is_field, kind_of, number_kind, takes_term}
 use Rattle.flt_types.specs.Typing.{AreMembers, HasType, IsAlone, IsMember, IsRight, IsTest, relation_of}
 use Rattle.flt_types.specs.declared.standing.Standing.{Standing}
-use Rattle.flt_types.specs.declared.standing.Standing.TheVariants.{First, Free, Within, Sliced}
+use Rattle.flt_types.specs.declared.standing.Standing.TheVariants.{First, Free, Sliced}
 use Rattle.flt_types.specs.declared.typed.Member.{Member}
 use Rattle.flt_types.specs.declared.typed.Member.TheVariants as members
 use Rattle.flt_types.specs.declared.typed.Term.{Term}

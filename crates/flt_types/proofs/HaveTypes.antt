@@ -1,9 +1,8 @@
 -- What has no fault has a type.
-use Rattle.std.proofs.Common.{◌≡◌, ℕ, ◌<◌, ◌^◌, Bool, true, false, ◌&&◌, List, [], ◌∷◌, ◌++◌, length, map, Option, Some, None, sym, ap, subst, refl, ◌∙◌, arith, Global}
+use Rattle.std.proofs.Common.{◌≡◌, ℕ, Bool, true, false, ◌&&◌, List, [], ◌∷◌, ◌++◌, length, map, Option, Some, None, sym, subst, refl, ◌∙◌, arith, Global}
 use Rattle.std.specs.Global.{Box, Vec}
 use Rattle.std.specs.List.{list_all}
 use denote.RawPtr.{null_ptr}
-use Rattle.flt_parse.specs.Filters.{IsFilterText}
 use Rattle.flt_parse.specs.Grammar.{choice, not_before, operand, ranges, set, spelled, tail}
 use Rattle.flt_parse.specs.Written.{Written, WrittenOperand, WrittenTail, TextOf, NamedOf, OnLayerOf, OnLayersOf, SlicedOf, MaskedOf, CalledOf, ComputedOf, ArgumentsOf, CompareOf, InOf, MatchesOf, JoinedOf, NotOf, GroupOf, AloneOf, TestOf}
 use Rattle.flt_parse.specs.declared.ast.Arithmetic.{Arithmetic}
@@ -15,7 +14,6 @@ use Rattle.flt_parse.specs.declared.ast.Function.{Function}
 use Rattle.flt_parse.specs.declared.ast.LayerRange.{LayerRange}
 use Rattle.flt_parse.specs.declared.ast.Literal.{Literal}
 use Rattle.flt_parse.specs.declared.ast.Negation.{Negation}
-use Rattle.flt_parse.specs.declared.ast.RangePart.{RangePart}
 use Rattle.flt_parse.specs.declared.ast.SliceRange.{SliceRange}
 use Rattle.flt_parse.specs.declared.fault.FilterReason.{FilterReason}
 use Rattle.flt_parse.specs.declared.fault.FilterReason.TheVariants.{TypeMismatch, OutOfRange}
@@ -30,7 +28,7 @@ use Rattle.flt_types.specs.Laws.{ClearIsTyped}
 use Rattle.flt_types.specs.Literals.{end_read, literal_of, literal_read, place_of_literal, side_read}
 use Rattle.flt_types.specs.Ranges.{is_range}
 use Rattle.flt_types.specs.Standing.{argument, in_slice, sign_for, within}
-use Rattle.flt_types.specs.Terms.{IsMask, IsTerm, kind_of, number_kind, takes_term}
+use Rattle.flt_types.specs.Terms.{IsMask, IsTerm, kind_of, number_kind}
 use Rattle.flt_types.specs.Typing.{AreMembers, HasType, IsAlone, IsMember, IsRight, IsTest, choice_of, chosen, relation_of}
 use Rattle.flt_types.specs.declared.standing.Standing.{Standing}
 use Rattle.flt_types.specs.declared.standing.Standing.TheVariants.{First, Free, Within, Sliced}
@@ -52,7 +50,6 @@ use Rattle.flt_values.specs.declared.relation.Relation.{Relation}
 use Rattle.pk_fields.specs.Fields.{field_named}
 use Rattle.pk_fields.specs.declared.value_kind.ValueKind.{ValueKind}
 use Rattle.pk_tree.specs.declared.chosen.Layers.TheVariants.{All, These}
-use Rattle.pk_tree.specs.declared.value.Value.TheVariants as values
 
 -- what is where in memory is no matter
 heap : Global

@@ -1,5 +1,5 @@
 -- A tree has no fault, or a first one that isn't the size of a pattern.
-use Rattle.std.proofs.Common.{◌≡◌, ◌≢◌, ◌⊎◌, inl, inr, ℕ, Bool, true, false, List, [], ◌∷◌, ◌++◌, Option, Some, None, refl, subst}
+use Rattle.std.proofs.Common.{◌≢◌, ◌⊎◌, inl, inr, ℕ, Bool, true, false, List, [], ◌∷◌, ◌++◌, Option, Some, None, refl, subst}
 use Rattle.flt_parse.specs.Filters.{IsFaultFor, IsFilterText, IsFirstFault}
 use Rattle.flt_parse.specs.Written.{Written, WrittenOperand, WrittenTail, TextOf, NamedOf, OnLayerOf, OnLayersOf, SlicedOf, MaskedOf, CalledOf, ComputedOf, ArgumentsOf, CompareOf, InOf, MatchesOf, JoinedOf, NotOf, GroupOf, AloneOf, TestOf}
 use Rattle.flt_parse.specs.declared.ast.Element.{Element}
@@ -15,7 +15,7 @@ use Rattle.flt_parse.specs.declared.word.Word.{Word}
 use Rattle.flt_parse.proofs.Every.{filter_or_fault}
 use Rattle.flt_pattern.specs.Patterns.{IsNoPattern, IsPattern}
 use Rattle.flt_pattern.proofs.Decided.{pattern_or_none}
-use Rattle.flt_types.specs.Faults.{Found, At, PatternAt, IsClear, IsFirst, alone_faults, call_faults, class_faults, element_faults, elements_faults, faults, given, kind_written, first_sign, layers_faults, mask_faults, misplaced, nameless, number_faults, operand_faults, ranges_faults, reading_faults, right_faults, slice_faults, tail_faults, takes_written, unless, word_faults}
+use Rattle.flt_types.specs.Faults.{Found, At, PatternAt, IsClear, IsFirst, alone_faults, call_faults, class_faults, element_faults, elements_faults, faults, given, kind_written, layers_faults, mask_faults, misplaced, nameless, number_faults, operand_faults, ranges_faults, reading_faults, right_faults, slice_faults, tail_faults, takes_written, unless, word_faults}
 use Rattle.flt_types.specs.Layers.{is_layer, is_layers}
 use Rattle.flt_types.specs.Laws.{TypedOrRefused}
 use Rattle.flt_types.specs.Literals.{end_read, literal_of, literal_read, place_of_literal, side_read}

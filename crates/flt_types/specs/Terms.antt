@@ -1,5 +1,5 @@
 -- Operands with their types: a relation between what is written, where it stands, and what it stands for.
-use Rattle.std.specs.Prelude.{◌≡◌, ◌&&◌, ℕ, Bool as Truth, true, false, IsTrue, List, [], ◌∷◌, map, Option, Some, None}
+use Rattle.std.specs.Prelude.{◌≡◌, ◌&&◌, ℕ, Bool as Truth, true, false, IsTrue, List, [], ◌∷◌, map, Some, None}
 use Rattle.std.specs.List.{list_all}
 use Rattle.flt_parse.specs.Written.{WrittenOperand, NamedOf, OnLayerOf, OnLayersOf, SlicedOf, MaskedOf, CalledOf, ComputedOf, ArgumentsOf}
 use Rattle.flt_parse.specs.declared.ast.Function.{Function}

@@ -5,8 +5,9 @@ ghost use Rattle.flt_types.specs.Standing.{argument as argument_of, in_slice as 
 
 use flt_parse::{Function, Operand};
 
+/// Where an operand stands. What a tree's types are is said by it.
 #[derive(Clone, Copy, Debug, PartialEq, Eq)]
-pub(crate) enum Standing {
+pub enum Standing {
     /// First in a left operand, or in the first argument of `min` or `max`: a word has to name a field.
     First,
     /// On the right side, behind a sign, or as a later argument: a word may be a number. The place of the sign before
