@@ -1,6 +1,6 @@
 -- A tree with the items of the fields that a filter asks for is to it as the whole tree.
 use Rattle.std.proofs.Common.{◌≡◌, ◌==◌, ◌||◌, ℕ, Bool as Truth, true, false, List, refl, ap, eq-eqb}
-use Rattle.flt_types.specs.Asked.{HasFilter, HasTerm, asks, asks_term}
+use Rattle.flt_types.specs.Asked.{HasFilter, asks, asks_term}
 use Rattle.flt_types.specs.declared.typed.Term.{Term}
 use Rattle.flt_types.specs.declared.typed.Term.TheVariants as terms
 use Rattle.flt_types.specs.declared.typed.Typed.{Typed}
@@ -30,12 +30,20 @@ left_has wanted left right has f is = has f (left_or (left f) (right f) is)
 right_has : (wanted : List ℕ) (left right : ℕ → Truth) → ((f : ℕ) → (left f || right f) ≡ true → is_in wanted f ≡ true) → (f : ℕ) → right f ≡ true → is_in wanted f ≡ true
 right_has wanted left right has f is = has f (right_or (left f) (right f) is)
 
+-- a set of fields has all that a term asks for
+abbrev HasTerm : List ℕ → Term → Type 0
+HasTerm wanted term = (f : ℕ) → asks_term term f ≡ true → is_in wanted f ≡ true
+
 term_kept : (wanted : List ℕ) (term : Term) (t : TreeShown) → HasTerm wanted term → values_of_term term (kept_tree wanted t) ≡ values_of_term term t
 term_kept wanted (terms.Constant constant) t has = refl
 term_kept wanted (terms.Field field layers) t has = values_same wanted t field layers (has field (own_field field))
 term_kept wanted (terms.Slice' p term ranges) t has = rw (term_kept wanted term t has) refl
 term_kept wanted (terms.Mask' p term mask) t has = rw (term_kept wanted term t has) refl
 term_kept wanted (terms.Called' function p term) t has = rw (term_kept wanted term t has) refl
+term_kept wanted (terms.Computed' a p left q right) t has =
+    rw (term_kept wanted left t (left_has wanted (asks_term left) (asks_term right) has), term_kept wanted right t (right_has wanted (asks_term left) (asks_term right) has)) refl
+term_kept wanted (terms.Arguments' p left q right) t has =
+    rw (term_kept wanted left t (left_has wanted (asks_term left) (asks_term right) has), term_kept wanted right t (right_has wanted (asks_term left) (asks_term right) has)) refl
 
 pub meaning_kept : KeptMeaning
 meaning_kept wanted (Either' p left q right) t has =

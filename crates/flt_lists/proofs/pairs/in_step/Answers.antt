@@ -1,7 +1,7 @@
-use Rattle.std.proofs.Common.{◌≡◌, ◌++◌, sym, ap, append-nil, ◌∙◌}
+use Rattle.std.proofs.Common.{◌++◌, sym, ap, append-nil, ◌∙◌}
 use Rattle.std.proofs.lemmas.Slice.Zip.{either_empty_from_Zip}
 use Rattle.std.specs.Iterator.Adapters.{zip_first, zip_second}
-use Rattle.std.specs.List.{filter_map, zip}
+use Rattle.std.specs.List.{filter_map}
 use Rattle.std.specs.Slice.Iter.{iter_rest}
 use Rattle.flt_lists.proofs.PairLemmas.{zip_ends}
 use Rattle.flt_values.specs.Arithmetic.{calculated}
