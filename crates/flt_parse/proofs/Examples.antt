@@ -3,10 +3,11 @@ use Rattle.std.proofs.Common.{◌≡◌, ℕ, List, [], ◌∷◌, codes, Some, 
 use Rattle.flt_parse.specs.Filters.{kinds_of}
 use Rattle.flt_parse.specs.Grammar.{spelled}
 use Rattle.flt_parse.specs.Tokens.{tokens_of}
-use Rattle.flt_parse.specs.Written.{NamedOf, OnLayersOf, SlicedOf, MaskedOf, CalledOf, CompareOf, InOf, MatchesOf, JoinedOf, NotOf, GroupOf, AloneOf, TestOf}
+use Rattle.flt_parse.specs.Written.{NamedOf, OnLayersOf, SlicedOf, MaskedOf, CalledOf, ComputedOf, ArgumentsOf, CompareOf, InOf, MatchesOf, JoinedOf, NotOf, GroupOf, AloneOf, TestOf}
+use Rattle.flt_parse.specs.declared.ast.Arithmetic.TheVariants as arithmetic
 use Rattle.flt_parse.specs.declared.ast.Choice.TheVariants as choices
 use Rattle.flt_parse.specs.declared.ast.Element.TheVariants as elements
-use Rattle.flt_parse.specs.declared.ast.Function.TheVariants.{Len}
+use Rattle.flt_parse.specs.declared.ast.Function.TheVariants.{Len, Max}
 use Rattle.flt_parse.specs.declared.ast.Literal.TheVariants as literals
 use Rattle.flt_parse.specs.declared.ast.Negation.TheVariants as negations
 use Rattle.flt_parse.specs.declared.ast.Operator.TheVariants as operators
@@ -47,6 +48,18 @@ joined : kinds_read (tokens_of (codes "!any len(a) >= 1 || (b & 0x2 and c matche
     (TestOf None (NamedOf (the 53 (codes "d"))) (MatchesOf 55 (record { at = 57; bytes = 65 ∷ 10 ∷ [] }))))
 unfolding tokens_of
 joined = refl
+
+-- sums and products, a call with two arguments, `-` within words and alone
+computed : kinds_read (tokens_of (codes "a+b * max(c-d, 1) - e > -2"))
+    ≡ spelled (TestOf None
+    (ComputedOf arithmetic.Difference 18
+    (ComputedOf arithmetic.Sum 1 (NamedOf (the 0 (codes "a")))
+    (ComputedOf arithmetic.Product 4 (NamedOf (the 2 (codes "b")))
+    (CalledOf Max 6 (ArgumentsOf (NamedOf (the 10 (codes "c-d"))) (NamedOf (the 15 (codes "1")))))))
+    (NamedOf (the 20 (codes "e"))))
+    (CompareOf operators.Greater 22 (NamedOf (the 24 (codes "-2")))))
+unfolding tokens_of
+computed = refl
 
 -- a byte that begins no token; a string without an end; another escape; a raw string without an end
 no_token : tokens_of (codes "a == 1 @") ≡ fault 7 BadChar

@@ -1,5 +1,5 @@
 -- A sign in front has no more bytes than the text that it begins.
-use Rattle.std.proofs.Common.{◌≡◌, ℕ, ◌+◌, ◌≤◌, Bool, true, false, nat_eq, List, [], ◌∷◌, ◌++◌, Option, Some, None, cond, length, length-append, take, drop, take-append-drop, arith, sym, ap, ◌∙◌, refl}
+use Rattle.std.proofs.Common.{◌≡◌, ℕ, ◌≤◌, Bool, true, false, nat_eq, List, [], ◌∷◌, ◌++◌, Option, Some, cond, length, length-append, drop, take-append-drop, arith, ap, ◌∙◌, refl}
 use Rattle.std.specs.List.{find, starts_with}
 use Rattle.std.specs.Prelude.{IfSome}
 use Rattle.std.proofs.lemmas.Slice.Eq.{bytes_eq-Decides}

@@ -5,6 +5,7 @@ pub mod Faults
 pub mod Fronts
 pub mod Inside
 pub mod Lexing
+pub mod Linked
 pub mod Moves
 pub mod Numbers
 pub mod Parsed

@@ -1,7 +1,7 @@
 -- Moves of the reading, as the parser comes to them.
 use Rattle.std.proofs.Common.{◌≡◌, ℕ, ◌+◌, ◌==◌, true, false, List, [], ◌∷◌, ◌++◌, length, Option, Some, None, Result, Err, ltb, zero-add, sym, ap, ◌∙◌, refl, subst}
-use Rattle.flt_parse.specs.Grammar.{takes_mask, takes_slice, is_open}
-use Rattle.flt_parse.specs.Parser.Reading.{Frame, Call, Side, OnLeft, OnRight, Spot, OperandWanted, OperandRead, LayersWanted, InLayers, InRanges, MaskWanted, TailSpot, InOperand, InTail, Move, Go, Stop, LayerSpot, RangeSpot, RangeWanted, behind_hash, have, left_end, operand_end, operand_move, operand_step, tail_move, whole_have, whole_operand}
+use Rattle.flt_parse.specs.Grammar.{takes_mask, takes_more, takes_slice, is_open}
+use Rattle.flt_parse.specs.Parser.Reading.{Frame, Waiting, Call, Comma, Side, OnLeft, OnRight, Spot, OperandWanted, OperandRead, LayersWanted, InLayers, InRanges, MaskWanted, TailSpot, InOperand, InTail, Move, Go, Stop, LayerSpot, RangeSpot, RangeWanted, behind_hash, call_end, have, left_end, operand_end, operand_move, operand_step, tail_move, wait, whole_have, whole_operand}
 use Rattle.flt_parse.specs.Parser.Answers.{further, goes_on, operand_read}
 use Rattle.flt_parse.specs.Parser.States.{IsMove, IsSpot, IsTailMove, IsWhole, around_of, calls_of}
 use Rattle.flt_parse.specs.Written.{Written, WrittenOperand, WrittenTail, TestOf}
@@ -31,84 +31,84 @@ pub no_calls : (n m : ℕ) → ltb (0 + n) m ≡ ltb n m
 no_calls n m = ap (λ k. ltb k m) (zero-add n)
 
 -- behind an operand that is whole
-read_same : (limit : ℕ) (o : WrittenOperand) (side : Side) (cs : List Call) (f : Frame) (around : List Frame) (kind : Kind) → goes_on kind ≡ false
-    → operand_move limit (operand_step (OperandRead o) kind) (OperandRead o) side cs f around kind ≡ operand_end side cs o f around kind
-read_same limit o side cs f around kinds.Hash h = cc
-read_same limit o side cs f around (kinds.OpenRanges at next) h = cc
-read_same limit o side cs f around (kinds.Mask at) h = cc
-read_same limit o side cs f around kind h = refl
+read_same : (limit : ℕ) (o : WrittenOperand) (side : Side) (ws : List Waiting) (cs : List Call) (f : Frame) (around : List Frame) (kind : Kind) → goes_on kind ≡ false
+    → operand_move limit (operand_step (OperandRead o) kind) (OperandRead o) side ws cs f around kind ≡ operand_end side ws cs o f around kind
+read_same limit o side ws cs f around kinds.Hash h = cc
+read_same limit o side ws cs f around (kinds.OpenRanges at next) h = cc
+read_same limit o side ws cs f around (kinds.Mask at) h = cc
+read_same limit o side ws cs f around kind h = refl
 
-pub read_other : (limit : ℕ) (o : WrittenOperand) (side : Side) (cs : List Call) (f : Frame) (around : List Frame) (kind : Kind) (r : Answered) → goes_on kind ≡ false
-    → IsMove (operand_end side cs o f around kind) r → IsMove (operand_move limit (operand_step (OperandRead o) kind) (OperandRead o) side cs f around kind) r
-read_other limit o side cs f around kind r h is = moved _ _ r (read_same limit o side cs f around kind h) is
+pub read_other : (limit : ℕ) (o : WrittenOperand) (side : Side) (ws : List Waiting) (cs : List Call) (f : Frame) (around : List Frame) (kind : Kind) (r : Answered) → goes_on kind ≡ false
+    → IsMove (operand_end side ws cs o f around kind) r → IsMove (operand_move limit (operand_step (OperandRead o) kind) (OperandRead o) side ws cs f around kind) r
+read_other limit o side ws cs f around kind r h is = moved _ _ r (read_same limit o side ws cs f around kind h) is
 
-end_hash : (side : Side) (cs : List Call) (o : WrittenOperand) (f : Frame) (around : List Frame) → operand_end side cs o f around kinds.Hash ≡ Stop Unexpected
-end_hash side (call ∷ cs) o f around = refl
-end_hash (OnLeft None) [] o f around = refl
-end_hash (OnLeft (Some c)) [] o f around = refl
-end_hash (OnRight c l operator at) [] o f around = refl
+end_hash : (side : Side) (ws : List Waiting) (cs : List Call) (o : WrittenOperand) (f : Frame) (around : List Frame) → operand_end side ws cs o f around kinds.Hash ≡ Stop Unexpected
+end_hash side ws (call ∷ cs) o f around = refl
+end_hash (OnLeft None) ws [] o f around = refl
+end_hash (OnLeft (Some c)) ws [] o f around = refl
+end_hash (OnRight c l operator at) ws [] o f around = refl
 
-end_ranges : (side : Side) (cs : List Call) (o : WrittenOperand) (f : Frame) (around : List Frame) (at next : ℕ) → operand_end side cs o f around (kinds.OpenRanges at next) ≡ Stop Unexpected
-end_ranges side (call ∷ cs) o f around at next = refl
-end_ranges (OnLeft None) [] o f around at next = refl
-end_ranges (OnLeft (Some c)) [] o f around at next = refl
-end_ranges (OnRight c l operator b) [] o f around at next = refl
+end_ranges : (side : Side) (ws : List Waiting) (cs : List Call) (o : WrittenOperand) (f : Frame) (around : List Frame) (at next : ℕ) → operand_end side ws cs o f around (kinds.OpenRanges at next) ≡ Stop Unexpected
+end_ranges side ws (call ∷ cs) o f around at next = refl
+end_ranges (OnLeft None) ws [] o f around at next = refl
+end_ranges (OnLeft (Some c)) ws [] o f around at next = refl
+end_ranges (OnRight c l operator b) ws [] o f around at next = refl
 
-end_mask : (side : Side) (cs : List Call) (o : WrittenOperand) (f : Frame) (around : List Frame) (at : ℕ) → operand_end side cs o f around (kinds.Mask at) ≡ Stop Unexpected
-end_mask side (call ∷ cs) o f around at = refl
-end_mask (OnLeft None) [] o f around at = refl
-end_mask (OnLeft (Some c)) [] o f around at = refl
-end_mask (OnRight c l operator b) [] o f around at = refl
+end_mask : (side : Side) (ws : List Waiting) (cs : List Call) (o : WrittenOperand) (f : Frame) (around : List Frame) (at : ℕ) → operand_end side ws cs o f around (kinds.Mask at) ≡ Stop Unexpected
+end_mask side ws (call ∷ cs) o f around at = refl
+end_mask (OnLeft None) ws [] o f around at = refl
+end_mask (OnLeft (Some c)) ws [] o f around at = refl
+end_mask (OnRight c l operator b) ws [] o f around at = refl
 
-pub layers_begun : (limit : ℕ) (o : WrittenOperand) (s : Spot) (side : Side) (cs : List Call) (f : Frame) (around : List Frame) (r : Answered) → behind_hash o ≡ Some s
-    → IsMove (Go (InOperand s side cs f around)) r → IsMove (operand_move limit (operand_step (OperandRead o) kinds.Hash) (OperandRead o) side cs f around kinds.Hash) r
-layers_begun limit o s side cs f around r e is = moved _ _ r (ap (λ n. operand_move limit n (OperandRead o) side cs f around kinds.Hash) e) is
+pub layers_begun : (limit : ℕ) (o : WrittenOperand) (s : Spot) (side : Side) (ws : List Waiting) (cs : List Call) (f : Frame) (around : List Frame) (r : Answered) → behind_hash o ≡ Some s
+    → IsMove (Go (InOperand s side ws cs f around)) r → IsMove (operand_move limit (operand_step (OperandRead o) kinds.Hash) (OperandRead o) side ws cs f around kinds.Hash) r
+layers_begun limit o s side ws cs f around r e is = moved _ _ r (ap (λ n. operand_move limit n (OperandRead o) side ws cs f around kinds.Hash) e) is
 
-pub no_layers : (limit : ℕ) (o : WrittenOperand) (side : Side) (cs : List Call) (f : Frame) (around : List Frame) (r : Answered) → behind_hash o ≡ None
-    → IsMove (Stop Unexpected) r → IsMove (operand_move limit (operand_step (OperandRead o) kinds.Hash) (OperandRead o) side cs f around kinds.Hash) r
-no_layers limit o side cs f around r e is =
-    moved _ _ r (ap (λ n. operand_move limit n (OperandRead o) side cs f around kinds.Hash) e ∙ end_hash side cs o f around) is
+pub no_layers : (limit : ℕ) (o : WrittenOperand) (side : Side) (ws : List Waiting) (cs : List Call) (f : Frame) (around : List Frame) (r : Answered) → behind_hash o ≡ None
+    → IsMove (Stop Unexpected) r → IsMove (operand_move limit (operand_step (OperandRead o) kinds.Hash) (OperandRead o) side ws cs f around kinds.Hash) r
+no_layers limit o side ws cs f around r e is =
+    moved _ _ r (ap (λ n. operand_move limit n (OperandRead o) side ws cs f around kinds.Hash) e ∙ end_hash side ws cs o f around) is
 
-pub slice_begun : (limit : ℕ) (o : WrittenOperand) (at next : ℕ) (side : Side) (cs : List Call) (f : Frame) (around : List Frame) (r : Answered) → takes_slice o ≡ true
-    → IsMove (Go (InOperand (InRanges o at [] next RangeWanted) side cs f around)) r
-    → IsMove (operand_move limit (operand_step (OperandRead o) (kinds.OpenRanges at next)) (OperandRead o) side cs f around (kinds.OpenRanges at next)) r
-slice_begun limit o at next side cs f around r e is = rw e is
+pub slice_begun : (limit : ℕ) (o : WrittenOperand) (at next : ℕ) (side : Side) (ws : List Waiting) (cs : List Call) (f : Frame) (around : List Frame) (r : Answered) → takes_slice o ≡ true
+    → IsMove (Go (InOperand (InRanges o at [] next RangeWanted) side ws cs f around)) r
+    → IsMove (operand_move limit (operand_step (OperandRead o) (kinds.OpenRanges at next)) (OperandRead o) side ws cs f around (kinds.OpenRanges at next)) r
+slice_begun limit o at next side ws cs f around r e is = rw e is
 
-pub no_slice : (limit : ℕ) (o : WrittenOperand) (at next : ℕ) (side : Side) (cs : List Call) (f : Frame) (around : List Frame) (r : Answered) → takes_slice o ≡ false
+pub no_slice : (limit : ℕ) (o : WrittenOperand) (at next : ℕ) (side : Side) (ws : List Waiting) (cs : List Call) (f : Frame) (around : List Frame) (r : Answered) → takes_slice o ≡ false
     → IsMove (Stop Unexpected) r
-    → IsMove (operand_move limit (operand_step (OperandRead o) (kinds.OpenRanges at next)) (OperandRead o) side cs f around (kinds.OpenRanges at next)) r
-no_slice limit o at next side cs f around r e is = rw e (moved _ _ r (end_ranges side cs o f around at next) is)
+    → IsMove (operand_move limit (operand_step (OperandRead o) (kinds.OpenRanges at next)) (OperandRead o) side ws cs f around (kinds.OpenRanges at next)) r
+no_slice limit o at next side ws cs f around r e is = rw e (moved _ _ r (end_ranges side ws cs o f around at next) is)
 
-pub mask_begun : (limit : ℕ) (o : WrittenOperand) (at : ℕ) (side : Side) (cs : List Call) (f : Frame) (around : List Frame) (r : Answered) → takes_mask o ≡ true
-    → IsMove (Go (InOperand (MaskWanted o at) side cs f around)) r
-    → IsMove (operand_move limit (operand_step (OperandRead o) (kinds.Mask at)) (OperandRead o) side cs f around (kinds.Mask at)) r
-mask_begun limit o at side cs f around r e is = rw e is
+pub mask_begun : (limit : ℕ) (o : WrittenOperand) (at : ℕ) (side : Side) (ws : List Waiting) (cs : List Call) (f : Frame) (around : List Frame) (r : Answered) → takes_mask o ≡ true
+    → IsMove (Go (InOperand (MaskWanted o at) side ws cs f around)) r
+    → IsMove (operand_move limit (operand_step (OperandRead o) (kinds.Mask at)) (OperandRead o) side ws cs f around (kinds.Mask at)) r
+mask_begun limit o at side ws cs f around r e is = rw e is
 
-pub no_mask : (limit : ℕ) (o : WrittenOperand) (at : ℕ) (side : Side) (cs : List Call) (f : Frame) (around : List Frame) (r : Answered) → takes_mask o ≡ false
+pub no_mask : (limit : ℕ) (o : WrittenOperand) (at : ℕ) (side : Side) (ws : List Waiting) (cs : List Call) (f : Frame) (around : List Frame) (r : Answered) → takes_mask o ≡ false
     → IsMove (Stop Unexpected) r
-    → IsMove (operand_move limit (operand_step (OperandRead o) (kinds.Mask at)) (OperandRead o) side cs f around (kinds.Mask at)) r
-no_mask limit o at side cs f around r e is = rw e (moved _ _ r (end_mask side cs o f around at) is)
+    → IsMove (operand_move limit (operand_step (OperandRead o) (kinds.Mask at)) (OperandRead o) side ws cs f around (kinds.Mask at)) r
+no_mask limit o at side ws cs f around r e is = rw e (moved _ _ r (end_mask side ws cs o f around at) is)
 
 -- within an operand
-pub layers_wanted : (limit : ℕ) (n : Option Spot) (w : Word) (side : Side) (cs : List Call) (f : Frame) (around : List Frame) (kind : Kind) (r : Answered)
-    → IsMove (further n side cs f around) r → IsMove (operand_move limit n (LayersWanted w) side cs f around kind) r
-layers_wanted limit None w side cs f around kind r is = is
-layers_wanted limit (Some s) w side cs f around kind r is = is
+pub layers_wanted : (limit : ℕ) (n : Option Spot) (w : Word) (side : Side) (ws : List Waiting) (cs : List Call) (f : Frame) (around : List Frame) (kind : Kind) (r : Answered)
+    → IsMove (further n side ws cs f around) r → IsMove (operand_move limit n (LayersWanted w) side ws cs f around kind) r
+layers_wanted limit None w side ws cs f around kind r is = is
+layers_wanted limit (Some s) w side ws cs f around kind r is = is
 
-pub in_layers : (limit : ℕ) (n : Option Spot) (w : Word) (done : List LayerRange) (at : ℕ) (spot : LayerSpot) (side : Side) (cs : List Call) (f : Frame) (around : List Frame) (kind : Kind) (r : Answered)
-    → IsMove (further n side cs f around) r → IsMove (operand_move limit n (InLayers w done at spot) side cs f around kind) r
-in_layers limit None w done at spot side cs f around kind r is = is
-in_layers limit (Some s) w done at spot side cs f around kind r is = is
+pub in_layers : (limit : ℕ) (n : Option Spot) (w : Word) (done : List LayerRange) (at : ℕ) (spot : LayerSpot) (side : Side) (ws : List Waiting) (cs : List Call) (f : Frame) (around : List Frame) (kind : Kind) (r : Answered)
+    → IsMove (further n side ws cs f around) r → IsMove (operand_move limit n (InLayers w done at spot) side ws cs f around kind) r
+in_layers limit None w done at spot side ws cs f around kind r is = is
+in_layers limit (Some s) w done at spot side ws cs f around kind r is = is
 
-pub in_ranges : (limit : ℕ) (n : Option Spot) (o : WrittenOperand) (b : ℕ) (done : List SliceRange) (at : ℕ) (spot : RangeSpot) (side : Side) (cs : List Call) (f : Frame) (around : List Frame) (kind : Kind) (r : Answered)
-    → IsMove (further n side cs f around) r → IsMove (operand_move limit n (InRanges o b done at spot) side cs f around kind) r
-in_ranges limit None o b done at spot side cs f around kind r is = is
-in_ranges limit (Some s) o b done at spot side cs f around kind r is = is
+pub in_ranges : (limit : ℕ) (n : Option Spot) (o : WrittenOperand) (b : ℕ) (done : List SliceRange) (at : ℕ) (spot : RangeSpot) (side : Side) (ws : List Waiting) (cs : List Call) (f : Frame) (around : List Frame) (kind : Kind) (r : Answered)
+    → IsMove (further n side ws cs f around) r → IsMove (operand_move limit n (InRanges o b done at spot) side ws cs f around kind) r
+in_ranges limit None o b done at spot side ws cs f around kind r is = is
+in_ranges limit (Some s) o b done at spot side ws cs f around kind r is = is
 
-pub mask_wanted : (limit : ℕ) (n : Option Spot) (o : WrittenOperand) (at : ℕ) (side : Side) (cs : List Call) (f : Frame) (around : List Frame) (kind : Kind) (r : Answered)
-    → IsMove (further n side cs f around) r → IsMove (operand_move limit n (MaskWanted o at) side cs f around kind) r
-mask_wanted limit None o at side cs f around kind r is = is
-mask_wanted limit (Some s) o at side cs f around kind r is = is
+pub mask_wanted : (limit : ℕ) (n : Option Spot) (o : WrittenOperand) (at : ℕ) (side : Side) (ws : List Waiting) (cs : List Call) (f : Frame) (around : List Frame) (kind : Kind) (r : Answered)
+    → IsMove (further n side ws cs f around) r → IsMove (operand_move limit n (MaskWanted o at) side ws cs f around kind) r
+mask_wanted limit None o at side ws cs f around kind r is = is
+mask_wanted limit (Some s) o at side ws cs f around kind r is = is
 
 pub spot_error : (n : Option Spot) (m : Move) (e : Refusal) → IsSpot n (Err e) → IsMove m (Err e)
 spot_error n m (Fault r) h = absurd h
@@ -116,7 +116,7 @@ spot_error n m NoMemory h = tt
 
 -- behind an operator
 pub takes_open : (c : Choice) (o : WrittenOperand) (operator : Operator) (at : ℕ) (f : Frame) (around : List Frame) (r : Answered) → is_open operator ≡ true
-    → IsMove (Go (InOperand OperandWanted (OnRight (Some c) o operator at) [] f around)) r → IsMove (left_end (Some c) o f around (kinds.Compares operator at)) r
+    → IsMove (Go (InOperand OperandWanted (OnRight (Some c) o operator at) [] [] f around)) r → IsMove (left_end (Some c) o f around (kinds.Compares operator at)) r
 takes_open c o operator at f around r e is = rw e is
 
 pub takes_none : (c : Choice) (o : WrittenOperand) (operator : Operator) (at : ℕ) (f : Frame) (around : List Frame) (r : Answered) → is_open operator ≡ false
@@ -149,39 +149,50 @@ pub not_whole : (t : Written) (fs : List Framed) → (length fs == 0) ≡ false 
 not_whole t [] h = cc
 not_whole t (f ∷ fs) h = not_last t (around_of fs) _
 
-call_left : (o : WrittenOperand) (cs : List Call) (call : Call) (side : Side) (f : Frame) (around : List Frame) → whole_operand (OperandRead o) (cs ++ call ∷ []) side f around ≡ None
-call_left o [] call side f around = refl
-call_left o (c ∷ cs) call side f around = refl
+call_left : (o : WrittenOperand) (ws : List Waiting) (cs : List Call) (call : Call) (side : Side) (f : Frame) (around : List Frame)
+    → whole_operand (OperandRead o) ws (cs ++ call ∷ []) side f around ≡ None
+call_left o ws [] call side f around = refl
+call_left o ws (c ∷ cs) call side f around = refl
 
-pub call_not_whole : (o : WrittenOperand) (cs : List Called) (side : Side) (f : Frame) (around : List Frame) → (length cs == 0) ≡ false → whole_operand (OperandRead o) (calls_of cs) side f around ≡ None
-call_not_whole o [] side f around h = cc
-call_not_whole o (c ∷ cs) side f around h = call_left o (calls_of cs) _ side f around
+pub call_not_whole : (o : WrittenOperand) (ws : List Waiting) (cs : List Called) (side : Side) (f : Frame) (around : List Frame) → (length cs == 0) ≡ false
+    → whole_operand (OperandRead o) ws (calls_of cs) side f around ≡ None
+call_not_whole o ws [] side f around h = cc
+call_not_whole o ws (c ∷ cs) side f around h = call_left o ws (calls_of cs) _ side f around
 
-pub further_some : (n : Option Spot) (s : Spot) (side : Side) (cs : List Call) (f : Frame) (around : List Frame) → n ≡ Some s → further n side cs f around ≡ Go (InOperand s side cs f around)
-further_some n s side cs f around e = ap (λ x. further x side cs f around) e
+-- behind a comma
+pub more_taken : (call : Call) (ws : List Waiting) (o : WrittenOperand) (side : Side) (cs : List Call) (f : Frame) (around : List Frame) (r : Answered) → takes_more call.function ≡ true
+    → IsMove (Go (InOperand OperandWanted side (wait Comma ws o) (call ∷ cs) f around)) r → IsMove (call_end call ws o side cs f around kinds.Comma) r
+more_taken call ws o side cs f around r e is = rw e is
 
-pub further_none : (n : Option Spot) (side : Side) (cs : List Call) (f : Frame) (around : List Frame) (r : Answered) → n ≡ None → IsMove (Stop Unexpected) r → IsMove (further n side cs f around) r
-further_none n side cs f around r e is = moved _ _ r (ap (λ x. further x side cs f around) e) is
+pub none_taken : (call : Call) (ws : List Waiting) (o : WrittenOperand) (side : Side) (cs : List Call) (f : Frame) (around : List Frame) (r : Answered) → takes_more call.function ≡ false
+    → IsMove (Stop Unexpected) r → IsMove (call_end call ws o side cs f around kinds.Comma) r
+none_taken call ws o side cs f around r e is = rw e is
+
+pub further_some : (n : Option Spot) (s : Spot) (side : Side) (ws : List Waiting) (cs : List Call) (f : Frame) (around : List Frame) → n ≡ Some s → further n side ws cs f around ≡ Go (InOperand s side ws cs f around)
+further_some n s side ws cs f around e = ap (λ x. further x side ws cs f around) e
+
+pub further_none : (n : Option Spot) (side : Side) (ws : List Waiting) (cs : List Call) (f : Frame) (around : List Frame) (r : Answered) → n ≡ None → IsMove (Stop Unexpected) r → IsMove (further n side ws cs f around) r
+further_none n side ws cs f around r e is = moved _ _ r (ap (λ x. further x side ws cs f around) e) is
 
 -- an operand that is no whole one
-read_same_whole : (s : Spot) (o : WrittenOperand) (cs : List Call) (side : Side) (f : Frame) (around : List Frame) → operand_read s ≡ Some o
-    → whole_operand s cs side f around ≡ whole_operand (OperandRead o) cs side f around
-read_same_whole OperandWanted o cs side f around e = cc
-read_same_whole (OperandRead p) o cs side f around e = let same : p ≡ o = cc in ap (λ x. whole_operand (OperandRead x) cs side f around) same
-read_same_whole (LayersWanted w) o cs side f around e = cc
-read_same_whole (InLayers w done at spot) o cs side f around e = cc
-read_same_whole (InRanges p b done at spot) o cs side f around e = cc
-read_same_whole (MaskWanted p at) o cs side f around e = cc
+read_same_whole : (s : Spot) (o : WrittenOperand) (ws : List Waiting) (cs : List Call) (side : Side) (f : Frame) (around : List Frame) → operand_read s ≡ Some o
+    → whole_operand s ws cs side f around ≡ whole_operand (OperandRead o) ws cs side f around
+read_same_whole OperandWanted o ws cs side f around e = cc
+read_same_whole (OperandRead p) o ws cs side f around e = let same : p ≡ o = cc in ap (λ x. whole_operand (OperandRead x) ws cs side f around) same
+read_same_whole (LayersWanted w) o ws cs side f around e = cc
+read_same_whole (InLayers w done at spot) o ws cs side f around e = cc
+read_same_whole (InRanges p b done at spot) o ws cs side f around e = cc
+read_same_whole (MaskWanted p at) o ws cs side f around e = cc
 
-pub spot_whole : (s : Spot) (o : WrittenOperand) (cs : List Call) (side : Side) (f : Frame) (around : List Frame) (r : Result Ast Refusal) → operand_read s ≡ Some o
-    → IsWhole (whole_operand (OperandRead o) cs side f around) r → IsWhole (whole_operand s cs side f around) r
-spot_whole s o cs side f around r e is = subst (λ t. IsWhole t r) (sym (read_same_whole s o cs side f around e)) is
+pub spot_whole : (s : Spot) (o : WrittenOperand) (ws : List Waiting) (cs : List Call) (side : Side) (f : Frame) (around : List Frame) (r : Result Ast Refusal) → operand_read s ≡ Some o
+    → IsWhole (whole_operand (OperandRead o) ws cs side f around) r → IsWhole (whole_operand s ws cs side f around) r
+spot_whole s o ws cs side f around r e is = subst (λ t. IsWhole t r) (sym (read_same_whole s o ws cs side f around e)) is
 
-pub spot_not_whole : (s : Spot) (cs : List Call) (side : Side) (f : Frame) (around : List Frame) (r : Result Ast Refusal) → operand_read s ≡ None
-    → IsWhole None r → IsWhole (whole_operand s cs side f around) r
-spot_not_whole OperandWanted cs side f around r e is = is
-spot_not_whole (OperandRead o) cs side f around r e is = cc
-spot_not_whole (LayersWanted w) cs side f around r e is = is
-spot_not_whole (InLayers w done at spot) cs side f around r e is = is
-spot_not_whole (InRanges o b done at spot) cs side f around r e is = is
-spot_not_whole (MaskWanted o at) cs side f around r e is = is
+pub spot_not_whole : (s : Spot) (ws : List Waiting) (cs : List Call) (side : Side) (f : Frame) (around : List Frame) (r : Result Ast Refusal) → operand_read s ≡ None
+    → IsWhole None r → IsWhole (whole_operand s ws cs side f around) r
+spot_not_whole OperandWanted ws cs side f around r e is = is
+spot_not_whole (OperandRead o) ws cs side f around r e is = cc
+spot_not_whole (LayersWanted w) ws cs side f around r e is = is
+spot_not_whole (InLayers w done at spot) ws cs side f around r e is = is
+spot_not_whole (InRanges o b done at spot) ws cs side f around r e is = is
+spot_not_whole (MaskWanted o at) ws cs side f around r e is = is

@@ -1,7 +1,7 @@
 -- The tokens that lead to a state of the reading, and what holds of every state that is reached.
 use Rattle.std.proofs.Common.{◌≡◌, ℕ, ◌+◌, ◌<◌, ◌≤◌, true, List, [], ◌∷◌, ◌++◌, length, append_assoc, sym, ap, ◌∙◌, refl}
-use Rattle.flt_parse.specs.Grammar.{IsFilled, IsGrouped, IsOperand, binds, calls, choice, depth, element, layer_range, layers, literal, more_elements, more_layers, more_ranges, not_before, operand, place, range, ranges, set, spelled, strength, takes_mask, takes_operator, takes_slice, unary}
-use Rattle.flt_parse.specs.Parser.Reading.{Left, LeftOf, Frame, Call, Side, OnLeft, OnRight, LayerSpot, LayerWanted, FirstRead, LastWanted, LastRead, RangeSpot, RangeWanted, DigitsWanted, PlaceRead, ColonRead, EndWanted, EndDigitsWanted, CountWanted, PartRead, Spot, OperandWanted, OperandRead, LayersWanted, InLayers, InRanges, MaskWanted, ElementSpot, ElementWanted, LiteralRead, SecondWanted, SecondRead, TailSpot, InWanted, SetWanted, InSet, PatternWanted, State, Want, Have, InOperand, InTail, open_around, open_at}
+use Rattle.flt_parse.specs.Grammar.{IsFilled, IsGrouped, IsOperand, IsTestOperand, binds, calls, choice, depth, element, layer_range, layers, least_in, literal, more_elements, more_layers, more_ranges, not_before, operand, part, place, range, ranges, set, spelled, strength, sum, takes_mask, takes_operator, takes_slice, tightness, unary}
+use Rattle.flt_parse.specs.Parser.Reading.{Left, LeftOf, Frame, Waiting, WaitingFor, Link, Comma, Sign, Call, Side, OnLeft, OnRight, LayerSpot, LayerWanted, FirstRead, LastWanted, LastRead, RangeSpot, RangeWanted, DigitsWanted, PlaceRead, ColonRead, EndWanted, EndDigitsWanted, CountWanted, PartRead, Spot, OperandWanted, OperandRead, LayersWanted, InLayers, InRanges, MaskWanted, ElementSpot, ElementWanted, LiteralRead, SecondWanted, SecondRead, TailSpot, InWanted, SetWanted, InSet, PatternWanted, State, Want, Have, InOperand, InTail, binds_link, open_around, open_at}
 use Rattle.flt_parse.specs.declared.ast.Element.{Element}
 use Rattle.flt_parse.specs.declared.ast.LayerRange.{LayerRange}
 use Rattle.flt_parse.specs.declared.ast.Negation.{Negation}
@@ -29,9 +29,17 @@ abbrev pub print_side : Side → List Kind
 print_side (OnLeft c) = choice c
 print_side (OnRight c l operator at) = choice c ++ (operand l ++ kinds.Compares operator at ∷ [])
 
+abbrev pub link_kind : Link → Kind
+link_kind Comma = kinds.Comma
+link_kind (Sign a at) = kinds.Computes a at
+
+abbrev pub print_waiting : List Waiting → List Kind
+print_waiting [] = []
+print_waiting (WaitingFor l j ∷ ws) = print_waiting ws ++ (operand l ++ link_kind j ∷ [])
+
 abbrev pub print_calls : List Call → List Kind
 print_calls [] = []
-print_calls (call ∷ cs) = print_calls cs ++ kinds.Calls call.function call.at ∷ []
+print_calls (call ∷ cs) = print_calls cs ++ (print_waiting call.waiting ++ kinds.Calls call.function call.at ∷ [])
 
 -- ranges of layers before the one that is read
 abbrev pub layers_between : List LayerRange → ℕ → List Kind
@@ -99,7 +107,8 @@ print_tail (PatternWanted at) = kinds.Matches at ∷ []
 abbrev pub printed : State → List Kind
 printed (Want f k) = print_around k ++ print_frame f
 printed (Have lefts t k) = print_around k ++ (print_lefts lefts ++ spelled t)
-printed (InOperand spot side cs f k) = print_around k ++ (print_frame f ++ (print_side side ++ (print_calls cs ++ print_spot spot)))
+printed (InOperand spot side ws cs f k) =
+    print_around k ++ (print_frame f ++ (print_side side ++ (print_calls cs ++ (print_waiting ws ++ print_spot spot))))
 printed (InTail spot c o f k) = print_around k ++ (print_frame f ++ (choice c ++ (operand o ++ print_tail spot)))
 
 -- the filters that wait bind less tightly than the one that is read
@@ -122,8 +131,28 @@ pub record IsFrame (limit : ℕ) (f : Frame) (k : List Frame) : Type 0 where
   pub around : IsAround limit k
   pub room : open_at f k ≤ limit
 
+-- the operands that wait bind less tightly than the one that is read
+abbrev pub IsUnder : List Waiting → ℕ → Type 0
+IsUnder [] n = Unit {0}
+IsUnder (WaitingFor l i ∷ ws) n = binds_link i < n
+
+-- how loosely operands bind at least in the innermost call, or in a test
+abbrev pub least_of : List Call → ℕ
+least_of [] = sum
+least_of (call ∷ cs) = least_in call.function
+
+-- what waits where so many are open around it, and where operands bind so loosely at least
+abbrev pub IsWaiting : ℕ → ℕ → ℕ → List Waiting → Type 0
+IsWaiting limit count least [] = Unit {0}
+IsWaiting limit count least (WaitingFor l j ∷ ws) =
+    IsOperand l × (binds_link j ≤ tightness l) × (count + calls l ≤ limit) × (least ≤ binds_link j) × IsUnder ws (binds_link j) × IsWaiting limit count least ws
+
+abbrev pub AreCalls : ℕ → ℕ → List Call → Type 0
+AreCalls limit count [] = Unit {0}
+AreCalls limit count (call ∷ cs) = IsWaiting limit (length cs + count) (least_of cs) call.waiting × AreCalls limit count cs
+
 abbrev pub IsSpot : Spot → Type 0
-IsSpot (OperandRead o) = IsOperand o
+IsSpot (OperandRead o) = IsOperand o × (part ≤ tightness o)
 IsSpot (InRanges o bracket done at spot) = IsOperand o × (takes_slice o ≡ true)
 IsSpot (MaskWanted o at) = IsOperand o × (takes_mask o ≡ true)
 IsSpot spot = Unit {0}
@@ -136,13 +165,15 @@ spot_calls spot = 0
 
 abbrev pub IsSide : ℕ → ℕ → Side → Type 0
 IsSide limit count (OnLeft c) = Unit {0}
-IsSide limit count (OnRight c l operator at) = IsOperand l × (takes_operator c operator ≡ true) × (count + calls l ≤ limit)
+IsSide limit count (OnRight c l operator at) = IsTestOperand l × (takes_operator c operator ≡ true) × (count + calls l ≤ limit)
 
 abbrev pub IsGood : ℕ → State → Type 0
 IsGood limit (Want f k) = IsFrame limit f k
 IsGood limit (Have lefts t k) = IsLefts limit (open_around k) lefts × IsAround limit k × IsGrouped t × (unary ≤ strength t) × (open_around k + depth t ≤ limit)
-IsGood limit (InOperand spot side cs f k) = IsFrame limit f k × IsSide limit (open_at f k) side × IsSpot spot × (length cs + open_at f k + spot_calls spot ≤ limit)
-IsGood limit (InTail spot c o f k) = IsFrame limit f k × IsOperand o × (open_at f k + calls o ≤ limit)
+IsGood limit (InOperand spot side ws cs f k) =
+    IsFrame limit f k × IsSide limit (open_at f k) side × IsSpot spot × (length cs + open_at f k + spot_calls spot ≤ limit)
+    × IsWaiting limit (length cs + open_at f k) (least_of cs) ws × AreCalls limit (open_at f k) cs
+IsGood limit (InTail spot c o f k) = IsFrame limit f k × IsTestOperand o × (open_at f k + calls o ≤ limit)
 
 -- one more range, and a comma or the bracket's end behind it
 layers_between_more : (done : List LayerRange) (r : LayerRange) (next : ℕ) → layers_between (done ++ r ∷ []) next ≡ layers_between done r.at ++ (layer_range r ++ kinds.NextRange next ∷ [])

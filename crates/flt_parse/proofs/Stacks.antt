@@ -4,10 +4,12 @@ use Rattle.std.proofs.Math.Seq.{take-length}
 use Rattle.std.proofs.lemmas.Bool.Decides.{nat_tests}
 use Rattle.flt_parse.specs.Grammar.{binds}
 use Rattle.flt_parse.specs.Parser.Reading as reading
-use Rattle.flt_parse.specs.Parser.States.{around_of, frame_of, left_of, reversed}
-use Rattle.flt_parse.specs.Written.{Written, JoinedOf, written}
+use Rattle.flt_parse.specs.Parser.States.{around_of, frame_of, left_of, reversed, waiting_of}
+use Rattle.flt_parse.specs.Written.{Written, WrittenOperand, JoinedOf, operand_of, written}
 use Rattle.flt_parse.specs.declared.state.Frame.{Frame}
 use Rattle.flt_parse.specs.declared.state.Left.{Left}
+use Rattle.flt_parse.specs.declared.state.Link.{Link}
+use Rattle.flt_parse.specs.declared.state.Waiting.{Waiting}
 use Rattle.flt_parse.specs.declared.token.Join.{Join}
 
 pub reversed_push : {A B : Type 0} (f : A → B) (xs : List A) (x : A) → reversed f (xs ++ x ∷ []) ≡ f x ∷ reversed f xs
@@ -44,6 +46,30 @@ pub settle_tighter : (j : Join) (xs : List Left) (x : Left) (t : Written) → lt
     → reading.settle j (reversed left_of (xs ++ x ∷ [])) t ≡ reading.settle j (reversed left_of xs) (JoinedOf x.join (written x.filter) t)
 settle_tighter j xs x t h =
     ap (λ ls. reading.settle j ls t) (reversed_push left_of xs x) ∙ tighter_first j x.join (written x.filter) t (reversed left_of xs) h
+
+-- signs and commas within an operand
+wait_looser_first : (j i : Link) (l o : WrittenOperand) (ws : List reading.Waiting) → ltb (reading.binds_link i) (reading.binds_link j) ≡ true
+    → reading.wait j (reading.WaitingFor l i ∷ ws) o ≡ reading.WaitingFor o j ∷ reading.WaitingFor l i ∷ ws
+wait_looser_first j i l o ws h = let e : leb (reading.binds_link j) (reading.binds_link i) ≡ false = looser_test _ _ h in rw e refl
+
+wait_tighter_first : (j i : Link) (l o : WrittenOperand) (ws : List reading.Waiting) → ltb (reading.binds_link i) (reading.binds_link j) ≡ false
+    → reading.wait j (reading.WaitingFor l i ∷ ws) o ≡ reading.wait j ws (reading.linked i l o)
+wait_tighter_first j i l o ws h = let e : leb (reading.binds_link j) (reading.binds_link i) ≡ true = tighter_test _ _ h in rw e refl
+
+abbrev waiting_as : Waiting → reading.Waiting
+waiting_as w = reading.WaitingFor (operand_of w.operand) w.link
+
+pub wait_looser : (j : Link) (xs : List Waiting) (x : Waiting) (o : WrittenOperand) → ltb (reading.binds_link x.link) (reading.binds_link j) ≡ true
+    → reading.wait j (waiting_of (xs ++ x ∷ [])) o ≡ reading.WaitingFor o j ∷ waiting_of (xs ++ x ∷ [])
+wait_looser j xs x o h =
+    ap (λ ws. reading.wait j ws o) (reversed_push waiting_as xs x)
+    ∙ wait_looser_first j x.link (operand_of x.operand) o (waiting_of xs) h
+    ∙ ap (λ ws. reading.WaitingFor o j ∷ ws) (sym (reversed_push waiting_as xs x))
+
+pub wait_tighter : (j : Link) (xs : List Waiting) (x : Waiting) (o : WrittenOperand) → ltb (reading.binds_link x.link) (reading.binds_link j) ≡ false
+    → reading.wait j (waiting_of (xs ++ x ∷ [])) o ≡ reading.wait j (waiting_of xs) (reading.linked x.link (operand_of x.operand) o)
+wait_tighter j xs x o h =
+    ap (λ ws. reading.wait j ws o) (reversed_push waiting_as xs x) ∙ wait_tighter_first j x.link (operand_of x.operand) o (waiting_of xs) h
 
 -- what is open
 around_last : (fs : List reading.Frame) (f : reading.Frame) → reading.open_around (fs ++ f ∷ []) ≡ reading.open_around fs + suc (length f.nots)

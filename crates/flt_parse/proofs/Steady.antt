@@ -3,9 +3,9 @@ use Rattle.std.proofs.Common.{◌≡◌, ℕ, ◌+◌, ◌<◌, ◌≤◌, Bool,
 use Rattle.std.proofs.lemmas.Bool.{ltb-true, leb-true}
 use Rattle.std.proofs.lemmas.Bool.Decides.{nat_tests}
 use Rattle.std.proofs.lemmas.List.{append-nil}
-use Rattle.flt_parse.specs.Grammar.{IsFilter, IsGrouped, IsOperand, IsTail, binds, calls, calls_behind, choice, depth, element, layer_range, literal, not_before, operand, range, spelled, strength, tail, takes_mask, takes_operator, takes_slice, unary}
-use Rattle.flt_parse.specs.Parser.Reading.{Left, LeftOf, Frame, Call, Side, OnLeft, OnRight, LayerSpot, LayerWanted, FirstRead, LastWanted, LastRead, RangeSpot, RangeWanted, DigitsWanted, PlaceRead, ColonRead, EndWanted, EndDigitsWanted, CountWanted, PartRead, Spot, OperandWanted, OperandRead, LayersWanted, InLayers, InRanges, MaskWanted, ElementSpot, ElementWanted, LiteralRead, SecondWanted, SecondRead, TailSpot, InWanted, SetWanted, InSet, PatternWanted, State, Want, Have, InOperand, InTail, Move, Go, Stop, begin, behind, behind_hash, call_begin, call_end, closing, have, joined, layers_end, layers_step, left_alone, left_end, literal_step, negated, no_frame, not_before_in, open_around, open_at, operand_end, operand_move, operand_step, otherwise, ranges_end, ranges_step, set_done, set_step, settle, step, tail_done, tail_move, tail_step, whole, whole_have, whole_operand, whole_test}
-use Rattle.flt_parse.specs.Written.{Written, WrittenOperand, WrittenTail, NamedOf, CompareOf, JoinedOf, NotOf, GroupOf, AloneOf, TestOf}
+use Rattle.flt_parse.specs.Grammar.{IsFilter, IsGrouped, IsOperand, IsTail, IsTestOperand, binds, calls, calls_behind, choice, depth, element, layer_range, literal, not_before, operand, range, spelled, strength, tail, takes_mask, takes_more, takes_operator, takes_slice, tightness, unary}
+use Rattle.flt_parse.specs.Parser.Reading.{Left, LeftOf, Frame, Waiting, Link, Comma, Sign, Call, Side, OnLeft, OnRight, LayerSpot, LayerWanted, FirstRead, LastWanted, LastRead, RangeSpot, RangeWanted, DigitsWanted, PlaceRead, ColonRead, EndWanted, EndDigitsWanted, CountWanted, PartRead, Spot, OperandWanted, OperandRead, LayersWanted, InLayers, InRanges, MaskWanted, ElementSpot, ElementWanted, LiteralRead, SecondWanted, SecondRead, TailSpot, InWanted, SetWanted, InSet, PatternWanted, State, Want, Have, InOperand, InTail, Move, Go, Stop, all_linked, begin, binds_link, behind, behind_hash, call_begin, call_end, closing, have, joined, layers_end, layers_step, left_alone, left_end, literal_step, negated, no_frame, not_before_in, open_around, open_at, operand_end, operand_move, operand_step, otherwise, ranges_end, ranges_step, set_done, set_step, settle, side_end, step, tail_done, tail_move, tail_step, wait, whole, whole_have, whole_operand, whole_test}
+use Rattle.flt_parse.specs.Written.{Written, WrittenOperand, WrittenTail, NamedOf, CalledOf, CompareOf, JoinedOf, NotOf, GroupOf, AloneOf, TestOf}
 use Rattle.flt_parse.specs.declared.ast.Choice.{Choice}
 use Rattle.flt_parse.specs.declared.ast.Element.{Element}
 use Rattle.flt_parse.specs.declared.ast.Element.TheVariants as elements
@@ -22,15 +22,8 @@ use Rattle.flt_parse.specs.declared.token.Join.TheVariants as joins
 use Rattle.flt_parse.specs.declared.token.Kind.{Kind}
 use Rattle.flt_parse.specs.declared.token.Kind.TheVariants as kinds
 use Rattle.flt_parse.specs.declared.word.Word.{Word}
-use Rattle.flt_parse.proofs.Printed.{IsAround, IsBelow, IsFrame, IsGood, IsLefts, IsSpot, filled, layers_before, layers_closed, layers_more, print_around, print_calls, print_frame, print_layer, print_lefts, print_nots, print_range, print_side, print_spot, print_tail, printed, ranges_before, ranges_closed, ranges_more, set_before, set_closed, set_more, spot_calls}
-
-pub false_less : (m n : ℕ) → leb m n ≡ false → n < m
-false_less m n h = grind (arith, nat_tests)
-
--- what a choice by a test gives
-pub chosen_by : {A : Type 0} (P : A → Type 0) (t : Bool) (x y : A) → (t ≡ true → P x) → (t ≡ false → P y) → P (cond t x y)
-chosen_by P true x y f g = f refl
-chosen_by P false x y f g = g refl
+use Rattle.flt_parse.proofs.Linked.{IsLinked, all_linked_good, chosen_by, false_less, least_more, least_sign, least_sum, link_below, under_part, wait_good}
+use Rattle.flt_parse.proofs.Printed.{IsAround, IsBelow, IsFrame, IsGood, IsLefts, IsSide, IsSpot, filled, least_of, link_kind, layers_before, layers_closed, layers_more, print_around, print_calls, print_frame, print_layer, print_lefts, print_nots, print_range, print_side, print_spot, print_tail, print_waiting, printed, ranges_before, ranges_closed, ranges_more, set_before, set_closed, set_more, spot_calls}
 
 -- operands
 abbrev SpotSteady : ℕ → List Kind → Option Spot → Type 0
@@ -41,7 +34,7 @@ layers_end_steady : (w : Word) (done : List LayerRange) (r : LayerRange) (k : Ki
     → SpotSteady 0 (kinds.Name w ∷ kinds.Hash ∷ (layers_before done r.at ++ (layer_range r ++ k ∷ []))) (layers_end w (done ++ r ∷ []) k)
 layers_end_steady w done r (kinds.NextRange next) =
     (tt, ap (λ ks. kinds.Name w ∷ kinds.Hash ∷ ks) (append-nil (layers_before (done ++ r ∷ []) next) ∙ layers_more done r next), omega arith)
-layers_end_steady w done r kinds.CloseBracket = (filled done r, ap (λ ks. kinds.Name w ∷ kinds.Hash ∷ ks) (layers_closed done r), omega arith)
+layers_end_steady w done r kinds.CloseBracket = ((filled done r, omega arith), ap (λ ks. kinds.Name w ∷ kinds.Hash ∷ ks) (layers_closed done r), omega arith)
 layers_end_steady w done r k = tt
 
 layers_step_steady : (w : Word) (done : List LayerRange) (at : ℕ) (spot : LayerSpot) (k : Kind)
@@ -57,7 +50,7 @@ ranges_end_steady : (o : WrittenOperand) (bracket : ℕ) (done : List SliceRange
     → SpotSteady (calls o) (operand o ++ (ranges_before bracket done r.at ++ (range r.part ++ k ∷ []))) (ranges_end o bracket (done ++ r ∷ []) k)
 ranges_end_steady o bracket done r (kinds.NextRange next) is takes =
     ((is, takes), ap (λ ks. operand o ++ ks) (append-nil (ranges_before bracket (done ++ r ∷ []) next) ∙ ranges_more bracket done r next), omega arith)
-ranges_end_steady o bracket done r kinds.CloseBracket is takes = ((is, takes, filled done r), ap (λ ks. operand o ++ ks) (ranges_closed bracket done r), omega arith)
+ranges_end_steady o bracket done r kinds.CloseBracket is takes = (((is, takes, filled done r), omega arith), ap (λ ks. operand o ++ ks) (ranges_closed bracket done r), omega arith)
 ranges_end_steady o bracket done r k is takes = tt
 
 ranges_step_steady : (o : WrittenOperand) (bracket : ℕ) (done : List SliceRange) (at : ℕ) (spot : RangeSpot) (k : Kind) → IsOperand o → takes_slice o ≡ true
@@ -83,16 +76,16 @@ hash_steady (NamedOf w) = (tt, refl, omega arith)
 hash_steady o = tt
 
 operand_step_steady : (spot : Spot) (k : Kind) → IsSpot spot → SpotSteady (spot_calls spot) (print_spot spot ++ k ∷ []) (operand_step spot k)
-operand_step_steady OperandWanted (kinds.Text q) is = (tt, refl, omega arith)
-operand_step_steady OperandWanted (kinds.Name w) is = (tt, refl, omega arith)
+operand_step_steady OperandWanted (kinds.Text q) is = ((tt, omega arith), refl, omega arith)
+operand_step_steady OperandWanted (kinds.Name w) is = ((tt, omega arith), refl, omega arith)
 operand_step_steady (OperandRead o) kinds.Hash is = hash_steady o
 operand_step_steady (OperandRead o) (kinds.OpenRanges at next) is =
     chosen_by (SpotSteady (calls o) (operand o ++ kinds.OpenRanges at next ∷ [])) (takes_slice o) (Some (InRanges o at [] next RangeWanted)) None
-    (λ takes. ((is, takes), refl, omega arith)) (λ takes. tt)
+    (λ takes. ((is.0, takes), refl, omega arith)) (λ takes. tt)
 operand_step_steady (OperandRead o) (kinds.Mask at) is =
     chosen_by (SpotSteady (calls o) (operand o ++ kinds.Mask at ∷ [])) (takes_mask o) (Some (MaskWanted o at)) None
-    (λ takes. ((is, takes), refl, omega arith)) (λ takes. tt)
-operand_step_steady (LayersWanted w) (kinds.LayerNumber l) is = (tt, refl, omega arith)
+    (λ takes. ((is.0, takes), refl, omega arith)) (λ takes. tt)
+operand_step_steady (LayersWanted w) (kinds.LayerNumber l) is = ((tt, omega arith), refl, omega arith)
 operand_step_steady (LayersWanted w) (kinds.OpenLayers next) is = (tt, refl, omega arith)
 operand_step_steady (InLayers w done at spot) k is =
     subst (λ ks. SpotSteady 0 ks (layers_step w done at spot k)) (ap (λ ks. kinds.Name w ∷ kinds.Hash ∷ ks) (sym (append_assoc (layers_before done at) (print_layer spot) (k ∷ []))))
@@ -101,7 +94,7 @@ operand_step_steady (InRanges o bracket done at spot) k is =
     subst (λ ks. SpotSteady (calls o) ks (ranges_step o bracket done at spot k))
     (sym (append_assoc (operand o) (ranges_before bracket done at ++ print_range spot) (k ∷ []) ∙ ap (λ ks. operand o ++ ks) (append_assoc (ranges_before bracket done at) (print_range spot) (k ∷ []))))
     (ranges_step_steady o bracket done at spot k is.0 is.1)
-operand_step_steady (MaskWanted o at) (kinds.Name w) is = ((is.0, is.1), sym (append_assoc (operand o) (kinds.Mask at ∷ []) (kinds.Name w ∷ [])), omega arith)
+operand_step_steady (MaskWanted o at) (kinds.Name w) is = (((is.0, is.1), omega arith), sym (append_assoc (operand o) (kinds.Mask at ∷ []) (kinds.Name w ∷ [])), omega arith)
 operand_step_steady spot k is = tt
 
 -- filters
@@ -212,70 +205,116 @@ behind_test limit f around t k frame is =
     (behind_steady limit f.lefts (negated f.nots t) around k both.0)
 
 -- behind an operand
-not_steady : (limit : ℕ) (n : Negation) (c : Option Choice) (o : WrittenOperand) (f : Frame) (around : List Frame) → IsFrame limit f around → IsOperand o → open_at f around + calls o ≤ limit
-    → Steady limit (printed (InOperand (OperandRead o) (OnLeft c) [] f around) ++ kinds.Negates n ∷ []) (not_before_in n c o f around)
+not_steady : (limit : ℕ) (n : Negation) (c : Option Choice) (o : WrittenOperand) (f : Frame) (around : List Frame) → IsFrame limit f around → IsTestOperand o → open_at f around + calls o ≤ limit
+    → Steady limit (printed (InOperand (OperandRead o) (OnLeft c) [] [] f around) ++ kinds.Negates n ∷ []) (not_before_in n c o f around)
 not_steady limit negations.Word c o f around frame is room = ((frame, is, room), simp append_assoc)
 not_steady limit negations.Sign c o f around frame is room = tt
 
-left_alone_steady : (limit : ℕ) (c : Option Choice) (o : WrittenOperand) (f : Frame) (around : List Frame) (k : Kind) → IsFrame limit f around → IsOperand o → open_at f around + calls o ≤ limit
-    → Steady limit (printed (InOperand (OperandRead o) (OnLeft c) [] f around) ++ k ∷ []) (left_alone c o f around k)
+left_alone_steady : (limit : ℕ) (c : Option Choice) (o : WrittenOperand) (f : Frame) (around : List Frame) (k : Kind) → IsFrame limit f around → IsTestOperand o → open_at f around + calls o ≤ limit
+    → Steady limit (printed (InOperand (OperandRead o) (OnLeft c) [] [] f around) ++ k ∷ []) (left_alone c o f around k)
 left_alone_steady limit None o f around k frame is room = behind_test limit f around (AloneOf o) k frame (record { grouped = is; tight = omega arith; room = room })
 left_alone_steady limit (Some c) o f around k frame is room = tt
 
-left_end_steady : (limit : ℕ) (c : Option Choice) (o : WrittenOperand) (f : Frame) (around : List Frame) (k : Kind) → IsFrame limit f around → IsOperand o → open_at f around + calls o ≤ limit
-    → Steady limit (printed (InOperand (OperandRead o) (OnLeft c) [] f around) ++ k ∷ []) (left_end c o f around k)
+left_end_steady : (limit : ℕ) (c : Option Choice) (o : WrittenOperand) (f : Frame) (around : List Frame) (k : Kind) → IsFrame limit f around → IsTestOperand o → open_at f around + calls o ≤ limit
+    → Steady limit (printed (InOperand (OperandRead o) (OnLeft c) [] [] f around) ++ k ∷ []) (left_end c o f around k)
 left_end_steady limit c o f around (kinds.Compares operator at) frame is room =
-    chosen_by (Steady limit (printed (InOperand (OperandRead o) (OnLeft c) [] f around) ++ kinds.Compares operator at ∷ [])) (takes_operator c operator)
-    (Go (InOperand OperandWanted (OnRight c o operator at) [] f around)) (Stop Unexpected)
-    (λ takes. ((frame, (is, takes, room), tt, omega (arith, frame.room)), simp (append_assoc, append-nil)))
+    chosen_by (Steady limit (printed (InOperand (OperandRead o) (OnLeft c) [] [] f around) ++ kinds.Compares operator at ∷ [])) (takes_operator c operator)
+    (Go (InOperand OperandWanted (OnRight c o operator at) [] [] f around)) (Stop Unexpected)
+    (λ takes. ((frame, (is, takes, room), tt, omega (arith, frame.room), tt, tt), simp (append_assoc, append-nil)))
     (λ takes. tt)
 left_end_steady limit c o f around (kinds.Negates n) frame is room = not_steady limit n c o f around frame is room
 left_end_steady limit c o f around kinds.In frame is room = ((frame, is, room), simp append_assoc)
 left_end_steady limit c o f around (kinds.Matches at) frame is room = ((frame, is, room), simp append_assoc)
 left_end_steady limit c o f around k frame is room = left_alone_steady limit c o f around k frame is room
 
-call_end_steady : (limit : ℕ) (call : Call) (o : WrittenOperand) (side : Side) (cs : List Call) (f : Frame) (around : List Frame) (k : Kind) → IsGood limit (InOperand (OperandRead o) side (call ∷ cs) f around)
-    → Steady limit (printed (InOperand (OperandRead o) side (call ∷ cs) f around) ++ k ∷ []) (call_end call o side cs f around k)
-call_end_steady limit call o side cs f around kinds.Close is = ((is.0, is.1, is.2, let room = is.3 in omega arith), simp append_assoc)
-call_end_steady limit call o side cs f around k is = tt
+-- all that waits in a call, or in a test, with the operand behind it
+linked_in : (limit : ℕ) (side : Side) (ws : List Waiting) (cs : List Call) (o : WrittenOperand) (f : Frame) (around : List Frame) → IsGood limit (InOperand (OperandRead o) side ws cs f around)
+    → IsLinked limit (length cs + open_at f around) (least_of cs) (print_waiting ws ++ operand o) (all_linked ws o)
+linked_in limit side ws cs o f around is =
+    let spot = is.2 in
+    let tight = spot.1 in
+    let room = is.3 in
+    let least = least_sum cs in
+    all_linked_good limit (length cs + open_at f around) (least_of cs) ws o is.4 spot.0 (omega arith) (under_part ws (tightness o) tight) (omega arith)
 
-operand_end_steady : (limit : ℕ) (side : Side) (cs : List Call) (o : WrittenOperand) (f : Frame) (around : List Frame) (k : Kind) → IsGood limit (InOperand (OperandRead o) side cs f around)
-    → Steady limit (printed (InOperand (OperandRead o) side cs f around) ++ k ∷ []) (operand_end side cs o f around k)
-operand_end_steady limit side (call ∷ cs) o f around k is = call_end_steady limit call o side cs f around k is
-operand_end_steady limit (OnLeft c) [] o f around k is = left_end_steady limit c o f around k is.0 is.2 (let room = is.3 in omega arith)
-operand_end_steady limit (OnRight c l operator at) [] o f around k is =
+-- behind a sign or a comma
+link_steady : (limit : ℕ) (j : Link) (side : Side) (ws : List Waiting) (cs : List Call) (o : WrittenOperand) (f : Frame) (around : List Frame) → IsGood limit (InOperand (OperandRead o) side ws cs f around)
+    → least_of cs ≤ binds_link j
+    → Steady limit (printed (InOperand (OperandRead o) side ws cs f around) ++ link_kind j ∷ []) (Go (InOperand OperandWanted side (wait j ws o) cs f around))
+link_steady limit j side ws cs o f around is loose =
+    let spot = is.2 in
+    let tight = spot.1 in
+    let below = link_below j in
+    let room = is.3 in
+    let awaited = wait_good limit (length cs + open_at f around) (least_of cs) j ws o is.4 spot.0 (under_part ws (tightness o) tight) (omega arith) loose (omega arith) in (
+      (is.0, is.1, tt, omega arith, awaited.waiting, is.5),
+      ap (λ ks. print_around around ++ (print_frame f ++ (print_side side ++ (print_calls cs ++ ks)))) (append-nil (print_waiting (wait j ws o)) ∙ awaited.spells)
+          ∙ simp append_assoc,
+    )
+
+call_end_steady : (limit : ℕ) (call : Call) (ws : List Waiting) (o : WrittenOperand) (side : Side) (cs : List Call) (f : Frame) (around : List Frame) (k : Kind) → IsGood limit (InOperand (OperandRead o) side ws (call ∷ cs) f around)
+    → Steady limit (printed (InOperand (OperandRead o) side ws (call ∷ cs) f around) ++ k ∷ []) (call_end call ws o side cs f around k)
+call_end_steady limit call ws o side cs f around kinds.Close is =
+    let all = linked_in limit side ws (call ∷ cs) o f around is in
+    let outside = is.5 in (
+      (is.0, is.1, ((all.good, all.loose), omega arith), let room = all.room in omega arith, outside.0, outside.1),
+      ap (λ ks. print_around around ++ (print_frame f ++ (print_side side ++ (print_calls cs ++ (print_waiting call.waiting ++ kinds.Calls call.function call.at ∷ (ks ++ kinds.Close ∷ []))))))
+          all.spells ∙ simp append_assoc,
+    )
+call_end_steady limit call ws o side cs f around kinds.Comma is =
+    chosen_by (Steady limit (printed (InOperand (OperandRead o) side ws (call ∷ cs) f around) ++ kinds.Comma ∷ [])) (takes_more call.function)
+    (Go (InOperand OperandWanted side (wait Comma ws o) (call ∷ cs) f around)) (Stop Unexpected)
+    (λ more. link_steady limit Comma side ws (call ∷ cs) o f around is (let least = least_more call.function more in omega arith))
+    (λ none. tt)
+call_end_steady limit call ws o side cs f around k is = tt
+
+side_end_steady : (limit : ℕ) (side : Side) (ws : List Waiting) (cs : List Call) (o : WrittenOperand) (f : Frame) (around : List Frame) (k : Kind) → IsGood limit (InOperand (OperandRead o) side ws cs f around)
+    → Steady limit (printed (InOperand (OperandRead o) side ws cs f around) ++ k ∷ []) (side_end side ws cs o f around k)
+side_end_steady limit side ws (call ∷ cs) o f around k is = call_end_steady limit call ws o side cs f around k is
+side_end_steady limit (OnLeft c) ws [] o f around k is =
+    let all = linked_in limit (OnLeft c) ws [] o f around is in
+    subst (λ ks. Steady limit ((print_around around ++ (print_frame f ++ (choice c ++ ks))) ++ k ∷ []) (left_end c (all_linked ws o) f around k)) all.spells
+    (left_end_steady limit c (all_linked ws o) f around k is.0 (all.good, all.loose) (let room = all.room in omega arith))
+side_end_steady limit (OnRight c l operator at) ws [] o f around k is =
+    let all = linked_in limit (OnRight c l operator at) ws [] o f around is in
     let left = is.1 in
-    let here : open_at f around + calls o ≤ limit = let room = is.3 in omega arith in
+    let here : open_at f around + calls (all_linked ws o) ≤ limit = let room = all.room in omega arith in
     let there : open_at f around + calls l ≤ limit = left.2 in
-    let test : Written = TestOf c l (CompareOf operator at o) in
-    subst (λ ks. Steady limit (print_around around ++ (print_frame f ++ ks) ++ k ∷ []) (behind f.lefts (negated f.nots test) around k)) (simp append_assoc)
-    (behind_test limit f around test k is.0 (record { grouped = (left.0, (is.2, left.1)); tight = omega arith; room = omega arith }))
+    let test : Written = TestOf c l (CompareOf operator at (all_linked ws o)) in
+    subst (λ ks. Steady limit ks (behind f.lefts (negated f.nots test) around k))
+    (ap (λ ks. (print_around around ++ (print_frame f ++ (choice c ++ (operand l ++ kinds.Compares operator at ∷ ks)))) ++ k ∷ []) all.spells ∙ simp append_assoc)
+    (behind_test limit f around test k is.0 (record { grouped = (left.0, ((all.good, all.loose), left.1)); tight = omega arith; room = omega arith }))
 
-call_begin_steady : (limit : ℕ) (side : Side) (cs : List Call) (f : Frame) (around : List Frame) (k : Kind) → IsGood limit (InOperand OperandWanted side cs f around)
-    → Steady limit (printed (InOperand OperandWanted side cs f around) ++ k ∷ []) (call_begin limit side cs f around k)
-call_begin_steady limit side cs f around (kinds.Calls function at) is =
-    chosen_by (Steady limit (printed (InOperand OperandWanted side cs f around) ++ kinds.Calls function at ∷ [])) (ltb (length cs + open_at f around) limit)
-    (Go (InOperand OperandWanted side ((record { function = function; at = at }) ∷ cs) f around)) (Stop TooDeep)
-    (λ less. let room = ltb-true _ _ less in ((is.0, is.1, tt, omega arith), simp (append_assoc, append-nil)))
+operand_end_steady : (limit : ℕ) (side : Side) (ws : List Waiting) (cs : List Call) (o : WrittenOperand) (f : Frame) (around : List Frame) (k : Kind) → IsGood limit (InOperand (OperandRead o) side ws cs f around)
+    → Steady limit (printed (InOperand (OperandRead o) side ws cs f around) ++ k ∷ []) (operand_end side ws cs o f around k)
+operand_end_steady limit side ws cs o f around (kinds.Computes a at) is = link_steady limit (Sign a at) side ws cs o f around is (least_sign cs a)
+operand_end_steady limit side ws cs o f around k is = side_end_steady limit side ws cs o f around k is
+
+call_begin_steady : (limit : ℕ) (side : Side) (ws : List Waiting) (cs : List Call) (f : Frame) (around : List Frame) (k : Kind) → IsGood limit (InOperand OperandWanted side ws cs f around)
+    → Steady limit (printed (InOperand OperandWanted side ws cs f around) ++ k ∷ []) (call_begin limit side ws cs f around k)
+call_begin_steady limit side ws cs f around (kinds.Calls function at) is =
+    chosen_by (Steady limit (printed (InOperand OperandWanted side ws cs f around) ++ kinds.Calls function at ∷ [])) (ltb (length cs + open_at f around) limit)
+    (Go (InOperand OperandWanted side [] ((record { function = function; at = at; waiting = ws }) ∷ cs) f around)) (Stop TooDeep)
+    (λ less. let room = ltb-true _ _ less in ((is.0, is.1, tt, omega arith, tt, (is.4, is.5)), simp (append_assoc, append-nil)))
     (λ less. tt)
-call_begin_steady limit side cs f around k is = tt
+call_begin_steady limit side ws cs f around k is = tt
 
-otherwise_steady : (limit : ℕ) (spot : Spot) (side : Side) (cs : List Call) (f : Frame) (around : List Frame) (k : Kind) → IsGood limit (InOperand spot side cs f around)
-    → Steady limit (printed (InOperand spot side cs f around) ++ k ∷ []) (otherwise limit spot side cs f around k)
-otherwise_steady limit OperandWanted side cs f around k is = call_begin_steady limit side cs f around k is
-otherwise_steady limit (OperandRead o) side cs f around k is = operand_end_steady limit side cs o f around k is
-otherwise_steady limit spot side cs f around k is = tt
+otherwise_steady : (limit : ℕ) (spot : Spot) (side : Side) (ws : List Waiting) (cs : List Call) (f : Frame) (around : List Frame) (k : Kind) → IsGood limit (InOperand spot side ws cs f around)
+    → Steady limit (printed (InOperand spot side ws cs f around) ++ k ∷ []) (otherwise limit spot side ws cs f around k)
+otherwise_steady limit OperandWanted side ws cs f around k is = call_begin_steady limit side ws cs f around k is
+otherwise_steady limit (OperandRead o) side ws cs f around k is = operand_end_steady limit side ws cs o f around k is
+otherwise_steady limit spot side ws cs f around k is = tt
 
-operand_move_steady : (limit : ℕ) (next : Option Spot) (spot : Spot) (side : Side) (cs : List Call) (f : Frame) (around : List Frame) (k : Kind) → IsGood limit (InOperand spot side cs f around)
+operand_move_steady : (limit : ℕ) (next : Option Spot) (spot : Spot) (side : Side) (ws : List Waiting) (cs : List Call) (f : Frame) (around : List Frame) (k : Kind) → IsGood limit (InOperand spot side ws cs f around)
     → SpotSteady (spot_calls spot) (print_spot spot ++ k ∷ []) next
-    → Steady limit (printed (InOperand spot side cs f around) ++ k ∷ []) (operand_move limit next spot side cs f around k)
-operand_move_steady limit (Some next) spot side cs f around k is steady =
+    → Steady limit (printed (InOperand spot side ws cs f around) ++ k ∷ []) (operand_move limit next spot side ws cs f around k)
+operand_move_steady limit (Some next) spot side ws cs f around k is steady =
     let room = is.3 in
     let fewer = steady.2 in (
-      (is.0, is.1, steady.0, omega arith),
-      ap (λ ks. print_around around ++ (print_frame f ++ (print_side side ++ (print_calls cs ++ ks)))) steady.1 ∙ simp append_assoc,
+      (is.0, is.1, steady.0, omega arith, is.4, is.5),
+      ap (λ ks. print_around around ++ (print_frame f ++ (print_side side ++ (print_calls cs ++ (print_waiting ws ++ ks))))) steady.1 ∙ simp append_assoc,
     )
-operand_move_steady limit None spot side cs f around k is steady = otherwise_steady limit spot side cs f around k is
+operand_move_steady limit None spot side ws cs f around k is steady = otherwise_steady limit spot side ws cs f around k is
 
 -- what follows the left operand
 abbrev TailSteady : List Kind → Option TailSpot → Type 0
@@ -335,10 +374,10 @@ tail_move_steady limit None None spot c o f around k is steady good = tt
 
 -- where a filter begins
 begin_operand : (limit : ℕ) (f : Frame) (around : List Frame) (k : Kind) → IsFrame limit f around
-    → Steady limit (printed (Want f around) ++ k ∷ []) (operand_move limit (operand_step OperandWanted k) OperandWanted (OnLeft None) [] f around k)
+    → Steady limit (printed (Want f around) ++ k ∷ []) (operand_move limit (operand_step OperandWanted k) OperandWanted (OnLeft None) [] [] f around k)
 begin_operand limit f around k frame =
-    subst (λ ks. Steady limit (print_around around ++ ks ++ k ∷ []) (operand_move limit (operand_step OperandWanted k) OperandWanted (OnLeft None) [] f around k)) (append-nil (print_frame f))
-    (operand_move_steady limit (operand_step OperandWanted k) OperandWanted (OnLeft None) [] f around k (frame, tt, tt, let room = frame.room in omega arith) (operand_step_steady OperandWanted k tt))
+    subst (λ ks. Steady limit (print_around around ++ ks ++ k ∷ []) (operand_move limit (operand_step OperandWanted k) OperandWanted (OnLeft None) [] [] f around k)) (append-nil (print_frame f))
+    (operand_move_steady limit (operand_step OperandWanted k) OperandWanted (OnLeft None) [] [] f around k (frame, tt, tt, let room = frame.room in omega arith, tt, tt) (operand_step_steady OperandWanted k tt))
 
 begin_steady : (limit : ℕ) (f : Frame) (around : List Frame) (k : Kind) → IsFrame limit f around → Steady limit (printed (Want f around) ++ k ∷ []) (begin limit f around k)
 begin_steady limit f around (kinds.Negates n) frame =
@@ -351,13 +390,13 @@ begin_steady limit f around kinds.Open frame =
     (Go (Want no_frame (f ∷ around))) (Stop TooDeep)
     (λ less. let room = ltb-true _ _ less in (record { lefts = tt; around = (frame.lefts, frame.around); room = omega arith }, simp (append_assoc, append-nil)))
     (λ less. tt)
-begin_steady limit f around (kinds.Chooses c) frame = ((frame, tt, tt, let room = frame.room in omega arith), simp append_assoc)
+begin_steady limit f around (kinds.Chooses c) frame = ((frame, tt, tt, let room = frame.room in omega arith, tt, tt), simp append_assoc)
 begin_steady limit f around k frame = begin_operand limit f around k frame
 
 pub step_steady : (limit : ℕ) (s : State) (k : Kind) → IsGood limit s → Steady limit (printed s ++ k ∷ []) (step limit s k)
 step_steady limit (Want f around) k is = begin_steady limit f around k is
 step_steady limit (Have lefts t around) k is = behind_steady limit lefts t around k is
-step_steady limit (InOperand spot side cs f around) k is = operand_move_steady limit (operand_step spot k) spot side cs f around k is (operand_step_steady spot k is.2)
+step_steady limit (InOperand spot side ws cs f around) k is = operand_move_steady limit (operand_step spot k) spot side ws cs f around k is (operand_step_steady spot k is.2)
 step_steady limit (InTail spot c o f around) k is = tail_move_steady limit (tail_step spot k) (tail_done spot k) spot c o f around k is (tail_step_steady spot k) (tail_done_good c spot k)
 
 pub steady : (limit : ℕ) (s next : State) (k : Kind) → IsGood limit s → step limit s k ≡ Go next → IsGood limit next × (printed next ≡ printed s ++ k ∷ [])
@@ -381,26 +420,31 @@ whole_frame limit f around t frame is =
     subst (λ ks. WholeGood limit ks (whole_have (joined f.lefts (negated f.nots t)) around)) both.1
     (whole_have_good limit f.lefts (negated f.nots t) around both.0)
 
-whole_test_good : (limit : ℕ) (side : Side) (o : WrittenOperand) (f : Frame) (around : List Frame) → IsGood limit (InOperand (OperandRead o) side [] f around)
-    → WholeGood limit (printed (InOperand (OperandRead o) side [] f around)) (whole_test side o f around)
-whole_test_good limit (OnLeft None) o f around is = whole_frame limit f around (AloneOf o) is.0 (record { grouped = is.2; tight = omega arith; room = let room = is.3 in omega arith })
-whole_test_good limit (OnLeft (Some c)) o f around is = tt
-whole_test_good limit (OnRight c l operator at) o f around is =
+whole_test_good : (limit : ℕ) (side : Side) (ws : List Waiting) (o : WrittenOperand) (f : Frame) (around : List Frame) → IsGood limit (InOperand (OperandRead o) side ws [] f around)
+    → WholeGood limit (printed (InOperand (OperandRead o) side ws [] f around)) (whole_test side (all_linked ws o) f around)
+whole_test_good limit (OnLeft None) ws o f around is =
+    let all = linked_in limit (OnLeft None) ws [] o f around is in
+    subst (λ ks. WholeGood limit (print_around around ++ (print_frame f ++ ks)) (whole_test (OnLeft None) (all_linked ws o) f around)) all.spells
+    (whole_frame limit f around (AloneOf (all_linked ws o)) is.0 (record { grouped = (all.good, all.loose); tight = omega arith; room = let room = all.room in omega arith }))
+whole_test_good limit (OnLeft (Some c)) ws o f around is = tt
+whole_test_good limit (OnRight c l operator at) ws o f around is =
+    let all = linked_in limit (OnRight c l operator at) ws [] o f around is in
     let left = is.1 in
-    let here : open_at f around + calls o ≤ limit = let room = is.3 in omega arith in
+    let here : open_at f around + calls (all_linked ws o) ≤ limit = let room = all.room in omega arith in
     let there : open_at f around + calls l ≤ limit = left.2 in
-    let test : Written = TestOf c l (CompareOf operator at o) in
-    subst (λ ks. WholeGood limit (print_around around ++ (print_frame f ++ ks)) (whole_have (joined f.lefts (negated f.nots test)) around)) (simp append_assoc)
-    (whole_frame limit f around test is.0 (record { grouped = (left.0, (is.2, left.1)); tight = omega arith; room = omega arith }))
+    let test : Written = TestOf c l (CompareOf operator at (all_linked ws o)) in
+    subst (λ ks. WholeGood limit (print_around around ++ (print_frame f ++ ks)) (whole_have (joined f.lefts (negated f.nots test)) around))
+    (ap (λ ks. choice c ++ (operand l ++ kinds.Compares operator at ∷ ks)) all.spells ∙ simp append_assoc)
+    (whole_frame limit f around test is.0 (record { grouped = (left.0, ((all.good, all.loose), left.1)); tight = omega arith; room = omega arith }))
 
-whole_operand_good : (limit : ℕ) (spot : Spot) (cs : List Call) (side : Side) (f : Frame) (around : List Frame) → IsGood limit (InOperand spot side cs f around)
-    → WholeGood limit (printed (InOperand spot side cs f around)) (whole_operand spot cs side f around)
-whole_operand_good limit (OperandRead o) [] side f around is = whole_test_good limit side o f around is
-whole_operand_good limit spot cs side f around is = tt
+whole_operand_good : (limit : ℕ) (spot : Spot) (ws : List Waiting) (cs : List Call) (side : Side) (f : Frame) (around : List Frame) → IsGood limit (InOperand spot side ws cs f around)
+    → WholeGood limit (printed (InOperand spot side ws cs f around)) (whole_operand spot ws cs side f around)
+whole_operand_good limit (OperandRead o) ws [] side f around is = whole_test_good limit side ws o f around is
+whole_operand_good limit spot ws cs side f around is = tt
 
 whole_steady : (limit : ℕ) (s : State) → IsGood limit s → WholeGood limit (printed s) (whole s)
 whole_steady limit (Have lefts t around) is = whole_have_good limit lefts t around is
-whole_steady limit (InOperand spot side cs f around) is = whole_operand_good limit spot cs side f around is
+whole_steady limit (InOperand spot side ws cs f around) is = whole_operand_good limit spot ws cs side f around is
 whole_steady limit (Want f around) is = tt
 whole_steady limit (InTail spot c o f around) is = tt
 

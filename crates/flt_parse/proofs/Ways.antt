@@ -1,7 +1,8 @@
 -- From each state some tokens lead to a filter; more may be open under a larger limit.
 use Rattle.std.proofs.Common.{◌≡◌, ℕ, suc, ◌+◌, ◌<◌, ◌≤◌, ◌⊎◌, inl, inr, Bool, true, false, List, [], ◌∷◌, length, Option, Some, None, cond, ltb, arith, sym, ap, ◌∙◌, refl, subst}
 use Rattle.std.proofs.lemmas.Bool.{lt-ltb, ltb-true}
-use Rattle.flt_parse.specs.Parser.Reading.{Left, Frame, Call, Side, OnLeft, OnRight, LayerWanted, FirstRead, LastWanted, LastRead, RangeWanted, DigitsWanted, PlaceRead, ColonRead, EndWanted, EndDigitsWanted, CountWanted, PartRead, Spot, OperandWanted, OperandRead, LayersWanted, InLayers, InRanges, MaskWanted, ElementWanted, LiteralRead, SecondWanted, SecondRead, TailSpot, InWanted, SetWanted, InSet, PatternWanted, State, Want, Have, InOperand, InTail, Move, Go, Stop, Whole, Bad, begin, behind, call_begin, call_end, closing, have, joined, left_alone, left_end, negated, not_before_in, open_at, operand_end, operand_move, operand_step, opens, otherwise, step, tail_done, tail_move, tail_step, then_go}
+use Rattle.flt_parse.specs.Parser.Reading.{Left, Frame, Waiting, Call, Side, OnLeft, OnRight, LayerWanted, FirstRead, LastWanted, LastRead, RangeWanted, DigitsWanted, PlaceRead, ColonRead, EndWanted, EndDigitsWanted, CountWanted, PartRead, Spot, OperandWanted, OperandRead, LayersWanted, InLayers, InRanges, MaskWanted, ElementWanted, LiteralRead, SecondWanted, SecondRead, TailSpot, InWanted, SetWanted, InSet, PatternWanted, State, Want, Have, InOperand, InTail, Move, Go, Stop, Whole, Bad, all_linked, begin, behind, call_begin, call_end, closing, have, joined, left_alone, left_end, negated, not_before_in, open_at, operand_end, operand_move, operand_step, opens, otherwise, side_end, step, tail_done, tail_move, tail_step, then_go}
+use Rattle.flt_parse.specs.Grammar.{takes_more}
 use Rattle.flt_parse.specs.Written.{Written, WrittenOperand, WrittenTail, CalledOf, CompareOf, MatchesOf, GroupOf, AloneOf, TestOf}
 use Rattle.flt_parse.specs.declared.ast.Choice.{Choice}
 use Rattle.flt_parse.specs.declared.ast.Element.{Element}
@@ -16,7 +17,7 @@ use Rattle.flt_parse.specs.declared.word.Quote.{Quote}
 use Rattle.flt_parse.specs.declared.word.Word.{Word}
 use Rattle.flt_parse.proofs.Complete.{Follows, over}
 use Rattle.flt_parse.proofs.Printed.{IsFrame, IsGood}
-use Rattle.flt_parse.proofs.Steady.{chosen_by}
+use Rattle.flt_parse.proofs.Linked.{chosen_by}
 
 -- some tokens that lead to a filter
 pub record Way (limit : ℕ) (s : State) : Type 0 where
@@ -43,22 +44,22 @@ out_have limit (f ∷ around) lefts t =
     let outer = out_have limit around f.lefts (negated f.nots (GroupOf (joined lefts t))) in
     record { tokens = kinds.Close ∷ outer.tokens; filter = outer.filter; leads = outer.leads; follows = tt }
 
-right_out : (limit : ℕ) (c : Option Choice) (l : WrittenOperand) (operator : Operator) (at : ℕ) (o : WrittenOperand) (f : Frame) (around : List Frame) (n : ℕ) (rest : List Kind) → Follows n rest
-    → over limit (InOperand (OperandRead o) (OnRight c l operator at) [] f around) rest ≡ over limit (have f around (TestOf c l (CompareOf operator at o))) rest
-right_out limit c l operator at o f around n [] h = refl
-right_out limit c l operator at o f around n (kinds.Close ∷ rest) h = refl
-right_out limit c l operator at o f around n (kinds.Joins j ∷ rest) h = refl
-right_out limit c l operator at o f around n (k ∷ rest) h = absurd h
+right_out : (limit : ℕ) (c : Option Choice) (l : WrittenOperand) (operator : Operator) (at : ℕ) (ws : List Waiting) (o : WrittenOperand) (f : Frame) (around : List Frame) (n : ℕ) (rest : List Kind) → Follows n rest
+    → over limit (InOperand (OperandRead o) (OnRight c l operator at) ws [] f around) rest ≡ over limit (have f around (TestOf c l (CompareOf operator at (all_linked ws o)))) rest
+right_out limit c l operator at ws o f around n [] h = refl
+right_out limit c l operator at ws o f around n (kinds.Close ∷ rest) h = refl
+right_out limit c l operator at ws o f around n (kinds.Joins j ∷ rest) h = refl
+right_out limit c l operator at ws o f around n (k ∷ rest) h = absurd h
 
-way_read : (limit : ℕ) (cs : List Call) (o : WrittenOperand) (side : Side) (f : Frame) (around : List Frame) → Way limit (InOperand (OperandRead o) side cs f around)
-way_read limit [] o (OnLeft c) f around =
-    let outer = out_have limit around f.lefts (negated f.nots (TestOf c o (MatchesOf 0 some_text))) in
+way_read : (limit : ℕ) (ws : List Waiting) (cs : List Call) (o : WrittenOperand) (side : Side) (f : Frame) (around : List Frame) → Way limit (InOperand (OperandRead o) side ws cs f around)
+way_read limit ws [] o (OnLeft c) f around =
+    let outer = out_have limit around f.lefts (negated f.nots (TestOf c (all_linked ws o) (MatchesOf 0 some_text))) in
     record { tokens = kinds.Matches 0 ∷ kinds.Text some_text ∷ outer.tokens; filter = outer.filter; leads = outer.leads }
-way_read limit [] o (OnRight c l operator at) f around =
-    let outer = out_have limit around f.lefts (negated f.nots (TestOf c l (CompareOf operator at o))) in
-    record { tokens = outer.tokens; filter = outer.filter; leads = right_out limit c l operator at o f around 0 outer.tokens outer.follows ∙ outer.leads }
-way_read limit (call ∷ cs) o side f around =
-    let outer = way_read limit cs (CalledOf call.function call.at o) side f around in
+way_read limit ws [] o (OnRight c l operator at) f around =
+    let outer = out_have limit around f.lefts (negated f.nots (TestOf c l (CompareOf operator at (all_linked ws o)))) in
+    record { tokens = outer.tokens; filter = outer.filter; leads = right_out limit c l operator at ws o f around 0 outer.tokens outer.follows ∙ outer.leads }
+way_read limit ws (call ∷ cs) o side f around =
+    let outer = way_read limit call.waiting cs (CalledOf call.function call.at (all_linked ws o)) side f around in
     record { tokens = kinds.Close ∷ outer.tokens; filter = outer.filter; leads = outer.leads }
 
 -- one more token in front
@@ -69,27 +70,27 @@ onward limit s next k e way = record {
   leads = ap (λ m. then_go m (λ n. over limit n way.tokens) (λ r. Bad r (k ∷ way.tokens))) e ∙ way.leads;
 }
 
-way_word : (limit : ℕ) (s : State) (cs : List Call) (o : WrittenOperand) (side : Side) (f : Frame) (around : List Frame) (k : Kind)
-    → step limit s k ≡ Go (InOperand (OperandRead o) side cs f around) → Way limit s
-way_word limit s cs o side f around k e = onward limit s (InOperand (OperandRead o) side cs f around) k e (way_read limit cs o side f around)
+way_word : (limit : ℕ) (s : State) (ws : List Waiting) (cs : List Call) (o : WrittenOperand) (side : Side) (f : Frame) (around : List Frame) (k : Kind)
+    → step limit s k ≡ Go (InOperand (OperandRead o) side ws cs f around) → Way limit s
+way_word limit s ws cs o side f around k e = onward limit s (InOperand (OperandRead o) side ws cs f around) k e (way_read limit ws cs o side f around)
 
-way_operand : (limit : ℕ) (spot : Spot) (cs : List Call) (side : Side) (f : Frame) (around : List Frame) → Way limit (InOperand spot side cs f around)
-way_operand limit OperandWanted cs side f around = way_word limit _ cs _ side f around (kinds.Name some_word) refl
-way_operand limit (OperandRead o) cs side f around = way_read limit cs o side f around
-way_operand limit (LayersWanted w) cs side f around = way_word limit _ cs _ side f around (kinds.LayerNumber (record { at = 0; nth = 1 })) refl
-way_operand limit (MaskWanted o at) cs side f around = way_word limit _ cs _ side f around (kinds.Name some_word) refl
-way_operand limit (InLayers w done at LayerWanted) cs side f around = onward limit _ _ (kinds.Number 1) refl (way_word limit _ cs _ side f around kinds.CloseBracket refl)
-way_operand limit (InLayers w done at (FirstRead n)) cs side f around = way_word limit _ cs _ side f around kinds.CloseBracket refl
-way_operand limit (InLayers w done at (LastWanted n)) cs side f around = onward limit _ _ (kinds.Number 1) refl (way_word limit _ cs _ side f around kinds.CloseBracket refl)
-way_operand limit (InLayers w done at (LastRead n m)) cs side f around = way_word limit _ cs _ side f around kinds.CloseBracket refl
-way_operand limit (InRanges o b done at RangeWanted) cs side f around = onward limit _ _ (kinds.Number 1) refl (way_word limit _ cs _ side f around kinds.CloseBracket refl)
-way_operand limit (InRanges o b done at DigitsWanted) cs side f around = onward limit _ _ (kinds.Number 1) refl (way_word limit _ cs _ side f around kinds.CloseBracket refl)
-way_operand limit (InRanges o b done at (PlaceRead p)) cs side f around = way_word limit _ cs _ side f around kinds.CloseBracket refl
-way_operand limit (InRanges o b done at (ColonRead p)) cs side f around = way_word limit _ cs _ side f around kinds.CloseBracket refl
-way_operand limit (InRanges o b done at (EndWanted p)) cs side f around = onward limit _ _ (kinds.Number 1) refl (way_word limit _ cs _ side f around kinds.CloseBracket refl)
-way_operand limit (InRanges o b done at (EndDigitsWanted p)) cs side f around = onward limit _ _ (kinds.Number 1) refl (way_word limit _ cs _ side f around kinds.CloseBracket refl)
-way_operand limit (InRanges o b done at CountWanted) cs side f around = onward limit _ _ (kinds.Number 1) refl (way_word limit _ cs _ side f around kinds.CloseBracket refl)
-way_operand limit (InRanges o b done at (PartRead part)) cs side f around = way_word limit _ cs _ side f around kinds.CloseBracket refl
+way_operand : (limit : ℕ) (spot : Spot) (ws : List Waiting) (cs : List Call) (side : Side) (f : Frame) (around : List Frame) → Way limit (InOperand spot side ws cs f around)
+way_operand limit OperandWanted ws cs side f around = way_word limit _ ws cs _ side f around (kinds.Name some_word) refl
+way_operand limit (OperandRead o) ws cs side f around = way_read limit ws cs o side f around
+way_operand limit (LayersWanted w) ws cs side f around = way_word limit _ ws cs _ side f around (kinds.LayerNumber (record { at = 0; nth = 1 })) refl
+way_operand limit (MaskWanted o at) ws cs side f around = way_word limit _ ws cs _ side f around (kinds.Name some_word) refl
+way_operand limit (InLayers w done at LayerWanted) ws cs side f around = onward limit _ _ (kinds.Number 1) refl (way_word limit _ ws cs _ side f around kinds.CloseBracket refl)
+way_operand limit (InLayers w done at (FirstRead n)) ws cs side f around = way_word limit _ ws cs _ side f around kinds.CloseBracket refl
+way_operand limit (InLayers w done at (LastWanted n)) ws cs side f around = onward limit _ _ (kinds.Number 1) refl (way_word limit _ ws cs _ side f around kinds.CloseBracket refl)
+way_operand limit (InLayers w done at (LastRead n m)) ws cs side f around = way_word limit _ ws cs _ side f around kinds.CloseBracket refl
+way_operand limit (InRanges o b done at RangeWanted) ws cs side f around = onward limit _ _ (kinds.Number 1) refl (way_word limit _ ws cs _ side f around kinds.CloseBracket refl)
+way_operand limit (InRanges o b done at DigitsWanted) ws cs side f around = onward limit _ _ (kinds.Number 1) refl (way_word limit _ ws cs _ side f around kinds.CloseBracket refl)
+way_operand limit (InRanges o b done at (PlaceRead p)) ws cs side f around = way_word limit _ ws cs _ side f around kinds.CloseBracket refl
+way_operand limit (InRanges o b done at (ColonRead p)) ws cs side f around = way_word limit _ ws cs _ side f around kinds.CloseBracket refl
+way_operand limit (InRanges o b done at (EndWanted p)) ws cs side f around = onward limit _ _ (kinds.Number 1) refl (way_word limit _ ws cs _ side f around kinds.CloseBracket refl)
+way_operand limit (InRanges o b done at (EndDigitsWanted p)) ws cs side f around = onward limit _ _ (kinds.Number 1) refl (way_word limit _ ws cs _ side f around kinds.CloseBracket refl)
+way_operand limit (InRanges o b done at CountWanted) ws cs side f around = onward limit _ _ (kinds.Number 1) refl (way_word limit _ ws cs _ side f around kinds.CloseBracket refl)
+way_operand limit (InRanges o b done at (PartRead part)) ws cs side f around = way_word limit _ ws cs _ side f around kinds.CloseBracket refl
 
 way_have : (limit : ℕ) (s : State) (lefts : List Left) (t : Written) (around : List Frame) (k : Kind) → step limit s k ≡ Go (Have lefts t around) → Way limit s
 way_have limit s lefts t around k e =
@@ -112,9 +113,9 @@ way_tail limit (InSet n done (SecondRead l m)) c o f around = way_have limit _ _
 way_tail limit (PatternWanted at) c o f around = way_have limit _ _ _ around (kinds.Text some_text) refl
 
 pub way : (limit : ℕ) (s : State) → Way limit s
-way limit (Want f around) = way_word limit _ [] _ (OnLeft None) f around (kinds.Name some_word) refl
+way limit (Want f around) = way_word limit _ [] [] _ (OnLeft None) f around (kinds.Name some_word) refl
 way limit (Have lefts t around) = let outer = out_have limit around lefts t in record { tokens = outer.tokens; filter = outer.filter; leads = outer.leads }
-way limit (InOperand spot side cs f around) = way_operand limit spot cs side f around
+way limit (InOperand spot side ws cs f around) = way_operand limit spot ws cs side f around
 way limit (InTail spot c o f around) = way_tail limit spot c o f around
 
 -- a move that no limit changes, or an opening, which is too deep where so many are open already
@@ -149,42 +150,47 @@ simple_if true s = tt
 simple_if false s = tt
 
 simple_left : (c : Option Choice) (o : WrittenOperand) (f : Frame) (around : List Frame) (k : Kind) → IsSimple (left_end c o f around k)
-simple_left c o f around (kinds.Compares operator at) = simple_if _ (InOperand OperandWanted (OnRight c o operator at) [] f around)
+simple_left c o f around (kinds.Compares operator at) = simple_if _ (InOperand OperandWanted (OnRight c o operator at) [] [] f around)
 simple_left c o f around (kinds.Negates n) = simple_not n c o f around
 simple_left c o f around kinds.In = tt
 simple_left c o f around (kinds.Matches at) = tt
 simple_left c o f around k = simple_alone c o f around k
 
-simple_call : (call : Call) (o : WrittenOperand) (side : Side) (cs : List Call) (f : Frame) (around : List Frame) (k : Kind) → IsSimple (call_end call o side cs f around k)
-simple_call call o side cs f around kinds.Close = tt
-simple_call call o side cs f around k = tt
+simple_call : (call : Call) (ws : List Waiting) (o : WrittenOperand) (side : Side) (cs : List Call) (f : Frame) (around : List Frame) (k : Kind) → IsSimple (call_end call ws o side cs f around k)
+simple_call call ws o side cs f around kinds.Close = tt
+simple_call call ws o side cs f around kinds.Comma = simple_if (takes_more call.function) _
+simple_call call ws o side cs f around k = tt
 
-simple_operand : (side : Side) (cs : List Call) (o : WrittenOperand) (f : Frame) (around : List Frame) (k : Kind) → IsSimple (operand_end side cs o f around k)
-simple_operand side (call ∷ cs) o f around k = simple_call call o side cs f around k
-simple_operand (OnLeft c) [] o f around k = simple_left c o f around k
-simple_operand (OnRight c l operator at) [] o f around k = simple_behind f.lefts (negated f.nots (TestOf c l (CompareOf operator at o))) around k
+simple_side : (side : Side) (ws : List Waiting) (cs : List Call) (o : WrittenOperand) (f : Frame) (around : List Frame) (k : Kind) → IsSimple (side_end side ws cs o f around k)
+simple_side side ws (call ∷ cs) o f around k = simple_call call ws o side cs f around k
+simple_side (OnLeft c) ws [] o f around k = simple_left c (all_linked ws o) f around k
+simple_side (OnRight c l operator at) ws [] o f around k = simple_behind f.lefts (negated f.nots (TestOf c l (CompareOf operator at (all_linked ws o)))) around k
+
+simple_operand : (side : Side) (ws : List Waiting) (cs : List Call) (o : WrittenOperand) (f : Frame) (around : List Frame) (k : Kind) → IsSimple (operand_end side ws cs o f around k)
+simple_operand side ws cs o f around (kinds.Computes a at) = tt
+simple_operand side ws cs o f around k = simple_side side ws cs o f around k
 
 simple_tail : (next : Option TailSpot) (last : Option WrittenTail) (c : Option Choice) (o : WrittenOperand) (f : Frame) (around : List Frame) → IsSimple (tail_move next last c o f around)
 simple_tail (Some spot) last c o f around = tt
 simple_tail None (Some t) c o f around = tt
 simple_tail None None c o f around = tt
 
-call_shape : (Good : ℕ → Type 0) (side : Side) (cs : List Call) (f : Frame) (around : List Frame) (k : Kind) → ((limit : ℕ) → Good limit → length cs + open_at f around ≤ limit)
-    → Shape Good (λ limit. call_begin limit side cs f around k)
-call_shape Good side cs f around (kinds.Calls function at) room =
-    Opening (length cs + open_at f around) (InOperand OperandWanted side ((record { function = function; at = at }) ∷ cs) f around) (λ limit. refl) room
-call_shape Good side cs f around k room = Fixed (Stop Unexpected) (λ limit. refl) tt
+call_shape : (Good : ℕ → Type 0) (side : Side) (ws : List Waiting) (cs : List Call) (f : Frame) (around : List Frame) (k : Kind) → ((limit : ℕ) → Good limit → length cs + open_at f around ≤ limit)
+    → Shape Good (λ limit. call_begin limit side ws cs f around k)
+call_shape Good side ws cs f around (kinds.Calls function at) room =
+    Opening (length cs + open_at f around) (InOperand OperandWanted side [] ((record { function = function; at = at; waiting = ws }) ∷ cs) f around) (λ limit. refl) room
+call_shape Good side ws cs f around k room = Fixed (Stop Unexpected) (λ limit. refl) tt
 
-otherwise_shape : (Good : ℕ → Type 0) (spot : Spot) (side : Side) (cs : List Call) (f : Frame) (around : List Frame) (k : Kind) → ((limit : ℕ) → Good limit → length cs + open_at f around ≤ limit)
-    → Shape Good (λ limit. otherwise limit spot side cs f around k)
-otherwise_shape Good OperandWanted side cs f around k room = call_shape Good side cs f around k room
-otherwise_shape Good (OperandRead o) side cs f around k room = Fixed (operand_end side cs o f around k) (λ limit. refl) (simple_operand side cs o f around k)
-otherwise_shape Good spot side cs f around k room = Fixed (Stop Unexpected) (λ limit. refl) tt
+otherwise_shape : (Good : ℕ → Type 0) (spot : Spot) (side : Side) (ws : List Waiting) (cs : List Call) (f : Frame) (around : List Frame) (k : Kind) → ((limit : ℕ) → Good limit → length cs + open_at f around ≤ limit)
+    → Shape Good (λ limit. otherwise limit spot side ws cs f around k)
+otherwise_shape Good OperandWanted side ws cs f around k room = call_shape Good side ws cs f around k room
+otherwise_shape Good (OperandRead o) side ws cs f around k room = Fixed (operand_end side ws cs o f around k) (λ limit. refl) (simple_operand side ws cs o f around k)
+otherwise_shape Good spot side ws cs f around k room = Fixed (Stop Unexpected) (λ limit. refl) tt
 
-operand_shape : (Good : ℕ → Type 0) (next : Option Spot) (spot : Spot) (side : Side) (cs : List Call) (f : Frame) (around : List Frame) (k : Kind) → ((limit : ℕ) → Good limit → length cs + open_at f around ≤ limit)
-    → Shape Good (λ limit. operand_move limit next spot side cs f around k)
-operand_shape Good (Some next) spot side cs f around k room = Fixed (Go (InOperand next side cs f around)) (λ limit. refl) tt
-operand_shape Good None spot side cs f around k room = otherwise_shape Good spot side cs f around k room
+operand_shape : (Good : ℕ → Type 0) (next : Option Spot) (spot : Spot) (side : Side) (ws : List Waiting) (cs : List Call) (f : Frame) (around : List Frame) (k : Kind) → ((limit : ℕ) → Good limit → length cs + open_at f around ≤ limit)
+    → Shape Good (λ limit. operand_move limit next spot side ws cs f around k)
+operand_shape Good (Some next) spot side ws cs f around k room = Fixed (Go (InOperand next side ws cs f around)) (λ limit. refl) tt
+operand_shape Good None spot side ws cs f around k room = otherwise_shape Good spot side ws cs f around k room
 
 frame_room : (f : Frame) (around : List Frame) (limit : ℕ) → IsFrame limit f around → length {A = Call} [] + open_at f around ≤ limit
 frame_room f around limit is = let room = is.room in omega arith
@@ -192,14 +198,14 @@ frame_room f around limit is = let room = is.room in omega arith
 begin_shape : (f : Frame) (around : List Frame) (k : Kind) → Shape (λ limit. IsFrame limit f around) (λ limit. begin limit f around k)
 begin_shape f around (kinds.Negates n) = Opening (open_at f around) (Want (record { lefts = f.lefts; nots = n ∷ f.nots }) around) (λ limit. refl) (λ limit is. is.room)
 begin_shape f around kinds.Open = Opening (open_at f around) _ (λ limit. refl) (λ limit is. is.room)
-begin_shape f around (kinds.Chooses c) = Fixed (Go (InOperand OperandWanted (OnLeft (Some c)) [] f around)) (λ limit. refl) tt
-begin_shape f around k = operand_shape (λ limit. IsFrame limit f around) (operand_step OperandWanted k) OperandWanted (OnLeft None) [] f around k (frame_room f around)
+begin_shape f around (kinds.Chooses c) = Fixed (Go (InOperand OperandWanted (OnLeft (Some c)) [] [] f around)) (λ limit. refl) tt
+begin_shape f around k = operand_shape (λ limit. IsFrame limit f around) (operand_step OperandWanted k) OperandWanted (OnLeft None) [] [] f around k (frame_room f around)
 
 shape : (s : State) (k : Kind) → Shape (λ limit. IsGood limit s) (λ limit. step limit s k)
 shape (Want f around) k = begin_shape f around k
 shape (Have lefts t around) k = Fixed (behind lefts t around k) (λ limit. refl) (simple_behind lefts t around k)
-shape (InOperand spot side cs f around) k =
-    operand_shape (λ limit. IsGood limit (InOperand spot side cs f around)) (operand_step spot k) spot side cs f around k (λ limit is. let room = is.3 in omega arith)
+shape (InOperand spot side ws cs f around) k =
+    operand_shape (λ limit. IsGood limit (InOperand spot side ws cs f around)) (operand_step spot k) spot side ws cs f around k (λ limit is. let room = is.3 in omega arith)
 shape (InTail spot c o f around) k = Fixed (tail_move (tail_step spot k) (tail_done spot k) c o f around) (λ limit. refl) (simple_tail (tail_step spot k) (tail_done spot k) c o f around)
 
 opened : (limit count : ℕ) (s : State) → count < limit → opens limit count s ≡ Go s

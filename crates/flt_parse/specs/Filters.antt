@@ -30,15 +30,19 @@ pub record IsFilterText (text : List ℕ) (filter : Written) : Type 0 where
 
 -- some filter begins with these tokens
 abbrev pub BeginsFilter : ℕ → List Kind → Type 0
-BeginsFilter limit front = (filter : Written) × (rest : List Kind) × IsFilter limit (front ++ rest) filter
+BeginsFilter limit front =
+    (filter : Written) × (rest : List Kind) × IsFilter limit (front ++ rest) filter
 
 -- the first fault of tokens without a tree stands behind those in front, where these are the others: no filter, however
 -- deep, has this token there, or ends there; or only filters have it in which more are open at once
 abbrev pub IsFault : ℕ → List Kind → List Kind → FilterReason → Type 0
-IsFault limit front [] Unexpected = BeginsFilter limit front × ((filter : Written) (any : ℕ) → IsFilter any front filter → ⊥)
-IsFault limit front (k ∷ rest) Unexpected = BeginsFilter limit front × ((any : ℕ) → BeginsFilter any (front ++ k ∷ []) → ⊥)
+IsFault limit front [] Unexpected =
+    BeginsFilter limit front × ((filter : Written) (any : ℕ) → IsFilter any front filter → ⊥)
+IsFault limit front (k ∷ rest) Unexpected =
+    BeginsFilter limit front × ((any : ℕ) → BeginsFilter any (front ++ k ∷ []) → ⊥)
 IsFault limit front (k ∷ rest) TooDeep =
-    BeginsFilter limit front × (BeginsFilter limit (front ++ k ∷ []) → ⊥) × ((any : ℕ) × BeginsFilter any (front ++ k ∷ []))
+    BeginsFilter limit front × (BeginsFilter limit (front ++ k ∷ []) → ⊥)
+    × ((any : ℕ) × BeginsFilter any (front ++ k ∷ []))
 IsFault limit front rest reason = ⊥
 
 -- the place of the first of these tokens, or the text's length behind the last
@@ -61,7 +65,9 @@ IsLexicalFault text fault = (length text ≤ most_bytes) × (tokens_of text ≡ 
 
 abbrev pub IsSyntaxFault : List ℕ → FilterFault → Type 0
 IsSyntaxFault text fault =
-    (length text ≤ most_bytes) × ((tokens : List Token) × (tokens_of text ≡ Ok tokens) × IsTokenFault (length text) tokens fault)
+    (length text ≤ most_bytes)
+    × ((tokens : List Token) × (tokens_of text ≡ Ok tokens)
+    × IsTokenFault (length text) tokens fault)
 
 abbrev pub IsFaultFor : FilterReason → List ℕ → FilterFault → Type 0
 IsFaultFor TooLong text fault = (most_bytes < length text) × (fault.at ≡ most_bytes)

@@ -159,20 +159,23 @@ takes_mask (ArgumentsOf l r) = false
 takes_mask o = true
 
 -- how tightly an operand's outermost sign binds: the comma of arguments less than `+` and `-`, these less than `*`, and
--- whatever is a part more
-abbrev pub binds_arithmetic : Arithmetic → ℕ
-binds_arithmetic arithmetic.Sum = 20
-binds_arithmetic arithmetic.Difference = 20
-binds_arithmetic arithmetic.Product = 30
-
+-- a part, which has none, more than all
 abbrev pub arguments : ℕ
 arguments = 10
 
 abbrev pub sum : ℕ
 sum = 20
 
+abbrev pub product : ℕ
+product = 30
+
 abbrev pub part : ℕ
 part = 40
+
+abbrev pub binds_arithmetic : Arithmetic → ℕ
+binds_arithmetic arithmetic.Sum = sum
+binds_arithmetic arithmetic.Difference = sum
+binds_arithmetic arithmetic.Product = product
 
 abbrev pub tightness : WrittenOperand → ℕ
 tightness (ComputedOf a at l r) = binds_arithmetic a
@@ -192,12 +195,15 @@ IsOperand (OnLayersOf w ls) = IsFilled ls
 IsOperand (SlicedOf o at rs) = IsOperand o × IsTrue (takes_slice o) × IsFilled rs
 IsOperand (MaskedOf o at w) = IsOperand o × IsTrue (takes_mask o)
 IsOperand (CalledOf f at o) = IsOperand o × (least_in f ≤ tightness o)
-IsOperand (ComputedOf a at l r) = IsOperand l × IsOperand r × (binds_arithmetic a ≤ tightness l) × (binds_arithmetic a < tightness r)
-IsOperand (ArgumentsOf l r) = IsOperand l × IsOperand r × (arguments ≤ tightness l) × (arguments < tightness r)
+IsOperand (ComputedOf a at l r) =
+    IsOperand l × IsOperand r
+    × (binds_arithmetic a ≤ tightness l) × (binds_arithmetic a < tightness r)
+IsOperand (ArgumentsOf l r) =
+    IsOperand l × IsOperand r × (arguments ≤ tightness l) × (arguments < tightness r)
 
 -- an operand of a test, which no comma joins
-abbrev pub IsSide : WrittenOperand → Type 0
-IsSide o = IsOperand o × (sum ≤ tightness o)
+abbrev pub IsTestOperand : WrittenOperand → Type 0
+IsTestOperand o = IsOperand o × (sum ≤ tightness o)
 
 -- the operators that say nothing yet of which pairs they ask; `contains` asks any
 abbrev pub is_open : Operator → Bool
@@ -213,7 +219,7 @@ takes_operator None operator = true
 takes_operator (Some c) operator = is_open operator
 
 abbrev pub IsTail : Option Choice → WrittenTail → Type 0
-IsTail c (CompareOf operator at right) = IsSide right × IsTrue (takes_operator c operator)
+IsTail c (CompareOf operator at right) = IsTestOperand right × IsTrue (takes_operator c operator)
 IsTail c (InOf negated es) = IsFilled es
 IsTail c (MatchesOf at q) = Unit {0}
 
@@ -232,11 +238,12 @@ strength t = unary
 
 -- what binds less tightly stands in parentheses; equal signs join from the left
 abbrev pub IsGrouped : Written → Type 0
-IsGrouped (JoinedOf j l r) = IsGrouped l × IsGrouped r × (binds j ≤ strength l) × (binds j < strength r)
+IsGrouped (JoinedOf j l r) =
+    IsGrouped l × IsGrouped r × (binds j ≤ strength l) × (binds j < strength r)
 IsGrouped (NotOf n t) = IsGrouped t × (unary ≤ strength t)
 IsGrouped (GroupOf t) = IsGrouped t
-IsGrouped (AloneOf o) = IsSide o
-IsGrouped (TestOf c o t) = IsSide o × IsTail c t
+IsGrouped (AloneOf o) = IsTestOperand o
+IsGrouped (TestOf c o t) = IsTestOperand o × IsTail c t
 
 -- how many calls, negations and parentheses are open at once, at most
 abbrev pub calls : WrittenOperand → ℕ

@@ -6,7 +6,8 @@ use Rattle.flt_parse.specs.declared.fault.FilterFault.{FilterFault}
 
 -- no text is a filter and has a fault
 abbrev pub NeverBoth : Type 0
-NeverBoth = (text : List ℕ) (filter : Written) (fault : FilterFault) → IsFilterText text filter → IsFirstFault text fault → ⊥
+NeverBoth = (text : List ℕ) (filter : Written) (fault : FilterFault) → IsFilterText text filter
+    → IsFirstFault text fault → ⊥
 
 -- a text has at most one first fault
 abbrev pub OneFault : Type 0
@@ -18,4 +19,6 @@ OneFilter = (text : List ℕ) (t u : Written) → IsFilterText text t → IsFilt
 
 -- a text is a filter or has a first fault
 abbrev pub FilterOrFault : Type 0
-FilterOrFault = (text : List ℕ) → ((filter : Written) × IsFilterText text filter) ⊎ ((fault : FilterFault) × IsFirstFault text fault)
+FilterOrFault = (text : List ℕ)
+    → ((filter : Written) × IsFilterText text filter)
+    ⊎ ((fault : FilterFault) × IsFirstFault text fault)

@@ -15,16 +15,19 @@ blanks (b ∷ bytes) = if is_blank b then suc (blanks bytes) else 0
 
 -- a letter, a digit, or one of `_ . : - /`
 abbrev pub is_word_byte : ℕ → Bool
-is_word_byte b = is_ascii_alphanumeric b || (b == 95 || (b == 46 || (b == 58 || (b == 45 || b == 47))))
+is_word_byte b =
+    is_ascii_alphanumeric b || (b == 95 || (b == 46 || (b == 58 || (b == 45 || b == 47))))
 
 -- the longest run of such bytes in front, ended before the first `..`
 abbrev pub word_len : List ℕ → ℕ
 word_len [] = 0
-word_len (b ∷ bytes) = if is_word_byte b && not (starts_with nat_eq (b ∷ bytes) (codes "..")) then suc (word_len bytes) else 0
+word_len (b ∷ bytes) = if is_word_byte b && not (starts_with nat_eq (b ∷ bytes) (codes ".."))
+    then suc (word_len bytes) else 0
 
 -- a word stands in front where such a run does, other than `-` alone, which is a sign
 abbrev pub begins_word : List ℕ → Bool
-begins_word bytes = nat_lt 0 (word_len bytes) && not (bytes_eq (take (word_len bytes) bytes) (codes "-"))
+begins_word bytes =
+    nat_lt 0 (word_len bytes) && not (bytes_eq (take (word_len bytes) bytes) (codes "-"))
 
 -- how many digits stand in front
 abbrev pub digits_len : List ℕ → ℕ

@@ -6,7 +6,8 @@ use Rattle.std.specs.Option.{option_map}
 -- two hexadecimal digits behind `\x`
 abbrev pub hex_byte : List ℕ → Option (ℕ × ℕ)
 hex_byte (high ∷ low ∷ rest) =
-    if is_digit high 16 && is_digit low 16 then Some (digit_value high * 16 + digit_value low, 4) else None
+    if is_digit high 16 && is_digit low 16 then Some (digit_value high * 16 + digit_value low, 4)
+    else None
 hex_byte _ = None
 
 -- behind the backslash: `\\`, `\"`, `\n`, `\r`, `\t`, `\xHH`
@@ -38,7 +39,8 @@ abbrev pub string_inside : ℕ → List ℕ → Option (List ℕ × ℕ)
 string_inside skip [] = None
 string_inside (suc skip) (b ∷ rest) = option_map (λ s. (s.0, s.1 + 1)) (string_inside skip rest)
 string_inside zero (b ∷ rest) =
-    if b == 34 then Some ([], 1) else with_piece (piece (b ∷ rest)) (λ skip. string_inside skip rest)
+    if b == 34 then Some ([], 1)
+    else with_piece (piece (b ∷ rest)) (λ skip. string_inside skip rest)
 
 -- the same for a raw string, which has no escapes
 abbrev pub raw_inside : List ℕ → Option (List ℕ × ℕ)

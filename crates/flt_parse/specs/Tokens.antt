@@ -1,5 +1,5 @@
 -- The tokens of a filter's text. Between them stand spaces, tabs, carriage returns and line feeds; the longest counts.
-use Rattle.std.specs.Prelude.{◌≡◌, ℕ, zero, suc, ◌+◌, ◌-◌, ◌==◌, Bool, true, false, ◌&&◌, nat_eq, nat_lt, if◌then◌else◌, List, [], ◌∷◌, length, take, drop, codes, Option, Some, None, Result, Ok, Err}
+use Rattle.std.specs.Prelude.{◌≡◌, ℕ, zero, suc, ◌+◌, ◌-◌, ◌==◌, Bool, true, false, ◌&&◌, nat_eq, if◌then◌else◌, List, [], ◌∷◌, length, take, drop, codes, Option, Some, None, Result, Ok, Err}
 use Rattle.std.specs.Char.{is_ascii_digit}
 use Rattle.std.specs.List.{find, starts_with}
 use Rattle.std.specs.Str.{bytes_eq}
@@ -61,9 +61,12 @@ sign_text signs.Star = codes "*"
 -- all of them, each before those that it begins with
 abbrev pub all_signs : List Sign
 all_signs =
-    signs.AllEqual ∷ signs.AnyUnequal ∷ signs.Equal ∷ signs.Unequal ∷ signs.AtLeast ∷ signs.AtMost ∷ signs.And ∷ signs.Or ∷ signs.Xor
-    ∷ signs.DotDot ∷ signs.Open ∷ signs.Close ∷ signs.OpenBrace ∷ signs.CloseBrace ∷ signs.OpenBracket ∷ signs.CloseBracket ∷ signs.Comma ∷ signs.Hash
-    ∷ signs.Greater ∷ signs.Less ∷ signs.Tilde ∷ signs.Mask ∷ signs.Not ∷ signs.Plus ∷ signs.Minus ∷ signs.Star ∷ []
+    signs.AllEqual ∷ signs.AnyUnequal ∷ signs.Equal ∷ signs.Unequal ∷ signs.AtLeast ∷ signs.AtMost
+    ∷ signs.And ∷ signs.Or ∷ signs.Xor
+    ∷ signs.DotDot ∷ signs.Open ∷ signs.Close ∷ signs.OpenBrace ∷ signs.CloseBrace
+    ∷ signs.OpenBracket ∷ signs.CloseBracket ∷ signs.Comma ∷ signs.Hash
+    ∷ signs.Greater ∷ signs.Less ∷ signs.Tilde ∷ signs.Mask ∷ signs.Not ∷ signs.Plus ∷ signs.Minus
+    ∷ signs.Star ∷ []
 
 -- the longest sign in front
 abbrev pub first_sign : List ℕ → Option Sign
@@ -126,8 +129,10 @@ keyword_text words.AnyNe = codes "any_ne"
 
 abbrev pub keywords : List Keyword
 keywords =
-    words.And ∷ words.Or ∷ words.Xor ∷ words.Not ∷ words.Any ∷ words.All ∷ words.In ∷ words.Contains ∷ words.Matches ∷ words.Eq ∷ words.Ne
-    ∷ words.Gt ∷ words.Lt ∷ words.Ge ∷ words.Le ∷ words.AnyEq ∷ words.AllNe ∷ words.AllEq ∷ words.AnyNe ∷ []
+    words.And ∷ words.Or ∷ words.Xor ∷ words.Not ∷ words.Any ∷ words.All ∷ words.In ∷ words.Contains
+    ∷ words.Matches ∷ words.Eq ∷ words.Ne
+    ∷ words.Gt ∷ words.Lt ∷ words.Ge ∷ words.Le ∷ words.AnyEq ∷ words.AllNe ∷ words.AllEq
+    ∷ words.AnyNe ∷ []
 
 abbrev pub keyword_of : List ℕ → Option Keyword
 keyword_of word = find (λ k. bytes_eq (keyword_text k) word) keywords
@@ -193,7 +198,8 @@ word_lexeme mode at word rest =
 -- a string at a place, whose inside begins some bytes behind it
 abbrev pub text_lexeme : ℕ → ℕ → Option (List ℕ × ℕ) → Result Lexeme FilterReason
 text_lexeme at before None = Err BadString
-text_lexeme at before (Some s) = Ok (lexeme (kinds.Text (record { at = at; bytes = s.0 })) (before + s.1))
+text_lexeme at before (Some s) =
+    Ok (lexeme (kinds.Text (record { at = at; bytes = s.0 })) (before + s.1))
 
 -- where the token behind the first byte begins
 abbrev pub next_place : ℕ → List ℕ → ℕ
@@ -201,14 +207,16 @@ next_place at bytes = at + 1 + blanks (drop 1 bytes)
 
 abbrev pub sign_lexeme : Mode → ℕ → List ℕ → Option Sign → Result Lexeme FilterReason
 sign_lexeme mode at bytes None = Err BadChar
-sign_lexeme mode at bytes (Some s) = Ok (lexeme (sign_kind mode at (next_place at bytes) s) (length (sign_text s)))
+sign_lexeme mode at bytes (Some s) =
+    Ok (lexeme (sign_kind mode at (next_place at bytes) s) (length (sign_text s)))
 
 -- the token that begins the text from a place on, outside brackets. What begins with `r"` is a raw string
 abbrev pub plain_token : Mode → ℕ → List ℕ → Result Lexeme FilterReason
 plain_token mode at bytes =
     if starts_with nat_eq bytes (codes "\"") then text_lexeme at 1 (string_inside 0 (drop 1 bytes))
     else if starts_with nat_eq bytes (codes "r\"") then text_lexeme at 2 (raw_inside (drop 2 bytes))
-    else if begins_word bytes then Ok (word_lexeme mode at (take (word_len bytes) bytes) (drop (word_len bytes) bytes))
+    else if begins_word bytes
+    then Ok (word_lexeme mode at (take (word_len bytes) bytes) (drop (word_len bytes) bytes))
     else sign_lexeme mode at bytes (first_sign bytes)
 
 -- one to nine digits are a number
@@ -251,9 +259,11 @@ before t (Ok ts) = Ok (t ∷ ts)
 before t (Err fault) = Err fault
 
 -- a blank is passed over; behind a token the text is read on; the first byte or string that is no token is the fault
-abbrev pub then_read : Bool → Mode → ℕ → Result Lexeme FilterReason → (Mode → ℕ → Result (List Token) FilterFault) → Result (List Token) FilterFault
+abbrev pub then_read : Bool → Mode → ℕ → Result Lexeme FilterReason
+    → (Mode → ℕ → Result (List Token) FilterFault) → Result (List Token) FilterFault
 then_read true mode at token rest = rest mode 0
-then_read false mode at (Ok l) rest = before (record { at = at; kind = l.kind }) (rest (mode_behind l.kind) (l.width - 1))
+then_read false mode at (Ok l) rest =
+    before (record { at = at; kind = l.kind }) (rest (mode_behind l.kind) (l.width - 1))
 then_read false mode at (Err reason) rest = Err (record { at = at; reason = reason })
 
 -- the tokens from a place on, or the first fault among them. So many bytes in front belong to the token before
@@ -261,7 +271,8 @@ abbrev pub tokens_from : Mode → ℕ → ℕ → List ℕ → Result (List Toke
 tokens_from mode skip at [] = Ok []
 tokens_from mode (suc skip) at (b ∷ rest) = tokens_from mode skip (at + 1) rest
 tokens_from mode zero at (b ∷ rest) =
-    then_read (is_blank b) mode at (token_at mode at (b ∷ rest)) (λ next skip. tokens_from next skip (at + 1) rest)
+    then_read (is_blank b) mode at (token_at mode at (b ∷ rest)) (λ next skip.
+    tokens_from next skip (at + 1) rest)
 
 unfoldable pub tokens_of : List ℕ → Result (List Token) FilterFault
 tokens_of text = tokens_from Plain 0 0 text

@@ -26,7 +26,8 @@ fn binds(join: Join) -> u32
 
 /// A filter that waited, joined with what stands to the right of its sign.
 fn join_left(alloc: Global, left: Left, right: Ast) -> Result<Ast, NoMemory>
-    ensures { IfOk result (λ t. written t ≡ JoinedOf left.join (written left.filter) (written right)) }
+    ensures { IfOk result (λ t.
+        written t ≡ JoinedOf left.join (written left.filter) (written right)) }
 {
     let l = Box::new(alloc, left.filter)?;
     let r = Box::new(alloc, right)?;
@@ -40,7 +41,8 @@ fn join_left(alloc: Global, left: Left, right: Ast) -> Result<Ast, NoMemory>
 /// All that waits, joined.
 #[tactic(auto, using(crate::proofs::Stacks::reversed_push))]
 pub fn join_all(alloc: Global, lefts: Vec<Left>, filter: Ast) -> Result<Ast, NoMemory>
-    ensures { IfOk result (λ t. written t ≡ reading.joined (reversed left_of lefts.items) (written filter)) }
+    ensures { IfOk result (λ t.
+        written t ≡ reading.joined (reversed left_of lefts.items) (written filter)) }
 {
     let mut rest = lefts;
     let mut all = filter;
@@ -58,7 +60,9 @@ pub fn settle(
     lefts: Vec<Left>,
     filter: Ast,
 ) -> Result<Vec<Left>, NoMemory>
-    ensures { IfOk result (λ v. reversed left_of v.items ≡ reading.settle join (reversed left_of lefts.items) (written filter)) }
+    ensures { IfOk result (λ v.
+        reversed left_of v.items
+        ≡ reading.settle join (reversed left_of lefts.items) (written filter)) }
 {
     let mut rest = lefts;
     let mut all = filter;
@@ -77,7 +81,8 @@ pub fn settle(
 /// A filter behind its negations.
 #[tactic(auto, using(crate::proofs::Stacks::reversed_push))]
 pub fn negate(alloc: Global, nots: Vec<Negation>, filter: Ast) -> Result<Ast, NoMemory>
-    ensures { IfOk result (λ t. written t ≡ reading.negated (reversed (λ n. n) nots.items) (written filter)) }
+    ensures { IfOk result (λ t.
+        written t ≡ reading.negated (reversed (λ n. n) nots.items) (written filter)) }
 {
     let mut rest = nots;
     let mut all = filter;
@@ -127,7 +132,8 @@ pub fn behind(
     around: Vec<Frame>,
     kind: Kind,
 ) -> Result<State, Refusal>
-    ensures { IsMove (reading.behind (reversed left_of lefts.items) (written filter) (around_of around.items) kind) result }
+    ensures { IsMove (reading.behind (reversed left_of lefts.items) (written filter)
+        (around_of around.items) kind) result }
 {
     match kind {
         Kind::Joins(join) => join_at(alloc, join, lefts, filter, around),
@@ -143,7 +149,8 @@ fn join_at(
     filter: Ast,
     around: Vec<Frame>,
 ) -> Result<State, Refusal>
-    ensures { IsMove (reading.behind (reversed left_of lefts.items) (written filter) (around_of around.items) (Kind.Joins join)) result }
+    ensures { IsMove (reading.behind (reversed left_of lefts.items) (written filter)
+        (around_of around.items) (Kind.Joins join)) result }
 {
     let lefts = settle(alloc, join, lefts, filter)?;
     let frame = Frame {
@@ -159,7 +166,8 @@ fn close_all(
     filter: Ast,
     around: Vec<Frame>,
 ) -> Result<State, Refusal>
-    ensures { IsMove (reading.behind (reversed left_of lefts.items) (written filter) (around_of around.items) Kind.Close) result }
+    ensures { IsMove (reading.behind (reversed left_of lefts.items) (written filter)
+        (around_of around.items) Kind.Close) result }
 {
     let all = join_all(alloc, lefts, filter)?;
     close(alloc, all, around)
@@ -184,7 +192,9 @@ pub fn unexpected() -> Result<State, Refusal>
 /// Whether one more may be open.
 #[tactic(auto, unfolding(crate::specs::Filters::most_open), using(crate::proofs::Stacks::room_within, crate::proofs::Stacks::room_beyond))]
 pub fn has_room(calls: usize, outer: &Open) -> bool
-    ensures { result ≡ nat_lt (calls + reading.open_at (frame_of outer.now.frame) (around_of outer.now.around.items)) most_open }
+    ensures { result ≡ nat_lt
+        (calls + reading.open_at (frame_of outer.now.frame) (around_of outer.now.around.items))
+        most_open }
 {
     let used = calls.saturating_add(outer.frame.nots.len());
     if used > FILTER_DEPTH_LIMIT {

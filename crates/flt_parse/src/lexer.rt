@@ -7,7 +7,9 @@ ghost use Rattle.flt_parse.specs.Tokens.{first_sign as sign_in_front, digits_lex
 use crate::ast::Layer;
 use crate::fault::{FilterError, FilterFault, FilterReason};
 use crate::keywords::{function_of, keyword_kind, keyword_of};
-use crate::letters::{begins_word, blanks, digits_len, is_blank, is_number, number_of, opening, word_len};
+use crate::letters::{
+    begins_word, blanks, digits_len, is_blank, is_number, number_of, opening, word_len,
+};
 use crate::signs::{first_sign, sign_kind, sign_text};
 use crate::strings::{Inside, read_raw, read_string};
 use crate::token::{Kind, Lexeme, Mode, Token};
@@ -123,7 +125,8 @@ fn word_lexeme(
 ) -> Result<Lexeme, NoMemory>
     requires { at + length word.now + length rest.now ≤ 4096 }
     ensures ok { IfOk result (λ l. l ≡ lexeme_of_word mode at word.now rest.now) }
-    ensures within { IfOk result (λ l. (length word.now ≤ l.width) × (l.width ≤ length word.now + length rest.now)) }
+    ensures within { IfOk result (λ l. (length word.now ≤ l.width)
+        × (l.width ≤ length word.now + length rest.now)) }
 {
     let place = at as u32;
     let width = word.len();
@@ -159,9 +162,11 @@ fn word_lexeme(
 fn text_lexeme(at: usize, before: usize, inside: Option<Inside>) -> Result<Lexeme, FilterError>
     requires room { at + before ≤ 4096 }
     requires inside { IfSome inside (λ s. s.width ≤ 4096) }
-    ensures ok { IfOk result (λ l. lexeme_of_text at before (option_map (λ s. (s.bytes, s.width)) inside) ≡ Ok l) }
+    ensures ok { IfOk result (λ l.
+        lexeme_of_text at before (option_map (λ s. (s.bytes, s.width)) inside) ≡ Ok l) }
     ensures within { IfOk result (λ l. IfSome inside (λ s. l.width ≡ before + s.width)) }
-    ensures err { IfErr result (IsTokenError at (lexeme_of_text at before (option_map (λ s. (s.bytes, s.width)) inside))) }
+    ensures err { IfErr result
+        (IsTokenError at (lexeme_of_text at before (option_map (λ s. (s.bytes, s.width)) inside))) }
 {
     let at = at as u32;
     match inside {
@@ -179,9 +184,11 @@ fn text_lexeme(at: usize, before: usize, inside: Option<Inside>) -> Result<Lexem
 /// The sign at a place.
 fn sign_lexeme(mode: Mode, at: usize, rest: &[u8]) -> Result<Lexeme, FilterError>
     requires { at + length rest.now ≤ 4096 }
-    ensures ok { IfOk result (λ l. lexeme_of_sign mode at rest.now (sign_in_front rest.now) ≡ Ok l) }
+    ensures ok { IfOk result (λ l.
+        lexeme_of_sign mode at rest.now (sign_in_front rest.now) ≡ Ok l) }
     ensures within { IfOk result (λ l. (0 < l.width) × (l.width ≤ length rest.now)) }
-    ensures err { IfErr result (IsTokenError at (lexeme_of_sign mode at rest.now (sign_in_front rest.now))) }
+    ensures err { IfErr result
+        (IsTokenError at (lexeme_of_sign mode at rest.now (sign_in_front rest.now))) }
 {
     let place = at as u32;
     let Some(sign) = first_sign(rest) else {

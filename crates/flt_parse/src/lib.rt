@@ -8,6 +8,7 @@ mod keywords;
 mod laws;
 mod letters;
 mod lexer;
+mod links;
 mod operands;
 mod parser;
 mod signs;
@@ -21,8 +22,8 @@ mod token;
 mod word;
 
 pub use ast::{
-    Arithmetic, Ast, Choice, Element, Function, Layer, LayerRange, Literal, Negation, Operand, Operator, Place,
-    RangePart, SliceRange, Tail,
+    Arithmetic, Ast, Choice, Element, Function, Layer, LayerRange, Literal, Negation, Operand,
+    Operator, Place, RangePart, SliceRange, Tail,
 };
 pub use fault::{FilterError, FilterFault, FilterReason};
 pub use laws::{

@@ -67,7 +67,8 @@ fn first_read(
     first: u32,
     kind: Kind,
 ) -> Result<Option<Spot>, Refusal>
-    ensures { IsSpot (reading.layers_step word done.items at (reading.FirstRead first) kind) result }
+    ensures { IsSpot (reading.layers_step word done.items at (reading.FirstRead first) kind)
+        result }
 {
     let range = LayerRange {
         at,
@@ -89,7 +90,8 @@ fn last_wanted(
     first: u32,
     kind: Kind,
 ) -> Result<Option<Spot>, Refusal>
-    ensures { IsSpot (reading.layers_step word done.items at (reading.LastWanted first) kind) result }
+    ensures { IsSpot (reading.layers_step word done.items at (reading.LastWanted first) kind)
+        result }
 {
     match kind {
         Kind::Number(n) => Ok(Some(Spot::InLayers(word, done, at, LayerSpot::LastRead(first, n)))),
@@ -105,7 +107,8 @@ fn last_read(
     last: u32,
     kind: Kind,
 ) -> Result<Option<Spot>, Refusal>
-    ensures { IsSpot (reading.layers_step word done.items at (reading.LastRead first last) kind) result }
+    ensures { IsSpot (reading.layers_step word done.items at (reading.LastRead first last) kind)
+        result }
 {
     let range = LayerRange {
         at,
@@ -126,7 +129,8 @@ fn next_layers(
     range: LayerRange,
     next: u32,
 ) -> Result<Option<Spot>, Refusal>
-    ensures { IsSpot (Some (reading.InLayers word (done.items ++ range ∷ []) next reading.LayerWanted)) result }
+    ensures { IsSpot (Some (reading.InLayers word
+        (done.items ++ range ∷ []) next reading.LayerWanted)) result }
 {
     let mut done = done;
     done.push(range)?;
@@ -135,7 +139,8 @@ fn next_layers(
 
 /// Behind the `]` after a range.
 fn all_layers(word: Word, done: Vec<LayerRange>, range: LayerRange) -> Result<Option<Spot>, Refusal>
-    ensures { IsSpot (Some (reading.OperandRead (OnLayersOf word (done.items ++ range ∷ [])))) result }
+    ensures { IsSpot (Some (reading.OperandRead (OnLayersOf word (done.items ++ range ∷ []))))
+        result }
 {
     let mut done = done;
     done.push(range)?;
@@ -175,7 +180,8 @@ pub fn mask_wanted(
     at: u32,
     kind: Kind,
 ) -> Result<Option<Spot>, Refusal>
-    ensures { IsSpot (reading.operand_step (reading.MaskWanted (operand_of operand) at) kind) result }
+    ensures { IsSpot (reading.operand_step (reading.MaskWanted (operand_of operand) at) kind)
+        result }
 {
     match kind {
         Kind::Name(word) => Ok(Some(Spot::Read(Operand::Masked(
@@ -203,7 +209,8 @@ pub fn ranges_step(
     spot: RangeSpot,
     kind: Kind,
 ) -> Result<Option<Spot>, Refusal>
-    ensures { IsSpot (reading.ranges_step (operand_of slice.operand) slice.bracket slice.done.items at spot kind) result }
+    ensures { IsSpot (reading.ranges_step
+        (operand_of slice.operand) slice.bracket slice.done.items at spot kind) result }
 {
     match spot {
         RangeSpot::RangeWanted => range_wanted(slice, at, kind),
@@ -219,13 +226,16 @@ pub fn ranges_step(
 
 /// A spot in the same range.
 fn in_range(slice: Slice, at: u32, spot: RangeSpot) -> Result<Option<Spot>, Refusal>
-    ensures { IsSpot (Some (reading.InRanges (operand_of slice.operand) slice.bracket slice.done.items at spot)) result }
+    ensures { IsSpot (Some (reading.InRanges
+        (operand_of slice.operand) slice.bracket slice.done.items at spot)) result }
 {
     Ok(Some(Spot::InRanges(slice.operand, slice.bracket, slice.done, at, spot)))
 }
 
 fn range_wanted(slice: Slice, at: u32, kind: Kind) -> Result<Option<Spot>, Refusal>
-    ensures { IsSpot (reading.ranges_step (operand_of slice.operand) slice.bracket slice.done.items at reading.RangeWanted kind) result }
+    ensures { IsSpot (reading.ranges_step
+        (operand_of slice.operand) slice.bracket slice.done.items at reading.RangeWanted kind)
+        result }
 {
     match kind {
         Kind::Number(n) => in_range(slice, at, RangeSpot::PlaceRead(forward(n))),
@@ -236,7 +246,9 @@ fn range_wanted(slice: Slice, at: u32, kind: Kind) -> Result<Option<Spot>, Refus
 }
 
 fn digits_wanted(slice: Slice, at: u32, kind: Kind) -> Result<Option<Spot>, Refusal>
-    ensures { IsSpot (reading.ranges_step (operand_of slice.operand) slice.bracket slice.done.items at reading.DigitsWanted kind) result }
+    ensures { IsSpot (reading.ranges_step
+        (operand_of slice.operand) slice.bracket slice.done.items at reading.DigitsWanted kind)
+        result }
 {
     match kind {
         Kind::Number(n) => in_range(slice, at, RangeSpot::PlaceRead(backward(n))),
@@ -251,7 +263,9 @@ fn place_read(
     place: Place,
     kind: Kind,
 ) -> Result<Option<Spot>, Refusal>
-    ensures { IsSpot (reading.ranges_step (operand_of slice.operand) slice.bracket slice.done.items at (reading.PlaceRead place) kind) result }
+    ensures { IsSpot (reading.ranges_step
+        (operand_of slice.operand) slice.bracket slice.done.items at (reading.PlaceRead place) kind)
+        result }
 {
     match kind {
         Kind::Colon => in_range(slice, at, RangeSpot::ColonRead(place)),
@@ -269,7 +283,9 @@ fn colon_read(
     place: Place,
     kind: Kind,
 ) -> Result<Option<Spot>, Refusal>
-    ensures { IsSpot (reading.ranges_step (operand_of slice.operand) slice.bracket slice.done.items at (reading.ColonRead place) kind) result }
+    ensures { IsSpot (reading.ranges_step
+        (operand_of slice.operand) slice.bracket slice.done.items at (reading.ColonRead place) kind)
+        result }
 {
     match kind {
         Kind::Number(n) => in_range(slice, at, RangeSpot::PartRead(RangePart::Counted(place, n))),
@@ -280,7 +296,9 @@ fn colon_read(
 }
 
 fn end_wanted(slice: Slice, at: u32, place: Place, kind: Kind) -> Result<Option<Spot>, Refusal>
-    ensures { IsSpot (reading.ranges_step (operand_of slice.operand) slice.bracket slice.done.items at (reading.EndWanted place) kind) result }
+    ensures { IsSpot (reading.ranges_step
+        (operand_of slice.operand) slice.bracket slice.done.items at (reading.EndWanted place) kind)
+        result }
 {
     match kind {
         Kind::Number(n) => in_range(
@@ -299,7 +317,9 @@ fn end_digits_wanted(
     place: Place,
     kind: Kind,
 ) -> Result<Option<Spot>, Refusal>
-    ensures { IsSpot (reading.ranges_step (operand_of slice.operand) slice.bracket slice.done.items at (reading.EndDigitsWanted place) kind) result }
+    ensures { IsSpot (reading.ranges_step
+        (operand_of slice.operand) slice.bracket slice.done.items at
+        (reading.EndDigitsWanted place) kind) result }
 {
     match kind {
         Kind::Number(n) => in_range(
@@ -312,7 +332,9 @@ fn end_digits_wanted(
 }
 
 fn count_wanted(slice: Slice, at: u32, kind: Kind) -> Result<Option<Spot>, Refusal>
-    ensures { IsSpot (reading.ranges_step (operand_of slice.operand) slice.bracket slice.done.items at reading.CountWanted kind) result }
+    ensures { IsSpot (reading.ranges_step
+        (operand_of slice.operand) slice.bracket slice.done.items at reading.CountWanted kind)
+        result }
 {
     match kind {
         Kind::Number(n) => in_range(slice, at, RangeSpot::PartRead(RangePart::Front(n))),
@@ -327,7 +349,9 @@ fn part_read(
     part: RangePart,
     kind: Kind,
 ) -> Result<Option<Spot>, Refusal>
-    ensures { IsSpot (reading.ranges_step (operand_of slice.operand) slice.bracket slice.done.items at (reading.PartRead part) kind) result }
+    ensures { IsSpot (reading.ranges_step
+        (operand_of slice.operand) slice.bracket slice.done.items at (reading.PartRead part) kind)
+        result }
 {
     match kind {
         Kind::NextRange(next) => next_range(slice, at, part, next),
@@ -338,7 +362,8 @@ fn part_read(
 
 /// Behind the comma after a range.
 fn next_range(slice: Slice, at: u32, part: RangePart, next: u32) -> Result<Option<Spot>, Refusal>
-    ensures { IsSpot (Some (reading.InRanges (operand_of slice.operand) slice.bracket (reading.with_part at slice.done.items part) next reading.RangeWanted)) result }
+    ensures { IsSpot (Some (reading.InRanges (operand_of slice.operand) slice.bracket
+        (reading.with_part at slice.done.items part) next reading.RangeWanted)) result }
 {
     let mut done = slice.done;
     done.push(SliceRange { at, part })?;
@@ -358,7 +383,9 @@ fn all_ranges(
     at: u32,
     part: RangePart,
 ) -> Result<Option<Spot>, Refusal>
-    ensures { IsSpot (Some (reading.OperandRead (SlicedOf (operand_of slice.operand) slice.bracket (reading.with_part at slice.done.items part)))) result }
+    ensures { IsSpot (Some (reading.OperandRead
+        (SlicedOf (operand_of slice.operand) slice.bracket
+        (reading.with_part at slice.done.items part)))) result }
 {
     let mut done = slice.done;
     done.push(SliceRange { at, part })?;

@@ -48,8 +48,10 @@ fn parse_tokens(alloc: Global, tokens: VecDeque<Token>, end: u32) -> Result<Ast,
 
 #[tactic(auto, using(crate::proofs::Parsed::read_on, crate::proofs::Parsed::read_stop, crate::proofs::Parsed::read_whole, crate::proofs::Parsed::read_cut))]
 fn read_tokens(alloc: Global, tokens: VecDeque<Token>, end: u32) -> Result<Ast, FilterError>
-    ensures ok { IfOk result (λ ast. tokens_read most_open reading.start tokens.items ≡ reading.Whole (written ast)) }
-    ensures err { IfErr result (IsReadError end (tokens_read most_open reading.start tokens.items)) }
+    ensures ok { IfOk result (λ ast.
+        tokens_read most_open reading.start tokens.items ≡ reading.Whole (written ast)) }
+    ensures err { IfErr result
+        (IsReadError end (tokens_read most_open reading.start tokens.items)) }
 {
     let mut rest = tokens;
     let mut state = start(alloc);

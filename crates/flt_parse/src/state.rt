@@ -1,8 +1,8 @@
 // How far a filter is read: the state of the parser between two tokens.
 
 use crate::ast::{
-    Ast, Choice, Element, Function, LayerRange, Literal, Negation, Operand, Operator, Place,
-    RangePart, SliceRange, Tail,
+    Arithmetic, Ast, Choice, Element, Function, LayerRange, Literal, Negation, Operand, Operator,
+    Place, RangePart, SliceRange, Tail,
 };
 use crate::fault::FilterReason;
 use crate::token::Join;
@@ -76,11 +76,26 @@ pub enum Side {
     OnRight(Option<Choice>, Operand, Operator, u32),
 }
 
-/// A function whose `)` isn't read.
+/// What joins two operands: the comma between arguments, or a sign and its place.
 #[derive(Clone, Copy, Debug, PartialEq, Eq)]
+pub enum Link {
+    Comma,
+    Sign(Arithmetic, u32),
+}
+
+/// An operand that waits for what stands to the right of its sign, or of its comma.
+#[derive(Drop)]
+pub struct Waiting {
+    pub operand: Operand,
+    pub link: Link,
+}
+
+/// A function whose `)` isn't read, and the operands that wait around its call.
+#[derive(Drop)]
 pub struct Call {
     pub function: Function,
     pub at: u32,
+    pub waiting: Vec<Waiting>,
 }
 
 /// A filter that waits for what stands to the right of its sign.
@@ -104,11 +119,12 @@ pub struct Open {
     pub around: Vec<Frame>,
 }
 
-/// Where an operand stands: on which side of a test, in which functions whose `)` isn't read, and what is open around
-/// the test.
+/// Where an operand stands: on which side of a test, behind which operands that wait, in which functions whose `)` isn't
+/// read, and what is open around the test.
 #[derive(Drop)]
 pub struct Inside {
     pub side: Side,
+    pub waiting: Vec<Waiting>,
     pub calls: Vec<Call>,
     pub outer: Open,
 }

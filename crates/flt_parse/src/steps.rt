@@ -6,17 +6,20 @@ ghost use Rattle.flt_parse.specs.Grammar.{is_open as asks_none};
 ghost use Rattle.flt_parse.specs.Written.{operand_of, written};
 ghost use Rattle.flt_parse.specs.Parser.Answers.{goes_on as goes_on_with, operand_read as read_operand};
 ghost use Rattle.flt_parse.specs.Parser.Reading as reading;
-ghost use Rattle.flt_parse.specs.Parser.States.{IsMove, IsSpot, IsWhole, around_of, begun_at, behind_of, call_end_in, call_of, end_in, frame_of, further_in, go_in, in_spot, left_end_in, left_of, not_in_of, range_spot, reversed, side_end_in, side_of, spot_of, state_of, step_in, tail_spot_of, want, in_tail as at_tail};
+ghost use Rattle.flt_parse.specs.Parser.States.{IsMove, IsSpot, IsWhole, around_of, begun_at, behind_of, call_end_in, call_of, end_in, frame_of, further_in, go_in, in_spot, left_end_in, left_of, level_end_in, link_in, not_in_of, range_spot, reversed, side_end_in, side_of, spot_of, state_of, step_in, tail_spot_of, want, in_tail as at_tail};
 
-use crate::ast::{Ast, Choice, LayerRange, Negation, Operand, Operator, Tail};
+use crate::ast::{
+    Ast, Choice, Function, LayerRange, Negation, Operand, Operator, Tail, takes_more,
+};
 use crate::fault::FilterReason;
 use crate::joins::{behind, behind_test, has_room, have, join_all, negate, unexpected};
+use crate::links::{link_all, wait};
 use crate::operands::{
     Slice, layers_begun, layers_step, mask_wanted, ranges_step, takes_mask, takes_slice,
 };
 use crate::state::{
-    Call, Frame, Inside, LayerSpot, Left, Open, RangeSpot, Refusal, Side, Spot, State, TailMove,
-    TailSpot,
+    Call, Frame, Inside, LayerSpot, Left, Link, Open, RangeSpot, Refusal, Side, Spot, State,
+    TailMove, TailSpot,
 };
 use crate::tails::tail_step;
 use crate::token::Kind;
@@ -93,6 +96,7 @@ fn choose(alloc: Global, outer: Open, choice: Choice) -> Result<State, Refusal>
 {
     let inside = Inside {
         side: Side::OnLeft(Some(choice)),
+        waiting: Vec::new(alloc),
         calls: Vec::new(alloc),
         outer,
     };
@@ -105,10 +109,11 @@ fn begin_test(alloc: Global, outer: Open, kind: Kind) -> Result<State, Refusal>
 {
     let inside = Inside {
         side: Side::OnLeft(None),
+        waiting: Vec::new(alloc),
         calls: Vec::new(alloc),
         outer,
     };
-    wanted(inside, kind)
+    wanted(alloc, inside, kind)
 }
 
 /// In an operand.
@@ -116,7 +121,7 @@ fn in_operand(alloc: Global, spot: Spot, inside: Inside, kind: Kind) -> Result<S
     ensures { IsMove (step_in (spot_of spot) inside kind) result }
 {
     match spot {
-        Spot::Wanted => wanted(inside, kind),
+        Spot::Wanted => wanted(alloc, inside, kind),
         Spot::Read(operand) => read(alloc, operand, inside, kind),
         Spot::LayersWanted(word) => behind_sharp(alloc, word, inside, kind),
         Spot::InLayers(word, done, at, spot) => in_layers(word, done, at, spot, inside, kind),
@@ -185,11 +190,11 @@ fn behind_mask(
 }
 
 /// Where an operand is wanted.
-fn wanted(inside: Inside, kind: Kind) -> Result<State, Refusal>
+fn wanted(alloc: Global, inside: Inside, kind: Kind) -> Result<State, Refusal>
     ensures { IsMove (step_in reading.OperandWanted inside kind) result }
 {
     match kind {
-        Kind::Calls(function, at) => open_call(inside, Call { function, at }),
+        Kind::Calls(function, at) => open_call(alloc, inside, function, at),
         Kind::Text(quote) => on(Spot::Read(Operand::Text(quote)), inside),
         Kind::Name(word) => on(Spot::Read(Operand::Named(word)), inside),
         _ => unexpected(),
@@ -198,19 +203,30 @@ fn wanted(inside: Inside, kind: Kind) -> Result<State, Refusal>
 
 /// Behind a function and its `(`.
 #[tactic(auto, using(crate::proofs::Stacks::reversed_push, crate::proofs::Stacks::length_reversed))]
-fn open_call(inside: Inside, call: Call) -> Result<State, Refusal>
-    ensures { IsMove (step_in reading.OperandWanted inside (Kind.Calls call.function call.at)) result }
+fn open_call(alloc: Global, inside: Inside, function: Function, at: u32) -> Result<State, Refusal>
+    ensures { IsMove (step_in reading.OperandWanted inside (Kind.Calls function at)) result }
 {
     if !has_room(inside.calls.len(), &inside.outer) {
         return too_deep();
     }
     let Inside {
         side,
+        waiting,
         mut calls,
         outer,
     } = inside;
-    calls.push(call)?;
-    on(Spot::Wanted, Inside { side, calls, outer })
+    calls.push(Call {
+        function,
+        at,
+        waiting,
+    })?;
+    let inner = Inside {
+        side,
+        waiting: Vec::new(alloc),
+        calls,
+        outer,
+    };
+    on(Spot::Wanted, inner)
 }
 
 /// Further on in an operand.
@@ -278,7 +294,8 @@ fn slice_of(
     next: u32,
     inside: Inside,
 ) -> Result<State, Refusal>
-    ensures { IsMove (step_in (reading.OperandRead (operand_of operand)) inside (Kind.OpenRanges at next)) result }
+    ensures { IsMove (step_in (reading.OperandRead (operand_of operand)) inside
+        (Kind.OpenRanges at next)) result }
 {
     if !takes_slice(&operand) {
         return unexpected();
@@ -290,7 +307,8 @@ fn slice_of(
 /// Behind an operand and `&`.
 #[tactic(auto, using(crate::proofs::Moves::mask_begun, crate::proofs::Moves::no_mask))]
 fn mask_of(operand: Operand, at: u32, inside: Inside) -> Result<State, Refusal>
-    ensures { IsMove (step_in (reading.OperandRead (operand_of operand)) inside (Kind.Mask at)) result }
+    ensures { IsMove (step_in (reading.OperandRead (operand_of operand)) inside (Kind.Mask at))
+        result }
 {
     if !takes_mask(&operand) {
         return unexpected();
@@ -311,7 +329,6 @@ fn on_if(next: Result<Option<Spot>, Refusal>, inside: Inside) -> Result<State, R
 }
 
 /// At a token behind an operand.
-#[tactic(auto, using(crate::proofs::Stacks::reversed_push))]
 fn operand_end(
     alloc: Global,
     operand: Operand,
@@ -320,14 +337,67 @@ fn operand_end(
 ) -> Result<State, Refusal>
     ensures { IsMove (end_in (operand_of operand) inside kind) result }
 {
+    match kind {
+        Kind::Computes(arithmetic, at) => behind_link(
+            alloc,
+            Link::Sign(arithmetic, at),
+            operand,
+            inside,
+        ),
+        _ => level_end(alloc, operand, inside, kind),
+    }
+}
+
+/// Behind an operand and its sign or comma.
+fn behind_link(
+    alloc: Global,
+    link: Link,
+    operand: Operand,
+    inside: Inside,
+) -> Result<State, Refusal>
+    ensures { IsMove (reading.Go (link_in link (operand_of operand) inside)) result }
+{
     let Inside {
         side,
+        waiting,
+        calls,
+        outer,
+    } = inside;
+    let waiting = wait(alloc, link, waiting, operand)?;
+    let behind = Inside {
+        side,
+        waiting,
+        calls,
+        outer,
+    };
+    on(Spot::Wanted, behind)
+}
+
+/// At a token, other than a sign, behind an operand.
+#[tactic(auto, using(crate::proofs::Stacks::reversed_push))]
+fn level_end(alloc: Global, operand: Operand, inside: Inside, kind: Kind) -> Result<State, Refusal>
+    ensures { IsMove (level_end_in (operand_of operand) inside kind) result }
+{
+    let Inside {
+        side,
+        waiting,
         mut calls,
         outer,
     } = inside;
     match calls.pop() {
-        Some(call) => call_end(alloc, call, operand, Inside { side, calls, outer }, kind),
-        None => side_end(alloc, side, operand, outer, kind),
+        Some(call) => {
+            let inside = Inside {
+                side,
+                waiting,
+                calls,
+                outer,
+            };
+            call_end(alloc, call, operand, inside, kind)
+        }
+        None => {
+            let all = link_all(alloc, waiting, operand)?;
+            side_end(alloc, side, all, outer, kind)
+        }
     }
 }
 
@@ -342,12 +412,65 @@ fn call_end(
     ensures { IsMove (call_end_in (call_of call) (operand_of operand) inside kind) result }
 {
     match kind {
-        Kind::Close => {
-            let called = Operand::Called(call.function, call.at, Box::new(alloc, operand)?);
-            on(Spot::Read(called), inside)
-        }
+        Kind::Close => close_call(alloc, call, operand, inside),
+        Kind::Comma => next_argument(alloc, call, operand, inside),
         _ => unexpected(),
     }
+}
+
+/// Behind the `)` of a call.
+fn close_call(alloc: Global, call: Call, operand: Operand, inside: Inside) -> Result<State, Refusal>
+    ensures { IsMove (call_end_in (call_of call) (operand_of operand) inside Kind.Close) result }
+{
+    let Inside {
+        side,
+        waiting,
+        calls,
+        outer,
+    } = inside;
+    let Call {
+        function,
+        at,
+        waiting: around,
+    } = call;
+    let argument = link_all(alloc, waiting, operand)?;
+    let called = Operand::Called(function, at, Box::new(alloc, argument)?);
+    let outside = Inside {
+        side,
+        waiting: around,
+        calls,
+        outer,
+    };
+    on(Spot::Read(called), outside)
+}
+
+/// Behind the comma after an argument.
+#[tactic(auto, using(crate::proofs::Stacks::reversed_push, crate::proofs::Moves::more_taken, crate::proofs::Moves::none_taken))]
+fn next_argument(
+    alloc: Global,
+    call: Call,
+    operand: Operand,
+    inside: Inside,
+) -> Result<State, Refusal>
+    ensures { IsMove (call_end_in (call_of call) (operand_of operand) inside Kind.Comma) result }
+{
+    if !takes_more(call.function) {
+        return unexpected();
+    }
+    let Inside {
+        side,
+        waiting,
+        mut calls,
+        outer,
+    } = inside;
+    calls.push(call)?;
+    let inside = Inside {
+        side,
+        waiting,
+        calls,
+        outer,
+    };
+    behind_link(alloc, Link::Comma, operand, inside)
 }
 
 /// At a token behind the left or the right operand.
@@ -418,10 +541,12 @@ fn compare(
     at: u32,
     outer: Open,
 ) -> Result<State, Refusal>
-    ensures { IsMove (reading.Go (begun_at (reading.OnRight choice (operand_of operand) operator at) outer)) result }
+    ensures { IsMove (reading.Go
+        (begun_at (reading.OnRight choice (operand_of operand) operator at) outer)) result }
 {
     let inside = Inside {
         side: Side::OnRight(choice, operand, operator, at),
+        waiting: Vec::new(alloc),
         calls: Vec::new(alloc),
         outer,
     };
@@ -437,7 +562,8 @@ fn compare_chosen(
     at: u32,
     outer: Open,
 ) -> Result<State, Refusal>
-    ensures { IsMove (left_end_in (Some choice) (operand_of operand) outer (Kind.Compares operator at)) result }
+    ensures { IsMove (left_end_in (Some choice) (operand_of operand) outer
+        (Kind.Compares operator at)) result }
 {
     if !is_open(operator) {
         return unexpected();
@@ -481,7 +607,8 @@ fn in_tail(
     outer: Open,
     kind: Kind,
 ) -> Result<State, Refusal>
-    ensures { IsMove (reading.step most_open (at_tail (tail_spot_of spot) choice (operand_of operand) outer) kind) result }
+    ensures { IsMove (reading.step most_open
+        (at_tail (tail_spot_of spot) choice (operand_of operand) outer) kind) result }
 {
     match tail_step(alloc, spot, kind) {
         Ok(TailMove::Further(next)) => Ok(State::InTail(next, choice, operand, outer)),
@@ -510,7 +637,9 @@ fn cut_off() -> Result<Ast, Refusal>
 
 #[tactic(auto, using(crate::proofs::Stacks::reversed_push, crate::proofs::Moves::not_whole))]
 fn whole(alloc: Global, lefts: Vec<Left>, filter: Ast, around: Vec<Frame>) -> Result<Ast, Refusal>
-    ensures { IsWhole (reading.whole_have (reading.joined (reversed left_of lefts.items) (written filter)) (around_of around.items)) result }
+    ensures { IsWhole (reading.whole_have
+        (reading.joined (reversed left_of lefts.items) (written filter)) (around_of around.items))
+        result }
 {
     if !around.is_empty() {
         return cut_off();
@@ -540,16 +669,19 @@ fn operand_read(spot: Spot) -> Option<Operand>
 
 #[tactic(auto, using(crate::proofs::Moves::call_not_whole))]
 fn whole_operand(alloc: Global, operand: Operand, inside: Inside) -> Result<Ast, Refusal>
-    ensures { IsWhole (reading.whole (in_spot (reading.OperandRead (operand_of operand)) inside)) result }
+    ensures { IsWhole (reading.whole (in_spot (reading.OperandRead (operand_of operand)) inside))
+        result }
 {
     if !inside.calls.is_empty() {
         return cut_off();
     }
-    whole_test(alloc, operand, inside.side, inside.outer)
+    let all = link_all(alloc, inside.waiting, operand)?;
+    whole_test(alloc, all, inside.side, inside.outer)
 }
 
 fn whole_test(alloc: Global, operand: Operand, side: Side, outer: Open) -> Result<Ast, Refusal>
-    ensures { IsWhole (reading.whole_test (side_of side) (operand_of operand) (frame_of outer.frame) (around_of outer.around.items)) result }
+    ensures { IsWhole (reading.whole_test (side_of side) (operand_of operand) (frame_of outer.frame)
+        (around_of outer.around.items)) result }
 {
     match side {
         Side::OnLeft(None) => whole_behind(alloc, Ast::Alone(operand), outer),

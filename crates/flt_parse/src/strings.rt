@@ -23,7 +23,8 @@ pub struct Inside {
 /// Reads a string behind its opening `"`; None where it doesn't end, or has another escape.
 #[tactic(auto, using(crate::proofs::Inside::read_on))]
 pub fn read_string(alloc: Global, text: &[u8]) -> Result<Option<Inside>, NoMemory>
-    ensures value { IfOk result (λ answer. option_map (λ s. (s.bytes, s.width)) answer ≡ string_inside 0 text.now) }
+    ensures value { IfOk result (λ answer.
+        option_map (λ s. (s.bytes, s.width)) answer ≡ string_inside 0 text.now) }
     ensures within { IfOk result (λ answer. IfSome answer (λ s. s.width ≤ length text.now)) }
 {
     let mut bytes = Vec::new(alloc);
@@ -46,7 +47,8 @@ pub fn read_string(alloc: Global, text: &[u8]) -> Result<Option<Inside>, NoMemor
 
 /// Reads a raw string behind its `r"`; None where it doesn't end.
 pub fn read_raw(alloc: Global, text: &[u8]) -> Result<Option<Inside>, NoMemory>
-    ensures value { IfOk result (λ answer. option_map (λ s. (s.bytes, s.width)) answer ≡ raw_inside text.now) }
+    ensures value { IfOk result (λ answer.
+        option_map (λ s. (s.bytes, s.width)) answer ≡ raw_inside text.now) }
     ensures within { IfOk result (λ answer. IfSome answer (λ s. s.width ≤ length text.now)) }
 {
     let Some(end) = quote_in(text) else {

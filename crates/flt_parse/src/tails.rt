@@ -10,7 +10,8 @@ use crate::token::Kind;
 use std::alloc::Global;
 
 pub fn tail_step(alloc: Global, spot: TailSpot, kind: Kind) -> Result<TailMove, Refusal>
-    ensures { IsTailMove (reading.tail_step (tail_spot_of spot) kind) (reading.tail_done (tail_spot_of spot) kind) result }
+    ensures { IsTailMove (reading.tail_step (tail_spot_of spot) kind)
+        (reading.tail_done (tail_spot_of spot) kind) result }
 {
     match spot {
         TailSpot::InWanted => in_wanted(kind),
@@ -22,7 +23,8 @@ pub fn tail_step(alloc: Global, spot: TailSpot, kind: Kind) -> Result<TailMove, 
 
 /// Behind `not`.
 fn in_wanted(kind: Kind) -> Result<TailMove, Refusal>
-    ensures { IsTailMove (reading.tail_step reading.InWanted kind) (reading.tail_done reading.InWanted kind) result }
+    ensures { IsTailMove (reading.tail_step reading.InWanted kind)
+        (reading.tail_done reading.InWanted kind) result }
 {
     match kind {
         Kind::In => Ok(TailMove::Further(TailSpot::SetWanted(true))),
@@ -32,7 +34,8 @@ fn in_wanted(kind: Kind) -> Result<TailMove, Refusal>
 
 /// Behind `in`.
 fn set_wanted(alloc: Global, negated: bool, kind: Kind) -> Result<TailMove, Refusal>
-    ensures { IsTailMove (reading.tail_step (reading.SetWanted negated) kind) (reading.tail_done (reading.SetWanted negated) kind) result }
+    ensures { IsTailMove (reading.tail_step (reading.SetWanted negated) kind)
+        (reading.tail_done (reading.SetWanted negated) kind) result }
 {
     match kind {
         Kind::OpenBrace => Ok(TailMove::Further(TailSpot::InSet(
@@ -46,7 +49,8 @@ fn set_wanted(alloc: Global, negated: bool, kind: Kind) -> Result<TailMove, Refu
 
 /// Behind `matches`.
 fn pattern_wanted(at: u32, kind: Kind) -> Result<TailMove, Refusal>
-    ensures { IsTailMove (reading.tail_step (reading.PatternWanted at) kind) (reading.tail_done (reading.PatternWanted at) kind) result }
+    ensures { IsTailMove (reading.tail_step (reading.PatternWanted at) kind)
+        (reading.tail_done (reading.PatternWanted at) kind) result }
 {
     match kind {
         Kind::Text(quote) => Ok(TailMove::Done(Tail::Matches(at, quote))),
@@ -61,7 +65,8 @@ fn set_step(
     spot: ElementSpot,
     kind: Kind,
 ) -> Result<TailMove, Refusal>
-    ensures { IsTailMove (reading.tail_step (reading.InSet negated done.items spot) kind) (reading.tail_done (reading.InSet negated done.items spot) kind) result }
+    ensures { IsTailMove (reading.tail_step (reading.InSet negated done.items spot) kind)
+        (reading.tail_done (reading.InSet negated done.items spot) kind) result }
 {
     match spot {
         ElementSpot::ElementWanted => element_wanted(negated, done, kind),
@@ -72,7 +77,9 @@ fn set_step(
 }
 
 fn element_wanted(negated: bool, done: Vec<Element>, kind: Kind) -> Result<TailMove, Refusal>
-    ensures { IsTailMove (reading.tail_step (reading.InSet negated done.items reading.ElementWanted) kind) (reading.tail_done (reading.InSet negated done.items reading.ElementWanted) kind) result }
+    ensures { IsTailMove (reading.tail_step
+        (reading.InSet negated done.items reading.ElementWanted) kind)
+        (reading.tail_done (reading.InSet negated done.items reading.ElementWanted) kind) result }
 {
     match kind {
         Kind::Name(word) => in_element(
@@ -95,7 +102,10 @@ fn literal_read(
     first: Literal,
     kind: Kind,
 ) -> Result<TailMove, Refusal>
-    ensures { IsTailMove (reading.tail_step (reading.InSet negated done.items (reading.LiteralRead first)) kind) (reading.tail_done (reading.InSet negated done.items (reading.LiteralRead first)) kind) result }
+    ensures { IsTailMove (reading.tail_step
+        (reading.InSet negated done.items (reading.LiteralRead first)) kind)
+        (reading.tail_done (reading.InSet negated done.items (reading.LiteralRead first)) kind)
+        result }
 {
     match kind {
         Kind::DotDot => in_element(negated, done, ElementSpot::SecondWanted(first)),
@@ -111,7 +121,10 @@ fn second_wanted(
     first: Literal,
     kind: Kind,
 ) -> Result<TailMove, Refusal>
-    ensures { IsTailMove (reading.tail_step (reading.InSet negated done.items (reading.SecondWanted first)) kind) (reading.tail_done (reading.InSet negated done.items (reading.SecondWanted first)) kind) result }
+    ensures { IsTailMove (reading.tail_step
+        (reading.InSet negated done.items (reading.SecondWanted first)) kind)
+        (reading.tail_done (reading.InSet negated done.items (reading.SecondWanted first)) kind)
+        result }
 {
     match kind {
         Kind::Name(word) => in_element(
@@ -135,7 +148,10 @@ fn second_read(
     second: Literal,
     kind: Kind,
 ) -> Result<TailMove, Refusal>
-    ensures { IsTailMove (reading.tail_step (reading.InSet negated done.items (reading.SecondRead first second)) kind) (reading.tail_done (reading.InSet negated done.items (reading.SecondRead first second)) kind) result }
+    ensures { IsTailMove (reading.tail_step
+        (reading.InSet negated done.items (reading.SecondRead first second)) kind)
+        (reading.tail_done (reading.InSet negated done.items (reading.SecondRead first second))
+        kind) result }
 {
     match kind {
         Kind::Comma => next_element(negated, done, Element::Between(first, second)),
@@ -153,7 +169,8 @@ fn in_element(negated: bool, done: Vec<Element>, spot: ElementSpot) -> Result<Ta
 
 /// Behind the comma after an element.
 fn next_element(negated: bool, done: Vec<Element>, element: Element) -> Result<TailMove, Refusal>
-    ensures { IsTailMove (Some (reading.InSet negated (done.items ++ element ∷ []) reading.ElementWanted)) None result }
+    ensures { IsTailMove (Some
+        (reading.InSet negated (done.items ++ element ∷ []) reading.ElementWanted)) None result }
 {
     let mut done = done;
     done.push(element)?;

@@ -13,9 +13,10 @@ use Rattle.flt_parse.specs.declared.token.Kind.TheVariants as kinds
 use Rattle.flt_parse.specs.declared.token.Token.{Token}
 
 -- an operand that goes on, or a token that doesn't go on with it
-abbrev pub further : Option reading.Spot → reading.Side → List reading.Call → reading.Frame → List reading.Frame → reading.Move
-further (Some s) side calls f around = reading.Go (reading.InOperand s side calls f around)
-further None side calls f around = reading.Stop Unexpected
+abbrev pub further : Option reading.Spot → reading.Side → List reading.Waiting → List reading.Call
+    → reading.Frame → List reading.Frame → reading.Move
+further (Some s) side ws calls f around = reading.Go (reading.InOperand s side ws calls f around)
+further None side ws calls f around = reading.Stop Unexpected
 
 -- the tokens that go on with an operand that is whole
 abbrev pub goes_on : Kind → Bool
@@ -40,7 +41,8 @@ refused NoMemory at = errors.NoMemory
 
 -- why no filter is read, where memory allows: the fault stands at the place of the first token that is left
 abbrev pub IsReadError : ℕ → reading.Answer Token → FilterError → Type 0
-IsReadError end answer (errors.Fault fault) = (rest : List Token) × (answer ≡ reading.Bad fault.reason rest) × (fault.at ≡ place_of rest end)
+IsReadError end answer (errors.Fault fault) =
+    (rest : List Token) × (answer ≡ reading.Bad fault.reason rest) × (fault.at ≡ place_of rest end)
 IsReadError end answer errors.NoMemory = Unit {0}
 
 abbrev pub IsParseError : ℕ → List Token → FilterError → Type 0

@@ -27,6 +27,7 @@ use Rattle.flt_parse.specs.declared.state.TailMove.{TailMove}
 use Rattle.flt_parse.specs.declared.state.TailMove.TheVariants.{Further, Done, Wrong}
 use Rattle.flt_parse.specs.declared.state.TailSpot.{TailSpot}
 use Rattle.flt_parse.specs.declared.state.TailSpot.TheVariants.{InWanted, SetWanted, InSet, PatternWanted}
+use Rattle.flt_parse.specs.declared.state.Waiting.{Waiting}
 use Rattle.flt_parse.specs.declared.token.Kind.{Kind}
 
 -- a list whose last is the first
@@ -38,13 +39,17 @@ abbrev pub left_of : Left → reading.Left
 left_of l = reading.LeftOf (written l.filter) l.join
 
 abbrev pub frame_of : Frame → reading.Frame
-frame_of f = record { lefts = reversed left_of f.lefts.items; nots = reversed (λ n. n) f.nots.items }
+frame_of f =
+    record { lefts = reversed left_of f.lefts.items; nots = reversed (λ n. n) f.nots.items }
 
 abbrev pub around_of : List Frame → List reading.Frame
 around_of fs = reversed frame_of fs
 
+abbrev pub waiting_of : List Waiting → List reading.Waiting
+waiting_of ws = reversed (λ w. reading.WaitingFor (operand_of w.operand) w.link) ws
+
 abbrev pub call_of : Call → reading.Call
-call_of c = record { function = c.function; at = c.at }
+call_of c = record { function = c.function; at = c.at; waiting = waiting_of c.waiting.items }
 
 abbrev pub calls_of : List Call → List reading.Call
 calls_of cs = reversed call_of cs
@@ -58,7 +63,8 @@ spot_of Wanted = reading.OperandWanted
 spot_of (Read o) = reading.OperandRead (operand_of o)
 spot_of (LayersWanted w) = reading.LayersWanted w
 spot_of (InLayers w done at spot) = reading.InLayers w done.items at spot
-spot_of (InRanges o bracket done at spot) = reading.InRanges (operand_of o) bracket done.items at spot
+spot_of (InRanges o bracket done at spot) =
+    reading.InRanges (operand_of o) bracket done.items at spot
 spot_of (MaskWanted o at) = reading.MaskWanted (operand_of o) at
 
 abbrev pub tail_spot_of : TailSpot → reading.TailSpot
@@ -77,25 +83,30 @@ behind_of outer t = reading.have (frame_of outer.frame) (around_of outer.around.
 
 -- an operand
 abbrev pub in_spot : reading.Spot → Inside → reading.State
-in_spot spot i = reading.InOperand spot (side_of i.side) (calls_of i.calls.items) (frame_of i.outer.frame) (around_of i.outer.around.items)
+in_spot spot i = reading.InOperand spot (side_of i.side) (waiting_of i.waiting.items)
+    (calls_of i.calls.items) (frame_of i.outer.frame) (around_of i.outer.around.items)
 
 -- an operand that begins on one side of a test
 abbrev pub begun_at : reading.Side → Open → reading.State
-begun_at side outer = reading.InOperand reading.OperandWanted side [] (frame_of outer.frame) (around_of outer.around.items)
+begun_at side outer = reading.InOperand reading.OperandWanted side [] [] (frame_of outer.frame)
+    (around_of outer.around.items)
 
 -- what follows a left operand
 abbrev pub in_tail : reading.TailSpot → Option Choice → WrittenOperand → Open → reading.State
-in_tail spot c o outer = reading.InTail spot c o (frame_of outer.frame) (around_of outer.around.items)
+in_tail spot c o outer =
+    reading.InTail spot c o (frame_of outer.frame) (around_of outer.around.items)
 
 abbrev pub state_of : State → reading.State
 state_of (Want outer) = want outer
-state_of (Have lefts t around) = reading.Have (reversed left_of lefts.items) (written t) (around_of around.items)
+state_of (Have lefts t around) =
+    reading.Have (reversed left_of lefts.items) (written t) (around_of around.items)
 state_of (InOperand spot inside) = in_spot (spot_of spot) inside
 state_of (InTail spot c o outer) = in_tail (tail_spot_of spot) c (operand_of o) outer
 
 -- the range of a slice that is read
 abbrev pub range_spot : Slice → ℕ → RangeSpot → reading.Spot
-range_spot slice at spot = reading.InRanges (operand_of slice.operand) slice.bracket slice.done.items at spot
+range_spot slice at spot =
+    reading.InRanges (operand_of slice.operand) slice.bracket slice.done.items at spot
 
 -- the reading's moves at an operand, which goes on or ends, by what is open around it
 abbrev pub go_in : reading.Spot → Inside → reading.Move
@@ -105,22 +116,41 @@ abbrev pub step_in : reading.Spot → Inside → Kind → reading.Move
 step_in spot i kind = reading.step most_open (in_spot spot i) kind
 
 abbrev pub further_in : Option reading.Spot → Inside → reading.Move
-further_in next i = further next (side_of i.side) (calls_of i.calls.items) (frame_of i.outer.frame) (around_of i.outer.around.items)
+further_in next i = further next (side_of i.side) (waiting_of i.waiting.items)
+    (calls_of i.calls.items) (frame_of i.outer.frame) (around_of i.outer.around.items)
 
 abbrev pub end_in : WrittenOperand → Inside → Kind → reading.Move
-end_in o i kind = reading.operand_end (side_of i.side) (calls_of i.calls.items) o (frame_of i.outer.frame) (around_of i.outer.around.items) kind
+end_in o i kind = reading.operand_end (side_of i.side) (waiting_of i.waiting.items)
+    (calls_of i.calls.items) o (frame_of i.outer.frame) (around_of i.outer.around.items) kind
 
 abbrev pub call_end_in : reading.Call → WrittenOperand → Inside → Kind → reading.Move
-call_end_in call o i kind = reading.call_end call o (side_of i.side) (calls_of i.calls.items) (frame_of i.outer.frame) (around_of i.outer.around.items) kind
+call_end_in call o i kind =
+    reading.call_end call (waiting_of i.waiting.items) o (side_of i.side) (calls_of i.calls.items)
+    (frame_of i.outer.frame) (around_of i.outer.around.items) kind
+
+abbrev pub level_end_in : WrittenOperand → Inside → Kind → reading.Move
+level_end_in o i kind =
+    reading.side_end (side_of i.side) (waiting_of i.waiting.items) (calls_of i.calls.items) o
+    (frame_of i.outer.frame) (around_of i.outer.around.items) kind
 
 abbrev pub side_end_in : reading.Side → WrittenOperand → Open → Kind → reading.Move
-side_end_in side o outer kind = reading.operand_end side [] o (frame_of outer.frame) (around_of outer.around.items) kind
+side_end_in side o outer kind =
+    reading.side_end side [] [] o (frame_of outer.frame) (around_of outer.around.items) kind
+
+-- an operand behind a sign or a comma
+abbrev pub link_in : reading.Link → WrittenOperand → Inside → reading.State
+link_in link o i =
+    reading.InOperand reading.OperandWanted (side_of i.side)
+    (reading.wait link (waiting_of i.waiting.items) o) (calls_of i.calls.items)
+    (frame_of i.outer.frame) (around_of i.outer.around.items)
 
 abbrev pub left_end_in : Option Choice → WrittenOperand → Open → Kind → reading.Move
-left_end_in c o outer kind = reading.left_end c o (frame_of outer.frame) (around_of outer.around.items) kind
+left_end_in c o outer kind =
+    reading.left_end c o (frame_of outer.frame) (around_of outer.around.items) kind
 
 abbrev pub not_in_of : Negation → Option Choice → WrittenOperand → Open → reading.Move
-not_in_of n c o outer = reading.not_before_in n c o (frame_of outer.frame) (around_of outer.around.items)
+not_in_of n c o outer =
+    reading.not_before_in n c o (frame_of outer.frame) (around_of outer.around.items)
 
 -- what a step of the parser answers, where memory allows
 abbrev pub IsMove : reading.Move → Result State Refusal → Type 0
@@ -135,7 +165,8 @@ IsSpot next (Err (Fault r)) = ⊥
 IsSpot next (Err NoMemory) = Unit {0}
 
 -- what follows a left operand, where memory allows: further on, the whole of it, or neither
-abbrev pub IsTailMove : Option reading.TailSpot → Option WrittenTail → Result TailMove Refusal → Type 0
+abbrev pub IsTailMove : Option reading.TailSpot → Option WrittenTail → Result TailMove Refusal
+    → Type 0
 IsTailMove next last (Ok (Further s)) = next ≡ Some (tail_spot_of s)
 IsTailMove next last (Ok (Done t)) = (next ≡ None) × (last ≡ Some (tail_of t))
 IsTailMove next last (Ok Wrong) = (next ≡ None) × (last ≡ None)
