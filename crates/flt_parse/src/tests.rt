@@ -49,12 +49,70 @@ const FILTERS: [&str; 16] = [
     "a xor len(b) == 1^^not(xor_)",
 ];
 
+/// Each sign before each, blanks or none around them, beside all that an operand may be, and under each function.
+const COMPUTED: [&str; 40] = [
+    "a + b + c == 1",
+    "a + b - c == 1",
+    "a + b * c == 1",
+    "a - b + c == 1",
+    "a - b - c == 1",
+    "a - b * c == 1",
+    "a * b + c == 1",
+    "a * b - c == 1",
+    "a * b * c == 1",
+    "a+b*c",
+    "a+ b",
+    "a *b",
+    "a-b - c-d",
+    "a - -1",
+    "a -\n1",
+    "2 * a == 4",
+    "4 == a * 2",
+    "1 + 2 > 3 - 4",
+    "\"a\" + r\"b\" - c",
+    "any a + b != c - d",
+    "all a * 2 >= b",
+    "not a + b in {c, d}",
+    "a + b not in {c}",
+    "a * b matches \"c\"",
+    "a - b contains c + d",
+    "a#1 + b#[2-3,5] * c",
+    "a[0] - b[1:2,-1]",
+    "a & 1 + b & 2 * c & 3",
+    "len(a + b) == 1",
+    "count(a * b)[0] - c",
+    "upper(a - b) & c",
+    "lower(a + b * c)[1:2]",
+    "min(a)",
+    "max (a , b,c) > 1",
+    "min(a + 1, 2 * b, len(c), \"d\") & 3 + max(e)",
+    "max(min(a, b), max(c, d)) - min(max(e))",
+    "len(min(a, b) + 1)",
+    "(a + b == c) xor (min)",
+    "max + min * len - count",
+    "a == b + c and d - e or f * g",
+];
+
+/// Sums of 2,048 operands, products of as many, and calls with as many arguments.
+fn long_chains_are_read(rt: &impl Abort, alloc: Global) -> Result<(), Fail> {
+    for sign in ["a+", "a*"] {
+        is_filter(rt, alloc, after(alloc, 2_047, sign, "a")?.as_str());
+    }
+    let arguments = after(alloc, 2_045, "a,", "a)")?;
+    let call = after(alloc, 1, "min(", arguments.as_str())?;
+    is_filter(rt, alloc, call.as_str());
+    Ok(())
+}
+
 #[test]
 fn filters_are_read(rt: HostRuntime) -> Result<(), Fail> {
     for text in FILTERS {
         is_filter(&rt, rt.alloc(), text);
     }
-    Ok(())
+    for text in COMPUTED {
+        is_filter(&rt, rt.alloc(), text);
+    }
+    long_chains_are_read(&rt, rt.alloc())
 }
 
 #[test]
@@ -95,12 +153,28 @@ fn at_most_64_are_open(rt: HostRuntime) -> Result<(), Fail> {
     has_fault(&rt, alloc, groups.as_str(), 64, FilterReason::TooDeep);
     let calls = after(alloc, 64, "(", "a == len(b)")?;
     has_fault(&rt, alloc, calls.as_str(), 69, FilterReason::TooDeep);
+    let extremes = after(alloc, 65, "min(", "a")?;
+    has_fault(&rt, alloc, extremes.as_str(), 256, FilterReason::TooDeep);
+    let beside = after(alloc, 64, "!", "a * max(b)")?;
+    has_fault(&rt, alloc, beside.as_str(), 68, FilterReason::TooDeep);
+    let arguments = after(alloc, 64, ")", "")?;
+    let nested = after(alloc, 64, "max(a,b - ", "c")?;
+    is_filter(
+        &rt,
+        alloc,
+        after(alloc, 1, nested.as_str(), arguments.as_str())?.as_str(),
+    );
+    is_filter(
+        &rt,
+        alloc,
+        after(alloc, 63, "!", "a + max(b, 1) > 2")?.as_str(),
+    );
     let other = after(alloc, 64, "(", ")(")?;
     has_fault(&rt, alloc, other.as_str(), 64, FilterReason::Unexpected);
     Ok(())
 }
 
-const LEXICAL: [(&str, u32, FilterReason); 17] = [
+const LEXICAL: [(&str, u32, FilterReason); 20] = [
     ("arp.opcode == 1 @", 16, FilterReason::BadChar),
     (") == 1 @", 7, FilterReason::BadChar),
     ("@ \"", 0, FilterReason::BadChar),
@@ -110,6 +184,9 @@ const LEXICAL: [(&str, u32, FilterReason); 17] = [
     ("a = b", 2, FilterReason::BadChar),
     ("a | b", 2, FilterReason::BadChar),
     ("a ^^^ b", 4, FilterReason::BadChar),
+    ("a[0 + 1]", 4, FilterReason::BadChar),
+    ("a[0*2]", 3, FilterReason::BadChar),
+    ("a / + %", 6, FilterReason::BadChar),
     ("\u{e9}", 0, FilterReason::BadChar),
     ("\"", 0, FilterReason::BadString),
     ("a == \"b", 5, FilterReason::BadString),
@@ -175,6 +252,54 @@ const DIGITS: [(&str, u32); 8] = [
     ("a#[-1]", 3),
 ];
 
+/// The signs of sums, differences and products, and the arguments of functions.
+const MISCOMPUTED: [(&str, u32); 44] = [
+    ("+", 0),
+    ("-", 0),
+    ("*", 0),
+    ("- a", 0),
+    ("+ a == b", 0),
+    ("a +", 3),
+    ("a -", 3),
+    ("a *", 3),
+    ("a + b *", 7),
+    ("a + + b", 4),
+    ("a + - b", 4),
+    ("a + * b", 4),
+    ("a - + b", 4),
+    ("a - - b", 4),
+    ("a - * b", 4),
+    ("a * + b", 4),
+    ("a * - b", 4),
+    ("a * * b", 4),
+    ("a -1 == b", 2),
+    ("tcp.len -1", 8),
+    ("a -..", 3),
+    ("a - 1..2", 5),
+    ("a + (b)", 4),
+    ("(a + b) * c", 8),
+    ("(a) - b", 4),
+    ("a + not b", 4),
+    ("a + any b == c", 4),
+    ("a and + b", 6),
+    ("any a + b", 9),
+    ("a == b + c == d", 11),
+    ("a & b + c & d & e", 14),
+    ("a + b[0][1]", 8),
+    ("a in {b + c}", 8),
+    ("a in {b} + c", 9),
+    ("a ~ \"b\" + c", 8),
+    ("a, b", 1),
+    ("a == b, c", 6),
+    ("min()", 4),
+    ("min(a,)", 6),
+    ("max(a b)", 6),
+    ("max(a, b", 8),
+    ("max(a)[0]", 6),
+    ("len(a, b)", 5),
+    ("upper(a + b, c)", 11),
+];
+
 const CHOSEN: [(&str, u32); 9] = [
     ("any a", 5),
     ("any a and b", 6),
@@ -196,6 +321,9 @@ fn unexpected_tokens_are_told_at_their_bytes(rt: HostRuntime) -> Result<(), Fail
         has_fault(&rt, rt.alloc(), text, at, FilterReason::Unexpected);
     }
     for (text, at) in DIGITS {
+        has_fault(&rt, rt.alloc(), text, at, FilterReason::Unexpected);
+    }
+    for (text, at) in MISCOMPUTED {
         has_fault(&rt, rt.alloc(), text, at, FilterReason::Unexpected);
     }
     for (text, at) in CHOSEN {
@@ -357,6 +485,177 @@ fn joins_bind_in_their_order(rt: HostRuntime) -> Result<(), Fail> {
         Some((Outermost::And, Outermost::Other, Outermost::Other))
     );
     assert_eq!(rt; joins(alloc, "not (a and b)"), None);
+    Ok(())
+}
+
+/// What an operand is at its outermost.
+#[derive(Clone, Copy, Debug, PartialEq, Eq)]
+enum Shape {
+    /// A sum, difference or product, and the place of its sign.
+    Of(Arithmetic, u32),
+    /// Arguments, of which there are two or more.
+    Several,
+    /// A function's call.
+    Call(Function),
+    Word,
+    Other,
+}
+
+fn shape_of(operand: &Operand) -> Shape {
+    match operand {
+        Operand::Computed(arithmetic, at, _, _) => Shape::Of(*arithmetic, *at),
+        Operand::Arguments(_, _) => Shape::Several,
+        Operand::Called(function, _, _) => Shape::Call(*function),
+        Operand::Named(_) => Shape::Word,
+        _ => Shape::Other,
+    }
+}
+
+/// An operand, what stands to the left of its sign or last comma, and what to the right; of a call, this of its argument.
+fn parts_of(operand: &Operand) -> Option<(Shape, Shape, Shape)> {
+    match operand {
+        Operand::Computed(_, _, left, right) => {
+            Some((shape_of(operand), shape_of(left), shape_of(right)))
+        }
+        Operand::Arguments(left, right) => {
+            Some((shape_of(operand), shape_of(left), shape_of(right)))
+        }
+        Operand::Called(_, _, inner) => Some((shape_of(operand), shape_of(inner), Shape::Other)),
+        _ => None,
+    }
+}
+
+fn parts_in(filter: &Ast) -> Option<(Shape, Shape, Shape)> {
+    match filter {
+        Ast::Alone(operand) => parts_of(operand),
+        Ast::Test(_, operand, _) => parts_of(operand),
+        _ => None,
+    }
+}
+
+const PARTS: [(&str, (Shape, Shape, Shape)); 16] = [
+    (
+        "a + b",
+        (Shape::Of(Arithmetic::Sum, 2), Shape::Word, Shape::Word),
+    ),
+    (
+        "a+b*c",
+        (
+            Shape::Of(Arithmetic::Sum, 1),
+            Shape::Word,
+            Shape::Of(Arithmetic::Product, 3),
+        ),
+    ),
+    (
+        "a*b+c > 1",
+        (
+            Shape::Of(Arithmetic::Sum, 3),
+            Shape::Of(Arithmetic::Product, 1),
+            Shape::Word,
+        ),
+    ),
+    (
+        "a - b - c",
+        (
+            Shape::Of(Arithmetic::Difference, 6),
+            Shape::Of(Arithmetic::Difference, 2),
+            Shape::Word,
+        ),
+    ),
+    (
+        "a - b + c",
+        (
+            Shape::Of(Arithmetic::Sum, 6),
+            Shape::Of(Arithmetic::Difference, 2),
+            Shape::Word,
+        ),
+    ),
+    (
+        "a + b - c",
+        (
+            Shape::Of(Arithmetic::Difference, 6),
+            Shape::Of(Arithmetic::Sum, 2),
+            Shape::Word,
+        ),
+    ),
+    (
+        "a*b*c",
+        (
+            Shape::Of(Arithmetic::Product, 3),
+            Shape::Of(Arithmetic::Product, 1),
+            Shape::Word,
+        ),
+    ),
+    (
+        "a*b - c*d",
+        (
+            Shape::Of(Arithmetic::Difference, 4),
+            Shape::Of(Arithmetic::Product, 1),
+            Shape::Of(Arithmetic::Product, 7),
+        ),
+    ),
+    (
+        "a+b*c+d",
+        (
+            Shape::Of(Arithmetic::Sum, 5),
+            Shape::Of(Arithmetic::Sum, 1),
+            Shape::Word,
+        ),
+    ),
+    (
+        "a & 1 * b",
+        (Shape::Of(Arithmetic::Product, 6), Shape::Other, Shape::Word),
+    ),
+    (
+        "a + b[0]",
+        (Shape::Of(Arithmetic::Sum, 2), Shape::Word, Shape::Other),
+    ),
+    (
+        "len(a*b) - c",
+        (
+            Shape::Of(Arithmetic::Difference, 9),
+            Shape::Call(Function::Len),
+            Shape::Word,
+        ),
+    ),
+    (
+        "count(a*b)",
+        (
+            Shape::Call(Function::Count),
+            Shape::Of(Arithmetic::Product, 7),
+            Shape::Other,
+        ),
+    ),
+    (
+        "min(a)",
+        (Shape::Call(Function::Min), Shape::Word, Shape::Other),
+    ),
+    (
+        "max(a, b - 1) == 2",
+        (Shape::Call(Function::Max), Shape::Several, Shape::Other),
+    ),
+    (
+        "a - max(b, c) - 1",
+        (
+            Shape::Of(Arithmetic::Difference, 14),
+            Shape::Of(Arithmetic::Difference, 2),
+            Shape::Word,
+        ),
+    ),
+];
+
+fn has_parts(rt: &impl Abort, alloc: Global, text: &str, want: (Shape, Shape, Shape)) {
+    match parse(alloc, text) {
+        Ok(filter) => assert_eq!(rt; parts_in(&filter), Some(want), "{text}"),
+        Err(_) => assert!(rt; false, "{text}"),
+    }
+}
+
+#[test]
+fn products_bind_before_sums(rt: HostRuntime) -> Result<(), Fail> {
+    for (text, want) in PARTS {
+        has_parts(&rt, rt.alloc(), text, want);
+    }
     Ok(())
 }
 
