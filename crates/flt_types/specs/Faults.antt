@@ -110,7 +110,8 @@ abbrev pub is_number_written : Option ValueKind → Truth
 is_number_written kind = option_map_or is_number kind false
 
 abbrev pub are_numbers_written : Standing → WrittenOperand → Truth
-are_numbers_written s (ArgumentsOf l r) = are_numbers_written s l && is_number_written (kind_written (Free None) r)
+are_numbers_written s (ArgumentsOf l r) =
+    are_numbers_written s l && is_number_written (kind_written (Free None) r)
 are_numbers_written s o = is_number_written (kind_written s o)
 
 abbrev pub takes_written : Function → Standing → WrittenOperand → ValueKind → Truth
@@ -124,7 +125,8 @@ abbrev pub slice_faults : ℕ → List SliceRange → ValueKind → List Found
 slice_faults at rs kind = unless (is_sliced kind) at TypeMismatch ++ ranges_faults rs
 
 abbrev pub mask_faults : ℕ → Word → ValueKind → List Found
-mask_faults at w kind = unless (is_masked kind) at TypeMismatch ++ reading_faults w.at (word_read false kind w.text)
+mask_faults at w kind =
+    unless (is_masked kind) at TypeMismatch ++ reading_faults w.at (word_read false kind w.text)
 
 abbrev pub call_faults : Function → ℕ → Standing → WrittenOperand → ValueKind → List Found
 call_faults f at s o kind = unless (takes_written f s o kind) at TypeMismatch
@@ -137,7 +139,8 @@ number_faults at kind = unless (is_number kind) at TypeMismatch
 abbrev pub operand_faults : Standing → WrittenOperand → List Found
 operand_faults s (TextOf q) = misplaced s q.at
 operand_faults s (NamedOf w) = word_faults (field_named w.text) s w
-operand_faults s (OnLayerOf w l) = word_faults (field_named w.text) Sliced w ++ unless (is_layer l) l.at OutOfRange
+operand_faults s (OnLayerOf w l) =
+    word_faults (field_named w.text) Sliced w ++ unless (is_layer l) l.at OutOfRange
 operand_faults s (OnLayersOf w ls) = word_faults (field_named w.text) Sliced w ++ layers_faults ls
 operand_faults s (SlicedOf o at rs) =
     operand_faults (in_slice s) o ++ given (kind_written (in_slice s) o) (slice_faults at rs)
@@ -148,7 +151,8 @@ operand_faults s (CalledOf f at o) =
     ++ given (kind_written (argument f at o s) o) (call_faults f at (argument f at o s) o)
 operand_faults s (ComputedOf a at l r) =
     (operand_faults s l ++ given (kind_written s l) (number_faults (sign_for s at)))
-    ++ (operand_faults (Free (Some at)) r ++ given (kind_written (Free (Some at)) r) (number_faults at))
+    ++ (operand_faults (Free (Some at)) r
+    ++ given (kind_written (Free (Some at)) r) (number_faults at))
 operand_faults s (ArgumentsOf l r) = operand_faults s l ++ operand_faults (Free None) r
 
 -- of a right side, for a left operand of a kind
@@ -156,14 +160,17 @@ abbrev pub class_faults : ℕ → ValueKind → ValueKind → List Found
 class_faults at kind other = unless (same_class kind other) at TypeMismatch
 
 abbrev pub right_faults : Relation → ℕ → ValueKind → WrittenOperand → Option Literal → List Found
-right_faults relation at kind o (Some literal) = reading_faults (place_of_literal literal) (side_read relation kind literal)
+right_faults relation at kind o (Some literal) =
+    reading_faults (place_of_literal literal) (side_read relation kind literal)
 right_faults relation at kind o None =
     operand_faults (Free None) o ++ given (kind_written (Free None) o) (class_faults at kind)
 
 abbrev pub element_faults : ValueKind → Element → List Found
-element_faults kind (elements.One literal) = reading_faults (place_of_literal literal) (literal_read true kind literal)
+element_faults kind (elements.One literal) =
+    reading_faults (place_of_literal literal) (literal_read true kind literal)
 element_faults kind (elements.Between low high) =
-    reading_faults (place_of_literal low) (end_read kind low) ++ reading_faults (place_of_literal high) (end_read kind high)
+    reading_faults (place_of_literal low) (end_read kind low)
+    ++ reading_faults (place_of_literal high) (end_read kind high)
 
 abbrev pub elements_faults : ValueKind → List Element → List Found
 elements_faults kind [] = []
@@ -171,9 +178,11 @@ elements_faults kind (e ∷ es) = element_faults kind e ++ elements_faults kind 
 
 abbrev pub tail_faults : WrittenTail → ValueKind → List Found
 tail_faults (CompareOf operator at o) kind =
-    unless (takes (relation_of operator) kind) at TypeMismatch ++ right_faults (relation_of operator) at kind o (literal_of o)
+    unless (takes (relation_of operator) kind) at TypeMismatch
+    ++ right_faults (relation_of operator) at kind o (literal_of o)
 tail_faults (InOf negated es) kind = elements_faults kind es
-tail_faults (MatchesOf at q) kind = unless (is_searched kind) at TypeMismatch ++ PatternAt q.at q.bytes ∷ []
+tail_faults (MatchesOf at q) kind =
+    unless (is_searched kind) at TypeMismatch ++ PatternAt q.at q.bytes ∷ []
 
 -- the first sign of arithmetic, and the place of an operand's sign where it is no arithmetic
 abbrev pub first_sign : ℕ → WrittenOperand → ℕ
@@ -191,7 +200,8 @@ faults (JoinedOf j l r) = faults l ++ faults r
 faults (NotOf n t) = faults t
 faults (GroupOf t) = faults t
 faults (AloneOf o) = operand_faults First o ++ alone_faults o
-faults (TestOf choice o tail) = operand_faults First o ++ given (kind_written First o) (tail_faults tail)
+faults (TestOf choice o tail) =
+    operand_faults First o ++ given (kind_written First o) (tail_faults tail)
 
 -- there is none: each pattern is one
 abbrev pub IsClear : List Found → Type 0

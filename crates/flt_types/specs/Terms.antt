@@ -54,11 +54,13 @@ takes_term function term = takes_call function (kind_of term)
 
 -- the word writes the mask, which fits the kind's width
 abbrev pub IsMask : ValueKind → List ℕ → ℕ → Type 0
-IsMask kind text mask = (constant : Constant) × (word_read false kind text ≡ Reads constant) × (constant.value ≡ values.Uint mask)
+IsMask kind text mask = (constant : Constant) × (word_read false kind text ≡ Reads constant)
+    × (constant.value ≡ values.Uint mask)
 
 -- a number in place of a name, where one may stand
 abbrev pub IsNumber : Standing → Word → Constant → Type 0
-IsNumber (Free before) w constant = (field_named w.text ≡ None) × (word_read false number_kind w.text ≡ Reads constant)
+IsNumber (Free before) w constant =
+    (field_named w.text ≡ None) × (word_read false number_kind w.text ≡ Reads constant)
 IsNumber s w constant = ⊥
 
 -- the operand is this term: its names are fields or numbers, its layers are numbers from 1 that don't fall, its ranges
@@ -69,15 +71,21 @@ IsTerm s (NamedOf w) (terms.Constant constant) = IsNumber s w constant
 IsTerm s (OnLayerOf w l) (terms.Field field layers) =
     (field_named w.text ≡ Some field) × IsTrue (is_layer l) × (layers ≡ These (one_layer l ∷ []))
 IsTerm s (OnLayersOf w ls) (terms.Field field layers) =
-    (field_named w.text ≡ Some field) × IsTrue (list_all is_layers ls) × (layers ≡ These (map layers_of ls))
+    (field_named w.text ≡ Some field) × IsTrue (list_all is_layers ls)
+    × (layers ≡ These (map layers_of ls))
 IsTerm s (SlicedOf o at rs) (terms.Slice' p term ranges) =
-    IsTerm (in_slice s) o term × IsTrue (is_sliced (kind_of term)) × IsTrue (list_all (λ r. is_range r.part) rs)
+    IsTerm (in_slice s) o term × IsTrue (is_sliced (kind_of term))
+    × IsTrue (list_all (λ r. is_range r.part) rs)
     × (ranges.items ≡ map (λ r. r.part) rs)
 IsTerm s (MaskedOf o at w) (terms.Mask' p term mask) =
-    IsTerm (within at s) o term × IsTrue (is_masked (kind_of term)) × IsMask (kind_of term) w.text mask
-IsTerm s (CalledOf f at o) (terms.Called' g p term) = IsTerm (argument f at o s) o term × IsTrue (takes_term f term) × (f ≡ g)
+    IsTerm (within at s) o term × IsTrue (is_masked (kind_of term))
+    × IsMask (kind_of term) w.text mask
+IsTerm s (CalledOf f at o) (terms.Called' g p term) =
+    IsTerm (argument f at o s) o term × IsTrue (takes_term f term) × (f ≡ g)
 IsTerm s (ComputedOf a at l r) (terms.Computed' b p left q right) =
-    IsTerm s l left × IsTerm (Free (Some at)) r right × IsTrue (is_number (kind_of left)) × IsTrue (is_number (kind_of right))
+    IsTerm s l left × IsTerm (Free (Some at)) r right × IsTrue (is_number (kind_of left))
+    × IsTrue (is_number (kind_of right))
     × (a ≡ b)
-IsTerm s (ArgumentsOf l r) (terms.Arguments' p left q right) = IsTerm s l left × IsTerm (Free None) r right
+IsTerm s (ArgumentsOf l r) (terms.Arguments' p left q right) =
+    IsTerm s l left × IsTerm (Free None) r right
 IsTerm s o term = ⊥

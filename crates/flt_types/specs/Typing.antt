@@ -54,12 +54,15 @@ chosen (Some choice) own = choice
 -- a right operand: a literal, read by the left one's kind, or a term of its class
 abbrev pub IsRight : Relation → ValueKind → WrittenOperand → Term → Type 0
 IsRight relation kind o (terms.Constant constant) =
-    (literal : Literal) × (literal_of o ≡ Some literal) × (side_read relation kind literal ≡ Reads constant)
-IsRight relation kind o term = (literal_of o ≡ None) × IsTerm (Free None) o term × IsTrue (same_class kind (kind_of term))
+    (literal : Literal) × (literal_of o ≡ Some literal)
+    × (side_read relation kind literal ≡ Reads constant)
+IsRight relation kind o term =
+    (literal_of o ≡ None) × IsTerm (Free None) o term × IsTrue (same_class kind (kind_of term))
 
 -- the elements of a set
 abbrev pub IsMember : ValueKind → Element → Member → Type 0
-IsMember kind (elements.One literal) (members.One constant) = literal_read true kind literal ≡ Reads constant
+IsMember kind (elements.One literal) (members.One constant) =
+    literal_read true kind literal ≡ Reads constant
 IsMember kind (elements.Between low high) (members.Between first last) =
     (end_read kind low ≡ Reads first) × (end_read kind high ≡ Reads last)
 IsMember kind element member = ⊥
@@ -72,12 +75,15 @@ AreMembers kind es ms = ⊥
 -- a test of what the left operand is
 abbrev pub IsTest : Option Choice → WrittenOperand → WrittenTail → Typed → Type 0
 IsTest choice left (CompareOf operator at o) (Compare relation pairs term right) =
-    IsTerm First left term × (relation ≡ relation_of operator) × (pairs ≡ chosen choice (choice_of operator))
+    IsTerm First left term × (relation ≡ relation_of operator)
+    × (pairs ≡ chosen choice (choice_of operator))
     × IsTrue (takes relation (kind_of term)) × IsRight relation (kind_of term) o right
 IsTest choice left (InOf negated es) (Among opposite pairs term ms) =
-    IsTerm First left term × (opposite ≡ negated) × (pairs ≡ chosen choice Any) × AreMembers (kind_of term) es ms.items
+    IsTerm First left term × (opposite ≡ negated) × (pairs ≡ chosen choice Any)
+    × AreMembers (kind_of term) es ms.items
 IsTest choice left (MatchesOf at q) (Matches pairs term pattern) =
-    IsTerm First left term × (pairs ≡ chosen choice Any) × IsTrue (is_searched (kind_of term)) × (pattern ≡ q.bytes) × IsPattern q.bytes
+    IsTerm First left term × (pairs ≡ chosen choice Any) × IsTrue (is_searched (kind_of term))
+    × (pattern ≡ q.bytes) × IsPattern q.bytes
 IsTest choice left tail filter = ⊥
 
 -- an operand alone asks whether there is a value; a masked one, whether one has a bit of the mask. Strings, calls and

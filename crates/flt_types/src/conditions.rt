@@ -49,7 +49,8 @@ pub(crate) fn test(
     tail: &Tail,
 ) -> Result<Typed, FilterError>
     ensures ok { IfOk result (HasType (TestOf choice (operand_of operand.now) (tail_of tail.now))) }
-    ensures err { IfErr result (IsAnswer (faults (TestOf choice (operand_of operand.now) (tail_of tail.now)))) }
+    ensures err { IfErr result
+        (IsAnswer (faults (TestOf choice (operand_of operand.now) (tail_of tail.now)))) }
 {
     let left = term(alloc, Standing::First, operand)?;
     test_of(alloc, choice, left, tail)
@@ -62,8 +63,10 @@ fn test_of(
     left: Term,
     tail: &Tail,
 ) -> Result<Typed, FilterError>
-    ensures ok { (o : WrittenOperand) → IsTerm First o left → IfOk result (HasType (TestOf choice o (tail_of tail.now))) }
-    ensures err { (o : WrittenOperand) → IsTerm First o left → IfErr result (IsAnswer (faults (TestOf choice o (tail_of tail.now)))) }
+    ensures ok { (o : WrittenOperand) → IsTerm First o left
+        → IfOk result (HasType (TestOf choice o (tail_of tail.now))) }
+    ensures err { (o : WrittenOperand) → IsTerm First o left
+        → IfErr result (IsAnswer (faults (TestOf choice o (tail_of tail.now)))) }
 {
     match tail {
         Tail::Compare(operator, at, right) => {
@@ -86,7 +89,8 @@ fn compare(
     ensures ok { (o : WrittenOperand) → IsTerm First o left
         → IfOk result (HasType (TestOf choice o (CompareOf operator at (operand_of right.now)))) }
     ensures err { (o : WrittenOperand) → IsTerm First o left
-        → IfErr result (IsAnswer (faults (TestOf choice o (CompareOf operator at (operand_of right.now))))) }
+        → IfErr result (IsAnswer
+        (faults (TestOf choice o (CompareOf operator at (operand_of right.now))))) }
 {
     let relation = relation_of(operator);
     let right = right_of(alloc, relation, at, kind_of(&left), right)?;
@@ -106,7 +110,8 @@ fn right_of(
     ensures takes { OnOk result (IsTrue (takes_kind relation kind)) }
     ensures ok { IfOk result (IsRight relation kind (operand_of operand.now)) }
     ensures err { IfErr result (IsAnswer (unless (takes_kind relation kind) at TypeMismatch
-        ++ right_faults relation at kind (operand_of operand.now) (literal_of (operand_of operand.now)))) }
+        ++ right_faults relation at kind (operand_of operand.now)
+        (literal_of (operand_of operand.now)))) }
 {
     require(takes(relation, kind), at, FilterReason::TypeMismatch)?;
     Ok(right_side(alloc, relation, at, kind, operand)?)
@@ -158,7 +163,9 @@ fn pattern_for(
     ensures searched { OnOk result (IsTrue (is_searched_kind kind)) }
     ensures ok { IfOk result (λ pattern. pattern ≡ quote.now.bytes) }
     ensures read { OnOk result (IsPattern quote.now.bytes) }
-    ensures err { IfErr result (IsAnswer (unless (is_searched_kind kind) at TypeMismatch ++ PatternAt quote.now.at quote.now.bytes ∷ [])) }
+    ensures err { IfErr result
+        (IsAnswer (unless (is_searched_kind kind) at TypeMismatch
+        ++ PatternAt quote.now.at quote.now.bytes ∷ [])) }
 {
     require(is_searched(kind), at, FilterReason::TypeMismatch)?;
     Ok(pattern(alloc, quote)?)
@@ -173,7 +180,9 @@ fn right_side(
     operand: &Operand,
 ) -> Result<Term, FilterError>
     ensures ok { IfOk result (IsRight relation kind (operand_of operand.now)) }
-    ensures err { IfErr result (IsAnswer (right_faults relation at kind (operand_of operand.now) (literal_of (operand_of operand.now)))) }
+    ensures err { IfErr result
+        (IsAnswer (right_faults relation at kind (operand_of operand.now)
+        (literal_of (operand_of operand.now)))) }
 {
     match operand {
         Operand::Text(quote) => Ok(Term::Constant(right_quote(relation, kind, quote)?)),
@@ -195,7 +204,8 @@ fn right_term(
 ) -> Result<Term, FilterError>
     requires { literal_of (operand_of operand.now) ≡ None }
     ensures ok { IfOk result (IsRight relation kind (operand_of operand.now)) }
-    ensures err { IfErr result (IsAnswer (right_faults relation at kind (operand_of operand.now) None)) }
+    ensures err { IfErr result
+        (IsAnswer (right_faults relation at kind (operand_of operand.now) None)) }
 {
     let right = term(alloc, Standing::Free(None), operand)?;
     require(
@@ -219,7 +229,8 @@ fn pattern(alloc: Global, quote: &Quote) -> Result<Pattern, FilterError>
 }
 
 fn pattern_fault(cause: PatternFault, at: u32) -> FilterError
-    ensures { (pattern : List ℕ) → HasCause pattern cause → IsAnswer (PatternAt at pattern ∷ []) result }
+    ensures { (pattern : List ℕ) → HasCause pattern cause
+        → IsAnswer (PatternAt at pattern ∷ []) result }
 {
     match cause {
         PatternFault::NoPattern => fault(at, FilterReason::BadPattern),

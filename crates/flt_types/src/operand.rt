@@ -104,7 +104,8 @@ fn with(
     left: Term,
     right: &Right<'_>,
 ) -> Result<Term, FilterError>
-    ensures ok { (o : WrittenOperand) → IsTerm standing o left → IfOk result (IsTerm standing (with_right right.now o)) }
+    ensures ok { (o : WrittenOperand) → IsTerm standing o left
+        → IfOk result (IsTerm standing (with_right right.now o)) }
     ensures err { (o : WrittenOperand) → IsTerm standing o left
         → IfErr result (IsAnswer (operand_faults standing (with_right right.now o))) }
 {
@@ -129,7 +130,8 @@ fn compute(
     ensures ok { (o : WrittenOperand) → IsTerm standing o left
         → IfOk result (IsTerm standing (ComputedOf operation at o (operand_of operand.now))) }
     ensures err { (o : WrittenOperand) → IsTerm standing o left
-        → IfErr result (IsAnswer (operand_faults standing (ComputedOf operation at o (operand_of operand.now)))) }
+        → IfErr result (IsAnswer
+        (operand_faults standing (ComputedOf operation at o (operand_of operand.now)))) }
 {
     require_number(&left, standing.sign_for(at))?;
     let right = term(alloc, Standing::Free(Some(at)), operand)?;
@@ -171,7 +173,8 @@ fn misplaced(standing: Standing, at: u32) -> FilterError
 /// The field of a word, or the number that it is in place of a name.
 fn named(alloc: Global, standing: Standing, word: &Word) -> Result<Term, FilterError>
     ensures ok { IfOk result (IsTerm standing (NamedOf word.now)) }
-    ensures err { IfErr result (IsAnswer (word_faults (field_named word.now.text) standing word.now)) }
+    ensures err { IfErr result
+        (IsAnswer (word_faults (field_named word.now.text) standing word.now)) }
 {
     match by_name(word.text.as_str()) {
         Some(field) => Ok(Term::Field(field, Layers::All)),
@@ -198,7 +201,8 @@ fn number(alloc: Global, standing: Standing, word: &Word) -> Result<Term, Filter
 /// The field of a word with layers, which has to be a name.
 fn field(word: &Word) -> Result<FieldId, FilterError>
     ensures ok { IfOk result (λ field. field_named word.now.text ≡ Some field) }
-    ensures err { IfErr result (IsAnswer (word_faults (field_named word.now.text) Sliced word.now)) }
+    ensures err { IfErr result
+        (IsAnswer (word_faults (field_named word.now.text) Sliced word.now)) }
 {
     match by_name(word.text.as_str()) {
         Some(field) => Ok(field),
@@ -232,7 +236,9 @@ fn slice(alloc: Global, inner: Term, at: u32, ranges: &[SliceRange]) -> Result<T
     ensures ok { (s : Place) (o : WrittenOperand) → IsTerm (in_slice s) o inner
         → IfOk result (IsTerm s (SlicedOf o at ranges.now)) }
     ensures err { (s : Place) (o : WrittenOperand) → IsTerm (in_slice s) o inner
-        → IfErr result (IsAnswer (operand_faults (in_slice s) o ++ given (kind_written (in_slice s) o) (slice_faults at ranges.now))) }
+        → IfErr result (IsAnswer
+        (operand_faults (in_slice s) o
+        ++ given (kind_written (in_slice s) o) (slice_faults at ranges.now))) }
 {
     require(is_sliced(kind_of(&inner)), at, FilterReason::TypeMismatch)?;
     let parts = parts_in(alloc, ranges)?;
@@ -245,7 +251,9 @@ fn mask(alloc: Global, inner: Term, at: u32, word: &Word) -> Result<Term, Filter
     ensures ok { (s : Place) (o : WrittenOperand) → IsTerm (within at s) o inner
         → IfOk result (IsTerm s (MaskedOf o at word.now)) }
     ensures err { (s : Place) (o : WrittenOperand) → IsTerm (within at s) o inner
-        → IfErr result (IsAnswer (operand_faults (within at s) o ++ given (kind_written (within at s) o) (mask_faults at word.now))) }
+        → IfErr result (IsAnswer
+        (operand_faults (within at s) o
+        ++ given (kind_written (within at s) o) (mask_faults at word.now))) }
 {
     let number = mask_number(kind_of(&inner), at, word)?;
     Ok(Term::Mask(Box::new(alloc, inner)?, number))
@@ -275,7 +283,8 @@ fn call(alloc: Global, inner: Term, at: u32, function: Function) -> Result<Term,
         → IfOk result (IsTerm s (CalledOf function at o)) }
     ensures err { (s : Place) (o : WrittenOperand) → IsTerm (argument function at o s) o inner
         → IfErr result (IsAnswer (operand_faults (argument function at o s) o
-        ++ given (kind_written (argument function at o s) o) (call_faults function at (argument function at o s) o))) }
+        ++ given (kind_written (argument function at o s) o)
+        (call_faults function at (argument function at o s) o))) }
 {
     require(takes(function, &inner), at, FilterReason::TypeMismatch)?;
     Ok(Term::Called(function, Box::new(alloc, inner)?))

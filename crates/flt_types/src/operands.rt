@@ -25,10 +25,13 @@ pub(crate) struct Parts<'a> {
 
 /// The parts that the outermost signs and commas of an operand join. Takes no memory where there is none.
 pub(crate) fn parts_of<'a>(alloc: Global, operand: &'a Operand) -> Result<Parts<'a>, NoMemory>
-    ensures whole { IfOk result (λ parts. joined parts.rights.items (operand_of parts.first.now) ≡ operand_of operand.now) }
+    ensures whole { IfOk result (λ parts.
+        joined parts.rights.items (operand_of parts.first.now) ≡ operand_of operand.now) }
     ensures part { IfOk result (λ parts. IsTrue (is_part (operand_of parts.first.now))) }
-    ensures first { IfOk result (λ all. parts (operand_of all.first.now) ≤ parts (operand_of operand.now)) }
-    ensures within { IfOk result (λ all. All (λ right. parts_right right < parts (operand_of operand.now)) all.rights.items) }
+    ensures first { IfOk result (λ all.
+        parts (operand_of all.first.now) ≤ parts (operand_of operand.now)) }
+    ensures within { IfOk result (λ all.
+        All (λ right. parts_right right < parts (operand_of operand.now)) all.rights.items) }
 {
     let mut rights = Vec::new(alloc);
     let mut first = operand;

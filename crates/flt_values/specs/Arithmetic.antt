@@ -21,7 +21,8 @@ result_of Product a b = in_64_bits (a * b)
 
 -- what two numbers give; other values give nothing
 abbrev pub calculated : Arithmetic → Value → Value → Option Value
-calculated operation (values.Uint a) (values.Uint b) = option_map values.Uint (result_of operation a b)
+calculated operation (values.Uint a) (values.Uint b) =
+    option_map values.Uint (result_of operation a b)
 calculated operation v w = None
 
 -- the numbers among values
@@ -42,7 +43,8 @@ nearer_of extreme (Some a) (Some b) = Some (nearer extreme a b)
 -- the least or the greatest number among values; there is none where no value is a number
 abbrev pub extreme_number : Extreme → List Value → Option ℕ
 extreme_number extreme [] = None
-extreme_number extreme (value ∷ rest) = nearer_of extreme (number_in value) (extreme_number extreme rest)
+extreme_number extreme (value ∷ rest) =
+    nearer_of extreme (number_in value) (extreme_number extreme rest)
 
 abbrev pub extreme_of : Extreme → List Value → Option Value
 extreme_of extreme vs = option_map values.Uint (extreme_number extreme vs)
