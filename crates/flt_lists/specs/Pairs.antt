@@ -10,4 +10,5 @@ use Rattle.pk_tree.specs.declared.value.Value.{Value}
 abbrev pub values_calculated : Arithmetic → List Value → List Value → List Value
 values_calculated operation (v ∷ []) ws = filter_map (λ w. calculated operation v w) ws
 values_calculated operation vs (w ∷ []) = filter_map (λ v. calculated operation v w) vs
-values_calculated operation vs ws = filter_map (λ pair. calculated operation pair.0 pair.1) (zip vs ws)
+values_calculated operation vs ws =
+    filter_map (λ pair. calculated operation pair.0 pair.1) (zip vs ws)

@@ -11,19 +11,25 @@ abbrev pub is_asked : ℕ → Layers → Layer → Truth
 is_asked proto chosen layer = (layer.proto == proto) && is_chosen chosen layer.nth
 
 abbrev pub any_item : (Value → Truth) → ℕ → List Item → Truth
-any_item test field items = list_any (λ (item : Item). (item.field == field) && test item.value) items
+any_item test field items =
+    list_any (λ (item : Item). (item.field == field) && test item.value) items
 
 abbrev pub all_items : (Value → Truth) → ℕ → List Item → Truth
-all_items test field items = list_all (λ (item : Item). not (item.field == field) || test item.value) items
+all_items test field items =
+    list_all (λ (item : Item). not (item.field == field) || test item.value) items
 
 abbrev pub any_in_layer : (Value → Truth) → ℕ → ℕ → Layers → Layer → Truth
-any_in_layer test field proto chosen layer = is_asked proto chosen layer && any_item test field layer.items
+any_in_layer test field proto chosen layer =
+    is_asked proto chosen layer && any_item test field layer.items
 
 abbrev pub all_in_layer : (Value → Truth) → ℕ → ℕ → Layers → Layer → Truth
-all_in_layer test field proto chosen layer = not (is_asked proto chosen layer) || all_items test field layer.items
+all_in_layer test field proto chosen layer =
+    not (is_asked proto chosen layer) || all_items test field layer.items
 
 abbrev pub any_in_layers : (Value → Truth) → ℕ → ℕ → Layers → List Layer → Truth
-any_in_layers test field proto chosen layers = list_any (λ layer. any_in_layer test field proto chosen layer) layers
+any_in_layers test field proto chosen layers =
+    list_any (λ layer. any_in_layer test field proto chosen layer) layers
 
 abbrev pub all_in_layers : (Value → Truth) → ℕ → ℕ → Layers → List Layer → Truth
-all_in_layers test field proto chosen layers = list_all (λ layer. all_in_layer test field proto chosen layer) layers
+all_in_layers test field proto chosen layers =
+    list_all (λ layer. all_in_layer test field proto chosen layer) layers

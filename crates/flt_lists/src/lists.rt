@@ -15,7 +15,8 @@ use std::alloc::Global;
 
 /// The slices of those values that have all the bytes. A slice of a single range shares its value's bytes.
 pub fn slices(alloc: Global, values: &[Value], ranges: &[RangePart]) -> Result<Vec<Value>, NoMemory>
-    ensures { IfOk result (λ slices. slices.items ≡ filter_map (λ value. sliced value ranges.now) values.now) }
+    ensures { IfOk result (λ slices.
+        slices.items ≡ filter_map (λ value. sliced value ranges.now) values.now) }
 {
     let mut slices = Vec::new(alloc);
     for value in values {
@@ -28,7 +29,8 @@ pub fn slices(alloc: Global, values: &[Value], ranges: &[RangePart]) -> Result<V
 
 /// The bits of each number that are set in a mask.
 pub fn masked_values(alloc: Global, values: &[Value], mask: u64) -> Result<Vec<Value>, NoMemory>
-    ensures { IfOk result (λ answers. answers.items ≡ filter_map (λ value. masked mask value) values.now) }
+    ensures { IfOk result (λ answers.
+        answers.items ≡ filter_map (λ value. masked mask value) values.now) }
 {
     let mut answers = Vec::new(alloc);
     for value in values {
@@ -58,7 +60,8 @@ pub fn called_values(
 
 /// The least or the greatest number, if there is one.
 fn extreme_value(alloc: Global, extreme: Extreme, values: &[Value]) -> Result<Vec<Value>, NoMemory>
-    ensures { IfOk result (λ answers. answers.items ≡ option_to_list (extreme_among extreme values.now)) }
+    ensures { IfOk result (λ answers.
+        answers.items ≡ option_to_list (extreme_among extreme values.now)) }
 {
     match extreme_of(extreme, values) {
         Some(value) => only(alloc, value),
@@ -67,7 +70,8 @@ fn extreme_value(alloc: Global, extreme: Extreme, values: &[Value]) -> Result<Ve
 }
 
 fn each_called(alloc: Global, function: Function, values: &[Value]) -> Result<Vec<Value>, NoMemory>
-    ensures { IfOk result (λ answers. answers.items ≡ filter_map (λ value. called function value) values.now) }
+    ensures { IfOk result (λ answers.
+        answers.items ≡ filter_map (λ value. called function value) values.now) }
 {
     let mut answers = Vec::new(alloc);
     for value in values {

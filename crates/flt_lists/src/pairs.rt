@@ -19,7 +19,8 @@ pub fn calculated_values(
     left: &[Value],
     right: &[Value],
 ) -> Result<Vec<Value>, NoMemory>
-    ensures { IfOk result (λ answers. answers.items ≡ values_calculated operation left.now right.now) }
+    ensures { IfOk result (λ answers.
+        answers.items ≡ values_calculated operation left.now right.now) }
 {
     if left.len() == 1 {
         return with_each_right(alloc, operation, &left[0], right);
@@ -36,7 +37,8 @@ fn with_each_right(
     left: &Value,
     right: &[Value],
 ) -> Result<Vec<Value>, NoMemory>
-    ensures { IfOk result (λ answers. answers.items ≡ filter_map (λ value. calculated operation left.now value) right.now) }
+    ensures { IfOk result (λ answers.
+        answers.items ≡ filter_map (λ value. calculated operation left.now value) right.now) }
 {
     let mut answers = Vec::new(alloc);
     for value in right {
@@ -53,7 +55,8 @@ fn with_each_left(
     left: &[Value],
     right: &Value,
 ) -> Result<Vec<Value>, NoMemory>
-    ensures { IfOk result (λ answers. answers.items ≡ filter_map (λ value. calculated operation value right.now) left.now) }
+    ensures { IfOk result (λ answers.
+        answers.items ≡ filter_map (λ value. calculated operation value right.now) left.now) }
 {
     let mut answers = Vec::new(alloc);
     for value in left {
@@ -71,7 +74,9 @@ fn in_step(
     left: &[Value],
     right: &[Value],
 ) -> Result<Vec<Value>, NoMemory>
-    ensures { IfOk result (λ answers. answers.items ≡ filter_map (λ pair. calculated operation pair.0 pair.1) (zip left.now right.now)) }
+    ensures { IfOk result (λ answers.
+        answers.items ≡ filter_map (λ pair.
+        calculated operation pair.0 pair.1) (zip left.now right.now)) }
 {
     let mut answers = Vec::new(alloc);
     for (first, second) in left.iter().zip(right) {

@@ -57,14 +57,16 @@ pub fn compares(
 }
 
 fn any_relates(relation: Relation, left: &[Value], right: &[Value], prefix: Option<u8>) -> bool
-    ensures { result ≡ list_any (λ v. list_any (λ w. are_related relation v w prefix) right.now) left.now }
+    ensures { result ≡ list_any (λ v.
+        list_any (λ w. are_related relation v w prefix) right.now) left.now }
 {
     left.iter()
         .any(|value| any_is_related(relation, value, right, prefix))
 }
 
 fn all_relate(relation: Relation, left: &[Value], right: &[Value], prefix: Option<u8>) -> bool
-    ensures { result ≡ list_all (λ v. passes Choice.All (λ w. are_related relation v w prefix) right.now) left.now }
+    ensures { result ≡ list_all (λ v.
+        passes Choice.All (λ w. are_related relation v w prefix) right.now) left.now }
 {
     left.iter().all(|value| is_some_value(right) && all_are_related(relation, value, right, prefix))
 }

@@ -50,7 +50,8 @@ pub fn asks_field(
     layers: &Layers,
     tree: &Tree,
 ) -> Result<bool, NoMemory>
-    ensures { IfOk result (λ truth. truth ≡ passes choice (λ v. is_so question.now v) (values_of tree.now field layers.now)) }
+    ensures { IfOk result (λ truth.
+        truth ≡ passes choice (λ v. is_so question.now v) (values_of tree.now field layers.now)) }
 {
     if is_protocol(field) {
         let values = tree.values(field, layers)?;
@@ -68,7 +69,8 @@ fn items_pass(
     tree: &Tree,
 ) -> bool
     requires { is_proto (row_of field).kind ≡ false }
-    ensures { result ≡ passes choice (λ v. is_so question.now v) (values_of tree.now field layers.now) }
+    ensures { result ≡ passes choice (λ v.
+        is_so question.now v) (values_of tree.now field layers.now) }
 {
     match choice {
         Choice::Any => any_passes(question, field, layers, tree),
