@@ -16,11 +16,16 @@ use Rattle.pk_tree.specs.declared.value.Value.{Value}
 abbrev pub values_of_term : Term → TreeShown → List Value
 values_of_term (terms.Constant constant) tree = constant.value ∷ []
 values_of_term (terms.Field field layers) tree = values_of tree field layers
-values_of_term (terms.Slice' p term ranges) tree = filter_map (λ value. sliced value ranges.items) (values_of_term term tree)
-values_of_term (terms.Mask' p term mask) tree = filter_map (λ value. masked mask value) (values_of_term term tree)
-values_of_term (terms.Called' function p term) tree = values_called function (values_of_term term tree)
-values_of_term (terms.Computed' a p left q right) tree = values_calculated a (values_of_term left tree) (values_of_term right tree)
-values_of_term (terms.Arguments' p left q right) tree = values_of_term left tree ++ values_of_term right tree
+values_of_term (terms.Slice' p term ranges) tree =
+    filter_map (λ value. sliced value ranges.items) (values_of_term term tree)
+values_of_term (terms.Mask' p term mask) tree =
+    filter_map (λ value. masked mask value) (values_of_term term tree)
+values_of_term (terms.Called' function p term) tree =
+    values_called function (values_of_term term tree)
+values_of_term (terms.Computed' a p left q right) tree =
+    values_calculated a (values_of_term left tree) (values_of_term right tree)
+values_of_term (terms.Arguments' p left q right) tree =
+    values_of_term left tree ++ values_of_term right tree
 
 -- the prefix length that a constant is written with
 abbrev pub prefix_of_term : Term → Option ℕ

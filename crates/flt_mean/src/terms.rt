@@ -26,10 +26,13 @@ pub(crate) struct Terms<'f> {
 
 /// The terms that the outermost signs and commas of a term join. Takes no memory where there is none.
 pub(crate) fn terms_of<'f>(alloc: Global, term: &'f Term) -> Result<Terms<'f>, NoMemory>
-    ensures whole { IfOk result (λ all. (tree : TreeShown) → values_of_term term.now tree ≡ values_joined tree all.behind.items (values_of_term all.first.now tree)) }
+    ensures whole { IfOk result (λ all. (tree : TreeShown)
+        → values_of_term term.now tree
+        ≡ values_joined tree all.behind.items (values_of_term all.first.now tree)) }
     ensures part { IfOk result (λ all. IsTrue (is_part all.first.now)) }
     ensures first { IfOk result (λ all. terms_in all.first.now ≤ terms_in term.now) }
-    ensures within { IfOk result (λ all. All (λ one. terms_behind one < terms_in term.now) all.behind.items) }
+    ensures within { IfOk result (λ all.
+        All (λ one. terms_behind one < terms_in term.now) all.behind.items) }
 {
     let mut behind = Vec::new(alloc);
     let mut first = term;
