@@ -204,26 +204,26 @@ fn computes(
     alloc: Global,
     operation: Arithmetic,
     other: u64,
-    result: u64,
+    answer: u64,
 ) -> Result<bool, NoMemory> {
     let port = Box::new(alloc, every(ids::TCP_PORT))?;
     let other = Box::new(alloc, number(other))?;
     let term = Term::Computed(operation, port, other);
     truth(
         alloc,
-        test(term, Relation::Equal, Choice::Any, Value::Uint(result)),
+        test(term, Relation::Equal, Choice::Any, Value::Uint(answer)),
     )
 }
 
 #[test]
 fn numbers_are_computed(rt: HostRuntime) -> Result<(), NoMemory> {
-    for (operation, other, result, wanted) in [
+    for (operation, other, answer, wanted) in [
         (Arithmetic::Sum, 50, 8100, true),
         (Arithmetic::Difference, 50, 8000, true),
         (Arithmetic::Difference, 8051, 0, false),
         (Arithmetic::Product, 2, 16100, true),
     ] {
-        assert_eq!(rt; computes(rt.alloc(), operation, other, result)?, wanted);
+        assert_eq!(rt; computes(rt.alloc(), operation, other, answer)?, wanted);
     }
     Ok(())
 }

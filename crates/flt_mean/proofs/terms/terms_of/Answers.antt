@@ -1,6 +1,6 @@
 use Rattle.std.proofs.Common.{ap, sym, ◌∙◌, ◌++◌, arith}
 use Rattle.flt_lists.specs.Pairs.{values_calculated}
-use Rattle.flt_mean.specs.Terms.{terms_in, values_with}
+use Rattle.flt_mean.specs.Terms.{terms_in}
 use Rattle.flt_mean.specs.Values.{values_of_term}
 use Rattle.flt_mean.specs.declared.terms.Behind.{Behind}
 use Rattle.flt_mean.specs.declared.terms.Behind.TheVariants.{Computes, Argument}
