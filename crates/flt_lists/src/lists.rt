@@ -1,12 +1,14 @@
 // The lists of values that slices, masks and functions give.
 ghost use Rattle.std.specs.Prelude.{◌≡◌, [], ◌∷◌, IfOk};
 ghost use Rattle.std.specs.List.{filter_map};
+ghost use Rattle.std.specs.Option.{option_to_list};
 ghost use Rattle.flt_lists.specs.Called.{values_called};
+ghost use Rattle.flt_values.specs.Arithmetic.{extreme_of as extreme_among};
 ghost use Rattle.flt_values.specs.Calls.{called, masked};
 ghost use Rattle.flt_values.specs.Slices.{sliced};
 
 use flt_parse::{Function, RangePart};
-use flt_values::{call, masked, slice};
+use flt_values::{Extreme, call, extreme_of, masked, slice};
 use pk_base::NoMemory;
 use pk_tree::Value;
 use std::alloc::Global;
@@ -39,7 +41,8 @@ pub fn masked_values(alloc: Global, values: &[Value], mask: u64) -> Result<Vec<V
     Ok(answers)
 }
 
-/// What a function gives of the values: `count` one number, and the others one for each value that they take.
+/// What a function gives of the values: `count` one number, `min` and `max` the least or the greatest number if there is
+/// one, and the others one for each value that they take.
 pub fn called_values(
     alloc: Global,
     function: Function,
@@ -49,7 +52,20 @@ pub fn called_values(
 {
     match function {
         Function::Count => only(alloc, Value::Uint(values.len() as u64)),
+        Function::Min => extreme_value(alloc, Extreme::Least, values),
+        Function::Max => extreme_value(alloc, Extreme::Greatest, values),
         Function::Len | Function::Upper | Function::Lower => each_called(alloc, function, values),
+    }
+}
+
+/// The least or the greatest number, if there is one.
+fn extreme_value(alloc: Global, extreme: Extreme, values: &[Value]) -> Result<Vec<Value>, NoMemory>
+    ensures { IfOk result (λ answers.
+        answers.items ≡ option_to_list (extreme_among extreme values.now)) }
+{
+    match extreme_of(extreme, values) {
+        Some(value) => only(alloc, value),
+        None => Ok(Vec::new(alloc)),
     }
 }
 

@@ -1,12 +1,10 @@
 -- A tree with the items of the fields that a filter asks for is to it as the whole tree.
-use Rattle.std.proofs.Common.{◌≡◌, ◌==◌, ◌||◌, ℕ, Bool as Truth, true, false, List, refl, ap, eq-eqb}
-use Rattle.flt_types.specs.Asked.{HasFilter, HasTerm, asks, asks_term}
+use Rattle.std.proofs.Common.{◌≡◌, ◌==◌, ◌||◌, ℕ, Bool as Truth, true, false, List, refl, eq-eqb}
+use Rattle.flt_types.specs.Asked.{asks, asks_term}
 use Rattle.flt_types.specs.declared.typed.Term.{Term}
 use Rattle.flt_types.specs.declared.typed.Term.TheVariants as terms
-use Rattle.flt_types.specs.declared.typed.Typed.{Typed}
 use Rattle.flt_types.specs.declared.typed.Typed.TheVariants.{Either', Differ', Both', Not', Exists, AnyBit, Compare, Among, Matches}
 use Rattle.flt_mean.specs.Laws.{KeptMeaning}
-use Rattle.flt_mean.specs.Meaning.{meaning}
 use Rattle.flt_mean.specs.Values.{values_of_term}
 use Rattle.pk_fields.specs.FieldSets.{is_in}
 use Rattle.pk_fields.specs.Fields.{row_of}
@@ -32,6 +30,10 @@ left_has wanted left right has f is = has f (left_or (left f) (right f) is)
 right_has : (wanted : List ℕ) (left right : ℕ → Truth) → ((f : ℕ) → (left f || right f) ≡ true → is_in wanted f ≡ true) → (f : ℕ) → right f ≡ true → is_in wanted f ≡ true
 right_has wanted left right has f is = has f (right_or (left f) (right f) is)
 
+-- a set of fields has all that a term asks for
+abbrev HasTerm : List ℕ → Term → Type 0
+HasTerm wanted term = (f : ℕ) → asks_term term f ≡ true → is_in wanted f ≡ true
+
 -- two trees that have the same values of these fields
 abbrev pub HaveSame : List ℕ → TreeShown → TreeShown → Type 0
 HaveSame wanted t u = (field : ℕ) (layers : Layers) → is_in wanted field ≡ true → values_of u field layers ≡ values_of t field layers
@@ -42,6 +44,10 @@ term_alike wanted (terms.Field field layers) t u same has = same field layers (h
 term_alike wanted (terms.Slice' p term ranges) t u same has = rw (term_alike wanted term t u same has) refl
 term_alike wanted (terms.Mask' p term mask) t u same has = rw (term_alike wanted term t u same has) refl
 term_alike wanted (terms.Called' function p term) t u same has = rw (term_alike wanted term t u same has) refl
+term_alike wanted (terms.Computed' a p left q right) t u same has =
+    rw (term_alike wanted left t u same (left_has wanted (asks_term left) (asks_term right) has), term_alike wanted right t u same (right_has wanted (asks_term left) (asks_term right) has)) refl
+term_alike wanted (terms.Arguments' p left q right) t u same has =
+    rw (term_alike wanted left t u same (left_has wanted (asks_term left) (asks_term right) has), term_alike wanted right t u same (right_has wanted (asks_term left) (asks_term right) has)) refl
 
 pub meaning_alike : (wanted : List ℕ) (filter : Typed) (t u : TreeShown) → HaveSame wanted t u → HasFilter wanted filter → meaning filter u ≡ meaning filter t
 meaning_alike wanted (Either' p left q right) t u same has =

@@ -1,3 +1,4 @@
 pub mod ChainLemmas
 pub mod KeptMeaning
 pub mod OneMeaning
+pub mod TermLemmas

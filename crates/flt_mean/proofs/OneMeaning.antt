@@ -1,14 +1,18 @@
 -- All filters that a tree is mean the same.
 use Rattle.std.proofs.Common.{◌≡◌, ℕ, true, false, List, [], ◌∷◌, Option, None, Some, sym, refl, ap, subst, ◌∙◌}
-use Rattle.flt_parse.specs.Written.{Written, WrittenOperand, WrittenTail, NamedOf, OnLayerOf, OnLayersOf, SlicedOf, MaskedOf, CalledOf, CompareOf, InOf, MatchesOf, JoinedOf, NotOf, GroupOf, AloneOf, TestOf}
+use Rattle.flt_parse.specs.Written.{Written, WrittenOperand, WrittenTail, NamedOf, OnLayerOf, OnLayersOf, SlicedOf, MaskedOf, CalledOf, ComputedOf, ArgumentsOf, CompareOf, InOf, MatchesOf, JoinedOf, NotOf, GroupOf, AloneOf, TestOf}
 use Rattle.flt_parse.specs.declared.ast.Choice.{Choice}
 use Rattle.flt_parse.specs.declared.ast.Element.{Element}
 use Rattle.flt_parse.specs.declared.ast.Element.TheVariants as elements
 use Rattle.flt_parse.specs.declared.token.Join.TheVariants as joins
+use Rattle.flt_parse.specs.declared.word.Word.{Word}
 use Rattle.flt_parse.proofs.Faults.{one_filter}
 use Rattle.flt_types.specs.Literals.{end_read, literal_of, literal_read, side_read}
-use Rattle.flt_types.specs.Terms.{IsMask, IsTerm, kind_of}
+use Rattle.flt_types.specs.Standing.{argument, in_slice, within}
+use Rattle.flt_types.specs.Terms.{IsMask, IsNumber, IsTerm, kind_of, number_kind}
 use Rattle.flt_types.specs.Typing.{AreMembers, HasType, IsAlone, IsMember, IsRight, IsTest}
+use Rattle.flt_types.specs.declared.standing.Standing.{Standing}
+use Rattle.flt_types.specs.declared.standing.Standing.TheVariants.{First, Free}
 use Rattle.flt_types.specs.declared.typed.Member.{Member}
 use Rattle.flt_types.specs.declared.typed.Member.TheVariants as members
 use Rattle.flt_types.specs.declared.typed.Term.{Term}
@@ -37,36 +41,59 @@ same_some x a b p q = let both : Some a ≡ Some b = sym p ∙ q in cc
 same_read : (reading other : Reading) (c d : Constant) → reading ≡ other → reading ≡ Reads c → other ≡ Reads d → c ≡ d
 same_read reading other c d same p q = let both : Reads c ≡ Reads d = sym p ∙ same ∙ q in cc
 
-same_kind : (o : WrittenOperand) (s t : Term) → IsTerm o s → IsTerm o t → kind_of s ≡ kind_of t
-same_kind o s t p q = same_some (kind_written o) (kind_of s) (kind_of t) (term_kind o s p) (term_kind o t q)
+same_kind : (st : Standing) (o : WrittenOperand) (s t : Term) → IsTerm st o s → IsTerm st o t → kind_of s ≡ kind_of t
+same_kind st o s t p q = same_some (kind_written st o) (kind_of s) (kind_of t) (term_kind st o s p) (term_kind st o t q)
 
 same_mask : (kind other : ValueKind) (text : List ℕ) (m n : ℕ) → kind ≡ other → IsMask kind text m → IsMask other text n → m ≡ n
 same_mask kind other text m n same p q =
     let read = same_read (word_read false kind text) (word_read false other text) p.0 q.0 (ap (λ k. word_read false k text) same) p.1 q.1 in
     let both : values.Uint m ≡ values.Uint n = sym p.2 ∙ ap (λ (c : Constant). c.value) read ∙ q.2 in cc
 
-same_values : (o : WrittenOperand) (s t : Term) (tree : TreeShown) → IsTerm o s → IsTerm o t → values_of_term s tree ≡ values_of_term t tree
-same_values (NamedOf w) (terms.Field f ls) (terms.Field g ms) tree p q = rw (same_some (field_named w.text) f g p.0 q.0, p.1, q.1) refl
-same_values (OnLayerOf w l) (terms.Field f ls) (terms.Field g ms) tree p q = rw (same_some (field_named w.text) f g p.0 q.0, p.2, q.2) refl
-same_values (OnLayersOf w l) (terms.Field f ls) (terms.Field g ms) tree p q = rw (same_some (field_named w.text) f g p.0 q.0, p.2, q.2) refl
-same_values (SlicedOf o at rs) (terms.Slice' a s ranges) (terms.Slice' b t others) tree p q =
-    let inner = same_values o s t tree p.0 q.0 in
+same_number : (st : Standing) (w : Word) (c d : Constant) → IsNumber st w c → IsNumber st w d → c ≡ d
+same_number (Free before) w c d p q = same_read (word_read false number_kind w.text) (word_read false number_kind w.text) c d refl p.1 q.1
+same_number st w c d p q = absurd p
+
+-- a word is no field and a number as well
+never_number : (st : Standing) (w : Word) (c : Constant) (field : ℕ) → IsNumber st w c → field_named w.text ≡ Some field → ⊥
+never_number (Free before) w c field p is = let bad : None ≡ Some field = sym p.0 ∙ is in cc
+never_number st w c field p is = p
+
+same_values : (st : Standing) (o : WrittenOperand) (s t : Term) (tree : TreeShown) → IsTerm st o s → IsTerm st o t → values_of_term s tree ≡ values_of_term t tree
+same_values st (NamedOf w) (terms.Field f ls) (terms.Field g ms) tree p q = rw (same_some (field_named w.text) f g p.0 q.0, p.1, q.1) refl
+same_values st (NamedOf w) (terms.Constant c) (terms.Constant d) tree p q = ap (λ (x : Constant). x.value ∷ []) (same_number st w c d p q)
+same_values st (NamedOf w) (terms.Field f ls) (terms.Constant d) tree p q = absurd (never_number st w d f q p.0)
+same_values st (NamedOf w) (terms.Constant c) (terms.Field g ms) tree p q = absurd (never_number st w c g p q.0)
+same_values st (OnLayerOf w l) (terms.Field f ls) (terms.Field g ms) tree p q = rw (same_some (field_named w.text) f g p.0 q.0, p.2, q.2) refl
+same_values st (OnLayersOf w l) (terms.Field f ls) (terms.Field g ms) tree p q = rw (same_some (field_named w.text) f g p.0 q.0, p.2, q.2) refl
+same_values st (SlicedOf o at rs) (terms.Slice' a s ranges) (terms.Slice' b t others) tree p q =
+    let inner = same_values (in_slice st) o s t tree p.0 q.0 in
     let same : ranges.items ≡ others.items = p.3 ∙ sym q.3 in
     rw (inner, same) refl
-same_values (MaskedOf o at w) (terms.Mask' a s m) (terms.Mask' b t n) tree p q =
-    let inner = same_values o s t tree p.0 q.0 in
-    let same = same_mask (kind_of s) (kind_of t) w.text m n (same_kind o s t p.0 q.0) p.2 q.2 in
+same_values st (MaskedOf o at w) (terms.Mask' a s m) (terms.Mask' b t n) tree p q =
+    let inner = same_values (within at st) o s t tree p.0 q.0 in
+    let same = same_mask (kind_of s) (kind_of t) w.text m n (same_kind (within at st) o s t p.0 q.0) p.2 q.2 in
     rw (inner, same) refl
-same_values (CalledOf f at o) (terms.Called' g a s) (terms.Called' h b t) tree p q =
-    let inner = same_values o s t tree p.0 q.0 in
+same_values st (CalledOf f at o) (terms.Called' g a s) (terms.Called' h b t) tree p q =
+    let inner = same_values (argument f at o st) o s t tree p.0 q.0 in
     rw (inner, ← p.2, ← q.2) refl
-same_values (NamedOf w) (terms.Field f ls) t tree p q = absurd q
-same_values (OnLayerOf w l) (terms.Field f ls) t tree p q = absurd q
-same_values (OnLayersOf w l) (terms.Field f ls) t tree p q = absurd q
-same_values (SlicedOf o at rs) (terms.Slice' a s ranges) t tree p q = absurd q
-same_values (MaskedOf o at w) (terms.Mask' a s m) t tree p q = absurd q
-same_values (CalledOf f at o) (terms.Called' g a s) t tree p q = absurd q
-same_values o s t tree p q = absurd p
+same_values st (ComputedOf x at l r) (terms.Computed' y a s b s') (terms.Computed' z c t d t') tree p q =
+    let left = same_values st l s t tree p.0 q.0 in
+    let right = same_values (Free (Some at)) r s' t' tree p.1 q.1 in
+    rw (left, right, ← p.4, ← q.4) refl
+same_values st (ArgumentsOf l r) (terms.Arguments' a s b s') (terms.Arguments' c t d t') tree p q =
+    let left = same_values st l s t tree p.0 q.0 in
+    let right = same_values (Free None) r s' t' tree p.1 q.1 in
+    rw (left, right) refl
+same_values st (NamedOf w) (terms.Field f ls) t tree p q = absurd q
+same_values st (NamedOf w) (terms.Constant c) t tree p q = absurd q
+same_values st (OnLayerOf w l) (terms.Field f ls) t tree p q = absurd q
+same_values st (OnLayersOf w l) (terms.Field f ls) t tree p q = absurd q
+same_values st (SlicedOf o at rs) (terms.Slice' a s ranges) t tree p q = absurd q
+same_values st (MaskedOf o at w) (terms.Mask' a s m) t tree p q = absurd q
+same_values st (CalledOf f at o) (terms.Called' g a s) t tree p q = absurd q
+same_values st (ComputedOf x at l r) (terms.Computed' y a s b s') t tree p q = absurd q
+same_values st (ArgumentsOf l r) (terms.Arguments' a s b s') t tree p q = absurd q
+same_values st o s t tree p q = absurd p
 
 -- a right side
 abbrev AreSame : Term → Term → TreeShown → Type 0
@@ -82,7 +109,7 @@ same_right relation kind o (terms.Constant c) (terms.Constant d) tree p q =
     same_constant c d tree (same_read (side_read relation kind p.0) (side_read relation kind q.0) c d (ap (side_read relation kind) literal) p.2 q.2)
 same_right relation kind o (terms.Constant c) t tree p q = let bad : Some p.0 ≡ None = sym p.1 ∙ q.0 in absurd (cc bad)
 same_right relation kind o s (terms.Constant d) tree p q = let bad : Some q.0 ≡ None = sym q.1 ∙ p.0 in absurd (cc bad)
-same_right relation kind o s t tree p q = (same_values o s t tree p.1 q.1, refl)
+same_right relation kind o s t tree p q = (same_values (Free None) o s t tree p.1 q.1, refl)
 
 -- a set
 same_member : (kind : ValueKind) (e : Element) (m n : Member) → IsMember kind e m → IsMember kind e n → m ≡ n
@@ -108,17 +135,17 @@ same_members kind (e ∷ es) [] ns p q = absurd p
 one_test : (choice : Option Choice) (o : WrittenOperand) (tail : WrittenTail) (f g : Typed) (tree : TreeShown) →
     IsTest choice o tail f → IsTest choice o tail g → meaning f tree ≡ meaning g tree
 one_test choice o (CompareOf operator at right) (Compare relation pairs s a) (Compare other choices t b) tree p q =
-    let kind = same_kind o s t p.0 q.0 in
+    let kind = same_kind First o s t p.0 q.0 in
     let asked = p.1 ∙ sym q.1 in
     let ours = subst (λ k. IsRight other k right a) kind (subst (λ r. IsRight r (kind_of s) right a) asked p.4) in
     let sides = same_right other (kind_of t) right a b tree ours q.4 in
-    rw (same_values o s t tree p.0 q.0, sides.0, sides.1, asked, p.2, q.2) refl
+    rw (same_values First o s t tree p.0 q.0, sides.0, sides.1, asked, p.2, q.2) refl
 one_test choice o (InOf negated es) (Among opposite pairs s ms) (Among other choices t ns) tree p q =
-    let kind = same_kind o s t p.0 q.0 in
+    let kind = same_kind First o s t p.0 q.0 in
     let ours = subst (λ k. AreMembers k es ms.items) kind p.3 in
-    rw (same_values o s t tree p.0 q.0, same_members (kind_of t) es ms.items ns.items ours q.3, p.1, q.1, p.2, q.2) refl
+    rw (same_values First o s t tree p.0 q.0, same_members (kind_of t) es ms.items ns.items ours q.3, p.1, q.1, p.2, q.2) refl
 one_test choice o (MatchesOf at quote) (Matches pairs s pattern) (Matches choices t other) tree p q =
-    rw (same_values o s t tree p.0 q.0, p.1, q.1, p.3, q.3) refl
+    rw (same_values First o s t tree p.0 q.0, p.1, q.1, p.3, q.3) refl
 one_test choice o (CompareOf operator at right) (Compare relation pairs s a) g tree p q = absurd q
 one_test choice o (InOf negated es) (Among opposite pairs s ms) g tree p q = absurd q
 one_test choice o (MatchesOf at quote) (Matches pairs s pattern) g tree p q = absurd q
@@ -126,16 +153,18 @@ one_test choice o tail f g tree p q = absurd p
 
 -- an operand alone
 one_alone : (o : WrittenOperand) (f g : Typed) (tree : TreeShown) → IsAlone o f → IsAlone o g → meaning f tree ≡ meaning g tree
-one_alone (NamedOf w) (Exists s) (Exists t) tree p q = ap is_some_value (same_values (NamedOf w) s t tree p q)
-one_alone (OnLayerOf w l) (Exists s) (Exists t) tree p q = ap is_some_value (same_values (OnLayerOf w l) s t tree p q)
-one_alone (OnLayersOf w ls) (Exists s) (Exists t) tree p q = ap is_some_value (same_values (OnLayersOf w ls) s t tree p q)
-one_alone (SlicedOf o at rs) (Exists s) (Exists t) tree p q = ap is_some_value (same_values (SlicedOf o at rs) s t tree p q)
-one_alone (MaskedOf o at w) (AnyBit s) (AnyBit t) tree p q = rw (same_values (MaskedOf o at w) s t tree p q) refl
+one_alone (NamedOf w) (Exists s) (Exists t) tree p q = ap is_some_value (same_values First (NamedOf w) s t tree p q)
+one_alone (OnLayerOf w l) (Exists s) (Exists t) tree p q = ap is_some_value (same_values First (OnLayerOf w l) s t tree p q)
+one_alone (OnLayersOf w ls) (Exists s) (Exists t) tree p q = ap is_some_value (same_values First (OnLayersOf w ls) s t tree p q)
+one_alone (SlicedOf o at rs) (Exists s) (Exists t) tree p q = ap is_some_value (same_values First (SlicedOf o at rs) s t tree p q)
+one_alone (MaskedOf o at w) (AnyBit s) (AnyBit t) tree p q = rw (same_values First (MaskedOf o at w) s t tree p q) refl
+one_alone (ArgumentsOf l r) (Exists s) (Exists t) tree p q = ap is_some_value (same_values First (ArgumentsOf l r) s t tree p q)
 one_alone (NamedOf w) (Exists s) g tree p q = absurd q
 one_alone (OnLayerOf w l) (Exists s) g tree p q = absurd q
 one_alone (OnLayersOf w ls) (Exists s) g tree p q = absurd q
 one_alone (SlicedOf o at rs) (Exists s) g tree p q = absurd q
 one_alone (MaskedOf o at w) (AnyBit s) g tree p q = absurd q
+one_alone (ArgumentsOf l r) (Exists s) g tree p q = absurd q
 one_alone o f g tree p q = absurd p
 
 same_meaning : (t : Written) (f g : Typed) (tree : TreeShown) → HasType t f → HasType t g → meaning f tree ≡ meaning g tree

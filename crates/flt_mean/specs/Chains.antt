@@ -31,4 +31,5 @@ truth_by joins.And left right = left && right
 -- the truth of all, by that of the first
 abbrev pub joined_truth : TreeShown → List Right → Truth → Truth
 joined_truth tree [] truth = truth
-joined_truth tree (r ∷ rs) truth = truth_by r.join (joined_truth tree rs truth) (meaning r.filter.now tree)
+joined_truth tree (r ∷ rs) truth =
+    truth_by r.join (joined_truth tree rs truth) (meaning r.filter.now tree)

@@ -8,7 +8,8 @@ use Rattle.pk_tree.specs.Trees.{TreeShown, kept_tree}
 
 -- a text has one meaning
 abbrev pub OneMeaning : Type 0
-OneMeaning = (text : List ℕ) (f g : Typed) (tree : TreeShown) → IsTypedText text f → IsTypedText text g → meaning f tree ≡ meaning g tree
+OneMeaning = (text : List ℕ) (f g : Typed) (tree : TreeShown) → IsTypedText text f
+    → IsTypedText text g → meaning f tree ≡ meaning g tree
 
 -- a tree that keeps the items of some fields alone is as the whole tree to a filter that asks for no others
 abbrev pub KeptMeaning : Type 0

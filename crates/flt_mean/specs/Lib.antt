@@ -1,4 +1,5 @@
 pub mod Chains
 pub mod Laws
 pub mod Meaning
+pub mod Terms
 pub mod Values

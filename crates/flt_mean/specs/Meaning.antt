@@ -26,6 +26,9 @@ meaning (Not' p filter) tree = not (meaning filter tree)
 meaning (Exists term) tree = is_some_value (values_of_term term tree)
 meaning (AnyBit term) tree = list_any is_nonzero (values_of_term term tree)
 meaning (Compare relation choice left right) tree =
-    compares relation choice (values_of_term left tree) (values_of_term right tree) (prefix_of_term right)
-meaning (Among negated choice term ms) tree = opposite negated (passes choice (λ v. is_among ms.items v) (values_of_term term tree))
-meaning (Matches choice term pattern) tree = passes choice (λ v. is_matched pattern v) (values_of_term term tree)
+    compares relation choice (values_of_term left tree) (values_of_term right tree)
+    (prefix_of_term right)
+meaning (Among negated choice term ms) tree =
+    opposite negated (passes choice (λ v. is_among ms.items v) (values_of_term term tree))
+meaning (Matches choice term pattern) tree =
+    passes choice (λ v. is_matched pattern v) (values_of_term term tree)

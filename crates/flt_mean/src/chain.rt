@@ -26,10 +26,13 @@ pub(crate) struct Chain<'f> {
 
 /// The filters that the outermost signs of a filter join. Takes no memory where there is no sign.
 pub(crate) fn chain_of<'f>(alloc: Global, filter: &'f Typed) -> Result<Chain<'f>, NoMemory>
-    ensures whole { IfOk result (λ chain. (tree : TreeShown) → meaning filter.now tree ≡ joined_truth tree chain.rights.items (meaning chain.first.now tree)) }
+    ensures whole { IfOk result (λ chain. (tree : TreeShown)
+        → meaning filter.now tree
+        ≡ joined_truth tree chain.rights.items (meaning chain.first.now tree)) }
     ensures single { IfOk result (λ chain. IsTrue (is_single chain.first.now)) }
     ensures first { IfOk result (λ chain. parts chain.first.now ≤ parts filter.now) }
-    ensures within { IfOk result (λ chain. All (λ right. parts right.filter.now < parts filter.now) chain.rights.items) }
+    ensures within { IfOk result (λ chain.
+        All (λ right. parts right.filter.now < parts filter.now) chain.rights.items) }
 {
     let mut rights = Vec::new(alloc);
     let mut first = filter;

@@ -93,7 +93,8 @@ fn asks(
     term: &Term,
     tree: &Tree,
 ) -> Result<bool, NoMemory>
-    ensures { IfOk result (λ truth. truth ≡ passes choice (λ v. is_so question.now v) (values_of_term term.now tree.now)) }
+    ensures { IfOk result (λ truth.
+        truth ≡ passes choice (λ v. is_so question.now v) (values_of_term term.now tree.now)) }
 {
     match term {
         Term::Field(field, layers) => asks_field(choice, question, *field, layers, tree),
@@ -112,7 +113,9 @@ fn compare(
     right: &Term,
     tree: &Tree,
 ) -> Result<bool, NoMemory>
-    ensures { IfOk result (λ truth. truth ≡ compares relation choice (values_of_term left.now tree.now) (values_of_term right.now tree.now) (prefix_of_term right.now)) }
+    ensures { IfOk result (λ truth.
+        truth ≡ compares relation choice (values_of_term left.now tree.now)
+        (values_of_term right.now tree.now) (prefix_of_term right.now)) }
 {
     match right {
         Term::Constant(constant) => {
@@ -135,7 +138,9 @@ fn among(
     members: &[Member],
     tree: &Tree,
 ) -> Result<bool, NoMemory>
-    ensures { IfOk result (λ truth. truth ≡ opposite negated (passes choice (λ v. is_among members.now v) (values_of_term term.now tree.now))) }
+    ensures { IfOk result (λ truth.
+        truth ≡ opposite negated
+        (passes choice (λ v. is_among members.now v) (values_of_term term.now tree.now))) }
 {
     let found = asks(alloc, choice, &Question::IsAmong(members), term, tree)?;
     Ok(negated != found)
@@ -149,7 +154,8 @@ fn match_in(
     pattern: &Pattern,
     tree: &Tree,
 ) -> Result<bool, NoMemory>
-    ensures { IfOk result (λ truth. truth ≡ passes choice (λ v. is_matched pattern.now v) (values_of_term term.now tree.now)) }
+    ensures { IfOk result (λ truth.
+        truth ≡ passes choice (λ v. is_matched pattern.now v) (values_of_term term.now tree.now)) }
 {
     let values = values_of_term(alloc, term, tree)?;
     let mut search = pattern.search(alloc)?;

@@ -4,6 +4,7 @@
 mod chain;
 mod evaluate;
 mod laws;
+mod terms;
 #[cfg(test)]
 mod tests;
 mod values;

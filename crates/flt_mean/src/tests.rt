@@ -1,7 +1,7 @@
 ghost use Rattle.std.specs.Prelude.{◌≡◌};
 
 use crate::evaluate::is_true;
-use flt_parse::{Choice, Function, Place, RangePart};
+use flt_parse::{Arithmetic, Choice, Function, Place, RangePart};
 use flt_pattern::Pattern;
 use flt_types::{Member, Term, Typed};
 use flt_values::{Constant, Relation};
@@ -191,6 +191,52 @@ fn pairs_of_values_are_compared(rt: HostRuntime) -> Result<(), NoMemory> {
         let inner = on_layer(rt.alloc(), ids::IP_ADDR, 2)?;
         let pairs = Typed::Compare(Relation::Equal, choice, every(ids::IP_ADDR), inner);
         assert_eq!(rt; truth(rt.alloc(), pairs)?, wanted);
+    }
+    Ok(())
+}
+
+fn number(number: u64) -> Term {
+    Term::Constant(plain(Value::Uint(number), None))
+}
+
+/// Whether what is computed of the port and a number is a third one.
+fn computes(
+    alloc: Global,
+    operation: Arithmetic,
+    other: u64,
+    answer: u64,
+) -> Result<bool, NoMemory> {
+    let port = Box::new(alloc, every(ids::TCP_PORT))?;
+    let other = Box::new(alloc, number(other))?;
+    let term = Term::Computed(operation, port, other);
+    truth(
+        alloc,
+        test(term, Relation::Equal, Choice::Any, Value::Uint(answer)),
+    )
+}
+
+#[test]
+fn numbers_are_computed(rt: HostRuntime) -> Result<(), NoMemory> {
+    for (operation, other, answer, wanted) in [
+        (Arithmetic::Sum, 50, 8100, true),
+        (Arithmetic::Difference, 50, 8000, true),
+        (Arithmetic::Difference, 8051, 0, false),
+        (Arithmetic::Product, 2, 16100, true),
+    ] {
+        assert_eq!(rt; computes(rt.alloc(), operation, other, answer)?, wanted);
+    }
+    Ok(())
+}
+
+#[test]
+fn arguments_have_one_least_and_greatest(rt: HostRuntime) -> Result<(), NoMemory> {
+    for (function, wanted) in [(Function::Min, 18), (Function::Max, 8050)] {
+        let first = Box::new(rt.alloc(), every(ids::TCP_PORT))?;
+        let second = Box::new(rt.alloc(), every(ids::TCP_FLAGS))?;
+        let all = Box::new(rt.alloc(), Term::Arguments(first, second))?;
+        let called = Term::Called(function, all);
+        let extreme = test(called, Relation::Equal, Choice::All, Value::Uint(wanted));
+        assert!(rt; truth(rt.alloc(), extreme)?);
     }
     Ok(())
 }

@@ -1,13 +1,15 @@
 -- What has a type has no fault.
-use Rattle.std.proofs.Common.{◌≡◌, ℕ, Bool, true, false, List, [], ◌∷◌, ◌++◌, Option, Some, None, option_map, drop, append-nil, sym, ap, subst, refl, ◌∙◌}
+use Rattle.std.proofs.Common.{◌≡◌, ℕ, Bool, true, false, List, [], ◌∷◌, ◌++◌, ◌&&◌, Option, Some, None, option_map, drop, append-nil, sym, ap, subst, refl, ◌∙◌}
 use Rattle.std.proofs.lemmas.Bool.{and_parts}
 use Rattle.std.specs.List.{list_all}
-use Rattle.flt_parse.specs.Written.{Written, WrittenOperand, WrittenTail, TextOf, NamedOf, OnLayerOf, OnLayersOf, SlicedOf, MaskedOf, CalledOf, CompareOf, InOf, MatchesOf, JoinedOf, NotOf, GroupOf, AloneOf, TestOf}
+use Rattle.std.specs.Prelude.{is_some}
+use Rattle.flt_parse.specs.Written.{Written, WrittenOperand, WrittenTail, TextOf, NamedOf, OnLayerOf, OnLayersOf, SlicedOf, MaskedOf, CalledOf, ComputedOf, ArgumentsOf, CompareOf, InOf, MatchesOf, JoinedOf, NotOf, GroupOf, AloneOf, TestOf}
+use Rattle.flt_parse.specs.declared.ast.Arithmetic.{Arithmetic}
 use Rattle.flt_parse.specs.declared.ast.Choice.{Choice}
 use Rattle.flt_parse.specs.declared.ast.Element.{Element}
 use Rattle.flt_parse.specs.declared.ast.Element.TheVariants as elements
 use Rattle.flt_parse.specs.declared.ast.Function.{Function}
-use Rattle.flt_parse.specs.declared.ast.Function.TheVariants.{Len, Count, Upper, Lower}
+use Rattle.flt_parse.specs.declared.ast.Function.TheVariants.{Len, Count, Upper, Lower, Min, Max}
 use Rattle.flt_parse.specs.declared.ast.LayerRange.{LayerRange}
 use Rattle.flt_parse.specs.declared.ast.Literal.{Literal}
 use Rattle.flt_parse.specs.declared.ast.Operator.{Operator}
@@ -16,12 +18,15 @@ use Rattle.flt_parse.specs.declared.fault.FilterError.{FilterError}
 use Rattle.flt_parse.specs.declared.fault.FilterReason.TheVariants.{TypeMismatch, OutOfRange}
 use Rattle.flt_parse.specs.declared.token.Join.TheVariants as joins
 use Rattle.flt_parse.specs.declared.word.Word.{Word}
-use Rattle.flt_types.specs.Faults.{Found, PatternAt, IsAnswer, IsClear, around, call_faults, class_faults, element_faults, elements_faults, faults, given, is_name, kind_written, layers_faults, mask_faults, operand_faults, ranges_faults, reading_faults, right_faults, slice_faults, tail_faults, takes_written, unknown, unless}
+use Rattle.flt_types.specs.Faults.{Found, PatternAt, IsAnswer, IsClear, are_numbers_written, call_faults, class_faults, element_faults, elements_faults, faults, first_sign, given, is_name, is_number_written, kind_of_word, kind_written, layers_faults, mask_faults, number_faults, operand_faults, ranges_faults, reading_faults, right_faults, slice_faults, tail_faults, takes_written, unless, word_faults}
 use Rattle.flt_types.specs.Layers.{is_layer, is_layers}
-use Rattle.flt_types.specs.Literals.{end_read, literal_of, literal_read, place_of_literal, side_read}
+use Rattle.flt_types.specs.Literals.{end_read, literal_of, literal_read, place_of_literal, side_read, word_or_name}
 use Rattle.flt_types.specs.Ranges.{is_range}
-use Rattle.flt_types.specs.Terms.{IsTerm, is_field, kind_of, takes_term}
+use Rattle.flt_types.specs.Standing.{argument, in_slice, sign_for, within}
+use Rattle.flt_types.specs.Terms.{IsNumber, IsTerm, are_numbers, is_field, kind_of, number_kind, takes_term}
 use Rattle.flt_types.specs.Typing.{AreMembers, HasType, IsAlone, IsMember, IsRight, IsTest, relation_of}
+use Rattle.flt_types.specs.declared.standing.Standing.{Standing}
+use Rattle.flt_types.specs.declared.standing.Standing.TheVariants.{First, Free, Sliced}
 use Rattle.flt_types.specs.declared.typed.Member.{Member}
 use Rattle.flt_types.specs.declared.typed.Member.TheVariants as members
 use Rattle.flt_types.specs.declared.typed.Term.{Term}
@@ -29,7 +34,8 @@ use Rattle.flt_types.specs.declared.typed.Term.TheVariants as terms
 use Rattle.flt_types.specs.declared.typed.Typed.{Typed}
 use Rattle.flt_types.specs.declared.typed.Typed.TheVariants.{Either', Differ', Both', Not', Exists, AnyBit, Compare, Among, Matches}
 use Rattle.flt_types.proofs.Answers.{answer_right, clear_both, clear_unless, given_answer, given_clear}
-use Rattle.flt_values.specs.Kinds.{is_masked, is_searched, is_sliced, kind_of_call, same_class, takes}
+use Rattle.flt_values.proofs.MaskLemmas.{mask_has}
+use Rattle.flt_values.specs.Kinds.{is_masked, is_number, is_searched, is_sliced, kind_of_call, kind_of_value, same_class, takes}
 use Rattle.flt_values.specs.Literals.{word_read}
 use Rattle.flt_values.specs.declared.literal.Constant.{Constant}
 use Rattle.flt_values.specs.declared.literal.Reading.{Reading}
@@ -39,33 +45,75 @@ use Rattle.pk_fields.specs.Fields.{field_named, row_of}
 use Rattle.pk_fields.specs.declared.value_kind.ValueKind.{ValueKind}
 
 -- the kind of an operand is that of its term
-pub term_kind : (o : WrittenOperand) (t : Term) → IsTerm o t → kind_written o ≡ Some (kind_of t)
-term_kind (NamedOf w) (terms.Field field layers) h = ap (option_map (λ f. (row_of f).kind)) h.0
-term_kind (OnLayerOf w l) (terms.Field field layers) h = ap (option_map (λ f. (row_of f).kind)) h.0
-term_kind (OnLayersOf w ls) (terms.Field field layers) h = ap (option_map (λ f. (row_of f).kind)) h.0
-term_kind (SlicedOf o at rs) (terms.Slice' p t ranges) h = refl
-term_kind (MaskedOf o at w) (terms.Mask' p t mask) h = term_kind o t h.0
-term_kind (CalledOf f at o) (terms.Called' g p t) h = ap (λ x. Some (kind_of_call x)) h.2
-term_kind o t h = absurd h
+name_kind : (s : Standing) (found : Option ℕ) (field : ℕ) → found ≡ Some field → kind_of_word found s ≡ Some (row_of field).kind
+name_kind s found field h = rw h refl
+
+number_value : (c : Constant) (text : List ℕ) → word_read false number_kind text ≡ Reads c → kind_of_value c.value ≡ number_kind
+number_value c text h = let number = mask_has number_kind text c refl h in ap kind_of_value number.1
+
+number_named : (before : Option ℕ) (found : Option ℕ) (c : Constant) → found ≡ None → kind_of_value c.value ≡ number_kind → kind_of_word found (Free before) ≡ Some (kind_of_value c.value)
+number_named before found c none h = rw (none, h) refl
+
+number_term : (s : Standing) (w : Word) (c : Constant) → IsNumber s w c → kind_of_word (field_named w.text) s ≡ Some (kind_of_value c.value)
+number_term (Free before) w c h = number_named before (field_named w.text) c h.0 (number_value c w.text h.1)
+number_term s w c h = absurd h
+
+pub term_kind : (s : Standing) (o : WrittenOperand) (t : Term) → IsTerm s o t → kind_written s o ≡ Some (kind_of t)
+term_kind s (NamedOf w) (terms.Field field layers) h = name_kind s (field_named w.text) field h.0
+term_kind s (NamedOf w) (terms.Constant c) h = number_term s w c h
+term_kind s (OnLayerOf w l) (terms.Field field layers) h = ap (option_map (λ f. (row_of f).kind)) h.0
+term_kind s (OnLayersOf w ls) (terms.Field field layers) h = ap (option_map (λ f. (row_of f).kind)) h.0
+term_kind s (SlicedOf o at rs) (terms.Slice' p t ranges) h = refl
+term_kind s (MaskedOf o at w) (terms.Mask' p t mask) h = term_kind (within at s) o t h.0
+term_kind s (CalledOf f at o) (terms.Called' g p t) h = ap (λ x. Some (kind_of_call x)) h.2
+term_kind s (ComputedOf a at l r) (terms.Computed' b p t q u) h = refl
+term_kind s (ArgumentsOf l r) (terms.Arguments' p t q u) h = refl
+term_kind s o t h = absurd h
 
 -- a name is a field, and nothing else is one
-name_field : (o : WrittenOperand) (t : Term) → IsTerm o t → is_name o ≡ is_field t
-name_field (NamedOf w) (terms.Field field layers) h = refl
-name_field (OnLayerOf w l) (terms.Field field layers) h = refl
-name_field (OnLayersOf w ls) (terms.Field field layers) h = refl
-name_field (SlicedOf o at rs) (terms.Slice' p t ranges) h = refl
-name_field (MaskedOf o at w) (terms.Mask' p t mask) h = refl
-name_field (CalledOf f at o) (terms.Called' g p t) h = refl
-name_field o t h = absurd h
+no_name : (s : Standing) (w : Word) (c : Constant) → IsNumber s w c → is_some (field_named w.text) ≡ false
+no_name (Free before) w c h = ap is_some h.0
+no_name s w c h = absurd h
 
-pub same_takes : (f : Function) (o : WrittenOperand) (t : Term) → IsTerm o t → takes_written f o (kind_of t) ≡ takes_term f t
-same_takes Len o t h = refl
-same_takes Count o t h = name_field o t h
-same_takes Upper o t h = refl
-same_takes Lower o t h = refl
+name_field : (s : Standing) (o : WrittenOperand) (t : Term) → IsTerm s o t → is_name o ≡ is_field t
+name_field s (NamedOf w) (terms.Field field layers) h = ap is_some h.0
+name_field s (NamedOf w) (terms.Constant c) h = no_name s w c h
+name_field s (OnLayerOf w l) (terms.Field field layers) h = refl
+name_field s (OnLayersOf w ls) (terms.Field field layers) h = refl
+name_field s (SlicedOf o at rs) (terms.Slice' p t ranges) h = refl
+name_field s (MaskedOf o at w) (terms.Mask' p t mask) h = refl
+name_field s (CalledOf f at o) (terms.Called' g p t) h = refl
+name_field s (ComputedOf a at l r) (terms.Computed' b p t q u) h = refl
+name_field s (ArgumentsOf l r) (terms.Arguments' p t q u) h = refl
+name_field s o t h = absurd h
 
-known_clear : (blame : Option ℕ) (at : ℕ) (found : Option ℕ) (field : ℕ) → found ≡ Some field → IsClear (unknown blame at found)
-known_clear blame at found field h = rw h tt
+-- arguments are numbers as their terms are
+both_same : {a b c d : Bool} → a ≡ b → c ≡ d → (a && c) ≡ (b && d)
+both_same {a} {b} {c} {d} e f = ap (λ t. t && c) e ∙ ap (λ t. b && t) f
+
+numbers_same : (s : Standing) (o : WrittenOperand) (t : Term) → IsTerm s o t → are_numbers_written s o ≡ are_numbers t
+numbers_same s (NamedOf w) (terms.Field field layers) h = ap is_number_written (term_kind s (NamedOf w) (terms.Field field layers) h)
+numbers_same s (NamedOf w) (terms.Constant c) h = ap is_number_written (term_kind s (NamedOf w) (terms.Constant c) h)
+numbers_same s (OnLayerOf w l) (terms.Field field layers) h = ap is_number_written (term_kind s (OnLayerOf w l) (terms.Field field layers) h)
+numbers_same s (OnLayersOf w ls) (terms.Field field layers) h = ap is_number_written (term_kind s (OnLayersOf w ls) (terms.Field field layers) h)
+numbers_same s (SlicedOf o at rs) (terms.Slice' p t ranges) h = refl
+numbers_same s (MaskedOf o at w) (terms.Mask' p t mask) h = ap is_number_written (term_kind (within at s) o t h.0)
+numbers_same s (CalledOf f at o) (terms.Called' g p t) h = ap (λ x. is_number (kind_of_call x)) h.2
+numbers_same s (ComputedOf a at l r) (terms.Computed' b p t q u) h = refl
+numbers_same s (ArgumentsOf l r) (terms.Arguments' p t q u) h =
+    both_same (numbers_same s l t h.0) (ap is_number_written (term_kind (Free None) r u h.1))
+numbers_same s o t h = absurd h
+
+pub same_takes : (f : Function) (s : Standing) (o : WrittenOperand) (t : Term) → IsTerm s o t → takes_written f s o (kind_of t) ≡ takes_term f t
+same_takes Len s o t h = refl
+same_takes Count s o t h = name_field s o t h
+same_takes Min s o t h = numbers_same s o t h
+same_takes Max s o t h = numbers_same s o t h
+same_takes Upper s o t h = refl
+same_takes Lower s o t h = refl
+
+known_clear : (found : Option ℕ) (s : Standing) (w : Word) (field : ℕ) → found ≡ Some field → IsClear (word_faults found s w)
+known_clear found s w field h = rw h tt
 
 layers_clear : (ls : List LayerRange) → list_all is_layers ls ≡ true → IsClear (layers_faults ls)
 layers_clear [] h = tt
@@ -82,43 +130,62 @@ ranges_clear (r ∷ rs) h =
 pub reading_clear : (at : ℕ) (reading : Reading) (c : Constant) → reading ≡ Reads c → IsClear (reading_faults at reading)
 reading_clear at reading c h = rw h tt
 
-pub term_clear : (right : Bool) (blame : Option ℕ) (o : WrittenOperand) (t : Term) → IsTerm o t → IsClear (operand_faults right blame o)
-term_clear right blame (NamedOf w) (terms.Field field layers) h = known_clear blame w.at (field_named w.text) field h.0
-term_clear right blame (OnLayerOf w l) (terms.Field field layers) h =
-    clear_both (unknown None w.at (field_named w.text)) (unless (is_layer l) l.at OutOfRange)
-    (known_clear None w.at (field_named w.text) field h.0) (clear_unless (is_layer l) l.at OutOfRange h.1)
-term_clear right blame (OnLayersOf w ls) (terms.Field field layers) h =
-    clear_both (unknown None w.at (field_named w.text)) (layers_faults ls)
-    (known_clear None w.at (field_named w.text) field h.0) (layers_clear ls h.1)
-term_clear right blame (SlicedOf o at rs) (terms.Slice' p t ranges) h =
-    clear_both (operand_faults right None o) (given (kind_written o) (slice_faults at rs)) (term_clear right None o t h.0)
-    (given_clear (kind_written o) (kind_of t) (slice_faults at rs) (term_kind o t h.0)
+number_read_clear : (before : Option ℕ) (w : Word) (c : Constant) (found : Option ℕ) → found ≡ None → word_read false number_kind w.text ≡ Reads c → IsClear (word_faults found (Free before) w)
+number_read_clear before w c found none h = rw none (reading_clear w.at (word_read false number_kind w.text) c h)
+
+number_clear : (s : Standing) (w : Word) (c : Constant) → IsNumber s w c → IsClear (word_faults (field_named w.text) s w)
+number_clear (Free before) w c h = number_read_clear before w c (field_named w.text) h.0 h.1
+number_clear s w c h = absurd h
+
+pub term_clear : (s : Standing) (o : WrittenOperand) (t : Term) → IsTerm s o t → IsClear (operand_faults s o)
+term_clear s (NamedOf w) (terms.Field field layers) h = known_clear (field_named w.text) s w field h.0
+term_clear s (NamedOf w) (terms.Constant c) h = number_clear s w c h
+term_clear s (OnLayerOf w l) (terms.Field field layers) h =
+    clear_both (word_faults (field_named w.text) Sliced w) (unless (is_layer l) l.at OutOfRange)
+    (known_clear (field_named w.text) Sliced w field h.0) (clear_unless (is_layer l) l.at OutOfRange h.1)
+term_clear s (OnLayersOf w ls) (terms.Field field layers) h =
+    clear_both (word_faults (field_named w.text) Sliced w) (layers_faults ls)
+    (known_clear (field_named w.text) Sliced w field h.0) (layers_clear ls h.1)
+term_clear s (SlicedOf o at rs) (terms.Slice' p t ranges) h =
+    clear_both (operand_faults (in_slice s) o) (given (kind_written (in_slice s) o) (slice_faults at rs)) (term_clear (in_slice s) o t h.0)
+    (given_clear (kind_written (in_slice s) o) (kind_of t) (slice_faults at rs) (term_kind (in_slice s) o t h.0)
     (clear_both (unless (is_sliced (kind_of t)) at TypeMismatch) (ranges_faults rs)
     (clear_unless (is_sliced (kind_of t)) at TypeMismatch h.1) (ranges_clear rs h.2)))
-term_clear right blame (MaskedOf o at w) (terms.Mask' p t mask) h =
-    clear_both (operand_faults right (around right at) o) (given (kind_written o) (mask_faults at w)) (term_clear right (around right at) o t h.0)
-    (given_clear (kind_written o) (kind_of t) (mask_faults at w) (term_kind o t h.0)
+term_clear s (MaskedOf o at w) (terms.Mask' p t mask) h =
+    clear_both (operand_faults (within at s) o) (given (kind_written (within at s) o) (mask_faults at w)) (term_clear (within at s) o t h.0)
+    (given_clear (kind_written (within at s) o) (kind_of t) (mask_faults at w) (term_kind (within at s) o t h.0)
     (clear_both (unless (is_masked (kind_of t)) at TypeMismatch) (reading_faults w.at (word_read false (kind_of t) w.text))
     (clear_unless (is_masked (kind_of t)) at TypeMismatch h.1)
     (reading_clear w.at (word_read false (kind_of t) w.text) h.2.0 h.2.1)))
-term_clear right blame (CalledOf f at o) (terms.Called' g p t) h =
-    clear_both (operand_faults right (around right at) o) (given (kind_written o) (call_faults f at o)) (term_clear right (around right at) o t h.0)
-    (given_clear (kind_written o) (kind_of t) (call_faults f at o) (term_kind o t h.0)
-    (clear_unless (takes_written f o (kind_of t)) at TypeMismatch (same_takes f o t h.0 ∙ h.1)))
-term_clear right blame o t h = absurd h
+term_clear s (CalledOf f at o) (terms.Called' g p t) h =
+    let inside = argument f at o s in
+    clear_both (operand_faults inside o) (given (kind_written inside o) (call_faults f at inside o)) (term_clear inside o t h.0)
+    (given_clear (kind_written inside o) (kind_of t) (call_faults f at inside o) (term_kind inside o t h.0)
+    (clear_unless (takes_written f inside o (kind_of t)) at TypeMismatch (same_takes f inside o t h.0 ∙ h.1)))
+term_clear s (ComputedOf a at l r) (terms.Computed' b p t q u) h =
+    let behind = Free (Some at) in
+    let first = number_faults (sign_for s at) in
+    clear_both (operand_faults s l ++ given (kind_written s l) first) (operand_faults behind r ++ given (kind_written behind r) (number_faults at))
+    (clear_both (operand_faults s l) (given (kind_written s l) first) (term_clear s l t h.0)
+    (given_clear (kind_written s l) (kind_of t) first (term_kind s l t h.0) (clear_unless (is_number (kind_of t)) (sign_for s at) TypeMismatch h.2)))
+    (clear_both (operand_faults behind r) (given (kind_written behind r) (number_faults at)) (term_clear behind r u h.1)
+    (given_clear (kind_written behind r) (kind_of u) (number_faults at) (term_kind behind r u h.1) (clear_unless (is_number (kind_of u)) at TypeMismatch h.3)))
+term_clear s (ArgumentsOf l r) (terms.Arguments' p t q u) h =
+    clear_both (operand_faults s l) (operand_faults (Free None) r) (term_clear s l t h.0) (term_clear (Free None) r u h.1)
+term_clear s o t h = absurd h
 
 -- faults for the kind of an operand's term are those behind the operand
-pub behind : (right : Bool) (blame : Option ℕ) (o : WrittenOperand) (t : Term) (f : ValueKind → List Found) (e : FilterError) →
-    IsTerm o t → IsAnswer (f (kind_of t)) e → IsAnswer (operand_faults right blame o ++ given (kind_written o) f) e
-behind right blame o t f e h a =
-    answer_right (operand_faults right blame o) (given (kind_written o) f) e (term_clear right blame o t h)
-    (given_answer (kind_written o) (kind_of t) f e (term_kind o t h) a)
+pub behind : (s : Standing) (o : WrittenOperand) (t : Term) (f : ValueKind → List Found) (e : FilterError) →
+    IsTerm s o t → IsAnswer (f (kind_of t)) e → IsAnswer (operand_faults s o ++ given (kind_written s o) f) e
+behind s o t f e h a =
+    answer_right (operand_faults s o) (given (kind_written s o) f) e (term_clear s o t h)
+    (given_answer (kind_written s o) (kind_of t) f e (term_kind s o t h) a)
 
-behind_clear : (right : Bool) (blame : Option ℕ) (o : WrittenOperand) (t : Term) (f : ValueKind → List Found) →
-    IsTerm o t → IsClear (f (kind_of t)) → IsClear (operand_faults right blame o ++ given (kind_written o) f)
-behind_clear right blame o t f h c =
-    clear_both (operand_faults right blame o) (given (kind_written o) f) (term_clear right blame o t h)
-    (given_clear (kind_written o) (kind_of t) f (term_kind o t h) c)
+pub behind_clear : (s : Standing) (o : WrittenOperand) (t : Term) (f : ValueKind → List Found) →
+    IsTerm s o t → IsClear (f (kind_of t)) → IsClear (operand_faults s o ++ given (kind_written s o) f)
+behind_clear s o t f h c =
+    clear_both (operand_faults s o) (given (kind_written s o) f) (term_clear s o t h)
+    (given_clear (kind_written s o) (kind_of t) f (term_kind s o t h) c)
 
 -- a right side
 constant_clear : (relation : Relation) (at : ℕ) (kind : ValueKind) (o : WrittenOperand) (found : Option Literal) (l : Literal) (c : Constant) →
@@ -126,9 +193,9 @@ constant_clear : (relation : Relation) (at : ℕ) (kind : ValueKind) (o : Writte
 constant_clear relation at kind o found l c is read = rw is (reading_clear (place_of_literal l) (side_read relation kind l) c read)
 
 operand_clear : (relation : Relation) (at : ℕ) (kind : ValueKind) (o : WrittenOperand) (found : Option Literal) (t : Term) →
-    found ≡ None → IsTerm o t → same_class kind (kind_of t) ≡ true → IsClear (right_faults relation at kind o found)
+    found ≡ None → IsTerm (Free None) o t → same_class kind (kind_of t) ≡ true → IsClear (right_faults relation at kind o found)
 operand_clear relation at kind o found t is h same =
-    rw is (behind_clear true None o t (class_faults at kind) h (clear_unless (same_class kind (kind_of t)) at TypeMismatch same))
+    rw is (behind_clear (Free None) o t (class_faults at kind) h (clear_unless (same_class kind (kind_of t)) at TypeMismatch same))
 
 right_clear : (relation : Relation) (at : ℕ) (kind : ValueKind) (o : WrittenOperand) (t : Term) → IsRight relation kind o t → IsClear (right_faults relation at kind o (literal_of o))
 right_clear relation at kind o (terms.Constant c) h = constant_clear relation at kind o (literal_of o) h.0 c h.1 h.2
@@ -151,24 +218,25 @@ members_clear kind (e ∷ es) [] h = absurd h
 -- a test
 test_clear : (choice : Option Choice) (o : WrittenOperand) (tail : WrittenTail) (filter : Typed) → IsTest choice o tail filter → IsClear (faults (TestOf choice o tail))
 test_clear choice o (CompareOf operator at right) (Compare relation pairs t r) h =
-    behind_clear false None o t (tail_faults (CompareOf operator at right)) h.0
+    behind_clear First o t (tail_faults (CompareOf operator at right)) h.0
     (clear_both (unless (takes (relation_of operator) (kind_of t)) at TypeMismatch) (right_faults (relation_of operator) at (kind_of t) right (literal_of right))
     (clear_unless (takes (relation_of operator) (kind_of t)) at TypeMismatch (ap (λ x. takes x (kind_of t)) (sym h.1) ∙ h.3))
     (right_clear (relation_of operator) at (kind_of t) right r (subst (λ x. IsRight x (kind_of t) right r) h.1 h.4)))
 test_clear choice o (InOf negated es) (Among opposite pairs t ms) h =
-    behind_clear false None o t (tail_faults (InOf negated es)) h.0 (members_clear (kind_of t) es ms.items h.3)
+    behind_clear First o t (tail_faults (InOf negated es)) h.0 (members_clear (kind_of t) es ms.items h.3)
 test_clear choice o (MatchesOf at q) (Matches pairs t pattern) h =
-    behind_clear false None o t (tail_faults (MatchesOf at q)) h.0
+    behind_clear First o t (tail_faults (MatchesOf at q)) h.0
     (clear_both (unless (is_searched (kind_of t)) at TypeMismatch) (PatternAt q.at q.bytes ∷ [])
     (clear_unless (is_searched (kind_of t)) at TypeMismatch h.2) (h.4, tt))
 test_clear choice o tail filter h = absurd h
 
 alone_clear : (o : WrittenOperand) (filter : Typed) → IsAlone o filter → IsClear (faults (AloneOf o))
-alone_clear (NamedOf w) (Exists t) h = clear_both (operand_faults false None (NamedOf w)) [] (term_clear false None (NamedOf w) t h) tt
-alone_clear (OnLayerOf w l) (Exists t) h = clear_both (operand_faults false None (OnLayerOf w l)) [] (term_clear false None (OnLayerOf w l) t h) tt
-alone_clear (OnLayersOf w ls) (Exists t) h = clear_both (operand_faults false None (OnLayersOf w ls)) [] (term_clear false None (OnLayersOf w ls) t h) tt
-alone_clear (SlicedOf o at rs) (Exists t) h = clear_both (operand_faults false None (SlicedOf o at rs)) [] (term_clear false None (SlicedOf o at rs) t h) tt
-alone_clear (MaskedOf o at w) (AnyBit t) h = clear_both (operand_faults false None (MaskedOf o at w)) [] (term_clear false None (MaskedOf o at w) t h) tt
+alone_clear (NamedOf w) (Exists t) h = clear_both (operand_faults First (NamedOf w)) [] (term_clear First (NamedOf w) t h) tt
+alone_clear (OnLayerOf w l) (Exists t) h = clear_both (operand_faults First (OnLayerOf w l)) [] (term_clear First (OnLayerOf w l) t h) tt
+alone_clear (OnLayersOf w ls) (Exists t) h = clear_both (operand_faults First (OnLayersOf w ls)) [] (term_clear First (OnLayersOf w ls) t h) tt
+alone_clear (SlicedOf o at rs) (Exists t) h = clear_both (operand_faults First (SlicedOf o at rs)) [] (term_clear First (SlicedOf o at rs) t h) tt
+alone_clear (MaskedOf o at w) (AnyBit t) h = clear_both (operand_faults First (MaskedOf o at w)) [] (term_clear First (MaskedOf o at w) t h) tt
+alone_clear (ArgumentsOf l r) (Exists t) h = clear_both (operand_faults First (ArgumentsOf l r)) [] (term_clear First (ArgumentsOf l r) t h) tt
 alone_clear o filter h = absurd h
 
 -- a filter with a type has no fault
@@ -182,57 +250,71 @@ type_clear (AloneOf o) filter h = alone_clear o filter h
 type_clear (TestOf choice o tail) filter h = test_clear choice o tail filter h
 type_clear t filter h = absurd h
 
-pub slice_behind : (right : Bool) (blame : Option ℕ) (o : WrittenOperand) (t : Term) (at : ℕ) (rs : List SliceRange) (e : FilterError) →
-    IsTerm o t → IsAnswer (slice_faults at rs (kind_of t)) e → IsAnswer (operand_faults right blame o ++ given (kind_written o) (slice_faults at rs)) e
-slice_behind right blame o t at rs e h a = behind right blame o t (slice_faults at rs) e h a
+pub slice_behind : (s : Standing) (o : WrittenOperand) (t : Term) (at : ℕ) (rs : List SliceRange) (e : FilterError) →
+    IsTerm s o t → IsAnswer (slice_faults at rs (kind_of t)) e → IsAnswer (operand_faults s o ++ given (kind_written s o) (slice_faults at rs)) e
+slice_behind s o t at rs e h a = behind s o t (slice_faults at rs) e h a
 
-pub mask_behind : (right : Bool) (blame : Option ℕ) (o : WrittenOperand) (t : Term) (at : ℕ) (w : Word) (e : FilterError) →
-    IsTerm o t → IsAnswer (mask_faults at w (kind_of t)) e → IsAnswer (operand_faults right blame o ++ given (kind_written o) (mask_faults at w)) e
-mask_behind right blame o t at w e h a = behind right blame o t (mask_faults at w) e h a
+pub mask_behind : (s : Standing) (o : WrittenOperand) (t : Term) (at : ℕ) (w : Word) (e : FilterError) →
+    IsTerm s o t → IsAnswer (mask_faults at w (kind_of t)) e → IsAnswer (operand_faults s o ++ given (kind_written s o) (mask_faults at w)) e
+mask_behind s o t at w e h a = behind s o t (mask_faults at w) e h a
 
-pub call_behind : (right : Bool) (blame : Option ℕ) (o : WrittenOperand) (t : Term) (at : ℕ) (f : Function) (e : FilterError) →
-    IsTerm o t → IsAnswer (unless (takes_term f t) at TypeMismatch) e → IsAnswer (operand_faults right blame o ++ given (kind_written o) (call_faults f at o)) e
-call_behind right blame o t at f e h a = behind right blame o t (call_faults f at o) e h (rw (same_takes f o t h) a)
+pub call_behind : (s : Standing) (o : WrittenOperand) (t : Term) (at : ℕ) (f : Function) (e : FilterError) →
+    IsTerm s o t → IsAnswer (unless (takes_term f t) at TypeMismatch) e → IsAnswer (operand_faults s o ++ given (kind_written s o) (call_faults f at s o)) e
+call_behind s o t at f e h a = behind s o t (call_faults f at s o) e h (rw (same_takes f s o t h) a)
 
 pub class_behind : (at : ℕ) (kind : ValueKind) (o : WrittenOperand) (t : Term) (e : FilterError) →
-    IsTerm o t → IsAnswer (unless (same_class kind (kind_of t)) at TypeMismatch) e → IsAnswer (operand_faults true None o ++ given (kind_written o) (class_faults at kind)) e
-class_behind at kind o t e h a = behind true None o t (class_faults at kind) e h a
+    IsTerm (Free None) o t → IsAnswer (unless (same_class kind (kind_of t)) at TypeMismatch) e → IsAnswer (operand_faults (Free None) o ++ given (kind_written (Free None) o) (class_faults at kind)) e
+class_behind at kind o t e h a = behind (Free None) o t (class_faults at kind) e h a
 
 pub test_behind : (o : WrittenOperand) (t : Term) (tail : WrittenTail) (e : FilterError) →
-    IsTerm o t → IsAnswer (tail_faults tail (kind_of t)) e → IsAnswer (operand_faults false None o ++ given (kind_written o) (tail_faults tail)) e
-test_behind o t tail e h a = behind false None o t (tail_faults tail) e h a
+    IsTerm First o t → IsAnswer (tail_faults tail (kind_of t)) e → IsAnswer (operand_faults First o ++ given (kind_written First o) (tail_faults tail)) e
+test_behind o t tail e h a = behind First o t (tail_faults tail) e h a
 
 pub alone_behind : (f : Function) (at : ℕ) (o : WrittenOperand) (t : Term) (e : FilterError) →
-    IsTerm (CalledOf f at o) t → IsAnswer (unless false at TypeMismatch) e → IsAnswer (faults (AloneOf (CalledOf f at o))) e
+    IsTerm First (CalledOf f at o) t → IsAnswer (unless false at TypeMismatch) e → IsAnswer (faults (AloneOf (CalledOf f at o))) e
 alone_behind f at o t e h a =
-    answer_right (operand_faults false None (CalledOf f at o)) (unless false at TypeMismatch) e (term_clear false None (CalledOf f at o) t h) a
+    answer_right (operand_faults First (CalledOf f at o)) (unless false at TypeMismatch) e (term_clear First (CalledOf f at o) t h) a
+
+pub sum_behind : (a : Arithmetic) (at sign : ℕ) (l r : WrittenOperand) (t : Term) (e : FilterError) → sign ≡ first_sign at l →
+    IsTerm First (ComputedOf a at l r) t → IsAnswer (unless false sign TypeMismatch) e → IsAnswer (faults (AloneOf (ComputedOf a at l r))) e
+sum_behind a at sign l r t e is h found =
+    answer_right (operand_faults First (ComputedOf a at l r)) (unless false (first_sign at l) TypeMismatch) e (term_clear First (ComputedOf a at l r) t h)
+    (subst (λ place. IsAnswer (unless false place TypeMismatch) e) is found)
 
 pub joined_behind : (l r : Written) (filter : Typed) (e : FilterError) → HasType l filter → IsAnswer (faults r) e → IsAnswer (faults l ++ faults r) e
 joined_behind l r filter e h a = answer_right (faults l) (faults r) e (type_clear l filter h) a
 
 -- a term with the left operand's class is a right side
+no_literal : (w : Word) (found : Option ℕ) → found ≡ None → word_or_name w found ≡ None → ⊥
+no_literal w (Some field) none is = cc
+no_literal w None none is = cc
+
 pub right_term : (relation : Relation) (kind : ValueKind) (o : WrittenOperand) (t : Term) →
-    literal_of o ≡ None → IsTerm o t → same_class kind (kind_of t) ≡ true → IsRight relation kind o t
+    literal_of o ≡ None → IsTerm (Free None) o t → same_class kind (kind_of t) ≡ true → IsRight relation kind o t
 right_term relation kind o (terms.Field field layers) is h same = (is, h, same)
 right_term relation kind o (terms.Slice' p t ranges) is h same = (is, h, same)
 right_term relation kind o (terms.Mask' p t mask) is h same = (is, h, same)
 right_term relation kind o (terms.Called' f p t) is h same = (is, h, same)
+right_term relation kind o (terms.Computed' a p t q u) is h same = (is, h, same)
+right_term relation kind o (terms.Arguments' p t q u) is h same = (is, h, same)
 right_term relation kind (TextOf q) (terms.Constant c) is h same = absurd h
-right_term relation kind (NamedOf w) (terms.Constant c) is h same = absurd h
+right_term relation kind (NamedOf w) (terms.Constant c) is h same = absurd (no_literal w (field_named w.text) h.0 is)
 right_term relation kind (OnLayerOf w l) (terms.Constant c) is h same = absurd h
 right_term relation kind (OnLayersOf w ls) (terms.Constant c) is h same = absurd h
 right_term relation kind (SlicedOf o at rs) (terms.Constant c) is h same = absurd h
 right_term relation kind (MaskedOf o at w) (terms.Constant c) is h same = absurd h
 right_term relation kind (CalledOf f at o) (terms.Constant c) is h same = absurd h
+right_term relation kind (ComputedOf a at l r) (terms.Constant c) is h same = absurd h
+right_term relation kind (ArgumentsOf l r) (terms.Constant c) is h same = absurd h
 
 pub among_behind : (o : WrittenOperand) (t : Term) (es : List Element) (e : FilterError) →
-    IsTerm o t → IsAnswer (elements_faults (kind_of t) es) e → IsAnswer (operand_faults false None o ++ given (kind_written o) (λ kind. elements_faults kind es)) e
-among_behind o t es e h a = behind false None o t (λ kind. elements_faults kind es) e h a
+    IsTerm First o t → IsAnswer (elements_faults (kind_of t) es) e → IsAnswer (operand_faults First o ++ given (kind_written First o) (λ kind. elements_faults kind es)) e
+among_behind o t es e h a = behind First o t (λ kind. elements_faults kind es) e h a
 
 pub search_behind : (o : WrittenOperand) (t : Term) (at place : ℕ) (text : List ℕ) (e : FilterError) →
-    IsTerm o t → IsAnswer (unless (is_searched (kind_of t)) at TypeMismatch ++ PatternAt place text ∷ []) e →
-    IsAnswer (operand_faults false None o ++ given (kind_written o) (λ kind. unless (is_searched kind) at TypeMismatch ++ PatternAt place text ∷ [])) e
-search_behind o t at place text e h a = behind false None o t (λ kind. unless (is_searched kind) at TypeMismatch ++ PatternAt place text ∷ []) e h a
+    IsTerm First o t → IsAnswer (unless (is_searched (kind_of t)) at TypeMismatch ++ PatternAt place text ∷ []) e →
+    IsAnswer (operand_faults First o ++ given (kind_written First o) (λ kind. unless (is_searched kind) at TypeMismatch ++ PatternAt place text ∷ [])) e
+search_behind o t at place text e h a = behind First o t (λ kind. unless (is_searched kind) at TypeMismatch ++ PatternAt place text ∷ []) e h a
 
 -- the members that were read are all
 pub members_done : (kind : ValueKind) (es : List Element) (i : ℕ) (ms : List Member) → drop i es ≡ [] →
@@ -240,8 +322,8 @@ pub members_done : (kind : ValueKind) (es : List Element) (i : ℕ) (ms : List M
 members_done kind es i ms all so_far = subst (AreMembers kind es) (append-nil ms) (so_far [] (rw all tt))
 
 pub compare_behind : (o : WrittenOperand) (t : Term) (operator : Operator) (at : ℕ) (right : WrittenOperand) (relation : Relation) (kind : ValueKind) (e : FilterError) →
-    relation ≡ relation_of operator → kind ≡ kind_of t → IsTerm o t →
+    relation ≡ relation_of operator → kind ≡ kind_of t → IsTerm First o t →
     IsAnswer (unless (takes relation kind) at TypeMismatch ++ right_faults relation at kind right (literal_of right)) e →
-    IsAnswer (operand_faults false None o ++ given (kind_written o) (tail_faults (CompareOf operator at right))) e
+    IsAnswer (operand_faults First o ++ given (kind_written First o) (tail_faults (CompareOf operator at right))) e
 compare_behind o t operator at right relation kind e asked is h a =
-    behind false None o t (tail_faults (CompareOf operator at right)) e h (rw (← asked, ← is) a)
+    behind First o t (tail_faults (CompareOf operator at right)) e h (rw (← asked, ← is) a)

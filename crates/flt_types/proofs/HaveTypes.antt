@@ -1,11 +1,11 @@
 -- What has no fault has a type.
-use Rattle.std.proofs.Common.{◌≡◌, ℕ, ◌<◌, ◌^◌, Bool, true, false, ◌&&◌, List, [], ◌∷◌, ◌++◌, length, map, Option, Some, None, sym, ap, subst, refl, ◌∙◌, arith, Global}
+use Rattle.std.proofs.Common.{◌≡◌, ℕ, Bool, true, false, ◌&&◌, List, [], ◌∷◌, ◌++◌, length, map, Option, Some, None, sym, subst, refl, ◌∙◌, arith, Global}
 use Rattle.std.specs.Global.{Box, Vec}
 use Rattle.std.specs.List.{list_all}
 use denote.RawPtr.{null_ptr}
-use Rattle.flt_parse.specs.Filters.{IsFilterText}
 use Rattle.flt_parse.specs.Grammar.{choice, not_before, operand, ranges, set, spelled, tail}
-use Rattle.flt_parse.specs.Written.{Written, WrittenOperand, WrittenTail, TextOf, NamedOf, OnLayerOf, OnLayersOf, SlicedOf, MaskedOf, CalledOf, CompareOf, InOf, MatchesOf, JoinedOf, NotOf, GroupOf, AloneOf, TestOf}
+use Rattle.flt_parse.specs.Written.{Written, WrittenOperand, WrittenTail, TextOf, NamedOf, OnLayerOf, OnLayersOf, SlicedOf, MaskedOf, CalledOf, ComputedOf, ArgumentsOf, CompareOf, InOf, MatchesOf, JoinedOf, NotOf, GroupOf, AloneOf, TestOf}
+use Rattle.flt_parse.specs.declared.ast.Arithmetic.{Arithmetic}
 use Rattle.flt_parse.specs.declared.ast.Choice.{Choice}
 use Rattle.flt_parse.specs.declared.ast.Choice.TheVariants.{Any}
 use Rattle.flt_parse.specs.declared.ast.Element.{Element}
@@ -14,7 +14,6 @@ use Rattle.flt_parse.specs.declared.ast.Function.{Function}
 use Rattle.flt_parse.specs.declared.ast.LayerRange.{LayerRange}
 use Rattle.flt_parse.specs.declared.ast.Literal.{Literal}
 use Rattle.flt_parse.specs.declared.ast.Negation.{Negation}
-use Rattle.flt_parse.specs.declared.ast.RangePart.{RangePart}
 use Rattle.flt_parse.specs.declared.ast.SliceRange.{SliceRange}
 use Rattle.flt_parse.specs.declared.fault.FilterReason.{FilterReason}
 use Rattle.flt_parse.specs.declared.fault.FilterReason.TheVariants.{TypeMismatch, OutOfRange}
@@ -23,13 +22,16 @@ use Rattle.flt_parse.specs.declared.token.Join.TheVariants as joins
 use Rattle.flt_parse.specs.declared.token.Kind.TheVariants as kinds
 use Rattle.flt_parse.specs.declared.word.Word.{Word}
 use Rattle.flt_parse.proofs.Every.{spelled_few}
-use Rattle.flt_types.specs.Faults.{Found, At, PatternAt, IsClear, alone_faults, around, call_faults, class_faults, element_faults, elements_faults, faults, given, kind_written, layers_faults, mask_faults, misplaced, operand_faults, ranges_faults, reading_faults, right_faults, slice_faults, tail_faults, takes_written, unknown, unless}
+use Rattle.flt_types.specs.Faults.{Found, At, PatternAt, IsClear, alone_faults, call_faults, class_faults, element_faults, elements_faults, faults, given, kind_written, layers_faults, mask_faults, misplaced, nameless, number_faults, operand_faults, ranges_faults, reading_faults, right_faults, slice_faults, tail_faults, takes_written, unless, word_faults}
 use Rattle.flt_types.specs.Layers.{is_layer, is_layers, layers_of, one_layer}
 use Rattle.flt_types.specs.Laws.{ClearIsTyped}
 use Rattle.flt_types.specs.Literals.{end_read, literal_of, literal_read, place_of_literal, side_read}
 use Rattle.flt_types.specs.Ranges.{is_range}
-use Rattle.flt_types.specs.Terms.{IsMask, IsTerm, kind_of, takes_term}
+use Rattle.flt_types.specs.Standing.{argument, in_slice, sign_for, within}
+use Rattle.flt_types.specs.Terms.{IsMask, IsTerm, kind_of, number_kind}
 use Rattle.flt_types.specs.Typing.{AreMembers, HasType, IsAlone, IsMember, IsRight, IsTest, choice_of, chosen, relation_of}
+use Rattle.flt_types.specs.declared.standing.Standing.{Standing}
+use Rattle.flt_types.specs.declared.standing.Standing.TheVariants.{First, Free, Within, Sliced}
 use Rattle.flt_types.specs.declared.typed.Member.{Member}
 use Rattle.flt_types.specs.declared.typed.Member.TheVariants as members
 use Rattle.flt_types.specs.declared.typed.Term.{Term}
@@ -38,7 +40,7 @@ use Rattle.flt_types.specs.declared.typed.Typed.{Typed}
 use Rattle.flt_types.specs.declared.typed.Typed.TheVariants.{Either', Differ', Both', Not', Exists, AnyBit, Compare, Among, Matches}
 use Rattle.flt_types.proofs.Clear.{right_term, same_takes, term_kind}
 use Rattle.flt_types.proofs.Few.{IsFew, few_elements, few_left, few_ranges, few_rest, few_right}
-use Rattle.flt_values.specs.Kinds.{is_masked, is_searched, is_sliced, same_class, takes}
+use Rattle.flt_values.specs.Kinds.{is_masked, is_number, is_searched, is_sliced, same_class, takes}
 use Rattle.flt_values.specs.Literals.{word_read}
 use Rattle.flt_values.proofs.MaskLemmas.{mask_has}
 use Rattle.flt_values.specs.declared.literal.Constant.{Constant}
@@ -48,7 +50,6 @@ use Rattle.flt_values.specs.declared.relation.Relation.{Relation}
 use Rattle.pk_fields.specs.Fields.{field_named}
 use Rattle.pk_fields.specs.declared.value_kind.ValueKind.{ValueKind}
 use Rattle.pk_tree.specs.declared.chosen.Layers.TheVariants.{All, These}
-use Rattle.pk_tree.specs.declared.value.Value.TheVariants as values
 
 -- what is where in memory is no matter
 heap : Global
@@ -82,14 +83,9 @@ is_reading at (Reads c) h = (c, refl)
 is_reading at Beyond h = absurd h
 is_reading at Unread h = absurd h
 
-is_known : (blame : Option ℕ) (at : ℕ) (found : Option ℕ) → IsClear (unknown blame at found) → (field : ℕ) × (found ≡ Some field)
-is_known blame at (Some field) h = (field, refl)
-is_known None at None h = absurd h
-is_known (Some around) at None h = absurd h
-
-not_misplaced : (blame : Option ℕ) (at : ℕ) → IsClear (misplaced blame at) → ⊥
-not_misplaced None at h = h
-not_misplaced (Some around) at h = h
+not_misplaced : (st : Standing) (at : ℕ) → IsClear (misplaced st at) → ⊥
+not_misplaced (Within around) at h = h
+not_misplaced st at h = h
 
 both_hold : (a b : Bool) → a ≡ true → b ≡ true → (a && b) ≡ true
 both_hold a b p q = rw (p, q) refl
@@ -118,19 +114,39 @@ mask_of kind text is read =
     (number.0, (read.0, read.1, number.1))
 
 -- a term; the kind around it is that of what is written
-abbrev TermOf : WrittenOperand → Type 0
-TermOf o = (t : Term) × IsTerm o t
+abbrev TermOf : Standing → WrittenOperand → Type 0
+TermOf st o = (t : Term) × IsTerm st o t
 
-given_at : (right : Bool) (blame : Option ℕ) (o : WrittenOperand) (t : Term) (f : ValueKind → List Found) → IsTerm o t
-    → IsClear (operand_faults right blame o ++ given (kind_written o) f) → IsClear (f (kind_of t))
-given_at right blame o t f is h =
-    let behind = clear_right (operand_faults right blame o) (given (kind_written o) f) h in
-    subst (λ (k : Option ValueKind). IsClear (given k f)) (term_kind o t is) behind
+given_at : (st : Standing) (o : WrittenOperand) (t : Term) (f : ValueKind → List Found) → IsTerm st o t
+    → IsClear (operand_faults st o ++ given (kind_written st o) f) → IsClear (f (kind_of t))
+given_at st o t f is h =
+    let behind = clear_right (operand_faults st o) (given (kind_written st o) f) h in
+    subst (λ (k : Option ValueKind). IsClear (given k f)) (term_kind st o t is) behind
 
-slice_of : (right : Bool) (o : WrittenOperand) (at : ℕ) (rs : List SliceRange) → IsFew rs → TermOf o
-    → IsClear (operand_faults right None o ++ given (kind_written o) (slice_faults at rs)) → TermOf (SlicedOf o at rs)
-slice_of right o at rs few (t, is) h =
-    let own = given_at right None o t (slice_faults at rs) is h in
+-- a word that names a field, or is a number
+abbrev Named : Option ℕ → Type 0
+Named found = (field : ℕ) × (found ≡ Some field)
+
+layer_name : (found : Option ℕ) (w : Word) → IsClear (word_faults found Sliced w) → Named found
+layer_name (Some field) w h = (field, refl)
+layer_name None w h = absurd h
+
+number_of : (st : Standing) (w : Word) → field_named w.text ≡ None → IsClear (nameless st w) → TermOf st (NamedOf w)
+number_of First w none h = absurd h
+number_of Sliced w none h = absurd h
+number_of (Within around) w none h = absurd h
+number_of (Free before) w none h =
+    let read = is_reading w.at (word_read false number_kind w.text) h in
+    (terms.Constant read.0, (none, read.1))
+
+word_of : (st : Standing) (w : Word) (found : Option ℕ) → field_named w.text ≡ found → IsClear (word_faults found st w) → TermOf st (NamedOf w)
+word_of st w (Some field) is h = (terms.Field field All, (is, refl))
+word_of st w None is h = number_of st w is h
+
+slice_of : (st : Standing) (o : WrittenOperand) (at : ℕ) (rs : List SliceRange) → IsFew rs → TermOf (in_slice st) o
+    → IsClear (operand_faults (in_slice st) o ++ given (kind_written (in_slice st) o) (slice_faults at rs)) → TermOf st (SlicedOf o at rs)
+slice_of st o at rs few (t, is) h =
+    let own = given_at (in_slice st) o t (slice_faults at rs) is h in
     let parts = vec_of (map (λ r. r.part) rs) (omega (arith, few_parts rs)) in (
       terms.Slice' place t parts.0,
       (
@@ -141,47 +157,78 @@ slice_of right o at rs few (t, is) h =
       ),
     )
 
-masked_of : (right : Bool) (o : WrittenOperand) (at : ℕ) (w : Word) → TermOf o
-    → IsClear (operand_faults right (around right at) o ++ given (kind_written o) (mask_faults at w)) → TermOf (MaskedOf o at w)
-masked_of right o at w (t, is) h =
-    let own = given_at right (around right at) o t (mask_faults at w) is h in
+masked_of : (st : Standing) (o : WrittenOperand) (at : ℕ) (w : Word) → TermOf (within at st) o
+    → IsClear (operand_faults (within at st) o ++ given (kind_written (within at st) o) (mask_faults at w)) → TermOf st (MaskedOf o at w)
+masked_of st o at w (t, is) h =
+    let own = given_at (within at st) o t (mask_faults at w) is h in
     let reading = reading_faults w.at (word_read false (kind_of t) w.text) in
     let bits = test_holds (is_masked (kind_of t)) at TypeMismatch (clear_left (unless (is_masked (kind_of t)) at TypeMismatch) reading own) in
     let read = is_reading w.at (word_read false (kind_of t) w.text) (clear_right (unless (is_masked (kind_of t)) at TypeMismatch) reading own) in
     let mask = mask_of (kind_of t) w.text bits read in
     (terms.Mask' place t mask.0, (is, bits, mask.1))
 
-called_of : (right : Bool) (f : Function) (at : ℕ) (o : WrittenOperand) → TermOf o
-    → IsClear (operand_faults right (around right at) o ++ given (kind_written o) (call_faults f at o)) → TermOf (CalledOf f at o)
-called_of right f at o (t, is) h =
-    let own = given_at right (around right at) o t (call_faults f at o) is h in
-    (terms.Called' f place t, (is, sym (same_takes f o t is) ∙ test_holds (takes_written f o (kind_of t)) at TypeMismatch own, refl))
+called_of : (st : Standing) (f : Function) (at : ℕ) (o : WrittenOperand) → TermOf (argument f at o st) o
+    → IsClear (operand_faults (argument f at o st) o ++ given (kind_written (argument f at o st) o) (call_faults f at (argument f at o st) o))
+    → TermOf st (CalledOf f at o)
+called_of st f at o (t, is) h =
+    let inside = argument f at o st in
+    let own = given_at inside o t (call_faults f at inside o) is h in
+    (terms.Called' f place t, (is, sym (same_takes f inside o t is) ∙ test_holds (takes_written f inside o (kind_of t)) at TypeMismatch own, refl))
 
-term_of : (right : Bool) (blame : Option ℕ) (o : WrittenOperand) → IsFew (operand o) → IsClear (operand_faults right blame o) → TermOf o
-term_of right blame (TextOf q) few h = absurd (not_misplaced blame q.at h)
-term_of right blame (NamedOf w) few h =
-    let named = is_known blame w.at (field_named w.text) h in
-    (terms.Field named.0 All, (named.1, refl))
-term_of right blame (OnLayerOf w l) few h =
-    let name = unknown None w.at (field_named w.text) in
+-- a side of a sign, which is a number
+abbrev NumberOf : Standing → WrittenOperand → Type 0
+NumberOf st o = (t : Term) × IsTerm st o t × (is_number (kind_of t) ≡ true)
+
+side_of : (st : Standing) (o : WrittenOperand) (at : ℕ) → TermOf st o → IsClear (operand_faults st o ++ given (kind_written st o) (number_faults at)) → NumberOf st o
+side_of st o at (t, is) h = (t, is, test_holds (is_number (kind_of t)) at TypeMismatch (given_at st o t (number_faults at) is h))
+
+computed_of : (st : Standing) (a : Arithmetic) (at : ℕ) (l r : WrittenOperand) → NumberOf st l → NumberOf (Free (Some at)) r → TermOf st (ComputedOf a at l r)
+computed_of st a at l r (left, is, number) (right, also, other) = (terms.Computed' a place left place right, (is, also, number, other, refl))
+
+arguments_of : (st : Standing) (l r : WrittenOperand) → TermOf st l → TermOf (Free None) r → TermOf st (ArgumentsOf l r)
+arguments_of st l r (left, is) (right, also) = (terms.Arguments' place left place right, (is, also))
+
+term_of : (st : Standing) (o : WrittenOperand) → IsFew (operand o) → IsClear (operand_faults st o) → TermOf st o
+term_of st (TextOf q) few h = absurd (not_misplaced st q.at h)
+term_of st (NamedOf w) few h = word_of st w (field_named w.text) refl h
+term_of st (OnLayerOf w l) few h =
+    let name = word_faults (field_named w.text) Sliced w in
     let layer = unless (is_layer l) l.at OutOfRange in
-    let named = is_known None w.at (field_named w.text) (clear_left name layer h) in
+    let named = layer_name (field_named w.text) w (clear_left name layer h) in
     (terms.Field named.0 (These (one_layer l ∷ [])), (named.1, test_holds (is_layer l) l.at OutOfRange (clear_right name layer h), refl))
-term_of right blame (OnLayersOf w ls) few h =
-    let name = unknown None w.at (field_named w.text) in
-    let named = is_known None w.at (field_named w.text) (clear_left name (layers_faults ls) h) in
+term_of st (OnLayersOf w ls) few h =
+    let name = word_faults (field_named w.text) Sliced w in
+    let named = layer_name (field_named w.text) w (clear_left name (layers_faults ls) h) in
     (terms.Field named.0 (These (map layers_of ls)), (named.1, layers_hold ls (clear_right name (layers_faults ls) h), refl))
-term_of right blame (SlicedOf o at rs) few h =
-    slice_of right o at rs (few_ranges at rs (few_right (operand o) (ranges at rs) few))
-    (term_of right None o (few_left (operand o) (ranges at rs) few) (clear_left (operand_faults right None o) (given (kind_written o) (slice_faults at rs)) h)) h
-term_of right blame (MaskedOf o at w) few h =
-    masked_of right o at w
-    (term_of right (around right at) o (few_left (operand o) (kinds.Mask at ∷ kinds.Name w ∷ []) few)
-    (clear_left (operand_faults right (around right at) o) (given (kind_written o) (mask_faults at w)) h)) h
-term_of right blame (CalledOf f at o) few h =
-    called_of right f at o
-    (term_of right (around right at) o (few_left (operand o) (kinds.Close ∷ []) (few_rest (kinds.Calls f at) (operand o ++ kinds.Close ∷ []) few))
-    (clear_left (operand_faults right (around right at) o) (given (kind_written o) (call_faults f at o)) h)) h
+term_of st (SlicedOf o at rs) few h =
+    slice_of st o at rs (few_ranges at rs (few_right (operand o) (ranges at rs) few))
+    (term_of (in_slice st) o (few_left (operand o) (ranges at rs) few)
+    (clear_left (operand_faults (in_slice st) o) (given (kind_written (in_slice st) o) (slice_faults at rs)) h)) h
+term_of st (MaskedOf o at w) few h =
+    masked_of st o at w
+    (term_of (within at st) o (few_left (operand o) (kinds.Mask at ∷ kinds.Name w ∷ []) few)
+    (clear_left (operand_faults (within at st) o) (given (kind_written (within at st) o) (mask_faults at w)) h)) h
+term_of st (CalledOf f at o) few h =
+    let inside = argument f at o st in
+    called_of st f at o
+    (term_of inside o (few_left (operand o) (kinds.Close ∷ []) (few_rest (kinds.Calls f at) (operand o ++ kinds.Close ∷ []) few))
+    (clear_left (operand_faults inside o) (given (kind_written inside o) (call_faults f at inside o)) h)) h
+term_of st (ComputedOf a at l r) few h =
+    let other = Free (Some at) in
+    let first = given (kind_written st l) (number_faults (sign_for st at)) in
+    let second = given (kind_written other r) (number_faults at) in
+    let left = clear_left (operand_faults st l ++ first) (operand_faults other r ++ second) h in
+    let right = clear_right (operand_faults st l ++ first) (operand_faults other r ++ second) h in
+    computed_of st a at l r
+    (side_of st l (sign_for st at) (term_of st l (few_left (operand l) (kinds.Computes a at ∷ operand r) few) (clear_left (operand_faults st l) first left)) left)
+    (side_of other r at
+    (term_of other r (few_rest (kinds.Computes a at) (operand r) (few_right (operand l) (kinds.Computes a at ∷ operand r) few))
+    (clear_left (operand_faults other r) second right)) right)
+term_of st (ArgumentsOf l r) few h =
+    arguments_of st l r
+    (term_of st l (few_left (operand l) (kinds.Comma ∷ operand r) few) (clear_left (operand_faults st l) (operand_faults (Free None) r) h))
+    (term_of (Free None) r (few_rest kinds.Comma (operand r) (few_right (operand l) (kinds.Comma ∷ operand r) few))
+    (clear_right (operand_faults st l) (operand_faults (Free None) r) h))
 
 -- a right side
 right_of : (relation : Relation) (at : ℕ) (kind : ValueKind) (o : WrittenOperand) (found : Option Literal) → IsFew (operand o) → literal_of o ≡ found
@@ -190,8 +237,8 @@ right_of relation at kind o (Some literal) few is h =
     let read = is_reading (place_of_literal literal) (side_read relation kind literal) h in
     (terms.Constant read.0, (literal, is, read.1))
 right_of relation at kind o None few is h =
-    let term = term_of true None o few (clear_left (operand_faults true None o) (given (kind_written o) (class_faults at kind)) h) in
-    let same = test_holds (same_class kind (kind_of term.0)) at TypeMismatch (given_at true None o term.0 (class_faults at kind) term.1 h) in
+    let term = term_of (Free None) o few (clear_left (operand_faults (Free None) o) (given (kind_written (Free None) o) (class_faults at kind)) h) in
+    let same = test_holds (same_class kind (kind_of term.0)) at TypeMismatch (given_at (Free None) o term.0 (class_faults at kind) term.1 h) in
     (term.0, right_term relation kind o term.0 is term.1 same)
 
 -- a set
@@ -225,7 +272,7 @@ set_of kind es few h =
 abbrev TestIs : Option Choice → WrittenOperand → WrittenTail → Type 0
 TestIs choice o tail = (filter : Typed) × IsTest choice o tail filter
 
-tail_of : (c : Option Choice) (o : WrittenOperand) (t : WrittenTail) (term : Term) → IsFew (tail t) → IsTerm o term → IsClear (tail_faults t (kind_of term)) → TestIs c o t
+tail_of : (c : Option Choice) (o : WrittenOperand) (t : WrittenTail) (term : Term) → IsFew (tail t) → IsTerm First o term → IsClear (tail_faults t (kind_of term)) → TestIs c o t
 tail_of c o (CompareOf operator at right) term few is h =
     let asked = unless (takes (relation_of operator) (kind_of term)) at TypeMismatch in
     let side = right_faults (relation_of operator) at (kind_of term) right (literal_of right) in
@@ -245,10 +292,10 @@ tail_of c o (MatchesOf at q) term few is h =
 
 test_of : (c : Option Choice) (o : WrittenOperand) (t : WrittenTail) → IsFew (operand o ++ tail t) → IsClear (faults (TestOf c o t)) → TestIs c o t
 test_of c o t few h =
-    let term = term_of false None o (few_left (operand o) (tail t) few) (clear_left (operand_faults false None o) (given (kind_written o) (tail_faults t)) h) in
-    tail_of c o t term.0 (few_right (operand o) (tail t) few) term.1 (given_at false None o term.0 (tail_faults t) term.1 h)
+    let term = term_of First o (few_left (operand o) (tail t) few) (clear_left (operand_faults First o) (given (kind_written First o) (tail_faults t)) h) in
+    tail_of c o t term.0 (few_right (operand o) (tail t) few) term.1 (given_at First o term.0 (tail_faults t) term.1 h)
 
-alone_is : (o : WrittenOperand) → TermOf o → IsClear (alone_faults o) → (filter : Typed) × IsAlone o filter
+alone_is : (o : WrittenOperand) → TermOf First o → IsClear (alone_faults o) → (filter : Typed) × IsAlone o filter
 alone_is (TextOf q) (t, is) h = absurd is
 alone_is (NamedOf w) (t, is) h = (Exists t, is)
 alone_is (OnLayerOf w l) (t, is) h = (Exists t, is)
@@ -256,10 +303,12 @@ alone_is (OnLayersOf w ls) (t, is) h = (Exists t, is)
 alone_is (SlicedOf o at rs) (t, is) h = (Exists t, is)
 alone_is (MaskedOf o at w) (t, is) h = (AnyBit t, is)
 alone_is (CalledOf f at o) (t, is) h = absurd h
+alone_is (ComputedOf a at l r) (t, is) h = absurd h
+alone_is (ArgumentsOf l r) (t, is) h = (Exists t, is)
 
 alone_of : (o : WrittenOperand) → IsFew (operand o) → IsClear (faults (AloneOf o)) → (filter : Typed) × IsAlone o filter
 alone_of o few h =
-    alone_is o (term_of false None o few (clear_left (operand_faults false None o) (alone_faults o) h)) (clear_right (operand_faults false None o) (alone_faults o) h)
+    alone_is o (term_of First o few (clear_left (operand_faults First o) (alone_faults o) h)) (clear_right (operand_faults First o) (alone_faults o) h)
 
 -- a filter
 abbrev FilterIs : Written → Type 0

@@ -3,5 +3,6 @@ pub mod Clear
 pub mod Few
 pub mod HaveTypes
 pub mod OpenParts
+pub mod PartLemmas
 pub mod Sure
 pub mod Unique

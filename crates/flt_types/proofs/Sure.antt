@@ -1,7 +1,7 @@
 -- A tree has no fault, or a first one that isn't the size of a pattern.
-use Rattle.std.proofs.Common.{◌≡◌, ◌≢◌, ◌⊎◌, inl, inr, ℕ, Bool, true, false, List, [], ◌∷◌, ◌++◌, Option, Some, None, refl, subst}
+use Rattle.std.proofs.Common.{◌≢◌, ◌⊎◌, inl, inr, ℕ, Bool, true, false, List, [], ◌∷◌, ◌++◌, Option, Some, None, refl, subst}
 use Rattle.flt_parse.specs.Filters.{IsFaultFor, IsFilterText, IsFirstFault}
-use Rattle.flt_parse.specs.Written.{Written, WrittenOperand, WrittenTail, TextOf, NamedOf, OnLayerOf, OnLayersOf, SlicedOf, MaskedOf, CalledOf, CompareOf, InOf, MatchesOf, JoinedOf, NotOf, GroupOf, AloneOf, TestOf}
+use Rattle.flt_parse.specs.Written.{Written, WrittenOperand, WrittenTail, TextOf, NamedOf, OnLayerOf, OnLayersOf, SlicedOf, MaskedOf, CalledOf, ComputedOf, ArgumentsOf, CompareOf, InOf, MatchesOf, JoinedOf, NotOf, GroupOf, AloneOf, TestOf}
 use Rattle.flt_parse.specs.declared.ast.Element.{Element}
 use Rattle.flt_parse.specs.declared.ast.Element.TheVariants as elements
 use Rattle.flt_parse.specs.declared.ast.Function.{Function}
@@ -15,16 +15,20 @@ use Rattle.flt_parse.specs.declared.word.Word.{Word}
 use Rattle.flt_parse.proofs.Every.{filter_or_fault}
 use Rattle.flt_pattern.specs.Patterns.{IsNoPattern, IsPattern}
 use Rattle.flt_pattern.proofs.Decided.{pattern_or_none}
-use Rattle.flt_types.specs.Faults.{Found, At, PatternAt, IsClear, IsFirst, alone_faults, around, call_faults, class_faults, element_faults, elements_faults, faults, given, kind_written, layers_faults, mask_faults, misplaced, operand_faults, ranges_faults, reading_faults, right_faults, slice_faults, tail_faults, takes_written, unknown, unless}
+use Rattle.flt_types.specs.Faults.{Found, At, PatternAt, IsClear, IsFirst, alone_faults, call_faults, class_faults, element_faults, elements_faults, faults, given, kind_written, layers_faults, mask_faults, misplaced, nameless, number_faults, operand_faults, ranges_faults, reading_faults, right_faults, slice_faults, tail_faults, takes_written, unless, word_faults}
 use Rattle.flt_types.specs.Layers.{is_layer, is_layers}
 use Rattle.flt_types.specs.Laws.{TypedOrRefused}
 use Rattle.flt_types.specs.Literals.{end_read, literal_of, literal_read, place_of_literal, side_read}
 use Rattle.flt_types.specs.Ranges.{is_range}
+use Rattle.flt_types.specs.Standing.{argument, in_slice, sign_for, within}
+use Rattle.flt_types.specs.Terms.{number_kind}
+use Rattle.flt_types.specs.declared.standing.Standing.{Standing}
+use Rattle.flt_types.specs.declared.standing.Standing.TheVariants.{First, Free, Within, Sliced}
 use Rattle.flt_types.specs.Texts.{IsTypeFault, IsTypedText}
 use Rattle.flt_types.specs.Typing.{relation_of}
 use Rattle.flt_types.specs.declared.typed.Typed.{Typed}
 use Rattle.flt_types.proofs.HaveTypes.{clear_typed}
-use Rattle.flt_values.specs.Kinds.{is_masked, is_searched, is_sliced, same_class, takes}
+use Rattle.flt_values.specs.Kinds.{is_masked, is_number, is_searched, is_sliced, same_class, takes}
 use Rattle.flt_values.specs.Literals.{word_read}
 use Rattle.flt_values.specs.declared.literal.Reading.{Reading}
 use Rattle.flt_values.specs.declared.literal.Reading.TheVariants.{Reads, Beyond, Unread}
@@ -62,19 +66,24 @@ sure_given : (k : Option ValueKind) (f : ValueKind → List Found) → ((kind : 
 sure_given None f all = tt
 sure_given (Some kind) f all = all kind
 
-sure_unknown : (blame : Option ℕ) (at : ℕ) (found : Option ℕ) → AreSure (unknown blame at found)
-sure_unknown blame at (Some field) = tt
-sure_unknown None at None = (unknown_sure, tt)
-sure_unknown (Some around) at None = (type_sure, tt)
-
-sure_misplaced : (blame : Option ℕ) (at : ℕ) → AreSure (misplaced blame at)
-sure_misplaced None at = (type_sure, tt)
-sure_misplaced (Some around) at = (type_sure, tt)
-
 sure_reading : (at : ℕ) (reading : Reading) → AreSure (reading_faults at reading)
 sure_reading at (Reads c) = tt
 sure_reading at Beyond = (range_sure, tt)
 sure_reading at Unread = (type_sure, tt)
+
+sure_nameless : (st : Standing) (w : Word) → AreSure (nameless st w)
+sure_nameless First w = (unknown_sure, tt)
+sure_nameless Sliced w = (unknown_sure, tt)
+sure_nameless (Within around) w = (type_sure, tt)
+sure_nameless (Free before) w = sure_reading w.at (word_read false number_kind w.text)
+
+sure_word : (found : Option ℕ) (st : Standing) (w : Word) → AreSure (word_faults found st w)
+sure_word (Some field) st w = tt
+sure_word None st w = sure_nameless st w
+
+sure_misplaced : (st : Standing) (at : ℕ) → AreSure (misplaced st at)
+sure_misplaced (Within around) at = (type_sure, tt)
+sure_misplaced st at = (type_sure, tt)
 
 sure_layers : (ls : List LayerRange) → AreSure (layers_faults ls)
 sure_layers [] = tt
@@ -95,26 +104,35 @@ sure_mask at w kind =
     sure_both (unless (is_masked kind) at TypeMismatch) (reading_faults w.at (word_read false kind w.text))
     (sure_unless (is_masked kind) at TypeMismatch type_sure) (sure_reading w.at (word_read false kind w.text))
 
-sure_call : (f : Function) (at : ℕ) (o : WrittenOperand) (kind : ValueKind) → AreSure (call_faults f at o kind)
-sure_call f at o kind = sure_unless (takes_written f o kind) at TypeMismatch type_sure
+sure_call : (f : Function) (at : ℕ) (st : Standing) (o : WrittenOperand) (kind : ValueKind) → AreSure (call_faults f at st o kind)
+sure_call f at st o kind = sure_unless (takes_written f st o kind) at TypeMismatch type_sure
 
-sure_operand : (right : Bool) (blame : Option ℕ) (o : WrittenOperand) → AreSure (operand_faults right blame o)
-sure_operand right blame (TextOf q) = sure_misplaced blame q.at
-sure_operand right blame (NamedOf w) = sure_unknown blame w.at (field_named w.text)
-sure_operand right blame (OnLayerOf w l) =
-    sure_both (unknown None w.at (field_named w.text)) (unless (is_layer l) l.at OutOfRange)
-    (sure_unknown None w.at (field_named w.text)) (sure_unless (is_layer l) l.at OutOfRange range_sure)
-sure_operand right blame (OnLayersOf w ls) =
-    sure_both (unknown None w.at (field_named w.text)) (layers_faults ls) (sure_unknown None w.at (field_named w.text)) (sure_layers ls)
-sure_operand right blame (SlicedOf o at rs) =
-    sure_both (operand_faults right None o) (given (kind_written o) (slice_faults at rs))
-    (sure_operand right None o) (sure_given (kind_written o) (slice_faults at rs) (sure_slice at rs))
-sure_operand right blame (MaskedOf o at w) =
-    sure_both (operand_faults right (around right at) o) (given (kind_written o) (mask_faults at w))
-    (sure_operand right (around right at) o) (sure_given (kind_written o) (mask_faults at w) (sure_mask at w))
-sure_operand right blame (CalledOf f at o) =
-    sure_both (operand_faults right (around right at) o) (given (kind_written o) (call_faults f at o))
-    (sure_operand right (around right at) o) (sure_given (kind_written o) (call_faults f at o) (sure_call f at o))
+sure_number : (at : ℕ) (kind : ValueKind) → AreSure (number_faults at kind)
+sure_number at kind = sure_unless (is_number kind) at TypeMismatch type_sure
+
+sure_inside : (st : Standing) (o : WrittenOperand) (f : ValueKind → List Found) → AreSure (operand_faults st o) → ((kind : ValueKind) → AreSure (f kind))
+    → AreSure (operand_faults st o ++ given (kind_written st o) f)
+sure_inside st o f own all = sure_both (operand_faults st o) (given (kind_written st o) f) own (sure_given (kind_written st o) f all)
+
+sure_operand : (st : Standing) (o : WrittenOperand) → AreSure (operand_faults st o)
+sure_operand st (TextOf q) = sure_misplaced st q.at
+sure_operand st (NamedOf w) = sure_word (field_named w.text) st w
+sure_operand st (OnLayerOf w l) =
+    sure_both (word_faults (field_named w.text) Sliced w) (unless (is_layer l) l.at OutOfRange)
+    (sure_word (field_named w.text) Sliced w) (sure_unless (is_layer l) l.at OutOfRange range_sure)
+sure_operand st (OnLayersOf w ls) =
+    sure_both (word_faults (field_named w.text) Sliced w) (layers_faults ls) (sure_word (field_named w.text) Sliced w) (sure_layers ls)
+sure_operand st (SlicedOf o at rs) = sure_inside (in_slice st) o (slice_faults at rs) (sure_operand (in_slice st) o) (sure_slice at rs)
+sure_operand st (MaskedOf o at w) = sure_inside (within at st) o (mask_faults at w) (sure_operand (within at st) o) (sure_mask at w)
+sure_operand st (CalledOf f at o) =
+    let inside = argument f at o st in
+    sure_inside inside o (call_faults f at inside o) (sure_operand inside o) (sure_call f at inside o)
+sure_operand st (ComputedOf a at l r) =
+    let first = number_faults (sign_for st at) in
+    let other = Free (Some at) in
+    sure_both (operand_faults st l ++ given (kind_written st l) first) (operand_faults other r ++ given (kind_written other r) (number_faults at))
+    (sure_inside st l first (sure_operand st l) (sure_number (sign_for st at))) (sure_inside other r (number_faults at) (sure_operand other r) (sure_number at))
+sure_operand st (ArgumentsOf l r) = sure_both (operand_faults st l) (operand_faults (Free None) r) (sure_operand st l) (sure_operand (Free None) r)
 
 sure_class : (at : ℕ) (kind other : ValueKind) → AreSure (class_faults at kind other)
 sure_class at kind other = sure_unless (same_class kind other) at TypeMismatch type_sure
@@ -122,8 +140,7 @@ sure_class at kind other = sure_unless (same_class kind other) at TypeMismatch t
 sure_right : (relation : Relation) (at : ℕ) (kind : ValueKind) (o : WrittenOperand) (found : Option Literal) → AreSure (right_faults relation at kind o found)
 sure_right relation at kind o (Some l) = sure_reading (place_of_literal l) (side_read relation kind l)
 sure_right relation at kind o None =
-    sure_both (operand_faults true None o) (given (kind_written o) (class_faults at kind))
-    (sure_operand true None o) (sure_given (kind_written o) (class_faults at kind) (sure_class at kind))
+    sure_inside (Free None) o (class_faults at kind) (sure_operand (Free None) o) (sure_class at kind)
 
 sure_element : (kind : ValueKind) (e : Element) → AreSure (element_faults kind e)
 sure_element kind (elements.One l) = sure_reading (place_of_literal l) (literal_read true kind l)
@@ -145,16 +162,16 @@ sure_tail (MatchesOf at q) kind =
 
 sure_alone : (o : WrittenOperand) → AreSure (alone_faults o)
 sure_alone (CalledOf f at o) = (type_sure, tt)
+sure_alone (ComputedOf a at l r) = (type_sure, tt)
 sure_alone o = tt
 
 sure_faults : (t : Written) → AreSure (faults t)
 sure_faults (JoinedOf j l r) = sure_both (faults l) (faults r) (sure_faults l) (sure_faults r)
 sure_faults (NotOf n t) = sure_faults t
 sure_faults (GroupOf t) = sure_faults t
-sure_faults (AloneOf o) = sure_both (operand_faults false None o) (alone_faults o) (sure_operand false None o) (sure_alone o)
+sure_faults (AloneOf o) = sure_both (operand_faults First o) (alone_faults o) (sure_operand First o) (sure_alone o)
 sure_faults (TestOf c o t) =
-    sure_both (operand_faults false None o) (given (kind_written o) (tail_faults t))
-    (sure_operand false None o) (sure_given (kind_written o) (tail_faults t) (sure_tail t))
+    sure_inside First o (tail_faults t) (sure_operand First o) (sure_tail t)
 
 -- a list of faults
 abbrev ClearOrFirst : List Found → Type 0

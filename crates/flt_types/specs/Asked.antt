@@ -14,6 +14,8 @@ asks_term (terms.Field field layers) f = f == field || f == (row_of field).proto
 asks_term (terms.Slice' p term ranges) f = asks_term term f
 asks_term (terms.Mask' p term mask) f = asks_term term f
 asks_term (terms.Called' function p term) f = asks_term term f
+asks_term (terms.Computed' a p left q right) f = asks_term left f || asks_term right f
+asks_term (terms.Arguments' p left q right) f = asks_term left f || asks_term right f
 
 abbrev pub asks : Typed → ℕ → Truth
 asks (Either' p left q right) f = asks left f || asks right f
@@ -26,9 +28,6 @@ asks (Compare relation choice left right) f = asks_term left f || asks_term righ
 asks (Among negated choice term members) f = asks_term term f
 asks (Matches choice term pattern) f = asks_term term f
 
--- a set of fields has all that a term, or a filter, asks for
-abbrev pub HasTerm : List ℕ → Term → Type 0
-HasTerm set term = (f : ℕ) → asks_term term f ≡ true → is_in set f ≡ true
-
+-- a set of fields has all that a filter asks for
 abbrev pub HasFilter : List ℕ → Typed → Type 0
 HasFilter set filter = (f : ℕ) → asks filter f ≡ true → is_in set f ≡ true

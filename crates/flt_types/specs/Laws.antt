@@ -16,7 +16,8 @@ TypedIsClear = (tree : Written) (filter : Typed) → HasType tree filter → IsC
 
 -- a text's tree without a fault has a type
 abbrev pub ClearIsTyped : Type 0
-ClearIsTyped = (text : List ℕ) (tree : Written) → IsFilterText text tree → IsClear (faults tree) → (filter : Typed) × HasType tree filter
+ClearIsTyped = (text : List ℕ) (tree : Written) → IsFilterText text tree → IsClear (faults tree)
+    → (filter : Typed) × HasType tree filter
 
 -- a text is a filter, or has a first fault that isn't the size of a pattern
 abbrev pub TypedOrRefused : Type 0
@@ -25,10 +26,12 @@ TypedOrRefused = (text : List ℕ) → ((filter : Typed) × IsTypedText text fil
 
 -- a text that is a filter may be refused for a pattern's size, and for nothing else
 abbrev pub TypedOrFault : Type 0
-TypedOrFault = (text : List ℕ) (filter : Typed) (fault : FilterFault) → IsTypedText text filter → IsFilterFault text (Fault fault)
+TypedOrFault = (text : List ℕ) (filter : Typed) (fault : FilterFault) → IsTypedText text filter
+    → IsFilterFault text (Fault fault)
     → fault.reason ≡ PatternSize
 
 -- a text has at most one first fault, but that a pattern's size may be one in its stead
 abbrev pub OneFault : Type 0
-OneFault = (text : List ℕ) (f g : FilterFault) → IsFilterFault text (Fault f) → IsFilterFault text (Fault g)
+OneFault = (text : List ℕ) (f g : FilterFault) → IsFilterFault text (Fault f)
+    → IsFilterFault text (Fault g)
     → (f ≡ g) ⊎ ((f.reason ≡ PatternSize) ⊎ (g.reason ≡ PatternSize))

@@ -4,7 +4,9 @@ pub mod Laws
 pub mod Layers
 pub mod Literals
 pub mod Parts
+pub mod Operands
 pub mod Ranges
+pub mod Standing
 pub mod Terms
 pub mod Texts
 pub mod Typing

@@ -23,7 +23,8 @@ literal_read prefixed kind (literals.Text q) = quote_read kind q.bytes
 
 -- to the right of a relation
 abbrev pub side_read : Relation → ValueKind → Literal → Reading
-side_read relation kind literal = literal_read (admits_prefix relation) (kind_of_right relation kind) literal
+side_read relation kind literal =
+    literal_read (admits_prefix relation) (kind_of_right relation kind) literal
 
 -- as an end of a range in a set: not of truths, and without a prefix length
 abbrev pub end_read : ValueKind → Literal → Reading

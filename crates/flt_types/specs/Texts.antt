@@ -19,7 +19,8 @@ IsFilter filter = (text : List ℕ) × IsTypedText text filter
 
 -- the first fault of the types of a text that has a tree
 abbrev pub IsTypeFault : List ℕ → FilterFault → Type 0
-IsTypeFault text fault = (tree : Written) × IsFilterText text tree × IsFirst (faults tree) fault.at fault.reason
+IsTypeFault text fault =
+    (tree : Written) × IsFilterText text tree × IsFirst (faults tree) fault.at fault.reason
 
 -- the text has no filter, for this reason: the first fault of its letters or its syntax, else of its types
 abbrev pub IsFilterFault : List ℕ → FilterError → Type 0

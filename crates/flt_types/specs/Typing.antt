@@ -1,6 +1,6 @@
 -- Filters with their types: a relation between a syntax tree and what it asks of a tree of fields (wireshark-filter(4)).
 use Rattle.std.specs.Prelude.{◌≡◌, true, IsTrue, List, [], ◌∷◌, Option, Some, None}
-use Rattle.flt_parse.specs.Written.{Written, WrittenOperand, WrittenTail, NamedOf, OnLayerOf, OnLayersOf, SlicedOf, MaskedOf, CompareOf, InOf, MatchesOf, JoinedOf, NotOf, GroupOf, AloneOf, TestOf}
+use Rattle.flt_parse.specs.Written.{Written, WrittenOperand, WrittenTail, NamedOf, OnLayerOf, OnLayersOf, SlicedOf, MaskedOf, ArgumentsOf, CompareOf, InOf, MatchesOf, JoinedOf, NotOf, GroupOf, AloneOf, TestOf}
 use Rattle.flt_parse.specs.declared.ast.Choice.{Choice}
 use Rattle.flt_parse.specs.declared.ast.Choice.TheVariants.{Any, All}
 use Rattle.flt_parse.specs.declared.ast.Element.{Element}
@@ -12,6 +12,7 @@ use Rattle.flt_parse.specs.declared.token.Join.TheVariants as joins
 use Rattle.flt_pattern.specs.Patterns.{IsPattern}
 use Rattle.flt_types.specs.Literals.{end_read, literal_of, literal_read, side_read}
 use Rattle.flt_types.specs.Terms.{IsTerm, kind_of}
+use Rattle.flt_types.specs.declared.standing.Standing.TheVariants.{First, Free}
 use Rattle.flt_types.specs.declared.typed.Member.{Member}
 use Rattle.flt_types.specs.declared.typed.Member.TheVariants as members
 use Rattle.flt_types.specs.declared.typed.Term.{Term}
@@ -53,12 +54,15 @@ chosen (Some choice) own = choice
 -- a right operand: a literal, read by the left one's kind, or a term of its class
 abbrev pub IsRight : Relation → ValueKind → WrittenOperand → Term → Type 0
 IsRight relation kind o (terms.Constant constant) =
-    (literal : Literal) × (literal_of o ≡ Some literal) × (side_read relation kind literal ≡ Reads constant)
-IsRight relation kind o term = (literal_of o ≡ None) × IsTerm o term × IsTrue (same_class kind (kind_of term))
+    (literal : Literal) × (literal_of o ≡ Some literal)
+    × (side_read relation kind literal ≡ Reads constant)
+IsRight relation kind o term =
+    (literal_of o ≡ None) × IsTerm (Free None) o term × IsTrue (same_class kind (kind_of term))
 
 -- the elements of a set
 abbrev pub IsMember : ValueKind → Element → Member → Type 0
-IsMember kind (elements.One literal) (members.One constant) = literal_read true kind literal ≡ Reads constant
+IsMember kind (elements.One literal) (members.One constant) =
+    literal_read true kind literal ≡ Reads constant
 IsMember kind (elements.Between low high) (members.Between first last) =
     (end_read kind low ≡ Reads first) × (end_read kind high ≡ Reads last)
 IsMember kind element member = ⊥
@@ -71,21 +75,26 @@ AreMembers kind es ms = ⊥
 -- a test of what the left operand is
 abbrev pub IsTest : Option Choice → WrittenOperand → WrittenTail → Typed → Type 0
 IsTest choice left (CompareOf operator at o) (Compare relation pairs term right) =
-    IsTerm left term × (relation ≡ relation_of operator) × (pairs ≡ chosen choice (choice_of operator))
+    IsTerm First left term × (relation ≡ relation_of operator)
+    × (pairs ≡ chosen choice (choice_of operator))
     × IsTrue (takes relation (kind_of term)) × IsRight relation (kind_of term) o right
 IsTest choice left (InOf negated es) (Among opposite pairs term ms) =
-    IsTerm left term × (opposite ≡ negated) × (pairs ≡ chosen choice Any) × AreMembers (kind_of term) es ms.items
+    IsTerm First left term × (opposite ≡ negated) × (pairs ≡ chosen choice Any)
+    × AreMembers (kind_of term) es ms.items
 IsTest choice left (MatchesOf at q) (Matches pairs term pattern) =
-    IsTerm left term × (pairs ≡ chosen choice Any) × IsTrue (is_searched (kind_of term)) × (pattern ≡ q.bytes) × IsPattern q.bytes
+    IsTerm First left term × (pairs ≡ chosen choice Any) × IsTrue (is_searched (kind_of term))
+    × (pattern ≡ q.bytes) × IsPattern q.bytes
 IsTest choice left tail filter = ⊥
 
--- an operand alone asks whether there is a value; a masked one, whether one has a bit of the mask. Strings and calls don't stand alone.
+-- an operand alone asks whether there is a value; a masked one, whether one has a bit of the mask. Strings, calls and
+-- arithmetic don't stand alone; arguments do so in no text.
 abbrev pub IsAlone : WrittenOperand → Typed → Type 0
-IsAlone (NamedOf w) (Exists term) = IsTerm (NamedOf w) term
-IsAlone (OnLayerOf w l) (Exists term) = IsTerm (OnLayerOf w l) term
-IsAlone (OnLayersOf w ls) (Exists term) = IsTerm (OnLayersOf w ls) term
-IsAlone (SlicedOf o at rs) (Exists term) = IsTerm (SlicedOf o at rs) term
-IsAlone (MaskedOf o at w) (AnyBit term) = IsTerm (MaskedOf o at w) term
+IsAlone (NamedOf w) (Exists term) = IsTerm First (NamedOf w) term
+IsAlone (OnLayerOf w l) (Exists term) = IsTerm First (OnLayerOf w l) term
+IsAlone (OnLayersOf w ls) (Exists term) = IsTerm First (OnLayersOf w ls) term
+IsAlone (SlicedOf o at rs) (Exists term) = IsTerm First (SlicedOf o at rs) term
+IsAlone (MaskedOf o at w) (AnyBit term) = IsTerm First (MaskedOf o at w) term
+IsAlone (ArgumentsOf l r) (Exists term) = IsTerm First (ArgumentsOf l r) term
 IsAlone o filter = ⊥
 
 -- the tree is this filter

@@ -47,11 +47,19 @@ fn add_asked(filter: &Typed, set: &mut FieldSet)
 fn add_term(term: &Term, set: &mut FieldSet)
     ensures { (f : ℕ) → is_in set.new f ≡ (asks_term term.now f || is_in set.old f) }
 {
-    match term {
-        Term::Constant(_) => {}
-        Term::Field(field, _) => set.add(*field),
-        Term::Slice(inner, _) | Term::Mask(inner, _) | Term::Called(_, inner) => {
-            add_term(inner, set);
+    let mut first = term;
+    'signs: loop {
+        match first {
+            Term::Constant(_) => return,
+            Term::Field(field, _) => {
+                set.add(*field);
+                return;
+            }
+            Term::Slice(inner, _) | Term::Mask(inner, _) | Term::Called(_, inner) => first = inner,
+            Term::Computed(_, left, right) | Term::Arguments(left, right) => {
+                add_term(right, set);
+                first = left;
+            }
         }
     }
 }

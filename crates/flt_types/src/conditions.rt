@@ -6,13 +6,16 @@ ghost use Rattle.flt_pattern.specs.Patterns.{HasCause, IsPattern};
 ghost use Rattle.flt_types.specs.Faults.{IsAnswer, faults, right_faults, unless, PatternAt};
 ghost use Rattle.flt_types.specs.Literals.{literal_of};
 ghost use Rattle.flt_types.specs.Terms.{IsTerm};
+ghost use Rattle.flt_types.specs.declared.standing.Standing.TheVariants.{First};
 ghost use Rattle.flt_values.specs.Kinds.{is_searched as is_searched_kind, takes as takes_kind};
 ghost use Rattle.flt_types.specs.Typing.{HasType, IsRight, relation_of as relation_asked, choice_of as own_choice, chosen as choice_between};
 
 use crate::faults::{fault, require};
 use crate::literals::{right_quote, right_word};
 use crate::operand::{kind_of, term};
+use crate::operands::first_sign;
 use crate::sets::members;
+use crate::standing::Standing;
 use crate::typed::{Term, Typed};
 use flt_parse::{Choice, Element, FilterError, FilterReason, Operand, Operator, Quote, Tail};
 use flt_pattern::{Pattern, PatternFault};
@@ -21,15 +24,18 @@ use pk_fields::{ValueKind, by_name};
 use std::alloc::Global;
 
 /// An operand that is a test by itself.
-#[tactic(auto, using(crate::proofs::Clear::alone_behind, crate::proofs::Answers::answer_left))]
+#[tactic(auto, using(crate::proofs::Clear::alone_behind, crate::proofs::Clear::sum_behind, crate::proofs::Answers::answer_left))]
 pub(crate) fn alone(alloc: Global, operand: &Operand) -> Result<Typed, FilterError>
     ensures ok { IfOk result (HasType (AloneOf (operand_of operand.now))) }
     ensures err { IfErr result (IsAnswer (faults (AloneOf (operand_of operand.now)))) }
 {
-    let inner = term(alloc, false, None, operand)?;
+    let inner = term(alloc, Standing::First, operand)?;
     match operand {
         Operand::Masked(_, _, _) => Ok(Typed::AnyBit(inner)),
         Operand::Called(_, at, _) => Err(fault(*at, FilterReason::TypeMismatch)),
+        Operand::Computed(_, at, left, _) => {
+            Err(fault(first_sign(*at, left), FilterReason::TypeMismatch))
+        }
         _ => Ok(Typed::Exists(inner)),
     }
 }
@@ -43,9 +49,10 @@ pub(crate) fn test(
     tail: &Tail,
 ) -> Result<Typed, FilterError>
     ensures ok { IfOk result (HasType (TestOf choice (operand_of operand.now) (tail_of tail.now))) }
-    ensures err { IfErr result (IsAnswer (faults (TestOf choice (operand_of operand.now) (tail_of tail.now)))) }
+    ensures err { IfErr result
+        (IsAnswer (faults (TestOf choice (operand_of operand.now) (tail_of tail.now)))) }
 {
-    let left = term(alloc, false, None, operand)?;
+    let left = term(alloc, Standing::First, operand)?;
     test_of(alloc, choice, left, tail)
 }
 
@@ -56,8 +63,10 @@ fn test_of(
     left: Term,
     tail: &Tail,
 ) -> Result<Typed, FilterError>
-    ensures ok { (o : WrittenOperand) → IsTerm o left → IfOk result (HasType (TestOf choice o (tail_of tail.now))) }
-    ensures err { (o : WrittenOperand) → IsTerm o left → IfErr result (IsAnswer (faults (TestOf choice o (tail_of tail.now)))) }
+    ensures ok { (o : WrittenOperand) → IsTerm First o left
+        → IfOk result (HasType (TestOf choice o (tail_of tail.now))) }
+    ensures err { (o : WrittenOperand) → IsTerm First o left
+        → IfErr result (IsAnswer (faults (TestOf choice o (tail_of tail.now)))) }
 {
     match tail {
         Tail::Compare(operator, at, right) => {
@@ -77,10 +86,11 @@ fn compare(
     at: u32,
     right: &Operand,
 ) -> Result<Typed, FilterError>
-    ensures ok { (o : WrittenOperand) → IsTerm o left
+    ensures ok { (o : WrittenOperand) → IsTerm First o left
         → IfOk result (HasType (TestOf choice o (CompareOf operator at (operand_of right.now)))) }
-    ensures err { (o : WrittenOperand) → IsTerm o left
-        → IfErr result (IsAnswer (faults (TestOf choice o (CompareOf operator at (operand_of right.now))))) }
+    ensures err { (o : WrittenOperand) → IsTerm First o left
+        → IfErr result (IsAnswer
+        (faults (TestOf choice o (CompareOf operator at (operand_of right.now))))) }
 {
     let relation = relation_of(operator);
     let right = right_of(alloc, relation, at, kind_of(&left), right)?;
@@ -100,7 +110,8 @@ fn right_of(
     ensures takes { OnOk result (IsTrue (takes_kind relation kind)) }
     ensures ok { IfOk result (IsRight relation kind (operand_of operand.now)) }
     ensures err { IfErr result (IsAnswer (unless (takes_kind relation kind) at TypeMismatch
-        ++ right_faults relation at kind (operand_of operand.now) (literal_of (operand_of operand.now)))) }
+        ++ right_faults relation at kind (operand_of operand.now)
+        (literal_of (operand_of operand.now)))) }
 {
     require(takes(relation, kind), at, FilterReason::TypeMismatch)?;
     Ok(right_side(alloc, relation, at, kind, operand)?)
@@ -114,9 +125,9 @@ fn among(
     negated: bool,
     elements: &[Element],
 ) -> Result<Typed, FilterError>
-    ensures ok { (o : WrittenOperand) → IsTerm o left
+    ensures ok { (o : WrittenOperand) → IsTerm First o left
         → IfOk result (HasType (TestOf choice o (InOf negated elements.now))) }
-    ensures err { (o : WrittenOperand) → IsTerm o left
+    ensures err { (o : WrittenOperand) → IsTerm First o left
         → IfErr result (IsAnswer (faults (TestOf choice o (InOf negated elements.now)))) }
 {
     let members = members(alloc, kind_of(&left), elements)?;
@@ -132,9 +143,9 @@ fn searched(
     at: u32,
     quote: &Quote,
 ) -> Result<Typed, FilterError>
-    ensures ok { (o : WrittenOperand) → IsTerm o left
+    ensures ok { (o : WrittenOperand) → IsTerm First o left
         → IfOk result (HasType (TestOf choice o (MatchesOf at quote.now))) }
-    ensures err { (o : WrittenOperand) → IsTerm o left
+    ensures err { (o : WrittenOperand) → IsTerm First o left
         → IfErr result (IsAnswer (faults (TestOf choice o (MatchesOf at quote.now)))) }
 {
     let pattern = pattern_for(alloc, kind_of(&left), at, quote)?;
@@ -152,7 +163,9 @@ fn pattern_for(
     ensures searched { OnOk result (IsTrue (is_searched_kind kind)) }
     ensures ok { IfOk result (λ pattern. pattern ≡ quote.now.bytes) }
     ensures read { OnOk result (IsPattern quote.now.bytes) }
-    ensures err { IfErr result (IsAnswer (unless (is_searched_kind kind) at TypeMismatch ++ PatternAt quote.now.at quote.now.bytes ∷ [])) }
+    ensures err { IfErr result
+        (IsAnswer (unless (is_searched_kind kind) at TypeMismatch
+        ++ PatternAt quote.now.at quote.now.bytes ∷ [])) }
 {
     require(is_searched(kind), at, FilterReason::TypeMismatch)?;
     Ok(pattern(alloc, quote)?)
@@ -167,7 +180,9 @@ fn right_side(
     operand: &Operand,
 ) -> Result<Term, FilterError>
     ensures ok { IfOk result (IsRight relation kind (operand_of operand.now)) }
-    ensures err { IfErr result (IsAnswer (right_faults relation at kind (operand_of operand.now) (literal_of (operand_of operand.now)))) }
+    ensures err { IfErr result
+        (IsAnswer (right_faults relation at kind (operand_of operand.now)
+        (literal_of (operand_of operand.now)))) }
 {
     match operand {
         Operand::Text(quote) => Ok(Term::Constant(right_quote(relation, kind, quote)?)),
@@ -189,9 +204,10 @@ fn right_term(
 ) -> Result<Term, FilterError>
     requires { literal_of (operand_of operand.now) ≡ None }
     ensures ok { IfOk result (IsRight relation kind (operand_of operand.now)) }
-    ensures err { IfErr result (IsAnswer (right_faults relation at kind (operand_of operand.now) None)) }
+    ensures err { IfErr result
+        (IsAnswer (right_faults relation at kind (operand_of operand.now) None)) }
 {
-    let right = term(alloc, true, None, operand)?;
+    let right = term(alloc, Standing::Free(None), operand)?;
     require(
         same_class(kind, kind_of(&right)),
         at,
@@ -213,7 +229,8 @@ fn pattern(alloc: Global, quote: &Quote) -> Result<Pattern, FilterError>
 }
 
 fn pattern_fault(cause: PatternFault, at: u32) -> FilterError
-    ensures { (pattern : List ℕ) → HasCause pattern cause → IsAnswer (PatternAt at pattern ∷ []) result }
+    ensures { (pattern : List ℕ) → HasCause pattern cause
+        → IsAnswer (PatternAt at pattern ∷ []) result }
 {
     match cause {
         PatternFault::NoPattern => fault(at, FilterReason::BadPattern),

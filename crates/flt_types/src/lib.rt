@@ -9,9 +9,11 @@ mod laws;
 mod layers;
 mod literals;
 mod operand;
+mod operands;
 mod parts;
 mod ranges;
 mod sets;
+mod standing;
 mod typed;
 mod typing;
 
@@ -22,5 +24,6 @@ pub use laws::{
     typed_texts_have_no_fault, typed_trees_have_no_fault,
 };
 pub use operand::kind_of;
+pub use standing::Standing;
 pub use typed::{Member, Term, Typed};
 pub use typing::{check, read_filter};

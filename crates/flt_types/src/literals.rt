@@ -56,7 +56,9 @@ pub(crate) fn element(
     literal: &Literal,
 ) -> Result<Constant, FilterError>
     ensures ok { IfOk result (λ constant. literal_read true kind literal.now ≡ Reads constant) }
-    ensures err { IfErr result (IsAnswer (reading_faults (place_of_literal literal.now) (literal_read true kind literal.now))) }
+    ensures err { IfErr result
+        (IsAnswer (reading_faults (place_of_literal literal.now)
+        (literal_read true kind literal.now))) }
 {
     let reading = read_literal(alloc, kind, true, literal)?;
     constant(reading, place_of(literal))
@@ -69,7 +71,8 @@ pub(crate) fn range_end(
     literal: &Literal,
 ) -> Result<Constant, FilterError>
     ensures ok { IfOk result (λ constant. read_as_end kind literal.now ≡ Reads constant) }
-    ensures err { IfErr result (IsAnswer (reading_faults (place_of_literal literal.now) (read_as_end kind literal.now))) }
+    ensures err { IfErr result
+        (IsAnswer (reading_faults (place_of_literal literal.now) (read_as_end kind literal.now))) }
 {
     let reading = end_read(alloc, kind, literal)?;
     constant(reading, place_of(literal))
@@ -92,8 +95,10 @@ pub(crate) fn right_word(
     kind: ValueKind,
     word: &Word,
 ) -> Result<Constant, FilterError>
-    ensures ok { IfOk result (λ constant. side_read relation kind (Bare word.now) ≡ Reads constant) }
-    ensures err { IfErr result (IsAnswer (reading_faults word.now.at (side_read relation kind (Bare word.now)))) }
+    ensures ok { IfOk result (λ constant.
+        side_read relation kind (Bare word.now) ≡ Reads constant) }
+    ensures err { IfErr result
+        (IsAnswer (reading_faults word.now.at (side_read relation kind (Bare word.now)))) }
 {
     let kind = kind_of_right(relation, kind);
     let reading = read_word(alloc, kind, admits_prefix(relation), word.text.as_str())?;
@@ -106,8 +111,10 @@ pub(crate) fn right_quote(
     kind: ValueKind,
     quote: &Quote,
 ) -> Result<Constant, FilterError>
-    ensures ok { IfOk result (λ constant. side_read relation kind (Text quote.now) ≡ Reads constant) }
-    ensures err { IfErr result (IsAnswer (reading_faults quote.now.at (side_read relation kind (Text quote.now)))) }
+    ensures ok { IfOk result (λ constant.
+        side_read relation kind (Text quote.now) ≡ Reads constant) }
+    ensures err { IfErr result
+        (IsAnswer (reading_faults quote.now.at (side_read relation kind (Text quote.now)))) }
 {
     let reading = read_quote(kind_of_right(relation, kind), &quote.bytes)?;
     constant(reading, quote.at)

@@ -1,25 +1,37 @@
-// Operands: the names, layers, slices, masks and functions of a filter.
-ghost use Rattle.std.specs.Prelude.{◌≡◌, ◌++◌, ℕ, Bool, None, Some, IfOk, IfErr, OnOk, IsTrue};
+// Operands: the names, numbers, layers, slices, masks, functions and arithmetic of a filter.
+ghost use Rattle.std.specs.Prelude.{◌≡◌, ◌++◌, Some, None, IfOk, IfErr, OnOk, IsTrue};
 ghost use Rattle.flt_parse.specs.declared.fault.FilterReason.TheVariants.{OutOfRange};
-ghost use Rattle.flt_parse.specs.Written.{WrittenOperand, operand_of, NamedOf, OnLayerOf, OnLayersOf, SlicedOf, MaskedOf, CalledOf};
-ghost use Rattle.flt_types.specs.Faults.{IsAnswer, operand_faults, call_faults, layers_faults, mask_faults, slice_faults, given, kind_written, unless, unknown, misplaced as blamed, around as blamed_around};
+ghost use Rattle.flt_parse.specs.Written.{WrittenOperand, operand_of, NamedOf, OnLayerOf, OnLayersOf, SlicedOf, MaskedOf, CalledOf, ComputedOf, ArgumentsOf};
+ghost use Rattle.flt_types.specs.Faults.{IsAnswer, operand_faults, call_faults, layers_faults, mask_faults, number_faults, slice_faults, given, kind_written, unless, nameless, word_faults, misplaced as misplaced_at};
 ghost use Rattle.flt_types.specs.Layers.{is_layer};
-ghost use Rattle.flt_types.specs.Terms.{IsTerm, IsMask, kind_of as kind_of_term, takes_term};
-ghost use Rattle.flt_values.specs.Kinds.{is_masked as is_masked_kind};
+ghost use Rattle.flt_types.specs.Operands.{is_part, with_right};
+ghost use Rattle.flt_types.specs.Standing.{argument, in_slice, sign_for, within};
+ghost use Rattle.flt_types.specs.Terms.{IsTerm, IsMask, are_numbers as are_numbers_in, kind_of as kind_of_term, number_kind, takes_term};
+ghost use Rattle.flt_types.specs.declared.standing.Standing.{Standing as Place};
+ghost use Rattle.flt_types.specs.declared.standing.Standing.TheVariants.{Free, Sliced};
+ghost use Rattle.flt_values.specs.Kinds.{is_masked as is_masked_kind, is_number as is_number_kind};
 ghost use Rattle.pk_fields.specs.Fields.{field_named};
 
 use crate::faults::{fault, require};
 use crate::layers::{layers_in, single_layer};
 use crate::literals::constant;
+use crate::operands::{Parts, Right, parts_of};
 use crate::ranges::parts_in;
+use crate::standing::Standing;
 use crate::typed::Term;
 use flt_parse::{
-    FilterError, FilterReason, Function, Layer, LayerRange, Operand, SliceRange, Word,
+    Arithmetic, FilterError, FilterReason, Function, Layer, LayerRange, Operand, SliceRange, Word,
 };
-use flt_values::{is_masked, is_sliced, kind_of_call, kind_of_value, read_word, takes_call};
+use flt_values::{
+    is_number, is_sliced, kind_of_call, kind_of_value, read_within, read_word, takes_call,
+};
 use pk_fields::{FieldId, ValueKind, by_name, kind};
-use pk_tree::{Layers, Value};
+use pk_text::Wide;
+use pk_tree::Layers;
 use std::alloc::Global;
+
+/// What arithmetic gives, and the kind by which its numbers are read.
+const NUMBER: ValueKind = ValueKind::Uint(64);
 
 /// The kind of a term's values.
 pub fn kind_of(term: &Term) -> ValueKind
@@ -31,98 +43,202 @@ pub fn kind_of(term: &Term) -> ValueKind
         Term::Slice(_, _) => ValueKind::Bytes,
         Term::Mask(inner, _) => kind_of(inner),
         Term::Called(function, _) => kind_of_call(*function),
+        Term::Computed(_, _, _) | Term::Arguments(_, _) => NUMBER,
     }
 }
 
-/// The term that an operand is, which stands on the right side or not. On the right side what is around a literal gets
-/// the blame for it.
-#[tactic(auto, using(crate::proofs::Answers::answer_left))]
+/// The term that an operand is, by where it stands. Its parts are typed one after the other, so that no call nests as deep
+/// as signs and commas do.
+#[cycle(terms)]
+#[tactic(auto, using(crate::proofs::PartLemmas::fault_of_parts))]
 pub(crate) fn term(
     alloc: Global,
-    right: bool,
-    blame: Option<u32>,
+    standing: Standing,
     operand: &Operand,
 ) -> Result<Term, FilterError>
-    ensures ok { IfOk result (IsTerm (operand_of operand.now)) }
-    ensures err { IfErr result (IsAnswer (operand_faults right blame (operand_of operand.now))) }
+    ensures ok { IfOk result (IsTerm standing (operand_of operand.now)) }
+    ensures err { IfErr result (IsAnswer (operand_faults standing (operand_of operand.now))) }
+{
+    let Parts { first, mut rights } = parts_of(alloc, operand)?;
+    let mut term = part(alloc, standing, first)?;
+    'rights: while let Some(right) = rights.pop() {
+        term = with(alloc, standing, term, &right)?;
+    }
+    Ok(term)
+}
+
+/// The term that an operand is whose parts no sign or comma joins.
+#[cycle(terms)]
+#[tactic(auto, using(crate::proofs::Answers::answer_left))]
+fn part(alloc: Global, standing: Standing, operand: &Operand) -> Result<Term, FilterError>
+    requires { IsTrue (is_part (operand_of operand.now)) }
+    ensures ok { IfOk result (IsTerm standing (operand_of operand.now)) }
+    ensures err { IfErr result (IsAnswer (operand_faults standing (operand_of operand.now))) }
 {
     match operand {
-        Operand::Text(quote) => Err(misplaced(blame, quote.at)),
-        Operand::Named(word) => whole_field(blame, word),
+        Operand::Text(quote) => Err(misplaced(standing, quote.at)),
+        Operand::Named(word) => named(alloc, standing, word),
         Operand::OnLayer(word, layer) => on_layer(alloc, word, *layer),
         Operand::OnLayers(word, ranges) => on_layers(alloc, word, ranges),
         Operand::Sliced(inner, at, ranges) => {
-            let inner = term(alloc, right, None, inner)?;
+            let inner = term(alloc, standing.in_slice(), inner)?;
             slice(alloc, inner, *at, ranges)
         }
         Operand::Masked(inner, at, word) => {
-            let inner = term(alloc, right, around(right, *at), inner)?;
+            let inner = term(alloc, standing.within(*at), inner)?;
             mask(alloc, inner, *at, word)
         }
         Operand::Called(function, at, inner) => {
-            let inner = term(alloc, right, around(right, *at), inner)?;
+            let inner = term(alloc, standing.argument(*function, *at, inner), inner)?;
             call(alloc, inner, *at, *function)
+        }
+        Operand::Computed(_, _, _, _) | Operand::Arguments(_, _) => unreachable!(),
+    }
+}
+
+/// A term with what stands to the right of its operand.
+#[cycle(terms)]
+fn with(
+    alloc: Global,
+    standing: Standing,
+    left: Term,
+    right: &Right<'_>,
+) -> Result<Term, FilterError>
+    ensures ok { (o : WrittenOperand) → IsTerm standing o left
+        → IfOk result (IsTerm standing (with_right right.now o)) }
+    ensures err { (o : WrittenOperand) → IsTerm standing o left
+        → IfErr result (IsAnswer (operand_faults standing (with_right right.now o))) }
+{
+    match right {
+        Right::Computes(operation, at, operand) => {
+            compute(alloc, standing, left, *operation, *at, operand)
+        }
+        Right::Argument(operand) => add_argument(alloc, left, operand),
+    }
+}
+
+/// A term and an operand behind a sign, which both have to be numbers.
+#[cycle(terms)]
+fn compute(
+    alloc: Global,
+    standing: Standing,
+    left: Term,
+    operation: Arithmetic,
+    at: u32,
+    operand: &Operand,
+) -> Result<Term, FilterError>
+    ensures ok { (o : WrittenOperand) → IsTerm standing o left
+        → IfOk result (IsTerm standing (ComputedOf operation at o (operand_of operand.now))) }
+    ensures err { (o : WrittenOperand) → IsTerm standing o left
+        → IfErr result (IsAnswer
+        (operand_faults standing (ComputedOf operation at o (operand_of operand.now)))) }
+{
+    require_number(&left, standing.sign_for(at))?;
+    let right = term(alloc, Standing::Free(Some(at)), operand)?;
+    require_number(&right, at)?;
+    Ok(Term::Computed(operation, Box::new(alloc, left)?, Box::new(alloc, right)?))
+}
+
+/// The fault of a part of arithmetic that is no number.
+fn require_number(term: &Term, at: u32) -> Result<(), FilterError>
+    ensures ok { OnOk result (IsTrue (is_number_kind (kind_of_term term.now))) }
+    ensures err { IfErr result (IsAnswer (number_faults at (kind_of_term term.now))) }
+{
+    require(is_number(kind_of(term)), at, FilterReason::TypeMismatch)
+}
+
+/// Arguments, and an operand behind a comma.
+#[cycle(terms)]
+#[tactic(auto, using(crate::proofs::PartLemmas::next_argument))]
+fn add_argument(alloc: Global, left: Term, operand: &Operand) -> Result<Term, FilterError>
+    ensures ok { (s : Place) (o : WrittenOperand) → IsTerm s o left
+        → IfOk result (IsTerm s (ArgumentsOf o (operand_of operand.now))) }
+    ensures err { (s : Place) (o : WrittenOperand) → IsTerm s o left
+        → IfErr result (IsAnswer (operand_faults s (ArgumentsOf o (operand_of operand.now)))) }
+{
+    let right = term(alloc, Standing::Free(None), operand)?;
+    Ok(Term::Arguments(Box::new(alloc, left)?, Box::new(alloc, right)?))
+}
+
+/// The fault of a string.
+fn misplaced(standing: Standing, at: u32) -> FilterError
+    ensures { IsAnswer (misplaced_at standing at) result }
+{
+    match standing {
+        Standing::Within(around) => fault(around, FilterReason::TypeMismatch),
+        _ => fault(at, FilterReason::TypeMismatch),
+    }
+}
+
+/// The field of a word, or the number that it is in place of a name.
+fn named(alloc: Global, standing: Standing, word: &Word) -> Result<Term, FilterError>
+    ensures ok { IfOk result (IsTerm standing (NamedOf word.now)) }
+    ensures err { IfErr result
+        (IsAnswer (word_faults (field_named word.now.text) standing word.now)) }
+{
+    match by_name(word.text.as_str()) {
+        Some(field) => Ok(Term::Field(field, Layers::All)),
+        None => number(alloc, standing, word),
+    }
+}
+
+/// A word that is no name: a number where one may stand, else a fault.
+fn number(alloc: Global, standing: Standing, word: &Word) -> Result<Term, FilterError>
+    requires { field_named word.now.text ≡ None }
+    ensures ok { IfOk result (IsTerm standing (NamedOf word.now)) }
+    ensures err { IfErr result (IsAnswer (nameless standing word.now)) }
+{
+    match standing {
+        Standing::First | Standing::Sliced => Err(fault(word.at, FilterReason::UnknownField)),
+        Standing::Within(around) => Err(fault(around, FilterReason::TypeMismatch)),
+        Standing::Free(_) => {
+            let reading = read_word(alloc, NUMBER, false, word.text.as_str())?;
+            Ok(Term::Constant(constant(reading, word.at)?))
         }
     }
 }
 
-/// What gets the blame for a literal inside: on the right side the place of what takes none.
-fn around(right: bool, at: u32) -> Option<u32>
-    ensures { result ≡ blamed_around right at }
-{
-    if right { Some(at) } else { None }
-}
-
-/// The fault of a string.
-fn misplaced(blame: Option<u32>, at: u32) -> FilterError
-    ensures { IsAnswer (blamed blame at) result }
-{
-    fault(blame.unwrap_or(at), FilterReason::TypeMismatch)
-}
-
-/// The field of a word, or the fault of one that is no name.
-fn field(blame: Option<u32>, word: &Word) -> Result<FieldId, FilterError>
+/// The field of a word with layers, which has to be a name.
+fn field(word: &Word) -> Result<FieldId, FilterError>
     ensures ok { IfOk result (λ field. field_named word.now.text ≡ Some field) }
-    ensures err { IfErr result (IsAnswer (unknown blame word.now.at (field_named word.now.text))) }
+    ensures err { IfErr result
+        (IsAnswer (word_faults (field_named word.now.text) Sliced word.now)) }
 {
-    match (by_name(word.text.as_str()), blame) {
-        (Some(field), _) => Ok(field),
-        (None, None) => Err(fault(word.at, FilterReason::UnknownField)),
-        (None, Some(around)) => Err(fault(around, FilterReason::TypeMismatch)),
+    match by_name(word.text.as_str()) {
+        Some(field) => Ok(field),
+        None => Err(fault(word.at, FilterReason::UnknownField)),
     }
-}
-
-fn whole_field(blame: Option<u32>, word: &Word) -> Result<Term, FilterError>
-    ensures ok { IfOk result (IsTerm (NamedOf word.now)) }
-    ensures err { IfErr result (IsAnswer (unknown blame word.now.at (field_named word.now.text))) }
-{
-    Ok(Term::Field(field(blame, word)?, Layers::All))
 }
 
 #[tactic(auto, using(crate::proofs::Answers::answer_left, crate::proofs::Answers::answer_right))]
 fn on_layer(alloc: Global, word: &Word, layer: Layer) -> Result<Term, FilterError>
-    ensures ok { IfOk result (IsTerm (OnLayerOf word.now layer)) }
-    ensures err { IfErr result (IsAnswer (unknown None word.now.at (field_named word.now.text) ++ unless (is_layer layer) layer.at OutOfRange)) }
+    ensures ok { (s : Place) → IfOk result (IsTerm s (OnLayerOf word.now layer)) }
+    ensures err { IfErr result (IsAnswer (word_faults (field_named word.now.text) Sliced word.now
+        ++ unless (is_layer layer) layer.at OutOfRange)) }
 {
-    let field = field(None, word)?;
+    let field = field(word)?;
     Ok(Term::Field(field, single_layer(alloc, layer)?))
 }
 
 #[tactic(auto, using(crate::proofs::Answers::answer_left, crate::proofs::Answers::answer_right))]
 fn on_layers(alloc: Global, word: &Word, ranges: &[LayerRange]) -> Result<Term, FilterError>
-    ensures ok { IfOk result (IsTerm (OnLayersOf word.now ranges.now)) }
-    ensures err { IfErr result (IsAnswer (unknown None word.now.at (field_named word.now.text) ++ layers_faults ranges.now)) }
+    ensures ok { (s : Place) → IfOk result (IsTerm s (OnLayersOf word.now ranges.now)) }
+    ensures err { IfErr result (IsAnswer (word_faults (field_named word.now.text) Sliced word.now
+        ++ layers_faults ranges.now)) }
 {
-    let field = field(None, word)?;
+    let field = field(word)?;
     Ok(Term::Field(field, layers_in(alloc, ranges)?))
 }
 
 /// A slice of what an operand stands for.
 #[tactic(auto, using(crate::proofs::Clear::slice_behind, crate::proofs::Answers::answer_left, crate::proofs::Answers::answer_right, crate::proofs::Answers::clear_unless))]
 fn slice(alloc: Global, inner: Term, at: u32, ranges: &[SliceRange]) -> Result<Term, FilterError>
-    ensures ok { (o : WrittenOperand) → IsTerm o inner → IfOk result (IsTerm (SlicedOf o at ranges.now)) }
-    ensures err { (right : Bool) (o : WrittenOperand) → IsTerm o inner
-        → IfErr result (IsAnswer (operand_faults right None o ++ given (kind_written o) (slice_faults at ranges.now))) }
+    ensures ok { (s : Place) (o : WrittenOperand) → IsTerm (in_slice s) o inner
+        → IfOk result (IsTerm s (SlicedOf o at ranges.now)) }
+    ensures err { (s : Place) (o : WrittenOperand) → IsTerm (in_slice s) o inner
+        → IfErr result (IsAnswer
+        (operand_faults (in_slice s) o
+        ++ given (kind_written (in_slice s) o) (slice_faults at ranges.now))) }
 {
     require(is_sliced(kind_of(&inner)), at, FilterReason::TypeMismatch)?;
     let parts = parts_in(alloc, ranges)?;
@@ -132,36 +248,43 @@ fn slice(alloc: Global, inner: Term, at: u32, ranges: &[SliceRange]) -> Result<T
 /// What an operand stands for, masked by a number that fits its width.
 #[tactic(auto, using(crate::proofs::Clear::mask_behind))]
 fn mask(alloc: Global, inner: Term, at: u32, word: &Word) -> Result<Term, FilterError>
-    ensures ok { (o : WrittenOperand) → IsTerm o inner → IfOk result (IsTerm (MaskedOf o at word.now)) }
-    ensures err { (right : Bool) (o : WrittenOperand) → IsTerm o inner
-        → IfErr result (IsAnswer (operand_faults right (blamed_around right at) o ++ given (kind_written o) (mask_faults at word.now))) }
+    ensures ok { (s : Place) (o : WrittenOperand) → IsTerm (within at s) o inner
+        → IfOk result (IsTerm s (MaskedOf o at word.now)) }
+    ensures err { (s : Place) (o : WrittenOperand) → IsTerm (within at s) o inner
+        → IfErr result (IsAnswer
+        (operand_faults (within at s) o
+        ++ given (kind_written (within at s) o) (mask_faults at word.now))) }
 {
-    let number = mask_number(alloc, kind_of(&inner), at, word)?;
+    let number = mask_number(kind_of(&inner), at, word)?;
     Ok(Term::Mask(Box::new(alloc, inner)?, number))
 }
 
 /// The number of a mask's word, for an operand of a kind.
-#[tactic(auto, using(crate::proofs::Answers::answer_left, crate::proofs::Answers::answer_right))]
-fn mask_number(alloc: Global, kind: ValueKind, at: u32, word: &Word) -> Result<u64, FilterError>
+#[tactic(auto, unfolding(flt_values::specs::Literals::word_read))]
+fn mask_number(kind: ValueKind, at: u32, word: &Word) -> Result<u64, FilterError>
     ensures masked { OnOk result (IsTrue (is_masked_kind kind)) }
     ensures ok { IfOk result (IsMask kind word.now.text) }
     ensures err { IfErr result (IsAnswer (mask_faults at word.now kind)) }
 {
-    require(is_masked(kind), at, FilterReason::TypeMismatch)?;
-    let reading = read_word(alloc, kind, false, word.text.as_str())?;
-    let read = constant(reading, word.at)?;
-    match read.value {
-        Value::Uint(number) => Ok(number),
-        _ => unreachable!(),
+    let ValueKind::Uint(width) = kind else {
+        return Err(fault(at, FilterReason::TypeMismatch));
+    };
+    match read_within(width, word.text.as_str()) {
+        Some(Wide::Fits(number)) => Ok(number),
+        Some(Wide::Beyond) => Err(fault(word.at, FilterReason::OutOfRange)),
+        None => Err(fault(word.at, FilterReason::TypeMismatch)),
     }
 }
 
 /// A function of what an operand stands for.
 #[tactic(auto, using(crate::proofs::Clear::call_behind))]
 fn call(alloc: Global, inner: Term, at: u32, function: Function) -> Result<Term, FilterError>
-    ensures ok { (o : WrittenOperand) → IsTerm o inner → IfOk result (IsTerm (CalledOf function at o)) }
-    ensures err { (right : Bool) (o : WrittenOperand) → IsTerm o inner
-        → IfErr result (IsAnswer (operand_faults right (blamed_around right at) o ++ given (kind_written o) (call_faults function at o))) }
+    ensures ok { (s : Place) (o : WrittenOperand) → IsTerm (argument function at o s) o inner
+        → IfOk result (IsTerm s (CalledOf function at o)) }
+    ensures err { (s : Place) (o : WrittenOperand) → IsTerm (argument function at o s) o inner
+        → IfErr result (IsAnswer (operand_faults (argument function at o s) o
+        ++ given (kind_written (argument function at o s) o)
+        (call_faults function at (argument function at o s) o))) }
 {
     require(takes(function, &inner), at, FilterReason::TypeMismatch)?;
     Ok(Term::Called(function, Box::new(alloc, inner)?))
@@ -173,6 +296,25 @@ fn takes(function: Function, inner: &Term) -> bool
 {
     match function {
         Function::Count => matches!(inner, Term::Field(_, _)),
+        Function::Min | Function::Max => are_numbers(inner),
         Function::Len | Function::Upper | Function::Lower => takes_call(function, kind_of(inner)),
+    }
+}
+
+/// Whether a term, or each of several arguments, has numbers.
+fn are_numbers(term: &Term) -> bool
+    ensures { result ≡ are_numbers_in term.now }
+{
+    let mut first = term;
+    'arguments: loop {
+        match first {
+            Term::Arguments(left, right) => {
+                if !is_number(kind_of(right)) {
+                    return false;
+                }
+                first = left;
+            }
+            _ => return is_number(kind_of(first)),
+        }
     }
 }

@@ -34,9 +34,11 @@ pub(crate) enum Closed<'a> {
 /// The first test of a part of a tree; what is open around it comes behind what is open around the part.
 pub(crate) fn first_test<'a>(around: &mut Vec<Open<'a>>, part: &'a Ast) -> Result<&'a Ast, NoMemory>
     ensures test { IfOk result (λ test. IsTrue (is_test (written test.now))) }
-    ensures inside { IfOk result (λ test. (tree : Written) → Plugs around.old.items (written part.now) tree
+    ensures inside { IfOk result (λ test. (tree : Written)
+        → Plugs around.old.items (written part.now) tree
         → Plugs around.new.items (written test.now) tree) }
-    ensures count { IfOk result (λ test. waiting around.new.items + 1 ≡ waiting around.old.items + tests (written part.now)) }
+    ensures count { IfOk result (λ test.
+        waiting around.new.items + 1 ≡ waiting around.old.items + tests (written part.now)) }
 {
     let mut first = part;
     'parts: loop {
@@ -73,9 +75,11 @@ pub(crate) fn close<'a>(
     around: &mut Vec<Open<'a>>,
     filter: Typed,
 ) -> Result<Closed<'a>, NoMemory>
-    ensures closes { IfOk result (λ closed. (part tree : Written) → HasType part filter → Plugs around.old.items part tree
+    ensures closes { IfOk result (λ closed. (part tree : Written) → HasType part filter
+        → Plugs around.old.items part tree
         → Closes around.new.items tree closed) }
-    ensures count { IfOk result (λ closed. waiting around.new.items + still closed ≤ waiting around.old.items) }
+    ensures count { IfOk result (λ closed.
+        waiting around.new.items + still closed ≤ waiting around.old.items) }
 {
     let mut filter = filter;
     'around: while let Some(last) = around.pop() {
@@ -94,14 +98,16 @@ pub(crate) fn close<'a>(
 
 /// A filter, negated.
 fn negate(alloc: Global, filter: Typed) -> Result<Typed, NoMemory>
-    ensures { IfOk result (λ negated. (n : Negation) (t : Written) → HasType t filter → HasType (NotOf n t) negated) }
+    ensures { IfOk result (λ negated. (n : Negation) (t : Written) → HasType t filter
+        → HasType (NotOf n t) negated) }
 {
     Ok(Typed::Not(Box::new(alloc, filter)?))
 }
 
 /// Two filters, joined.
 fn join(alloc: Global, join: Join, left: Typed, right: Typed) -> Result<Typed, NoMemory>
-    ensures { IfOk result (λ filter. (l r : Written) → HasType l left → HasType r right → HasType (JoinedOf join l r) filter) }
+    ensures { IfOk result (λ filter. (l r : Written) → HasType l left → HasType r right
+        → HasType (JoinedOf join l r) filter) }
 {
     let left = Box::new(alloc, left)?;
     let right = Box::new(alloc, right)?;

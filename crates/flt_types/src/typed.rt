@@ -1,13 +1,12 @@
 // Filters with their types: each name as its field, each literal as a value, each pattern compiled.
 
-use flt_parse::{Choice, Function, RangePart};
+use flt_parse::{Arithmetic, Choice, Function, RangePart};
 use flt_pattern::Pattern;
 use flt_values::{Constant, Relation};
 use pk_fields::FieldId;
 use pk_tree::Layers;
 
 /// What has values in a tree.
-#[derive(Drop)]
 pub enum Term {
     /// One value, the same in every tree.
     Constant(Constant),
@@ -19,6 +18,33 @@ pub enum Term {
     Mask(Box<Term>, u64),
     /// The function's values for these.
     Called(Function, Box<Term>),
+    /// The sums, differences or products of two terms' numbers.
+    Computed(Arithmetic, Box<Term>, Box<Term>),
+    /// The values of the arguments of `min` or `max` before a comma, and of the one behind it.
+    Arguments(Box<Term>, Box<Term>),
+}
+
+// A chain of signs, or of arguments, is as deep to the left as it is long: a loop goes down there.
+impl Drop for Term {
+    fn drop(mut self) {
+        loop {
+            match self {
+                Term::Computed(_, first, right) => {
+                    drop(right);
+                    self = Box::into_inner(first);
+                }
+                Term::Arguments(first, right) => {
+                    drop(right);
+                    self = Box::into_inner(first);
+                }
+                Term::Slice(inner, _ranges) => self = Box::into_inner(inner),
+                Term::Mask(inner, _) => self = Box::into_inner(inner),
+                Term::Called(_, inner) => self = Box::into_inner(inner),
+                Term::Constant(_constant) => return,
+                Term::Field(_, _layers) => return,
+            }
+        }
+    }
 }
 
 /// What a value may be, to be in a set.

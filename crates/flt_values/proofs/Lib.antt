@@ -1,4 +1,5 @@
 pub mod ContainsLemmas
+pub mod ExtremeLemmas
 pub mod LiteralLemmas
 pub mod MaskLemmas
 pub mod SliceLemmas

@@ -3,7 +3,7 @@ use Rattle.std.specs.Prelude.{ℕ, ◌==◌, Bool as Truth, false, not, length, 
 use Rattle.std.specs.Char.{to_ascii_uppercase, to_ascii_lowercase}
 use Rattle.std.specs.Option.{option_map}
 use Rattle.flt_parse.specs.declared.ast.Function.{Function}
-use Rattle.flt_parse.specs.declared.ast.Function.TheVariants.{Len, Count, Upper, Lower}
+use Rattle.flt_parse.specs.declared.ast.Function.TheVariants.{Len, Count, Upper, Lower, Min, Max}
 use Rattle.flt_values.specs.Relations.{octets_of}
 use Rattle.pk_tree.specs.declared.value.Value.{Value}
 use Rattle.pk_tree.specs.declared.value.Value.TheVariants as values
@@ -31,9 +31,11 @@ abbrev pub lowered : Value → Option Value
 lowered (values.Text bytes) = Some (values.Text (map to_ascii_lowercase bytes))
 lowered value = None
 
--- what a function gives of a single value; `count` is of a whole list
+-- what a function gives of a single value; `count`, `min` and `max` are of a whole list
 abbrev pub called : Function → Value → Option Value
 called Len value = len_of value
 called Count value = None
+called Min value = None
+called Max value = None
 called Upper value = uppered value
 called Lower value = lowered value

@@ -1,7 +1,7 @@
 -- What a filter may do with the values of a kind.
 use Rattle.std.specs.Prelude.{Bool as Truth, true, false, not}
 use Rattle.flt_parse.specs.declared.ast.Function.{Function}
-use Rattle.flt_parse.specs.declared.ast.Function.TheVariants.{Len, Count, Upper, Lower}
+use Rattle.flt_parse.specs.declared.ast.Function.TheVariants.{Len, Count, Upper, Lower, Min, Max}
 use Rattle.flt_values.specs.declared.kinds.Class.{Class}
 use Rattle.flt_values.specs.declared.kinds.Class.TheVariants as classes
 use Rattle.flt_values.specs.declared.relation.Relation.{Relation}
@@ -62,10 +62,14 @@ is_sliced kinds.Ip4 = true
 is_sliced kinds.Ip6 = true
 is_sliced kind = is_measured kind
 
+-- the kinds of numbers, which can be computed with
+abbrev pub is_number : ValueKind → Truth
+is_number (kinds.Uint width) = true
+is_number kind = false
+
 -- the kinds whose bits can be masked
 abbrev pub is_masked : ValueKind → Truth
-is_masked (kinds.Uint width) = true
-is_masked kind = false
+is_masked kind = is_number kind
 
 -- the kinds that `matches` searches
 abbrev pub is_searched : ValueKind → Truth
@@ -97,6 +101,8 @@ kind_of_right relation kind = kind
 abbrev pub takes_call : Function → ValueKind → Truth
 takes_call Len kind = is_measured kind
 takes_call Count kind = true
+takes_call Min kind = is_number kind
+takes_call Max kind = is_number kind
 takes_call Upper kinds.Text = true
 takes_call Lower kinds.Text = true
 takes_call function kind = false
@@ -107,3 +113,5 @@ kind_of_call Len = kinds.Uint 32
 kind_of_call Count = kinds.Uint 32
 kind_of_call Upper = kinds.Text
 kind_of_call Lower = kinds.Text
+kind_of_call Min = kinds.Uint 64
+kind_of_call Max = kinds.Uint 64

@@ -1,3 +1,4 @@
+pub mod Arithmetic
 pub mod Calls
 pub mod Contains
 pub mod Kinds

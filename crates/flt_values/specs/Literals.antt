@@ -36,11 +36,16 @@ abbrev pub value_read : Option Value → Reading
 value_read None = readings.Unread
 value_read (Some value) = readings.Reads (plain value None)
 
--- a number that a width has room for
-abbrev pub number_read : ℕ → Option Wide → Reading
-number_read width None = readings.Unread
-number_read width (Some wides.Beyond) = readings.Beyond
-number_read width (Some (wides.Fits n)) = if nat_lt n (2 ^ width) then readings.Reads (plain (values.Uint n) None) else readings.Beyond
+-- a number, as far as a width has room for it
+abbrev pub number_within : ℕ → Option Wide → Option Wide
+number_within width (Some (wides.Fits n)) =
+    if nat_lt n (2 ^ width) then Some (wides.Fits n) else Some wides.Beyond
+number_within width number = number
+
+abbrev pub number_read : Option Wide → Reading
+number_read None = readings.Unread
+number_read (Some wides.Beyond) = readings.Beyond
+number_read (Some (wides.Fits n)) = readings.Reads (plain (values.Uint n) None)
 
 -- the words for true, and those for false
 abbrev pub true_words : List (List ℕ)
@@ -53,7 +58,8 @@ abbrev pub is_one_of : List (List ℕ) → List ℕ → Truth
 is_one_of words text = list_any (λ word. bytes_eq text word) words
 
 unfoldable pub truth_of : List ℕ → Option Truth
-truth_of text = if is_one_of true_words text then Some true else if is_one_of false_words text then Some false else None
+truth_of text = if is_one_of true_words text then Some true
+    else if is_one_of false_words text then Some false else None
 
 -- the number behind the `/` of a prefix: decimal digits without a leading zero
 unfoldable pub prefix_of : List ℕ → Option Wide
@@ -64,7 +70,8 @@ abbrev pub leading_read : ℕ → Option Value → Option Wide → Reading
 leading_read most None prefix = readings.Unread
 leading_read most (Some address) None = readings.Unread
 leading_read most (Some address) (Some wides.Beyond) = readings.Beyond
-leading_read most (Some address) (Some (wides.Fits n)) = if nat_le n most then readings.Reads (plain address (Some n)) else readings.Beyond
+leading_read most (Some address) (Some (wides.Fits n)) =
+    if nat_le n most then readings.Reads (plain address (Some n)) else readings.Beyond
 
 -- the bits of an address, and the address that a text writes
 abbrev pub bits_of : Family → ℕ
@@ -79,7 +86,8 @@ address_of Ip6 text = option_map values.Ip6 (ip6_of text)
 abbrev pub address_cut : Family → Truth → List ℕ → Option (List ℕ × List ℕ) → Reading
 address_cut family prefixed text None = value_read (address_of family text)
 address_cut family prefixed text (Some parts) =
-    if prefixed then leading_read (bits_of family) (address_of family parts.0) (prefix_of parts.1) else readings.Unread
+    if prefixed then leading_read (bits_of family) (address_of family parts.0) (prefix_of parts.1)
+    else readings.Unread
 
 -- 47 is `/`
 abbrev pub address_read : Family → Truth → List ℕ → Reading
@@ -90,7 +98,7 @@ ether_value text = option_map values.Ether (ether_of text)
 
 -- what a word writes as a literal of a kind, which may have a prefix length or not. Text is written as strings alone.
 unfoldable pub word_read : Truth → ValueKind → List ℕ → Reading
-word_read prefixed (kinds.Uint width) text = number_read width (number_of text)
+word_read prefixed (kinds.Uint width) text = number_read (number_within width (number_of text))
 word_read prefixed kinds.Bool text = value_read (option_map values.Bool (truth_of text))
 word_read prefixed kinds.Bytes text = value_read (option_map values.Bytes (bytes_of text))
 word_read prefixed kinds.Text text = readings.Unread

@@ -49,10 +49,12 @@ leading_amount prefix value = amount_of value
 abbrev pub order_within : Option ℕ → Value → Value → Option Ordering
 order_within prefix v w =
     option_or (both nat_cmp (leading_amount prefix v) (leading_amount prefix w))
-    (option_or (both (slice_cmp nat_cmp) (octets_of v) (octets_of w)) (both int_cmp (moment_of v) (moment_of w)))
+    (option_or (both (slice_cmp nat_cmp) (octets_of v) (octets_of w))
+    (both int_cmp (moment_of v) (moment_of w)))
 
 unfoldable pub order_by_leading : Option ℕ → Value → Value → Option Ordering
-order_by_leading prefix v w = if same_class (kind_of_value v) (kind_of_value w) then order_within prefix v w else None
+order_by_leading prefix v w =
+    if same_class (kind_of_value v) (kind_of_value w) then order_within prefix v w else None
 
 abbrev pub order_of : Value → Value → Option Ordering
 order_of v w = order_by_leading None v w
@@ -85,4 +87,5 @@ related relation left right prefix = by_order relation (order_by_leading prefix 
 
 -- whether a value lies in a range, from the low end up to and with the high one
 unfoldable pub lies_between : Value → Value → Value → Truth
-lies_between low high value = by_order AtLeast (order_of value low) && by_order AtMost (order_of value high)
+lies_between low high value =
+    by_order AtLeast (order_of value low) && by_order AtMost (order_of value high)

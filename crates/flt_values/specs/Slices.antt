@@ -23,20 +23,24 @@ within size from to = if nat_lt from to && nat_le to size then Some (from, to) e
 -- the bytes that a range takes of so many, from the first up to and without the second
 unfoldable pub span_of : ℕ → RangePart → Option (ℕ × ℕ)
 span_of size (parts.One at) = option_and_then (λ i. within size i (i + 1)) (place_in size at)
-span_of size (parts.Counted at count) = option_and_then (λ i. within size i (i + count)) (place_in size at)
+span_of size (parts.Counted at count) =
+    option_and_then (λ i. within size i (i + count)) (place_in size at)
 span_of size (parts.Between first last) =
-    option_and_then (λ i. option_and_then (λ j. within size i (j + 1)) (place_in size last)) (place_in size first)
+    option_and_then (λ i. option_and_then (λ j. within size i (j + 1)) (place_in size last))
+    (place_in size first)
 span_of size (parts.Front count) = within size 0 count
 span_of size (parts.ToEnd at) = option_and_then (λ i. within size i size) (place_in size at)
 
 -- the bytes that ranges take, in the order of the ranges; none where one of them takes none
 abbrev pub part_of : List ℕ → RangePart → Option (List ℕ)
-part_of bytes range = option_map (λ span. slice_range bytes span.0 span.1) (span_of (length bytes) range)
+part_of bytes range =
+    option_map (λ span. slice_range bytes span.0 span.1) (span_of (length bytes) range)
 
 unfoldable pub taken_by : List ℕ → List RangePart → Option (List ℕ)
 taken_by bytes [] = Some []
 taken_by bytes (range ∷ ranges) =
-    option_and_then (λ part. option_map (λ rest. part ++ rest) (taken_by bytes ranges)) (part_of bytes range)
+    option_and_then (λ part.
+    option_map (λ rest. part ++ rest) (taken_by bytes ranges)) (part_of bytes range)
 
 -- the bytes of a value that can be sliced; an address has its highest first
 abbrev pub bytes_of_value : Value → Option (List ℕ)
@@ -46,4 +50,5 @@ bytes_of_value value = octets_of value
 
 -- a slice of a value, which is bytes
 abbrev pub sliced : Value → List RangePart → Option Value
-sliced value ranges = option_map values.Bytes (option_and_then (λ bytes. taken_by bytes ranges) (bytes_of_value value))
+sliced value ranges = option_map values.Bytes
+    (option_and_then (λ bytes. taken_by bytes ranges) (bytes_of_value value))

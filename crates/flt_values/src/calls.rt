@@ -61,13 +61,13 @@ pub fn lowered(alloc: Global, value: &Value) -> Result<Option<Value>, NoMemory>
     }
 }
 
-/// What a function gives of a single value. `count` is of a whole list, and gives nothing here.
+/// What a function gives of a single value. `count`, `min` and `max` are of a whole list, and give nothing here.
 pub fn call(alloc: Global, function: Function, value: &Value) -> Result<Option<Value>, NoMemory>
     ensures { IfOk result (λ answer. answer ≡ called function value.now) }
 {
     match function {
         Function::Len => Ok(len_of(value)),
-        Function::Count => Ok(None),
+        Function::Count | Function::Min | Function::Max => Ok(None),
         Function::Upper => uppered(alloc, value),
         Function::Lower => lowered(alloc, value),
     }

@@ -1,6 +1,6 @@
 // What a filter may do with the values of a kind.
 ghost use Rattle.std.specs.Prelude.{◌≡◌};
-ghost use Rattle.flt_values.specs.Kinds.{class_of, same_class, kind_of_value, is_truth, is_measured, is_sliced, is_masked, is_searched, takes_call, kind_of_call};
+ghost use Rattle.flt_values.specs.Kinds.{class_of, same_class, kind_of_value, is_truth, is_measured, is_sliced, is_masked, is_number, is_searched, takes_call, kind_of_call};
 
 use flt_parse::Function;
 use pk_fields::ValueKind;
@@ -76,11 +76,18 @@ pub fn is_sliced(kind: ValueKind) -> bool
     matches!(kind, ValueKind::Ip4 | ValueKind::Ip6) || is_measured(kind)
 }
 
+/// Whether the values are numbers, which can be computed with.
+pub fn is_number(kind: ValueKind) -> bool
+    ensures { result ≡ is_number kind }
+{
+    matches!(kind, ValueKind::Uint(_))
+}
+
 /// Whether the values have bits that can be masked.
 pub fn is_masked(kind: ValueKind) -> bool
     ensures { result ≡ is_masked kind }
 {
-    matches!(kind, ValueKind::Uint(_))
+    is_number(kind)
 }
 
 /// Whether `matches` searches the values.
@@ -98,6 +105,7 @@ pub fn takes_call(function: Function, kind: ValueKind) -> bool
     match function {
         Function::Len => is_measured(kind),
         Function::Count => true,
+        Function::Min | Function::Max => is_number(kind),
         Function::Upper | Function::Lower => matches!(kind, ValueKind::Text),
     }
 }
@@ -108,6 +116,7 @@ pub fn kind_of_call(function: Function) -> ValueKind
 {
     match function {
         Function::Len | Function::Count => ValueKind::Uint(32),
+        Function::Min | Function::Max => ValueKind::Uint(64),
         Function::Upper | Function::Lower => ValueKind::Text,
     }
 }

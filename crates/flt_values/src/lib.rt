@@ -2,6 +2,7 @@
 //! and how single values are compared, sliced, masked and changed by functions.
 #![tactic(auto)]
 
+mod arithmetic;
 mod calls;
 mod inside;
 mod kinds;
@@ -12,13 +13,14 @@ mod slices;
 #[cfg(test)]
 mod tests;
 
+pub use arithmetic::{Extreme, calculate, extreme_of};
 pub use calls::{call, is_nonzero, len_of, lowered, masked, uppered};
 pub use inside::contains;
 pub use kinds::{
-    Class, class_of, is_masked, is_measured, is_searched, is_sliced, is_truth, kind_of_call,
-    kind_of_value, same_class, takes_call,
+    Class, class_of, is_masked, is_measured, is_number, is_searched, is_sliced, is_truth,
+    kind_of_call, kind_of_value, same_class, takes_call,
 };
-pub use literal::{Constant, Reading, read_quote, read_word};
+pub use literal::{Constant, Reading, read_quote, read_within, read_word};
 pub use order::{lies_between, octets_of, order_of, related, same_leading};
 pub use relation::{Relation, admits_prefix, kind_of_right, takes};
 pub use slices::{slice, span_of};

@@ -1,6 +1,7 @@
 // What the literals of filters write.
 ghost use Rattle.std.specs.Prelude.{◌≡◌, ◌^◌, nat_lt, IfOk};
-ghost use Rattle.flt_values.specs.Literals.{true_words, false_words, is_one_of, number_read, truth_of, prefix_of, leading_read, value_read, bits_of, address_of, address_read, ether_value, word_read, quote_read};
+ghost use Rattle.pk_text.specs.Number.{number_of};
+ghost use Rattle.flt_values.specs.Literals.{true_words, false_words, is_one_of, number_read, number_within, truth_of, prefix_of, leading_read, value_read, bits_of, address_of, address_read, ether_value, word_read, quote_read};
 
 use pk_base::{NoMemory, Octets, are_digits};
 use pk_fields::ValueKind;
@@ -58,7 +59,7 @@ pub fn read_word(
     ensures { IfOk result (λ reading. reading ≡ word_read prefixed kind text.now) }
 {
     match kind {
-        ValueKind::Uint(width) => Ok(number_read(width, read_number(text))),
+        ValueKind::Uint(width) => Ok(number_read(read_within(width, text))),
         ValueKind::Bool => Ok(value_read(read_truth(text).map(|truth| Value::Bool(truth)))),
         ValueKind::Bytes => {
             let bytes = read_bytes(alloc, text)?;
@@ -89,14 +90,23 @@ fn value_read(value: Option<Value>) -> Reading
     }
 }
 
-/// A number that a width has room for.
-fn number_read(width: u8, number: Option<Wide>) -> Reading
-    ensures { result ≡ number_read width number }
+fn number_read(number: Option<Wide>) -> Reading
+    ensures { result ≡ number_read number }
 {
     match number {
         None => Reading::Unread,
-        Some(Wide::Fits(n)) if fits_width(n, width) => value_read(Some(Value::Uint(n))),
-        Some(_) => Reading::Beyond,
+        Some(Wide::Beyond) => Reading::Beyond,
+        Some(Wide::Fits(n)) => value_read(Some(Value::Uint(n))),
+    }
+}
+
+/// Reads a word as a number, as far as a width has room for it. There is none where the word writes no number.
+pub fn read_within(width: u8, text: &str) -> Option<Wide>
+    ensures { result ≡ number_within width (number_of text.now) }
+{
+    match read_number(text) {
+        Some(Wide::Fits(n)) if !fits_width(n, width) => Some(Wide::Beyond),
+        number => number,
     }
 }
 

@@ -1,7 +1,7 @@
 //! Literals of each kind, slices of each form, and pairs of values of each class.
 
 use super::*;
-use flt_parse::{Function, Place, RangePart};
+use flt_parse::{Arithmetic, Function, Place, RangePart};
 use pk_base::Octets;
 use pk_fields::ValueKind;
 use pk_tree::Value;
@@ -618,5 +618,51 @@ fn masks_keep_their_bits(rt: HostRuntime) -> Result<(), Fail> {
     assert!(rt; masked(1, &Value::Ip4(1)).is_none());
     assert!(rt; is_nonzero(&Value::Uint(1)));
     assert!(rt; !is_nonzero(&Value::Uint(0)));
+    Ok(())
+}
+
+const RESULTS: [(Arithmetic, u64, u64, Option<u64>); 11] = [
+    (Arithmetic::Sum, 2, 3, Some(5)),
+    (Arithmetic::Sum, u64::MAX, 0, Some(u64::MAX)),
+    (Arithmetic::Sum, u64::MAX, 1, None),
+    (Arithmetic::Difference, 5, 3, Some(2)),
+    (Arithmetic::Difference, 5, 5, Some(0)),
+    (Arithmetic::Difference, 3, 5, None),
+    (Arithmetic::Product, 3, 5, Some(15)),
+    (Arithmetic::Product, u64::MAX, 1, Some(u64::MAX)),
+    (Arithmetic::Product, u64::MAX, 0, Some(0)),
+    (Arithmetic::Product, 1 << 32, 1 << 32, None),
+    (Arithmetic::Product, u64::MAX, u64::MAX, None),
+];
+
+fn number_of(value: Option<Value>) -> Option<u64> {
+    match value {
+        Some(Value::Uint(number)) => Some(number),
+        _ => None,
+    }
+}
+
+#[test]
+fn results_are_exact_or_none(rt: HostRuntime) -> Result<(), Fail> {
+    for (operation, left, right, want) in RESULTS {
+        let result = calculate(operation, &Value::Uint(left), &Value::Uint(right));
+        assert_eq!(rt; number_of(result), want);
+    }
+    assert!(rt; calculate(Arithmetic::Sum, &Value::Uint(1), &Value::Ip4(1)).is_none());
+    Ok(())
+}
+
+#[test]
+fn the_least_and_the_greatest_are_found(rt: HostRuntime) -> Result<(), Fail> {
+    let numbers = [
+        Value::Uint(7),
+        Value::Uint(3),
+        Value::Ip4(1),
+        Value::Uint(9),
+    ];
+    assert_eq!(rt; number_of(extreme_of(Extreme::Least, &numbers)), Some(3));
+    assert_eq!(rt; number_of(extreme_of(Extreme::Greatest, &numbers)), Some(9));
+    assert!(rt; extreme_of(Extreme::Least, &[]).is_none());
+    assert!(rt; extreme_of(Extreme::Greatest, &[Value::Bool(true)]).is_none());
     Ok(())
 }

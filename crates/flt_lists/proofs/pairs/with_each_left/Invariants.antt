@@ -1,0 +1,8 @@
+use Rattle.std.proofs.Common.{◌≡◌, ◌++◌, drop}
+use Rattle.std.specs.List.{filter_map}
+use Rattle.flt_values.specs.Arithmetic.{calculated}
+use Rattle.flt_lists.proofs.pairs.with_each_left.Given as goal
+
+abbrev pub invariant-loop-value : goal.invariant-loop-value
+invariant-loop-value l =
+    l.answers.items ++ filter_map (λ value. calculated l.operation value l.right) (drop l.value-index l.left) ≡ filter_map (λ value. calculated l.operation value l.right) l.left

@@ -1,0 +1,30 @@
+use Rattle.std.proofs.Common.{◌≡◌, ◌<◌, ◌+◌, ◌*◌, vec_len}
+use Rattle.std.specs.List.{All}
+use Rattle.flt_parse.specs.Written.{WrittenOperand, operand_of}
+use Rattle.flt_types.specs.Operands.{joined, parts, parts_right}
+use Rattle.flt_types.specs.Terms.{IsTerm}
+use Rattle.flt_types.proofs.operand.+terms.Given as goal
+
+abbrev pub decreases-term : goal.decreases-term
+decreases-term l = 4 * parts (operand_of l.operand.now) + 1
+
+abbrev pub decreases-part : goal.decreases-part
+decreases-part l = 4 * parts (operand_of l.operand.now)
+
+abbrev pub decreases-with : goal.decreases-with
+decreases-with l = 4 * parts_right l.right.now + 3
+
+abbrev pub decreases-compute : goal.decreases-compute
+decreases-compute l = 4 * parts (operand_of l.operand.now) + 2
+
+abbrev pub decreases-add_argument : goal.decreases-add_argument
+decreases-add_argument l = 4 * parts (operand_of l.operand.now) + 2
+
+abbrev pub invariant-term-rights : goal.invariant-term-rights
+invariant-term-rights l = record {
+  part : (o : WrittenOperand) × IsTerm l.standing o l.term × (joined l.rights.items o ≡ operand_of l.fn.operand);
+  within : All (λ r. parts_right r < parts (operand_of l.fn.operand)) l.rights.items;
+}
+
+abbrev pub decreases-term-rights : goal.decreases-term-rights
+decreases-term-rights l = vec_len l.rights

@@ -1,0 +1,6 @@
+use Rattle.std.proofs.Common.{◌≡◌}
+use Rattle.flt_types.specs.Terms.{are_numbers}
+use Rattle.flt_types.proofs.operand.are_numbers.Given as goal
+
+abbrev pub invariant-arguments : goal.invariant-arguments
+invariant-arguments l = are_numbers l.first ≡ are_numbers l.term
