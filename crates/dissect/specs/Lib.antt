@@ -5,6 +5,7 @@ pub mod DecodeRules
 pub mod Events
 pub mod Fragments
 pub mod FrameLayer
+pub mod MessageLayers
 pub mod Payloads
 pub mod Segments
 pub mod Stands

@@ -12,6 +12,7 @@ mod frame_layer;
 #[cfg(test)]
 mod frame_rows;
 mod headers;
+mod message_layers;
 mod messages;
 mod payload;
 mod pieces;
