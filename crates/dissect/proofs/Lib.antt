@@ -9,4 +9,6 @@ mod MessageLemmas
 pub mod NoRules
 mod Opens
 mod Segmenting
+mod Spaces
+mod StreamApps
 mod Taken

@@ -23,6 +23,7 @@ use pk_fields::FieldSet;
 use pk_tree::Tree;
 use std::alloc::Global;
 use std::marker::Model;
+use tcp_messages::MessageStreams;
 use tcp_streams::Streams;
 
 /// Why a frame has no tree.
@@ -85,7 +86,7 @@ impl Dissector {
             state: State {
                 joins: Joins::new(alloc),
                 udp: Conversations::new(alloc),
-                streams: Streams::new(alloc),
+                streams: MessageStreams::new(alloc),
             },
         }
     }
@@ -103,7 +104,7 @@ impl Dissector {
     pub fn streams(&self) -> &Streams
         ensures { (past : List FrameValue) → Stands past self.now → StandsFor (segments_of (events_of past)) result.now }
     {
-        &self.state.streams
+        self.state.streams.streams()
     }
 
     /// The tree of the next frame, given those that were taken before. Frames are taken in the order of their numbers,

@@ -4,10 +4,12 @@ ghost use Rattle.pk_fields.specs.Ids.{TCP};
 ghost use Rattle.dissect.specs.Events.{Event};
 ghost use Rattle.dissect.specs.Payloads.{LastIs};
 ghost use Rattle.dissect.specs.Segments.{segment_from};
-ghost use Rattle.dissect.specs.Stands.{StandsAt, IsWalked, IsReady, AddsAtMost, AddsOneThenEnds};
+ghost use Rattle.dissect.specs.Stands.{StandsAt, IsWalked, IsReady, AddsAtMost, AddsFew, AddsOneThenEnds};
 ghost use Rattle.dissect.specs.Walks.{IsTodoInside, segment_met};
 
-use crate::data_layer::add_data;
+use crate::applications::stream_app;
+use crate::frame_layer::is_cut;
+use crate::message_layers::add_carried;
 use crate::payload::tell_segment;
 use crate::state::State;
 use crate::todo::Todo;
@@ -17,7 +19,8 @@ use pk_tree::{Endpoint, PacketHead, TcpHead, TreeBuilder};
 use tcp_streams::Segment;
 
 impl State {
-    /// Takes a segment of TCP: tells its place in its stream, and shows what it carries as data.
+    /// Takes a segment of TCP: tells its place in its stream, and shows the messages whose last bytes it brings, or what it carries as
+    /// data.
     pub(crate) fn segment(
         &mut self,
         frame: &Frame,
@@ -28,18 +31,20 @@ impl State {
     ) -> Result<Todo, NoMemory>
         requires inside { IsInside tree.old.buffers span }
         requires last { LastIs TCP tree.old.layers }
+        requires bytes { length frame.now.bytes < 2 ^ 32 }
         requires ready { IsReady 2 self.old tree.old }
         ensures inside { IfOk result (λ todo. IsTodoInside tree.new.buffers todo) }
         ensures walked { IfOk result (λ todo. (es : List Event) → StandsAt es self.old → IsWalked (segment_met frame.now packet tree.old es head span) self.new tree.new todo) }
         ensures adds { IfOk result (λ todo. AddsOneThenEnds self.old self.new todo) }
         ensures added { AddsAtMost 1 self.old self.new }
-        ensures buffers { tree.new.buffers ≡ tree.old.buffers }
-        ensures most { OnOk result (length tree.new.layers ≤ length tree.old.layers + 2) }
+        ensures few { IfOk result (λ todo. AddsFew 4 tree.old tree.new todo) }
     {
         let segment = segment_from(frame.number, &packet, head, tree.part(span)?);
-        let taken = self.streams.take(&segment)?;
-        tell_segment(&taken, span, tree)?;
-        add_data(span, tree)?;
+        let app = stream_app(head.source, head.target);
+        let _streams = self.streams.streams();
+        let met = self.streams.take(&segment, app)?;
+        tell_segment(&met.taken, span, tree)?;
+        add_carried(app, &met, is_cut(frame), span, tree)?;
         Ok(Todo::Done)
     }
 }

@@ -1,6 +1,6 @@
 use crate::conversations::Conversations;
 use ip_join::Joins;
-use tcp_streams::Streams;
+use tcp_messages::MessageStreams;
 
 /// What is kept of earlier frames' packets.
 #[derive(Drop)]
@@ -8,6 +8,6 @@ pub(crate) struct State {
     /// The fragments of datagrams that aren't whole yet.
     pub joins: Joins,
     pub udp: Conversations,
-    /// The streams of TCP.
-    pub streams: Streams,
+    /// The streams of TCP, and their messages.
+    pub streams: MessageStreams,
 }
