@@ -13,6 +13,10 @@ mod frame_layer;
 mod frame_rows;
 mod headers;
 mod message_layers;
+#[cfg(test)]
+mod message_rows;
+#[cfg(test)]
+mod message_tests;
 mod messages;
 mod payload;
 mod pieces;

@@ -33,7 +33,7 @@ const ACK: u8 = 16;
 const SYN_ACK: u8 = 18;
 
 /// A segment behind other headers, up to its ports (RFC 9293, 3.1).
-fn segment(
+pub(crate) fn segment(
     alloc: Global,
     headers: &[&[u8]],
     seq: u32,
