@@ -7,8 +7,9 @@ use Rattle.dissect.specs.declared.todo.Head.{Head}
 use Rattle.dissect.specs.declared.todo.Todo.{Todo}
 use Rattle.dissect.specs.declared.todo.Todo.TheVariants as todos
 use Rattle.dissect.specs.Events.{Event}
-use Rattle.dissect.specs.Stands.{StandsAt, IsWalked}
+use Rattle.dissect.specs.Stands.{StandsAt, IsToldAs, IsWalked}
 use Rattle.dissect.specs.Walks.{Walk, going, stop, rest_met, head_met, chain, all_met, layers_left}
+use Rattle.dissect.proofs.Told.{told_same, told_head, told_on}
 
 -- after some headers the chain of those that are left is that of all of them
 abbrev pub Goes : Frame → ℕ → State → TreeShown → Todo → ℕ → State → TreeShown → Todo → Type 0
@@ -17,12 +18,12 @@ Goes frame most before t0 first left state t todo =
 
 pub goes-first : (frame : Frame) (most : ℕ) (state : State) (t : TreeShown) (first : Todo) → Goes frame most state t first most state t first
 goes-first frame most state t first =
-    λ es stands. (going t es first, record { stands = stands; tree = refl; todo = refl }, refl)
+    λ es stands. (going t es first, record { stands = stands; tree = told_same state first t t refl; todo = refl }, refl)
 
 -- a walk is told by its parts
-is_walk : (w : Walk) (state : State) (t : TreeShown) (todo : Todo) → IsWalked w state t todo → w ≡ going t w.events todo
-is_walk w state t todo walked =
-    ap (λ (u : TreeShown). going u w.events w.todo) (sym walked.tree) ∙ ap (λ (x : Todo). going t w.events x) (sym walked.todo)
+is_walk : (w : Walk) (t : TreeShown) (todo : Todo) → t ≡ w.tree → todo ≡ w.todo → w ≡ going t w.events todo
+is_walk w t todo tree is =
+    ap (λ (u : TreeShown). going u w.events w.todo) (sym tree) ∙ ap (λ (x : Todo). going t w.events x) (sym is)
 
 chain-head : (frame : Frame) (left : ℕ) (t : TreeShown) (es : List Event) (head : Head) → 0 < left
     → chain left frame (going t es (todos.Head head)) ≡ chain (left - 1) frame (head_met frame head t es)
@@ -39,7 +40,7 @@ pub goes-on : (frame : Frame) (most : ℕ) (before : State) (t0 : TreeShown) (fi
 goes-on frame most before t0 first left state t now head after t1 todo some is_head goes met = λ es stands.
     let (w, walked, is) = goes es stands in
     let one : going t w.events (todos.Head head) ≡ w =
-    ap (λ (x : Todo). going t w.events x) (sym is_head) ∙ sym (is_walk w state t now walked) in (
+    ap (λ (x : Todo). going t w.events x) (sym is_head) ∙ sym (is_walk w t now (told_head state now head w.tree t is_head walked.tree) walked.todo) in (
       head_met frame head t w.events,
       met w.events walked.stands,
       sym (chain-head frame left t w.events head some) ∙ ap (chain left frame) one ∙ is,
@@ -55,10 +56,11 @@ pub goes-done : (frame : Frame) (most : ℕ) (before : State) (t0 : TreeShown) (
     → (es : List Event) → StandsAt es before → IsWalked (chain most frame (going t0 es first)) state t todos.Done
 goes-done frame most before t0 first left state t now done goes = λ es stands.
     let (w, walked, is) = goes es stands in
-    let ended : w ≡ stop t w.events = is_walk w state t now walked ∙ ap (λ (x : Todo). going t w.events x) done in
+    let ended : w ≡ stop w.tree w.events = is_walk w w.tree todos.Done refl (sym done ∙ walked.todo) in
     let end : w ≡ chain most frame (going t0 es first) =
-    ended ∙ sym (chain-stop left frame t w.events) ∙ ap (chain left frame) (sym ended) ∙ is in
-    subst (λ (v : Walk). IsWalked v state t todos.Done) end (record { stands = walked.stands; tree = walked.tree; todo = sym done ∙ walked.todo })
+    ended ∙ sym (chain-stop left frame w.tree w.events) ∙ ap (chain left frame) (sym ended) ∙ is in
+    subst (λ (v : Walk). IsWalked v state t todos.Done) end
+    (record { stands = walked.stands; tree = subst (λ (x : Todo). IsToldAs state x w.tree t) done walked.tree; todo = sym done ∙ walked.todo })
 
 pub goes-rest : (frame : Frame) (most : ℕ) (before : State) (t0 : TreeShown) (first : Todo) (left : ℕ) (state : State) (t : TreeShown) (now : Todo) (head : Head) (after : State) (t1 : TreeShown) (todo : Todo)
     → left ≡ 0 → now ≡ todos.Head head → Goes frame most before t0 first left state t now
@@ -69,16 +71,25 @@ goes-rest frame most before t0 first left state t now head after t1 todo none is
     let (w, walked, is) = goes es stands in
     let rest : IsWalked (rest_met t w.events head.span) after t1 todo = met w.events walked.stands in
     let one : going t w.events (todos.Head head) ≡ w =
-    ap (λ (x : Todo). going t w.events x) (sym is_head) ∙ sym (is_walk w state t now walked) in
+    ap (λ (x : Todo). going t w.events x) (sym is_head) ∙ sym (is_walk w t now (told_head state now head w.tree t is_head walked.tree) walked.todo) in
     let end : rest_met t w.events head.span ≡ chain most frame (going t0 es first) =
     ap (chain zero frame) one ∙ ap (λ (n : ℕ). chain n frame w) (sym none) ∙ is in
-    subst (λ (v : Walk). IsWalked v after t1 todos.Done) end (record { stands = rest.stands; tree = rest.tree; todo = refl })
+    subst (λ (v : Walk). IsWalked v after t1 todos.Done) end (record { stands = rest.stands; tree = subst (λ (x : Todo). IsToldAs after x (rest_met t w.events head.span).tree t1) rest.todo rest.tree; todo = refl })
 
 -- the first header, and then the others
 pub all-met : (frame : Frame) (w : Walk) (state : State) (t : TreeShown) (todo : Todo) (after : State) (t1 : TreeShown)
-    → IsWalked w state t todo
+    → after.follows ≡ state.follows → IsWalked w state t todo
     → IsWalked (chain (layers_left t) frame (going t w.events todo)) after t1 todos.Done
     → IsWalked (all_met frame w) after t1 todos.Done
 unfolding all_met
-all-met frame w state t todo after t1 walked rest =
-    subst (λ (v : Walk). IsWalked (chain (layers_left v.tree) frame v) after t1 todos.Done) (sym (is_walk w state t todo walked)) rest
+all-met frame w state t todos.Done after t1 same walked rest =
+    let ended : w ≡ stop w.tree w.events = is_walk w w.tree todos.Done refl walked.todo in
+    let all : w ≡ chain (layers_left w.tree) frame w =
+    ended ∙ sym (chain-stop (layers_left w.tree) frame w.tree w.events) ∙ ap (chain (layers_left w.tree) frame) (sym ended) in
+    let none : IsWalked (stop t w.events) after t1 todos.Done =
+    subst (λ (v : Walk). IsWalked v after t1 todos.Done) (chain-stop (layers_left t) frame t w.events) rest in
+    subst (λ (v : Walk). IsWalked v after t1 todos.Done) all
+    (record { stands = none.stands; tree = told_on state after w.tree t t1 same walked.tree none.tree; todo = walked.todo })
+all-met frame w state t (todos.Head head) after t1 same walked rest =
+    subst (λ (v : Walk). IsWalked (chain (layers_left v.tree) frame v) after t1 todos.Done)
+    (sym (is_walk w t (todos.Head head) (told_head state (todos.Head head) head w.tree t refl walked.tree) walked.todo)) rest

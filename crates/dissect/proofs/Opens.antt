@@ -1,5 +1,5 @@
 -- How much the headers of a frame add to what is kept, one header after the other.
-use Rattle.std.proofs.Common.{◌≡◌, subst, arith}
+use Rattle.std.proofs.Common.{◌≡◌, ◌∙◌, subst, arith}
 use Rattle.dissect.specs.declared.state.State.{State}
 use Rattle.dissect.specs.declared.todo.Head.{Head}
 use Rattle.dissect.specs.declared.todo.Todo.{Todo}
@@ -14,11 +14,11 @@ pub room-now : (state : State) (now : Todo) (head : Head) → now ≡ todos.Head
 room-now state now head is_head room = subst (HasRoom state) is_head room
 
 pub adds-both : (first before state : State) → AddsAtMost 0 first before → AddsAtMost 1 before state → AddsAtMost 1 first state
-adds-both first before state none adds = record { udp = omega (arith, none.udp, adds.udp); tcp = omega (arith, none.tcp, adds.tcp) }
+adds-both first before state none adds = record { udp = omega (arith, none.udp, adds.udp); tcp = omega (arith, none.tcp, adds.tcp); follows = adds.follows ∙ none.follows }
 
 by_none : (first before state : State) (todo : Todo) → AddsAtMost 0 first before → AddsOneThenEnds before state todo → AddsOneThenEnds first state todo
 by_none first before state todos.Done none adds = adds-both first before state none adds
-by_none first before state (todos.Head head) none adds = record { udp = omega (arith, none.udp, adds.udp); tcp = omega (arith, none.tcp, adds.tcp) }
+by_none first before state (todos.Head head) none adds = record { udp = omega (arith, none.udp, adds.udp); tcp = omega (arith, none.tcp, adds.tcp); follows = adds.follows ∙ none.follows }
 
 -- a header more
 pub adds-on : (first before state : State) (now todo : Todo) (head : Head) → now ≡ todos.Head head → AddsOneThenEnds first before now → AddsOneThenEnds before state todo
@@ -33,4 +33,4 @@ room-on before state (todos.Head head) room adds = record { udp = omega (arith, 
 -- in the end at most one
 pub adds-most : (first state : State) (todo : Todo) → AddsOneThenEnds first state todo → AddsAtMost 1 first state
 adds-most first state todos.Done adds = adds
-adds-most first state (todos.Head head) adds = record { udp = omega (arith, adds.udp); tcp = omega (arith, adds.tcp) }
+adds-most first state (todos.Head head) adds = record { udp = omega (arith, adds.udp); tcp = omega (arith, adds.tcp); follows = adds.follows }

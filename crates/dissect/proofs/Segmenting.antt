@@ -1,5 +1,5 @@
 -- A segment more: what is shown of it, and what is kept.
-use Rattle.std.proofs.Common.{◌≡◌, List, ◌∷◌, refl, ◌∙◌, ap, subst}
+use Rattle.std.proofs.Common.{◌≡◌, true, List, ◌∷◌, refl, ◌∙◌, ap, subst}
 use Rattle.pk_base.specs.declared.span.Span.{Span}
 use Rattle.pk_buffer.specs.Buffers.{bytes_of}
 use Rattle.pk_tree.specs.declared.heads.PacketHead.{PacketHead}
@@ -23,10 +23,12 @@ use Rattle.dissect.specs.Segments.{segment_from, segments_of}
 use Rattle.dissect.specs.Stands.{StandsAt, IsWalked}
 use Rattle.dissect.specs.Walks.{segment_met}
 use Rattle.dissect.proofs.Joining.{stands-segment}
+use Rattle.dissect.proofs.Told.{told_same}
 
 -- a segment that was taken, told and shown
 pub record IsShown (frame : Frame) (packet : PacketHead) (head : TcpHead) (span : Span) (segment : Segment) (taken : Taken) (messages : List ShownMessage) (old new : State) (t u v : TreeShown) : Type 0 where
   pub segment_is : segment ≡ segment_from frame.number packet head (bytes_of t.buffers span)
+  pub follows : old.follows ≡ true
   pub joins : new.joins ≡ old.joins
   pub udp : new.udp ≡ old.udp
   pub stands : (past : List Segment) → ReadsFor app_of_segment past old.streams → StandsFor past (streams_in old.streams)
@@ -43,14 +45,15 @@ shown-walked frame packet head span segment taken messages old new t u v is es s
     let past = segments_of es in
     let bytes = bytes_of t.buffers span in
     let cut = is_cut frame in
-    let reads = stands.streams in
+    let reads = stands.streams is.follows in
     let shown : v ≡ carried_over (app_of_segment segment) cut span (segment_told t (taken_after past segment) span) (shown_after (app_of_segment segment) past segment) =
     is.shown ∙ ap (λ (x : TreeShown). carried_over (app_of_segment segment) cut span x messages)
     (is.told ∙ ap (λ (k : Taken). segment_told t k span) (is.taken_is past (is.stands past reads)))
     ∙ ap (carried_over (app_of_segment segment) cut span (segment_told t (taken_after past segment) span)) (is.messages_is past reads) in
     record {
       stands = stands-segment es frame.number packet head bytes old new stands is.joins is.udp
-          (subst (λ (s : Segment). ReadsFor app_of_segment (s ∷ past) new.streams) is.segment_is (is.kept past reads));
-      tree = shown ∙ ap (λ (s : Segment). carried_over (app_of_segment s) cut span (segment_told t (taken_after past s) span) (shown_after (app_of_segment s) past s)) is.segment_is;
+          (λ _. subst (λ (s : Segment). ReadsFor app_of_segment (s ∷ past) new.streams) is.segment_is (is.kept past reads));
+      tree = told_same new todos.Done _ v
+          (shown ∙ ap (λ (s : Segment). carried_over (app_of_segment s) cut span (segment_told t (taken_after past s) span) (shown_after (app_of_segment s) past s)) is.segment_is);
       todo = refl;
     }

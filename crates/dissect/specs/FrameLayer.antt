@@ -1,7 +1,7 @@
 -- The first layer of a frame, which tells of the frame itself.
-use Rattle.std.specs.Prelude.{ℕ, Bool, nat_lt, ℤ, List, [], ◌∷◌, ◌++◌, length, Option, Some, None}
+use Rattle.std.specs.Prelude.{ℕ, Bool, nat_lt, ◌||◌, ℤ, List, [], ◌∷◌, ◌++◌, length, Option, Some, None}
 use Rattle.pk_base.specs.declared.span.Span.{Span}
-use Rattle.pk_fields.specs.FieldSets.{every_field}
+use Rattle.pk_fields.specs.FieldSets.{is_in, every_field}
 use Rattle.pk_fields.specs.Ids.{FRAME, FRAME_NUMBER, FRAME_TIME_EPOCH, FRAME_TIME_RELATIVE, FRAME_TIME_DELTA, FRAME_LEN, FRAME_CAP_LEN}
 use Rattle.pk_tree.specs.declared.heads.Mode.TheVariants.{Plain}
 use Rattle.pk_tree.specs.declared.layout.Step.{Step}
@@ -38,6 +38,16 @@ frame_layout before frame =
     Made FRAME_LEN (Uint frame.original) ∷
     Made FRAME_CAP_LEN (Uint (length frame.bytes)) ∷
     []
+
+-- one of this layer's fields is asked
+abbrev pub asks_frame : List ℕ → Bool
+asks_frame wanted =
+    is_in wanted FRAME_NUMBER
+    || is_in wanted FRAME_TIME_EPOCH
+    || is_in wanted FRAME_TIME_RELATIVE
+    || is_in wanted FRAME_TIME_DELTA
+    || is_in wanted FRAME_LEN
+    || is_in wanted FRAME_CAP_LEN
 
 -- the tree with this layer alone and the items of some fields, given the times of the frames before
 unfoldable pub kept_frame : List ℕ → Times → Frame → TreeShown

@@ -4,6 +4,7 @@ pub mod DataLayer
 pub mod DecodeRules
 pub mod Events
 pub mod Fragments
+pub mod Followed
 pub mod FrameLayer
 pub mod MessageLayers
 pub mod Payloads

@@ -35,10 +35,13 @@ place_told t taken = with_ack (with_number (with_number t TCP_STREAM taken.strea
 abbrev pub with_lost : TreeShown → ℕ → TreeShown
 with_lost t lost = if lost == 0 then t else with_number t TCP_LOST lost
 
--- what a segment is to its stream: its place, how many bytes were captured of it, the bytes, and the gaps that it passes
+-- what a segment carries: how many bytes were captured of it, and the bytes
+abbrev pub carried_told : TreeShown → Span → TreeShown
+carried_told t span = with_payload (with_number t TCP_LEN span.len) TCP_PAYLOAD span
+
+-- what a segment is to its stream: its place, what it carries, and the gaps that it passes
 unfoldable pub segment_told : TreeShown → Taken → Span → TreeShown
-segment_told t taken span =
-    with_lost (with_payload (with_number (place_told t taken) TCP_LEN span.len) TCP_PAYLOAD span) (lost_bytes taken.lost)
+segment_told t taken span = with_lost (carried_told (place_told t taken) span) (lost_bytes taken.lost)
 
 abbrev pub LastIs : ℕ → List Layer → Type 0
 LastIs proto layers = (0 < length layers) × (last_proto layers ≡ proto)

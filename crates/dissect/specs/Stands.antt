@@ -1,5 +1,5 @@
 -- What a dissector keeps, and what it stands for.
-use Rattle.std.specs.Prelude.{◌≡◌, ℕ, ◌+◌, ◌-◌, ◌*◌, ◌<◌, ◌≤◌, ◌^◌, Bool, false, List, length}
+use Rattle.std.specs.Prelude.{◌≡◌, ℕ, ◌+◌, ◌-◌, ◌*◌, ◌<◌, ◌≤◌, ◌^◌, Bool, true, false, List, length}
 use Rattle.capture_read.specs.declared.frame.Frame.{Frame}
 use Rattle.capture_read.specs.FrameList.{captured_bytes}
 use Rattle.pk_tree.specs.Trees.{TreeShown}
@@ -13,6 +13,7 @@ use Rattle.dissect.specs.declared.todo.Todo.{Todo}
 use Rattle.dissect.specs.declared.todo.Todo.TheVariants as todos
 use Rattle.dissect.specs.Conversations.{udp_opened}
 use Rattle.dissect.specs.Events.{Event}
+use Rattle.dissect.specs.Followed.{asks_streams, LacksOnly}
 use Rattle.dissect.specs.Fragments.{fragments_of}
 use Rattle.dissect.specs.MessageLayers.{app_of_segment}
 use Rattle.dissect.specs.Segments.{segments_of}
@@ -20,10 +21,11 @@ use Rattle.dissect.specs.Times.{AreTimes}
 use Rattle.dissect.specs.Trees.{times_of, events_of}
 use Rattle.dissect.specs.Walks.{Walk}
 
--- a dissector: the rules for ports, whether it answered an error, how many frames it took and how many captured bytes they
--- had, and what later frames are read by
+-- a dissector: the rules for ports, the fields that it was made for, whether it answered an error, how many frames it took and
+-- how many captured bytes they had, and what later frames are read by
 pub record DissectorShown : Type 0 where
   pub decode : DecodeAs
+  pub wanted : List ℕ
   pub spent : Bool
   pub taken : ℕ
   pub captured : ℕ
@@ -31,16 +33,17 @@ pub record DissectorShown : Type 0 where
   pub state : State
 
 -- what is kept of events: the fragments of datagrams that aren't whole yet, the conversations over UDP, and the streams of TCP with
--- their messages
+-- their messages, where they are followed
 pub record StandsAt (es : List Event) (state : State) : Type 0 where
   pub joins : JoinsStandFor (fragments_of es) state.joins
   pub udp : state.udp ≡ udp_opened es
-  pub streams : ReadsFor app_of_segment (segments_of es) state.streams
+  pub streams : state.follows ≡ true → ReadsFor app_of_segment (segments_of es) state.streams
 
--- at most so many conversations over UDP were opened, and segments of TCP taken
+-- at most so many conversations over UDP were opened, and segments of TCP taken; streams are followed as before
 pub record AddsAtMost (most : ℕ) (old new : State) : Type 0 where
   pub udp : length new.udp ≤ length old.udp + most
   pub tcp : taken_so_far (streams_in new.streams) ≤ taken_so_far (streams_in old.streams) + most
+  pub follows : new.follows ≡ old.follows
 
 -- a header adds at most one, and then nothing more is to be read of its frame
 abbrev pub AddsOneThenEnds : State → State → Todo → Type 0
@@ -74,10 +77,23 @@ abbrev pub HasSpace : ℕ → TreeShown → Todo → Type 0
 HasSpace left t todos.Done = Unit {0}
 HasSpace left t (todos.Head head) = (length t.layers + 6 * left ≤ 224) × (length t.buffers + left ≤ 34)
 
+-- the tree that a way leads to; where streams aren't followed and the way has ended, it lacks only what has nothing to show, if nothing
+-- of streams is asked
+pub record IsToldAs (state : State) (next : Todo) (whole t : TreeShown) : Type 0 where
+  pub wanted : t.wanted ≡ whole.wanted
+  pub same : (next ≡ todos.Done → state.follows ≡ true) → t ≡ whole
+  pub lacks : asks_streams whole.wanted ≡ false → LacksOnly whole t
+
+-- how far a frame is read where no segment was met, with what is kept then
+pub record IsMet (w : Walk) (state : State) (t : TreeShown) (next : Todo) : Type 0 where
+  pub stands : StandsAt w.events state
+  pub tree : t ≡ w.tree
+  pub todo : next ≡ w.todo
+
 -- how far a frame is read, with what is kept then
 pub record IsWalked (w : Walk) (state : State) (t : TreeShown) (next : Todo) : Type 0 where
   pub stands : StandsAt w.events state
-  pub tree : t ≡ w.tree
+  pub tree : IsToldAs state next w.tree t
   pub todo : next ≡ w.todo
 
 -- the dissector after it took these frames, the newest first
@@ -88,14 +104,19 @@ pub record IsAfter (past : List Frame) (d : DissectorShown) : Type 0 where
   pub times : d.times ≡ times_of past
   pub state : StandsAt (events_of past) d.state
 
--- a dissector stands for the frames that it took
+-- a dissector that follows streams stands for the frames that it took
 unfoldable pub Stands : List Frame → DissectorShown → Type 0
-Stands past d = IsAfter past d
+Stands past d = IsAfter past d × (d.state.follows ≡ true)
+
+-- any dissector does so as far as the fields go that it was made for
+unfoldable pub StandsWithin : List Frame → DissectorShown → Type 0
+StandsWithin past d = IsAfter past d
 
 -- a dissector that has answered no error has opened at most as many conversations over UDP as it took frames, and taken at most
--- as many segments
+-- as many segments; one that follows no streams was made for fields that ask nothing of them
 pub record IsKept (d : DissectorShown) : Type 0 where
   pub times : AreTimes d.times
   pub udp : length d.state.udp < 2 ^ 32
   pub udp_few : d.spent ≡ false → length d.state.udp ≤ d.taken
   pub tcp_few : d.spent ≡ false → taken_so_far (streams_in d.state.streams) ≤ d.taken
+  pub asked : d.state.follows ≡ false → asks_streams d.wanted ≡ false

@@ -1,12 +1,14 @@
 ghost use Rattle.std.specs.Prelude.{◌≡◌, ◌↔◌, ◌+◌, ◌≤◌, ◌<◌, ◌^◌, ◌||◌, List, [], ◌∷◌, true, false, length, Err, is_err, IfOk, IfSome, OnOk, OnErr};
 ghost use Rattle.capture_read.specs.declared.frame.Frame.{Frame as FrameValue};
-ghost use Rattle.pk_tree.specs.Trees.{IsKept as IsKeptTree};
+ghost use Rattle.pk_tree.specs.Trees.{IsKept as IsKeptTree, IsTree};
 ghost use Rattle.dissect.specs.Conversations.{udp_opened};
 ghost use Rattle.dissect.specs.DecodeRules.{AreRules};
 ghost use Rattle.dissect.specs.Events.{Event};
 ghost use Rattle.tcp_streams.specs.Standing.{StandsFor};
+ghost use Rattle.pk_fields.specs.Ids.{field_count};
+ghost use Rattle.dissect.specs.Followed.{asks_any, asks_messages, asks_streams, HasSameValues};
 ghost use Rattle.dissect.specs.Segments.{segments_of};
-ghost use Rattle.dissect.specs.Stands.{Stands, StandsAt, IsWalked, HasRoomForOne, AddsAtMost};
+ghost use Rattle.dissect.specs.Stands.{Stands, StandsWithin, StandsAt, IsAfter, IsWalked, HasRoomForOne, AddsAtMost};
 ghost use Rattle.dissect.specs.Times.{IsTime, AreTimes};
 ghost use Rattle.dissect.specs.Trees.{tree_at, events_of, kept_walk};
 
@@ -19,7 +21,7 @@ use crate::todo::Todo;
 use capture_read::Frame;
 use ip_join::Joins;
 use pk_base::NoMemory;
-use pk_fields::FieldSet;
+use pk_fields::{FieldId, FieldSet, ids};
 use pk_tree::Tree;
 use std::alloc::Global;
 use std::marker::Model;
@@ -39,6 +41,7 @@ pub enum TakeFault {
 pub struct Dissector {
     alloc: Global,
     decode: DecodeAs,
+    wanted: FieldSet,
     spent: bool,
     taken: u32,
     captured: u32,
@@ -47,11 +50,12 @@ pub struct Dissector {
 }
 
 impl Model for Dissector {
-    ghost use Rattle.std.specs.Prelude.{ℕ, Bool, refl};
+    ghost use Rattle.std.specs.Prelude.{ℕ, Bool, List, refl};
     ghost use Rattle.std.specs.Coded.{code_by, coded×, coded_ℕ, coded_bool};
     ghost use Rattle.dissect.specs.contracts.decode.DecodeAs as decode_row;
     ghost use Rattle.dissect.specs.contracts.state.State as state_row;
     ghost use Rattle.dissect.specs.contracts.times.Times as times_row;
+    ghost use Rattle.pk_fields.specs.contracts.field_set.FieldSet as set_row;
     ghost use Rattle.dissect.specs.declared.decode.DecodeAs.{DecodeAs as DecodeAsValue};
     ghost use Rattle.dissect.specs.declared.state.State.{State as StateValue};
     ghost use Rattle.dissect.specs.declared.times.Times.{Times as TimesValue};
@@ -59,16 +63,16 @@ impl Model for Dissector {
 
     ghost Value = { DissectorShown };
 
-    ghost coded = { code_by ((DecodeAsValue × Bool) × ((ℕ × ℕ) × (TimesValue × StateValue))) (coded× (coded× decode_row.the_row.coded coded_bool) (coded× (coded× coded_ℕ coded_ℕ) (coded× times_row.the_row.coded state_row.the_row.coded))) (λ d. ((d.decode, d.spent), ((d.taken, d.captured), (d.times, d.state)))) (λ p. record { decode = p.0.0; spent = p.0.1; taken = p.1.0.0; captured = p.1.0.1; times = p.1.1.0; state = p.1.1.1 }) (λ _. refl) };
+    ghost coded = { code_by ((DecodeAsValue × (List ℕ × Bool)) × ((ℕ × ℕ) × (TimesValue × StateValue))) (coded× (coded× decode_row.the_row.coded (coded× set_row.the_row.coded coded_bool)) (coded× (coded× coded_ℕ coded_ℕ) (coded× times_row.the_row.coded state_row.the_row.coded))) (λ d. ((d.decode, (d.wanted, d.spent)), ((d.taken, d.captured), (d.times, d.state)))) (λ p. record { decode = p.0.0; wanted = p.0.1.0; spent = p.0.1.1; taken = p.1.0.0; captured = p.1.0.1; times = p.1.1.0; state = p.1.1.1 }) (λ _. refl) };
 
-    ghost view = { λ d. record { decode = d.decode; spent = d.spent; taken = d.taken; captured = d.captured; times = d.times; state = d.state } };
+    ghost view = { λ d. record { decode = d.decode; wanted = d.wanted; spent = d.spent; taken = d.taken; captured = d.captured; times = d.times; state = d.state } };
 
-    ghost invariant = { λ d. IsKept (record { decode = d.decode; spent = d.spent; taken = d.taken; captured = d.captured; times = d.times; state = d.state }) };
+    ghost invariant = { λ d. IsKept (record { decode = d.decode; wanted = d.wanted; spent = d.spent; taken = d.taken; captured = d.captured; times = d.times; state = d.state }) };
 }
 
 impl Dissector {
     /// A dissector that has taken no frame yet.
-    #[tactic(auto, unfolding(crate::specs::Stands::Stands, crate::specs::Fragments::fragments_of, crate::specs::Conversations::udp_opened, crate::specs::Segments::segments_of, crate::specs::Trees::times_of, crate::specs::Trees::events_of))]
+    #[tactic(auto, unfolding(crate::specs::Stands::Stands))]
     pub fn new(alloc: Global, decode: DecodeAs) -> Dissector
         requires rules { AreRules decode.rules }
         ensures stands { Stands [] result }
@@ -76,9 +80,37 @@ impl Dissector {
         ensures spent { result.spent ≡ false }
         ensures rules { result.decode ≡ decode }
     {
+        Dissector::following(alloc, decode, FieldSet::all(), true)
+    }
+
+    /// As `new`, for trees of the wanted fields. Where they ask nothing of the streams of TCP, none is followed, which saves
+    /// their time and memory.
+    #[tactic(auto, unfolding(crate::specs::Stands::StandsWithin))]
+    pub fn for_fields(alloc: Global, decode: DecodeAs, wanted: FieldSet) -> Dissector
+        requires rules { AreRules decode.rules }
+        ensures stands { StandsWithin [] result }
+        ensures wanted { result.wanted ≡ wanted }
+        ensures counted { (result.taken ≡ 0) × (result.captured ≡ 0) }
+        ensures spent { result.spent ≡ false }
+        ensures rules { result.decode ≡ decode }
+    {
+        Dissector::following(alloc, decode, wanted, asks_streams(&wanted))
+    }
+
+    #[tactic(auto, unfolding(crate::specs::Fragments::fragments_of, crate::specs::Conversations::udp_opened, crate::specs::Segments::segments_of, crate::specs::Trees::times_of, crate::specs::Trees::events_of))]
+    fn following(alloc: Global, decode: DecodeAs, wanted: FieldSet, follows: bool) -> Dissector
+        requires asked { follows ≡ false → asks_streams wanted ≡ false }
+        ensures after { IsAfter [] result }
+        ensures follows { result.state.follows ≡ follows }
+        ensures wanted { result.wanted ≡ wanted }
+        ensures counted { (result.taken ≡ 0) × (result.captured ≡ 0) }
+        ensures spent { result.spent ≡ false }
+        ensures rules { result.decode ≡ decode }
+    {
         Dissector {
             alloc,
             decode,
+            wanted,
             spent: false,
             taken: 0,
             captured: 0,
@@ -86,23 +118,29 @@ impl Dissector {
             state: State {
                 joins: Joins::new(alloc),
                 udp: Conversations::new(alloc),
+                follows,
                 streams: MessageStreams::new(alloc),
             },
         }
     }
 
     /// How many conversations over UDP the frames taken have opened.
-    #[tactic(auto, unfolding(crate::specs::Stands::Stands))]
+    #[tactic(auto, unfolding(crate::specs::Stands::Stands, crate::specs::Stands::StandsWithin))]
     pub fn udp_count(&self) -> u32
-        ensures { (past : List FrameValue) → Stands past self.now → result ≡ length (udp_opened (events_of past)) }
+        ensures count { (past : List FrameValue) → Stands past self.now → result ≡ length (udp_opened (events_of past)) }
+        ensures within { (past : List FrameValue) → StandsWithin past self.now
+            → result ≡ length (udp_opened (events_of past)) }
     {
         self.state.udp.count()
     }
 
-    /// The streams of TCP that the frames taken have. Takes no memory.
-    #[tactic(auto, unfolding(crate::specs::Stands::Stands))]
+    /// The streams of TCP that the frames taken have, where streams are followed. Takes no memory.
+    #[tactic(auto, unfolding(crate::specs::Stands::Stands, crate::specs::Stands::StandsWithin))]
     pub fn streams(&self) -> &Streams
-        ensures { (past : List FrameValue) → Stands past self.now → StandsFor (segments_of (events_of past)) result.now }
+        ensures streams { (past : List FrameValue) → Stands past self.now → StandsFor (segments_of (events_of past)) result.now }
+        ensures within { asks_streams self.now.wanted ≡ true
+            → (past : List FrameValue) → StandsWithin past self.now
+            → StandsFor (segments_of (events_of past)) result.now }
     {
         self.state.streams.streams()
     }
@@ -125,6 +163,7 @@ impl Dissector {
     }
 
     /// As `take`, for a tree that has only the items of the wanted fields.
+    #[tactic(auto, unfolding(crate::specs::Stands::Stands))]
     pub fn take_kept(&mut self, frame: &Frame, wanted: FieldSet) -> Result<Tree, TakeFault>
         requires number { frame.now.number ≡ self.old.taken + 1 }
         requires time { IfSome frame.now.time IsTime }
@@ -137,11 +176,63 @@ impl Dissector {
         ensures tree { IfOk result (λ tree. (past : List FrameValue) → Stands past self.old → IsKeptTree wanted (tree_at past frame.now) tree) }
         ensures stands { OnOk result ((past : List FrameValue) → Stands past self.old → Stands (frame.now ∷ past) self.new) }
     {
+        self.take_asked(frame, wanted)
+    }
+
+    /// As `take`, for a tree that has only the items of the fields that the dissector was made for, with the same values of these
+    /// as the whole tree.
+    #[tactic(auto, using(crate::proofs::Told::follows_asked), unfolding(crate::specs::Stands::StandsWithin))]
+    pub fn take_wanted(&mut self, frame: &Frame) -> Result<Tree, TakeFault>
+        requires number { frame.now.number ≡ self.old.taken + 1 }
+        requires time { IfSome frame.now.time IsTime }
+        requires captured { self.old.captured + length frame.now.bytes ≤ 2 ^ 28 }
+        ensures spent { result ≡ Err TakeFault.Spent ↔ self.old.spent ≡ true }
+        ensures spent_after { self.new.spent ≡ self.old.spent || is_err result }
+        ensures counted { OnOk result ((self.new.taken ≡ self.old.taken + 1)
+            × (self.new.captured ≡ self.old.captured + length frame.now.bytes)) }
+        ensures uncounted { OnErr result ((self.new.taken ≡ self.old.taken)
+            × (self.new.captured ≡ self.old.captured)) }
+        ensures rules { self.new.decode ≡ self.old.decode }
+        ensures wanted { self.new.wanted ≡ self.old.wanted }
+        ensures values { IfOk result (λ tree. (past : List FrameValue) → StandsWithin past self.old
+            → HasSameValues self.old.wanted (tree_at past frame.now) tree) }
+        ensures tree { IfOk result (λ tree. asks_streams self.old.wanted ≡ true
+            → (past : List FrameValue) → StandsWithin past self.old
+            → IsKeptTree self.old.wanted (tree_at past frame.now) tree) }
+        ensures stands { OnOk result ((past : List FrameValue) → StandsWithin past self.old
+            → StandsWithin (frame.now ∷ past) self.new) }
+    {
+        self.take_asked(frame, self.wanted)
+    }
+
+    /// Takes a frame for a tree of some fields, of which those of streams are told only where streams are followed.
+    fn take_asked(&mut self, frame: &Frame, asked: FieldSet) -> Result<Tree, TakeFault>
+        requires number { frame.now.number ≡ self.old.taken + 1 }
+        requires time { IfSome frame.now.time IsTime }
+        requires captured { self.old.captured + length frame.now.bytes ≤ 2 ^ 28 }
+        ensures spent { result ≡ Err TakeFault.Spent ↔ self.old.spent ≡ true }
+        ensures spent_after { self.new.spent ≡ self.old.spent || is_err result }
+        ensures counted { OnOk result ((self.new.taken ≡ self.old.taken + 1)
+            × (self.new.captured ≡ self.old.captured + length frame.now.bytes)) }
+        ensures uncounted { OnErr result ((self.new.taken ≡ self.old.taken)
+            × (self.new.captured ≡ self.old.captured)) }
+        ensures rules { self.new.decode ≡ self.old.decode }
+        ensures wanted { self.new.wanted ≡ self.old.wanted }
+        ensures follows { self.new.state.follows ≡ self.old.state.follows }
+        ensures tree { IfOk result (λ tree. (past : List FrameValue) → IsAfter past self.old
+            → self.old.state.follows ≡ true
+            → IsKeptTree asked (tree_at past frame.now) tree) }
+        ensures values { IfOk result (λ tree. (past : List FrameValue) → IsAfter past self.old
+            → (self.old.state.follows ≡ false → asks_streams asked ≡ false)
+            → HasSameValues asked (tree_at past frame.now) tree) }
+        ensures after { OnOk result ((past : List FrameValue) → IsAfter past self.old
+            → IsAfter (frame.now ∷ past) self.new) }
+    {
         if self.spent {
             return Err(TakeFault::Spent);
         }
         let number = number_of(frame);
-        match make_tree(self.alloc, &mut self.state, self.times, frame, wanted) {
+        match make_tree(self.alloc, &mut self.state, self.times, frame, asked) {
             Ok(tree) => {
                 self.taken = number;
                 self.captured += captured(frame);
@@ -154,6 +245,38 @@ impl Dissector {
             }
         }
     }
+}
+
+/// Whether something may be asked that the streams of TCP give: a segment's place, or messages.
+#[tactic(auto, unfolding(crate::specs::Followed::asks_streams))]
+fn asks_streams(wanted: &FieldSet) -> bool
+    ensures { result ≡ false → asks_streams wanted.now ≡ false }
+{
+    wanted.contains(ids::TCP_STREAM)
+        || wanted.contains(ids::TCP_SEQ)
+        || wanted.contains(ids::TCP_ACK)
+        || wanted.contains(ids::TCP_LOST)
+        || asks_messages(wanted)
+}
+
+/// Whether something may be asked of the messages of streams.
+#[tactic(auto, unfolding(crate::specs::Followed::asks_messages))]
+fn asks_messages(wanted: &FieldSet) -> bool
+    ensures { result ≡ false → asks_messages wanted.now ≡ false }
+{
+    wanted.contains(ids::TCP_SEGMENT)
+        || wanted.contains(ids::WS_SHORT)
+        || wanted.contains(ids::WS_MALFORMED)
+        || asks_any(wanted, ids::HTTP)
+        || asks_any(wanted, ids::DNS)
+}
+
+/// Whether a protocol or a field of it may be asked.
+#[tactic(auto, using(crate::proofs::Asked::any_none))]
+fn asks_any(wanted: &FieldSet, protocol: FieldId) -> bool
+    ensures { result ≡ false → asks_any field_count protocol wanted.now ≡ false }
+{
+    wanted.has_any_of(protocol)
 }
 
 fn number_of(frame: &Frame) -> u32
@@ -177,6 +300,7 @@ fn make_tree(
     requires time { IfSome frame.now.time IsTime }
     requires few { HasRoomForOne state.old }
     ensures walked { IfOk result (λ tree. (es : List Event) → StandsAt es state.old → IsWalked (kept_walk wanted before es frame.now) state.new tree Todo.Done) }
+    ensures fits { IfOk result (λ tree. IsTree tree) }
     ensures added { AddsAtMost 1 state.old state.new }
 {
     let mut tree = begin_tree(alloc, before, frame, wanted)?;

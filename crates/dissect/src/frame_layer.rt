@@ -2,7 +2,7 @@ ghost use Rattle.std.specs.Prelude.{◌≡◌, ◌+◌, ◌<◌, ◌≤◌, ◌^
 ghost use Rattle.pk_fields.specs.Ids.{FRAME, FRAME_NUMBER, FRAME_LEN, FRAME_CAP_LEN};
 ghost use Rattle.pk_tree.specs.declared.heads.Mode.TheVariants.{Plain};
 ghost use Rattle.pk_tree.specs.Layouts.{StepFits, StepsFit, layer_read};
-ghost use Rattle.dissect.specs.FrameLayer.{is_cut, frame_span, frame_layout, kept_frame};
+ghost use Rattle.dissect.specs.FrameLayer.{is_cut, frame_span, frame_layout, asks_frame, kept_frame};
 ghost use Rattle.dissect.specs.Times.{IsTime, AreTimes};
 
 use crate::times::{Times, since};
@@ -41,7 +41,7 @@ pub(crate) fn frame_span(frame: &Frame) -> Span
 }
 
 /// A tree of the wanted fields with the layer that tells of the frame itself, given the times of the frames before.
-#[tactic(auto, unfolding(crate::specs::FrameLayer::kept_frame))]
+#[tactic(auto, using(crate::proofs::FramePassed::frame_passed), unfolding(crate::specs::FrameLayer::kept_frame, pk_tree::specs::Layouts::StepsFit))]
 pub(crate) fn begin_tree(
     alloc: Global,
     before: Times,
@@ -56,11 +56,27 @@ pub(crate) fn begin_tree(
     ensures most { IfOk result (λ tree. length tree.layers ≤ 2) }
 {
     let mut tree = TreeBuilder::keeping(alloc, frame.bytes.clone()?, wanted)?;
+    if !asks_frame(&wanted) {
+        add_frame(frame, &[], &mut tree)?;
+        return Ok(tree);
+    }
     match frame.time {
         Some(time) => add_frame(frame, &timed_steps(before, frame, time), &mut tree)?,
         None => add_frame(frame, &untimed_steps(before, frame), &mut tree)?,
     }
     Ok(tree)
+}
+
+/// Whether a field of the frame's own layer is asked.
+fn asks_frame(wanted: &FieldSet) -> bool
+    ensures { result ≡ asks_frame wanted.now }
+{
+    wanted.contains(ids::FRAME_NUMBER)
+        || wanted.contains(ids::FRAME_TIME_EPOCH)
+        || wanted.contains(ids::FRAME_TIME_RELATIVE)
+        || wanted.contains(ids::FRAME_TIME_DELTA)
+        || wanted.contains(ids::FRAME_LEN)
+        || wanted.contains(ids::FRAME_CAP_LEN)
 }
 
 #[tactic(auto, unfolding(pk_fields::specs::Fields::row_of, pk_fields::specs::Table::rows))]

@@ -1,4 +1,4 @@
-ghost use Rattle.std.specs.Prelude.{◌≡◌, ◌+◌, ◌<◌, ◌≤◌, ◌^◌, All, ◌++◌, ◌∷◌, [], length, IfOk, OnOk};
+ghost use Rattle.std.specs.Prelude.{◌≡◌, ◌+◌, ◌<◌, ◌≤◌, ◌^◌, All, Bool, ◌++◌, ◌∷◌, [], length, IfOk, OnOk};
 ghost use Rattle.pk_buffer.specs.Buffers.{IsInside, bytes_of};
 ghost use Rattle.pk_fields.specs.Ids.{TCP};
 ghost use Rattle.pk_tree.specs.Layouts.{within};
@@ -42,6 +42,23 @@ pub(crate) fn add_carried(
     }
     tell_segments(met.frames.slice(), tree)?;
     put_messages(met.messages.slice(), cut, span, tree)
+}
+
+/// Shows what a segment carries of which no message is shown: its bytes as data where its stream has no application.
+#[tactic(auto, unfolding(crate::specs::MessageLayers::carried_over))]
+pub(crate) fn add_passed(
+    app: Option<StreamApp>,
+    span: Span,
+    tree: &mut TreeBuilder,
+) -> Result<(), NoMemory>
+    requires inside { IsInside tree.old.buffers span }
+    requires room { length tree.old.layers + 2 < 2 ^ 32 }
+    ensures { OnOk result ((cut : Bool) → tree.new ≡ carried_over app cut span tree.old []) }
+{
+    match app {
+        None => add_data(span, tree),
+        Some(_) => Ok(()),
+    }
 }
 
 /// Tells the frames that brought the bytes of messages, in the layer of a TCP header.

@@ -5,7 +5,7 @@ ghost use Rattle.pk_fields.specs.Ids.{UDP, TCP};
 ghost use Rattle.pk_tree.specs.Trees.{last_proto};
 ghost use Rattle.pk_tree.specs.Values.{HasSize, is_read};
 ghost use Rattle.tcp_streams.specs.Labels.{PassesNear};
-ghost use Rattle.dissect.specs.Payloads.{LastIs, with_payload, with_ack, with_lost, datagram_told, place_told, segment_told};
+ghost use Rattle.dissect.specs.Payloads.{LastIs, with_payload, with_ack, with_lost, datagram_told, place_told, carried_told, segment_told};
 
 use pk_base::{NoMemory, Span};
 use pk_fields::{FieldId, ids};
@@ -41,9 +41,22 @@ pub(crate) fn tell_segment(
     ensures same_last { last_proto tree.new.layers ≡ last_proto tree.old.layers }
 {
     tell_place(taken, tree)?;
-    tree.made_item(ids::TCP_LEN, Value::Uint(u64::from(span.len)))?;
-    add_payload(ids::TCP_PAYLOAD, span, tree)?;
+    tell_carried(span, tree)?;
     tell_lost(taken.lost_bytes(), tree)
+}
+
+/// Tells what a segment carries, in the layer of its TCP header.
+#[tactic(auto, unfolding(pk_fields::specs::Fields::row_of, pk_fields::specs::Table::rows))]
+pub(crate) fn tell_carried(span: Span, tree: &mut TreeBuilder) -> Result<(), NoMemory>
+    requires inside { IsInside tree.old.buffers span }
+    requires last { LastIs TCP tree.old.layers }
+    ensures tree { IfOk result (λ _. tree.new ≡ carried_told tree.old span) }
+    ensures buffers { tree.new.buffers ≡ tree.old.buffers }
+    ensures count { length tree.new.layers ≡ length tree.old.layers }
+    ensures same_last { last_proto tree.new.layers ≡ last_proto tree.old.layers }
+{
+    tree.made_item(ids::TCP_LEN, Value::Uint(u64::from(span.len)))?;
+    add_payload(ids::TCP_PAYLOAD, span, tree)
 }
 
 /// Tells of a segment's stream, and of its place in it.

@@ -5,7 +5,7 @@ use crate::Dissector;
 use crate::tests::{no_rules, value_text};
 use capture_read::Frame;
 use pk_base::{NoMemory, Octets};
-use pk_fields::{FieldSet, ids, name};
+use pk_fields::{FieldId, FieldSet, ids, name};
 use pk_tree::Tree;
 use std::alloc::{AllocError, Global};
 use std::process::Abort;
@@ -335,6 +335,65 @@ fn check_talk(rt: &impl Abort, alloc: Global, talk: &Talk) -> Result<(), Fail> {
 fn segments_are_told_of_their_streams(rt: HostRuntime) -> Result<(), Fail> {
     for talk in &TALKS {
         check_talk(&rt, rt.alloc(), talk)?;
+    }
+    Ok(())
+}
+
+/// All items of a tree.
+fn items_text(alloc: Global, tree: &Tree) -> Result<String, AllocError> {
+    let mut text = String::new(alloc);
+    for layer in tree.layers() {
+        for item in layer.items.slice() {
+            text.push_str(name(item.field))?;
+            text.push_str(&value_text(alloc, &item.value)?)?;
+            text.push_str(" ")?;
+        }
+    }
+    Ok(text)
+}
+
+/// Takes a segment for one field, and compares what is told of it, and how many streams are kept.
+fn check_asked(
+    rt: &impl Abort,
+    alloc: Global,
+    field: FieldId,
+    told: &str,
+    streams: u32,
+) -> Result<(), Fail> {
+    let mut wanted = FieldSet::none();
+    wanted.add(field);
+    let mut dissector = Dissector::for_fields(alloc, no_rules(alloc), wanted);
+    let frame = Frame {
+        number: 1,
+        time: None,
+        link: RAW,
+        little: true,
+        bytes: segment(alloc, &[THERE], 100, 0, SYN, b"ab")?,
+        original: 0,
+    };
+    assert!(rt; frame.bytes.bytes().len() <= 200);
+    let tree = dissector.take_wanted(&frame)?;
+    assert_eq!(rt; items_text(alloc, &tree)?.as_str(), told);
+    assert_eq!(rt; dissector.streams().count(), streams);
+    Ok(())
+}
+
+#[test]
+fn streams_are_followed_where_a_field_of_theirs_is_asked(rt: HostRuntime) -> Result<(), Fail> {
+    for (field, told, streams) in [
+        (ids::TCP_STREAM, "tcp.stream=0 ", 1),
+        (ids::TCP_SEQ, "tcp.seq=0 ", 1),
+        (ids::TCP_ACK, "", 1),
+        (ids::TCP_LOST, "", 1),
+        (ids::TCP_SEGMENT, "", 1),
+        (ids::HTTP_HOST, "", 1),
+        (ids::DNS_ID, "", 1),
+        (ids::WS_MALFORMED, "", 1),
+        (ids::TCP_LEN, "tcp.len=2 ", 0),
+        (ids::TCP_DSTPORT, "tcp.dstport=9999 ", 0),
+        (ids::FRAME, "", 0),
+    ] {
+        check_asked(&rt, rt.alloc(), field, told, streams)?;
     }
     Ok(())
 }

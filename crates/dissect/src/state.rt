@@ -8,6 +8,8 @@ pub(crate) struct State {
     /// The fragments of datagrams that aren't whole yet.
     pub joins: Joins,
     pub udp: Conversations,
+    /// Whether segments of TCP are taken into their streams, else they are passed over.
+    pub follows: bool,
     /// The streams of TCP, and their messages.
     pub streams: MessageStreams,
 }

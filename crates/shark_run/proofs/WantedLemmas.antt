@@ -2,8 +2,9 @@
 use Rattle.std.proofs.Common.{◌≡◌, ◌==◌, ◌||◌, ◌<◌, ◌+◌, ℕ, zero, suc, Bool, true, false, List, [], ◌∷◌, length, get_or, Option, Some, None, refl, sym, ap, ◌∙◌, subst, arith, if◌then◌else◌}
 use Rattle.std.specs.List.{AllByRecursion as Each}
 use Rattle.std.proofs.lemmas.Bool.{eq-eqb}
-use Rattle.pk_fields.specs.FieldSets.{is_in}
+use Rattle.pk_fields.specs.FieldSets.{is_in, every_field}
 use Rattle.pk_tree.specs.Trees.{TreeShown, IsKept, kept_tree}
+use Rattle.pk_tree.proofs.KeptTrees.{all_kept}
 use Rattle.shark_words.specs.declared.options.LineKind.{LineKind}
 use Rattle.shark_words.specs.declared.options.LineKind.TheVariants.{Text, Fields, Json}
 use Rattle.out_lines.proofs.KeptLines.{line_same}
@@ -11,7 +12,7 @@ use Rattle.flt_types.specs.declared.typed.Typed.{Typed}
 use Rattle.flt_mean.proofs.KeptMeaning.{meaning_kept}
 use Rattle.shark_run.specs.declared.plan.Plan.{Plan}
 use Rattle.shark_run.specs.Lines.{line_by, line_of, satisfies, shown}
-use Rattle.shark_run.specs.Wanted.{HasAsked, HasFields, HasPlan}
+use Rattle.shark_run.specs.Wanted.{HasAsked, HasFields, HasPlan, IsShownBy}
 
 -- a set that grows still has what a filter asks for
 pub still_asked : (old new : List ℕ) (filter : Option Typed) → HasAsked old filter → ((f : ℕ) → is_in old f ≡ true → is_in new f ≡ true) →
@@ -52,12 +53,26 @@ shown_same wanted plan t is has =
     ap (λ (truth : Bool). if plan.quiet then [] else if truth then line_of plan (kept_tree wanted t) else []) (satisfies_same wanted plan.filter t has.filter)
     ∙ ap (λ (line : List ℕ). if plan.quiet then [] else if satisfies plan.filter t then line else []) (line_kept wanted plan plan.kind t is has)
 
-pub shown_kept : (wanted : List ℕ) (plan : Plan) (whole tree : TreeShown) → plan.kind ≡ Fields → HasPlan wanted plan → IsKept wanted whole tree
-    → shown plan tree ≡ shown plan whole
-shown_kept wanted plan whole tree is has kept = ap (shown plan) kept.same ∙ shown_same wanted plan whole is has
+pub shown_by_fields : (wanted : List ℕ) (plan : Plan) → plan.kind ≡ Fields → HasPlan wanted plan → IsShownBy wanted plan
+unfolding IsShownBy
+shown_by_fields wanted plan is has = λ whole tree kept. ap (shown plan) kept.same ∙ shown_same wanted plan whole is has
+
+-- all fields are the whole tree
+pub shown_by_all : (wanted : List ℕ) (plan : Plan) → wanted ≡ every_field → IsShownBy wanted plan
+unfolding IsShownBy
+shown_by_all wanted plan all = λ whole tree kept.
+    ap (shown plan) (all_kept whole tree (subst (λ (fields : List ℕ). IsKept fields whole tree) all kept))
 
 -- where no lines of frames are written, every tree is shown alike
-pub shown_quiet : (plan : Plan) (one other : TreeShown) → plan.quiet ≡ true → shown plan one ≡ shown plan other
+shown_quiet : (plan : Plan) (one other : TreeShown) → plan.quiet ≡ true → shown plan one ≡ shown plan other
 shown_quiet plan one other is =
     ap (λ (quiet : Bool). if quiet then [] else if satisfies plan.filter one then line_of plan one else []) is
     ∙ sym (ap (λ (quiet : Bool). if quiet then [] else if satisfies plan.filter other then line_of plan other else []) is)
+
+pub shown_by_none : (wanted : List ℕ) (plan : Plan) → plan.quiet ≡ true → IsShownBy wanted plan
+unfolding IsShownBy
+shown_by_none wanted plan quiet = λ whole tree kept. shown_quiet plan tree whole quiet
+
+pub shown_wanted : (wanted : List ℕ) (plan : Plan) (whole tree : TreeShown) → IsShownBy wanted plan → IsKept wanted whole tree → shown plan tree ≡ shown plan whole
+unfolding IsShownBy
+shown_wanted wanted plan whole tree by kept = by whole tree kept

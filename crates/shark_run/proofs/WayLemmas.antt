@@ -16,7 +16,7 @@ use Rattle.capture_read.specs.declared.ending.Ending.{Ending}
 use Rattle.capture_read.specs.declared.ending.Ending.TheVariants.{Whole}
 use Rattle.capture_read.specs.declared.frame.Frame.{Frame}
 use Rattle.capture_read.specs.declared.next_frame.NextFrame.TheVariants as next
-use Rattle.dissect.specs.Stands.{DissectorShown, Stands}
+use Rattle.dissect.specs.Stands.{DissectorShown, StandsWithin}
 use Rattle.dissect.specs.Trees.{tree_at}
 use Rattle.shark_run.specs.declared.plan.Plan.{Plan}
 use Rattle.shark_run.specs.Lines.{all_lines, lines_of, trees_after, shown, frame_lines}
@@ -94,7 +94,7 @@ pub record IsOnTheWay (plan : Plan) (most : Option ℕ) (file : List ℕ) (r : R
   pub front : IsFrontOf past file
   pub asked : plan.most ≡ asked_before most (length past)
   pub stands : StandsFor r left file past
-  pub dissects : Stands past d
+  pub dissects : StandsWithin past d
   pub appended : Appends old now (lines_of plan past)
   pub last : IsLastNear past file left
 
@@ -107,7 +107,7 @@ asked_all None = refl
 asked_all (Some n) = let none : n ≡ n + 0 = omega arith in ap Some none
 
 pub way_begun : (plan : Plan) (told : Option (List ℕ)) (r : ReaderShown) (d : DissectorShown) (old : Option (List ℕ))
-    → ((left : List ℕ) → StandsFor r (Some left) left []) → Stands [] d → AreOnTheWay plan plan.most told r told d old old
+    → ((left : List ℕ) → StandsFor r (Some left) left []) → StandsWithin [] d → AreOnTheWay plan plan.most told r told d old old
 way_begun plan None r d old stands dissects = tt
 way_begun plan (Some file) r d old stands dissects = record {
   past = [];
@@ -127,8 +127,8 @@ asked_more (Some (suc n)) count some = let same : suc n + count ≡ suc n - 1 + 
 -- a frame was read, taken and written
 pub way_further : (plan : Plan) (most : Option ℕ) (told : Option (List ℕ)) (r after : ReaderShown) (left left_after : Option (List ℕ)) (d dissected : DissectorShown) (old now later : Option (List ℕ)) (frame : Frame)
     → most ≢ Some 0 → AreOnTheWay plan most told r left d old now → Answers (next.Frame frame) r after left left_after
-    → ((past : List Frame) → Stands past d → Stands (frame ∷ past) dissected)
-    → ((past : List Frame) → Stands past d → Appends now later (shown plan (tree_at past frame)))
+    → ((past : List Frame) → StandsWithin past d → StandsWithin (frame ∷ past) dissected)
+    → ((past : List Frame) → StandsWithin past d → Appends now later (shown plan (tree_at past frame)))
     → AreOnTheWay plan (option_map (λ n. n - 1) most) told after left_after dissected old later
 way_further plan most None r after left left_after d dissected old now later frame some way answers taken wrote = tt
 way_further plan most (Some file) r after left left_after d dissected old now later frame some way answers taken wrote =
@@ -248,7 +248,7 @@ way_unread plan most (Some file) r left left_after d old now some way fails =
 -- a write failed, or there was no memory for a frame's tree or line
 pub broken_part : (plan : Plan) (most : Option ℕ) (told : Option (List ℕ)) (r after : ReaderShown) (left left_after : Option (List ℕ)) (d : DissectorShown) (old now later : Option (List ℕ)) (frame : Frame)
     → most ≢ Some 0 → AreOnTheWay plan most told r left d old now → Answers (next.Frame frame) r after left left_after
-    → ((past : List Frame) → Stands past d → AppendsPart now later (shown plan (tree_at past frame)))
+    → ((past : List Frame) → StandsWithin past d → AppendsPart now later (shown plan (tree_at past frame)))
     → IfSome told (λ file. WroteSomeLines plan (frames_read plan file) old later)
 broken_part plan most None r after left left_after d old now later frame some way answers part = tt
 broken_part plan most (Some file) r after left left_after d old now later frame some way answers part =
@@ -263,7 +263,7 @@ broken_part plan most (Some file) r after left left_after d old now later frame 
 
 pub broken_near : (plan : Plan) (most : Option ℕ) (told : Option (List ℕ)) (r after : ReaderShown) (left left_after : Option (List ℕ)) (d : DissectorShown) (old now later : Option (List ℕ)) (frame : Frame)
     → AreOnTheWay plan most told r left d old now → Answers (next.Frame frame) r after left left_after
-    → ((past : List Frame) → Stands past d → AppendsPart now later (shown plan (tree_at past frame)))
+    → ((past : List Frame) → StandsWithin past d → AppendsPart now later (shown plan (tree_at past frame)))
     → IfSome told (λ file. IsBrokenBehind [] plan file left_after old later)
 broken_near plan most None r after left left_after d old now later frame way answers part = tt
 broken_near plan most (Some file) r after left left_after d old now later frame way answers part =

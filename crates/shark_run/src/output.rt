@@ -7,18 +7,18 @@ ghost use Rattle.pk_outside.specs.Outside.{Rose, AppendsPart};
 ghost use Rattle.capture_read.specs.Reader.{StandsFor};
 ghost use Rattle.capture_read.specs.Taken.{TookAtMost};
 ghost use Rattle.capture_read.specs.declared.frame.Frame.{Frame as FrameValue};
-ghost use Rattle.dissect.specs.Stands.{Stands};
+ghost use Rattle.dissect.specs.Stands.{StandsWithin};
 ghost use Rattle.dissect.specs.Times.{IsTime};
 ghost use Rattle.dissect.specs.Trees.{tree_at};
 ghost use Rattle.shark_run.specs.Lines.{line_of, opening, shown};
 ghost use Rattle.shark_run.specs.Reading.{frames_read};
-ghost use Rattle.shark_run.specs.Wanted.{HasPlan};
+ghost use Rattle.shark_run.specs.Wanted.{IsShownBy};
 ghost use Rattle.shark_run.specs.Way.{IsBroken, IsBrokenBehind, IsFullNear, WroteTaken, WroteTakenBehind};
 ghost use Rattle.shark_run.specs.Wrote.{WroteAll, WroteLines, WrotePart, WroteSomeLines};
 
 use crate::lines::satisfies;
 use crate::plan::Plan;
-use crate::wanted::wanted_fields;
+use crate::wanted::shown_fields;
 use capture_read::{Ending, Frame, FrameReader, NextFrame, ReadError};
 use dissect::{DecodeAs, Dissector, PortRules, TakeFault};
 use out_json::JsonWriter;
@@ -38,15 +38,16 @@ pub(crate) enum RunFault {
     NoMemory,
 }
 
-// A dissector that reads each port as usual.
+// A dissector for trees of some fields, that reads each port as usual.
 #[tactic(auto, using(crate::proofs::RuleLemmas::no_rules))]
-fn new_dissector(alloc: Global) -> Dissector
-    ensures stands { Stands [] result }
+fn new_dissector(alloc: Global, wanted: FieldSet) -> Dissector
+    ensures stands { StandsWithin [] result }
+    ensures wanted { result.wanted ≡ wanted }
     ensures taken { result.taken ≡ 0 }
     ensures captured { result.captured ≡ 0 }
 {
     let rules = PortRules::from_vec(Vec::new(alloc));
-    Dissector::new(alloc, DecodeAs { rules })
+    Dissector::for_fields(alloc, DecodeAs { rules }, wanted)
 }
 
 // A line, with what writes it.
@@ -122,59 +123,31 @@ fn write_tree<O: Sink>(
     }
 }
 
-// Takes a frame, of which only the wanted fields are read where its line has no others, and none where it has no line.
-#[tactic(auto, using(crate::proofs::WantedLemmas::shown_kept, crate::proofs::WantedLemmas::shown_quiet))]
-fn take_frame(
-    plan: &Plan,
-    frame: &Frame,
-    wanted: FieldSet,
-    dissector: &mut Dissector,
-) -> Result<Tree, TakeFault>
-    requires wanted { HasPlan wanted plan.now }
-    requires number { frame.now.number ≡ dissector.old.taken + 1 }
-    requires time { IfSome frame.now.time IsTime }
-    requires captured { dissector.old.captured + length frame.now.bytes ≤ 2 ^ 28 }
-    ensures line { IfOk result (λ tree. (past : List FrameValue) → Stands past dissector.old
-        → shown plan.now tree ≡ shown plan.now (tree_at past frame.now)) }
-    ensures stands { OnOk result ((past : List FrameValue) → Stands past dissector.old
-        → Stands (frame.now ∷ past) dissector.new) }
-    ensures taken { OnOk result (dissector.new.taken ≡ dissector.old.taken + 1) }
-    ensures captured { OnOk result (dissector.new.captured
-        ≡ dissector.old.captured + length frame.now.bytes) }
-{
-    if plan.quiet {
-        return dissector.take_kept(frame, FieldSet::none());
-    }
-    match plan.kind {
-        LineKind::Text | LineKind::Json => dissector.take(frame),
-        LineKind::Fields => dissector.take_kept(frame, wanted),
-    }
-}
-
 // Takes a frame and writes its line where the filter lets it through.
+#[tactic(auto, using(crate::proofs::WantedLemmas::shown_wanted))]
 fn write_frame<O: Sink>(
     alloc: Global,
     plan: &Plan,
     frame: &Frame,
-    wanted: FieldSet,
     dissector: &mut Dissector,
     lines: &mut LineMaker,
     out: &mut O,
 ) -> Result<(), RunFault>
-    requires wanted { HasPlan wanted plan.now }
+    requires wanted { IsShownBy dissector.old.wanted plan.now }
     requires lines { lines.old.writer ≡ plan.now.fields }
     requires number { frame.now.number ≡ dissector.old.taken + 1 }
     requires time { IfSome frame.now.time IsTime }
     requires captured { dissector.old.captured + length frame.now.bytes ≤ 2 ^ 28 }
-    ensures stands { OnOk result ((past : List FrameValue) → Stands past dissector.old
-        → Stands (frame.now ∷ past) dissector.new) }
+    ensures stands { OnOk result ((past : List FrameValue) → StandsWithin past dissector.old
+        → StandsWithin (frame.now ∷ past) dissector.new) }
+    ensures kept { dissector.new.wanted ≡ dissector.old.wanted }
     ensures taken { OnOk result (dissector.new.taken ≡ dissector.old.taken + 1) }
     ensures captured { OnOk result (dissector.new.captured
         ≡ dissector.old.captured + length frame.now.bytes) }
-    ensures whole { OnOk result ((past : List FrameValue) → Stands past dissector.old
+    ensures whole { OnOk result ((past : List FrameValue) → StandsWithin past dissector.old
         → Appends (O.written out.old) (O.written out.new)
         (shown plan.now (tree_at past frame.now))) }
-    ensures part { (past : List FrameValue) → Stands past dissector.old
+    ensures part { (past : List FrameValue) → StandsWithin past dissector.old
         → AppendsPart (O.written out.old) (O.written out.new)
         (shown plan.now (tree_at past frame.now)) }
     ensures writer { lines.new.writer ≡ lines.old.writer }
@@ -183,7 +156,7 @@ fn write_frame<O: Sink>(
         → Rose (O.faults out.old) (O.faults out.new) }
     ensures faults_stay { O.faults out.old ≤ O.faults out.new }
 {
-    let tree = match take_frame(plan, frame, wanted, dissector) {
+    let tree = match dissector.take_wanted(frame) {
         Ok(tree) => tree,
         // The first error ends the run, so that this one is never `Spent`.
         Err(TakeFault::NoMemory | TakeFault::Spent) => return Err(RunFault::NoMemory),
@@ -219,19 +192,18 @@ fn one_less(most: Option<u32>) -> Option<u32>
 fn write_rest<C: Capture, O: Sink>(
     alloc: Global,
     plan: &Plan,
-    wanted: FieldSet,
     reader: &mut FrameReader,
     dissector: &mut Dissector,
     lines: &mut LineMaker,
     capture: &mut C,
     out: &mut O,
 ) -> Result<Ending, RunFault>
-    requires wanted { HasPlan wanted plan.now }
+    requires wanted { IsShownBy dissector.old.wanted plan.now }
     requires lines { lines.old.writer ≡ plan.now.fields }
     requires reads { (left : List ℕ) → StandsFor reader.old (Some left) left [] }
     requires number { reader.old.state.number ≡ 1 }
     requires at { reader.old.state.at ≡ 0 }
-    requires stands { Stands [] dissector.old }
+    requires stands { StandsWithin [] dissector.old }
     requires taken { dissector.old.taken ≡ 0 }
     requires captured { dissector.old.captured ≡ 0 }
 
@@ -270,7 +242,7 @@ fn write_rest<C: Capture, O: Sink>(
             // The first error ends the run, so that this one is never `Spent`.
             Err(ReadError::NoMemory | ReadError::Spent) => return Err(RunFault::NoMemory),
         };
-        match write_frame(alloc, plan, &frame, wanted, dissector, lines, out) {
+        match write_frame(alloc, plan, &frame, dissector, lines, out) {
             Ok(()) => {}
             Err(fault) => return Err(fault),
         }
@@ -306,12 +278,11 @@ fn write_frames<C: Capture, O: Sink>(
     ensures missed { C.missed capture.new ≡ C.missed capture.old }
 {
     let mut reader = FrameReader::new(alloc);
-    let mut dissector = new_dissector(alloc);
+    let mut dissector = new_dissector(alloc, shown_fields(plan));
     match new_line_maker(alloc, plan) {
         Ok(mut lines) => write_rest(
             alloc,
             plan,
-            wanted_fields(plan),
             &mut reader,
             &mut dissector,
             &mut lines,

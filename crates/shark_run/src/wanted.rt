@@ -1,14 +1,29 @@
 // The fields that a plan asks for.
 ghost use Rattle.std.specs.Prelude.{◌≡◌, ℕ, true};
 ghost use Rattle.pk_fields.specs.FieldSets.{is_in};
-ghost use Rattle.shark_run.specs.Wanted.{HasAsked, HasFields, HasPlan};
+ghost use Rattle.shark_run.specs.Wanted.{HasAsked, HasFields, HasPlan, IsShownBy};
 
 use crate::plan::Plan;
 use flt_types::{Filter, add_fields};
 use pk_fields::{FieldId, FieldSet};
+use shark_words::LineKind;
+
+/// The fields that the lines of frames are made from: none where there are no lines, and all for lines of text and JSON.
+#[tactic(auto, using(crate::proofs::WantedLemmas::shown_by_fields, crate::proofs::WantedLemmas::shown_by_all, crate::proofs::WantedLemmas::shown_by_none))]
+pub(crate) fn shown_fields(plan: &Plan) -> FieldSet
+    ensures { IsShownBy result plan.now }
+{
+    if plan.quiet {
+        return FieldSet::none();
+    }
+    match plan.kind {
+        LineKind::Text | LineKind::Json => FieldSet::all(),
+        LineKind::Fields => wanted_fields(plan),
+    }
+}
 
 /// The fields of a plan's filter and of its columns.
-pub(crate) fn wanted_fields(plan: &Plan) -> FieldSet
+fn wanted_fields(plan: &Plan) -> FieldSet
     ensures { HasPlan result plan.now }
 {
     let mut wanted = FieldSet::none();

@@ -1,8 +1,9 @@
-use Rattle.std.proofs.Common.{◌∙◌, ap, suc, Err, refl, arith}
+use Rattle.std.proofs.Common.{◌∙◌, ap, sym, subst, ℕ, List, suc, Err, refl, arith}
 use Rattle.pk_base.specs.Limits.{file_limit}
 use Rattle.capture_read.proofs.TakenLemmas.{took_none}
 use Rattle.shark_run.proofs.Together.{takeable, together_after}
 use Rattle.shark_run.proofs.WayLemmas.{way_begun, way_further, way_stopped, way_full, full_near, way_ended, ended_near, way_unread, broken_part, broken_near, way_took}
+use Rattle.shark_run.specs.Wanted.{IsShownBy}
 use Rattle.shark_run.proofs.output.write_rest.Goals as goal
 
 pub loop-alloc-init : goal.loop-alloc-init
@@ -15,6 +16,7 @@ loop-alloc-init g c =
         limit = omega (arith, c.requires.at);
       };
       took = took_none (suc file_limit) (g.C.Capture.left c.args.capture.now) (g.C.Capture.left c.args.capture.now) refl;
+      wanted = c.requires.wanted;
       writer = c.requires.lines;
       asked = refl;
       begun = refl;
@@ -101,6 +103,7 @@ loop-alloc-preserved g c =
       way = rw c.one_less-most.ensures (way_further c.args.plan.now c.loop-alloc.most (g.C.Capture.left c.args.capture.now) c.loop-alloc.reader c.next_frame.new.self (g.C.Capture.left c.loop-alloc.capture) (g.C.Capture.left c.next_frame.new.capture) c.loop-alloc.dissector c.write_frame.new.dissector (g.O.Sink.written c.args.out.now) (g.O.Sink.written c.loop-alloc.out) (g.O.Sink.written c.write_frame.new.out) c.in-Ok-Frame.frame (c.is_full.ensures.more c.if-is_full.false) c.loop-alloc.invariant.way (rw c.in-Ok-Frame.field-0-is at c.in-Ok-Frame.ensures.answers) c.in-Ok.ensures.stands c.in-Ok.ensures.whole);
       together = together_after c.loop-alloc.reader.state c.next_frame.new.self.state c.loop-alloc.dissector c.write_frame.new.dissector c.in-Ok-Frame.frame c.loop-alloc.invariant.together (rw c.in-Ok-Frame.field-0-is at c.in-Ok-Frame.ensures.counts) c.next_frame.ensures.limit c.in-Ok.ensures.taken c.in-Ok.ensures.captured;
       took = way_took c.args.plan.now c.loop-alloc.most (g.C.Capture.left c.args.capture.now) c.loop-alloc.reader (g.C.Capture.left c.loop-alloc.capture) (g.C.Capture.left c.next_frame.new.capture) c.loop-alloc.dissector (g.O.Sink.written c.args.out.now) (g.O.Sink.written c.loop-alloc.out) c.loop-alloc.invariant.way c.next_frame.ensures.took;
+      wanted = subst (λ (fields : List ℕ). IsShownBy fields c.args.plan.now) (sym c.write_frame.ensures.kept) c.loop-alloc.invariant.wanted;
       writer = c.write_frame.ensures.writer ∙ c.loop-alloc.invariant.writer;
       asked = c.next_frame.ensures.asked ∙ c.loop-alloc.invariant.asked;
       begun = c.next_frame.ensures.begun ∙ c.loop-alloc.invariant.begun;
@@ -115,6 +118,7 @@ loop-alloc-preserved-in-Ok g c =
       way = rw c.one_less-most.ensures (way_further c.args.plan.now c.loop-alloc.most (g.C.Capture.left c.args.capture.now) c.loop-alloc.reader c.next_frame.new.self (g.C.Capture.left c.loop-alloc.capture) (g.C.Capture.left c.next_frame.new.capture) c.loop-alloc.dissector c.write_frame.new.dissector (g.O.Sink.written c.args.out.now) (g.O.Sink.written c.loop-alloc.out) (g.O.Sink.written c.write_frame.new.out) c.in-Ok-Frame.frame (c.is_full.ensures.more c.if-is_full.false) c.loop-alloc.invariant.way (rw c.in-Ok-Frame.field-0-is at c.in-Ok-Frame.ensures.answers) c.in-Ok.ensures.stands c.in-Ok.ensures.whole);
       together = together_after c.loop-alloc.reader.state c.next_frame.new.self.state c.loop-alloc.dissector c.write_frame.new.dissector c.in-Ok-Frame.frame c.loop-alloc.invariant.together (rw c.in-Ok-Frame.field-0-is at c.in-Ok-Frame.ensures.counts) c.next_frame.ensures.limit c.in-Ok.ensures.taken c.in-Ok.ensures.captured;
       took = way_took c.args.plan.now c.loop-alloc.most (g.C.Capture.left c.args.capture.now) c.loop-alloc.reader (g.C.Capture.left c.loop-alloc.capture) (g.C.Capture.left c.next_frame.new.capture) c.loop-alloc.dissector (g.O.Sink.written c.args.out.now) (g.O.Sink.written c.loop-alloc.out) c.loop-alloc.invariant.way c.next_frame.ensures.took;
+      wanted = subst (λ (fields : List ℕ). IsShownBy fields c.args.plan.now) (sym c.write_frame.ensures.kept) c.loop-alloc.invariant.wanted;
       writer = c.write_frame.ensures.writer ∙ c.loop-alloc.invariant.writer;
       asked = c.next_frame.ensures.asked ∙ c.loop-alloc.invariant.asked;
       begun = c.next_frame.ensures.begun ∙ c.loop-alloc.invariant.begun;

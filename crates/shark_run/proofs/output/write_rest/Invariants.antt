@@ -3,6 +3,7 @@ use Rattle.pk_base.specs.Limits.{file_limit}
 use Rattle.capture_read.specs.Taken.{TookAtMost}
 use Rattle.shark_run.proofs.Together.{AreTogether}
 use Rattle.shark_run.proofs.WayLemmas.{AreOnTheWay}
+use Rattle.shark_run.specs.Wanted.{IsShownBy}
 use Rattle.shark_run.proofs.output.write_rest.Given as goal
 
 abbrev pub invariant-loop-alloc : goal.invariant-loop-alloc
@@ -10,6 +11,7 @@ invariant-loop-alloc g l = record {
   way : AreOnTheWay l.plan l.most (g.C.Capture.left l.fn.capture) l.reader (g.C.Capture.left l.capture) l.dissector (g.O.Sink.written l.fn.out) (g.O.Sink.written l.out);
   together : AreTogether l.reader.state l.dissector;
   took : TookAtMost (suc file_limit) (g.C.Capture.left l.fn.capture) (g.C.Capture.left l.capture);
+  wanted : IsShownBy l.dissector.wanted l.plan;
   writer : l.lines.writer ≡ l.plan.fields;
   asked : g.C.Capture.asked l.capture ≡ g.C.Capture.asked l.fn.capture;
   begun : g.C.Capture.begun l.capture ≡ g.C.Capture.begun l.fn.capture;

@@ -1,4 +1,4 @@
-use Rattle.std.proofs.Common.{subst, ap, ◌∙◌, ℕ, ◌-◌, arith}
+use Rattle.std.proofs.Common.{subst, sym, ap, ◌∙◌, ℕ, ◌-◌, arith}
 use Rattle.dissect.specs.declared.todo.Todo.TheVariants as todos
 use Rattle.dissect.specs.Stands.{IsWalked}
 use Rattle.dissect.specs.Walks.{chain, going, link_met}
@@ -14,7 +14,8 @@ returns c = record {
       let w = link_met frame c.args.tree.now es in
       let first = c.in_ok-first.ensures.walked es stands in
       let rest = c.in_ok-chain.ensures.walked w.events first.stands in
-      all-met frame w c.link.new.self c.link.new.tree c.in_ok-first.first c.chain.new.self c.chain.new.tree first
+      all-met frame w c.link.new.self c.link.new.tree c.in_ok-first.first c.chain.new.self c.chain.new.tree
+      ((c.chain.ensures.added c.args.self.now c.in_ok-first.ensures.adds).follows ∙ sym c.link.ensures.added.follows) first
       (subst (λ (n : ℕ). IsWalked (chain n frame (going c.link.new.tree w.events c.in_ok-first.first)) c.chain.new.self c.chain.new.tree todos.Done)
       (c.saturating_sub-left.ensures ∙ ap (λ (n : ℕ). 32 - n) c.layer_count.ensures) rest);
   added = c.chain.ensures.added c.args.self.now c.in_ok-first.ensures.adds;

@@ -1,0 +1,55 @@
+use Rattle.std.proofs.Common.{◌+◌, length, subst, sym, ap, ◌∙◌, true≢false, arith}
+use Rattle.dissect.specs.Stands.{DissectorShown}
+use Rattle.dissect.specs.Times.{with_time}
+use Rattle.dissect.specs.Trees.{tree_at}
+use Rattle.dissect.proofs.Taken.{Reads, tree-taken, values-taken, values-read, after-taken}
+use Rattle.dissect.proofs.dissector.Dissector.take_asked.Goals as goal
+
+pub returns-in-Ok-clause-tree : goal.returns-in-Ok-clause-tree
+returns-in-Ok-clause-tree c = λ past after follows.
+    let reads = subst (λ (d : DissectorShown). Reads c.args.asked c.args.frame.now d c.make_tree.new.state c.in-Ok.tree) c.self.view_is c.in-Ok.ensures.walked in
+    tree-taken c.args.asked past c.args.frame.now c.args.self.now c.make_tree.new.state c.in-Ok.tree
+    (c.make_tree.ensures.added.follows ∙ ap (λ (d : DissectorShown). d.state.follows) c.self.view_is) after reads follows
+
+pub returns-in-Ok-clause-values : goal.returns-in-Ok-clause-values
+returns-in-Ok-clause-values c = λ past after few.
+    let frame = c.args.frame.now in
+    let tree = c.in-Ok.tree in
+    let reads = subst (λ (d : DissectorShown). Reads c.args.asked frame d c.make_tree.new.state tree) c.self.view_is c.in-Ok.ensures.walked in
+    values-read c.args.self.now.state.follows c.args.asked (tree_at past frame) tree
+    (tree-taken c.args.asked past frame c.args.self.now c.make_tree.new.state tree
+    (c.make_tree.ensures.added.follows ∙ ap (λ (d : DissectorShown). d.state.follows) c.self.view_is) after reads)
+    (values-taken c.args.asked past frame c.args.self.now c.make_tree.new.state tree c.in-Ok.ensures.fits after reads) few
+
+pub returns-in-Ok-clause-after : goal.returns-in-Ok-clause-after
+returns-in-Ok-clause-after c = λ past after.
+    let frame = c.args.frame.now in
+    let reads = subst (λ (d : DissectorShown). Reads c.args.asked frame d c.make_tree.new.state c.in-Ok.tree) c.self.view_is c.in-Ok.ensures.walked in
+    after-taken c.args.asked past frame c.args.self.now _ c.in-Ok.tree
+    c.if-self.false
+    (c.number_of-number.ensures.number ∙ c.requires.number)
+    (ap (λ n. c.self.inside.captured + n) c.captured.ensures ∙ ap (λ (d : DissectorShown). d.captured + length frame.bytes) c.self.view_is)
+    (c.with-self-inside.ensures.with ∙ ap (λ (d : DissectorShown). with_time frame.time d.times) c.self.view_is)
+    after reads
+
+pub make_tree-requires-clause-few : goal.make_tree-requires-clause-few
+make_tree-requires-clause-few c =
+    let udp = c.self.invariant.udp_few c.if-self.false in
+    let tcp = c.self.invariant.tcp_few c.if-self.false in
+    let taken = ap (λ (d : DissectorShown). d.taken) c.self.view_is in
+    record {
+      udp = omega (arith, udp, taken, c.requires.number, c.number_of-number.ensures.number, c.number_of-number.ensures.fits);
+      tcp = omega (arith, tcp, taken, c.requires.number, c.number_of-number.ensures.number, c.number_of-number.ensures.fits);
+    }
+
+pub invariant_of-self-in-Err : goal.invariant_of-self-in-Err
+invariant_of-self-in-Err c =
+    let few = c.self.invariant.udp_few c.if-self.false in
+    let taken = ap (λ (d : DissectorShown). d.taken) c.self.view_is in
+    record {
+      times = c.self.invariant.times;
+      udp = omega (arith, few, taken, c.requires.number, c.number_of-number.ensures.number, c.number_of-number.ensures.fits, c.make_tree.ensures.added.udp);
+      udp_few = λ not_spent. absurd (true≢false not_spent);
+      tcp_few = λ not_spent. absurd (true≢false not_spent);
+      asked = λ unfollowed. c.self.invariant.asked (sym c.make_tree.ensures.added.follows ∙ unfollowed);
+    }
