@@ -11,6 +11,8 @@ use Rattle.flt_mean.specs.Values.{values_of_term}
 use Rattle.pk_fields.specs.FieldSets.{is_in}
 use Rattle.pk_fields.specs.Fields.{row_of}
 use Rattle.pk_tree.proofs.KeptValues.{values_same}
+use Rattle.pk_tree.specs.declared.chosen.Layers.{Layers}
+use Rattle.pk_tree.specs.FieldValues.{values_of}
 use Rattle.pk_tree.specs.Trees.{TreeShown, kept_tree}
 
 left_or : (a b : Truth) → a ≡ true → (a || b) ≡ true
@@ -30,24 +32,31 @@ left_has wanted left right has f is = has f (left_or (left f) (right f) is)
 right_has : (wanted : List ℕ) (left right : ℕ → Truth) → ((f : ℕ) → (left f || right f) ≡ true → is_in wanted f ≡ true) → (f : ℕ) → right f ≡ true → is_in wanted f ≡ true
 right_has wanted left right has f is = has f (right_or (left f) (right f) is)
 
-term_kept : (wanted : List ℕ) (term : Term) (t : TreeShown) → HasTerm wanted term → values_of_term term (kept_tree wanted t) ≡ values_of_term term t
-term_kept wanted (terms.Constant constant) t has = refl
-term_kept wanted (terms.Field field layers) t has = values_same wanted t field layers (has field (own_field field))
-term_kept wanted (terms.Slice' p term ranges) t has = rw (term_kept wanted term t has) refl
-term_kept wanted (terms.Mask' p term mask) t has = rw (term_kept wanted term t has) refl
-term_kept wanted (terms.Called' function p term) t has = rw (term_kept wanted term t has) refl
+-- two trees that have the same values of these fields
+abbrev pub HaveSame : List ℕ → TreeShown → TreeShown → Type 0
+HaveSame wanted t u = (field : ℕ) (layers : Layers) → is_in wanted field ≡ true → values_of u field layers ≡ values_of t field layers
+
+term_alike : (wanted : List ℕ) (term : Term) (t u : TreeShown) → HaveSame wanted t u → HasTerm wanted term → values_of_term term u ≡ values_of_term term t
+term_alike wanted (terms.Constant constant) t u same has = refl
+term_alike wanted (terms.Field field layers) t u same has = same field layers (has field (own_field field))
+term_alike wanted (terms.Slice' p term ranges) t u same has = rw (term_alike wanted term t u same has) refl
+term_alike wanted (terms.Mask' p term mask) t u same has = rw (term_alike wanted term t u same has) refl
+term_alike wanted (terms.Called' function p term) t u same has = rw (term_alike wanted term t u same has) refl
+
+pub meaning_alike : (wanted : List ℕ) (filter : Typed) (t u : TreeShown) → HaveSame wanted t u → HasFilter wanted filter → meaning filter u ≡ meaning filter t
+meaning_alike wanted (Either' p left q right) t u same has =
+    rw (meaning_alike wanted left t u same (left_has wanted (asks left) (asks right) has), meaning_alike wanted right t u same (right_has wanted (asks left) (asks right) has)) refl
+meaning_alike wanted (Differ' p left q right) t u same has =
+    rw (meaning_alike wanted left t u same (left_has wanted (asks left) (asks right) has), meaning_alike wanted right t u same (right_has wanted (asks left) (asks right) has)) refl
+meaning_alike wanted (Both' p left q right) t u same has =
+    rw (meaning_alike wanted left t u same (left_has wanted (asks left) (asks right) has), meaning_alike wanted right t u same (right_has wanted (asks left) (asks right) has)) refl
+meaning_alike wanted (Not' p filter) t u same has = rw (meaning_alike wanted filter t u same has) refl
+meaning_alike wanted (Exists term) t u same has = rw (term_alike wanted term t u same has) refl
+meaning_alike wanted (AnyBit term) t u same has = rw (term_alike wanted term t u same has) refl
+meaning_alike wanted (Compare relation choice left right) t u same has =
+    rw (term_alike wanted left t u same (left_has wanted (asks_term left) (asks_term right) has), term_alike wanted right t u same (right_has wanted (asks_term left) (asks_term right) has)) refl
+meaning_alike wanted (Among negated choice term members) t u same has = rw (term_alike wanted term t u same has) refl
+meaning_alike wanted (Matches choice term pattern) t u same has = rw (term_alike wanted term t u same has) refl
 
 pub meaning_kept : KeptMeaning
-meaning_kept wanted (Either' p left q right) t has =
-    rw (meaning_kept wanted left t (left_has wanted (asks left) (asks right) has), meaning_kept wanted right t (right_has wanted (asks left) (asks right) has)) refl
-meaning_kept wanted (Differ' p left q right) t has =
-    rw (meaning_kept wanted left t (left_has wanted (asks left) (asks right) has), meaning_kept wanted right t (right_has wanted (asks left) (asks right) has)) refl
-meaning_kept wanted (Both' p left q right) t has =
-    rw (meaning_kept wanted left t (left_has wanted (asks left) (asks right) has), meaning_kept wanted right t (right_has wanted (asks left) (asks right) has)) refl
-meaning_kept wanted (Not' p filter) t has = rw (meaning_kept wanted filter t has) refl
-meaning_kept wanted (Exists term) t has = rw (term_kept wanted term t has) refl
-meaning_kept wanted (AnyBit term) t has = rw (term_kept wanted term t has) refl
-meaning_kept wanted (Compare relation choice left right) t has =
-    rw (term_kept wanted left t (left_has wanted (asks_term left) (asks_term right) has), term_kept wanted right t (right_has wanted (asks_term left) (asks_term right) has)) refl
-meaning_kept wanted (Among negated choice term members) t has = rw (term_kept wanted term t has) refl
-meaning_kept wanted (Matches choice term pattern) t has = rw (term_kept wanted term t has) refl
+meaning_kept wanted filter t has = meaning_alike wanted filter t (kept_tree wanted t) (λ field layers is. values_same wanted t field layers is) has

@@ -3,13 +3,14 @@ use Rattle.std.proofs.Common.{◌≡◌, ◌==◌, ◌||◌, ◌<◌, ◌+◌, �
 use Rattle.std.specs.List.{AllByRecursion as Each}
 use Rattle.std.proofs.lemmas.Bool.{eq-eqb}
 use Rattle.pk_fields.specs.FieldSets.{is_in, every_field}
-use Rattle.pk_tree.specs.Trees.{TreeShown, IsKept, kept_tree}
+use Rattle.pk_tree.specs.Trees.{TreeShown, IsKept}
 use Rattle.pk_tree.proofs.KeptTrees.{all_kept}
+use Rattle.dissect.specs.Followed.{asks_streams, HasSameValues}
 use Rattle.shark_words.specs.declared.options.LineKind.{LineKind}
 use Rattle.shark_words.specs.declared.options.LineKind.TheVariants.{Text, Fields, Json}
-use Rattle.out_lines.proofs.KeptLines.{line_same}
+use Rattle.out_lines.proofs.KeptLines.{line_alike}
 use Rattle.flt_types.specs.declared.typed.Typed.{Typed}
-use Rattle.flt_mean.proofs.KeptMeaning.{meaning_kept}
+use Rattle.flt_mean.proofs.KeptMeaning.{meaning_alike}
 use Rattle.shark_run.specs.declared.plan.Plan.{Plan}
 use Rattle.shark_run.specs.Lines.{line_by, line_of, satisfies, shown}
 use Rattle.shark_run.specs.Wanted.{HasAsked, HasFields, HasPlan, IsShownBy}
@@ -37,31 +38,32 @@ pub each_at : (P : ℕ → Type 0) (xs : List ℕ) → ((k : ℕ) → k < length
 each_at P [] at = tt
 each_at P (x ∷ xs) at = (at 0 (omega arith), each_at P xs (λ k below. at (suc k) (omega arith)))
 
-satisfies_same : (wanted : List ℕ) (filter : Option Typed) (t : TreeShown) → HasAsked wanted filter → satisfies filter (kept_tree wanted t) ≡ satisfies filter t
+satisfies_same : (wanted : List ℕ) (filter : Option Typed) (t u : TreeShown) → HasSameValues wanted t u → HasAsked wanted filter → satisfies filter u ≡ satisfies filter t
 unfolding satisfies
-satisfies_same wanted None t has = refl
-satisfies_same wanted (Some filter) t has = meaning_kept wanted filter t has
+satisfies_same wanted None t u same has = refl
+satisfies_same wanted (Some filter) t u same has = meaning_alike wanted filter t u same has
 
-line_kept : (wanted : List ℕ) (plan : Plan) (kind : LineKind) (t : TreeShown) → kind ≡ Fields → HasPlan wanted plan
-    → line_by kind plan (kept_tree wanted t) ≡ line_by kind plan t
-line_kept wanted plan Text t is has = absurd (cc is)
-line_kept wanted plan Json t is has = absurd (cc is)
-line_kept wanted plan Fields t is has = line_same wanted plan.fields t plan.style has.columns
-
-shown_same : (wanted : List ℕ) (plan : Plan) (t : TreeShown) → plan.kind ≡ Fields → HasPlan wanted plan → shown plan (kept_tree wanted t) ≡ shown plan t
-shown_same wanted plan t is has =
-    ap (λ (truth : Bool). if plan.quiet then [] else if truth then line_of plan (kept_tree wanted t) else []) (satisfies_same wanted plan.filter t has.filter)
-    ∙ ap (λ (line : List ℕ). if plan.quiet then [] else if satisfies plan.filter t then line else []) (line_kept wanted plan plan.kind t is has)
+line_same : (wanted : List ℕ) (plan : Plan) (kind : LineKind) (t u : TreeShown) → HasSameValues wanted t u → kind ≡ Fields → HasPlan wanted plan
+    → line_by kind plan u ≡ line_by kind plan t
+line_same wanted plan Text t u same is has = absurd (cc is)
+line_same wanted plan Json t u same is has = absurd (cc is)
+line_same wanted plan Fields t u same is has = line_alike wanted plan.fields t u plan.style same has.columns
 
 pub shown_by_fields : (wanted : List ℕ) (plan : Plan) → plan.kind ≡ Fields → HasPlan wanted plan → IsShownBy wanted plan
 unfolding IsShownBy
-shown_by_fields wanted plan is has = λ whole tree kept. ap (shown plan) kept.same ∙ shown_same wanted plan whole is has
+shown_by_fields wanted plan is has = λ whole tree same kept.
+    ap (λ (truth : Bool). if plan.quiet then [] else if truth then line_of plan tree else []) (satisfies_same wanted plan.filter whole tree same has.filter)
+    ∙ ap (λ (line : List ℕ). if plan.quiet then [] else if satisfies plan.filter whole then line else []) (line_same wanted plan plan.kind whole tree same is has)
 
 -- all fields are the whole tree
+streams_asked : asks_streams every_field ≡ true
+unfolding asks_streams is_in
+streams_asked = refl
+
 pub shown_by_all : (wanted : List ℕ) (plan : Plan) → wanted ≡ every_field → IsShownBy wanted plan
 unfolding IsShownBy
-shown_by_all wanted plan all = λ whole tree kept.
-    ap (shown plan) (all_kept whole tree (subst (λ (fields : List ℕ). IsKept fields whole tree) all kept))
+shown_by_all wanted plan all = λ whole tree same kept.
+    ap (shown plan) (all_kept whole tree (subst (λ (fields : List ℕ). IsKept fields whole tree) all (kept (ap asks_streams all ∙ streams_asked))))
 
 -- where no lines of frames are written, every tree is shown alike
 shown_quiet : (plan : Plan) (one other : TreeShown) → plan.quiet ≡ true → shown plan one ≡ shown plan other
@@ -71,8 +73,9 @@ shown_quiet plan one other is =
 
 pub shown_by_none : (wanted : List ℕ) (plan : Plan) → plan.quiet ≡ true → IsShownBy wanted plan
 unfolding IsShownBy
-shown_by_none wanted plan quiet = λ whole tree kept. shown_quiet plan tree whole quiet
+shown_by_none wanted plan quiet = λ whole tree same kept. shown_quiet plan tree whole quiet
 
-pub shown_wanted : (wanted : List ℕ) (plan : Plan) (whole tree : TreeShown) → IsShownBy wanted plan → IsKept wanted whole tree → shown plan tree ≡ shown plan whole
+pub shown_wanted : (wanted : List ℕ) (plan : Plan) (whole tree : TreeShown) → IsShownBy wanted plan → HasSameValues wanted whole tree
+    → (asks_streams wanted ≡ true → IsKept wanted whole tree) → shown plan tree ≡ shown plan whole
 unfolding IsShownBy
-shown_wanted wanted plan whole tree by kept = by whole tree kept
+shown_wanted wanted plan whole tree by same kept = by whole tree same kept

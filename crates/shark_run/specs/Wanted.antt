@@ -3,6 +3,7 @@ use Rattle.std.specs.Prelude.{◌≡◌, ℕ, true, List, Option, Some, None}
 use Rattle.std.specs.List.{AllByRecursion as Each}
 use Rattle.pk_fields.specs.FieldSets.{is_in}
 use Rattle.pk_tree.specs.Trees.{TreeShown, IsKept}
+use Rattle.dissect.specs.Followed.{asks_streams, HasSameValues}
 use Rattle.flt_types.specs.declared.typed.Typed.{Typed}
 use Rattle.flt_types.specs.Asked.{HasFilter}
 use Rattle.shark_run.specs.declared.plan.Plan.{Plan}
@@ -23,6 +24,7 @@ pub record HasPlan (wanted : List ℕ) (plan : Plan) : Type 0 where
   pub filter : HasAsked wanted (filter_of plan)
   pub columns : HasFields wanted (fields_of plan)
 
--- a tree of these fields alone is shown as the whole tree
+-- a tree that a dissector makes for these fields is shown as the whole tree
 unfoldable pub IsShownBy : List ℕ → Plan → Type 0
-IsShownBy wanted plan = (whole tree : TreeShown) → IsKept wanted whole tree → shown plan tree ≡ shown plan whole
+IsShownBy wanted plan = (whole tree : TreeShown) → HasSameValues wanted whole tree
+    → (asks_streams wanted ≡ true → IsKept wanted whole tree) → shown plan tree ≡ shown plan whole
