@@ -51,6 +51,12 @@ impl PlacedList {
         PlacedList { all }
     }
 
+    pub fn into_vec(self) -> Vec<Placed>
+        ensures { result.items ≡ self }
+    {
+        self.all
+    }
+
     pub fn slice(&self) -> &[Placed]
         ensures { result.now ≡ self.now }
     {

@@ -31,6 +31,28 @@ impl Streams {
         self.way(stream, side).front.as_slice()
     }
 
+    /// The position of the first byte of a direction's last stretch. Takes no memory.
+    #[tactic(auto, using(crate::proofs::ReadLemmas::stands_way))]
+    pub fn front_start(&self, stream: u32, side: u8) -> u64
+        requires stream { stream < stream_count self.now }
+        requires side { side < 2 }
+        ensures start { (past : List SegmentValue) → StandsFor past self.now → result ≡ (way_for past stream side).start }
+        ensures kept { result ≡ (way_in self.now stream side).start }
+    {
+        self.way(stream, side).start
+    }
+
+    /// The stretches of a direction before the last, in order. Takes no memory.
+    #[tactic(auto, using(crate::proofs::ReadLemmas::stands_way))]
+    pub fn earlier(&self, stream: u32, side: u8) -> &[Stretch]
+        requires stream { stream < stream_count self.now }
+        requires side { side < 2 }
+        ensures earlier { (past : List SegmentValue) → StandsFor past self.now → result.now ≡ (way_for past stream side).earlier }
+        ensures kept { result.now ≡ (way_in self.now stream side).earlier }
+    {
+        self.way(stream, side).earlier.as_slice()
+    }
+
     /// The stretches of a direction, in order: what lies between the gaps that were passed, and behind the last of them.
     #[tactic(auto, using(crate::proofs::ReadLemmas::stands_way))]
     pub fn stretches(&self, stream: u32, side: u8) -> Result<Stretches, NoMemory>
