@@ -1,5 +1,5 @@
 -- A cursor behind the last whole message of a stretch: what the messages behind it are, and what is known of the next one.
-use Rattle.std.specs.Prelude.{◌≡◌, ◌<◌, ◌≤◌, ℕ, ◌+◌, ◌-◌, if◌then◌else◌, Bool, true, false, List, [], ◌∷◌, ◌++◌, length, drop, get_or, Option, Some, None}
+use Rattle.std.specs.Prelude.{◌≡◌, ◌<◌, ◌≤◌, ℕ, ◌+◌, ◌-◌, if◌then◌else◌, Bool, true, false, List, [], ◌∷◌, ◌++◌, length, drop, get_or, slice_get, Option, Some, None}
 use Rattle.std.specs.Option.{option_map}
 use Rattle.pk_base.specs.declared.stretch.Stretch.{Stretch}
 use Rattle.http_frame.specs.declared.shape.Then.{Then}
@@ -136,6 +136,14 @@ pub record IsWhole (app : App) (start : ℕ) (front : List ℕ) (m : Placed) : T
   pub from : start ≤ m.at
   pub within : end_at m ≤ start + length front
   pub first : (asked : Bool) × (first_of app asked (drop (m.at - start) front) ≡ Some m.told)
+
+-- the same of one of stretches
+abbrev pub IsWholeInOne : App → List Stretch → Placed → Type 0
+IsWholeInOne app ss m = (number : ℕ) × (s : Stretch) × (slice_get ss number ≡ Some s) × IsWhole app s.start s.bytes m
+
+-- with one more behind them
+abbrev pub with_last : List Stretch → ℕ → List ℕ → List Stretch
+with_last ss start front = ss ++ record { start = start; bytes = front } ∷ []
 
 -- how a cursor is kept: it begins at a stretch, serves whatever is asked further on, and what it knows is right, also of more
 -- bytes

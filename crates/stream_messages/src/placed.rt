@@ -37,6 +37,7 @@ impl PlacedList {
         }
     }
 
+    /// Adds messages behind the others.
     pub(crate) fn append(&mut self, more: PlacedList) -> Result<(), NoMemory>
         ensures { OnOk result (self.new ≡ self.old ++ more) }
     {

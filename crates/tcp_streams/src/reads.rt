@@ -71,6 +71,7 @@ impl Streams {
         requires lies { LiesInOne (stretches (way_in self.now stream side)) from to }
         ensures bytes { (past : List SegmentValue) → StandsFor past self.now → IsPart (stretches (way_for past stream side)) from to result.now }
         ensures held { (past : List SegmentValue) → StandsFor past self.now → result.now ≡ bytes_at (way_for past stream side).held from (to - from) }
+        ensures kept { IsPart (stretches (way_in self.now stream side)) from to result.now }
     {
         self.way(stream, side).find(from, to).unwrap()
     }
