@@ -8,7 +8,9 @@ use Rattle.std.specs.Cmp.Lexicographic.{bytes_decides}
 use Rattle.pk_base.specs.declared.stretch.Stretch.{Stretch}
 use Rattle.http_frame.specs.declared.shape.Shape.{Shape}
 use Rattle.http_frame.specs.Messages.{first_message}
-use Rattle.range_bytes.specs.Held.{Held, put_numbers, put_number}
+use Rattle.std.specs.Prelude.{IsSome}
+use Rattle.std.specs.FinMap.{get}
+use Rattle.range_bytes.specs.Held.{Held, HoldsAll, IsFreeFrom, put_numbers, put_number}
 use Rattle.range_bytes.proofs.Ascending.{all_put}
 use Rattle.tcp_streams.specs.declared.segment.Segment.{Segment}
 use Rattle.tcp_streams.specs.Parts.{LiesIn, LiesInOne, IsPart, bytes_in}
@@ -43,6 +45,14 @@ put_append (x ∷ xs) ys zs = ap (put_number x) (put_append xs ys zs)
 pub all_told : (ms : List ShownMessage) → all_put (all_frames ms) ≡ frames_told ms
 all_told [] = refl
 all_told (m ∷ ms) = put_append (frames_in m.source) (all_frames ms) [] ∙ ap (put_numbers (frames_in m.source)) (all_told ms)
+
+-- a run does not end before what is held
+pub not_free : (held : Held) (from to at end : ℕ) → IsFreeFrom held from to → at ≤ to → to < end → HoldsAll held at end → ⊥
+not_free held from to at end run low high all = some-none (get held to) run.free (all to low high)
+  where
+    some-none : {X : Type 0} (o : Option X) → o ≡ None → IsSome o → ⊥
+    some-none None is some = false≢true some
+    some-none (Some x) is some = none-some x (sym is)
 
 -- ---- the bytes of a message
 

@@ -1,5 +1,5 @@
-ghost use Rattle.std.specs.Prelude.{◌≡◌, ◌-◌, ◌^◌, ◌<◌, List, drop, All, map, pos, ◌-ℤ◌, IfOk};
-ghost use Rattle.range_bytes.specs.Held.{frames_at};
+ghost use Rattle.std.specs.Prelude.{◌≡◌, ◌-◌, ◌^◌, ◌<◌, List, drop, All, map, pos, ◌-ℤ◌, ◌≤◌, IfOk, IfSome};
+ghost use Rattle.range_bytes.specs.Held.{IsFreeFrom, frames_at};
 ghost use Rattle.tcp_streams.specs.declared.segment.Segment.{Segment as SegmentValue};
 ghost use Rattle.tcp_streams.specs.Parts.{LiesInOne};
 ghost use Rattle.tcp_streams.specs.Standing.{AreReady, StandsFor, stream_count, way_for, way_in};
@@ -14,6 +14,13 @@ use std::alloc::Global;
 use std::collections::VecDeque;
 use stream_messages::{Placed, PlacedList, Told};
 use tcp_streams::{Segment, Streams, Taken};
+
+/// Positions of a direction, from one up to and without another, that are all held; the other isn't.
+#[derive(Clone, Copy)]
+struct Run {
+    from: u64,
+    to: u64,
+}
 
 /// Finds where the bytes of a segment's messages are.
 pub(crate) fn locate_all(
@@ -33,8 +40,11 @@ pub(crate) fn locate_all(
 {
     let mut shown = Vec::new(alloc);
     let mut rest = VecDeque::from(messages.into_vec());
+    let mut held = None;
     while let Some(message) = rest.pop_front() {
-        let source = locate(alloc, streams, s, taken, &message)?;
+        let run = run_at(streams, taken, held, message.at);
+        held = Some(run);
+        let source = locate(alloc, streams, s, taken, run, &message)?;
         shown.push(ShownMessage { message, source })?;
     }
     Ok(ShownList::from_vec(shown))
@@ -46,11 +56,14 @@ fn locate(
     streams: &Streams,
     s: &Segment,
     taken: &Taken,
+    run: Run,
     message: &Placed,
 ) -> Result<Source, NoMemory>
     requires ready { AreReady streams.now }
     requires stream { taken.now.stream < stream_count streams.now }
     requires side { taken.now.side < 2 }
+    requires run { IsFreeFrom (way_in streams.now taken.now.stream taken.now.side).held run.from run.to }
+    requires from { (run.from ≤ message.now.at) × (message.now.at ≤ run.to) }
     requires whole { IsSomeWhole (stretches (way_in streams.now taken.now.stream taken.now.side)) message.now }
     ensures whole { IfOk result (λ source. IsWholeIn s.now.payload (record { message = message.now; source = source })) }
     ensures located { IfOk result (λ source. (past : List SegmentValue) → StandsFor past streams.now
@@ -59,7 +72,7 @@ fn locate(
     let len = len_of(&message.told)?;
     let to = message.at + u64::from(len);
     let bytes = streams.part(taken.stream, taken.side, message.at, to);
-    let frames = frames_of(alloc, streams, taken, message.at, to)?;
+    let frames = frames_of(alloc, streams, taken, run, message.at, to)?;
     if frames.slice() == [s.frame].as_slice() {
         if let Some(place) = place_in(s.payload.bytes(), taken.position, message.at, bytes) {
             return Ok(Source::Segment(place));
@@ -67,6 +80,23 @@ fn locate(
     }
     let bytes = Octets::copy(alloc, bytes)?;
     Ok(Source::Gathered(Gathered { bytes, frames }))
+}
+
+/// What is held around a position: the run before, where the position lies in it.
+fn run_at(streams: &Streams, taken: &Taken, before: Option<Run>, at: u64) -> Run
+    requires stream { taken.now.stream < stream_count streams.now }
+    requires side { taken.now.side < 2 }
+    requires run { IfSome before (λ run. IsFreeFrom (way_in streams.now taken.now.stream taken.now.side).held run.from run.to) }
+    ensures run { IsFreeFrom (way_in streams.now taken.now.stream taken.now.side).held result.from result.to }
+    ensures from { (result.from ≤ at) × (at ≤ result.to) }
+{
+    match before {
+        Some(run) if run.from <= at && at < run.to => run,
+        _ => Run {
+            from: at,
+            to: streams.first_free(taken.stream, taken.side, at),
+        },
+    }
 }
 
 /// How many bytes a message has, if a buffer holds so many.
@@ -87,16 +117,19 @@ fn frames_of(
     alloc: Global,
     streams: &Streams,
     taken: &Taken,
+    run: Run,
     from: u64,
     to: u64,
 ) -> Result<Numbers, NoMemory>
     requires stream { taken.now.stream < stream_count streams.now }
     requires side { taken.now.side < 2 }
+    requires run { IsFreeFrom (way_in streams.now taken.now.stream taken.now.side).held run.from run.to }
+    requires from { (run.from ≤ from) × (from ≤ run.to) }
     requires lies { LiesInOne (stretches (way_in streams.now taken.now.stream taken.now.side)) from to }
     ensures { IfOk result (λ numbers. (past : List SegmentValue) → StandsFor past streams.now
         → numbers ≡ frames_at (way_for past taken.now.stream taken.now.side).held from (to - from)) }
 {
-    if streams.holds(taken.stream, taken.side, from, to) {
+    if to <= run.to {
         streams.origins(taken.stream, taken.side, from, to)
     } else {
         Ok(Numbers::from_vec(Vec::new(alloc)))

@@ -1,6 +1,6 @@
 ghost use Rattle.std.specs.Prelude.{◌≡◌, ◌↔◌, true, ◌-◌, ◌+◌, ◌<◌, ◌≤◌, ℕ, List, length, slice_range, slice_get, Some, nat_le, IfOk, IfSome, IsSome, IsSomeAnd};
 ghost use Rattle.pk_base.specs.declared.stretch.Stretch.{Stretch as StretchValue};
-ghost use Rattle.range_bytes.specs.Held.{HoldsAll, bytes_at, frames_at};
+ghost use Rattle.range_bytes.specs.Held.{HoldsAll, IsFreeFrom, bytes_at, frames_at};
 ghost use Rattle.tcp_streams.specs.declared.segment.Segment.{Segment as SegmentValue};
 ghost use Rattle.tcp_streams.specs.Ways.{stretches, AreApart};
 ghost use Rattle.tcp_streams.specs.Parts.{LiesIn, LiesInOne, IsPart};
@@ -92,6 +92,15 @@ impl Streams {
         ensures { (result ≡ true) ↔ HoldsAll (way_in self.now stream side).held from to }
     {
         self.way(stream, side).held.first_free(from) >= to
+    }
+
+    /// The least position from one on of which a direction holds no byte. Takes no memory.
+    pub fn first_free(&self, stream: u32, side: u8, from: u64) -> u64
+        requires stream { stream < stream_count self.now }
+        requires side { side < 2 }
+        ensures { IsFreeFrom (way_in self.now stream side).held from result }
+    {
+        self.way(stream, side).held.first_free(from)
     }
 
     /// The numbers of the frames that brought the bytes from a position up to and without another: ascending, each once.

@@ -16,6 +16,7 @@ loop-message-init c =
     record {
       located_so = λ past stands. λ i. c.new-shown.ensures.items i ++ map (located (way_for past c.args.taken.now.stream c.args.taken.now.side).held c.args.s.now c.args.taken.now.position) (all i);
       whole = subst (All (IsWholeIn c.args.s.now.payload)) (sym c.new-shown.ensures.items) (All-nil (IsWholeIn c.args.s.now.payload));
+      run = tt;
       left = subst (All (IsSomeWhole (stretches (way_in c.args.streams.now c.args.taken.now.stream c.args.taken.now.side)))) (sym all) c.requires.whole;
     }
 
@@ -34,6 +35,7 @@ loop-message-preserved c =
           c.loop-message.rest.items c.pop_front.new.self.items _ items (c.in_ok-source.ensures.located past stands) (c.loop-message.invariant.located_so past stands);
       whole = subst (All (IsWholeIn c.args.s.now.payload)) (sym c.in_ok-push.ensures.items)
           (All-push (IsWholeIn c.args.s.now.payload) c.loop-message.shown.items _ c.loop-message.invariant.whole c.in_ok-source.ensures.whole);
+      run = c.run_at-run.ensures.run;
       left = All-drop (IsSomeWhole (stretches (way_in c.args.streams.now c.args.taken.now.stream c.args.taken.now.side))) 1 (c.in-Some.message ∷ c.pop_front.new.self.items)
           (subst (All (IsSomeWhole (stretches (way_in c.args.streams.now c.args.taken.now.stream c.args.taken.now.side)))) items c.loop-message.invariant.left);
     }
