@@ -4,7 +4,7 @@ use Rattle.pk_tree.specs.declared.heads.FragmentHead.{FragmentHead}
 use Rattle.pk_tree.specs.declared.heads.PacketHead.{PacketHead}
 use Rattle.pk_tree.specs.declared.heads.TcpHead.{TcpHead}
 use Rattle.ip_join.specs.Stands.{Stands}
-use Rattle.tcp_messages.specs.Readers.{ReadsFor}
+use Rattle.tcp_messages.specs.Standing.{ReadsFor}
 use Rattle.dissect.specs.declared.state.State.{State}
 use Rattle.dissect.specs.Conversations.{udp_opened}
 use Rattle.dissect.specs.Events.{Event, Piece, Tcp}

@@ -10,7 +10,7 @@ use Rattle.tcp_streams.specs.declared.segment.Taken.{Taken}
 use Rattle.tcp_streams.specs.Labels.{taken_after}
 use Rattle.tcp_streams.specs.Standing.{StandsFor}
 use Rattle.tcp_messages.specs.declared.met.ShownMessage.{ShownMessage}
-use Rattle.tcp_messages.specs.Readers.{ReadsFor, streams_in}
+use Rattle.tcp_messages.specs.Standing.{ReadsFor, streams_in}
 use Rattle.tcp_messages.specs.Shown.{shown_after}
 use Rattle.capture_read.specs.declared.frame.Frame.{Frame}
 use Rattle.dissect.specs.declared.state.State.{State}

@@ -5,7 +5,7 @@ use Rattle.capture_read.specs.FrameList.{captured_bytes}
 use Rattle.pk_tree.specs.Trees.{TreeShown}
 use Rattle.ip_join.specs.Stands.{Stands as JoinsStandFor}
 use Rattle.tcp_streams.specs.Standing.{taken_so_far}
-use Rattle.tcp_messages.specs.Readers.{ReadsFor, streams_in}
+use Rattle.tcp_messages.specs.Standing.{ReadsFor, streams_in}
 use Rattle.dissect.specs.declared.decode.DecodeAs.{DecodeAs}
 use Rattle.dissect.specs.declared.state.State.{State}
 use Rattle.dissect.specs.declared.times.Times.{Times}
