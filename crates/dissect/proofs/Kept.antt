@@ -37,6 +37,7 @@ use Rattle.dissect.specs.Fragments.{number_told, conflict_told, error_field, fra
 use Rattle.dissect.specs.FrameLayer.{frame_span, is_cut, kept_frame, frame_tree}
 use Rattle.dissect.specs.Payloads.{with_number, with_ack, with_payload, with_lost, datagram_told, place_told, segment_told}
 use Rattle.dissect.specs.Trees.{kept_walk, walk_of}
+use Rattle.dissect.proofs.KeptMessages.{tree_as, kept_if, carried_kept}
 use Rattle.dissect.specs.Walks.{Walk, going, stop, rest_met, joined_met, fragment_by, fragment_met, datagram_met, segment_met, followed, layer_met, message_met, mode_behind, head_by, head_met, step_on, step, rest_on, chain, layers_left, link_met, all_met, no_packet}
 
 -- two ways that differ in the items that are kept alone
@@ -46,19 +47,11 @@ pub record IsSameWay (wanted : List ℕ) (v x : Walk) : Type 0 where
   pub todo : x.todo ≡ v.todo
 
 -- it is enough to look at the very tree of those that are kept, whose buffers are the whole tree's
-tree_as : (wanted : List ℕ) (X : TreeShown → TreeShown) (t u : TreeShown) → IsKeptTree wanted t u → (IsKeptTree wanted t (kept_tree wanted t) → IsKeptTree wanted (X t) (X (kept_tree wanted t))) → IsKeptTree wanted (X t) (X u)
-tree_as wanted X t u k one =
-    subst (λ (v : TreeShown). IsKeptTree wanted (X t) (X v)) (sym k.same) (one (record { same = refl; all = k.all }))
-
 way_as : (wanted : List ℕ) (X : TreeShown → Walk) (t u : TreeShown) → IsKeptTree wanted t u → (IsKeptTree wanted t (kept_tree wanted t) → IsSameWay wanted (X t) (X (kept_tree wanted t))) → IsSameWay wanted (X t) (X u)
 way_as wanted X t u k one = subst (λ (v : TreeShown). IsSameWay wanted (X t) (X v)) (sym k.same) (one (record { same = refl; all = k.all }))
 
 same_going : (wanted : List ℕ) (t u : TreeShown) (es : List Event) (todo : Todo) → IsKeptTree wanted t u → IsSameWay wanted (going t es todo) (going u es todo)
 same_going wanted t u es todo k = record { tree = k; events = refl; todo = refl }
-
-kept_if : (wanted : List ℕ) (test : Bool) (t u t1 u1 : TreeShown) → IsKeptTree wanted t u → IsKeptTree wanted t1 u1 → IsKeptTree wanted (if test then t else t1) (if test then u else u1)
-kept_if wanted true t u t1 u1 k k1 = k
-kept_if wanted false t u t1 u1 k k1 = k1
 
 same_if : (wanted : List ℕ) (test : Bool) (v x v1 x1 : Walk) → IsSameWay wanted v x → IsSameWay wanted v1 x1 → IsSameWay wanted (if test then v else v1) (if test then x else x1)
 same_if wanted true v x v1 x1 k k1 = k
@@ -154,7 +147,10 @@ segment_same : (wanted : List ℕ) (frame : Frame) (packet : PacketHead) (es : L
     IsSameWay wanted (segment_met frame packet t es head span) (segment_met frame packet u es head span)
 unfolding segment_met
 segment_same wanted frame packet es head span t u k =
-    way_as wanted (λ v. segment_met frame packet v es head span) t u k (λ one. rest_same wanted _ _ _ span (segment_kept wanted _ span t (kept_tree wanted t) one))
+    way_as wanted (λ v. segment_met frame packet v es head span) t u k
+    (λ one.
+    let told = segment_kept wanted _ span t (kept_tree wanted t) one in
+    same_going wanted _ _ _ todos.Done (carried_kept wanted _ (is_cut frame) span _ _ _ (data_kept wanted _ _ span told) told))
 
 -- what follows a header
 followed_same : (wanted : List ℕ) (frame : Frame) (packet : PacketHead) (mode : Mode) (es : List Event) (after : After) (t u : TreeShown) → IsKeptTree wanted t u →

@@ -1,12 +1,20 @@
+mod Asked
 mod Behind
 mod Chains
 mod FramePassed
 mod Growing
+mod HttpUnasked
 mod Joining
 mod Kept
+mod KeptMessages
+mod MessageBuffers
+mod MessageLemmas
+mod MessagesAside
 pub mod NoRules
 mod Opens
 mod Passing
 mod Segmenting
+mod Spaces
+mod StreamApps
 mod Taken
 mod Told

@@ -2,7 +2,7 @@
 use Rattle.std.proofs.Common.{◌≡◌, ℕ, ◌+◌, Bool, true, false, refl, List, ◌∷◌, length, sym, ◌∙◌, ap, subst, arith}
 use Rattle.pk_fields.specs.FieldSets.{is_in, every_field}
 use Rattle.pk_tree.specs.FieldValues.{values_of}
-use Rattle.pk_tree.specs.Trees.{TreeShown, IsKept as IsKeptTree}
+use Rattle.pk_tree.specs.Trees.{TreeShown, IsKept as IsKeptTree, IsTree}
 use Rattle.pk_tree.proofs.KeptTrees.{all_kept}
 use Rattle.pk_tree.proofs.KeptValues.{values_same}
 use Rattle.capture_read.specs.declared.frame.Frame.{Frame}
@@ -15,6 +15,7 @@ use Rattle.dissect.specs.Stands.{DissectorShown, StandsAt, IsWalked, IsAfter}
 use Rattle.dissect.specs.Times.{with_time}
 use Rattle.dissect.specs.Trees.{kept_walk, times_of, events_of, tree_at}
 use Rattle.dissect.proofs.Kept.{walk_kept}
+use Rattle.dissect.proofs.MessagesAside.{same_values}
 
 -- the frame is read, whatever events are kept
 abbrev pub Reads : List ℕ → Frame → DissectorShown → State → TreeShown → Type 0
@@ -37,14 +38,14 @@ tree-taken asked past frame d state t same after reads follows =
 
 -- else the values, where nothing of streams is asked
 pub values-taken : (asked : List ℕ) (past : List Frame) (frame : Frame) (d : DissectorShown) (state : State) (t : TreeShown)
-    → IsAfter past d → Reads asked frame d state t → asks_streams asked ≡ false → HasSameValues asked (tree_at past frame) t
+    → IsTree t → IsAfter past d → Reads asked frame d state t → asks_streams asked ≡ false → HasSameValues asked (tree_at past frame) t
 unfolding tree_at
-values-taken asked past frame d state t after reads unasked =
+values-taken asked past frame d state t tree after reads unasked =
     let kept = (walk_kept asked (times_of past) (events_of past) frame).tree.same in
     let wanted = ap (λ (u : TreeShown). u.wanted) kept in
     let told = (walked asked past frame d state t after reads).tree in
     λ field layers is.
-    told.values (ap asks_streams wanted ∙ unasked) field layers (ap (λ set. is_in set field) wanted ∙ is)
+    same_values _ t tree (told.lacks (ap asks_streams wanted ∙ unasked)) field layers (ap (λ set. is_in set field) wanted ∙ is)
     ∙ ap (λ (u : TreeShown). values_of u field layers) kept
     ∙ values_same asked (tree_at past frame) field layers is
 

@@ -1,21 +1,32 @@
 -- How a tree is told of a way.
-use Rattle.std.proofs.Common.{◌≡◌, Bool, true, false, refl, sym, ap, ◌∙◌, true≢false}
-use Rattle.pk_fields.specs.FieldSets.{is_in}
-use Rattle.pk_tree.specs.FieldValues.{values_of}
+use Rattle.std.proofs.lemmas.Bool.{cond-true}
+use Rattle.std.specs.Prelude.{IfOk, Result, Ok, Err}
+use Rattle.std.proofs.Common.{◌≡◌, List, length, eq-eqb, Bool, true, false, refl, sym, ap, subst, ◌∙◌, true≢false}
+use Rattle.pk_base.specs.declared.memory.NoMemory.{NoMemory}
+use Rattle.pk_base.specs.declared.span.Span.{Span}
+use Rattle.pk_tree.specs.declared.heads.FragmentHead.{FragmentHead}
 use Rattle.pk_tree.specs.Trees.{TreeShown}
+use Rattle.ip_join.specs.declared.joined.Datagram.{Datagram}
+use Rattle.ip_join.specs.declared.joined.Joined.{Joined}
+use Rattle.ip_join.specs.declared.joined.Joined.TheVariants.{Whole}
+use Rattle.capture_read.specs.declared.frame.Frame.{Frame}
 use Rattle.dissect.specs.declared.state.State.{State}
 use Rattle.dissect.specs.declared.todo.Head.{Head}
 use Rattle.dissect.specs.declared.todo.Todo.{Todo}
 use Rattle.dissect.specs.declared.todo.Todo.TheVariants as todos
-use Rattle.dissect.specs.Followed.{asks_streams}
-use Rattle.dissect.specs.Stands.{IsToldAs}
+use Rattle.dissect.specs.Followed.{asks_streams, LacksOnly}
+use Rattle.dissect.specs.Events.{Event}
+use Rattle.dissect.specs.Fragments.{joined_told, joined_todo}
+use Rattle.dissect.specs.Stands.{StandsAt, IsMet, IsToldAs, IsWalked}
+use Rattle.dissect.specs.Walks.{Walk, going, joined_met, link_met, stop}
+use Rattle.dissect.proofs.MessagesAside.{lacks_none, lacks_on}
 
 -- the very tree
 pub told_same : (state : State) (next : Todo) (whole t : TreeShown) → t ≡ whole → IsToldAs state next whole t
 told_same state next whole t is = record {
   wanted = ap (λ (u : TreeShown). u.wanted) is;
   same = λ _. is;
-  values = λ _ field layers _. ap (λ (u : TreeShown). values_of u field layers) is;
+  lacks = λ _. subst (λ (u : TreeShown). LacksOnly whole u) (sym is) (lacks_none whole);
 }
 
 -- before a header it is
@@ -29,12 +40,36 @@ pub told_on : (state after : State) (whole t t1 : TreeShown) → after.follows �
 told_on state after whole t t1 same first second = record {
   wanted = second.wanted ∙ first.wanted;
   same = λ follows. second.same follows ∙ first.same (λ done. sym same ∙ follows done);
-  values = λ unasked field layers is.
-      second.values (ap asks_streams first.wanted ∙ unasked) field layers (ap (λ wanted. is_in wanted field) first.wanted ∙ is)
-      ∙ first.values unasked field layers is;
+  lacks = λ unasked. lacks_on whole t t1 first.wanted (first.lacks unasked) (second.lacks (ap asks_streams first.wanted ∙ unasked));
 }
 
 -- what is asked of streams is followed
 pub follows_asked : (follows asks : Bool) → (follows ≡ false → asks ≡ false) → asks ≡ true → follows ≡ true
 follows_asked true asks few asked = refl
 follows_asked false asks few asked = absurd (true≢false (sym asked ∙ few refl))
+
+-- a way on which no segment was met
+pub walked_same : (w : Walk) (state : State) (t : TreeShown) (next : Todo) → StandsAt w.events state → t ≡ w.tree → next ≡ w.todo → IsWalked w state t next
+walked_same w state t next stands tree todo = record { stands = stands; tree = told_same state next w.tree t tree; todo = todo }
+
+pub walked_met : (before after : State) (w : List Event → Walk) (t : TreeShown) (r : Result Todo NoMemory) → IfOk r (λ next. (es : List Event) → StandsAt es before → IsMet (w es) after t next)
+    → IfOk r (λ next. (es : List Event) → StandsAt es before → IsWalked (w es) after t next)
+walked_met before after w t (Ok next) met = λ es stands.
+    let is = met es stands in
+    walked_same (w es) after t next is.stands is.tree is.todo
+walked_met before after w t (Err fault) met = tt
+
+-- a datagram that is whole
+pub walked_joined : (state : State) (joined : Joined) (datagram : Datagram) (head : FragmentHead) (span : Span) (t new : TreeShown) (r : Result Todo NoMemory) → joined ≡ Whole datagram
+    → IfOk r (λ _. new ≡ joined_told t head.six datagram) → IfOk r (λ next. next ≡ joined_todo t head datagram)
+    → IfOk r (λ next. (es : List Event) → StandsAt es state → IsWalked (joined_met joined t es head span) state new next)
+unfolding joined_met
+walked_joined state joined datagram head span t new (Ok next) whole tree todo = λ es stands.
+    subst (λ (j : Joined). IsWalked (joined_met j t es head span) state new next) (sym whole)
+    (walked_same (going (joined_told t head.six datagram) es (joined_todo t head datagram)) state new next stands tree todo)
+walked_joined state joined datagram head span t new (Err fault) whole tree todo = tt
+
+-- a frame of no bytes has no header
+pub link_none : (frame : Frame) (t : TreeShown) (es : List Event) → length frame.bytes ≡ 0 → link_met frame t es ≡ stop t es
+unfolding link_met
+link_none frame t es none = cond-true _ _ _ (eq-eqb (length frame.bytes) 0 none)

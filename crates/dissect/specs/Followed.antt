@@ -1,15 +1,44 @@
 -- What of a frame is told by the streams of TCP.
-use Rattle.std.specs.Prelude.{◌≡◌, ℕ, Bool, true, ◌||◌, List}
+use Rattle.std.specs.Prelude.{◌≡◌, ◌==◌, ℕ, zero, suc, Bool, true, false, ◌&&◌, ◌||◌, List, [], ◌++◌}
+use Rattle.std.specs.List.{AllByRecursion as Each}
+use Rattle.pk_fields.specs.Fields.{row_of}
 use Rattle.pk_fields.specs.FieldSets.{is_in}
-use Rattle.pk_fields.specs.Ids.{TCP_STREAM, TCP_SEQ, TCP_ACK, TCP_LOST}
+use Rattle.pk_fields.specs.Ids.{DNS, HTTP, TCP_ACK, TCP_LOST, TCP_SEGMENT, TCP_SEQ, TCP_STREAM, WS_MALFORMED, WS_SHORT, field_count}
 use Rattle.pk_tree.specs.declared.chosen.Layers.{Layers}
+use Rattle.pk_tree.specs.declared.layer.Layer.{Layer}
 use Rattle.pk_tree.specs.FieldValues.{values_of}
 use Rattle.pk_tree.specs.Trees.{TreeShown}
 
--- one of the fields is asked that a segment's place in its stream gives; its length and its payload are its own
+-- a protocol or a field of it is asked, among the fields below a number
+unfoldable pub asks_any : ℕ → ℕ → List ℕ → Bool
+asks_any zero proto wanted = false
+asks_any (suc n) proto wanted = ((row_of n).proto == proto && is_in wanted n) || asks_any n proto wanted
+
+-- something is asked of the messages of streams: the frames that brought them, their layers, or the fault layers behind these
+unfoldable pub asks_messages : List ℕ → Bool
+asks_messages wanted =
+    is_in wanted TCP_SEGMENT
+    || is_in wanted WS_SHORT
+    || is_in wanted WS_MALFORMED
+    || asks_any field_count HTTP wanted
+    || asks_any field_count DNS wanted
+
+-- something is asked of streams: a segment's place, or messages; a segment's length and its payload are its own
 unfoldable pub asks_streams : List ℕ → Bool
 asks_streams wanted =
-    is_in wanted TCP_STREAM || is_in wanted TCP_SEQ || is_in wanted TCP_ACK || is_in wanted TCP_LOST
+    is_in wanted TCP_STREAM || is_in wanted TCP_SEQ || is_in wanted TCP_ACK || is_in wanted TCP_LOST || asks_messages wanted
+
+-- a layer that has nothing to show of the wanted fields
+abbrev pub IsAside : List ℕ → Layer → Type 0
+IsAside wanted layer = (is_in wanted layer.proto ≡ false) × (layer.items ≡ [])
+
+-- what a tree lacks of the whole tree are layers behind its own that have nothing to show, and buffers
+pub record LacksOnly (whole t : TreeShown) : Type 0 where
+  pub layers : List Layer
+  pub whole_layers : whole.layers ≡ t.layers ++ layers
+  pub aside : Each (IsAside whole.wanted) layers
+  pub buffers : List (List ℕ)
+  pub whole_buffers : whole.buffers ≡ t.buffers ++ buffers
 
 -- a tree has the same values of the wanted fields as the whole tree
 abbrev pub HasSameValues : List ℕ → TreeShown → TreeShown → Type 0

@@ -6,6 +6,7 @@ pub mod Events
 pub mod Fragments
 pub mod Followed
 pub mod FrameLayer
+pub mod MessageLayers
 pub mod Payloads
 pub mod Segments
 pub mod Stands

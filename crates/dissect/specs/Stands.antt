@@ -1,10 +1,11 @@
 -- What a dissector keeps, and what it stands for.
-use Rattle.std.specs.Prelude.{◌≡◌, ℕ, ◌+◌, ◌-◌, ◌<◌, ◌≤◌, ◌^◌, Bool, true, false, List, length}
+use Rattle.std.specs.Prelude.{◌≡◌, ℕ, ◌+◌, ◌-◌, ◌*◌, ◌<◌, ◌≤◌, ◌^◌, Bool, true, false, List, length}
 use Rattle.capture_read.specs.declared.frame.Frame.{Frame}
 use Rattle.capture_read.specs.FrameList.{captured_bytes}
 use Rattle.pk_tree.specs.Trees.{TreeShown}
 use Rattle.ip_join.specs.Stands.{Stands as JoinsStandFor}
-use Rattle.tcp_streams.specs.Standing.{StandsFor, taken_so_far}
+use Rattle.tcp_streams.specs.Standing.{taken_so_far}
+use Rattle.tcp_messages.specs.Standing.{ReadsFor, streams_in}
 use Rattle.dissect.specs.declared.decode.DecodeAs.{DecodeAs}
 use Rattle.dissect.specs.declared.state.State.{State}
 use Rattle.dissect.specs.declared.times.Times.{Times}
@@ -12,8 +13,9 @@ use Rattle.dissect.specs.declared.todo.Todo.{Todo}
 use Rattle.dissect.specs.declared.todo.Todo.TheVariants as todos
 use Rattle.dissect.specs.Conversations.{udp_opened}
 use Rattle.dissect.specs.Events.{Event}
-use Rattle.dissect.specs.Followed.{asks_streams, HasSameValues}
+use Rattle.dissect.specs.Followed.{asks_streams, LacksOnly}
 use Rattle.dissect.specs.Fragments.{fragments_of}
+use Rattle.dissect.specs.MessageLayers.{app_of_segment}
 use Rattle.dissect.specs.Segments.{segments_of}
 use Rattle.dissect.specs.Times.{AreTimes}
 use Rattle.dissect.specs.Trees.{times_of, events_of}
@@ -30,17 +32,17 @@ pub record DissectorShown : Type 0 where
   pub times : Times
   pub state : State
 
--- what is kept of events: the fragments of datagrams that aren't whole yet, the conversations over UDP, and the streams of TCP,
--- where they are followed
+-- what is kept of events: the fragments of datagrams that aren't whole yet, the conversations over UDP, and the streams of TCP with
+-- their messages, where they are followed
 pub record StandsAt (es : List Event) (state : State) : Type 0 where
   pub joins : JoinsStandFor (fragments_of es) state.joins
   pub udp : state.udp ≡ udp_opened es
-  pub streams : state.follows ≡ true → StandsFor (segments_of es) state.streams
+  pub streams : state.follows ≡ true → ReadsFor app_of_segment (segments_of es) state.streams
 
 -- at most so many conversations over UDP were opened, and segments of TCP taken; streams are followed as before
 pub record AddsAtMost (most : ℕ) (old new : State) : Type 0 where
   pub udp : length new.udp ≤ length old.udp + most
-  pub tcp : taken_so_far new.streams ≤ taken_so_far old.streams + most
+  pub tcp : taken_so_far (streams_in new.streams) ≤ taken_so_far (streams_in old.streams) + most
   pub follows : new.follows ≡ old.follows
 
 -- a header adds at most one, and then nothing more is to be read of its frame
@@ -51,25 +53,42 @@ AddsOneThenEnds old new (todos.Head head) = AddsAtMost 0 old new
 -- there is room for one conversation and one segment more
 pub record HasRoomForOne (state : State) : Type 0 where
   pub udp : length state.udp + 1 < 2 ^ 32
-  pub tcp : taken_so_far state.streams < 2 ^ 32 - 1
+  pub tcp : taken_so_far (streams_in state.streams) < 2 ^ 32 - 1
 
 -- so there is where a header is still to be read
 abbrev pub HasRoom : State → Todo → Type 0
 HasRoom state todos.Done = Unit {0}
 HasRoom state (todos.Head head) = HasRoomForOne state
 
--- there is room for a header more: for what it adds to the state, for so many layers, and for a buffer
+-- there is room for a header more: for what it adds to the state, for so many layers, and for a buffer; and for the messages that
+-- come behind the last one
 pub record IsReady (most : ℕ) (st : State) (t : TreeShown) : Type 0 where
   pub state : HasRoomForOne st
-  pub layers : length t.layers + most < 2 ^ 32
-  pub buffers : length t.buffers + 1 < 2 ^ 32
+  pub layers : length t.layers + most < 2 ^ 31
+  pub buffers : length t.buffers + 1 < 2 ^ 31
 
--- the tree that a way leads to; where streams aren't followed and the way has ended, it has the same values of the wanted
--- fields, if nothing of streams is asked
+-- where a header follows, few layers were added, and at most one buffer
+abbrev pub AddsFew : ℕ → TreeShown → TreeShown → Todo → Type 0
+AddsFew most old new todos.Done = Unit {0}
+AddsFew most old new (todos.Head head) = (length new.layers ≤ length old.layers + most) × (length new.buffers ≤ length old.buffers + 1)
+
+-- where a header follows, there is room for so many headers
+abbrev pub HasSpace : ℕ → TreeShown → Todo → Type 0
+HasSpace left t todos.Done = Unit {0}
+HasSpace left t (todos.Head head) = (length t.layers + 6 * left ≤ 224) × (length t.buffers + left ≤ 34)
+
+-- the tree that a way leads to; where streams aren't followed and the way has ended, it lacks only what has nothing to show, if nothing
+-- of streams is asked
 pub record IsToldAs (state : State) (next : Todo) (whole t : TreeShown) : Type 0 where
   pub wanted : t.wanted ≡ whole.wanted
   pub same : (next ≡ todos.Done → state.follows ≡ true) → t ≡ whole
-  pub values : asks_streams whole.wanted ≡ false → HasSameValues whole.wanted whole t
+  pub lacks : asks_streams whole.wanted ≡ false → LacksOnly whole t
+
+-- how far a frame is read where no segment was met, with what is kept then
+pub record IsMet (w : Walk) (state : State) (t : TreeShown) (next : Todo) : Type 0 where
+  pub stands : StandsAt w.events state
+  pub tree : t ≡ w.tree
+  pub todo : next ≡ w.todo
 
 -- how far a frame is read, with what is kept then
 pub record IsWalked (w : Walk) (state : State) (t : TreeShown) (next : Todo) : Type 0 where
@@ -99,5 +118,5 @@ pub record IsKept (d : DissectorShown) : Type 0 where
   pub times : AreTimes d.times
   pub udp : length d.state.udp < 2 ^ 32
   pub udp_few : d.spent ≡ false → length d.state.udp ≤ d.taken
-  pub tcp_few : d.spent ≡ false → taken_so_far d.state.streams ≤ d.taken
+  pub tcp_few : d.spent ≡ false → taken_so_far (streams_in d.state.streams) ≤ d.taken
   pub asked : d.state.follows ≡ false → asks_streams d.wanted ≡ false

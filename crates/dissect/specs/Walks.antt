@@ -1,5 +1,5 @@
 -- The way through a frame's headers, one behind the other.
-use Rattle.std.specs.Prelude.{◌==◌, ℕ, zero, suc, ◌-◌, ◌<◌, Bool, true, false, List, ◌∷◌, length, if◌then◌else◌}
+use Rattle.std.specs.Prelude.{◌==◌, ℕ, zero, suc, ◌-◌, ◌<◌, Bool, true, false, List, ◌∷◌, length, if◌then◌else◌, Option}
 use Rattle.pk_base.specs.declared.span.Span.{Span}
 use Rattle.pk_buffer.specs.Buffers.{IsInside, bytes_of}
 use Rattle.pk_fields.specs.Ids.{ARP, VLAN, IP, IPV6, UDP, TCP, ICMP, ICMPV6, IGMP, ND}
@@ -32,8 +32,12 @@ use Rattle.dis_ports.specs.Udp.{udp_span, udp_layout, udp_after}
 use Rattle.ip_join.specs.declared.joined.Joined.{Joined}
 use Rattle.ip_join.specs.declared.joined.Joined.TheVariants.{Pending, Whole, Conflict}
 use Rattle.ip_join.specs.Stands.{joined_by}
+use Rattle.tcp_streams.specs.declared.segment.Segment.{Segment}
 use Rattle.tcp_streams.specs.declared.segment.Taken.{Taken}
 use Rattle.tcp_streams.specs.Labels.{taken_after}
+use Rattle.stream_messages.specs.declared.told.App.{App as StreamApp}
+use Rattle.tcp_messages.specs.declared.met.ShownMessage.{ShownMessage}
+use Rattle.tcp_messages.specs.Shown.{shown_after}
 use Rattle.capture_read.specs.declared.frame.Frame.{Frame}
 use Rattle.dissect.specs.declared.todo.Head.{Head}
 use Rattle.dissect.specs.declared.todo.Todo.{Todo}
@@ -44,6 +48,7 @@ use Rattle.dissect.specs.DataLayer.{data_over}
 use Rattle.dissect.specs.Events.{Event, Piece, Udp, Tcp}
 use Rattle.dissect.specs.Fragments.{fragment_from, fragments_of, conflict_told, joined_told, joined_todo}
 use Rattle.dissect.specs.FrameLayer.{frame_span, is_cut}
+use Rattle.dissect.specs.MessageLayers.{app_of_segment, carried_over}
 use Rattle.dissect.specs.Payloads.{datagram_told, segment_told}
 use Rattle.dissect.specs.Segments.{segment_from, segments_of}
 
@@ -99,18 +104,21 @@ unfoldable pub datagram_met : Frame → PacketHead → TreeShown → List Event 
 datagram_met frame packet t es head span =
     stop (payload_over (app_of usual_udp head) (datagram_told t (udp_stream es packet head) span) (is_cut frame) span) (Udp frame.number packet head ∷ es)
 
--- a segment is told in its header's layer; then comes its payload, as data
-abbrev pub told_met : TreeShown → List Event → Taken → Span → Walk
-told_met t es taken span = rest_met (segment_told t taken span) es span
+-- a segment is told in its header's layer; then come the messages that its frame shows, or where its stream has no application,
+-- its payload as data
+abbrev pub told_met : Bool → TreeShown → List Event → Taken → Option StreamApp → List ShownMessage → Span → Walk
+told_met cut t es taken app messages span = stop (carried_over app cut span (segment_told t taken span) messages) es
 
 -- a segment, by the segments before it
-abbrev pub taken_met : TreeShown → List Event → ℕ → PacketHead → TcpHead → List ℕ → Span → Walk
-taken_met t es frame packet head bytes span =
-    told_met t (Tcp frame packet head bytes ∷ es) (taken_after (segments_of es) (segment_from frame packet head bytes)) span
+abbrev pub taken_met : Bool → TreeShown → List Event → List Segment → Segment → Span → Walk
+taken_met cut t es past segment span =
+    told_met cut t es (taken_after past segment) (app_of_segment segment) (shown_after (app_of_segment segment) past segment) span
 
 -- what a TCP header carries
 unfoldable pub segment_met : Frame → PacketHead → TreeShown → List Event → TcpHead → Span → Walk
-segment_met frame packet t es head span = taken_met t es frame.number packet head (bytes_of t.buffers span) span
+segment_met frame packet t es head span =
+    taken_met (is_cut frame) t (Tcp frame.number packet head (bytes_of t.buffers span) ∷ es) (segments_of es)
+    (segment_from frame.number packet head (bytes_of t.buffers span)) span
 
 -- what follows a header, given the IP header of the packet that it is in
 unfoldable pub followed : Frame → PacketHead → Mode → TreeShown → List Event → After → Walk

@@ -2,6 +2,7 @@ ghost use Rattle.std.specs.Prelude.{◌≡◌, ◌+◌, ◌<◌, ◌≤◌, ◌^
 ghost use Rattle.pk_buffer.specs.Buffers.{IsInside};
 ghost use Rattle.pk_tree.specs.Following.{LeadsInside};
 ghost use Rattle.dissect.specs.Applications.{usual_udp, app_in, app_of, data_behind, message_over, payload_over};
+ghost use Rattle.dissect.specs.MessageLayers.{in_streams, stream_app, usual_tcp};
 
 use crate::data_layer::add_data;
 use crate::decode::App;
@@ -10,6 +11,7 @@ use dis_dns::{read_dns, read_mdns};
 use dis_more::read_ntp;
 use pk_base::{NoMemory, Span};
 use pk_tree::{After, PortsHead, TreeBuilder};
+use stream_messages::App as StreamApp;
 
 /// The application of a datagram, by its ports.
 #[tactic(auto, unfolding(crate::specs::Applications::app_of))]
@@ -39,6 +41,46 @@ fn usual_udp(port: u16) -> Option<App>
         123 => Some(App::Ntp),
         5353 => Some(App::Mdns),
         _ => None,
+    }
+}
+
+/// The application of a stream, by the ports of one of its segments.
+#[tactic(auto, unfolding(crate::specs::MessageLayers::stream_app, crate::specs::Applications::app_of))]
+pub(crate) fn stream_app(source: u16, target: u16) -> Option<StreamApp>
+    ensures { result ≡ stream_app source target }
+{
+    if source <= target {
+        in_streams(tcp_app_in(source, target))
+    } else {
+        in_streams(tcp_app_in(target, source))
+    }
+}
+
+fn tcp_app_in(lower: u16, higher: u16) -> Option<App>
+    ensures { result ≡ app_in usual_tcp lower higher }
+{
+    usual_tcp(lower).or(usual_tcp(higher))
+}
+
+/// The usual application of a port of TCP.
+fn usual_tcp(port: u16) -> Option<App>
+    ensures { result ≡ usual_tcp port }
+{
+    match port {
+        53 => Some(App::Dns),
+        80 | 8080 => Some(App::Http),
+        _ => None,
+    }
+}
+
+/// The applications that have messages in streams.
+fn in_streams(app: Option<App>) -> Option<StreamApp>
+    ensures { result ≡ in_streams app }
+{
+    match app {
+        Some(App::Dns) => Some(StreamApp::Dns),
+        Some(App::Http) => Some(StreamApp::Http),
+        Some(App::Dhcp) | Some(App::Ntp) | Some(App::Mdns) | Some(App::Plain) | None => None,
     }
 }
 

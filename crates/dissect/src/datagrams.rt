@@ -3,7 +3,7 @@ ghost use Rattle.pk_buffer.specs.Buffers.{IsInside};
 ghost use Rattle.pk_fields.specs.Ids.{UDP};
 ghost use Rattle.dissect.specs.Events.{Event};
 ghost use Rattle.dissect.specs.Payloads.{LastIs};
-ghost use Rattle.dissect.specs.Stands.{StandsAt, IsWalked, IsReady, AddsAtMost, AddsOneThenEnds};
+ghost use Rattle.dissect.specs.Stands.{StandsAt, IsMet, IsReady, AddsAtMost, AddsOneThenEnds};
 ghost use Rattle.dissect.specs.Walks.{IsTodoInside, datagram_met};
 
 use crate::applications::{add_message, app_of};
@@ -18,7 +18,7 @@ use pk_tree::{PacketHead, PortsHead, TreeBuilder};
 
 impl State {
     /// Takes a packet of UDP: tells the number of its conversation, and reads what it carries.
-    #[tactic(auto, using(crate::proofs::Told::told_same), unfolding(crate::specs::Walks::datagram_met, crate::specs::Fragments::fragments_of, crate::specs::Segments::segments_of, crate::specs::Conversations::udp_opened))]
+    #[tactic(auto, unfolding(crate::specs::Walks::datagram_met, crate::specs::Fragments::fragments_of, crate::specs::Segments::segments_of, crate::specs::Conversations::udp_opened))]
     pub(crate) fn datagram(
         &mut self,
         frame: &Frame,
@@ -32,7 +32,7 @@ impl State {
         requires bytes { length frame.now.bytes < 2 ^ 32 }
         requires ready { IsReady 4 self.old tree.old }
         ensures inside { IfOk result (λ todo. IsTodoInside tree.new.buffers todo) }
-        ensures walked { IfOk result (λ todo. (es : List Event) → StandsAt es self.old → IsWalked (datagram_met frame.now packet tree.old es head span) self.new tree.new todo) }
+        ensures walked { IfOk result (λ todo. (es : List Event) → StandsAt es self.old → IsMet (datagram_met frame.now packet tree.old es head span) self.new tree.new todo) }
         ensures adds { IfOk result (λ todo. AddsOneThenEnds self.old self.new todo) }
         ensures added { AddsAtMost 1 self.old self.new }
         ensures buffers { tree.new.buffers ≡ tree.old.buffers }

@@ -1,11 +1,12 @@
 ghost use Rattle.std.specs.Prelude.{◌≡◌, ◌↔◌, ◌+◌, ◌≤◌, ◌<◌, ◌^◌, ◌||◌, List, [], ◌∷◌, true, false, length, Err, is_err, IfOk, IfSome, OnOk, OnErr};
 ghost use Rattle.capture_read.specs.declared.frame.Frame.{Frame as FrameValue};
-ghost use Rattle.pk_tree.specs.Trees.{IsKept as IsKeptTree};
+ghost use Rattle.pk_tree.specs.Trees.{IsKept as IsKeptTree, IsTree};
 ghost use Rattle.dissect.specs.Conversations.{udp_opened};
 ghost use Rattle.dissect.specs.DecodeRules.{AreRules};
 ghost use Rattle.dissect.specs.Events.{Event};
 ghost use Rattle.tcp_streams.specs.Standing.{StandsFor};
-ghost use Rattle.dissect.specs.Followed.{asks_streams, HasSameValues};
+ghost use Rattle.pk_fields.specs.Ids.{field_count};
+ghost use Rattle.dissect.specs.Followed.{asks_any, asks_messages, asks_streams, HasSameValues};
 ghost use Rattle.dissect.specs.Segments.{segments_of};
 ghost use Rattle.dissect.specs.Stands.{Stands, StandsWithin, StandsAt, IsAfter, IsWalked, HasRoomForOne, AddsAtMost};
 ghost use Rattle.capture_read.specs.FrameList.{IsTime};
@@ -21,10 +22,11 @@ use crate::todo::Todo;
 use capture_read::Frame;
 use ip_join::Joins;
 use pk_base::NoMemory;
-use pk_fields::{FieldSet, ids};
+use pk_fields::{FieldId, FieldSet, ids};
 use pk_tree::Tree;
 use std::alloc::Global;
 use std::marker::Model;
+use tcp_messages::MessageStreams;
 use tcp_streams::Streams;
 
 /// Why a frame has no tree.
@@ -118,7 +120,7 @@ impl Dissector {
                 joins: Joins::new(alloc),
                 udp: Conversations::new(alloc),
                 follows,
-                streams: Streams::new(alloc),
+                streams: MessageStreams::new(alloc),
             },
         }
     }
@@ -141,7 +143,7 @@ impl Dissector {
             → (past : List FrameValue) → StandsWithin past self.now
             → StandsFor (segments_of (events_of past)) result.now }
     {
-        &self.state.streams
+        self.state.streams.streams()
     }
 
     /// The tree of the next frame, given those that were taken before. Frames are taken in the order of their numbers,
@@ -246,15 +248,36 @@ impl Dissector {
     }
 }
 
-/// Whether a field is asked that the streams of TCP give.
+/// Whether something may be asked that the streams of TCP give: a segment's place, or messages.
 #[tactic(auto, unfolding(crate::specs::Followed::asks_streams))]
 fn asks_streams(wanted: &FieldSet) -> bool
-    ensures { result ≡ asks_streams wanted.now }
+    ensures { result ≡ false → asks_streams wanted.now ≡ false }
 {
     wanted.contains(ids::TCP_STREAM)
         || wanted.contains(ids::TCP_SEQ)
         || wanted.contains(ids::TCP_ACK)
         || wanted.contains(ids::TCP_LOST)
+        || asks_messages(wanted)
+}
+
+/// Whether something may be asked of the messages of streams.
+#[tactic(auto, unfolding(crate::specs::Followed::asks_messages))]
+fn asks_messages(wanted: &FieldSet) -> bool
+    ensures { result ≡ false → asks_messages wanted.now ≡ false }
+{
+    wanted.contains(ids::TCP_SEGMENT)
+        || wanted.contains(ids::WS_SHORT)
+        || wanted.contains(ids::WS_MALFORMED)
+        || asks_any(wanted, ids::HTTP)
+        || asks_any(wanted, ids::DNS)
+}
+
+/// Whether a protocol or a field of it may be asked.
+#[tactic(auto, using(crate::proofs::Asked::any_none))]
+fn asks_any(wanted: &FieldSet, protocol: FieldId) -> bool
+    ensures { result ≡ false → asks_any field_count protocol wanted.now ≡ false }
+{
+    wanted.has_any_of(protocol)
 }
 
 fn number_of(frame: &Frame) -> u32
@@ -278,6 +301,7 @@ fn make_tree(
     requires time { IfSome frame.now.time IsTime }
     requires few { HasRoomForOne state.old }
     ensures walked { IfOk result (λ tree. (es : List Event) → StandsAt es state.old → IsWalked (kept_walk wanted before es frame.now) state.new tree Todo.Done) }
+    ensures fits { IfOk result (λ tree. IsTree tree) }
     ensures added { AddsAtMost 1 state.old state.new }
 {
     let mut tree = begin_tree(alloc, before, frame, wanted)?;

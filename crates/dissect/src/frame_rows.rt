@@ -71,11 +71,11 @@ const IP_FLAGS: &str =
 const IP_ADDRESSES: &str =
     " ip.checksum=0 ip.src=167772161 ip.addr=167772161 ip.dst=167772162 ip.addr=167772162\n";
 
-/// A SYN from port 40000 to port 80 (RFC 9293, 3.1).
-const SYN: &[u8] = b"\x9c\x40\0\x50\0\0\0\x01\0\0\0\0\x50\x02\xff\xff\0\0\0\0";
+/// A SYN from port 40000 to port 81 (RFC 9293, 3.1).
+const SYN: &[u8] = b"\x9c\x40\0\x51\0\0\0\x01\0\0\0\0\x50\x02\xff\xff\0\0\0\0";
 
 const SYN_ITEMS: &str =
-    " tcp.srcport=40000 tcp.port=40000 tcp.dstport=80 tcp.port=80 tcp.seq_raw=1 tcp.ack_raw=0 \
+    " tcp.srcport=40000 tcp.port=40000 tcp.dstport=81 tcp.port=81 tcp.seq_raw=1 tcp.ack_raw=0 \
     tcp.hdr_len=20 tcp.flags=2 tcp.flags.cwr=false tcp.flags.ece=false tcp.flags.urg=false \
     tcp.flags.ack=false tcp.flags.push=false tcp.flags.reset=false tcp.flags.syn=true \
     tcp.flags.fin=false tcp.window_size_value=65535 tcp.checksum=0 tcp.urgent_pointer=0";

@@ -1,7 +1,7 @@
 ghost use Rattle.std.specs.Prelude.{◌≡◌, ◌+◌, ◌<◌, ◌≤◌, ◌^◌, List, length, IfOk, OnOk};
 ghost use Rattle.pk_buffer.specs.Buffers.{IsInside};
 ghost use Rattle.dissect.specs.Events.{Event};
-ghost use Rattle.dissect.specs.Stands.{StandsAt, IsWalked, IsReady, AddsAtMost, AddsOneThenEnds};
+ghost use Rattle.dissect.specs.Stands.{StandsAt, IsWalked, IsReady, AddsAtMost, AddsFew, AddsOneThenEnds};
 ghost use Rattle.dissect.specs.Walks.{IsTodoInside, head_met, mode_behind};
 
 use crate::frame_layer::is_cut;
@@ -33,8 +33,7 @@ impl State {
         ensures walked { IfOk result (λ todo. (es : List Event) → StandsAt es self.old → IsWalked (head_met frame.now head tree.old es) self.new tree.new todo) }
         ensures adds { IfOk result (λ todo. AddsOneThenEnds self.old self.new todo) }
         ensures added { AddsAtMost 1 self.old self.new }
-        ensures buffers { OnOk result (length tree.new.buffers ≤ length tree.old.buffers + 1) }
-        ensures most { OnOk result (length tree.new.layers ≤ length tree.old.layers + 6) }
+        ensures few { IfOk result (λ todo. AddsFew 6 tree.old tree.new todo) }
     {
         match head.which {
             Next::Arp => {

@@ -12,6 +12,11 @@ mod frame_layer;
 #[cfg(test)]
 mod frame_rows;
 mod headers;
+mod message_layers;
+#[cfg(test)]
+mod message_rows;
+#[cfg(test)]
+mod message_tests;
 mod messages;
 mod payload;
 mod pieces;

@@ -38,6 +38,7 @@ pub(crate) fn tell_segment(
     ensures tree { IfOk result (λ _. tree.new ≡ segment_told tree.old taken.now span) }
     ensures buffers { tree.new.buffers ≡ tree.old.buffers }
     ensures count { length tree.new.layers ≡ length tree.old.layers }
+    ensures same_last { last_proto tree.new.layers ≡ last_proto tree.old.layers }
 {
     tell_place(taken, tree)?;
     tell_carried(span, tree)?;
@@ -93,6 +94,7 @@ fn tell_lost(lost: u32, tree: &mut TreeBuilder) -> Result<(), NoMemory>
     ensures tree { IfOk result (λ _. tree.new ≡ with_lost tree.old lost) }
     ensures buffers { tree.new.buffers ≡ tree.old.buffers }
     ensures count { length tree.new.layers ≡ length tree.old.layers }
+    ensures same_last { last_proto tree.new.layers ≡ last_proto tree.old.layers }
 {
     if lost == 0 {
         return Ok(());

@@ -69,7 +69,7 @@ impl State {
     }
 
     /// What is to be read behind a fragment, by what it made of those before it.
-    #[tactic(auto, using(crate::proofs::Told::told_same), unfolding(crate::specs::Walks::joined_met))]
+    #[tactic(auto, unfolding(crate::specs::Walks::joined_met))]
     fn behind_piece(
         &mut self,
         joined: Joined,

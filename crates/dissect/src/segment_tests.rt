@@ -33,7 +33,7 @@ const ACK: u8 = 16;
 const SYN_ACK: u8 = 18;
 
 /// A segment behind other headers, up to its ports (RFC 9293, 3.1).
-fn segment(
+pub(crate) fn segment(
     alloc: Global,
     headers: &[&[u8]],
     seq: u32,
@@ -385,6 +385,10 @@ fn streams_are_followed_where_a_field_of_theirs_is_asked(rt: HostRuntime) -> Res
         (ids::TCP_SEQ, "tcp.seq=0 ", 1),
         (ids::TCP_ACK, "", 1),
         (ids::TCP_LOST, "", 1),
+        (ids::TCP_SEGMENT, "", 1),
+        (ids::HTTP_HOST, "", 1),
+        (ids::DNS_ID, "", 1),
+        (ids::WS_MALFORMED, "", 1),
         (ids::TCP_LEN, "tcp.len=2 ", 0),
         (ids::TCP_DSTPORT, "tcp.dstport=9999 ", 0),
         (ids::FRAME, "", 0),

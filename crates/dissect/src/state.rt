@@ -1,6 +1,6 @@
 use crate::conversations::Conversations;
 use ip_join::Joins;
-use tcp_streams::Streams;
+use tcp_messages::MessageStreams;
 
 /// What is kept of earlier frames' packets.
 #[derive(Drop)]
@@ -10,6 +10,6 @@ pub(crate) struct State {
     pub udp: Conversations,
     /// Whether segments of TCP are taken into their streams, else they are passed over.
     pub follows: bool,
-    /// The streams of TCP.
-    pub streams: Streams,
+    /// The streams of TCP, and their messages.
+    pub streams: MessageStreams,
 }

@@ -4,7 +4,7 @@ ghost use Rattle.pk_tree.specs.Following.{LeadsInside};
 ghost use Rattle.dissect.specs.declared.state.State.{State as StateValue};
 ghost use Rattle.dissect.specs.Events.{Event};
 ghost use Rattle.dissect.specs.Payloads.{ComesBehind};
-ghost use Rattle.dissect.specs.Stands.{StandsAt, IsWalked, HasRoom, HasRoomForOne, IsReady, AddsAtMost, AddsOneThenEnds};
+ghost use Rattle.dissect.specs.Stands.{StandsAt, IsWalked, HasRoom, HasRoomForOne, HasSpace, IsReady, AddsAtMost, AddsFew, AddsOneThenEnds};
 ghost use Rattle.dissect.specs.Walks.{IsTodoInside, rest_met, followed, chain, going, link_met, all_met, no_packet};
 
 use crate::data_layer::add_data;
@@ -18,7 +18,6 @@ use pk_tree::{Address, After, Mode, PacketHead, TreeBuilder};
 
 impl State {
     /// Shows the rest as data.
-    #[tactic(auto, using(crate::proofs::Told::told_same))]
     pub(crate) fn rest(&mut self, span: Span, tree: &mut TreeBuilder) -> Result<Todo, NoMemory>
         requires inside { IsInside tree.old.buffers span }
         requires room { length tree.old.layers + 2 < 2 ^ 32 }
@@ -34,7 +33,7 @@ impl State {
     }
 
     /// What is to be read behind a header.
-    #[tactic(auto, using(crate::proofs::Told::told_same), unfolding(crate::specs::Walks::followed))]
+    #[tactic(auto, unfolding(crate::specs::Walks::followed))]
     pub(crate) fn follow(
         &mut self,
         frame: &Frame,
@@ -51,8 +50,7 @@ impl State {
         ensures walked { IfOk result (λ todo. (es : List Event) → StandsAt es self.old → IsWalked (followed frame.now packet mode tree.old es after) self.new tree.new todo) }
         ensures adds { IfOk result (λ todo. AddsOneThenEnds self.old self.new todo) }
         ensures added { AddsAtMost 1 self.old self.new }
-        ensures buffers { OnOk result (length tree.new.buffers ≤ length tree.old.buffers + 1) }
-        ensures most { OnOk result (length tree.new.layers ≤ length tree.old.layers + 4) }
+        ensures few { IfOk result (λ todo. AddsFew 4 tree.old tree.new todo) }
     {
         match after {
             After::Next(which, span) => Ok(Todo::Head(Head {
@@ -85,8 +83,7 @@ impl State {
         requires inside { IsTodoInside tree.old.buffers first }
         requires bytes { length frame.now.bytes < 2 ^ 32 }
         requires most { most ≤ 32 }
-        requires room { length tree.old.layers ≤ 32 }
-        requires space { length tree.old.buffers ≤ 2 }
+        requires space { HasSpace most tree.old first }
         requires few { HasRoom self.old first }
         ensures walked { OnOk result ((es : List Event) → StandsAt es self.old → IsWalked (chain most frame.now (going tree.old es first)) self.new tree.new Todo.Done) }
         ensures added { (before : StateValue) → AddsOneThenEnds before self.old first → AddsAtMost 1 before self.new }
@@ -115,8 +112,7 @@ impl State {
         ensures walked { IfOk result (λ todo. (es : List Event) → StandsAt es self.old → IsWalked (link_met frame.now tree.old es) self.new tree.new todo) }
         ensures adds { IfOk result (λ todo. AddsOneThenEnds self.old self.new todo) }
         ensures added { AddsAtMost 1 self.old self.new }
-        ensures buffers { OnOk result (length tree.new.buffers ≤ 2) }
-        ensures most { OnOk result (length tree.new.layers ≤ 32) }
+        ensures space { IfOk result (λ todo. HasSpace 32 tree.new todo) }
     {
         if captured(frame) == 0 {
             return Ok(Todo::Done);
@@ -136,7 +132,7 @@ impl State {
         ensures added { AddsAtMost 1 self.old self.new }
     {
         let first = self.link(frame, tree)?;
-        let left = LAYER_LIMIT - tree.layer_count();
+        let left = LAYER_LIMIT.saturating_sub(tree.layer_count());
         self.chain(frame, left, first, tree)?;
         Ok(())
     }

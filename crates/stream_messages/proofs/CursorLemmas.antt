@@ -35,13 +35,13 @@ known_front app asked part at front more within known =
 sound_next : (app : App) (asked : Bool) (at : ℕ) (front more : List ℕ) (next : Next) → KnowsNext app asked at front next → IsSoundNext app at (front ++ more) next
 sound_next app asked at front more Never known = tt
 sound_next app asked at front more Awaited known = tt
-sound_next app asked at front more (Begun part) known =
-    (omega (arith, known.0, length-append front more), (asked, known_front app asked part at front more known.0 known.1))
+sound_next app asked at front more (Begun started) known =
+    (omega (arith, known.0, length-append front more), known_front app started.asked started.part at front more known.0 known.1)
 
 pub sound_now : (app : App) (asked : Bool) (at : ℕ) (front : List ℕ) (next : Next) → KnowsNext app asked at front next → IsSoundNext app at front next
 sound_now app asked at front Never known = tt
 sound_now app asked at front Awaited known = tt
-sound_now app asked at front (Begun part) known = (known.0, (asked, known.1))
+sound_now app asked at front (Begun started) known = (known.0, known.1)
 
 pub behind_sound : (app : App) (asked : Asked) (count start : ℕ) (c : Cursor) (front more : List ℕ) → IsBehind app asked count start c front → IsSound app c (front ++ more)
 behind_sound app asked count start c front more is = sound_next app (asked (start + next_at c.mark) c.mark.answers) (next_at c.mark) front more c.next is.known
@@ -61,8 +61,8 @@ known_same : (app : App) (asked later : Asked) (start answers at : ℕ) (front :
     → KnowsNext app (asked (start + at) answers) at front next → KnowsNext app (later (start + at) answers) at front next
 known_same app asked later start answers at front Never agree known = tt
 known_same app asked later start answers at front Awaited agree known = known
-known_same app asked later start answers at front (Begun part) agree known =
-    (known.0, subst (λ (a : Bool). IsKnown app a part (drop at front)) (sym (agree (start + at) answers (omega (arith, known.0)))) known.1)
+known_same app asked later start answers at front (Begun started) agree known =
+    (known.0, known.1, known.2 ∙ sym (agree (start + at) answers (omega (arith, known.0))))
 
 pub behind_same : (app : App) (asked later : Asked) (count start : ℕ) (c : Cursor) (front : List ℕ) → AgreeBelow (start + length front) asked later
     → IsBehind app asked count start c front → IsBehind app later count start c front
@@ -79,8 +79,8 @@ behind_same app asked later count start c front agree is =
 next_longer : (app : App) (at : ℕ) (front more : List ℕ) (next : Next) → IsSoundNext app at front next → IsSoundNext app at (front ++ more) next
 next_longer app at front more Never sound = tt
 next_longer app at front more Awaited sound = tt
-next_longer app at front more (Begun part) sound =
-    (omega (arith, sound.0, length-append front more), (sound.1.0, known_front app sound.1.0 part at front more sound.0 sound.1.1))
+next_longer app at front more (Begun started) sound =
+    (omega (arith, sound.0, length-append front more), known_front app started.asked started.part at front more sound.0 sound.1)
 
 pub sound_longer : (app : App) (c : Cursor) (front more : List ℕ) → IsSound app c front → IsSound app c (front ++ more)
 sound_longer app c front more sound = next_longer app (next_at c.mark) front more c.next sound
@@ -104,12 +104,12 @@ pub part_told : (app : App) (asked : Bool) (part : Part) (bytes : List ℕ) (tol
 part_told app asked part bytes told known goes_on = known_now app asked part bytes known ∙ sym goes_on.answer
 
 pub part_rest : (app : App) (asked : Bool) (front : List ℕ) (mark : Mark) (place : ℕ) (part new : Part) → place ≡ next_at mark → place < length front
-    → IsKnown app asked part (drop place front) → GoesOn part (drop place front) (Unfinished new) → IsPartRest app asked front mark (record { mark = mark; next = Begun new })
+    → IsKnown app asked part (drop place front) → GoesOn part (drop place front) (Unfinished new) → IsPartRest app asked front mark (record { mark = mark; next = Begun (record { asked = asked; part = new }) })
 part_rest app asked front mark place part new is within known goes_on = record {
   same = refl;
   goes_is = refl;
   none = ap (λ (k : ℕ). first_of app asked (drop k front)) (sym is) ∙ known_now app asked part (drop place front) known ∙ sym goes_on.answer;
-  known = (omega (arith, is, within), subst (λ (k : ℕ). IsKnown app asked new (drop k front)) is (λ more. known more ∙ goes_on.later more));
+  known = (omega (arith, is, within), subst (λ (k : ℕ). IsKnown app asked new (drop k front)) is (λ more. known more ∙ goes_on.later more), refl);
 }
 
 pub part_next : (app : App) (asked : Bool) (start : ℕ) (front : List ℕ) (mark behind : Mark) (place : ℕ) (part : Part) (told : Told) (next : Next) → place ≡ next_at mark
@@ -133,7 +133,7 @@ rest_none app asked front c past sound = record {
     by : (next : Next) → IsSoundNext app (next_at c.mark) front next → KnowsNext app asked (next_at c.mark) front next
     by Never sound = tt
     by Awaited sound = past
-    by (Begun part) sound = absurd (omega (arith, past, sound.0))
+    by (Begun started) sound = absurd (omega (arith, past, sound.0))
 
 pub part_cut : (app : App) (asked : Bool) (start : ℕ) (front : List ℕ) (c : Cursor) (cut : Cut) → goes c.next ≡ true → IsPartCut app asked start front c.mark cut
     → IsCutFrom app asked start front c cut

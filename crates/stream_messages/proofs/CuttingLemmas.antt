@@ -96,9 +96,7 @@ asks_right app asked count start old new front c ms heads is asks cutting = by c
         → IsAskedOf app (asked (start + next_at c.mark) c.mark.answers) heads c.mark.answers next (drop (next_at c.mark) front)
     by Never known = tt
     by Awaited known = λ some. asks (start + next_at c.mark) c.mark.answers (omega (arith, known)) (omega (arith, some, length-drop (next_at c.mark) front))
-    by (Begun part) known =
-        subst (λ (all : List ℕ). IsKnown app (asked (start + next_at c.mark) c.mark.answers) part (drop (next_at c.mark) all)) (sym is)
-        (known_front app (asked (start + next_at c.mark) c.mark.answers) part (next_at c.mark) old new known.0 known.1)
+    by (Begun started) known = known.2
 
 -- a message that is found ends in the new bytes
 ends_late : (app : App) (asked : Asked) (answers start at : ℕ) (old new : List ℕ) (told : Told) → of_front app asked answers (start + at) (drop at old) ≡ []
@@ -254,7 +252,7 @@ pub some_asked : (app : App) (heads : List Bool) (count at : ℕ) (front : List 
     → (asked : Bool) × IsAskedOf app asked heads count next (drop at front)
 some_asked app heads count at front Never sound = (false, tt)
 some_asked app heads count at front Awaited sound = (get_or heads count false, λ some. refl)
-some_asked app heads count at front (Begun part) sound = (sound.1.0, sound.1.1)
+some_asked app heads count at front (Begun started) sound = (started.asked, refl)
 
 pub next_whole : (app : App) (asked : Bool) (start : ℕ) (front : List ℕ) (mark : Mark) (m : Placed) (c : Cursor) → IsNext app asked start front mark m c → IsWhole app start front m
 next_whole app asked start front mark m c next =

@@ -1,5 +1,8 @@
 -- The messages of stretches, one behind the other.
-use Rattle.std.proofs.Common.{◌≡◌, ℕ, ◌+◌, ◌≤◌, Bool, List, [], ◌∷◌, ◌++◌, length, refl, sym, ap, subst, ◌∙◌, arith}
+use Rattle.std.proofs.Common.{◌≡◌, ℕ, zero, suc, ◌+◌, ◌≤◌, Bool, List, [], ◌∷◌, ◌++◌, length, slice_get, Some, refl, sym, ap, subst, ◌∙◌, arith}
+use Rattle.std.specs.Prelude.{All}
+use Rattle.std.proofs.lemmas.List.Elements.{All-append, All-weaker}
+use Rattle.std.proofs.lemmas.Option.{none-some}
 use Rattle.std.proofs.lemmas.List.{append-nil}
 use Rattle.pk_base.specs.declared.stretch.Stretch.{Stretch}
 use Rattle.stream_messages.specs.declared.told.App.{App}
@@ -7,7 +10,7 @@ use Rattle.stream_messages.specs.declared.placed.Placed.{Placed}
 use Rattle.stream_messages.specs.declared.cursor.Cursor.{Cursor}
 use Rattle.stream_messages.specs.declared.cutting.Shown.{Shown}
 use Rattle.stream_messages.specs.Messages.{Asked, of_front, AgreeBelow, answered, of_stretches, AllFrom}
-use Rattle.stream_messages.specs.Cursors.{begun, answers_before, IsBehind, IsBehindAll, AsksBetween, AsksFrom, IsCut}
+use Rattle.stream_messages.specs.Cursors.{begun, answers_before, IsBehind, IsBehindAll, AsksBetween, AsksFrom, IsCut, IsWhole, IsWholeInOne}
 use Rattle.stream_messages.proofs.MessageLemmas.{all_above}
 use Rattle.stream_messages.proofs.StretchLemmas.{of_stretches-append, answered-append}
 use Rattle.stream_messages.proofs.CursorLemmas.{laws_of_cursors}
@@ -85,3 +88,67 @@ passed_more app heads first c ss ms s shown passed cuts = record {
     at_count asked from asks all =
         let split = from_before from ss s all in
         subst (λ (n : ℕ). IsOne app asked n s shown) (passed.counts asked from asks split.0) (one_cut app heads (answers_before c) s shown cuts asked from asks split.1)
+
+-- ---- the stretch behind them
+
+-- the answers behind stretches that were cut
+counts_behind : (app : App) (asked : Asked) (count : ℕ) (first new : Cursor) (ss : List Stretch) → answers_before first ≡ count → IsBehindAll app asked count first ss new
+    → answers_before new ≡ answered count (of_stretches app asked count ss)
+counts_behind app asked count first new [] is same = ap answers_before same ∙ is
+counts_behind app asked count first new (s ∷ []) is behind = behind.counts ∙ ap (answered count) (sym (append-nil (of_front app asked count s.start s.bytes)))
+counts_behind app asked count first new (s ∷ next ∷ ss) is behind =
+    let ms : List Placed = of_front app asked count s.start s.bytes in
+    counts_from app asked (answered count ms) first new next ss behind
+    ∙ sym (answered-append count ms (of_stretches app asked (answered count ms) (next ∷ ss)))
+  where
+    counts_from : (app : App) (asked : Asked) (count : ℕ) (first new : Cursor) (s : Stretch) (ss : List Stretch) → IsBehindAll app asked count first (s ∷ ss) new
+        → answers_before new ≡ answered count (of_stretches app asked count (s ∷ ss))
+    counts_from app asked count first new s [] behind = behind.counts ∙ ap (answered count) (sym (append-nil (of_front app asked count s.start s.bytes)))
+    counts_from app asked count first new s (next ∷ ss) behind =
+        let ms : List Placed = of_front app asked count s.start s.bytes in
+        counts_from app asked (answered count ms) first new next ss behind
+        ∙ sym (answered-append count ms (of_stretches app asked (answered count ms) (next ∷ ss)))
+
+abbrev pub CutsStretches : App → List Bool → Cursor → List Stretch → Shown → Type 0
+CutsStretches app heads first ss shown = (asked : Asked) (from : ℕ) → AsksFrom from heads asked → AllFrom from ss → shown.messages ≡ of_stretches app asked (answers_before first) ss
+
+abbrev pub BehindStretches : App → List Bool → Cursor → List Stretch → Shown → Type 0
+BehindStretches app heads first ss shown = (asked : Asked) (from : ℕ) → AsksFrom from heads asked → AllFrom from ss → IsBehindAll app asked (answers_before first) first ss shown.cursor
+
+pub passed_by : (app : App) (heads : List Bool) (first : Cursor) (ss : List Stretch) (shown : Shown) → CutsStretches app heads first ss shown → BehindStretches app heads first ss shown
+    → IsPassed app heads first shown.cursor ss shown.messages
+passed_by app heads first ss shown cuts behind = record {
+  messages = cuts;
+  counts = λ asked from asks all. counts_behind app asked (answers_before first) first shown.cursor ss refl (behind asked from asks all);
+  cursor = behind;
+}
+
+pub newest_behind : (app : App) (heads : List Bool) (first : Cursor) (ss : List Stretch) (before : Shown) (s : Stretch) (shown : Shown) → CutsStretches app heads first ss before
+    → BehindStretches app heads first ss before → CutsAll app heads s.start (begun (answers_before before.cursor)) s.bytes shown → (asked : Asked) (from : ℕ) → AsksFrom from heads asked → AllFrom from (ss ++ s ∷ [])
+    → IsBehind app asked (answered (answers_before first) (of_stretches app asked (answers_before first) ss)) s.start shown.cursor s.bytes
+newest_behind app heads first ss before s shown cuts behind all asked from asks laid =
+    let split = from_before from ss s laid in
+    let count : answers_before before.cursor ≡ answered (answers_before first) (of_stretches app asked (answers_before first) ss) =
+    counts_behind app asked (answers_before first) first before.cursor ss refl (behind asked from asks split.0) in
+    subst (λ (n : ℕ). IsBehind app asked n s.start shown.cursor s.bytes) count (one_cut app heads (answers_before before.cursor) s shown all asked from asks split.1).cursor
+
+-- ---- messages that lie in one of stretches
+
+last_there : (ss : List Stretch) (s : Stretch) → slice_get (ss ++ s ∷ []) (length ss) ≡ Some s
+last_there [] s = refl
+last_there (x ∷ ss) s = last_there ss s
+
+still_there : (ss : List Stretch) (s t : Stretch) (i : ℕ) → slice_get ss i ≡ Some t → slice_get (ss ++ s ∷ []) i ≡ Some t
+still_there [] s t i = λ e. absurd (none-some t e)
+still_there (x ∷ ss) s t zero = λ e. e
+still_there (x ∷ ss) s t (suc i) = λ e. still_there ss s t i e
+
+pub whole_in : (app : App) (ss : List Stretch) (i : ℕ) (s : Stretch) (ms : List Placed) → slice_get ss i ≡ Some s → All (IsWhole app s.start s.bytes) ms → All (IsWholeInOne app ss) ms
+whole_in app ss i s ms there whole = All-weaker (IsWhole app s.start s.bytes) (IsWholeInOne app ss) (λ m is. (i, s, there, is)) ms whole
+
+pub whole_with : (app : App) (ss : List Stretch) (s : Stretch) (ms ns : List Placed) → All (IsWholeInOne app ss) ms → All (IsWhole app s.start s.bytes) ns
+    → All (IsWholeInOne app (ss ++ s ∷ [])) (ms ++ ns)
+whole_with app ss s ms ns before last =
+    All-append (IsWholeInOne app (ss ++ s ∷ [])) ms ns
+    (All-weaker (IsWholeInOne app ss) (IsWholeInOne app (ss ++ s ∷ [])) (λ m is. (is.0, is.1, still_there ss s is.1 is.0 is.2, is.3)) ms before)
+    (whole_in app (ss ++ s ∷ []) (length ss) s ns (last_there ss s) last)

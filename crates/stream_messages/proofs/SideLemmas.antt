@@ -29,7 +29,7 @@ low_end : (low : ℕ) (ss : List Stretch) → AreInOrder low ss → low ≤ end_
 low_end low [] order = omega arith
 low_end low (s ∷ ss) order = omega (arith, order.0, low_end (s.start + length s.bytes) ss order.1)
 
-same_stretches : (app : App) (asked later : Asked) (count low : ℕ) (ss : List Stretch) → AreInOrder low ss → AgreeBelow (end_behind low ss) asked later
+pub same_stretches : (app : App) (asked later : Asked) (count low : ℕ) (ss : List Stretch) → AreInOrder low ss → AgreeBelow (end_behind low ss) asked later
     → of_stretches app later count ss ≡ of_stretches app asked count ss
 same_stretches app asked later count low [] order agree = refl
 same_stretches app asked later count low (s ∷ ss) order agree =
@@ -39,7 +39,7 @@ same_stretches app asked later count low (s ∷ ss) order agree =
     ap (λ (ms : List Placed). ms ++ of_stretches app later (answered count ms) ss) same
     ∙ ap (λ (ms : List Placed). old ++ ms) (same_stretches app asked later (answered count old) (s.start + length s.bytes) ss order.1 agree)
 
-in_order : (app : App) (side : Bool) (bs : List Brought) → AllGrow app bs → AreInOrder 0 (stretches_in side (noted app bs))
+pub in_order : (app : App) (side : Bool) (bs : List Brought) → AllGrow app bs → AreInOrder 0 (stretches_in side (noted app bs))
 in_order app side [] grow = tt
 in_order app side (b ∷ bs) grow = either (same_side side b.side) b.stretches (stretches_in side (noted app bs)) grow.1.0 (in_order app side bs grow.1.1)
   where

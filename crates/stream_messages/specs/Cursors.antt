@@ -1,5 +1,5 @@
 -- A cursor behind the last whole message of a stretch: what the messages behind it are, and what is known of the next one.
-use Rattle.std.specs.Prelude.{◌≡◌, ◌<◌, ◌≤◌, ℕ, ◌+◌, ◌-◌, if◌then◌else◌, Bool, true, false, List, [], ◌∷◌, ◌++◌, length, drop, get_or, Option, Some, None}
+use Rattle.std.specs.Prelude.{◌≡◌, ◌<◌, ◌≤◌, ℕ, ◌+◌, ◌-◌, if◌then◌else◌, Bool, true, false, List, [], ◌∷◌, ◌++◌, length, drop, get_or, slice_get, Option, Some, None}
 use Rattle.std.specs.Option.{option_map}
 use Rattle.pk_base.specs.declared.stretch.Stretch.{Stretch}
 use Rattle.http_frame.specs.declared.shape.Then.{Then}
@@ -17,6 +17,7 @@ use Rattle.stream_messages.specs.declared.part.Going.TheVariants.{Unfinished, Me
 use Rattle.stream_messages.specs.declared.cursor.Cursor.{Cursor}
 use Rattle.stream_messages.specs.declared.cursor.Mark.{Mark}
 use Rattle.stream_messages.specs.declared.cursor.Next.{Next}
+use Rattle.stream_messages.specs.declared.cursor.Started.{Started}
 use Rattle.stream_messages.specs.declared.cursor.Next.TheVariants.{Never, Awaited, Begun}
 use Rattle.stream_messages.specs.declared.cutting.Shown.{Shown}
 use Rattle.stream_messages.specs.declared.cutting.Cut.{Cut}
@@ -87,7 +88,7 @@ answers_before c = c.mark.answers
 abbrev pub goes : Next → Bool
 goes Never = false
 goes Awaited = true
-goes (Begun part) = true
+goes (Begun started) = true
 
 -- the messages behind a cursor of a stretch that begins at a position
 abbrev pub from_cursor : App → Asked → ℕ → Cursor → List ℕ → List Placed
@@ -99,8 +100,7 @@ from_cursor app asked start c front =
 abbrev pub KnowsNext : App → Bool → ℕ → List ℕ → Next → Type 0
 KnowsNext app asked at front Never = Unit {0}
 KnowsNext app asked at front Awaited = length front ≤ at
-KnowsNext app asked at front (Begun part) =
-    (at < length front) × IsKnown app asked part (drop at front)
+KnowsNext app asked at front (Begun started) = (at < length front) × IsKnown app started.asked started.part (drop at front) × (started.asked ≡ asked)
 
 -- a cursor is behind the messages of a stretch: all others come behind it, whatever bytes follow, and whatever is asked of them
 pub record IsBehind (app : App) (asked : Asked) (count start : ℕ) (c : Cursor)
@@ -112,12 +112,11 @@ pub record IsBehind (app : App) (asked : Asked) (count start : ℕ) (c : Cursor)
   pub known : KnowsNext app (asked (start + next_at c.mark) c.mark.answers)
       (next_at c.mark) front c.next
 
--- what a cursor knows of a message that has begun is right for some request
+-- what a cursor knows of a message that has begun is right
 abbrev pub IsSoundNext : App → ℕ → List ℕ → Next → Type 0
 IsSoundNext app at front Never = Unit {0}
 IsSoundNext app at front Awaited = Unit {0}
-IsSoundNext app at front (Begun part) =
-    (at < length front) × ((asked : Bool) × IsKnown app asked part (drop at front))
+IsSoundNext app at front (Begun started) = (at < length front) × IsKnown app started.asked started.part (drop at front)
 
 abbrev pub IsSound : App → Cursor → List ℕ → Type 0
 IsSound app c front = IsSoundNext app (next_at c.mark) front c.next
@@ -151,6 +150,14 @@ pub record IsWhole (app : App) (start : ℕ) (front : List ℕ) (m : Placed) : T
   pub within : end_at m ≤ start + length front
   pub first : (asked : Bool) × (first_of app asked (drop (m.at - start) front) ≡ Some m.told)
 
+-- the same of one of stretches
+abbrev pub IsWholeInOne : App → List Stretch → Placed → Type 0
+IsWholeInOne app ss m = (number : ℕ) × (s : Stretch) × (slice_get ss number ≡ Some s) × IsWhole app s.start s.bytes m
+
+-- with one more behind them
+abbrev pub with_last : List Stretch → ℕ → List ℕ → List Stretch
+with_last ss start front = ss ++ record { start = start; bytes = front } ∷ []
+
 -- how a cursor is kept: it begins at a stretch, serves whatever is asked further on, and what it knows is right, also of more
 -- bytes
 pub record CursorLaws : Type 0 where
@@ -167,11 +174,11 @@ pub record CursorLaws : Type 0 where
 
 -- ---- one look for a message
 
--- the request of the next message: the one that it answers, or what is known of it says
+-- the request of the next message: the one that it answers, fixed once a byte of it is there
 abbrev pub IsAskedOf : App → Bool → List Bool → ℕ → Next → List ℕ → Type 0
 IsAskedOf app asked heads count Never bytes = Unit {0}
 IsAskedOf app asked heads count Awaited bytes = 0 < length bytes → asked ≡ get_or heads count false
-IsAskedOf app asked heads count (Begun part) bytes = IsKnown app asked part bytes
+IsAskedOf app asked heads count (Begun started) bytes = started.asked ≡ asked
 
 -- a message that begins where the next one does
 pub record IsNext (app : App) (asked : Bool) (start : ℕ) (front : List ℕ) (mark : Mark) (m : Placed)

@@ -34,7 +34,15 @@ pub(crate) enum Next {
     /// No byte of it is there.
     Awaited,
     /// A part of it was looked at.
-    Begun(Part),
+    Begun(Started),
+}
+
+/// What is known of a message of which a part was looked at.
+#[derive(Drop)]
+pub(crate) struct Started {
+    /// Whether it is to HEAD, if it is a response.
+    pub asked: bool,
+    pub part: Part,
 }
 
 impl Cursor {

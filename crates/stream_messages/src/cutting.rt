@@ -1,9 +1,9 @@
 ghost use Rattle.std.specs.Prelude.{◌≡◌, ◌+◌, ◌++◌, ◌^◌, ◌<◌, ◌≤◌, ℕ, Bool, false, true, List, All, length, drop, get_or, IfOk, IfSome, IfNone};
 ghost use Rattle.stream_messages.specs.Messages.{Asked, AgreeBelow};
-ghost use Rattle.stream_messages.specs.Cursors.{AsksBetween, IsAskedOf, IsBehind, IsCut, IsKnown, IsLook, IsPartCut, IsSound, IsWhole, goes, next_at};
+ghost use Rattle.stream_messages.specs.Cursors.{AsksBetween, IsAskedOf, IsBehind, IsCut, IsKnown, IsLook, IsPartCut, IsSound, IsSoundNext, IsWhole, goes, next_at};
 ghost use Rattle.stream_messages.specs.declared.told.App.{App as AppValue};
 
-use crate::cursor::{Cursor, Mark, Next, mark_behind, next_behind};
+use crate::cursor::{Cursor, Mark, Next, Started, mark_behind, next_behind};
 use crate::part::{Going, Part};
 use crate::placed::{Placed, PlacedList};
 use crate::told::App;
@@ -82,26 +82,30 @@ fn cut_one(
     let Some(place) = mark.place_within(front.len()) else {
         return Ok(Cut::Rest(cursor));
     };
-    match part_of(app, heads, mark.answers, cursor.next) {
+    match started(app, heads, mark.answers, cursor.next) {
         None => Ok(Cut::Rest(Cursor {
             mark,
             next: Next::Never,
         })),
-        Some(part) => cut_part(alloc, start, front, mark, place, part),
+        Some(started) => cut_part(alloc, start, front, mark, place, started),
     }
 }
 
 /// What is known of the next message, if one may come. Whether it answers HEAD is fixed when its first byte is there.
-fn part_of(app: App, heads: &[bool], answers: usize, next: Next) -> Option<Part>
+fn started(app: App, heads: &[bool], answers: usize, next: Next) -> Option<Started>
     ensures none { IfNone result (goes next ≡ false) }
-    ensures some { IfSome result (λ part. goes next ≡ true) }
-    ensures known { IfSome result (λ part. (asked : Bool) (bytes : List ℕ) → 0 < length bytes
-        → IsAskedOf app asked heads.now answers next bytes → IsKnown app asked part bytes) }
+    ensures some { IfSome result (λ started. goes next ≡ true) }
+    ensures asked { IfSome result (λ started. (asked : Bool) (bytes : List ℕ) → 0 < length bytes → IsAskedOf app asked heads.now answers next bytes → started.asked ≡ asked) }
+    ensures known { IfSome result (λ started. (at : ℕ) (front : List ℕ) → IsSoundNext app at front next → IsKnown app started.asked started.part (drop at front)) }
 {
     match next {
         Next::Never => None,
-        Next::Awaited => Some(Part::begun(app, is_head(heads, answers))),
-        Next::Begun(part) => Some(part),
+        Next::Awaited => {
+            let asked = is_head(heads, answers);
+            let part = Part::begun(app, asked);
+            Some(Started { asked, part })
+        }
+        Next::Begun(started) => Some(started),
     }
 }
 
@@ -119,20 +123,18 @@ fn cut_part(
     front: &[u8],
     mark: Mark,
     place: usize,
-    part: Part,
+    started: Started,
 ) -> Result<Cut, NoMemory>
     requires room { start + length front.now < 2 ^ 64 }
     requires place { (place ≡ next_at mark) × (place < length front.now) }
-    requires known { (app : AppValue)
-        × ((asked : Bool) × IsKnown app asked part (drop place front.now)) }
-    ensures { IfOk result (λ cut. (app : AppValue) (asked : Bool)
-        → IsKnown app asked part (drop place front.now)
-        → IsPartCut app asked start front.now mark cut) }
+    requires known { (app : AppValue) × IsKnown app started.asked started.part (drop place front.now) }
+    ensures { IfOk result (λ cut. (app : AppValue) → IsKnown app started.asked started.part (drop place front.now) → IsPartCut app started.asked start front.now mark cut) }
 {
-    match part.go_on(alloc, tail(front, place))? {
+    let asked = started.asked;
+    match started.part.go_on(alloc, tail(front, place))? {
         Going::Unfinished(part) => Ok(Cut::Rest(Cursor {
             mark,
-            next: Next::Begun(part),
+            next: Next::Begun(Started { asked, part }),
         })),
         Going::Message(told) => {
             let cursor = Cursor {

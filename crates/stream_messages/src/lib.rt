@@ -15,5 +15,5 @@ pub use cursor::Cursor;
 pub use cutting::{Shown, cut_messages};
 pub use laws::{cursor_laws, first_laws, new_laws, prefix_law, side_laws, stretch_law};
 pub use placed::{Placed, PlacedList};
-pub use stretches::cut_stretches;
+pub use stretches::{cut_newest, cut_stretches};
 pub use told::{App, Told};

@@ -37,6 +37,7 @@ impl PlacedList {
         }
     }
 
+    /// Adds messages behind the others.
     pub(crate) fn append(&mut self, more: PlacedList) -> Result<(), NoMemory>
         ensures { OnOk result (self.new ≡ self.old ++ more) }
     {
@@ -49,6 +50,12 @@ impl PlacedList {
         ensures { result ≡ all.items }
     {
         PlacedList { all }
+    }
+
+    pub fn into_vec(self) -> Vec<Placed>
+        ensures { result.items ≡ self }
+    {
+        self.all
     }
 
     pub fn slice(&self) -> &[Placed]

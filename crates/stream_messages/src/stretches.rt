@@ -1,6 +1,6 @@
 ghost use Rattle.std.specs.Prelude.{◌≡◌, ◌+◌, ◌^◌, ◌<◌, ℕ, All, length, IfOk};
-ghost use Rattle.stream_messages.specs.Messages.{Asked, AllFrom, of_stretches};
-ghost use Rattle.stream_messages.specs.Cursors.{AsksFrom, IsBehindAll, answers_before};
+ghost use Rattle.stream_messages.specs.Messages.{Asked, AllFrom, answered, of_stretches};
+ghost use Rattle.stream_messages.specs.Cursors.{AsksFrom, IsBehind, IsBehindAll, IsSound, IsWholeInOne, answers_before, with_last};
 
 use crate::cursor::Cursor;
 use crate::cutting::{Shown, cut_messages};
@@ -25,6 +25,7 @@ pub fn cut_stretches(
     ensures cursor { IfOk result (λ shown. (asked : Asked) (from : ℕ)
         → AsksFrom from heads.now asked → AllFrom from stretches.now
         → IsBehindAll app asked (answers_before cursor) cursor stretches.now shown.cursor) }
+    ensures whole { IfOk result (λ shown. All (IsWholeInOne app stretches.now) shown.messages) }
 {
     let mut messages = PlacedList::new(alloc);
     let mut cursor = cursor;
@@ -40,5 +41,32 @@ pub fn cut_stretches(
         messages.append(shown.messages)?;
         cursor = shown.cursor;
     }
+    Ok(Shown { messages, cursor })
+}
+
+/// As `cut_stretches`, with the stretch behind them, which begins at position `start`. The cursor is behind its messages.
+pub fn cut_newest(
+    alloc: Global,
+    app: App,
+    passed: &[Stretch],
+    start: u64,
+    front: &[u8],
+    cursor: Cursor,
+    heads: &[bool],
+) -> Result<Shown, NoMemory>
+    requires passed { All (λ s. s.start + length s.bytes < 2 ^ 64) passed.now }
+    requires room { start + length front.now < 2 ^ 64 }
+    ensures messages { IfOk result (λ shown. (asked : Asked) (from : ℕ) → AsksFrom from heads.now asked → AllFrom from (with_last passed.now start front.now)
+        → shown.messages ≡ of_stretches app asked (answers_before cursor) (with_last passed.now start front.now)) }
+    ensures cursor { IfOk result (λ shown. (asked : Asked) (from : ℕ) → AsksFrom from heads.now asked → AllFrom from (with_last passed.now start front.now)
+        → IsBehind app asked (answered (answers_before cursor) (of_stretches app asked (answers_before cursor) passed.now)) start shown.cursor front.now) }
+    ensures whole { IfOk result (λ shown. All (IsWholeInOne app (with_last passed.now start front.now)) shown.messages) }
+    ensures sound { IfOk result (λ shown. IsSound app shown.cursor front.now) }
+{
+    let before = cut_stretches(alloc, app, passed, cursor, heads)?;
+    let last = cut_messages(alloc, app, start, front, before.cursor.anew(), heads)?;
+    let mut messages = before.messages;
+    messages.append(last.messages)?;
+    let cursor = last.cursor;
     Ok(Shown { messages, cursor })
 }

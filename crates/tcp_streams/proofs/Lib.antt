@@ -3,6 +3,7 @@ pub mod GapLemmas
 pub mod WayLemmas
 pub mod StandsLemmas
 pub mod TakeLemmas
+pub mod Stepping
 pub mod Keys
 pub mod OrderLemmas
 pub mod FewLemmas

@@ -244,3 +244,12 @@ part_held past streams stream side from to bytes stands low lies part =
     let here = subst (λ (w : WayState). LiesInOne (stretches w) from to) (stands_way past streams stream side stands low) lies in
     let held = held_at (way_for past stream side).held (stretches (way_for past stream side)) here.0 here.1 (stretches_held (eqb side 1) (sided_of stream (labels past))) here.2 in
     part here.0 here.1 here.2 here.3 ∙ bytes_in_are (way_for past stream side).held here.1 from to held here.3
+
+-- and all of it is held
+pub part_holds : (past : List Segment) (streams : Streams) (stream side from to : ℕ) → StandsFor past streams → stream < stream_count streams
+    → LiesInOne (stretches (way_in streams stream side)) from to → HoldsAll (way_in streams stream side).held from to
+part_holds past streams stream side from to stands low lies =
+    let is = stands_way past streams stream side stands low in
+    let here = subst (λ (w : WayState). LiesInOne (stretches w) from to) is lies in
+    let held = held_at (way_for past stream side).held (stretches (way_for past stream side)) here.0 here.1 (stretches_held (eqb side 1) (sided_of stream (labels past))) here.2 in
+    subst (λ (w : WayState). HoldsAll w.held from to) (sym is) (λ q a b. held.run q (omega (arith, here.3.low, a)) (omega (arith, here.3.high, b)))

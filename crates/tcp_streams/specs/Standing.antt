@@ -1,11 +1,12 @@
 -- The streams that stand for a list of segments.
-use Rattle.std.specs.Prelude.{◌≡◌, ◌==◌, ℕ, Bool, false, if◌then◌else◌, List, length, Option, None, Some, slice_get}
+use Rattle.std.specs.Prelude.{◌≡◌, ◌==◌, ◌<◌, ◌+◌, ◌^◌, ℕ, Bool, false, not, if◌then◌else◌, List, length, Option, None, Some, slice_get}
 use Rattle.tcp_streams.specs.declared.segment.Segment.{Segment}
+use Rattle.tcp_streams.specs.declared.segment.Taken.{Taken}
 use Rattle.tcp_streams.specs.declared.streams.Streams.{Streams}
 use Rattle.tcp_streams.specs.declared.stream.Stream.{Stream}
-use Rattle.tcp_streams.specs.Ways.{WayState, nothing}
+use Rattle.tcp_streams.specs.Ways.{WayState, nothing, end_of, way_step, same_side, IsWay}
 use Rattle.tcp_streams.specs.States.{state_of}
-use Rattle.tcp_streams.specs.Labels.{labels, way_of}
+use Rattle.tcp_streams.specs.Labels.{labels, way_of, told}
 use Rattle.tcp_streams.specs.Stands.{Agrees}
 
 -- how many segments were taken
@@ -36,3 +37,24 @@ way_for past stream side = way_of stream (side == 1) (labels past)
 -- the newest segment first
 unfoldable pub StandsFor : List Segment → Streams → Type 0
 StandsFor past streams = StandsRight past streams
+
+-- the two directions of a segment's stream take it, and all others stay as they were; a new stream comes behind the others
+pub record AreSteppedAt (s : Segment) (taken : Taken) (number : ℕ) (side : Bool) (old new : List Stream) : Type 0 where
+  pub within : number < length new
+  pub count : length new ≡ (if number == length old then length old + 1 else length old)
+  pub told_is : taken ≡ told number side (way_kept (slice_get old number) side) (way_kept (slice_get old number) (not side)) s
+  pub ways : (k : ℕ) (one : Bool) → way_kept (slice_get new k) one
+      ≡ (if k == number then way_step (same_side one side) (way_kept (slice_get old k) one) s else way_kept (slice_get old k) one)
+
+abbrev pub AreStepped : Segment → Taken → List Stream → List Stream → Type 0
+AreStepped s taken old new = (side : Bool) × AreSteppedAt s taken taken.stream side old new
+
+-- the streams, by their numbers
+abbrev pub streams_of : Streams → List Stream
+streams_of streams = streams.kept.streams.items
+
+-- streams that have answered no error, none of whose directions has gone far
+pub record AreReady (streams : Streams) : Type 0 where
+  pub fresh : streams.kept.spent ≡ false
+  pub ways : (stream : ℕ) (one : Bool) → IsWay (way_kept (slice_get (streams_of streams) stream) one)
+  pub room : (stream : ℕ) (one : Bool) → end_of (way_kept (slice_get (streams_of streams) stream) one) < 2 ^ 58

@@ -1,6 +1,6 @@
 ghost use Rattle.std.specs.Prelude.{◌≡◌, ◌↔◌, true, ◌-◌, ◌+◌, ◌<◌, ◌≤◌, ℕ, List, length, slice_range, slice_get, Some, nat_le, IfOk, IfSome, IsSome, IsSomeAnd};
 ghost use Rattle.pk_base.specs.declared.stretch.Stretch.{Stretch as StretchValue};
-ghost use Rattle.range_bytes.specs.Held.{HoldsAll, bytes_at, frames_at};
+ghost use Rattle.range_bytes.specs.Held.{HoldsAll, IsFreeFrom, bytes_at, frames_at};
 ghost use Rattle.tcp_streams.specs.declared.segment.Segment.{Segment as SegmentValue};
 ghost use Rattle.tcp_streams.specs.Ways.{stretches, AreApart};
 ghost use Rattle.tcp_streams.specs.Parts.{LiesIn, LiesInOne, IsPart};
@@ -31,6 +31,28 @@ impl Streams {
         self.way(stream, side).front.as_slice()
     }
 
+    /// The position of the first byte of a direction's last stretch. Takes no memory.
+    #[tactic(auto, using(crate::proofs::ReadLemmas::stands_way))]
+    pub fn front_start(&self, stream: u32, side: u8) -> u64
+        requires stream { stream < stream_count self.now }
+        requires side { side < 2 }
+        ensures start { (past : List SegmentValue) → StandsFor past self.now → result ≡ (way_for past stream side).start }
+        ensures kept { result ≡ (way_in self.now stream side).start }
+    {
+        self.way(stream, side).start
+    }
+
+    /// The stretches of a direction before the last, in order. Takes no memory.
+    #[tactic(auto, using(crate::proofs::ReadLemmas::stands_way))]
+    pub fn earlier(&self, stream: u32, side: u8) -> &[Stretch]
+        requires stream { stream < stream_count self.now }
+        requires side { side < 2 }
+        ensures earlier { (past : List SegmentValue) → StandsFor past self.now → result.now ≡ (way_for past stream side).earlier }
+        ensures kept { result.now ≡ (way_in self.now stream side).earlier }
+    {
+        self.way(stream, side).earlier.as_slice()
+    }
+
     /// The stretches of a direction, in order: what lies between the gaps that were passed, and behind the last of them.
     #[tactic(auto, using(crate::proofs::ReadLemmas::stands_way))]
     pub fn stretches(&self, stream: u32, side: u8) -> Result<Stretches, NoMemory>
@@ -49,6 +71,7 @@ impl Streams {
         requires lies { LiesInOne (stretches (way_in self.now stream side)) from to }
         ensures bytes { (past : List SegmentValue) → StandsFor past self.now → IsPart (stretches (way_for past stream side)) from to result.now }
         ensures held { (past : List SegmentValue) → StandsFor past self.now → result.now ≡ bytes_at (way_for past stream side).held from (to - from) }
+        ensures kept { IsPart (stretches (way_in self.now stream side)) from to result.now }
     {
         self.way(stream, side).find(from, to).unwrap()
     }
@@ -69,6 +92,15 @@ impl Streams {
         ensures { (result ≡ true) ↔ HoldsAll (way_in self.now stream side).held from to }
     {
         self.way(stream, side).held.first_free(from) >= to
+    }
+
+    /// The least position from one on of which a direction holds no byte. Takes no memory.
+    pub fn first_free(&self, stream: u32, side: u8, from: u64) -> u64
+        requires stream { stream < stream_count self.now }
+        requires side { side < 2 }
+        ensures { IsFreeFrom (way_in self.now stream side).held from result }
+    {
+        self.way(stream, side).held.first_free(from)
     }
 
     /// The numbers of the frames that brought the bytes from a position up to and without another: ascending, each once.

@@ -9,7 +9,7 @@ ghost use Rattle.tcp_streams.specs.Labels.{labels, sided_of, opened, side_from, 
 ghost use Rattle.tcp_streams.specs.Isolation.{HaveSameBetween, IsIsolated};
 ghost use Rattle.tcp_streams.specs.Order.{IsOrderFree};
 ghost use Rattle.tcp_streams.specs.Stands.{Agrees, IsSound, IsSoundStream, IsStepped, IsOpened, current_in};
-ghost use Rattle.tcp_streams.specs.Standing.{StandsFor, taken_so_far, stream_count};
+ghost use Rattle.tcp_streams.specs.Standing.{AreReady, AreStepped, StandsFor, streams_of, taken_so_far, stream_count};
 
 use crate::ends::ends_of;
 use crate::kept::Kept;
@@ -60,6 +60,8 @@ impl Streams {
         ensures taken { IfOk result (λ taken. (past : List SegmentValue) → StandsFor past self.old → taken ≡ taken_after past s.now) }
         ensures stands { OnOk result ((past : List SegmentValue) → StandsFor past self.old → StandsFor (s.now ∷ past) self.new) }
         ensures near { IfOk result (λ taken. PassesNear taken) }
+        ensures stepped { IfOk result (λ taken. AreStepped s.now taken (streams_of self.old) (streams_of self.new)) }
+        ensures ready { OnOk result (AreReady self.new) }
         ensures counted { taken_so_far self.new ≤ taken_so_far self.old + 1 }
         ensures isolated { (past ys : List SegmentValue) → HaveSameBetween s.now past ys → IsIsolated s.now past ys }
         ensures order { (past : List SegmentValue) (stream origin : ℕ) (side : Bool)
@@ -88,6 +90,7 @@ fn take_next(
     ensures sound { OnOk result ((taken : ℕ) → IsSound newest.old streams.old.items taken → IsSound newest.new streams.new.items (taken + 1)) }
     ensures taken { IfOk result (λ taken. (past : List SegmentValue) → Agrees (labels past) newest.old streams.old.items → taken ≡ taken_after past s.now) }
     ensures near { IfOk result (λ taken. PassesNear taken) }
+    ensures stepped { IfOk result (λ taken. AreStepped s.now taken streams.old.items streams.new.items) }
     ensures agrees { OnOk result ((past : List SegmentValue) → Agrees (labels past) newest.old streams.old.items → Agrees (labels (s.now ∷ past)) newest.new streams.new.items) }
 {
     match current(newest, streams, s) {

@@ -1,6 +1,12 @@
 use Rattle.std.proofs.Common.{take}
+use Rattle.std.specs.Prelude.{All}
+use Rattle.stream_messages.specs.Cursors.{IsWholeInOne}
 use Rattle.stream_messages.proofs.PassingLemmas.{IsPassed}
 use Rattle.stream_messages.proofs.stretches.cut_stretches.Given as goal
 
 abbrev pub invariant-loop-stretch : goal.invariant-loop-stretch
-invariant-loop-stretch l = IsPassed l.app l.heads l.fn.cursor l.cursor (take l.stretch-index l.stretches) l.messages
+invariant-loop-stretch l =
+    record {
+      passed : IsPassed l.app l.heads l.fn.cursor l.cursor (take l.stretch-index l.stretches) l.messages;
+      whole : All (IsWholeInOne l.app l.stretches) l.messages;
+    }

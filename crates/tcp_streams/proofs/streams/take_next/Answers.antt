@@ -4,6 +4,7 @@ use Rattle.tcp_streams.specs.declared.stream.Stream.{Stream}
 use Rattle.tcp_streams.specs.Labels.{labels}
 use Rattle.tcp_streams.specs.Stands.{current_in}
 use Rattle.tcp_streams.proofs.TakeLemmas.{Followed, Started, sound_followed, told_followed, agrees_followed, sound_started, told_started, agrees_started, started}
+use Rattle.tcp_streams.proofs.Stepping.{stepped_followed, stepped_started}
 use Rattle.tcp_streams.proofs.streams.take_next.Goals as goal
 
 within : (c : goal.After-follow) → c.in-Some.number < length c.args.streams.now.items
@@ -53,4 +54,15 @@ returns-in-None-clause-taken c = IfOk-weaker c.start.result (λ t. Started c.arg
 pub returns-in-None-clause-agrees : goal.returns-in-None-clause-agrees
 returns-in-None-clause-agrees c = IfOk-weaker c.start.result (λ t. Started c.args.streams.now.items c.args.newest.now c.args.s.now t c.start.new.streams.items c.start.new.newest) _
     (λ t so past agrees. agrees_started (labels past) c.args.newest.now c.start.new.newest c.args.streams.now.items c.start.new.streams.items c.args.s.now t so (opens c) agrees)
+    (started c.args.streams.now.items c.args.newest.now c.args.s.now c.start.new.streams.items c.start.new.newest c.start.result c.start.ensures.opened c.start.ensures.newest)
+
+-- src/streams.rt:74:1
+pub returns-in-Some-clause-stepped : goal.returns-in-Some-clause-stepped
+returns-in-Some-clause-stepped c = IfOk-weaker c.follow.result (λ t. Followed c.args.streams.now.items c.in-Some.number c.args.s.now t c.follow.new.streams.items) _
+    (λ t followed. stepped_followed c.args.streams.now.items c.follow.new.streams.items c.args.s.now c.in-Some.number t (within c) followed) c.follow.ensures.followed
+
+-- src/streams.rt:74:1
+pub returns-in-None-clause-stepped : goal.returns-in-None-clause-stepped
+returns-in-None-clause-stepped c = IfOk-weaker c.start.result (λ t. Started c.args.streams.now.items c.args.newest.now c.args.s.now t c.start.new.streams.items c.start.new.newest) _
+    (λ t so. stepped_started c.args.newest.now c.start.new.newest c.args.streams.now.items c.start.new.streams.items c.args.s.now t so)
     (started c.args.streams.now.items c.args.newest.now c.args.s.now c.start.new.streams.items c.start.new.newest c.start.result c.start.ensures.opened c.start.ensures.newest)

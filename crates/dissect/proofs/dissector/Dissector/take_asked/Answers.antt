@@ -19,7 +19,7 @@ returns-in-Ok-clause-values c = λ past after few.
     values-read c.args.self.now.state.follows c.args.asked (tree_at past frame) tree
     (tree-taken c.args.asked past frame c.args.self.now c.make_tree.new.state tree
     (c.make_tree.ensures.added.follows ∙ ap (λ (d : DissectorShown). d.state.follows) c.self.view_is) after reads)
-    (values-taken c.args.asked past frame c.args.self.now c.make_tree.new.state tree after reads) few
+    (values-taken c.args.asked past frame c.args.self.now c.make_tree.new.state tree c.in-Ok.ensures.fits after reads) few
 
 pub returns-in-Ok-clause-after : goal.returns-in-Ok-clause-after
 returns-in-Ok-clause-after c = λ past after.

@@ -1,6 +1,7 @@
 use Rattle.std.proofs.Common.{arith, rules}
 use Rattle.dissect.proofs.Chains.{goes-first, goes-on, goes-done, goes-rest}
 use Rattle.dissect.proofs.Opens.{adds-none, adds-both, adds-on, adds-most, room-now, room-on}
+use Rattle.dissect.proofs.Spaces.{space_now, space_on}
 use Rattle.dissect.proofs.state.State.chain.Goals as goal
 
 pub loop-todo-init : goal.loop-todo-init
@@ -9,8 +10,7 @@ loop-todo-init c = record {
   inside = c.requires.inside;
   adds = λ before adds. adds;
   room = c.requires.few;
-  buffers = omega arith;
-  few = omega arith;
+  space = c.requires.space;
 }
 
 pub returns-then-left-eq0 : goal.returns-then-left-eq0
@@ -22,13 +22,13 @@ returns-then-left-eq0 c = record {
 pub loop-todo-preserved : goal.loop-todo-preserved
 loop-todo-preserved c =
     let now = room-now c.loop-todo.self c.loop-todo.todo c.in-Head.head (search rules) c.loop-todo.invariant.room in
+    let space = space_now c.loop-todo.left c.loop-todo.tree c.loop-todo.todo c.in-Head.head (search rules) c.loop-todo.invariant.space in
     record {
       goes = goes-on c.args.frame.now c.args.most c.args.self.now c.args.tree.now c.args.first c.loop-todo.left c.loop-todo.self c.loop-todo.tree c.loop-todo.todo c.in-Head.head c.head.new.self c.head.new.tree c.in_ok-todo.todo (search rules) (search rules) c.loop-todo.invariant.goes c.in_ok-todo.ensures.walked;
       inside = c.in_ok-todo.ensures.inside;
       adds = λ before adds. adds-on before c.loop-todo.self c.head.new.self c.loop-todo.todo c.in_ok-todo.todo c.in-Head.head (search rules) (c.loop-todo.invariant.adds before adds) c.in_ok-todo.ensures.adds;
       room = room-on c.loop-todo.self c.head.new.self c.in_ok-todo.todo now c.in_ok-todo.ensures.adds;
-      buffers = omega (arith, c.in_ok-todo.ensures.buffers, c.loop-todo.invariant.buffers);
-      few = omega (arith, c.in_ok-todo.ensures.most, c.loop-todo.invariant.few);
+      space = space_on c.loop-todo.left c.loop-todo.tree c.head.new.tree c.in_ok-todo.todo (search rules) space.0 space.1 c.in_ok-todo.ensures.few;
     }
 
 pub returns : goal.returns
@@ -44,3 +44,17 @@ returns-in_err-rest-clause-added c = λ before adds.
 pub returns-in_err-todo-clause-added : goal.returns-in_err-todo-clause-added
 returns-in_err-todo-clause-added c = λ before adds.
     adds-both before c.loop-todo.self _ (adds-none before c.loop-todo.self c.loop-todo.todo c.in-Head.head (search rules) (c.loop-todo.invariant.adds before adds)) c.head.ensures.added
+
+pub rest-requires-clause-room : goal.rest-requires-clause-room
+rest-requires-clause-room c =
+    let space = space_now c.loop-todo.left c.loop-todo.tree c.loop-todo.todo c.in-Head.head (search rules) c.loop-todo.invariant.space in
+    omega (arith, space.0)
+
+pub head-requires-clause-ready : goal.head-requires-clause-ready
+head-requires-clause-ready c =
+    let space = space_now c.loop-todo.left c.loop-todo.tree c.loop-todo.todo c.in-Head.head (search rules) c.loop-todo.invariant.space in
+    record {
+      state = room-now c.loop-todo.self c.loop-todo.todo c.in-Head.head (search rules) c.loop-todo.invariant.room;
+      layers = omega (arith, space.0);
+      buffers = omega (arith, space.1);
+    }

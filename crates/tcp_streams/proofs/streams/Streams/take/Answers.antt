@@ -1,5 +1,6 @@
-use Rattle.std.proofs.Common.{arith}
+use Rattle.std.proofs.Common.{arith, refl}
 use Rattle.tcp_streams.proofs.Isolating.{is_isolated}
+use Rattle.tcp_streams.proofs.Stepping.{are_ready}
 use Rattle.tcp_streams.proofs.streams.Streams.take.Goals as goal
 
 -- src/streams.rt:69:9
@@ -18,3 +19,7 @@ returns-then-kept-clause-isolated c = is_isolated c.args.s.now
 
 pub returns-in_err-taken-clause-isolated : goal.returns-in_err-taken-clause-isolated
 returns-in_err-taken-clause-isolated c = is_isolated c.args.s.now
+
+pub returns-clause-ready : goal.returns-clause-ready
+returns-clause-ready c =
+    are_ready _ refl (c.in_ok-taken.ensures.sound c.args.self.now.kept.taken (c.args.self.now.kept.sound c.if-kept.false)) (omega (arith, c.requires))

@@ -1,0 +1,259 @@
+-- The messages that a segment brings to its direction, and the cursor behind them.
+use Rattle.std.proofs.Common.{◌≡◌, ℕ, zero, suc, ◌+◌, ◌-◌, ◌^◌, ◌<◌, ◌≤◌, Bool, List, [], ◌∷◌, ◌++◌, length, drop, slice_get, Some, Result, Ok, Err, IfOk, refl, sym, ap, subst, ◌∙◌, arith, append_assoc, append-nil, length-append}
+use Rattle.std.specs.Prelude.{All}
+use Rattle.std.proofs.lemmas.List.Elements.{All-cons, All-nil, All-drop, All-weaker}
+use Rattle.pk_base.specs.declared.lost.Lost.{Lost}
+use Rattle.pk_base.specs.declared.stretch.Stretch.{Stretch}
+use Rattle.range_bytes.specs.Held.{Held, bytes_at}
+use Rattle.tcp_streams.specs.declared.segment.Segment.{Segment}
+use Rattle.tcp_streams.specs.Gaps.{first_free, start_past, left_behind}
+use Rattle.tcp_streams.specs.Ways.{WayState, stretches, end_of, lost_in, start_for, front_for, held_after, own_step, IsWay, AreApart}
+use Rattle.tcp_streams.proofs.Places.{length-bytes_at, apart_past}
+use Rattle.stream_messages.specs.declared.told.App.{App}
+use Rattle.stream_messages.specs.declared.placed.Placed.{Placed}
+use Rattle.stream_messages.specs.declared.cursor.Cursor.{Cursor}
+use Rattle.stream_messages.specs.declared.cutting.Shown.{Shown}
+use Rattle.stream_messages.specs.Messages.{Asked, AllBefore, AllFrom, above, answered, of_front, of_stretches}
+use Rattle.stream_messages.specs.Cursors.{AsksFrom, IsBehind, IsCut, IsWhole, IsWholeInOne, answers_before, with_last}
+use Rattle.stream_messages.proofs.CursorLemmas.{laws_of_cursors}
+use Rattle.stream_messages.proofs.PassingLemmas.{CutsAll, whole_in}
+use Rattle.tcp_streams.proofs.PartLemmas.{last_there}
+use Rattle.stream_messages.proofs.StretchLemmas.{laws_of_new, of_stretches-append, answered-append}
+use Rattle.tcp_messages.specs.Readers.{CutsWay, IsBehindWay}
+use Rattle.tcp_messages.proofs.Growing.{BeginAt, all_from, apart_order, begins_at, grows_on}
+
+pub ok_both : {T E : Type 0} (r : Result T E) (P Q : T → Type 0) → IfOk r P → IfOk r Q → IfOk r (λ x. P x × Q x)
+ok_both (Ok x) P Q p q = (p, q)
+ok_both (Err e) P Q p q = tt
+
+-- ---- stretches before a place
+
+pub all_before : (end low : ℕ) (xs : List Stretch) (next : ℕ) → next ≤ end → AreApart low xs next → AllBefore end xs
+all_before end low [] next within apart = tt
+all_before end low (x ∷ xs) next within apart =
+    let order = apart_order (x.start + length x.bytes + 1) xs next apart.1 in
+    (omega (arith, order, within), all_before end (x.start + length x.bytes + 1) xs next within apart.1)
+
+before_push : (end : ℕ) (xs : List Stretch) (x : Stretch) → AllBefore end xs → x.start + length x.bytes ≤ end → AllBefore end (xs ++ x ∷ [])
+before_push end [] x before within = (within, tt)
+before_push end (y ∷ xs) x before within = (before.0, before_push end xs x before.1 within)
+
+abbrev IsShort : Stretch → Type 0
+IsShort s = s.start + length s.bytes < 2 ^ 64
+
+pub all_short : (low : ℕ) (xs : List Stretch) (next : ℕ) → next < 2 ^ 58 → AreApart low xs next → All (λ (s : Stretch). s.start + length s.bytes < 2 ^ 64) xs
+all_short low [] next few apart = All-nil IsShort
+all_short low (x ∷ xs) next few apart =
+    let order = apart_order (x.start + length x.bytes + 1) xs next apart.1 in
+    All-cons IsShort x xs (omega (arith, order, few)) (all_short (x.start + length x.bytes + 1) xs next few apart.1)
+
+pub last_short : (w : WayState) (k : ℕ) → IsWay w → end_of w < 2 ^ 58 → All (λ (s : Stretch). s.start + length s.bytes < 2 ^ 64) (drop k w.earlier)
+last_short w k way few = All-drop IsShort k w.earlier (all_short 0 w.earlier w.start (omega (arith, few)) way.apart)
+
+-- ---- the last stretch grows
+
+pub record IsGrown (w v : WayState) : Type 0 where
+  pub earlier : v.earlier ≡ w.earlier
+  pub start : v.start ≡ w.start
+  pub more : List ℕ
+  pub front : v.front ≡ w.front ++ more
+
+pub own_grown : (w : WayState) (s : Segment) → IsWay w → lost_in w ≡ [] → IsGrown w (own_step w s)
+unfolding own_step
+own_grown w s way none =
+    let grown = grows_on w s way none in
+    record {
+      earlier = ap (λ (xs : List Lost). w.earlier ++ left_behind w.held w.start xs) none ∙ append-nil w.earlier;
+      start = ap (start_past w.start) none;
+      more = grown.0;
+      front = grown.1;
+    }
+
+pub cut_grown : (app : App) (heads : List Bool) (asked : Asked) (w v : WayState) (cursor : Cursor) (shown : Shown) → IsWay w → IsGrown w v
+    → CutsAll app heads v.start cursor v.front shown → AsksFrom (end_of w) heads asked → IsBehindWay app asked w cursor → CutsWay app asked (end_of w) v shown
+cut_grown app heads asked w v cursor shown way grown cuts asks behind =
+    let count : ℕ = answered 0 (of_stretches app asked 0 w.earlier) in
+    let end : v.start + length w.front ≡ end_of w = ap (λ (n : ℕ). n + length w.front) grown.start in
+    let low : end_of w ≤ v.start + length w.front = omega (arith, end) in
+    let cut : IsCut app asked count v.start w.front v.front shown =
+    cuts asked asked count w.front grown.more grown.front (λ at n below. refl) (λ at n above below. asks at n (omega (arith, low, above)))
+    (subst (λ (n : ℕ). IsBehind app asked count n cursor w.front) (sym grown.start) behind) in
+    let last : Stretch = record { start = v.start; bytes = v.front } in
+    record {
+      messages =
+          cut.messages
+          ∙ ap (λ (n : ℕ). above n (of_front app asked count v.start v.front)) end
+          ∙ sym (laws_of_new.grown app asked 0 (end_of w) w.earlier last (all_before (end_of w) 0 w.earlier w.start (omega arith) way.apart))
+          ∙ ap (λ (xs : List Stretch). above (end_of w) (of_stretches app asked 0 (xs ++ last ∷ []))) (sym grown.earlier);
+      cursor = subst (λ (xs : List Stretch). IsBehind app asked (answered 0 (of_stretches app asked 0 xs)) v.start shown.cursor v.front) (sym grown.earlier) cut.cursor;
+    }
+
+-- ---- others begin behind lost bytes
+
+pub record IsNewest (w v : WayState) (passed : List Stretch) : Type 0 where
+  pub earlier : v.earlier ≡ w.earlier ++ record { start = w.start; bytes = w.front } ∷ passed
+  pub from : AllFrom (end_of w) (with_last passed v.start v.front)
+
+-- as many as gaps
+left_length : (held : Held) (start : ℕ) (gaps : List Lost) → length (left_behind held start gaps) ≡ length gaps
+left_length held start [] = refl
+left_length held start (gap ∷ gaps) = ap suc (left_length held gap.to gaps)
+
+drop_all_of : {X : Type 0} (xs ys : List X) → drop (length xs) (xs ++ ys) ≡ ys
+drop_all_of [] ys = refl
+drop_all_of (x ∷ xs) ys = drop_all_of xs ys
+
+pub drop_before : {X : Type 0} (xs ys : List X) (n : ℕ) → n ≡ length ys → drop (length (xs ++ ys) - n) (xs ++ ys) ≡ ys
+drop_before xs ys n same =
+    let size = length-append xs ys in
+    let place : length (xs ++ ys) - n ≡ length xs = omega (arith, size, same) in
+    ap (λ (k : ℕ). drop k (xs ++ ys)) place ∙ drop_all_of xs ys
+
+-- the last stretches of a direction that has passed gaps are those behind them
+pub record HasPassed (w v : WayState) (count : ℕ) : Type 0 where
+  pub passed : List Stretch
+  pub is : IsNewest w v passed
+  pub last : drop (length v.earlier - (count - 1)) v.earlier ≡ passed
+
+own_newest : (w : WayState) (s : Segment) (gap : Lost) (gaps : List Lost) → IsWay w → lost_in w ≡ gap ∷ gaps → IsNewest w (own_step w s) (left_behind w.held gap.to gaps)
+unfolding own_step
+own_newest w s gap gaps way is =
+    let begins : gap.from ≡ end_of w = subst (BeginAt (end_of w)) is (begins_at (w.acked - end_of w) w.held w.acked (end_of w)) in
+    let size : gap.from - w.start ≡ length w.front = omega (arith, begins) in
+    let left : bytes_at w.held w.start (gap.from - w.start) ≡ w.front = ap (bytes_at w.held w.start) size ∙ sym way.bytes in
+    let far : length (bytes_at w.held w.start (gap.from - w.start)) ≡ gap.from - w.start = length-bytes_at w.held w.start (gap.from - w.start) in
+    let last : Stretch = record { start = start_for w; bytes = bytes_at (held_after w s) (start_for w) (first_free (held_after w s) (front_for w) - start_for w) } in
+    let apart : AreApart w.start (left_behind w.held w.start (gap ∷ gaps)) (start_past w.start (gap ∷ gaps)) =
+    subst (λ (xs : List Lost). AreApart w.start (left_behind w.held w.start xs) (start_past w.start xs)) is
+    (apart_past (w.acked - end_of w) w.held w.acked w.start (end_of w) w.start way.place (omega arith)) in
+    let start : start_for w ≡ start_past gap.to gaps = ap (start_past w.start) is in
+    record {
+      earlier =
+          ap (λ (xs : List Lost). w.earlier ++ left_behind w.held w.start xs) is
+          ∙ ap (λ (b : List ℕ). w.earlier ++ record { start = w.start; bytes = b } ∷ left_behind w.held gap.to gaps) left;
+      from = all_from (end_of w) (w.start + length (bytes_at w.held w.start (gap.from - w.start)) + 1) (left_behind w.held gap.to gaps) last (omega (arith, far, size))
+          (subst (AreApart (w.start + length (bytes_at w.held w.start (gap.from - w.start)) + 1) (left_behind w.held gap.to gaps)) (sym start) apart.1);
+    }
+
+pub own_passed : (w : WayState) (s : Segment) (gap : Lost) (gaps : List Lost) → IsWay w → lost_in w ≡ gap ∷ gaps → HasPassed w (own_step w s) (length (gap ∷ gaps))
+own_passed w s gap gaps way is =
+    let passed : List Stretch = left_behind w.held gap.to gaps in
+    let old : Stretch = record { start = w.start; bytes = w.front } in
+    let newest : IsNewest w (own_step w s) passed = own_newest w s gap gaps way is in
+    let split : (own_step w s).earlier ≡ (w.earlier ++ old ∷ []) ++ passed = newest.earlier ∙ sym (append_assoc w.earlier (old ∷ []) passed) in
+    let one : length (gap ∷ gaps) - 1 ≡ length gaps = omega arith in
+    let many : length gaps ≡ length passed = sym (left_length w.held gap.to gaps) in
+    record {
+      passed = passed;
+      is = newest;
+      last =
+          ap (λ (k : ℕ). drop (length (own_step w s).earlier - k) (own_step w s).earlier) one
+          ∙ ap (λ (xs : List Stretch). drop (length xs - length gaps) xs) split
+          ∙ drop_before (w.earlier ++ old ∷ []) passed (length gaps) many;
+    }
+
+-- the answers before the last stretch, and in it
+counted : (app : App) (asked : Asked) (w : WayState) (cursor : Cursor) → IsBehindWay app asked w cursor → answered 0 (of_stretches app asked 0 (stretches w)) ≡ answers_before cursor
+counted app asked w cursor behind =
+    let old : Stretch = record { start = w.start; bytes = w.front } in
+    let count : ℕ = answered 0 (of_stretches app asked 0 w.earlier) in
+    ap (answered 0) (of_stretches-append app asked 0 w.earlier (old ∷ []))
+    ∙ answered-append 0 (of_stretches app asked 0 w.earlier) (of_stretches app asked count (old ∷ []))
+    ∙ ap (answered count) (append-nil (of_front app asked count w.start w.front))
+    ∙ sym behind.counts
+
+pub cut_behind : (app : App) (heads : List Bool) (asked : Asked) (w v : WayState) (passed : List Stretch) (cursor : Cursor) (shown : Shown) → IsWay w → IsNewest w v passed
+    → ((asked : Asked) (from : ℕ) → AsksFrom from heads asked → AllFrom from (with_last passed v.start v.front) → shown.messages ≡ of_stretches app asked (answers_before cursor) (with_last passed v.start v.front))
+    → ((asked : Asked) (from : ℕ) → AsksFrom from heads asked → AllFrom from (with_last passed v.start v.front)
+    → IsBehind app asked (answered (answers_before cursor) (of_stretches app asked (answers_before cursor) passed)) v.start shown.cursor v.front)
+    → AsksFrom (end_of w) heads asked → IsBehindWay app asked w cursor → CutsWay app asked (end_of w) v shown
+cut_behind app heads asked w v passed cursor shown way newest messages_are cursor_is asks behind =
+    let old : Stretch = record { start = w.start; bytes = w.front } in
+    let last : Stretch = record { start = v.start; bytes = v.front } in
+    let count : answered 0 (of_stretches app asked 0 (stretches w)) ≡ answers_before cursor = counted app asked w cursor behind in
+    let split : v.earlier ≡ stretches w ++ passed = newest.earlier ∙ sym (append_assoc w.earlier (old ∷ []) passed) in
+    let before : AllBefore (end_of w) (stretches w) =
+    before_push (end_of w) w.earlier old (all_before (end_of w) 0 w.earlier w.start (omega arith) way.apart) (omega arith) in
+    record {
+      messages =
+          messages_are asked (end_of w) asks newest.from
+          ∙ ap (λ (n : ℕ). of_stretches app asked n (with_last passed v.start v.front)) (sym count)
+          ∙ sym (laws_of_new.begun app asked 0 (end_of w) (stretches w) (with_last passed v.start v.front) before newest.from)
+          ∙ ap (λ (xs : List Stretch). above (end_of w) (of_stretches app asked 0 xs)) (sym (append_assoc (stretches w) passed (last ∷ [])))
+          ∙ ap (λ (xs : List Stretch). above (end_of w) (of_stretches app asked 0 (xs ++ last ∷ []))) (sym split);
+      cursor = subst (λ (n : ℕ). IsBehind app asked n v.start shown.cursor v.front) (sym (
+          ap (λ (xs : List Stretch). answered 0 (of_stretches app asked 0 xs)) split
+          ∙ ap (answered 0) (of_stretches-append app asked 0 (stretches w) passed)
+          ∙ answered-append 0 (of_stretches app asked 0 (stretches w)) (of_stretches app asked (answered 0 (of_stretches app asked 0 (stretches w))) passed)
+          ∙ ap (λ (n : ℕ). answered n (of_stretches app asked n passed)) count
+          )) (cursor_is asked (end_of w) asks newest.from);
+    }
+
+-- ---- by the lent stretches
+
+pub nil_by : {X : Type 0} (xs : List X) → length xs ≡ 0 → xs ≡ []
+nil_by [] none = refl
+nil_by (x ∷ xs) none = absurd (omega (arith, none))
+
+pub whole_last : (app : App) (v : WayState) (start : ℕ) (front : List ℕ) (ms : List Placed) → start ≡ v.start → front ≡ v.front → All (IsWhole app start front) ms → All (IsWholeInOne app (stretches v)) ms
+whole_last app v start front ms starts is whole =
+    whole_in app (stretches v) (length v.earlier) (record { start = v.start; bytes = v.front }) ms (last_there v.earlier (record { start = v.start; bytes = v.front }))
+    (subst (λ (b : List ℕ). All (IsWhole app v.start b) ms) is (subst (λ (n : ℕ). All (IsWhole app n front) ms) starts whole))
+
+drop_there : (k i j : ℕ) (xs ys : List Stretch) (s : Stretch) → j ≡ k + i → k ≤ length xs → slice_get (drop k xs ++ ys) i ≡ Some s → slice_get (xs ++ ys) j ≡ Some s
+drop_there zero i j xs ys s place low = let is : j ≡ i = omega (arith, place) in λ e. ap (slice_get (xs ++ ys)) is ∙ e
+drop_there (suc k) i j [] ys s place low = absurd (omega (arith, low))
+drop_there (suc k) i zero (x ∷ xs) ys s place low = absurd (omega (arith, place))
+drop_there (suc k) i (suc j) (x ∷ xs) ys s place low = λ e. drop_there k i j xs ys s (omega (arith, place)) (omega (arith, low)) e
+
+pub whole_behind : (app : App) (v : WayState) (passed : List Stretch) (n start : ℕ) (front : List ℕ) (ms : List Placed) → passed ≡ drop (length v.earlier - n) v.earlier → start ≡ v.start → front ≡ v.front
+    → All (IsWholeInOne app (with_last passed start front)) ms → All (IsWholeInOne app (stretches v)) ms
+whole_behind app v passed n start front ms passed_is starts is whole =
+    let here : All (IsWholeInOne app (with_last (drop (length v.earlier - n) v.earlier) v.start v.front)) ms =
+    subst (λ (b : List ℕ). All (IsWholeInOne app (with_last (drop (length v.earlier - n) v.earlier) v.start b)) ms) is
+    (subst (λ (k : ℕ). All (IsWholeInOne app (with_last (drop (length v.earlier - n) v.earlier) k front)) ms) starts
+    (subst (λ (xs : List Stretch). All (IsWholeInOne app (with_last xs start front)) ms) passed_is whole)) in
+    All-weaker (IsWholeInOne app (with_last (drop (length v.earlier - n) v.earlier) v.start v.front)) (IsWholeInOne app (stretches v))
+    (λ m one. (
+      (length v.earlier - n) + one.0,
+      one.1,
+      drop_there (length v.earlier - n) one.0 ((length v.earlier - n) + one.0) v.earlier (record { start = v.start; bytes = v.front } ∷ []) one.1 refl (omega arith) one.2,
+      one.3,
+    ))
+    ms here
+
+pub grown_case : (app : App) (heads : List Bool) (asked : Asked) (w v : WayState) (s : Segment) (start : ℕ) (front : List ℕ) (lost : List Lost) (cursor : Cursor) (shown : Shown) → start ≡ v.start → front ≡ v.front
+    → length lost ≡ 0 → CutsAll app heads start cursor front shown → IsWay w → v ≡ own_step w s → lost ≡ lost_in w → AsksFrom (end_of w) heads asked → IsBehindWay app asked w cursor
+    → CutsWay app asked (end_of w) (own_step w s) shown
+grown_case app heads asked w v s start front lost cursor shown starts is none cuts way step lost_is asks behind =
+    let here : CutsAll app heads v.start cursor v.front shown =
+    subst (λ (b : List ℕ). CutsAll app heads v.start cursor b shown) is (subst (λ (n : ℕ). CutsAll app heads n cursor front shown) starts cuts) in
+    let own : CutsAll app heads (own_step w s).start cursor (own_step w s).front shown = subst (λ (u : WayState). CutsAll app heads u.start cursor u.front shown) step here in
+    cut_grown app heads asked w (own_step w s) cursor shown way (own_grown w s way (sym lost_is ∙ nil_by lost none)) own asks behind
+
+abbrev pub CutsNewest : App → List Bool → List Stretch → ℕ → List ℕ → Cursor → Shown → Type 0
+CutsNewest app heads passed start front cursor shown = (asked : Asked) (from : ℕ) → AsksFrom from heads asked → AllFrom from (with_last passed start front)
+    → shown.messages ≡ of_stretches app asked (answers_before cursor) (with_last passed start front)
+
+abbrev pub BehindNewest : App → List Bool → List Stretch → ℕ → List ℕ → Cursor → Shown → Type 0
+BehindNewest app heads passed start front cursor shown = (asked : Asked) (from : ℕ) → AsksFrom from heads asked → AllFrom from (with_last passed start front)
+    → IsBehind app asked (answered (answers_before cursor) (of_stretches app asked (answers_before cursor) passed)) start shown.cursor front
+
+record BothNewest (app : App) (heads : List Bool) (passed : List Stretch) (start : ℕ) (front : List ℕ) (cursor : Cursor) (shown : Shown) : Type 0 where
+  cuts : CutsNewest app heads passed start front cursor shown
+  behind : BehindNewest app heads passed start front cursor shown
+
+pub newest_case : (app : App) (heads : List Bool) (asked : Asked) (w v : WayState) (s : Segment) (passed : List Stretch) (start : ℕ) (front : List ℕ) (lost : List Lost) (cursor : Cursor) (shown : Shown)
+    → passed ≡ drop (length v.earlier - (length lost - 1)) v.earlier → start ≡ v.start → front ≡ v.front → (length lost ≡ 0 → ⊥)
+    → CutsNewest app heads passed start front cursor shown → BehindNewest app heads passed start front cursor shown
+    → IsWay w → v ≡ own_step w s → lost ≡ lost_in w → AsksFrom (end_of w) heads asked → IsBehindWay app asked w cursor → CutsWay app asked (end_of w) (own_step w s) shown
+newest_case app heads asked w v s passed start front [] cursor shown passed_is starts is some cuts behind_is way step lost_is asks behind = absurd (some refl)
+newest_case app heads asked w v s passed start front (gap ∷ gaps) cursor shown passed_is starts is some cuts behind_is way step lost_is asks behind =
+    let has = own_passed w s gap gaps way (sym lost_is) in
+    let here : passed ≡ has.passed = passed_is ∙ ap (λ (u : WayState). drop (length u.earlier - (length (gap ∷ gaps) - 1)) u.earlier) step ∙ has.last in
+    let both : BothNewest app heads has.passed (own_step w s).start (own_step w s).front cursor shown =
+    subst (λ (u : WayState). BothNewest app heads has.passed u.start u.front cursor shown) step
+    (subst (λ (b : List ℕ). BothNewest app heads has.passed v.start b cursor shown) is
+    (subst (λ (n : ℕ). BothNewest app heads has.passed n front cursor shown) starts
+    (subst (λ (xs : List Stretch). BothNewest app heads xs start front cursor shown) here (record { cuts = cuts; behind = behind_is })))) in
+    cut_behind app heads asked w (own_step w s) has.passed cursor shown way has.is both.cuts both.behind asks behind

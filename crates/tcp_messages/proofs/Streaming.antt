@@ -1,0 +1,277 @@
+-- What the readers of all streams stand for with a segment more.
+use Rattle.std.proofs.Common.{◌≡◌, ℕ, zero, suc, ◌+◌, ◌<◌, ◌≤◌, Bool, true, false, not, cond, eqb, List, [], ◌∷◌, ◌++◌, length, Option, None, Some, option_map, unwrap_or, is_some, slice_get, slice_set, refl, sym, ap, subst, ◌∙◌, inl, inr, arith}
+use Rattle.std.specs.Prelude.{◌⊎◌, if◌then◌else◌}
+use Rattle.std.proofs.lemmas.Bool.{false≢true, cases_Bool, cond-true, cond-false}
+use Rattle.std.proofs.lemmas.Bool.Decides.{eqb_tells}
+use Rattle.std.proofs.lemmas.Option.{none-some, slice_get_within}
+use Rattle.pk_base.specs.declared.lost.Lost.{Lost}
+use Rattle.tcp_streams.specs.declared.segment.Segment.{Segment}
+use Rattle.tcp_streams.specs.declared.segment.Taken.{Taken}
+use Rattle.tcp_streams.specs.Conversations.{ends_of, same_ends}
+use Rattle.tcp_streams.specs.Labels.{Label, latest, opened, goes_on, restarts, side_in, label_on, label_of, sided_of, way_of}
+use Rattle.tcp_streams.specs.Stands.{AllBelow}
+use Rattle.tcp_streams.specs.Ways.{WayState, nothing, lost_in, own_step, stretches, way_step, same_side as is_own}
+use Rattle.tcp_streams.proofs.StandsLemmas.{none_new}
+use Rattle.tcp_streams.proofs.WayLemmas.{after_is}
+use Rattle.stream_messages.specs.declared.told.App.{App}
+use Rattle.stream_messages.specs.declared.placed.Placed.{Placed}
+use Rattle.stream_messages.specs.declared.cursor.Cursor.{Cursor}
+use Rattle.stream_messages.specs.Cursors.{IsBehind, begun}
+use Rattle.stream_messages.specs.Sides.{Noted, Brought, asked_in, note_next, noted}
+use Rattle.stream_messages.proofs.CursorLemmas.{laws_of_cursors}
+use Rattle.tcp_messages.specs.declared.readers.Reader.{Reader}
+use Rattle.tcp_messages.specs.declared.readers.Readers.{Readers}
+use Rattle.tcp_messages.specs.Brought.{brought, brought_by}
+use Rattle.tcp_messages.specs.Shown.{messages_at, messages_by}
+use Rattle.tcp_messages.specs.Readers.{AllHave, IsBegun, IsOfEnds, ReadsStream, ReadsStreams, ReadsWay, reader_of}
+use Rattle.tcp_messages.specs.Reading.{AreListed, IsNew, IsOpenedAt, IsReadAt, IsRead, IsReadFrom, IsReadOn, side_of}
+use Rattle.tcp_messages.proofs.Growing.{brought_is}
+use Rattle.tcp_messages.proofs.Sides.{AreReads, both_shown, both_reads}
+
+-- ---- lists
+
+pub get_push : {X : Type 0} (xs : List X) (x y : X) (j : ℕ) → slice_get (xs ++ x ∷ []) j ≡ Some y → (slice_get xs j ≡ Some y) ⊎ ((j ≡ length xs) × (x ≡ y))
+get_push {X = X} [] x y zero = λ e. inr (refl, ap (λ (o : Option X). unwrap_or o x) e)
+get_push [] x y (suc j) = λ e. inl e
+get_push (z ∷ xs) x y zero = λ e. inl e
+get_push (z ∷ xs) x y (suc j) = λ e. by (get_push xs x y j e)
+  where
+    by : (slice_get xs j ≡ Some y) ⊎ ((j ≡ length xs) × (x ≡ y)) → (slice_get xs j ≡ Some y) ⊎ ((suc j ≡ suc (length xs)) × (x ≡ y))
+    by (inl there) = inl there
+    by (inr last) = inr (ap suc last.0, last.1)
+
+pub get_set : {X : Type 0} (xs : List X) (i j : ℕ) (x y : X) → slice_get (slice_set xs i x) j ≡ Some y → ((i ≡ j → ⊥) × (slice_get xs j ≡ Some y)) ⊎ ((i ≡ j) × (x ≡ y))
+get_set [] i j x y = λ e. absurd (none-some y e)
+get_set {X = X} (z ∷ xs) zero zero x y = λ e. inr (refl, ap (λ (o : Option X). unwrap_or o x) e)
+get_set (z ∷ xs) zero (suc j) x y = λ e. inl (λ same. absurd (omega (arith, same)), e)
+get_set (z ∷ xs) (suc i) zero x y = λ e. inl (λ same. absurd (omega (arith, same)), e)
+get_set (z ∷ xs) (suc i) (suc j) x y = λ e. by (get_set xs i j x y e)
+  where
+    by : ((i ≡ j → ⊥) × (slice_get xs j ≡ Some y)) ⊎ ((i ≡ j) × (x ≡ y)) → ((suc i ≡ suc j → ⊥) × (slice_get xs j ≡ Some y)) ⊎ ((suc i ≡ suc j) × (x ≡ y))
+    by (inl other) = inl (λ same. other.0 (omega (arith, same)), other.1)
+    by (inr here) = inr (ap suc here.0, here.1)
+
+abbrev IsThere : List (Option Readers) → ℕ → Type 0
+IsThere xs i = (r : Option Readers) × (slice_get xs i ≡ Some r)
+
+pub get_there : (xs : List (Option Readers)) (i : ℕ) → i < length xs → (r : Option Readers) × (slice_get xs i ≡ Some r)
+get_there [] i low = absurd (omega (arith, low))
+get_there (x ∷ xs) zero low = (x, refl)
+get_there (x ∷ xs) (suc i) low = get_there xs i (omega (arith, low))
+
+-- ---- applications
+
+-- nothing was said of a stream that is new
+none_have : (app_of : Segment → Option App) (number : ℕ) (app : Option App) (ls : List Label) → AllBelow number ls → AllHave app_of number app ls
+none_have app_of number app [] below = tt
+none_have app_of number app (l ∷ ls) below = (λ same. absurd (omega (arith, below.0, same)), none_have app_of number app ls below.1)
+
+none_brought : (number : ℕ) (ls : List Label) → AllBelow number ls → brought number ls ≡ []
+none_brought number [] below = refl
+none_brought number (l ∷ ls) below = elim (eqb_tells l.stream number) [
+  | inl same ↦ absurd (omega (arith, below.0, same.1))
+  | inr other ↦ rw other.0 (none_brought number ls below.1)
+]
+
+-- a segment's conversation has the application of the segments before it
+latest_has : (app_of : Segment → Option App) (number : ℕ) (app : Option App) (s : Segment) (found : Label) (ls : List Label) → IsOfEnds app_of → found.stream ≡ number
+    → latest s ls ≡ Some found → AllHave app_of number app ls → app_of s ≡ app
+latest_has app_of number app s found [] of_ends at = λ e all. absurd (none-some found e)
+latest_has app_of number app s found (l ∷ ls) of_ends at = elim (cases_Bool (same_ends (ends_of l.segment) (ends_of s))) [
+  | inl same ↦ rw same (λ e all.
+      let is : l.stream ≡ number = ap (λ (o : Option Label). (unwrap_or o l).stream) e ∙ at in
+      sym (of_ends l.segment s same) ∙ all.0 is)
+  | inr other ↦ rw other (λ e all. latest_has app_of number app s found ls of_ends at e all.1)
+]
+
+abbrev GoesAt : Option Label → ℕ → Type 0
+GoesAt found number = (l : Label) × (found ≡ Some l) × (l.stream ≡ number)
+
+goes_at : (found : Option Label) (s : Segment) (ls : List Label) (number : ℕ) → goes_on found s ls ≡ Some number → GoesAt found number
+goes_at None s ls number = λ e. absurd (none-some number e)
+goes_at (Some l) s ls number = elim (cases_Bool (restarts (way_of l.stream (side_in l.stream s ls) ls).origin s)) [
+  | inl again ↦ rw again (λ e. absurd (none-some number e))
+  | inr same ↦ rw same (λ e. (l, refl, ap (λ (o : Option ℕ). unwrap_or o number) e))
+]
+
+-- what is kept of the segment's stream has its application
+pub record IsOpening (app : Option App) (s : Segment) (ls : List Label) (old new : List (Option Readers)) : Type 0 where
+  pub listed : AreListed ls old
+  pub is : IsOpenedAt app (label_of s ls).stream old new
+
+new_app : (app : Option App) (r : Option Readers) → IsNew app r → option_map (λ (x : Readers). x.app) r ≡ app
+new_app None r new = ap (option_map (λ (x : Readers). x.app)) new
+new_app (Some app) None new = absurd new
+new_app (Some app) (Some r) new = ap Some new.0
+
+latest_within : (n : ℕ) (s : Segment) (ls : List Label) (l : Label) → AllBelow n ls → latest s ls ≡ Some l → l.stream < n
+latest_within n s [] l below = λ e. absurd (none-some l e)
+latest_within n s (m ∷ ls) l below = elim (cases_Bool (same_ends (ends_of m.segment) (ends_of s))) [
+  | inl same ↦ rw same (λ e. subst (λ (k : ℕ). k < n) (ap (λ (o : Option Label). (unwrap_or o m).stream) e) below.0)
+  | inr apart ↦ rw apart (λ e. latest_within n s ls l below.1 e)
+]
+
+pub app_is : (app_of : Segment → Option App) (app : Option App) (s : Segment) (ls : List Label) (old new : List (Option Readers)) (r : Option Readers) → IsOfEnds app_of → app ≡ app_of s
+    → ReadsStreams app_of ls old → IsOpening app s ls old new → slice_get new (label_of s ls).stream ≡ Some r → app_of s ≡ option_map (λ (x : Readers). x.app) r
+app_is app_of app s ls old new r of_ends is reads opening =
+    elim (goes_on (latest s ls) s ls) as (λ (o : Option ℕ). goes_on (latest s ls) s ls ≡ o → IsOpenedAt app (label_on o s ls).stream old new → slice_get new (label_on o s ls).stream ≡ Some r → app_of s ≡ option_map (λ (x : Readers). x.app) r) [
+      | Some number ↦ λ e at there.
+          let goes = goes_at (latest s ls) s ls number e in
+          let low : number < length old = omega (arith, latest_within (opened ls) s ls goes.0 opening.listed.below goes.1, goes.2, opening.listed.size) in
+          let stays : new ≡ old = at.1 (λ same. omega (arith, low, same)) in
+          let was : slice_get old number ≡ Some r = ap (λ (xs : List (Option Readers)). slice_get xs number) (sym stays) ∙ there in
+          latest_has app_of number (option_map (λ (x : Readers). x.app) r) s goes.0 ls of_ends goes.2 goes.1 (reads.apps number r was)
+      | None ↦ λ e at there.
+          let last = at.0 (sym opening.listed.size) in
+          let there : slice_get (old ++ last.0 ∷ []) (opened ls) ≡ Some r = ap (λ (xs : List (Option Readers)). slice_get xs (opened ls)) (sym last.2) ∙ there in
+          let here : last.0 ≡ r = pushed (get_push old last.0 r (opened ls) there) in
+          sym is ∙ sym (new_app app last.0 last.1) ∙ ap (option_map (λ (x : Readers). x.app)) here
+    ] refl opening.is
+  where
+    pushed : {x y : Option Readers} → (slice_get old (opened ls) ≡ Some y) ⊎ ((opened ls ≡ length old) × (x ≡ y)) → x ≡ y
+    pushed {x} {y} (inl there) = absurd (omega (arith, slice_get_within old (opened ls) y there, opening.listed.size))
+    pushed (inr last) = last.1
+
+-- ---- a stream that is new
+
+begun_reads : (app : App) (reader : Reader) (side : Bool) → IsBegun reader → ReadsWay app [] side nothing reader
+begun_reads app reader side is = record {
+  cursor = subst (λ (c : Cursor). IsBehind app (asked_in side []) 0 0 c []) (sym is.cursor) (laws_of_cursors.begins app (asked_in side []) 0 0);
+  heads = is.heads;
+}
+
+new_reads : (app : Option App) (number : ℕ) (ls : List Label) (r : Option Readers) → AllBelow number ls → IsNew app r → ReadsStream ls number r
+new_reads app number ls None below new = tt
+new_reads None number ls (Some r) below new = absurd (none-some r (sym new))
+new_reads (Some app) number ls (Some r) below new = λ side.
+    rw (none_brought number ls below, none_new number ls below) (begun_reads r.app (reader_of r side) side (new.1 side))
+
+pub opened_reads : (app_of : Segment → Option App) (app : Option App) (s : Segment) (ls : List Label) (old new : List (Option Readers)) → ReadsStreams app_of ls old → IsOpening app s ls old new
+    → ReadsStreams app_of ls new
+opened_reads app_of app s ls old new reads opening = elim (eqb_tells (label_of s ls).stream (length old)) [
+  | inr other ↦ subst (ReadsStreams app_of ls) (sym (opening.is.1 other.1)) reads
+  | inl here ↦
+      let last = opening.is.0 here.1 in
+      subst (ReadsStreams app_of ls) (sym last.2) (record {
+        apps = λ number r there. apps_at last.0 number r (get_push old last.0 r number there);
+        each = λ number r there. each_at last.0 last.1 number r (get_push old last.0 r number there);
+      })
+]
+  where
+    below : (number : ℕ) → number ≡ length old → AllBelow number ls
+    below number is = subst (λ (n : ℕ). AllBelow n ls) (sym (is ∙ opening.listed.size)) opening.listed.below
+
+    apps_at : (x : Option Readers) (number : ℕ) (r : Option Readers) → (slice_get old number ≡ Some r) ⊎ ((number ≡ length old) × (x ≡ r)) → AllHave app_of number (option_map (λ (x : Readers). x.app) r) ls
+    apps_at x number r (inl there) = reads.apps number r there
+    apps_at x number r (inr last) = none_have app_of number _ ls (below number last.0)
+
+    each_at : (x : Option Readers) → IsNew app x → (number : ℕ) (r : Option Readers) → (slice_get old number ≡ Some r) ⊎ ((number ≡ length old) × (x ≡ r)) → ReadsStream ls number r
+    each_at x new number r (inl there) = reads.each number r there
+    each_at x new number r (inr last) = subst (ReadsStream ls number) last.1 (new_reads app number ls x (below number last.0) new)
+
+-- ---- a segment of a stream
+
+-- other streams
+skips : (number : ℕ) (l : Label) (ls : List Label) (r : Option Readers) → (l.stream ≡ number → ⊥) → ReadsStream ls number r → ReadsStream (l ∷ ls) number r
+skips number l ls None apart reads = tt
+skips number l ls (Some r) apart reads = elim (eqb_tells l.stream number) [
+  | inl here ↦ absurd (apart here.1)
+  | inr other ↦ λ side. rw other.0 (reads side)
+]
+
+-- its own
+are_reads : (l : Label) (ls : List Label) (r : Readers) → ReadsStream ls l.stream (Some r) → AreReads r.app (noted r.app (brought l.stream ls)) (λ side. way_of l.stream side ls) r
+are_reads l ls r reads = record {
+  ways = λ side. after_is side (sided_of l.stream ls);
+  found = λ side. brought_is r.app l.stream side ls;
+  reads = reads;
+}
+
+self : (n : ℕ) → eqb n n ≡ true
+self n = elim (eqb_tells n n) [
+  | inl same ↦ same.0
+  | inr other ↦ absurd (other.1 refl)
+]
+
+-- what is known of the segment that was read
+pub record IsOf (l : Label) (ls : List Label) (v : WayState) (taken : Taken) : Type 0 where
+  pub stream : taken.stream ≡ l.stream
+  pub side : side_of taken ≡ l.side
+  pub way : v ≡ own_step (way_of l.stream l.side ls) l.segment
+  pub lost : taken.lost ≡ lost_in (way_of l.stream l.side ls)
+
+on_own : (l : Label) (ls : List Label) (v : WayState) (taken : Taken) (old new : Readers) (messages : List Placed) → IsOf l ls v taken → ReadsStream ls l.stream (Some old) → IsReadOn v taken old new messages
+    → (messages ≡ messages_at old.app l ls) × ReadsStream (l ∷ ls) l.stream (Some new)
+on_own l ls v taken old new messages of reads on =
+    let own = subst (λ (w : WayState). IsReadAtSide w l.side) of.way (subst (λ (b : Bool). IsReadAtSide v b) of.side on.own) in
+    let kept : reader_of new (not l.side) ≡ reader_of old (not l.side) = subst (λ (b : Bool). reader_of new (not b) ≡ reader_of old (not b)) of.side on.other in
+    let are = are_reads l ls old reads in (
+      both_shown old.app (noted old.app (brought l.stream ls)) (λ side. way_of l.stream side ls) l.side l.segment taken.lost old new messages are own of.lost,
+      λ side. rw (self l.stream) (subst (λ (a : App). ReadsWay a (note_next a (noted a (brought l.stream ls)) (brought_by l ls) ∷ noted a (brought l.stream ls)) side (way_step (is_own side l.side) (way_of l.stream side ls) l.segment) (reader_of new side)) (sym on.app)
+          (both_reads old.app (noted old.app (brought l.stream ls)) (λ b. way_of l.stream b ls) l.side l.segment taken.lost old new messages are own of.lost kept side)),
+    )
+  where
+    IsReadAtSide : WayState → Bool → Type 0
+    IsReadAtSide w b = IsRead old.app (reader_of old (not b)).heads.items w taken.lost (reader_of old b) (reader_of new b) messages
+
+-- all streams
+pub record IsReading (app_of : Segment → Option App) (l : Label) (ls : List Label) (v : WayState) (taken : Taken) (mid : List (Option Readers)) : Type 0 where
+  pub of : IsOf l ls v taken
+  pub low : l.stream < length mid
+  pub reads : ReadsStreams app_of ls mid
+  pub knows : (r : Option Readers) → slice_get mid l.stream ≡ Some r → app_of l.segment ≡ option_map (λ (x : Readers). x.app) r
+
+abbrev Result : (Segment → Option App) → Label → List Label → List (Option Readers) → List Placed → Type 0
+Result app_of l ls new messages = (messages ≡ messages_by (app_of l.segment) l ls) × ReadsStreams app_of (l ∷ ls) new
+
+same_some : {x y : Option Readers} → Some x ≡ Some y → x ≡ y
+same_some {x} {y} e = ap (λ (o : Option (Option Readers)). unwrap_or o x) e
+
+read_none : (app_of : Segment → Option App) (l : Label) (ls : List Label) (v : WayState) (taken : Taken) (mid new : List (Option Readers)) (messages : List Placed)
+    → IsReading app_of l ls v taken mid → slice_get mid l.stream ≡ Some None → new ≡ mid → messages ≡ [] → Result app_of l ls new messages
+read_none app_of l ls v taken mid new messages is there same none = (
+  none ∙ ap (λ (a : Option App). messages_by a l ls) (sym (is.knows None there)),
+  subst (ReadsStreams app_of (l ∷ ls)) (sym same) (record {
+    apps = λ number r at. (λ here. is.knows r (ap (slice_get mid) here ∙ at), is.reads.apps number r at);
+    each = each;
+  }),
+)
+  where
+    each : (number : ℕ) (r : Option Readers) → slice_get mid number ≡ Some r → ReadsStream (l ∷ ls) number r
+    each number None at = tt
+    each number (Some x) at = skips number l ls (Some x) (λ here. none-some x (same_some (sym there ∙ ap (slice_get mid) here ∙ at))) (is.reads.each number (Some x) at)
+
+read_some : (app_of : Segment → Option App) (l : Label) (ls : List Label) (v : WayState) (taken : Taken) (mid new : List (Option Readers)) (messages : List Placed) (x y : Readers)
+    → IsReading app_of l ls v taken mid → slice_get mid l.stream ≡ Some (Some x) → new ≡ slice_set mid l.stream (Some y) → IsReadOn v taken x y messages → Result app_of l ls new messages
+read_some app_of l ls v taken mid new messages x y is there set on = (
+  own.0 ∙ ap (λ (a : Option App). messages_by a l ls) (sym (is.knows (Some x) there)),
+  subst (ReadsStreams app_of (l ∷ ls)) (sym set) (record {
+    apps = λ number r at. apps number r (get_set mid l.stream number (Some y) r at);
+    each = λ number r at. each number r (get_set mid l.stream number (Some y) r at);
+  }),
+)
+  where
+    own : (messages ≡ messages_at x.app l ls) × ReadsStream (l ∷ ls) l.stream (Some y)
+    own = on_own l ls v taken x y messages is.of (is.reads.each l.stream (Some x) there) on
+
+    apps : (number : ℕ) (r : Option Readers) → ((l.stream ≡ number → ⊥) × (slice_get mid number ≡ Some r)) ⊎ ((l.stream ≡ number) × (Some y ≡ r))
+        → AllHave app_of number (option_map (λ (z : Readers). z.app) r) (l ∷ ls)
+    apps number r (inl other) = (λ same. absurd (other.0 same), is.reads.apps number r other.1)
+    apps number r (inr here) =
+        let named : Some x.app ≡ option_map (λ (z : Readers). z.app) r = ap Some (sym on.app) ∙ ap (option_map (λ (z : Readers). z.app)) here.1 in
+        (λ same. is.knows (Some x) there ∙ named, subst (λ (a : Option App). AllHave app_of number a ls) named (is.reads.apps number (Some x) (ap (slice_get mid) (sym here.0) ∙ there)))
+
+    each : (number : ℕ) (r : Option Readers) → ((l.stream ≡ number → ⊥) × (slice_get mid number ≡ Some r)) ⊎ ((l.stream ≡ number) × (Some y ≡ r)) → ReadsStream (l ∷ ls) number r
+    each number r (inl other) = skips number l ls r other.0 (is.reads.each number r other.1)
+    each number r (inr here) = subst (λ (k : ℕ). ReadsStream (l ∷ ls) k r) here.0 (subst (ReadsStream (l ∷ ls) l.stream) here.1 own.1)
+
+pub read_reads : (app_of : Segment → Option App) (l : Label) (ls : List Label) (v : WayState) (taken : Taken) (mid new : List (Option Readers)) (messages : List Placed)
+    → IsReading app_of l ls v taken mid → IsReadAt v taken mid new messages → (messages ≡ messages_by (app_of l.segment) l ls) × ReadsStreams app_of (l ∷ ls) new
+read_reads app_of l ls v taken mid new messages is read = by at.0 at.1 (read at.0 (ap (slice_get mid) is.of.stream ∙ at.1))
+  where
+    at : (r : Option Readers) × (slice_get mid l.stream ≡ Some r)
+    at = get_there mid l.stream is.low
+
+    by : (r : Option Readers) → slice_get mid l.stream ≡ Some r → IsReadFrom v taken mid new messages r → Result app_of l ls new messages
+    by None there from = read_none app_of l ls v taken mid new messages is there from.0 from.1
+    by (Some x) there from = read_some app_of l ls v taken mid new messages x from.0 is there (from.1 ∙ ap (λ (k : ℕ). slice_set mid k (Some from.0)) is.of.stream) from.2

@@ -1,0 +1,41 @@
+use Rattle.std.proofs.Common.{◌≡◌, [], ◌∷◌, ◌++◌, List, Option, map, sym, ap, subst, ◌∙◌, arith}
+use Rattle.std.specs.Prelude.{All}
+use Rattle.std.specs.Option.{option_to_list}
+use Rattle.std.proofs.lemmas.List.Elements.{All-nil, All-drop, All-push}
+use Rattle.tcp_streams.specs.Standing.{way_for, way_in}
+use Rattle.tcp_streams.specs.Ways.{stretches}
+use Rattle.stream_messages.specs.declared.placed.Placed.{Placed}
+use Rattle.tcp_messages.specs.Reading.{IsSomeWhole}
+use Rattle.tcp_messages.specs.Shown.{IsWholeIn, located}
+use Rattle.tcp_messages.proofs.Sources.{locate_more}
+use Rattle.tcp_messages.proofs.locating.locate_all.Goals as goal
+
+pub loop-message-init : goal.loop-message-init
+loop-message-init c =
+    let all : c.from-rest.result.items ≡ c.args.messages = c.from-rest.ensures.0 ∙ c.into_vec.ensures in
+    record {
+      located_so = λ past stands. λ i. c.new-shown.ensures.items i ++ map (located (way_for past c.args.taken.now.stream c.args.taken.now.side).held c.args.s.now c.args.taken.now.position) (all i);
+      whole = subst (All (IsWholeIn c.args.s.now.payload)) (sym c.new-shown.ensures.items) (All-nil (IsWholeIn c.args.s.now.payload));
+      run = tt;
+      left = subst (All (IsSomeWhole (stretches (way_in c.args.streams.now c.args.taken.now.stream c.args.taken.now.side)))) (sym all) c.requires.whole;
+    }
+
+pub locate-requires-clause-whole : goal.locate-requires-clause-whole
+locate-requires-clause-whole c =
+    let items : c.loop-message.rest.items ≡ c.in-Some.message ∷ c.pop_front.new.self.items = c.pop_front.ensures.items ∙ ap (λ (o : Option Placed). option_to_list o ++ c.pop_front.new.self.items) c.in-Some.is in
+    subst (All (IsSomeWhole (stretches (way_in c.args.streams.now c.args.taken.now.stream c.args.taken.now.side)))) items c.loop-message.invariant.left 0 c.in-Some.message (omega arith)
+
+pub loop-message-preserved : goal.loop-message-preserved
+loop-message-preserved c =
+    let items : c.loop-message.rest.items ≡ c.in-Some.message ∷ c.pop_front.new.self.items = c.pop_front.ensures.items ∙ ap (λ (o : Option Placed). option_to_list o ++ c.pop_front.new.self.items) c.in-Some.is in
+    record {
+      located_so = λ past stands.
+          ap (λ xs. xs ++ map (located (way_for past c.args.taken.now.stream c.args.taken.now.side).held c.args.s.now c.args.taken.now.position) c.pop_front.new.self.items) c.in_ok-push.ensures.items
+          ∙ locate_more (way_for past c.args.taken.now.stream c.args.taken.now.side).held c.args.s.now c.args.taken.now.position c.loop-message.shown.items c.in-Some.message c.in_ok-source.source
+          c.loop-message.rest.items c.pop_front.new.self.items _ items (c.in_ok-source.ensures.located past stands) (c.loop-message.invariant.located_so past stands);
+      whole = subst (All (IsWholeIn c.args.s.now.payload)) (sym c.in_ok-push.ensures.items)
+          (All-push (IsWholeIn c.args.s.now.payload) c.loop-message.shown.items _ c.loop-message.invariant.whole c.in_ok-source.ensures.whole);
+      run = c.run_at-run.ensures.run;
+      left = All-drop (IsSomeWhole (stretches (way_in c.args.streams.now c.args.taken.now.stream c.args.taken.now.side))) 1 (c.in-Some.message ∷ c.pop_front.new.self.items)
+          (subst (All (IsSomeWhole (stretches (way_in c.args.streams.now c.args.taken.now.stream c.args.taken.now.side)))) items c.loop-message.invariant.left);
+    }

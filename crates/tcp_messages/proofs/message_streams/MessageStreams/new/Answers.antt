@@ -1,0 +1,14 @@
+use Rattle.std.proofs.Common.{◌≡◌, [], List, length, Option, Some, slice_get, is_some, refl, sym, ap, ◌∙◌}
+use Rattle.std.proofs.lemmas.Option.{none-some}
+use Rattle.tcp_streams.specs.Standing.{StandsFor}
+use Rattle.tcp_messages.specs.declared.readers.Readers.{Readers}
+use Rattle.tcp_messages.specs.Standing.{ReadsFor}
+use Rattle.tcp_messages.proofs.Whole.{new_sound, new_reads}
+use Rattle.tcp_messages.proofs.message_streams.MessageStreams.new.Goals as goal
+
+pub invariant_of-result : goal.invariant_of-result
+invariant_of-result c = record { sound = λ _. new_sound c.new.result c.new-2.result.items c.new.ensures.stands c.new-2.ensures.items }
+
+pub returns-clause-stands : goal.returns-clause-stands
+unfolding ReadsFor
+returns-clause-stands c = λ app_of. new_reads app_of _ c.new.ensures.stands refl c.new-2.ensures.items

@@ -1,0 +1,6 @@
+use Rattle.tcp_messages.specs.Standing.{ReadsFor}
+use Rattle.tcp_messages.proofs.message_streams.MessageStreams.streams.Goals as goal
+
+pub returns-clause-stands : goal.returns-clause-stands
+unfolding ReadsFor
+returns-clause-stands c = λ app_of past reads. reads.streams

@@ -1,0 +1,5 @@
+pub mod Brought
+pub mod Shown
+pub mod Readers
+pub mod Reading
+pub mod Standing

@@ -1,0 +1,49 @@
+ghost use Rattle.std.specs.Prelude.{◌≡◌, ◌+◌, ◌-◌, ◌^◌, ◌<◌, ℕ, [], All, length, drop, IfOk};
+ghost use Rattle.tcp_streams.specs.declared.segment.Segment.{Segment as SegmentValue};
+ghost use Rattle.tcp_streams.specs.Ways.{WayState, end_of, lost_in, own_step, stretches, IsWay};
+ghost use Rattle.tcp_streams.specs.Standing.{AreReady, stream_count, way_in};
+ghost use Rattle.stream_messages.specs.Messages.{Asked};
+ghost use Rattle.stream_messages.specs.Cursors.{AsksFrom, IsSound, IsWholeInOne};
+ghost use Rattle.tcp_messages.specs.Readers.{CutsWay, IsBehindWay};
+
+use pk_base::{NoMemory, Stretch};
+use std::alloc::Global;
+use stream_messages::{App, Cursor, Shown, cut_messages, cut_newest};
+use tcp_streams::{Streams, Taken};
+
+/// Cuts the messages that a segment brings, behind its direction's cursor. `heads` are the requests that the other direction has
+/// shown: whether the method of each is HEAD. Where the segment passes gaps, the stretches behind them are cut from the first
+/// byte on.
+pub(crate) fn cut_brought(
+    alloc: Global,
+    app: App,
+    streams: &Streams,
+    taken: &Taken,
+    cursor: Cursor,
+    heads: &[bool],
+) -> Result<Shown, NoMemory>
+    requires ready { AreReady streams.now }
+    requires stream { taken.now.stream < stream_count streams.now }
+    requires side { taken.now.side < 2 }
+    requires sound { taken.now.lost ≡ [] → IsSound app cursor (way_in streams.now taken.now.stream taken.now.side).front }
+    ensures sound { IfOk result (λ shown. IsSound app shown.cursor (way_in streams.now taken.now.stream taken.now.side).front) }
+    ensures whole { IfOk result (λ shown. All (IsWholeInOne app (stretches (way_in streams.now taken.now.stream taken.now.side))) shown.messages) }
+    ensures cut { IfOk result (λ shown. (asked : Asked) (w : WayState) (s : SegmentValue) → IsWay w → way_in streams.now taken.now.stream taken.now.side ≡ own_step w s
+        → taken.now.lost ≡ lost_in w → AsksFrom (end_of w) heads.now asked → IsBehindWay app asked w cursor → CutsWay app asked (end_of w) (own_step w s) shown) }
+{
+    let start = streams.front_start(taken.stream, taken.side);
+    let front = streams.front(taken.stream, taken.side);
+    let gaps = taken.lost.slice().len();
+    if gaps == 0 {
+        return cut_messages(alloc, app, start, front, cursor, heads);
+    }
+    let passed = last_of(streams.earlier(taken.stream, taken.side), gaps - 1);
+    cut_newest(alloc, app, passed, start, front, cursor, heads)
+}
+
+/// The last so many of stretches.
+fn last_of(stretches: &[Stretch], count: usize) -> &[Stretch]
+    ensures { result.now ≡ drop (length stretches.now - count) stretches.now }
+{
+    &stretches[stretches.len().saturating_sub(count)..]
+}

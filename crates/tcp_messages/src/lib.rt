@@ -1,0 +1,17 @@
+//! The messages that the segments of TCP streams bring, each shown by one frame: HTTP/1 (RFC 9112) and DNS (RFC 1035, 4.2.2).
+#![tactic(auto)]
+
+mod cutting;
+mod kept;
+mod laws;
+mod locating;
+mod message_streams;
+mod met;
+mod readers;
+mod reading;
+#[cfg(test)]
+mod tests;
+
+pub use laws::messages_once;
+pub use message_streams::MessageStreams;
+pub use met::{Gathered, Met, ShownList, ShownMessage, Source};

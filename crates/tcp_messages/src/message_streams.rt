@@ -1,0 +1,80 @@
+ghost use Rattle.std.specs.Prelude.{◌≡◌, ◌+◌, ◌-◌, ◌^◌, ◌<◌, ◌≤◌, List, [], ◌∷◌, All, Option, IfOk, OnOk};
+ghost use Rattle.tcp_streams.specs.declared.segment.Segment.{Segment as SegmentValue};
+ghost use Rattle.tcp_streams.specs.Labels.{taken_after, PassesNear};
+ghost use Rattle.tcp_streams.specs.Standing.{StandsFor, taken_so_far};
+ghost use Rattle.stream_messages.specs.declared.told.App.{App as AppValue};
+ghost use Rattle.tcp_messages.specs.Shown.{IsWholeIn, frames_told as frames_value, shown_after};
+ghost use Rattle.tcp_messages.specs.Readers.{IsOfEnds};
+ghost use Rattle.tcp_messages.specs.Standing.{ReadsFor, streams_in};
+
+use crate::kept::Kept;
+use crate::locating::{frames_told, locate_all};
+use crate::met::Met;
+use crate::reading::read_next;
+use pk_base::NoMemory;
+use std::alloc::Global;
+use stream_messages::App;
+use tcp_streams::{Segment, Streams};
+
+/// TCP streams, and the messages that their segments bring.
+#[derive(Drop)]
+pub struct MessageStreams {
+    alloc: Global,
+    pub(crate) kept: Kept,
+}
+
+impl MessageStreams {
+    /// No segment was taken. Takes no memory.
+    pub fn new(alloc: Global) -> MessageStreams
+        ensures stands { (app_of : SegmentValue → Option AppValue) → ReadsFor app_of [] result }
+        ensures taken { taken_so_far (streams_in result) ≡ 0 }
+    {
+        MessageStreams {
+            alloc,
+            kept: Kept {
+                streams: Streams::new(alloc),
+                readers: Vec::new(alloc),
+                spent: false,
+            },
+        }
+    }
+
+    /// The streams. Takes no memory.
+    pub fn streams(&self) -> &Streams
+        ensures streams { result.now ≡ streams_in self.now }
+        ensures stands { (app_of : SegmentValue → Option AppValue) (past : List SegmentValue) → ReadsFor app_of past self.now → StandsFor past result.now }
+    {
+        &self.kept.streams
+    }
+
+    /// Takes a segment, and tells what it is to those before it, and which messages its frame shows: those of its direction
+    /// that end past the bytes before it, where an application of its stream is known. After `NoMemory` nothing more is known.
+    pub fn take(&mut self, s: &Segment, app: Option<App>) -> Result<Met, NoMemory>
+        requires { taken_so_far (streams_in self.old) < 2 ^ 32 - 1 }
+        ensures taken { IfOk result (λ met. (past : List SegmentValue) → StandsFor past (streams_in self.old) → met.taken ≡ taken_after past s.now) }
+        ensures shown { IfOk result (λ met. (app_of : SegmentValue → Option AppValue) (past : List SegmentValue)
+            → IsOfEnds app_of → app ≡ app_of s.now → ReadsFor app_of past self.old → met.messages ≡ shown_after app past s.now) }
+        ensures frames { IfOk result (λ met. met.frames ≡ frames_value met.messages) }
+        ensures whole { IfOk result (λ met. All (IsWholeIn s.now.payload) met.messages) }
+        ensures stands { OnOk result ((app_of : SegmentValue → Option AppValue) (past : List SegmentValue)
+            → IsOfEnds app_of → app ≡ app_of s.now → ReadsFor app_of past self.old → ReadsFor app_of (s.now ∷ past) self.new) }
+        ensures near { IfOk result (λ met. PassesNear met.taken) }
+        ensures counted { taken_so_far (streams_in self.new) ≤ taken_so_far (streams_in self.old) + 1 }
+    {
+        let kept = &mut self.kept;
+        if kept.spent {
+            return Err(NoMemory);
+        }
+        kept.spent = true;
+        let taken = kept.streams.take(s)?;
+        let read = read_next(self.alloc, &kept.streams, &mut kept.readers, &taken, app)?;
+        let messages = locate_all(self.alloc, &kept.streams, s, &taken, read)?;
+        let frames = frames_told(self.alloc, messages.slice())?;
+        kept.spent = false;
+        Ok(Met {
+            taken,
+            messages,
+            frames,
+        })
+    }
+}
