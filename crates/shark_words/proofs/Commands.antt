@@ -1,15 +1,13 @@
 -- What options ask for together is what was written.
-use Rattle.std.proofs.Common.{◌≡◌, ℕ, ◌≤◌, length, suc, Bool, true, false, not, ◌||◌, List, [], ◌∷◌, ◌++◌, Option, Some, None, refl, sym, ap, subst, ◌∙◌, arith, if◌then◌else◌}
-use Rattle.std.specs.Prelude.{option_and_then, option_map, option_to_list, is_some, Result, Ok, Err, IfOk}
-use Rattle.std.specs.List.{list_all, list_any}
+use Rattle.std.proofs.Common.{◌≡◌, ℕ, length, suc, Bool, true, false, ◌||◌, List, [], ◌∷◌, ◌++◌, Option, Some, None, refl, sym, ap, subst, ◌∙◌, arith, if◌then◌else◌}
+use Rattle.std.specs.Prelude.{option_and_then, option_map, option_to_list, Result, Ok, Err, IfOk}
+use Rattle.std.specs.List.{list_all}
 use Rattle.std.specs.Option.{option_or}
-use Rattle.std.proofs.lemmas.Option.{none-some, same_Some}
+use Rattle.std.proofs.lemmas.Option.{none-some}
 use Rattle.std.proofs.lemmas.Bool.{both_ways}
 use Rattle.shark_words.specs.declared.letter.Letter.{Letter}
 use Rattle.shark_words.specs.declared.letter.Letter.TheVariants.{Capture, Filter, Kind, Name, Style, Most, Quiet, Output, Format, SelfRun}
-use Rattle.shark_words.specs.declared.slot.Slot.{Slot}
 use Rattle.shark_words.specs.declared.uses.Value.{Value}
-use Rattle.shark_words.specs.declared.uses.Given.{Given}
 use Rattle.shark_words.specs.declared.uses.Use.{Use}
 use Rattle.shark_words.specs.declared.uses.Use.TheVariants as use_
 use Rattle.shark_words.specs.declared.fault.WordFault.{WordFault}
@@ -23,9 +21,9 @@ use Rattle.shark_words.specs.Letters.{is_same}
 use Rattle.shark_words.specs.Values.{count_of, kind_asked, shown_filter}
 use Rattle.shark_words.specs.Uses.{uses_from}
 use Rattle.shark_words.specs.Faults.{fault, first_fault, is_given}
-use Rattle.shark_words.specs.Asked.{clash_word, has_columns, head_of, is_clashing, is_unused, later, style_of, value_of, value_text, values_of, word_in, word_of}
+use Rattle.shark_words.specs.Asked.{clash_word, head_of, is_clashing, is_unused, later, style_of, value_of, value_text, values_of, word_of}
 use Rattle.shark_words.specs.Options.{asked, clash_fault, fields_fault, format_written, judged, options_by, options_of, source_by, source_of, together_fault, unless, unused_fault, Gives}
-use Rattle.shark_words.specs.Spelled.{Spelled, spelled_words, is_spelled, Written, written_by, fits, values_in, is_written, HasColumns, HasOutput, IsCommand, asked_by, IsAsked}
+use Rattle.shark_words.specs.Spelled.{Spelled, spelled_words, is_spelled, Written, written_by, values_in, is_written, HasColumns, HasOutput, IsCommand, asked_by, IsAsked}
 use Rattle.shark_words.proofs.Spelling.{all_written, faultless, is_same_itself, same_letter, sound, spelled_uses, words_spelled, IsSound}
 
 -- the values looked up are those written

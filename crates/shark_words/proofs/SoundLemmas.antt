@@ -1,17 +1,15 @@
 -- What words ask for can be carried out.
-use Rattle.std.proofs.Common.{◌≡◌, ◌≤◌, ◌==◌, ℕ, suc, Bool, true, false, List, [], ◌∷◌, ◌++◌, Option, None, Some, refl, sym, ap, subst, ◌∙◌, arith, if◌then◌else◌}
-use Rattle.std.specs.Prelude.{◌||◌, ◌&&◌, nat_lt, nat_le, IfSome, IfOk, Result, Ok, Err, option_and_then, option_map, option_to_list, take, drop}
+use Rattle.std.proofs.Common.{◌≡◌, ◌≤◌, ℕ, suc, Bool, true, false, List, [], ◌∷◌, ◌++◌, Option, None, Some, refl, sym, ap, subst, ◌∙◌, arith, if◌then◌else◌}
+use Rattle.std.specs.Prelude.{◌||◌, ◌&&◌, nat_lt, nat_le, IfSome, IfOk, Result, Ok, Err, option_and_then, option_to_list, take, drop}
 use Rattle.std.proofs.lemmas.Bool.{both_ways}
 use Rattle.std.proofs.lemmas.Bool.Decides.{nat_tests}
 use Rattle.std.proofs.lemmas.Option.{none-some, same_Some}
-use Rattle.capture_write.specs.declared.format.Format.{Format as CaptureFormat}
 use Rattle.shark_words.specs.declared.letter.Letter.{Letter}
-use Rattle.shark_words.specs.declared.letter.Letter.TheVariants.{Capture, Kind, Quiet, Output, Format, SelfRun}
+use Rattle.shark_words.specs.declared.letter.Letter.TheVariants.{Capture, Kind, Output, Format, SelfRun}
 use Rattle.shark_words.specs.declared.fault.WordsError.{WordsError}
-use Rattle.shark_words.specs.declared.options.LineKind.TheVariants.{Text}
 use Rattle.shark_words.specs.declared.options.Options.{Options}
 use Rattle.shark_words.specs.declared.options.Source.{Source}
-use Rattle.shark_words.specs.declared.options.Source.TheVariants.{Named, Generated}
+use Rattle.shark_words.specs.declared.options.Source.TheVariants.{Named}
 use Rattle.shark_words.specs.Letters.{is_same}
 use Rattle.shark_words.specs.Asked.{head_of}
 use Rattle.shark_words.specs.Options.{format_written, source_by}

@@ -25,7 +25,7 @@ use Rattle.shark_words.specs.Letters.{letter_of, letter_byte, is_same, has_lette
 use Rattle.shark_words.specs.Keys.{is_same_key, key_number}
 use Rattle.shark_words.specs.Slots.{slot_of, is_slot, is_same_slot}
 use Rattle.shark_words.specs.Values.{is_value}
-use Rattle.shark_words.specs.Uses.{uses_from, uses_at, option_at, cluster_uses, letter_uses, value_uses, with_value, without_value, is_cluster as is_known, is_known_before, self_run_name}
+use Rattle.shark_words.specs.Uses.{uses_from, uses_at, option_at, cluster_uses, value_uses, with_value, without_value, is_cluster as is_known, self_run_name}
 use Rattle.shark_words.specs.Faults.{fault, first_fault, fault_of, value_fault, is_taken, is_use_for, slot_in, text_in}
 use Rattle.shark_words.specs.Spelled.{End, Bare, Together, Apart, Cluster, Spelled, Clustered, Generate, spelled_words, end_letters, end_words, letters_of, is_flag, is_ended_by, is_end, is_cluster, is_spelled, Written, flag, valued, end_written, written_by, fits, fits_text, text_or_none, one_if, times}
 

@@ -1,6 +1,6 @@
 -- What follows an option's letter in a word is a text.
 use Rattle.std.proofs.Common.{◌≡◌, ◌<◌, ◌≤◌, ◌==◌, ◌++◌, ℕ, suc, Bool, true, false, List, [], ◌∷◌, length, Option, None, Some, Result, Ok, Err, String, refl, arith, eqb-true, subst, sym, ◌∙◌, ⊎_elim, if◌then◌else◌}
-use Rattle.std.specs.Prelude.{◌||◌, IfSome, IfOk, All, option_and_then, option_map, take, drop}
+use Rattle.std.specs.Prelude.{◌||◌, IfSome, IfOk, All, option_and_then, take, drop}
 use Rattle.std.specs.List.{AllByRecursion as Each}
 use Rattle.std.specs.Str.{IsUtf8, bytes_eq}
 use Rattle.std.proofs.lemmas.Bool.{both_ways, cases_lt}
@@ -16,7 +16,6 @@ use Rattle.shark_words.specs.declared.uses.Use.{Use}
 use Rattle.shark_words.specs.declared.uses.Use.TheVariants as use_
 use Rattle.shark_words.specs.declared.fault.WordsError.{WordsError}
 use Rattle.shark_words.specs.declared.options.Source.{Source}
-use Rattle.shark_words.specs.declared.options.Source.TheVariants.{Named, Generated}
 use Rattle.shark_words.specs.Faults.{first_fault}
 use Rattle.shark_words.specs.Values.{comma_in, decimal_of, generated, generated_at, generated_by, is_blank, kind_asked, most_generated, shown_filter, up_to}
 use Rattle.shark_words.specs.Letters.{has_value, is_same, letter_of}

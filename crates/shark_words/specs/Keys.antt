@@ -1,5 +1,5 @@
 -- What `-E` sets: a key, the sign `=`, and a value of the key.
-use Rattle.std.specs.Prelude.{ℕ, ◌==◌, ◌≤◌, nat_le, Bool, true, false, ◌&&◌, List, [], ◌∷◌, length, take, drop, codes, Option, Some, None, is_some, if◌then◌else◌}
+use Rattle.std.specs.Prelude.{ℕ, ◌==◌, nat_le, Bool, true, false, ◌&&◌, List, [], ◌∷◌, length, take, drop, codes, Option, Some, None, is_some, if◌then◌else◌}
 use Rattle.std.specs.Str.{bytes_eq}
 use Rattle.out_lines.specs.declared.style.Occurrence.{Occurrence}
 use Rattle.out_lines.specs.declared.style.Occurrence.TheVariants as occurrences

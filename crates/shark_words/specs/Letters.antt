@@ -3,7 +3,8 @@ use Rattle.std.specs.Prelude.{ℕ, ◌==◌, Bool, true, false, Option, Some, No
 use Rattle.shark_words.specs.declared.letter.Letter.{Letter}
 use Rattle.shark_words.specs.declared.letter.Letter.TheVariants.{Capture, Filter, Kind, Name, Style, Most, Quiet, Output, Format, SelfRun}
 
--- the bytes of the letters `r`, `Y`, `T`, `e`, `E`, `c`, `q`, `w`, `F`; `--self-run` has no letter, and a number beyond the bytes
+-- the bytes of the letters `r`, `Y`, `T`, `e`, `E`, `c`, `q`, `w`, `F`; `--self-run` has no letter, and a number beyond
+-- the bytes
 abbrev pub letter_byte : Letter → ℕ
 letter_byte Capture = 114
 letter_byte Filter = 89

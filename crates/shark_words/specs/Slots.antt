@@ -1,7 +1,7 @@
 -- What no two options of a command line may both give.
-use Rattle.std.specs.Prelude.{ℕ, Bool, true, false, List, [], Option, Some, None, option_map}
+use Rattle.std.specs.Prelude.{ℕ, Bool, false, List, Option, Some, None, option_map}
 use Rattle.shark_words.specs.declared.letter.Letter.{Letter}
-use Rattle.shark_words.specs.declared.letter.Letter.TheVariants.{Capture, Filter, Kind, Name, Style, Most, Quiet, Output, Format, SelfRun}
+use Rattle.shark_words.specs.declared.letter.Letter.TheVariants.{Capture, Name, Style, SelfRun}
 use Rattle.shark_words.specs.declared.slot.Slot.{Slot}
 use Rattle.shark_words.specs.declared.slot.Slot.TheVariants as slots
 use Rattle.shark_words.specs.Letters.{is_same}

@@ -1,5 +1,5 @@
 -- What holds of all options that words ask for, so that they can be carried out.
-use Rattle.std.specs.Prelude.{◌≡◌, ℕ, ◌≤◌, List, Bool, false, IfSome}
+use Rattle.std.specs.Prelude.{◌≡◌, ◌≤◌, false, IfSome}
 use Rattle.shark_words.specs.declared.options.LineKind.TheVariants.{Text}
 use Rattle.shark_words.specs.declared.options.Options.{Options}
 use Rattle.shark_words.specs.declared.options.Source.{Source}

@@ -1,5 +1,6 @@
--- Options as they are written: clusters of letters, with values in the same word or the next, and `--self-run` with its value in the next.
-use Rattle.std.specs.Prelude.{◌≡◌, ℕ, ◌+◌, ◌≤◌, nat_lt, Bool, true, false, not, ◌&&◌, length, map, List, [], ◌∷◌, ◌++◌, Option, Some, None, option_and_then, option_map, option_to_list, if◌then◌else◌}
+-- Options as they are written: clusters of letters, with values in the same word or the next, and `--self-run` with its
+-- value in the next.
+use Rattle.std.specs.Prelude.{◌≡◌, ℕ, ◌+◌, ◌≤◌, nat_lt, Bool, true, false, not, ◌&&◌, length, map, List, [], ◌∷◌, ◌++◌, Option, Some, None, option_and_then, option_to_list, if◌then◌else◌}
 use Rattle.std.specs.List.{list_all, list_any}
 use Rattle.shark_words.specs.declared.letter.Letter.{Letter}
 use Rattle.shark_words.specs.declared.letter.Letter.TheVariants.{Capture, Filter, Kind, Name, Style, Most, Quiet, Output, Format, SelfRun}
@@ -147,8 +148,8 @@ abbrev pub spelled_source : List Spelled → Option Source
 spelled_source all =
     source_by (head_of (spelled_values Capture all)) (head_of (spelled_values SelfRun all))
 
--- a command line with this source: each value is one of its option's, nothing comes twice that may come once, there is a capture,
--- and the columns are those of the kind of line
+-- a command line with this source: each value is one of its option's, nothing comes twice that may come once, there is a
+-- capture, the columns are those of the kind of line, and nothing stands beside a capture that is written
 pub record IsCommand (source : Source) (all : List Spelled) : Type 0 where
   pub spelled : list_all is_spelled all ≡ true
   pub values : list_all fits (written_by all) ≡ true

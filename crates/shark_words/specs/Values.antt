@@ -1,5 +1,5 @@
 -- What an option's value may be.
-use Rattle.std.specs.Prelude.{ℕ, suc, ◌==◌, ◌^◌, ◌-◌, nat_le, nat_lt, Bool, true, false, ◌&&◌, ◌||◌, List, [], ◌∷◌, length, take, drop, codes, Option, Some, None, is_some, option_and_then, if◌then◌else◌}
+use Rattle.std.specs.Prelude.{ℕ, suc, ◌==◌, ◌^◌, ◌-◌, nat_le, nat_lt, Bool, true, false, ◌&&◌, ◌||◌, List, ◌∷◌, length, take, drop, codes, Option, Some, None, is_some, option_and_then, if◌then◌else◌}
 use Rattle.std.specs.List.{list_all, position_from}
 use Rattle.std.specs.Option.{unwrap_or}
 use Rattle.std.specs.Str.{bytes_eq}

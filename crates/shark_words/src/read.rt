@@ -126,9 +126,9 @@ fn together_fault(behind: u64, uses: &[Use], kind: LineKind) -> Option<WordFault
 
 /// Reads the options that the words of a command line give, or refuses them.
 ///
-/// A word that begins with `-` and has more is `--self-run`, whose value is the next word, or a cluster of letters: `-r`, `-Y`,
-/// `-T`, `-e`, `-E`, `-c`, `-w` and `-F`, whose value is what is left of the word, or the next word where nothing is left, and
-/// `-q`, which has none. Words are numbered from 1, and the first fault in their order is told.
+/// A word that begins with `-` and has more is `--self-run`, whose value is the next word, or a cluster of letters: `-r`,
+/// `-Y`, `-T`, `-e`, `-E`, `-c`, `-w` and `-F`, whose value is what is left of the word, or the next word where nothing is
+/// left, and `-q`, which has none. Words are numbered from 1, and the first fault in their order is told.
 #[tactic(auto, using(crate::proofs::Utf8Lemmas::answered_are_utf8))]
 pub fn read_words(alloc: Global, words: &[String]) -> Result<Options, WordsError>
     ensures computed { Gives result (options_of (texts words.now)) }

@@ -1,4 +1,4 @@
-use Rattle.std.proofs.Common.{◌≡◌, ◌<◌, ◌+◌, ◌++◌, ℕ, true, List, [], ◌∷◌, length, Option, Some, None, Result, Ok, Err, get_or, drop, refl, sym, ◌∙◌, ap, add-one, drop-cons, length-drop, arith, rules}
+use Rattle.std.proofs.Common.{◌≡◌, ◌<◌, ◌+◌, ◌++◌, ℕ, true, List, ◌∷◌, length, Option, Some, Result, Ok, Err, get_or, drop, refl, sym, ◌∙◌, ap, add-one, drop-cons, length-drop, arith, rules}
 use Rattle.std.specs.Prelude.{IfOk}
 use Rattle.std.proofs.lemmas.List.{take_all}
 use Rattle.shark_words.specs.declared.letter.Letter.{Letter}
