@@ -1,14 +1,13 @@
 -- The segments of a conversation have the same two ports.
-use Rattle.std.proofs.Common.{◌≡◌, ℕ, true, Option, refl, sym, ap, ◌∙◌, inl, inr}
+use Rattle.std.proofs.Common.{◌≡◌, ℕ, Option, refl, sym, ap, ◌∙◌, inl, inr}
 use Rattle.std.specs.Prelude.{◌⊎◌}
 use Rattle.std.proofs.lemmas.Bool.{cases_Bool}
 use Rattle.pk_tree.specs.declared.heads.Address.{Address}
 use Rattle.pk_tree.specs.declared.heads.Address.TheVariants.{Four, Six}
-use Rattle.pk_tree.specs.declared.heads.Endpoint.{Endpoint}
 use Rattle.tcp_streams.specs.declared.ends.End.{End}
 use Rattle.tcp_streams.specs.declared.ends.Ends.{Ends}
 use Rattle.tcp_streams.specs.declared.segment.Segment.{Segment}
-use Rattle.tcp_streams.specs.Conversations.{comes_first, end_at, end_of_endpoint, ends_between, ends_of, same_ends}
+use Rattle.tcp_streams.specs.Conversations.{comes_first, end_at, end_of_endpoint, ends_between, ends_of}
 use Rattle.tcp_streams.proofs.StandsLemmas.{same_ends_is}
 use Rattle.stream_messages.specs.declared.told.App.{App}
 use Rattle.tcp_messages.specs.Readers.{IsOfEnds}
