@@ -6,3 +6,4 @@ pub mod Sources
 pub mod Keeping
 pub mod Nexts
 pub mod Whole
+pub mod Ports

@@ -1,13 +1,11 @@
 -- A segment's messages, given the segments before it.
-use Rattle.std.proofs.Common.{◌≡◌, ℕ, ◌+◌, ◌<◌, Bool, true, false, not, eqb, List, [], ◌∷◌, length, Option, None, Some, option_map, slice_get, refl, sym, ap, subst, ◌∙◌, inl, inr, arith}
-use Rattle.std.proofs.lemmas.Bool.{cond-true}
-use Rattle.std.proofs.lemmas.Bool.Decides.{eqb_tells}
+use Rattle.std.proofs.Common.{◌≡◌, ℕ, ◌<◌, Bool, not, List, ◌∷◌, length, Option, None, Some, refl, sym, ap, subst, ◌∙◌}
 use Rattle.tcp_streams.specs.declared.segment.Segment.{Segment}
 use Rattle.tcp_streams.specs.declared.segment.Taken.{Taken}
 use Rattle.tcp_streams.specs.declared.streams.Streams.{Streams}
-use Rattle.tcp_streams.specs.Labels.{Label, goes_on, latest, label_on, label_of, labels, told, told_at, taken_after, way_of}
-use Rattle.tcp_streams.specs.Ways.{WayState, lost_in, own_step, way_step, same_side}
-use Rattle.tcp_streams.specs.Standing.{StandsFor, stream_count, way_in, way_for}
+use Rattle.tcp_streams.specs.Labels.{Label, goes_on, latest, label_on, label_of, labels, told, taken_after, way_of}
+use Rattle.tcp_streams.specs.Ways.{WayState, own_step}
+use Rattle.tcp_streams.specs.Standing.{StandsFor, stream_count, way_in}
 use Rattle.tcp_streams.proofs.ReadLemmas.{stands_way}
 use Rattle.stream_messages.specs.declared.told.App.{App}
 use Rattle.stream_messages.specs.declared.placed.Placed.{Placed}
@@ -16,7 +14,7 @@ use Rattle.tcp_messages.specs.Shown.{messages_after, messages_by}
 use Rattle.tcp_messages.specs.Readers.{IsOfEnds, ReadsStreams}
 use Rattle.tcp_messages.specs.Reading.{AreListed, IsOpenedAt, IsReadAt, side_of}
 use Rattle.tcp_messages.proofs.Keeping.{told_side, told_lost, own_way, self_eqb}
-use Rattle.tcp_messages.proofs.Streaming.{IsOf, IsOpening, IsReading, app_is, opened_reads, read_reads}
+use Rattle.tcp_messages.proofs.Streaming.{IsOf, IsOpening, app_is, opened_reads, read_reads}
 
 pub segment_is : (s : Segment) (ls : List Label) → (label_of s ls).segment ≡ s
 segment_is s ls = by (goes_on (latest s ls) s ls)

@@ -15,7 +15,6 @@ use Rattle.stream_messages.specs.declared.cursor.Cursor.{Cursor}
 use Rattle.stream_messages.specs.declared.cutting.Shown.{Shown}
 use Rattle.stream_messages.specs.Messages.{Asked, AllBefore, AllFrom, above, answered, of_front, of_stretches}
 use Rattle.stream_messages.specs.Cursors.{AsksFrom, IsBehind, IsCut, IsWhole, IsWholeInOne, answers_before, with_last}
-use Rattle.stream_messages.proofs.CursorLemmas.{laws_of_cursors}
 use Rattle.stream_messages.proofs.PassingLemmas.{CutsAll, whole_in}
 use Rattle.tcp_streams.proofs.PartLemmas.{last_there}
 use Rattle.stream_messages.proofs.StretchLemmas.{laws_of_new, of_stretches-append, answered-append}

@@ -1,11 +1,9 @@
 -- What the two readers of a stream stand for with a segment more.
-use Rattle.std.proofs.Common.{◌≡◌, ℕ, ◌+◌, ◌<◌, ◌≤◌, Bool, true, false, not, List, [], ◌∷◌, ◌++◌, length, refl, sym, ap, subst, ◌∙◌, inl, inr, arith, append_assoc}
-use Rattle.std.specs.Prelude.{if◌then◌else◌}
+use Rattle.std.proofs.Common.{◌≡◌, ℕ, ◌+◌, ◌≤◌, Bool, true, false, not, List, [], ◌∷◌, ◌++◌, length, refl, sym, ap, subst, ◌∙◌, inl, inr, arith, append_assoc}
 use Rattle.std.proofs.lemmas.Bool.{cond-true, cond-false}
 use Rattle.pk_base.specs.declared.lost.Lost.{Lost}
 use Rattle.pk_base.specs.declared.stretch.Stretch.{Stretch}
 use Rattle.tcp_streams.specs.declared.segment.Segment.{Segment}
-use Rattle.tcp_streams.specs.declared.segment.Taken.{Taken}
 use Rattle.tcp_streams.specs.Ways.{WayState, stretches, end_of, lost_in, own_step, other_step, way_step, same_side as is_own, IsWay, AreApart}
 use Rattle.tcp_streams.proofs.WayLemmas.{own_keeps}
 use Rattle.stream_messages.specs.declared.told.App.{App}
@@ -14,7 +12,7 @@ use Rattle.stream_messages.specs.declared.cursor.Cursor.{Cursor}
 use Rattle.stream_messages.specs.declared.cutting.Shown.{Shown}
 use Rattle.stream_messages.specs.Messages.{Asked, AgreeBelow, above, answered, of_stretches}
 use Rattle.stream_messages.specs.Cursors.{AsksFrom, IsBehind}
-use Rattle.stream_messages.specs.Sides.{Brought, Noted, same_side, end_behind, stretches_in, front_end, shown_in, head_of, heads_in, asked_in, note_next, AreInOrder}
+use Rattle.stream_messages.specs.Sides.{Noted, same_side, end_behind, stretches_in, front_end, shown_in, head_of, heads_in, asked_in, note_next, AreInOrder}
 use Rattle.stream_messages.proofs.CursorLemmas.{laws_of_cursors}
 use Rattle.stream_messages.proofs.SideLemmas.{laws_of_sides, same_stretches}
 use Rattle.tcp_messages.specs.declared.readers.Reader.{Reader}

@@ -1,8 +1,8 @@
 -- Where the bytes of messages are.
-use Rattle.std.proofs.Common.{◌≡◌, ℕ, zero, suc, ◌+◌, ◌-◌, ◌*◌, ◌^◌, ◌<◌, ◌≤◌, Bool, true, false, cond, eqb, nat_eq, List, [], ◌∷◌, ◌++◌, length, map, take, drop, slice_range, slice_get, Option, Some, None, option_map, unwrap_or, refl, sym, ap, subst, ◌∙◌, arith, length-drop, append_assoc, ℤ}
+use Rattle.std.proofs.Common.{◌≡◌, ℕ, zero, suc, ◌+◌, ◌-◌, ◌^◌, ◌<◌, ◌≤◌, Bool, nat_eq, List, [], ◌∷◌, ◌++◌, length, map, take, drop, slice_range, slice_get, Option, Some, None, option_map, unwrap_or, refl, sym, ap, subst, ◌∙◌, arith, length-drop, append_assoc, ℤ}
 use Rattle.std.specs.List.{starts_with}
 use Rattle.std.proofs.lemmas.Option.{none-some, cond_some}
-use Rattle.std.proofs.lemmas.Bool.{cond-true, cond-false, false≢true}
+use Rattle.std.proofs.lemmas.Bool.{false≢true}
 use Rattle.std.proofs.lemmas.List.{take-append-drop, length-take-le}
 use Rattle.std.specs.Cmp.Lexicographic.{bytes_decides}
 use Rattle.pk_base.specs.declared.stretch.Stretch.{Stretch}
@@ -13,7 +13,7 @@ use Rattle.std.specs.FinMap.{get}
 use Rattle.range_bytes.specs.Held.{Held, HoldsAll, IsFreeFrom, put_numbers, put_number}
 use Rattle.range_bytes.proofs.Ascending.{all_put}
 use Rattle.tcp_streams.specs.declared.segment.Segment.{Segment}
-use Rattle.tcp_streams.specs.Parts.{LiesIn, LiesInOne, IsPart, bytes_in}
+use Rattle.tcp_streams.specs.Parts.{LiesIn, LiesInOne, IsPart}
 use Rattle.tcp_streams.specs.Ways.{WayState, stretches, end_of, IsWay, AreApart}
 use Rattle.stream_messages.specs.declared.told.App.{App}
 use Rattle.stream_messages.specs.declared.told.App.TheVariants as apps

@@ -1,23 +1,22 @@
 -- What the readers of all streams stand for with a segment more.
-use Rattle.std.proofs.Common.{◌≡◌, ℕ, zero, suc, ◌+◌, ◌<◌, ◌≤◌, Bool, true, false, not, cond, eqb, List, [], ◌∷◌, ◌++◌, length, Option, None, Some, option_map, unwrap_or, is_some, slice_get, slice_set, refl, sym, ap, subst, ◌∙◌, inl, inr, arith}
-use Rattle.std.specs.Prelude.{◌⊎◌, if◌then◌else◌}
-use Rattle.std.proofs.lemmas.Bool.{false≢true, cases_Bool, cond-true, cond-false}
+use Rattle.std.proofs.Common.{◌≡◌, ℕ, zero, suc, ◌<◌, Bool, true, not, eqb, List, [], ◌∷◌, ◌++◌, length, Option, None, Some, option_map, unwrap_or, slice_get, slice_set, refl, sym, ap, subst, ◌∙◌, inl, inr, arith}
+use Rattle.std.specs.Prelude.{◌⊎◌}
+use Rattle.std.proofs.lemmas.Bool.{cases_Bool}
 use Rattle.std.proofs.lemmas.Bool.Decides.{eqb_tells}
 use Rattle.std.proofs.lemmas.Option.{none-some, slice_get_within}
-use Rattle.pk_base.specs.declared.lost.Lost.{Lost}
 use Rattle.tcp_streams.specs.declared.segment.Segment.{Segment}
 use Rattle.tcp_streams.specs.declared.segment.Taken.{Taken}
 use Rattle.tcp_streams.specs.Conversations.{ends_of, same_ends}
 use Rattle.tcp_streams.specs.Labels.{Label, latest, opened, goes_on, restarts, side_in, label_on, label_of, sided_of, way_of}
 use Rattle.tcp_streams.specs.Stands.{AllBelow}
-use Rattle.tcp_streams.specs.Ways.{WayState, nothing, lost_in, own_step, stretches, way_step, same_side as is_own}
+use Rattle.tcp_streams.specs.Ways.{WayState, nothing, lost_in, own_step, way_step, same_side as is_own}
 use Rattle.tcp_streams.proofs.StandsLemmas.{none_new}
 use Rattle.tcp_streams.proofs.WayLemmas.{after_is}
 use Rattle.stream_messages.specs.declared.told.App.{App}
 use Rattle.stream_messages.specs.declared.placed.Placed.{Placed}
 use Rattle.stream_messages.specs.declared.cursor.Cursor.{Cursor}
-use Rattle.stream_messages.specs.Cursors.{IsBehind, begun}
-use Rattle.stream_messages.specs.Sides.{Noted, Brought, asked_in, note_next, noted}
+use Rattle.stream_messages.specs.Cursors.{IsBehind}
+use Rattle.stream_messages.specs.Sides.{asked_in, note_next, noted}
 use Rattle.stream_messages.proofs.CursorLemmas.{laws_of_cursors}
 use Rattle.tcp_messages.specs.declared.readers.Reader.{Reader}
 use Rattle.tcp_messages.specs.declared.readers.Readers.{Readers}

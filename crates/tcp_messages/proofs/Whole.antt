@@ -1,15 +1,13 @@
 -- The streams and their readers, from the first segment on.
-use Rattle.std.proofs.Common.{◌≡◌, ℕ, ◌+◌, ◌^◌, ◌<◌, ◌≤◌, Bool, true, false, eqb, List, [], ◌∷◌, length, map, Option, None, Some, slice_get, refl, sym, ap, subst, ◌∙◌, arith}
+use Rattle.std.proofs.Common.{◌≡◌, ℕ, ◌<◌, false, List, [], ◌∷◌, length, map, Option, Some, slice_get, sym, ap, ◌∙◌}
 use Rattle.std.proofs.lemmas.Option.{none-some}
-use Rattle.range_bytes.specs.Held.{Held}
 use Rattle.tcp_streams.specs.declared.segment.Segment.{Segment}
 use Rattle.tcp_streams.specs.declared.segment.Taken.{Taken}
 use Rattle.tcp_streams.specs.declared.streams.Streams.{Streams}
 use Rattle.tcp_streams.specs.Labels.{Label, label_of, labels, taken_after}
-use Rattle.tcp_streams.specs.Ways.{WayState, own_step}
-use Rattle.tcp_streams.specs.Standing.{AreReady, AreStepped, StandsFor, StandsRight, stream_count, streams_of, way_for, way_in}
+use Rattle.tcp_streams.specs.Ways.{WayState}
+use Rattle.tcp_streams.specs.Standing.{StandsFor, stream_count, way_for}
 use Rattle.tcp_streams.proofs.ReadLemmas.{stands_way}
-use Rattle.tcp_streams.proofs.Stepping.{are_ready}
 use Rattle.stream_messages.specs.declared.told.App.{App}
 use Rattle.stream_messages.specs.declared.placed.Placed.{Placed}
 use Rattle.tcp_messages.specs.declared.readers.Readers.{Readers}
@@ -17,7 +15,7 @@ use Rattle.tcp_messages.specs.declared.message_streams.MessageStreams.{MessageSt
 use Rattle.tcp_messages.specs.declared.met.ShownMessage.{ShownMessage}
 use Rattle.tcp_messages.specs.Brought.{way_with}
 use Rattle.tcp_messages.specs.Shown.{located, messages_after, shown_after}
-use Rattle.tcp_messages.specs.Readers.{AreSound, ReadsStreams}
+use Rattle.tcp_messages.specs.Readers.{AreSound}
 use Rattle.tcp_messages.specs.Reading.{AreListed}
 use Rattle.tcp_messages.specs.Standing.{ReadsRight, streams_in}
 use Rattle.tcp_messages.proofs.Nexts.{is_of}

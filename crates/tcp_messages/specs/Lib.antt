@@ -3,3 +3,4 @@ pub mod Shown
 pub mod Readers
 pub mod Reading
 pub mod Standing
+pub mod Laws

@@ -1,7 +1,6 @@
 -- What is kept of each direction's messages, and what it stands for. Lists of segments have the newest first.
-use Rattle.std.specs.Prelude.{◌≡◌, ◌==◌, ℕ, Bool, true, false, if◌then◌else◌, List, [], ◌∷◌, ◌++◌, length, Option, None, Some, option_map, slice_get}
+use Rattle.std.specs.Prelude.{◌≡◌, ℕ, Bool, true, false, if◌then◌else◌, List, [], ◌∷◌, length, Option, None, Some, option_map, slice_get}
 use Rattle.std.specs.Coded.{Coded, Coded-set, coded_option, le_prop, ×_prop, Π_prop, Unit-prop}
-use Rattle.pk_base.specs.declared.stretch.Stretch.{Stretch}
 use Rattle.tcp_streams.specs.declared.segment.Segment.{Segment}
 use Rattle.tcp_streams.specs.declared.streams.Streams.{Streams}
 use Rattle.tcp_streams.specs.Conversations.{ends_of, same_ends}
@@ -12,7 +11,6 @@ use Rattle.stream_messages.specs.declared.cursor.Cursor.{Cursor}
 use Rattle.stream_messages.specs.declared.cursor.Next.{Next}
 use Rattle.stream_messages.specs.declared.cursor.Next.TheVariants.{Never, Awaited, Begun}
 use Rattle.stream_messages.specs.declared.cutting.Shown.{Shown}
-use Rattle.stream_messages.specs.declared.placed.Placed.{Placed}
 use Rattle.stream_messages.specs.declared.told.App.{App}
 use Rattle.stream_messages.specs.declared.told.Told.{Told}
 use Rattle.stream_messages.specs.Messages.{Asked, above, answered, of_stretches}

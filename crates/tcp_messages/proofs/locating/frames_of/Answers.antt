@@ -1,6 +1,4 @@
-use Rattle.std.proofs.Common.{◌≡◌, ◌<◌, is_some, sym, ap, subst, arith}
-use Rattle.std.specs.Prelude.{IsSome}
-use Rattle.std.proofs.lemmas.Bool.{false≢true}
+use Rattle.std.proofs.Common.{arith}
 use Rattle.tcp_streams.proofs.PartLemmas.{part_holds}
 use Rattle.tcp_messages.proofs.Sources.{not_free}
 use Rattle.tcp_messages.proofs.locating.frames_of.Goals as goal

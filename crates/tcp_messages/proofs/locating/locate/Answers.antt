@@ -1,4 +1,4 @@
-use Rattle.std.proofs.Common.{◌≡◌, ◌+◌, ◌<◌, ◌^◌, eqb, sym, ◌∙◌, arith}
+use Rattle.std.proofs.Common.{◌≡◌, ◌+◌, eqb, sym, ◌∙◌, arith}
 use Rattle.tcp_streams.specs.Standing.{way_in}
 use Rattle.stream_messages.specs.Messages.{end_at}
 use Rattle.tcp_messages.proofs.Sources.{ends_within, part_is, gathered_whole, segment_whole}

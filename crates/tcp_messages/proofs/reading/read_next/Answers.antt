@@ -1,8 +1,8 @@
-use Rattle.std.proofs.Common.{List, ℕ, subst, sym, ◌≡◌, ◌<◌, arith}
+use Rattle.std.proofs.Common.{arith}
 use Rattle.std.proofs.lemmas.Result.{IfOk-weaker}
-use Rattle.tcp_streams.specs.Standing.{stream_count, streams_of, way_in}
-use Rattle.tcp_messages.specs.Reading.{IsReadAt, side_of}
-use Rattle.tcp_messages.proofs.Keeping.{AreOpened, are_opened, own_sound, read_sound, read_whole, step_by}
+use Rattle.tcp_streams.specs.Standing.{streams_of, way_in}
+use Rattle.tcp_messages.specs.Reading.{side_of}
+use Rattle.tcp_messages.proofs.Keeping.{are_opened, own_sound, read_sound, read_whole, step_by}
 use Rattle.tcp_messages.proofs.Nexts.{next_reads}
 use Rattle.tcp_messages.proofs.reading.read_next.Goals as goal
 

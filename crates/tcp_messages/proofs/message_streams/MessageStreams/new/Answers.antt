@@ -1,7 +1,4 @@
-use Rattle.std.proofs.Common.{◌≡◌, [], List, length, Option, Some, slice_get, is_some, refl, sym, ap, ◌∙◌}
-use Rattle.std.proofs.lemmas.Option.{none-some}
-use Rattle.tcp_streams.specs.Standing.{StandsFor}
-use Rattle.tcp_messages.specs.declared.readers.Readers.{Readers}
+use Rattle.std.proofs.Common.{refl}
 use Rattle.tcp_messages.specs.Standing.{ReadsFor}
 use Rattle.tcp_messages.proofs.Whole.{new_sound, new_reads}
 use Rattle.tcp_messages.proofs.message_streams.MessageStreams.new.Goals as goal
