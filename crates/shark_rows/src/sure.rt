@@ -1,10 +1,10 @@
-ghost use Rattle.std.specs.Prelude.{◌≡◌, ◌⊎◌, Some};
+ghost use Rattle.std.specs.Prelude.{◌≡◌, ◌⊎◌, IfSome, Some};
 ghost use Rattle.shark_words.specs.Words.{texts};
 ghost use Rattle.shark_run.specs.declared.plan.Plan.{Plan};
 ghost use Rattle.shark_run.specs.declared.plan.Refused.{Refused};
 ghost use Rattle.shark_run.specs.Answers.{IsAnswered, IsSure};
 ghost use Rattle.shark_run.specs.Plan.{IsPlan, IsRefusal};
-ghost use Rattle.shark_run.specs.Reading.{frames_read};
+ghost use Rattle.shark_run.specs.Reading.{file_of, frames_read};
 ghost use Rattle.shark_run.specs.Statuses.{status_of, refusal_status};
 ghost use Rattle.shark_run.specs.Statuses.{IsNoFault, IsRefusing, WhenEnded};
 ghost use Rattle.shark_run.specs.Wrote.{WroteAll, WrotePart};
@@ -13,7 +13,7 @@ use pk_outside::{SureCapture, SureSink};
 use shark_run::{Status, run};
 use std::alloc::Global;
 
-/// A run over a capture file in memory, where nothing outside fails: the words are refused for their reason,
+/// A run over a capture file in memory, or over a generated capture, where nothing outside fails: the words are refused for their reason,
 /// or the run ends as the file does. No other answer exists but want of memory.
 pub fn sure_run(alloc: Global, words: &[String], file: Vec<u8>, out: &mut SureSink) -> Status
     // The words are refused for a reason that they give, and then nothing is written.
@@ -25,14 +25,17 @@ pub fn sure_run(alloc: Global, words: &[String], file: Vec<u8>, out: &mut SureSi
 
     // Where the run came to an end the output got all lines, and never anything but a front of them.
     ensures whole { WhenEnded result ((plan : Plan) × IsPlan (texts words.now) plan
-        × WroteAll plan (frames_read plan file.items) (Some out.old.taken) (Some out.new.taken)
-        × (result ≡ status_of (frames_read plan file.items).ending)) }
+        × IfSome (file_of plan (λ _. Some file.items)) (λ bytes.
+        WroteAll plan (frames_read plan bytes) (Some out.old.taken) (Some out.new.taken)
+        × (result ≡ status_of (frames_read plan bytes).ending))) }
     ensures part { (out.new ≡ out.old) ⊎ ((plan : Plan) × IsPlan (texts words.now) plan
-        × WrotePart plan (frames_read plan file.items) (Some out.old.taken) (Some out.new.taken)) }
+        × IfSome (file_of plan (λ _. Some file.items)) (λ bytes.
+        WrotePart plan (frames_read plan bytes) (Some out.old.taken) (Some out.new.taken))) }
 
     // Words that ask for a plan end as their file does, or find no memory; nothing outside fails.
     ensures ended { (plan : Plan) → IsPlan (texts words.now) plan
-        → IsAnswered (texts words.now) (status_of (frames_read plan file.items).ending) result }
+        → IfSome (file_of plan (λ _. Some file.items)) (λ bytes.
+        IsAnswered (texts words.now) (status_of (frames_read plan bytes).ending) result) }
     ensures no_fault { IsNoFault result }
 {
     let mut capture = SureCapture::new(file);
