@@ -13,6 +13,8 @@ mod line_rows;
 #[cfg(test)]
 mod local_rows;
 #[cfg(test)]
+mod number_rows;
+#[cfg(test)]
 mod outside_rows;
 #[cfg(test)]
 mod packet_rows;
