@@ -197,7 +197,7 @@ const FITTING: List = List {
     pcapng: &[],
 };
 
-static LISTS: [List; 32] = [
+static LISTS: [List; 42] = [
     FITTING,
     List {
         rows: &[ETHERNET, EARLY, ETHERNET],
@@ -344,6 +344,54 @@ static LISTS: [List; 32] = [
         rows: &[BEFORE_1970, PAST_TICKS, ETHERNET, UNTIMED_CUT, UNTIMED],
         pcap: &[0, 1, 3, 4],
         pcapng: &[0, 1, 3],
+    },
+    List {
+        rows: &[LAST_SECOND, PAST_SECONDS, LAST_TICK],
+        pcap: &[1, 2],
+        ..FITTING
+    },
+    List {
+        rows: &[UNTIMED, UNTIMED],
+        pcap: &[0, 1],
+        ..FITTING
+    },
+    List {
+        rows: &[UNTIMED_EMPTY, UNTIMED_COOKED],
+        pcap: &[0, 1],
+        pcapng: &[1],
+    },
+    List {
+        rows: &[RAW, RAW, NO_BYTES],
+        pcap: &[2],
+        ..FITTING
+    },
+    List {
+        rows: &[LAST_LINK, ETHERNET, LAST_LINK],
+        pcap: &[1],
+        ..FITTING
+    },
+    List {
+        rows: &[LONGEST, LONGEST],
+        ..FITTING
+    },
+    List {
+        rows: &[BIG_ENDIAN, BIG_ENDIAN, THREE_OF_FOUR],
+        ..FITTING
+    },
+    List {
+        rows: &[COOKED, UNTIMED_COOKED],
+        pcap: &[1],
+        ..FITTING
+    },
+    List {
+        rows: &[PAST_SECONDS, ETHERNET, COOKED],
+        pcap: &[0, 2],
+        ..FITTING
+    },
+    List {
+        rows: &[BEFORE_1970, UNTIMED, BIG_LOOPBACK],
+        pcap: &[0, 1],
+        pcapng: &[0, 2],
     },
 ];
 

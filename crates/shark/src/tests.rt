@@ -58,7 +58,7 @@ static ANSWERS: [Answer; 6] = [
     },
     Answer {
         words: &["--version"],
-        text: Some("shark 0.2.0\n"),
+        text: Some("shark 0.3.0\n"),
     },
     Answer {
         words: &["--help", "--version"],

@@ -10,7 +10,7 @@ use Rattle.pk_fields.specs.Ids.{DNS, HTTP, TCP_STREAM, TCP_SEQ, TCP_ACK, TCP_LOS
 use Rattle.pk_tree.specs.Trees.{TreeShown, IsKept, kept_layer, kept_tree, layers_of}
 use Rattle.pk_tree.specs.declared.layer.Layer.{Layer}
 use Rattle.pk_tree.proofs.KeptTrees.{all_kept}
-use Rattle.dissect.specs.Followed.{asks_streams, HasSameValues}
+use Rattle.dissect.specs.Followed.{asks_messages, asks_streams, HasSameValues}
 use Rattle.shark_words.specs.declared.options.LineKind.{LineKind}
 use Rattle.shark_words.specs.declared.options.LineKind.TheVariants.{Text, Fields, Json}
 use Rattle.out_lines.proofs.KeptLines.{line_alike}
@@ -62,7 +62,7 @@ grown_plan old new plan has added = record {
 pub stream_asked : (old new : List ℕ) → ((f : ℕ) → is_in new f ≡ (f == TCP_STREAM || (f == (row_of TCP_STREAM).proto || is_in old f))) → asks_streams new ≡ true
 unfolding asks_streams
 stream_asked old new added =
-    ap (λ (b : Bool). b || is_in new TCP_SEQ || is_in new TCP_ACK || is_in new TCP_LOST) (added_now TCP_STREAM TCP_STREAM (row_of TCP_STREAM).proto (is_in old TCP_STREAM) (is_in new TCP_STREAM) refl (added TCP_STREAM))
+    ap (λ (b : Bool). b || is_in new TCP_SEQ || is_in new TCP_ACK || is_in new TCP_LOST || asks_messages new) (added_now TCP_STREAM TCP_STREAM (row_of TCP_STREAM).proto (is_in old TCP_STREAM) (is_in new TCP_STREAM) refl (added TCP_STREAM))
 
 satisfies_same : (wanted : List ℕ) (filter : Option Typed) (t u : TreeShown) → HasSameValues wanted t u → HasAsked wanted filter → satisfies filter u ≡ satisfies filter t
 unfolding satisfies
@@ -145,7 +145,7 @@ not_asked : (plan : Plan) (wanted : List ℕ) → is_generated plan ≡ false �
 not_asked plan wanted not_made made_so = let bad : false ≡ true = sym not_made ∙ made_so in absurd (cc bad)
 
 not_written : {A : Type 0} (plan : Plan) → written_of plan ≡ None → IsSome (written_of plan) → A
-not_written plan lines some = absurd (subst IsSome lines some)
+not_written plan lines some = let bad : false ≡ true = subst IsSome lines some in absurd (cc bad)
 
 -- which fields are enough
 pub enough_generated : (wanted : List ℕ) (plan : Plan) → is_generated plan ≡ true → HasPlan wanted plan → asks_streams wanted ≡ true → IsEnough wanted plan

@@ -230,8 +230,9 @@ fn refuse<E: Sink>(alloc: Global, refused: &Refused, err: &mut E) -> Status
 
 /// Reads the words of a command line and does what they ask for, or refuses them.
 ///
-/// `out` gets the lines of the frames that the filter lets through, in the order of the file; the status
-/// says how the run ended. Where the words are refused nothing is read and nothing is written.
+/// `out` gets the lines of the frames that the filter lets through, in the order of the file, or with `-w` these frames as a
+/// capture; over a generated capture it gets one line of counts. The status says how the run ended. Where the words are refused
+/// nothing is read and nothing is written.
 pub fn run<C: Capture, O: Sink, E: Sink>(
     alloc: Global,
     words: &[String],

@@ -26,7 +26,7 @@ pub(crate) fn needed_fields(plan: &Plan) -> FieldSet
 }
 
 /// The fields that lines are made from: none where there are no lines, and all for lines of text and JSON.
-#[tactic(auto, using(crate::proofs::WantedLemmas::enough_fields, crate::proofs::WantedLemmas::enough_all, crate::proofs::WantedLemmas::enough_none))]
+#[tactic(auto, using(crate::proofs::WantedLemmas::enough_none))]
 fn line_fields(plan: &Plan) -> FieldSet
     requires lines { written_of plan.now ≡ None }
     requires file { is_generated plan.now ≡ false }
