@@ -31,7 +31,8 @@ Usage: shark -r FILE [-Y FILTER] [-c N] [-q] [-T text | -T json | -T fields -e F
   --version    the version, where it is the only word
 
 A filter is one of Wireshark's display filters: fields and protocols compared with values or each other (==, !=, ===, !==,
-<, <=, >, >=, contains, matches, in {..}), slices, layers, masks, len, count, upper and lower, joined by not, and, xor, or.
+<, <=, >, >=, contains, matches, in {..}), slices, layers, masks, sums, differences, products, len, count, upper, lower,
+min and max, joined by not, and, xor, or.
 For example: ip.addr == 10.0.0.0/8 and not udp.port in {53, 5353}
 
   shark -r web.pcap

@@ -1,5 +1,5 @@
 //! The whole program as a call: the words of a command line are read or refused, then the capture file is read,
-//! and the lines of the frames that the filter lets through are written.
+//! and the lines of the frames that the filter lets through are written, or these frames as a capture.
 #![tactic(auto)]
 
 mod fault_text;

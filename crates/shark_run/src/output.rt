@@ -232,11 +232,7 @@ fn write_shown<O: Sink>(
 
 // Takes a frame, of which only the fields of the filter are read.
 #[tactic(auto, using(crate::proofs::WantedLemmas::enough_truth))]
-fn take_chosen(
-    plan: &Plan,
-    frame: &Frame,
-    dissector: &mut Dissector,
-) -> Result<Tree, TakeFault>
+fn take_chosen(plan: &Plan, frame: &Frame, dissector: &mut Dissector) -> Result<Tree, TakeFault>
     requires enough { IsEnough dissector.old.wanted plan.now }
     requires written { IsSome (written_of plan.now) }
     requires number { frame.now.number ≡ dissector.old.taken + 1 }
@@ -336,14 +332,7 @@ fn write_frame<O: Sink>(
 {
     match plan.written {
         Some(_) => {
-            match write_chosen(
-                alloc,
-                plan,
-                frame,
-                dissector,
-                &mut lines.capture,
-                out,
-            ) {
+            match write_chosen(alloc, plan, frame, dissector, &mut lines.capture, out) {
                 Ok(fit) => Ok(fit),
                 Err(fault) => Err(fault),
             }
