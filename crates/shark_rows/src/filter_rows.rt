@@ -30,7 +30,11 @@ pub(crate) fn gives(alloc: Global, filter: &str, out: &str, err: &str) -> Result
         Status::BadFilter
     };
     let bytes = bytes_of(alloc, &FILE)?;
-    let expected = Expected { status, out, err };
+    let expected = Expected {
+        status,
+        out: out.as_bytes(),
+        err,
+    };
     ends_so(alloc, words.as_slice(), "f", bytes, &NO_FAULTS, expected)
 }
 
