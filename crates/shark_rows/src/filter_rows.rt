@@ -22,7 +22,7 @@ static FILE: [&str; 10] = [
 ];
 
 /// Whether a filter lets through these frames, or has this fault.
-fn gives(alloc: Global, filter: &str, out: &str, err: &str) -> Result<bool, AllocError> {
+pub(crate) fn gives(alloc: Global, filter: &str, out: &str, err: &str) -> Result<bool, AllocError> {
     let words = words_of(alloc, "-r f -T fields -e frame.number", filter)?;
     let status = if err.is_empty() {
         Status::Done
@@ -30,17 +30,21 @@ fn gives(alloc: Global, filter: &str, out: &str, err: &str) -> Result<bool, Allo
         Status::BadFilter
     };
     let bytes = bytes_of(alloc, &FILE)?;
-    let expected = Expected { status, out, err };
+    let expected = Expected {
+        status,
+        out: out.as_bytes(),
+        err,
+    };
     ends_so(alloc, words.as_slice(), "f", bytes, &NO_FAULTS, expected)
 }
 
 /// Whether a filter lets through these frames.
-fn lets_through(alloc: Global, row: &(&str, &str)) -> Result<bool, AllocError> {
+pub(crate) fn lets_through(alloc: Global, row: &(&str, &str)) -> Result<bool, AllocError> {
     gives(alloc, row.0, row.1, "")
 }
 
 /// Whether a filter is refused with this text.
-fn is_refused(alloc: Global, row: &(&str, &str)) -> Result<bool, AllocError> {
+pub(crate) fn is_refused(alloc: Global, row: &(&str, &str)) -> Result<bool, AllocError> {
     gives(alloc, row.0, "", row.1)
 }
 
@@ -111,24 +115,30 @@ fn at_most_64_are_open_at_once(rt: HostRuntime) -> Result<(), Fail> {
     Ok(())
 }
 
-/// The longest chain of one word by a sign of two bytes.
-fn chain(alloc: Global, sign: &str) -> Result<String, AllocError> {
-    let mut filter = String::from_str(alloc, "arp")?;
-    for _ in 0..818usize {
-        filter.push_str(sign)?;
-        filter.push_str("arp")?;
+/// A text, so many copies of another behind it, and a third at the end.
+pub(crate) fn chain_of(
+    alloc: Global,
+    first: &str,
+    next: &str,
+    count: usize,
+    end: &str,
+) -> Result<String, AllocError> {
+    let mut filter = String::from_str(alloc, first)?;
+    for _ in 0..count {
+        filter.push_str(next)?;
     }
+    filter.push_str(end)?;
     Ok(filter)
 }
 
 #[test]
 fn the_longest_chains_are_asked(rt: HostRuntime) -> Result<(), Fail> {
     let alloc = rt.alloc();
-    let any = chain(alloc, "||")?;
+    let any = chain_of(alloc, "arp", "||arp", 818, "")?;
     assert!(rt; gives(alloc, any.as_str(), "1\n", "")?);
-    let odd = chain(alloc, "^^")?;
+    let odd = chain_of(alloc, "arp", "^^arp", 818, "")?;
     assert!(rt; gives(alloc, odd.as_str(), "1\n", "")?);
-    let all = chain(alloc, "&&")?;
+    let all = chain_of(alloc, "arp", "&&arp", 818, "")?;
     assert!(rt; gives(alloc, all.as_str(), "1\n", "")?);
     Ok(())
 }

@@ -13,6 +13,10 @@ mod line_rows;
 #[cfg(test)]
 mod local_rows;
 #[cfg(test)]
+mod message_rows;
+#[cfg(test)]
+mod number_rows;
+#[cfg(test)]
 mod outside_rows;
 #[cfg(test)]
 mod packet_rows;
@@ -23,6 +27,10 @@ mod pcapng_rows;
 #[cfg(test)]
 mod runs;
 #[cfg(test)]
+mod self_rows;
+#[cfg(test)]
+mod sequence_rows;
+#[cfg(test)]
 mod stream_rows;
 mod sure;
 #[cfg(test)]
@@ -31,5 +39,7 @@ mod udp_rows;
 mod word_rows;
 #[cfg(test)]
 mod worked_rows;
+#[cfg(test)]
+mod written_rows;
 
 pub use sure::sure_run;

@@ -81,7 +81,7 @@ fn writes_so(alloc: Global, file: &[&str], words: &str, out: &str) -> Result<boo
     let words = words_of(alloc, all.as_str(), "")?;
     let expected = Expected {
         status: Status::Done,
-        out,
+        out: out.as_bytes(),
         err: "",
     };
     let bytes = bytes_of(alloc, file)?;

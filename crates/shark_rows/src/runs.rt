@@ -82,7 +82,7 @@ pub(crate) fn words_of(
 #[derive(Clone, Copy)]
 pub(crate) struct Expected<'a> {
     pub(crate) status: Status,
-    pub(crate) out: &'a str,
+    pub(crate) out: &'a [u8],
     pub(crate) err: &'a str,
 }
 
@@ -104,7 +104,7 @@ pub(crate) fn ends_so(
     let status = run(alloc, words, &mut capture, &mut out, &mut err);
     Ok(
         status == expected.status
-            && out.bytes() == expected.out.as_bytes()
+            && out.bytes() == expected.out
             && err.bytes() == expected.err.as_bytes(),
     )
 }
@@ -120,7 +120,7 @@ pub(crate) fn comes_to(
     let words = words_of(alloc, row.words, row.filter)?;
     let expected = Expected {
         status: row.status,
-        out: row.out,
+        out: row.out.as_bytes(),
         err: row.err,
     };
     ends_so(alloc, words.as_slice(), name, bytes, faults, expected)
