@@ -1,0 +1,28 @@
+-- Rules that name the application of a port.
+use Rattle.std.specs.Prelude.{◌==◌, Bool, true, false, ◌&&◌, not, List, All, IsTrue}
+use Rattle.std.specs.List.{IsDistinct}
+use Rattle.port_rules.specs.declared.rules.App.{App}
+use Rattle.port_rules.specs.declared.rules.App.TheVariants.{Http, Dns, Dhcp, Ntp, Mdns, Plain}
+use Rattle.port_rules.specs.declared.rules.PortRule.{PortRule}
+
+-- HTTP is read in streams alone, DHCP, NTP and multicast DNS in datagrams alone
+abbrev pub app_fits : Bool → App → Bool
+app_fits tcp Http = tcp
+app_fits tcp Dns = true
+app_fits tcp Dhcp = not tcp
+app_fits tcp Ntp = not tcp
+app_fits tcp Mdns = not tcp
+app_fits tcp Plain = true
+
+abbrev pub same_transport : Bool → Bool → Bool
+same_transport true tcp = tcp
+same_transport false tcp = not tcp
+
+-- two rules for the same port of one transport
+abbrev pub same_port : PortRule → PortRule → Bool
+same_port one other = same_transport one.tcp other.tcp && one.port == other.port
+
+-- each rule's application fits its transport, and no port of a transport stands twice
+pub record AreRules (rules : List PortRule) : Type 0 where
+  pub fit : All (λ (rule : PortRule). IsTrue (app_fits rule.tcp rule.app)) rules
+  pub once : IsDistinct same_port rules
