@@ -11,7 +11,7 @@ use Rattle.range_bytes.proofs.Runs.{none_is_not_some}
 use Rattle.range_bytes.proofs.PieceLemmas.{cell_there, get-both, get-held_of, found_after}
 use Rattle.range_bytes.proofs.Covering.{cover_there}
 
-first_none : (a b : Option Cell) → option_or a b ≡ None → a ≡ None
+pub first_none : (a b : Option Cell) → option_or a b ≡ None → a ≡ None
 first_none None b none = refl
 first_none (Some c) b none = none
 

@@ -17,7 +17,7 @@ use Rattle.range_bytes.proofs.PieceLemmas.{cell, found, get-held_of, found_befor
 abbrev pub look : ℕ → List (ℕ × Piece) → Option Piece
 look start entries = lookup (is_at (nat_cmp start)) entries
 
-at_is : (start key : ℕ) → is_at (nat_cmp start) key ≡ eqb start key
+pub at_is : (start key : ℕ) → is_at (nat_cmp start) key ≡ eqb start key
 at_is start key = unsigned_tied start key
 
 pub look_head : (start : ℕ) (e : ℕ × Piece) (es : List (ℕ × Piece)) → start ≡ e.0 → look start (e ∷ es) ≡ Some e.1

@@ -7,3 +7,5 @@ pub mod Ascending
 pub mod Reading
 pub mod Gaps
 pub mod Fronts
+pub mod TakenOut
+pub mod Joining

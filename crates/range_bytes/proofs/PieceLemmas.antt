@@ -18,7 +18,7 @@ abbrev pub found : List Piece → ℕ → Option Cell
 found [] q = None
 found (piece ∷ pieces) q = option_or (cell piece q) (found pieces q)
 
-get-put_pieces : (held : Held) (pieces : List Piece) (q : ℕ) → get (put_pieces held pieces) q ≡ option_or (get held q) (found pieces q)
+pub get-put_pieces : (held : Held) (pieces : List Piece) (q : ℕ) → get (put_pieces held pieces) q ≡ option_or (get held q) (found pieces q)
 get-put_pieces held [] q = sym (or_none (get held q))
 get-put_pieces held (piece ∷ pieces) q =
     get-put_pieces (put_run held piece.start piece.bytes piece.frame) pieces q

@@ -1,6 +1,8 @@
 //! Bytes by their positions: runs of bytes come in any order, and the byte that came first at a position stays.
 #![tactic(auto)]
 
+mod in_order;
+mod joined_ranges;
 mod late;
 mod piece;
 mod pieces;
@@ -8,5 +10,7 @@ mod ranges;
 mod row;
 #[cfg(test)]
 mod tests;
+mod waiting;
 
+pub use joined_ranges::JoinedRanges;
 pub use ranges::Ranges;

@@ -139,3 +139,52 @@ fn bytes_in_falling_order_are_read_in_order(rt: HostRuntime) -> Result<(), NoMem
     }
     Ok(())
 }
+
+/// Six bytes in order, and three behind a gap.
+fn joined(alloc: Global) -> Result<JoinedRanges, NoMemory>
+    ensures { IfOk result (λ joined. joined.start ≡ 0) }
+{
+    let mut joined = JoinedRanges::new(alloc);
+    joined.insert(4, &octets(alloc, b"ef")?, 4)?;
+    joined.insert(0, &octets(alloc, b"abc")?, 9)?;
+    joined.insert(8, &octets(alloc, b"ij")?, 2)?;
+    joined.insert(1, &octets(alloc, b"BCD")?, 7)?;
+    joined.insert(10, &octets(alloc, b"k")?, 1)?;
+    Ok(joined)
+}
+
+#[test]
+fn bytes_in_order_stand_together(rt: HostRuntime) -> Result<(), NoMemory> {
+    let mut joined = joined(rt.alloc())?;
+    assert_eq!(rt; joined.start(), 0);
+    assert_eq!(rt; joined.end(), 6);
+    assert!(rt; joined.front() == b"abcDef".as_slice());
+    let free = joined.first_free(0);
+    assert_eq!(rt; free, 6);
+    assert!(rt; joined.origins(0, free)?.slice() == [4, 7, 9].as_slice());
+    assert_eq!(rt; joined.first_free(8), 11);
+    joined.insert(5, &octets(rt.alloc(), b"FGHIJKLM")?, 3)?;
+    assert_eq!(rt; joined.end(), 13);
+    assert!(rt; joined.front() == b"abcDefGHijkLM".as_slice());
+    Ok(())
+}
+
+#[test]
+fn bytes_in_order_begin_anew_behind_a_gap(rt: HostRuntime) -> Result<(), NoMemory> {
+    let mut joined = joined(rt.alloc())?;
+    let free = joined.first_free(7);
+    if free != 7 || joined.end() > 7 {
+        return Ok(());
+    }
+    assert_eq!(rt; joined.next_held(7), Some(8));
+    assert!(rt; joined.begin(8)?.bytes() == b"abcDef".as_slice());
+    assert_eq!(rt; joined.end(), 11);
+    assert!(rt; joined.front() == b"ijk".as_slice());
+    let free = joined.first_free(1);
+    assert_eq!(rt; free, 6);
+    assert!(rt; joined.origins(1, free)?.slice() == [4, 7, 9].as_slice());
+    let free = joined.first_free(8);
+    assert_eq!(rt; free, 11);
+    assert!(rt; joined.origins(8, free)?.slice() == [1, 2].as_slice());
+    Ok(())
+}

@@ -1,10 +1,11 @@
 -- The loop that passes over gaps.
-use Rattle.std.proofs.Common.{◌≡◌, ℕ, ◌+◌, ◌-◌, ◌^◌, ◌<◌, ◌≤◌, List, [], ◌∷◌, ◌++◌, None, Some, refl, sym, ap, ◌∙◌, subst, inl, inr, arith, append_assoc, append-nil}
+use Rattle.std.proofs.Common.{◌≡◌, ℕ, ◌+◌, ◌-◌, ◌^◌, ◌<◌, ◌≤◌, List, [], ◌∷◌, ◌++◌, length, None, Some, Option, refl, sym, ap, ◌∙◌, subst, inl, inr, arith, append_assoc, append-nil}
 use Rattle.std.specs.FinMap.{get}
 use Rattle.std.proofs.lemmas.Bool.{cases_lt}
 use Rattle.pk_base.specs.declared.lost.Lost.{Lost}
 use Rattle.pk_base.specs.declared.stretch.Stretch.{Stretch}
-use Rattle.range_bytes.specs.Held.{Held, IsFreeFrom, IsNextHeld, bytes_at}
+use Rattle.range_bytes.specs.Held.{Held, IsFreeFrom, IsFirstHeld, IsNextHeld, bytes_at}
+use Rattle.range_bytes.specs.Joined.{Joined, front_end, IsJoined}
 use Rattle.range_bytes.proofs.Runs.{none_is_not_some}
 use Rattle.tcp_streams.specs.Numbers.{window}
 use Rattle.tcp_streams.specs.Gaps.{first_free, next_from, gaps_behind, start_past, end_past, left_behind}
@@ -110,3 +111,38 @@ passing_ends held start front acked lost left begins ends so_far e =
 pub near_room : (front ends : ℕ) → front < 2 ^ 61 → ends ≤ front + window → ends < 2 ^ 62
 unfolding window
 near_room front ends room near = omega arith
+
+-- nothing is held just before the next held position
+pub gap_before : (held : Held) (start front next : ℕ) → IsPlace held start front → IsFirstHeld held (front + 1) next → get held (next - 1) ≡ None
+gap_before held start front next place first =
+    let order : front + 1 ≤ next = first.order in
+    elim (cases_lt (front + 1) next) [
+      | inl past ↦ first.none (next - 1) (omega arith) (omega arith)
+      | inr more ↦ let at : next - 1 ≡ front = omega arith in ap (get held) at ∙ place.free
+    ]
+
+pub begun_free : (j : Joined) (held : Held) (next : ℕ) → IsJoined j → j.held ≡ held → j.start ≡ next → IsFreeFrom held next (front_end j)
+begun_free j held next joined same at = subst (λ (h : Held). IsFreeFrom h next (front_end j)) same (record {
+  order = omega (arith, at);
+  run = λ q a b. joined.order.run q (omega (arith, at)) b;
+  free = joined.free;
+})
+
+-- what is found in the joined bytes, said of what was held
+pub found_next : (held now : Held) (acked ends next : ℕ) (found : Option ℕ) → now ≡ held → found ≡ next_from (acked - ends) now (ends + 1) → found ≡ Some next
+    → next_from (acked - ends) held (ends + 1) ≡ Some next
+found_next held now acked ends next found same is some = ap (λ (h : Held). next_from (acked - ends) h (ends + 1)) (sym same) ∙ sym is ∙ some
+
+pub next_past : (held : Held) (acked ends next : ℕ) → next_from (acked - ends) held (ends + 1) ≡ Some next → ends < next
+next_past held acked ends next e =
+    let order : ends + 1 ≤ next = (next_is (acked - ends) held (ends + 1) next e).first.order in
+    omega arith
+
+pub before_next : (held now : Held) (start acked ends next : ℕ) → now ≡ held → IsPlace held start ends → next_from (acked - ends) held (ends + 1) ≡ Some next → get now (next - 1) ≡ None
+before_next held now start acked ends next same place e =
+    ap (λ (h : Held). get h (next - 1)) same ∙ gap_before held start ends next place (next_is (acked - ends) held (ends + 1) next e).first
+
+pub stretch_bytes : (j : Joined) (held : Held) → j.held ≡ held → j.front ≡ bytes_at j.held j.start (length j.front) → j.front ≡ bytes_at held j.start (front_end j - j.start)
+stretch_bytes j held same bytes =
+    let size : front_end j - j.start ≡ length j.front = omega arith in
+    bytes ∙ ap (λ (h : Held). bytes_at h j.start (length j.front)) same ∙ ap (bytes_at held j.start) (sym size)

@@ -6,13 +6,14 @@ use Rattle.std.specs.Option.{option_or}
 use Rattle.std.proofs.lemmas.Bool.{false≢true, cases_lt, lt-ltb, le-ltb, cond-true, cond-false}
 use Rattle.std.proofs.lemmas.List.{length-take}
 use Rattle.range_bytes.specs.Held.{Held, HoldsAll, IsFreeFrom, put_run, run_cell, bytes_at}
-use Rattle.range_bytes.proofs.Runs.{get-put_run, bytes_at-append, none_is_not_some}
+use Rattle.range_bytes.specs.Joined.{Joined, front_end, IsInOrder, IsJoined}
+use Rattle.range_bytes.proofs.Runs.{get-put_run, none_is_not_some}
 use Rattle.tcp_streams.specs.declared.segment.Segment.{Segment}
 use Rattle.pk_base.specs.declared.lost.Lost.{Lost}
 use Rattle.pk_base.specs.declared.stretch.Stretch.{Stretch}
-use Rattle.tcp_streams.specs.Gaps.{first_free, next_from, gaps_on, gaps, start_past, end_past, left_behind, lost_bytes, AreBetween}
+use Rattle.tcp_streams.specs.Gaps.{first_free, start_past, next_from, gaps_on, gaps, end_past, left_behind, lost_bytes, AreBetween}
 use Rattle.tcp_streams.specs.Ways.{WayState, Sided, nothing, end_of, lost_in, start_for, front_for, origin_for, held_with, held_after, own_step, other_step, way_step, way_after, same_side, IsPlace, IsWay, AreApart}
-use Rattle.tcp_streams.proofs.Places.{length-bytes_at, next_is, jump_free, place_jump, place_past, apart_past, apart_append, free_same, put_stays, put_after, put_free, place_put}
+use Rattle.tcp_streams.proofs.Places.{length-bytes_at, next_is, jump_free, place_jump, place_past, apart_past, apart_append, free_same, put_after, put_free, place_put}
 use Rattle.tcp_streams.specs.Numbers.{first_number, ahead, place, skipped, taken_bytes, window}
 
 pub place_most : (start front u : ℕ) → start ≤ front → place start front u ≤ front + 2 ^ 31
@@ -34,13 +35,6 @@ put_room start front u p bytes rest is order room cut =
     let size : length bytes ≡ length (take (front + window - p) rest) = ap length cut in
     omega (arith, length-take (front + window - p) rest, place_most start front u order)
 
-pub bytes_join : (held : Held) (start from to : ℕ) → start ≤ from → from ≤ to → bytes_at held start (from - start) ++ bytes_at held from (to - from) ≡ bytes_at held start (to - start)
-bytes_join held start from to a b =
-    let whole : to - start ≡ (from - start) + (to - from) = omega arith in
-    let place : start + (from - start) ≡ from = omega arith in
-    sym (ap (bytes_at held start) whole ∙ bytes_at-append held start (from - start) (to - from)
-    ∙ ap (λ (p : ℕ). bytes_at held start (from - start) ++ bytes_at held p (to - from)) place)
-
 -- what is held stays
 cell_stays : (held : Held) (p : ℕ) (bytes : List ℕ) (frame q : ℕ) → IsSome (get held q) → get (put_run held p bytes frame) q ≡ get held q
 cell_stays held p bytes frame q there =
@@ -55,10 +49,7 @@ bytes_stay held p bytes frame from (suc n) run =
     let here : get (put_run held p bytes frame) from ≡ get held from = cell_stays held p bytes frame from (run from (omega arith) (omega arith)) in
     rw (here, bytes_stay held p bytes frame (from + 1) n (λ q a b. run q (omega arith) (omega arith))) refl
 
-pub no_length : {X : Type 0} (xs : List X) → length xs ≡ 0 → xs ≡ []
-no_length [] e = refl
-no_length (x ∷ xs) e = absurd (omega (arith, e))
-
+-- what stood in order still does, where no gap is passed
 pub renew_same : (w : WayState) (s : Segment) (held : Held) (start end u : ℕ) → IsWay w → lost_in w ≡ [] → start ≡ start_for w → end ≡ front_for w
     → held ≡ held_with w.held start end u s → w.front ≡ bytes_at held start (end - start)
 renew_same w s held start end u way none start_is end_is held_is =
@@ -70,12 +61,6 @@ renew_same w s held start end u way none start_is end_is held_is =
     ∙ ap (λ (h : Held). bytes_at h w.start (length w.front)) (sym held_is)
     ∙ ap (λ (p : ℕ). bytes_at held p (length w.front)) (sym starts)
     ∙ ap (bytes_at held start) (sym size)
-
-pub renew_run : (held more : Held) (s : Segment) (start end u to : ℕ) → IsPlace held start end → more ≡ held_with held start end u s → IsFreeFrom more end to → HoldsAll more start to
-renew_run held more s start end u to placed more_is free = λ q a b. elim (cases_lt q end) [
-  | inl before ↦ subst (λ (h : Held). IsSome (get h q)) (sym more_is) (put_stays held (place start end u) (taken_bytes start end u s.payload) s.frame q (placed.run q a before))
-  | inr after ↦ free.run q after b
-]
 
 pub end_small : (front ends : ℕ) → front < 2 ^ 60 → ends ≤ front + window → ends < 2 ^ 61
 unfolding window
@@ -238,3 +223,30 @@ below_next old next low near = omega arith
 
 pub near_is : (w next : WayState) (s : Segment) → IsWay w → end_of w < 2 ^ 60 → next ≡ own_step w s → end_of next < 2 ^ 61
 near_is w next s way low is = below_next (end_of w) (end_of next) low (subst (λ (v : WayState). end_of v ≤ end_of w + 2 ^ 25) (sym is) (twice (end_of w) (end_of (own_step w s)) (own_room w s way)))
+
+-- what the joined bytes say of a direction
+pub place_low : (start front u : ℕ) → start ≤ front → start ≤ place start front u
+place_low start front u order = elim (cases_lt u (2 ^ 31)) [
+  | inl less ↦
+      let is : place start front u ≡ front + u = cond-true _ _ _ (lt-ltb u (2 ^ 31) less) in
+      omega (arith, is)
+  | inr more ↦
+      let is : place start front u ≡ max start (front - (2 ^ 32 - u)) = cond-false _ _ _ (le-ltb u (2 ^ 31) more) in
+      omega (arith, is)
+]
+
+pub joined_free : (j : Joined) (end : ℕ) → IsJoined j → j.start ≤ end → end ≤ front_end j → IsFreeFrom j.held end (front_end j)
+joined_free j end joined low high = record {
+  order = high;
+  run = λ q a b. joined.order.run q (omega arith) b;
+  free = joined.free;
+}
+
+pub joined_front : (j : Joined) (start : ℕ) → IsInOrder j → j.start ≡ start → j.front ≡ bytes_at j.held start (front_end j - start)
+joined_front j start order at =
+    let size : front_end j - start ≡ length j.front = omega (arith, at) in
+    order.bytes ∙ ap (λ (p : ℕ). bytes_at j.held p (length j.front)) at ∙ ap (bytes_at j.held start) (sym size)
+
+pub apart_later : (low : ℕ) (xs : List Stretch) (next later : ℕ) → AreApart low xs next → next ≤ later → AreApart low xs later
+apart_later low [] next later apart order = omega (arith, apart)
+apart_later low (x ∷ xs) next later apart order = (apart.0, apart_later (x.start + length x.bytes + 1) xs next later apart.1 order)

@@ -28,7 +28,7 @@ impl Streams {
         ensures front { (past : List SegmentValue) → StandsFor past self.now → result.now ≡ (way_for past stream side).front }
         ensures kept { result.now ≡ (way_in self.now stream side).front }
     {
-        self.way(stream, side).front.as_slice()
+        self.way(stream, side).held.front()
     }
 
     /// The position of the first byte of a direction's last stretch. Takes no memory.
@@ -39,7 +39,7 @@ impl Streams {
         ensures start { (past : List SegmentValue) → StandsFor past self.now → result ≡ (way_for past stream side).start }
         ensures kept { result ≡ (way_in self.now stream side).start }
     {
-        self.way(stream, side).start
+        self.way(stream, side).held.start()
     }
 
     /// The stretches of a direction before the last, in order. Takes no memory.
@@ -122,8 +122,9 @@ impl Way {
         ensures some { IfSome result (λ bytes. IsPart (stretches (state_of self.now)) from to bytes.now) }
         ensures lies { IsSome result ↔ LiesInOne (stretches (state_of self.now)) from to }
     {
-        if self.start <= from {
-            return range_of(&self.front, self.start, from, to);
+        let start = self.held.start();
+        if start <= from {
+            return range_of(self.held.front(), start, from, to);
         }
         let stretch = stretch_before(&self.earlier, from)?;
         range_of(stretch.bytes.bytes(), stretch.start, from, to)
@@ -140,8 +141,8 @@ impl Way {
             })?;
         }
         all.push(Stretch {
-            start: self.start,
-            bytes: Octets::copy(self.alloc, &self.front)?,
+            start: self.held.start(),
+            bytes: Octets::copy(self.alloc, self.held.front())?,
         })?;
         Ok(Stretches::from_vec(all))
     }

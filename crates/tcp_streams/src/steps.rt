@@ -8,9 +8,9 @@ ghost use Rattle.tcp_streams.specs.States.{state_of};
 use crate::numbers::{ahead, first_number, place, position_ahead};
 use crate::passing::pass;
 use crate::segment::Segment;
-use crate::way::{Entered, Way, put, renew};
+use crate::way::{Entered, Way, put};
 use pk_base::{LostList, NoMemory};
-use range_bytes::Ranges;
+use range_bytes::JoinedRanges;
 use std::alloc::Global;
 
 impl Way {
@@ -20,20 +20,17 @@ impl Way {
         Way {
             alloc,
             origin: None,
-            held: Ranges::new(alloc),
+            held: JoinedRanges::new(alloc),
             earlier: Vec::new(alloc),
-            start: 0,
-            front: Vec::new(alloc),
             acked: 0,
         }
     }
 
     /// The front end.
     pub fn end(&self) -> u64
-        requires { end_of (state_of self.now) < 2 ^ 62 }
         ensures { result ≡ end_of (state_of self.now) }
     {
-        self.start + self.front.len() as u64
+        self.held.end()
     }
 
     /// The number of the byte at position 0, which the first segment sets.
@@ -71,25 +68,15 @@ impl Way {
     {
         let number = first_number(s);
         let origin = self.origin_for(s);
-        let end = self.end();
-        let mut passed = pass(self.alloc, &self.held, self.start, end, self.acked)?;
-        let ahead = ahead(origin, passed.end, number);
-        put(&mut self.held, passed.start, passed.end, ahead, s)?;
-        let to = self.held.first_free(passed.end);
-        renew(
-            &mut self.front,
-            &self.held,
-            passed.lost.len(),
-            passed.start,
-            passed.end,
-            to,
-        )?;
+        let mut passed = pass(self.alloc, &mut self.held, self.acked)?;
+        let end = self.held.end();
+        let ahead = ahead(origin, end, number);
+        put(&mut self.held, ahead, s)?;
         self.earlier.append(&mut passed.left)?;
         self.origin = Some(origin);
-        self.start = passed.start;
         Ok(Entered {
             lost: LostList::from_vec(passed.lost),
-            position: position_ahead(passed.end, ahead),
+            position: position_ahead(end, ahead),
         })
     }
 }

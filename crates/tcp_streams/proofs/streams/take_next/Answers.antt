@@ -1,4 +1,4 @@
-use Rattle.std.proofs.Common.{◌≡◌, ◌<◌, List, length, None, Some, sym, ap, ◌∙◌, subst}
+use Rattle.std.proofs.Common.{◌≡◌, ◌<◌, List, length, None, Some, sym, ap, ◌∙◌, subst, arith}
 use Rattle.std.proofs.lemmas.Result.{IfOk-weaker}
 use Rattle.tcp_streams.specs.declared.stream.Stream.{Stream}
 use Rattle.tcp_streams.specs.Labels.{labels}
@@ -66,3 +66,6 @@ pub returns-in-None-clause-stepped : goal.returns-in-None-clause-stepped
 returns-in-None-clause-stepped c = IfOk-weaker c.start.result (λ t. Started c.args.streams.now.items c.args.newest.now c.args.s.now t c.start.new.streams.items c.start.new.newest) _
     (λ t so. stepped_started c.args.newest.now c.start.new.newest c.args.streams.now.items c.start.new.streams.items c.args.s.now t so)
     (started c.args.streams.now.items c.args.newest.now c.args.s.now c.start.new.streams.items c.start.new.newest c.start.result c.start.ensures.opened c.start.ensures.newest)
+
+pub follow-requires-clause-sound : goal.follow-requires-clause-sound
+follow-requires-clause-sound c = (c.requires.0, λ old there. c.requires.1.each c.in-Some.number old there, omega (arith, c.requires.2))

@@ -5,4 +5,4 @@ use Rattle.tcp_streams.proofs.streams.Streams.front.Goals as goal
 
 pub returns-clause-front : goal.returns-clause-front
 returns-clause-front c = λ past stands.
-    c.as_slice.ensures.value ∙ ap (λ (w : WayState). w.front) (c.way.ensures ∙ stands_way past c.args.self.now c.args.stream c.args.side stands c.requires.stream)
+    c.front.ensures ∙ ap (λ (w : WayState). w.front) (c.way.ensures ∙ stands_way past c.args.self.now c.args.stream c.args.side stands c.requires.stream)

@@ -6,6 +6,6 @@ use Rattle.tcp_streams.proofs.ReadLemmas.{stands_way}
 use Rattle.tcp_streams.proofs.streams.Streams.origins.Goals as goal
 
 pub returns : goal.returns
-returns c = IfOk-weaker c.origins.result (λ (numbers : List ℕ). numbers ≡ frames_at c.way.result.now.held c.args.from (c.args.to - c.args.from)) _
+returns c = IfOk-weaker c.origins.result (λ (numbers : List ℕ). numbers ≡ frames_at c.way.result.now.held.held c.args.from (c.args.to - c.args.from)) _
     (λ numbers is past stands. is ∙ ap (λ (w : WayState). frames_at w.held c.args.from (c.args.to - c.args.from))
     (c.way.ensures ∙ stands_way past c.args.self.now c.args.stream c.args.side stands c.requires.stream)) c.origins.ensures
