@@ -1,7 +1,7 @@
 -- Keys tie exactly where two fragments are of one datagram.
 use Rattle.std.proofs.Common.{◌≡◌, ◌==◌, ℕ, Bool, true, false, cond, ◌&&◌, ◌||◌, refl, ap, ◌∙◌}
 use Rattle.std.specs.Bool.{beq}
-use Rattle.std.specs.Ordering.{nat_cmp, ordering_then, is_eq, eq_by_cmp}
+use Rattle.std.specs.Ordering.{nat_cmp, bool_cmp, ordering_then, is_eq, eq_by_cmp}
 use Rattle.std.specs.Cmp.{unsigned_tied}
 use Rattle.std.specs.declared.cmp.Ordering.{Ordering}
 use Rattle.std.specs.declared.cmp.Ordering.TheVariants.{Less, Equal, Greater}
@@ -11,40 +11,98 @@ use Rattle.pk_tree.specs.declared.heads.Address.TheVariants.{Four, Six}
 use Rattle.pk_tree.specs.declared.heads.FragmentHead.{FragmentHead}
 use Rattle.ip_join.specs.declared.key.Key.{Key}
 use Rattle.ip_join.specs.Keys.{same_address, same_key}
-use Rattle.ip_join.specs.KeyOrder.{host_of, key_of, host_cmp, key_cmp}
+use Rattle.ip_join.specs.KeyOrder.{number_of, is_six, key_of, key_cmp}
 
 tied_then : (x y : Ordering) → is_eq (ordering_then x y) ≡ (is_eq x && is_eq y)
 tied_then Less y = refl
 tied_then Equal y = refl
 tied_then Greater y = refl
 
-tied_host : (a b : Address) → is_eq (host_cmp (host_of a) (host_of b)) ≡ same_address a b
-tied_host (Four a) (Four b) = unsigned_tied a b
-tied_host (Four a) (Six b) = refl
-tied_host (Six a) (Four b) = refl
-tied_host (Six a) (Six b) = unsigned_tied a b
+then_is : (x y : Ordering) (b c : Bool) → is_eq x ≡ b → is_eq y ≡ c → is_eq (ordering_then x y) ≡ (b && c)
+then_is x y b c one other = tied_then x y ∙ rw (one, other) refl
+
+tied_bool : (a b : Bool) → is_eq (bool_cmp a b) ≡ beq a b
+tied_bool true true = refl
+tied_bool true false = refl
+tied_bool false true = refl
+tied_bool false false = refl
+
+-- two keys tie where all their fields are the same
+key_is : (a b : Key) → is_eq (key_cmp a b)
+    ≡ (a.source == b.source && (a.target == b.target && (a.ident == b.ident && (a.protocol == b.protocol
+    && (beq a.six b.six && (beq a.source_six b.source_six && beq a.target_six b.target_six))))))
+key_is a b =
+    then_is _ _ _ _ (unsigned_tied a.source b.source)
+    (then_is _ _ _ _ (unsigned_tied a.target b.target)
+    (then_is _ _ _ _ (unsigned_tied a.ident b.ident)
+    (then_is _ _ _ _ (unsigned_tied a.protocol b.protocol)
+    (then_is _ _ _ _ (tied_bool a.six b.six)
+    (then_is _ _ _ _ (tied_bool a.source_six b.source_six) (tied_bool a.target_six b.target_six))))))
+
+and_true : (b : Bool) → b ≡ (b && true)
+and_true true = refl
+and_true false = refl
+
+and_false : (b : Bool) → false ≡ (b && false)
+and_false true = refl
+and_false false = refl
+
+address_is : (a b : Address) → same_address a b ≡ (number_of a == number_of b && beq (is_six a) (is_six b))
+address_is (Four a) (Four b) = and_true (a == b)
+address_is (Four a) (Six b) = and_false (a == b)
+address_is (Six a) (Four b) = and_false (a == b)
+address_is (Six a) (Six b) = and_true (a == b)
+
+dead : (a b c d : Bool) → (a && (b && (c && (d && false)))) ≡ false
+dead false b c d = refl
+dead true false c d = refl
+dead true true false d = refl
+dead true true true false = refl
+dead true true true true = refl
+
+turned : (source target ident protocol one other : Bool) → (source && (target && (ident && (protocol && (one && other))))) ≡ ((source && one) && ((target && other) && (protocol && ident)))
+turned false target ident protocol one other = refl
+turned true target ident protocol false other = dead true target ident protocol
+turned true false ident protocol true other = refl
+turned true true ident protocol true false = dead true true ident protocol
+turned true true true true true true = refl
+turned true true true false true true = refl
+turned true true false true true true = refl
+turned true true false false true true = refl
 
 abbrev made : Bool → Address → Address → ℕ → ℕ → Key
-made six source target next ident = record { six = six; source = host_of source; target = host_of target; protocol = cond six 0 next; ident = ident }
+made six source target next ident = record {
+  source = number_of source;
+  target = number_of target;
+  ident = ident;
+  protocol = cond six 0 next;
+  six = six;
+  source_six = is_six source;
+  target_six = is_six target;
+}
 
 tied_parts : (s t : Bool) (a b c d : Address) (p q i j : ℕ) → is_eq (key_cmp (made s a c p i) (made t b d q j)) ≡ (beq s t && (same_address a b && (same_address c d && ((s || p == q) && i == j))))
-tied_parts true false a b c d p q i j = refl
-tied_parts false true a b c d p q i j = refl
+tied_parts true false a b c d p q i j =
+    key_is (made true a c p i) (made false b d q j) ∙ dead (number_of a == number_of b) (number_of c == number_of d) (i == j) (0 == q)
+tied_parts false true a b c d p q i j =
+    key_is (made false a c p i) (made true b d q j) ∙ dead (number_of a == number_of b) (number_of c == number_of d) (i == j) (p == 0)
 tied_parts true true a b c d p q i j =
-    tied_then (host_cmp (host_of a) (host_of b)) (ordering_then (host_cmp (host_of c) (host_of d)) (nat_cmp i j))
-    ∙ rw (tied_then (host_cmp (host_of c) (host_of d)) (nat_cmp i j), tied_host a b, tied_host c d, unsigned_tied i j) refl
+    key_is (made true a c p i) (made true b d q j)
+    ∙ rw (address_is a b, address_is c d)
+    (turned (number_of a == number_of b) (number_of c == number_of d) (i == j) true (beq (is_six a) (is_six b)) (beq (is_six c) (is_six d)))
 tied_parts false false a b c d p q i j =
-    tied_then (host_cmp (host_of a) (host_of b)) (ordering_then (host_cmp (host_of c) (host_of d)) (ordering_then (nat_cmp p q) (nat_cmp i j)))
-    ∙ rw (tied_then (host_cmp (host_of c) (host_of d)) (ordering_then (nat_cmp p q) (nat_cmp i j)), tied_then (nat_cmp p q) (nat_cmp i j), tied_host a b, tied_host c d, unsigned_tied p q, unsigned_tied i j) refl
+    key_is (made false a c p i) (made false b d q j)
+    ∙ rw (address_is a b, address_is c d)
+    (turned (number_of a == number_of b) (number_of c == number_of d) (i == j) (p == q) (beq (is_six a) (is_six b)) (beq (is_six c) (is_six d)))
 
 pub tied_key : (f g : FragmentHead) → eq_by_cmp key_cmp (key_of f) (key_of g) ≡ same_key f g
 tied_key f g = tied_parts f.six g.six f.source g.source f.target g.target f.next g.next f.ident g.ident
 
-same_host : (a b : Address) → same_address a b ≡ true → host_of a ≡ host_of b
-same_host (Four a) (Four b) same = ap (λ (n : ℕ). host_of (Four n)) (eqb-true a b same)
-same_host (Four a) (Six b) same = absurd (false≢true same)
-same_host (Six a) (Four b) same = absurd (false≢true same)
-same_host (Six a) (Six b) same = ap (λ (n : ℕ). host_of (Six n)) (eqb-true a b same)
+same_address-is : (a b : Address) → same_address a b ≡ true → a ≡ b
+same_address-is (Four a) (Four b) same = ap Four (eqb-true a b same)
+same_address-is (Four a) (Six b) same = absurd (false≢true same)
+same_address-is (Six a) (Four b) same = absurd (false≢true same)
+same_address-is (Six a) (Six b) same = ap Six (eqb-true a b same)
 
 same_parts : (s t : Bool) (a b c d : Address) (p q i j : ℕ) → (beq s t && (same_address a b && (same_address c d && ((s || p == q) && i == j)))) ≡ true → made s a c p i ≡ made t b d q j
 same_parts true false a b c d p q i j same = absurd (false≢true same)
@@ -52,12 +110,12 @@ same_parts false true a b c d p q i j same = absurd (false≢true same)
 same_parts true true a b c d p q i j same =
     let first = and_parts (same_address a b) (same_address c d && (i == j)) same in
     let second = and_parts (same_address c d) (i == j) first.1 in
-    rw (same_host a b first.0, same_host c d second.0, eqb-true i j second.1) refl
+    rw (same_address-is a b first.0, same_address-is c d second.0, eqb-true i j second.1) refl
 same_parts false false a b c d p q i j same =
     let first = and_parts (same_address a b) (same_address c d && ((p == q) && (i == j))) same in
     let second = and_parts (same_address c d) ((p == q) && (i == j)) first.1 in
     let third = and_parts (p == q) (i == j) second.1 in
-    rw (same_host a b first.0, same_host c d second.0, eqb-true p q third.0, eqb-true i j third.1) refl
+    rw (same_address-is a b first.0, same_address-is c d second.0, eqb-true p q third.0, eqb-true i j third.1) refl
 
 -- fragments of one datagram have one key
 pub same_key-key : (f g : FragmentHead) → same_key f g ≡ true → key_of f ≡ key_of g

@@ -5,3 +5,4 @@ pub mod Datagrams
 pub mod Stands
 pub mod Renumbered
 pub mod Kept
+pub mod Forms

@@ -10,6 +10,7 @@ ghost use Rattle.ip_join.specs.Renumbered.{renumbered, answer_renumbered};
 
 use crate::fragment::Fragment;
 use crate::joined::Joined;
+use crate::kept::Kept;
 use crate::key::{Key, key_of};
 use crate::parts::Parts;
 use pk_base::{NoMemory, Octets};
@@ -21,7 +22,7 @@ use std::collections::BTreeMap;
 #[derive(Drop)]
 pub struct Joins {
     alloc: Global,
-    parts: BTreeMap<Key, Parts>,
+    parts: BTreeMap<Key, Kept>,
 }
 
 impl Joins {
@@ -71,10 +72,12 @@ impl Joins {
             }))) }
         ensures short { IfOk result (λ joined. IsShort joined) }
     {
+        // a part would keep the whole block that was read
+        let bytes = Octets::copy(self.alloc, payload.bytes())?;
         self.join(Fragment {
             head: *head,
             frame,
-            bytes: payload.clone()?,
+            bytes,
         })
     }
 
@@ -87,11 +90,11 @@ impl Joins {
     {
         let head = new.head;
         let key = key_of(&head);
-        let parts = self.remove(key);
-        if let Some(kind) = parts.conflict(&new) {
+        let before = self.remove(key)?;
+        if let Some(kind) = before.conflict(&new) {
             return Ok(Joined::Conflict(kind));
         }
-        let parts = parts.with(new)?;
+        let parts = before.with(new)?;
         match parts.datagram(head)? {
             Some(datagram) => Ok(Joined::Whole(datagram)),
             None => {
@@ -102,15 +105,16 @@ impl Joins {
     }
 
     /// Takes out what is kept by a key.
-    fn remove(&mut self, key: Key) -> Parts
-        ensures parts { result ≡ unwrap_or (tree.get key_cmp self.old.parts key) [] }
+    fn remove(&mut self, key: Key) -> Result<Parts, NoMemory>
+        ensures parts { IfOk result (λ parts.
+            parts ≡ unwrap_or (tree.get key_cmp self.old.parts key) []) }
         ensures rest { (q : KeyValue)
             → tree.get key_cmp self.new.parts q
             ≡ cond (eq_by_cmp key_cmp key q) None (tree.get key_cmp self.old.parts q) }
     {
         match self.parts.remove(&key) {
-            Some(parts) => parts,
-            None => Parts::new(self.alloc),
+            Some(kept) => kept.into_parts(self.alloc),
+            None => Ok(Parts::new(self.alloc)),
         }
     }
 
@@ -119,7 +123,7 @@ impl Joins {
             → tree.get key_cmp self.new.parts q
             ≡ cond (eq_by_cmp key_cmp key q) (Some parts) (tree.get key_cmp self.old.parts q)) }
     {
-        self.parts.insert(key, parts)?;
+        self.parts.insert(key, Kept::new(self.alloc, parts)?)?;
         Ok(())
     }
 }

@@ -1,35 +1,36 @@
 ghost use Rattle.std.specs.Prelude.{◌≡◌};
-ghost use Rattle.ip_join.specs.KeyOrder.{host_of as host_value, key_of as key_value};
+ghost use Rattle.ip_join.specs.KeyOrder.{is_six as is_six_value, key_of as key_value, number_of as number_value};
 
 use pk_tree::{Address, FragmentHead};
 
-/// An address in an order.
-#[derive(Clone, Copy, PartialEq, Eq, PartialOrd, Ord)]
-pub(crate) struct Host {
-    six: bool,
-    number: u128,
-}
-
-/// What the fragments of one datagram have in common.
+/// What the fragments of one datagram have in common. The greatest fields stand first, so that no room is lost between them.
 #[derive(Clone, Copy, PartialEq, Eq, PartialOrd, Ord)]
 pub(crate) struct Key {
-    six: bool,
-    source: Host,
-    target: Host,
+    source: u128,
+    target: u128,
+    ident: u32,
     /// 0 under IPv6, where it is no part of the key.
     protocol: u8,
-    ident: u32,
+    six: bool,
+    source_six: bool,
+    target_six: bool,
 }
 
-fn host_of(address: Address) -> Host
-    ensures { result ≡ host_value address }
+fn is_six(address: Address) -> bool
+    ensures { result ≡ is_six_value address }
 {
     match address {
-        Address::Four(number) => Host {
-            six: false,
-            number: u128::from(number),
-        },
-        Address::Six(number) => Host { six: true, number },
+        Address::Four(_) => false,
+        Address::Six(_) => true,
+    }
+}
+
+fn number_of(address: Address) -> u128
+    ensures { result ≡ number_value address }
+{
+    match address {
+        Address::Four(number) => u128::from(number),
+        Address::Six(number) => number,
     }
 }
 
@@ -37,10 +38,12 @@ pub(crate) fn key_of(head: &FragmentHead) -> Key
     ensures { result ≡ key_value head.now }
 {
     Key {
-        six: head.six,
-        source: host_of(head.source),
-        target: host_of(head.target),
-        protocol: if head.six { 0 } else { head.next },
+        source: number_of(head.source),
+        target: number_of(head.target),
         ident: head.ident,
+        protocol: if head.six { 0 } else { head.next },
+        six: head.six,
+        source_six: is_six(head.source),
+        target_six: is_six(head.target),
     }
 }

@@ -4,6 +4,7 @@
 mod fragment;
 mod joined;
 mod joins;
+mod kept;
 mod key;
 mod parts;
 #[cfg(test)]

@@ -59,6 +59,17 @@ impl Parts {
         }
     }
 
+    /// The one fragment, if no other is there.
+    pub(crate) fn alone(&self) -> Option<&Fragment>
+        ensures alone { IfSome result (λ fragment. self.now ≡ fragment.now ∷ []) }
+        ensures short { IfSome result (λ fragment. end_of fragment.now ≤ 65535) }
+    {
+        if self.counted.len() != 1 {
+            return None;
+        }
+        Some(&self.counted[0])
+    }
+
     /// How a fragment goes against these, if it does.
     pub(crate) fn conflict(&self, new: &Fragment) -> Option<ConflictKind>
         ensures kind { (new.now.head.six ≡ true → AreFirst self.now)

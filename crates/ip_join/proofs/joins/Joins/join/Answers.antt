@@ -9,38 +9,38 @@ use Rattle.ip_join.proofs.joins.Joins.join.Goals as goal
 
 pub returns-in-Some-clause-joined : goal.returns-in-Some-clause-joined
 returns-in-Some-clause-joined c = λ past stands.
-    let counted = counted_parts past c.args.self.now c.args.new c.key_of-key.result c.remove-parts.result stands c.key_of-key.ensures c.remove-parts.ensures.parts in
-    conflict_is past c.args.new c.remove-parts.result c.conflict.result c.in-Some.kind counted (c.conflict.ensures.kind (λ six. subst (λ (parts : List Fragment). AreFirst parts) (sym counted) (counted_first c.args.new past six))) c.in-Some.is
+    let counted = counted_parts past c.args.self.now c.args.new c.key_of-key.result c.in_ok-before.before stands c.key_of-key.ensures c.in_ok-before.ensures.parts in
+    conflict_is past c.args.new c.in_ok-before.before c.conflict.result c.in-Some.kind counted (c.conflict.ensures.kind (λ six. subst (λ (parts : List Fragment). AreFirst parts) (sym counted) (counted_first c.args.new past six))) c.in-Some.is
 
 pub returns-in-Some-clause-stands : goal.returns-in-Some-clause-stands
 returns-in-Some-clause-stands c = λ past stands.
-    let counted = counted_parts past c.args.self.now c.args.new c.key_of-key.result c.remove-parts.result stands c.key_of-key.ensures c.remove-parts.ensures.parts in
-    let is = conflict_is past c.args.new c.remove-parts.result c.conflict.result c.in-Some.kind counted (c.conflict.ensures.kind (λ six. subst (λ (parts : List Fragment). AreFirst parts) (sym counted) (counted_first c.args.new past six))) c.in-Some.is in
-    stands_gone past c.args.self.now c.remove-parts.new.self c.args.new c.key_of-key.result (Conflict c.in-Some.kind) stands c.key_of-key.ensures c.remove-parts.ensures.rest is (λ fs. refl)
+    let counted = counted_parts past c.args.self.now c.args.new c.key_of-key.result c.in_ok-before.before stands c.key_of-key.ensures c.in_ok-before.ensures.parts in
+    let is = conflict_is past c.args.new c.in_ok-before.before c.conflict.result c.in-Some.kind counted (c.conflict.ensures.kind (λ six. subst (λ (parts : List Fragment). AreFirst parts) (sym counted) (counted_first c.args.new past six))) c.in-Some.is in
+    stands_gone past c.args.self.now c.remove.new.self c.args.new c.key_of-key.result (Conflict c.in-Some.kind) stands c.key_of-key.ensures c.remove.ensures.rest is (λ fs. refl)
 
 pub returns-in-Some-2-clause-joined : goal.returns-in-Some-2-clause-joined
 returns-in-Some-2-clause-joined c = λ past stands.
-    let counted = counted_parts past c.args.self.now c.args.new c.key_of-key.result c.remove-parts.result stands c.key_of-key.ensures c.remove-parts.ensures.parts in
+    let counted = counted_parts past c.args.self.now c.args.new c.key_of-key.result c.in_ok-before.before stands c.key_of-key.ensures c.in_ok-before.ensures.parts in
     ap completed (sym c.in-Some-2.is)
-    ∙ completed_is past c.args.new c.remove-parts.result c.in_ok-parts.parts c.conflict.result c.in_ok-datagram.field-0 counted (c.conflict.ensures.kind (λ six. subst (λ (parts : List Fragment). AreFirst parts) (sym counted) (counted_first c.args.new past six))) c.in_default.is c.in_ok-parts.ensures c.in_ok-datagram.ensures.whole
+    ∙ completed_is past c.args.new c.in_ok-before.before c.in_ok-parts.parts c.conflict.result c.in_ok-datagram.field-0 counted (c.conflict.ensures.kind (λ six. subst (λ (parts : List Fragment). AreFirst parts) (sym counted) (counted_first c.args.new past six))) c.in_default.is c.in_ok-parts.ensures c.in_ok-datagram.ensures.whole
 
 pub returns-in-Some-2-clause-stands : goal.returns-in-Some-2-clause-stands
 returns-in-Some-2-clause-stands c = λ past stands.
-    let counted = counted_parts past c.args.self.now c.args.new c.key_of-key.result c.remove-parts.result stands c.key_of-key.ensures c.remove-parts.ensures.parts in
+    let counted = counted_parts past c.args.self.now c.args.new c.key_of-key.result c.in_ok-before.before stands c.key_of-key.ensures c.in_ok-before.ensures.parts in
     let is : Whole c.in-Some-2.datagram ≡ _ = ap completed (sym c.in-Some-2.is)
-    ∙ completed_is past c.args.new c.remove-parts.result c.in_ok-parts.parts c.conflict.result c.in_ok-datagram.field-0 counted (c.conflict.ensures.kind (λ six. subst (λ (parts : List Fragment). AreFirst parts) (sym counted) (counted_first c.args.new past six))) c.in_default.is c.in_ok-parts.ensures c.in_ok-datagram.ensures.whole in
-    stands_gone past c.args.self.now c.remove-parts.new.self c.args.new c.key_of-key.result (Whole c.in-Some-2.datagram) stands c.key_of-key.ensures c.remove-parts.ensures.rest is (λ fs. refl)
+    ∙ completed_is past c.args.new c.in_ok-before.before c.in_ok-parts.parts c.conflict.result c.in_ok-datagram.field-0 counted (c.conflict.ensures.kind (λ six. subst (λ (parts : List Fragment). AreFirst parts) (sym counted) (counted_first c.args.new past six))) c.in_default.is c.in_ok-parts.ensures c.in_ok-datagram.ensures.whole in
+    stands_gone past c.args.self.now c.remove.new.self c.args.new c.key_of-key.result (Whole c.in-Some-2.datagram) stands c.key_of-key.ensures c.remove.ensures.rest is (λ fs. refl)
 
 pub returns-in_ok-keep-in-None-clause-joined : goal.returns-in_ok-keep-in-None-clause-joined
 returns-in_ok-keep-in-None-clause-joined c = λ past stands.
-    let counted = counted_parts past c.args.self.now c.args.new c.key_of-key.result c.remove-parts.result stands c.key_of-key.ensures c.remove-parts.ensures.parts in
+    let counted = counted_parts past c.args.self.now c.args.new c.key_of-key.result c.in_ok-before.before stands c.key_of-key.ensures c.in_ok-before.ensures.parts in
     ap completed (sym c.in-None.is)
-    ∙ completed_is past c.args.new c.remove-parts.result c.in_ok-parts.parts c.conflict.result c.in_ok-datagram.field-0 counted (c.conflict.ensures.kind (λ six. subst (λ (parts : List Fragment). AreFirst parts) (sym counted) (counted_first c.args.new past six))) c.in_default.is c.in_ok-parts.ensures c.in_ok-datagram.ensures.whole
+    ∙ completed_is past c.args.new c.in_ok-before.before c.in_ok-parts.parts c.conflict.result c.in_ok-datagram.field-0 counted (c.conflict.ensures.kind (λ six. subst (λ (parts : List Fragment). AreFirst parts) (sym counted) (counted_first c.args.new past six))) c.in_default.is c.in_ok-parts.ensures c.in_ok-datagram.ensures.whole
 
 pub returns-in_ok-keep-in-None-clause-stands : goal.returns-in_ok-keep-in-None-clause-stands
 returns-in_ok-keep-in-None-clause-stands c = λ past stands.
-    let counted = counted_parts past c.args.self.now c.args.new c.key_of-key.result c.remove-parts.result stands c.key_of-key.ensures c.remove-parts.ensures.parts in
+    let counted = counted_parts past c.args.self.now c.args.new c.key_of-key.result c.in_ok-before.before stands c.key_of-key.ensures c.in_ok-before.ensures.parts in
     let is : Pending ≡ _ = ap completed (sym c.in-None.is)
-    ∙ completed_is past c.args.new c.remove-parts.result c.in_ok-parts.parts c.conflict.result c.in_ok-datagram.field-0 counted (c.conflict.ensures.kind (λ six. subst (λ (parts : List Fragment). AreFirst parts) (sym counted) (counted_first c.args.new past six))) c.in_default.is c.in_ok-parts.ensures c.in_ok-datagram.ensures.whole in
-    stands_kept past c.args.self.now c.remove-parts.new.self c.keep.new.self c.args.new c.key_of-key.result c.remove-parts.result c.in_ok-parts.parts
-    stands c.key_of-key.ensures c.remove-parts.ensures.rest c.in_ok-keep-in-None.ensures counted c.in_ok-parts.ensures is
+    ∙ completed_is past c.args.new c.in_ok-before.before c.in_ok-parts.parts c.conflict.result c.in_ok-datagram.field-0 counted (c.conflict.ensures.kind (λ six. subst (λ (parts : List Fragment). AreFirst parts) (sym counted) (counted_first c.args.new past six))) c.in_default.is c.in_ok-parts.ensures c.in_ok-datagram.ensures.whole in
+    stands_kept past c.args.self.now c.remove.new.self c.keep.new.self c.args.new c.key_of-key.result c.in_ok-before.before c.in_ok-parts.parts
+    stands c.key_of-key.ensures c.remove.ensures.rest c.in_ok-keep-in-None.ensures counted c.in_ok-parts.ensures is

@@ -9,13 +9,13 @@ use Rattle.ip_join.proofs.joins.Joins.take.Goals as goal
 
 pub returns-clause-isolated : goal.returns-clause-isolated
 returns-clause-isolated c =
-    let same : c.in_ok-clone.field-0 ≡ c.args.payload.now = c.in_ok-clone.ensures.cases in
+    let same : c.in_ok-bytes.bytes ≡ c.args.payload.now = c.in_ok-bytes.ensures ∙ c.bytes.ensures in
     let joined = subst (λ (b : List ℕ). IfOk c.join.result (λ j. (past : List Fragment) → Stands past c.args.self.now → j ≡ joined_by past (record { head = c.args.head.now; frame = c.args.frame; bytes = b }))) same c.join.ensures.joined in
     IfOk-weaker c.join.result _ _ (λ j is past others stands alike. is past stands ∙ joined_by-of_key past others (record { head = c.args.head.now; frame = c.args.frame; bytes = c.args.payload.now }) alike) joined
 
 pub returns-clause-renumbered : goal.returns-clause-renumbered
 returns-clause-renumbered c =
-    let same : c.in_ok-clone.field-0 ≡ c.args.payload.now = c.in_ok-clone.ensures.cases in
+    let same : c.in_ok-bytes.bytes ≡ c.args.payload.now = c.in_ok-bytes.ensures ∙ c.bytes.ensures in
     let joined = subst (λ (b : List ℕ). IfOk c.join.result (λ j. (past : List Fragment) → Stands past c.args.self.now → j ≡ joined_by past (record { head = c.args.head.now; frame = c.args.frame; bytes = b }))) same c.join.ensures.joined in
     IfOk-weaker c.join.result _ _ (λ j is past others one other number stands alike frames.
     ap (answer_renumbered one) (is past stands)
