@@ -14,7 +14,7 @@ use std::marker::Model;
 /// The frames of a capture file whose bytes are in memory, one after the other. Contracts see what is still to come:
 /// the frames, and how the file ends.
 #[derive(Drop)]
-pub struct HeldFrames {
+pub(crate) struct HeldFrames {
     file: Octets,
     format: Format,
     sections: Sections,

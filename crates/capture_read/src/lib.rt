@@ -27,7 +27,6 @@ pub use ending::{Damage, Ending};
 pub use frame::Frame;
 pub use frame_list::FrameList;
 pub use frame_reader::FrameReader;
-pub use held_frames::HeldFrames;
 pub use next_frame::NextFrame;
 pub use read_error::ReadError;
 pub use reading::frames;

@@ -1,6 +1,7 @@
 ghost use Rattle.std.specs.Prelude.{◌≤◌};
 
-use crate::{Damage, Ending, Frame, FrameReader, HeldFrames, NextFrame, ReadError, frames};
+use crate::held_frames::HeldFrames;
+use crate::{Damage, Ending, Frame, FrameReader, NextFrame, ReadError, frames};
 use pk_base::{NoMemory, Octets, Reason};
 use pk_outside::{Capture, MemoryCapture, NamedFile};
 use std::alloc::{AllocError, Global};
