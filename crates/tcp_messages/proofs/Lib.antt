@@ -7,3 +7,7 @@ pub mod Keeping
 pub mod Nexts
 pub mod Whole
 pub mod Ports
+pub mod Matching
+pub mod InHeld
+pub mod Renumbering
+pub mod Alone

@@ -4,3 +4,4 @@ pub mod Readers
 pub mod Reading
 pub mod Standing
 pub mod Laws
+pub mod Renumbered

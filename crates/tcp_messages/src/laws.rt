@@ -1,5 +1,6 @@
 ghost use Rattle.tcp_messages.specs.Brought.{MessagesOnce};
 ghost use Rattle.tcp_messages.specs.Laws.{PortsLaw};
+ghost use Rattle.tcp_messages.specs.Renumbered.{AloneLaw, RenumberedLaw};
 
 /// Each message of a TCP stream's direction is shown by one frame, in the order of its bytes.
 pub fn messages_once()
@@ -9,4 +10,11 @@ pub fn messages_once()
 /// An application that the two ports of a segment tell, whichever of them sends, is that of its whole conversation.
 pub fn ports_law()
     ensures { PortsLaw }
+{}
+
+/// What the frame of a segment shows rests on the segments of its conversation, and on no frame's number: with other numbers in
+/// the same order the same frames show the same messages.
+pub fn messages_alone()
+    ensures alone { AloneLaw }
+    ensures renumbered { RenumberedLaw }
 {}

@@ -12,6 +12,6 @@ mod reading;
 #[cfg(test)]
 mod tests;
 
-pub use laws::{messages_once, ports_law};
+pub use laws::{messages_alone, messages_once, ports_law};
 pub use message_streams::MessageStreams;
 pub use met::{Gathered, Met, ShownList, ShownMessage, Source};
