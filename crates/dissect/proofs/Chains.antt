@@ -1,6 +1,7 @@
 -- The chain of headers, met one by one.
 use Rattle.std.proofs.Common.{◌≡◌, ℕ, zero, suc, ◌-◌, ◌<◌, List, refl, sym, ◌∙◌, ap, subst, arith}
 use Rattle.pk_tree.specs.Trees.{TreeShown}
+use Rattle.port_rules.specs.declared.rules.PortRule.{PortRule}
 use Rattle.capture_read.specs.declared.frame.Frame.{Frame}
 use Rattle.dissect.specs.declared.state.State.{State}
 use Rattle.dissect.specs.declared.todo.Head.{Head}
@@ -12,12 +13,12 @@ use Rattle.dissect.specs.Walks.{Walk, going, stop, rest_met, head_met, chain, al
 use Rattle.dissect.proofs.Told.{told_same, told_head, told_on}
 
 -- after some headers the chain of those that are left is that of all of them
-abbrev pub Goes : Frame → ℕ → State → TreeShown → Todo → ℕ → State → TreeShown → Todo → Type 0
-Goes frame most before t0 first left state t todo =
-    (es : List Event) → StandsAt es before → (w : Walk) × IsWalked w state t todo × (chain left frame w ≡ chain most frame (going t0 es first))
+abbrev pub Goes : List PortRule → Frame → ℕ → State → TreeShown → Todo → ℕ → State → TreeShown → Todo → Type 0
+Goes rules frame most before t0 first left state t todo =
+    (es : List Event) → StandsAt rules es before → (w : Walk) × IsWalked rules w state t todo × (chain rules left frame w ≡ chain rules most frame (going t0 es first))
 
-pub goes-first : (frame : Frame) (most : ℕ) (state : State) (t : TreeShown) (first : Todo) → Goes frame most state t first most state t first
-goes-first frame most state t first =
+pub goes-first : (rules : List PortRule) (frame : Frame) (most : ℕ) (state : State) (t : TreeShown) (first : Todo) → Goes rules frame most state t first most state t first
+goes-first rules frame most state t first =
     λ es stands. (going t es first, record { stands = stands; tree = told_same state first t t refl; todo = refl }, refl)
 
 -- a walk is told by its parts
@@ -25,71 +26,71 @@ is_walk : (w : Walk) (t : TreeShown) (todo : Todo) → t ≡ w.tree → todo ≡
 is_walk w t todo tree is =
     ap (λ (u : TreeShown). going u w.events w.todo) (sym tree) ∙ ap (λ (x : Todo). going t w.events x) (sym is)
 
-chain-head : (frame : Frame) (left : ℕ) (t : TreeShown) (es : List Event) (head : Head) → 0 < left
-    → chain left frame (going t es (todos.Head head)) ≡ chain (left - 1) frame (head_met frame head t es)
+chain-head : (rules : List PortRule) (frame : Frame) (left : ℕ) (t : TreeShown) (es : List Event) (head : Head) → 0 < left
+    → chain rules left frame (going t es (todos.Head head)) ≡ chain rules (left - 1) frame (head_met rules frame head t es)
 unfolding chain
-chain-head frame zero t es head some = search arith
-chain-head frame (suc left) t es head some =
+chain-head rules frame zero t es head some = search arith
+chain-head rules frame (suc left) t es head some =
     let one : left ≡ suc left - 1 = omega arith in
-    ap (λ (n : ℕ). chain n frame (head_met frame head t es)) one
+    ap (λ (n : ℕ). chain rules n frame (head_met rules frame head t es)) one
 
-pub goes-on : (frame : Frame) (most : ℕ) (before : State) (t0 : TreeShown) (first : Todo) (left : ℕ) (state : State) (t : TreeShown) (now : Todo) (head : Head) (after : State) (t1 : TreeShown) (todo : Todo)
-    → 0 < left → now ≡ todos.Head head → Goes frame most before t0 first left state t now
-    → ((es : List Event) → StandsAt es state → IsWalked (head_met frame head t es) after t1 todo)
-    → Goes frame most before t0 first (left - 1) after t1 todo
-goes-on frame most before t0 first left state t now head after t1 todo some is_head goes met = λ es stands.
+pub goes-on : (rules : List PortRule) (frame : Frame) (most : ℕ) (before : State) (t0 : TreeShown) (first : Todo) (left : ℕ) (state : State) (t : TreeShown) (now : Todo) (head : Head) (after : State) (t1 : TreeShown) (todo : Todo)
+    → 0 < left → now ≡ todos.Head head → Goes rules frame most before t0 first left state t now
+    → ((es : List Event) → StandsAt rules es state → IsWalked rules (head_met rules frame head t es) after t1 todo)
+    → Goes rules frame most before t0 first (left - 1) after t1 todo
+goes-on rules frame most before t0 first left state t now head after t1 todo some is_head goes met = λ es stands.
     let (w, walked, is) = goes es stands in
     let one : going t w.events (todos.Head head) ≡ w =
     ap (λ (x : Todo). going t w.events x) (sym is_head) ∙ sym (is_walk w t now (told_head state now head w.tree t is_head walked.tree) walked.todo) in (
-      head_met frame head t w.events,
+      head_met rules frame head t w.events,
       met w.events walked.stands,
-      sym (chain-head frame left t w.events head some) ∙ ap (chain left frame) one ∙ is,
+      sym (chain-head rules frame left t w.events head some) ∙ ap (chain rules left frame) one ∙ is,
     )
 
-chain-stop : (n : ℕ) (frame : Frame) (t : TreeShown) (es : List Event) → chain n frame (stop t es) ≡ stop t es
+chain-stop : (rules : List PortRule) (n : ℕ) (frame : Frame) (t : TreeShown) (es : List Event) → chain rules n frame (stop t es) ≡ stop t es
 unfolding chain
-chain-stop zero frame t es = refl
-chain-stop (suc n) frame t es = chain-stop n frame t es
+chain-stop rules zero frame t es = refl
+chain-stop rules (suc n) frame t es = chain-stop rules n frame t es
 
-pub goes-done : (frame : Frame) (most : ℕ) (before : State) (t0 : TreeShown) (first : Todo) (left : ℕ) (state : State) (t : TreeShown) (now : Todo)
-    → now ≡ todos.Done → Goes frame most before t0 first left state t now
-    → (es : List Event) → StandsAt es before → IsWalked (chain most frame (going t0 es first)) state t todos.Done
-goes-done frame most before t0 first left state t now done goes = λ es stands.
+pub goes-done : (rules : List PortRule) (frame : Frame) (most : ℕ) (before : State) (t0 : TreeShown) (first : Todo) (left : ℕ) (state : State) (t : TreeShown) (now : Todo)
+    → now ≡ todos.Done → Goes rules frame most before t0 first left state t now
+    → (es : List Event) → StandsAt rules es before → IsWalked rules (chain rules most frame (going t0 es first)) state t todos.Done
+goes-done rules frame most before t0 first left state t now done goes = λ es stands.
     let (w, walked, is) = goes es stands in
     let ended : w ≡ stop w.tree w.events = is_walk w w.tree todos.Done refl (sym done ∙ walked.todo) in
-    let end : w ≡ chain most frame (going t0 es first) =
-    ended ∙ sym (chain-stop left frame w.tree w.events) ∙ ap (chain left frame) (sym ended) ∙ is in
-    subst (λ (v : Walk). IsWalked v state t todos.Done) end
+    let end : w ≡ chain rules most frame (going t0 es first) =
+    ended ∙ sym (chain-stop rules left frame w.tree w.events) ∙ ap (chain rules left frame) (sym ended) ∙ is in
+    subst (λ (v : Walk). IsWalked rules v state t todos.Done) end
     (record { stands = walked.stands; tree = subst (λ (x : Todo). IsToldAs state x w.tree t) done walked.tree; todo = sym done ∙ walked.todo })
 
-pub goes-rest : (frame : Frame) (most : ℕ) (before : State) (t0 : TreeShown) (first : Todo) (left : ℕ) (state : State) (t : TreeShown) (now : Todo) (head : Head) (after : State) (t1 : TreeShown) (todo : Todo)
-    → left ≡ 0 → now ≡ todos.Head head → Goes frame most before t0 first left state t now
-    → ((es : List Event) → StandsAt es state → IsWalked (rest_met t es head.span) after t1 todo)
-    → (es : List Event) → StandsAt es before → IsWalked (chain most frame (going t0 es first)) after t1 todos.Done
+pub goes-rest : (rules : List PortRule) (frame : Frame) (most : ℕ) (before : State) (t0 : TreeShown) (first : Todo) (left : ℕ) (state : State) (t : TreeShown) (now : Todo) (head : Head) (after : State) (t1 : TreeShown) (todo : Todo)
+    → left ≡ 0 → now ≡ todos.Head head → Goes rules frame most before t0 first left state t now
+    → ((es : List Event) → StandsAt rules es state → IsWalked rules (rest_met t es head.span) after t1 todo)
+    → (es : List Event) → StandsAt rules es before → IsWalked rules (chain rules most frame (going t0 es first)) after t1 todos.Done
 unfolding chain
-goes-rest frame most before t0 first left state t now head after t1 todo none is_head goes met = λ es stands.
+goes-rest rules frame most before t0 first left state t now head after t1 todo none is_head goes met = λ es stands.
     let (w, walked, is) = goes es stands in
-    let rest : IsWalked (rest_met t w.events head.span) after t1 todo = met w.events walked.stands in
+    let rest : IsWalked rules (rest_met t w.events head.span) after t1 todo = met w.events walked.stands in
     let one : going t w.events (todos.Head head) ≡ w =
     ap (λ (x : Todo). going t w.events x) (sym is_head) ∙ sym (is_walk w t now (told_head state now head w.tree t is_head walked.tree) walked.todo) in
-    let end : rest_met t w.events head.span ≡ chain most frame (going t0 es first) =
-    ap (chain zero frame) one ∙ ap (λ (n : ℕ). chain n frame w) (sym none) ∙ is in
-    subst (λ (v : Walk). IsWalked v after t1 todos.Done) end (record { stands = rest.stands; tree = subst (λ (x : Todo). IsToldAs after x (rest_met t w.events head.span).tree t1) rest.todo rest.tree; todo = refl })
+    let end : rest_met t w.events head.span ≡ chain rules most frame (going t0 es first) =
+    ap (chain rules zero frame) one ∙ ap (λ (n : ℕ). chain rules n frame w) (sym none) ∙ is in
+    subst (λ (v : Walk). IsWalked rules v after t1 todos.Done) end (record { stands = rest.stands; tree = subst (λ (x : Todo). IsToldAs after x (rest_met t w.events head.span).tree t1) rest.todo rest.tree; todo = refl })
 
 -- the first header, and then the others
-pub all-met : (frame : Frame) (w : Walk) (state : State) (t : TreeShown) (todo : Todo) (after : State) (t1 : TreeShown)
-    → after.follows ≡ state.follows → IsWalked w state t todo
-    → IsWalked (chain (layers_left t) frame (going t w.events todo)) after t1 todos.Done
-    → IsWalked (all_met frame w) after t1 todos.Done
+pub all-met : (rules : List PortRule) (frame : Frame) (w : Walk) (state : State) (t : TreeShown) (todo : Todo) (after : State) (t1 : TreeShown)
+    → after.follows ≡ state.follows → IsWalked rules w state t todo
+    → IsWalked rules (chain rules (layers_left t) frame (going t w.events todo)) after t1 todos.Done
+    → IsWalked rules (all_met rules frame w) after t1 todos.Done
 unfolding all_met
-all-met frame w state t todos.Done after t1 same walked rest =
+all-met rules frame w state t todos.Done after t1 same walked rest =
     let ended : w ≡ stop w.tree w.events = is_walk w w.tree todos.Done refl walked.todo in
-    let all : w ≡ chain (layers_left w.tree) frame w =
-    ended ∙ sym (chain-stop (layers_left w.tree) frame w.tree w.events) ∙ ap (chain (layers_left w.tree) frame) (sym ended) in
-    let none : IsWalked (stop t w.events) after t1 todos.Done =
-    subst (λ (v : Walk). IsWalked v after t1 todos.Done) (chain-stop (layers_left t) frame t w.events) rest in
-    subst (λ (v : Walk). IsWalked v after t1 todos.Done) all
+    let all : w ≡ chain rules (layers_left w.tree) frame w =
+    ended ∙ sym (chain-stop rules (layers_left w.tree) frame w.tree w.events) ∙ ap (chain rules (layers_left w.tree) frame) (sym ended) in
+    let none : IsWalked rules (stop t w.events) after t1 todos.Done =
+    subst (λ (v : Walk). IsWalked rules v after t1 todos.Done) (chain-stop rules (layers_left t) frame t w.events) rest in
+    subst (λ (v : Walk). IsWalked rules v after t1 todos.Done) all
     (record { stands = none.stands; tree = told_on state after w.tree t t1 same walked.tree none.tree; todo = walked.todo })
-all-met frame w state t (todos.Head head) after t1 same walked rest =
-    subst (λ (v : Walk). IsWalked (chain (layers_left v.tree) frame v) after t1 todos.Done)
+all-met rules frame w state t (todos.Head head) after t1 same walked rest =
+    subst (λ (v : Walk). IsWalked rules (chain rules (layers_left v.tree) frame v) after t1 todos.Done)
     (sym (is_walk w t (todos.Head head) (told_head state (todos.Head head) head w.tree t refl walked.tree) walked.todo)) rest

@@ -23,16 +23,17 @@ use Rattle.ip_join.specs.declared.joined.Joined.{Joined}
 use Rattle.ip_join.specs.declared.joined.Joined.TheVariants.{Pending, Whole, Conflict}
 use Rattle.tcp_streams.specs.declared.segment.Taken.{Taken}
 use Rattle.tcp_streams.specs.Gaps.{lost_bytes}
+use Rattle.port_rules.specs.declared.rules.PortRule.{PortRule}
 use Rattle.capture_read.specs.declared.frame.Frame.{Frame}
-use Rattle.dissect.specs.declared.decode.App.{App}
-use Rattle.dissect.specs.declared.decode.App.TheVariants.{Http, Dns, Dhcp, Ntp, Mdns, Plain}
+use Rattle.port_rules.specs.declared.rules.App.{App}
+use Rattle.port_rules.specs.declared.rules.App.TheVariants.{Http, Dns, Dhcp, Ntp, Mdns, Plain}
 use Rattle.dissect.specs.declared.times.Times.{Times}
 use Rattle.dissect.specs.declared.todo.Head.{Head}
 use Rattle.dissect.specs.declared.todo.Todo.{Todo}
 use Rattle.dissect.specs.declared.todo.Todo.TheVariants as todos
 use Rattle.dissect.specs.Applications.{data_behind, message_over, payload_over}
 use Rattle.dissect.specs.DataLayer.{data_over}
-use Rattle.dissect.specs.Events.{Event}
+use Rattle.dissect.specs.Events.{Event, NewFrame}
 use Rattle.dissect.specs.Fragments.{number_told, conflict_told, error_field, frame_field, length_field, frames_told, joined_told, joined_todo}
 use Rattle.dissect.specs.FrameLayer.{frame_span, is_cut, kept_frame, frame_tree}
 use Rattle.dissect.specs.Payloads.{with_number, with_ack, with_payload, with_lost, datagram_told, place_told, segment_told}
@@ -117,12 +118,14 @@ message_kept wanted (Some Http) cut span t u k = data_kept wanted t u span k
 message_kept wanted (Some Plain) cut span t u k = data_kept wanted t u span k
 message_kept wanted None cut span t u k = data_kept wanted t u span k
 
-datagram_same : (wanted : List ℕ) (frame : Frame) (packet : PacketHead) (es : List Event) (head : PortsHead) (span : Span) (t u : TreeShown) → IsKeptTree wanted t u →
-    IsSameWay wanted (datagram_met frame packet t es head span) (datagram_met frame packet u es head span)
+datagram_same : (rules : List PortRule) (wanted : List ℕ) (frame : Frame) (packet : PacketHead) (es : List Event) (head : PortsHead) (span : Span) (t u : TreeShown) → IsKeptTree wanted t u →
+    IsSameWay wanted (datagram_met rules frame packet t es head span) (datagram_met rules frame packet u es head span)
 unfolding datagram_met datagram_told payload_over
-datagram_same wanted frame packet es head span t u k =
-    let told = payload_kept wanted UDP_PAYLOAD span _ _ (item_kept wanted t u (made_of UDP_STREAM _) k) in
-    same_going wanted _ _ _ todos.Done (kept_if wanted (span.len == 0) _ _ _ _ told (message_kept wanted _ (is_cut frame) span _ _ told))
+datagram_same rules wanted frame packet es head span t u k =
+    way_as wanted (λ v. datagram_met rules frame packet v es head span) t u k
+    (λ one.
+    let told = payload_kept wanted UDP_PAYLOAD span _ _ (item_kept wanted t (kept_tree wanted t) (made_of UDP_STREAM _) one) in
+    same_going wanted _ _ _ todos.Done (kept_if wanted (span.len == 0) _ _ _ _ told (message_kept wanted _ (is_cut frame) span _ _ told)))
 
 number_kept : (wanted : List ℕ) (field number : ℕ) (t u : TreeShown) → IsKeptTree wanted t u → IsKeptTree wanted (with_number t field number) (with_number u field number)
 number_kept wanted field number t u k = item_kept wanted t u (made_of field (Uint number)) k
@@ -143,58 +146,58 @@ unfolding segment_told
 segment_kept wanted taken span t u k =
     lost_kept wanted (lost_bytes taken.lost) _ _ (payload_kept wanted TCP_PAYLOAD span _ _ (number_kept wanted TCP_LEN span.len _ _ (place_kept wanted taken t u k)))
 
-segment_same : (wanted : List ℕ) (frame : Frame) (packet : PacketHead) (es : List Event) (head : TcpHead) (span : Span) (t u : TreeShown) → IsKeptTree wanted t u →
-    IsSameWay wanted (segment_met frame packet t es head span) (segment_met frame packet u es head span)
+segment_same : (rules : List PortRule) (wanted : List ℕ) (frame : Frame) (packet : PacketHead) (es : List Event) (head : TcpHead) (span : Span) (t u : TreeShown) → IsKeptTree wanted t u →
+    IsSameWay wanted (segment_met rules frame packet t es head span) (segment_met rules frame packet u es head span)
 unfolding segment_met
-segment_same wanted frame packet es head span t u k =
-    way_as wanted (λ v. segment_met frame packet v es head span) t u k
+segment_same rules wanted frame packet es head span t u k =
+    way_as wanted (λ v. segment_met rules frame packet v es head span) t u k
     (λ one.
     let told = segment_kept wanted _ span t (kept_tree wanted t) one in
     same_going wanted _ _ _ todos.Done (carried_kept wanted _ (is_cut frame) span _ _ _ (data_kept wanted _ _ span told) told))
 
 -- what follows a header
-followed_same : (wanted : List ℕ) (frame : Frame) (packet : PacketHead) (mode : Mode) (es : List Event) (after : After) (t u : TreeShown) → IsKeptTree wanted t u →
-    IsSameWay wanted (followed frame packet mode t es after) (followed frame packet mode u es after)
+followed_same : (rules : List PortRule) (wanted : List ℕ) (frame : Frame) (packet : PacketHead) (mode : Mode) (es : List Event) (after : After) (t u : TreeShown) → IsKeptTree wanted t u →
+    IsSameWay wanted (followed rules frame packet mode t es after) (followed rules frame packet mode u es after)
 unfolding followed fragment_met
-followed_same wanted frame packet mode es (afters.Next which span) t u k = same_going wanted t u es _ k
-followed_same wanted frame packet mode es (afters.Packet which span inner) t u k = same_going wanted t u es _ k
-followed_same wanted frame packet mode es (afters.Fragment head span) t u k = fragment_by_same wanted head.whole es frame.number head span t u k
-followed_same wanted frame packet mode es (afters.Datagram head span) t u k = datagram_same wanted frame packet es head span t u k
-followed_same wanted frame packet mode es (afters.Segment head span) t u k = segment_same wanted frame packet es head span t u k
-followed_same wanted frame packet mode es afters.End t u k = same_going wanted t u es todos.Done k
+followed_same rules wanted frame packet mode es (afters.Next which span) t u k = same_going wanted t u es _ k
+followed_same rules wanted frame packet mode es (afters.Packet which span inner) t u k = same_going wanted t u es _ k
+followed_same rules wanted frame packet mode es (afters.Fragment head span) t u k = fragment_by_same wanted head.whole es frame.number head span t u k
+followed_same rules wanted frame packet mode es (afters.Datagram head span) t u k = datagram_same rules wanted frame packet es head span t u k
+followed_same rules wanted frame packet mode es (afters.Segment head span) t u k = segment_same rules wanted frame packet es head span t u k
+followed_same rules wanted frame packet mode es afters.End t u k = same_going wanted t u es todos.Done k
 
 -- a header
-layer_same : (wanted : List ℕ) (frame : Frame) (head : Head) (es : List Event) (proto : ℕ) (span : Span) (steps : List Step) (after : After) (t u : TreeShown) → IsKeptTree wanted t u →
-    IsSameWay wanted (layer_met frame head t es proto span steps after) (layer_met frame head u es proto span steps after)
-layer_same wanted frame head es proto span steps after t u k =
-    followed_same wanted frame head.packet head.mode es after _ _ (layer_kept wanted t u proto span steps head.mode (is_cut frame) k)
+layer_same : (rules : List PortRule) (wanted : List ℕ) (frame : Frame) (head : Head) (es : List Event) (proto : ℕ) (span : Span) (steps : List Step) (after : After) (t u : TreeShown) → IsKeptTree wanted t u →
+    IsSameWay wanted (layer_met rules frame head t es proto span steps after) (layer_met rules frame head u es proto span steps after)
+layer_same rules wanted frame head es proto span steps after t u k =
+    followed_same rules wanted frame head.packet head.mode es after _ _ (layer_kept wanted t u proto span steps head.mode (is_cut frame) k)
 
-message_same : (wanted : List ℕ) (frame : Frame) (head : Head) (es : List Event) (proto : ℕ) (steps : List Step) (after : After) (t u : TreeShown) → IsKeptTree wanted t u →
-    IsSameWay wanted (message_met frame head t es proto steps after) (message_met frame head u es proto steps after)
-message_same wanted frame head es proto steps after t u k =
-    followed_same wanted frame head.packet (mode_behind head.mode after) es after _ _ (layer_kept wanted t u proto head.span steps head.mode (is_cut frame) k)
+message_same : (rules : List PortRule) (wanted : List ℕ) (frame : Frame) (head : Head) (es : List Event) (proto : ℕ) (steps : List Step) (after : After) (t u : TreeShown) → IsKeptTree wanted t u →
+    IsSameWay wanted (message_met rules frame head t es proto steps after) (message_met rules frame head u es proto steps after)
+message_same rules wanted frame head es proto steps after t u k =
+    followed_same rules wanted frame head.packet (mode_behind head.mode after) es after _ _ (layer_kept wanted t u proto head.span steps head.mode (is_cut frame) k)
 
-head_in : (wanted : List ℕ) (which : Next) (frame : Frame) (head : Head) (es : List Event) (t : TreeShown) → IsKeptTree wanted t (kept_tree wanted t) → IsSameWay wanted (head_by which frame head t es) (head_by which frame head (kept_tree wanted t) es)
+head_in : (rules : List PortRule) (wanted : List ℕ) (which : Next) (frame : Frame) (head : Head) (es : List Event) (t : TreeShown) → IsKeptTree wanted t (kept_tree wanted t) → IsSameWay wanted (head_by rules which frame head t es) (head_by rules which frame head (kept_tree wanted t) es)
 unfolding head_by
-head_in wanted nexts.Ip4 frame head es t k = layer_same wanted frame head es _ _ _ _ t (kept_tree wanted t) k
-head_in wanted nexts.Ip6 frame head es t k = layer_same wanted frame head es _ _ _ _ t (kept_tree wanted t) k
-head_in wanted nexts.Arp frame head es t k = layer_same wanted frame head es _ _ _ _ t (kept_tree wanted t) k
-head_in wanted nexts.Vlan frame head es t k = layer_same wanted frame head es _ _ _ _ t (kept_tree wanted t) k
-head_in wanted nexts.Icmp frame head es t k = message_same wanted frame head es _ _ _ t (kept_tree wanted t) k
-head_in wanted nexts.Icmp6 frame head es t k = message_same wanted frame head es _ _ _ t (kept_tree wanted t) k
-head_in wanted nexts.Udp frame head es t k = layer_same wanted frame head es _ _ _ _ t (kept_tree wanted t) k
-head_in wanted nexts.Tcp frame head es t k = layer_same wanted frame head es _ _ _ _ t (kept_tree wanted t) k
-head_in wanted nexts.HopOpts frame head es t k = layer_same wanted frame head es _ _ _ _ t (kept_tree wanted t) k
-head_in wanted nexts.Routing frame head es t k = layer_same wanted frame head es _ _ _ _ t (kept_tree wanted t) k
-head_in wanted nexts.DstOpts frame head es t k = layer_same wanted frame head es _ _ _ _ t (kept_tree wanted t) k
-head_in wanted nexts.FragHdr frame head es t k = layer_same wanted frame head es _ _ _ _ t (kept_tree wanted t) k
-head_in wanted (nexts.Neigh kind) frame head es t k = layer_same wanted frame head es _ _ _ _ t (kept_tree wanted t) k
-head_in wanted nexts.Igmp frame head es t k = layer_same wanted frame head es _ _ _ _ t (kept_tree wanted t) k
-head_in wanted nexts.Rest frame head es t k = rest_same wanted t (kept_tree wanted t) es head.span k
+head_in rules wanted nexts.Ip4 frame head es t k = layer_same rules wanted frame head es _ _ _ _ t (kept_tree wanted t) k
+head_in rules wanted nexts.Ip6 frame head es t k = layer_same rules wanted frame head es _ _ _ _ t (kept_tree wanted t) k
+head_in rules wanted nexts.Arp frame head es t k = layer_same rules wanted frame head es _ _ _ _ t (kept_tree wanted t) k
+head_in rules wanted nexts.Vlan frame head es t k = layer_same rules wanted frame head es _ _ _ _ t (kept_tree wanted t) k
+head_in rules wanted nexts.Icmp frame head es t k = message_same rules wanted frame head es _ _ _ t (kept_tree wanted t) k
+head_in rules wanted nexts.Icmp6 frame head es t k = message_same rules wanted frame head es _ _ _ t (kept_tree wanted t) k
+head_in rules wanted nexts.Udp frame head es t k = layer_same rules wanted frame head es _ _ _ _ t (kept_tree wanted t) k
+head_in rules wanted nexts.Tcp frame head es t k = layer_same rules wanted frame head es _ _ _ _ t (kept_tree wanted t) k
+head_in rules wanted nexts.HopOpts frame head es t k = layer_same rules wanted frame head es _ _ _ _ t (kept_tree wanted t) k
+head_in rules wanted nexts.Routing frame head es t k = layer_same rules wanted frame head es _ _ _ _ t (kept_tree wanted t) k
+head_in rules wanted nexts.DstOpts frame head es t k = layer_same rules wanted frame head es _ _ _ _ t (kept_tree wanted t) k
+head_in rules wanted nexts.FragHdr frame head es t k = layer_same rules wanted frame head es _ _ _ _ t (kept_tree wanted t) k
+head_in rules wanted (nexts.Neigh kind) frame head es t k = layer_same rules wanted frame head es _ _ _ _ t (kept_tree wanted t) k
+head_in rules wanted nexts.Igmp frame head es t k = layer_same rules wanted frame head es _ _ _ _ t (kept_tree wanted t) k
+head_in rules wanted nexts.Rest frame head es t k = rest_same wanted t (kept_tree wanted t) es head.span k
 
-step_same : (wanted : List ℕ) (frame : Frame) (es : List Event) (todo : Todo) (t u : TreeShown) → IsKeptTree wanted t u → IsSameWay wanted (step_on frame t es todo) (step_on frame u es todo)
-step_same wanted frame es todos.Done t u k = same_going wanted t u es todos.Done k
-step_same wanted frame es (todos.Head head) t u k = way_as wanted (λ v. head_met frame head v es) t u k (head_in wanted head.which frame head es t)
+step_same : (rules : List PortRule) (wanted : List ℕ) (frame : Frame) (es : List Event) (todo : Todo) (t u : TreeShown) → IsKeptTree wanted t u → IsSameWay wanted (step_on rules frame t es todo) (step_on rules frame u es todo)
+step_same rules wanted frame es todos.Done t u k = same_going wanted t u es todos.Done k
+step_same rules wanted frame es (todos.Head head) t u k = way_as wanted (λ v. head_met rules frame head v es) t u k (head_in rules wanted head.which frame head es t)
 
 end_same : (wanted : List ℕ) (es : List Event) (todo : Todo) (t u : TreeShown) → IsKeptTree wanted t u → IsSameWay wanted (rest_on t es todo) (rest_on u es todo)
 end_same wanted es todos.Done t u k = same_going wanted t u es todos.Done k
@@ -208,29 +211,29 @@ by_parts wanted v x X one same =
     (subst (λ (todo : Todo). IsSameWay wanted (X v.tree v.events v.todo) (X x.tree v.events todo)) (sym same.todo) (one v.events v.todo v.tree x.tree same.tree))
 
 -- the chain of headers
-chain_same : (wanted : List ℕ) (frame : Frame) (n : ℕ) (v x : Walk) → IsSameWay wanted v x → IsSameWay wanted (chain n frame v) (chain n frame x)
+chain_same : (rules : List PortRule) (wanted : List ℕ) (frame : Frame) (n : ℕ) (v x : Walk) → IsSameWay wanted v x → IsSameWay wanted (chain rules n frame v) (chain rules n frame x)
 unfolding chain
-chain_same wanted frame zero v x same = by_parts wanted v x rest_on (end_same wanted) same
-chain_same wanted frame (suc n) v x same =
-    chain_same wanted frame n (step frame v) (step frame x) (by_parts wanted v x (step_on frame) (step_same wanted frame) same)
+chain_same rules wanted frame zero v x same = by_parts wanted v x rest_on (end_same wanted) same
+chain_same rules wanted frame (suc n) v x same =
+    chain_same rules wanted frame n (step rules frame v) (step rules frame x) (by_parts wanted v x (step_on rules frame) (step_same rules wanted frame) same)
 
-all_same : (wanted : List ℕ) (frame : Frame) (v x : Walk) → IsSameWay wanted v x → IsSameWay wanted (all_met frame v) (all_met frame x)
+all_same : (rules : List PortRule) (wanted : List ℕ) (frame : Frame) (v x : Walk) → IsSameWay wanted v x → IsSameWay wanted (all_met rules frame v) (all_met rules frame x)
 unfolding all_met
-all_same wanted frame v x same =
-    subst (λ (n : ℕ). IsSameWay wanted (chain (layers_left v.tree) frame v) (chain (32 - n) frame x)) (sym (count_kept wanted v.tree x.tree same.tree)) (chain_same wanted frame (layers_left v.tree) v x same)
+all_same rules wanted frame v x same =
+    subst (λ (n : ℕ). IsSameWay wanted (chain rules (layers_left v.tree) frame v) (chain rules (32 - n) frame x)) (sym (count_kept wanted v.tree x.tree same.tree)) (chain_same rules wanted frame (layers_left v.tree) v x same)
 
 -- the first header
-link_same : (wanted : List ℕ) (frame : Frame) (es : List Event) (t u : TreeShown) → IsKeptTree wanted t u → IsSameWay wanted (link_met frame t es) (link_met frame u es)
+link_same : (rules : List PortRule) (wanted : List ℕ) (frame : Frame) (es : List Event) (t u : TreeShown) → IsKeptTree wanted t u → IsSameWay wanted (link_met rules frame t es) (link_met rules frame u es)
 unfolding link_met
-link_same wanted frame es t u k =
-    way_as wanted (λ v. link_met frame v es) t u k
+link_same rules wanted frame es t u k =
+    way_as wanted (λ v. link_met rules frame v es) t u k
     (λ one. same_if wanted (length frame.bytes == 0) (stop t es) (stop (kept_tree wanted t) es) _ _ (same_going wanted t (kept_tree wanted t) es todos.Done one)
-    (followed_same wanted frame no_packet PlainMode es _ _ _ (link_kept wanted (link_of frame.link) frame.little t (frame_span frame) (is_cut frame) one)))
+    (followed_same rules wanted frame no_packet PlainMode es _ _ _ (link_kept wanted (link_of frame.link) frame.little t (frame_span frame) (is_cut frame) one)))
 
 frame_kept : (wanted : List ℕ) (before : Times) (frame : Frame) → IsKeptTree wanted (frame_tree before frame) (kept_frame wanted before frame)
 unfolding kept_frame
 frame_kept wanted before frame = layer_kept wanted _ _ _ _ _ _ _ (record { same = refl; all = refl })
 
-pub walk_kept : (wanted : List ℕ) (before : Times) (es : List Event) (frame : Frame) → IsSameWay wanted (walk_of before es frame) (kept_walk wanted before es frame)
+pub walk_kept : (rules : List PortRule) (wanted : List ℕ) (before : Times) (es : List Event) (frame : Frame) → IsSameWay wanted (walk_of rules before es frame) (kept_walk rules wanted before es frame)
 unfolding walk_of kept_walk
-walk_kept wanted before es frame = all_same wanted frame _ _ (link_same wanted frame es _ _ (frame_kept wanted before frame))
+walk_kept rules wanted before es frame = all_same rules wanted frame _ _ (link_same rules wanted frame (NewFrame ∷ es) _ _ (frame_kept wanted before frame))

@@ -1,18 +1,22 @@
 mod Asked
 mod Behind
 mod Chains
+mod DatagramLemmas
 mod FramePassed
-mod Growing
 mod HttpUnasked
 mod Joining
 mod Kept
 mod KeptMessages
+mod LinkKeys
+mod LinkLemmas
+mod LinkedLemmas
 mod MessageBuffers
 mod MessageLemmas
 mod MessagesAside
-pub mod NoRules
+mod NoteLemmas
 mod Opens
 mod Passing
+pub mod RuleEvents
 mod Segmenting
 mod Spaces
 mod StreamApps

@@ -34,3 +34,7 @@ room-on before state (todos.Head head) room adds = record { udp = omega (arith, 
 pub adds-most : (first state : State) (todo : Todo) → AddsOneThenEnds first state todo → AddsAtMost 1 first state
 adds-most first state todos.Done adds = adds
 adds-most first state (todos.Head head) adds = record { udp = omega (arith, adds.udp); tcp = omega (arith, adds.tcp); follows = adds.follows }
+
+-- and still before the first header
+pub room-before : (first before : State) → HasRoomForOne first → AddsAtMost 0 first before → HasRoomForOne before
+room-before first before room none = record { udp = omega (arith, room.udp, none.udp); tcp = omega (arith, room.tcp, none.tcp) }

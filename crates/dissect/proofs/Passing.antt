@@ -3,8 +3,10 @@ use Rattle.std.specs.Prelude.{◌&&◌, nat_lt}
 use Rattle.std.proofs.Common.{◌≡◌, ◌==◌, ◌||◌, [], length, subst, ℕ, Bool, true, false, List, ◌∷◌, Option, Some, None, if◌then◌else◌, refl, sym, ◌∙◌, ap, true≢false}
 use Rattle.pk_base.specs.declared.span.Span.{Span}
 use Rattle.pk_buffer.specs.Buffers.{bytes_of}
+use Rattle.pk_fields.specs.Fields.{row_of}
 use Rattle.pk_fields.specs.FieldSets.{is_in}
-use Rattle.pk_fields.specs.Ids.{DATA, DNS, HTTP, HTTP_FILE_DATA, TCP_SEGMENT, TCP_STREAM, TCP_SEQ, TCP_ACK, TCP_LEN, TCP_PAYLOAD, TCP_LOST}
+use Rattle.pk_fields.specs.Ids.{DATA, DNS, DNS_RESPONSE_TO, HTTP, HTTP_FILE_DATA, HTTP_REQUEST_IN, TCP_SEGMENT, TCP_STREAM, TCP_SEQ, TCP_ACK, TCP_LEN, TCP_PAYLOAD, TCP_LOST}
+use Rattle.pk_fields.specs.Table.{rows}
 use Rattle.pk_tree.specs.declared.heads.Mode.{Mode}
 use Rattle.pk_tree.specs.declared.heads.Mode.TheVariants.{Plain}
 use Rattle.pk_tree.specs.declared.heads.PacketHead.{PacketHead}
@@ -30,6 +32,7 @@ use Rattle.tcp_messages.specs.declared.met.ShownMessage.{ShownMessage}
 use Rattle.tcp_messages.specs.declared.met.Source.{Source}
 use Rattle.tcp_messages.specs.declared.met.Source.TheVariants as sources
 use Rattle.tcp_messages.specs.Shown.{frames_told as gathered_from, shown_after}
+use Rattle.port_rules.specs.declared.rules.PortRule.{PortRule}
 use Rattle.capture_read.specs.declared.frame.Frame.{Frame}
 use Rattle.dissect.specs.declared.state.State.{State}
 use Rattle.dissect.specs.declared.todo.Todo.TheVariants as todos
@@ -176,14 +179,21 @@ unfolding asks_streams
 messages_unasked wanted unasked =
     no_messages wanted (none_of (is_in wanted TCP_STREAM) (is_in wanted TCP_SEQ) (is_in wanted TCP_ACK) (is_in wanted TCP_LOST) (asks_messages wanted) unasked).4
 
-pub passed-walked : (frame : Frame) (packet : PacketHead) (head : TcpHead) (span : Span) (app : Option StreamApp) (state : State) (t v : TreeShown)
-    → app ≡ stream_app head.source head.target → state.follows ≡ false → v ≡ carried_over app (is_cut frame) span (carried_told t span) []
-    → (es : List Event) → StandsAt es state → IsWalked (segment_met frame packet t es head span) state v todos.Done
+-- nor of the links of messages
+pub unasked_fields : (wanted : List ℕ) → asks_streams wanted ≡ false → (is_in wanted DNS_RESPONSE_TO ≡ false) × (is_in wanted HTTP_REQUEST_IN ≡ false)
+unfolding row_of rows
+unasked_fields wanted unasked =
+    let none = messages_unasked wanted unasked in
+    (none.dns DNS_RESPONSE_TO refl, none.http HTTP_REQUEST_IN refl)
+
+pub passed-walked : (rules : List PortRule) (frame : Frame) (packet : PacketHead) (head : TcpHead) (span : Span) (app : Option StreamApp) (state : State) (t v : TreeShown)
+    → app ≡ stream_app rules head.source head.target → state.follows ≡ false → v ≡ carried_over app (is_cut frame) span (carried_told t span) []
+    → (es : List Event) → StandsAt rules es state → IsWalked rules (segment_met rules frame packet t es head span) state v todos.Done
 unfolding segment_met
-passed-walked frame packet head span app state t v app_is unfollowed shown es stands =
+passed-walked rules frame packet head span app state t v app_is unfollowed shown es stands =
     let bytes = bytes_of t.buffers span in
     let cut = is_cut frame in
-    let own = stream_app head.source head.target in
+    let own = stream_app rules head.source head.target in
     let segment = segment_from frame.number packet head bytes in
     let past = segments_of es in
     let messages = shown_after own past segment in
@@ -192,7 +202,8 @@ passed-walked frame packet head span app state t v app_is unfollowed shown es st
     let wanted : whole.wanted ≡ t.wanted = carried_over_wanted own cut span told messages ∙ told_wanted t (taken_after past segment) span in
     let passed : v ≡ carried_over own cut span (carried_told t span) [] = shown ∙ ap (λ (a : Option StreamApp). carried_over a cut span (carried_told t span) []) app_is in
     record {
-      stands = stands-segment es frame.number packet head bytes state state stands refl refl (λ follows. absurd (true≢false (sym follows ∙ unfollowed)));
+      stands = stands-segment rules es frame.number packet head bytes state state stands refl refl (λ follows. absurd (true≢false (sym follows ∙ unfollowed)))
+          (λ follows. absurd (true≢false (sym follows ∙ unfollowed))) (λ follows. absurd (true≢false (sym follows ∙ unfollowed)));
       tree = record {
         wanted = ap (λ (u : TreeShown). u.wanted) passed ∙ carried_over_wanted own cut span (carried_told t span) [] ∙ carried_wanted t span ∙ sym wanted;
         same = λ follows. absurd (true≢false (sym (follows refl) ∙ unfollowed));

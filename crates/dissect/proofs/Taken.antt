@@ -1,53 +1,85 @@
 -- A frame more, taken by a dissector.
-use Rattle.std.proofs.Common.{◌≡◌, ℕ, ◌+◌, Bool, true, false, refl, List, ◌∷◌, length, sym, ◌∙◌, ap, subst, arith}
+use Rattle.std.proofs.Common.{◌≡◌, ℕ, ◌+◌, Bool, true, false, refl, List, ◌∷◌, Option, length, sym, ◌∙◌, ap, subst, arith}
 use Rattle.pk_fields.specs.FieldSets.{is_in, every_field}
 use Rattle.pk_tree.specs.FieldValues.{values_of}
-use Rattle.pk_tree.specs.Trees.{TreeShown, IsKept as IsKeptTree, IsTree}
+use Rattle.pk_tree.specs.Trees.{TreeShown, IsKept as IsKeptTree}
 use Rattle.pk_tree.proofs.KeptTrees.{all_kept}
 use Rattle.pk_tree.proofs.KeptValues.{values_same}
+use Rattle.port_rules.specs.declared.rules.DecodeAs.{DecodeAs}
+use Rattle.port_rules.specs.declared.rules.PortRule.{PortRule}
 use Rattle.capture_read.specs.declared.frame.Frame.{Frame}
 use Rattle.dissect.specs.declared.state.State.{State}
 use Rattle.dissect.specs.declared.times.Times.{Times}
-use Rattle.dissect.specs.declared.todo.Todo.TheVariants as todos
 use Rattle.dissect.specs.Events.{Event}
 use Rattle.dissect.specs.Followed.{asks_streams, HasSameValues}
-use Rattle.dissect.specs.Stands.{DissectorShown, StandsAt, IsWalked, IsAfter}
+use Rattle.dissect.specs.Stands.{DissectorShown, StandsAt, IsRead, IsAfter}
+use Rattle.dissect.specs.Linked.{linked}
+use Rattle.dissect.specs.Links.{newest_links}
 use Rattle.dissect.specs.Times.{with_time}
-use Rattle.dissect.specs.Trees.{kept_walk, times_of, events_of, tree_at}
+use Rattle.dissect.specs.Trees.{bare_tree, events_of, kept_walk, times_of, tree_at}
 use Rattle.dissect.proofs.Kept.{walk_kept}
+use Rattle.dissect.proofs.LinkedLemmas.{links_kept, unasked_links}
 use Rattle.dissect.proofs.MessagesAside.{same_values}
+use Rattle.dissect.proofs.RuleEvents.{rules_change_no_events}
+use Rattle.dissect.proofs.Passing.{unasked_fields}
 
 -- the frame is read, whatever events are kept
+abbrev pub ReadsBy : List PortRule → List ℕ → Frame → Times → State → State → TreeShown → Type 0
+ReadsBy rules asked frame times old new t =
+    (es : List Event) → StandsAt rules es old → IsRead rules asked (kept_walk rules asked times es frame) new t
+
 abbrev pub Reads : List ℕ → Frame → DissectorShown → State → TreeShown → Type 0
-Reads asked frame d state t =
-    (es : List Event) → StandsAt es d.state → IsWalked (kept_walk asked d.times es frame) state t todos.Done
+Reads asked frame d state t = ReadsBy d.decode.rules asked frame d.times d.state state t
 
 -- by the times and events of the frames that were taken
-walked : (asked : List ℕ) (past : List Frame) (frame : Frame) (d : DissectorShown) (state : State) (t : TreeShown) → IsAfter past d → Reads asked frame d state t
-    → IsWalked (kept_walk asked (times_of past) (events_of past) frame) state t todos.Done
-walked asked past frame d state t after reads =
-    subst (λ (times : Times). IsWalked (kept_walk asked times (events_of past) frame) state t todos.Done) after.times (reads (events_of past) after.state)
+read : (asked : List ℕ) (past : List Frame) (frame : Frame) (d : DissectorShown) (state : State) (t : TreeShown) → IsAfter past d → Reads asked frame d state t
+    → IsRead d.decode.rules asked (kept_walk d.decode.rules asked (times_of past) (events_of past) frame) state t
+read asked past frame d state t after reads =
+    subst (λ (times : Times). IsRead d.decode.rules asked (kept_walk d.decode.rules asked times (events_of past) frame) state t) after.times (reads (events_of past) after.state)
+
+events_are : (rules : List PortRule) (asked : List ℕ) (past : List Frame) (frame : Frame) → (kept_walk rules asked (times_of past) (events_of past) frame).events ≡ events_of (frame ∷ past)
+unfolding events_of
+events_are rules asked past frame =
+    (walk_kept rules asked (times_of past) (events_of past) frame).events ∙ rules_change_no_events rules (times_of past) (events_of past) frame
+
+-- the links of a tree of some fields
+with_links : (rules : List PortRule) (asked : List ℕ) (past : List Frame) (frame : Frame)
+    → IsKeptTree asked (tree_at rules past frame) (linked asked (newest_links rules (events_of (frame ∷ past))) (kept_walk rules asked (times_of past) (events_of past) frame).tree)
+unfolding tree_at bare_tree
+with_links rules asked past frame =
+    links_kept asked (newest_links rules (events_of (frame ∷ past))) _ _ (walk_kept rules asked (times_of past) (events_of past) frame).tree
 
 -- where streams are followed, the tree has the wanted items of the whole tree
 pub tree-taken : (asked : List ℕ) (past : List Frame) (frame : Frame) (d : DissectorShown) (state : State) (t : TreeShown) → state.follows ≡ d.state.follows
-    → IsAfter past d → Reads asked frame d state t → d.state.follows ≡ true → IsKeptTree asked (tree_at past frame) t
-unfolding tree_at
+    → IsAfter past d → Reads asked frame d state t → d.state.follows ≡ true → IsKeptTree asked (tree_at d.decode.rules past frame) t
 tree-taken asked past frame d state t same after reads follows =
-    let told = (walked asked past frame d state t after reads).tree.same (λ _. same ∙ follows) in
-    subst (λ (u : TreeShown). IsKeptTree asked (tree_at past frame) u) (sym told) (walk_kept asked (times_of past) (events_of past) frame).tree
+    let rules = d.decode.rules in
+    let way = kept_walk rules asked (times_of past) (events_of past) frame in
+    let one = read asked past frame d state t after reads in
+    let bare : one.bare ≡ way.tree = one.walked.tree.same (λ _. same ∙ follows) in
+    let found : state.found.items ≡ newest_links rules (events_of (frame ∷ past)) = one.walked.stands.found (same ∙ follows) ∙ ap (newest_links rules) (events_are rules asked past frame) in
+    subst (λ (u : TreeShown). IsKeptTree asked (tree_at rules past frame) u)
+    (sym (one.with_links ∙ ap (linked asked state.found.items) bare ∙ ap (λ (links : List (Option ℕ)). linked asked links way.tree) found))
+    (with_links rules asked past frame)
 
 -- else the values, where nothing of streams is asked
 pub values-taken : (asked : List ℕ) (past : List Frame) (frame : Frame) (d : DissectorShown) (state : State) (t : TreeShown)
-    → IsTree t → IsAfter past d → Reads asked frame d state t → asks_streams asked ≡ false → HasSameValues asked (tree_at past frame) t
-unfolding tree_at
-values-taken asked past frame d state t tree after reads unasked =
-    let kept = (walk_kept asked (times_of past) (events_of past) frame).tree.same in
-    let wanted = ap (λ (u : TreeShown). u.wanted) kept in
-    let told = (walked asked past frame d state t after reads).tree in
+    → IsAfter past d → Reads asked frame d state t → asks_streams asked ≡ false → HasSameValues asked (tree_at d.decode.rules past frame) t
+values-taken asked past frame d state t after reads unasked =
+    let rules = d.decode.rules in
+    let way = kept_walk rules asked (times_of past) (events_of past) frame in
+    let one = read asked past frame d state t after reads in
+    let none = unasked_fields asked unasked in
+    let links = newest_links rules (events_of (frame ∷ past)) in
+    let whole : IsKeptTree asked (tree_at rules past frame) way.tree =
+    subst (IsKeptTree asked (tree_at rules past frame)) (unasked_links asked links way.tree none.0 none.1) (with_links rules asked past frame) in
+    let bare : t ≡ one.bare = one.with_links ∙ unasked_links asked state.found.items one.bare none.0 none.1 in
+    let wanted : way.tree.wanted ≡ asked = ap (λ (u : TreeShown). u.wanted) whole.same in
     λ field layers is.
-    same_values _ t tree (told.lacks (ap asks_streams wanted ∙ unasked)) field layers (ap (λ set. is_in set field) wanted ∙ is)
-    ∙ ap (λ (u : TreeShown). values_of u field layers) kept
-    ∙ values_same asked (tree_at past frame) field layers is
+    ap (λ (u : TreeShown). values_of u field layers) bare
+    ∙ same_values _ one.bare one.fits (one.walked.tree.lacks (ap asks_streams wanted ∙ unasked)) field layers (ap (λ set. is_in set field) wanted ∙ is)
+    ∙ ap (λ (u : TreeShown). values_of u field layers) whole.same
+    ∙ values_same asked (tree_at rules past frame) field layers is
 
 pub kept-values : (asked : List ℕ) (whole t : TreeShown) → IsKeptTree asked whole t → HasSameValues asked whole t
 kept-values asked whole t kept = λ field layers is. ap (λ (u : TreeShown). values_of u field layers) kept.same ∙ values_same asked whole field layers is
@@ -59,17 +91,19 @@ values-read true asked whole t kept values few = kept-values asked whole t (kept
 values-read false asked whole t kept values few = values (few refl)
 
 -- the tree of all fields is the whole tree
-pub whole-taken : (past : List Frame) (frame : Frame) (t : TreeShown) → IsKeptTree every_field (tree_at past frame) t → t ≡ tree_at past frame
-whole-taken past frame t kept = all_kept (tree_at past frame) t kept
+pub whole-taken : (rules : List PortRule) (past : List Frame) (frame : Frame) (t : TreeShown) → IsKeptTree every_field (tree_at rules past frame) t → t ≡ tree_at rules past frame
+whole-taken rules past frame t kept = all_kept (tree_at rules past frame) t kept
 
 pub after-taken : (asked : List ℕ) (past : List Frame) (frame : Frame) (d new : DissectorShown) (t : TreeShown)
-    → new.spent ≡ false → new.taken ≡ d.taken + 1 → new.captured ≡ d.captured + length frame.bytes → new.times ≡ with_time frame.time d.times
+    → new.spent ≡ false → new.taken ≡ d.taken + 1 → new.captured ≡ d.captured + length frame.bytes → new.times ≡ with_time frame.time d.times → new.decode ≡ d.decode
     → IsAfter past d → Reads asked frame d new.state t → IsAfter (frame ∷ past) new
-unfolding times_of events_of
-after-taken asked past frame d new t not_spent taken captured times after reads = record {
+unfolding times_of
+after-taken asked past frame d new t not_spent taken captured times same after reads = record {
   not_spent = not_spent;
   taken = taken ∙ omega (arith, after.taken);
   captured = captured ∙ omega (arith, after.captured);
   times = times ∙ ap (with_time frame.time) after.times;
-  state = subst (λ (es : List Event). StandsAt es new.state) (walk_kept asked (times_of past) (events_of past) frame).events (walked asked past frame d new.state t after reads).stands;
+  state = subst (λ (decode : DecodeAs). StandsAt decode.rules (events_of (frame ∷ past)) new.state) (sym same)
+      (subst (λ (es : List Event). StandsAt d.decode.rules es new.state) (events_are d.decode.rules asked past frame)
+      (read asked past frame d new.state t after reads).walked.stands);
 }

@@ -9,6 +9,7 @@ use Rattle.pk_tree.specs.Trees.{TreeShown}
 use Rattle.ip_join.specs.declared.joined.Datagram.{Datagram}
 use Rattle.ip_join.specs.declared.joined.Joined.{Joined}
 use Rattle.ip_join.specs.declared.joined.Joined.TheVariants.{Whole}
+use Rattle.port_rules.specs.declared.rules.PortRule.{PortRule}
 use Rattle.capture_read.specs.declared.frame.Frame.{Frame}
 use Rattle.dissect.specs.declared.state.State.{State}
 use Rattle.dissect.specs.declared.todo.Head.{Head}
@@ -49,27 +50,27 @@ follows_asked true asks few asked = refl
 follows_asked false asks few asked = absurd (true≢false (sym asked ∙ few refl))
 
 -- a way on which no segment was met
-pub walked_same : (w : Walk) (state : State) (t : TreeShown) (next : Todo) → StandsAt w.events state → t ≡ w.tree → next ≡ w.todo → IsWalked w state t next
-walked_same w state t next stands tree todo = record { stands = stands; tree = told_same state next w.tree t tree; todo = todo }
+pub walked_same : (rules : List PortRule) (w : Walk) (state : State) (t : TreeShown) (next : Todo) → StandsAt rules w.events state → t ≡ w.tree → next ≡ w.todo → IsWalked rules w state t next
+walked_same rules w state t next stands tree todo = record { stands = stands; tree = told_same state next w.tree t tree; todo = todo }
 
-pub walked_met : (before after : State) (w : List Event → Walk) (t : TreeShown) (r : Result Todo NoMemory) → IfOk r (λ next. (es : List Event) → StandsAt es before → IsMet (w es) after t next)
-    → IfOk r (λ next. (es : List Event) → StandsAt es before → IsWalked (w es) after t next)
-walked_met before after w t (Ok next) met = λ es stands.
+pub walked_met : (rules : List PortRule) (before after : State) (w : List Event → Walk) (t : TreeShown) (r : Result Todo NoMemory) → IfOk r (λ next. (es : List Event) → StandsAt rules es before → IsMet rules (w es) after t next)
+    → IfOk r (λ next. (es : List Event) → StandsAt rules es before → IsWalked rules (w es) after t next)
+walked_met rules before after w t (Ok next) met = λ es stands.
     let is = met es stands in
-    walked_same (w es) after t next is.stands is.tree is.todo
-walked_met before after w t (Err fault) met = tt
+    walked_same rules (w es) after t next is.stands is.tree is.todo
+walked_met rules before after w t (Err fault) met = tt
 
 -- a datagram that is whole
 pub walked_joined : (state : State) (joined : Joined) (datagram : Datagram) (head : FragmentHead) (span : Span) (t new : TreeShown) (r : Result Todo NoMemory) → joined ≡ Whole datagram
     → IfOk r (λ _. new ≡ joined_told t head.six datagram) → IfOk r (λ next. next ≡ joined_todo t head datagram)
-    → IfOk r (λ next. (es : List Event) → StandsAt es state → IsWalked (joined_met joined t es head span) state new next)
+    → IfOk r (λ next. (rules : List PortRule) (es : List Event) → StandsAt rules es state → IsWalked rules (joined_met joined t es head span) state new next)
 unfolding joined_met
-walked_joined state joined datagram head span t new (Ok next) whole tree todo = λ es stands.
-    subst (λ (j : Joined). IsWalked (joined_met j t es head span) state new next) (sym whole)
-    (walked_same (going (joined_told t head.six datagram) es (joined_todo t head datagram)) state new next stands tree todo)
+walked_joined state joined datagram head span t new (Ok next) whole tree todo = λ rules es stands.
+    subst (λ (j : Joined). IsWalked rules (joined_met j t es head span) state new next) (sym whole)
+    (walked_same rules (going (joined_told t head.six datagram) es (joined_todo t head datagram)) state new next stands tree todo)
 walked_joined state joined datagram head span t new (Err fault) whole tree todo = tt
 
 -- a frame of no bytes has no header
-pub link_none : (frame : Frame) (t : TreeShown) (es : List Event) → length frame.bytes ≡ 0 → link_met frame t es ≡ stop t es
+pub link_none : (rules : List PortRule) (frame : Frame) (t : TreeShown) (es : List Event) → length frame.bytes ≡ 0 → link_met rules frame t es ≡ stop t es
 unfolding link_met
-link_none frame t es none = cond-true _ _ _ (eq-eqb (length frame.bytes) 0 none)
+link_none rules frame t es none = cond-true _ _ _ (eq-eqb (length frame.bytes) 0 none)

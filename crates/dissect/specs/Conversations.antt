@@ -7,7 +7,7 @@ use Rattle.pk_tree.specs.declared.heads.PacketHead.{PacketHead}
 use Rattle.pk_tree.specs.declared.heads.PortsHead.{PortsHead}
 use Rattle.dissect.specs.declared.conversations.End.{End}
 use Rattle.dissect.specs.declared.conversations.Ends.{Ends}
-use Rattle.dissect.specs.Events.{Event, Piece, Udp, Tcp}
+use Rattle.dissect.specs.Events.{Event, NewFrame, Piece, Udp, Tcp}
 
 -- an end of a conversation: an address and a port
 abbrev pub end_of : Address → ℕ → End
@@ -49,8 +49,9 @@ number_in known ends = position_or_len (same_ends ends) known
 -- the conversations over UDP, in the order of their first packets; events have the newest first
 unfoldable pub udp_opened : List Event → List Ends
 udp_opened [] = []
+udp_opened (NewFrame ∷ es) = udp_opened es
 udp_opened (Piece frame head bytes ∷ es) = udp_opened es
-udp_opened (Udp frame packet head ∷ es) = with_ends (udp_opened es) (udp_ends packet head)
+udp_opened (Udp frame packet head bytes ∷ es) = with_ends (udp_opened es) (udp_ends packet head)
 udp_opened (Tcp frame packet head bytes ∷ es) = udp_opened es
 
 -- the number of a packet's conversation, from 0, given the events before it

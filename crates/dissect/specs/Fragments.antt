@@ -16,7 +16,7 @@ use Rattle.ip_join.specs.declared.joined.ConflictKind.TheVariants.{TooLong, Mult
 use Rattle.ip_join.specs.declared.joined.Datagram.{Datagram}
 use Rattle.dissect.specs.declared.todo.Todo.{Todo}
 use Rattle.dissect.specs.declared.todo.Todo.TheVariants as todos
-use Rattle.dissect.specs.Events.{Event, Piece, Udp, Tcp}
+use Rattle.dissect.specs.Events.{Event, NewFrame, Piece, Udp, Tcp}
 
 -- a fragment, as it is taken
 abbrev pub fragment_from : ℕ → FragmentHead → List ℕ → Fragment
@@ -25,8 +25,9 @@ fragment_from frame head bytes = record { head = head; frame = frame; bytes = by
 -- the fragments among events
 unfoldable pub fragments_of : List Event → List Fragment
 fragments_of [] = []
+fragments_of (NewFrame ∷ es) = fragments_of es
 fragments_of (Piece frame head bytes ∷ es) = fragment_from frame head bytes ∷ fragments_of es
-fragments_of (Udp frame packet head ∷ es) = fragments_of es
+fragments_of (Udp frame packet head bytes ∷ es) = fragments_of es
 fragments_of (Tcp frame packet head bytes ∷ es) = fragments_of es
 
 abbrev pub error_number : ConflictKind → ℕ

@@ -1,11 +1,10 @@
 -- What the tree of a frame shows of the messages of a TCP stream: the frames that brought them, and then their layers, one behind
 -- the other.
-use Rattle.std.specs.Prelude.{◌==◌, ℕ, Bool, true, ◌||◌, if◌then◌else◌, List, [], ◌∷◌, length, Option, Some, None}
+use Rattle.std.specs.Prelude.{ℕ, Bool, true, List, [], ◌∷◌, length, Option, Some, None}
 use Rattle.pk_base.specs.declared.span.Span.{Span}
 use Rattle.pk_buffer.specs.Buffers.{bytes_of}
 use Rattle.pk_fields.specs.Ids.{DNS, TCP_SEGMENT}
 use Rattle.pk_tree.specs.declared.heads.Mode.TheVariants.{Plain as PlainMode}
-use Rattle.pk_tree.specs.declared.heads.TcpHead.{TcpHead}
 use Rattle.pk_tree.specs.Layouts.{layer_read, within}
 use Rattle.pk_tree.specs.Trees.{TreeShown, with_buffer}
 use Rattle.dis_dns.specs.Dns.{dns_layout}
@@ -20,15 +19,12 @@ use Rattle.tcp_messages.specs.declared.met.ShownMessage.{ShownMessage}
 use Rattle.tcp_messages.specs.declared.met.Source.{Source}
 use Rattle.tcp_messages.specs.declared.met.Source.TheVariants as sources
 use Rattle.tcp_messages.specs.Shown.{frames_told as gathered_from}
-use Rattle.dissect.specs.declared.decode.App.{App}
-use Rattle.dissect.specs.declared.decode.App.TheVariants.{Http, Dns, Dhcp, Ntp, Mdns, Plain}
-use Rattle.dissect.specs.Applications.{app_of}
+use Rattle.port_rules.specs.declared.rules.App.{App}
+use Rattle.port_rules.specs.declared.rules.App.TheVariants.{Http, Dns, Dhcp, Ntp, Mdns, Plain}
+use Rattle.port_rules.specs.declared.rules.PortRule.{PortRule}
+use Rattle.port_rules.specs.Applications.{tcp_app}
 use Rattle.dissect.specs.DataLayer.{data_over}
 use Rattle.dissect.specs.Payloads.{with_number}
-
--- the application of a port of TCP: DNS has 53 (RFC 1035, 4.2.2), HTTP 80 (RFC 9110, 4.2.1) and 8080 (IANA, http-alt)
-abbrev pub usual_tcp : ℕ → Option App
-usual_tcp port = if port == 53 then Some Dns else (if port == 80 || port == 8080 then Some Http else None)
 
 -- those that have messages in streams
 abbrev pub in_streams : Option App → Option StreamApp
@@ -41,11 +37,11 @@ in_streams (Some Plain) = None
 in_streams None = None
 
 -- the application of a stream, by the ports of one of its segments
-unfoldable pub stream_app : ℕ → ℕ → Option StreamApp
-stream_app source target = in_streams (app_of usual_tcp (record { source = source; target = target }))
+unfoldable pub stream_app : List PortRule → ℕ → ℕ → Option StreamApp
+stream_app rules source target = in_streams (tcp_app rules source target)
 
-abbrev pub app_of_segment : Segment → Option StreamApp
-app_of_segment s = stream_app s.from.port s.to.port
+abbrev pub app_of_segment : List PortRule → Segment → Option StreamApp
+app_of_segment rules s = stream_app rules s.from.port s.to.port
 
 -- the frames that brought the bytes of messages, in the layer of the TCP header
 abbrev pub with_segments : TreeShown → List ℕ → TreeShown

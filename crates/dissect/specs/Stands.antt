@@ -1,12 +1,15 @@
 -- What a dissector keeps, and what it stands for.
 use Rattle.std.specs.Prelude.{◌≡◌, ℕ, ◌+◌, ◌-◌, ◌*◌, ◌<◌, ◌≤◌, ◌^◌, Bool, true, false, List, length}
+use Rattle.port_rules.specs.declared.rules.DecodeAs.{DecodeAs}
+use Rattle.port_rules.specs.declared.rules.PortRule.{PortRule}
 use Rattle.capture_read.specs.declared.frame.Frame.{Frame}
 use Rattle.capture_read.specs.FrameList.{captured_bytes}
-use Rattle.pk_tree.specs.Trees.{TreeShown}
+use Rattle.pk_tree.specs.Trees.{TreeShown, IsTree}
 use Rattle.ip_join.specs.Stands.{Stands as JoinsStandFor}
 use Rattle.tcp_streams.specs.Standing.{taken_so_far}
 use Rattle.tcp_messages.specs.Standing.{ReadsFor, streams_in}
-use Rattle.dissect.specs.declared.decode.DecodeAs.{DecodeAs}
+use Rattle.dissect.specs.declared.notes.Direction.{Direction}
+use Rattle.dissect.specs.declared.notes.Note.{Note}
 use Rattle.dissect.specs.declared.state.State.{State}
 use Rattle.dissect.specs.declared.times.Times.{Times}
 use Rattle.dissect.specs.declared.todo.Todo.{Todo}
@@ -15,7 +18,11 @@ use Rattle.dissect.specs.Conversations.{udp_opened}
 use Rattle.dissect.specs.Events.{Event}
 use Rattle.dissect.specs.Followed.{asks_streams, LacksOnly}
 use Rattle.dissect.specs.Fragments.{fragments_of}
+use Rattle.dissect.specs.LinkTables.{LinksStandFor}
+use Rattle.dissect.specs.Linked.{linked}
+use Rattle.dissect.specs.Links.{links_of, newest_links}
 use Rattle.dissect.specs.MessageLayers.{app_of_segment}
+use Rattle.dissect.specs.Notes.{Noted, noted, noted_on}
 use Rattle.dissect.specs.Segments.{segments_of}
 use Rattle.dissect.specs.Times.{AreTimes}
 use Rattle.dissect.specs.Trees.{times_of, events_of}
@@ -32,12 +39,27 @@ pub record DissectorShown : Type 0 where
   pub times : Times
   pub state : State
 
--- what is kept of events: the fragments of datagrams that aren't whole yet, the conversations over UDP, and the streams of TCP with
--- their messages, where they are followed
-pub record StandsAt (es : List Event) (state : State) : Type 0 where
+-- what is kept of events: the fragments of datagrams that aren't whole yet, the conversations over UDP, and where they are followed
+-- the streams of TCP, with the messages that they have by the rules for ports, what links ask of messages, and the links of the newest
+-- frame
+pub record StandsAt (rules : List PortRule) (es : List Event) (state : State) : Type 0 where
   pub joins : JoinsStandFor (fragments_of es) state.joins
   pub udp : state.udp ≡ udp_opened es
-  pub streams : state.follows ≡ true → ReadsFor app_of_segment (segments_of es) state.streams
+  pub streams : state.follows ≡ true → ReadsFor (app_of_segment rules) (segments_of es) state.streams
+  pub links : state.follows ≡ true → LinksStandFor (noted rules es) state.links
+  pub found : state.follows ≡ true → state.found.items ≡ newest_links rules es
+
+-- the messages that a frame shows are linked, and kept for later links
+pub record IsLinked (frame : ℕ) (at : Direction) (notes : List Note) (old new : State) : Type 0 where
+  pub found : (ns : List Noted) → LinksStandFor ns old.links → new.found.items ≡ links_of ns at notes
+  pub links : (ns : List Noted) → LinksStandFor ns old.links → LinksStandFor (noted_on frame at notes ns) new.links
+
+-- nothing else of what is kept is changed
+pub record IsSameButLinks (old new : State) : Type 0 where
+  pub joins : new.joins ≡ old.joins
+  pub udp : new.udp ≡ old.udp
+  pub follows : new.follows ≡ old.follows
+  pub streams : new.streams ≡ old.streams
 
 -- at most so many conversations over UDP were opened, and segments of TCP taken; streams are followed as before
 pub record AddsAtMost (most : ℕ) (old new : State) : Type 0 where
@@ -85,24 +107,31 @@ pub record IsToldAs (state : State) (next : Todo) (whole t : TreeShown) : Type 0
   pub lacks : asks_streams whole.wanted ≡ false → LacksOnly whole t
 
 -- how far a frame is read where no segment was met, with what is kept then
-pub record IsMet (w : Walk) (state : State) (t : TreeShown) (next : Todo) : Type 0 where
-  pub stands : StandsAt w.events state
+pub record IsMet (rules : List PortRule) (w : Walk) (state : State) (t : TreeShown) (next : Todo) : Type 0 where
+  pub stands : StandsAt rules w.events state
   pub tree : t ≡ w.tree
   pub todo : next ≡ w.todo
 
 -- how far a frame is read, with what is kept then
-pub record IsWalked (w : Walk) (state : State) (t : TreeShown) (next : Todo) : Type 0 where
-  pub stands : StandsAt w.events state
+pub record IsWalked (rules : List PortRule) (w : Walk) (state : State) (t : TreeShown) (next : Todo) : Type 0 where
+  pub stands : StandsAt rules w.events state
   pub tree : IsToldAs state next w.tree t
   pub todo : next ≡ w.todo
 
--- the dissector after it took these frames, the newest first
+-- a frame that was read: the tree of a way that has ended, with the links of the wanted fields
+pub record IsRead (rules : List PortRule) (wanted : List ℕ) (w : Walk) (state : State) (t : TreeShown) : Type 0 where
+  pub bare : TreeShown
+  pub fits : IsTree bare
+  pub walked : IsWalked rules w state bare todos.Done
+  pub with_links : t ≡ linked wanted state.found.items bare
+
+-- the dissector after it took these frames, the newest first, by its rules
 pub record IsAfter (past : List Frame) (d : DissectorShown) : Type 0 where
   pub not_spent : d.spent ≡ false
   pub taken : d.taken ≡ length past
   pub captured : d.captured ≡ captured_bytes past
   pub times : d.times ≡ times_of past
-  pub state : StandsAt (events_of past) d.state
+  pub state : StandsAt d.decode.rules (events_of past) d.state
 
 -- a dissector that follows streams stands for the frames that it took
 unfoldable pub Stands : List Frame → DissectorShown → Type 0

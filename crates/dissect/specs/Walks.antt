@@ -38,11 +38,13 @@ use Rattle.tcp_streams.specs.Labels.{taken_after}
 use Rattle.stream_messages.specs.declared.told.App.{App as StreamApp}
 use Rattle.tcp_messages.specs.declared.met.ShownMessage.{ShownMessage}
 use Rattle.tcp_messages.specs.Shown.{shown_after}
+use Rattle.port_rules.specs.declared.rules.PortRule.{PortRule}
+use Rattle.port_rules.specs.Applications.{udp_app}
 use Rattle.capture_read.specs.declared.frame.Frame.{Frame}
 use Rattle.dissect.specs.declared.todo.Head.{Head}
 use Rattle.dissect.specs.declared.todo.Todo.{Todo}
 use Rattle.dissect.specs.declared.todo.Todo.TheVariants as todos
-use Rattle.dissect.specs.Applications.{usual_udp, app_of, payload_over}
+use Rattle.dissect.specs.Applications.{payload_over}
 use Rattle.dissect.specs.Conversations.{udp_stream}
 use Rattle.dissect.specs.DataLayer.{data_over}
 use Rattle.dissect.specs.Events.{Event, Piece, Udp, Tcp}
@@ -100,9 +102,9 @@ fragment_met frame packet t es head span = fragment_by head.whole t es frame.num
 
 -- the number of a conversation and what a UDP header carries are told in the header's layer; then comes the payload, read by
 -- the application of the ports
-unfoldable pub datagram_met : Frame → PacketHead → TreeShown → List Event → PortsHead → Span → Walk
-datagram_met frame packet t es head span =
-    stop (payload_over (app_of usual_udp head) (datagram_told t (udp_stream es packet head) span) (is_cut frame) span) (Udp frame.number packet head ∷ es)
+unfoldable pub datagram_met : List PortRule → Frame → PacketHead → TreeShown → List Event → PortsHead → Span → Walk
+datagram_met rules frame packet t es head span =
+    stop (payload_over (udp_app rules head.source head.target) (datagram_told t (udp_stream es packet head) span) (is_cut frame) span) (Udp frame.number packet head (bytes_of t.buffers span) ∷ es)
 
 -- a segment is told in its header's layer; then come the messages that its frame shows, or where its stream has no application,
 -- its payload as data
@@ -110,34 +112,34 @@ abbrev pub told_met : Bool → TreeShown → List Event → Taken → Option Str
 told_met cut t es taken app messages span = stop (carried_over app cut span (segment_told t taken span) messages) es
 
 -- a segment, by the segments before it
-abbrev pub taken_met : Bool → TreeShown → List Event → List Segment → Segment → Span → Walk
-taken_met cut t es past segment span =
-    told_met cut t es (taken_after past segment) (app_of_segment segment) (shown_after (app_of_segment segment) past segment) span
+abbrev pub taken_met : List PortRule → Bool → TreeShown → List Event → List Segment → Segment → Span → Walk
+taken_met rules cut t es past segment span =
+    told_met cut t es (taken_after past segment) (app_of_segment rules segment) (shown_after (app_of_segment rules segment) past segment) span
 
 -- what a TCP header carries
-unfoldable pub segment_met : Frame → PacketHead → TreeShown → List Event → TcpHead → Span → Walk
-segment_met frame packet t es head span =
-    taken_met (is_cut frame) t (Tcp frame.number packet head (bytes_of t.buffers span) ∷ es) (segments_of es)
+unfoldable pub segment_met : List PortRule → Frame → PacketHead → TreeShown → List Event → TcpHead → Span → Walk
+segment_met rules frame packet t es head span =
+    taken_met rules (is_cut frame) t (Tcp frame.number packet head (bytes_of t.buffers span) ∷ es) (segments_of es)
     (segment_from frame.number packet head (bytes_of t.buffers span)) span
 
 -- what follows a header, given the IP header of the packet that it is in
-unfoldable pub followed : Frame → PacketHead → Mode → TreeShown → List Event → After → Walk
-followed frame packet mode t es (afters.Next which span) =
+unfoldable pub followed : List PortRule → Frame → PacketHead → Mode → TreeShown → List Event → After → Walk
+followed rules frame packet mode t es (afters.Next which span) =
     go_on t es (record { which = which; span = span; packet = packet; mode = mode })
-followed frame packet mode t es (afters.Packet which span inner) =
+followed rules frame packet mode t es (afters.Packet which span inner) =
     go_on t es (record { which = which; span = span; packet = inner; mode = mode })
-followed frame packet mode t es (afters.Fragment head span) = fragment_met frame packet t es head span
-followed frame packet mode t es (afters.Datagram head span) = datagram_met frame packet t es head span
-followed frame packet mode t es (afters.Segment head span) = segment_met frame packet t es head span
-followed frame packet mode t es afters.End = stop t es
+followed rules frame packet mode t es (afters.Fragment head span) = fragment_met frame packet t es head span
+followed rules frame packet mode t es (afters.Datagram head span) = datagram_met rules frame packet t es head span
+followed rules frame packet mode t es (afters.Segment head span) = segment_met rules frame packet t es head span
+followed rules frame packet mode t es afters.End = stop t es
 
 abbrev pub head_bytes : Head → TreeShown → List ℕ
 head_bytes head t = bytes_of t.buffers head.span
 
 -- a header is read as a layer of a protocol, by its steps, and this follows it
-abbrev pub layer_met : Frame → Head → TreeShown → List Event → ℕ → Span → List Step → After → Walk
-layer_met frame head t es proto span steps after =
-    followed frame head.packet head.mode (layer_read t proto span steps head.mode (is_cut frame)) es after
+abbrev pub layer_met : List PortRule → Frame → Head → TreeShown → List Event → ℕ → Span → List Step → After → Walk
+layer_met rules frame head t es proto span steps after =
+    followed rules frame head.packet head.mode (layer_read t proto span steps head.mode (is_cut frame)) es after
 
 -- behind a message of ICMP: the packet that one about a packet carries is read as an embedded one, what neighbour discovery says is not
 abbrev pub mode_behind : Mode → After → Mode
@@ -145,48 +147,48 @@ mode_behind mode (afters.Next (nexts.Neigh kind) span) = mode
 mode_behind mode after = Embedded
 
 -- a message of ICMP
-abbrev pub message_met : Frame → Head → TreeShown → List Event → ℕ → List Step → After → Walk
-message_met frame head t es proto steps after =
-    followed frame head.packet (mode_behind head.mode after) (layer_read t proto head.span steps head.mode (is_cut frame)) es after
+abbrev pub message_met : List PortRule → Frame → Head → TreeShown → List Event → ℕ → List Step → After → Walk
+message_met rules frame head t es proto steps after =
+    followed rules frame head.packet (mode_behind head.mode after) (layer_read t proto head.span steps head.mode (is_cut frame)) es after
 
 -- an extension header of IPv6
-abbrev pub extension_met : Next → Frame → Head → TreeShown → List Event → Walk
-extension_met which frame head t es =
-    layer_met frame head t es (extension_proto which) head.span (extension_layout which (head_bytes head t)) (extension_after which head.packet head.mode head.span (head_bytes head t))
+abbrev pub extension_met : List PortRule → Next → Frame → Head → TreeShown → List Event → Walk
+extension_met rules which frame head t es =
+    layer_met rules frame head t es (extension_proto which) head.span (extension_layout which (head_bytes head t)) (extension_after which head.packet head.mode head.span (head_bytes head t))
 
 -- a header by its protocol: its layer, and what follows it
-unfoldable pub head_by : Next → Frame → Head → TreeShown → List Event → Walk
-head_by nexts.Ip4 frame head t es =
-    layer_met frame head t es IP (ip4_span head.span (head_bytes head t)) (ip4_layout (head_bytes head t)) (ip4_after head.mode (is_cut frame) head.span (head_bytes head t))
-head_by nexts.Ip6 frame head t es =
-    layer_met frame head t es IPV6 (ip6_span head.span (head_bytes head t)) (ip6_layout (head_bytes head t)) (ip6_after (is_cut frame) head.span (head_bytes head t))
-head_by nexts.Arp frame head t es = layer_met frame head t es ARP head.span (arp_layout (head_bytes head t)) afters.End
-head_by nexts.Vlan frame head t es =
-    layer_met frame head t es VLAN (vlan_span head.span (head_bytes head t)) (vlan_layout (head_bytes head t)) (vlan_after head.span (head_bytes head t))
-head_by nexts.Icmp frame head t es = message_met frame head t es ICMP (icmp_layout (head_bytes head t)) (icmp_after head.span (head_bytes head t))
-head_by nexts.Icmp6 frame head t es = message_met frame head t es ICMPV6 (icmp6_layout (head_bytes head t)) (icmp6_after head.span (head_bytes head t))
-head_by nexts.Udp frame head t es =
-    layer_met frame head t es UDP (udp_span head.span (head_bytes head t)) (udp_layout (head_bytes head t)) (udp_after head.mode head.span (head_bytes head t))
-head_by nexts.Tcp frame head t es =
-    layer_met frame head t es TCP head.span (tcp_layout (head_bytes head t)) (tcp_after head.mode head.span (head_bytes head t))
-head_by nexts.HopOpts frame head t es = extension_met nexts.HopOpts frame head t es
-head_by nexts.Routing frame head t es = extension_met nexts.Routing frame head t es
-head_by nexts.DstOpts frame head t es = extension_met nexts.DstOpts frame head t es
-head_by nexts.FragHdr frame head t es = extension_met nexts.FragHdr frame head t es
-head_by (nexts.Neigh kind) frame head t es = layer_met frame head t es ND head.span (neigh_layout kind (head_bytes head t)) afters.End
-head_by nexts.Igmp frame head t es = layer_met frame head t es IGMP head.span igmp_layout (igmp_after head.span)
-head_by nexts.Rest frame head t es = rest_met t es head.span
+unfoldable pub head_by : List PortRule → Next → Frame → Head → TreeShown → List Event → Walk
+head_by rules nexts.Ip4 frame head t es =
+    layer_met rules frame head t es IP (ip4_span head.span (head_bytes head t)) (ip4_layout (head_bytes head t)) (ip4_after head.mode (is_cut frame) head.span (head_bytes head t))
+head_by rules nexts.Ip6 frame head t es =
+    layer_met rules frame head t es IPV6 (ip6_span head.span (head_bytes head t)) (ip6_layout (head_bytes head t)) (ip6_after (is_cut frame) head.span (head_bytes head t))
+head_by rules nexts.Arp frame head t es = layer_met rules frame head t es ARP head.span (arp_layout (head_bytes head t)) afters.End
+head_by rules nexts.Vlan frame head t es =
+    layer_met rules frame head t es VLAN (vlan_span head.span (head_bytes head t)) (vlan_layout (head_bytes head t)) (vlan_after head.span (head_bytes head t))
+head_by rules nexts.Icmp frame head t es = message_met rules frame head t es ICMP (icmp_layout (head_bytes head t)) (icmp_after head.span (head_bytes head t))
+head_by rules nexts.Icmp6 frame head t es = message_met rules frame head t es ICMPV6 (icmp6_layout (head_bytes head t)) (icmp6_after head.span (head_bytes head t))
+head_by rules nexts.Udp frame head t es =
+    layer_met rules frame head t es UDP (udp_span head.span (head_bytes head t)) (udp_layout (head_bytes head t)) (udp_after head.mode head.span (head_bytes head t))
+head_by rules nexts.Tcp frame head t es =
+    layer_met rules frame head t es TCP head.span (tcp_layout (head_bytes head t)) (tcp_after head.mode head.span (head_bytes head t))
+head_by rules nexts.HopOpts frame head t es = extension_met rules nexts.HopOpts frame head t es
+head_by rules nexts.Routing frame head t es = extension_met rules nexts.Routing frame head t es
+head_by rules nexts.DstOpts frame head t es = extension_met rules nexts.DstOpts frame head t es
+head_by rules nexts.FragHdr frame head t es = extension_met rules nexts.FragHdr frame head t es
+head_by rules (nexts.Neigh kind) frame head t es = layer_met rules frame head t es ND head.span (neigh_layout kind (head_bytes head t)) afters.End
+head_by rules nexts.Igmp frame head t es = layer_met rules frame head t es IGMP head.span igmp_layout (igmp_after head.span)
+head_by rules nexts.Rest frame head t es = rest_met t es head.span
 
-abbrev pub head_met : Frame → Head → TreeShown → List Event → Walk
-head_met frame head t es = head_by head.which frame head t es
+abbrev pub head_met : List PortRule → Frame → Head → TreeShown → List Event → Walk
+head_met rules frame head t es = head_by rules head.which frame head t es
 
 -- one header more
-abbrev pub step_on : Frame → TreeShown → List Event → Todo → Walk
-step_on frame t es todos.Done = stop t es
-step_on frame t es (todos.Head head) = head_met frame head t es
+abbrev pub step_on : List PortRule → Frame → TreeShown → List Event → Todo → Walk
+step_on rules frame t es todos.Done = stop t es
+step_on rules frame t es (todos.Head head) = head_met rules frame head t es
 
-abbrev pub step : Frame → Walk → Walk
-step frame w = step_on frame w.tree w.events w.todo
+abbrev pub step : List PortRule → Frame → Walk → Walk
+step rules frame w = step_on rules frame w.tree w.events w.todo
 
 -- the end of the way: where a header is still to be read, its bytes are shown as data
 abbrev pub rest_on : TreeShown → List Event → Todo → Walk
@@ -194,23 +196,23 @@ rest_on t es todos.Done = stop t es
 rest_on t es (todos.Head head) = rest_met t es head.span
 
 -- at most so many headers, and then the rest
-unfoldable pub chain : ℕ → Frame → Walk → Walk
-chain zero frame w = rest_on w.tree w.events w.todo
-chain (suc n) frame w = chain n frame (step frame w)
+unfoldable pub chain : List PortRule → ℕ → Frame → Walk → Walk
+chain rules zero frame w = rest_on w.tree w.events w.todo
+chain rules (suc n) frame w = chain rules n frame (step rules frame w)
 
 -- the layers before data are at most 32
 abbrev pub layers_left : TreeShown → ℕ
 layers_left t = 32 - length t.layers
 
 -- the frame's first header, by the capture's link type; a frame of no bytes has none
-unfoldable pub link_met : Frame → TreeShown → List Event → Walk
-link_met frame t es = if length frame.bytes == 0 then stop t es else
-    followed frame no_packet Plain (link_read (link_of frame.link) frame.little t (frame_span frame) (is_cut frame)) es
+unfoldable pub link_met : List PortRule → Frame → TreeShown → List Event → Walk
+link_met rules frame t es = if length frame.bytes == 0 then stop t es else
+    followed rules frame no_packet Plain (link_read (link_of frame.link) frame.little t (frame_span frame) (is_cut frame)) es
     (link_after (link_of frame.link) frame.little (frame_span frame) (bytes_of t.buffers (frame_span frame)))
 
 -- all headers behind the first
-unfoldable pub all_met : Frame → Walk → Walk
-all_met frame w = chain (layers_left w.tree) frame w
+unfoldable pub all_met : List PortRule → Frame → Walk → Walk
+all_met rules frame w = chain rules (layers_left w.tree) frame w
 
 -- what is still to be read lies in its buffer, and has at least one byte
 abbrev pub IsTodoInside : List (List ℕ) → Todo → Type 0

@@ -6,7 +6,7 @@ ghost use Rattle.dissect.specs.Payloads.{LastIs};
 ghost use Rattle.dissect.specs.Stands.{StandsAt, IsMet, IsReady, AddsAtMost, AddsOneThenEnds};
 ghost use Rattle.dissect.specs.Walks.{IsTodoInside, datagram_met};
 
-use crate::applications::{add_message, app_of};
+use crate::applications::add_message;
 use crate::conversations::udp_ends;
 use crate::frame_layer::is_cut;
 use crate::payload::tell_datagram;
@@ -15,12 +15,13 @@ use crate::todo::Todo;
 use capture_read::Frame;
 use pk_base::{NoMemory, Span};
 use pk_tree::{PacketHead, PortsHead, TreeBuilder};
+use port_rules::{PortRule, udp_app};
 
 impl State {
     /// Takes a packet of UDP: tells the number of its conversation, and reads what it carries.
-    #[tactic(auto, unfolding(crate::specs::Walks::datagram_met, crate::specs::Fragments::fragments_of, crate::specs::Segments::segments_of, crate::specs::Conversations::udp_opened))]
     pub(crate) fn datagram(
         &mut self,
+        rules: &[PortRule],
         frame: &Frame,
         packet: PacketHead,
         head: PortsHead,
@@ -32,7 +33,9 @@ impl State {
         requires bytes { length frame.now.bytes < 2 ^ 32 }
         requires ready { IsReady 4 self.old tree.old }
         ensures inside { IfOk result (λ todo. IsTodoInside tree.new.buffers todo) }
-        ensures walked { IfOk result (λ todo. (es : List Event) → StandsAt es self.old → IsMet (datagram_met frame.now packet tree.old es head span) self.new tree.new todo) }
+        ensures walked { IfOk result (λ todo. (es : List Event) → StandsAt rules.now es self.old
+            → IsMet rules.now (datagram_met rules.now frame.now packet tree.old es head span)
+            self.new tree.new todo) }
         ensures adds { IfOk result (λ todo. AddsOneThenEnds self.old self.new todo) }
         ensures added { AddsAtMost 1 self.old self.new }
         ensures buffers { tree.new.buffers ≡ tree.old.buffers }
@@ -40,7 +43,9 @@ impl State {
     {
         let stream = self.udp.number(udp_ends(&packet, head))?;
         tell_datagram(stream, span, tree)?;
-        add_message(app_of(head), is_cut(frame), span, tree)?;
+        let app = udp_app(rules, head.source, head.target);
+        self.link_datagram(frame.number, stream, app, tree.bytes(span))?;
+        add_message(app, is_cut(frame), span, tree)?;
         Ok(Todo::Done)
     }
 }

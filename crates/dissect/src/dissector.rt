@@ -1,29 +1,30 @@
 ghost use Rattle.std.specs.Prelude.{◌≡◌, ◌↔◌, ◌+◌, ◌≤◌, ◌<◌, ◌^◌, ◌||◌, List, [], ◌∷◌, true, false, length, Err, is_err, IfOk, IfSome, OnOk, OnErr};
 ghost use Rattle.capture_read.specs.declared.frame.Frame.{Frame as FrameValue};
-ghost use Rattle.pk_tree.specs.Trees.{IsKept as IsKeptTree, IsTree};
+ghost use Rattle.pk_tree.specs.Trees.{IsKept as IsKeptTree};
+ghost use Rattle.port_rules.specs.Rules.{AreRules};
 ghost use Rattle.dissect.specs.Conversations.{udp_opened};
-ghost use Rattle.dissect.specs.DecodeRules.{AreRules};
 ghost use Rattle.dissect.specs.Events.{Event};
-ghost use Rattle.tcp_streams.specs.Standing.{StandsFor};
+ghost use Rattle.tcp_streams.specs.Standing.{StandsFor, taken_so_far};
 ghost use Rattle.pk_fields.specs.Ids.{field_count};
 ghost use Rattle.dissect.specs.Followed.{asks_any, asks_messages, asks_streams, HasSameValues};
 ghost use Rattle.dissect.specs.Segments.{segments_of};
-ghost use Rattle.dissect.specs.Stands.{Stands, StandsWithin, StandsAt, IsAfter, IsWalked, HasRoomForOne, AddsAtMost};
+ghost use Rattle.dissect.specs.Stands.{Stands, StandsWithin, StandsAt, IsAfter, IsRead, HasRoomForOne, AddsAtMost};
 ghost use Rattle.capture_read.specs.FrameList.{IsTime};
 ghost use Rattle.dissect.specs.Times.{AreTimes};
 ghost use Rattle.dissect.specs.Trees.{tree_at, events_of, kept_walk};
 
 use crate::conversations::Conversations;
-use crate::decode::DecodeAs;
 use crate::frame_layer::{begin_tree, captured};
+use crate::linking::link_messages;
+use crate::links::Links;
 use crate::state::State;
 use crate::times::Times;
-use crate::todo::Todo;
 use capture_read::Frame;
 use ip_join::Joins;
 use pk_base::NoMemory;
 use pk_fields::{FieldId, FieldSet, ids};
 use pk_tree::Tree;
+use port_rules::{DecodeAs, PortRule};
 use std::alloc::Global;
 use std::marker::Model;
 use tcp_messages::MessageStreams;
@@ -53,11 +54,11 @@ pub struct Dissector {
 impl Model for Dissector {
     ghost use Rattle.std.specs.Prelude.{ℕ, Bool, List, refl};
     ghost use Rattle.std.specs.Coded.{code_by, coded×, coded_ℕ, coded_bool};
-    ghost use Rattle.dissect.specs.contracts.decode.DecodeAs as decode_row;
+    ghost use Rattle.port_rules.specs.contracts.rules.DecodeAs as decode_row;
     ghost use Rattle.dissect.specs.contracts.state.State as state_row;
     ghost use Rattle.dissect.specs.contracts.times.Times as times_row;
     ghost use Rattle.pk_fields.specs.contracts.field_set.FieldSet as set_row;
-    ghost use Rattle.dissect.specs.declared.decode.DecodeAs.{DecodeAs as DecodeAsValue};
+    ghost use Rattle.port_rules.specs.declared.rules.DecodeAs.{DecodeAs as DecodeAsValue};
     ghost use Rattle.dissect.specs.declared.state.State.{State as StateValue};
     ghost use Rattle.dissect.specs.declared.times.Times.{Times as TimesValue};
     ghost use Rattle.dissect.specs.Stands.{DissectorShown, IsKept};
@@ -98,7 +99,7 @@ impl Dissector {
         Dissector::following(alloc, decode, wanted, asks_streams(&wanted))
     }
 
-    #[tactic(auto, unfolding(crate::specs::Fragments::fragments_of, crate::specs::Conversations::udp_opened, crate::specs::Segments::segments_of, crate::specs::Trees::times_of, crate::specs::Trees::events_of))]
+    #[tactic(auto, unfolding(crate::specs::Fragments::fragments_of, crate::specs::Conversations::udp_opened, crate::specs::Segments::segments_of, crate::specs::Notes::noted, crate::specs::Links::newest_links, crate::specs::Trees::times_of, crate::specs::Trees::events_of))]
     fn following(alloc: Global, decode: DecodeAs, wanted: FieldSet, follows: bool) -> Dissector
         requires asked { follows ≡ false → asks_streams wanted ≡ false }
         ensures after { IsAfter [] result }
@@ -121,6 +122,8 @@ impl Dissector {
                 udp: Conversations::new(alloc),
                 follows,
                 streams: MessageStreams::new(alloc),
+                links: Links::new(alloc),
+                found: Vec::new(alloc),
             },
         }
     }
@@ -128,7 +131,8 @@ impl Dissector {
     /// How many conversations over UDP the frames taken have opened.
     #[tactic(auto, unfolding(crate::specs::Stands::Stands, crate::specs::Stands::StandsWithin))]
     pub fn udp_count(&self) -> u32
-        ensures count { (past : List FrameValue) → Stands past self.now → result ≡ length (udp_opened (events_of past)) }
+        ensures count { (past : List FrameValue) → Stands past self.now
+            → result ≡ length (udp_opened (events_of past)) }
         ensures within { (past : List FrameValue) → StandsWithin past self.now
             → result ≡ length (udp_opened (events_of past)) }
     {
@@ -138,10 +142,12 @@ impl Dissector {
     /// The streams of TCP that the frames taken have, where streams are followed. Takes no memory.
     #[tactic(auto, unfolding(crate::specs::Stands::Stands, crate::specs::Stands::StandsWithin))]
     pub fn streams(&self) -> &Streams
-        ensures streams { (past : List FrameValue) → Stands past self.now → StandsFor (segments_of (events_of past)) result.now }
+        ensures streams { (past : List FrameValue) → Stands past self.now
+            → StandsFor (segments_of (events_of past)) result.now }
         ensures within { asks_streams self.now.wanted ≡ true
             → (past : List FrameValue) → StandsWithin past self.now
             → StandsFor (segments_of (events_of past)) result.now }
+        ensures few { (past : List FrameValue) → StandsWithin past self.now → taken_so_far result.now ≤ self.now.taken }
     {
         self.state.streams.streams()
     }
@@ -154,11 +160,15 @@ impl Dissector {
         requires captured { self.old.captured + length frame.now.bytes ≤ 2 ^ 28 }
         ensures spent { result ≡ Err TakeFault.Spent ↔ self.old.spent ≡ true }
         ensures spent_after { self.new.spent ≡ self.old.spent || is_err result }
-        ensures counted { OnOk result ((self.new.taken ≡ self.old.taken + 1) × (self.new.captured ≡ self.old.captured + length frame.now.bytes)) }
-        ensures uncounted { OnErr result ((self.new.taken ≡ self.old.taken) × (self.new.captured ≡ self.old.captured)) }
+        ensures counted { OnOk result ((self.new.taken ≡ self.old.taken + 1)
+            × (self.new.captured ≡ self.old.captured + length frame.now.bytes)) }
+        ensures uncounted { OnErr result ((self.new.taken ≡ self.old.taken)
+            × (self.new.captured ≡ self.old.captured)) }
         ensures rules { self.new.decode ≡ self.old.decode }
-        ensures tree { IfOk result (λ tree. (past : List FrameValue) → Stands past self.old → tree ≡ tree_at past frame.now) }
-        ensures stands { OnOk result ((past : List FrameValue) → Stands past self.old → Stands (frame.now ∷ past) self.new) }
+        ensures tree { IfOk result (λ tree. (past : List FrameValue) → Stands past self.old
+            → tree ≡ tree_at self.old.decode.rules past frame.now) }
+        ensures stands { OnOk result ((past : List FrameValue) → Stands past self.old
+            → Stands (frame.now ∷ past) self.new) }
     {
         self.take_kept(frame, FieldSet::all())
     }
@@ -171,11 +181,15 @@ impl Dissector {
         requires captured { self.old.captured + length frame.now.bytes ≤ 2 ^ 28 }
         ensures spent { result ≡ Err TakeFault.Spent ↔ self.old.spent ≡ true }
         ensures spent_after { self.new.spent ≡ self.old.spent || is_err result }
-        ensures counted { OnOk result ((self.new.taken ≡ self.old.taken + 1) × (self.new.captured ≡ self.old.captured + length frame.now.bytes)) }
-        ensures uncounted { OnErr result ((self.new.taken ≡ self.old.taken) × (self.new.captured ≡ self.old.captured)) }
+        ensures counted { OnOk result ((self.new.taken ≡ self.old.taken + 1)
+            × (self.new.captured ≡ self.old.captured + length frame.now.bytes)) }
+        ensures uncounted { OnErr result ((self.new.taken ≡ self.old.taken)
+            × (self.new.captured ≡ self.old.captured)) }
         ensures rules { self.new.decode ≡ self.old.decode }
-        ensures tree { IfOk result (λ tree. (past : List FrameValue) → Stands past self.old → IsKeptTree wanted (tree_at past frame.now) tree) }
-        ensures stands { OnOk result ((past : List FrameValue) → Stands past self.old → Stands (frame.now ∷ past) self.new) }
+        ensures tree { IfOk result (λ tree. (past : List FrameValue) → Stands past self.old
+            → IsKeptTree wanted (tree_at self.old.decode.rules past frame.now) tree) }
+        ensures stands { OnOk result ((past : List FrameValue) → Stands past self.old
+            → Stands (frame.now ∷ past) self.new) }
     {
         self.take_asked(frame, wanted)
     }
@@ -196,10 +210,10 @@ impl Dissector {
         ensures rules { self.new.decode ≡ self.old.decode }
         ensures wanted { self.new.wanted ≡ self.old.wanted }
         ensures values { IfOk result (λ tree. (past : List FrameValue) → StandsWithin past self.old
-            → HasSameValues self.old.wanted (tree_at past frame.now) tree) }
+            → HasSameValues self.old.wanted (tree_at self.old.decode.rules past frame.now) tree) }
         ensures tree { IfOk result (λ tree. asks_streams self.old.wanted ≡ true
             → (past : List FrameValue) → StandsWithin past self.old
-            → IsKeptTree self.old.wanted (tree_at past frame.now) tree) }
+            → IsKeptTree self.old.wanted (tree_at self.old.decode.rules past frame.now) tree) }
         ensures stands { OnOk result ((past : List FrameValue) → StandsWithin past self.old
             → StandsWithin (frame.now ∷ past) self.new) }
     {
@@ -222,10 +236,10 @@ impl Dissector {
         ensures follows { self.new.state.follows ≡ self.old.state.follows }
         ensures tree { IfOk result (λ tree. (past : List FrameValue) → IsAfter past self.old
             → self.old.state.follows ≡ true
-            → IsKeptTree asked (tree_at past frame.now) tree) }
+            → IsKeptTree asked (tree_at self.old.decode.rules past frame.now) tree) }
         ensures values { IfOk result (λ tree. (past : List FrameValue) → IsAfter past self.old
             → (self.old.state.follows ≡ false → asks_streams asked ≡ false)
-            → HasSameValues asked (tree_at past frame.now) tree) }
+            → HasSameValues asked (tree_at self.old.decode.rules past frame.now) tree) }
         ensures after { OnOk result ((past : List FrameValue) → IsAfter past self.old
             → IsAfter (frame.now ∷ past) self.new) }
     {
@@ -233,7 +247,8 @@ impl Dissector {
             return Err(TakeFault::Spent);
         }
         let number = number_of(frame);
-        match make_tree(self.alloc, &mut self.state, self.times, frame, asked) {
+        let rules = self.decode.rules.slice();
+        match make_tree(self.alloc, rules, &mut self.state, self.times, frame, asked) {
             Ok(tree) => {
                 self.taken = number;
                 self.captured += captured(frame);
@@ -291,6 +306,7 @@ fn number_of(frame: &Frame) -> u32
 #[tactic(auto, unfolding(crate::specs::Trees::kept_walk))]
 fn make_tree(
     alloc: Global,
+    rules: &[PortRule],
     state: &mut State,
     before: Times,
     frame: &Frame,
@@ -300,11 +316,13 @@ fn make_tree(
     requires before { AreTimes before }
     requires time { IfSome frame.now.time IsTime }
     requires few { HasRoomForOne state.old }
-    ensures walked { IfOk result (λ tree. (es : List Event) → StandsAt es state.old → IsWalked (kept_walk wanted before es frame.now) state.new tree Todo.Done) }
-    ensures fits { IfOk result (λ tree. IsTree tree) }
+    ensures walked { IfOk result (λ tree. (es : List Event) → StandsAt rules.now es state.old
+        → IsRead rules.now wanted (kept_walk rules.now wanted before es frame.now) state.new tree) }
     ensures added { AddsAtMost 1 state.old state.new }
 {
     let mut tree = begin_tree(alloc, before, frame, wanted)?;
-    state.read_frame(frame, &mut tree)?;
-    Ok(tree.finish())
+    state.read_frame(rules, frame, &mut tree)?;
+    let mut tree = tree.finish();
+    link_messages(&state.found, &wanted, &mut tree)?;
+    Ok(tree)
 }

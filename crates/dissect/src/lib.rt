@@ -5,31 +5,25 @@ mod applications;
 mod conversations;
 mod data_layer;
 mod datagrams;
-mod decode;
 mod dissector;
 mod fragments;
 mod frame_layer;
-#[cfg(test)]
-mod frame_rows;
 mod headers;
+mod link_tables;
+mod linking;
+mod links;
 mod message_layers;
-#[cfg(test)]
-mod message_rows;
-#[cfg(test)]
-mod message_tests;
-mod messages;
+mod notes;
+mod noting;
 mod payload;
 mod pieces;
-#[cfg(test)]
-mod segment_tests;
+mod segment_notes;
 mod segments;
 mod state;
-#[cfg(test)]
-mod tests;
 mod times;
 mod todo;
 mod walk;
 
-pub use decode::{App, DecodeAs, PortRule, PortRules};
 pub use dissector::{Dissector, TakeFault};
-pub use messages::messages_once;
+pub use port_rules::{App, DecodeAs, PortRule, PortRules};
+pub use tcp_messages::messages_once;

@@ -2,6 +2,7 @@ ghost use Rattle.std.specs.Prelude.{◌≡◌, ◌+◌, ◌<◌, ◌≤◌, ◌^
 ghost use Rattle.pk_buffer.specs.Buffers.{IsInside};
 ghost use Rattle.dis_ip.specs.Fragments.{part_proto};
 ghost use Rattle.ip_join.specs.Datagrams.{IsShort};
+ghost use Rattle.port_rules.specs.declared.rules.PortRule.{PortRule};
 ghost use Rattle.dissect.specs.Events.{Event};
 ghost use Rattle.dissect.specs.Payloads.{LastIs};
 ghost use Rattle.dissect.specs.Stands.{StandsAt, IsWalked, IsReady, AddsAtMost, AddsOneThenEnds};
@@ -30,7 +31,10 @@ impl State {
         requires last { LastIs (part_proto head.six) tree.old.layers }
         requires ready { IsReady 2 self.old tree.old }
         ensures inside { IfOk result (λ todo. IsTodoInside tree.new.buffers todo) }
-        ensures walked { IfOk result (λ todo. (es : List Event) → StandsAt es self.old → IsWalked (fragment_met frame.now packet tree.old es head span) self.new tree.new todo) }
+        ensures walked { IfOk result (λ todo. (rules : List PortRule) (es : List Event)
+            → StandsAt rules es self.old
+            → IsWalked rules (fragment_met frame.now packet tree.old es head span) self.new
+            tree.new todo) }
         ensures adds { IfOk result (λ todo. AddsOneThenEnds self.old self.new todo) }
         ensures added { AddsAtMost 1 self.old self.new }
         ensures buffers { OnOk result (length tree.new.buffers ≤ length tree.old.buffers + 1) }
@@ -58,7 +62,10 @@ impl State {
         requires last { LastIs (part_proto head.six) tree.old.layers }
         requires ready { IsReady 2 self.old tree.old }
         ensures inside { IfOk result (λ todo. IsTodoInside tree.new.buffers todo) }
-        ensures walked { IfOk result (λ todo. (es : List Event) → StandsAt es self.old → IsWalked (piece_met tree.old es frame.now.number head bytes.now span) self.new tree.new todo) }
+        ensures walked { IfOk result (λ todo. (rules : List PortRule) (es : List Event)
+            → StandsAt rules es self.old
+            → IsWalked rules (piece_met tree.old es frame.now.number head bytes.now span) self.new
+            tree.new todo) }
         ensures adds { IfOk result (λ todo. AddsOneThenEnds self.old self.new todo) }
         ensures added { AddsAtMost 1 self.old self.new }
         ensures buffers { OnOk result (length tree.new.buffers ≤ length tree.old.buffers + 1) }
@@ -82,7 +89,9 @@ impl State {
         requires short { IsShort joined }
         requires ready { IsReady 2 self.old tree.old }
         ensures inside { IfOk result (λ todo. IsTodoInside tree.new.buffers todo) }
-        ensures walked { IfOk result (λ todo. (es : List Event) → StandsAt es self.old → IsWalked (joined_met joined tree.old es head span) self.new tree.new todo) }
+        ensures walked { IfOk result (λ todo. (rules : List PortRule) (es : List Event)
+            → StandsAt rules es self.old
+            → IsWalked rules (joined_met joined tree.old es head span) self.new tree.new todo) }
         ensures adds { IfOk result (λ todo. AddsOneThenEnds self.old self.new todo) }
         ensures added { AddsAtMost 1 self.old self.new }
         ensures buffers { OnOk result (length tree.new.buffers ≤ length tree.old.buffers + 1) }

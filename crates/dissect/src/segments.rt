@@ -17,6 +17,7 @@ use crate::todo::Todo;
 use capture_read::Frame;
 use pk_base::{NoMemory, Octets, Span};
 use pk_tree::{Endpoint, PacketHead, TcpHead, TreeBuilder};
+use port_rules::PortRule;
 use stream_messages::App as StreamApp;
 use tcp_streams::Segment;
 
@@ -24,6 +25,7 @@ impl State {
     /// Takes a segment of TCP into its stream, where streams are followed.
     pub(crate) fn segment(
         &mut self,
+        rules: &[PortRule],
         frame: &Frame,
         packet: PacketHead,
         head: TcpHead,
@@ -35,15 +37,17 @@ impl State {
         requires bytes { length frame.now.bytes < 2 ^ 32 }
         requires ready { IsReady 2 self.old tree.old }
         ensures inside { IfOk result (λ todo. IsTodoInside tree.new.buffers todo) }
-        ensures walked { IfOk result (λ todo. (es : List Event) → StandsAt es self.old → IsWalked (segment_met frame.now packet tree.old es head span) self.new tree.new todo) }
+        ensures walked { IfOk result (λ todo. (es : List Event) → StandsAt rules.now es self.old
+            → IsWalked rules.now (segment_met rules.now frame.now packet tree.old es head span)
+            self.new tree.new todo) }
         ensures adds { IfOk result (λ todo. AddsOneThenEnds self.old self.new todo) }
         ensures added { AddsAtMost 1 self.old self.new }
         ensures few { IfOk result (λ todo. AddsFew 4 tree.old tree.new todo) }
     {
         if self.follows {
-            self.take_segment(frame, packet, head, span, tree)
+            self.take_segment(rules, frame, packet, head, span, tree)
         } else {
-            let app = stream_app(head.source, head.target);
+            let app = stream_app(rules, head.source, head.target);
             pass_segment(app, span, tree)?;
             Ok(Todo::Done)
         }
@@ -52,6 +56,7 @@ impl State {
     /// Tells a segment's place in its stream, and shows the messages whose last bytes it brings, or what it carries as data.
     fn take_segment(
         &mut self,
+        rules: &[PortRule],
         frame: &Frame,
         packet: PacketHead,
         head: TcpHead,
@@ -64,15 +69,18 @@ impl State {
         requires bytes { length frame.now.bytes < 2 ^ 32 }
         requires ready { IsReady 2 self.old tree.old }
         ensures inside { IfOk result (λ todo. IsTodoInside tree.new.buffers todo) }
-        ensures walked { IfOk result (λ todo. (es : List Event) → StandsAt es self.old → IsWalked (segment_met frame.now packet tree.old es head span) self.new tree.new todo) }
+        ensures walked { IfOk result (λ todo. (es : List Event) → StandsAt rules.now es self.old
+            → IsWalked rules.now (segment_met rules.now frame.now packet tree.old es head span)
+            self.new tree.new todo) }
         ensures adds { IfOk result (λ todo. AddsOneThenEnds self.old self.new todo) }
         ensures added { AddsAtMost 1 self.old self.new }
         ensures few { IfOk result (λ todo. AddsFew 4 tree.old tree.new todo) }
     {
         let segment = segment_from(frame.number, &packet, head, tree.part(span)?);
-        let app = stream_app(head.source, head.target);
+        let app = stream_app(rules, head.source, head.target);
         let _streams = self.streams.streams();
         let met = self.streams.take(&segment, app)?;
+        self.link_segment(frame.number, &met, segment.payload.bytes())?;
         tell_segment(&met.taken, span, tree)?;
         add_carried(app, &met, is_cut(frame), span, tree)?;
         Ok(Todo::Done)
@@ -84,7 +92,8 @@ fn pass_segment(app: Option<StreamApp>, span: Span, tree: &mut TreeBuilder) -> R
     requires inside { IsInside tree.old.buffers span }
     requires last { LastIs TCP tree.old.layers }
     requires room { length tree.old.layers + 2 < 2 ^ 32 }
-    ensures tree { OnOk result ((cut : Bool) → tree.new ≡ carried_over app cut span (carried_told tree.old span) []) }
+    ensures tree { OnOk result ((cut : Bool)
+        → tree.new ≡ carried_over app cut span (carried_told tree.old span) []) }
 {
     tell_carried(span, tree)?;
     add_passed(app, span, tree)

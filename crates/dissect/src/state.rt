@@ -1,4 +1,5 @@
 use crate::conversations::Conversations;
+use crate::links::Links;
 use ip_join::Joins;
 use tcp_messages::MessageStreams;
 
@@ -12,4 +13,8 @@ pub(crate) struct State {
     pub follows: bool,
     /// The streams of TCP, and their messages.
     pub streams: MessageStreams,
+    /// What links ask of the messages that frames showed, where streams are followed.
+    pub links: Links,
+    /// The links of the newest frame's messages.
+    pub found: Vec<Option<u32>>,
 }

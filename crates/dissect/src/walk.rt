@@ -1,8 +1,9 @@
 ghost use Rattle.std.specs.Prelude.{◌≡◌, ◌+◌, ◌*◌, ◌-◌, ◌<◌, ◌≤◌, ◌^◌, List, [], ◌∷◌, length, IfOk, OnOk};
 ghost use Rattle.pk_buffer.specs.Buffers.{IsInside};
 ghost use Rattle.pk_tree.specs.Following.{LeadsInside};
+ghost use Rattle.port_rules.specs.declared.rules.PortRule.{PortRule as PortRuleValue};
 ghost use Rattle.dissect.specs.declared.state.State.{State as StateValue};
-ghost use Rattle.dissect.specs.Events.{Event};
+ghost use Rattle.dissect.specs.Events.{Event, NewFrame};
 ghost use Rattle.dissect.specs.Payloads.{ComesBehind};
 ghost use Rattle.dissect.specs.Stands.{StandsAt, IsWalked, HasRoom, HasRoomForOne, HasSpace, IsReady, AddsAtMost, AddsFew, AddsOneThenEnds};
 ghost use Rattle.dissect.specs.Walks.{IsTodoInside, rest_met, followed, chain, going, link_met, all_met, no_packet};
@@ -15,6 +16,7 @@ use capture_read::Frame;
 use dis_link::read_link;
 use pk_base::{LAYER_LIMIT, NoMemory, Span};
 use pk_tree::{Address, After, Mode, PacketHead, TreeBuilder};
+use port_rules::PortRule;
 
 impl State {
     /// Shows the rest as data.
@@ -22,7 +24,9 @@ impl State {
         requires inside { IsInside tree.old.buffers span }
         requires room { length tree.old.layers + 2 < 2 ^ 32 }
         ensures inside { IfOk result (λ todo. IsTodoInside tree.new.buffers todo) }
-        ensures walked { IfOk result (λ todo. (es : List Event) → StandsAt es self.old → IsWalked (rest_met tree.old es span) self.new tree.new todo) }
+        ensures walked { IfOk result (λ todo. (rules : List PortRuleValue) (es : List Event)
+            → StandsAt rules es self.old
+            → IsWalked rules (rest_met tree.old es span) self.new tree.new todo) }
         ensures adds { IfOk result (λ todo. AddsOneThenEnds self.old self.new todo) }
         ensures added { AddsAtMost 1 self.old self.new }
         ensures buffers { tree.new.buffers ≡ tree.old.buffers }
@@ -36,6 +40,7 @@ impl State {
     #[tactic(auto, unfolding(crate::specs::Walks::followed))]
     pub(crate) fn follow(
         &mut self,
+        rules: &[PortRule],
         frame: &Frame,
         packet: PacketHead,
         mode: Mode,
@@ -47,7 +52,9 @@ impl State {
         requires bytes { length frame.now.bytes < 2 ^ 32 }
         requires ready { IsReady 4 self.old tree.old }
         ensures inside { IfOk result (λ todo. IsTodoInside tree.new.buffers todo) }
-        ensures walked { IfOk result (λ todo. (es : List Event) → StandsAt es self.old → IsWalked (followed frame.now packet mode tree.old es after) self.new tree.new todo) }
+        ensures walked { IfOk result (λ todo. (es : List Event) → StandsAt rules.now es self.old
+            → IsWalked rules.now (followed rules.now frame.now packet mode tree.old es after)
+            self.new tree.new todo) }
         ensures adds { IfOk result (λ todo. AddsOneThenEnds self.old self.new todo) }
         ensures added { AddsAtMost 1 self.old self.new }
         ensures few { IfOk result (λ todo. AddsFew 4 tree.old tree.new todo) }
@@ -66,8 +73,8 @@ impl State {
                 mode,
             })),
             After::Fragment(head, span) => self.fragment(frame, packet, head, span, tree),
-            After::Datagram(head, span) => self.datagram(frame, packet, head, span, tree),
-            After::Segment(head, span) => self.segment(frame, packet, head, span, tree),
+            After::Datagram(head, span) => self.datagram(rules, frame, packet, head, span, tree),
+            After::Segment(head, span) => self.segment(rules, frame, packet, head, span, tree),
             After::End => Ok(Todo::Done),
         }
     }
@@ -75,6 +82,7 @@ impl State {
     /// Reads at most so many headers, one behind the other. What is left then is shown as data.
     fn chain(
         &mut self,
+        rules: &[PortRule],
         frame: &Frame,
         most: usize,
         first: Todo,
@@ -85,8 +93,11 @@ impl State {
         requires most { most ≤ 32 }
         requires space { HasSpace most tree.old first }
         requires few { HasRoom self.old first }
-        ensures walked { OnOk result ((es : List Event) → StandsAt es self.old → IsWalked (chain most frame.now (going tree.old es first)) self.new tree.new Todo.Done) }
-        ensures added { (before : StateValue) → AddsOneThenEnds before self.old first → AddsAtMost 1 before self.new }
+        ensures walked { OnOk result ((es : List Event) → StandsAt rules.now es self.old
+            → IsWalked rules.now (chain rules.now most frame.now (going tree.old es first))
+            self.new tree.new Todo.Done) }
+        ensures added { (before : StateValue) → AddsOneThenEnds before self.old first
+            → AddsAtMost 1 before self.new }
     {
         let mut left = most;
         let mut todo = first;
@@ -96,20 +107,27 @@ impl State {
                 return Ok(());
             }
             left -= 1;
-            todo = self.head(frame, head, tree)?;
+            todo = self.head(rules, frame, head, tree)?;
         }
         Ok(())
     }
 
     /// Reads a frame's first header, by the link type of its capture.
     #[tactic(auto, unfolding(crate::specs::Walks::link_met))]
-    fn link(&mut self, frame: &Frame, tree: &mut TreeBuilder) -> Result<Todo, NoMemory>
+    fn link(
+        &mut self,
+        rules: &[PortRule],
+        frame: &Frame,
+        tree: &mut TreeBuilder,
+    ) -> Result<Todo, NoMemory>
         requires frame { tree.old.buffers ≡ frame.now.bytes ∷ [] }
         requires bytes { length frame.now.bytes < 2 ^ 32 }
         requires room { length tree.old.layers ≤ 2 }
         requires few { HasRoomForOne self.old }
         ensures inside { IfOk result (λ todo. IsTodoInside tree.new.buffers todo) }
-        ensures walked { IfOk result (λ todo. (es : List Event) → StandsAt es self.old → IsWalked (link_met frame.now tree.old es) self.new tree.new todo) }
+        ensures walked { IfOk result (λ todo. (es : List Event) → StandsAt rules.now es self.old
+            → IsWalked rules.now (link_met rules.now frame.now tree.old es) self.new tree.new
+            todo) }
         ensures adds { IfOk result (λ todo. AddsOneThenEnds self.old self.new todo) }
         ensures added { AddsAtMost 1 self.old self.new }
         ensures space { IfOk result (λ todo. HasSpace 32 tree.new todo) }
@@ -119,21 +137,29 @@ impl State {
         }
         let span = frame_span(frame);
         let after = read_link(frame.link, frame.little, is_cut(frame), span, tree)?;
-        self.follow(frame, no_packet(), Mode::Plain, after, tree)
+        self.follow(rules, frame, no_packet(), Mode::Plain, after, tree)
     }
 
     /// Reads all of a frame's headers behind the layer of the frame itself.
-    pub fn read_frame(&mut self, frame: &Frame, tree: &mut TreeBuilder) -> Result<(), NoMemory>
+    pub fn read_frame(
+        &mut self,
+        rules: &[PortRule],
+        frame: &Frame,
+        tree: &mut TreeBuilder,
+    ) -> Result<(), NoMemory>
         requires frame { tree.old.buffers ≡ frame.now.bytes ∷ [] }
         requires bytes { length frame.now.bytes < 2 ^ 32 }
         requires room { length tree.old.layers ≤ 2 }
         requires few { HasRoomForOne self.old }
-        ensures walked { OnOk result ((es : List Event) → StandsAt es self.old → IsWalked (all_met frame.now (link_met frame.now tree.old es)) self.new tree.new Todo.Done) }
+        ensures walked { OnOk result ((es : List Event) → StandsAt rules.now es self.old
+            → IsWalked rules.now (all_met rules.now frame.now (link_met rules.now frame.now
+            tree.old (NewFrame ∷ es))) self.new tree.new Todo.Done) }
         ensures added { AddsAtMost 1 self.old self.new }
     {
-        let first = self.link(frame, tree)?;
+        self.begin_frame();
+        let first = self.link(rules, frame, tree)?;
         let left = LAYER_LIMIT.saturating_sub(tree.layer_count());
-        self.chain(frame, left, first, tree)?;
+        self.chain(rules, frame, left, first, tree)?;
         Ok(())
     }
 }

@@ -1,13 +1,15 @@
-use Rattle.std.proofs.Common.{◌+◌, length, subst, sym, ap, ◌∙◌, true≢false, arith}
+use Rattle.std.proofs.Common.{◌+◌, List, length, subst, sym, ap, ◌∙◌, true≢false, arith}
+use Rattle.port_rules.specs.declared.rules.PortRule.{PortRule}
 use Rattle.dissect.specs.Stands.{DissectorShown}
 use Rattle.dissect.specs.Times.{with_time}
 use Rattle.dissect.specs.Trees.{tree_at}
-use Rattle.dissect.proofs.Taken.{Reads, tree-taken, values-taken, values-read, after-taken}
+use Rattle.dissect.proofs.Taken.{Reads, ReadsBy, tree-taken, values-taken, values-read, after-taken}
 use Rattle.dissect.proofs.dissector.Dissector.take_asked.Goals as goal
 
 pub returns-in-Ok-clause-tree : goal.returns-in-Ok-clause-tree
 returns-in-Ok-clause-tree c = λ past after follows.
-    let reads = subst (λ (d : DissectorShown). Reads c.args.asked c.args.frame.now d c.make_tree.new.state c.in-Ok.tree) c.self.view_is c.in-Ok.ensures.walked in
+    let reads = subst (λ (d : DissectorShown). Reads c.args.asked c.args.frame.now d c.make_tree.new.state c.in-Ok.tree) c.self.view_is
+    (subst (λ (rules : List PortRule). ReadsBy rules c.args.asked c.args.frame.now c.self.inside.times c.self.inside.state c.make_tree.new.state c.in-Ok.tree) c.slice-rules.ensures c.in-Ok.ensures.walked) in
     tree-taken c.args.asked past c.args.frame.now c.args.self.now c.make_tree.new.state c.in-Ok.tree
     (c.make_tree.ensures.added.follows ∙ ap (λ (d : DissectorShown). d.state.follows) c.self.view_is) after reads follows
 
@@ -15,21 +17,24 @@ pub returns-in-Ok-clause-values : goal.returns-in-Ok-clause-values
 returns-in-Ok-clause-values c = λ past after few.
     let frame = c.args.frame.now in
     let tree = c.in-Ok.tree in
-    let reads = subst (λ (d : DissectorShown). Reads c.args.asked frame d c.make_tree.new.state tree) c.self.view_is c.in-Ok.ensures.walked in
-    values-read c.args.self.now.state.follows c.args.asked (tree_at past frame) tree
+    let reads = subst (λ (d : DissectorShown). Reads c.args.asked frame d c.make_tree.new.state tree) c.self.view_is
+    (subst (λ (rules : List PortRule). ReadsBy rules c.args.asked c.args.frame.now c.self.inside.times c.self.inside.state c.make_tree.new.state c.in-Ok.tree) c.slice-rules.ensures c.in-Ok.ensures.walked) in
+    values-read c.args.self.now.state.follows c.args.asked (tree_at c.args.self.now.decode.rules past frame) tree
     (tree-taken c.args.asked past frame c.args.self.now c.make_tree.new.state tree
     (c.make_tree.ensures.added.follows ∙ ap (λ (d : DissectorShown). d.state.follows) c.self.view_is) after reads)
-    (values-taken c.args.asked past frame c.args.self.now c.make_tree.new.state tree c.in-Ok.ensures.fits after reads) few
+    (values-taken c.args.asked past frame c.args.self.now c.make_tree.new.state tree after reads) few
 
 pub returns-in-Ok-clause-after : goal.returns-in-Ok-clause-after
 returns-in-Ok-clause-after c = λ past after.
     let frame = c.args.frame.now in
-    let reads = subst (λ (d : DissectorShown). Reads c.args.asked frame d c.make_tree.new.state c.in-Ok.tree) c.self.view_is c.in-Ok.ensures.walked in
+    let reads = subst (λ (d : DissectorShown). Reads c.args.asked frame d c.make_tree.new.state c.in-Ok.tree) c.self.view_is
+    (subst (λ (rules : List PortRule). ReadsBy rules c.args.asked c.args.frame.now c.self.inside.times c.self.inside.state c.make_tree.new.state c.in-Ok.tree) c.slice-rules.ensures c.in-Ok.ensures.walked) in
     after-taken c.args.asked past frame c.args.self.now _ c.in-Ok.tree
     c.if-self.false
     (c.number_of-number.ensures.number ∙ c.requires.number)
     (ap (λ n. c.self.inside.captured + n) c.captured.ensures ∙ ap (λ (d : DissectorShown). d.captured + length frame.bytes) c.self.view_is)
     (c.with-self-inside.ensures.with ∙ ap (λ (d : DissectorShown). with_time frame.time d.times) c.self.view_is)
+    (ap (λ (d : DissectorShown). d.decode) c.self.view_is)
     after reads
 
 pub make_tree-requires-clause-few : goal.make_tree-requires-clause-few

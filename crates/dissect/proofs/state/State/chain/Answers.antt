@@ -6,7 +6,7 @@ use Rattle.dissect.proofs.state.State.chain.Goals as goal
 
 pub loop-todo-init : goal.loop-todo-init
 loop-todo-init c = record {
-  goes = goes-first c.args.frame.now c.args.most c.args.self.now c.args.tree.now c.args.first;
+  goes = goes-first c.args.rules.now c.args.frame.now c.args.most c.args.self.now c.args.tree.now c.args.first;
   inside = c.requires.inside;
   adds = λ before adds. adds;
   room = c.requires.few;
@@ -15,7 +15,7 @@ loop-todo-init c = record {
 
 pub returns-then-left-eq0 : goal.returns-then-left-eq0
 returns-then-left-eq0 c = record {
-  walked = goes-rest c.args.frame.now c.args.most c.args.self.now c.args.tree.now c.args.first c.loop-todo.left c.loop-todo.self c.loop-todo.tree c.loop-todo.todo c.in-Head.head c.rest.new.self c.rest.new.tree _ (search rules) (search rules) c.loop-todo.invariant.goes c.in_ok-rest.ensures.walked;
+  walked = goes-rest c.args.rules.now c.args.frame.now c.args.most c.args.self.now c.args.tree.now c.args.first c.loop-todo.left c.loop-todo.self c.loop-todo.tree c.loop-todo.todo c.in-Head.head c.rest.new.self c.rest.new.tree _ (search rules) (search rules) c.loop-todo.invariant.goes (c.in_ok-rest.ensures.walked c.args.rules.now);
   added = λ before adds. adds-both before c.loop-todo.self _ (adds-none before c.loop-todo.self c.loop-todo.todo c.in-Head.head (search rules) (c.loop-todo.invariant.adds before adds)) c.rest.ensures.added;
 }
 
@@ -24,7 +24,7 @@ loop-todo-preserved c =
     let now = room-now c.loop-todo.self c.loop-todo.todo c.in-Head.head (search rules) c.loop-todo.invariant.room in
     let space = space_now c.loop-todo.left c.loop-todo.tree c.loop-todo.todo c.in-Head.head (search rules) c.loop-todo.invariant.space in
     record {
-      goes = goes-on c.args.frame.now c.args.most c.args.self.now c.args.tree.now c.args.first c.loop-todo.left c.loop-todo.self c.loop-todo.tree c.loop-todo.todo c.in-Head.head c.head.new.self c.head.new.tree c.in_ok-todo.todo (search rules) (search rules) c.loop-todo.invariant.goes c.in_ok-todo.ensures.walked;
+      goes = goes-on c.args.rules.now c.args.frame.now c.args.most c.args.self.now c.args.tree.now c.args.first c.loop-todo.left c.loop-todo.self c.loop-todo.tree c.loop-todo.todo c.in-Head.head c.head.new.self c.head.new.tree c.in_ok-todo.todo (search rules) (search rules) c.loop-todo.invariant.goes c.in_ok-todo.ensures.walked;
       inside = c.in_ok-todo.ensures.inside;
       adds = λ before adds. adds-on before c.loop-todo.self c.head.new.self c.loop-todo.todo c.in_ok-todo.todo c.in-Head.head (search rules) (c.loop-todo.invariant.adds before adds) c.in_ok-todo.ensures.adds;
       room = room-on c.loop-todo.self c.head.new.self c.in_ok-todo.todo now c.in_ok-todo.ensures.adds;
@@ -33,7 +33,7 @@ loop-todo-preserved c =
 
 pub returns : goal.returns
 returns c = record {
-  walked = goes-done c.args.frame.now c.args.most c.args.self.now c.args.tree.now c.args.first c.loop-todo.left c.loop-todo.self c.loop-todo.tree c.loop-todo.todo (search rules) c.loop-todo.invariant.goes;
+  walked = goes-done c.args.rules.now c.args.frame.now c.args.most c.args.self.now c.args.tree.now c.args.first c.loop-todo.left c.loop-todo.self c.loop-todo.tree c.loop-todo.todo (search rules) c.loop-todo.invariant.goes;
   added = λ before adds. adds-most before c.loop-todo.self c.loop-todo.todo (c.loop-todo.invariant.adds before adds);
 }
 

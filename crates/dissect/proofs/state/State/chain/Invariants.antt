@@ -7,7 +7,7 @@ use Rattle.dissect.proofs.state.State.chain.Given as goal
 -- the headers that are left lead where all of them do, and there is room for them
 abbrev pub invariant-loop-todo : goal.invariant-loop-todo
 invariant-loop-todo l = record {
-  goes : Goes l.frame l.fn.most l.initial.self l.initial.tree l.fn.first l.left l.self l.tree l.todo;
+  goes : Goes l.rules l.frame l.fn.most l.initial.self l.initial.tree l.fn.first l.left l.self l.tree l.todo;
   inside : IsTodoInside l.tree.buffers l.todo;
   adds : (before : State) → AddsOneThenEnds before l.initial.self l.fn.first → AddsOneThenEnds before l.self l.todo;
   room : HasRoom l.self l.todo;

@@ -11,11 +11,12 @@ use Rattle.dissect.proofs.state.State.link.Goals as goal
 
 pub returns-then-captured-eq0-clause-walked : goal.returns-then-captured-eq0-clause-walked
 returns-then-captured-eq0-clause-walked c = λ es stands.
+    let rules = c.args.rules.now in
     let frame = c.args.frame.now in
     let t = c.args.tree.now in
     let none : length frame.bytes ≡ 0 = sym c.captured.ensures ∙ c.if-captured-eq0.true in
-    subst (λ (w : Walk). IsWalked w c.args.self.now t todos.Done) (sym (link_none frame t es none))
-    (walked_same (stop t es) c.args.self.now t todos.Done stands refl refl)
+    subst (λ (w : Walk). IsWalked rules w c.args.self.now t todos.Done) (sym (link_none rules frame t es none))
+    (walked_same rules (stop t es) c.args.self.now t todos.Done stands refl refl)
 
 pub follow-requires-clause-last : goal.follow-requires-clause-last
 follow-requires-clause-last c =

@@ -11,12 +11,12 @@ use Rattle.dissect.proofs.state.State.piece.Goals as goal
 pub returns-clause-walked : goal.returns-clause-walked
 returns-clause-walked c =
     IfOk-weaker c.behind_piece.result _ _
-    (λ todo walked es stands.
+    (λ todo walked rules es stands.
     let frame = c.args.frame.now.number in
     let head = c.args.head in
     let bytes = c.args.bytes.now in
     let kept = c.in_ok-joined.ensures.stands (fragments_of es) stands.joins in
-    subst (λ (j : Joined). IsWalked (joined_met j c.args.tree.now (Piece frame head bytes ∷ es) head c.args.span) c.behind_piece.new.self c.behind_piece.new.tree todo)
+    subst (λ (j : Joined). IsWalked rules (joined_met j c.args.tree.now (Piece frame head bytes ∷ es) head c.args.span) c.behind_piece.new.self c.behind_piece.new.tree todo)
     (c.in_ok-joined.ensures.joined (fragments_of es) stands.joins)
-    (walked (Piece frame head bytes ∷ es) (stands-piece es frame head bytes c.args.self.now _ stands refl refl refl kept)))
+    (walked rules (Piece frame head bytes ∷ es) (stands-piece rules es frame head bytes c.args.self.now _ stands refl refl refl refl refl kept)))
     c.behind_piece.ensures.walked

@@ -1,28 +1,31 @@
-use Rattle.std.proofs.Common.{subst, sym, ap, ◌∙◌, ℕ, ◌-◌, arith}
+use Rattle.std.proofs.Common.{subst, sym, ap, ◌∙◌, ◌∷◌, ℕ, ◌-◌, arith}
 use Rattle.dissect.specs.declared.todo.Todo.TheVariants as todos
+use Rattle.dissect.specs.Events.{NewFrame}
 use Rattle.dissect.specs.Stands.{IsWalked}
 use Rattle.dissect.specs.Walks.{chain, going, link_met}
 use Rattle.dissect.proofs.Chains.{all-met}
-use Rattle.dissect.proofs.Opens.{room-on}
+use Rattle.dissect.proofs.Opens.{adds-both, room-before, room-on}
 use Rattle.dissect.proofs.Spaces.{space_less}
 use Rattle.dissect.proofs.state.State.read_frame.Goals as goal
 
 pub returns : goal.returns
 returns c = record {
   walked = λ es stands.
+      let rules = c.args.rules.now in
       let frame = c.args.frame.now in
-      let w = link_met frame c.args.tree.now es in
-      let first = c.in_ok-first.ensures.walked es stands in
+      let begun = NewFrame ∷ es in
+      let w = link_met rules frame c.args.tree.now begun in
+      let first = c.in_ok-first.ensures.walked begun (c.begin_frame.ensures.stands rules es stands) in
       let rest = c.in_ok-chain.ensures.walked w.events first.stands in
-      all-met frame w c.link.new.self c.link.new.tree c.in_ok-first.first c.chain.new.self c.chain.new.tree
-      ((c.chain.ensures.added c.args.self.now c.in_ok-first.ensures.adds).follows ∙ sym c.link.ensures.added.follows) first
-      (subst (λ (n : ℕ). IsWalked (chain n frame (going c.link.new.tree w.events c.in_ok-first.first)) c.chain.new.self c.chain.new.tree todos.Done)
+      all-met rules frame w c.link.new.self c.link.new.tree c.in_ok-first.first c.chain.new.self c.chain.new.tree
+      ((c.chain.ensures.added c.begin_frame.new.self c.in_ok-first.ensures.adds).follows ∙ sym c.link.ensures.added.follows) first
+      (subst (λ (n : ℕ). IsWalked rules (chain rules n frame (going c.link.new.tree w.events c.in_ok-first.first)) c.chain.new.self c.chain.new.tree todos.Done)
       (c.saturating_sub-left.ensures ∙ ap (λ (n : ℕ). 32 - n) c.layer_count.ensures) rest);
-  added = c.chain.ensures.added c.args.self.now c.in_ok-first.ensures.adds;
+  added = adds-both c.args.self.now c.begin_frame.new.self c.chain.new.self c.begin_frame.ensures.adds (c.chain.ensures.added c.begin_frame.new.self c.in_ok-first.ensures.adds);
 }
 
 pub chain-requires-clause-few : goal.chain-requires-clause-few
-chain-requires-clause-few c = room-on c.args.self.now c.link.new.self c.in_ok-first.first c.requires.few c.in_ok-first.ensures.adds
+chain-requires-clause-few c = room-on c.begin_frame.new.self c.link.new.self c.in_ok-first.first (room-before c.args.self.now c.begin_frame.new.self c.requires.few c.begin_frame.ensures.adds) c.in_ok-first.ensures.adds
 
 pub chain-requires-clause-space : goal.chain-requires-clause-space
 chain-requires-clause-space c =

@@ -1,6 +1,0 @@
-ghost use Rattle.dissect.specs.StreamMessages.{MessagesOnce};
-
-/// Each message of a TCP stream's direction is shown by one frame, in the order of its bytes.
-pub fn messages_once()
-    ensures { MessagesOnce }
-{}

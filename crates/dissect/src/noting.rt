@@ -1,0 +1,72 @@
+ghost use Rattle.std.specs.Prelude.{◌≡◌, ◌∷◌, All, List, map, true, OnOk};
+ghost use Rattle.port_rules.specs.declared.rules.PortRule.{PortRule as PortRuleValue};
+ghost use Rattle.tcp_messages.specs.Shown.{IsWholeIn};
+ghost use Rattle.dissect.specs.Events.{Event, NewFrame};
+ghost use Rattle.dissect.specs.Notes.{datagram_notes, message_note, tcp_direction, udp_direction};
+ghost use Rattle.dissect.specs.Stands.{StandsAt, AddsAtMost, IsLinked, IsSameButLinks};
+
+use crate::notes::{Direction, Note, dns_note, tcp_direction, udp_direction};
+use crate::state::State;
+use pk_base::NoMemory;
+use port_rules::App;
+use tcp_messages::Met;
+
+impl State {
+    /// A frame begins, of which no message was met.
+    #[tactic(auto, unfolding(crate::specs::Fragments::fragments_of, crate::specs::Segments::segments_of, crate::specs::Conversations::udp_opened, crate::specs::Notes::noted, crate::specs::Links::newest_links))]
+    pub(crate) fn begin_frame(&mut self)
+        ensures stands { (rules : List PortRuleValue) (es : List Event)
+            → StandsAt rules es self.old → StandsAt rules (NewFrame ∷ es) self.new }
+        ensures adds { AddsAtMost 0 self.old self.new }
+    {
+        self.found.clear();
+    }
+
+    /// Links the message that a datagram carries, where streams are followed.
+    pub(crate) fn link_datagram(
+        &mut self,
+        frame: u32,
+        stream: u32,
+        app: Option<App>,
+        bytes: &[u8],
+    ) -> Result<(), NoMemory>
+        ensures links { OnOk result (self.old.follows ≡ true
+            → IsLinked frame (udp_direction stream) (datagram_notes app bytes.now) self.old
+            self.new) }
+        ensures same { IsSameButLinks self.old self.new }
+    {
+        if !self.follows {
+            return Ok(());
+        }
+        match app {
+            Some(App::Dns) if !bytes.is_empty() => {
+                self.link_all(frame, udp_direction(stream), &[dns_note(bytes)])
+            }
+            _ => self.link_all(frame, udp_direction(stream), &[]),
+        }
+    }
+
+    /// Links the messages that a segment's frame shows.
+    pub(crate) fn link_segment(
+        &mut self,
+        frame: u32,
+        met: &Met,
+        payload: &[u8],
+    ) -> Result<(), NoMemory>
+        requires whole { All (IsWholeIn payload.now) met.now.messages }
+        ensures links { OnOk result (IsLinked frame (tcp_direction met.now.taken) (map
+            (message_note payload.now) met.now.messages) self.old self.new) }
+        ensures same { IsSameButLinks self.old self.new }
+    {
+        let notes = self.links.notes(payload, met.messages.slice())?;
+        self.link_all(frame, tcp_direction(&met.taken), &notes)
+    }
+
+    fn link_all(&mut self, frame: u32, at: Direction, notes: &[Note]) -> Result<(), NoMemory>
+        ensures links { OnOk result (IsLinked frame at notes.now self.old self.new) }
+        ensures same { IsSameButLinks self.old self.new }
+    {
+        self.found = self.links.take(frame, at, notes)?;
+        Ok(())
+    }
+}
