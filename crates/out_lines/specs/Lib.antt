@@ -1,4 +1,5 @@
 pub mod Columns
+pub mod Follow
 pub mod Laws
 pub mod Lines
 pub mod Places

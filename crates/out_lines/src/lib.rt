@@ -3,6 +3,9 @@
 
 mod column;
 mod columns;
+mod follow;
+#[cfg(test)]
+mod follow_tests;
 mod laws;
 mod lines;
 mod style;
@@ -11,6 +14,7 @@ mod summary;
 mod tests;
 mod value_text;
 
+pub use follow::{Fronts, follow_text};
 pub use laws::kept_trees_have_the_same_line;
 pub use lines::{LineWriter, field_line, header_line};
 pub use style::{Occurrence, Quote, Style};
