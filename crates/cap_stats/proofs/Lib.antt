@@ -1,0 +1,8 @@
+pub mod CountLemmas
+pub mod FieldLemmas
+pub mod KeptNotes
+pub mod KeptTables
+pub mod KeyLemmas
+pub mod MapLemmas
+pub mod PathLemmas
+pub mod TableLemmas

@@ -1,0 +1,62 @@
+-- A table, from what a map holds.
+use Rattle.std.proofs.Common.{◌≡◌, ℕ, List, [], ◌∷◌, ◌++◌, length, map, decimal, codes, Option, sym, ap, ◌∙◌, append_assoc, string_bytes, String, Global}
+use Rattle.std.proofs.lemmas.List.{length-map}
+use Rattle.std.proofs.lemmas.List.Folds.{flat_map-map}
+use Rattle.std.specs.BTreeMap as tree
+use Rattle.std.specs.List.{flat_map}
+use Rattle.std.specs.Ordering.{nat_cmp}
+use Rattle.std.specs.Str.{bytes_eq}
+use Rattle.indexmap.specs.IndexMap as index
+use Rattle.cap_stats.specs.declared.counts.Tally.{Tally}
+use Rattle.cap_stats.specs.declared.counts.Talk.{Talk}
+use Rattle.cap_stats.specs.declared.pairs.Pairs.{Pairs}
+use Rattle.cap_stats.specs.declared.party.Flight.{Flight}
+use Rattle.cap_stats.specs.declared.paths.Paths.{Paths}
+use Rattle.cap_stats.specs.declared.streams.Streams.{Streams}
+use Rattle.cap_stats.specs.Counts.{of_key, sizes_tally, talk_of}
+use Rattle.cap_stats.specs.Keys.{same_number, numbers_in, same_pair, pairs_in, texts_in}
+use Rattle.cap_stats.specs.Stands.{HasStreams, HasPairs, HasPaths}
+use Rattle.cap_stats.specs.Tables.{table_with, stream_line, pair_line, path_line, streams_table, pairs_table, paths_table}
+
+made : {K V : Type 0} (name : List ℕ) (count : ℕ) (keys wanted : List K) (has is : K → Option V) (line : K → Option V → List ℕ) (text : List ℕ)
+    → keys ≡ wanted → count ≡ length keys → ((k : K) → has k ≡ is k)
+    → text ≡ (name ++ (decimal count ++ 10 ∷ [])) ++ flat_map (λ k. line k (has k)) keys
+    → text ≡ table_with name wanted (λ k. line k (is k))
+made {K} {V} name count keys wanted has is line text same counted held written =
+    written
+    ∙ ap (λ (f : K → List ℕ). (name ++ (decimal count ++ 10 ∷ [])) ++ flat_map f keys) (λ i k. line k (held k i))
+    ∙ append_assoc name (decimal count ++ 10 ∷ []) (flat_map (λ k. line k (is k)) keys)
+    ∙ ap (λ (rest : List ℕ). name ++ rest) (append_assoc (decimal count) (10 ∷ []) (flat_map (λ k. line k (is k)) keys))
+    ∙ ap (λ (n : ℕ). name ++ (decimal n ++ (10 ∷ flat_map (λ k. line k (is k)) keys))) counted
+    ∙ ap (λ (ks : List K). table_with name ks (λ k. line k (is k))) same
+
+pub streams_made : (streams : Streams) (notes : List (ℕ × Flight)) (count : ℕ) (text : List ℕ)
+    → count ≡ tree.btree_map_len streams.all
+    → text ≡ (codes "conv tcp " ++ (decimal count ++ 10 ∷ [])) ++ flat_map (λ n. stream_line n (tree.get nat_cmp streams.all n)) (tree.keys streams.all)
+    → HasStreams notes streams → text ≡ streams_table notes
+unfolding streams_table
+streams_made streams notes count text counted written has =
+    made (codes "conv tcp ") count (tree.keys streams.all) (numbers_in notes) (tree.get nat_cmp streams.all) (λ n. talk_of (of_key same_number n notes)) stream_line text
+    has.keys_are (counted ∙ sym (length-map streams.all.entries (λ (e : ℕ × Talk). e.0))) has.talks written
+
+pub pairs_made : (pairs : Pairs) (notes : List ((ℕ × ℕ) × Flight)) (count : ℕ) (text : List ℕ)
+    → count ≡ index.index_map_len pairs.all
+    → text ≡ (codes "conv ip " ++ (decimal count ++ 10 ∷ [])) ++ flat_map (λ p. pair_line (index.get same_pair pairs.all p)) (index.keys pairs.all)
+    → HasPairs notes pairs → text ≡ pairs_table notes
+unfolding pairs_table
+pairs_made pairs notes count text counted written has =
+    made (codes "conv ip ") count (index.keys pairs.all) (pairs_in notes) (index.get same_pair pairs.all) (λ p. talk_of (of_key same_pair p notes)) (λ p. pair_line) text
+    has.keys_are (counted ∙ sym (length-map pairs.all.entries (λ (e : (ℕ × ℕ) × Talk). e.0))) has.talks written
+
+pub paths_made : (paths : Paths) (notes : List (List ℕ × ℕ)) (count : ℕ) (text : List ℕ)
+    → count ≡ tree.btree_map_len paths.all
+    → text ≡ (codes "phs " ++ (decimal count ++ 10 ∷ [])) ++ flat_map (λ k. path_line (string_bytes k) (tree.get_by_text paths.all (string_bytes k))) (tree.keys paths.all)
+    → HasPaths notes paths → text ≡ paths_table notes
+unfolding paths_table
+paths_made paths notes count text counted written has =
+    made (codes "phs ") count (map string_bytes (tree.keys paths.all)) (texts_in notes) (λ p. tree.get_by_text paths.all p) (λ p. sizes_tally (of_key bytes_eq p notes)) path_line text
+    has.keys_are
+    (counted ∙ sym (length-map paths.all.entries (λ (e : String Global × Tally). e.0)) ∙ sym (length-map (tree.keys paths.all) string_bytes))
+    has.tallies
+    (written ∙ ap (λ (lines : List ℕ). (codes "phs " ++ (decimal count ++ 10 ∷ [])) ++ lines)
+    (sym (flat_map-map (λ p. path_line p (tree.get_by_text paths.all p)) string_bytes (tree.keys paths.all))))

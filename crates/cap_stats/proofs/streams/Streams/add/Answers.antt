@@ -1,0 +1,11 @@
+use Rattle.std.proofs.Common.{ap, ◌∙◌, Option}
+use Rattle.cap_stats.specs.declared.counts.Talk.{Talk}
+use Rattle.cap_stats.specs.Steps.{talk_after}
+use Rattle.cap_stats.proofs.MapLemmas.{stream_noted}
+use Rattle.cap_stats.proofs.streams.Streams.add.Goals as goal
+
+pub returns : goal.returns
+returns c = λ notes has.
+    stream_noted c.args.self.now (record { all = c.insert.new.self }) c.args.number c.args.flight.now c.in_ok-talk.talk c.in_ok-insert.field-0 notes
+    (c.in_ok-talk.ensures ∙ ap (λ (o : Option Talk). talk_after o c.args.flight.now) (c.copied.ensures ∙ c.get.ensures.value))
+    c.in_ok-insert.ensures.old c.in_ok-insert.ensures.keys_stay c.in_ok-insert.ensures.entries c.in_ok-insert.ensures.updates has

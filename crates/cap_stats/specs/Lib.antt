@@ -1,0 +1,7 @@
+pub mod Counts
+pub mod Keys
+pub mod Laws
+pub mod Stands
+pub mod Steps
+pub mod Tables
+pub mod Told

@@ -1,0 +1,92 @@
+// Frames and bytes, and how one more frame changes them.
+ghost use Rattle.std.specs.Prelude.{◌≡◌, ◌+◌, IfOk};
+ghost use Rattle.std.specs.Option.{option_copied};
+ghost use Rattle.cap_stats.specs.Steps.{tally_with, tally_after, talk_with, first_talk, talk_after};
+
+use crate::party::{Flight, Party, is_same};
+use pk_base::NoMemory;
+
+/// Frames, and the sum of their lengths.
+#[derive(Clone, Copy, Debug)]
+pub(crate) struct Tally {
+    pub frames: u64,
+    pub bytes: u64,
+}
+
+/// What two ends sent each other.
+#[derive(Clone, Copy, Debug)]
+pub(crate) struct Talk {
+    /// The end that the first frame left, and the one that it went to.
+    pub from: Party,
+    pub to: Party,
+    /// The frames that the first end sent, and all others.
+    pub there: Tally,
+    pub back: Tally,
+}
+
+/// A tally with one more frame. One that doesn't fit 64 bits, for which no file is large enough, is want of memory.
+fn tally_with(tally: Tally, bytes: u64) -> Result<Tally, NoMemory>
+    ensures { IfOk result (λ new. new ≡ tally_with tally bytes) }
+{
+    let frames = plus(tally.frames, 1)?;
+    let bytes = plus(tally.bytes, bytes)?;
+    Ok(Tally { frames, bytes })
+}
+
+fn plus(one: u64, other: u64) -> Result<u64, NoMemory>
+    ensures { IfOk result (λ sum. sum ≡ one + other) }
+{
+    match one.checked_add(other) {
+        Some(sum) => Ok(sum),
+        None => Err(NoMemory),
+    }
+}
+
+/// A tally, if there is one, with one more frame.
+pub(crate) fn tally_after(tally: Option<Tally>, bytes: u64) -> Result<Tally, NoMemory>
+    ensures { IfOk result (λ new. new ≡ tally_after tally bytes) }
+{
+    match tally {
+        None => Ok(Tally { frames: 1, bytes }),
+        Some(tally) => tally_with(tally, bytes),
+    }
+}
+
+fn talk_with(talk: Talk, flight: &Flight) -> Result<Talk, NoMemory>
+    ensures { IfOk result (λ new. new ≡ talk_with talk flight.now) }
+{
+    if is_same(&flight.from, &talk.from) {
+        let there = tally_with(talk.there, flight.bytes)?;
+        Ok(Talk { there, ..talk })
+    } else {
+        let back = tally_with(talk.back, flight.bytes)?;
+        Ok(Talk { back, ..talk })
+    }
+}
+
+fn first_talk(flight: &Flight) -> Talk
+    ensures { result ≡ first_talk flight.now }
+{
+    Talk {
+        from: flight.from,
+        to: flight.to,
+        there: Tally {
+            frames: 1,
+            bytes: flight.bytes,
+        },
+        back: Tally {
+            frames: 0,
+            bytes: 0,
+        },
+    }
+}
+
+/// A conversation, if there is one, with one more flight.
+pub(crate) fn talk_after(talk: Option<Talk>, flight: &Flight) -> Result<Talk, NoMemory>
+    ensures { IfOk result (λ new. new ≡ talk_after talk flight.now) }
+{
+    match talk {
+        None => Ok(first_talk(flight)),
+        Some(talk) => talk_with(talk, flight),
+    }
+}

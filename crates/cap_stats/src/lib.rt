@@ -1,0 +1,21 @@
+//! Statistics over the trees of frames: conversations, and the hierarchy of protocols.
+#![tactic(auto)]
+
+mod counts;
+mod fields;
+mod kind;
+mod laws;
+mod lines;
+mod pairs;
+mod party;
+mod paths;
+mod stats;
+mod streams;
+#[cfg(test)]
+mod tests;
+mod told;
+
+pub use fields::add_fields;
+pub use kind::StatKind;
+pub use laws::kept_trees_have_the_same_table;
+pub use stats::Stats;

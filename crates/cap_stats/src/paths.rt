@@ -1,0 +1,166 @@
+// Paths of protocols, by their texts.
+ghost use Rattle.std.specs.Prelude.{◌≡◌, ◌==◌, ℕ, Option, None, true, false, List, [], ◌∷◌, ◌++◌, length, map, codes, if◌then◌else◌, take, IfOk, OnOk};
+ghost use Rattle.std.specs.BTreeMap.{get_by_text, keys};
+ghost use Rattle.std.specs.List.{flat_map};
+ghost use Rattle.std.specs.String.{string_bytes};
+ghost use Rattle.std.specs.Option.{option_copied};
+ghost use Rattle.pk_fields.specs.Fields.{row_of};
+ghost use Rattle.pk_tree.specs.declared.layer.Layer.{Layer};
+ghost use Rattle.cap_stats.specs.Stands.{HasPaths};
+ghost use Rattle.cap_stats.specs.Tables.{paths_table, path_line};
+ghost use Rattle.cap_stats.specs.Told.{path_of, paths_in, paths_to};
+
+use crate::counts::{Tally, tally_after};
+use crate::lines::begin_table;
+use crate::told::length_of;
+use pk_base::NoMemory;
+use pk_fields::{FieldId, name};
+use pk_text::{TextSink, put_number};
+use pk_tree::Layer;
+use std::alloc::Global;
+use std::collections::BTreeMap;
+
+/// How many of a tree's layers are looked at.
+const LAYERS: usize = 32;
+
+/// The frames of each path.
+#[derive(Drop)]
+pub(crate) struct Paths {
+    pub alloc: Global,
+    pub all: BTreeMap<String, Tally>,
+}
+
+impl Paths {
+    #[tactic(auto, unfolding(crate::specs::Counts::sizes_tally, crate::specs::Keys::texts_in))]
+    pub fn new(alloc: Global) -> Paths
+        ensures { HasPaths [] result }
+    {
+        Paths {
+            alloc,
+            all: BTreeMap::new(alloc),
+        }
+    }
+
+    /// Notes the paths that a tree's layers show.
+    pub fn add(&mut self, layers: &[Layer]) -> Result<(), NoMemory>
+        ensures { OnOk result ((notes : List (List ℕ × ℕ)) → HasPaths notes self.old
+            → HasPaths (paths_in layers.now ++ notes) self.new) }
+    {
+        let bytes = length_of(layers);
+        self.add_shown(front(layers, LAYERS), bytes)
+    }
+
+    fn add_shown(&mut self, shown: &[Layer], bytes: u64) -> Result<(), NoMemory>
+        ensures { OnOk result ((notes : List (List ℕ × ℕ)) → HasPaths notes self.old
+            → HasPaths (paths_to bytes (map (λ (layer : Layer). layer.proto) shown.now)
+            (length shown.now) ++ notes) self.new) }
+    {
+        let mut path = String::new(self.alloc);
+        for (place, layer) in shown.iter().enumerate() {
+            extend_path(&mut path, place, layer.proto)?;
+            self.add_path(path.as_str(), bytes)?;
+        }
+        Ok(())
+    }
+
+    /// Notes a frame of a path.
+    fn add_path(&mut self, path: &str, bytes: u64) -> Result<(), NoMemory>
+        ensures { OnOk result ((notes : List (List ℕ × ℕ)) → HasPaths notes self.old
+            → HasPaths ((path.now, bytes) ∷ notes) self.new) }
+    {
+        if self.raise(path, bytes)? {
+            return Ok(());
+        }
+        let key = String::from_str(self.alloc, path)?;
+        self.all.insert(key, tally_after(None, bytes)?)?;
+        Ok(())
+    }
+
+    /// Notes a frame of a path that is there, and answers whether it is.
+    fn raise(&mut self, path: &str, bytes: u64) -> Result<bool, NoMemory>
+        ensures raised { IfOk result (λ raised. raised ≡ true → (notes : List (List ℕ × ℕ))
+            → HasPaths notes self.old → HasPaths ((path.now, bytes) ∷ notes) self.new) }
+        ensures absent { IfOk result (λ raised. raised ≡ false
+            → get_by_text self.new.all path.now ≡ None) }
+        ensures kept { IfOk result (λ raised. raised ≡ false → (notes : List (List ℕ × ℕ))
+            → HasPaths notes self.old → HasPaths notes self.new) }
+    {
+        match self.all.get_mut(path) {
+            Some(tally) => {
+                *tally = tally_after(Some(*tally), bytes)?;
+                Ok(true)
+            }
+            None => Ok(false),
+        }
+    }
+
+    /// The table, with a line for each path.
+    pub fn table(&self, alloc: Global) -> Result<Vec<u8>, NoMemory>
+        ensures { IfOk result (λ text. (notes : List (List ℕ × ℕ)) → HasPaths notes self.now
+            → text.items ≡ paths_table notes) }
+    {
+        let mut text = begin_table(alloc, "phs ", self.all.len())?;
+        put_paths(&mut text, &self.all)?;
+        Ok(text)
+    }
+}
+
+/// At most so many layers, from the first on.
+fn front(layers: &[Layer], most: usize) -> &[Layer]
+    ensures { result.now ≡ take most layers.now }
+{
+    if layers.len() <= most {
+        layers
+    } else {
+        &layers[..most]
+    }
+}
+
+/// Appends a line for each path.
+fn put_paths(text: &mut Vec<u8>, all: &BTreeMap<String, Tally>) -> Result<(), NoMemory>
+    ensures { OnOk result (text.new.items
+        ≡ text.old.items
+        ++ flat_map (λ k. path_line (string_bytes k) (get_by_text all.now (string_bytes k)))
+        (keys all.now)) }
+{
+    for path in all.keys() {
+        put_entry(text, all, path.as_str())?;
+    }
+    Ok(())
+}
+
+fn put_entry(text: &mut Vec<u8>, all: &BTreeMap<String, Tally>, path: &str) -> Result<(), NoMemory>
+    ensures { OnOk result (text.new.items
+        ≡ text.old.items ++ path_line path.now (get_by_text all.now path.now)) }
+{
+    put_path(text, path, all.get(path))
+}
+
+/// A path with one more protocol.
+fn extend_path(path: &mut String, place: usize, proto: FieldId) -> Result<(), NoMemory>
+    ensures { OnOk result (string_bytes path.new
+        ≡ string_bytes path.old ++ ((if place == 0 then [] else codes ":") ++ (row_of proto).name)) }
+{
+    if place > 0 {
+        path.put_text(":")?;
+    }
+    path.put_text(name(proto))
+}
+
+fn put_path(text: &mut Vec<u8>, path: &str, tally: Option<&Tally>) -> Result<(), NoMemory>
+    ensures { OnOk result (text.new.items
+        ≡ text.old.items ++ path_line path.now (option_copied tally.entry)) }
+{
+    match tally {
+        None => Ok(()),
+        Some(tally) => {
+            text.put_text(path)?;
+            text.put_text(" frames ")?;
+            put_number(text, tally.frames)?;
+            text.put_text(" bytes ")?;
+            put_number(text, tally.bytes)?;
+            text.push(b'\n')?;
+            Ok(())
+        }
+    }
+}

@@ -1,0 +1,116 @@
+ghost use Rattle.std.specs.Prelude.{◌≡◌, ◌||◌, ℕ, true, List, [], ◌∷◌, IsErr, IfOk, OnOk, is_err};
+ghost use Rattle.cap_stats.specs.declared.party.Flight.{Flight as FlightValue};
+ghost use Rattle.pk_tree.specs.Trees.{TreeShown};
+ghost use Rattle.cap_stats.specs.Stands.{Stands, HasNotes, HasStreams, HasPairs, is_spent, kind_of};
+ghost use Rattle.cap_stats.specs.Tables.{table_of, with_note};
+ghost use Rattle.cap_stats.specs.Told.{stream_in as segment_of, packet_in as packet_of};
+
+use crate::kind::StatKind;
+use crate::pairs::Pairs;
+use crate::paths::Paths;
+use crate::streams::Streams;
+use crate::told::{packet_in, stream_in};
+use pk_base::NoMemory;
+use pk_tree::{Layer, Tree};
+use std::alloc::Global;
+
+/// Statistics of one kind over trees. They keep some bytes for each stream, pair or path, and none for a tree.
+#[derive(Drop)]
+pub struct Stats {
+    alloc: Global,
+    kind: StatKind,
+    /// Whether there was no memory for a tree.
+    spent: bool,
+    streams: Streams,
+    pairs: Pairs,
+    paths: Paths,
+}
+
+impl Stats {
+    /// No tree was noted. Takes no memory.
+    #[tactic(auto, unfolding(crate::specs::Stands::Stands))]
+    pub fn new(alloc: Global, kind: StatKind) -> Stats
+        ensures stands { Stands [] result }
+        ensures kind { kind_of result ≡ kind }
+    {
+        Stats {
+            alloc,
+            kind,
+            spent: false,
+            streams: Streams::new(alloc),
+            pairs: Pairs::new(alloc),
+            paths: Paths::new(alloc),
+        }
+    }
+
+    /// Notes a tree. Where there is no memory for it, the statistics are given up: nothing more is noted, and there is no
+    /// table.
+    #[tactic(auto, unfolding(crate::specs::Stands::Stands))]
+    pub fn note(&mut self, tree: &Tree) -> Result<(), NoMemory>
+        ensures stands { OnOk result ((past : List TreeShown) → Stands past self.old
+            → Stands (tree.now ∷ past) self.new) }
+        ensures spent { is_spent self.new ≡ is_spent self.old || is_err result }
+        ensures refused { is_spent self.old ≡ true → IsErr result }
+        ensures kind { kind_of self.new ≡ kind_of self.old }
+    {
+        if self.spent {
+            return Err(NoMemory);
+        }
+        let noted = self.add(tree);
+        self.spent = noted.is_err();
+        noted
+    }
+
+    fn add(&mut self, tree: &Tree) -> Result<(), NoMemory>
+        ensures notes { OnOk result ((past : List TreeShown)
+            → HasNotes (kind_of self.old) past self.old
+            → HasNotes (kind_of self.old) (tree.now ∷ past) self.new) }
+        ensures spent { is_spent self.new ≡ is_spent self.old }
+        ensures kind { kind_of self.new ≡ kind_of self.old }
+    {
+        match self.kind {
+            StatKind::ConvTcp => add_stream(&mut self.streams, tree.layers()),
+            StatKind::ConvIp => add_pair(&mut self.pairs, tree.layers()),
+            StatKind::Phs => self.paths.add(tree.layers()),
+        }
+    }
+
+    /// The table of what was noted: a line with its name and how many lines follow, and these lines.
+    #[tactic(auto, unfolding(crate::specs::Stands::Stands, crate::specs::Tables::table_of))]
+    pub fn table(&self) -> Result<Vec<u8>, NoMemory>
+        ensures table { IfOk result (λ text. (past : List TreeShown) → Stands past self.now
+            → text.items ≡ table_of (kind_of self.now) past) }
+        ensures refused { is_spent self.now ≡ true → IsErr result }
+    {
+        if self.spent {
+            return Err(NoMemory);
+        }
+        match self.kind {
+            StatKind::ConvTcp => self.streams.table(self.alloc),
+            StatKind::ConvIp => self.pairs.table(self.alloc),
+            StatKind::Phs => self.paths.table(self.alloc),
+        }
+    }
+}
+
+/// Notes the segment that layers show, if any.
+fn add_stream(streams: &mut Streams, layers: &[Layer]) -> Result<(), NoMemory>
+    ensures { OnOk result ((notes : List (ℕ × FlightValue)) → HasStreams notes streams.old
+        → HasStreams (with_note (segment_of layers.now) notes) streams.new) }
+{
+    match stream_in(layers) {
+        Some((number, flight)) => streams.add(number, &flight),
+        None => Ok(()),
+    }
+}
+
+/// Notes the packet that layers show, if any.
+fn add_pair(pairs: &mut Pairs, layers: &[Layer]) -> Result<(), NoMemory>
+    ensures { OnOk result ((notes : List ((ℕ × ℕ) × FlightValue)) → HasPairs notes pairs.old
+        → HasPairs (with_note (packet_of layers.now) notes) pairs.new) }
+{
+    match packet_in(layers) {
+        Some((pair, flight)) => pairs.add(pair, &flight),
+        None => Ok(()),
+    }
+}
