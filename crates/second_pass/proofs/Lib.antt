@@ -1,0 +1,6 @@
+pub mod FieldLemmas
+pub mod KeptLayers
+pub mod KeptLinks
+pub mod KeptMessages
+pub mod LinkLemmas
+pub mod MessageLemmas

@@ -1,0 +1,6 @@
+pub mod Forward
+pub mod Laws
+pub mod Messages
+pub mod Named
+pub mod Replies
+pub mod Stands
