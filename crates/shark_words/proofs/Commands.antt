@@ -6,7 +6,7 @@ use Rattle.std.specs.Option.{option_or}
 use Rattle.std.proofs.lemmas.Option.{none-some}
 use Rattle.std.proofs.lemmas.Bool.{both_ways}
 use Rattle.shark_words.specs.declared.letter.Letter.{Letter}
-use Rattle.shark_words.specs.declared.letter.Letter.TheVariants.{Capture, Filter, Kind, Name, Style, Most, Quiet, Output, Format, SelfRun}
+use Rattle.shark_words.specs.declared.letter.Letter.TheVariants.{Capture, Filter, Kind, Name, Style, Most, Quiet, Decode, Report, Output, Format, SelfRun}
 use Rattle.shark_words.specs.declared.uses.Value.{Value}
 use Rattle.shark_words.specs.declared.uses.Use.{Use}
 use Rattle.shark_words.specs.declared.uses.Use.TheVariants as use_
@@ -19,12 +19,15 @@ use Rattle.shark_words.specs.declared.options.Options.{Options}
 use Rattle.shark_words.specs.declared.options.Source.{Source}
 use Rattle.shark_words.specs.Letters.{is_same}
 use Rattle.shark_words.specs.Values.{count_of, kind_asked, shown_filter}
+use Rattle.shark_words.specs.Ports.{rules_in}
+use Rattle.shark_words.specs.Reports.{reports_in}
 use Rattle.shark_words.specs.Uses.{uses_from}
 use Rattle.shark_words.specs.Faults.{fault, first_fault, is_given}
 use Rattle.shark_words.specs.Asked.{clash_word, head_of, is_clashing, is_unused, later, style_of, value_of, value_text, values_of, word_of}
 use Rattle.shark_words.specs.Options.{asked, clash_fault, fields_fault, format_written, judged, options_by, options_of, source_by, source_of, together_fault, unless, unused_fault, Gives}
 use Rattle.shark_words.specs.Spelled.{Spelled, spelled_words, is_spelled, Written, written_by, values_in, is_written, HasColumns, HasOutput, IsCommand, asked_by, IsAsked}
-use Rattle.shark_words.proofs.Spelling.{all_written, faultless, is_same_itself, same_letter, sound, spelled_uses, words_spelled, IsSound}
+use Rattle.shark_words.proofs.SlotLemmas.{is_same_itself, same_letter}
+use Rattle.shark_words.proofs.Spelling.{all_written, faultless, sound, spelled_uses, words_spelled, IsSound}
 
 -- the values looked up are those written
 value_written : (value : Option Value) → value_text value ≡ option_to_list (option_map (λ (v : Value). v.text) value)
@@ -113,6 +116,8 @@ unused_none kind written all columns output Filter h = absurd (both_ways false r
 unused_none kind written all columns output Kind h = absurd (both_ways false refl h)
 unused_none kind written all columns output Most h = absurd (both_ways false refl h)
 unused_none kind written all columns output Quiet h = absurd (both_ways false refl h)
+unused_none kind written all columns output Decode h = absurd (both_ways false refl h)
+unused_none kind written all columns output Report h = absurd (both_ways false refl h)
 unused_none kind written all columns output Output h = absurd (both_ways false refl h)
 unused_none kind written all columns output SelfRun h = absurd (both_ways false refl h)
 
@@ -126,19 +131,21 @@ columns_had Json written all named none = (none Name refl, none Style refl)
 clashing_none : (all : List Written) → HasOutput true all → NoneOf is_clashing all
 clashing_none all output Kind h = output.0
 clashing_none all output Quiet h = output.1
-clashing_none all output SelfRun h = output.2
+clashing_none all output Report h = output.2
+clashing_none all output SelfRun h = output.3
 clashing_none all output Capture h = absurd (both_ways false refl h)
 clashing_none all output Filter h = absurd (both_ways false refl h)
 clashing_none all output Name h = absurd (both_ways false refl h)
 clashing_none all output Style h = absurd (both_ways false refl h)
 clashing_none all output Most h = absurd (both_ways false refl h)
+clashing_none all output Decode h = absurd (both_ways false refl h)
 clashing_none all output Output h = absurd (both_ways false refl h)
 clashing_none all output Format h = absurd (both_ways false refl h)
 
 output_had : (kind : LineKind) (written : Bool) (all : List Written) → NoneOf (is_unused kind written) all → (written ≡ true → NoneOf is_clashing all)
     → HasOutput written all
 output_had kind false all unused clashing = unused Format refl
-output_had kind true all unused clashing = let none = clashing refl in (none Kind refl, none Quiet refl, none SelfRun refl)
+output_had kind true all unused clashing = let none = clashing refl in (none Kind refl, none Quiet refl, none Report refl, none SelfRun refl)
 
 -- the three faults of options together
 no_fields : (given : Bool) (one : WordFault) → (if given then None else Some one) ≡ None → given ≡ true
@@ -243,13 +250,16 @@ asked_written source all = record {
   style = style_of (values_in Style all);
   most = option_and_then count_of (head_of (values_in Most all));
   quiet = is_written Quiet all;
+  decode = record { rules = rules_in (values_in Decode all) };
+  reports = reports_in (values_in Report all);
   written = format_written (is_written Output all) (head_of (values_in Format all));
 }
 
 options_written : (source : Source) (uses : List Use) → options_by source uses ≡ asked_written source (all_written uses)
 options_written source uses =
     rw (values_written Filter uses) (rw (values_written Kind uses) (rw (values_written Name uses) (rw (values_written Style uses)
-    (rw (values_written Most uses) (rw (given_written Quiet uses) (rw (given_written Output uses) (rw (values_written Format uses) refl)))))))
+    (rw (values_written Most uses) (rw (given_written Quiet uses) (rw (values_written Decode uses) (rw (values_written Report uses)
+    (rw (given_written Output uses) (rw (values_written Format uses) refl)))))))))
 
 kind_written : (uses : List Use) → kind_asked (value_of Kind uses) ≡ kind_asked (head_of (values_in Kind (all_written uses)))
 kind_written uses = ap (λ (texts : List (List ℕ)). kind_asked (head_of texts)) (values_written Kind uses)

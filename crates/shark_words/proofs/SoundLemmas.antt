@@ -5,7 +5,7 @@ use Rattle.std.proofs.lemmas.Bool.{both_ways}
 use Rattle.std.proofs.lemmas.Bool.Decides.{nat_tests}
 use Rattle.std.proofs.lemmas.Option.{none-some, same_Some}
 use Rattle.shark_words.specs.declared.letter.Letter.{Letter}
-use Rattle.shark_words.specs.declared.letter.Letter.TheVariants.{Capture, Kind, Output, Format, SelfRun}
+use Rattle.shark_words.specs.declared.letter.Letter.TheVariants.{Capture, Kind, Report, Output, Format, SelfRun}
 use Rattle.shark_words.specs.declared.fault.WordsError.{WordsError}
 use Rattle.shark_words.specs.declared.options.Options.{Options}
 use Rattle.shark_words.specs.declared.options.Source.{Source}
@@ -15,7 +15,10 @@ use Rattle.shark_words.specs.Asked.{head_of}
 use Rattle.shark_words.specs.Options.{format_written, source_by}
 use Rattle.shark_words.specs.Sound.{AreSound, HasFrames, IsNamed, IsWrittenAlone}
 use Rattle.shark_words.specs.Spelled.{Spelled, Written, written_by, values_in, is_written, HasOutput, IsCommand, asked_by, IsAsked}
-use Rattle.shark_words.specs.Values.{decimal_of, generated, generated_at, generated_by, comma_in, kind_asked, most_generated, up_to}
+use Rattle.shark_words.specs.Numbers.{comma_in, decimal_of, up_to}
+use Rattle.shark_words.specs.Reports.{reports_in}
+use Rattle.shark_words.specs.Values.{generated, generated_at, generated_by, kind_asked, most_generated}
+use Rattle.shark_words.proofs.RuleLemmas.{rules_written}
 
 abbrev FromOne : ℕ → Type 0
 FromOne frames = (1 ≤ frames) × (frames ≤ most_generated)
@@ -77,15 +80,17 @@ written_alone : (written : Bool) (format : Option (List ℕ)) (source : Source) 
 written_alone false format source all command output = tt
 written_alone true format source all command output = record {
   source = named_source (head_of (values_in Capture (written_by all))) source
-      (sym (ap (λ (texts : List (List ℕ)). source_by (head_of (values_in Capture (written_by all))) (head_of texts)) (unwritten SelfRun (written_by all) output.2)) ∙ command.captured);
+      (sym (ap (λ (texts : List (List ℕ)). source_by (head_of (values_in Capture (written_by all))) (head_of texts)) (unwritten SelfRun (written_by all) output.3)) ∙ command.captured);
   kind = ap (λ (texts : List (List ℕ)). kind_asked (head_of texts)) (unwritten Kind (written_by all) output.0);
   quiet = output.1;
+  reports = ap reports_in (unwritten Report (written_by all) output.2);
 }
 
 command_sound : (source : Source) (all : List Spelled) → IsCommand source all → AreSound (asked_by source all)
 command_sound source all command = record {
   frames = subst (λ (s : Option Source). IfSome s HasFrames) command.captured
       (source_frames (head_of (values_in Capture (written_by all))) (head_of (values_in SelfRun (written_by all))));
+  rules = rules_written (written_by all) command.once;
   written = written_alone (is_written Output (written_by all)) (head_of (values_in Format (written_by all))) source all command command.output;
 }
 

@@ -11,23 +11,20 @@ use Rattle.std.proofs.lemmas.Bool.Decides.{nat_tests}
 use Rattle.std.proofs.lemmas.List.Folds.{list_any-append}
 use Rattle.std.proofs.lemmas.Slice.Eq.{bytes_eq-Decides}
 use Rattle.shark_words.specs.declared.letter.Letter.{Letter}
-use Rattle.shark_words.specs.declared.letter.Letter.TheVariants.{Capture, Filter, Kind, Name, Style, Most, Quiet, Output, Format, SelfRun}
-use Rattle.shark_words.specs.declared.key.Key.{Key}
-use Rattle.shark_words.specs.declared.key.Key.TheVariants as keys
+use Rattle.shark_words.specs.declared.letter.Letter.TheVariants.{Capture, Filter, Kind, Name, Style, Most, Quiet, Decode, Report, Output, Format, SelfRun}
 use Rattle.shark_words.specs.declared.slot.Slot.{Slot}
-use Rattle.shark_words.specs.declared.slot.Slot.TheVariants as slots
 use Rattle.shark_words.specs.declared.uses.Value.{Value}
 use Rattle.shark_words.specs.declared.uses.Given.{Given}
 use Rattle.shark_words.specs.declared.uses.Use.{Use}
 use Rattle.shark_words.specs.declared.uses.Use.TheVariants as use_
 use Rattle.shark_words.specs.declared.fault.WordFault.{WordFault}
 use Rattle.shark_words.specs.Letters.{letter_of, letter_byte, is_same, has_letter, has_value}
-use Rattle.shark_words.specs.Keys.{is_same_key, key_number}
-use Rattle.shark_words.specs.Slots.{slot_of, is_slot, is_same_slot}
+use Rattle.shark_words.specs.Slots.{slot_of, is_slot, is_same_slot, is_taken, with_slot}
 use Rattle.shark_words.specs.Values.{is_value}
 use Rattle.shark_words.specs.Uses.{uses_from, uses_at, option_at, cluster_uses, value_uses, with_value, without_value, is_cluster as is_known, self_run_name}
-use Rattle.shark_words.specs.Faults.{fault, first_fault, fault_of, value_fault, is_taken, is_use_for, slot_in, text_in}
+use Rattle.shark_words.specs.Faults.{fault, first_fault, fault_of, value_fault, slot_in, text_in}
 use Rattle.shark_words.specs.Spelled.{End, Bare, Together, Apart, Cluster, Spelled, Clustered, Generate, spelled_words, end_letters, end_words, letters_of, is_flag, is_ended_by, is_end, is_cluster, is_spelled, Written, flag, valued, end_written, written_by, fits, fits_text, text_or_none, one_if, times}
+use Rattle.shark_words.proofs.SlotLemmas.{same_slot, slot_itself}
 
 same_bytes : (one other : List ℕ) → bytes_eq one other ≡ true → one ≡ other
 same_bytes one other h = (bytes_eq-Decides one other).0 h
@@ -40,6 +37,8 @@ letter_of_byte Name h = refl
 letter_of_byte Style h = refl
 letter_of_byte Most h = refl
 letter_of_byte Quiet h = refl
+letter_of_byte Decode h = refl
+letter_of_byte Report h = refl
 letter_of_byte Output h = refl
 letter_of_byte Format h = refl
 letter_of_byte SelfRun h = absurd (both_ways false refl h)
@@ -62,68 +61,6 @@ flag_parts letter is =
 end_parts : (letter : Letter) → is_ended_by letter ≡ true → (letter_of (letter_byte letter) ≡ Some letter) × (has_value letter ≡ true)
 end_parts letter is =
     let both = and_parts (has_letter letter) (has_value letter) is in (letter_of_byte letter both.0, both.1)
-
-letter_at : ℕ → Letter
-letter_at n =
-    if n == 114 then Capture
-    else if n == 89 then Filter
-    else if n == 84 then Kind
-    else if n == 101 then Name
-    else if n == 69 then Style
-    else if n == 99 then Most
-    else if n == 113 then Quiet
-    else if n == 119 then Output
-    else if n == 70 then Format
-    else SelfRun
-
-letter_of_number : (letter : Letter) → letter_at (letter_byte letter) ≡ letter
-unfolding letter_at
-letter_of_number Capture = refl
-letter_of_number Filter = refl
-letter_of_number Kind = refl
-letter_of_number Name = refl
-letter_of_number Style = refl
-letter_of_number Most = refl
-letter_of_number Quiet = refl
-letter_of_number Output = refl
-letter_of_number Format = refl
-letter_of_number SelfRun = refl
-
-pub same_letter : (one other : Letter) → is_same one other ≡ true → one ≡ other
-same_letter one other h =
-    sym (letter_of_number one) ∙ ap letter_at (eqb-true (letter_byte one) (letter_byte other) h) ∙ letter_of_number other
-
-pub is_same_itself : (letter : Letter) → is_same letter letter ≡ true
-is_same_itself letter = eq-eqb (letter_byte letter) (letter_byte letter) refl
-
-key_at : ℕ → Key
-key_at n =
-    if n == 0 then keys.Header
-    else if n == 1 then keys.Separator
-    else if n == 2 then keys.Aggregator
-    else if n == 3 then keys.Occurrence
-    else keys.Quote
-
-key_of_number : (key : Key) → key_at (key_number key) ≡ key
-unfolding key_at
-key_of_number keys.Header = refl
-key_of_number keys.Separator = refl
-key_of_number keys.Aggregator = refl
-key_of_number keys.Occurrence = refl
-key_of_number keys.Quote = refl
-
-same_key : (one other : Key) → is_same_key one other ≡ true → one ≡ other
-same_key one other h = sym (key_of_number one) ∙ ap key_at (eqb-true (key_number one) (key_number other) h) ∙ key_of_number other
-
-same_slot : (one other : Slot) → is_same_slot one other ≡ true → one ≡ other
-same_slot (slots.Letter one) (slots.Letter other) h = ap slots.Letter (same_letter one other h)
-same_slot (slots.Key one) (slots.Key other) h = ap slots.Key (same_key one other h)
-same_slot (slots.Letter one) (slots.Key other) h = absurd (both_ways false refl h)
-same_slot (slots.Key one) (slots.Letter other) h = absurd (both_ways false refl h)
-
-slot_itself : (slot : Slot) → is_same_slot slot slot ≡ true
-slot_itself (slots.Letter letter) = is_same_itself letter
-slot_itself (slots.Key key) = eq-eqb (key_number key) (key_number key) refl
 
 neither : (one other : Option WordFault) → option_or one other ≡ None → (one ≡ None) × (other ≡ None)
 neither None other h = (refl, h)
@@ -291,13 +228,13 @@ Waits None = Unit {0}
 Waits (Some letter) = has_value letter ≡ true
 
 abbrev Behind : ℕ → List (List ℕ) → Type 0
-Behind word words = (waiting : Option Letter) (before : List Use) → Waits waiting → first_fault before (uses_from word waiting words) ≡ None → IsSpelledAfter waiting words
+Behind word words = (waiting : Option Letter) (held : List Slot) → Waits waiting → first_fault held (uses_from word waiting words) ≡ None → IsSpelledAfter waiting words
 
-value_spelled : (word b : ℕ) (letter : Letter) (rest : List ℕ) (words : List (List ℕ)) (before : List Use) → letter_of b ≡ Some letter → has_value letter ≡ true
-    → Behind word words → first_fault before (value_uses word letter rest (λ waiting. uses_from word waiting words)) ≡ None → IsClusterThen (b ∷ rest) words
+value_spelled : (word b : ℕ) (letter : Letter) (rest : List ℕ) (words : List (List ℕ)) (held : List Slot) → letter_of b ≡ Some letter → has_value letter ≡ true
+    → Behind word words → first_fault held (value_uses word letter rest (λ waiting. uses_from word waiting words)) ≡ None → IsClusterThen (b ∷ rest) words
 unfolding first_fault
-value_spelled word b letter [] words before is some behind h =
-    let more = behind (Some letter) before some h in
+value_spelled word b letter [] words held is some behind h =
+    let more = behind (Some letter) held some h in
     record {
       flags = [];
       end = Apart letter more.0;
@@ -308,9 +245,9 @@ value_spelled word b letter [] words before is some behind h =
       letters_are = ap (λ (c : ℕ). c ∷ []) (byte_of_letter b letter is);
       words_are = more.2;
     }
-value_spelled word b letter (c ∷ rest) words before is some behind h =
+value_spelled word b letter (c ∷ rest) words held is some behind h =
     let used = with_value word letter word (c ∷ rest) in
-    let more = behind None (before ++ used ∷ []) tt (neither (fault_of before used) _ h).1 in
+    let more = behind None (with_slot (slot_in used) held) tt (neither (fault_of held used) _ h).1 in
     record {
       flags = [];
       end = Together letter c rest;
@@ -335,21 +272,21 @@ one_more b letter rest words is none more = record {
   words_are = more.words_are;
 }
 
-letter_spelled : (word b : ℕ) (found : Option Letter) (some : Bool) (rest : List ℕ) (words : List (List ℕ)) (before : List Use) → letter_of b ≡ found
+letter_spelled : (word b : ℕ) (found : Option Letter) (some : Bool) (rest : List ℕ) (words : List (List ℕ)) (held : List Slot) → letter_of b ≡ found
     → ((letter : Letter) → found ≡ Some letter → has_value letter ≡ some) → is_known (b ∷ rest) ≡ true → Behind word words
-    → ((before : List Use) → is_known rest ≡ true → first_fault before (cluster_uses word rest (λ waiting. uses_from word waiting words)) ≡ None → IsClusterThen rest words)
-    → first_fault before (cluster_uses word (b ∷ rest) (λ waiting. uses_from word waiting words)) ≡ None → IsClusterThen (b ∷ rest) words
+    → ((held : List Slot) → is_known rest ≡ true → first_fault held (cluster_uses word rest (λ waiting. uses_from word waiting words)) ≡ None → IsClusterThen rest words)
+    → first_fault held (cluster_uses word (b ∷ rest) (λ waiting. uses_from word waiting words)) ≡ None → IsClusterThen (b ∷ rest) words
 unfolding first_fault
-letter_spelled word b None some rest words before is has known behind further h = absurd (both_ways (is_known (b ∷ rest)) (unknown_letter b rest is) known)
-letter_spelled word b (Some letter) true rest words before is has known behind further h =
-    value_spelled word b letter rest words before is (has letter refl) behind
-    (ap (first_fault before) (sym (value_step word b letter rest (λ waiting. uses_from word waiting words) is (has letter refl))) ∙ h)
-letter_spelled word b (Some letter) false rest words before is has known behind further h =
+letter_spelled word b None some rest words held is has known behind further h = absurd (both_ways (is_known (b ∷ rest)) (unknown_letter b rest is) known)
+letter_spelled word b (Some letter) true rest words held is has known behind further h =
+    value_spelled word b letter rest words held is (has letter refl) behind
+    (ap (first_fault held) (sym (value_step word b letter rest (λ waiting. uses_from word waiting words) is (has letter refl))) ∙ h)
+letter_spelled word b (Some letter) false rest words held is has known behind further h =
     let none = has letter refl in
-    let step : first_fault before (without_value word letter ∷ cluster_uses word rest (λ waiting. uses_from word waiting words)) ≡ None
-    = ap (first_fault before) (sym (letter_step word b letter rest (λ waiting. uses_from word waiting words) is none)) ∙ h in
+    let step : first_fault held (without_value word letter ∷ cluster_uses word rest (λ waiting. uses_from word waiting words)) ≡ None
+    = ap (first_fault held) (sym (letter_step word b letter rest (λ waiting. uses_from word waiting words) is none)) ∙ h in
     one_more b letter rest words is none
-    (further (before ++ without_value word letter ∷ []) (sym (known_letter b letter rest is none) ∙ known) (neither (fault_of before (without_value word letter)) _ step).1)
+    (further (with_slot (slot_in (without_value word letter)) held) (sym (known_letter b letter rest is none) ∙ known) (neither (fault_of held (without_value word letter)) _ step).1)
 
 value_test : Option Letter → Bool
 value_test None = false
@@ -360,14 +297,14 @@ unfolding value_test
 value_tested None letter is = absurd (none-some letter is)
 value_tested (Some other) letter is = ap has_value (sym (same_Some other letter is))
 
-cluster_spelled : (word : ℕ) (letters : List ℕ) (words : List (List ℕ)) (before : List Use) → is_known letters ≡ true → Behind word words
-    → first_fault before (cluster_uses word letters (λ waiting. uses_from word waiting words)) ≡ None → IsClusterThen letters words
-cluster_spelled word [] words before known behind h =
-    let more = behind None before tt h in
+cluster_spelled : (word : ℕ) (letters : List ℕ) (words : List (List ℕ)) (held : List Slot) → is_known letters ≡ true → Behind word words
+    → first_fault held (cluster_uses word letters (λ waiting. uses_from word waiting words)) ≡ None → IsClusterThen letters words
+cluster_spelled word [] words held known behind h =
+    let more = behind None held tt h in
     record { flags = []; end = Bare; all = more.0; are = refl; is = refl; spelled = more.2; letters_are = refl; words_are = more.1 }
-cluster_spelled word (b ∷ rest) words before known behind h =
-    letter_spelled word b (letter_of b) (value_test (letter_of b)) rest words before refl (value_tested (letter_of b)) known behind
-    (λ before known h. cluster_spelled word rest words before known behind h) h
+cluster_spelled word (b ∷ rest) words held known behind h =
+    letter_spelled word b (letter_of b) (value_test (letter_of b)) rest words held refl (value_tested (letter_of b)) known behind
+    (λ held known h. cluster_spelled word rest words held known behind h) h
 
 first_some : (first : ℕ) (rest letters : List ℕ) → first ∷ rest ≡ letters → nat_lt 0 (length letters) ≡ true
 first_some first rest letters is = subst (λ (cs : List ℕ). nat_lt 0 (length cs) ≡ true) is (lt-ltb 0 (length (first ∷ rest)) (omega arith))
@@ -386,28 +323,28 @@ option_uses word self known letters words =
     else if known then cluster_uses word letters (λ waiting. uses_from word waiting words)
     else use_.Unknown word ∷ uses_from word None words
 
-option_spelled : (word first : ℕ) (self known : Bool) (rest : List ℕ) (words : List (List ℕ)) (before : List Use) → bytes_eq (first ∷ rest) self_run_name ≡ self
-    → is_known (first ∷ rest) ≡ known → Behind word words → first_fault before (option_uses word self known (first ∷ rest) words) ≡ None
+option_spelled : (word first : ℕ) (self known : Bool) (rest : List ℕ) (words : List (List ℕ)) (held : List Slot) → bytes_eq (first ∷ rest) self_run_name ≡ self
+    → is_known (first ∷ rest) ≡ known → Behind word words → first_fault held (option_uses word self known (first ∷ rest) words) ≡ None
     → IsSpelled ((45 ∷ first ∷ rest) ∷ words)
 unfolding first_fault
-option_spelled word first true known rest words before same is behind h =
-    let more = behind (Some SelfRun) before refl h in (
+option_spelled word first true known rest words held same is behind h =
+    let more = behind (Some SelfRun) held refl h in (
       Generate more.0 ∷ more.1,
       ap (λ (letters : List ℕ). (45 ∷ letters) ∷ words) (same_bytes (first ∷ rest) self_run_name same)
           ∙ ap (λ (after : List (List ℕ)). (45 ∷ self_run_name) ∷ after) more.2,
       more.3,
     )
-option_spelled word first false true rest words before same is behind h = then_spelled first rest words (cluster_spelled word (first ∷ rest) words before is behind h)
-option_spelled word first false false rest words before same is behind h = absurd (none-some _ (sym h))
+option_spelled word first false true rest words held same is behind h = then_spelled first rest words (cluster_spelled word (first ∷ rest) words held is behind h)
+option_spelled word first false false rest words held same is behind h = absurd (none-some _ (sym h))
 
-word_spelled : (word first second : ℕ) (dash : Bool) (rest : List ℕ) (words : List (List ℕ)) (before : List Use) → (first == 45) ≡ dash → Behind word words
-    → first_fault before (if dash then option_at word (second ∷ rest) (λ waiting. uses_from word waiting words) else use_.Stray word ∷ uses_from word None words) ≡ None
+word_spelled : (word first second : ℕ) (dash : Bool) (rest : List ℕ) (words : List (List ℕ)) (held : List Slot) → (first == 45) ≡ dash → Behind word words
+    → first_fault held (if dash then option_at word (second ∷ rest) (λ waiting. uses_from word waiting words) else use_.Stray word ∷ uses_from word None words) ≡ None
     → IsSpelled ((first ∷ second ∷ rest) ∷ words)
 unfolding first_fault
-word_spelled word first second true rest words before is behind h =
+word_spelled word first second true rest words held is behind h =
     rw (eqb-true first 45 is)
-    (option_spelled word second (bytes_eq (second ∷ rest) self_run_name) (is_known (second ∷ rest)) rest words before refl refl behind h)
-word_spelled word first second false rest words before is behind h = absurd (none-some _ (sym h))
+    (option_spelled word second (bytes_eq (second ∷ rest) self_run_name) (is_known (second ∷ rest)) rest words held refl refl behind h)
+word_spelled word first second false rest words held is behind h = absurd (none-some _ (sym h))
 
 -- an option that waits for its value has one
 missing : (taken some : Bool) (one other : WordFault) (next : Option WordFault)
@@ -416,27 +353,27 @@ missing true some one other next h is = none-some one (sym h)
 missing false true one other next h is = none-some other (sym h)
 missing false false one other next h is = absurd (both_ways false refl is)
 
-spelled_after : (number : ℕ) (waiting : Option Letter) (words : List (List ℕ)) (before : List Use) → Waits waiting
-    → first_fault before (uses_from number waiting words) ≡ None → IsSpelledAfter waiting words
+spelled_after : (number : ℕ) (waiting : Option Letter) (words : List (List ℕ)) (held : List Slot) → Waits waiting
+    → first_fault held (uses_from number waiting words) ≡ None → IsSpelledAfter waiting words
 unfolding first_fault uses_from
-spelled_after number None [] before waits h = ([], refl, refl)
-spelled_after number (Some letter) [] before waits h = absurd (missing _ _ _ _ _ h waits)
-spelled_after number (Some letter) (text ∷ words) before waits h =
+spelled_after number None [] held waits h = ([], refl, refl)
+spelled_after number (Some letter) [] held waits h = absurd (missing _ _ _ _ _ h waits)
+spelled_after number (Some letter) (text ∷ words) held waits h =
     let used = with_value number letter (suc number) text in
-    let more = spelled_after (suc number) None words (before ++ used ∷ []) tt (neither (fault_of before used) _ h).1 in
+    let more = spelled_after (suc number) None words (with_slot (slot_in used) held) tt (neither (fault_of held used) _ h).1 in
     (text, more.0, ap (λ (after : List (List ℕ)). text ∷ after) more.1, more.2)
-spelled_after number None ([] ∷ words) before waits h = absurd (none-some _ (sym h))
-spelled_after number None ((first ∷ []) ∷ words) before waits h = absurd (none-some _ (sym h))
-spelled_after number None ((first ∷ second ∷ rest) ∷ words) before waits h =
-    word_spelled (suc number) first second (first == 45) rest words before refl (λ waiting before waits h. spelled_after (suc number) waiting words before waits h) h
+spelled_after number None ([] ∷ words) held waits h = absurd (none-some _ (sym h))
+spelled_after number None ((first ∷ []) ∷ words) held waits h = absurd (none-some _ (sym h))
+spelled_after number None ((first ∷ second ∷ rest) ∷ words) held waits h =
+    word_spelled (suc number) first second (first == 45) rest words held refl (λ waiting held waits h. spelled_after (suc number) waiting words held waits h) h
 
 -- words without a fault are options as they are written
 pub words_spelled : (words : List (List ℕ)) → first_fault [] (uses_from 0 None words) ≡ None → IsSpelled words
 words_spelled words h = spelled_after 0 None words [] tt h
 
 -- the values of these, behind such uses: each is one of its option's, and nothing comes again that may come once
-abbrev pub IsSound : List Use → List Written → Type 0
-IsSound before all = (list_all fits all ≡ true) × ((slot : Slot) → one_if (is_taken (Some slot) before) + times slot all ≤ 1)
+abbrev pub IsSound : List Slot → List Written → Type 0
+IsSound held all = (list_all fits all ≡ true) × ((slot : Slot) → one_if (is_taken (Some slot) held) + times slot all ≤ 1)
 
 at_most_once : (given : Bool) → one_if given + 0 ≤ 1
 at_most_once true = omega arith
@@ -457,11 +394,11 @@ or_false : (b : Bool) → (b || false) ≡ b
 or_false true = refl
 or_false false = refl
 
-given_more : (slot : Slot) (before : List Use) (used : Use) → is_taken (Some slot) (before ++ used ∷ []) ≡ (is_taken (Some slot) before || is_slot slot (slot_in used))
-unfolding is_use_for
-given_more slot before used =
-    list_any-append (is_use_for slot) before (used ∷ [])
-    ∙ ap (λ (b : Bool). is_taken (Some slot) before || b) (or_false (is_slot slot (slot_in used)))
+given_more : (slot : Slot) (held : List Slot) (found : Option Slot) → is_taken (Some slot) (with_slot found held) ≡ (is_taken (Some slot) held || is_slot slot found)
+given_more slot held None = sym (or_false (is_taken (Some slot) held))
+given_more slot held (Some other) =
+    list_any-append (is_same_slot slot) held (other ∷ [])
+    ∙ ap (λ (b : Bool). is_taken (Some slot) held || b) (or_false (is_same_slot slot other))
 
 not_taken : (taken : Bool) (one : WordFault) (other : Option WordFault) → (if taken then Some one else other) ≡ None → (taken ≡ false) × (other ≡ None)
 not_taken true one other h = absurd (none-some one (sym h))
@@ -495,9 +432,9 @@ same_text : (value : Option Value) → text_in value ≡ text_or_none (option_ma
 same_text None = refl
 same_text (Some value) = refl
 
-fresh : (slot : Slot) (found : Option Slot) (before : List Use) → is_taken found before ≡ false → is_slot slot found ≡ true → is_taken (Some slot) before ≡ false
-fresh slot None before new is = absurd (both_ways false refl is)
-fresh slot (Some other) before new is = subst (λ (s : Slot). is_taken (Some s) before ≡ false) (sym (same_slot slot other is)) new
+fresh : (slot : Slot) (found : Option Slot) (held : List Slot) → is_taken found held ≡ false → is_slot slot found ≡ true → is_taken (Some slot) held ≡ false
+fresh slot None held new is = absurd (both_ways false refl is)
+fresh slot (Some other) held new is = subst (λ (s : Slot). is_taken (Some s) held ≡ false) (sym (same_slot slot other is)) new
 
 abbrev slot_written : Given → Option Slot
 slot_written given = slot_of given.letter (text_or_none (option_map (λ (v : Value). v.text) given.value))
@@ -505,56 +442,56 @@ slot_written given = slot_of given.letter (text_or_none (option_map (λ (v : Val
 same_slot_written : (given : Given) → slot_of given.letter (text_in given.value) ≡ slot_written given
 same_slot_written given = ap (slot_of given.letter) (same_text given.value)
 
-given_sound : (before : List Use) (given : Given) (uses : List Use) → fault_of before (use_.Given given) ≡ None → IsSound (before ++ use_.Given given ∷ []) (all_written uses)
-    → IsSound before (all_written (use_.Given given ∷ uses))
-given_sound before given uses here more =
-    let parts = not_taken (is_taken (slot_of given.letter (text_in given.value)) before) _ _ here in (
+given_sound : (held : List Slot) (given : Given) (uses : List Use) → fault_of held (use_.Given given) ≡ None → IsSound (with_slot (slot_in (use_.Given given)) held) (all_written uses)
+    → IsSound held (all_written (use_.Given given ∷ uses))
+given_sound held given uses here more =
+    let parts = not_taken (is_taken (slot_of given.letter (text_in given.value)) held) _ _ here in (
       both_true (value_fits given.word given.letter given.value parts.1) more.0,
       λ slot.
-          let counts : one_if (is_taken (Some slot) before || is_slot slot (slot_of given.letter (text_in given.value))) + times slot (all_written uses) ≤ 1
-          = subst (λ (b : Bool). one_if b + times slot (all_written uses) ≤ 1) (given_more slot before (use_.Given given)) (more.1 slot) in
-          subst (λ (s : Option Slot). one_if (is_taken (Some slot) before) + (one_if (is_slot slot s) + times slot (all_written uses)) ≤ 1) (same_slot_written given)
-          (taken_more (is_taken (Some slot) before) (is_slot slot (slot_of given.letter (text_in given.value))) (times slot (all_written uses))
-          (fresh slot (slot_of given.letter (text_in given.value)) before parts.0) counts),
+          let counts : one_if (is_taken (Some slot) held || is_slot slot (slot_of given.letter (text_in given.value))) + times slot (all_written uses) ≤ 1
+          = subst (λ (b : Bool). one_if b + times slot (all_written uses) ≤ 1) (given_more slot held (slot_of given.letter (text_in given.value))) (more.1 slot) in
+          subst (λ (s : Option Slot). one_if (is_taken (Some slot) held) + (one_if (is_slot slot s) + times slot (all_written uses)) ≤ 1) (same_slot_written given)
+          (taken_more (is_taken (Some slot) held) (is_slot slot (slot_of given.letter (text_in given.value))) (times slot (all_written uses))
+          (fresh slot (slot_of given.letter (text_in given.value)) held parts.0) counts),
     )
 
-pub sound : (before uses : List Use) → first_fault before uses ≡ None → IsSound before (all_written uses)
+pub sound : (held : List Slot) (uses : List Use) → first_fault held uses ≡ None → IsSound held (all_written uses)
 unfolding first_fault
-sound before [] h = (refl, λ slot. at_most_once (is_taken (Some slot) before))
-sound before (use_.Stray word ∷ uses) h = absurd (none-some _ (sym h))
-sound before (use_.Unknown word ∷ uses) h = absurd (none-some _ (sym h))
-sound before (use_.Given given ∷ uses) h =
-    let parts = neither (fault_of before (use_.Given given)) _ h in
-    given_sound before given uses parts.0 (sound (before ++ use_.Given given ∷ []) uses parts.1)
+sound held [] h = (refl, λ slot. at_most_once (is_taken (Some slot) held))
+sound held (use_.Stray word ∷ uses) h = absurd (none-some _ (sym h))
+sound held (use_.Unknown word ∷ uses) h = absurd (none-some _ (sym h))
+sound held (use_.Given given ∷ uses) h =
+    let parts = neither (fault_of held (use_.Given given)) _ h in
+    given_sound held given uses parts.0 (sound (with_slot (slot_in (use_.Given given)) held) uses parts.1)
 
 once_fresh : (given same : Bool) (n : ℕ) → same ≡ true → one_if given + (one_if same + n) ≤ 1 → given ≡ false
 once_fresh true true n is h = absurd (omega (arith, h))
 once_fresh true false n is h = absurd (both_ways false refl is)
 once_fresh false same n is h = refl
 
-not_again : (found : Option Slot) (before : List Use) (n : Slot → ℕ) → ((slot : Slot) → one_if (is_taken (Some slot) before) + (one_if (is_slot slot found) + n slot) ≤ 1)
-    → is_taken found before ≡ false
-not_again None before n once = refl
-not_again (Some slot) before n once = once_fresh (is_taken (Some slot) before) (is_same_slot slot slot) (n slot) (slot_itself slot) (once slot)
+not_again : (found : Option Slot) (held : List Slot) (n : Slot → ℕ) → ((slot : Slot) → one_if (is_taken (Some slot) held) + (one_if (is_slot slot found) + n slot) ≤ 1)
+    → is_taken found held ≡ false
+not_again None held n once = refl
+not_again (Some slot) held n once = once_fresh (is_taken (Some slot) held) (is_same_slot slot slot) (n slot) (slot_itself slot) (once slot)
 
 clean : (taken : Bool) (one : WordFault) (other : Option WordFault) → taken ≡ false → other ≡ None → (if taken then Some one else other) ≡ None
 clean true one other new none = absurd (both_ways true new refl)
 clean false one other new none = none
 
-pub faultless : (before uses : List Use) → list_all is_option uses ≡ true → IsSound before (all_written uses) → first_fault before uses ≡ None
+pub faultless : (held : List Slot) (uses : List Use) → list_all is_option uses ≡ true → IsSound held (all_written uses) → first_fault held uses ≡ None
 unfolding first_fault
-faultless before [] are fine = refl
-faultless before (use_.Stray word ∷ uses) are fine = absurd (both_ways false refl are)
-faultless before (use_.Unknown word ∷ uses) are fine = absurd (both_ways false refl are)
-faultless before (use_.Given given ∷ uses) are fine =
+faultless held [] are fine = refl
+faultless held (use_.Stray word ∷ uses) are fine = absurd (both_ways false refl are)
+faultless held (use_.Unknown word ∷ uses) are fine = absurd (both_ways false refl are)
+faultless held (use_.Given given ∷ uses) are fine =
     let both = and_parts (fits_text given.letter (option_map (λ (v : Value). v.text) given.value)) (list_all fits (all_written uses)) fine.0 in
-    let once : (slot : Slot) → one_if (is_taken (Some slot) before) + (one_if (is_slot slot (slot_of given.letter (text_in given.value))) + times slot (all_written uses)) ≤ 1
-    = λ slot. subst (λ (s : Option Slot). one_if (is_taken (Some slot) before) + (one_if (is_slot slot s) + times slot (all_written uses)) ≤ 1) (sym (same_slot_written given)) (fine.1 slot) in
-    let new = not_again (slot_of given.letter (text_in given.value)) before (λ slot. times slot (all_written uses)) once in
-    first_of_none (fault_of before (use_.Given given)) _ (clean _ _ _ new (fits_value given.word given.letter given.value both.0))
-    (faultless (before ++ use_.Given given ∷ []) uses are (
+    let once : (slot : Slot) → one_if (is_taken (Some slot) held) + (one_if (is_slot slot (slot_of given.letter (text_in given.value))) + times slot (all_written uses)) ≤ 1
+    = λ slot. subst (λ (s : Option Slot). one_if (is_taken (Some slot) held) + (one_if (is_slot slot s) + times slot (all_written uses)) ≤ 1) (sym (same_slot_written given)) (fine.1 slot) in
+    let new = not_again (slot_of given.letter (text_in given.value)) held (λ slot. times slot (all_written uses)) once in
+    first_of_none (fault_of held (use_.Given given)) _ (clean _ _ _ new (fits_value given.word given.letter given.value both.0))
+    (faultless (with_slot (slot_in (use_.Given given)) held) uses are (
       both.1,
       λ slot.
-          subst (λ (b : Bool). one_if b + times slot (all_written uses) ≤ 1) (sym (given_more slot before (use_.Given given)))
-          (taken_less (is_taken (Some slot) before) (is_slot slot (slot_of given.letter (text_in given.value))) (times slot (all_written uses)) (once slot)),
+          subst (λ (b : Bool). one_if b + times slot (all_written uses) ≤ 1) (sym (given_more slot held (slot_of given.letter (text_in given.value))))
+          (taken_less (is_taken (Some slot) held) (is_slot slot (slot_of given.letter (text_in given.value))) (times slot (all_written uses)) (once slot)),
     ))

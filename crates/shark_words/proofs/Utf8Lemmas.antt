@@ -17,7 +17,8 @@ use Rattle.shark_words.specs.declared.uses.Use.TheVariants as use_
 use Rattle.shark_words.specs.declared.fault.WordsError.{WordsError}
 use Rattle.shark_words.specs.declared.options.Source.{Source}
 use Rattle.shark_words.specs.Faults.{first_fault}
-use Rattle.shark_words.specs.Values.{comma_in, decimal_of, generated, generated_at, generated_by, is_blank, kind_asked, most_generated, shown_filter, up_to}
+use Rattle.shark_words.specs.Numbers.{comma_in, decimal_of, up_to}
+use Rattle.shark_words.specs.Values.{generated, generated_at, generated_by, is_blank, kind_asked, most_generated, shown_filter}
 use Rattle.shark_words.specs.Letters.{has_value, is_same, letter_of}
 use Rattle.shark_words.specs.Asked.{head_of, value_in, value_of, value_text, values_of}
 use Rattle.shark_words.specs.Options.{asked, judged, options_by, options_of, source_by, source_of, together_fault, unless, Gives}

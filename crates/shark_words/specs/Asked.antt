@@ -9,7 +9,7 @@ use Rattle.shark_words.specs.declared.asked.Sought.TheVariants as sought
 use Rattle.shark_words.specs.declared.key.Key.{Key}
 use Rattle.shark_words.specs.declared.key.Key.TheVariants.{Header, Separator, Aggregator, Occurrence as OccurrenceKey, Quote as QuoteKey}
 use Rattle.shark_words.specs.declared.letter.Letter.{Letter}
-use Rattle.shark_words.specs.declared.letter.Letter.TheVariants.{Kind, Name, Style as StyleLetter, Quiet, Output, Format, SelfRun}
+use Rattle.shark_words.specs.declared.letter.Letter.TheVariants.{Kind, Name, Style as StyleLetter, Quiet, Report, Output, Format, SelfRun}
 use Rattle.shark_words.specs.declared.options.LineKind.{LineKind}
 use Rattle.shark_words.specs.declared.options.LineKind.TheVariants.{Text, Fields, Json}
 use Rattle.shark_words.specs.declared.uses.Value.{Value}
@@ -74,6 +74,7 @@ is_unused kind written letter = false
 abbrev pub is_clashing : Letter → Bool
 is_clashing Kind = true
 is_clashing Quiet = true
+is_clashing Report = true
 is_clashing SelfRun = true
 is_clashing letter = false
 

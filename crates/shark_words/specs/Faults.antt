@@ -1,5 +1,5 @@
 -- What is wrong with words.
-use Rattle.std.specs.Prelude.{ℕ, Bool, false, List, [], ◌∷◌, ◌++◌, Option, Some, None, if◌then◌else◌}
+use Rattle.std.specs.Prelude.{ℕ, Bool, false, List, [], ◌∷◌, Option, Some, None, if◌then◌else◌}
 use Rattle.std.specs.List.{list_any}
 use Rattle.std.specs.Option.{option_or}
 use Rattle.shark_words.specs.declared.letter.Letter.{Letter}
@@ -12,7 +12,7 @@ use Rattle.shark_words.specs.declared.fault.WordFault.{WordFault}
 use Rattle.shark_words.specs.declared.fault.WordReason.{WordReason}
 use Rattle.shark_words.specs.declared.fault.WordReason.TheVariants.{UnknownOption, MissingValue, StrayWord, Repeated, BadValue}
 use Rattle.shark_words.specs.Letters.{is_same, has_value}
-use Rattle.shark_words.specs.Slots.{slot_of, is_slot}
+use Rattle.shark_words.specs.Slots.{slot_of, is_taken, with_slot}
 use Rattle.shark_words.specs.Values.{is_value}
 
 abbrev pub fault : ℕ → WordReason → WordFault
@@ -35,38 +35,27 @@ abbrev pub slot_in : Use → Option Slot
 slot_in (use_.Given given) = slot_of given.letter (text_in given.value)
 slot_in other = None
 
-unfoldable pub is_use_for : Slot → Use → Bool
-is_use_for slot used = is_slot slot (slot_in used)
-
--- whether uses give what may come once
-abbrev pub is_held : Slot → List Use → Bool
-is_held slot uses = list_any (is_use_for slot) uses
-
-abbrev pub is_taken : Option Slot → List Use → Bool
-is_taken None uses = false
-is_taken (Some slot) uses = is_held slot uses
-
 -- what is wrong with an option's value
 abbrev pub value_fault : ℕ → Letter → Option Value → Option WordFault
 value_fault word letter None = if has_value letter then Some (fault word MissingValue) else None
 value_fault word letter (Some value) =
     if is_value letter value.text then None else Some (fault value.word BadValue)
 
--- what is wrong with an option, given the uses before it
-abbrev pub given_fault : List Use → Given → Option WordFault
-given_fault before given =
-    if is_taken (slot_of given.letter (text_in given.value)) before
+-- what is wrong with an option, given what came before it
+abbrev pub given_fault : List Slot → Given → Option WordFault
+given_fault held given =
+    if is_taken (slot_of given.letter (text_in given.value)) held
     then Some (fault given.word Repeated)
     else value_fault given.word given.letter given.value
 
--- what is wrong with a use, given those before it
-abbrev pub fault_of : List Use → Use → Option WordFault
-fault_of before (use_.Unknown word) = Some (fault word UnknownOption)
-fault_of before (use_.Stray word) = Some (fault word StrayWord)
-fault_of before (use_.Given given) = given_fault before given
+-- what is wrong with a use, given what came before it
+abbrev pub fault_of : List Slot → Use → Option WordFault
+fault_of held (use_.Unknown word) = Some (fault word UnknownOption)
+fault_of held (use_.Stray word) = Some (fault word StrayWord)
+fault_of held (use_.Given given) = given_fault held given
 
--- the first fault of uses that follow others
-unfoldable pub first_fault : List Use → List Use → Option WordFault
-first_fault before [] = None
-first_fault before (used ∷ uses) =
-    option_or (fault_of before used) (first_fault (before ++ used ∷ []) uses)
+-- the first fault of uses, behind others that gave this
+unfoldable pub first_fault : List Slot → List Use → Option WordFault
+first_fault held [] = None
+first_fault held (used ∷ uses) =
+    option_or (fault_of held used) (first_fault (with_slot (slot_in used) held) uses)

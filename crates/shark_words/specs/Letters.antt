@@ -1,10 +1,10 @@
 -- The options, by their letters.
 use Rattle.std.specs.Prelude.{ℕ, ◌==◌, Bool, true, false, Option, Some, None, if◌then◌else◌}
 use Rattle.shark_words.specs.declared.letter.Letter.{Letter}
-use Rattle.shark_words.specs.declared.letter.Letter.TheVariants.{Capture, Filter, Kind, Name, Style, Most, Quiet, Output, Format, SelfRun}
+use Rattle.shark_words.specs.declared.letter.Letter.TheVariants.{Capture, Filter, Kind, Name, Style, Most, Quiet, Decode, Report, Output, Format, SelfRun}
 
--- the bytes of the letters `r`, `Y`, `T`, `e`, `E`, `c`, `q`, `w`, `F`; `--self-run` has no letter, and a number beyond
--- the bytes
+-- the bytes of the letters `r`, `Y`, `T`, `e`, `E`, `c`, `q`, `d`, `z`, `w`, `F`; `--self-run` has no letter, and a number
+-- beyond the bytes
 abbrev pub letter_byte : Letter → ℕ
 letter_byte Capture = 114
 letter_byte Filter = 89
@@ -13,6 +13,8 @@ letter_byte Name = 101
 letter_byte Style = 69
 letter_byte Most = 99
 letter_byte Quiet = 113
+letter_byte Decode = 100
+letter_byte Report = 122
 letter_byte Output = 119
 letter_byte Format = 70
 letter_byte SelfRun = 256
@@ -27,6 +29,8 @@ letter_of b =
     else if b == letter_byte Style then Some Style
     else if b == letter_byte Most then Some Most
     else if b == letter_byte Quiet then Some Quiet
+    else if b == letter_byte Decode then Some Decode
+    else if b == letter_byte Report then Some Report
     else if b == letter_byte Output then Some Output
     else if b == letter_byte Format then Some Format
     else None

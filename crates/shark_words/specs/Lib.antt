@@ -2,7 +2,10 @@ pub mod Asked
 pub mod Faults
 pub mod Keys
 pub mod Letters
+pub mod Numbers
 pub mod Options
+pub mod Ports
+pub mod Reports
 pub mod Slots
 pub mod Sound
 pub mod Spelled

@@ -2,7 +2,7 @@
 use Rattle.std.specs.Prelude.{◌≡◌, ℕ, suc, Bool, List, [], length, Option, Some, None, option_and_then, option_map, Result, Ok, Err, if◌then◌else◌}
 use Rattle.std.specs.Option.{option_or}
 use Rattle.capture_write.specs.declared.format.Format.{Format as CaptureFormat}
-use Rattle.shark_words.specs.declared.letter.Letter.TheVariants.{Capture, Filter, Kind, Name, Style, Most, Quiet, Output, Format, SelfRun}
+use Rattle.shark_words.specs.declared.letter.Letter.TheVariants.{Capture, Filter, Kind, Name, Style, Most, Quiet, Decode, Report, Output, Format, SelfRun}
 use Rattle.shark_words.specs.declared.uses.Use.{Use}
 use Rattle.shark_words.specs.declared.fault.WordFault.{WordFault}
 use Rattle.shark_words.specs.declared.fault.WordReason.TheVariants.{NoFile, NoFields, Unused, Clash}
@@ -16,6 +16,8 @@ use Rattle.shark_words.specs.declared.options.Options.{Options}
 use Rattle.shark_words.specs.Asked.{clash_word, is_unused, style_of, value_of, values_of, word_of}
 use Rattle.shark_words.specs.Uses.{uses_of}
 use Rattle.shark_words.specs.Faults.{fault, is_given, first_fault}
+use Rattle.shark_words.specs.Ports.{rules_in}
+use Rattle.shark_words.specs.Reports.{reports_in}
 use Rattle.shark_words.specs.Values.{count_of, format_asked, generated_by, kind_asked, shown_filter}
 
 -- where the frames come from: a file or a generated capture
@@ -39,6 +41,8 @@ options_by source uses = record {
   style = style_of (values_of Style uses);
   most = option_and_then count_of (value_of Most uses);
   quiet = is_given Quiet uses;
+  decode = record { rules = rules_in (values_of Decode uses) };
+  reports = reports_in (values_of Report uses);
   written = format_written (is_given Output uses) (value_of Format uses);
 }
 

@@ -1,5 +1,6 @@
 -- What holds of all options that words ask for, so that they can be carried out.
-use Rattle.std.specs.Prelude.{◌≡◌, ◌≤◌, false, IfSome}
+use Rattle.std.specs.Prelude.{◌≡◌, ◌≤◌, false, [], IfSome}
+use Rattle.port_rules.specs.Rules.{AreRules}
 use Rattle.shark_words.specs.declared.options.LineKind.TheVariants.{Text}
 use Rattle.shark_words.specs.declared.options.Options.{Options}
 use Rattle.shark_words.specs.declared.options.Source.{Source}
@@ -20,7 +21,9 @@ pub record IsWrittenAlone (options : Options) : Type 0 where
   pub source : IsNamed options.source
   pub kind : options.kind ≡ Text
   pub quiet : options.quiet ≡ false
+  pub reports : options.reports ≡ []
 
 pub record AreSound (options : Options) : Type 0 where
   pub frames : HasFrames options.source
+  pub rules : AreRules options.decode.rules
   pub written : IfSome options.written (λ format. IsWrittenAlone options)

@@ -3,7 +3,7 @@
 use Rattle.std.specs.Prelude.{◌≡◌, ℕ, ◌+◌, ◌≤◌, nat_lt, Bool, true, false, not, ◌&&◌, length, map, List, [], ◌∷◌, ◌++◌, Option, Some, None, option_and_then, option_to_list, if◌then◌else◌}
 use Rattle.std.specs.List.{list_all, list_any}
 use Rattle.shark_words.specs.declared.letter.Letter.{Letter}
-use Rattle.shark_words.specs.declared.letter.Letter.TheVariants.{Capture, Filter, Kind, Name, Style, Most, Quiet, Output, Format, SelfRun}
+use Rattle.shark_words.specs.declared.letter.Letter.TheVariants.{Capture, Filter, Kind, Name, Style, Most, Quiet, Decode, Report, Output, Format, SelfRun}
 use Rattle.shark_words.specs.declared.slot.Slot.{Slot}
 use Rattle.shark_words.specs.declared.options.LineKind.{LineKind}
 use Rattle.shark_words.specs.declared.options.LineKind.TheVariants.{Text, Fields, Json}
@@ -11,6 +11,8 @@ use Rattle.shark_words.specs.declared.options.Source.{Source}
 use Rattle.shark_words.specs.declared.options.Options.{Options}
 use Rattle.shark_words.specs.Letters.{letter_byte, is_same, has_letter, has_value}
 use Rattle.shark_words.specs.Slots.{slot_of, is_slot}
+use Rattle.shark_words.specs.Ports.{rules_in}
+use Rattle.shark_words.specs.Reports.{reports_in}
 use Rattle.shark_words.specs.Values.{is_value, count_of, kind_asked, shown_filter}
 use Rattle.shark_words.specs.Options.{format_written, source_by}
 use Rattle.shark_words.specs.Uses.{self_run_name}
@@ -141,7 +143,7 @@ kind_by all = kind_asked (head_of (spelled_values Kind all))
 abbrev pub HasOutput : Bool → List Written → Type 0
 HasOutput false all = is_written Format all ≡ false
 HasOutput true all = (is_written Kind all ≡ false) × (is_written Quiet all ≡ false)
-    × (is_written SelfRun all ≡ false)
+    × (is_written Report all ≡ false) × (is_written SelfRun all ≡ false)
 
 -- where the frames come from
 abbrev pub spelled_source : List Spelled → Option Source
@@ -168,6 +170,8 @@ asked_by source all = record {
   style = style_of (spelled_values Style all);
   most = option_and_then count_of (head_of (spelled_values Most all));
   quiet = is_written Quiet (written_by all);
+  decode = record { rules = rules_in (spelled_values Decode all) };
+  reports = reports_in (spelled_values Report all);
   written =
       format_written (is_written Output (written_by all)) (head_of (spelled_values Format all));
 }

@@ -1,32 +1,20 @@
 -- What an option's value may be.
-use Rattle.std.specs.Prelude.{ℕ, suc, ◌==◌, ◌^◌, ◌-◌, nat_le, nat_lt, Bool, true, false, ◌&&◌, ◌||◌, List, ◌∷◌, length, take, drop, codes, Option, Some, None, is_some, option_and_then, if◌then◌else◌}
-use Rattle.std.specs.List.{list_all, position_from}
+use Rattle.std.specs.Prelude.{ℕ, suc, ◌==◌, ◌^◌, ◌-◌, nat_lt, Bool, true, false, ◌&&◌, ◌||◌, List, ◌∷◌, length, take, drop, codes, Option, Some, None, is_some, option_and_then, if◌then◌else◌}
+use Rattle.std.specs.List.{list_all}
 use Rattle.std.specs.Option.{unwrap_or}
 use Rattle.std.specs.Str.{bytes_eq}
-use Rattle.pk_text.specs.Digits.{digits_read, fitting}
 use Rattle.capture_write.specs.declared.format.Format.{Format as CaptureFormat}
 use Rattle.capture_write.specs.declared.format.Format.TheVariants.{Pcap, Pcapng}
 use Rattle.shark_words.specs.declared.letter.Letter.{Letter}
-use Rattle.shark_words.specs.declared.letter.Letter.TheVariants.{Capture, Filter, Kind, Name, Style, Most, Quiet, Output, Format, SelfRun}
+use Rattle.shark_words.specs.declared.letter.Letter.TheVariants.{Capture, Filter, Kind, Name, Style, Most, Quiet, Decode, Report, Output, Format, SelfRun}
 use Rattle.shark_words.specs.declared.options.LineKind.{LineKind}
 use Rattle.shark_words.specs.declared.options.LineKind.TheVariants.{Text, Fields, Json}
 use Rattle.shark_words.specs.declared.options.Source.{Source}
 use Rattle.shark_words.specs.declared.options.Source.TheVariants.{Generated}
 use Rattle.shark_words.specs.Keys.{is_setting}
-
--- whether the first of several digits is a zero, 48
-abbrev pub has_leading_zero : List ℕ → Bool
-has_leading_zero (first ∷ second ∷ rest) = first == 48
-has_leading_zero text = false
-
--- the number of decimal digits without a leading zero, `0` itself aside, where 64 bits hold it
-unfoldable pub decimal_of : List ℕ → Option ℕ
-decimal_of text =
-    if has_leading_zero text then None else option_and_then fitting (digits_read 10 text)
-
--- a number from 1 on that is no greater than another
-abbrev pub up_to : ℕ → ℕ → Option ℕ
-up_to most number = if nat_lt 0 number && nat_le number most then Some number else None
+use Rattle.shark_words.specs.Numbers.{comma_in, decimal_of, up_to}
+use Rattle.shark_words.specs.Ports.{rule_of}
+use Rattle.shark_words.specs.Reports.{report_of}
 
 -- a number from 1 to 4,294,967,295
 unfoldable pub count_of : List ℕ → Option ℕ
@@ -46,9 +34,6 @@ generated_at text None = None
 generated_at text (Some comma) =
     generated (decimal_of (take comma text))
     (option_and_then (up_to most_generated) (decimal_of (drop (suc comma) text)))
-
-abbrev pub comma_in : List ℕ → Option ℕ
-comma_in text = position_from (λ b. b == 44) 0 text
 
 unfoldable pub generated_by : List ℕ → Option Source
 generated_by text = generated_at text (comma_in text)
@@ -87,6 +72,8 @@ is_value Name text = true
 is_value Style text = is_setting text
 is_value Most text = is_some (count_of text)
 is_value Quiet text = false
+is_value Decode text = is_some (rule_of text)
+is_value Report text = is_some (report_of text)
 is_value Output text = bytes_eq text (codes "-")
 is_value Format text = is_some (format_of text)
 is_value SelfRun text = is_some (generated_by text)

@@ -1,17 +1,22 @@
 // Options that are looked up among the uses of words.
 ghost use Rattle.std.specs.Prelude.{◌≡◌, IfOk, option_and_then, option_to_list};
 ghost use Rattle.std.specs.Option.{option_copied};
-ghost use Rattle.shark_words.specs.Asked.{clash_word as clash_word_in, is_sought, is_unused as is_unused_for, keyed, style_of as style_of_values, value_in as value_in_use, value_of as value_given, values_of as values_given, word_in as word_in_use, word_of as first_word};
+ghost use Rattle.shark_words.specs.Asked.{clash_word as clash_word_in, is_clashing as is_clashing_beside, is_sought, is_unused as is_unused_for, keyed, style_of as style_of_values, value_in as value_in_use, value_of as value_given, values_of as values_given, word_in as word_in_use, word_of as first_word};
 ghost use Rattle.shark_words.specs.Keys.{character_of, header_of, occurrence_of, quote_of};
 ghost use Rattle.shark_words.specs.declared.key.Key.TheVariants.{Header, Occurrence as OccurrenceKey, Quote as QuoteKey};
-ghost use Rattle.shark_words.specs.declared.letter.Letter.TheVariants.{Style as StyleLetter};
+ghost use Rattle.shark_words.specs.declared.letter.Letter.TheVariants.{Style as StyleLetter, Decode as DecodeLetter, Report as ReportLetter};
+ghost use Rattle.shark_words.specs.Ports.{rules_in};
+ghost use Rattle.shark_words.specs.Reports.{reports_in};
 
 use crate::key::{Key, read_character, read_header, read_occurrence, read_quote};
 use crate::letter::Letter;
-use crate::options::LineKind;
+use crate::options::{LineKind, Report};
+use crate::port::read_rule;
+use crate::report::read_report;
 use crate::uses::Use;
 use out_lines::{Occurrence, Quote, Style};
 use pk_base::{NoMemory, Octets};
+use port_rules::PortRule;
 use std::alloc::Global;
 
 // The value of a use, where it is one of this option.
@@ -54,6 +59,37 @@ pub(crate) fn values_of(
         }
     }
     Ok(values)
+}
+
+/// The rules for ports, in the order of the words.
+pub(crate) fn rules_of(alloc: Global, uses: &[Use]) -> Result<Vec<PortRule>, NoMemory>
+    ensures { IfOk result (λ rules. rules.items ≡ rules_in (values_given DecodeLetter uses.now)) }
+{
+    let mut rules = Vec::new(alloc);
+    for used in uses {
+        if let Some(value) = value_in(used, Letter::Decode) {
+            if let Some(rule) = read_rule(value.bytes()) {
+                rules.push(rule)?;
+            }
+        }
+    }
+    Ok(rules)
+}
+
+/// The reports, in the order of the words.
+pub(crate) fn reports_of(alloc: Global, uses: &[Use]) -> Result<Vec<Report>, NoMemory>
+    ensures { IfOk result
+        (λ reports. reports.items ≡ reports_in (values_given ReportLetter uses.now)) }
+{
+    let mut reports = Vec::new(alloc);
+    for used in uses {
+        if let Some(value) = value_in(used, Letter::Report) {
+            if let Some(report) = read_report(value.bytes()) {
+                reports.push(report)?;
+            }
+        }
+    }
+    Ok(reports)
 }
 
 // What `-E` sets a key to.
@@ -133,13 +169,22 @@ fn is_unused(letter: Letter, kind: LineKind, written: bool) -> bool
     }
 }
 
+fn is_clashing(letter: Letter) -> bool
+    ensures { result ≡ is_clashing_beside letter }
+{
+    matches!(
+        letter,
+        Letter::Kind | Letter::Quiet | Letter::Report | Letter::SelfRun
+    )
+}
+
 impl Sought {
     fn includes(self, letter: Letter) -> bool
         ensures { result ≡ is_sought self letter }
     {
         match self {
             Sought::Output => letter == Letter::Output,
-            Sought::Clashing => matches!(letter, Letter::Kind | Letter::Quiet | Letter::SelfRun),
+            Sought::Clashing => is_clashing(letter),
             Sought::Unused(kind, written) => is_unused(letter, kind, written),
         }
     }

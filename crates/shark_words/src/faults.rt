@@ -1,13 +1,15 @@
 // What is wrong with words.
-ghost use Rattle.std.specs.Prelude.{◌≡◌, [] as nothing};
-ghost use Rattle.shark_words.specs.Faults.{fault as fault_at, is_use_of, is_given as is_given_in, is_held as is_held_in, is_taken as is_taken_in, is_use_for as is_use_for_slot, text_in, value_fault as fault_of_value, given_fault as fault_of_given, fault_of as fault_of_use, first_fault as fault_first};
-ghost use Rattle.shark_words.specs.Slots.{slot_of as slot_of_option};
+ghost use Rattle.std.specs.Prelude.{◌≡◌, [] as nothing, IfOk, IfNone};
+ghost use Rattle.shark_words.specs.Faults.{fault as fault_at, is_use_of, is_given as is_given_in, slot_in, text_in, value_fault as fault_of_value, given_fault as fault_of_given, fault_of as fault_of_use, first_fault as fault_first};
+ghost use Rattle.shark_words.specs.Slots.{slot_of as slot_of_option, with_slot};
 
 use crate::fault::{WordFault, WordReason};
 use crate::letter::Letter;
-use crate::slot::{Slot, is_same_slot, slot_of};
+use crate::slot::{Held, Slot, slot_of};
 use crate::uses::{Given, Use};
 use crate::values::is_value;
+use pk_base::NoMemory;
+use std::alloc::Global;
 
 fn is_use_of(used: &Use, letter: Letter) -> bool
     ensures { result ≡ is_use_of letter used.now }
@@ -35,35 +37,6 @@ fn slot_given(given: &Given) -> Option<Slot>
     }
 }
 
-#[tactic(auto, unfolding(crate::specs::Faults::is_use_for))]
-fn is_use_for(used: &Use, slot: Slot) -> bool
-    ensures { result ≡ is_use_for_slot slot used.now }
-{
-    match used {
-        Use::Given(given) => match slot_given(given) {
-            Some(other) => is_same_slot(slot, other),
-            None => false,
-        },
-        Use::Stray(_) | Use::Unknown(_) => false,
-    }
-}
-
-fn is_held(uses: &[Use], slot: Slot) -> bool
-    ensures { result ≡ is_held_in slot uses.now }
-{
-    uses.iter().any(|used| is_use_for(used, slot))
-}
-
-// Whether uses give what may come once.
-fn is_taken(slot: Option<Slot>, uses: &[Use]) -> bool
-    ensures { result ≡ is_taken_in slot uses.now }
-{
-    match slot {
-        Some(slot) => is_held(uses, slot),
-        None => false,
-    }
-}
-
 fn value_fault(given: &Given) -> Option<WordFault>
     ensures { result ≡ fault_of_value given.now.word given.now.letter given.now.value }
 {
@@ -81,46 +54,53 @@ fn value_fault(given: &Given) -> Option<WordFault>
     }
 }
 
-// What is wrong with an option, given the uses before it.
-fn given_fault(before: &[Use], given: &Given) -> Option<WordFault>
-    ensures { result ≡ fault_of_given before.now given.now }
+// What is wrong with an option, given what came before it.
+fn given_fault(held: &mut Held, given: &Given) -> Result<Option<WordFault>, NoMemory>
+    ensures fault { IfOk result (λ fault. fault ≡ fault_of_given held.old given.now) }
+    ensures taken { IfOk result (λ fault. IfNone fault
+        (held.new ≡ with_slot (slot_of_option given.now.letter (text_in given.now.value)) held.old)) }
 {
-    if is_taken(slot_given(given), before) {
-        return Some(WordFault {
-            word: given.word,
-            reason: WordReason::Repeated,
-        });
+    if let Some(slot) = slot_given(given) {
+        if !held.take(slot)? {
+            return Ok(Some(WordFault {
+                word: given.word,
+                reason: WordReason::Repeated,
+            }));
+        }
     }
-    value_fault(given)
+    Ok(value_fault(given))
 }
 
-// What is wrong with a use, given those before it.
-fn fault_of(before: &[Use], used: &Use) -> Option<WordFault>
-    ensures { result ≡ fault_of_use before.now used.now }
+// What is wrong with a use, given what came before it.
+fn fault_of(held: &mut Held, used: &Use) -> Result<Option<WordFault>, NoMemory>
+    ensures fault { IfOk result (λ fault. fault ≡ fault_of_use held.old used.now) }
+    ensures taken { IfOk result (λ fault. IfNone fault
+        (held.new ≡ with_slot (slot_in used.now) held.old)) }
 {
     match used {
-        Use::Unknown(word) => Some(WordFault {
+        Use::Unknown(word) => Ok(Some(WordFault {
             word: *word,
             reason: WordReason::UnknownOption,
-        }),
-        Use::Stray(word) => Some(WordFault {
+        })),
+        Use::Stray(word) => Ok(Some(WordFault {
             word: *word,
             reason: WordReason::StrayWord,
-        }),
-        Use::Given(given) => given_fault(before, given),
+        })),
+        Use::Given(given) => given_fault(held, given),
     }
 }
 
 /// The first fault in the order of the words.
 #[tactic(auto, unfolding(crate::specs::Faults::first_fault))]
-pub(crate) fn first_fault(uses: &[Use]) -> Option<WordFault>
-    ensures { result ≡ fault_first nothing uses.now }
+pub(crate) fn first_fault(alloc: Global, uses: &[Use]) -> Result<Option<WordFault>, NoMemory>
+    ensures { IfOk result (λ fault. fault ≡ fault_first nothing uses.now) }
 {
-    for (index, used) in uses.iter().enumerate() {
-        let fault = fault_of(&uses[..index], used);
+    let mut held = Held::new(alloc);
+    for used in uses {
+        let fault = fault_of(&mut held, used)?;
         if fault.is_some() {
-            return fault;
+            return Ok(fault);
         }
     }
-    None
+    Ok(None)
 }

@@ -1,12 +1,12 @@
 // What `-E` sets.
 ghost use Rattle.std.specs.Prelude.{◌≡◌};
 ghost use Rattle.std.specs.Option.{option_copied};
-ghost use Rattle.shark_words.specs.Keys.{begins as begins_with, behind_key, character_of, header_of, is_choice as is_choice_of, is_setting as is_setting_text, key_name, key_of as key_of_text, occurrence_of, quote_of};
+ghost use Rattle.shark_words.specs.Keys.{begins as begins_with, behind_key, behind_name, character_of, header_of, is_choice as is_choice_of, is_setting as is_setting_text, key_name, key_of as key_of_text, occurrence_of, quote_of};
 
 use out_lines::{Occurrence, Quote};
 
 /// A key of `-E`.
-#[derive(Clone, Copy, Debug, PartialEq, Eq)]
+#[derive(Clone, Copy, Debug, PartialEq, Eq, Hash)]
 pub(crate) enum Key {
     /// `header=`: whether the fields' names stand first.
     Header,
@@ -37,13 +37,19 @@ impl Key {
     pub(crate) fn strip_from(self, text: &[u8]) -> Option<&[u8]>
         ensures { option_copied result ≡ behind_key self text.now }
     {
-        let name = self.name();
-        if name.len() > text.len() {
-            return None;
-        }
-        let (front, value) = text.split_at(name.len());
-        if front == name { Some(value) } else { None }
+        strip_name(self.name(), text)
     }
+}
+
+/// What stands behind a name in a text that begins with it.
+pub(crate) fn strip_name<'a>(name: &[u8], text: &'a [u8]) -> Option<&'a [u8]>
+    ensures { option_copied result ≡ behind_name name.now text.now }
+{
+    if name.len() > text.len() {
+        return None;
+    }
+    let (front, value) = text.split_at(name.len());
+    if front == name { Some(value) } else { None }
 }
 
 #[tactic(auto, unfolding(crate::specs::Keys::begins))]

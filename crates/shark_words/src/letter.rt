@@ -2,7 +2,7 @@ ghost use Rattle.std.specs.Prelude.{◌≡◌};
 ghost use Rattle.shark_words.specs.Letters.{has_value, letter_of as letter_of_byte};
 
 /// An option, by its letter.
-#[derive(Clone, Copy, Debug, PartialEq, Eq)]
+#[derive(Clone, Copy, Debug, PartialEq, Eq, Hash)]
 pub(crate) enum Letter {
     /// `-r NAME`: the capture file.
     Capture,
@@ -18,6 +18,10 @@ pub(crate) enum Letter {
     Most,
     /// `-q`: no lines of frames.
     Quiet,
+    /// `-d RULE`: which application a port is read as.
+    Decode,
+    /// `-z REPORT`: a report behind the lines.
+    Report,
     /// `-w -`: the frames are written as a capture file, in place of lines.
     Output,
     /// `-F FORMAT`: the format of that file.
@@ -38,6 +42,8 @@ impl Letter {
             b'E' => Some(Letter::Style),
             b'c' => Some(Letter::Most),
             b'q' => Some(Letter::Quiet),
+            b'd' => Some(Letter::Decode),
+            b'z' => Some(Letter::Report),
             b'w' => Some(Letter::Output),
             b'F' => Some(Letter::Format),
             _ => None,

@@ -6,8 +6,11 @@ mod fault;
 mod faults;
 mod key;
 mod letter;
+mod number;
 mod options;
+mod port;
 mod read;
+mod report;
 mod slot;
 #[cfg(test)]
 mod tests;
@@ -15,6 +18,6 @@ mod uses;
 mod values;
 
 pub use fault::{WordFault, WordReason, WordsError};
-pub use options::{LineKind, NameList, Options, Source};
+pub use options::{LineKind, NameList, Options, Report, ReportList, Source};
 pub use read::read_words;
 pub use values::read_format;

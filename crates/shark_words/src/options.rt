@@ -1,8 +1,10 @@
 ghost use Rattle.std.specs.Prelude.{◌≡◌};
 
+use cap_stats::StatKind;
 use capture_write::Format;
 use out_lines::Style;
 use pk_base::Octets;
+use port_rules::DecodeAs;
 use std::marker::Model;
 
 /// Where the frames come from.
@@ -53,6 +55,44 @@ impl NameList {
     }
 }
 
+/// What stands behind the lines.
+#[derive(Clone, Copy, Debug, PartialEq, Eq)]
+pub enum Report {
+    /// The bytes of the TCP stream of this number, those of each direction by themselves.
+    Follow(u32),
+    /// Statistics over the frames that satisfy the filter.
+    Table(StatKind),
+}
+
+/// The reports, in the order of the words.
+#[derive(Drop)]
+pub struct ReportList {
+    all: Vec<Report>,
+}
+
+impl Model for ReportList {
+    ghost use Rattle.std.specs.Prelude.{List};
+    ghost use Rattle.shark_words.specs.declared.options.Report.{Report};
+
+    ghost Value = { List Report };
+
+    ghost view = { λ l. l.all.items };
+}
+
+impl ReportList {
+    pub fn from_vec(v: Vec<Report>) -> ReportList
+        ensures { result ≡ v.items }
+    {
+        ReportList { all: v }
+    }
+
+    pub fn slice(&self) -> &[Report]
+        ensures { result.now ≡ self.now }
+    {
+        self.all.as_slice()
+    }
+}
+
 /// What the words ask for.
 #[derive(Drop)]
 pub struct Options {
@@ -68,6 +108,9 @@ pub struct Options {
     pub most: Option<u32>,
     /// Whether `-q` asks for no header line and no lines of frames.
     pub quiet: bool,
+    /// Which ports are read as other applications than usual, in the order of the words.
+    pub decode: DecodeAs,
+    pub reports: ReportList,
     /// The format of the capture file that is written in place of all lines, where one is.
     pub written: Option<Format>,
 }

@@ -11,15 +11,18 @@ ghost use Rattle.shark_words.specs.Values.{count_of, format_asked, kind_asked, s
 ghost use Rattle.shark_words.specs.Spelled.{Spelled, spelled_words, asked_by, IsCommand, IsAsked};
 ghost use Rattle.shark_words.specs.Options.{asked, clash_fault as clash_fault_of, fields_fault as fields_fault_of, format_written as format_written_by, options_of, source_of as source_given, together_fault as together_fault_of, unused_fault as unused_fault_of, Gives};
 
-use crate::asked::{Sought, clash_word, style_of, value_of, values_of, word_of};
+use crate::asked::{
+    Sought, clash_word, reports_of, rules_of, style_of, value_of, values_of, word_of,
+};
 use crate::fault::{WordFault, WordReason, WordsError};
 use crate::faults::{first_fault, is_given};
 use crate::letter::Letter;
-use crate::options::{LineKind, NameList, Options, Source};
+use crate::options::{LineKind, NameList, Options, ReportList, Source};
 use crate::uses::{Use, uses_of};
 use crate::values::{is_blank, read_count, read_format, read_generated, read_kind};
 use capture_write::Format;
 use pk_base::{NoMemory, Octets};
+use port_rules::{DecodeAs, PortRules};
 use std::alloc::Global;
 
 // A filter that isn't blank.
@@ -127,8 +130,8 @@ fn together_fault(behind: u64, uses: &[Use], kind: LineKind) -> Option<WordFault
 /// Reads the options that the words of a command line give, or refuses them.
 ///
 /// A word that begins with `-` and has more is `--self-run`, whose value is the next word, or a cluster of letters: `-r`,
-/// `-Y`, `-T`, `-e`, `-E`, `-c`, `-w` and `-F`, whose value is what is left of the word, or the next word where nothing is
-/// left, and `-q`, which has none. Words are numbered from 1, and the first fault in their order is told.
+/// `-Y`, `-T`, `-e`, `-E`, `-c`, `-d`, `-z`, `-w` and `-F`, whose value is what is left of the word, or the next word where
+/// nothing is left, and `-q`, which has none. Words are numbered from 1, and the first fault in their order is told.
 #[tactic(auto, using(crate::proofs::Utf8Lemmas::answered_are_utf8))]
 pub fn read_words(alloc: Global, words: &[String]) -> Result<Options, WordsError>
     ensures computed { Gives result (options_of (texts words.now)) }
@@ -147,7 +150,7 @@ fn options_in(alloc: Global, words: &[String]) -> Result<Options, WordsError>
     ensures { Gives result (options_of (texts words.now)) }
 {
     let uses = uses_of(alloc, words)?;
-    if let Some(fault) = first_fault(&uses) {
+    if let Some(fault) = first_fault(alloc, &uses)? {
         return Err(WordsError::Fault(fault));
     }
     let behind = words.len() as u64 + 1;
@@ -181,6 +184,10 @@ fn options_from(
         style: style_of(uses),
         most: read_most(value_of(uses, Letter::Most)),
         quiet: is_given(uses, Letter::Quiet),
+        decode: DecodeAs {
+            rules: PortRules::from_vec(rules_of(alloc, uses)?),
+        },
+        reports: ReportList::from_vec(reports_of(alloc, uses)?),
         written: format_written(uses),
     })
 }

@@ -1,9 +1,11 @@
 //! Command lines as a user writes them, a word each, and what is asked for or refused.
 
 use super::*;
+use cap_stats::StatKind;
 use capture_write::Format;
 use out_lines::{Occurrence, Quote, Style};
 use pk_base::Octets;
+use port_rules::{App, PortRule};
 use std::alloc::{AllocError, Global};
 use std::process::Abort;
 use std::test::Fail;
@@ -261,7 +263,7 @@ fn many_names_are_read(rt: HostRuntime) -> Result<(), Fail> {
 }
 
 /// Command lines, a space between two words, each behind what is answered: `ok`, or the word and the reason of the refusal.
-static COMMANDS: [&str; 135] = [
+static COMMANDS: [&str; 191] = [
     // Each letter in a word of its own, in a cluster, twice, without a value, with a bad value.
     "ok: -r f",
     "ok: -rf",
@@ -321,8 +323,6 @@ static COMMANDS: [&str; 135] = [
     "1 A3: q -r f",
     "2 A1: -q --q",
     "1 A1: -2 -r f",
-    "1 A1: -d tcp.port==80,http",
-    "1 A1: -z follow,tcp,raw,0",
     "1 A1: --filter-stats -r f",
     // A generated capture: its number and how many frames, in a word of its own.
     "ok: --self-run 1,1",
@@ -375,6 +375,66 @@ static COMMANDS: [&str; 135] = [
     "3 A9: --self-run 1,1 -w -",
     "3 A9: -w - --self-run 1,1",
     "2 A4: -q",
+    "5 A9: -r f -w - -z follow,tcp,raw,0",
+    "5 A9: -z follow,tcp,raw,0 -r f -w -",
+    "5 A9: -r f -zfollow,tcp,raw,0 -q -w - -d tcp.port==80,data",
+    "ok: -r f -w - -d tcp.port==80,data",
+    // The application of a port: each one over either transport, a port twice, bad values.
+    "ok: -r f -d tcp.port==9999,http",
+    "ok: -r f -dtcp.port==0,dns",
+    "ok: -r f -qd tcp.port==65535,data",
+    "4 A6: -r f -d tcp.port==80,dhcp",
+    "ok: -r f -d udp.port==9999,dns",
+    "ok: -r f -d udp.port==9999,dhcp",
+    "ok: -r f -d udp.port==9999,data",
+    "4 A6: -r f -d udp.port==9999,http",
+    "ok: -r f -d tcp.port==53,dns -d udp.port==53,dns",
+    "ok: -r f -d tcp.port==80,http -d tcp.port==81,http",
+    "5 A5: -r f -d tcp.port==80,http -d tcp.port==80,http",
+    "7 A5: -r f -d tcp.port==80,http -d tcp.port==81,dns -dtcp.port==80,data",
+    "5 A5: -r f -d udp.port==80,data -d udp.port==80,http",
+    "5 A5: -r f -d tcp.port==80,http -d tcp.port==80",
+    "6 A6: -r f -d tcp.port==80,http -d tcp.port==080,http",
+    "3 A2: -r f -d",
+    "3 A2: -r f -qd",
+    "4 A6: -r f -d tcp.port==65536,http",
+    "4 A6: -r f -d tcp.port==08,http",
+    "4 A6: -r f -d tcp.port==+8,http",
+    "4 A6: -r f -d tcp.port==0x50,http",
+    "4 A6: -r f -d tcp.port==,http",
+    "4 A6: -r f -d tcp.port==80",
+    "4 A6: -r f -d tcp.port==80,",
+    "4 A6: -r f -d tcp.port==80,HTTP",
+    "4 A6: -r f -d tcp.port==80,http,",
+    "4 A6: -r f -d tcp.port==80,ntp",
+    "4 A6: -r f -d tcp.port=80,http",
+    "4 A6: -r f -d sctp.port==80,data",
+    "3 A6: -r f -dtcp",
+    // Reports, again and again, and bad values.
+    "ok: -r f -z follow,tcp,raw,0",
+    "ok: -r f -zfollow,tcp,raw,4294967295 -z follow,tcp,raw,1 -zfollow,tcp,raw,1",
+    "ok: --self-run 1,1 -qz follow,tcp,raw,0",
+    "3 A2: -r f -z",
+    "4 A5: -r f -q -qz",
+    "4 A6: -r f -z follow,tcp,raw,4294967296",
+    "4 A6: -r f -z follow,tcp,raw,00",
+    "4 A6: -r f -z follow,tcp,raw,",
+    "4 A6: -r f -z follow,tcp,raw",
+    "4 A6: -r f -z follow,tcp,raw,0,0",
+    "4 A6: -r f -z follow,tcp,hex,0",
+    "4 A6: -r f -z follow,udp,raw,0",
+    "3 A6: -r f -zFollow,tcp,raw,0",
+    "ok: -r f -z conv,tcp",
+    "ok: -r f -zconv,ip",
+    "ok: -r f -qz io,phs -zio,phs -z conv,tcp -z follow,tcp,raw,2",
+    "4 A6: -r f -z conv",
+    "4 A6: -r f -z conv,udp",
+    "4 A6: -r f -z conv,tcp,",
+    "4 A6: -r f -z conv,ipv6",
+    "4 A6: -r f -z io,stat,0",
+    "4 A6: -r f -z IO,PHS",
+    "3 A6: -r f -zio",
+    "5 A9: -z io,phs -r f -w -",
     // Each key of `-E`, its values, twice, with a bad value.
     "ok: -r f -Tfields -e a -E header=y",
     "ok: -r f -Tfields -e a -E header=n",
@@ -461,6 +521,60 @@ fn captures_are_generated_and_written(rt: HostRuntime) -> Result<(), Fail> {
     assert_eq!(rt; pcap.written, Some(Format::Pcap));
     let pcapng = read_words(rt.alloc(), &words_of(rt.alloc(), &["-w-", "-rf"])?)?;
     assert_eq!(rt; pcapng.written, Some(Format::Pcapng));
+    Ok(())
+}
+
+#[test]
+fn rules_and_reports_stand_in_the_order_of_the_words(rt: HostRuntime) -> Result<(), Fail> {
+    let words = words_of(
+        rt.alloc(),
+        &[
+            "-d",
+            "udp.port==9999,dhcp",
+            "-zfollow,tcp,raw,7",
+            "-dtcp.port==80,data",
+            "-rf",
+            "-zio,phs",
+            "-z",
+            "follow,tcp,raw,4294967295",
+            "-zconv,tcp",
+            "-zconv,ip",
+        ],
+    )?;
+    let options = read_words(rt.alloc(), &words)?;
+    let rules = [
+        PortRule {
+            tcp: false,
+            port: 9999,
+            app: App::Dhcp,
+        },
+        PortRule {
+            tcp: true,
+            port: 80,
+            app: App::Plain,
+        },
+    ];
+    assert_eq!(rt; options.decode.rules.slice(), rules.as_slice());
+    let reports = [
+        Report::Follow(7),
+        Report::Table(StatKind::Phs),
+        Report::Follow(u32::MAX),
+        Report::Table(StatKind::ConvTcp),
+        Report::Table(StatKind::ConvIp),
+    ];
+    assert_eq!(rt; options.reports.slice(), reports.as_slice());
+    Ok(())
+}
+
+#[test]
+fn many_ports_are_set_once_each(rt: HostRuntime) -> Result<(), Fail> {
+    let mut words = words_of(rt.alloc(), &["-rf"])?;
+    for port in 0..10_000u16 {
+        words.push(format!(in rt.alloc(); "-dtcp.port=={port},data")?)?;
+        words.push(format!(in rt.alloc(); "-dudp.port=={port},data")?)?;
+    }
+    let options = read_words(rt.alloc(), &words)?;
+    assert_eq!(rt; options.decode.rules.slice().len(), 20_000);
     Ok(())
 }
 

@@ -1,40 +1,18 @@
 // What an option's value may be.
-ghost use Rattle.std.specs.Prelude.{◌≡◌, ◌<◌, length, IfSome, option_and_then};
-ghost use Rattle.shark_words.specs.Values.{comma_in as comma_place, count_of, decimal_of, format_of as format_of_text, generated_by, is_blank as is_blank_text, is_value as is_value_of, kind_of as kind_of_text, most_generated, up_to as up_to_most};
+ghost use Rattle.std.specs.Prelude.{◌≡◌, option_and_then};
+ghost use Rattle.shark_words.specs.Numbers.{decimal_of, up_to as up_to_most};
+ghost use Rattle.shark_words.specs.Values.{count_of, format_of as format_of_text, generated_by, is_blank as is_blank_text, is_value as is_value_of, kind_of as kind_of_text, most_generated};
 
 use crate::key::is_setting;
 use crate::letter::Letter;
+use crate::number::{comma_in, read_decimal, up_to};
 use crate::options::{LineKind, Source};
+use crate::port::read_rule;
+use crate::report::read_report;
 use capture_write::Format;
-use pk_text::{Wide, read_digits};
 
 /// A capture is generated with so many frames at most.
 const MOST_GENERATED: u64 = 200_000;
-
-// A number in decimal digits without a leading zero, `0` itself aside.
-#[tactic(auto, unfolding(crate::specs::Values::decimal_of))]
-fn read_decimal(text: &[u8]) -> Option<u64>
-    ensures { result ≡ decimal_of text.now }
-{
-    if let [b'0', _, ..] = text {
-        return None;
-    }
-    match read_digits(text, 10)? {
-        Wide::Fits(number) => Some(number),
-        Wide::Beyond => None,
-    }
-}
-
-// A number from 1 on that is no greater than another.
-fn up_to(most: u64, number: u64) -> Option<u64>
-    ensures { result ≡ up_to_most most number }
-{
-    if number > 0 && number <= most {
-        Some(number)
-    } else {
-        None
-    }
-}
 
 /// A number from 1 to 4,294,967,295 in decimal digits without a leading zero.
 #[tactic(auto, unfolding(crate::specs::Values::count_of))]
@@ -50,14 +28,6 @@ fn read_frames(text: &[u8]) -> Option<u32>
 {
     let frames = up_to(MOST_GENERATED, read_decimal(text)?)?;
     u32::try_from(frames).ok()
-}
-
-// The place of the first comma.
-fn comma_in(text: &[u8]) -> Option<usize>
-    ensures place { result ≡ comma_place text.now }
-    ensures inside { IfSome result (λ at. at < length text.now) }
-{
-    text.iter().position(|byte| *byte == b',')
 }
 
 /// A generated capture: its number, a comma, and how many frames it has.
@@ -109,6 +79,8 @@ pub(crate) fn is_value(letter: Letter, text: &[u8]) -> bool
         Letter::Style => is_setting(text),
         Letter::Most => read_count(text).is_some(),
         Letter::Quiet => false,
+        Letter::Decode => read_rule(text).is_some(),
+        Letter::Report => read_report(text).is_some(),
         Letter::Output => text == b"-".as_slice(),
         Letter::Format => read_format(text).is_some(),
         Letter::SelfRun => read_generated(text).is_some(),

@@ -1,0 +1,114 @@
+// What `-d` sets.
+ghost use Rattle.std.specs.Prelude.{◌≡◌};
+ghost use Rattle.shark_words.specs.Ports.{app_named, app_of, carried as carried_by, is_same_port as is_same_port_of, port_in as port_in_text, port_of, port_over, rule_by as rule_by_name, rule_of, transport_name};
+
+use crate::key::strip_name;
+use crate::number::{at_most, comma_in, read_decimal};
+use port_rules::{App, PortRule};
+
+/// A port of one transport.
+#[derive(Clone, Copy, Debug, PartialEq, Eq, Hash)]
+pub(crate) struct Port {
+    /// Whether it is a port of TCP, else of UDP.
+    pub(crate) tcp: bool,
+    pub(crate) number: u16,
+}
+
+// What stands before a port.
+fn transport_name(tcp: bool) -> &'static [u8]
+    ensures { result.now ≡ transport_name tcp }
+{
+    if tcp {
+        b"tcp.port==".as_slice()
+    } else {
+        b"udp.port==".as_slice()
+    }
+}
+
+// A port of this transport.
+fn read_port_over(tcp: bool, text: &[u8]) -> Option<Port>
+    ensures { result ≡ port_over tcp text.now }
+{
+    let digits = strip_name(transport_name(tcp), text)?;
+    let number = at_most(u64::from(u16::MAX), read_decimal(digits)?)?;
+    Some(Port {
+        tcp,
+        number: number as u16,
+    })
+}
+
+// `tcp.port==N` or `udp.port==N`.
+#[tactic(auto, unfolding(crate::specs::Ports::port_of))]
+fn read_port(text: &[u8]) -> Option<Port>
+    ensures { result ≡ port_of text.now }
+{
+    read_port_over(true, text).or_else(|| read_port_over(false, text))
+}
+
+/// The port that a text begins with, whatever stands behind its first comma.
+#[tactic(auto, unfolding(crate::specs::Ports::port_in))]
+pub(crate) fn port_in(text: &[u8]) -> Option<Port>
+    ensures { result ≡ port_in_text text.now }
+{
+    match comma_in(text) {
+        Some(comma) => read_port(&text[..comma]),
+        None => read_port(text),
+    }
+}
+
+fn app_of_name(text: &[u8]) -> Option<App>
+    ensures { result ≡ app_named text.now }
+{
+    if text == b"http".as_slice() {
+        Some(App::Http)
+    } else if text == b"dns".as_slice() {
+        Some(App::Dns)
+    } else if text == b"dhcp".as_slice() {
+        Some(App::Dhcp)
+    } else if text == b"data".as_slice() {
+        Some(App::Plain)
+    } else {
+        None
+    }
+}
+
+// HTTP is read in streams alone, DHCP in datagrams alone.
+fn carried(tcp: bool, app: App) -> Option<App>
+    ensures { result ≡ carried_by tcp app }
+{
+    let fits = match app {
+        App::Http => tcp,
+        App::Dns | App::Plain => true,
+        App::Dhcp | App::Ntp | App::Mdns => !tcp,
+    };
+    if fits { Some(app) } else { None }
+}
+
+// The application of a name that this transport carries.
+fn read_app(tcp: bool, text: &[u8]) -> Option<App>
+    ensures { result ≡ app_of tcp text.now }
+{
+    carried(tcp, app_of_name(text)?)
+}
+
+// A port's rule, by the name of its application.
+fn rule_by(port: Option<Port>, name: &[u8]) -> Option<PortRule>
+    ensures { result ≡ rule_by_name port name.now }
+{
+    let port = port?;
+    let app = read_app(port.tcp, name)?;
+    Some(PortRule {
+        tcp: port.tcp,
+        port: port.number,
+        app,
+    })
+}
+
+/// A port's rule: `tcp.port==N,P` or `udp.port==N,P`.
+#[tactic(auto, unfolding(crate::specs::Ports::rule_of))]
+pub(crate) fn read_rule(text: &[u8]) -> Option<PortRule>
+    ensures { result ≡ rule_of text.now }
+{
+    let comma = comma_in(text)?;
+    rule_by(read_port(&text[..comma]), &text[comma + 1..])
+}
