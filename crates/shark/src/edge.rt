@@ -4,7 +4,7 @@ use pk_outside::{Sink, SinkFault, write_whole};
 use shark_run::Status;
 use std::io::ErrorKind;
 
-const VERSION: &str = "shark 0.3.0\n";
+const VERSION: &str = "shark 0.4.0\n";
 
 const NOT_UTF8: &str = "shark: words are not UTF-8\n";
 

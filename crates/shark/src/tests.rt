@@ -1,7 +1,7 @@
 //! What the program says of itself, and that it tells of no option that it doesn't know.
 
 use crate::edge::{answer, without_words};
-use crate::help::OPTIONS;
+use crate::help::GROUPS;
 use pk_outside::SureSink;
 use shark_run::Status;
 use shark_words::{WordFault, WordReason, WordsError, read_words};
@@ -12,20 +12,31 @@ use std::test::Fail;
 const HELP: &str = "\
 shark reads a capture file and prints a line for each frame that satisfies a display filter.
 
-Usage: shark -r FILE [-Y FILTER] [-c N] [-q] [-T text | -T json | -T fields -e FIELD... [-E KEY=V]...]
-       shark -r FILE [-Y FILTER] [-c N] -w - [-F pcap | -F pcapng]
-       shark --self-run NUMBER,FRAMES [-Y FILTER] [-c N]
+Usage: shark -r FILE [-Y FILTER] [-c N] [-d RULE]... [-q] [-T text | -T json | -T fields -e FIELD... [-E KEY=V]...] [-z REPORT]...
+       shark -r FILE [-Y FILTER] [-c N] [-d RULE]... -w - [-F pcap | -F pcapng]
+       shark --self-run NUMBER,FRAMES [-Y FILTER] [-c N] [-d RULE]... [-z REPORT]...
 
+The capture:
   -r FILE      the capture file, pcap or pcapng
-  -Y FILTER    show only the frames that satisfy this filter; without it all are shown
   -c N         read at most N frames, 1 to 4294967295
+  --self-run NUMBER,FRAMES    in place of -r a capture made from a number, 1 to 200000 frames; one line sums it up
+
+What is read and shown:
+  -Y FILTER    show only the frames that satisfy this filter; without it all are shown
+  -d RULE      read a port as another application, again and again: tcp.port==N,P with P http, dns or data, or udp.port==N,P with P dns, dhcp or data
+
+Lines:
   -T KIND      the kind of line: text, a summary, which is the default; fields, the values of fields; json, all of a frame
   -e FIELD     with -T fields a column, again and again: any field or protocol
   -E KEY=V     with -T fields: header=y, separator=, aggregator=, occurrence=f or l, quote=d or s
   -q           no header line and no lines of frames
-  -w -         the frames as a capture file on standard output, in place of lines
+
+Behind the lines:
+  -z REPORT    a report, again and again: conv,tcp or conv,ip, conversations; io,phs, protocols; follow,tcp,raw,N, the bytes of TCP stream N
+
+A capture file in place of lines:
+  -w -         the frames as a capture file on standard output
   -F FORMAT    with -w the format of that file: pcapng, which is the default, or pcap, with times in nanoseconds
-  --self-run NUMBER,FRAMES    in place of -r a capture made from a number, 1 to 200000 frames; one line sums it up
 
   --help       this text, where it is the only word
   --version    the version, where it is the only word
@@ -35,10 +46,8 @@ A filter is one of Wireshark's display filters: fields and protocols compared wi
 min and max, joined by not, and, xor, or.
 For example: ip.addr == 10.0.0.0/8 and not udp.port in {53, 5353}
 
-  shark -r web.pcap
-  shark -r web.pcap -Y dns -T fields -e dns.qry.name
-  shark -r web.pcap -T fields -E header=y -E separator=, -E quote=d -e frame.number -e ip.src
-  shark -r web.pcap -Y tcp -T json | jq .layers
+  shark -r web.pcap -Y dns -T fields -e frame.number -e dns.qry.name
+  shark -r web.pcap -d tcp.port==8000,http -Y http -T json | jq .layers
   shark -r web.pcap -Y dns -w - -F pcap > dns.pcap
 
 The exit status is 0 where the whole file was read and the whole output written, and else says what went wrong:
@@ -59,7 +68,7 @@ static ANSWERS: [Answer; 6] = [
     },
     Answer {
         words: &["--version"],
-        text: Some("shark 0.3.0\n"),
+        text: Some("shark 0.4.0\n"),
     },
     Answer {
         words: &["--help", "--version"],
@@ -130,19 +139,23 @@ fn is_known(alloc: Global, word: &str) -> Result<bool, AllocError> {
     Ok(read_words(alloc, words.as_slice()).err() != Some(unknown))
 }
 
+fn is_listed(options: &[&str], letter: u8) -> bool {
+    options.iter().any(|option| option.as_bytes().starts_with(&[b'-', letter, b' ']))
+}
+
 #[test]
 fn help_lists_the_options_that_are_known(rt: HostRuntime) -> Result<(), Fail> {
     for letter in 0x20..0x7F {
-        let listed = OPTIONS.iter().any(|option| option
-            .as_bytes()
-            .starts_with(&[b'-', letter, b' ']));
+        let listed = GROUPS.iter().any(|group| is_listed(group.options, letter));
         let mut word = String::from_str(rt.alloc(), "-")?;
         word.push(char::from(letter))?;
         assert_eq!(rt; is_known(rt.alloc(), word.as_str())?, listed, "{letter}");
     }
-    for option in &OPTIONS {
-        if let Some((name, _)) = option.split_once(' ') {
-            assert!(rt; is_known(rt.alloc(), name)?, "{name}");
+    for group in &GROUPS {
+        for option in group.options {
+            if let Some((name, _)) = option.split_once(' ') {
+                assert!(rt; is_known(rt.alloc(), name)?, "{name}");
+            }
         }
     }
     Ok(())

@@ -4,7 +4,7 @@ use merge_caps::MergeStatus;
 use pk_outside::{Sink, SinkFault, write_whole};
 use std::io::ErrorKind;
 
-const VERSION: &str = "shark_merge 0.3.0\n";
+const VERSION: &str = "shark_merge 0.4.0\n";
 
 const NOT_UTF8: &str = "shark: words are not UTF-8\n";
 

@@ -1,5 +1,5 @@
 -- What is written behind the frames' lines.
-use Rattle.std.proofs.Common.{◌≡◌, ℕ, Bool, true, false, List, [], ◌∷◌, ◌++◌, length, Option, None, Some, inl, inr, refl, sym, ap, ◌∙◌, subst, append-nil, append_assoc, reverse}
+use Rattle.std.proofs.Common.{◌≡◌, ℕ, Bool, true, false, List, [], ◌∷◌, ◌++◌, length, Option, None, Some, inl, inr, refl, sym, ap, ◌∙◌, subst, reverse}
 use Rattle.std.specs.Prelude.{IfSome, if◌then◌else◌}
 use Rattle.std.specs.Io.KnownBytes.{Appends}
 use Rattle.std.proofs.KnownBytes.{Appends-trans}
@@ -12,96 +12,114 @@ use Rattle.capture_write.specs.declared.format.Format.TheVariants.{Pcapng}
 use Rattle.shark_run.specs.declared.run_ending.RunEnding.{RunEnding}
 use Rattle.capture_read.specs.declared.frame.Frame.{Frame}
 use Rattle.dissect.specs.Stands.{DissectorShown, StandsWithin}
-use Rattle.dissect.specs.Trees.{tree_at}
-use Rattle.flt_types.specs.declared.typed.Typed.{Typed}
 use Rattle.shark_run.specs.declared.plan.Plan.{Plan}
+use Rattle.shark_run.specs.declared.notes.Notes.{Notes}
 use Rattle.shark_run.specs.declared.totals.Totals.{Totals}
-use Rattle.shark_run.specs.Accessors.{filter_of, is_generated, written_of}
+use Rattle.shark_run.specs.Accessors.{is_generated, reports_of, written_of}
 use Rattle.shark_run.specs.Chosen.{IsWriting, chosen_of}
 use Rattle.shark_run.specs.Ended.{CanClose, HasRead}
-use Rattle.shark_run.specs.Lines.{closing, closing_by, pieces}
+use Rattle.shark_run.specs.Lines.{closing, closing_by, counted_line, pieces}
 use Rattle.shark_run.specs.Reading.{frames_read}
-use Rattle.shark_run.specs.Satisfied.{satisfies}
+use Rattle.shark_run.specs.Reports.{reports_text}
 use Rattle.pk_fields.specs.Ids.{DNS, HTTP}
-use Rattle.shark_run.specs.SelfRun.{counts_text, layer_count, self_run_line, shown_count, tcp_count, trees_of, udp_count}
+use Rattle.shark_run.specs.SelfRun.{counts_text, layer_count, self_run_line, shown_count, tcp_count, udp_count}
 use Rattle.shark_run.specs.Totals.{counts_of, counts_with, totals_of, with_tree}
+use Rattle.shark_run.specs.Notes.{AreNotes}
 use Rattle.shark_run.specs.Steps.{KeepsUp}
-use Rattle.shark_run.specs.Way.{IsBrokenAtEnd, IsBrokenBehind, IsBrokenFrom}
+use Rattle.shark_run.specs.Trees.{lets_frame, tree_of, trees_of}
+use Rattle.shark_run.specs.Way.{IsBrokenBehind, IsBrokenFrom}
 use Rattle.shark_run.proofs.PacketLemmas.{kept_is}
 use Rattle.shark_run.specs.Wrote.{WroteBody, WrotePieces, WroteSomeBody, WroteSomePieces, body_of}
 
 -- the line over frames tells their totals
-pub line_counted : (filter : Option Typed) (past : List Frame) (totals : Totals) (tcp udp : ℕ) (line : List ℕ)
-    → line ≡ counts_text totals.frames totals.shown tcp udp totals.dns totals.http → totals ≡ totals_of filter past → tcp ≡ tcp_count past → udp ≡ udp_count past
-    → line ≡ self_run_line filter past
+pub line_counted : (plan : Plan) (past : List Frame) (totals : Totals) (tcp udp : ℕ) (line : List ℕ)
+    → line ≡ counts_text totals.frames totals.shown tcp udp totals.dns totals.http → totals ≡ totals_of plan past → tcp ≡ tcp_count past → udp ≡ udp_count past
+    → line ≡ self_run_line plan past
 unfolding self_run_line
-line_counted filter past totals tcp udp line is same streams conversations =
+line_counted plan past totals tcp udp line is same streams conversations =
     is
     ∙ ap (λ (t : Totals). counts_text t.frames t.shown tcp udp t.dns t.http) same
-    ∙ ap (λ (n : ℕ). counts_text (length past) (shown_count filter (trees_of past)) n udp (layer_count DNS (trees_of past)) (layer_count HTTP (trees_of past))) streams
-    ∙ ap (λ (n : ℕ). counts_text (length past) (shown_count filter (trees_of past)) (tcp_count past) n (layer_count DNS (trees_of past)) (layer_count HTTP (trees_of past))) conversations
+    ∙ ap (λ (n : ℕ). counts_text (length past) (shown_count plan (trees_of plan past)) n udp (layer_count DNS (trees_of plan past)) (layer_count HTTP (trees_of plan past))) streams
+    ∙ ap (λ (n : ℕ). counts_text (length past) (shown_count plan (trees_of plan past)) (tcp_count past) n (layer_count DNS (trees_of plan past)) (layer_count HTTP (trees_of plan past))) conversations
 
 -- the totals of frames are those that the line tells
 totals_with : (plan : Plan) (past : List Frame) (frame : Frame) →
-    with_tree (tree_at past frame) (satisfies (filter_of plan) (tree_at past frame)) (totals_of (filter_of plan) past) ≡ totals_of (filter_of plan) (frame ∷ past)
+    with_tree (tree_of plan past frame) (lets_frame plan past frame) (totals_of plan past) ≡ totals_of plan (frame ∷ past)
 totals_with plan past frame = refl
 
-totals_so_far : (plan : Plan) (past : List Frame) → is_generated plan ≡ true → counts_of plan past ≡ totals_of (filter_of plan) past
+totals_so_far : (plan : Plan) (past : List Frame) → is_generated plan ≡ true → counts_of plan past ≡ totals_of plan past
 totals_so_far plan [] is = refl
 totals_so_far plan (frame ∷ past) is =
-    ap (counts_with plan (tree_at past frame)) (totals_so_far plan past is)
-    ∙ ap (λ (b : Bool). if b then with_tree (tree_at past frame) (satisfies (filter_of plan) (tree_at past frame)) (totals_of (filter_of plan) past) else totals_of (filter_of plan) past) is
+    ap (counts_with plan (tree_of plan past frame)) (totals_so_far plan past is)
+    ∙ ap (λ (b : Bool). if b then with_tree (tree_of plan past frame) (lets_frame plan past frame) (totals_of plan past) else totals_of plan past) is
     ∙ totals_with plan past frame
 
-pub closing_counted : (plan : Plan) (line : List ℕ) (totals : Totals) (past : List Frame) → written_of plan ≡ None → is_generated plan ≡ true → totals ≡ counts_of plan past
-    → (totals ≡ totals_of (filter_of plan) past → line ≡ self_run_line (filter_of plan) past) → line ≡ closing plan past
-unfolding closing
-closing_counted plan line totals past lines is counted tells =
-    tells (counted ∙ totals_so_far plan past is)
-    ∙ sym (ap (λ (w : Option Format). closing_by w plan past) lines ∙ ap (λ (b : Bool). if b then self_run_line (filter_of plan) past else []) is)
+pub line_of_counts : (plan : Plan) (line : List ℕ) (totals : Totals) (past : List Frame) → is_generated plan ≡ true → totals ≡ counts_of plan past
+    → (totals ≡ totals_of plan past → line ≡ self_run_line plan past) → line ≡ counted_line plan past
+line_of_counts plan line totals past is counted tells =
+    tells (counted ∙ totals_so_far plan past is) ∙ sym (ap (λ (b : Bool). if b then self_run_line plan past else []) is)
 
-pub no_closing : (plan : Plan) (past : List Frame) → written_of plan ≡ None → is_generated plan ≡ false → closing plan past ≡ []
+pub no_counts : (plan : Plan) (past : List Frame) → is_generated plan ≡ false → counted_line plan past ≡ []
+no_counts plan past is = ap (λ (b : Bool). if b then self_run_line plan past else []) is
+
+-- where lines are written, the reports and the line of what was counted stand behind them
+closing_is : (plan : Plan) (past : List Frame) → written_of plan ≡ None → closing plan past ≡ reports_text plan past (reports_of plan) ++ counted_line plan past
 unfolding closing
-no_closing plan past lines is =
-    ap (λ (w : Option Format). closing_by w plan past) lines ∙ ap (λ (b : Bool). if b then self_run_line (filter_of plan) past else []) is
+closing_is plan past lines = ap (λ (w : Option Format). closing_by w plan past) lines
+
+pub behind_lines : (plan : Plan) (past : List Frame) (old now new : Option (List ℕ)) → written_of plan ≡ None
+    → Appends old now (reports_text plan past (reports_of plan)) → Appends now new (counted_line plan past) → Appends old new (closing plan past)
+behind_lines plan past old now new lines reported counted =
+    subst (λ (bytes : List ℕ). Appends old new bytes) (sym (closing_is plan past lines))
+    (Appends-trans old now new (reports_text plan past (reports_of plan)) (counted_line plan past) reported counted)
+
+pub behind_reports : (plan : Plan) (past : List Frame) (old now new : Option (List ℕ)) → written_of plan ≡ None
+    → Appends old now (reports_text plan past (reports_of plan)) → AppendsPart now new (counted_line plan past) → AppendsPart old new (closing plan past)
+behind_reports plan past old now new lines reported part =
+    subst (AppendsPart old new) (sym (closing_is plan past lines)) (part_after old now new (reports_text plan past (reports_of plan)) (counted_line plan past) reported part)
+
+pub among_reports : (plan : Plan) (past : List Frame) (old new : Option (List ℕ)) → written_of plan ≡ None
+    → AppendsPart old new (reports_text plan past (reports_of plan)) → AppendsPart old new (closing plan past)
+among_reports plan past old new lines part =
+    subst (AppendsPart old new) (sym (closing_is plan past lines)) (part_more old new (reports_text plan past (reports_of plan)) (counted_line plan past) part)
 
 -- nothing was written yet
-pub keeps_nothing : (written : Option Format) (plan : Plan) (t : Totals) (k : Kept) → t ≡ counts_of plan [] → k ≡ nothing_kept (unwrap_or written Pcapng) → Written k []
+pub keeps_nothing : (written : Option Format) (plan : Plan) (t : Notes) (k : Kept) → AreNotes plan [] t → k ≡ nothing_kept (unwrap_or written Pcapng) → Written k []
     → KeepsUp written plan [] t k
 keeps_nothing None plan t k counted is stands = counted
 keeps_nothing (Some format) plan t k counted is stands = (ap (λ (kept : Kept). kept.format) is, stands)
 
 -- what stands at the end is written
-pub closed_line : (plan : Plan) (d : DissectorShown) (t : Totals) (k : Kept) (now new : Option (List ℕ)) → written_of plan ≡ None
-    → ((past : List Frame) → StandsWithin past d → t ≡ counts_of plan past → Appends now new (closing plan past))
+pub closed_line : (plan : Plan) (d : DissectorShown) (t : Notes) (k : Kept) (now new : Option (List ℕ)) → written_of plan ≡ None
+    → ((past : List Frame) → StandsWithin past d → AreNotes plan past t → Appends now new (closing plan past))
     → (past : List Frame) → CanClose (written_of plan) plan past d t k → Appends now new (closing plan past)
 closed_line plan d t k now new is wrote past can =
     let both : CanClose None plan past d t k = subst (λ (w : Option Format). CanClose w plan past d t k) is can in wrote past both.0 both.1
 
-pub closed_line_part : (plan : Plan) (d : DissectorShown) (t : Totals) (k : Kept) (now new : Option (List ℕ)) → written_of plan ≡ None
-    → ((past : List Frame) → StandsWithin past d → t ≡ counts_of plan past → AppendsPart now new (closing plan past))
+pub closed_line_part : (plan : Plan) (d : DissectorShown) (t : Notes) (k : Kept) (now new : Option (List ℕ)) → written_of plan ≡ None
+    → ((past : List Frame) → StandsWithin past d → AreNotes plan past t → AppendsPart now new (closing plan past))
     → (past : List Frame) → CanClose (written_of plan) plan past d t k → AppendsPart now new (closing plan past)
 closed_line_part plan d t k now new is part past can =
     let both : CanClose None plan past d t k = subst (λ (w : Option Format). CanClose w plan past d t k) is can in part past both.0 both.1
 
-end_is : (format : Format) (plan : Plan) (past : List Frame) (d : DissectorShown) (t : Totals) (k : Kept) → written_of plan ≡ Some format
+end_is : (format : Format) (plan : Plan) (past : List Frame) (d : DissectorShown) (t : Notes) (k : Kept) → written_of plan ≡ Some format
     → CanClose (written_of plan) plan past d t k → end_at k ≡ closing plan past
 unfolding closing
 end_is format plan past d t k is can =
-    let writing : IsWriting (Some format) (filter_of plan) k past = subst (λ (w : Option Format). CanClose w plan past d t k) is can in
-    ap end_at (kept_is k (chosen_of (filter_of plan) past) writing.1 ∙ ap (λ (f : Format). kept_of f (chosen_of (filter_of plan) past)) writing.0)
+    let writing : IsWriting (Some format) plan k past = subst (λ (w : Option Format). CanClose w plan past d t k) is can in
+    ap end_at (kept_is k (chosen_of plan past) writing.1 ∙ ap (λ (f : Format). kept_of f (chosen_of plan past)) writing.0)
     ∙ sym (ap (λ (w : Option Format). closing_by w plan past) is)
 
-pub closed_capture : (format : Format) (plan : Plan) (d : DissectorShown) (t : Totals) (k : Kept) (now new : Option (List ℕ)) → written_of plan ≡ Some format
+pub closed_capture : (format : Format) (plan : Plan) (d : DissectorShown) (t : Notes) (k : Kept) (now new : Option (List ℕ)) → written_of plan ≡ Some format
     → Appends now new (end_at k) → (past : List Frame) → CanClose (written_of plan) plan past d t k → Appends now new (closing plan past)
 closed_capture format plan d t k now new is wrote past can = subst (λ (bytes : List ℕ). Appends now new bytes) (end_is format plan past d t k is can) wrote
 
-pub closed_capture_part : (format : Format) (plan : Plan) (d : DissectorShown) (t : Totals) (k : Kept) (now new : Option (List ℕ)) → written_of plan ≡ Some format
+pub closed_capture_part : (format : Format) (plan : Plan) (d : DissectorShown) (t : Notes) (k : Kept) (now new : Option (List ℕ)) → written_of plan ≡ Some format
     → AppendsPart now new (end_at k) → (past : List Frame) → CanClose (written_of plan) plan past d t k → AppendsPart now new (closing plan past)
 closed_capture_part format plan d t k now new is part past can = subst (AppendsPart now new) (end_is format plan past d t k is can) part
 
 -- behind the frames' lines all was written
-pub closed_whole : (plan : Plan) (told : Option (List ℕ)) (ending : RunEnding) (d : DissectorShown) (t : Totals) (k : Kept) (old now new : Option (List ℕ))
+pub closed_whole : (plan : Plan) (told : Option (List ℕ)) (ending : RunEnding) (d : DissectorShown) (t : Notes) (k : Kept) (old now new : Option (List ℕ))
     → IfSome told (λ file. WrotePieces plan (frames_read plan file) old now × (ending ≡ (frames_read plan file).ending))
     → IfSome told (λ file. HasRead plan file d t k)
     → ((past : List Frame) → CanClose (written_of plan) plan past d t k → Appends now new (closing plan past))
@@ -114,7 +132,7 @@ closed_whole plan (Some file) ending d t k old now new wrote read closed = (
 )
 
 -- a front of it was
-pub closed_part : (plan : Plan) (told : Option (List ℕ)) (ending : RunEnding) (d : DissectorShown) (t : Totals) (k : Kept) (old now new : Option (List ℕ))
+pub closed_part : (plan : Plan) (told : Option (List ℕ)) (ending : RunEnding) (d : DissectorShown) (t : Notes) (k : Kept) (old now new : Option (List ℕ))
     → IfSome told (λ file. WrotePieces plan (frames_read plan file) old now × (ending ≡ (frames_read plan file).ending))
     → IfSome told (λ file. HasRead plan file d t k)
     → ((past : List Frame) → CanClose (written_of plan) plan past d t k → AppendsPart now new (closing plan past))
@@ -124,7 +142,7 @@ closed_part plan (Some file) ending d t k old now new wrote read closed =
     part_after old now new (pieces plan [] (frames_read plan file).frames) (closing plan (reverse (frames_read plan file).frames)) wrote.0
     (closed (reverse (frames_read plan file).frames) read)
 
-pub closed_near : (plan : Plan) (told : Option (List ℕ)) (ending : RunEnding) (d : DissectorShown) (t : Totals) (k : Kept) (left old now new : Option (List ℕ))
+pub closed_near : (plan : Plan) (told : Option (List ℕ)) (ending : RunEnding) (d : DissectorShown) (t : Notes) (k : Kept) (left old now new : Option (List ℕ))
     → IfSome told (λ file. WrotePieces plan (frames_read plan file) old now × (ending ≡ (frames_read plan file).ending))
     → IfSome told (λ file. HasRead plan file d t k)
     → ((past : List Frame) → CanClose (written_of plan) plan past d t k → AppendsPart now new (closing plan past))

@@ -1,5 +1,5 @@
 -- Words ask for a plan or have a sure reason to be refused.
-use Rattle.std.proofs.Common.{◌≡◌, ◌≢◌, ◌⊎◌, inl, inr, ℕ, Bool, List, Option, None, Some, Result, Ok, Err, IsTrue, refl}
+use Rattle.std.proofs.Common.{◌≡◌, ◌≢◌, ◌⊎◌, inl, inr, ℕ, List, Option, None, Some, Result, Ok, Err, IsTrue, refl}
 use Rattle.flt_parse.specs.declared.fault.FilterFault.{FilterFault}
 use Rattle.flt_parse.specs.declared.fault.FilterError.TheVariants.{Fault}
 use Rattle.flt_parse.specs.declared.fault.FilterReason.{FilterReason}
@@ -51,12 +51,14 @@ with_names options filter (Ok fields) asked alone is =
       filter = filter;
       fields = fields;
       most = options.most;
+      decode = options.decode.rules;
+      reports = options.reports;
       kind = options.kind;
       style = options.style;
       quiet = options.quiet;
       written = options.written;
     } in
-    inl (plan, record { source = refl; filter = asked; fields = is; most = refl; kind = refl; style = refl; quiet = refl; written = refl })
+    inl (plan, record { source = refl; filter = asked; fields = is; most = refl; decode = refl; reports = refl; kind = refl; style = refl; quiet = refl; written = refl })
 with_names options filter (Err (refused.Field name)) asked alone is = inr (refused.Field name, ((filter, asked), is), tt)
 with_names options filter (Err reason) asked alone is = absurd alone
 

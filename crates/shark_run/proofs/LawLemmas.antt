@@ -6,12 +6,15 @@ use Rattle.capture_read.specs.declared.ending.Ending.{Ending}
 use Rattle.capture_write.specs.Kept.{end_at, fits, in_order, kept_of, piece_at, written}
 use Rattle.capture_write.specs.declared.format.Format.{Format}
 use Rattle.capture_read.specs.declared.frame.Frame.{Frame}
-use Rattle.dissect.specs.Trees.{tree_at}
 use Rattle.pk_tree.specs.Trees.{TreeShown}
 use Rattle.out_lines.specs.Lines.{field_line_of, header_of}
 use Rattle.out_lines.specs.declared.style.Style.{Style}
 use Rattle.shark_words.specs.declared.options.LineKind.{LineKind}
 use Rattle.shark_words.specs.declared.options.LineKind.TheVariants.{Text, Fields, Json}
+use Rattle.shark_words.specs.declared.options.Report.{Report}
+use Rattle.shark_words.specs.declared.options.Report.TheVariants.{Follow, Table}
+use Rattle.port_rules.specs.declared.rules.PortRule.{PortRule}
+use Rattle.dissect.specs.Trees.{tree_at}
 use Rattle.flt_parse.specs.declared.fault.FilterFault.{FilterFault}
 use Rattle.flt_parse.specs.declared.fault.FilterError.TheVariants.{Fault}
 use Rattle.flt_types.specs.Texts.{IsFilterFault}
@@ -33,9 +36,13 @@ use Rattle.shark_run.specs.Statuses.{status_of}
 use Rattle.shark_run.specs.Laws.{AreAlike, NeverBoth, OneReason, PlansAreAlike}
 use Rattle.shark_run.specs.declared.source.PlanSource.{PlanSource}
 use Rattle.shark_run.specs.Accessors.{is_quiet}
-use Rattle.shark_run.specs.Lines.{shown, piece, piece_by, pieces, is_headed, line_by, line_of, opening, opening_by, closing, closing_by, output_by, output_of}
+use Rattle.shark_run.specs.Lines.{shown, piece, piece_by, pieces, is_headed, line_by, line_of, opening, opening_by, closing, closing_by, counted_line, output_by, output_of}
+use Rattle.shark_run.specs.Reports.{report_text, reports_text}
 use Rattle.shark_run.specs.Satisfied.{satisfies}
-use Rattle.shark_run.specs.SelfRun.{line_with, self_run_line, shown_count, trees_of}
+use Rattle.shark_run.specs.Tables.{trees_let, trees_with}
+use Rattle.cap_stats.specs.Tables.{table_of}
+use Rattle.shark_run.specs.SelfRun.{line_with, self_run_line, shown_count}
+use Rattle.shark_run.specs.Trees.{lets, lets_frame, tree_of, trees_of}
 use Rattle.shark_run.specs.Source.{is_generated_by}
 use Rattle.shark_run.specs.Plan.{IsFaultAsked, IsFilterAsked, IsPlan, IsPlanFor, IsRefusal, IsRefusalFor}
 use Rattle.shark_run.specs.Reading.{file_by, file_of, fitting_of, limited, frames_read}
@@ -91,14 +98,34 @@ one_reason words (refused.Filter f) (refused.Field name) is also sure certain = 
 one_reason words (refused.Field name) (refused.Filter g) is also sure certain = one_of_options words (refused.Field name) (refused.Filter g) sure certain is also
 one_reason words (refused.Field name) (refused.Field known) is also sure certain = one_of_options words (refused.Field name) (refused.Field known) sure certain is also
 
--- the same source, the same kind of line, of the same fields, in the same style, or the same capture
+-- the same source, the same rules for ports, the same kind of line, of the same fields, in the same style, and the same reports, or
+-- the same capture
 pub record AreWrittenAlike (one other : Plan) : Type 0 where
   source : one.source ≡ other.source
+  decode : one.decode ≡ other.decode
+  reports : one.reports ≡ other.reports
   kind : one.kind ≡ other.kind
   fields : one.fields ≡ other.fields
   style : one.style ≡ other.style
   quiet : one.quiet ≡ other.quiet
   written : one.written ≡ other.written
+
+-- filters that let the same trees through
+abbrev LetAlike : Plan → Plan → Type 0
+LetAlike one other = (tree : TreeShown) → lets one tree ≡ lets other tree
+
+same_tree : (one other : Plan) (past : List Frame) (frame : Frame) → AreWrittenAlike one other → tree_of one past frame ≡ tree_of other past frame
+same_tree one other past frame alike = ap (λ (rules : List PortRule). tree_at rules past frame) alike.decode
+
+same_trees : (one other : Plan) (past : List Frame) → AreWrittenAlike one other → trees_of one past ≡ trees_of other past
+same_trees one other [] alike = refl
+same_trees one other (frame ∷ past) alike =
+    ap (λ (tree : TreeShown). tree ∷ trees_of one past) (same_tree one other past frame alike)
+    ∙ ap (λ (trees : List TreeShown). tree_of other past frame ∷ trees) (same_trees one other past alike)
+
+same_frame : (one other : Plan) (past : List Frame) (frame : Frame) → AreWrittenAlike one other → LetAlike one other
+    → lets_frame one past frame ≡ lets_frame other past frame
+same_frame one other past frame alike same = ap (lets one) (same_tree one other past frame alike) ∙ same (tree_of other past frame)
 
 same_quiet : (one other : Plan) → AreWrittenAlike one other → is_quiet one ≡ is_quiet other
 same_quiet one other alike =
@@ -111,70 +138,68 @@ same_line Json one other tree fields style = refl
 same_line Fields one other tree fields style =
     ap (λ (f : List ℕ). field_line_of f tree one.style) fields ∙ ap (λ (s : Style). field_line_of other.fields tree s) style
 
-same_shown : (one other : Plan) (tree : TreeShown) → AreWrittenAlike one other → satisfies one.filter tree ≡ satisfies other.filter tree
+same_shown : (one other : Plan) (tree : TreeShown) → AreWrittenAlike one other → lets one tree ≡ lets other tree
     → shown one tree ≡ shown other tree
 same_shown one other tree alike truth =
-    ap (λ (q : Bool). if q then [] else if satisfies one.filter tree then line_of one tree else []) (same_quiet one other alike)
+    ap (λ (q : Bool). if q then [] else if lets one tree then line_of one tree else []) (same_quiet one other alike)
     ∙ ap (λ (b : Bool). if is_quiet other then [] else if b then line_of one tree else []) truth
-    ∙ ap (λ (line : List ℕ). if is_quiet other then [] else if satisfies other.filter tree then line else [])
+    ∙ ap (λ (line : List ℕ). if is_quiet other then [] else if lets other tree then line else [])
     (ap (λ (k : LineKind). line_by k one tree) alike.kind ∙ same_line other.kind one other tree alike.fields alike.style)
 
--- filters that let the same trees through choose the same frames
-abbrev LetAlike : Option Typed → Option Typed → Type 0
-LetAlike one other = (tree : TreeShown) → satisfies one tree ≡ satisfies other tree
+-- such plans choose the same frames
+same_past : (one other : Plan) (past : List Frame) → AreWrittenAlike one other → LetAlike one other → chosen_of one past ≡ chosen_of other past
+same_past one other [] alike same = refl
+same_past one other (frame ∷ past) alike same =
+    ap (λ (shown : Bool). if_shown shown frame (chosen_of one past)) (same_frame one other past frame alike same)
+    ∙ ap (if_shown (lets_frame other past frame) frame) (same_past one other past alike same)
 
-same_past : (one other : Option Typed) (past : List Frame) → LetAlike one other → chosen_of one past ≡ chosen_of other past
-same_past one other [] same = refl
-same_past one other (frame ∷ past) same =
-    ap (λ (shown : Bool). if_shown shown frame (chosen_of one past)) (same (tree_at past frame))
-    ∙ ap (if_shown (satisfies other (tree_at past frame)) frame) (same_past one other past same)
+same_chosen : (one other : Plan) (past frames : List Frame) → AreWrittenAlike one other → LetAlike one other → chosen one past frames ≡ chosen other past frames
+same_chosen one other past [] alike same = refl
+same_chosen one other past (frame ∷ frames) alike same =
+    ap (λ (shown : Bool). if_shown shown frame (chosen one (frame ∷ past) frames)) (same_frame one other past frame alike same)
+    ∙ ap (if_shown (lets_frame other past frame) frame) (same_chosen one other (frame ∷ past) frames alike same)
 
-same_chosen : (one other : Option Typed) (past frames : List Frame) → LetAlike one other → chosen one past frames ≡ chosen other past frames
-same_chosen one other past [] same = refl
-same_chosen one other past (frame ∷ frames) same =
-    ap (λ (shown : Bool). if_shown shown frame (chosen one (frame ∷ past) frames)) (same (tree_at past frame))
-    ∙ ap (if_shown (satisfies other (tree_at past frame)) frame) (same_chosen one other (frame ∷ past) frames same)
-
-same_unfit_in : (format : Format) (one other : Option Typed) (past : List Frame) (frame : Frame) → LetAlike one other
+same_unfit_in : (format : Format) (one other : Plan) (past : List Frame) (frame : Frame) → AreWrittenAlike one other → LetAlike one other
     → is_unfit_in format one past frame ≡ is_unfit_in format other past frame
-same_unfit_in format one other past frame same =
-    ap (λ (shown : Bool). shown && not (fits format (in_order (chosen_of one past) (frame ∷ [])))) (same (tree_at past frame))
-    ∙ ap (λ (frames : List Frame). satisfies other (tree_at past frame) && not (fits format (in_order frames (frame ∷ [])))) (same_past one other past same)
+same_unfit_in format one other past frame alike same =
+    ap (λ (shown : Bool). shown && not (fits format (in_order (chosen_of one past) (frame ∷ [])))) (same_frame one other past frame alike same)
+    ∙ ap (λ (frames : List Frame). lets_frame other past frame && not (fits format (in_order frames (frame ∷ [])))) (same_past one other past alike same)
 
-same_unfit_by : (written : Option Format) (one other : Plan) (past : List Frame) (frame : Frame) → LetAlike one.filter other.filter
+same_unfit_by : (written : Option Format) (one other : Plan) (past : List Frame) (frame : Frame) → AreWrittenAlike one other → LetAlike one other
     → is_unfit_by written one past frame ≡ is_unfit_by written other past frame
-same_unfit_by None one other past frame same = refl
-same_unfit_by (Some format) one other past frame same = same_unfit_in format one.filter other.filter past frame same
+same_unfit_by None one other past frame alike same = refl
+same_unfit_by (Some format) one other past frame alike same = same_unfit_in format one other past frame alike same
 
-same_unfit : (one other : Plan) (past : List Frame) (frame : Frame) → one.written ≡ other.written → LetAlike one.filter other.filter
+same_unfit : (one other : Plan) (past : List Frame) (frame : Frame) → AreWrittenAlike one other → LetAlike one other
     → is_unfit one past frame ≡ is_unfit other past frame
-same_unfit one other past frame written same =
-    ap (λ (w : Option Format). is_unfit_by w one past frame) written ∙ same_unfit_by other.written one other past frame same
+same_unfit one other past frame alike same =
+    ap (λ (w : Option Format). is_unfit_by w one past frame) alike.written ∙ same_unfit_by other.written one other past frame alike same
 
-same_fitting : (one other : Plan) (past frames : List Frame) (ending : Ending) → one.written ≡ other.written → LetAlike one.filter other.filter
+same_fitting : (one other : Plan) (past frames : List Frame) (ending : Ending) → AreWrittenAlike one other → LetAlike one other
     → fitting one past frames ending ≡ fitting other past frames ending
-same_fitting one other past [] ending written same = refl
-same_fitting one other past (frame ∷ frames) ending written same =
-    ap (λ (unfit : Bool). if unfit then over (Unfit frame.number) else before frame (fitting one (frame ∷ past) frames ending)) (same_unfit one other past frame written same)
-    ∙ ap (λ (rest : FramesRead). if is_unfit other past frame then over (Unfit frame.number) else before frame rest) (same_fitting one other (frame ∷ past) frames ending written same)
+same_fitting one other past [] ending alike same = refl
+same_fitting one other past (frame ∷ frames) ending alike same =
+    ap (λ (unfit : Bool). if unfit then over (Unfit frame.number) else before frame (fitting one (frame ∷ past) frames ending)) (same_unfit one other past frame alike same)
+    ∙ ap (λ (rest : FramesRead). if is_unfit other past frame then over (Unfit frame.number) else before frame rest) (same_fitting one other (frame ∷ past) frames ending alike same)
 
-same_packet : (format : Format) (one other : Option Typed) (past : List Frame) (frame : Frame) → LetAlike one other
+same_packet : (format : Format) (one other : Plan) (past : List Frame) (frame : Frame) → AreWrittenAlike one other → LetAlike one other
     → packet_in format one past frame ≡ packet_in format other past frame
-same_packet format one other past frame same =
-    ap (λ (shown : Bool). if shown then piece_at (kept_of format (chosen_of one past)) frame else []) (same (tree_at past frame))
-    ∙ ap (λ (frames : List Frame). if satisfies other (tree_at past frame) then piece_at (kept_of format frames) frame else []) (same_past one other past same)
+same_packet format one other past frame alike same =
+    ap (λ (shown : Bool). if shown then piece_at (kept_of format (chosen_of one past)) frame else []) (same_frame one other past frame alike same)
+    ∙ ap (λ (frames : List Frame). if lets_frame other past frame then piece_at (kept_of format frames) frame else []) (same_past one other past alike same)
 
-same_piece_by : (written : Option Format) (one other : Plan) (past : List Frame) (frame : Frame) → AreWrittenAlike one other → LetAlike one.filter other.filter
+same_piece_by : (written : Option Format) (one other : Plan) (past : List Frame) (frame : Frame) → AreWrittenAlike one other → LetAlike one other
     → piece_by written one past frame ≡ piece_by written other past frame
-same_piece_by None one other past frame alike same = same_shown one other (tree_at past frame) alike (same (tree_at past frame))
-same_piece_by (Some format) one other past frame alike same = same_packet format one.filter other.filter past frame same
+same_piece_by None one other past frame alike same =
+    ap (shown one) (same_tree one other past frame alike) ∙ same_shown one other (tree_of other past frame) alike (same (tree_of other past frame))
+same_piece_by (Some format) one other past frame alike same = same_packet format one other past frame alike same
 
-same_piece : (one other : Plan) (past : List Frame) (frame : Frame) → AreWrittenAlike one other → LetAlike one.filter other.filter
+same_piece : (one other : Plan) (past : List Frame) (frame : Frame) → AreWrittenAlike one other → LetAlike one other
     → piece one past frame ≡ piece other past frame
 same_piece one other past frame alike same =
     ap (λ (w : Option Format). piece_by w one past frame) alike.written ∙ same_piece_by other.written one other past frame alike same
 
-same_pieces : (one other : Plan) (past frames : List Frame) → AreWrittenAlike one other → LetAlike one.filter other.filter
+same_pieces : (one other : Plan) (past frames : List Frame) → AreWrittenAlike one other → LetAlike one other
     → pieces one past frames ≡ pieces other past frames
 same_pieces one other past [] alike same = refl
 same_pieces one other past (frame ∷ frames) alike same =
@@ -211,51 +236,75 @@ same_opening : (one other : Plan) → AreWrittenAlike one other → opening one 
 unfolding opening
 same_opening one other alike = ap (λ (w : Option Format). opening_by w one) alike.written ∙ same_opening_by other.written one other alike
 
-same_count : (one other : Option Typed) (trees : List TreeShown) → ((tree : TreeShown) → satisfies one tree ≡ satisfies other tree)
-    → shown_count one trees ≡ shown_count other trees
+same_count : (one other : Plan) (trees : List TreeShown) → LetAlike one other → shown_count one trees ≡ shown_count other trees
 same_count one other [] same = refl
 same_count one other (tree ∷ trees) same =
     ap (λ (b : Bool). if b then suc (shown_count one trees) else shown_count one trees) (same tree)
-    ∙ ap (λ (n : ℕ). if satisfies other tree then suc n else n) (same_count one other trees same)
+    ∙ ap (λ (n : ℕ). if lets other tree then suc n else n) (same_count one other trees same)
 
-same_self_run : (one other : Option Typed) (past : List Frame) → ((tree : TreeShown) → satisfies one tree ≡ satisfies other tree)
-    → self_run_line one past ≡ self_run_line other past
+same_self_run : (one other : Plan) (past : List Frame) → AreWrittenAlike one other → LetAlike one other → self_run_line one past ≡ self_run_line other past
 unfolding self_run_line
-same_self_run one other past same =
-    ap (λ (shown : ℕ). line_with past shown) (same_count one other (trees_of past) same)
+same_self_run one other past alike same =
+    ap (λ (trees : List TreeShown). line_with past trees (shown_count one trees)) (same_trees one other past alike)
+    ∙ ap (line_with past (trees_of other past)) (same_count one other (trees_of other past) same)
 
-same_closing_by : (written : Option Format) (one other : Plan) (past : List Frame) → AreWrittenAlike one other → LetAlike one.filter other.filter
+same_counted : (one other : Plan) (past : List Frame) → AreWrittenAlike one other → LetAlike one other → counted_line one past ≡ counted_line other past
+same_counted one other past alike truth =
+    ap (λ (source : PlanSource). if is_generated_by source then self_run_line one past else []) alike.source
+    ∙ ap (λ (line : List ℕ). if is_generated_by other.source then line else []) (same_self_run one other past alike truth)
+
+same_let : (one other : Plan) (past : List Frame) → AreWrittenAlike one other → LetAlike one other → trees_let one past ≡ trees_let other past
+same_let one other [] alike same = refl
+same_let one other (frame ∷ past) alike same =
+    ap (λ (tree : TreeShown). trees_with one tree (trees_let one past)) (same_tree one other past frame alike)
+    ∙ ap (λ (shown : Bool). if shown then tree_of other past frame ∷ trees_let one past else trees_let one past) (same (tree_of other past frame))
+    ∙ ap (trees_with other (tree_of other past frame)) (same_let one other past alike same)
+
+same_report : (one other : Plan) (past : List Frame) (report : Report) → AreWrittenAlike one other → LetAlike one other
+    → report_text one past report ≡ report_text other past report
+same_report one other past (Follow stream) alike same = refl
+same_report one other past (Table kind) alike same = ap (table_of kind) (same_let one other past alike same)
+
+same_reports : (one other : Plan) (past : List Frame) (reports : List Report) → AreWrittenAlike one other → LetAlike one other
+    → reports_text one past reports ≡ reports_text other past reports
+same_reports one other past [] alike same = refl
+same_reports one other past (report ∷ reports) alike same =
+    ap (λ (text : List ℕ). text ++ reports_text one past reports) (same_report one other past report alike same)
+    ∙ ap (λ (text : List ℕ). report_text other past report ++ text) (same_reports one other past reports alike same)
+
+same_closing_by : (written : Option Format) (one other : Plan) (past : List Frame) → AreWrittenAlike one other → LetAlike one other
     → closing_by written one past ≡ closing_by written other past
 same_closing_by None one other past alike truth =
-    ap (λ (source : PlanSource). if is_generated_by source then self_run_line one.filter past else []) alike.source
-    ∙ ap (λ (line : List ℕ). if is_generated_by other.source then line else []) (same_self_run one.filter other.filter past truth)
+    ap (λ (reports : List Report). reports_text one past reports ++ counted_line one past) alike.reports
+    ∙ ap (λ (text : List ℕ). text ++ counted_line one past) (same_reports one other past other.reports alike truth)
+    ∙ ap (λ (line : List ℕ). reports_text other past other.reports ++ line) (same_counted one other past alike truth)
 same_closing_by (Some format) one other past alike truth =
-    ap (λ (frames : List Frame). end_at (kept_of format frames)) (same_past one.filter other.filter past truth)
+    ap (λ (frames : List Frame). end_at (kept_of format frames)) (same_past one other past alike truth)
 
-same_closing : (one other : Plan) (past : List Frame) → AreWrittenAlike one other → LetAlike one.filter other.filter → closing one past ≡ closing other past
+same_closing : (one other : Plan) (past : List Frame) → AreWrittenAlike one other → LetAlike one other → closing one past ≡ closing other past
 unfolding closing
 same_closing one other past alike truth =
     ap (λ (w : Option Format). closing_by w one past) alike.written ∙ same_closing_by other.written one other past alike truth
 
-same_output_by : (w : Option Format) (one other : Plan) (frames : List Frame) → AreWrittenAlike one other → LetAlike one.filter other.filter
+same_output_by : (w : Option Format) (one other : Plan) (frames : List Frame) → AreWrittenAlike one other → LetAlike one other
     → output_by w one frames ≡ output_by w other frames
 same_output_by None one other frames alike truth =
     ap (λ (start : List ℕ). start ++ (pieces one [] frames ++ closing one (reverse frames))) (same_opening one other alike)
     ∙ ap (λ (lines : List ℕ). opening other ++ (lines ++ closing one (reverse frames))) (same_pieces one other [] frames alike truth)
     ∙ ap (λ (end : List ℕ). opening other ++ (pieces other [] frames ++ end)) (same_closing one other (reverse frames) alike truth)
-same_output_by (Some format) one other frames alike truth = ap (written format) (same_chosen one.filter other.filter [] frames truth)
+same_output_by (Some format) one other frames alike truth = ap (written format) (same_chosen one other [] frames alike truth)
 
-same_output : (one other : Plan) (frames : List Frame) → AreWrittenAlike one other → LetAlike one.filter other.filter → output_of one frames ≡ output_of other frames
+same_output : (one other : Plan) (frames : List Frame) → AreWrittenAlike one other → LetAlike one other → output_of one frames ≡ output_of other frames
 unfolding output_of
 same_output one other frames alike truth =
     ap (λ (w : Option Format). output_by w one frames) alike.written ∙ same_output_by other.written one other frames alike truth
 
-same_read : (one other : Plan) (file : List ℕ) → one.most ≡ other.most → one.written ≡ other.written → LetAlike one.filter other.filter
+same_read : (one other : Plan) (file : List ℕ) → one.most ≡ other.most → AreWrittenAlike one other → LetAlike one other
     → frames_read one file ≡ frames_read other file
 unfolding frames_read
-same_read one other file most written same =
+same_read one other file most alike same =
     ap (λ (m : Option ℕ). fitting_of one (limited m (capture_of file))) most
-    ∙ same_fitting one other [] (limited other.most (capture_of file)).frames (limited other.most (capture_of file)).ending written same
+    ∙ same_fitting one other [] (limited other.most (capture_of file)).frames (limited other.most (capture_of file)).ending alike same
 
 -- the filters of a text let the same trees through
 same_truth : (text : Option (List ℕ)) (one other : Option Typed) (tree : TreeShown) → IsFilterAsked text one → IsFilterAsked text other
@@ -273,11 +322,11 @@ alike_for options one other is also =
     let both : Ok one.fields ≡ Ok other.fields = sym is.fields ∙ also.fields in
     let fields : one.fields ≡ other.fields = cc both in
     let alike : AreWrittenAlike one other
-    = record { source = is.source ∙ sym also.source; kind = is.kind ∙ sym also.kind; fields = fields; style = is.style ∙ sym also.style; quiet = is.quiet ∙ sym also.quiet; written = is.written ∙ sym also.written } in
+    = record { source = is.source ∙ sym also.source; decode = is.decode ∙ sym also.decode; reports = is.reports ∙ sym also.reports; kind = is.kind ∙ sym also.kind; fields = fields; style = is.style ∙ sym also.style; quiet = is.quiet ∙ sym also.quiet; written = is.written ∙ sym also.written } in
     let truth = λ (tree : TreeShown). same_truth options.filter one.filter other.filter tree is.filter also.filter in
     record {
       source = is.source ∙ sym also.source;
-      read = λ file. same_read one other file (is.most ∙ sym also.most) (is.written ∙ sym also.written) truth;
+      read = λ file. same_read one other file (is.most ∙ sym also.most) alike truth;
       lets = truth;
       written = λ frames. same_output one other frames alike truth;
     }

@@ -1,12 +1,16 @@
 mod ClosingLemmas
 mod CompleteLemmas
 mod EitherLemmas
+mod FollowLemmas
 mod FrontLemmas
+mod JsonLemmas
 mod LawLemmas
+mod NoteLemmas
 mod OpeningLemmas
 mod PacketLemmas
 mod PlanLemmas
-mod RuleLemmas
+mod ReportLemmas
+mod SummaryLemmas
 mod Together
 mod ToldLemmas
 mod TotalsLemmas

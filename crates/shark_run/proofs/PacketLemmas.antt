@@ -6,21 +6,19 @@ use Rattle.std.proofs.lemmas.List.{reverse-append}
 use Rattle.pk_outside.specs.Outside.{AppendsPart}
 use Rattle.pk_outside.proofs.Parts.{part_none}
 use Rattle.capture_read.specs.declared.frame.Frame.{Frame}
-use Rattle.capture_write.specs.Kept.{Adds, Kept, Stands, StandsAfter, end_at, fits, in_order, kept_of, kept_with, piece_at, written}
+use Rattle.capture_write.specs.Kept.{Adds, Kept, Stands, StandsAfter, kept_of, piece_at, written}
 use Rattle.capture_write.specs.declared.added.Added.TheVariants.{Bytes, Unfit}
 use Rattle.capture_write.specs.declared.format.Format.{Format}
 use Rattle.capture_write.proofs.KeptLaws.{bytes_from, whole-file}
-use Rattle.dissect.specs.Trees.{tree_at}
-use Rattle.flt_types.specs.declared.typed.Typed.{Typed}
 use Rattle.shark_run.specs.declared.plan.Plan.{Plan}
-use Rattle.shark_run.specs.declared.totals.Totals.{Totals}
-use Rattle.shark_run.specs.Accessors.{filter_of, written_of}
+use Rattle.shark_run.specs.declared.notes.Notes.{Notes}
+use Rattle.shark_run.specs.Accessors.{written_of}
 use Rattle.shark_run.specs.Chosen.{IsWriting, chosen, chosen_of, end_in, if_shown, packet_in}
-use Rattle.shark_run.specs.Fitting.{is_unfit, is_unfit_by}
+use Rattle.shark_run.specs.Fitting.{is_unfit_by}
 use Rattle.shark_run.specs.Lines.{closing, closing_by, piece, piece_by, pieces, shown}
-use Rattle.shark_run.specs.Satisfied.{satisfies}
-use Rattle.shark_run.specs.Steps.{IsAfterFrame, IsPacked, KeepsUp, fit_packet, fit_piece, is_unfit_behind, packet_behind}
-use Rattle.shark_run.specs.Totals.{counts_of, counts_with}
+use Rattle.shark_run.specs.Steps.{IsAfterFrame, IsPacked, KeepsUp, fit_packet, fit_piece}
+use Rattle.shark_run.specs.Notes.{AreNotes}
+use Rattle.shark_run.specs.Trees.{lets_frame, tree_of}
 
 -- a frame that isn't chosen
 pub packed_left : (shown : Bool) (frame : Frame) (kept : Kept) (now : Option (List ℕ)) → shown ≡ false
@@ -86,71 +84,71 @@ part_truly shown truth format frame chosen before now same part =
     subst (λ (b : Bool). AppendsPart before now (fit_packet b format chosen frame)) same part
 
 -- the same of a run
-pub frame_packed : (fit : Bool) (format : Format) (plan : Plan) (past : List Frame) (frame : Frame) (t counts : Totals) (old new : Kept) (before now : Option (List ℕ))
+pub frame_packed : (fit : Bool) (format : Format) (plan : Plan) (past : List Frame) (frame : Frame) (t counts : Notes) (old new : Kept) (before now : Option (List ℕ))
     → written_of plan ≡ Some format → KeepsUp (written_of plan) plan past t old
-    → (Stands old (chosen_of (filter_of plan) past)
-    → IsPacked fit (satisfies (filter_of plan) (tree_at past frame)) old.format frame new (chosen_of (filter_of plan) past) before now)
+    → (Stands old (chosen_of plan past)
+    → IsPacked fit (lets_frame plan past frame) old.format frame new (chosen_of plan past) before now)
     → IsAfterFrame fit plan past frame counts new before now
 frame_packed true format plan past frame t counts old new before now is keeps packs =
-    let writing : IsWriting (Some format) (filter_of plan) old past = subst (λ (w : Option Format). KeepsUp w plan past t old) is keeps in
-    let packed : IsPacked true (satisfies (filter_of plan) (tree_at past frame)) format frame new (chosen_of (filter_of plan) past) before now
-    = subst (λ (f : Format). IsPacked true (satisfies (filter_of plan) (tree_at past frame)) f frame new (chosen_of (filter_of plan) past) before now) writing.0 (packs writing.1) in
+    let writing : IsWriting (Some format) plan old past = subst (λ (w : Option Format). KeepsUp w plan past t old) is keeps in
+    let packed : IsPacked true (lets_frame plan past frame) format frame new (chosen_of plan past) before now
+    = subst (λ (f : Format). IsPacked true (lets_frame plan past frame) f frame new (chosen_of plan past) before now) writing.0 (packs writing.1) in
     record {
       fit = ap (λ (w : Option Format). is_unfit_by w plan past frame) is ∙ packed.0;
       keeps = subst (λ (w : Option Format). KeepsUp w plan (frame ∷ past) counts new) (sym is) (packed.1, packed.2);
       wrote = subst (λ (w : Option Format). Appends before now (piece_by w plan past frame)) (sym is) packed.3;
     }
 frame_packed false format plan past frame t counts old new before now is keeps packs =
-    let writing : IsWriting (Some format) (filter_of plan) old past = subst (λ (w : Option Format). KeepsUp w plan past t old) is keeps in
-    let packed : IsPacked false (satisfies (filter_of plan) (tree_at past frame)) format frame new (chosen_of (filter_of plan) past) before now
-    = subst (λ (f : Format). IsPacked false (satisfies (filter_of plan) (tree_at past frame)) f frame new (chosen_of (filter_of plan) past) before now) writing.0 (packs writing.1) in (
+    let writing : IsWriting (Some format) plan old past = subst (λ (w : Option Format). KeepsUp w plan past t old) is keeps in
+    let packed : IsPacked false (lets_frame plan past frame) format frame new (chosen_of plan past) before now
+    = subst (λ (f : Format). IsPacked false (lets_frame plan past frame) f frame new (chosen_of plan past) before now) writing.0 (packs writing.1) in (
       ap (λ (w : Option Format). is_unfit_by w plan past frame) is ∙ packed.0,
       subst (λ (w : Option Format). KeepsUp w plan past counts new) (sym is) (packed.1, packed.2),
       packed.3,
     )
 
-pub part_packed : (format : Format) (plan : Plan) (past : List Frame) (frame : Frame) (t : Totals) (old : Kept) (before now : Option (List ℕ))
+pub part_packed : (format : Format) (plan : Plan) (past : List Frame) (frame : Frame) (t : Notes) (old : Kept) (before now : Option (List ℕ))
     → written_of plan ≡ Some format → KeepsUp (written_of plan) plan past t old
-    → (Stands old (chosen_of (filter_of plan) past)
-    → AppendsPart before now (fit_packet (satisfies (filter_of plan) (tree_at past frame)) old.format (chosen_of (filter_of plan) past) frame))
+    → (Stands old (chosen_of plan past)
+    → AppendsPart before now (fit_packet (lets_frame plan past frame) old.format (chosen_of plan past) frame))
     → AppendsPart before now (fit_piece plan past frame)
 part_packed format plan past frame t old before now is keeps part =
-    let writing : IsWriting (Some format) (filter_of plan) old past = subst (λ (w : Option Format). KeepsUp w plan past t old) is keeps in
+    let writing : IsWriting (Some format) plan old past = subst (λ (w : Option Format). KeepsUp w plan past t old) is keeps in
     subst (λ (w : Option Format). AppendsPart before now (if is_unfit_by w plan past frame then [] else piece_by w plan past frame)) (sym is)
-    (subst (λ (f : Format). AppendsPart before now (fit_packet (satisfies (filter_of plan) (tree_at past frame)) f (chosen_of (filter_of plan) past) frame)) writing.0 (part writing.1))
+    (subst (λ (f : Format). AppendsPart before now (fit_packet (lets_frame plan past frame) f (chosen_of plan past) frame)) writing.0 (part writing.1))
 
 -- lines of frames
-pub frame_shown : (plan : Plan) (past : List Frame) (frame : Frame) (t counts : Totals) (old new : Kept) (before now : Option (List ℕ))
-    → written_of plan ≡ None → KeepsUp (written_of plan) plan past t old → counts ≡ counts_with plan (tree_at past frame) t
-    → Appends before now (shown plan (tree_at past frame)) → IsAfterFrame true plan past frame counts new before now
-frame_shown plan past frame t counts old new before now is keeps counted wrote = record {
+pub frame_shown : (plan : Plan) (past : List Frame) (frame : Frame) (t counts : Notes) (old new : Kept) (before now : Option (List ℕ))
+    → written_of plan ≡ None → KeepsUp (written_of plan) plan past t old → (AreNotes plan past t → AreNotes plan (frame ∷ past) counts)
+    → Appends before now (shown plan (tree_of plan past frame)) → IsAfterFrame true plan past frame counts new before now
+frame_shown plan past frame t counts old new before now is keeps noted wrote = record {
   fit = ap (λ (w : Option Format). is_unfit_by w plan past frame) is;
   keeps = subst (λ (w : Option Format). KeepsUp w plan (frame ∷ past) counts new) (sym is)
-      (counted ∙ ap (counts_with plan (tree_at past frame)) (subst (λ (w : Option Format). KeepsUp w plan past t old) is keeps));
+      (noted (subst (λ (w : Option Format). KeepsUp w plan past t old) is keeps));
   wrote = subst (λ (w : Option Format). Appends before now (piece_by w plan past frame)) (sym is) wrote;
 }
 
 pub part_shown : (plan : Plan) (past : List Frame) (frame : Frame) (before now : Option (List ℕ)) → written_of plan ≡ None
-    → AppendsPart before now (shown plan (tree_at past frame)) → AppendsPart before now (fit_piece plan past frame)
+    → AppendsPart before now (shown plan (tree_of plan past frame)) → AppendsPart before now (fit_piece plan past frame)
 part_shown plan past frame before now is part =
     subst (λ (w : Option Format). AppendsPart before now (if is_unfit_by w plan past frame then [] else piece_by w plan past frame)) (sym is) part
 
 -- the pieces of the frames chosen, and those of the end, are the file of these frames
-packets : Format → Option Typed → List Frame → List Frame → List ℕ
-packets format filter past [] = end_in format filter past
-packets format filter past (frame ∷ frames) = packet_in format filter past frame ++ packets format filter (frame ∷ past) frames
+packets : Format → Plan → List Frame → List Frame → List ℕ
+packets format plan past [] = end_in format plan past
+packets format plan past (frame ∷ frames) = packet_in format plan past frame ++ packets format plan (frame ∷ past) frames
 
-packets_chosen : (format : Format) (filter : Option Typed) (past frames : List Frame)
-    → packets format filter past frames ≡ bytes_from (kept_of format (chosen_of filter past)) (chosen filter past frames)
+packets_chosen : (format : Format) (plan : Plan) (past frames : List Frame)
+    → packets format plan past frames ≡ bytes_from (kept_of format (chosen_of plan past)) (chosen plan past frames)
 unfolding packets
-packets_chosen format filter past [] = refl
-packets_chosen format filter past (frame ∷ frames) =
-    ap (λ (rest : List ℕ). packet_in format filter past frame ++ rest) (packets_chosen format filter (frame ∷ past) frames)
-    ∙ by (satisfies filter (tree_at past frame))
+packets_chosen format plan past [] = refl
+packets_chosen format plan past (frame ∷ frames) =
+    ap (λ (rest : List ℕ). packet_in format plan past frame ++ rest) (packets_chosen format plan (frame ∷ past) frames)
+    ∙ by (lets_frame plan past frame)
   where
-    by : (shown : Bool) → (if shown then piece_at (kept_of format (chosen_of filter past)) frame else [])
-        ++ bytes_from (kept_of format (if_shown shown frame (chosen_of filter past))) (chosen filter (frame ∷ past) frames)
-        ≡ bytes_from (kept_of format (chosen_of filter past)) (if_shown shown frame (chosen filter (frame ∷ past) frames))
+    by : (shown : Bool) → (if shown then piece_at (kept_of format (chosen_of plan past)) frame else [])
+        ++ bytes_from (kept_of format (if_shown shown frame (chosen_of plan past))) (chosen plan (frame ∷ past) frames)
+        ≡ bytes_from (kept_of format (chosen_of plan past)) (if_shown shown frame (chosen plan (frame ∷ past) frames))
     by true = refl
     by false = refl
 
@@ -159,19 +157,19 @@ reverse_more frame frames past =
     ap (λ (all : List Frame). all ++ past) (reverse-append (frame ∷ []) frames) ∙ append_assoc (reverse frames) (frame ∷ []) past
 
 pieces_packets : (format : Format) (plan : Plan) (past frames : List Frame) → written_of plan ≡ Some format
-    → pieces plan past frames ++ closing plan (reverse frames ++ past) ≡ packets format (filter_of plan) past frames
+    → pieces plan past frames ++ closing plan (reverse frames ++ past) ≡ packets format plan past frames
 unfolding packets closing
 pieces_packets format plan past [] is = ap (λ (w : Option Format). closing_by w plan past) is
 pieces_packets format plan past (frame ∷ frames) is =
     append_assoc (piece plan past frame) (pieces plan (frame ∷ past) frames) (closing plan (reverse (frame ∷ frames) ++ past))
     ∙ ap (λ (end : List Frame). piece plan past frame ++ (pieces plan (frame ∷ past) frames ++ closing plan end)) (reverse_more frame frames past)
     ∙ ap (λ (rest : List ℕ). piece plan past frame ++ rest) (pieces_packets format plan (frame ∷ past) frames is)
-    ∙ ap (λ (w : Option Format). piece_by w plan past frame ++ packets format (filter_of plan) (frame ∷ past) frames) is
+    ∙ ap (λ (w : Option Format). piece_by w plan past frame ++ packets format plan (frame ∷ past) frames) is
 
 pub written_whole : (format : Format) (plan : Plan) (frames : List Frame) → written_of plan ≡ Some format
-    → written format (chosen (filter_of plan) [] frames) ≡ pieces plan [] frames ++ closing plan (reverse frames)
+    → written format (chosen plan [] frames) ≡ pieces plan [] frames ++ closing plan (reverse frames)
 written_whole format plan frames is =
-    sym (whole-file format (chosen (filter_of plan) [] frames))
-    ∙ sym (packets_chosen format (filter_of plan) [] frames)
+    sym (whole-file format (chosen plan [] frames))
+    ∙ sym (packets_chosen format plan [] frames)
     ∙ sym (pieces_packets format plan [] frames is)
     ∙ ap (λ (past : List Frame). pieces plan [] frames ++ closing plan past) (append-nil (reverse frames))

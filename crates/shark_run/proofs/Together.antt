@@ -1,14 +1,15 @@
 -- A reader and a dissector that go through a file together: the dissector can take what the reader answers.
-use Rattle.std.proofs.Common.{◌≡◌, ◌≤◌, ℕ, ◌+◌, ◌^◌, length, arith}
+use Rattle.std.proofs.Common.{◌≡◌, ◌≤◌, ℕ, ◌+◌, ◌^◌, List, length, arith}
 use Rattle.std.specs.Prelude.{IfSome}
 use Rattle.pk_base.specs.Limits.{file_limit}
 use Rattle.capture_read.specs.Answers.{IsCounted}
 use Rattle.capture_read.specs.Reader.{Reader}
 use Rattle.capture_read.specs.declared.frame.Frame.{Frame}
-use Rattle.dissect.specs.Stands.{DissectorShown}
+use Rattle.dissect.specs.Stands.{DissectorShown, StandsWithin}
 use Rattle.capture_read.specs.FrameList.{IsTime}
-use Rattle.shark_run.specs.declared.totals.Totals.{Totals}
-use Rattle.shark_run.specs.Totals.{AreFew}
+use Rattle.shark_run.specs.declared.notes.Notes.{Notes}
+use Rattle.shark_run.specs.Notes.{AreFewNotes}
+use Rattle.shark_run.specs.Reports.{HasTaken}
 use Rattle.shark_run.proofs.TotalsLemmas.{few_more}
 
 pub record AreTogether (r : Reader) (d : DissectorShown) : Type 0 where
@@ -22,8 +23,12 @@ unfolding file_limit
 below_limit n few = few
 
 -- what was counted of the frames taken
-pub few_taken : (r : Reader) (d : DissectorShown) (t : Totals) → AreTogether r d → AreFew d.taken t → AreFew (2 ^ 28) t
-few_taken r d t are few = few_more d.taken (2 ^ 28) t (omega (arith, are.taken, below_limit r.at are.limit)) few
+pub few_taken : (r : Reader) (d : DissectorShown) (t : Notes) → AreTogether r d → AreFewNotes d.taken t → AreFewNotes (2 ^ 28) t
+few_taken r d t are few = few_more d.taken (2 ^ 28) t.totals (omega (arith, are.taken, below_limit r.at are.limit)) few
+
+-- the dissector has taken frames
+pub has_taken : (r : Reader) (d : DissectorShown) → AreTogether r d → (stands : (past : List Frame) × StandsWithin past d) → HasTaken d
+has_taken r d are stands = (stands.0, stands.1, omega (arith, are.taken, are.limit))
 
 -- the next frame can be taken
 pub takeable : (r after : Reader) (d : DissectorShown) (frame : Frame) → AreTogether r d → IsCounted frame r after → after.at ≤ file_limit

@@ -1,5 +1,5 @@
 -- How many frames and layers were counted.
-use Rattle.std.proofs.Common.{◌≡◌, ◌≤◌, ◌<◌, ◌+◌, ◌*◌, ◌^◌, ℕ, suc, Bool, true, false, [], refl, sym, subst, if◌then◌else◌, arith}
+use Rattle.std.proofs.Common.{◌≡◌, ◌≤◌, ◌<◌, ◌+◌, ◌^◌, ℕ, suc, Bool, true, false, [], sym, subst, if◌then◌else◌, arith}
 use Rattle.pk_fields.specs.Ids.{DNS, HTTP}
 use Rattle.pk_tree.specs.Trees.{TreeShown, layers_of}
 use Rattle.shark_run.specs.declared.totals.Totals.{Totals}

@@ -1,28 +1,41 @@
 -- A tree that has only the wanted items is shown as the whole tree.
-use Rattle.std.proofs.Common.{◌≡◌, ◌==◌, ◌||◌, ◌<◌, ◌+◌, ℕ, zero, suc, Bool, true, false, List, [], ◌∷◌, length, map, get_or, Option, Some, None, refl, sym, ap, ◌∙◌, subst, arith, if◌then◌else◌}
+use Rattle.std.proofs.Common.{◌≡◌, ◌⊎◌, ⊎_elim, inl, inr, ◌==◌, ◌||◌, not, ◌<◌, ◌+◌, ℕ, suc, Bool, true, false, List, [], ◌∷◌, length, map, get_or, Option, Some, None, refl, sym, ap, ◌∙◌, subst, arith, if◌then◌else◌}
 use Rattle.std.specs.List.{AllByRecursion as Each}
-use Rattle.std.proofs.lemmas.Bool.{eq-eqb}
-use Rattle.std.specs.Prelude.{cond, IsSome}
-use Rattle.std.specs.List.{fold}
+use Rattle.std.proofs.lemmas.Bool.{eq-eqb, ne_eqb}
+use Rattle.std.specs.Prelude.{cond, IfOk, IsSome, Result, Ok, Err}
+use Rattle.std.specs.List.{fold, list_any}
 use Rattle.pk_fields.specs.Fields.{row_of}
 use Rattle.pk_fields.specs.FieldSets.{is_in, every_field}
 use Rattle.pk_fields.specs.Ids.{DNS, HTTP, TCP_STREAM, TCP_SEQ, TCP_ACK, TCP_LOST}
 use Rattle.pk_tree.specs.Trees.{TreeShown, IsKept, kept_layer, kept_tree, layers_of}
 use Rattle.pk_tree.specs.declared.layer.Layer.{Layer}
 use Rattle.pk_tree.proofs.KeptTrees.{all_kept}
+use Rattle.cap_stats.specs.Laws.{fields_of as table_fields}
+use Rattle.cap_stats.specs.declared.kind.StatKind.{StatKind}
+use Rattle.cap_stats.specs.declared.kind.StatKind.TheVariants.{ConvTcp, ConvIp, Phs}
+use Rattle.capture_read.specs.declared.frame.Frame.{Frame}
 use Rattle.dissect.specs.Followed.{asks_messages, asks_streams, HasSameValues}
+use Rattle.dissect.specs.Stands.{DissectorShown, StandsWithin}
+use Rattle.dissect.specs.Trees.{tree_at}
+use Rattle.port_rules.specs.declared.rules.PortRule.{PortRule}
+use Rattle.capture_write.specs.declared.format.Format.{Format}
 use Rattle.shark_words.specs.declared.options.LineKind.{LineKind}
 use Rattle.shark_words.specs.declared.options.LineKind.TheVariants.{Text, Fields, Json}
+use Rattle.shark_words.specs.declared.options.Report.{Report}
 use Rattle.out_lines.proofs.KeptLines.{line_alike}
+use Rattle.out_lines.specs.Summary.{summary_of}
 use Rattle.flt_types.specs.declared.typed.Typed.{Typed}
 use Rattle.flt_mean.proofs.KeptMeaning.{meaning_alike}
 use Rattle.shark_run.specs.declared.plan.Plan.{Plan}
 use Rattle.shark_run.specs.declared.totals.Totals.{Totals}
-use Rattle.shark_run.specs.Accessors.{is_generated, is_quiet, written_of}
+use Rattle.shark_run.specs.Accessors.{is_generated, is_quiet, needs_streams, reports_of, rules_of, written_of}
 use Rattle.shark_run.specs.Lines.{line_by, line_of, shown}
 use Rattle.shark_run.specs.Satisfied.{satisfies}
+use Rattle.shark_run.specs.Tables.{asks_table, asks_tables, is_table_of}
 use Rattle.shark_run.specs.Totals.{counts_with, with_tree}
-use Rattle.shark_run.specs.Wanted.{HasAsked, HasFields, HasPlan, IsMadeFor, IsEnough}
+use Rattle.shark_run.specs.Trees.{lets, lets_frame, tree_of}
+use Rattle.shark_run.proofs.SummaryLemmas.{summary_same}
+use Rattle.shark_run.specs.Wanted.{HasAsked, HasFields, HasPlan, HasTables, IsMadeFor, IsEnough, IsNotedAs, shows_whole, shows_whole_by, summary_fields, sums_up, sums_up_by}
 
 -- a set that grows still has what a filter asks for
 pub still_asked : (old new : List ℕ) (filter : Option Typed) → HasAsked old filter → ((f : ℕ) → is_in old f ≡ true → is_in new f ≡ true) →
@@ -47,16 +60,33 @@ pub each_at : (P : ℕ → Type 0) (xs : List ℕ) → ((k : ℕ) → k < length
 each_at P [] at = tt
 each_at P (x ∷ xs) at = (at 0 (omega arith), each_at P xs (λ k below. at (suc k) (omega arith)))
 
-grown_columns : (old new fields : List ℕ) → HasFields old fields → ((f : ℕ) → is_in old f ≡ true → is_in new f ≡ true) → HasFields new fields
+pub grown_columns : (old new fields : List ℕ) → HasFields old fields → ((f : ℕ) → is_in old f ≡ true → is_in new f ≡ true) → HasFields new fields
 grown_columns old new [] has grown = tt
 grown_columns old new (field ∷ fields) has grown = (grown field has.0, grown_columns old new fields has.1 grown)
 
 -- a set that grows still has what a plan asks for
-pub grown_plan : (old new : List ℕ) (plan : Plan) → HasPlan old plan → ((f : ℕ) → is_in new f ≡ (f == TCP_STREAM || (f == (row_of TCP_STREAM).proto || is_in old f))) → HasPlan new plan
-grown_plan old new plan has added = record {
-  filter = still_asked old new plan.filter has.filter (λ f is. added_before TCP_STREAM (row_of TCP_STREAM).proto f (is_in old f) (is_in new f) (added f) is);
-  columns = grown_columns old new plan.fields has.columns (λ f is. added_before TCP_STREAM (row_of TCP_STREAM).proto f (is_in old f) (is_in new f) (added f) is);
+pub grown_plan : (old new : List ℕ) (plan : Plan) → HasPlan old plan → ((f : ℕ) → is_in old f ≡ true → is_in new f ≡ true) → HasPlan new plan
+grown_plan old new plan has grown = record {
+  filter = still_asked old new plan.filter has.filter grown;
+  columns = grown_columns old new plan.fields has.columns grown;
+  summary = λ summed. grown_columns old new summary_fields (has.summary summed) grown;
 }
+
+pub grown_tables : (old new : List ℕ) (plan : Plan) → HasTables old plan → ((f : ℕ) → is_in old f ≡ true → is_in new f ≡ true) → HasTables new plan
+grown_tables old new plan has grown = λ kind asked. grown_columns old new (table_fields kind) (has kind asked) grown
+
+pub stream_grown : (old new : List ℕ) → ((f : ℕ) → is_in new f ≡ (f == TCP_STREAM || (f == (row_of TCP_STREAM).proto || is_in old f)))
+    → (f : ℕ) → is_in old f ≡ true → is_in new f ≡ true
+stream_grown old new added f is = added_before TCP_STREAM (row_of TCP_STREAM).proto f (is_in old f) (is_in new f) (added f) is
+
+-- the fields of the tables of all kinds, added one after the other
+pub each_table : (one two new : List ℕ) (plan : Plan) → (asks_table plan ConvTcp ≡ true → HasFields one (table_fields ConvTcp))
+    → ((f : ℕ) → is_in one f ≡ true → is_in two f ≡ true) → (asks_table plan ConvIp ≡ true → HasFields two (table_fields ConvIp))
+    → ((f : ℕ) → is_in two f ≡ true → is_in new f ≡ true) → (asks_table plan Phs ≡ true → HasFields new (table_fields Phs)) → HasTables new plan
+each_table one two new plan tcp grown ip grown_on phs ConvTcp asked =
+    grown_columns one new (table_fields ConvTcp) (tcp asked) (λ f is. grown_on f (grown f is))
+each_table one two new plan tcp grown ip grown_on phs ConvIp asked = grown_columns two new (table_fields ConvIp) (ip asked) grown_on
+each_table one two new plan tcp grown ip grown_on phs Phs asked = phs asked
 
 -- where the number of a stream is asked, so are streams
 pub stream_asked : (old new : List ℕ) → ((f : ℕ) → is_in new f ≡ (f == TCP_STREAM || (f == (row_of TCP_STREAM).proto || is_in old f))) → asks_streams new ≡ true
@@ -78,28 +108,74 @@ line_same wanted plan Fields t u same is has = line_alike wanted plan.fields t u
 shown_same : (wanted : List ℕ) (plan : Plan) (t u : TreeShown) → HasSameValues wanted t u → plan.kind ≡ Fields → HasPlan wanted plan → shown plan u ≡ shown plan t
 shown_same wanted plan t u same is has =
     ap (λ (truth : Bool). if is_quiet plan then [] else if truth then line_of plan u else []) (satisfies_same wanted plan.filter t u same has.filter)
-    ∙ ap (λ (line : List ℕ). if is_quiet plan then [] else if satisfies plan.filter t then line else []) (line_same wanted plan plan.kind t u same is has)
+    ∙ ap (λ (line : List ℕ). if is_quiet plan then [] else if lets plan t then line else []) (line_same wanted plan plan.kind t u same is has)
 
 -- all fields are the whole tree
 streams_asked : asks_streams every_field ≡ true
 unfolding asks_streams is_in
 streams_asked = refl
 
-shown_all : (wanted : List ℕ) (plan : Plan) (whole tree : TreeShown) → wanted ≡ every_field → IsMadeFor wanted whole tree → shown plan tree ≡ shown plan whole
-shown_all wanted plan whole tree all made =
-    ap (shown plan) (all_kept whole tree (subst (λ (fields : List ℕ). IsKept fields whole tree) all (made.kept (ap asks_streams all ∙ streams_asked))))
+tree_all : (wanted : List ℕ) (whole tree : TreeShown) → wanted ≡ every_field → IsMadeFor wanted whole tree → tree ≡ whole
+tree_all wanted whole tree all made =
+    all_kept whole tree (subst (λ (fields : List ℕ). IsKept fields whole tree) all (made.kept (ap asks_streams all ∙ streams_asked)))
 
 -- where no lines of frames are written, every tree is shown alike
 shown_quiet : (plan : Plan) (one other : TreeShown) → is_quiet plan ≡ true → shown plan one ≡ shown plan other
 shown_quiet plan one other is =
-    ap (λ (quiet : Bool). if quiet then [] else if satisfies plan.filter one then line_of plan one else []) is
-    ∙ sym (ap (λ (quiet : Bool). if quiet then [] else if satisfies plan.filter other then line_of plan other else []) is)
+    ap (λ (quiet : Bool). if quiet then [] else if lets plan one then line_of plan one else []) is
+    ∙ sym (ap (λ (quiet : Bool). if quiet then [] else if lets plan other then line_of plan other else []) is)
 
-quiet_generated : (plan : Plan) → is_generated plan ≡ true → is_quiet plan ≡ true
-quiet_generated plan is = ap (λ (generated : Bool). generated || plan.quiet) is
+quiet_asked : (plan : Plan) → plan.quiet ≡ true → is_quiet plan ≡ true
+quiet_asked plan is = ap (λ (quiet : Bool). is_generated plan || quiet) is ∙ or_true (is_generated plan)
+  where
+    or_true : (b : Bool) → (b || true) ≡ true
+    or_true true = refl
+    or_true false = refl
 
-quiet_asked : (plan : Plan) → is_generated plan ≡ false → plan.quiet ≡ true → is_quiet plan ≡ true
-quiet_asked plan not_generated is = ap (λ (generated : Bool). generated || plan.quiet) not_generated ∙ is
+-- where no whole trees are shown: no lines, columns, or lines that sum up frames
+data WhichLines (plan : Plan) : Type 0 where
+  NoLines : is_quiet plan ≡ true → WhichLines plan
+  Columns : plan.kind ≡ Fields → WhichLines plan
+  Summaries : is_quiet plan ≡ false → plan.kind ≡ Text → WhichLines plan
+
+not_whole : (plan : Plan) (quiet : Bool) (kind : LineKind) → is_quiet plan ≡ quiet → plan.kind ≡ kind → shows_whole_by None quiet kind ≡ false → WhichLines plan
+not_whole plan true kind is_quiet_so is_kind is = NoLines is_quiet_so
+not_whole plan false Fields is_quiet_so is_kind is = Columns is_kind
+not_whole plan false Text is_quiet_so is_kind is = Summaries is_quiet_so is_kind
+not_whole plan false Json is_quiet_so is_kind is = absurd (cc is)
+
+which_lines : (plan : Plan) → written_of plan ≡ None → shows_whole plan ≡ false → WhichLines plan
+which_lines plan lines is =
+    not_whole plan (is_quiet plan) plan.kind refl refl
+    (sym (ap (λ (w : Option Format). shows_whole_by w (is_quiet plan) plan.kind) lines) ∙ is)
+
+-- where lines sum up frames
+summed_up : (plan : Plan) → written_of plan ≡ None → is_quiet plan ≡ false → plan.kind ≡ Text → sums_up plan ≡ true
+summed_up plan lines loud text =
+    ap (λ (w : Option Format). sums_up_by w (is_quiet plan) plan.kind) lines
+    ∙ ap (λ (quiet : Bool). sums_up_by None quiet plan.kind) loud ∙ ap (λ (kind : LineKind). sums_up_by None false kind) text
+
+summary_shown : (wanted : List ℕ) (plan : Plan) (t u : TreeShown) → HasSameValues wanted t u → IsKept wanted t u → HasPlan wanted plan → plan.kind ≡ Text
+    → HasFields wanted summary_fields → shown plan u ≡ shown plan t
+summary_shown wanted plan t u same kept has text summed =
+    ap (λ (truth : Bool). if is_quiet plan then [] else if truth then line_of plan u else []) (satisfies_same wanted plan.filter t u same has.filter)
+    ∙ ap (λ (kind : LineKind). if is_quiet plan then [] else if lets plan t then line_by kind plan u else []) text
+    ∙ ap (λ (line : List ℕ). if is_quiet plan then [] else if lets plan t then line else []) (ap summary_of kept.same ∙ summary_same wanted t summed)
+    ∙ sym (ap (λ (kind : LineKind). if is_quiet plan then [] else if lets plan t then line_by kind plan t else []) text)
+
+shown_kept : (wanted : List ℕ) (plan : Plan) (t u : TreeShown) → HasSameValues wanted t u → IsKept wanted t u → HasPlan wanted plan → written_of plan ≡ None
+    → WhichLines plan → shown plan u ≡ shown plan t
+shown_kept wanted plan t u same kept has lines (NoLines quiet) = shown_quiet plan u t quiet
+shown_kept wanted plan t u same kept has lines (Columns fields) = shown_same wanted plan t u same fields has
+shown_kept wanted plan t u same kept has lines (Summaries loud text) =
+    summary_shown wanted plan t u same kept has text (has.summary (summed_up plan lines loud text))
+
+shown_asked : (wanted : List ℕ) (plan : Plan) (t u : TreeShown) → HasSameValues wanted t u → HasPlan wanted plan → written_of plan ≡ None
+    → sums_up plan ≡ false → WhichLines plan → shown plan u ≡ shown plan t
+shown_asked wanted plan t u same has lines not_so (NoLines quiet) = shown_quiet plan u t quiet
+shown_asked wanted plan t u same has lines not_so (Columns fields) = shown_same wanted plan t u same fields has
+shown_asked wanted plan t u same has lines not_so (Summaries loud text) =
+    let bad : false ≡ true = sym not_so ∙ summed_up plan lines loud text in absurd (cc bad)
 
 -- a tree that has only the wanted items is counted as the whole tree
 same_proto : (wanted : List ℕ) (proto count : ℕ) (layers : List Layer)
@@ -131,72 +207,156 @@ counted_kept : (wanted : List ℕ) (plan : Plan) (whole tree : TreeShown) → Ha
     → (totals : Totals) → counts_with plan tree totals ≡ counts_with plan whole totals
 counted_kept wanted plan whole tree has same kept totals =
     ap (λ (truth : Bool). if is_generated plan then with_tree tree truth totals else totals) (satisfies_same wanted plan.filter whole tree same has.filter)
-    ∙ ap (λ (t : TreeShown). if is_generated plan then with_tree t (satisfies plan.filter whole) totals else totals) kept.same
+    ∙ ap (λ (t : TreeShown). if is_generated plan then with_tree t (lets plan whole) totals else totals) kept.same
     ∙ ap (λ (with : Totals). if is_generated plan then with else totals)
-    (tree_same wanted whole (satisfies plan.filter whole) (satisfies plan.filter whole) totals refl)
+    (tree_same wanted whole (lets plan whole) (lets plan whole) totals refl)
 
 -- over a file nothing is counted
 pub counted_file : (plan : Plan) (one other : TreeShown) → is_generated plan ≡ false → (totals : Totals) → counts_with plan one totals ≡ counts_with plan other totals
 counted_file plan one other is totals =
-    ap (λ (generated : Bool). if generated then with_tree one (satisfies plan.filter one) totals else totals) is
-    ∙ sym (ap (λ (generated : Bool). if generated then with_tree other (satisfies plan.filter other) totals else totals) is)
-
-not_asked : (plan : Plan) (wanted : List ℕ) → is_generated plan ≡ false → is_generated plan ≡ true → asks_streams wanted ≡ true
-not_asked plan wanted not_made made_so = let bad : false ≡ true = sym not_made ∙ made_so in absurd (cc bad)
+    ap (λ (generated : Bool). if generated then with_tree one (lets plan one) totals else totals) is
+    ∙ sym (ap (λ (generated : Bool). if generated then with_tree other (lets plan other) totals else totals) is)
 
 not_written : {A : Type 0} (plan : Plan) → written_of plan ≡ None → IsSome (written_of plan) → A
 not_written plan lines some = let bad : false ≡ true = subst IsSome lines some in absurd (cc bad)
 
+first_false : (a b : Bool) → (a || b) ≡ false → a ≡ false
+first_false true b is = absurd (cc is)
+first_false false b is = refl
+
+second_false : (a b : Bool) → (a || b) ≡ false → b ≡ false
+second_false true b is = absurd (cc is)
+second_false false b is = is
+
+not_generated : (plan : Plan) → needs_streams plan ≡ false → is_generated plan ≡ false
+not_generated plan is = first_false (is_generated plan) (not (length plan.reports == 0)) is
+
+pub no_table : {A : Type 0} (plan : Plan) (kind : StatKind) → asks_tables plan ≡ false → asks_table plan kind ≡ true → A
+no_table plan ConvTcp not_so is =
+    let bad : false ≡ true = sym (first_false (asks_table plan ConvTcp) (asks_table plan ConvIp) (first_false (asks_table plan ConvTcp || asks_table plan ConvIp) (asks_table plan Phs) not_so)) ∙ is in absurd (cc bad)
+no_table plan ConvIp not_so is =
+    let bad : false ≡ true = sym (second_false (asks_table plan ConvTcp) (asks_table plan ConvIp) (first_false (asks_table plan ConvTcp || asks_table plan ConvIp) (asks_table plan Phs) not_so)) ∙ is in absurd (cc bad)
+no_table plan Phs not_so is = let bad : false ≡ true = sym (second_false (asks_table plan ConvTcp || asks_table plan ConvIp) (asks_table plan Phs) not_so) ∙ is in absurd (cc bad)
+
+not_needed : {A : Type 0} (plan : Plan) → needs_streams plan ≡ false → needs_streams plan ≡ true → A
+not_needed plan not_so is = let bad : false ≡ true = sym not_so ∙ is in absurd (cc bad)
+
+not_empty : {A : Type 0} (reports : List Report) (test : Report → Bool) (b : Bool) → (b || not (length reports == 0)) ≡ false → list_any test reports ≡ true → A
+not_empty [] test b none is = let bad : false ≡ true = is in absurd (cc bad)
+not_empty (report ∷ reports) test true none is = absurd (cc none)
+not_empty (report ∷ reports) test false none is =
+    let some : not (length (report ∷ reports) == 0) ≡ true = ap not (ne_eqb (length (report ∷ reports)) 0 (λ zero. absurd (omega (arith, zero)))) in
+    let bad : true ≡ false = sym some ∙ none in absurd (cc bad)
+
+-- where nothing is told by streams, there are no reports
+no_report : {A : Type 0} (plan : Plan) (kind : StatKind) → needs_streams plan ≡ false → asks_table plan kind ≡ true → A
+no_report plan kind none asked = not_empty (reports_of plan) (is_table_of kind) (is_generated plan) none asked
+
+-- all fields are those of every table
+tables_all : (kind : StatKind) → HasFields every_field (table_fields kind)
+unfolding is_in
+tables_all ConvTcp = (refl, (refl, (refl, (refl, (refl, (refl, (refl, (refl, tt))))))))
+tables_all ConvIp = (refl, (refl, (refl, tt)))
+tables_all Phs = (refl, tt)
+
+noted_all : (wanted : List ℕ) (plan : Plan) (kind : StatKind) (whole tree : TreeShown) → wanted ≡ every_field → IsMadeFor wanted whole tree → IsNotedAs plan kind whole tree
+noted_all wanted plan kind whole tree all made = record {
+  truth = ap (lets plan) (tree_all wanted whole tree all made);
+  kept = record {
+    wanted = every_field;
+    fields = tables_all kind;
+    kept = subst (λ (fields : List ℕ). IsKept fields whole tree) all (made.kept (ap asks_streams all ∙ streams_asked));
+  };
+}
+
 -- which fields are enough
-pub enough_generated : (wanted : List ℕ) (plan : Plan) → is_generated plan ≡ true → HasPlan wanted plan → asks_streams wanted ≡ true → IsEnough wanted plan
-enough_generated wanted plan is has asks = record {
-  shown = λ lines whole tree made. shown_quiet plan tree whole (quiet_generated plan is);
+pub enough_all : (wanted : List ℕ) (plan : Plan) → wanted ≡ every_field → IsEnough wanted plan
+enough_all wanted plan all = record {
+  shown = λ none whole tree made. ap (shown plan) (tree_all wanted whole tree all made);
+  counted = λ whole tree made totals. ap (λ (t : TreeShown). counts_with plan t totals) (tree_all wanted whole tree all made);
+  truth = λ written whole tree made. ap (lets plan) (tree_all wanted whole tree all made);
+  noted = λ kind asked whole tree made. noted_all wanted plan kind whole tree all made;
+  streams = λ needed. ap asks_streams all ∙ streams_asked;
+}
+
+pub enough_followed : (wanted : List ℕ) (plan : Plan) → shows_whole plan ≡ false → HasPlan wanted plan → HasTables wanted plan → asks_streams wanted ≡ true → IsEnough wanted plan
+enough_followed wanted plan is has tables asks = record {
+  shown = λ lines whole tree made. shown_kept wanted plan whole tree made.values (made.kept asks) has lines (which_lines plan lines is);
   counted = λ whole tree made totals. counted_kept wanted plan whole tree has made.values (made.kept asks) totals;
   truth = λ written whole tree made. satisfies_same wanted plan.filter whole tree made.values has.filter;
-  streams = λ generated. asks;
+  noted = λ kind asked whole tree made. record {
+    truth = satisfies_same wanted plan.filter whole tree made.values has.filter;
+    kept = record { wanted = wanted; fields = tables kind asked; kept = made.kept asks };
+  };
+  streams = λ needed. asks;
 }
 
-pub enough_written : (wanted : List ℕ) (plan : Plan) → is_generated plan ≡ false → IsSome (written_of plan) → HasPlan wanted plan → IsEnough wanted plan
-enough_written wanted plan not_made some has = record {
-  shown = λ lines whole tree made. not_written plan lines some;
-  counted = λ whole tree made totals. counted_file plan tree whole not_made totals;
-  truth = λ written whole tree made. satisfies_same wanted plan.filter whole tree made.values has.filter;
-  streams = not_asked plan wanted not_made;
-}
+pub enough_none : (wanted : List ℕ) (plan : Plan) → (needs_streams plan || sums_up plan) ≡ false → plan.quiet ≡ true → written_of plan ≡ None → IsEnough wanted plan
+enough_none wanted plan neither is lines =
+    let not_so : needs_streams plan ≡ false = first_false (needs_streams plan) (sums_up plan) neither in
+    record {
+      shown = λ none whole tree made. shown_quiet plan tree whole (quiet_asked plan is);
+      counted = λ whole tree made totals. counted_file plan tree whole (not_generated plan not_so) totals;
+      truth = λ written whole tree made. not_written plan lines written;
+      noted = λ kind asked whole tree made. no_report plan kind not_so asked;
+      streams = not_needed plan not_so;
+    }
 
-pub enough_none : (wanted : List ℕ) (plan : Plan) → is_generated plan ≡ false → written_of plan ≡ None → plan.quiet ≡ true → IsEnough wanted plan
-enough_none wanted plan not_made lines is = record {
-  shown = λ none whole tree made. shown_quiet plan tree whole (quiet_asked plan not_made is);
-  counted = λ whole tree made totals. counted_file plan tree whole not_made totals;
-  truth = λ written whole tree made. not_written plan lines written;
-  streams = not_asked plan wanted not_made;
-}
-
-pub enough_all : (wanted : List ℕ) (plan : Plan) → is_generated plan ≡ false → written_of plan ≡ None → wanted ≡ every_field → IsEnough wanted plan
-enough_all wanted plan not_made lines all = record {
-  shown = λ none whole tree made. shown_all wanted plan whole tree all made;
-  counted = λ whole tree made totals. counted_file plan tree whole not_made totals;
-  truth = λ written whole tree made. not_written plan lines written;
-  streams = not_asked plan wanted not_made;
-}
-
-pub enough_fields : (wanted : List ℕ) (plan : Plan) → is_generated plan ≡ false → written_of plan ≡ None → plan.kind ≡ Fields → HasPlan wanted plan → IsEnough wanted plan
-enough_fields wanted plan not_made lines is has = record {
-  shown = λ none whole tree made. shown_same wanted plan whole tree made.values is has;
-  counted = λ whole tree made totals. counted_file plan tree whole not_made totals;
-  truth = λ written whole tree made. not_written plan lines written;
-  streams = not_asked plan wanted not_made;
-}
+pub enough_plain : (wanted : List ℕ) (plan : Plan) → shows_whole plan ≡ false → (needs_streams plan || sums_up plan) ≡ false → HasPlan wanted plan → IsEnough wanted plan
+enough_plain wanted plan is neither has =
+    let not_so : needs_streams plan ≡ false = first_false (needs_streams plan) (sums_up plan) neither in
+    let unsummed : sums_up plan ≡ false = second_false (needs_streams plan) (sums_up plan) neither in
+    record {
+      shown = λ lines whole tree made. shown_asked wanted plan whole tree made.values has lines unsummed (which_lines plan lines is);
+      counted = λ whole tree made totals. counted_file plan tree whole (not_generated plan not_so) totals;
+      truth = λ written whole tree made. satisfies_same wanted plan.filter whole tree made.values has.filter;
+      noted = λ kind asked whole tree made. no_report plan kind not_so asked;
+      streams = not_needed plan not_so;
+    }
 
 -- what they are enough for
-pub enough_shown : (wanted : List ℕ) (plan : Plan) (whole tree : TreeShown) → IsEnough wanted plan → written_of plan ≡ None → HasSameValues wanted whole tree
-    → (asks_streams wanted ≡ true → IsKept wanted whole tree) → shown plan tree ≡ shown plan whole
-enough_shown wanted plan whole tree enough lines same kept = enough.shown lines whole tree (record { values = same; kept = kept })
+pub reports_need : (wanted : List ℕ) (plan : Plan) → IsEnough wanted plan → 0 < length plan.reports → asks_streams wanted ≡ true
+reports_need wanted plan enough some = enough.streams (second (is_generated plan) (length plan.reports) some)
+  where
+    second : (a : Bool) (n : ℕ) → 0 < n → (a || not (n == 0)) ≡ true
+    second true n some = refl
+    second false n some = ap not (ne_eqb n 0 (λ none. absurd (omega (arith, some, none))))
 
-pub enough_counted : (wanted : List ℕ) (plan : Plan) (whole tree : TreeShown) (totals : Totals) → IsEnough wanted plan → HasSameValues wanted whole tree
-    → (asks_streams wanted ≡ true → IsKept wanted whole tree) → counts_with plan tree totals ≡ counts_with plan whole totals
-enough_counted wanted plan whole tree totals enough same kept = enough.counted whole tree (record { values = same; kept = kept }) totals
+-- by the rules that the dissector was made with
+pub enough_shown : (wanted : List ℕ) (plan : Plan) (rules : List PortRule) (past : List Frame) (frame : Frame) (tree : TreeShown)
+    → IsEnough wanted plan → written_of plan ≡ None → rules ≡ rules_of plan → HasSameValues wanted (tree_at rules past frame) tree
+    → (asks_streams wanted ≡ true → IsKept wanted (tree_at rules past frame) tree) → shown plan tree ≡ shown plan (tree_of plan past frame)
+enough_shown wanted plan rules past frame tree enough lines is same kept =
+    subst (λ (r : List PortRule). shown plan tree ≡ shown plan (tree_at r past frame)) is
+    (enough.shown lines (tree_at rules past frame) tree (record { values = same; kept = kept }))
 
-pub enough_truth : (wanted : List ℕ) (plan : Plan) (whole tree : TreeShown) → IsEnough wanted plan → IsSome (written_of plan) → HasSameValues wanted whole tree
-    → (asks_streams wanted ≡ true → IsKept wanted whole tree) → satisfies plan.filter tree ≡ satisfies plan.filter whole
-enough_truth wanted plan whole tree enough written same kept = enough.truth written whole tree (record { values = same; kept = kept })
+pub enough_counted : (wanted : List ℕ) (plan : Plan) (rules : List PortRule) (past : List Frame) (frame : Frame) (tree : TreeShown) (totals : Totals)
+    → IsEnough wanted plan → rules ≡ rules_of plan → HasSameValues wanted (tree_at rules past frame) tree
+    → (asks_streams wanted ≡ true → IsKept wanted (tree_at rules past frame) tree)
+    → counts_with plan tree totals ≡ counts_with plan (tree_of plan past frame) totals
+enough_counted wanted plan rules past frame tree totals enough is same kept =
+    subst (λ (r : List PortRule). counts_with plan tree totals ≡ counts_with plan (tree_at r past frame) totals) is
+    (enough.counted (tree_at rules past frame) tree (record { values = same; kept = kept }) totals)
+
+pub enough_truth : (wanted : List ℕ) (plan : Plan) (rules : List PortRule) (past : List Frame) (frame : Frame) (tree : TreeShown)
+    → IsEnough wanted plan → IsSome (written_of plan) → rules ≡ rules_of plan → HasSameValues wanted (tree_at rules past frame) tree
+    → (asks_streams wanted ≡ true → IsKept wanted (tree_at rules past frame) tree) → lets plan tree ≡ lets_frame plan past frame
+enough_truth wanted plan rules past frame tree enough written is same kept =
+    subst (λ (r : List PortRule). lets plan tree ≡ lets plan (tree_at r past frame)) is
+    (enough.truth written (tree_at rules past frame) tree (record { values = same; kept = kept }))
+
+pub enough_noted : (wanted : List ℕ) (plan : Plan) (rules : List PortRule) (past : List Frame) (frame : Frame) (tree : TreeShown) (kind : StatKind)
+    → IsEnough wanted plan → asks_table plan kind ≡ true → rules ≡ rules_of plan → HasSameValues wanted (tree_at rules past frame) tree
+    → (asks_streams wanted ≡ true → IsKept wanted (tree_at rules past frame) tree) → IsNotedAs plan kind (tree_of plan past frame) tree
+enough_noted wanted plan rules past frame tree kind enough asked is same kept =
+    subst (λ (r : List PortRule). IsNotedAs plan kind (tree_at r past frame) tree) is
+    (enough.noted kind asked (tree_at rules past frame) tree (record { values = same; kept = kept }))
+
+pub ok_noted : {E : Type 0} (r : Result TreeShown E) (wanted : List ℕ) (plan : Plan) (rules : List PortRule) (frame : Frame) (d : DissectorShown)
+    → IsEnough wanted plan → rules ≡ rules_of plan
+    → IfOk r (λ tree. (past : List Frame) → StandsWithin past d → HasSameValues wanted (tree_at rules past frame) tree)
+    → IfOk r (λ tree. asks_streams wanted ≡ true → (past : List Frame) → StandsWithin past d → IsKept wanted (tree_at rules past frame) tree)
+    → IfOk r (λ tree. (past : List Frame) → StandsWithin past d → (kind : StatKind) → asks_table plan kind ≡ true → IsNotedAs plan kind (tree_of plan past frame) tree)
+ok_noted (Ok tree) wanted plan rules frame d enough is values kept = λ past stands kind asked.
+    enough_noted wanted plan rules past frame tree kind enough asked is (values past stands) (λ asks. kept asks past stands)
+ok_noted (Err fault) wanted plan rules frame d enough is values kept = tt

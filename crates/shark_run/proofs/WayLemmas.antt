@@ -27,7 +27,7 @@ use Rattle.capture_write.specs.declared.format.Format.{Format}
 use Rattle.shark_run.specs.Accessors.{written_of}
 use Rattle.shark_run.specs.declared.run_ending.RunEnding.{RunEnding}
 use Rattle.shark_run.specs.declared.run_ending.RunEnding.TheVariants.{Read, Unfit}
-use Rattle.shark_run.specs.declared.totals.Totals.{Totals}
+use Rattle.shark_run.specs.declared.notes.Notes.{Notes}
 use Rattle.shark_run.specs.Ended.{CanClose, HasRead}
 use Rattle.shark_run.specs.Fitting.{FramesRead, before, fitting, is_unfit, is_unfit_by, over}
 use Rattle.shark_run.specs.Steps.{IsAfterFrame, KeepsUp, fit_piece}
@@ -127,7 +127,7 @@ IsLastNear [] file left = Unit {0}
 IsLastNear (frame ∷ past) file left = IsNear file past left
 
 -- the frames answered are the file's first ones, the reader and the dissector stand for them, and their lines were written
-pub record IsOnTheWay (plan : Plan) (most : Option ℕ) (file : List ℕ) (r : ReaderShown) (left : Option (List ℕ)) (d : DissectorShown) (t : Totals) (k : Kept) (old now : Option (List ℕ)) : Type 0 where
+pub record IsOnTheWay (plan : Plan) (most : Option ℕ) (file : List ℕ) (r : ReaderShown) (left : Option (List ℕ)) (d : DissectorShown) (t : Notes) (k : Kept) (old now : Option (List ℕ)) : Type 0 where
   pub past : List Frame
   pub front : IsFrontOf past file
   pub asked : plan.most ≡ asked_before most (length past)
@@ -139,14 +139,14 @@ pub record IsOnTheWay (plan : Plan) (most : Option ℕ) (file : List ℕ) (r : R
   pub last : IsLastNear past file left
 
 -- the same of a file that the capture told when it was begun
-abbrev pub AreOnTheWay : Plan → Option ℕ → Option (List ℕ) → ReaderShown → Option (List ℕ) → DissectorShown → Totals → Kept → Option (List ℕ) → Option (List ℕ) → Type 0
+abbrev pub AreOnTheWay : Plan → Option ℕ → Option (List ℕ) → ReaderShown → Option (List ℕ) → DissectorShown → Notes → Kept → Option (List ℕ) → Option (List ℕ) → Type 0
 AreOnTheWay plan most told r left d t k old now = IfSome told (λ file. IsOnTheWay plan most file r left d t k old now)
 
 asked_all : (most : Option ℕ) → most ≡ asked_before most 0
 asked_all None = refl
 asked_all (Some n) = let none : n ≡ n + 0 = omega arith in ap Some none
 
-pub way_begun : (plan : Plan) (told : Option (List ℕ)) (r : ReaderShown) (d : DissectorShown) (t : Totals) (k : Kept) (old : Option (List ℕ))
+pub way_begun : (plan : Plan) (told : Option (List ℕ)) (r : ReaderShown) (d : DissectorShown) (t : Notes) (k : Kept) (old : Option (List ℕ))
     → ((left : List ℕ) → StandsFor r (Some left) left []) → StandsWithin [] d → KeepsUp (written_of plan) plan [] t k → AreOnTheWay plan plan.most told r told d t k old old
 way_begun plan None r d t k old stands dissects keeps = tt
 way_begun plan (Some file) r d t k old stands dissects keeps = record {
@@ -167,7 +167,7 @@ asked_more (Some zero) count some = absurd (some refl)
 asked_more (Some (suc n)) count some = let same : suc n + count ≡ suc n - 1 + suc count = omega arith in ap Some same
 
 -- a frame was read, taken and written
-pub way_further : (plan : Plan) (most : Option ℕ) (told : Option (List ℕ)) (r after : ReaderShown) (left left_after : Option (List ℕ)) (d dissected : DissectorShown) (t counts : Totals) (k kept : Kept) (old now later : Option (List ℕ)) (frame : Frame)
+pub way_further : (plan : Plan) (most : Option ℕ) (told : Option (List ℕ)) (r after : ReaderShown) (left left_after : Option (List ℕ)) (d dissected : DissectorShown) (t counts : Notes) (k kept : Kept) (old now later : Option (List ℕ)) (frame : Frame)
     → most ≢ Some 0 → AreOnTheWay plan most told r left d t k old now → Answers (next.Frame frame) r after left left_after
     → ((past : List Frame) → StandsWithin past d → StandsWithin (frame ∷ past) dissected)
     → ((past : List Frame) → StandsWithin past d → KeepsUp (written_of plan) plan past t k → IsAfterFrame true plan past frame counts kept now later)
@@ -189,7 +189,7 @@ way_further plan most (Some file) r after left left_after d dissected t counts k
     }
 
 -- a front of the output was written
-pub way_stopped : (plan : Plan) (most : Option ℕ) (told : Option (List ℕ)) (r : ReaderShown) (left : Option (List ℕ)) (d : DissectorShown) (t : Totals) (k : Kept) (old now : Option (List ℕ))
+pub way_stopped : (plan : Plan) (most : Option ℕ) (told : Option (List ℕ)) (r : ReaderShown) (left : Option (List ℕ)) (d : DissectorShown) (t : Notes) (k : Kept) (old now : Option (List ℕ))
     → AreOnTheWay plan most told r left d t k old now → IfSome told (λ file. WroteSomePieces plan (frames_read plan file) old now)
 way_stopped plan most None r left d t k old now way = tt
 way_stopped plan most (Some file) r left d t k old now way = (
@@ -225,18 +225,18 @@ reverse_past (frame ∷ past) read =
     ∙ ap (λ (frames : List Frame). frames ++ past) (reverse-append (frame ∷ []) read.frames)
     ∙ append_assoc (reverse read.frames) (frame ∷ []) past
 
-can_close : (written : Option Format) (plan : Plan) (past : List Frame) (d : DissectorShown) (t : Totals) (k : Kept) → StandsWithin past d
+can_close : (written : Option Format) (plan : Plan) (past : List Frame) (d : DissectorShown) (t : Notes) (k : Kept) → StandsWithin past d
     → KeepsUp written plan past t k → CanClose written plan past d t k
 can_close None plan past d t k dissects keeps = (dissects, keeps)
 can_close (Some format) plan past d t k dissects keeps = keeps
 
 -- a frame that can't be written was taken too
-can_end : (written : Option Format) (plan : Plan) (past : List Frame) (frame : Frame) (d : DissectorShown) (t : Totals) (k : Kept)
+can_end : (written : Option Format) (plan : Plan) (past : List Frame) (frame : Frame) (d : DissectorShown) (t : Notes) (k : Kept)
     → is_unfit_by written plan past frame ≡ true → KeepsUp written plan past t k → CanClose written plan past d t k
 can_end None plan past frame d t k is keeps = absurd (cc is)
 can_end (Some format) plan past frame d t k is keeps = keeps
 
-read_past : (plan : Plan) (file : List ℕ) (past : List Frame) (ending : RunEnding) (d : DissectorShown) (t : Totals) (k : Kept)
+read_past : (plan : Plan) (file : List ℕ) (past : List Frame) (ending : RunEnding) (d : DissectorShown) (t : Notes) (k : Kept)
     → frames_read plan file ≡ with_read past (over ending) → CanClose (written_of plan) plan past d t k → HasRead plan file d t k
 read_past plan file past ending d t k read closes =
     let same : reverse (frames_read plan file).frames ≡ past =
@@ -244,7 +244,7 @@ read_past plan file past ending d t k read closes =
     subst (λ (frames : List Frame). CanClose (written_of plan) plan frames d t k) (sym same) closes
 
 -- as many frames were read as are asked for
-pub way_full : (plan : Plan) (most : Option ℕ) (told : Option (List ℕ)) (r : ReaderShown) (left : Option (List ℕ)) (d : DissectorShown) (t : Totals) (k : Kept) (old now : Option (List ℕ))
+pub way_full : (plan : Plan) (most : Option ℕ) (told : Option (List ℕ)) (r : ReaderShown) (left : Option (List ℕ)) (d : DissectorShown) (t : Notes) (k : Kept) (old now : Option (List ℕ))
     → most ≡ Some 0 → AreOnTheWay plan most told r left d t k old now
     → IfSome told (λ file. WrotePieces plan (frames_read plan file) old now × (Read Whole ≡ (frames_read plan file).ending))
 way_full plan most None r left d t k old now full way = tt
@@ -252,7 +252,7 @@ way_full plan most (Some file) r left d t k old now full way =
     whole_way plan file way.past (Read Whole) old now
     (read_over plan most file way.past way.front.0 Whole way.asked way.front.1 way.fit (ap (λ (m : Option ℕ). limited m way.front.0) full ∙ limited_zero way.front.0)) way.appended
 
-pub read_full : (plan : Plan) (most : Option ℕ) (told : Option (List ℕ)) (r : ReaderShown) (left : Option (List ℕ)) (d : DissectorShown) (t : Totals) (k : Kept) (old now : Option (List ℕ))
+pub read_full : (plan : Plan) (most : Option ℕ) (told : Option (List ℕ)) (r : ReaderShown) (left : Option (List ℕ)) (d : DissectorShown) (t : Notes) (k : Kept) (old now : Option (List ℕ))
     → most ≡ Some 0 → AreOnTheWay plan most told r left d t k old now → IfSome told (λ file. HasRead plan file d t k)
 read_full plan most None r left d t k old now full way = tt
 read_full plan most (Some file) r left d t k old now full way =
@@ -265,7 +265,7 @@ near_after file [] left count is near = absurd (omega (arith, is))
 near_after file (frame ∷ past) None count is near = tt
 near_after file (frame ∷ past) (Some left) count is near = λ front late. omega (arith, is, near front late)
 
-pub full_near : (plan : Plan) (most : Option ℕ) (told : Option (List ℕ)) (r : ReaderShown) (left : Option (List ℕ)) (d : DissectorShown) (t : Totals) (k : Kept) (old now : Option (List ℕ))
+pub full_near : (plan : Plan) (most : Option ℕ) (told : Option (List ℕ)) (r : ReaderShown) (left : Option (List ℕ)) (d : DissectorShown) (t : Notes) (k : Kept) (old now : Option (List ℕ))
     → most ≡ Some 0 → AreOnTheWay plan most told r left d t k old now → IfSome told (λ file. IsFullNearOf plan file left)
 full_near plan most None r left d t k old now full way = tt
 full_near plan most (Some file) r left d t k old now full way = λ count asked some.
@@ -279,7 +279,7 @@ limited_ended None ending some = refl
 limited_ended (Some zero) ending some = absurd (some refl)
 limited_ended (Some (suc n)) ending some = ap (λ (b : Bool). front_if b (suc n) (ended ending)) (leb-suc-zero n)
 
-pub way_ended : (plan : Plan) (most : Option ℕ) (told : Option (List ℕ)) (r after : ReaderShown) (left left_after : Option (List ℕ)) (d : DissectorShown) (t : Totals) (k : Kept) (old now : Option (List ℕ)) (ending : Ending)
+pub way_ended : (plan : Plan) (most : Option ℕ) (told : Option (List ℕ)) (r after : ReaderShown) (left left_after : Option (List ℕ)) (d : DissectorShown) (t : Notes) (k : Kept) (old now : Option (List ℕ)) (ending : Ending)
     → most ≢ Some 0 → AreOnTheWay plan most told r left d t k old now → Answers (next.End ending) r after left left_after
     → IfSome told (λ file. WrotePieces plan (frames_read plan file) old now × (Read ending ≡ (frames_read plan file).ending))
 way_ended plan most None r after left left_after d t k old now ending some way answers = tt
@@ -287,7 +287,7 @@ way_ended plan most (Some file) r after left left_after d t k old now ending som
     whole_way plan file way.past (Read ending) old now
     (read_over plan most file way.past (ended ending) ending way.asked (answers file way.past way.stands).1 way.fit (limited_ended most ending some)) way.appended
 
-pub read_ended : (plan : Plan) (most : Option ℕ) (told : Option (List ℕ)) (r after : ReaderShown) (left left_after : Option (List ℕ)) (d : DissectorShown) (t : Totals) (k : Kept) (old now : Option (List ℕ)) (ending : Ending)
+pub read_ended : (plan : Plan) (most : Option ℕ) (told : Option (List ℕ)) (r after : ReaderShown) (left left_after : Option (List ℕ)) (d : DissectorShown) (t : Notes) (k : Kept) (old now : Option (List ℕ)) (ending : Ending)
     → most ≢ Some 0 → AreOnTheWay plan most told r left d t k old now → Answers (next.End ending) r after left left_after → IfSome told (λ file. HasRead plan file d t k)
 read_ended plan most None r after left left_after d t k old now ending some way answers = tt
 read_ended plan most (Some file) r after left left_after d t k old now ending some way answers =
@@ -300,7 +300,7 @@ more_asked None count asked some is = let bad : Some asked ≡ None = is in absu
 more_asked (Some zero) count asked some is = absurd (some refl)
 more_asked (Some (suc n)) count asked some is = let sum : asked ≡ suc n + count = cc is in omega (arith, sum)
 
-pub ended_near : (plan : Plan) (most : Option ℕ) (told : Option (List ℕ)) (r after : ReaderShown) (left left_after : Option (List ℕ)) (d : DissectorShown) (t : Totals) (k : Kept) (old now : Option (List ℕ)) (ending : Ending)
+pub ended_near : (plan : Plan) (most : Option ℕ) (told : Option (List ℕ)) (r after : ReaderShown) (left left_after : Option (List ℕ)) (d : DissectorShown) (t : Notes) (k : Kept) (old now : Option (List ℕ)) (ending : Ending)
     → most ≢ Some 0 → AreOnTheWay plan most told r left d t k old now → Answers (next.End ending) r after left left_after
     → IfSome told (λ file. IsFullNearOf plan file left_after)
 ended_near plan most None r after left left_after d t k old now ending some way answers = tt
@@ -332,7 +332,7 @@ read_so_far plan most file past (Some left) old now some asked wrote exactly =
     none : (n : ℕ) → n + 0 ≡ n
     none n = omega arith
 
-pub way_unread : (plan : Plan) (most : Option ℕ) (told : Option (List ℕ)) (r : ReaderShown) (left left_after : Option (List ℕ)) (d : DissectorShown) (t : Totals) (k : Kept) (old now : Option (List ℕ))
+pub way_unread : (plan : Plan) (most : Option ℕ) (told : Option (List ℕ)) (r : ReaderShown) (left left_after : Option (List ℕ)) (d : DissectorShown) (t : Notes) (k : Kept) (old now : Option (List ℕ))
     → most ≢ Some 0 → AreOnTheWay plan most told r left d t k old now → Fails r left left_after → IfSome told (λ file. WroteTakenBehind [] plan file left_after old now)
 way_unread plan most None r left left_after d t k old now some way fails = tt
 way_unread plan most (Some file) r left left_after d t k old now some way fails =
@@ -346,7 +346,7 @@ unfit_over plan most file past frame rest some asked read fit unfit =
     ∙ ap (λ (reading : Reading). with_read past (rest_of plan past reading)) (limited_frame most frame rest some)
     ∙ ap (λ (b : Bool). with_read past (if b then over (Unfit frame.number) else before frame (rest_of plan (frame ∷ past) (limited (option_map (λ n. n - 1) most) rest)))) unfit
 
-pub way_unfit : (plan : Plan) (most : Option ℕ) (told : Option (List ℕ)) (r after : ReaderShown) (left left_after : Option (List ℕ)) (d : DissectorShown) (t counts : Totals) (k kept : Kept) (old now later : Option (List ℕ)) (frame : Frame)
+pub way_unfit : (plan : Plan) (most : Option ℕ) (told : Option (List ℕ)) (r after : ReaderShown) (left left_after : Option (List ℕ)) (d : DissectorShown) (t counts : Notes) (k kept : Kept) (old now later : Option (List ℕ)) (frame : Frame)
     → most ≢ Some 0 → AreOnTheWay plan most told r left d t k old now → Answers (next.Frame frame) r after left left_after
     → ((past : List Frame) → StandsWithin past d → KeepsUp (written_of plan) plan past t k → IsAfterFrame false plan past frame counts kept now later)
     → IfSome told (λ file. WrotePieces plan (frames_read plan file) old later × (Unfit frame.number ≡ (frames_read plan file).ending))
@@ -358,7 +358,7 @@ way_unfit plan most (Some file) r after left left_after d t counts k kept old no
     (unfit_over plan most file way.past frame front.0 some way.asked front.1 way.fit after_frame.0)
     (subst (λ (written : Option (List ℕ)). Appends old written (pieces_of plan way.past)) (sym after_frame.2) way.appended)
 
-pub read_unfit : (plan : Plan) (most : Option ℕ) (told : Option (List ℕ)) (r after : ReaderShown) (left left_after : Option (List ℕ)) (d dissected : DissectorShown) (t counts : Totals) (k kept : Kept) (old now later : Option (List ℕ)) (frame : Frame)
+pub read_unfit : (plan : Plan) (most : Option ℕ) (told : Option (List ℕ)) (r after : ReaderShown) (left left_after : Option (List ℕ)) (d dissected : DissectorShown) (t counts : Notes) (k kept : Kept) (old now later : Option (List ℕ)) (frame : Frame)
     → most ≢ Some 0 → AreOnTheWay plan most told r left d t k old now → Answers (next.Frame frame) r after left left_after
     → ((past : List Frame) → StandsWithin past d → KeepsUp (written_of plan) plan past t k → IsAfterFrame false plan past frame counts kept now later)
     → IfSome told (λ file. HasRead plan file dissected counts kept)
@@ -379,7 +379,7 @@ near_by : (file : List ℕ) (past : List Frame) (left : Option (List ℕ)) (coun
 near_by file past None count few near = tt
 near_by file past (Some left) count few near = λ front late. omega (arith, few, near front late)
 
-pub unfit_near : (plan : Plan) (most : Option ℕ) (told : Option (List ℕ)) (r after : ReaderShown) (left left_after : Option (List ℕ)) (d : DissectorShown) (t : Totals) (k : Kept) (old now : Option (List ℕ)) (frame : Frame)
+pub unfit_near : (plan : Plan) (most : Option ℕ) (told : Option (List ℕ)) (r after : ReaderShown) (left left_after : Option (List ℕ)) (d : DissectorShown) (t : Notes) (k : Kept) (old now : Option (List ℕ)) (frame : Frame)
     → most ≢ Some 0 → AreOnTheWay plan most told r left d t k old now → Answers (next.Frame frame) r after left left_after
     → IfSome told (λ file. IsFullNearOf plan file left_after)
 unfit_near plan most None r after left left_after d t k old now frame some way answers = tt
@@ -397,7 +397,7 @@ fit_pieces plan past frame reading = by (is_unfit plan past frame)
     by true = refl
     by false = refl
 
-pub broken_part : (plan : Plan) (most : Option ℕ) (told : Option (List ℕ)) (r after : ReaderShown) (left left_after : Option (List ℕ)) (d : DissectorShown) (t : Totals) (k : Kept) (old now later : Option (List ℕ)) (frame : Frame)
+pub broken_part : (plan : Plan) (most : Option ℕ) (told : Option (List ℕ)) (r after : ReaderShown) (left left_after : Option (List ℕ)) (d : DissectorShown) (t : Notes) (k : Kept) (old now later : Option (List ℕ)) (frame : Frame)
     → most ≢ Some 0 → AreOnTheWay plan most told r left d t k old now → Answers (next.Frame frame) r after left left_after
     → ((past : List Frame) → StandsWithin past d → KeepsUp (written_of plan) plan past t k → AppendsPart now later (fit_piece plan past frame))
     → IfSome told (λ file. WroteSomePieces plan (frames_read plan file) old later)
@@ -417,7 +417,7 @@ fit_part : (unfit : Bool) (bytes : List ℕ) (old new : Option (List ℕ)) → A
 fit_part true bytes old new part = part_more old new [] bytes part
 fit_part false bytes old new part = part
 
-pub broken_near : (plan : Plan) (most : Option ℕ) (told : Option (List ℕ)) (r after : ReaderShown) (left left_after : Option (List ℕ)) (d : DissectorShown) (t : Totals) (k : Kept) (old now later : Option (List ℕ)) (frame : Frame)
+pub broken_near : (plan : Plan) (most : Option ℕ) (told : Option (List ℕ)) (r after : ReaderShown) (left left_after : Option (List ℕ)) (d : DissectorShown) (t : Notes) (k : Kept) (old now later : Option (List ℕ)) (frame : Frame)
     → AreOnTheWay plan most told r left d t k old now → Answers (next.Frame frame) r after left left_after
     → ((past : List Frame) → StandsWithin past d → KeepsUp (written_of plan) plan past t k → AppendsPart now later (fit_piece plan past frame))
     → IfSome told (λ file. IsBrokenBehind [] plan file left_after old later)
@@ -437,7 +437,7 @@ broken_near plan most (Some file) r after left left_after d t k old now later fr
     }
 
 -- few bytes of the file were taken
-pub way_took : (plan : Plan) (most : Option ℕ) (told : Option (List ℕ)) (r : ReaderShown) (left left_after : Option (List ℕ)) (d : DissectorShown) (t : Totals) (k : Kept) (old now : Option (List ℕ))
+pub way_took : (plan : Plan) (most : Option ℕ) (told : Option (List ℕ)) (r : ReaderShown) (left left_after : Option (List ℕ)) (d : DissectorShown) (t : Notes) (k : Kept) (old now : Option (List ℕ))
     → AreOnTheWay plan most told r left d t k old now → TakesFewOf r left left_after → TookAtMost (suc file_limit) told left_after
 way_took plan most None r left left_after d t k old now way takes = ([], tt, omega arith)
 way_took plan most (Some file) r left left_after d t k old now way takes = takes file way.past way.stands

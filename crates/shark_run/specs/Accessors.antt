@@ -1,9 +1,11 @@
 -- What a plan asks for. Only these words look into it.
-use Rattle.std.specs.Prelude.{ℕ, Bool, ◌||◌, List, Option}
+use Rattle.std.specs.Prelude.{◌==◌, ℕ, Bool, not, ◌||◌, List, length, Option}
 use Rattle.capture_write.specs.declared.format.Format.{Format}
 use Rattle.flt_types.specs.declared.typed.Typed.{Typed}
 use Rattle.out_lines.specs.declared.style.Style.{Style}
+use Rattle.port_rules.specs.declared.rules.PortRule.{PortRule}
 use Rattle.shark_words.specs.declared.options.LineKind.{LineKind}
+use Rattle.shark_words.specs.declared.options.Report.{Report}
 use Rattle.shark_run.specs.declared.plan.Plan.{Plan}
 use Rattle.shark_run.specs.declared.source.PlanSource.{PlanSource}
 use Rattle.shark_run.specs.Source.{is_generated_by, name_by}
@@ -28,6 +30,14 @@ is_generated plan = is_generated_by (source_of plan)
 abbrev pub filter_of : Plan → Option Typed
 filter_of plan = plan.filter
 
+-- the rules that take the place of the usual applications of ports
+abbrev pub rules_of : Plan → List PortRule
+rules_of plan = plan.decode
+
+-- the reports behind the lines
+abbrev pub reports_of : Plan → List Report
+reports_of plan = plan.reports
+
 -- the kind of line
 abbrev pub kind_of : Plan → LineKind
 kind_of plan = plan.kind
@@ -42,6 +52,10 @@ style_of plan = plan.style
 -- how many frames are read at most
 abbrev pub most_of : Plan → Option ℕ
 most_of plan = plan.most
+
+-- whether something behind the lines may be told by streams of TCP
+abbrev pub needs_streams : Plan → Bool
+needs_streams plan = is_generated plan || not (length (reports_of plan) == 0)
 
 -- whether no lines of frames are written: so it is asked for, or the capture is generated
 abbrev pub is_quiet : Plan → Bool

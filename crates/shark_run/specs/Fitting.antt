@@ -6,7 +6,7 @@ use Rattle.capture_write.specs.declared.format.Format.{Format}
 use Rattle.shark_run.specs.declared.plan.Plan.{Plan}
 use Rattle.shark_run.specs.declared.run_ending.RunEnding.{RunEnding}
 use Rattle.shark_run.specs.declared.run_ending.RunEnding.TheVariants.{Read, Unfit}
-use Rattle.shark_run.specs.Accessors.{filter_of, written_of}
+use Rattle.shark_run.specs.Accessors.{written_of}
 use Rattle.shark_run.specs.Chosen.{is_unfit_in}
 
 -- frames, and how their reading ends
@@ -25,7 +25,7 @@ before frame read = record { frames = frame ∷ read.frames; ending = read.endin
 -- a capture is written, and this frame can't be
 abbrev pub is_unfit_by : Option Format → Plan → List Frame → Frame → Bool
 is_unfit_by None plan past frame = false
-is_unfit_by (Some format) plan past frame = is_unfit_in format (filter_of plan) past frame
+is_unfit_by (Some format) plan past frame = is_unfit_in format plan past frame
 
 abbrev pub is_unfit : Plan → List Frame → Frame → Bool
 is_unfit plan past frame = is_unfit_by (written_of plan) plan past frame

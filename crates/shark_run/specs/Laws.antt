@@ -6,10 +6,10 @@ use Rattle.shark_run.specs.declared.plan.Plan.{Plan}
 use Rattle.shark_run.specs.declared.plan.Refused.{Refused}
 use Rattle.shark_run.specs.Answers.{IsSure}
 use Rattle.shark_run.specs.Lines.{output_of}
-use Rattle.shark_run.specs.Satisfied.{satisfies}
 use Rattle.shark_run.specs.Plan.{IsPlan, IsRefusal}
 use Rattle.shark_run.specs.Accessors.{source_of}
 use Rattle.shark_run.specs.Reading.{frames_read}
+use Rattle.shark_run.specs.Trees.{lets}
 
 -- words that ask for a plan have no sure reason to be refused
 abbrev pub NeverBoth : Type 0
@@ -28,7 +28,7 @@ OneReason = (words : List (List ℕ)) (one other : Refused) → IsRefusal words 
 pub record AreAlike (one other : Plan) : Type 0 where
   pub source : source_of one ≡ source_of other
   pub read : (file : List ℕ) → frames_read one file ≡ frames_read other file
-  pub lets : (tree : TreeShown) → satisfies one.filter tree ≡ satisfies other.filter tree
+  pub lets : (tree : TreeShown) → lets one tree ≡ lets other tree
   pub written : (frames : List Frame) → output_of one frames ≡ output_of other frames
 
 -- all plans of the same words are alike

@@ -1,21 +1,21 @@
--- The output: the line of the fields' names, where it is asked for, one line for each frame that the filter lets through, and
--- over a generated capture the line of what was counted. In place of all this, the bytes of a capture may be asked for.
-use Rattle.std.specs.Prelude.{ℕ, Bool, true, false, not, ◌&&◌, List, [], ◌∷◌, ◌++◌, Option, None, Some, if◌then◌else◌, reverse}
+-- The output: the line of the fields' names, where it is asked for, one line for each frame that the filter lets through, the
+-- reports, and over a generated capture the line of what was counted. In place of all this, the bytes of a capture may be asked for.
+use Rattle.std.specs.Prelude.{ℕ, Bool, false, not, ◌&&◌, List, [], ◌∷◌, ◌++◌, Option, None, Some, if◌then◌else◌, reverse}
 use Rattle.pk_tree.specs.Trees.{TreeShown}
 use Rattle.capture_read.specs.declared.frame.Frame.{Frame}
 use Rattle.capture_write.specs.Kept.{written}
 use Rattle.capture_write.specs.declared.format.Format.{Format}
-use Rattle.dissect.specs.Trees.{tree_at}
 use Rattle.out_json.specs.Lines.{json_line_of}
 use Rattle.out_lines.specs.Lines.{field_line_of, header_of}
 use Rattle.out_lines.specs.Summary.{summary_of}
 use Rattle.shark_words.specs.declared.options.LineKind.{LineKind}
 use Rattle.shark_words.specs.declared.options.LineKind.TheVariants.{Text, Fields, Json}
 use Rattle.shark_run.specs.declared.plan.Plan.{Plan}
-use Rattle.shark_run.specs.Accessors.{fields_of, filter_of, is_generated, is_quiet, kind_of, style_of, written_of}
+use Rattle.shark_run.specs.Accessors.{fields_of, is_generated, is_quiet, kind_of, reports_of, style_of, written_of}
 use Rattle.shark_run.specs.Chosen.{chosen, end_in, packet_in}
-use Rattle.shark_run.specs.Satisfied.{satisfies}
+use Rattle.shark_run.specs.Reports.{reports_text}
 use Rattle.shark_run.specs.SelfRun.{self_run_line}
+use Rattle.shark_run.specs.Trees.{lets, tree_of}
 
 -- the line of a tree, of this kind
 abbrev pub line_by : LineKind → Plan → TreeShown → List ℕ
@@ -28,12 +28,12 @@ line_of plan tree = line_by (kind_of plan) plan tree
 
 -- the line of a tree, or nothing
 abbrev pub shown : Plan → TreeShown → List ℕ
-shown plan tree = if is_quiet plan then [] else if satisfies (filter_of plan) tree then line_of plan tree else []
+shown plan tree = if is_quiet plan then [] else if lets plan tree then line_of plan tree else []
 
 -- what is written of a frame, given those before it, of which the newest stands first
 abbrev pub piece_by : Option Format → Plan → List Frame → Frame → List ℕ
-piece_by None plan past frame = shown plan (tree_at past frame)
-piece_by (Some format) plan past frame = packet_in format (filter_of plan) past frame
+piece_by None plan past frame = shown plan (tree_of plan past frame)
+piece_by (Some format) plan past frame = packet_in format plan past frame
 
 abbrev pub piece : Plan → List Frame → Frame → List ℕ
 piece plan past frame = piece_by (written_of plan) plan past frame
@@ -62,10 +62,14 @@ opening_by (Some format) plan = []
 unfoldable pub opening : Plan → List ℕ
 opening plan = opening_by (written_of plan) plan
 
+-- over a generated capture, the line of what was counted
+abbrev pub counted_line : Plan → List Frame → List ℕ
+counted_line plan past = if is_generated plan then self_run_line plan past else []
+
 -- what stands behind the frames' lines, over frames of which the newest stands first
 abbrev pub closing_by : Option Format → Plan → List Frame → List ℕ
-closing_by None plan past = if is_generated plan then self_run_line (filter_of plan) past else []
-closing_by (Some format) plan past = end_in format (filter_of plan) past
+closing_by None plan past = reports_text plan past (reports_of plan) ++ counted_line plan past
+closing_by (Some format) plan past = end_in format plan past
 
 unfoldable pub closing : Plan → List Frame → List ℕ
 closing plan past = closing_by (written_of plan) plan past
@@ -73,7 +77,7 @@ closing plan past = closing_by (written_of plan) plan past
 -- the whole output over the frames that were read
 abbrev pub output_by : Option Format → Plan → List Frame → List ℕ
 output_by None plan frames = opening plan ++ (pieces plan [] frames ++ closing plan (reverse frames))
-output_by (Some format) plan frames = written format (chosen (filter_of plan) [] frames)
+output_by (Some format) plan frames = written format (chosen plan [] frames)
 
 unfoldable pub output_of : Plan → List Frame → List ℕ
 output_of plan frames = output_by (written_of plan) plan frames

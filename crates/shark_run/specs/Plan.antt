@@ -30,6 +30,8 @@ pub record IsPlanFor (options : Options) (plan : Plan) : Type 0 where
   pub filter : IsFilterAsked options.filter plan.filter
   pub fields : fields_named options.names ≡ Ok plan.fields
   pub most : plan.most ≡ options.most
+  pub decode : plan.decode ≡ options.decode.rules
+  pub reports : plan.reports ≡ options.reports
   pub kind : plan.kind ≡ options.kind
   pub style : plan.style ≡ options.style
   pub quiet : plan.quiet ≡ options.quiet

@@ -1,5 +1,5 @@
 -- Where the frames of a run come from.
-use Rattle.std.specs.Prelude.{◌≤◌, ℕ, List, [], Bool, true, false}
+use Rattle.std.specs.Prelude.{ℕ, List, [], Bool, true, false}
 use Rattle.shark_words.specs.declared.options.Source.{Source}
 use Rattle.shark_words.specs.declared.options.Source.TheVariants as asked
 use Rattle.shark_run.specs.declared.source.PlanSource.{PlanSource}

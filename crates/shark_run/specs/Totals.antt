@@ -1,23 +1,21 @@
 -- What is counted of frames, one after the other.
-use Rattle.std.specs.Prelude.{ℕ, suc, ◌+◌, ◌*◌, ◌^◌, ◌≤◌, Bool, if◌then◌else◌, List, [], ◌∷◌, length, Option}
+use Rattle.std.specs.Prelude.{ℕ, suc, ◌+◌, ◌*◌, ◌^◌, ◌≤◌, Bool, if◌then◌else◌, List, [], ◌∷◌, length}
 use Rattle.capture_read.specs.declared.frame.Frame.{Frame}
-use Rattle.dissect.specs.Trees.{tree_at}
-use Rattle.flt_types.specs.declared.typed.Typed.{Typed}
 use Rattle.pk_fields.specs.Ids.{DNS, HTTP}
 use Rattle.pk_tree.specs.Trees.{TreeShown, layers_of}
 use Rattle.shark_run.specs.declared.plan.Plan.{Plan}
 use Rattle.shark_run.specs.declared.totals.Totals.{Totals}
-use Rattle.shark_run.specs.Accessors.{filter_of, is_generated}
-use Rattle.shark_run.specs.Satisfied.{satisfies}
-use Rattle.shark_run.specs.SelfRun.{layer_count, shown_count, trees_of}
+use Rattle.shark_run.specs.Accessors.{is_generated}
+use Rattle.shark_run.specs.SelfRun.{layer_count, shown_count}
+use Rattle.shark_run.specs.Trees.{lets, tree_of, trees_of}
 
 -- what is counted of frames, the newest first
-abbrev pub totals_of : Option Typed → List Frame → Totals
-totals_of filter past = record {
+abbrev pub totals_of : Plan → List Frame → Totals
+totals_of plan past = record {
   frames = length past;
-  shown = shown_count filter (trees_of past);
-  dns = layer_count DNS (trees_of past);
-  http = layer_count HTTP (trees_of past);
+  shown = shown_count plan (trees_of plan past);
+  dns = layer_count DNS (trees_of plan past);
+  http = layer_count HTTP (trees_of plan past);
 }
 
 -- one tree more, which the filter lets through or not
@@ -31,12 +29,12 @@ with_tree tree shown totals = record {
 
 -- the same where the capture is generated; over a file nothing is counted
 abbrev pub counts_with : Plan → TreeShown → Totals → Totals
-counts_with plan tree totals = if is_generated plan then with_tree tree (satisfies (filter_of plan) tree) totals else totals
+counts_with plan tree totals = if is_generated plan then with_tree tree (lets plan tree) totals else totals
 
 -- what is counted of frames, the newest first, one after the other
 abbrev pub counts_of : Plan → List Frame → Totals
 counts_of plan [] = record { frames = 0; shown = 0; dns = 0; http = 0 }
-counts_of plan (frame ∷ past) = counts_with plan (tree_at past frame) (counts_of plan past)
+counts_of plan (frame ∷ past) = counts_with plan (tree_of plan past frame) (counts_of plan past)
 
 -- so many frames were counted at most
 pub record AreFew (most : ℕ) (totals : Totals) : Type 0 where

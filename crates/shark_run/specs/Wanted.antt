@@ -1,17 +1,24 @@
 -- The fields that the output asks for.
-use Rattle.std.specs.Prelude.{◌≡◌, ℕ, true, List, Option, Some, None, IsSome}
+use Rattle.std.specs.Prelude.{◌≡◌, ℕ, Bool, true, false, List, [], ◌∷◌, Option, Some, None, IsSome}
 use Rattle.std.specs.List.{AllByRecursion as Each}
 use Rattle.pk_fields.specs.FieldSets.{is_in}
+use Rattle.pk_fields.specs.Ids.{FRAME_NUMBER, FRAME_TIME_RELATIVE, FRAME_LEN, ETH_SRC, ETH_DST, IP_SRC, IP_DST, IPV6_SRC, IPV6_DST}
 use Rattle.pk_tree.specs.Trees.{TreeShown, IsKept}
 use Rattle.dissect.specs.Followed.{asks_streams, HasSameValues}
+use Rattle.cap_stats.specs.Laws.{IsKeptFor, fields_of as table_fields}
+use Rattle.cap_stats.specs.declared.kind.StatKind.{StatKind}
+use Rattle.capture_write.specs.declared.format.Format.{Format}
 use Rattle.flt_types.specs.declared.typed.Typed.{Typed}
 use Rattle.flt_types.specs.Asked.{HasFilter}
+use Rattle.shark_words.specs.declared.options.LineKind.{LineKind}
+use Rattle.shark_words.specs.declared.options.LineKind.TheVariants.{Text, Fields, Json}
 use Rattle.shark_run.specs.declared.plan.Plan.{Plan}
 use Rattle.shark_run.specs.declared.totals.Totals.{Totals}
-use Rattle.shark_run.specs.Accessors.{fields_of, filter_of, is_generated, written_of}
+use Rattle.shark_run.specs.Accessors.{fields_of, filter_of, is_quiet, kind_of, needs_streams, written_of}
 use Rattle.shark_run.specs.Lines.{shown}
-use Rattle.shark_run.specs.Satisfied.{satisfies}
+use Rattle.shark_run.specs.Tables.{asks_table}
 use Rattle.shark_run.specs.Totals.{counts_with}
+use Rattle.shark_run.specs.Trees.{lets}
 
 -- a set has the fields that a filter asks for; no filter asks for none
 abbrev pub HasAsked : List ℕ → Option Typed → Type 0
@@ -22,23 +29,62 @@ HasAsked wanted (Some filter) = HasFilter wanted filter
 abbrev pub HasFields : List ℕ → List ℕ → Type 0
 HasFields wanted fields = Each (λ field. is_in wanted field ≡ true) fields
 
--- a set has the fields of a plan's filter and of its columns
+-- the fields that the line shows which sums up a frame, beside the names of protocols
+abbrev pub summary_fields : List ℕ
+summary_fields =
+    FRAME_NUMBER ∷ FRAME_TIME_RELATIVE ∷ FRAME_LEN ∷ ETH_SRC ∷ ETH_DST ∷ IP_SRC ∷ IP_DST ∷ IPV6_SRC ∷ IPV6_DST ∷ []
+
+-- whether lines sum up frames
+abbrev pub sums_up_by : Option Format → Bool → LineKind → Bool
+sums_up_by (Some format) quiet kind = false
+sums_up_by None true kind = false
+sums_up_by None false Text = true
+sums_up_by None false Json = false
+sums_up_by None false Fields = false
+
+abbrev pub sums_up : Plan → Bool
+sums_up plan = sums_up_by (written_of plan) (is_quiet plan) (kind_of plan)
+
+-- a set has the fields of a plan's filter, of its columns, and of the lines that sum up frames where these are written
 pub record HasPlan (wanted : List ℕ) (plan : Plan) : Type 0 where
   pub filter : HasAsked wanted (filter_of plan)
   pub columns : HasFields wanted (fields_of plan)
+  pub summary : sums_up plan ≡ true → HasFields wanted summary_fields
+
+-- a set has the fields that the tables read which a plan asks for
+abbrev pub HasTables : List ℕ → Plan → Type 0
+HasTables wanted plan = (kind : StatKind) → asks_table plan kind ≡ true → HasFields wanted (table_fields kind)
+
+-- whether lines show whole trees
+abbrev pub shows_whole_by : Option Format → Bool → LineKind → Bool
+shows_whole_by (Some format) quiet kind = false
+shows_whole_by None true kind = false
+shows_whole_by None false Text = false
+shows_whole_by None false Json = true
+shows_whole_by None false Fields = false
+
+abbrev pub shows_whole : Plan → Bool
+shows_whole plan = shows_whole_by (written_of plan) (is_quiet plan) (kind_of plan)
 
 -- a tree that a dissector makes for these fields, beside the whole tree
 pub record IsMadeFor (wanted : List ℕ) (whole tree : TreeShown) : Type 0 where
   pub values : HasSameValues wanted whole tree
   pub kept : asks_streams wanted ≡ true → IsKept wanted whole tree
 
--- such a tree is shown and counted as the whole tree, or chosen as the whole tree where frames are written, and streams are asked
--- where they are counted
+-- a tree is noted for the table of a kind as the whole tree: the filter lets both through or neither, and it has what the table reads
+pub record IsNotedAs (plan : Plan) (kind : StatKind) (whole tree : TreeShown) : Type 0 where
+  pub truth : lets plan tree ≡ lets plan whole
+  pub kept : IsKeptFor kind whole tree
+
+-- such a tree is shown and counted as the whole tree, or chosen as the whole tree where frames are written, it is noted as the whole
+-- tree where a table is asked for, and streams are asked where something is told by them
 pub record IsEnough (wanted : List ℕ) (plan : Plan) : Type 0 where
   pub shown : written_of plan ≡ None → (whole tree : TreeShown) → IsMadeFor wanted whole tree
       → shown plan tree ≡ shown plan whole
   pub counted : (whole tree : TreeShown) → IsMadeFor wanted whole tree
       → (totals : Totals) → counts_with plan tree totals ≡ counts_with plan whole totals
   pub truth : IsSome (written_of plan) → (whole tree : TreeShown) → IsMadeFor wanted whole tree
-      → satisfies (filter_of plan) tree ≡ satisfies (filter_of plan) whole
-  pub streams : is_generated plan ≡ true → asks_streams wanted ≡ true
+      → lets plan tree ≡ lets plan whole
+  pub noted : (kind : StatKind) → asks_table plan kind ≡ true → (whole tree : TreeShown) → IsMadeFor wanted whole tree
+      → IsNotedAs plan kind whole tree
+  pub streams : needs_streams plan ≡ true → asks_streams wanted ≡ true

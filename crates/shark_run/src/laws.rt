@@ -1,5 +1,9 @@
-// What holds of every list of words, stated on functions that do nothing.
+// What holds of every list of words and of every capture, stated on functions that do nothing.
+ghost use Rattle.shark_run.specs.JsonLaws.{MessagesToldOnce};
 ghost use Rattle.shark_run.specs.Laws.{NeverBoth, OneReason, PlanOrReason, PlansAreAlike};
+ghost use Rattle.shark_run.specs.ReportLaws.{FollowsAlone};
+
+use tcp_messages::messages_once;
 
 /// No words ask for a plan and have a sure reason to be refused.
 pub fn plans_are_not_refused()
@@ -20,3 +24,16 @@ pub fn reasons_are_unique()
 pub fn plans_are_alike()
     ensures { PlansAreAlike }
 {}
+
+/// Behind its first line, the report of a stream rests on the segments of its conversation alone.
+pub fn follows_stand_alone()
+    ensures { FollowsAlone }
+{}
+
+/// Where lines of JSON are written and no filter is given, each frame has a line, and each message of a TCP stream's direction is
+/// shown by one of them, in the order of its bytes.
+pub fn messages_are_told_once()
+    ensures { MessagesToldOnce }
+{
+    messages_once();
+}

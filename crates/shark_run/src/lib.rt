@@ -7,14 +7,18 @@ mod file;
 mod generated;
 mod laws;
 mod lines;
+mod notes;
 mod outcome;
 mod output;
 mod packet;
 mod plan;
+mod reports;
+mod rules;
 mod run_ending;
 mod self_run;
 mod source;
 mod status;
+mod tables;
 mod text;
 mod top;
 mod totals;
@@ -23,9 +27,11 @@ mod words;
 
 pub use generated::Generated;
 pub use laws::{
-    plans_are_alike, plans_are_not_refused, reasons_are_unique, words_are_planned_or_refused,
+    follows_stand_alone, plans_are_alike, plans_are_not_refused, reasons_are_unique,
+    words_are_planned_or_refused,
 };
 pub use plan::{FieldList, Plan, Refused};
+pub use rules::PlanRules;
 pub use source::PlanSource;
 pub use status::Status;
 pub use text::Text;

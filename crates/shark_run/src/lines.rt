@@ -1,23 +1,19 @@
 // Which frames are shown.
 ghost use Rattle.std.specs.Prelude.{◌≡◌, IfOk};
-ghost use Rattle.shark_run.specs.Satisfied.{satisfies as is_satisfied};
+ghost use Rattle.shark_run.specs.Trees.{lets};
 
+use crate::plan::Plan;
 use flt_mean::holds;
-use flt_types::Filter;
 use pk_base::NoMemory;
 use pk_tree::Tree;
 use std::alloc::Global;
 
-/// Whether a tree satisfies a filter.
+/// Whether a tree satisfies the filter; without one every tree does.
 #[tactic(auto, unfolding(crate::specs::Satisfied::satisfies))]
-pub(crate) fn satisfies(
-    alloc: Global,
-    filter: &Option<Filter>,
-    tree: &Tree,
-) -> Result<bool, NoMemory>
-    ensures { IfOk result (λ truth. truth ≡ is_satisfied filter.now tree.now) }
+pub(crate) fn satisfies(alloc: Global, plan: &Plan, tree: &Tree) -> Result<bool, NoMemory>
+    ensures { IfOk result (λ truth. truth ≡ lets plan.now tree.now) }
 {
-    match filter {
+    match &plan.filter {
         None => Ok(true),
         Some(filter) => holds(alloc, filter, tree),
     }

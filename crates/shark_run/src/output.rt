@@ -9,37 +9,43 @@ ghost use Rattle.capture_read.specs.Taken.{TookAtMost};
 ghost use Rattle.capture_read.specs.declared.frame.Frame.{Frame as FrameValue};
 ghost use Rattle.capture_write.specs.Kept.{Stands as Written};
 ghost use Rattle.dissect.specs.Stands.{StandsWithin};
+ghost use Rattle.cap_stats.specs.declared.kind.StatKind.{StatKind as KindValue};
 ghost use Rattle.capture_read.specs.FrameList.{IsTime};
-ghost use Rattle.dissect.specs.Trees.{tree_at};
+ghost use Rattle.pk_tree.specs.Trees.{TreeShown};
 ghost use Rattle.shark_run.specs.declared.totals.Totals.{Totals as TotalsValue};
-ghost use Rattle.shark_run.specs.Accessors.{is_generated};
-ghost use Rattle.shark_run.specs.Accessors.{written_of};
+ghost use Rattle.shark_run.specs.Accessors.{is_generated, is_quiet, rules_of, written_of};
 ghost use Rattle.shark_run.specs.Ended.{CanClose, HasRead};
-ghost use Rattle.shark_run.specs.Satisfied.{satisfies as is_satisfied};
 ghost use Rattle.shark_run.specs.Steps.{IsAfterFrame, IsPacked, KeepsUp, fit_packet, fit_piece};
 ghost use Rattle.shark_run.specs.Lines.{closing, line_of, opening, shown};
 ghost use Rattle.shark_run.specs.Reading.{frames_read};
-ghost use Rattle.shark_run.specs.Totals.{AreFew, counts_of, counts_with};
-ghost use Rattle.shark_run.specs.Wanted.{IsEnough};
+ghost use Rattle.shark_run.specs.Reports.{HasTaken};
+ghost use Rattle.shark_run.specs.Notes.{AreFewNotes, AreNotes};
+ghost use Rattle.shark_run.specs.Tables.{AreTables, asks_table, asks_tables, trees_with};
+ghost use Rattle.shark_run.specs.Totals.{counts_of, counts_with};
+ghost use Rattle.shark_run.specs.Trees.{lets, lets_frame, tree_of};
+ghost use Rattle.shark_run.specs.Wanted.{IsEnough, IsNotedAs};
 ghost use Rattle.shark_run.specs.Way.{IsBrokenBehind, IsBrokenFrom, IsBrokenOf, IsFullNearOf, WroteTaken, WroteTakenBehind};
 ghost use Rattle.shark_run.specs.Wrote.{WroteAll, WroteBody, WrotePart, WrotePieces, WroteSomeBody, WroteSomePieces};
 
 use crate::lines::satisfies;
+use crate::notes::Notes;
 use crate::packet::{write_end, write_packet};
 use crate::plan::Plan;
+use crate::reports::write_reports;
 use crate::run_ending::RunEnding;
-use crate::self_run::self_run_line;
-use crate::totals::Totals;
+use crate::self_run::write_counts;
+use crate::tables::has_tables;
 use crate::wanted::needed_fields;
 use capture_read::{Ending, Frame, FrameReader, NextFrame, ReadError};
 use capture_write::{Format, Writer};
-use dissect::{DecodeAs, Dissector, PortRules, TakeFault};
+use dissect::{Dissector, TakeFault};
 use out_json::JsonWriter;
 use out_lines::{LineWriter, header_line, summary_line};
 use pk_base::NoMemory;
 use pk_fields::FieldSet;
 use pk_outside::{Capture, Sink, SinkFault, write_whole};
 use pk_tree::Tree;
+use port_rules::DecodeAs;
 use shark_words::LineKind;
 use std::alloc::Global;
 use std::mem;
@@ -52,40 +58,40 @@ pub(crate) enum RunFault {
     NoMemory,
 }
 
-// A dissector for trees of some fields, that reads each port as usual.
-#[tactic(auto, using(crate::proofs::RuleLemmas::no_rules))]
-fn new_dissector(alloc: Global, wanted: FieldSet) -> Dissector
-    ensures stands { StandsWithin [] result }
-    ensures wanted { result.wanted ≡ wanted }
-    ensures taken { result.taken ≡ 0 }
-    ensures captured { result.captured ≡ 0 }
+// A dissector for trees of some fields, by the rules that are asked for.
+fn new_dissector(alloc: Global, plan: &Plan, wanted: FieldSet) -> Result<Dissector, NoMemory>
+    ensures stands { IfOk result (λ dissector. StandsWithin [] dissector) }
+    ensures wanted { IfOk result (λ dissector. dissector.wanted ≡ wanted) }
+    ensures rules { IfOk result (λ dissector. dissector.decode.rules ≡ rules_of plan.now) }
+    ensures taken { IfOk result (λ dissector. dissector.taken ≡ 0) }
+    ensures captured { IfOk result (λ dissector. dissector.captured ≡ 0) }
 {
-    let rules = PortRules::from_vec(Vec::new(alloc));
-    Dissector::for_fields(alloc, DecodeAs { rules }, wanted)
+    let rules = plan.decode.copy(alloc)?;
+    Ok(Dissector::for_fields(alloc, DecodeAs { rules }, wanted))
 }
 
-// A line, with what writes it, what was counted so far, and what writes a capture.
+// A line, with what writes it, what was noted so far, and what writes a capture.
 #[derive(Drop)]
 struct LineMaker {
     writer: LineWriter,
     json: JsonWriter,
     line: Vec<u8>,
-    totals: Totals,
+    notes: Notes,
     capture: Writer,
 }
 
 #[tactic(auto, using(crate::proofs::ClosingLemmas::keeps_nothing))]
 fn new_line_maker(alloc: Global, plan: &Plan) -> Result<LineMaker, NoMemory>
     ensures writer { IfOk result (λ lines. lines.writer ≡ plan.now.fields) }
-    ensures totals { IfOk result (λ lines. lines.totals ≡ counts_of plan.now []) }
+    ensures totals { IfOk result (λ lines. lines.notes.totals ≡ counts_of plan.now []) }
     ensures keeps { IfOk result (λ lines.
-        KeepsUp (written_of plan.now) plan.now [] lines.totals lines.capture) }
+        KeepsUp (written_of plan.now) plan.now [] lines.notes lines.capture) }
 {
     Ok(LineMaker {
         writer: LineWriter::new(alloc, plan.fields.slice())?,
         json: JsonWriter::new(alloc),
         line: Vec::new(alloc),
-        totals: Totals::none(),
+        notes: Notes::new(alloc, plan),
         capture: Writer::new(alloc, plan.written.unwrap_or(Format::Pcapng)),
     })
 }
@@ -96,7 +102,7 @@ fn put_line(alloc: Global, plan: &Plan, tree: &Tree, lines: &mut LineMaker) -> R
     requires empty { lines.old.line.items ≡ [] }
     ensures line { OnOk result (lines.new.line.items ≡ line_of plan.now tree.now) }
     ensures writer { lines.new.writer ≡ lines.old.writer }
-    ensures totals { lines.new.totals ≡ lines.old.totals }
+    ensures notes { lines.new.notes ≡ lines.old.notes }
 {
     match plan.kind {
         LineKind::Text => {
@@ -108,26 +114,49 @@ fn put_line(alloc: Global, plan: &Plan, tree: &Tree, lines: &mut LineMaker) -> R
     }
 }
 
-// Makes the line of a tree, where the filter lets it through, else one of no bytes. A tree of a generated capture is
-// counted in place of this.
+// Whether it is asked if the filter lets a tree through.
+fn asks_filter(plan: &Plan) -> bool
+    ensures quiet { result ≡ false → is_quiet plan.now ≡ true }
+    ensures file { result ≡ false → is_generated plan.now ≡ false }
+    ensures tables { result ≡ false → asks_tables plan.now ≡ false }
+{
+    if plan.source.is_generated() {
+        return true;
+    }
+    if !plan.quiet {
+        return true;
+    }
+    has_tables(plan)
+}
+
+// Makes the line of a tree, where the filter lets it through, else one of no bytes, and notes the tree for what stands behind the
+// lines.
+#[tactic(auto, using(crate::proofs::NoteLemmas::not_counted, crate::proofs::NoteLemmas::not_tabled))]
 fn make_line(alloc: Global, plan: &Plan, tree: &Tree, lines: &mut LineMaker) -> Result<(), NoMemory>
     requires writer { lines.old.writer ≡ plan.now.fields }
-    requires few { AreFew (2 ^ 28) lines.old.totals }
+    requires few { AreFewNotes (2 ^ 28) lines.old.notes }
     ensures line { OnOk result (lines.new.line.items ≡ shown plan.now tree.now) }
-    ensures totals { OnOk result (lines.new.totals ≡ counts_with plan.now tree.now lines.old.totals) }
+    ensures totals { OnOk result (lines.new.notes.totals
+        ≡ counts_with plan.now tree.now lines.old.notes.totals) }
+    ensures tables { OnOk result ((trees : List TreeShown)
+        → AreTables plan.now trees lines.old.notes.tables
+        → AreTables plan.now (trees_with plan.now tree.now trees) lines.new.notes.tables) }
     ensures writer { lines.new.writer ≡ lines.old.writer }
-    ensures few { (most : ℕ) → AreFew most lines.old.totals → AreFew (suc most) lines.new.totals }
+    ensures few { (most : ℕ) → AreFewNotes most lines.old.notes → AreFewNotes (suc most) lines.new.notes }
 {
     lines.line.clear();
+    if !asks_filter(plan) {
+        return Ok(());
+    }
+    let satisfied = satisfies(alloc, plan, tree)?;
+    lines.notes.note(plan, tree, satisfied)?;
     if plan.source.is_generated() {
-        let satisfied = satisfies(alloc, &plan.filter, tree)?;
-        lines.totals = lines.totals.with(tree, satisfied);
         return Ok(());
     }
     if plan.quiet {
         return Ok(());
     }
-    if !satisfies(alloc, &plan.filter, tree)? {
+    if !satisfied {
         return Ok(());
     }
     put_line(alloc, plan, tree, lines)
@@ -142,15 +171,19 @@ fn write_tree<O: Sink>(
     out: &mut O,
 ) -> Result<(), SinkFault>
     requires writer { lines.old.writer ≡ plan.now.fields }
-    requires few { AreFew (2 ^ 28) lines.old.totals }
+    requires few { AreFewNotes (2 ^ 28) lines.old.notes }
     ensures whole { OnOk result
         (Appends (O.written out.old) (O.written out.new) (shown plan.now tree.now)) }
     ensures part { AppendsPart (O.written out.old) (O.written out.new) (shown plan.now tree.now) }
-    ensures totals { OnOk result (lines.new.totals ≡ counts_with plan.now tree.now lines.old.totals) }
+    ensures totals { OnOk result (lines.new.notes.totals
+        ≡ counts_with plan.now tree.now lines.old.notes.totals) }
+    ensures tables { OnOk result ((trees : List TreeShown)
+        → AreTables plan.now trees lines.old.notes.tables
+        → AreTables plan.now (trees_with plan.now tree.now trees) lines.new.notes.tables) }
     ensures fault { IsErrOf result SinkFault.Failed → Rose (O.faults out.old) (O.faults out.new) }
     ensures faults_stay { O.faults out.old ≤ O.faults out.new }
     ensures writer { lines.new.writer ≡ lines.old.writer }
-    ensures few { (most : ℕ) → AreFew most lines.old.totals → AreFew (suc most) lines.new.totals }
+    ensures few { (most : ℕ) → AreFewNotes most lines.old.notes → AreFewNotes (suc most) lines.new.notes }
 {
     match make_line(alloc, plan, tree, lines) {
         Ok(()) => write_whole(out, lines.line.as_slice()),
@@ -162,18 +195,23 @@ fn write_tree<O: Sink>(
 #[tactic(auto, using(crate::proofs::WantedLemmas::enough_shown, crate::proofs::WantedLemmas::enough_counted))]
 fn take_frame(plan: &Plan, frame: &Frame, dissector: &mut Dissector) -> Result<Tree, TakeFault>
     requires enough { IsEnough dissector.old.wanted plan.now }
+    requires rules { dissector.old.decode.rules ≡ rules_of plan.now }
     requires lines { written_of plan.now ≡ None }
     requires number { frame.now.number ≡ dissector.old.taken + 1 }
     requires time { IfSome frame.now.time IsTime }
     requires captured { dissector.old.captured + length frame.now.bytes ≤ 2 ^ 28 }
     ensures line { IfOk result (λ tree. (past : List FrameValue) → StandsWithin past dissector.old
-        → shown plan.now tree ≡ shown plan.now (tree_at past frame.now)) }
+        → shown plan.now tree ≡ shown plan.now (tree_of plan.now past frame.now)) }
     ensures counts { IfOk result (λ tree. (past : List FrameValue) → StandsWithin past dissector.old
         → (totals : TotalsValue)
-        → counts_with plan.now tree totals ≡ counts_with plan.now (tree_at past frame.now) totals) }
+        → counts_with plan.now tree totals ≡ counts_with plan.now (tree_of plan.now past frame.now) totals) }
+    ensures noted { IfOk result (λ tree. (past : List FrameValue) → StandsWithin past dissector.old
+        → (kind : KindValue) → asks_table plan.now kind ≡ true
+        → IsNotedAs plan.now kind (tree_of plan.now past frame.now) tree) }
     ensures stands { OnOk result ((past : List FrameValue) → StandsWithin past dissector.old
         → StandsWithin (frame.now ∷ past) dissector.new) }
     ensures kept { dissector.new.wanted ≡ dissector.old.wanted }
+    ensures rules { dissector.new.decode ≡ dissector.old.decode }
     ensures taken { OnOk result (dissector.new.taken ≡ dissector.old.taken + 1) }
     ensures captured { OnOk result (dissector.new.captured
         ≡ dissector.old.captured + length frame.now.bytes) }
@@ -181,7 +219,7 @@ fn take_frame(plan: &Plan, frame: &Frame, dissector: &mut Dissector) -> Result<T
     dissector.take_wanted(frame)
 }
 
-// Takes a frame and writes its line where the filter lets it through.
+// Takes a frame, notes it, and writes its line where the filter lets it through.
 fn write_shown<O: Sink>(
     alloc: Global,
     plan: &Plan,
@@ -191,34 +229,37 @@ fn write_shown<O: Sink>(
     out: &mut O,
 ) -> Result<(), RunFault>
     requires enough { IsEnough dissector.old.wanted plan.now }
+    requires rules { dissector.old.decode.rules ≡ rules_of plan.now }
     requires lines_asked { written_of plan.now ≡ None }
     requires lines { lines.old.writer ≡ plan.now.fields }
-    requires few { AreFew (2 ^ 28) lines.old.totals }
+    requires few { AreFewNotes (2 ^ 28) lines.old.notes }
     requires number { frame.now.number ≡ dissector.old.taken + 1 }
     requires time { IfSome frame.now.time IsTime }
     requires captured { dissector.old.captured + length frame.now.bytes ≤ 2 ^ 28 }
     ensures stands { OnOk result ((past : List FrameValue) → StandsWithin past dissector.old
         → StandsWithin (frame.now ∷ past) dissector.new) }
     ensures kept { dissector.new.wanted ≡ dissector.old.wanted }
+    ensures rules { dissector.new.decode ≡ dissector.old.decode }
     ensures taken { OnOk result (dissector.new.taken ≡ dissector.old.taken + 1) }
     ensures captured { OnOk result (dissector.new.captured
         ≡ dissector.old.captured + length frame.now.bytes) }
     ensures whole { OnOk result ((past : List FrameValue) → StandsWithin past dissector.old
         → Appends (O.written out.old) (O.written out.new)
-        (shown plan.now (tree_at past frame.now))) }
+        (shown plan.now (tree_of plan.now past frame.now))) }
     ensures part { (past : List FrameValue) → StandsWithin past dissector.old
         → AppendsPart (O.written out.old) (O.written out.new)
-        (shown plan.now (tree_at past frame.now)) }
-    ensures counts { OnOk result ((past : List FrameValue) → StandsWithin past dissector.old
-        → lines.new.totals ≡ counts_with plan.now (tree_at past frame.now) lines.old.totals) }
-    ensures few { (most : ℕ) → AreFew most lines.old.totals → AreFew (suc most) lines.new.totals }
+        (shown plan.now (tree_of plan.now past frame.now)) }
+    ensures notes { OnOk result ((past : List FrameValue) → StandsWithin past dissector.old
+        → AreNotes plan.now past lines.old.notes
+        → AreNotes plan.now (frame.now ∷ past) lines.new.notes) }
+    ensures few { (most : ℕ) → AreFewNotes most lines.old.notes → AreFewNotes (suc most) lines.new.notes }
     ensures writer { lines.new.writer ≡ lines.old.writer }
     ensures read { IsErrOf result RunFault.ReadFault → ⊥ }
     ensures fault { IsErrOf result RunFault.WriteFault
         → Rose (O.faults out.old) (O.faults out.new) }
     ensures faults_stay { O.faults out.old ≤ O.faults out.new }
 {
-    let tree = match dissector.take_wanted(frame) {
+    let tree = match take_frame(plan, frame, dissector) {
         Ok(tree) => tree,
         // The first error ends the run, so that this one is never `Spent`.
         Err(TakeFault::NoMemory | TakeFault::Spent) => return Err(RunFault::NoMemory),
@@ -234,15 +275,17 @@ fn write_shown<O: Sink>(
 #[tactic(auto, using(crate::proofs::WantedLemmas::enough_truth))]
 fn take_chosen(plan: &Plan, frame: &Frame, dissector: &mut Dissector) -> Result<Tree, TakeFault>
     requires enough { IsEnough dissector.old.wanted plan.now }
+    requires rules { dissector.old.decode.rules ≡ rules_of plan.now }
     requires written { IsSome (written_of plan.now) }
     requires number { frame.now.number ≡ dissector.old.taken + 1 }
     requires time { IfSome frame.now.time IsTime }
     requires captured { dissector.old.captured + length frame.now.bytes ≤ 2 ^ 28 }
     ensures truth { IfOk result (λ tree. (past : List FrameValue) → StandsWithin past dissector.old
-        → is_satisfied plan.now.filter tree ≡ is_satisfied plan.now.filter (tree_at past frame.now)) }
+        → lets plan.now tree ≡ lets_frame plan.now past frame.now) }
     ensures stands { OnOk result ((past : List FrameValue) → StandsWithin past dissector.old
         → StandsWithin (frame.now ∷ past) dissector.new) }
     ensures kept { dissector.new.wanted ≡ dissector.old.wanted }
+    ensures rules { dissector.new.decode ≡ dissector.old.decode }
     ensures taken { OnOk result (dissector.new.taken ≡ dissector.old.taken + 1) }
     ensures captured { OnOk result (dissector.new.captured
         ≡ dissector.old.captured + length frame.now.bytes) }
@@ -261,6 +304,7 @@ fn write_chosen<O: Sink>(
     out: &mut O,
 ) -> Result<bool, RunFault>
     requires enough { IsEnough dissector.old.wanted plan.now }
+    requires rules { dissector.old.decode.rules ≡ rules_of plan.now }
     requires written { IsSome (written_of plan.now) }
     requires number { frame.now.number ≡ dissector.old.taken + 1 }
     requires time { IfSome frame.now.time IsTime }
@@ -268,15 +312,16 @@ fn write_chosen<O: Sink>(
     ensures stands { OnOk result ((past : List FrameValue) → StandsWithin past dissector.old
         → StandsWithin (frame.now ∷ past) dissector.new) }
     ensures kept { dissector.new.wanted ≡ dissector.old.wanted }
+    ensures rules { dissector.new.decode ≡ dissector.old.decode }
     ensures taken { OnOk result (dissector.new.taken ≡ dissector.old.taken + 1) }
     ensures captured { OnOk result (dissector.new.captured
         ≡ dissector.old.captured + length frame.now.bytes) }
     ensures packed { IfOk result (λ fit. (past chosen : List FrameValue) → StandsWithin past dissector.old
-        → Written writer.old chosen → IsPacked fit (is_satisfied plan.now.filter (tree_at past frame.now))
+        → Written writer.old chosen → IsPacked fit (lets_frame plan.now past frame.now)
         writer.old.format frame.now writer.new chosen (O.written out.old) (O.written out.new)) }
     ensures part { (past chosen : List FrameValue) → StandsWithin past dissector.old → Written writer.old chosen
         → AppendsPart (O.written out.old) (O.written out.new)
-        (fit_packet (is_satisfied plan.now.filter (tree_at past frame.now)) writer.old.format chosen frame.now) }
+        (fit_packet (lets_frame plan.now past frame.now) writer.old.format chosen frame.now) }
     ensures read { IsErrOf result RunFault.ReadFault → ⊥ }
     ensures fault { IsErrOf result RunFault.WriteFault
         → Rose (O.faults out.old) (O.faults out.new) }
@@ -287,7 +332,7 @@ fn write_chosen<O: Sink>(
         // The first error ends the run, so that this one is never `Spent`.
         Err(TakeFault::NoMemory | TakeFault::Spent) => return Err(RunFault::NoMemory),
     };
-    match write_packet(alloc, &plan.filter, frame, &tree, writer, out) {
+    match write_packet(alloc, plan, frame, &tree, writer, out) {
         Ok(fit) => Ok(fit),
         Err(SinkFault::Failed) => Err(RunFault::WriteFault),
         Err(SinkFault::NoMemory) => Err(RunFault::NoMemory),
@@ -305,25 +350,27 @@ fn write_frame<O: Sink>(
     out: &mut O,
 ) -> Result<bool, RunFault>
     requires enough { IsEnough dissector.old.wanted plan.now }
+    requires rules { dissector.old.decode.rules ≡ rules_of plan.now }
     requires lines { lines.old.writer ≡ plan.now.fields }
-    requires few { AreFew (2 ^ 28) lines.old.totals }
+    requires few { AreFewNotes (2 ^ 28) lines.old.notes }
     requires number { frame.now.number ≡ dissector.old.taken + 1 }
     requires time { IfSome frame.now.time IsTime }
     requires captured { dissector.old.captured + length frame.now.bytes ≤ 2 ^ 28 }
     ensures stands { OnOk result ((past : List FrameValue) → StandsWithin past dissector.old
         → StandsWithin (frame.now ∷ past) dissector.new) }
     ensures kept { dissector.new.wanted ≡ dissector.old.wanted }
+    ensures rules { dissector.new.decode ≡ dissector.old.decode }
     ensures taken { OnOk result (dissector.new.taken ≡ dissector.old.taken + 1) }
     ensures captured { OnOk result (dissector.new.captured
         ≡ dissector.old.captured + length frame.now.bytes) }
     ensures after { IfOk result (λ fit. (past : List FrameValue) → StandsWithin past dissector.old
-        → KeepsUp (written_of plan.now) plan.now past lines.old.totals lines.old.capture
-        → IsAfterFrame fit plan.now past frame.now lines.new.totals lines.new.capture
+        → KeepsUp (written_of plan.now) plan.now past lines.old.notes lines.old.capture
+        → IsAfterFrame fit plan.now past frame.now lines.new.notes lines.new.capture
         (O.written out.old) (O.written out.new)) }
     ensures part { (past : List FrameValue) → StandsWithin past dissector.old
-        → KeepsUp (written_of plan.now) plan.now past lines.old.totals lines.old.capture
+        → KeepsUp (written_of plan.now) plan.now past lines.old.notes lines.old.capture
         → AppendsPart (O.written out.old) (O.written out.new) (fit_piece plan.now past frame.now) }
-    ensures few { (most : ℕ) → AreFew most lines.old.totals → AreFew (suc most) lines.new.totals }
+    ensures few { (most : ℕ) → AreFewNotes most lines.old.notes → AreFewNotes (suc most) lines.new.notes }
     ensures writer { lines.new.writer ≡ lines.old.writer }
     ensures read { IsErrOf result RunFault.ReadFault → ⊥ }
     ensures fault { IsErrOf result RunFault.WriteFault
@@ -375,9 +422,10 @@ fn write_rest<C: Capture, O: Sink>(
     out: &mut O,
 ) -> Result<RunEnding, RunFault>
     requires enough { IsEnough dissector.old.wanted plan.now }
+    requires rules { dissector.old.decode.rules ≡ rules_of plan.now }
     requires lines { lines.old.writer ≡ plan.now.fields }
-    requires totals { lines.old.totals ≡ counts_of plan.now [] }
-    requires keeps { KeepsUp (written_of plan.now) plan.now [] lines.old.totals lines.old.capture }
+    requires totals { lines.old.notes.totals ≡ counts_of plan.now [] }
+    requires keeps { KeepsUp (written_of plan.now) plan.now [] lines.old.notes lines.old.capture }
     requires reads { (left : List ℕ) → StandsFor reader.old (Some left) left [] }
     requires number { reader.old.state.number ≡ 1 }
     requires at { reader.old.state.at ≡ 0 }
@@ -390,8 +438,9 @@ fn write_rest<C: Capture, O: Sink>(
         WrotePieces plan.now (frames_read plan.now file) (O.written out.old) (O.written out.new)
         × (ending ≡ (frames_read plan.now file).ending))) }
     ensures read { OnOk result (IfSome (C.left capture.old) (λ file.
-        HasRead plan.now file dissector.new lines.new.totals lines.new.capture)) }
+        HasRead plan.now file dissector.new lines.new.notes lines.new.capture)) }
     ensures enough { OnOk result (IsEnough dissector.new.wanted plan.now) }
+    ensures taken { OnOk result (HasTaken dissector.new) }
     ensures full { OnOk result (IfSome (C.left capture.old) (λ file.
         IsFullNearOf plan.now file (C.left capture.new))) }
     ensures part { IfSome (C.left capture.old) (λ file.
@@ -433,55 +482,35 @@ fn write_rest<C: Capture, O: Sink>(
     }
 }
 
-// What stands behind the lines of the frames.
-#[tactic(auto, using(crate::proofs::ClosingLemmas::no_closing))]
-fn closing_line(
+// Writes the reports, and over a generated capture the line of what was counted.
+#[tactic(auto, using(crate::proofs::ClosingLemmas::behind_lines, crate::proofs::ClosingLemmas::behind_reports, crate::proofs::ClosingLemmas::among_reports, crate::proofs::WantedLemmas::reports_need))]
+fn write_behind_lines<O: Sink>(
     alloc: Global,
     plan: &Plan,
     dissector: &Dissector,
-    totals: Totals,
-) -> Result<String, NoMemory>
-    requires enough { IsEnough dissector.now.wanted plan.now }
-    requires lines { written_of plan.now ≡ None }
-    ensures { IfOk result (λ line. (past : List FrameValue) → StandsWithin past dissector.now
-        → totals ≡ counts_of plan.now past → string_bytes line ≡ closing plan.now past) }
-{
-    if plan.source.is_generated() {
-        match self_run_line(alloc, dissector, totals) {
-            Ok(line) => Ok(line),
-            Err(error) => Err(error),
-        }
-    } else {
-        Ok(String::new(alloc))
-    }
-}
-
-fn write_closing_line<O: Sink>(
-    alloc: Global,
-    plan: &Plan,
-    dissector: &Dissector,
-    totals: Totals,
+    notes: &Notes,
     out: &mut O,
 ) -> Result<(), SinkFault>
     requires enough { IsEnough dissector.now.wanted plan.now }
+    requires taken { HasTaken dissector.now }
     requires lines { written_of plan.now ≡ None }
     ensures whole { OnOk result ((past : List FrameValue) → StandsWithin past dissector.now
-        → totals ≡ counts_of plan.now past
+        → AreNotes plan.now past notes.now
         → Appends (O.written out.old) (O.written out.new) (closing plan.now past)) }
     ensures part { (past : List FrameValue) → StandsWithin past dissector.now
-        → totals ≡ counts_of plan.now past
+        → AreNotes plan.now past notes.now
         → AppendsPart (O.written out.old) (O.written out.new) (closing plan.now past) }
     ensures fault { IsErrOf result SinkFault.Failed → Rose (O.faults out.old) (O.faults out.new) }
     ensures faults_stay { O.faults out.old ≤ O.faults out.new }
 {
-    let line = match closing_line(alloc, plan, dissector, totals) {
-        Ok(line) => line,
-        Err(NoMemory) => return Err(SinkFault::NoMemory),
-    };
-    if line.is_empty() {
-        return Ok(());
+    match write_reports(alloc, plan, dissector, notes, plan.reports.slice(), out) {
+        Ok(()) => {}
+        Err(fault) => return Err(fault),
     }
-    write_whole(out, line.as_bytes())
+    match write_counts(alloc, plan, dissector, notes, out) {
+        Ok(()) => Ok(()),
+        Err(fault) => Err(fault),
+    }
 }
 
 // Writes what stands behind the lines of the frames, or at the end of the capture.
@@ -493,12 +522,13 @@ fn write_closing<O: Sink>(
     lines: &mut LineMaker,
     out: &mut O,
 ) -> Result<(), SinkFault>
-    requires { IsEnough dissector.now.wanted plan.now }
+    requires enough { IsEnough dissector.now.wanted plan.now }
+    requires taken { HasTaken dissector.now }
     ensures whole { OnOk result ((past : List FrameValue)
-        → CanClose (written_of plan.now) plan.now past dissector.now lines.old.totals lines.old.capture
+        → CanClose (written_of plan.now) plan.now past dissector.now lines.old.notes lines.old.capture
         → Appends (O.written out.old) (O.written out.new) (closing plan.now past)) }
     ensures part { (past : List FrameValue)
-        → CanClose (written_of plan.now) plan.now past dissector.now lines.old.totals lines.old.capture
+        → CanClose (written_of plan.now) plan.now past dissector.now lines.old.notes lines.old.capture
         → AppendsPart (O.written out.old) (O.written out.new) (closing plan.now past) }
     ensures fault { IsErrOf result SinkFault.Failed → Rose (O.faults out.old) (O.faults out.new) }
     ensures faults_stay { O.faults out.old ≤ O.faults out.new }
@@ -511,7 +541,7 @@ fn write_closing<O: Sink>(
                 Err(fault) => Err(fault),
             }
         }
-        None => match write_closing_line(alloc, plan, dissector, lines.totals, out) {
+        None => match write_behind_lines(alloc, plan, dissector, &lines.notes, out) {
             Ok(()) => Ok(()),
             Err(fault) => Err(fault),
         },
@@ -529,9 +559,10 @@ fn write_body<C: Capture, O: Sink>(
     out: &mut O,
 ) -> Result<RunEnding, RunFault>
     requires enough { IsEnough dissector.old.wanted plan.now }
+    requires rules { dissector.old.decode.rules ≡ rules_of plan.now }
     requires lines { lines.old.writer ≡ plan.now.fields }
-    requires totals { lines.old.totals ≡ counts_of plan.now [] }
-    requires keeps { KeepsUp (written_of plan.now) plan.now [] lines.old.totals lines.old.capture }
+    requires totals { lines.old.notes.totals ≡ counts_of plan.now [] }
+    requires keeps { KeepsUp (written_of plan.now) plan.now [] lines.old.notes lines.old.capture }
     requires reads { (left : List ℕ) → StandsFor reader.old (Some left) left [] }
     requires number { reader.old.state.number ≡ 1 }
     requires at { reader.old.state.at ≡ 0 }
@@ -602,8 +633,11 @@ fn write_frames<C: Capture, O: Sink>(
         Ok(lines) => lines,
         Err(NoMemory) => return Err(RunFault::NoMemory),
     };
+    let mut dissector = match new_dissector(alloc, plan, needed_fields(plan)) {
+        Ok(dissector) => dissector,
+        Err(NoMemory) => return Err(RunFault::NoMemory),
+    };
     let mut reader = FrameReader::new(alloc);
-    let mut dissector = new_dissector(alloc, needed_fields(plan));
     write_body(
         alloc,
         plan,

@@ -1,5 +1,6 @@
 ghost use Rattle.std.specs.Prelude.{◌≡◌};
 
+use crate::rules::PlanRules;
 use crate::source::PlanSource;
 use capture_write::Format;
 use flt_parse::FilterFault;
@@ -7,7 +8,7 @@ use flt_types::Filter;
 use out_lines::Style;
 use pk_base::{NoMemory, Octets};
 use pk_fields::FieldId;
-use shark_words::{LineKind, WordFault};
+use shark_words::{LineKind, ReportList, WordFault};
 use std::alloc::{AllocError, AllocFailed};
 use std::marker::Model;
 
@@ -50,6 +51,10 @@ pub struct Plan {
     pub fields: FieldList,
     /// How many frames are read at most, where there is a limit.
     pub most: Option<u32>,
+    /// The rules that take the place of the usual applications of ports.
+    pub decode: PlanRules,
+    /// The reports behind the lines, in order.
+    pub reports: ReportList,
     /// The kind of line.
     pub kind: LineKind,
     /// How the lines of fields are written.

@@ -1,15 +1,23 @@
 // The line over a generated capture.
-ghost use Rattle.std.specs.Prelude.{◌≡◌, true, IfOk, List, Option, string_bytes};
+ghost use Rattle.std.specs.Prelude.{◌≡◌, ◌≤◌, true, IfOk, IsErrOf, List, OnOk, string_bytes};
+ghost use Rattle.std.specs.Io.KnownBytes.{Appends};
 ghost use Rattle.capture_read.specs.declared.frame.Frame.{Frame as FrameValue};
 ghost use Rattle.dissect.specs.Followed.{asks_streams};
 ghost use Rattle.dissect.specs.Stands.{StandsWithin};
-ghost use Rattle.flt_types.specs.declared.typed.Typed.{Typed};
+ghost use Rattle.shark_run.specs.declared.plan.Plan.{Plan as PlanValue};
+ghost use Rattle.pk_outside.specs.Outside.{AppendsPart, Rose};
+ghost use Rattle.shark_run.specs.Lines.{counted_line as line_counted};
+ghost use Rattle.shark_run.specs.Notes.{AreNotes};
 ghost use Rattle.shark_run.specs.SelfRun.{counts_text, self_run_line as line_of_frames};
 ghost use Rattle.shark_run.specs.Totals.{totals_of};
+ghost use Rattle.shark_run.specs.Wanted.{IsEnough};
 
+use crate::notes::Notes;
+use crate::plan::Plan;
 use crate::totals::Totals;
 use dissect::Dissector;
 use pk_base::NoMemory;
+use pk_outside::{Sink, SinkFault, write_whole};
 use std::alloc::Global;
 
 // The line of these counts.
@@ -28,16 +36,12 @@ fn counts_line(alloc: Global, totals: Totals, tcp: u32, udp: u32) -> Result<Stri
     )?)
 }
 
-/// The line over all frames that a dissector has taken, of which these are the totals.
-pub(crate) fn self_run_line(
-    alloc: Global,
-    dissector: &Dissector,
-    totals: Totals,
-) -> Result<String, NoMemory>
+// The line over all frames that a dissector has taken, of which these are the totals.
+fn self_run_line(alloc: Global, dissector: &Dissector, totals: Totals) -> Result<String, NoMemory>
     requires { asks_streams dissector.now.wanted ≡ true }
-    ensures { IfOk result (λ line. (filter : Option Typed) (past : List FrameValue)
-        → StandsWithin past dissector.now → totals ≡ totals_of filter past
-        → string_bytes line ≡ line_of_frames filter past) }
+    ensures { IfOk result (λ line. (plan : PlanValue) (past : List FrameValue)
+        → StandsWithin past dissector.now → totals ≡ totals_of plan past
+        → string_bytes line ≡ line_of_frames plan past) }
 {
     let tcp = dissector.streams().count();
     let udp = dissector.udp_count();
@@ -45,4 +49,54 @@ pub(crate) fn self_run_line(
         Ok(line) => Ok(line),
         Err(error) => Err(error),
     }
+}
+
+// Over a generated capture, the line of what was counted.
+#[tactic(auto, using(crate::proofs::ClosingLemmas::no_counts))]
+fn counted_line(
+    alloc: Global,
+    plan: &Plan,
+    dissector: &Dissector,
+    notes: &Notes,
+) -> Result<String, NoMemory>
+    requires { IsEnough dissector.now.wanted plan.now }
+    ensures { IfOk result (λ line. (past : List FrameValue) → StandsWithin past dissector.now
+        → AreNotes plan.now past notes.now → string_bytes line ≡ line_counted plan.now past) }
+{
+    if plan.source.is_generated() {
+        match self_run_line(alloc, dissector, notes.totals) {
+            Ok(line) => Ok(line),
+            Err(error) => Err(error),
+        }
+    } else {
+        Ok(String::new(alloc))
+    }
+}
+
+/// Writes that line.
+pub(crate) fn write_counts<O: Sink>(
+    alloc: Global,
+    plan: &Plan,
+    dissector: &Dissector,
+    notes: &Notes,
+    out: &mut O,
+) -> Result<(), SinkFault>
+    requires { IsEnough dissector.now.wanted plan.now }
+    ensures whole { OnOk result ((past : List FrameValue) → StandsWithin past dissector.now
+        → AreNotes plan.now past notes.now
+        → Appends (O.written out.old) (O.written out.new) (line_counted plan.now past)) }
+    ensures part { (past : List FrameValue) → StandsWithin past dissector.now
+        → AreNotes plan.now past notes.now
+        → AppendsPart (O.written out.old) (O.written out.new) (line_counted plan.now past) }
+    ensures fault { IsErrOf result SinkFault.Failed → Rose (O.faults out.old) (O.faults out.new) }
+    ensures faults_stay { O.faults out.old ≤ O.faults out.new }
+{
+    let line = match counted_line(alloc, plan, dissector, notes) {
+        Ok(line) => line,
+        Err(NoMemory) => return Err(SinkFault::NoMemory),
+    };
+    if line.is_empty() {
+        return Ok(());
+    }
+    write_whole(out, line.as_bytes())
 }

@@ -1,64 +1,133 @@
 // The fields that a plan asks for.
-ghost use Rattle.std.specs.Prelude.{◌≡◌, ℕ, true, false, None};
+ghost use Rattle.std.specs.Prelude.{◌≡◌, ℕ, true};
+ghost use Rattle.cap_stats.specs.Laws.{fields_of as table_fields};
 ghost use Rattle.pk_fields.specs.FieldSets.{is_in};
-ghost use Rattle.shark_run.specs.Accessors.{is_generated, written_of};
-ghost use Rattle.shark_run.specs.Wanted.{HasAsked, HasFields, HasPlan, IsEnough};
+ghost use Rattle.shark_run.specs.Accessors.{needs_streams as are_streams_needed};
+ghost use Rattle.shark_run.specs.Tables.{asks_table};
+ghost use Rattle.shark_run.specs.Wanted.{HasAsked, HasFields, HasPlan, HasTables, IsEnough, shows_whole, summary_fields, sums_up as are_summed_up};
 ghost use Rattle.dissect.specs.Followed.{asks_streams};
 
 use crate::plan::Plan;
+use crate::tables::asks;
+use cap_stats::StatKind;
 use flt_types::{Filter, add_fields};
 use pk_fields::{FieldId, FieldSet, ids};
 use shark_words::LineKind;
 
-/// The fields that the output is made from: over a generated capture those of the filter and what counts streams, and where frames
-/// are written those of the filter.
-#[tactic(auto, using(crate::proofs::WantedLemmas::enough_generated, crate::proofs::WantedLemmas::enough_written))]
+/// The fields that the output is made from: all for lines of JSON, else those of the filter, of the lines and of the tables, and
+/// what tells of streams where the names of all protocols are shown or something is asked for behind the lines.
+#[tactic(auto, using(crate::proofs::WantedLemmas::enough_all, crate::proofs::WantedLemmas::enough_followed, crate::proofs::WantedLemmas::enough_none, crate::proofs::WantedLemmas::enough_plain))]
 pub(crate) fn needed_fields(plan: &Plan) -> FieldSet
     ensures { IsEnough result plan.now }
 {
-    if plan.source.is_generated() {
-        return counted_fields(plan);
+    if shows_trees(plan) {
+        return FieldSet::all();
     }
-    match plan.written {
-        Some(_) => wanted_fields(plan),
-        None => line_fields(plan),
+    if needs_streams(plan) || sums_up(plan) {
+        return followed_fields(plan);
     }
-}
-
-/// The fields that lines are made from: none where there are no lines, and all for lines of text and JSON.
-#[tactic(auto, using(crate::proofs::WantedLemmas::enough_none))]
-fn line_fields(plan: &Plan) -> FieldSet
-    requires lines { written_of plan.now ≡ None }
-    requires file { is_generated plan.now ≡ false }
-    ensures { IsEnough result plan.now }
-{
-    if plan.quiet {
+    if plan.quiet && plan.written.is_none() {
         return FieldSet::none();
     }
+    wanted_fields(plan)
+}
+
+// Whether whole trees are shown.
+fn shows_trees(plan: &Plan) -> bool
+    ensures { result ≡ shows_whole plan.now }
+{
+    if plan.written.is_some() || plan.source.is_generated() || plan.quiet {
+        return false;
+    }
     match plan.kind {
-        LineKind::Text | LineKind::Json => FieldSet::all(),
-        LineKind::Fields => wanted_fields(plan),
+        LineKind::Json => true,
+        LineKind::Text | LineKind::Fields => false,
     }
 }
 
-/// The fields of a plan, and one of the streams of TCP.
-fn counted_fields(plan: &Plan) -> FieldSet
+// Whether frames are summed up.
+fn sums_up(plan: &Plan) -> bool
+    ensures { result ≡ are_summed_up plan.now }
+{
+    if plan.written.is_some() || plan.source.is_generated() || plan.quiet {
+        return false;
+    }
+    match plan.kind {
+        LineKind::Text => true,
+        LineKind::Json | LineKind::Fields => false,
+    }
+}
+
+// Whether something behind the lines may be told by streams of TCP.
+fn needs_streams(plan: &Plan) -> bool
+    ensures { result ≡ are_streams_needed plan.now }
+{
+    plan.source.is_generated() || !plan.reports.slice().is_empty()
+}
+
+/// The fields of a plan and of its tables, and one of the streams of TCP.
+fn followed_fields(plan: &Plan) -> FieldSet
     ensures plan { HasPlan result plan.now }
+    ensures tables { HasTables result plan.now }
     ensures streams { asks_streams result ≡ true }
 {
     let mut wanted = wanted_fields(plan);
+    add_tables(plan, &mut wanted);
     wanted.add(ids::TCP_STREAM);
     wanted
 }
 
-/// The fields of a plan's filter and of its columns.
+fn add_tables(plan: &Plan, wanted: &mut FieldSet)
+    ensures tables { HasTables wanted.new plan.now }
+    ensures kept { (f : ℕ) → is_in wanted.old f ≡ true → is_in wanted.new f ≡ true }
+{
+    add_table(plan, StatKind::ConvTcp, wanted);
+    add_table(plan, StatKind::ConvIp, wanted);
+    add_table(plan, StatKind::Phs, wanted);
+}
+
+// The fields of the table of a kind, where it is asked for.
+fn add_table(plan: &Plan, kind: StatKind, wanted: &mut FieldSet)
+    ensures fields { asks_table plan.now kind ≡ true → HasFields wanted.new (table_fields kind) }
+    ensures kept { (f : ℕ) → is_in wanted.old f ≡ true → is_in wanted.new f ≡ true }
+{
+    if asks(plan, kind) {
+        cap_stats::add_fields(kind, wanted);
+    }
+}
+
+/// The fields of a plan's filter, of its columns, and of the lines that sum up frames.
 fn wanted_fields(plan: &Plan) -> FieldSet
     ensures { HasPlan result plan.now }
 {
     let mut wanted = FieldSet::none();
     add_filter(&plan.filter, &mut wanted);
     add_columns(plan.fields.slice(), &mut wanted);
+    add_summary(plan, &mut wanted);
     wanted
+}
+
+// The fields of the lines that sum up frames, where these are written.
+fn add_summary(plan: &Plan, wanted: &mut FieldSet)
+    ensures summary { are_summed_up plan.now ≡ true → HasFields wanted.new summary_fields }
+    ensures kept { (f : ℕ) → is_in wanted.old f ≡ true → is_in wanted.new f ≡ true }
+{
+    if sums_up(plan) {
+        add_columns(
+            &[
+                ids::FRAME_NUMBER,
+                ids::FRAME_TIME_RELATIVE,
+                ids::FRAME_LEN,
+                ids::ETH_SRC,
+                ids::ETH_DST,
+                ids::IP_SRC,
+                ids::IP_DST,
+                ids::IPV6_SRC,
+                ids::IPV6_DST,
+            ],
+            wanted,
+        );
+    }
 }
 
 fn add_filter(filter: &Option<Filter>, wanted: &mut FieldSet)

@@ -11,13 +11,14 @@ ghost use Rattle.shark_run.specs.Source.{source_in as source_asked};
 
 use crate::generated::Generated;
 use crate::plan::{FieldList, Plan, PlanError, Refused};
+use crate::rules::{PlanRules, copy_of};
 use crate::source::PlanSource;
 use crate::text::Text;
 use flt_parse::FilterError;
 use flt_types::{Filter, read_filter};
 use pk_base::{NoMemory, Octets};
 use pk_fields::{FieldId, by_name};
-use shark_words::{Options, Source, WordsError, read_words};
+use shark_words::{Options, ReportList, Source, WordsError, read_words};
 use std::alloc::Global;
 use std::str;
 
@@ -84,6 +85,12 @@ fn source_in(alloc: Global, source: &Source) -> Result<PlanSource, NoMemory>
     }
 }
 
+fn reports_in(alloc: Global, reports: &ReportList) -> Result<ReportList, NoMemory>
+    ensures { IfOk result (λ found. found ≡ reports.now) }
+{
+    Ok(ReportList::from_vec(Vec::from_slice(alloc, reports.slice())?))
+}
+
 #[tactic(auto, using(crate::proofs::PlanLemmas::names_refused))]
 fn plan_with(alloc: Global, options: &Options) -> Result<Plan, PlanError>
     requires utf8 { AreUtf8 options.now }
@@ -98,6 +105,8 @@ fn plan_with(alloc: Global, options: &Options) -> Result<Plan, PlanError>
         filter,
         fields,
         most: options.most,
+        decode: PlanRules::new(copy_of(alloc, &options.decode.rules)?),
+        reports: reports_in(alloc, &options.reports)?,
         kind: options.kind,
         style: options.style,
         quiet: options.quiet,

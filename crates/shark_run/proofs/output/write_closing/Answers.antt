@@ -3,10 +3,10 @@ use Rattle.shark_run.proofs.output.write_closing.Goals as goal
 
 pub returns-in-Ok-clause-part : goal.returns-in-Ok-clause-part
 returns-in-Ok-clause-part g c =
-    closed_capture_part c.in-Some.format c.args.plan.now c.args.dissector.now c.args.lines.now.totals c.args.lines.now.capture (g.O.Sink.written c.args.out.now) (g.O.Sink.written c.write_end.new.out)
+    closed_capture_part c.in-Some.format c.args.plan.now c.args.dissector.now c.args.lines.now.notes c.args.lines.now.capture (g.O.Sink.written c.args.out.now) (g.O.Sink.written c.write_end.new.out)
     c.in-Some.is (rw c.replace-writer.ensures.value at c.write_end.ensures.part)
 
 pub returns-in-Err-clause-part : goal.returns-in-Err-clause-part
 returns-in-Err-clause-part g c =
-    closed_capture_part c.in-Some.format c.args.plan.now c.args.dissector.now c.args.lines.now.totals c.args.lines.now.capture (g.O.Sink.written c.args.out.now) (g.O.Sink.written c.write_end.new.out)
+    closed_capture_part c.in-Some.format c.args.plan.now c.args.dissector.now c.args.lines.now.notes c.args.lines.now.capture (g.O.Sink.written c.args.out.now) (g.O.Sink.written c.write_end.new.out)
     c.in-Some.is (rw c.replace-writer.ensures.value at c.write_end.ensures.part)

@@ -1,7 +1,10 @@
-use Rattle.std.proofs.Common.{◌≡◌, ◌≤◌, ◌-◌, suc}
+use Rattle.std.proofs.Common.{◌≡◌, ◌≤◌, ◌-◌, suc, List}
+use Rattle.capture_read.specs.declared.frame.Frame.{Frame}
+use Rattle.dissect.specs.Stands.{StandsWithin}
+use Rattle.shark_run.specs.Accessors.{rules_of}
 use Rattle.pk_base.specs.Limits.{file_limit}
 use Rattle.capture_read.specs.Taken.{TookAtMost}
-use Rattle.shark_run.specs.Totals.{AreFew}
+use Rattle.shark_run.specs.Notes.{AreFewNotes}
 use Rattle.shark_run.proofs.Together.{AreTogether}
 use Rattle.shark_run.proofs.WayLemmas.{AreOnTheWay}
 use Rattle.shark_run.specs.Wanted.{IsEnough}
@@ -9,12 +12,14 @@ use Rattle.shark_run.proofs.output.write_rest.Given as goal
 
 abbrev pub invariant-loop-alloc : goal.invariant-loop-alloc
 invariant-loop-alloc g l = record {
-  way : AreOnTheWay l.plan l.most (g.C.Capture.left l.fn.capture) l.reader (g.C.Capture.left l.capture) l.dissector l.lines.totals l.lines.capture (g.O.Sink.written l.fn.out) (g.O.Sink.written l.out);
+  way : AreOnTheWay l.plan l.most (g.C.Capture.left l.fn.capture) l.reader (g.C.Capture.left l.capture) l.dissector l.lines.notes l.lines.capture (g.O.Sink.written l.fn.out) (g.O.Sink.written l.out);
   together : AreTogether l.reader.state l.dissector;
   took : TookAtMost (suc file_limit) (g.C.Capture.left l.fn.capture) (g.C.Capture.left l.capture);
   wanted : IsEnough l.dissector.wanted l.plan;
+  rules : l.dissector.decode.rules ≡ rules_of l.plan;
+  stands : (past : List Frame) × StandsWithin past l.dissector;
   writer : l.lines.writer ≡ l.plan.fields;
-  few : AreFew l.dissector.taken l.lines.totals;
+  few : AreFewNotes l.dissector.taken l.lines.notes;
   asked : g.C.Capture.asked l.capture ≡ g.C.Capture.asked l.fn.capture;
   begun : g.C.Capture.begun l.capture ≡ g.C.Capture.begun l.fn.capture;
   missed : g.C.Capture.missed l.capture ≡ g.C.Capture.missed l.fn.capture;

@@ -1,10 +1,14 @@
-use Rattle.std.proofs.Common.{ℕ, List, subst}
+use Rattle.std.proofs.Common.{◌≡◌, ℕ, true, List, subst}
+use Rattle.pk_fields.specs.FieldSets.{is_in}
 use Rattle.shark_run.specs.Wanted.{HasFields}
-use Rattle.shark_run.proofs.WantedLemmas.{still_asked}
+use Rattle.shark_run.proofs.WantedLemmas.{grown_columns, still_asked}
 use Rattle.shark_run.proofs.wanted.wanted_fields.Goals as goal
 
 pub returns : goal.returns
 returns c = record {
-  filter = still_asked c.add_filter.new.wanted c.add_columns.new.wanted c.args.plan.now.filter c.add_filter.ensures c.add_columns.ensures.kept;
-  columns = subst (λ (fields : List ℕ). HasFields c.add_columns.new.wanted fields) c.slice.ensures c.add_columns.ensures.all;
+  filter = still_asked c.add_filter.new.wanted c.add_summary.new.wanted c.args.plan.now.filter c.add_filter.ensures
+      (λ f is. c.add_summary.ensures.kept f (c.add_columns.ensures.kept f is));
+  columns = grown_columns c.add_columns.new.wanted c.add_summary.new.wanted c.args.plan.now.fields
+      (subst (λ (fields : List ℕ). HasFields c.add_columns.new.wanted fields) c.slice.ensures c.add_columns.ensures.all) c.add_summary.ensures.kept;
+  summary = c.add_summary.ensures.summary;
 }

@@ -1,0 +1,69 @@
+// What is noted of frames beside their lines.
+ghost use Rattle.std.specs.Prelude.{◌≡◌, ◌^◌, ℕ, suc, List, [], OnOk};
+ghost use Rattle.pk_tree.specs.Trees.{TreeShown};
+ghost use Rattle.shark_run.specs.Notes.{AreFewNotes, AreNotes};
+ghost use Rattle.shark_run.specs.Tables.{AreTables, trees_with};
+ghost use Rattle.shark_run.specs.Totals.{AreFew, counts_of, counts_with};
+ghost use Rattle.shark_run.specs.Trees.{lets};
+
+use crate::plan::Plan;
+use crate::tables::Tables;
+use crate::totals::Totals;
+use pk_base::NoMemory;
+use pk_tree::Tree;
+use std::alloc::Global;
+
+/// What is noted of the frames that were taken, for what stands behind their lines.
+#[derive(Drop)]
+pub(crate) struct Notes {
+    pub(crate) totals: Totals,
+    pub(crate) tables: Tables,
+}
+
+impl Notes {
+    pub(crate) fn new(alloc: Global, plan: &Plan) -> Notes
+        ensures totals { result.totals ≡ counts_of plan.now [] }
+        ensures notes { AreNotes plan.now [] result }
+    {
+        Notes {
+            totals: Totals::none(),
+            tables: Tables::new(alloc, plan),
+        }
+    }
+
+    /// One tree more, which the filter lets through or not.
+    #[tactic(auto, using(crate::proofs::NoteLemmas::tables_left, crate::proofs::NoteLemmas::tables_more))]
+    pub(crate) fn note(&mut self, plan: &Plan, tree: &Tree, satisfied: bool) -> Result<(), NoMemory>
+        requires few { AreFewNotes (2 ^ 28) self.old }
+        requires truth { satisfied ≡ lets plan.now tree.now }
+        ensures totals { OnOk result (self.new.totals ≡ counts_with plan.now tree.now self.old.totals) }
+        ensures tables { OnOk result ((trees : List TreeShown) → AreTables plan.now trees self.old.tables
+            → AreTables plan.now (trees_with plan.now tree.now trees) self.new.tables) }
+        ensures few { (most : ℕ) → AreFewNotes most self.old → AreFewNotes (suc most) self.new }
+    {
+        self.totals = totals_after(plan, tree, satisfied, self.totals);
+        if satisfied {
+            match self.tables.note(tree) {
+                Ok(()) => Ok(()),
+                Err(error) => Err(error),
+            }
+        } else {
+            Ok(())
+        }
+    }
+}
+
+// The totals with one tree more, where they are counted.
+#[tactic(auto, using(crate::proofs::TotalsLemmas::few_suc))]
+fn totals_after(plan: &Plan, tree: &Tree, satisfied: bool, totals: Totals) -> Totals
+    requires few { AreFew (2 ^ 28) totals }
+    requires truth { satisfied ≡ lets plan.now tree.now }
+    ensures value { result ≡ counts_with plan.now tree.now totals }
+    ensures few { (most : ℕ) → AreFew most totals → AreFew (suc most) result }
+{
+    if plan.source.is_generated() {
+        totals.with(tree, satisfied)
+    } else {
+        totals
+    }
+}
