@@ -56,7 +56,7 @@ static NAMES: [Run; 3] = [
 
 /// `GET / HTTP/1.1` with one field line, out of order behind a SYN, over numbers that wrap. The last segment is the second
 /// again.
-const REQUEST_OUT_OF_ORDER: [&str; 11] = [
+pub(crate) const REQUEST_OUT_OF_ORDER: [&str; 11] = [
     RAW,
     "00000000 00000000 28000000 28000000",
     "45000028 00000000 40060000 0a000001 0a000002 9c40 0050 fffffff0 00000000 5002 ffff 0000 0000",
@@ -232,7 +232,7 @@ static RESPONSES: [Run; 3] = [
 
 /// A browser's frames: a query of DNS and its answer, a handshake, a request, and a response in five segments, in chunks
 /// and compressed. Frames 8 and 10 are of another connection.
-const BROWSER: [&str; 27] = [
+pub(crate) const BROWSER: [&str; 27] = [
     RAW,
     "00000000 00000000 34000000 34000000",
     "45000034 00000000 40110000 0a000001 0a000009 9c40 0035 0020 0000 000101000001000000000000016804746573740000010001",

@@ -63,7 +63,7 @@ fn a_read_that_fails_is_no_end_of_the_file(rt: HostRuntime) -> Result<(), Fail> 
 }
 
 /// Three requests, of which the first two end at bytes 100 and 176.
-static THREE_REQUESTS: [&str; 10] = [
+pub(crate) static THREE_REQUESTS: [&str; 10] = [
     HEADER,
     REQUEST_HEAD,
     REQUEST,

@@ -551,7 +551,7 @@ fn segment_of(words: &str) -> Option<Segment<'_>> {
 }
 
 /// A record of so many bytes at time 0, and an IPv4 header that tells this length, up to its addresses.
-fn push_heads(file: &mut Vec<u8>, size: u32) -> Result<(), AllocError> {
+pub(crate) fn push_heads(file: &mut Vec<u8>, size: u32) -> Result<(), AllocError> {
     let [_, _, high, low] = size.to_be_bytes();
     file.extend_from_slice(&[0; 8])?;
     file.extend_from_slice(&size.to_le_bytes())?;
