@@ -364,15 +364,17 @@ _shark() {
   local word=${COMP_WORDS[COMP_CWORD]}
   case ${COMP_WORDS[COMP_CWORD - 1]} in
     -r) mapfile -t COMPREPLY < <(compgen -f -- "$word") ;;
-    -Y) mapfile -t COMPREPLY < <(compgen -W "$_shark_fields" -- "$word") && compopt -o nospace ;;
     -c) COMPREPLY=() ;;
+    --self-run) COMPREPLY=() ;;
+    -Y) mapfile -t COMPREPLY < <(compgen -W "$_shark_fields" -- "$word") && compopt -o nospace ;;
+    -d) mapfile -t COMPREPLY < <(compgen -W "tcp.port== udp.port==" -- "$word") && compopt -o nospace ;;
     -T) mapfile -t COMPREPLY < <(compgen -W "text fields json" -- "$word") ;;
     -e) mapfile -t COMPREPLY < <(compgen -W "$_shark_fields" -- "$word") ;;
     -E) COMPREPLY=() ;;
+    -z) mapfile -t COMPREPLY < <(compgen -W "conv,tcp conv,ip io,phs follow,tcp,raw," -- "$word") && compopt -o nospace ;;
     -w) mapfile -t COMPREPLY < <(compgen -W "-" -- "$word") ;;
     -F) mapfile -t COMPREPLY < <(compgen -W "pcap pcapng" -- "$word") ;;
-    --self-run) COMPREPLY=() ;;
-    *) mapfile -t COMPREPLY < <(compgen -W "-r -Y -c -T -e -E -q -w -F --self-run --help --version" -- "$word") ;;
+    *) mapfile -t COMPREPLY < <(compgen -W "-r -c --self-run -Y -d -T -e -E -q -z -w -F --help --version" -- "$word") ;;
   esac
 }
 complete -F _shark shark
