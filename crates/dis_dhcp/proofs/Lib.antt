@@ -1,2 +1,3 @@
 pub mod OptionBound
 pub mod DhcpLemmas
+pub mod WholeOptions

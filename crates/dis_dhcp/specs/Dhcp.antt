@@ -27,7 +27,7 @@
 --    |      99       |      130      |      83       |      99       |
 --    +---------------+---------------+---------------+---------------+
 --    |                          options ..                           |
-use Rattle.std.specs.Prelude.{◌==◌, ℕ, ◌+◌, ◌*◌, not, if◌then◌else◌, List, [], ◌∷◌, ◌++◌, length, take, drop, nat_le}
+use Rattle.std.specs.Prelude.{◌==◌, ℕ, ◌+◌, ◌*◌, Bool, not, if◌then◌else◌, List, [], ◌∷◌, ◌++◌, length, take, drop, nat_le}
 use Rattle.std.specs.List.{prefix_len}
 use Rattle.pk_fields.specs.Ids.{DHCP_TYPE, DHCP_HW_TYPE, DHCP_HW_LEN, DHCP_HOPS, DHCP_ID, DHCP_SECS, DHCP_FLAGS, DHCP_FLAGS_BC, DHCP_IP_CLIENT, DHCP_IP_YOUR, DHCP_IP_SERVER, DHCP_IP_RELAY, DHCP_HW_MAC_ADDR, DHCP_HW_ADDR, DHCP_SERVER, DHCP_FILE, DHCP_COOKIE}
 use Rattle.pk_tree.specs.declared.layout.Step.{Step}
@@ -73,6 +73,18 @@ dhcp_rows bytes =
     Row DHCP_COOKIE 236 ∷
     Check (peeked bytes 1888 32 == magic_cookie) ∷
     []
+
+-- the rows' conditions and sizes, in their order: whether the names' fields are there, and whether the cookie is DHCP's;
+-- the bytes of the names, and of a hardware address that isn't an Ethernet address
+abbrev pub row_conditions : List ℕ → List Bool
+row_conditions bytes =
+    nat_le (44 + 64) (length bytes) ∷
+    nat_le (108 + 128) (length bytes) ∷
+    (peeked bytes 1888 32 == magic_cookie) ∷
+    []
+
+abbrev pub row_sizes : List ℕ → List ℕ
+row_sizes bytes = name_len bytes 44 64 ∷ name_len bytes 108 128 ∷ 16 ∷ []
 
 unfoldable pub dhcp_layout : List ℕ → List Step
 dhcp_layout bytes = dhcp_rows bytes ++ (dhcp_options bytes).steps

@@ -76,3 +76,19 @@ dhcp_options bytes = repeated (length bytes) (option_at bytes) 240
 -- of a message's options none is left out
 abbrev pub AllOptions : Type 0
 AllOptions = (bytes : List ℕ) → ReadsTo (length bytes) (dhcp_options bytes)
+
+-- the fields of the options
+abbrev pub option_fields : List ℕ
+option_fields =
+    DHCP_OPTION_TYPE ∷
+    DHCP_OPTION_LENGTH ∷
+    DHCP_OPTION_VALUE ∷
+    DHCP_OPTION_SUBNET_MASK ∷
+    DHCP_OPTION_ROUTER ∷
+    DHCP_OPTION_DOMAIN_NAME_SERVER ∷
+    DHCP_OPTION_HOSTNAME ∷
+    DHCP_OPTION_REQUESTED_IP_ADDRESS ∷
+    DHCP_OPTION_IP_ADDRESS_LEASE_TIME ∷
+    DHCP_OPTION_DHCP ∷
+    DHCP_OPTION_DHCP_SERVER_ID ∷
+    []

@@ -1,5 +1,7 @@
-ghost use Rattle.std.specs.Prelude.{◌≡◌, ℕ, ◌+◌, ◌*◌, ◌/◌, ◌<◌, ◌≤◌, ◌^◌, ◌++◌, length, slice_index_or, IfOk, OnOk};
+ghost use Rattle.std.specs.Prelude.{◌≡◌, ℕ, ◌+◌, ◌*◌, ◌/◌, ◌<◌, ◌≤◌, ◌^◌, ◌++◌, length, slice_index_or, if◌then◌else◌, IfOk, OnOk};
 ghost use Rattle.pk_tree.specs.Entries.{Adds, goes_on, repeated};
+ghost use Rattle.pk_tree.specs.Layouts.{reach};
+ghost use Rattle.pk_tree.specs.declared.layout.Reach.TheVariants.{All, Short};
 ghost use Rattle.dis_dhcp.specs.DhcpOptions.{address, dhcp_options, option_at, option_data, option_with_length};
 
 use pk_base::NoMemory;
@@ -7,7 +9,7 @@ use pk_fields::{FieldId, ids};
 use pk_tree::Step;
 
 /// Where the options begin.
-const OPTIONS: usize = 240;
+pub(crate) const OPTIONS: usize = 240;
 
 /// The codes of options that are read (RFC 2132, 3 and 9).
 const PAD: u8 = 0;
@@ -47,6 +49,34 @@ pub(crate) fn push_options(steps: &mut Vec<Step>, bytes: &[u8]) -> Result<(), No
         }
     }
     Ok(())
+}
+
+/// Whether each option ends inside its message.
+pub(crate) fn options_fit(bytes: &[u8]) -> bool
+    ensures { reach (length bytes.now) (dhcp_options bytes.now).steps
+        ≡ (if result then All else Short) }
+{
+    let mut at = OPTIONS;
+    for _option in 0..bytes.len() {
+        match next_option(bytes, at) {
+            Some(next) if next <= bytes.len() => at = next,
+            Some(_) => return false,
+            None => return true,
+        }
+    }
+    true
+}
+
+/// Where the option behind the one at a place is.
+#[tactic(auto, unfolding(crate::specs::DhcpOptions::option_at, crate::specs::DhcpOptions::option_with_length))]
+fn next_option(bytes: &[u8], at: usize) -> Option<usize>
+    ensures { result ≡ (option_at bytes.now at).next }
+{
+    match *bytes.get(at)? {
+        PAD => Some(at + 1),
+        END => None,
+        _ => Some(at + HEAD + length_at(bytes, at + 1)),
+    }
 }
 
 /// Adds the steps of the option at a place, and answers where the next one is.

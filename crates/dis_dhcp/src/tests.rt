@@ -1,6 +1,6 @@
 use crate::read_dhcp;
 use pk_base::{NoMemory, Octets, Span};
-use pk_fields::name;
+use pk_fields::{FieldSet, ids, name};
 use pk_tree::{Layer, TreeBuilder, Value};
 use std::alloc::{AllocError, Global};
 use std::process::Abort;
@@ -29,6 +29,12 @@ const DISCOVER: Message = Message {
 };
 
 const DISCOVER_LEN: usize = 254;
+
+/// The same with one option, which is a byte longer than what is left.
+const HOST_NAME_PAST_THE_END: Message = Message {
+    options: b"\x0c\x06shark",
+    ..DISCOVER
+};
 
 /// What is read of its first 28 bytes.
 const HEAD_ITEMS: &str =
@@ -140,13 +146,25 @@ fn check(
     message: &[u8],
     layers: &[&str],
 ) -> Result<(), NoMemory> {
+    check_kept(rt, alloc, FieldSet::all(), cut, message, layers)
+}
+
+/// The same where only some fields are asked.
+fn check_kept(
+    rt: &impl Abort,
+    alloc: Global,
+    wanted: FieldSet,
+    cut: bool,
+    message: &[u8],
+    layers: &[&str],
+) -> Result<(), NoMemory> {
     assert!(rt; message.len() <= 1_000);
     let span = Span {
         buffer: 0,
         start: 0,
         len: message.len() as u32,
     };
-    let mut b = TreeBuilder::new(alloc, Octets::copy(alloc, message)?)?;
+    let mut b = TreeBuilder::keeping(alloc, Octets::copy(alloc, message)?, wanted)?;
     read_dhcp(span, cut, &mut b)?;
     let mut text = String::new(alloc);
     for layer in b.finish().layers() {
@@ -280,6 +298,7 @@ fn a_message_cut_anywhere_has_the_items_that_fit(rt: HostRuntime) -> Result<(), 
     for len in 0..DISCOVER_LEN {
         let items = items_within(rt.alloc(), &DISCOVER_ITEMS, &DISCOVER_ENDS, len)?;
         let layer = format!(in rt.alloc(); "dhcp 0+{len}:{}\n", items.as_str())?;
+        let passed = format!(in rt.alloc(); "dhcp 0+{len}:\n")?;
         for (cut, name) in [(true, "_ws.short"), (false, "_ws.malformed")] {
             let fault = fault_text(rt.alloc(), name, len)?;
             check(
@@ -288,6 +307,14 @@ fn a_message_cut_anywhere_has_the_items_that_fit(rt: HostRuntime) -> Result<(), 
                 cut,
                 &message[..len],
                 &[layer.as_str(), fault.as_str()],
+            )?;
+            check_kept(
+                &rt,
+                rt.alloc(),
+                FieldSet::none(),
+                cut,
+                &message[..len],
+                &[passed.as_str(), fault.as_str()],
             )?;
         }
     }
@@ -567,6 +594,46 @@ fn an_option_past_the_end_does_not_fit(rt: HostRuntime) -> Result<(), NoMemory> 
         ),
     ] {
         check_faulty(&rt, rt.alloc(), options, items)?;
+    }
+    Ok(())
+}
+
+#[test]
+fn only_what_is_asked_of_a_message_is_read(rt: HostRuntime) -> Result<(), NoMemory> {
+    for (field, message, layers) in [
+        (ids::IP_SRC, DISCOVER, "dhcp 0+254:\n"),
+        (ids::DHCP_ID, DISCOVER, "dhcp 0+254: dhcp.id=956560166\n"),
+        (
+            ids::DHCP_OPTION_DHCP,
+            DISCOVER,
+            "dhcp 0+254: dhcp.option.dhcp=1\n",
+        ),
+        (
+            ids::IP_SRC,
+            HOST_NAME_PAST_THE_END,
+            "dhcp 0+247:\n_ws.malformed 247+0:\n",
+        ),
+        (
+            ids::DHCP_ID,
+            HOST_NAME_PAST_THE_END,
+            "dhcp 0+247: dhcp.id=956560166\n_ws.malformed 247+0:\n",
+        ),
+        (
+            ids::DHCP_OPTION_LENGTH,
+            HOST_NAME_PAST_THE_END,
+            "dhcp 0+247: dhcp.option.length=6\n_ws.malformed 247+0:\n",
+        ),
+    ] {
+        let mut wanted = FieldSet::none();
+        wanted.add(field);
+        check_kept(
+            &rt,
+            rt.alloc(),
+            wanted,
+            false,
+            &bytes_of(rt.alloc(), &message)?,
+            &[layers],
+        )?;
     }
     Ok(())
 }
