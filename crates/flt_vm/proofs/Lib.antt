@@ -1,0 +1,4 @@
+pub mod ExtremeLists
+pub mod RunLemmas
+pub mod StackLemmas
+pub mod StepLemmas

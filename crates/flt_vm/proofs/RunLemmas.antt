@@ -1,0 +1,100 @@
+-- A run, step by step.
+use Rattle.std.proofs.Common.{◌≡◌, ℕ, zero, suc, ◌+◌, ◌<◌, Bool as Truth, false, List, [], ◌∷◌, map, length, replicate, get_or, slice_get, Option, Some, None, ap, sym, refl, ◌∙◌, subst, arith}
+use Rattle.flt_types.specs.declared.typed.Typed.{Typed}
+use Rattle.flt_vm.specs.Held.{Held}
+use Rattle.flt_vm.specs.Machine.{Job, LeadsOn, Move, Goes, Ends, Missing, Runs, State, act, start, step}
+use Rattle.flt_vm.specs.Programs.{Code, FitsFilter, Ready, RunsOn, patterns_of}
+use Rattle.flt_vm.specs.Slots.{Does, held_in, move_in, state_in}
+use Rattle.flt_vm.specs.declared.instr.Instr.{Instr}
+use Rattle.flt_vm.specs.declared.slots.Flag.{Flag}
+use Rattle.flt_vm.specs.declared.slots.Flag.TheVariants.{Known}
+use Rattle.flt_vm.specs.declared.slots.Slot.{Slot}
+use Rattle.flt_vm.specs.declared.slots.Slot.TheVariants as slots
+use Rattle.flt_vm.specs.declared.step.Next.{Next}
+use Rattle.flt_vm.specs.declared.step.Next.TheVariants.{On, Done}
+use Rattle.pk_tree.specs.Trees.{IsTree, TreeShown}
+
+-- each run from the first state comes by this one, after so many steps
+abbrev pub IsOnWay : Job → State → State → ℕ → Type 0
+IsOnWay job first now steps = (total : ℕ) (flag : Truth) → Runs job total first flag → (rest : ℕ) × Runs job rest now flag × (steps + rest ≡ total)
+
+pub begun : (job : Job) (first : State) → IsOnWay job first first 0
+begun job first total flag run = (total, run, omega arith)
+
+leads_next : (move : Move) (next : State) (n : ℕ) (flag : Truth) (Rest : State → Type 0) → Does move (Goes next) → LeadsOn move n flag Rest → Rest next
+leads_next (Goes s) next n flag Rest does rest = let same : s ≡ next = cc in subst Rest same rest
+leads_next (Ends f) next n flag Rest does rest = cc
+leads_next Missing next n flag Rest does rest = absurd rest
+
+leads_end : (move : Move) (holds : Truth) (n : ℕ) (flag : Truth) (Rest : State → Type 0) → Does move (Ends holds) → LeadsOn move n flag Rest → (n ≡ 0) × (holds ≡ flag)
+leads_end (Goes s) holds n flag Rest does rest = cc
+leads_end (Ends f) holds n flag Rest does rest = (rest.0, let same : holds ≡ f = cc in same ∙ rest.1)
+leads_end Missing holds n flag Rest does rest = absurd rest
+
+on_step : (job : Job) (now next : State) (rest : ℕ) (flag : Truth) → Does (step job now) (Goes next) → Runs job rest now flag → (n : ℕ) × (rest ≡ suc n) × Runs job n next flag
+on_step job now next zero flag does run = absurd run
+on_step job now next (suc n) flag does run = (n, refl, leads_next (step job now) next n flag (λ t. Runs job n t flag) does run)
+
+last_step : (job : Job) (now : State) (holds : Truth) (rest : ℕ) (flag : Truth) → Does (step job now) (Ends holds) → Runs job rest now flag → (rest ≡ 1) × (holds ≡ flag)
+last_step job now holds zero flag does run = absurd run
+last_step job now holds (suc n) flag does run = let e = leads_end (step job now) holds n flag (λ t. Runs job n t flag) does run in (ap suc e.0, e.1)
+
+pub run_on : (job : Job) (first now next : State) (steps n : ℕ) → IsOnWay job first now steps → Does (step job now) (Goes next) → n ≡ steps + 1 → IsOnWay job first next n
+run_on job first now next steps n way does more total flag run =
+    let w = way total flag run in
+    let on = on_step job now next w.0 flag does w.1 in
+    (on.0, on.2, omega (arith, more, w.2, on.1))
+
+pub run_ends : (job : Job) (first now : State) (holds : Truth) (steps n : ℕ) → IsOnWay job first now steps → Does (step job now) (Ends holds) → n ≡ steps + 1 →
+    (total : ℕ) (flag : Truth) → Runs job total first flag → (n ≡ total) × (holds ≡ flag)
+run_ends job first now holds steps n way does more total flag run =
+    let w = way total flag run in
+    let last = last_step job now holds w.0 flag does w.1 in
+    (omega (arith, more, w.2, last.0), last.1)
+
+-- the step at a place is that of the instruction there
+pub step_at : (job : Job) (s : State) (i : Instr) (move : Move) → slice_get job.code s.at ≡ Some i → Does (act job s (Some i)) move → Does (step job s) move
+step_at job s i move is does = subst (λ x. Does (act job s x) move) (sym is) does
+
+-- and leads to where the answer of the instruction says
+pub leads_on : (job : Job) (at place : ℕ) (flag told : Flag) (all new : List Slot) (i : Instr) (next : Next) → slice_get job.code at ≡ Some i → next ≡ On place →
+    Does (act job (state_in job.tree at flag all) (Some i)) (move_in job.tree next told new) → Does (step job (state_in job.tree at flag all)) (Goes (state_in job.tree place told new))
+leads_on job at place flag told all new i next there is does =
+    step_at job (state_in job.tree at flag all) i (Goes (state_in job.tree place told new)) there (subst (λ x. Does (act job (state_in job.tree at flag all) (Some i)) (move_in job.tree x told new)) is does)
+
+pub leads_out : (job : Job) (at : ℕ) (flag told : Flag) (holds : Truth) (all new : List Slot) (i : Instr) (next : Next) → slice_get job.code at ≡ Some i → next ≡ Done holds →
+    Does (act job (state_in job.tree at flag all) (Some i)) (move_in job.tree next told new) → Does (step job (state_in job.tree at flag all)) (Ends holds)
+leads_out job at flag told holds all new i next there is does =
+    step_at job (state_in job.tree at flag all) i (Ends holds) there (subst (λ x. Does (act job (state_in job.tree at flag all) (Some i)) (move_in job.tree x told new)) is does)
+
+-- a run from unset registers, by what the slots stand for
+pub from_start : (code same_code : List Instr) (patterns same_patterns : List (List ℕ)) (tree : TreeShown) (all : List Slot) (count total : ℕ) (flag : Truth) →
+    same_code ≡ code → same_patterns ≡ patterns → map (held_in tree) all ≡ replicate count None →
+    Runs (record { code = code; patterns = patterns; tree = tree }) total (start count) flag →
+    Runs (record { code = same_code; patterns = same_patterns; tree = tree }) total (state_in tree 0 (Known false) all) flag
+from_start code same_code patterns same_patterns tree all count total flag by_code by_patterns unset run =
+    let one = subst (λ cs. Runs (record { code = cs; patterns = patterns; tree = tree }) total (start count) flag) (sym by_code) run in
+    let two = subst (λ ps. Runs (record { code = same_code; patterns = ps; tree = tree }) total (start count) flag) (sym by_patterns) one in
+    subst (λ rs. Runs (record { code = same_code; patterns = same_patterns; tree = tree }) total (record { at = 0; flag = false; registers = rs }) flag) (sym unset) two
+
+-- a program that fits its filter has a run, so what is so of each run is so of that one
+pub answered : (program : Code) (filter : Typed) (tree : TreeShown) (machine : Ready) (steps : ℕ) (holds : Truth) → machine ≡ record { code = program; patterns = patterns_of filter } →
+    FitsFilter program filter → IsTree tree →
+    ((total : ℕ) (flag : Truth) → Runs (record { code = machine.code.items; patterns = machine.patterns; tree = tree }) total (start machine.code.registers) flag → (steps ≡ total) × (holds ≡ flag)) →
+    RunsOn program filter tree steps holds
+unfolding FitsFilter
+answered program filter tree machine steps holds is fits tree_is each =
+    let run = fits tree tree_is in
+    let there = subst (λ (m : Ready). Runs (record { code = m.code.items; patterns = m.patterns; tree = tree }) run.0 (start m.code.registers) run.1) (sym is) run.2 in
+    let same = each run.0 run.1 there in
+    subst (λ truth. RunsOn program filter tree steps truth) (sym same.1) (subst (λ n. RunsOn program filter tree n run.1) (sym same.0) run.2)
+
+-- slots that are all unset
+pub all_unset : (tree : TreeShown) (all : List Slot) (n : ℕ) → length all ≡ n → ((k : ℕ) → k < n → get_or all k slots.Unset ≡ slots.Unset) → map (held_in tree) all ≡ replicate n None
+all_unset tree [] zero size each = refl
+all_unset tree [] (suc n) size each = cc
+all_unset tree (s ∷ all) zero size each = cc
+all_unset tree (s ∷ all) (suc n) size each =
+    let first : s ≡ slots.Unset = each 0 (omega arith) in
+    let rest = all_unset tree all n (omega (arith, size)) (λ k less. each (suc k) (omega (arith, less))) in
+    ap (λ x. held_in tree x ∷ map (held_in tree) all) first ∙ ap (λ xs. None ∷ xs) rest

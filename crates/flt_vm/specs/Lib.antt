@@ -1,0 +1,5 @@
+pub mod Held
+pub mod Machine
+pub mod Programs
+pub mod Slots
+pub mod Stacks

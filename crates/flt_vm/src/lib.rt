@@ -1,0 +1,19 @@
+//! The machine that filters are run on: its instructions, its programs, and what a program answers of a tree.
+#![tactic(auto)]
+
+mod asks;
+mod copies;
+mod instr;
+mod machine;
+mod program;
+mod run;
+mod slots;
+mod step;
+#[cfg(test)]
+mod tests;
+
+pub use copies::{copied_layers, copied_members, copied_ranges};
+pub use instr::{Instr, MemberList, RangeList};
+pub use machine::{Machine, run_program};
+pub use program::Program;
+pub use run::Verdict;

@@ -1,0 +1,177 @@
+// The machine over many trees.
+ghost use Rattle.std.specs.Prelude.{◌≡◌, ◌≤◌, ◌<◌, ◌+◌, ◌++◌, IfOk, OnOk, Bool as Truth, ℕ, length};
+ghost use Rattle.flt_vm.specs.Machine.{Runs, start};
+ghost use Rattle.flt_vm.specs.Programs.{FitsFilter, Ready, RunsOn, patterns_of};
+ghost use Rattle.flt_vm.specs.Stacks.{patterns_left, size_left, size_of};
+
+use crate::program::Program;
+use crate::run::{Verdict, run_code};
+use crate::slots::{Slot, unset};
+use flt_pattern::Search;
+use flt_types::{Filter, Typed};
+use pk_base::NoMemory;
+use pk_tree::Tree;
+use std::alloc::Global;
+use std::marker::Model;
+
+/// A program that is run on one tree after the other. It keeps the registers' memory, and what its searches for patterns
+/// found out.
+#[derive(Drop)]
+pub struct Machine<'p> {
+    program: &'p Program,
+    slots: Vec<Slot<'p>>,
+    searches: Vec<Search<'p>>,
+    alloc: Global,
+}
+
+// Contracts see a machine as its program, and the patterns that it searches for.
+impl<'p> Model for Machine<'p> {
+    ghost use Rattle.std.specs.Prelude.{◌≡◌, length};
+    ghost use Rattle.flt_vm.specs.Programs.{Ready};
+
+    ghost Value = { Ready };
+
+    ghost view = { λ m. record { code = m.program.now; patterns = m.searches.items } };
+
+    ghost invariant = { λ m. length m.slots.items ≡ m.program.now.registers };
+}
+
+impl<'p> Machine<'p> {
+    /// A machine for a program and the patterns of its filter.
+    pub fn new(
+        alloc: Global,
+        program: &'p Program,
+        filter: &'p Filter,
+    ) -> Result<Machine<'p>, NoMemory>
+        ensures { IfOk result (λ m.
+            m ≡ record { code = program.now; patterns = patterns_of filter.now }) }
+    {
+        let searches = searches_for(alloc, filter.root())?;
+        let slots = all_unset(alloc, program.registers())?;
+        Ok(Machine {
+            program,
+            slots,
+            searches,
+            alloc,
+        })
+    }
+
+    /// Runs the program on a tree.
+    pub fn run(&mut self, tree: &Tree) -> Result<Verdict, NoMemory>
+        ensures verdict { IfOk result (λ v. (steps : ℕ) (flag : Truth)
+            → Runs (record {
+              code = self.old.code.items;
+              patterns = self.old.patterns;
+              tree = tree.now;
+            }) steps (start self.old.code.registers) flag
+            → (v.steps ≡ steps) × (v.holds ≡ flag)) }
+        ensures few { IfOk result (λ v. v.steps ≤ length self.old.code.items) }
+        ensures some { IfOk result (λ v. 1 ≤ v.steps) }
+        ensures same { self.new ≡ self.old }
+    {
+        let slots = self.slots.as_mut_slice();
+        unset(slots);
+        run_code(
+            self.alloc,
+            self.program.code(),
+            slots,
+            &mut self.searches,
+            tree,
+        )
+    }
+}
+
+/// Runs a program on a tree.
+pub fn run_program(
+    alloc: Global,
+    program: &Program,
+    filter: &Filter,
+    tree: &Tree,
+) -> Result<Verdict, NoMemory>
+    requires { FitsFilter program.now filter.now }
+    ensures run { IfOk result (λ v. RunsOn program.now filter.now tree.now v.steps v.holds) }
+    ensures few { IfOk result (λ v. v.steps ≤ length program.now.items) }
+    ensures some { IfOk result (λ v. 1 ≤ v.steps) }
+{
+    // What is true of each tree.
+    let _layers = tree.layers();
+    let mut machine = Machine::new(alloc, program, filter)?;
+    machine.run(tree)
+}
+
+/// As many registers, none of them set.
+fn all_unset<'p>(alloc: Global, count: usize) -> Result<Vec<Slot<'p>>, NoMemory>
+    ensures { IfOk result (λ slots. length slots.items ≡ count) }
+{
+    let mut slots = Vec::new(alloc);
+    'slots: while slots.len() < count {
+        slots.push(Slot::Unset)?;
+    }
+    Ok(slots)
+}
+
+/// A search for each of a filter's patterns, in its order. What is still to be looked at is kept in a list, so that no
+/// call nests as deep as the filter.
+fn searches_for<'f>(alloc: Global, filter: &'f Typed) -> Result<Vec<Search<'f>>, NoMemory>
+    ensures { IfOk result (λ searches. searches.items ≡ patterns_of filter.now) }
+{
+    let mut searches = Vec::new(alloc);
+    let mut left = Vec::new(alloc);
+    left.push(filter)?;
+    'parts: while let Some(part) = left.pop() {
+        take_part(alloc, &mut searches, &mut left, part)?;
+    }
+    Ok(searches)
+}
+
+/// The search of a part, or the parts that it is made of.
+fn take_part<'f>(
+    alloc: Global,
+    searches: &mut Vec<Search<'f>>,
+    left: &mut Vec<&'f Typed>,
+    part: &'f Typed,
+) -> Result<(), NoMemory>
+    ensures patterns { OnOk result (searches.new.items ++ patterns_left left.new.items
+        ≡ searches.old.items ++ (patterns_of part.now ++ patterns_left left.old.items)) }
+    ensures smaller { OnOk result
+        (size_left left.new.items < size_left left.old.items + size_of part.now) }
+{
+    match part {
+        Typed::Either(first, second) => push_both(left, first, second),
+        Typed::Differ(first, second) => push_both(left, first, second),
+        Typed::Both(first, second) => push_both(left, first, second),
+        Typed::Not(inner) => push_part(left, inner),
+        Typed::Matches(_, _, pattern) => {
+            searches.push(pattern.search(alloc)?)?;
+            Ok(())
+        }
+        Typed::Exists(_) | Typed::AnyBit(_) => Ok(()),
+        Typed::Compare(_, _, _, _) | Typed::Among(_, _, _, _) => Ok(()),
+    }
+}
+
+/// Two parts, of which the first one is looked at first.
+fn push_both<'f>(
+    left: &mut Vec<&'f Typed>,
+    first: &'f Typed,
+    second: &'f Typed,
+) -> Result<(), NoMemory>
+    ensures patterns { OnOk result (patterns_left left.new.items
+        ≡ patterns_of first.now ++ (patterns_of second.now ++ patterns_left left.old.items)) }
+    ensures size { OnOk result (size_left left.new.items
+        ≡ size_left left.old.items + size_of second.now + size_of first.now) }
+{
+    push_part(left, second)?;
+    push_part(left, first)
+}
+
+#[tactic(auto, using(crate::proofs::StackLemmas::patterns_push, crate::proofs::StackLemmas::size_push))]
+fn push_part<'f>(left: &mut Vec<&'f Typed>, part: &'f Typed) -> Result<(), NoMemory>
+    ensures patterns { OnOk result (patterns_left left.new.items
+        ≡ patterns_of part.now ++ patterns_left left.old.items) }
+    ensures size { OnOk result (size_left left.new.items
+        ≡ size_left left.old.items + size_of part.now) }
+{
+    left.push(part)?;
+    Ok(())
+}

@@ -1,0 +1,56 @@
+// Programs.
+ghost use Rattle.std.specs.Prelude.{◌≡◌, length};
+ghost use Rattle.flt_vm.specs.Programs.{IsProgram};
+
+use crate::instr::Instr;
+use std::marker::Model;
+
+/// A program: instructions, whose jumps lead forward, and of which the last one is RETURN; and how many registers they use.
+#[derive(Drop)]
+pub struct Program {
+    registers: usize,
+    code: Vec<Instr>,
+}
+
+// Contracts see a program as its instructions and the number of its registers.
+impl Model for Program {
+    ghost use Rattle.flt_vm.specs.Programs.{Code, IsProgram};
+
+    ghost Value = { Code };
+
+    ghost view = { λ p. record { registers = p.registers; items = p.code.items } };
+
+    ghost invariant = { λ p. IsProgram (record { registers = p.registers; items = p.code.items }) };
+}
+
+impl Program {
+    /// The program of some instructions.
+    pub fn new(registers: usize, code: Vec<Instr>) -> Program
+        requires { IsProgram (record { registers = registers; items = code.items }) }
+        ensures { result ≡ record { registers = registers; items = code.items } }
+    {
+        Program { registers, code }
+    }
+
+    /// How many instructions there are.
+    pub fn len(&self) -> u32
+        ensures { result ≡ length self.now.items }
+    {
+        self.code.len() as u32
+    }
+
+    /// How many registers it has.
+    pub fn registers(&self) -> usize
+        ensures { result ≡ self.now.registers }
+    {
+        self.registers
+    }
+
+    /// Its instructions.
+    pub fn code(&self) -> &[Instr]
+        ensures code { result.now ≡ self.now.items }
+        ensures program { IsProgram self.now }
+    {
+        self.code.as_slice()
+    }
+}

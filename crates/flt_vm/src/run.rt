@@ -1,0 +1,61 @@
+// A run of the machine.
+ghost use Rattle.std.specs.Prelude.{◌≡◌, ◌<◌, ◌≤◌, ◌^◌, IfOk, Bool as Truth, false, ℕ, length};
+ghost use Rattle.flt_vm.specs.Machine.{Job, Runs};
+ghost use Rattle.flt_vm.specs.Programs.{IsProgram};
+ghost use Rattle.flt_vm.specs.Slots.{state_in};
+ghost use Rattle.flt_vm.specs.declared.slots.Flag.TheVariants.{Known};
+
+use crate::instr::Instr;
+use crate::slots::{Flag, Slot};
+use crate::step::{Next, step};
+use flt_pattern::Search;
+use pk_base::NoMemory;
+use pk_tree::Tree;
+use std::alloc::Global;
+
+/// What a run answers: the flag at its end, and how many steps it has.
+#[derive(Clone, Copy, Debug, PartialEq, Eq)]
+pub struct Verdict {
+    pub holds: bool,
+    pub steps: u32,
+}
+
+/// Runs instructions from the first up to RETURN.
+pub(crate) fn run_code<'p>(
+    alloc: Global,
+    code: &'p [Instr],
+    slots: &mut [Slot<'p>],
+    searches: &mut [Search<'p>],
+    tree: &Tree,
+) -> Result<Verdict, NoMemory>
+    requires program { IsProgram (record { registers = length slots.old; items = code.now }) }
+    ensures verdict { IfOk result (λ v. (total : ℕ) (flag : Truth)
+        → Runs (record { code = code.now; patterns = searches.old; tree = tree.now }) total
+        (state_in tree.now 0 (Known false) slots.old) flag
+        → (v.steps ≡ total) × (v.holds ≡ flag)) }
+    ensures few { IfOk result (λ v. v.steps ≤ length code.now) }
+    ensures some { IfOk result (λ v. 1 ≤ v.steps) }
+    ensures count { length slots.new ≡ length slots.old }
+    ensures searches { searches.new ≡ searches.old }
+{
+    let mut flag = Flag::Known(false);
+    let mut at = 0;
+    let mut steps = 0;
+    'steps: loop {
+        let next = step(
+            alloc,
+            &code[at],
+            at,
+            code.len(),
+            slots,
+            &mut flag,
+            searches,
+            tree,
+        )?;
+        steps += 1;
+        match next {
+            Next::On(place) => at = place,
+            Next::Done(holds) => return Ok(Verdict { holds, steps }),
+        }
+    }
+}

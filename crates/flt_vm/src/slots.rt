@@ -1,0 +1,102 @@
+// What the registers and the flag hold while a program runs.
+ghost use Rattle.std.specs.Prelude.{◌≡◌, ◌<◌, Some, IfOk, length, replicate, map, None};
+ghost use Rattle.flt_vm.specs.Held.{Held};
+ghost use Rattle.flt_vm.specs.Slots.{IsHeld, flag_in, held_in, listed_values};
+ghost use Rattle.pk_tree.specs.Trees.{TreeShown};
+
+use flt_lists::{is_there, only};
+use flt_values::Constant;
+use pk_base::NoMemory;
+use pk_fields::FieldId;
+use pk_tree::{Layers, Tree, Value};
+use std::alloc::Global;
+
+/// What a register holds: values, or where they are.
+#[derive(Drop)]
+pub(crate) enum Slot<'p> {
+    Unset,
+    /// The values of a field or protocol, asked where they stand in the tree.
+    Field(FieldId, &'p Layers),
+    Single(&'p Constant),
+    Truth(bool),
+    Values(Vec<Value>),
+}
+
+/// The flag: a truth, or whether a field or protocol has a value, which is asked where the flag is.
+#[derive(Clone, Copy)]
+pub(crate) enum Flag<'p> {
+    Known(bool),
+    IsThere(FieldId, &'p Layers),
+}
+
+/// What the flag is.
+pub(crate) fn known(flag: &Flag<'_>, tree: &Tree) -> bool
+    ensures { result ≡ flag_in tree.now flag.now }
+{
+    match flag {
+        Flag::Known(truth) => *truth,
+        Flag::IsThere(field, layers) => is_there(*field, layers, tree),
+    }
+}
+
+/// Values that a register holds, or that were gathered for it.
+#[derive(Drop)]
+pub(crate) enum Gathered<'s> {
+    Own(Vec<Value>),
+    Lent(&'s [Value]),
+}
+
+impl<'s> Gathered<'s> {
+    pub(crate) fn slice(&self) -> &[Value]
+        ensures { result.now ≡ listed_values self.now }
+    {
+        match self {
+            Gathered::Own(values) => values.as_slice(),
+            Gathered::Lent(values) => values,
+        }
+    }
+}
+
+/// The values that a register holds.
+pub(crate) fn listed<'s>(
+    alloc: Global,
+    slots: &'s [Slot<'_>],
+    register: usize,
+    tree: &Tree,
+) -> Result<Gathered<'s>, NoMemory>
+    requires { register < length slots.now }
+    ensures { IfOk result (λ all. (held : Held) → IsHeld tree.now slots.now register held
+        → listed_values all ≡ held.values) }
+{
+    listed_in(alloc, &slots[register], tree)
+}
+
+/// The same of a slot.
+pub(crate) fn listed_in<'s>(
+    alloc: Global,
+    slot: &'s Slot<'_>,
+    tree: &Tree,
+) -> Result<Gathered<'s>, NoMemory>
+    ensures { IfOk result (λ all. (held : Held) → held_in tree.now slot.now ≡ Some held
+        → listed_values all ≡ held.values) }
+{
+    match slot {
+        Slot::Unset => Ok(Gathered::Own(Vec::new(alloc))),
+        Slot::Field(field, layers) => Ok(Gathered::Own(tree.values(*field, layers)?)),
+        Slot::Single(constant) => Ok(Gathered::Own(only(alloc, constant.value.clone()?)?)),
+        Slot::Truth(truth) => Ok(Gathered::Own(only(alloc, Value::Bool(*truth))?)),
+        Slot::Values(values) => Ok(Gathered::Lent(values.as_slice())),
+    }
+}
+
+/// Unsets all registers.
+#[tactic(auto, using(crate::proofs::RunLemmas::all_unset))]
+pub(crate) fn unset(slots: &mut [Slot<'_>])
+    ensures unset { (tree : TreeShown)
+        → map (held_in tree) slots.new ≡ replicate (length slots.old) None }
+    ensures count { length slots.new ≡ length slots.old }
+{
+    for register in 0..slots.len() {
+        slots[register] = Slot::Unset;
+    }
+}
