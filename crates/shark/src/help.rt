@@ -20,6 +20,7 @@ pub(crate) static GROUPS: [Group; 5] = [
         title: "What is read and shown:",
         options: &[
             "-Y FILTER    show only the frames that satisfy this filter; without it all are shown",
+            "-2           two passes: a request also shows the frame of its response",
             "-d RULE      read a port as another application, again and again: tcp.port==N,P with P http, dns or data, or udp.port==N,P with P dns, dhcp or data",
         ],
     },
@@ -50,9 +51,9 @@ pub(crate) static GROUPS: [Group; 5] = [
 const HEAD: &str = "\
 shark reads a capture file and prints a line for each frame that satisfies a display filter.
 
-Usage: shark -r FILE [-Y FILTER] [-c N] [-d RULE]... [-q] [-T text | -T json | -T fields -e FIELD... [-E KEY=V]...] [-z REPORT]...
-       shark -r FILE [-Y FILTER] [-c N] [-d RULE]... -w - [-F pcap | -F pcapng]
-       shark --self-run NUMBER,FRAMES [-Y FILTER] [-c N] [-d RULE]... [-z REPORT]...
+Usage: shark -r FILE [-Y FILTER] [-2] [-c N] [-d RULE]... [-q] [-T text | -T json | -T fields -e FIELD... [-E KEY=V]...] [-z REPORT]...
+       shark -r FILE [-Y FILTER] [-2] [-c N] [-d RULE]... -w - [-F pcap | -F pcapng]
+       shark --self-run NUMBER,FRAMES [-Y FILTER] [-2] [-c N] [-d RULE]... [-z REPORT]...
 
 ";
 

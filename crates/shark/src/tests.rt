@@ -12,9 +12,9 @@ use std::test::Fail;
 const HELP: &str = "\
 shark reads a capture file and prints a line for each frame that satisfies a display filter.
 
-Usage: shark -r FILE [-Y FILTER] [-c N] [-d RULE]... [-q] [-T text | -T json | -T fields -e FIELD... [-E KEY=V]...] [-z REPORT]...
-       shark -r FILE [-Y FILTER] [-c N] [-d RULE]... -w - [-F pcap | -F pcapng]
-       shark --self-run NUMBER,FRAMES [-Y FILTER] [-c N] [-d RULE]... [-z REPORT]...
+Usage: shark -r FILE [-Y FILTER] [-2] [-c N] [-d RULE]... [-q] [-T text | -T json | -T fields -e FIELD... [-E KEY=V]...] [-z REPORT]...
+       shark -r FILE [-Y FILTER] [-2] [-c N] [-d RULE]... -w - [-F pcap | -F pcapng]
+       shark --self-run NUMBER,FRAMES [-Y FILTER] [-2] [-c N] [-d RULE]... [-z REPORT]...
 
 The capture:
   -r FILE      the capture file, pcap or pcapng
@@ -23,6 +23,7 @@ The capture:
 
 What is read and shown:
   -Y FILTER    show only the frames that satisfy this filter; without it all are shown
+  -2           two passes: a request also shows the frame of its response
   -d RULE      read a port as another application, again and again: tcp.port==N,P with P http, dns or data, or udp.port==N,P with P dns, dhcp or data
 
 Lines:

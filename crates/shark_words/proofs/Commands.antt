@@ -6,7 +6,7 @@ use Rattle.std.specs.Option.{option_or}
 use Rattle.std.proofs.lemmas.Option.{none-some}
 use Rattle.std.proofs.lemmas.Bool.{both_ways}
 use Rattle.shark_words.specs.declared.letter.Letter.{Letter}
-use Rattle.shark_words.specs.declared.letter.Letter.TheVariants.{Capture, Filter, Kind, Name, Style, Most, Quiet, Decode, Report, Output, Format, SelfRun}
+use Rattle.shark_words.specs.declared.letter.Letter.TheVariants.{Capture, Filter, Two, Kind, Name, Style, Most, Quiet, Decode, Report, Output, Format, SelfRun}
 use Rattle.shark_words.specs.declared.uses.Value.{Value}
 use Rattle.shark_words.specs.declared.uses.Use.{Use}
 use Rattle.shark_words.specs.declared.uses.Use.TheVariants as use_
@@ -113,6 +113,7 @@ unused_none kind false all columns output Format h = output
 unused_none kind true all columns output Format h = absurd (both_ways false refl h)
 unused_none kind written all columns output Capture h = absurd (both_ways false refl h)
 unused_none kind written all columns output Filter h = absurd (both_ways false refl h)
+unused_none kind written all columns output Two h = absurd (both_ways false refl h)
 unused_none kind written all columns output Kind h = absurd (both_ways false refl h)
 unused_none kind written all columns output Most h = absurd (both_ways false refl h)
 unused_none kind written all columns output Quiet h = absurd (both_ways false refl h)
@@ -135,6 +136,7 @@ clashing_none all output Report h = output.2
 clashing_none all output SelfRun h = output.3
 clashing_none all output Capture h = absurd (both_ways false refl h)
 clashing_none all output Filter h = absurd (both_ways false refl h)
+clashing_none all output Two h = absurd (both_ways false refl h)
 clashing_none all output Name h = absurd (both_ways false refl h)
 clashing_none all output Style h = absurd (both_ways false refl h)
 clashing_none all output Most h = absurd (both_ways false refl h)
@@ -245,6 +247,7 @@ abbrev asked_written : Source → List Written → Options
 asked_written source all = record {
   source = source;
   filter = shown_filter (head_of (values_in Filter all));
+  two = is_written Two all;
   kind = kind_asked (head_of (values_in Kind all));
   names = values_in Name all;
   style = style_of (values_in Style all);
@@ -257,9 +260,9 @@ asked_written source all = record {
 
 options_written : (source : Source) (uses : List Use) → options_by source uses ≡ asked_written source (all_written uses)
 options_written source uses =
-    rw (values_written Filter uses) (rw (values_written Kind uses) (rw (values_written Name uses) (rw (values_written Style uses)
+    rw (values_written Filter uses) (rw (given_written Two uses) (rw (values_written Kind uses) (rw (values_written Name uses) (rw (values_written Style uses)
     (rw (values_written Most uses) (rw (given_written Quiet uses) (rw (values_written Decode uses) (rw (values_written Report uses)
-    (rw (given_written Output uses) (rw (values_written Format uses) refl)))))))))
+    (rw (given_written Output uses) (rw (values_written Format uses) refl))))))))))
 
 kind_written : (uses : List Use) → kind_asked (value_of Kind uses) ≡ kind_asked (head_of (values_in Kind (all_written uses)))
 kind_written uses = ap (λ (texts : List (List ℕ)). kind_asked (head_of texts)) (values_written Kind uses)

@@ -19,7 +19,7 @@ use Rattle.shark_words.specs.Options.{options_of, source_of, together_fault}
 -- the options of one capture, with a filter, names and a count
 abbrev asked_for : List ℕ → Option (List ℕ) → List (List ℕ) → Option ℕ → Result Options WordFault
 asked_for name filter names most =
-    Ok (record { source = Named name; filter = filter; kind = Fields; names = names; style = default_style; most = most; quiet = false; decode = record { rules = [] }; reports = []; written = None })
+    Ok (record { source = Named name; filter = filter; two = false; kind = Fields; names = names; style = default_style; most = most; quiet = false; decode = record { rules = [] }; reports = []; written = None })
 
 pub no_words : options_of [] ≡ Err (fault 1 NoFile)
 unfolding options_of source_of together_fault uses_from first_fault
@@ -62,7 +62,7 @@ no_kind = refl
 
 -- `-qrf`: a cluster, and the kind of line where none is asked for
 pub cluster : options_of (codes "-qrf" ∷ [])
-    ≡ Ok (record { source = Named (codes "f"); filter = None; kind = Text; names = []; style = default_style; most = None; quiet = true; decode = record { rules = [] }; reports = []; written = None })
+    ≡ Ok (record { source = Named (codes "f"); filter = None; two = false; kind = Text; names = []; style = default_style; most = None; quiet = true; decode = record { rules = [] }; reports = []; written = None })
 unfolding options_of source_of together_fault uses_from first_fault
 cluster = refl
 
@@ -75,6 +75,17 @@ unknown_before_repeated = refl
 pub key_again : options_of (codes "-E" ∷ codes "quote=d" ∷ codes "-E" ∷ codes "quote=x" ∷ []) ≡ Err (fault 3 Repeated)
 unfolding options_of source_of together_fault uses_from first_fault begins key_of
 key_again = refl
+
+-- `-2qrf`
+pub two_passes : options_of (codes "-2qrf" ∷ [])
+    ≡ Ok (record { source = Named (codes "f"); filter = None; two = true; kind = Text; names = []; style = default_style; most = None; quiet = true; decode = record { rules = [] }; reports = []; written = None })
+unfolding options_of source_of together_fault uses_from first_fault
+two_passes = refl
+
+-- `-22rf`
+pub two_passes_twice : options_of (codes "-22rf" ∷ []) ≡ Err (fault 1 Repeated)
+unfolding options_of source_of together_fault uses_from first_fault
+two_passes_twice = refl
 
 -- `-Tfields -e no.such -rf`, the file last
 pub all_in_one_word_each : options_of (codes "-Tfields" ∷ codes "-e" ∷ codes "no.such" ∷ codes "-rf" ∷ [])
@@ -132,13 +143,13 @@ unknown_before_no_file = refl
 
 -- `-r f -w - -F pcap`
 pub written_as_pcap : options_of (codes "-r" ∷ codes "f" ∷ codes "-w" ∷ codes "-" ∷ codes "-F" ∷ codes "pcap" ∷ [])
-    ≡ Ok (record { source = Named (codes "f"); filter = None; kind = Text; names = []; style = default_style; most = None; quiet = false; decode = record { rules = [] }; reports = []; written = Some Pcap })
+    ≡ Ok (record { source = Named (codes "f"); filter = None; two = false; kind = Text; names = []; style = default_style; most = None; quiet = false; decode = record { rules = [] }; reports = []; written = Some Pcap })
 unfolding options_of source_of together_fault uses_from first_fault
 written_as_pcap = refl
 
 -- `-w- -rf`
 pub written_as_pcapng : options_of (codes "-w-" ∷ codes "-rf" ∷ [])
-    ≡ Ok (record { source = Named (codes "f"); filter = None; kind = Text; names = []; style = default_style; most = None; quiet = false; decode = record { rules = [] }; reports = []; written = Some Pcapng })
+    ≡ Ok (record { source = Named (codes "f"); filter = None; two = false; kind = Text; names = []; style = default_style; most = None; quiet = false; decode = record { rules = [] }; reports = []; written = Some Pcapng })
 unfolding options_of source_of together_fault uses_from first_fault
 written_as_pcapng = refl
 
@@ -159,7 +170,7 @@ written_with_kind = refl
 
 -- `--self-run 42,200000`
 pub generated_capture : options_of (codes "--self-run" ∷ codes "42,200000" ∷ [])
-    ≡ Ok (record { source = Generated 42 200000; filter = None; kind = Text; names = []; style = default_style; most = None; quiet = false; decode = record { rules = [] }; reports = []; written = None })
+    ≡ Ok (record { source = Generated 42 200000; filter = None; two = false; kind = Text; names = []; style = default_style; most = None; quiet = false; decode = record { rules = [] }; reports = []; written = None })
 unfolding options_of source_of together_fault uses_from first_fault generated_by decimal_of digits_read
 generated_capture = refl
 

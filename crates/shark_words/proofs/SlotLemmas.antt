@@ -7,7 +7,7 @@ use mathlib.Core.Bool.{beq}
 use Rattle.port_rules.specs.Rules.{same_transport}
 use denote.Enum.Bare.{same_true}
 use Rattle.shark_words.specs.declared.letter.Letter.{Letter}
-use Rattle.shark_words.specs.declared.letter.Letter.TheVariants.{Capture, Filter, Kind, Name, Style, Most, Quiet, Decode, Report, Output, Format, SelfRun}
+use Rattle.shark_words.specs.declared.letter.Letter.TheVariants.{Capture, Filter, Two, Kind, Name, Style, Most, Quiet, Decode, Report, Output, Format, SelfRun}
 use Rattle.shark_words.specs.declared.slot.Slot.{Slot}
 use Rattle.shark_words.specs.declared.slot.Slot.TheVariants as slots
 use Rattle.shark_words.specs.declared.port.Port.{Port}
@@ -32,6 +32,7 @@ together false false there back = refl
 letter_itself : (letter : Letter) → letter_eq.it letter letter ≡ true
 letter_itself Capture = refl
 letter_itself Filter = refl
+letter_itself Two = refl
 letter_itself Kind = refl
 letter_itself Name = refl
 letter_itself Style = refl
@@ -50,6 +51,7 @@ letter_at : ℕ → Letter
 letter_at n =
     if n == 114 then Capture
     else if n == 89 then Filter
+    else if n == 50 then Two
     else if n == 84 then Kind
     else if n == 101 then Name
     else if n == 69 then Style
@@ -65,6 +67,7 @@ letter_of_number : (letter : Letter) → letter_at (letter_byte letter) ≡ lett
 unfolding letter_at
 letter_of_number Capture = refl
 letter_of_number Filter = refl
+letter_of_number Two = refl
 letter_of_number Kind = refl
 letter_of_number Name = refl
 letter_of_number Style = refl

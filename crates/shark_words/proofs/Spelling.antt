@@ -11,7 +11,7 @@ use Rattle.std.proofs.lemmas.Bool.Decides.{nat_tests}
 use Rattle.std.proofs.lemmas.List.Folds.{list_any-append}
 use Rattle.std.proofs.lemmas.Slice.Eq.{bytes_eq-Decides}
 use Rattle.shark_words.specs.declared.letter.Letter.{Letter}
-use Rattle.shark_words.specs.declared.letter.Letter.TheVariants.{Capture, Filter, Kind, Name, Style, Most, Quiet, Decode, Report, Output, Format, SelfRun}
+use Rattle.shark_words.specs.declared.letter.Letter.TheVariants.{Capture, Filter, Two, Kind, Name, Style, Most, Quiet, Decode, Report, Output, Format, SelfRun}
 use Rattle.shark_words.specs.declared.slot.Slot.{Slot}
 use Rattle.shark_words.specs.declared.uses.Value.{Value}
 use Rattle.shark_words.specs.declared.uses.Given.{Given}
@@ -32,6 +32,7 @@ same_bytes one other h = (bytes_eq-Decides one other).0 h
 letter_of_byte : (letter : Letter) → has_letter letter ≡ true → letter_of (letter_byte letter) ≡ Some letter
 letter_of_byte Capture h = refl
 letter_of_byte Filter h = refl
+letter_of_byte Two h = refl
 letter_of_byte Kind h = refl
 letter_of_byte Name h = refl
 letter_of_byte Style h = refl

@@ -1,13 +1,14 @@
 -- The options, by their letters.
 use Rattle.std.specs.Prelude.{ℕ, ◌==◌, Bool, true, false, Option, Some, None, if◌then◌else◌}
 use Rattle.shark_words.specs.declared.letter.Letter.{Letter}
-use Rattle.shark_words.specs.declared.letter.Letter.TheVariants.{Capture, Filter, Kind, Name, Style, Most, Quiet, Decode, Report, Output, Format, SelfRun}
+use Rattle.shark_words.specs.declared.letter.Letter.TheVariants.{Capture, Filter, Two, Kind, Name, Style, Most, Quiet, Decode, Report, Output, Format, SelfRun}
 
--- the bytes of the letters `r`, `Y`, `T`, `e`, `E`, `c`, `q`, `d`, `z`, `w`, `F`; `--self-run` has no letter, and a number
--- beyond the bytes
+-- the bytes of the letters `r`, `Y`, `2`, `T`, `e`, `E`, `c`, `q`, `d`, `z`, `w`, `F`; `--self-run` has no letter, and a
+-- number beyond the bytes
 abbrev pub letter_byte : Letter → ℕ
 letter_byte Capture = 114
 letter_byte Filter = 89
+letter_byte Two = 50
 letter_byte Kind = 84
 letter_byte Name = 101
 letter_byte Style = 69
@@ -24,6 +25,7 @@ abbrev pub letter_of : ℕ → Option Letter
 letter_of b =
     if b == letter_byte Capture then Some Capture
     else if b == letter_byte Filter then Some Filter
+    else if b == letter_byte Two then Some Two
     else if b == letter_byte Kind then Some Kind
     else if b == letter_byte Name then Some Name
     else if b == letter_byte Style then Some Style
@@ -45,5 +47,6 @@ has_letter letter = true
 
 -- whether a value belongs to an option
 abbrev pub has_value : Letter → Bool
+has_value Two = false
 has_value Quiet = false
 has_value letter = true

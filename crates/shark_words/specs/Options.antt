@@ -2,7 +2,7 @@
 use Rattle.std.specs.Prelude.{◌≡◌, ℕ, suc, Bool, List, [], length, Option, Some, None, option_and_then, option_map, Result, Ok, Err, if◌then◌else◌}
 use Rattle.std.specs.Option.{option_or}
 use Rattle.capture_write.specs.declared.format.Format.{Format as CaptureFormat}
-use Rattle.shark_words.specs.declared.letter.Letter.TheVariants.{Capture, Filter, Kind, Name, Style, Most, Quiet, Decode, Report, Output, Format, SelfRun}
+use Rattle.shark_words.specs.declared.letter.Letter.TheVariants.{Capture, Filter, Two, Kind, Name, Style, Most, Quiet, Decode, Report, Output, Format, SelfRun}
 use Rattle.shark_words.specs.declared.uses.Use.{Use}
 use Rattle.shark_words.specs.declared.fault.WordFault.{WordFault}
 use Rattle.shark_words.specs.declared.fault.WordReason.TheVariants.{NoFile, NoFields, Unused, Clash}
@@ -36,6 +36,7 @@ abbrev pub options_by : Source → List Use → Options
 options_by source uses = record {
   source = source;
   filter = shown_filter (value_of Filter uses);
+  two = is_given Two uses;
   kind = kind_asked (value_of Kind uses);
   names = values_of Name uses;
   style = style_of (values_of Style uses);

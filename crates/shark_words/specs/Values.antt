@@ -6,7 +6,7 @@ use Rattle.std.specs.Str.{bytes_eq}
 use Rattle.capture_write.specs.declared.format.Format.{Format as CaptureFormat}
 use Rattle.capture_write.specs.declared.format.Format.TheVariants.{Pcap, Pcapng}
 use Rattle.shark_words.specs.declared.letter.Letter.{Letter}
-use Rattle.shark_words.specs.declared.letter.Letter.TheVariants.{Capture, Filter, Kind, Name, Style, Most, Quiet, Decode, Report, Output, Format, SelfRun}
+use Rattle.shark_words.specs.declared.letter.Letter.TheVariants.{Capture, Filter, Two, Kind, Name, Style, Most, Quiet, Decode, Report, Output, Format, SelfRun}
 use Rattle.shark_words.specs.declared.options.LineKind.{LineKind}
 use Rattle.shark_words.specs.declared.options.LineKind.TheVariants.{Text, Fields, Json}
 use Rattle.shark_words.specs.declared.options.Source.{Source}
@@ -63,10 +63,11 @@ abbrev pub format_asked : Option (List ℕ) → CaptureFormat
 format_asked None = Pcapng
 format_asked (Some text) = unwrap_or (format_of text) Pcapng
 
--- whether a text is one of an option's values; `-q` has none, and `-w` only `-`, which stands for the standard output
+-- whether a text is one of an option's values; `-2` and `-q` have none, and `-w` only `-`, which stands for the standard output
 abbrev pub is_value : Letter → List ℕ → Bool
 is_value Capture text = nat_lt 0 (length text)
 is_value Filter text = true
+is_value Two text = false
 is_value Kind text = is_some (kind_of text)
 is_value Name text = true
 is_value Style text = is_setting text

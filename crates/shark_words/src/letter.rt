@@ -8,6 +8,8 @@ pub(crate) enum Letter {
     Capture,
     /// `-Y FILTER`: the display filter.
     Filter,
+    /// `-2`: two passes over the frames.
+    Two,
     /// `-T KIND`: the kind of line.
     Kind,
     /// `-e NAME`: a field.
@@ -37,6 +39,7 @@ impl Letter {
         match byte {
             b'r' => Some(Letter::Capture),
             b'Y' => Some(Letter::Filter),
+            b'2' => Some(Letter::Two),
             b'T' => Some(Letter::Kind),
             b'e' => Some(Letter::Name),
             b'E' => Some(Letter::Style),
@@ -54,6 +57,6 @@ impl Letter {
     pub(crate) fn has_value(self) -> bool
         ensures { result ≡ has_value self }
     {
-        !matches!(self, Letter::Quiet)
+        !matches!(self, Letter::Two | Letter::Quiet)
     }
 }

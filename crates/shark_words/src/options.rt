@@ -99,6 +99,8 @@ pub struct Options {
     pub source: Source,
     /// The display filter; none without `-Y`, and for a text of separators alone.
     pub filter: Option<Octets>,
+    /// Whether `-2` asks for two passes, so that a frame also shows which later ones answer it.
+    pub two: bool,
     pub kind: LineKind,
     /// The names after `-e`. Whether there are such fields isn't asked here.
     pub names: NameList,

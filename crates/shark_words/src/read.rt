@@ -131,7 +131,7 @@ fn together_fault(behind: u64, uses: &[Use], kind: LineKind) -> Option<WordFault
 ///
 /// A word that begins with `-` and has more is `--self-run`, whose value is the next word, or a cluster of letters: `-r`,
 /// `-Y`, `-T`, `-e`, `-E`, `-c`, `-d`, `-z`, `-w` and `-F`, whose value is what is left of the word, or the next word where
-/// nothing is left, and `-q`, which has none. Words are numbered from 1, and the first fault in their order is told.
+/// nothing is left, and `-2` and `-q`, which have none. Words are numbered from 1, and the first fault in their order is told.
 #[tactic(auto, using(crate::proofs::Utf8Lemmas::answered_are_utf8))]
 pub fn read_words(alloc: Global, words: &[String]) -> Result<Options, WordsError>
     ensures computed { Gives result (options_of (texts words.now)) }
@@ -179,6 +179,7 @@ fn options_from(
     Ok(Options {
         source,
         filter: shown_filter(value_of(uses, Letter::Filter))?,
+        two: is_given(uses, Letter::Two),
         kind,
         names: NameList::from_vec(values_of(alloc, uses, Letter::Name)?),
         style: style_of(uses),

@@ -124,6 +124,7 @@ fn options_are_read_in_any_order(rt: HostRuntime) -> Result<(), Fail> {
     let options = read_words(rt.alloc(), &words)?;
     assert_eq!(rt; options.style, Style::default());
     assert!(rt; !options.quiet);
+    assert!(rt; !options.two);
     assert!(rt; is_named(&options.source, b"one.pcap"));
     assert_eq!(rt; options.written, None);
     assert_eq!(rt; bytes_of(&options.filter), Some(b"arp".as_slice()));
@@ -263,7 +264,7 @@ fn many_names_are_read(rt: HostRuntime) -> Result<(), Fail> {
 }
 
 /// Command lines, a space between two words, each behind what is answered: `ok`, or the word and the reason of the refusal.
-static COMMANDS: [&str; 191] = [
+static COMMANDS: [&str; 203] = [
     // Each letter in a word of its own, in a cluster, twice, without a value, with a bad value.
     "ok: -r f",
     "ok: -rf",
@@ -322,7 +323,6 @@ static COMMANDS: [&str; 191] = [
     "2 A3: -q - -r f",
     "1 A3: q -r f",
     "2 A1: -q --q",
-    "1 A1: -2 -r f",
     "1 A1: --filter-stats -r f",
     // A generated capture: its number and how many frames, in a word of its own.
     "ok: --self-run 1,1",
@@ -379,6 +379,20 @@ static COMMANDS: [&str; 191] = [
     "5 A9: -z follow,tcp,raw,0 -r f -w -",
     "5 A9: -r f -zfollow,tcp,raw,0 -q -w - -d tcp.port==80,data",
     "ok: -r f -w - -d tcp.port==80,data",
+    // Two passes.
+    "ok: -2 -r f",
+    "ok: -2r f",
+    "ok: -q2rf",
+    "ok: -r f -2 -Y arp -w -",
+    "ok: --self-run 1,1 -2q",
+    "4 A5: -r f -2 -2",
+    "3 A5: -r f -22",
+    "3 A5: -r f -2q2",
+    "3 A1: -r f -2x",
+    "1 A1: -3 -r f",
+    "2 A4: -2",
+    "4 A3: -r f -2 2",
+    "4 A3: -2 -r f 1",
     // The application of a port: each one over either transport, a port twice, bad values.
     "ok: -r f -d tcp.port==9999,http",
     "ok: -r f -dtcp.port==0,dns",
@@ -583,7 +597,7 @@ fn style_is_what_is_set(rt: HostRuntime) -> Result<(), Fail> {
     let words = words_of(
         rt.alloc(),
         &[
-            "-qrf",
+            "-q2rf",
             "-Tfields",
             "-ea",
             "-Eheader=y",
@@ -606,5 +620,6 @@ fn style_is_what_is_set(rt: HostRuntime) -> Result<(), Fail> {
     assert_eq!(rt; options.style, style);
     assert_eq!(rt; options.kind, LineKind::Fields);
     assert!(rt; options.quiet);
+    assert!(rt; options.two);
     Ok(())
 }
