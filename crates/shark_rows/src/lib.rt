@@ -37,6 +37,8 @@ mod outside_rows;
 #[cfg(test)]
 mod packet_rows;
 #[cfg(test)]
+mod pass_rows;
+#[cfg(test)]
 mod pcap_rows;
 #[cfg(test)]
 mod pcapng_rows;

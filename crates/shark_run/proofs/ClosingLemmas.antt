@@ -13,6 +13,8 @@ use Rattle.shark_run.specs.declared.run_ending.RunEnding.{RunEnding}
 use Rattle.capture_read.specs.declared.frame.Frame.{Frame}
 use Rattle.dissect.specs.Stands.{DissectorShown, StandsWithin}
 use Rattle.shark_run.specs.declared.plan.Plan.{Plan}
+use Rattle.shark_run.specs.Fitting.{job_of}
+use Rattle.shark_run.specs.Job.{Job, Passes, job_in}
 use Rattle.shark_run.specs.declared.notes.Notes.{Notes}
 use Rattle.shark_run.specs.declared.totals.Totals.{Totals}
 use Rattle.shark_run.specs.Accessors.{is_generated, reports_of, written_of}
@@ -32,102 +34,102 @@ use Rattle.shark_run.proofs.PacketLemmas.{kept_is}
 use Rattle.shark_run.specs.Wrote.{WroteBody, WrotePieces, WroteSomeBody, WroteSomePieces, body_of}
 
 -- the line over frames tells their totals
-pub line_counted : (plan : Plan) (past : List Frame) (totals : Totals) (tcp udp : ℕ) (line : List ℕ)
-    → line ≡ counts_text totals.frames totals.shown tcp udp totals.dns totals.http → totals ≡ totals_of plan past → tcp ≡ tcp_count past → udp ≡ udp_count past
-    → line ≡ self_run_line plan past
+pub line_counted : (job : Job) (past : List Frame) (totals : Totals) (tcp udp : ℕ) (line : List ℕ)
+    → line ≡ counts_text totals.frames totals.shown tcp udp totals.dns totals.http → totals ≡ totals_of job past → tcp ≡ tcp_count past → udp ≡ udp_count past
+    → line ≡ self_run_line job past
 unfolding self_run_line
-line_counted plan past totals tcp udp line is same streams conversations =
+line_counted job past totals tcp udp line is same streams conversations =
     is
     ∙ ap (λ (t : Totals). counts_text t.frames t.shown tcp udp t.dns t.http) same
-    ∙ ap (λ (n : ℕ). counts_text (length past) (shown_count plan (trees_of plan past)) n udp (layer_count DNS (trees_of plan past)) (layer_count HTTP (trees_of plan past))) streams
-    ∙ ap (λ (n : ℕ). counts_text (length past) (shown_count plan (trees_of plan past)) (tcp_count past) n (layer_count DNS (trees_of plan past)) (layer_count HTTP (trees_of plan past))) conversations
+    ∙ ap (λ (n : ℕ). counts_text (length past) (shown_count job.plan (trees_of job past)) n udp (layer_count DNS (trees_of job past)) (layer_count HTTP (trees_of job past))) streams
+    ∙ ap (λ (n : ℕ). counts_text (length past) (shown_count job.plan (trees_of job past)) (tcp_count past) n (layer_count DNS (trees_of job past)) (layer_count HTTP (trees_of job past))) conversations
 
 -- the totals of frames are those that the line tells
-totals_with : (plan : Plan) (past : List Frame) (frame : Frame) →
-    with_tree (tree_of plan past frame) (lets_frame plan past frame) (totals_of plan past) ≡ totals_of plan (frame ∷ past)
-totals_with plan past frame = refl
+totals_with : (job : Job) (past : List Frame) (frame : Frame) →
+    with_tree (tree_of job past frame) (lets_frame job past frame) (totals_of job past) ≡ totals_of job (frame ∷ past)
+totals_with job past frame = refl
 
-totals_so_far : (plan : Plan) (past : List Frame) → is_generated plan ≡ true → counts_of plan past ≡ totals_of plan past
-totals_so_far plan [] is = refl
-totals_so_far plan (frame ∷ past) is =
-    ap (counts_with plan (tree_of plan past frame)) (totals_so_far plan past is)
-    ∙ ap (λ (b : Bool). if b then with_tree (tree_of plan past frame) (lets_frame plan past frame) (totals_of plan past) else totals_of plan past) is
-    ∙ totals_with plan past frame
+totals_so_far : (job : Job) (past : List Frame) → is_generated job.plan ≡ true → counts_of job past ≡ totals_of job past
+totals_so_far job [] is = refl
+totals_so_far job (frame ∷ past) is =
+    ap (counts_with job.plan (tree_of job past frame)) (totals_so_far job past is)
+    ∙ ap (λ (b : Bool). if b then with_tree (tree_of job past frame) (lets_frame job past frame) (totals_of job past) else totals_of job past) is
+    ∙ totals_with job past frame
 
-pub line_of_counts : (plan : Plan) (line : List ℕ) (totals : Totals) (past : List Frame) → is_generated plan ≡ true → totals ≡ counts_of plan past
-    → (totals ≡ totals_of plan past → line ≡ self_run_line plan past) → line ≡ counted_line plan past
-line_of_counts plan line totals past is counted tells =
-    tells (counted ∙ totals_so_far plan past is) ∙ sym (ap (λ (b : Bool). if b then self_run_line plan past else []) is)
+pub line_of_counts : (job : Job) (line : List ℕ) (totals : Totals) (past : List Frame) → is_generated job.plan ≡ true → totals ≡ counts_of job past
+    → (totals ≡ totals_of job past → line ≡ self_run_line job past) → line ≡ counted_line job past
+line_of_counts job line totals past is counted tells =
+    tells (counted ∙ totals_so_far job past is) ∙ sym (ap (λ (b : Bool). if b then self_run_line job past else []) is)
 
-pub no_counts : (plan : Plan) (past : List Frame) → is_generated plan ≡ false → counted_line plan past ≡ []
-no_counts plan past is = ap (λ (b : Bool). if b then self_run_line plan past else []) is
+pub no_counts : (job : Job) (past : List Frame) → is_generated job.plan ≡ false → counted_line job past ≡ []
+no_counts job past is = ap (λ (b : Bool). if b then self_run_line job past else []) is
 
 -- where lines are written, the reports and the line of what was counted stand behind them
-closing_is : (plan : Plan) (past : List Frame) → written_of plan ≡ None → closing plan past ≡ reports_text plan past (reports_of plan) ++ counted_line plan past
+closing_is : (job : Job) (past : List Frame) → written_of job.plan ≡ None → closing job past ≡ reports_text job past (reports_of job.plan) ++ counted_line job past
 unfolding closing
-closing_is plan past lines = ap (λ (w : Option Format). closing_by w plan past) lines
+closing_is job past lines = ap (λ (w : Option Format). closing_by w job past) lines
 
-pub behind_lines : (plan : Plan) (past : List Frame) (old now new : Option (List ℕ)) → written_of plan ≡ None
-    → Appends old now (reports_text plan past (reports_of plan)) → Appends now new (counted_line plan past) → Appends old new (closing plan past)
-behind_lines plan past old now new lines reported counted =
-    subst (λ (bytes : List ℕ). Appends old new bytes) (sym (closing_is plan past lines))
-    (Appends-trans old now new (reports_text plan past (reports_of plan)) (counted_line plan past) reported counted)
+pub behind_lines : (job : Job) (past : List Frame) (old now new : Option (List ℕ)) → written_of job.plan ≡ None
+    → Appends old now (reports_text job past (reports_of job.plan)) → Appends now new (counted_line job past) → Appends old new (closing job past)
+behind_lines job past old now new lines reported counted =
+    subst (λ (bytes : List ℕ). Appends old new bytes) (sym (closing_is job past lines))
+    (Appends-trans old now new (reports_text job past (reports_of job.plan)) (counted_line job past) reported counted)
 
-pub behind_reports : (plan : Plan) (past : List Frame) (old now new : Option (List ℕ)) → written_of plan ≡ None
-    → Appends old now (reports_text plan past (reports_of plan)) → AppendsPart now new (counted_line plan past) → AppendsPart old new (closing plan past)
-behind_reports plan past old now new lines reported part =
-    subst (AppendsPart old new) (sym (closing_is plan past lines)) (part_after old now new (reports_text plan past (reports_of plan)) (counted_line plan past) reported part)
+pub behind_reports : (job : Job) (past : List Frame) (old now new : Option (List ℕ)) → written_of job.plan ≡ None
+    → Appends old now (reports_text job past (reports_of job.plan)) → AppendsPart now new (counted_line job past) → AppendsPart old new (closing job past)
+behind_reports job past old now new lines reported part =
+    subst (AppendsPart old new) (sym (closing_is job past lines)) (part_after old now new (reports_text job past (reports_of job.plan)) (counted_line job past) reported part)
 
-pub among_reports : (plan : Plan) (past : List Frame) (old new : Option (List ℕ)) → written_of plan ≡ None
-    → AppendsPart old new (reports_text plan past (reports_of plan)) → AppendsPart old new (closing plan past)
-among_reports plan past old new lines part =
-    subst (AppendsPart old new) (sym (closing_is plan past lines)) (part_more old new (reports_text plan past (reports_of plan)) (counted_line plan past) part)
+pub among_reports : (job : Job) (past : List Frame) (old new : Option (List ℕ)) → written_of job.plan ≡ None
+    → AppendsPart old new (reports_text job past (reports_of job.plan)) → AppendsPart old new (closing job past)
+among_reports job past old new lines part =
+    subst (AppendsPart old new) (sym (closing_is job past lines)) (part_more old new (reports_text job past (reports_of job.plan)) (counted_line job past) part)
 
 -- nothing was written yet
-pub keeps_nothing : (written : Option Format) (plan : Plan) (t : Notes) (k : Kept) → AreNotes plan [] t → k ≡ nothing_kept (unwrap_or written Pcapng) → Written k []
-    → KeepsUp written plan [] t k
-keeps_nothing None plan t k counted is stands = counted
-keeps_nothing (Some format) plan t k counted is stands = (ap (λ (kept : Kept). kept.format) is, stands)
+pub keeps_nothing : (written : Option Format) (job : Job) (t : Notes) (k : Kept) → AreNotes job [] t → k ≡ nothing_kept (unwrap_or written Pcapng) → Written k []
+    → KeepsUp written job [] t k
+keeps_nothing None job t k counted is stands = counted
+keeps_nothing (Some format) job t k counted is stands = (ap (λ (kept : Kept). kept.format) is, stands)
 
 -- what stands at the end is written
-pub closed_line : (plan : Plan) (d : DissectorShown) (t : Notes) (k : Kept) (now new : Option (List ℕ)) → written_of plan ≡ None
-    → ((past : List Frame) → StandsWithin past d → AreNotes plan past t → Appends now new (closing plan past))
-    → (past : List Frame) → CanClose (written_of plan) plan past d t k → Appends now new (closing plan past)
-closed_line plan d t k now new is wrote past can =
-    let both : CanClose None plan past d t k = subst (λ (w : Option Format). CanClose w plan past d t k) is can in wrote past both.0 both.1
+pub closed_line : (job : Job) (d : DissectorShown) (t : Notes) (k : Kept) (now new : Option (List ℕ)) → written_of job.plan ≡ None
+    → ((past : List Frame) → StandsWithin past d → AreNotes job past t → Appends now new (closing job past))
+    → (past : List Frame) → CanClose (written_of job.plan) job past d t k → Appends now new (closing job past)
+closed_line job d t k now new is wrote past can =
+    let both : CanClose None job past d t k = subst (λ (w : Option Format). CanClose w job past d t k) is can in wrote past both.0 both.1
 
-pub closed_line_part : (plan : Plan) (d : DissectorShown) (t : Notes) (k : Kept) (now new : Option (List ℕ)) → written_of plan ≡ None
-    → ((past : List Frame) → StandsWithin past d → AreNotes plan past t → AppendsPart now new (closing plan past))
-    → (past : List Frame) → CanClose (written_of plan) plan past d t k → AppendsPart now new (closing plan past)
-closed_line_part plan d t k now new is part past can =
-    let both : CanClose None plan past d t k = subst (λ (w : Option Format). CanClose w plan past d t k) is can in part past both.0 both.1
+pub closed_line_part : (job : Job) (d : DissectorShown) (t : Notes) (k : Kept) (now new : Option (List ℕ)) → written_of job.plan ≡ None
+    → ((past : List Frame) → StandsWithin past d → AreNotes job past t → AppendsPart now new (closing job past))
+    → (past : List Frame) → CanClose (written_of job.plan) job past d t k → AppendsPart now new (closing job past)
+closed_line_part job d t k now new is part past can =
+    let both : CanClose None job past d t k = subst (λ (w : Option Format). CanClose w job past d t k) is can in part past both.0 both.1
 
-end_is : (format : Format) (plan : Plan) (past : List Frame) (d : DissectorShown) (t : Notes) (k : Kept) → written_of plan ≡ Some format
-    → CanClose (written_of plan) plan past d t k → end_at k ≡ closing plan past
+end_is : (format : Format) (job : Job) (past : List Frame) (d : DissectorShown) (t : Notes) (k : Kept) → written_of job.plan ≡ Some format
+    → CanClose (written_of job.plan) job past d t k → end_at k ≡ closing job past
 unfolding closing
-end_is format plan past d t k is can =
-    let writing : IsWriting (Some format) plan k past = subst (λ (w : Option Format). CanClose w plan past d t k) is can in
-    ap end_at (kept_is k (chosen_of plan past) writing.1 ∙ ap (λ (f : Format). kept_of f (chosen_of plan past)) writing.0)
-    ∙ sym (ap (λ (w : Option Format). closing_by w plan past) is)
+end_is format job past d t k is can =
+    let writing : IsWriting (Some format) job k past = subst (λ (w : Option Format). CanClose w job past d t k) is can in
+    ap end_at (kept_is k (chosen_of job past) writing.1 ∙ ap (λ (f : Format). kept_of f (chosen_of job past)) writing.0)
+    ∙ sym (ap (λ (w : Option Format). closing_by w job past) is)
 
-pub closed_capture : (format : Format) (plan : Plan) (d : DissectorShown) (t : Notes) (k : Kept) (now new : Option (List ℕ)) → written_of plan ≡ Some format
-    → Appends now new (end_at k) → (past : List Frame) → CanClose (written_of plan) plan past d t k → Appends now new (closing plan past)
-closed_capture format plan d t k now new is wrote past can = subst (λ (bytes : List ℕ). Appends now new bytes) (end_is format plan past d t k is can) wrote
+pub closed_capture : (format : Format) (job : Job) (d : DissectorShown) (t : Notes) (k : Kept) (now new : Option (List ℕ)) → written_of job.plan ≡ Some format
+    → Appends now new (end_at k) → (past : List Frame) → CanClose (written_of job.plan) job past d t k → Appends now new (closing job past)
+closed_capture format job d t k now new is wrote past can = subst (λ (bytes : List ℕ). Appends now new bytes) (end_is format job past d t k is can) wrote
 
-pub closed_capture_part : (format : Format) (plan : Plan) (d : DissectorShown) (t : Notes) (k : Kept) (now new : Option (List ℕ)) → written_of plan ≡ Some format
-    → AppendsPart now new (end_at k) → (past : List Frame) → CanClose (written_of plan) plan past d t k → AppendsPart now new (closing plan past)
-closed_capture_part format plan d t k now new is part past can = subst (AppendsPart now new) (end_is format plan past d t k is can) part
+pub closed_capture_part : (format : Format) (job : Job) (d : DissectorShown) (t : Notes) (k : Kept) (now new : Option (List ℕ)) → written_of job.plan ≡ Some format
+    → AppendsPart now new (end_at k) → (past : List Frame) → CanClose (written_of job.plan) job past d t k → AppendsPart now new (closing job past)
+closed_capture_part format job d t k now new is part past can = subst (AppendsPart now new) (end_is format job past d t k is can) part
 
 -- behind the frames' lines all was written
 pub closed_whole : (plan : Plan) (told : Option (List ℕ)) (ending : RunEnding) (d : DissectorShown) (t : Notes) (k : Kept) (old now new : Option (List ℕ))
     → IfSome told (λ file. WrotePieces plan (frames_read plan file) old now × (ending ≡ (frames_read plan file).ending))
     → IfSome told (λ file. HasRead plan file d t k)
-    → ((past : List Frame) → CanClose (written_of plan) plan past d t k → Appends now new (closing plan past))
+    → ((passes : Passes) (past : List Frame) → CanClose (written_of plan) (job_in plan passes) past d t k → Appends now new (closing (job_in plan passes) past))
     → IfSome told (λ file. WroteBody plan (frames_read plan file) old new × (ending ≡ (frames_read plan file).ending))
 closed_whole plan None ending d t k old now new wrote read closed = tt
 closed_whole plan (Some file) ending d t k old now new wrote read closed = (
-  Appends-trans old now new (pieces plan [] (frames_read plan file).frames) (closing plan (reverse (frames_read plan file).frames)) wrote.0
-      (closed (reverse (frames_read plan file).frames) read),
+  Appends-trans old now new (pieces (job_of plan (frames_read plan file)) [] (frames_read plan file).frames) (closing (job_of plan (frames_read plan file)) (reverse (frames_read plan file).frames)) wrote.0
+      (closed (frames_read plan file).passes (reverse (frames_read plan file).frames) read),
   wrote.1,
 )
 
@@ -135,22 +137,22 @@ closed_whole plan (Some file) ending d t k old now new wrote read closed = (
 pub closed_part : (plan : Plan) (told : Option (List ℕ)) (ending : RunEnding) (d : DissectorShown) (t : Notes) (k : Kept) (old now new : Option (List ℕ))
     → IfSome told (λ file. WrotePieces plan (frames_read plan file) old now × (ending ≡ (frames_read plan file).ending))
     → IfSome told (λ file. HasRead plan file d t k)
-    → ((past : List Frame) → CanClose (written_of plan) plan past d t k → AppendsPart now new (closing plan past))
+    → ((passes : Passes) (past : List Frame) → CanClose (written_of plan) (job_in plan passes) past d t k → AppendsPart now new (closing (job_in plan passes) past))
     → IfSome told (λ file. WroteSomeBody plan (frames_read plan file) old new)
 closed_part plan None ending d t k old now new wrote read closed = tt
 closed_part plan (Some file) ending d t k old now new wrote read closed =
-    part_after old now new (pieces plan [] (frames_read plan file).frames) (closing plan (reverse (frames_read plan file).frames)) wrote.0
-    (closed (reverse (frames_read plan file).frames) read)
+    part_after old now new (pieces (job_of plan (frames_read plan file)) [] (frames_read plan file).frames) (closing (job_of plan (frames_read plan file)) (reverse (frames_read plan file).frames)) wrote.0
+    (closed (frames_read plan file).passes (reverse (frames_read plan file).frames) read)
 
 pub closed_near : (plan : Plan) (told : Option (List ℕ)) (ending : RunEnding) (d : DissectorShown) (t : Notes) (k : Kept) (left old now new : Option (List ℕ))
     → IfSome told (λ file. WrotePieces plan (frames_read plan file) old now × (ending ≡ (frames_read plan file).ending))
     → IfSome told (λ file. HasRead plan file d t k)
-    → ((past : List Frame) → CanClose (written_of plan) plan past d t k → AppendsPart now new (closing plan past))
+    → ((passes : Passes) (past : List Frame) → CanClose (written_of plan) (job_in plan passes) past d t k → AppendsPart now new (closing (job_in plan passes) past))
     → IfSome told (λ file. IsBrokenFrom [] plan file left old new)
 closed_near plan None ending d t k left old now new wrote read closed = tt
 closed_near plan (Some file) ending d t k left old now new wrote read closed =
-    let part = closed (reverse (frames_read plan file).frames) read in
-    inr (part.0, part.1, part.2, Appends-trans old now new (pieces plan [] (frames_read plan file).frames) part.0 wrote.0 part.3)
+    let part = closed (frames_read plan file).passes (reverse (frames_read plan file).frames) read in
+    inr (part.0, part.1, part.2, Appends-trans old now new (pieces (job_of plan (frames_read plan file)) [] (frames_read plan file).frames) part.0 wrote.0 part.3)
 
 -- nothing was written
 pub none_body : (plan : Plan) (told old : Option (List ℕ)) → IfSome told (λ file. WroteSomeBody plan (frames_read plan file) old old)
@@ -161,7 +163,7 @@ none_body plan (Some file) old = part_none old (body_of plan (frames_read plan f
 pub some_body : (plan : Plan) (told old new : Option (List ℕ)) → IfSome told (λ file. WroteSomePieces plan (frames_read plan file) old new)
     → IfSome told (λ file. WroteSomeBody plan (frames_read plan file) old new)
 some_body plan None old new part = tt
-some_body plan (Some file) old new part = part_more old new (pieces plan [] (frames_read plan file).frames) (closing plan (reverse (frames_read plan file).frames)) part
+some_body plan (Some file) old new part = part_more old new (pieces (job_of plan (frames_read plan file)) [] (frames_read plan file).frames) (closing (job_of plan (frames_read plan file)) (reverse (frames_read plan file).frames)) part
 
 pub near_body : (plan : Plan) (told left old new : Option (List ℕ)) → IfSome told (λ file. IsBrokenBehind [] plan file left old new)
     → IfSome told (λ file. IsBrokenFrom [] plan file left old new)

@@ -49,6 +49,7 @@ with_names options filter (Ok fields) asked alone is =
     let plan : Plan = record {
       source = source_in options.source;
       filter = filter;
+      two = options.two;
       fields = fields;
       most = options.most;
       decode = options.decode.rules;
@@ -58,7 +59,7 @@ with_names options filter (Ok fields) asked alone is =
       quiet = options.quiet;
       written = options.written;
     } in
-    inl (plan, record { source = refl; filter = asked; fields = is; most = refl; decode = refl; reports = refl; kind = refl; style = refl; quiet = refl; written = refl })
+    inl (plan, record { source = refl; filter = asked; two = refl; fields = is; most = refl; decode = refl; reports = refl; kind = refl; style = refl; quiet = refl; written = refl })
 with_names options filter (Err (refused.Field name)) asked alone is = inr (refused.Field name, ((filter, asked), is), tt)
 with_names options filter (Err reason) asked alone is = absurd alone
 

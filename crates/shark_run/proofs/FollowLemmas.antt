@@ -16,7 +16,7 @@ use Rattle.tcp_streams.specs.Standing.{StandsFor, taken_so_far, way_for}
 use Rattle.tcp_streams.specs.Ways.{AreApart, IsWay, Sided, WayState, end_of, same_side, stretches, way_after}
 use Rattle.tcp_streams.specs.declared.segment.Segment.{Segment}
 use Rattle.tcp_streams.specs.declared.streams.Streams.{Streams}
-use Rattle.shark_run.specs.declared.plan.Plan.{Plan}
+use Rattle.shark_run.specs.Job.{Job}
 use Rattle.shark_run.specs.ReportLaws.{AreSameReports, FollowsAlone, IsSameReport}
 use Rattle.shark_run.specs.Reports.{fronts_if, fronts_in, tcp_segments}
 
@@ -115,24 +115,24 @@ report_is : (past : List Segment) (stream : ℕ) → follow_of stream (fronts_in
 unfolding follow_of
 report_is past stream = refl
 
-same_report : (plan : Plan) (past others : List Frame) (j k : ℕ) → fronts_in (tcp_segments past) j ≡ fronts_in (tcp_segments others) k → IsSameReport plan past others j k
-same_report plan past others j k same = record {
+same_report : (job : Job) (past others : List Frame) (j k : ℕ) → fronts_in (tcp_segments past) j ≡ fronts_in (tcp_segments others) k → IsSameReport job past others j k
+same_report job past others j k same = record {
   lines = fronts_lines (fronts_in (tcp_segments past) j);
   one = report_is (tcp_segments past) j;
   other = report_is (tcp_segments others) k ∙ ap (λ (fronts : Option Fronts). codes "follow tcp " ++ (decimal k ++ fronts_lines fronts)) (sym same);
 }
 
-same_reports : (plan : Plan) (past others : List Frame) (js ks : List ℕ) → AllLow (opened (labels (tcp_segments past))) js → AllLow (opened (labels (tcp_segments others))) ks
-    → AreSameStreams (labels (tcp_segments past)) (labels (tcp_segments others)) js ks → AreSameReports plan past others js ks
-same_reports plan past others [] [] low also same = tt
-same_reports plan past others (j ∷ js) (k ∷ ks) low also same = (
-  same_report plan past others j k (same_fronts (tcp_segments past) (tcp_segments others) j k low.0 also.0 same.0),
-  same_reports plan past others js ks low.1 also.1 same.1,
+same_reports : (job : Job) (past others : List Frame) (js ks : List ℕ) → AllLow (opened (labels (tcp_segments past))) js → AllLow (opened (labels (tcp_segments others))) ks
+    → AreSameStreams (labels (tcp_segments past)) (labels (tcp_segments others)) js ks → AreSameReports job past others js ks
+same_reports job past others [] [] low also same = tt
+same_reports job past others (j ∷ js) (k ∷ ks) low also same = (
+  same_report job past others j k (same_fronts (tcp_segments past) (tcp_segments others) j k low.0 also.0 same.0),
+  same_reports job past others js ks low.1 also.1 same.1,
 )
-same_reports plan past others [] (k ∷ ks) low also same = absurd same
-same_reports plan past others (j ∷ js) [] low also same = absurd same
+same_reports job past others [] (k ∷ ks) low also same = absurd same
+same_reports job past others (j ∷ js) [] low also same = absurd same
 
 pub follows_alone : FollowsAlone
-follows_alone plan s past others same =
-    same_reports plan past others (streams_of s (labels (tcp_segments past))) (streams_of s (labels (tcp_segments others)))
+follows_alone job s past others same =
+    same_reports job past others (streams_of s (labels (tcp_segments past))) (streams_of s (labels (tcp_segments others)))
     (known s (tcp_segments past)).low (known s (tcp_segments others)).low (is_isolated s (tcp_segments past) (tcp_segments others) same).streams

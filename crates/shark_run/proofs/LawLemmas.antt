@@ -1,7 +1,7 @@
 -- Two plans of the same words, and two reasons to refuse them.
 use Rattle.std.proofs.Common.{◌≡◌, ◌⊎◌, ⊎_elim, ℕ, suc, Bool, false, not, ◌&&◌, ◌||◌, reverse, List, [], ◌∷◌, ◌++◌, Option, None, Some, Ok, Err, IsTrue, if◌then◌else◌, refl, sym, ◌∙◌, ap, subst}
 use Rattle.std.specs.Prelude.{IfSome}
-use Rattle.capture_read.specs.Capture.{capture_of}
+use Rattle.capture_read.specs.Capture.{Reading, capture_of}
 use Rattle.capture_read.specs.declared.ending.Ending.{Ending}
 use Rattle.capture_write.specs.Kept.{end_at, fits, in_order, kept_of, piece_at, written}
 use Rattle.capture_write.specs.declared.format.Format.{Format}
@@ -36,6 +36,7 @@ use Rattle.shark_run.specs.Statuses.{status_of}
 use Rattle.shark_run.specs.Laws.{AreAlike, NeverBoth, OneReason, PlansAreAlike}
 use Rattle.shark_run.specs.declared.source.PlanSource.{PlanSource}
 use Rattle.shark_run.specs.Accessors.{is_quiet}
+use Rattle.shark_run.specs.Job.{Passes, job_in, passes_by, with_links}
 use Rattle.shark_run.specs.Lines.{shown, piece, piece_by, pieces, is_headed, line_by, line_of, opening, opening_by, closing, closing_by, counted_line, output_by, output_of}
 use Rattle.shark_run.specs.Reports.{report_text, reports_text}
 use Rattle.shark_run.specs.Satisfied.{satisfies}
@@ -45,7 +46,7 @@ use Rattle.shark_run.specs.SelfRun.{line_with, self_run_line, shown_count}
 use Rattle.shark_run.specs.Trees.{lets, lets_frame, tree_of, trees_of}
 use Rattle.shark_run.specs.Source.{is_generated_by}
 use Rattle.shark_run.specs.Plan.{IsFaultAsked, IsFilterAsked, IsPlan, IsPlanFor, IsRefusal, IsRefusalFor}
-use Rattle.shark_run.specs.Reading.{file_by, file_of, fitting_of, limited, frames_read}
+use Rattle.shark_run.specs.Reading.{file_by, file_of, fitting_of, limited, frames_read, read_of}
 use Rattle.shark_run.proofs.PlanLemmas.{answered, each_file, filter_or_fault, of_size, refused_not_planned, same_options}
 
 pub never_refused : NeverBoth
@@ -98,10 +99,11 @@ one_reason words (refused.Filter f) (refused.Field name) is also sure certain = 
 one_reason words (refused.Field name) (refused.Filter g) is also sure certain = one_of_options words (refused.Field name) (refused.Filter g) sure certain is also
 one_reason words (refused.Field name) (refused.Field known) is also sure certain = one_of_options words (refused.Field name) (refused.Field known) sure certain is also
 
--- the same source, the same rules for ports, the same kind of line, of the same fields, in the same style, and the same reports, or
+-- the same source, as many passes, the same rules for ports, the same kind of line, of the same fields, in the same style, and the same reports, or
 -- the same capture
 pub record AreWrittenAlike (one other : Plan) : Type 0 where
   source : one.source ≡ other.source
+  two : one.two ≡ other.two
   decode : one.decode ≡ other.decode
   reports : one.reports ≡ other.reports
   kind : one.kind ≡ other.kind
@@ -114,18 +116,18 @@ pub record AreWrittenAlike (one other : Plan) : Type 0 where
 abbrev LetAlike : Plan → Plan → Type 0
 LetAlike one other = (tree : TreeShown) → lets one tree ≡ lets other tree
 
-same_tree : (one other : Plan) (past : List Frame) (frame : Frame) → AreWrittenAlike one other → tree_of one past frame ≡ tree_of other past frame
-same_tree one other past frame alike = ap (λ (rules : List PortRule). tree_at rules past frame) alike.decode
+same_tree : (p : Passes) (one other : Plan) (past : List Frame) (frame : Frame) → AreWrittenAlike one other → tree_of (job_in one p) past frame ≡ tree_of (job_in other p) past frame
+same_tree p one other past frame alike = ap (λ (rules : List PortRule). with_links p frame.number (tree_at rules past frame)) alike.decode
 
-same_trees : (one other : Plan) (past : List Frame) → AreWrittenAlike one other → trees_of one past ≡ trees_of other past
-same_trees one other [] alike = refl
-same_trees one other (frame ∷ past) alike =
-    ap (λ (tree : TreeShown). tree ∷ trees_of one past) (same_tree one other past frame alike)
-    ∙ ap (λ (trees : List TreeShown). tree_of other past frame ∷ trees) (same_trees one other past alike)
+same_trees : (p : Passes) (one other : Plan) (past : List Frame) → AreWrittenAlike one other → trees_of (job_in one p) past ≡ trees_of (job_in other p) past
+same_trees p one other [] alike = refl
+same_trees p one other (frame ∷ past) alike =
+    ap (λ (tree : TreeShown). tree ∷ trees_of (job_in one p) past) (same_tree p one other past frame alike)
+    ∙ ap (λ (trees : List TreeShown). tree_of (job_in other p) past frame ∷ trees) (same_trees p one other past alike)
 
-same_frame : (one other : Plan) (past : List Frame) (frame : Frame) → AreWrittenAlike one other → LetAlike one other
-    → lets_frame one past frame ≡ lets_frame other past frame
-same_frame one other past frame alike same = ap (lets one) (same_tree one other past frame alike) ∙ same (tree_of other past frame)
+same_frame : (p : Passes) (one other : Plan) (past : List Frame) (frame : Frame) → AreWrittenAlike one other → LetAlike one other
+    → lets_frame (job_in one p) past frame ≡ lets_frame (job_in other p) past frame
+same_frame p one other past frame alike same = ap (lets one) (same_tree p one other past frame alike) ∙ same (tree_of (job_in other p) past frame)
 
 same_quiet : (one other : Plan) → AreWrittenAlike one other → is_quiet one ≡ is_quiet other
 same_quiet one other alike =
@@ -147,64 +149,64 @@ same_shown one other tree alike truth =
     (ap (λ (k : LineKind). line_by k one tree) alike.kind ∙ same_line other.kind one other tree alike.fields alike.style)
 
 -- such plans choose the same frames
-same_past : (one other : Plan) (past : List Frame) → AreWrittenAlike one other → LetAlike one other → chosen_of one past ≡ chosen_of other past
-same_past one other [] alike same = refl
-same_past one other (frame ∷ past) alike same =
-    ap (λ (shown : Bool). if_shown shown frame (chosen_of one past)) (same_frame one other past frame alike same)
-    ∙ ap (if_shown (lets_frame other past frame) frame) (same_past one other past alike same)
+same_past : (p : Passes) (one other : Plan) (past : List Frame) → AreWrittenAlike one other → LetAlike one other → chosen_of (job_in one p) past ≡ chosen_of (job_in other p) past
+same_past p one other [] alike same = refl
+same_past p one other (frame ∷ past) alike same =
+    ap (λ (shown : Bool). if_shown shown frame (chosen_of (job_in one p) past)) (same_frame p one other past frame alike same)
+    ∙ ap (if_shown (lets_frame (job_in other p) past frame) frame) (same_past p one other past alike same)
 
-same_chosen : (one other : Plan) (past frames : List Frame) → AreWrittenAlike one other → LetAlike one other → chosen one past frames ≡ chosen other past frames
-same_chosen one other past [] alike same = refl
-same_chosen one other past (frame ∷ frames) alike same =
-    ap (λ (shown : Bool). if_shown shown frame (chosen one (frame ∷ past) frames)) (same_frame one other past frame alike same)
-    ∙ ap (if_shown (lets_frame other past frame) frame) (same_chosen one other (frame ∷ past) frames alike same)
+same_chosen : (p : Passes) (one other : Plan) (past frames : List Frame) → AreWrittenAlike one other → LetAlike one other → chosen (job_in one p) past frames ≡ chosen (job_in other p) past frames
+same_chosen p one other past [] alike same = refl
+same_chosen p one other past (frame ∷ frames) alike same =
+    ap (λ (shown : Bool). if_shown shown frame (chosen (job_in one p) (frame ∷ past) frames)) (same_frame p one other past frame alike same)
+    ∙ ap (if_shown (lets_frame (job_in other p) past frame) frame) (same_chosen p one other (frame ∷ past) frames alike same)
 
-same_unfit_in : (format : Format) (one other : Plan) (past : List Frame) (frame : Frame) → AreWrittenAlike one other → LetAlike one other
-    → is_unfit_in format one past frame ≡ is_unfit_in format other past frame
-same_unfit_in format one other past frame alike same =
-    ap (λ (shown : Bool). shown && not (fits format (in_order (chosen_of one past) (frame ∷ [])))) (same_frame one other past frame alike same)
-    ∙ ap (λ (frames : List Frame). lets_frame other past frame && not (fits format (in_order frames (frame ∷ [])))) (same_past one other past alike same)
+same_unfit_in : (p : Passes) (format : Format) (one other : Plan) (past : List Frame) (frame : Frame) → AreWrittenAlike one other → LetAlike one other
+    → is_unfit_in format (job_in one p) past frame ≡ is_unfit_in format (job_in other p) past frame
+same_unfit_in p format one other past frame alike same =
+    ap (λ (shown : Bool). shown && not (fits format (in_order (chosen_of (job_in one p) past) (frame ∷ [])))) (same_frame p one other past frame alike same)
+    ∙ ap (λ (frames : List Frame). lets_frame (job_in other p) past frame && not (fits format (in_order frames (frame ∷ [])))) (same_past p one other past alike same)
 
-same_unfit_by : (written : Option Format) (one other : Plan) (past : List Frame) (frame : Frame) → AreWrittenAlike one other → LetAlike one other
-    → is_unfit_by written one past frame ≡ is_unfit_by written other past frame
-same_unfit_by None one other past frame alike same = refl
-same_unfit_by (Some format) one other past frame alike same = same_unfit_in format one other past frame alike same
+same_unfit_by : (p : Passes) (written : Option Format) (one other : Plan) (past : List Frame) (frame : Frame) → AreWrittenAlike one other → LetAlike one other
+    → is_unfit_by written (job_in one p) past frame ≡ is_unfit_by written (job_in other p) past frame
+same_unfit_by p None one other past frame alike same = refl
+same_unfit_by p (Some format) one other past frame alike same = same_unfit_in p format one other past frame alike same
 
-same_unfit : (one other : Plan) (past : List Frame) (frame : Frame) → AreWrittenAlike one other → LetAlike one other
-    → is_unfit one past frame ≡ is_unfit other past frame
-same_unfit one other past frame alike same =
-    ap (λ (w : Option Format). is_unfit_by w one past frame) alike.written ∙ same_unfit_by other.written one other past frame alike same
+same_unfit : (p : Passes) (one other : Plan) (past : List Frame) (frame : Frame) → AreWrittenAlike one other → LetAlike one other
+    → is_unfit (job_in one p) past frame ≡ is_unfit (job_in other p) past frame
+same_unfit p one other past frame alike same =
+    ap (λ (w : Option Format). is_unfit_by w (job_in one p) past frame) alike.written ∙ same_unfit_by p other.written one other past frame alike same
 
-same_fitting : (one other : Plan) (past frames : List Frame) (ending : Ending) → AreWrittenAlike one other → LetAlike one other
-    → fitting one past frames ending ≡ fitting other past frames ending
-same_fitting one other past [] ending alike same = refl
-same_fitting one other past (frame ∷ frames) ending alike same =
-    ap (λ (unfit : Bool). if unfit then over (Unfit frame.number) else before frame (fitting one (frame ∷ past) frames ending)) (same_unfit one other past frame alike same)
-    ∙ ap (λ (rest : FramesRead). if is_unfit other past frame then over (Unfit frame.number) else before frame rest) (same_fitting one other (frame ∷ past) frames ending alike same)
+same_fitting : (p : Passes) (one other : Plan) (past frames : List Frame) (ending : Ending) → AreWrittenAlike one other → LetAlike one other
+    → fitting (job_in one p) past frames ending ≡ fitting (job_in other p) past frames ending
+same_fitting p one other past [] ending alike same = refl
+same_fitting p one other past (frame ∷ frames) ending alike same =
+    ap (λ (unfit : Bool). if unfit then over (job_in one p) (Unfit frame.number) else before frame (fitting (job_in one p) (frame ∷ past) frames ending)) (same_unfit p one other past frame alike same)
+    ∙ ap (λ (rest : FramesRead). if is_unfit (job_in other p) past frame then over (job_in one p) (Unfit frame.number) else before frame rest) (same_fitting p one other (frame ∷ past) frames ending alike same)
 
-same_packet : (format : Format) (one other : Plan) (past : List Frame) (frame : Frame) → AreWrittenAlike one other → LetAlike one other
-    → packet_in format one past frame ≡ packet_in format other past frame
-same_packet format one other past frame alike same =
-    ap (λ (shown : Bool). if shown then piece_at (kept_of format (chosen_of one past)) frame else []) (same_frame one other past frame alike same)
-    ∙ ap (λ (frames : List Frame). if lets_frame other past frame then piece_at (kept_of format frames) frame else []) (same_past one other past alike same)
+same_packet : (p : Passes) (format : Format) (one other : Plan) (past : List Frame) (frame : Frame) → AreWrittenAlike one other → LetAlike one other
+    → packet_in format (job_in one p) past frame ≡ packet_in format (job_in other p) past frame
+same_packet p format one other past frame alike same =
+    ap (λ (shown : Bool). if shown then piece_at (kept_of format (chosen_of (job_in one p) past)) frame else []) (same_frame p one other past frame alike same)
+    ∙ ap (λ (frames : List Frame). if lets_frame (job_in other p) past frame then piece_at (kept_of format frames) frame else []) (same_past p one other past alike same)
 
-same_piece_by : (written : Option Format) (one other : Plan) (past : List Frame) (frame : Frame) → AreWrittenAlike one other → LetAlike one other
-    → piece_by written one past frame ≡ piece_by written other past frame
-same_piece_by None one other past frame alike same =
-    ap (shown one) (same_tree one other past frame alike) ∙ same_shown one other (tree_of other past frame) alike (same (tree_of other past frame))
-same_piece_by (Some format) one other past frame alike same = same_packet format one other past frame alike same
+same_piece_by : (p : Passes) (written : Option Format) (one other : Plan) (past : List Frame) (frame : Frame) → AreWrittenAlike one other → LetAlike one other
+    → piece_by written (job_in one p) past frame ≡ piece_by written (job_in other p) past frame
+same_piece_by p None one other past frame alike same =
+    ap (shown one) (same_tree p one other past frame alike) ∙ same_shown one other (tree_of (job_in other p) past frame) alike (same (tree_of (job_in other p) past frame))
+same_piece_by p (Some format) one other past frame alike same = same_packet p format one other past frame alike same
 
-same_piece : (one other : Plan) (past : List Frame) (frame : Frame) → AreWrittenAlike one other → LetAlike one other
-    → piece one past frame ≡ piece other past frame
-same_piece one other past frame alike same =
-    ap (λ (w : Option Format). piece_by w one past frame) alike.written ∙ same_piece_by other.written one other past frame alike same
+same_piece : (p : Passes) (one other : Plan) (past : List Frame) (frame : Frame) → AreWrittenAlike one other → LetAlike one other
+    → piece (job_in one p) past frame ≡ piece (job_in other p) past frame
+same_piece p one other past frame alike same =
+    ap (λ (w : Option Format). piece_by w (job_in one p) past frame) alike.written ∙ same_piece_by p other.written one other past frame alike same
 
-same_pieces : (one other : Plan) (past frames : List Frame) → AreWrittenAlike one other → LetAlike one other
-    → pieces one past frames ≡ pieces other past frames
-same_pieces one other past [] alike same = refl
-same_pieces one other past (frame ∷ frames) alike same =
-    ap (λ (line : List ℕ). line ++ pieces one (frame ∷ past) frames) (same_piece one other past frame alike same)
-    ∙ ap (λ (lines : List ℕ). piece other past frame ++ lines) (same_pieces one other (frame ∷ past) frames alike same)
+same_pieces : (p : Passes) (one other : Plan) (past frames : List Frame) → AreWrittenAlike one other → LetAlike one other
+    → pieces (job_in one p) past frames ≡ pieces (job_in other p) past frames
+same_pieces p one other past [] alike same = refl
+same_pieces p one other past (frame ∷ frames) alike same =
+    ap (λ (line : List ℕ). line ++ pieces (job_in one p) (frame ∷ past) frames) (same_piece p one other past frame alike same)
+    ∙ ap (λ (lines : List ℕ). piece (job_in other p) past frame ++ lines) (same_pieces p one other (frame ∷ past) frames alike same)
 
 headed : LineKind → Style → Bool → Bool
 headed Text style quiet = false
@@ -242,69 +244,75 @@ same_count one other (tree ∷ trees) same =
     ap (λ (b : Bool). if b then suc (shown_count one trees) else shown_count one trees) (same tree)
     ∙ ap (λ (n : ℕ). if lets other tree then suc n else n) (same_count one other trees same)
 
-same_self_run : (one other : Plan) (past : List Frame) → AreWrittenAlike one other → LetAlike one other → self_run_line one past ≡ self_run_line other past
+same_self_run : (p : Passes) (one other : Plan) (past : List Frame) → AreWrittenAlike one other → LetAlike one other → self_run_line (job_in one p) past ≡ self_run_line (job_in other p) past
 unfolding self_run_line
-same_self_run one other past alike same =
-    ap (λ (trees : List TreeShown). line_with past trees (shown_count one trees)) (same_trees one other past alike)
-    ∙ ap (line_with past (trees_of other past)) (same_count one other (trees_of other past) same)
+same_self_run p one other past alike same =
+    ap (λ (trees : List TreeShown). line_with past trees (shown_count one trees)) (same_trees p one other past alike)
+    ∙ ap (line_with past (trees_of (job_in other p) past)) (same_count one other (trees_of (job_in other p) past) same)
 
-same_counted : (one other : Plan) (past : List Frame) → AreWrittenAlike one other → LetAlike one other → counted_line one past ≡ counted_line other past
-same_counted one other past alike truth =
-    ap (λ (source : PlanSource). if is_generated_by source then self_run_line one past else []) alike.source
-    ∙ ap (λ (line : List ℕ). if is_generated_by other.source then line else []) (same_self_run one other past alike truth)
+same_counted : (p : Passes) (one other : Plan) (past : List Frame) → AreWrittenAlike one other → LetAlike one other → counted_line (job_in one p) past ≡ counted_line (job_in other p) past
+same_counted p one other past alike truth =
+    ap (λ (source : PlanSource). if is_generated_by source then self_run_line (job_in one p) past else []) alike.source
+    ∙ ap (λ (line : List ℕ). if is_generated_by other.source then line else []) (same_self_run p one other past alike truth)
 
-same_let : (one other : Plan) (past : List Frame) → AreWrittenAlike one other → LetAlike one other → trees_let one past ≡ trees_let other past
-same_let one other [] alike same = refl
-same_let one other (frame ∷ past) alike same =
-    ap (λ (tree : TreeShown). trees_with one tree (trees_let one past)) (same_tree one other past frame alike)
-    ∙ ap (λ (shown : Bool). if shown then tree_of other past frame ∷ trees_let one past else trees_let one past) (same (tree_of other past frame))
-    ∙ ap (trees_with other (tree_of other past frame)) (same_let one other past alike same)
+same_let : (p : Passes) (one other : Plan) (past : List Frame) → AreWrittenAlike one other → LetAlike one other → trees_let (job_in one p) past ≡ trees_let (job_in other p) past
+same_let p one other [] alike same = refl
+same_let p one other (frame ∷ past) alike same =
+    ap (λ (tree : TreeShown). trees_with one tree (trees_let (job_in one p) past)) (same_tree p one other past frame alike)
+    ∙ ap (λ (shown : Bool). if shown then tree_of (job_in other p) past frame ∷ trees_let (job_in one p) past else trees_let (job_in one p) past) (same (tree_of (job_in other p) past frame))
+    ∙ ap (trees_with other (tree_of (job_in other p) past frame)) (same_let p one other past alike same)
 
-same_report : (one other : Plan) (past : List Frame) (report : Report) → AreWrittenAlike one other → LetAlike one other
-    → report_text one past report ≡ report_text other past report
-same_report one other past (Follow stream) alike same = refl
-same_report one other past (Table kind) alike same = ap (table_of kind) (same_let one other past alike same)
+same_report : (p : Passes) (one other : Plan) (past : List Frame) (report : Report) → AreWrittenAlike one other → LetAlike one other
+    → report_text (job_in one p) past report ≡ report_text (job_in other p) past report
+same_report p one other past (Follow stream) alike same = refl
+same_report p one other past (Table kind) alike same = ap (table_of kind) (same_let p one other past alike same)
 
-same_reports : (one other : Plan) (past : List Frame) (reports : List Report) → AreWrittenAlike one other → LetAlike one other
-    → reports_text one past reports ≡ reports_text other past reports
-same_reports one other past [] alike same = refl
-same_reports one other past (report ∷ reports) alike same =
-    ap (λ (text : List ℕ). text ++ reports_text one past reports) (same_report one other past report alike same)
-    ∙ ap (λ (text : List ℕ). report_text other past report ++ text) (same_reports one other past reports alike same)
+same_reports : (p : Passes) (one other : Plan) (past : List Frame) (reports : List Report) → AreWrittenAlike one other → LetAlike one other
+    → reports_text (job_in one p) past reports ≡ reports_text (job_in other p) past reports
+same_reports p one other past [] alike same = refl
+same_reports p one other past (report ∷ reports) alike same =
+    ap (λ (text : List ℕ). text ++ reports_text (job_in one p) past reports) (same_report p one other past report alike same)
+    ∙ ap (λ (text : List ℕ). report_text (job_in other p) past report ++ text) (same_reports p one other past reports alike same)
 
-same_closing_by : (written : Option Format) (one other : Plan) (past : List Frame) → AreWrittenAlike one other → LetAlike one other
-    → closing_by written one past ≡ closing_by written other past
-same_closing_by None one other past alike truth =
-    ap (λ (reports : List Report). reports_text one past reports ++ counted_line one past) alike.reports
-    ∙ ap (λ (text : List ℕ). text ++ counted_line one past) (same_reports one other past other.reports alike truth)
-    ∙ ap (λ (line : List ℕ). reports_text other past other.reports ++ line) (same_counted one other past alike truth)
-same_closing_by (Some format) one other past alike truth =
-    ap (λ (frames : List Frame). end_at (kept_of format frames)) (same_past one other past alike truth)
+same_closing_by : (p : Passes) (written : Option Format) (one other : Plan) (past : List Frame) → AreWrittenAlike one other → LetAlike one other
+    → closing_by written (job_in one p) past ≡ closing_by written (job_in other p) past
+same_closing_by p None one other past alike truth =
+    ap (λ (reports : List Report). reports_text (job_in one p) past reports ++ counted_line (job_in one p) past) alike.reports
+    ∙ ap (λ (text : List ℕ). text ++ counted_line (job_in one p) past) (same_reports p one other past other.reports alike truth)
+    ∙ ap (λ (line : List ℕ). reports_text (job_in other p) past other.reports ++ line) (same_counted p one other past alike truth)
+same_closing_by p (Some format) one other past alike truth =
+    ap (λ (frames : List Frame). end_at (kept_of format frames)) (same_past p one other past alike truth)
 
-same_closing : (one other : Plan) (past : List Frame) → AreWrittenAlike one other → LetAlike one other → closing one past ≡ closing other past
+same_closing : (p : Passes) (one other : Plan) (past : List Frame) → AreWrittenAlike one other → LetAlike one other → closing (job_in one p) past ≡ closing (job_in other p) past
 unfolding closing
-same_closing one other past alike truth =
-    ap (λ (w : Option Format). closing_by w one past) alike.written ∙ same_closing_by other.written one other past alike truth
+same_closing p one other past alike truth =
+    ap (λ (w : Option Format). closing_by w (job_in one p) past) alike.written ∙ same_closing_by p other.written one other past alike truth
 
-same_output_by : (w : Option Format) (one other : Plan) (frames : List Frame) → AreWrittenAlike one other → LetAlike one other
-    → output_by w one frames ≡ output_by w other frames
-same_output_by None one other frames alike truth =
-    ap (λ (start : List ℕ). start ++ (pieces one [] frames ++ closing one (reverse frames))) (same_opening one other alike)
-    ∙ ap (λ (lines : List ℕ). opening other ++ (lines ++ closing one (reverse frames))) (same_pieces one other [] frames alike truth)
-    ∙ ap (λ (end : List ℕ). opening other ++ (pieces other [] frames ++ end)) (same_closing one other (reverse frames) alike truth)
-same_output_by (Some format) one other frames alike truth = ap (written format) (same_chosen one other [] frames alike truth)
+same_output_by : (p : Passes) (w : Option Format) (one other : Plan) (frames : List Frame) → AreWrittenAlike one other → LetAlike one other
+    → output_by w (job_in one p) frames ≡ output_by w (job_in other p) frames
+same_output_by p None one other frames alike truth =
+    ap (λ (start : List ℕ). start ++ (pieces (job_in one p) [] frames ++ closing (job_in one p) (reverse frames))) (same_opening one other alike)
+    ∙ ap (λ (lines : List ℕ). opening other ++ (lines ++ closing (job_in one p) (reverse frames))) (same_pieces p one other [] frames alike truth)
+    ∙ ap (λ (end : List ℕ). opening other ++ (pieces (job_in other p) [] frames ++ end)) (same_closing p one other (reverse frames) alike truth)
+same_output_by p (Some format) one other frames alike truth = ap (written format) (same_chosen p one other [] frames alike truth)
 
-same_output : (one other : Plan) (frames : List Frame) → AreWrittenAlike one other → LetAlike one other → output_of one frames ≡ output_of other frames
+same_output : (p : Passes) (one other : Plan) (frames : List Frame) → AreWrittenAlike one other → LetAlike one other → output_of (job_in one p) frames ≡ output_of (job_in other p) frames
 unfolding output_of
-same_output one other frames alike truth =
-    ap (λ (w : Option Format). output_by w one frames) alike.written ∙ same_output_by other.written one other frames alike truth
+same_output p one other frames alike truth =
+    ap (λ (w : Option Format). output_by w (job_in one p) frames) alike.written ∙ same_output_by p other.written one other frames alike truth
+
+same_read_of : (one other : Plan) (reading : Reading) → AreWrittenAlike one other → LetAlike one other → read_of one reading ≡ read_of other reading
+same_read_of one other reading alike same =
+    ap (λ (two : Bool). fitting_of (job_in one (passes_by two one.decode reading.frames)) reading) alike.two
+    ∙ ap (λ (rules : List PortRule). fitting_of (job_in one (passes_by other.two rules reading.frames)) reading) alike.decode
+    ∙ same_fitting (passes_by other.two other.decode reading.frames) one other [] reading.frames reading.ending alike same
 
 same_read : (one other : Plan) (file : List ℕ) → one.most ≡ other.most → AreWrittenAlike one other → LetAlike one other
     → frames_read one file ≡ frames_read other file
 unfolding frames_read
 same_read one other file most alike same =
-    ap (λ (m : Option ℕ). fitting_of one (limited m (capture_of file))) most
-    ∙ same_fitting one other [] (limited other.most (capture_of file)).frames (limited other.most (capture_of file)).ending alike same
+    ap (λ (m : Option ℕ). read_of one (limited m (capture_of file))) most
+    ∙ same_read_of one other (limited other.most (capture_of file)) alike same
 
 -- the filters of a text let the same trees through
 same_truth : (text : Option (List ℕ)) (one other : Option Typed) (tree : TreeShown) → IsFilterAsked text one → IsFilterAsked text other
@@ -322,13 +330,13 @@ alike_for options one other is also =
     let both : Ok one.fields ≡ Ok other.fields = sym is.fields ∙ also.fields in
     let fields : one.fields ≡ other.fields = cc both in
     let alike : AreWrittenAlike one other
-    = record { source = is.source ∙ sym also.source; decode = is.decode ∙ sym also.decode; reports = is.reports ∙ sym also.reports; kind = is.kind ∙ sym also.kind; fields = fields; style = is.style ∙ sym also.style; quiet = is.quiet ∙ sym also.quiet; written = is.written ∙ sym also.written } in
+    = record { source = is.source ∙ sym also.source; two = is.two ∙ sym also.two; decode = is.decode ∙ sym also.decode; reports = is.reports ∙ sym also.reports; kind = is.kind ∙ sym also.kind; fields = fields; style = is.style ∙ sym also.style; quiet = is.quiet ∙ sym also.quiet; written = is.written ∙ sym also.written } in
     let truth = λ (tree : TreeShown). same_truth options.filter one.filter other.filter tree is.filter also.filter in
     record {
       source = is.source ∙ sym also.source;
       read = λ file. same_read one other file (is.most ∙ sym also.most) alike truth;
       lets = truth;
-      written = λ frames. same_output one other frames alike truth;
+      written = λ passes frames. same_output passes one other frames alike truth;
     }
 
 pub plans_alike : PlansAreAlike

@@ -4,6 +4,7 @@ mod EitherLemmas
 mod FollowLemmas
 mod FrontLemmas
 mod JsonLemmas
+mod KeepLemmas
 mod LawLemmas
 mod NoteLemmas
 mod OpeningLemmas
@@ -14,6 +15,7 @@ mod SummaryLemmas
 mod Together
 mod ToldLemmas
 mod TotalsLemmas
+mod TwiceLemmas
 mod WantedLemmas
 mod WayLemmas
 mod WordLemmas

@@ -1,5 +1,5 @@
 -- What is noted of one frame more.
-use Rattle.std.proofs.Common.{◌≡◌, Bool, true, false, List, ◌∷◌, refl, sym, ap, ◌∙◌, subst, if◌then◌else◌}
+use Rattle.std.proofs.Common.{◌≡◌, Bool, true, false, List, ◌∷◌, sym, ap, ◌∙◌, subst, if◌then◌else◌}
 use Rattle.cap_stats.proofs.KeptNotes.{stands_alike}
 use Rattle.cap_stats.specs.Stands.{Stands, kind_of}
 use Rattle.cap_stats.specs.declared.kind.StatKind.{StatKind}
@@ -13,11 +13,12 @@ use Rattle.shark_run.specs.declared.tables.Table.{Table}
 use Rattle.shark_run.specs.declared.tables.Tables.{Tables}
 use Rattle.shark_run.specs.declared.totals.Totals.{Totals}
 use Rattle.shark_run.specs.Accessors.{is_generated}
+use Rattle.shark_run.specs.Job.{Job}
 use Rattle.shark_run.specs.Notes.{AreNotes}
 use Rattle.shark_run.specs.Tables.{AreTables, IsTable, asks_table, asks_tables, trees_let, trees_with}
-use Rattle.shark_run.specs.Totals.{counts_of, counts_with, with_tree}
+use Rattle.shark_run.specs.Totals.{counts_with, with_tree}
 use Rattle.shark_run.specs.Trees.{lets, tree_of}
-use Rattle.shark_run.specs.Wanted.{IsNotedAs}
+use Rattle.shark_run.specs.Wanted.{IsNotedAs, IsToldAs}
 use Rattle.shark_run.proofs.WantedLemmas.{no_table}
 
 -- where nothing is counted
@@ -69,17 +70,17 @@ table_same plan kind tree whole trees table same is = record {
   counts = is.counts;
 }
 
-pub notes_after : (plan : Plan) (past : List Frame) (frame : Frame) (tree : TreeShown) (old new : Notes) → new.totals ≡ counts_with plan tree old.totals
-    → ((totals : Totals) → counts_with plan tree totals ≡ counts_with plan (tree_of plan past frame) totals)
-    → ((trees : List TreeShown) → AreTables plan trees old.tables → AreTables plan (trees_with plan tree trees) new.tables)
-    → ((kind : StatKind) → asks_table plan kind ≡ true → IsNotedAs plan kind (tree_of plan past frame) tree) → AreNotes plan past old → AreNotes plan (frame ∷ past) new
-notes_after plan past frame tree old new counted same tabled whole notes =
-    let tables : AreTables plan (trees_with plan tree (trees_let plan past)) new.tables = tabled (trees_let plan past) notes.tables in
+pub notes_after : (job : Job) (past : List Frame) (frame : Frame) (tree : TreeShown) (old new : Notes) → new.totals ≡ counts_with job.plan tree old.totals
+    → IsToldAs job.plan (tree_of job past frame) tree
+    → ((trees : List TreeShown) → AreTables job.plan trees old.tables → AreTables job.plan (trees_with job.plan tree trees) new.tables)
+    → AreNotes job past old → AreNotes job (frame ∷ past) new
+notes_after job past frame tree old new counted told tabled notes =
+    let tables : AreTables job.plan (trees_with job.plan tree (trees_let job past)) new.tables = tabled (trees_let job past) notes.tables in
     record {
-      totals = counted ∙ same old.totals ∙ ap (counts_with plan (tree_of plan past frame)) notes.totals;
+      totals = counted ∙ told.counted old.totals ∙ ap (counts_with job.plan (tree_of job past frame)) notes.totals;
       tables = record {
-        conv_tcp = table_same plan ConvTcp tree (tree_of plan past frame) (trees_let plan past) new.tables.conv_tcp (whole ConvTcp) tables.conv_tcp;
-        conv_ip = table_same plan ConvIp tree (tree_of plan past frame) (trees_let plan past) new.tables.conv_ip (whole ConvIp) tables.conv_ip;
-        phs = table_same plan Phs tree (tree_of plan past frame) (trees_let plan past) new.tables.phs (whole Phs) tables.phs;
+        conv_tcp = table_same job.plan ConvTcp tree (tree_of job past frame) (trees_let job past) new.tables.conv_tcp (told.noted ConvTcp) tables.conv_tcp;
+        conv_ip = table_same job.plan ConvIp tree (tree_of job past frame) (trees_let job past) new.tables.conv_ip (told.noted ConvIp) tables.conv_ip;
+        phs = table_same job.plan Phs tree (tree_of job past frame) (trees_let job past) new.tables.phs (told.noted Phs) tables.phs;
       };
     }

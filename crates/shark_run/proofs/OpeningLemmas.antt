@@ -1,20 +1,20 @@
 -- What is written behind the line of the fields' names.
-use Rattle.std.proofs.Common.{◌≡◌, ◌<◌, ℕ, List, [], length, ◌++◌, Option, None, Some, inl, inr, refl, sym, ap, ◌∙◌, subst}
+use Rattle.std.proofs.Common.{◌≡◌, ◌<◌, ℕ, Bool, true, false, List, [], length, ◌++◌, Option, None, Some, inl, inr, refl, sym, ap, ◌∙◌, subst}
 use Rattle.std.specs.Prelude.{IfOk, IfSome, Result, Ok, Err}
 use Rattle.std.specs.Io.KnownBytes.{Appends}
 use Rattle.std.proofs.KnownBytes.{Appends-trans}
 use Rattle.pk_outside.specs.Outside.{AppendsPart}
 use Rattle.pk_outside.proofs.Parts.{part_after, part_more}
-use Rattle.capture_read.specs.Capture.{capture_of}
 use Rattle.capture_write.specs.declared.format.Format.{Format}
 use Rattle.shark_run.specs.declared.run_ending.RunEnding.{RunEnding}
-use Rattle.shark_run.specs.Accessors.{written_of}
-use Rattle.shark_run.specs.Fitting.{FramesRead}
+use Rattle.shark_run.specs.Accessors.{two_of, written_of}
+use Rattle.shark_run.specs.Fitting.{FramesRead, job_of}
+use Rattle.shark_run.specs.Job.{IfOnce, once}
 use Rattle.shark_run.specs.declared.output.RunFault.{RunFault}
 use Rattle.shark_run.specs.declared.plan.Plan.{Plan}
 use Rattle.shark_run.specs.Lines.{opening, opening_by, output_by, output_of, pieces, pieces_of}
 use Rattle.shark_run.specs.Reading.{frames_read}
-use Rattle.shark_run.specs.Way.{IsBrokenFrom, IsBrokenOf, WroteTaken, WroteTakenBehind}
+use Rattle.shark_run.specs.Way.{IsBrokenFrom, IsBrokenOf, WroteTaken, WroteTakenBehind, pieces_so_far}
 use Rattle.shark_run.proofs.PacketLemmas.{written_whole}
 use Rattle.shark_run.specs.Wrote.{WroteAll, WroteBody, WrotePart, WroteSomeBody, body_of}
 
@@ -23,12 +23,12 @@ no_opening : (format : Format) (plan : Plan) → written_of plan ≡ Some format
 unfolding opening
 no_opening format plan is = ap (λ (w : Option Format). opening_by w plan) is
 
-whole_by : (w : Option Format) (plan : Plan) (read : FramesRead) → written_of plan ≡ w → output_by w plan read.frames ≡ opening plan ++ body_of plan read
+whole_by : (w : Option Format) (plan : Plan) (read : FramesRead) → written_of plan ≡ w → output_by w (job_of plan read) read.frames ≡ opening plan ++ body_of plan read
 whole_by None plan read is = refl
 whole_by (Some format) plan read is =
-    written_whole format plan read.frames is ∙ sym (ap (λ (start : List ℕ). start ++ body_of plan read) (no_opening format plan is))
+    written_whole format (job_of plan read) read.frames is ∙ sym (ap (λ (start : List ℕ). start ++ body_of plan read) (no_opening format plan is))
 
-whole_output : (plan : Plan) (read : FramesRead) → output_of plan read.frames ≡ opening plan ++ body_of plan read
+whole_output : (plan : Plan) (read : FramesRead) → output_of (job_of plan read) read.frames ≡ opening plan ++ body_of plan read
 unfolding output_of
 whole_output plan read = whole_by (written_of plan) plan read refl
 
@@ -64,7 +64,7 @@ taken_behind plan file (Some left) old now new opened wrote = record {
   taken = wrote.taken;
   whole = wrote.whole;
   fewer = wrote.fewer;
-  wrote = Appends-trans old now new (opening plan) (pieces plan [] (capture_of wrote.taken).frames) opened wrote.wrote;
+  wrote = Appends-trans old now new (opening plan) (pieces_so_far (two_of plan) plan wrote.taken) opened wrote.wrote;
 }
 
 pub so_far_behind : (plan : Plan) (told left old now new : Option (List ℕ)) → Appends old now (opening plan)
@@ -82,17 +82,25 @@ near_from plan file left old now new opened (inl broken) = inl (record {
   begun = broken.begun;
   rest = broken.rest;
   line = broken.line;
-  wrote = Appends-trans old now new (opening plan) (pieces_of plan broken.past ++ broken.begun) opened broken.wrote;
+  wrote = Appends-trans old now new (opening plan) (pieces_of (once plan) broken.past ++ broken.begun) opened broken.wrote;
 })
 near_from plan file left old now new opened (inr (begun, rest, joined, wrote)) =
-    inr (begun, rest, joined, Appends-trans old now new (opening plan) (pieces plan [] (frames_read plan file).frames ++ begun) opened wrote)
+    inr (begun, rest, joined, Appends-trans old now new (opening plan) (pieces (job_of plan (frames_read plan file)) [] (frames_read plan file).frames ++ begun) opened wrote)
+
+once_more : {P Q : Type 0} (two : Bool) → (P → Q) → IfOnce two P → IfOnce two Q
+once_more false more holds = more holds
+once_more true more holds = tt
+
+once_holds : {P : Type 0} (two : Bool) → P → IfOnce two P
+once_holds false holds = holds
+once_holds true holds = tt
 
 pub near_behind : (plan : Plan) (told left old now new : Option (List ℕ)) → Appends old now (opening plan)
-    → IfSome told (λ file. IsBrokenFrom [] plan file left now new) → IfSome told (λ file. IsBrokenOf plan file left old new)
+    → IfSome told (λ file. IfOnce (two_of plan) (IsBrokenFrom [] plan file left now new)) → IfSome told (λ file. IsBrokenOf plan file left old new)
 near_behind plan None left old now new opened broken = tt
-near_behind plan (Some file) left old now new opened broken = inr (near_from plan file left old now new opened broken)
+near_behind plan (Some file) left old now new opened broken = once_more (two_of plan) (λ from. inr (near_from plan file left old now new opened from)) broken
 
 -- the opening itself was not wholly written
 pub near_opened : (plan : Plan) (told old new : Option (List ℕ)) → 0 < length (opening plan) → AppendsPart old new (opening plan) → IfSome told (λ file. IsBrokenOf plan file told old new)
 near_opened plan None old new some part = tt
-near_opened plan (Some file) old new some part = inl (some, refl, part)
+near_opened plan (Some file) old new some part = once_holds (two_of plan) (inl (some, refl, part))

@@ -10,7 +10,7 @@ use Rattle.capture_write.specs.Kept.{Adds, Kept, Stands, StandsAfter, kept_of, p
 use Rattle.capture_write.specs.declared.added.Added.TheVariants.{Bytes, Unfit}
 use Rattle.capture_write.specs.declared.format.Format.{Format}
 use Rattle.capture_write.proofs.KeptLaws.{bytes_from, whole-file}
-use Rattle.shark_run.specs.declared.plan.Plan.{Plan}
+use Rattle.shark_run.specs.Job.{Job}
 use Rattle.shark_run.specs.declared.notes.Notes.{Notes}
 use Rattle.shark_run.specs.Accessors.{written_of}
 use Rattle.shark_run.specs.Chosen.{IsWriting, chosen, chosen_of, end_in, if_shown, packet_in}
@@ -84,92 +84,92 @@ part_truly shown truth format frame chosen before now same part =
     subst (λ (b : Bool). AppendsPart before now (fit_packet b format chosen frame)) same part
 
 -- the same of a run
-pub frame_packed : (fit : Bool) (format : Format) (plan : Plan) (past : List Frame) (frame : Frame) (t counts : Notes) (old new : Kept) (before now : Option (List ℕ))
-    → written_of plan ≡ Some format → KeepsUp (written_of plan) plan past t old
-    → (Stands old (chosen_of plan past)
-    → IsPacked fit (lets_frame plan past frame) old.format frame new (chosen_of plan past) before now)
-    → IsAfterFrame fit plan past frame counts new before now
-frame_packed true format plan past frame t counts old new before now is keeps packs =
-    let writing : IsWriting (Some format) plan old past = subst (λ (w : Option Format). KeepsUp w plan past t old) is keeps in
-    let packed : IsPacked true (lets_frame plan past frame) format frame new (chosen_of plan past) before now
-    = subst (λ (f : Format). IsPacked true (lets_frame plan past frame) f frame new (chosen_of plan past) before now) writing.0 (packs writing.1) in
+pub frame_packed : (fit : Bool) (format : Format) (job : Job) (past : List Frame) (frame : Frame) (t counts : Notes) (old new : Kept) (before now : Option (List ℕ))
+    → written_of job.plan ≡ Some format → KeepsUp (written_of job.plan) job past t old
+    → (Stands old (chosen_of job past)
+    → IsPacked fit (lets_frame job past frame) old.format frame new (chosen_of job past) before now)
+    → IsAfterFrame fit job past frame counts new before now
+frame_packed true format job past frame t counts old new before now is keeps packs =
+    let writing : IsWriting (Some format) job old past = subst (λ (w : Option Format). KeepsUp w job past t old) is keeps in
+    let packed : IsPacked true (lets_frame job past frame) format frame new (chosen_of job past) before now
+    = subst (λ (f : Format). IsPacked true (lets_frame job past frame) f frame new (chosen_of job past) before now) writing.0 (packs writing.1) in
     record {
-      fit = ap (λ (w : Option Format). is_unfit_by w plan past frame) is ∙ packed.0;
-      keeps = subst (λ (w : Option Format). KeepsUp w plan (frame ∷ past) counts new) (sym is) (packed.1, packed.2);
-      wrote = subst (λ (w : Option Format). Appends before now (piece_by w plan past frame)) (sym is) packed.3;
+      fit = ap (λ (w : Option Format). is_unfit_by w job past frame) is ∙ packed.0;
+      keeps = subst (λ (w : Option Format). KeepsUp w job (frame ∷ past) counts new) (sym is) (packed.1, packed.2);
+      wrote = subst (λ (w : Option Format). Appends before now (piece_by w job past frame)) (sym is) packed.3;
     }
-frame_packed false format plan past frame t counts old new before now is keeps packs =
-    let writing : IsWriting (Some format) plan old past = subst (λ (w : Option Format). KeepsUp w plan past t old) is keeps in
-    let packed : IsPacked false (lets_frame plan past frame) format frame new (chosen_of plan past) before now
-    = subst (λ (f : Format). IsPacked false (lets_frame plan past frame) f frame new (chosen_of plan past) before now) writing.0 (packs writing.1) in (
-      ap (λ (w : Option Format). is_unfit_by w plan past frame) is ∙ packed.0,
-      subst (λ (w : Option Format). KeepsUp w plan past counts new) (sym is) (packed.1, packed.2),
+frame_packed false format job past frame t counts old new before now is keeps packs =
+    let writing : IsWriting (Some format) job old past = subst (λ (w : Option Format). KeepsUp w job past t old) is keeps in
+    let packed : IsPacked false (lets_frame job past frame) format frame new (chosen_of job past) before now
+    = subst (λ (f : Format). IsPacked false (lets_frame job past frame) f frame new (chosen_of job past) before now) writing.0 (packs writing.1) in (
+      ap (λ (w : Option Format). is_unfit_by w job past frame) is ∙ packed.0,
+      subst (λ (w : Option Format). KeepsUp w job past counts new) (sym is) (packed.1, packed.2),
       packed.3,
     )
 
-pub part_packed : (format : Format) (plan : Plan) (past : List Frame) (frame : Frame) (t : Notes) (old : Kept) (before now : Option (List ℕ))
-    → written_of plan ≡ Some format → KeepsUp (written_of plan) plan past t old
-    → (Stands old (chosen_of plan past)
-    → AppendsPart before now (fit_packet (lets_frame plan past frame) old.format (chosen_of plan past) frame))
-    → AppendsPart before now (fit_piece plan past frame)
-part_packed format plan past frame t old before now is keeps part =
-    let writing : IsWriting (Some format) plan old past = subst (λ (w : Option Format). KeepsUp w plan past t old) is keeps in
-    subst (λ (w : Option Format). AppendsPart before now (if is_unfit_by w plan past frame then [] else piece_by w plan past frame)) (sym is)
-    (subst (λ (f : Format). AppendsPart before now (fit_packet (lets_frame plan past frame) f (chosen_of plan past) frame)) writing.0 (part writing.1))
+pub part_packed : (format : Format) (job : Job) (past : List Frame) (frame : Frame) (t : Notes) (old : Kept) (before now : Option (List ℕ))
+    → written_of job.plan ≡ Some format → KeepsUp (written_of job.plan) job past t old
+    → (Stands old (chosen_of job past)
+    → AppendsPart before now (fit_packet (lets_frame job past frame) old.format (chosen_of job past) frame))
+    → AppendsPart before now (fit_piece job past frame)
+part_packed format job past frame t old before now is keeps part =
+    let writing : IsWriting (Some format) job old past = subst (λ (w : Option Format). KeepsUp w job past t old) is keeps in
+    subst (λ (w : Option Format). AppendsPart before now (if is_unfit_by w job past frame then [] else piece_by w job past frame)) (sym is)
+    (subst (λ (f : Format). AppendsPart before now (fit_packet (lets_frame job past frame) f (chosen_of job past) frame)) writing.0 (part writing.1))
 
 -- lines of frames
-pub frame_shown : (plan : Plan) (past : List Frame) (frame : Frame) (t counts : Notes) (old new : Kept) (before now : Option (List ℕ))
-    → written_of plan ≡ None → KeepsUp (written_of plan) plan past t old → (AreNotes plan past t → AreNotes plan (frame ∷ past) counts)
-    → Appends before now (shown plan (tree_of plan past frame)) → IsAfterFrame true plan past frame counts new before now
-frame_shown plan past frame t counts old new before now is keeps noted wrote = record {
-  fit = ap (λ (w : Option Format). is_unfit_by w plan past frame) is;
-  keeps = subst (λ (w : Option Format). KeepsUp w plan (frame ∷ past) counts new) (sym is)
-      (noted (subst (λ (w : Option Format). KeepsUp w plan past t old) is keeps));
-  wrote = subst (λ (w : Option Format). Appends before now (piece_by w plan past frame)) (sym is) wrote;
+pub frame_shown : (job : Job) (past : List Frame) (frame : Frame) (t counts : Notes) (old new : Kept) (before now : Option (List ℕ))
+    → written_of job.plan ≡ None → KeepsUp (written_of job.plan) job past t old → (AreNotes job past t → AreNotes job (frame ∷ past) counts)
+    → Appends before now (shown job.plan (tree_of job past frame)) → IsAfterFrame true job past frame counts new before now
+frame_shown job past frame t counts old new before now is keeps noted wrote = record {
+  fit = ap (λ (w : Option Format). is_unfit_by w job past frame) is;
+  keeps = subst (λ (w : Option Format). KeepsUp w job (frame ∷ past) counts new) (sym is)
+      (noted (subst (λ (w : Option Format). KeepsUp w job past t old) is keeps));
+  wrote = subst (λ (w : Option Format). Appends before now (piece_by w job past frame)) (sym is) wrote;
 }
 
-pub part_shown : (plan : Plan) (past : List Frame) (frame : Frame) (before now : Option (List ℕ)) → written_of plan ≡ None
-    → AppendsPart before now (shown plan (tree_of plan past frame)) → AppendsPart before now (fit_piece plan past frame)
-part_shown plan past frame before now is part =
-    subst (λ (w : Option Format). AppendsPart before now (if is_unfit_by w plan past frame then [] else piece_by w plan past frame)) (sym is) part
+pub part_shown : (job : Job) (past : List Frame) (frame : Frame) (before now : Option (List ℕ)) → written_of job.plan ≡ None
+    → AppendsPart before now (shown job.plan (tree_of job past frame)) → AppendsPart before now (fit_piece job past frame)
+part_shown job past frame before now is part =
+    subst (λ (w : Option Format). AppendsPart before now (if is_unfit_by w job past frame then [] else piece_by w job past frame)) (sym is) part
 
 -- the pieces of the frames chosen, and those of the end, are the file of these frames
-packets : Format → Plan → List Frame → List Frame → List ℕ
-packets format plan past [] = end_in format plan past
-packets format plan past (frame ∷ frames) = packet_in format plan past frame ++ packets format plan (frame ∷ past) frames
+packets : Format → Job → List Frame → List Frame → List ℕ
+packets format job past [] = end_in format job past
+packets format job past (frame ∷ frames) = packet_in format job past frame ++ packets format job (frame ∷ past) frames
 
-packets_chosen : (format : Format) (plan : Plan) (past frames : List Frame)
-    → packets format plan past frames ≡ bytes_from (kept_of format (chosen_of plan past)) (chosen plan past frames)
+packets_chosen : (format : Format) (job : Job) (past frames : List Frame)
+    → packets format job past frames ≡ bytes_from (kept_of format (chosen_of job past)) (chosen job past frames)
 unfolding packets
-packets_chosen format plan past [] = refl
-packets_chosen format plan past (frame ∷ frames) =
-    ap (λ (rest : List ℕ). packet_in format plan past frame ++ rest) (packets_chosen format plan (frame ∷ past) frames)
-    ∙ by (lets_frame plan past frame)
+packets_chosen format job past [] = refl
+packets_chosen format job past (frame ∷ frames) =
+    ap (λ (rest : List ℕ). packet_in format job past frame ++ rest) (packets_chosen format job (frame ∷ past) frames)
+    ∙ by (lets_frame job past frame)
   where
-    by : (shown : Bool) → (if shown then piece_at (kept_of format (chosen_of plan past)) frame else [])
-        ++ bytes_from (kept_of format (if_shown shown frame (chosen_of plan past))) (chosen plan (frame ∷ past) frames)
-        ≡ bytes_from (kept_of format (chosen_of plan past)) (if_shown shown frame (chosen plan (frame ∷ past) frames))
+    by : (shown : Bool) → (if shown then piece_at (kept_of format (chosen_of job past)) frame else [])
+        ++ bytes_from (kept_of format (if_shown shown frame (chosen_of job past))) (chosen job (frame ∷ past) frames)
+        ≡ bytes_from (kept_of format (chosen_of job past)) (if_shown shown frame (chosen job (frame ∷ past) frames))
     by true = refl
     by false = refl
 
-reverse_more : (frame : Frame) (frames past : List Frame) → reverse (frame ∷ frames) ++ past ≡ reverse frames ++ (frame ∷ past)
+pub reverse_more : (frame : Frame) (frames past : List Frame) → reverse (frame ∷ frames) ++ past ≡ reverse frames ++ (frame ∷ past)
 reverse_more frame frames past =
     ap (λ (all : List Frame). all ++ past) (reverse-append (frame ∷ []) frames) ∙ append_assoc (reverse frames) (frame ∷ []) past
 
-pieces_packets : (format : Format) (plan : Plan) (past frames : List Frame) → written_of plan ≡ Some format
-    → pieces plan past frames ++ closing plan (reverse frames ++ past) ≡ packets format plan past frames
+pieces_packets : (format : Format) (job : Job) (past frames : List Frame) → written_of job.plan ≡ Some format
+    → pieces job past frames ++ closing job (reverse frames ++ past) ≡ packets format job past frames
 unfolding packets closing
-pieces_packets format plan past [] is = ap (λ (w : Option Format). closing_by w plan past) is
-pieces_packets format plan past (frame ∷ frames) is =
-    append_assoc (piece plan past frame) (pieces plan (frame ∷ past) frames) (closing plan (reverse (frame ∷ frames) ++ past))
-    ∙ ap (λ (end : List Frame). piece plan past frame ++ (pieces plan (frame ∷ past) frames ++ closing plan end)) (reverse_more frame frames past)
-    ∙ ap (λ (rest : List ℕ). piece plan past frame ++ rest) (pieces_packets format plan (frame ∷ past) frames is)
-    ∙ ap (λ (w : Option Format). piece_by w plan past frame ++ packets format plan (frame ∷ past) frames) is
+pieces_packets format job past [] is = ap (λ (w : Option Format). closing_by w job past) is
+pieces_packets format job past (frame ∷ frames) is =
+    append_assoc (piece job past frame) (pieces job (frame ∷ past) frames) (closing job (reverse (frame ∷ frames) ++ past))
+    ∙ ap (λ (end : List Frame). piece job past frame ++ (pieces job (frame ∷ past) frames ++ closing job end)) (reverse_more frame frames past)
+    ∙ ap (λ (rest : List ℕ). piece job past frame ++ rest) (pieces_packets format job (frame ∷ past) frames is)
+    ∙ ap (λ (w : Option Format). piece_by w job past frame ++ packets format job (frame ∷ past) frames) is
 
-pub written_whole : (format : Format) (plan : Plan) (frames : List Frame) → written_of plan ≡ Some format
-    → written format (chosen plan [] frames) ≡ pieces plan [] frames ++ closing plan (reverse frames)
-written_whole format plan frames is =
-    sym (whole-file format (chosen plan [] frames))
-    ∙ sym (packets_chosen format plan [] frames)
-    ∙ sym (pieces_packets format plan [] frames is)
-    ∙ ap (λ (past : List Frame). pieces plan [] frames ++ closing plan past) (append-nil (reverse frames))
+pub written_whole : (format : Format) (job : Job) (frames : List Frame) → written_of job.plan ≡ Some format
+    → written format (chosen job [] frames) ≡ pieces job [] frames ++ closing job (reverse frames)
+written_whole format job frames is =
+    sym (whole-file format (chosen job [] frames))
+    ∙ sym (packets_chosen format job [] frames)
+    ∙ sym (pieces_packets format job [] frames is)
+    ∙ ap (λ (past : List Frame). pieces job [] frames ++ closing job past) (append-nil (reverse frames))

@@ -13,6 +13,7 @@ use Rattle.std.proofs.lemmas.List.Folds.{list_any_at}
 use Rattle.cap_stats.specs.declared.kind.StatKind.{StatKind}
 use Rattle.cap_stats.specs.declared.kind.StatKind.TheVariants.{ConvTcp, ConvIp, Phs}
 use Rattle.shark_run.specs.declared.plan.Plan.{Plan}
+use Rattle.shark_run.specs.Job.{Job}
 use Rattle.shark_run.specs.Accessors.{reports_of}
 use Rattle.shark_run.specs.Reports.{IsAsked, report_text, reports_text}
 use Rattle.shark_run.specs.Tables.{is_table_of, same_kind}
@@ -35,29 +36,29 @@ line_whole n rest text done line behind old now new is behind_is joined appended
 )
 
 -- a report more, and a part of it
-next_report : (plan : Plan) (past : List Frame) (reports : List Report) (i : ℕ) (d : Report) → i < length reports
-    → reports_text plan past (drop i reports) ≡ report_text plan past (get_or reports i d) ++ reports_text plan past (drop (i + 1) reports)
-next_report plan past reports i d inside =
+next_report : (job : Job) (past : List Frame) (reports : List Report) (i : ℕ) (d : Report) → i < length reports
+    → reports_text job past (drop i reports) ≡ report_text job past (get_or reports i d) ++ reports_text job past (drop (i + 1) reports)
+next_report job past reports i d inside =
     let next : drop i reports ≡ get_or reports i d ∷ drop (i + 1) reports = rw (add-one i) (drop-cons reports i d inside) in
-    ap (reports_text plan past) next
+    ap (reports_text job past) next
 
-pub report_part : (plan : Plan) (past : List Frame) (reports : List Report) (i : ℕ) (d : Report) (done : List ℕ) (old now new : Option (List ℕ)) → i < length reports
-    → done ++ reports_text plan past (drop i reports) ≡ reports_text plan past reports → Appends old now done
-    → AppendsPart now new (report_text plan past (get_or reports i d)) → AppendsPart old new (reports_text plan past reports)
-report_part plan past reports i d done old now new inside joined appended part =
-    part_after_front old now new done (reports_text plan past (drop i reports)) (reports_text plan past reports) appended
-    (subst (AppendsPart now new) (sym (next_report plan past reports i d inside))
-    (part_more now new (report_text plan past (get_or reports i d)) (reports_text plan past (drop (i + 1) reports)) part)) joined
+pub report_part : (job : Job) (past : List Frame) (reports : List Report) (i : ℕ) (d : Report) (done : List ℕ) (old now new : Option (List ℕ)) → i < length reports
+    → done ++ reports_text job past (drop i reports) ≡ reports_text job past reports → Appends old now done
+    → AppendsPart now new (report_text job past (get_or reports i d)) → AppendsPart old new (reports_text job past reports)
+report_part job past reports i d done old now new inside joined appended part =
+    part_after_front old now new done (reports_text job past (drop i reports)) (reports_text job past reports) appended
+    (subst (AppendsPart now new) (sym (next_report job past reports i d inside))
+    (part_more now new (report_text job past (get_or reports i d)) (reports_text job past (drop (i + 1) reports)) part)) joined
 
-pub report_whole : (plan : Plan) (past : List Frame) (reports : List Report) (i : ℕ) (d : Report) (done : List ℕ) (old now new : Option (List ℕ)) → i < length reports
-    → done ++ reports_text plan past (drop i reports) ≡ reports_text plan past reports → Appends old now done
-    → Appends now new (report_text plan past (get_or reports i d))
-    → (more : List ℕ) × (more ++ reports_text plan past (drop (i + 1) reports) ≡ reports_text plan past reports) × Appends old new more
-report_whole plan past reports i d done old now new inside joined appended wrote = (
-  done ++ report_text plan past (get_or reports i d),
-  append_assoc done (report_text plan past (get_or reports i d)) (reports_text plan past (drop (i + 1) reports))
-      ∙ ap (λ (all : List ℕ). done ++ all) (sym (next_report plan past reports i d inside)) ∙ joined,
-  Appends-trans old now new done (report_text plan past (get_or reports i d)) appended wrote,
+pub report_whole : (job : Job) (past : List Frame) (reports : List Report) (i : ℕ) (d : Report) (done : List ℕ) (old now new : Option (List ℕ)) → i < length reports
+    → done ++ reports_text job past (drop i reports) ≡ reports_text job past reports → Appends old now done
+    → Appends now new (report_text job past (get_or reports i d))
+    → (more : List ℕ) × (more ++ reports_text job past (drop (i + 1) reports) ≡ reports_text job past reports) × Appends old new more
+report_whole job past reports i d done old now new inside joined appended wrote = (
+  done ++ report_text job past (get_or reports i d),
+  append_assoc done (report_text job past (get_or reports i d)) (reports_text job past (drop (i + 1) reports))
+      ∙ ap (λ (all : List ℕ). done ++ all) (sym (next_report job past reports i d inside)) ∙ joined,
+  Appends-trans old now new done (report_text job past (get_or reports i d)) appended wrote,
 )
 
 -- a table among the reports is asked for

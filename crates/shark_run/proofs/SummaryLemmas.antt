@@ -1,5 +1,5 @@
 -- The line that sums up a frame is the same over a tree that has only the items of its fields.
-use Rattle.std.proofs.Common.{◌≡◌, ◌==◌, ℕ, Bool, true, false, cond, List, [], ◌∷◌, ◌++◌, map, Option, Some, None, refl, sym, ap, ◌∙◌, if◌then◌else◌}
+use Rattle.std.proofs.Common.{◌≡◌, ◌==◌, ℕ, Bool, true, false, List, [], ◌∷◌, ◌++◌, map, Option, Some, None, refl, sym, ap, ◌∙◌}
 use Rattle.std.specs.Prelude.{reverse}
 use Rattle.std.specs.List.{AllByRecursion as Each, find}
 use Rattle.std.specs.Option.{option_map, option_or}
@@ -10,7 +10,6 @@ use Rattle.pk_fields.specs.FieldSets.{is_in}
 use Rattle.pk_fields.specs.Ids.{FRAME_NUMBER, FRAME_TIME_RELATIVE, FRAME_LEN, ETH_SRC, ETH_DST, IP, IP_SRC, IP_DST, IPV6_SRC, IPV6_DST}
 use Rattle.pk_tree.specs.declared.chosen.Layers.TheVariants.{All as AllLayers}
 use Rattle.pk_tree.specs.declared.layer.Layer.{Layer}
-use Rattle.pk_tree.specs.declared.value.Value.{Value}
 use Rattle.pk_tree.specs.FieldValues.{chosen_values, item_values, layer_values, values_of}
 use Rattle.pk_tree.specs.Trees.{TreeShown, kept_layer, kept_tree}
 use Rattle.pk_tree.specs.Values.{is_proto}

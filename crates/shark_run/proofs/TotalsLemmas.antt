@@ -1,10 +1,9 @@
 -- How many frames and layers were counted.
-use Rattle.std.proofs.Common.{◌≡◌, ◌≤◌, ◌<◌, ◌+◌, ◌^◌, ℕ, suc, Bool, true, false, [], sym, subst, if◌then◌else◌, arith}
+use Rattle.std.proofs.Common.{◌≡◌, ◌≤◌, ◌<◌, ◌+◌, ◌^◌, ℕ, suc, Bool, true, false, sym, subst, if◌then◌else◌, arith}
 use Rattle.pk_fields.specs.Ids.{DNS, HTTP}
 use Rattle.pk_tree.specs.Trees.{TreeShown, layers_of}
 use Rattle.shark_run.specs.declared.totals.Totals.{Totals}
-use Rattle.shark_run.specs.declared.plan.Plan.{Plan}
-use Rattle.shark_run.specs.Totals.{AreFew, counts_of, with_tree}
+use Rattle.shark_run.specs.Totals.{AreFew, nothing_counted, with_tree}
 
 pub few_more : (most more : ℕ) (t : Totals) → most ≤ more → AreFew most t → AreFew more t
 few_more most more t larger few = record {
@@ -14,8 +13,8 @@ few_more most more t larger few = record {
   http = omega (arith, larger, few.http);
 }
 
-pub few_begun : (plan : Plan) (most : ℕ) (t : Totals) → t ≡ counts_of plan [] → AreFew most t
-few_begun plan most t is = subst (λ (totals : Totals). AreFew most totals) (sym is) (record { frames = omega arith; shown = omega arith; dns = omega arith; http = omega arith })
+pub few_begun : (most : ℕ) (t : Totals) → t ≡ nothing_counted → AreFew most t
+few_begun most t is = subst (λ (totals : Totals). AreFew most totals) (sym is) (record { frames = omega arith; shown = omega arith; dns = omega arith; http = omega arith })
 
 pub few_after : (before after : ℕ) (t : Totals) → after ≡ before + 1 → AreFew (suc before) t → AreFew after t
 few_after before after t is few = few_more (suc before) after t (omega (arith, is)) few

@@ -1,8 +1,8 @@
 -- A tree that has only the wanted items is shown as the whole tree.
-use Rattle.std.proofs.Common.{◌≡◌, ◌⊎◌, ⊎_elim, inl, inr, ◌==◌, ◌||◌, not, ◌<◌, ◌+◌, ℕ, suc, Bool, true, false, List, [], ◌∷◌, length, map, get_or, Option, Some, None, refl, sym, ap, ◌∙◌, subst, arith, if◌then◌else◌}
+use Rattle.std.proofs.Common.{◌≡◌, ◌==◌, ◌||◌, not, ◌<◌, ◌+◌, ℕ, suc, Bool, true, false, List, [], ◌∷◌, length, map, get_or, Option, Some, None, refl, sym, ap, ◌∙◌, subst, arith, if◌then◌else◌}
 use Rattle.std.specs.List.{AllByRecursion as Each}
 use Rattle.std.proofs.lemmas.Bool.{eq-eqb, ne_eqb}
-use Rattle.std.specs.Prelude.{cond, IfOk, IsSome, Result, Ok, Err}
+use Rattle.std.specs.Prelude.{cond, IsSome}
 use Rattle.std.specs.List.{fold, list_any}
 use Rattle.pk_fields.specs.Fields.{row_of}
 use Rattle.pk_fields.specs.FieldSets.{is_in, every_field}
@@ -15,7 +15,6 @@ use Rattle.cap_stats.specs.declared.kind.StatKind.{StatKind}
 use Rattle.cap_stats.specs.declared.kind.StatKind.TheVariants.{ConvTcp, ConvIp, Phs}
 use Rattle.capture_read.specs.declared.frame.Frame.{Frame}
 use Rattle.dissect.specs.Followed.{asks_messages, asks_streams, HasSameValues}
-use Rattle.dissect.specs.Stands.{DissectorShown, StandsWithin}
 use Rattle.dissect.specs.Trees.{tree_at}
 use Rattle.port_rules.specs.declared.rules.PortRule.{PortRule}
 use Rattle.capture_write.specs.declared.format.Format.{Format}
@@ -28,14 +27,20 @@ use Rattle.flt_types.specs.declared.typed.Typed.{Typed}
 use Rattle.flt_mean.proofs.KeptMeaning.{meaning_alike}
 use Rattle.shark_run.specs.declared.plan.Plan.{Plan}
 use Rattle.shark_run.specs.declared.totals.Totals.{Totals}
-use Rattle.shark_run.specs.Accessors.{is_generated, is_quiet, needs_streams, reports_of, rules_of, written_of}
+use Rattle.shark_run.specs.Accessors.{is_generated, is_quiet, needs_streams, reports_of, rules_of, two_of, written_of}
 use Rattle.shark_run.specs.Lines.{line_by, line_of, shown}
 use Rattle.shark_run.specs.Satisfied.{satisfies}
 use Rattle.shark_run.specs.Tables.{asks_table, asks_tables, is_table_of}
 use Rattle.shark_run.specs.Totals.{counts_with, with_tree}
-use Rattle.shark_run.specs.Trees.{lets, lets_frame, tree_of}
+use Rattle.shark_run.specs.Trees.{lets, tree_of}
 use Rattle.shark_run.proofs.SummaryLemmas.{summary_same}
-use Rattle.shark_run.specs.Wanted.{HasAsked, HasFields, HasPlan, HasTables, IsMadeFor, IsEnough, IsNotedAs, shows_whole, shows_whole_by, summary_fields, sums_up, sums_up_by}
+use Rattle.shark_run.specs.Wanted.{HasAsked, HasFields, HasPlan, HasTables, IsMadeFor, IsEnough, IsNotedAs, IsToldAs, shows_whole, shows_whole_by, summary_fields, sums_up, sums_up_by}
+use Rattle.second_pass.specs.Forward.{forwarded, forwarded_to}
+use Rattle.second_pass.specs.Named.{Noted}
+use Rattle.shark_run.specs.declared.later.Later.{Later}
+use Rattle.shark_run.specs.declared.later.Later.TheVariants.{Unread, Known}
+use Rattle.shark_run.specs.Job.{One, Passes, Two, job_in, once, with_links}
+use Rattle.shark_run.specs.Later.{Serves}
 
 -- a set that grows still has what a filter asks for
 pub still_asked : (old new : List ℕ) (filter : Option Typed) → HasAsked old filter → ((f : ℕ) → is_in old f ≡ true → is_in new f ≡ true) →
@@ -111,13 +116,13 @@ shown_same wanted plan t u same is has =
     ∙ ap (λ (line : List ℕ). if is_quiet plan then [] else if lets plan t then line else []) (line_same wanted plan plan.kind t u same is has)
 
 -- all fields are the whole tree
-streams_asked : asks_streams every_field ≡ true
+pub streams_every : asks_streams every_field ≡ true
 unfolding asks_streams is_in
-streams_asked = refl
+streams_every = refl
 
 tree_all : (wanted : List ℕ) (whole tree : TreeShown) → wanted ≡ every_field → IsMadeFor wanted whole tree → tree ≡ whole
 tree_all wanted whole tree all made =
-    all_kept whole tree (subst (λ (fields : List ℕ). IsKept fields whole tree) all (made.kept (ap asks_streams all ∙ streams_asked)))
+    all_kept whole tree (subst (λ (fields : List ℕ). IsKept fields whole tree) all (made.kept (ap asks_streams all ∙ streams_every)))
 
 -- where no lines of frames are written, every tree is shown alike
 shown_quiet : (plan : Plan) (one other : TreeShown) → is_quiet plan ≡ true → shown plan one ≡ shown plan other
@@ -265,53 +270,82 @@ noted_all wanted plan kind whole tree all made = record {
   kept = record {
     wanted = every_field;
     fields = tables_all kind;
-    kept = subst (λ (fields : List ℕ). IsKept fields whole tree) all (made.kept (ap asks_streams all ∙ streams_asked));
+    kept = subst (λ (fields : List ℕ). IsKept fields whole tree) all (made.kept (ap asks_streams all ∙ streams_every));
   };
 }
+
+-- the whole tree is told as itself
+kept_itself : (tree : TreeShown) → tree.wanted ≡ every_field → IsKept every_field tree tree
+kept_itself tree all = record { same = sym (all_kept tree (kept_tree every_field tree) (record { same = refl; all = all })); all = all }
+
+told_itself : (plan : Plan) (tree : TreeShown) → tree.wanted ≡ every_field → IsToldAs plan tree tree
+told_itself plan tree all = record {
+  shown = λ lines. refl;
+  counted = λ totals. refl;
+  truth = λ written. refl;
+  noted = λ kind asked. record { truth = refl; kept = record { wanted = every_field; fields = tables_all kind; kept = kept_itself tree all } };
+}
+
+not_twice : {A : Type 0} (plan : Plan) → two_of plan ≡ false → two_of plan ≡ true → A
+not_twice plan alone is = let bad : false ≡ true = sym alone ∙ is in absurd (cc bad)
 
 -- which fields are enough
 pub enough_all : (wanted : List ℕ) (plan : Plan) → wanted ≡ every_field → IsEnough wanted plan
 enough_all wanted plan all = record {
-  shown = λ none whole tree made. ap (shown plan) (tree_all wanted whole tree all made);
-  counted = λ whole tree made totals. ap (λ (t : TreeShown). counts_with plan t totals) (tree_all wanted whole tree all made);
-  truth = λ written whole tree made. ap (lets plan) (tree_all wanted whole tree all made);
-  noted = λ kind asked whole tree made. noted_all wanted plan kind whole tree all made;
-  streams = λ needed. ap asks_streams all ∙ streams_asked;
+  told = λ whole tree made. record {
+    shown = λ none. ap (shown plan) (tree_all wanted whole tree all made);
+    counted = λ totals. ap (λ (t : TreeShown). counts_with plan t totals) (tree_all wanted whole tree all made);
+    truth = λ written. ap (lets plan) (tree_all wanted whole tree all made);
+    noted = λ kind asked. noted_all wanted plan kind whole tree all made;
+  };
+  streams = λ needed. ap asks_streams all ∙ streams_every;
+  twice = λ two. all;
 }
 
-pub enough_followed : (wanted : List ℕ) (plan : Plan) → shows_whole plan ≡ false → HasPlan wanted plan → HasTables wanted plan → asks_streams wanted ≡ true → IsEnough wanted plan
-enough_followed wanted plan is has tables asks = record {
-  shown = λ lines whole tree made. shown_kept wanted plan whole tree made.values (made.kept asks) has lines (which_lines plan lines is);
-  counted = λ whole tree made totals. counted_kept wanted plan whole tree has made.values (made.kept asks) totals;
-  truth = λ written whole tree made. satisfies_same wanted plan.filter whole tree made.values has.filter;
-  noted = λ kind asked whole tree made. record {
-    truth = satisfies_same wanted plan.filter whole tree made.values has.filter;
-    kept = record { wanted = wanted; fields = tables kind asked; kept = made.kept asks };
+pub enough_followed : (wanted : List ℕ) (plan : Plan) → two_of plan ≡ false → shows_whole plan ≡ false → HasPlan wanted plan → HasTables wanted plan → asks_streams wanted ≡ true
+    → IsEnough wanted plan
+enough_followed wanted plan alone is has tables asks = record {
+  told = λ whole tree made. record {
+    shown = λ lines. shown_kept wanted plan whole tree made.values (made.kept asks) has lines (which_lines plan lines is);
+    counted = λ totals. counted_kept wanted plan whole tree has made.values (made.kept asks) totals;
+    truth = λ written. satisfies_same wanted plan.filter whole tree made.values has.filter;
+    noted = λ kind asked. record {
+      truth = satisfies_same wanted plan.filter whole tree made.values has.filter;
+      kept = record { wanted = wanted; fields = tables kind asked; kept = made.kept asks };
+    };
   };
   streams = λ needed. asks;
+  twice = not_twice plan alone;
 }
 
-pub enough_none : (wanted : List ℕ) (plan : Plan) → (needs_streams plan || sums_up plan) ≡ false → plan.quiet ≡ true → written_of plan ≡ None → IsEnough wanted plan
-enough_none wanted plan neither is lines =
+pub enough_none : (wanted : List ℕ) (plan : Plan) → two_of plan ≡ false → (needs_streams plan || sums_up plan) ≡ false → plan.quiet ≡ true → written_of plan ≡ None → IsEnough wanted plan
+enough_none wanted plan alone neither is lines =
     let not_so : needs_streams plan ≡ false = first_false (needs_streams plan) (sums_up plan) neither in
     record {
-      shown = λ none whole tree made. shown_quiet plan tree whole (quiet_asked plan is);
-      counted = λ whole tree made totals. counted_file plan tree whole (not_generated plan not_so) totals;
-      truth = λ written whole tree made. not_written plan lines written;
-      noted = λ kind asked whole tree made. no_report plan kind not_so asked;
+      told = λ whole tree made. record {
+        shown = λ none. shown_quiet plan tree whole (quiet_asked plan is);
+        counted = λ totals. counted_file plan tree whole (not_generated plan not_so) totals;
+        truth = λ written. not_written plan lines written;
+        noted = λ kind asked. no_report plan kind not_so asked;
+      };
       streams = not_needed plan not_so;
+      twice = not_twice plan alone;
     }
 
-pub enough_plain : (wanted : List ℕ) (plan : Plan) → shows_whole plan ≡ false → (needs_streams plan || sums_up plan) ≡ false → HasPlan wanted plan → IsEnough wanted plan
-enough_plain wanted plan is neither has =
+pub enough_plain : (wanted : List ℕ) (plan : Plan) → two_of plan ≡ false → shows_whole plan ≡ false → (needs_streams plan || sums_up plan) ≡ false → HasPlan wanted plan
+    → IsEnough wanted plan
+enough_plain wanted plan alone is neither has =
     let not_so : needs_streams plan ≡ false = first_false (needs_streams plan) (sums_up plan) neither in
     let unsummed : sums_up plan ≡ false = second_false (needs_streams plan) (sums_up plan) neither in
     record {
-      shown = λ lines whole tree made. shown_asked wanted plan whole tree made.values has lines unsummed (which_lines plan lines is);
-      counted = λ whole tree made totals. counted_file plan tree whole (not_generated plan not_so) totals;
-      truth = λ written whole tree made. satisfies_same wanted plan.filter whole tree made.values has.filter;
-      noted = λ kind asked whole tree made. no_report plan kind not_so asked;
+      told = λ whole tree made. record {
+        shown = λ lines. shown_asked wanted plan whole tree made.values has lines unsummed (which_lines plan lines is);
+        counted = λ totals. counted_file plan tree whole (not_generated plan not_so) totals;
+        truth = λ written. satisfies_same wanted plan.filter whole tree made.values has.filter;
+        noted = λ kind asked. no_report plan kind not_so asked;
+      };
       streams = not_needed plan not_so;
+      twice = not_twice plan alone;
     }
 
 -- what they are enough for
@@ -322,41 +356,43 @@ reports_need wanted plan enough some = enough.streams (second (is_generated plan
     second true n some = refl
     second false n some = ap not (ne_eqb n 0 (λ none. absurd (omega (arith, some, none))))
 
--- by the rules that the dissector was made with
-pub enough_shown : (wanted : List ℕ) (plan : Plan) (rules : List PortRule) (past : List Frame) (frame : Frame) (tree : TreeShown)
-    → IsEnough wanted plan → written_of plan ≡ None → rules ≡ rules_of plan → HasSameValues wanted (tree_at rules past frame) tree
-    → (asks_streams wanted ≡ true → IsKept wanted (tree_at rules past frame) tree) → shown plan tree ≡ shown plan (tree_of plan past frame)
-enough_shown wanted plan rules past frame tree enough lines is same kept =
-    subst (λ (r : List PortRule). shown plan tree ≡ shown plan (tree_at r past frame)) is
-    (enough.shown lines (tree_at rules past frame) tree (record { values = same; kept = kept }))
+-- by the rules that the dissector was made with, and with links to later frames
+told_once : (plan : Plan) (rules : List PortRule) (past : List Frame) (frame : Frame) (tree after : TreeShown) → rules ≡ rules_of plan
+    → IsToldAs plan (tree_at rules past frame) tree → after ≡ tree → IsToldAs plan (tree_of (once plan) past frame) after
+told_once plan rules past frame tree after is told same =
+    subst (λ (r : List PortRule). IsToldAs plan (tree_at r past frame) after) is
+    (subst (λ (t : TreeShown). IsToldAs plan (tree_at rules past frame) t) (sym same) told)
 
-pub enough_counted : (wanted : List ℕ) (plan : Plan) (rules : List PortRule) (past : List Frame) (frame : Frame) (tree : TreeShown) (totals : Totals)
-    → IsEnough wanted plan → rules ≡ rules_of plan → HasSameValues wanted (tree_at rules past frame) tree
+still_wanted : (noted : List Noted) (frame : ℕ) (tree : TreeShown) → (forwarded noted frame tree).wanted ≡ tree.wanted
+unfolding forwarded_to
+still_wanted noted frame tree = refl
+
+told_again : (plan : Plan) (rules : List PortRule) (past : List Frame) (frame : Frame) (noted : List Noted) (tree after : TreeShown) → rules ≡ rules_of plan
+    → tree ≡ tree_at rules past frame → (tree_at rules past frame).wanted ≡ every_field → after ≡ forwarded noted frame.number tree
+    → IsToldAs plan (tree_of (job_in plan (Two noted)) past frame) after
+told_again plan rules past frame noted tree after is whole full same =
+    subst (λ (r : List PortRule). IsToldAs plan (forwarded noted frame.number (tree_at r past frame)) after) is
+    (subst (IsToldAs plan (forwarded noted frame.number (tree_at rules past frame))) (sym (same ∙ ap (forwarded noted frame.number) whole))
+    (told_itself plan (forwarded noted frame.number (tree_at rules past frame)) (still_wanted noted frame.number (tree_at rules past frame) ∙ full)))
+
+told_by : (two : Bool) (passes : Passes) (later : Later) (wanted : List ℕ) (plan : Plan) (rules : List PortRule) (past : List Frame) (frame : Frame) (tree after : TreeShown)
+    → two_of plan ≡ two → Serves two passes later → IsEnough wanted plan → rules ≡ rules_of plan → IsMadeFor wanted (tree_at rules past frame) tree
+    → after ≡ with_links passes frame.number tree → IsToldAs plan (tree_of (job_in plan passes) past frame) after
+told_by false One later wanted plan rules past frame tree after two serves enough is made same =
+    told_once plan rules past frame tree after is (enough.told (tree_at rules past frame) tree made) same
+told_by true (Two noted) later wanted plan rules past frame tree after two serves enough is made same =
+    let all : wanted ≡ every_field = enough.twice two in
+    told_again plan rules past frame noted tree after is (tree_all wanted (tree_at rules past frame) tree all made)
+    (made.kept (ap asks_streams all ∙ streams_every)).all same
+told_by false (Two noted) Unread wanted plan rules past frame tree after two serves enough is made same = absurd serves
+told_by false (Two noted) (Known links) wanted plan rules past frame tree after two serves enough is made same = absurd serves
+told_by true One Unread wanted plan rules past frame tree after two serves enough is made same = absurd serves
+told_by true One (Known links) wanted plan rules past frame tree after two serves enough is made same = absurd serves
+
+pub frame_told : (passes : Passes) (later : Later) (wanted : List ℕ) (plan : Plan) (rules : List PortRule) (past : List Frame) (frame : Frame) (tree after : TreeShown)
+    → Serves (two_of plan) passes later → IsEnough wanted plan → rules ≡ rules_of plan → HasSameValues wanted (tree_at rules past frame) tree
     → (asks_streams wanted ≡ true → IsKept wanted (tree_at rules past frame) tree)
-    → counts_with plan tree totals ≡ counts_with plan (tree_of plan past frame) totals
-enough_counted wanted plan rules past frame tree totals enough is same kept =
-    subst (λ (r : List PortRule). counts_with plan tree totals ≡ counts_with plan (tree_at r past frame) totals) is
-    (enough.counted (tree_at rules past frame) tree (record { values = same; kept = kept }) totals)
-
-pub enough_truth : (wanted : List ℕ) (plan : Plan) (rules : List PortRule) (past : List Frame) (frame : Frame) (tree : TreeShown)
-    → IsEnough wanted plan → IsSome (written_of plan) → rules ≡ rules_of plan → HasSameValues wanted (tree_at rules past frame) tree
-    → (asks_streams wanted ≡ true → IsKept wanted (tree_at rules past frame) tree) → lets plan tree ≡ lets_frame plan past frame
-enough_truth wanted plan rules past frame tree enough written is same kept =
-    subst (λ (r : List PortRule). lets plan tree ≡ lets plan (tree_at r past frame)) is
-    (enough.truth written (tree_at rules past frame) tree (record { values = same; kept = kept }))
-
-pub enough_noted : (wanted : List ℕ) (plan : Plan) (rules : List PortRule) (past : List Frame) (frame : Frame) (tree : TreeShown) (kind : StatKind)
-    → IsEnough wanted plan → asks_table plan kind ≡ true → rules ≡ rules_of plan → HasSameValues wanted (tree_at rules past frame) tree
-    → (asks_streams wanted ≡ true → IsKept wanted (tree_at rules past frame) tree) → IsNotedAs plan kind (tree_of plan past frame) tree
-enough_noted wanted plan rules past frame tree kind enough asked is same kept =
-    subst (λ (r : List PortRule). IsNotedAs plan kind (tree_at r past frame) tree) is
-    (enough.noted kind asked (tree_at rules past frame) tree (record { values = same; kept = kept }))
-
-pub ok_noted : {E : Type 0} (r : Result TreeShown E) (wanted : List ℕ) (plan : Plan) (rules : List PortRule) (frame : Frame) (d : DissectorShown)
-    → IsEnough wanted plan → rules ≡ rules_of plan
-    → IfOk r (λ tree. (past : List Frame) → StandsWithin past d → HasSameValues wanted (tree_at rules past frame) tree)
-    → IfOk r (λ tree. asks_streams wanted ≡ true → (past : List Frame) → StandsWithin past d → IsKept wanted (tree_at rules past frame) tree)
-    → IfOk r (λ tree. (past : List Frame) → StandsWithin past d → (kind : StatKind) → asks_table plan kind ≡ true → IsNotedAs plan kind (tree_of plan past frame) tree)
-ok_noted (Ok tree) wanted plan rules frame d enough is values kept = λ past stands kind asked.
-    enough_noted wanted plan rules past frame tree kind enough asked is (values past stands) (λ asks. kept asks past stands)
-ok_noted (Err fault) wanted plan rules frame d enough is values kept = tt
+    → ((two : Bool) (p : Passes) → Serves two p later → after ≡ with_links p frame.number tree) → IsToldAs plan (tree_of (job_in plan passes) past frame) after
+frame_told passes later wanted plan rules past frame tree after serves enough is values kept linked =
+    told_by (two_of plan) passes later wanted plan rules past frame tree after refl serves enough is (record { values = values; kept = kept })
+    (linked (two_of plan) passes serves)

@@ -49,6 +49,10 @@ fields_of plan = plan.fields
 abbrev pub style_of : Plan → Style
 style_of plan = plan.style
 
+-- whether the frames are read twice
+abbrev pub two_of : Plan → Bool
+two_of plan = plan.two
+
 -- how many frames are read at most
 abbrev pub most_of : Plan → Option ℕ
 most_of plan = plan.most

@@ -8,15 +8,18 @@ use Rattle.shark_run.specs.declared.plan.Plan.{Plan}
 use Rattle.shark_run.specs.declared.notes.Notes.{Notes}
 use Rattle.shark_run.specs.Accessors.{written_of}
 use Rattle.shark_run.specs.Chosen.{IsWriting}
+use Rattle.shark_run.specs.Fitting.{job_of}
+use Rattle.shark_run.specs.Job.{Job}
 use Rattle.shark_run.specs.Reading.{frames_read}
 use Rattle.shark_run.specs.Notes.{AreNotes}
 
 -- what stands behind the lines can be made: of a dissector that has taken these frames and of their notes, or of a writer that has
 -- written those chosen of them
-abbrev pub CanClose : Option Format → Plan → List Frame → DissectorShown → Notes → Kept → Type 0
-CanClose None plan past d notes kept = StandsWithin past d × AreNotes plan past notes
-CanClose (Some format) plan past d notes kept = IsWriting (Some format) plan kept past
+abbrev pub CanClose : Option Format → Job → List Frame → DissectorShown → Notes → Kept → Type 0
+CanClose None job past d notes kept = StandsWithin past d × AreNotes job past notes
+CanClose (Some format) job past d notes kept = IsWriting (Some format) job kept past
 
 -- the same of the frames that were read
 abbrev pub HasRead : Plan → List ℕ → DissectorShown → Notes → Kept → Type 0
-HasRead plan file d notes kept = CanClose (written_of plan) plan (reverse (frames_read plan file).frames) d notes kept
+HasRead plan file d notes kept =
+    CanClose (written_of plan) (job_of plan (frames_read plan file)) (reverse (frames_read plan file).frames) d notes kept

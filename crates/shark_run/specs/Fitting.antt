@@ -8,30 +8,36 @@ use Rattle.shark_run.specs.declared.run_ending.RunEnding.{RunEnding}
 use Rattle.shark_run.specs.declared.run_ending.RunEnding.TheVariants.{Read, Unfit}
 use Rattle.shark_run.specs.Accessors.{written_of}
 use Rattle.shark_run.specs.Chosen.{is_unfit_in}
+use Rattle.shark_run.specs.Job.{Job, Passes, job_in}
 
--- frames, and how their reading ends
+-- frames, how their reading ends, and the passes over them
 pub record FramesRead : Type 0 where
   pub frames : List Frame
   pub ending : RunEnding
+  pub passes : Passes
+
+-- the job of a plan over them
+abbrev pub job_of : Plan → FramesRead → Job
+job_of plan read = job_in plan read.passes
 
 -- no frame more
-abbrev pub over : RunEnding → FramesRead
-over ending = record { frames = []; ending = ending }
+abbrev pub over : Job → RunEnding → FramesRead
+over job ending = record { frames = []; ending = ending; passes = job.passes }
 
 -- a frame before the others
 abbrev pub before : Frame → FramesRead → FramesRead
-before frame read = record { frames = frame ∷ read.frames; ending = read.ending }
+before frame read = record read { frames = frame ∷ read.frames }
 
 -- a capture is written, and this frame can't be
-abbrev pub is_unfit_by : Option Format → Plan → List Frame → Frame → Bool
-is_unfit_by None plan past frame = false
-is_unfit_by (Some format) plan past frame = is_unfit_in format plan past frame
+abbrev pub is_unfit_by : Option Format → Job → List Frame → Frame → Bool
+is_unfit_by None job past frame = false
+is_unfit_by (Some format) job past frame = is_unfit_in format job past frame
 
-abbrev pub is_unfit : Plan → List Frame → Frame → Bool
-is_unfit plan past frame = is_unfit_by (written_of plan) plan past frame
+abbrev pub is_unfit : Job → List Frame → Frame → Bool
+is_unfit job past frame = is_unfit_by (written_of job.plan) job past frame
 
 -- the frames behind those of the past, and what follows the first that can't be written isn't looked at
-abbrev pub fitting : Plan → List Frame → List Frame → Ending → FramesRead
-fitting plan past [] ending = over (Read ending)
-fitting plan past (frame ∷ frames) ending =
-    if is_unfit plan past frame then over (Unfit frame.number) else before frame (fitting plan (frame ∷ past) frames ending)
+abbrev pub fitting : Job → List Frame → List Frame → Ending → FramesRead
+fitting job past [] ending = over job (Read ending)
+fitting job past (frame ∷ frames) ending =
+    if is_unfit job past frame then over job (Unfit frame.number) else before frame (fitting job (frame ∷ past) frames ending)

@@ -11,6 +11,7 @@ use Rattle.tcp_streams.specs.Labels.{Label, labels, way_of}
 use Rattle.tcp_streams.specs.Ways.{stretches}
 use Rattle.shark_run.specs.declared.plan.Plan.{Plan}
 use Rattle.shark_run.specs.Accessors.{filter_of, is_quiet, kind_of, written_of}
+use Rattle.shark_run.specs.Job.{Job}
 use Rattle.shark_run.specs.Lines.{pieces_of}
 use Rattle.shark_run.specs.Reports.{tcp_segments}
 use Rattle.shark_run.specs.Trees.{tree_of}
@@ -23,9 +24,9 @@ pub record ShowsAll (plan : Plan) : Type 0 where
   pub all : filter_of plan ≡ None
 
 -- the line of each frame's tree
-abbrev pub json_lines : Plan → List Frame → List ℕ
-json_lines plan [] = []
-json_lines plan (frame ∷ past) = json_lines plan past ++ json_line_of (tree_of plan past frame)
+abbrev pub json_lines : Job → List Frame → List ℕ
+json_lines job [] = []
+json_lines job (frame ∷ past) = json_lines job past ++ json_line_of (tree_of job past frame)
 
 -- the segments that frames brought, each with its stream and side
 abbrev pub labels_in : List Frame → List Label
@@ -33,11 +34,11 @@ labels_in past = labels (tcp_segments past)
 
 -- each frame has a line, which shows its tree, and the messages that the frames show of a direction of a stream, one frame
 -- behind the other, are those of its stretches in their order: each in one line
-pub record IsToldOnce (plan : Plan) (past : List Frame) : Type 0 where
-  pub lines : pieces_of plan past ≡ json_lines plan past
+pub record IsToldOnce (job : Job) (past : List Frame) : Type 0 where
+  pub lines : pieces_of job past ≡ json_lines job past
   pub once : (app : App) (stream : ℕ) (side : Bool)
       → shown_in side (noted app (brought stream (labels_in past)))
       ≡ of_stretches app (asked_in side (noted app (brought stream (labels_in past)))) 0 (stretches (way_of stream side (labels_in past)))
 
 abbrev pub MessagesToldOnce : Type 0
-MessagesToldOnce = (plan : Plan) (past : List Frame) → ShowsAll plan → IsToldOnce plan past
+MessagesToldOnce = (job : Job) (past : List Frame) → ShowsAll job.plan → IsToldOnce job past

@@ -5,6 +5,7 @@ use Rattle.pk_tree.specs.Trees.{TreeShown}
 use Rattle.shark_run.specs.declared.plan.Plan.{Plan}
 use Rattle.shark_run.specs.declared.plan.Refused.{Refused}
 use Rattle.shark_run.specs.Answers.{IsSure}
+use Rattle.shark_run.specs.Job.{Passes, job_in}
 use Rattle.shark_run.specs.Lines.{output_of}
 use Rattle.shark_run.specs.Plan.{IsPlan, IsRefusal}
 use Rattle.shark_run.specs.Accessors.{source_of}
@@ -24,12 +25,14 @@ abbrev pub OneReason : Type 0
 OneReason = (words : List (List ℕ)) (one other : Refused) → IsRefusal words one → IsRefusal words other → IsSure one → IsSure other
     → one ≡ other
 
--- two plans have the same source and read the same of it, let the same trees through, and write the same over any frames
+-- two plans have the same source and read the same of it, let the same trees through, and write the same over any frames, in the same
+-- passes
 pub record AreAlike (one other : Plan) : Type 0 where
   pub source : source_of one ≡ source_of other
   pub read : (file : List ℕ) → frames_read one file ≡ frames_read other file
   pub lets : (tree : TreeShown) → lets one tree ≡ lets other tree
-  pub written : (frames : List Frame) → output_of one frames ≡ output_of other frames
+  pub written : (passes : Passes) (frames : List Frame)
+      → output_of (job_in one passes) frames ≡ output_of (job_in other passes) frames
 
 -- all plans of the same words are alike
 abbrev pub PlansAreAlike : Type 0

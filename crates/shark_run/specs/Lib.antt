@@ -8,7 +8,9 @@ pub mod FaultLines
 pub mod FaultTexts
 pub mod Fitting
 pub mod Generated
+pub mod Job
 pub mod JsonLaws
+pub mod Later
 pub mod Laws
 pub mod Lines
 pub mod Notes
@@ -24,6 +26,7 @@ pub mod Source
 pub mod Statuses
 pub mod Steps
 pub mod Tables
+pub mod Takeable
 pub mod Taken
 pub mod Totals
 pub mod Trees

@@ -13,6 +13,7 @@ use Rattle.shark_words.specs.declared.options.LineKind.TheVariants.{Text, Fields
 use Rattle.shark_run.specs.declared.plan.Plan.{Plan}
 use Rattle.shark_run.specs.Accessors.{fields_of, is_generated, is_quiet, kind_of, reports_of, style_of, written_of}
 use Rattle.shark_run.specs.Chosen.{chosen, end_in, packet_in}
+use Rattle.shark_run.specs.Job.{Job}
 use Rattle.shark_run.specs.Reports.{reports_text}
 use Rattle.shark_run.specs.SelfRun.{self_run_line}
 use Rattle.shark_run.specs.Trees.{lets, tree_of}
@@ -31,22 +32,22 @@ abbrev pub shown : Plan → TreeShown → List ℕ
 shown plan tree = if is_quiet plan then [] else if lets plan tree then line_of plan tree else []
 
 -- what is written of a frame, given those before it, of which the newest stands first
-abbrev pub piece_by : Option Format → Plan → List Frame → Frame → List ℕ
-piece_by None plan past frame = shown plan (tree_of plan past frame)
-piece_by (Some format) plan past frame = packet_in format plan past frame
+abbrev pub piece_by : Option Format → Job → List Frame → Frame → List ℕ
+piece_by None job past frame = shown job.plan (tree_of job past frame)
+piece_by (Some format) job past frame = packet_in format job past frame
 
-abbrev pub piece : Plan → List Frame → Frame → List ℕ
-piece plan past frame = piece_by (written_of plan) plan past frame
+abbrev pub piece : Job → List Frame → Frame → List ℕ
+piece job past frame = piece_by (written_of job.plan) job past frame
 
 -- what is written of the frames behind those of the past
-abbrev pub pieces : Plan → List Frame → List Frame → List ℕ
-pieces plan past [] = []
-pieces plan past (frame ∷ frames) = piece plan past frame ++ pieces plan (frame ∷ past) frames
+abbrev pub pieces : Job → List Frame → List Frame → List ℕ
+pieces job past [] = []
+pieces job past (frame ∷ frames) = piece job past frame ++ pieces job (frame ∷ past) frames
 
 -- what is written of frames of which the newest stands first
-abbrev pub pieces_of : Plan → List Frame → List ℕ
-pieces_of plan [] = []
-pieces_of plan (frame ∷ past) = pieces_of plan past ++ piece plan past frame
+abbrev pub pieces_of : Job → List Frame → List ℕ
+pieces_of job [] = []
+pieces_of job (frame ∷ past) = pieces_of job past ++ piece job past frame
 
 -- whether the line of the fields' names is written
 abbrev pub is_headed : LineKind → Plan → Bool
@@ -63,21 +64,21 @@ unfoldable pub opening : Plan → List ℕ
 opening plan = opening_by (written_of plan) plan
 
 -- over a generated capture, the line of what was counted
-abbrev pub counted_line : Plan → List Frame → List ℕ
-counted_line plan past = if is_generated plan then self_run_line plan past else []
+abbrev pub counted_line : Job → List Frame → List ℕ
+counted_line job past = if is_generated job.plan then self_run_line job past else []
 
 -- what stands behind the frames' lines, over frames of which the newest stands first
-abbrev pub closing_by : Option Format → Plan → List Frame → List ℕ
-closing_by None plan past = reports_text plan past (reports_of plan) ++ counted_line plan past
-closing_by (Some format) plan past = end_in format plan past
+abbrev pub closing_by : Option Format → Job → List Frame → List ℕ
+closing_by None job past = reports_text job past (reports_of job.plan) ++ counted_line job past
+closing_by (Some format) job past = end_in format job past
 
-unfoldable pub closing : Plan → List Frame → List ℕ
-closing plan past = closing_by (written_of plan) plan past
+unfoldable pub closing : Job → List Frame → List ℕ
+closing job past = closing_by (written_of job.plan) job past
 
 -- the whole output over the frames that were read
-abbrev pub output_by : Option Format → Plan → List Frame → List ℕ
-output_by None plan frames = opening plan ++ (pieces plan [] frames ++ closing plan (reverse frames))
-output_by (Some format) plan frames = written format (chosen plan [] frames)
+abbrev pub output_by : Option Format → Job → List Frame → List ℕ
+output_by None job frames = opening job.plan ++ (pieces job [] frames ++ closing job (reverse frames))
+output_by (Some format) job frames = written format (chosen job [] frames)
 
-unfoldable pub output_of : Plan → List Frame → List ℕ
-output_of plan frames = output_by (written_of plan) plan frames
+unfoldable pub output_of : Job → List Frame → List ℕ
+output_of job frames = output_by (written_of job.plan) job frames

@@ -2,14 +2,14 @@
 use Rattle.std.specs.Prelude.{◌≡◌, ℕ, List}
 use Rattle.capture_read.specs.declared.frame.Frame.{Frame}
 use Rattle.shark_run.specs.declared.notes.Notes.{Notes}
-use Rattle.shark_run.specs.declared.plan.Plan.{Plan}
+use Rattle.shark_run.specs.Job.{Job}
 use Rattle.shark_run.specs.Tables.{AreTables, trees_let}
 use Rattle.shark_run.specs.Totals.{AreFew, counts_of}
 
 -- the notes of frames, the newest first
-pub record AreNotes (plan : Plan) (past : List Frame) (notes : Notes) : Type 0 where
-  pub totals : notes.totals ≡ counts_of plan past
-  pub tables : AreTables plan (trees_let plan past) notes.tables
+pub record AreNotes (job : Job) (past : List Frame) (notes : Notes) : Type 0 where
+  pub totals : notes.totals ≡ counts_of job past
+  pub tables : AreTables job.plan (trees_let job past) notes.tables
 
 -- so many frames were noted at most
 abbrev pub AreFewNotes : ℕ → Notes → Type 0

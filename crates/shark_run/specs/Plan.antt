@@ -28,6 +28,7 @@ IsFaultAsked (Some text) fault = IsFilterFault text (Fault fault)
 pub record IsPlanFor (options : Options) (plan : Plan) : Type 0 where
   pub source : plan.source ≡ source_in options.source
   pub filter : IsFilterAsked options.filter plan.filter
+  pub two : plan.two ≡ options.two
   pub fields : fields_named options.names ≡ Ok plan.fields
   pub most : plan.most ≡ options.most
   pub decode : plan.decode ≡ options.decode.rules

@@ -9,6 +9,7 @@ use Rattle.shark_run.specs.declared.source.PlanSource.TheVariants.{Named, Genera
 pub use Rattle.shark_run.specs.Accessors.{name_of}
 use Rattle.shark_run.specs.Accessors.{most_of, source_of}
 use Rattle.shark_run.specs.Fitting.{FramesRead, fitting}
+use Rattle.shark_run.specs.Job.{Job, job_over}
 
 -- the bytes of the file, where the capture tells them, and those of a generated capture
 abbrev pub file_by : PlanSource → (List ℕ → Option (List ℕ)) → Option (List ℕ)
@@ -29,8 +30,11 @@ limited None reading = reading
 limited (Some most) reading = front_if (nat_le most (length reading.frames)) most reading
 
 -- the frames that are read, and how the reading ends
-abbrev pub fitting_of : Plan → Reading → FramesRead
-fitting_of plan reading = fitting plan [] reading.frames reading.ending
+abbrev pub fitting_of : Job → Reading → FramesRead
+fitting_of job reading = fitting job [] reading.frames reading.ending
+
+abbrev pub read_of : Plan → Reading → FramesRead
+read_of plan reading = fitting_of (job_over plan reading.frames) reading
 
 unfoldable pub frames_read : Plan → List ℕ → FramesRead
-frames_read plan file = fitting_of plan (limited (most_of plan) (capture_of file))
+frames_read plan file = read_of plan (limited (most_of plan) (capture_of file))

@@ -16,6 +16,7 @@ use Rattle.tcp_streams.specs.Standing.{way_for}
 use Rattle.tcp_streams.specs.Ways.{stretches}
 use Rattle.tcp_streams.specs.declared.segment.Segment.{Segment}
 use Rattle.shark_run.specs.declared.plan.Plan.{Plan}
+use Rattle.shark_run.specs.Job.{Job}
 use Rattle.shark_run.specs.Tables.{asks_table, trees_let}
 
 -- the stretches of both directions of a stream, where there is one
@@ -34,14 +35,14 @@ abbrev pub tcp_segments : List Frame → List Segment
 tcp_segments past = segments_of (events_of past)
 
 -- a report over frames
-abbrev pub report_text : Plan → List Frame → Report → List ℕ
-report_text plan past (reports.Follow stream) = follow_of stream (fronts_in (tcp_segments past) stream)
-report_text plan past (reports.Table kind) = table_of kind (trees_let plan past)
+abbrev pub report_text : Job → List Frame → Report → List ℕ
+report_text job past (reports.Follow stream) = follow_of stream (fronts_in (tcp_segments past) stream)
+report_text job past (reports.Table kind) = table_of kind (trees_let job past)
 
 -- reports, one after the other
-abbrev pub reports_text : Plan → List Frame → List Report → List ℕ
-reports_text plan past [] = []
-reports_text plan past (report ∷ reports) = report_text plan past report ++ reports_text plan past reports
+abbrev pub reports_text : Job → List Frame → List Report → List ℕ
+reports_text job past [] = []
+reports_text job past (report ∷ reports) = report_text job past report ++ reports_text job past reports
 
 -- where a report is a table, one of its kind is asked for
 abbrev pub IsAsked : Plan → Report → Type 0

@@ -8,6 +8,7 @@ use Rattle.pk_fields.specs.Ids.{DNS, HTTP}
 use Rattle.pk_tree.specs.Trees.{TreeShown, layers_of}
 use Rattle.tcp_streams.specs.Labels.{labels, opened}
 use Rattle.shark_run.specs.declared.plan.Plan.{Plan}
+use Rattle.shark_run.specs.Job.{Job}
 use Rattle.shark_run.specs.Trees.{lets, trees_of}
 
 -- how many trees the filter lets through
@@ -43,5 +44,5 @@ abbrev pub line_with : List Frame → List TreeShown → ℕ → List ℕ
 line_with past trees shown =
     counts_text (length past) shown (tcp_count past) (udp_count past) (layer_count DNS trees) (layer_count HTTP trees)
 
-unfoldable pub self_run_line : Plan → List Frame → List ℕ
-self_run_line plan past = line_with past (trees_of plan past) (shown_count plan (trees_of plan past))
+unfoldable pub self_run_line : Job → List Frame → List ℕ
+self_run_line job past = line_with past (trees_of job past) (shown_count job.plan (trees_of job past))

@@ -4,34 +4,34 @@ use Rattle.std.specs.Io.KnownBytes.{Appends}
 use Rattle.capture_read.specs.declared.frame.Frame.{Frame}
 use Rattle.capture_write.specs.Kept.{Kept, Stands, fits, in_order, kept_of, piece_at}
 use Rattle.capture_write.specs.declared.format.Format.{Format}
-use Rattle.shark_run.specs.declared.plan.Plan.{Plan}
 use Rattle.shark_run.specs.declared.notes.Notes.{Notes}
 use Rattle.shark_run.specs.Accessors.{written_of}
 use Rattle.shark_run.specs.Chosen.{IsWriting, if_shown}
 use Rattle.shark_run.specs.Fitting.{is_unfit}
+use Rattle.shark_run.specs.Job.{Job}
 use Rattle.shark_run.specs.Lines.{piece}
 use Rattle.shark_run.specs.Notes.{AreNotes}
 
 -- the notes of the frames of the past, or what is kept of those that were written
-abbrev pub KeepsUp : Option Format → Plan → List Frame → Notes → Kept → Type 0
-KeepsUp None plan past notes kept = AreNotes plan past notes
-KeepsUp (Some format) plan past notes kept = IsWriting (Some format) plan kept past
+abbrev pub KeepsUp : Option Format → Job → List Frame → Notes → Kept → Type 0
+KeepsUp None job past notes kept = AreNotes job past notes
+KeepsUp (Some format) job past notes kept = IsWriting (Some format) job kept past
 
 -- what is written of a frame; one that can't be written adds nothing
-abbrev pub fit_piece : Plan → List Frame → Frame → List ℕ
-fit_piece plan past frame = if is_unfit plan past frame then [] else piece plan past frame
+abbrev pub fit_piece : Job → List Frame → Frame → List ℕ
+fit_piece job past frame = if is_unfit job past frame then [] else piece job past frame
 
 -- a frame was written, as far as it is shown
-pub record IsWrittenFrame (plan : Plan) (past : List Frame) (frame : Frame) (notes : Notes) (kept : Kept) (old new : Option (List ℕ)) : Type 0 where
-  pub fit : is_unfit plan past frame ≡ false
-  pub keeps : KeepsUp (written_of plan) plan (frame ∷ past) notes kept
-  pub wrote : Appends old new (piece plan past frame)
+pub record IsWrittenFrame (job : Job) (past : List Frame) (frame : Frame) (notes : Notes) (kept : Kept) (old new : Option (List ℕ)) : Type 0 where
+  pub fit : is_unfit job past frame ≡ false
+  pub keeps : KeepsUp (written_of job.plan) job (frame ∷ past) notes kept
+  pub wrote : Appends old new (piece job past frame)
 
 -- or it can't be written
-abbrev pub IsAfterFrame : Bool → Plan → List Frame → Frame → Notes → Kept → Option (List ℕ) → Option (List ℕ) → Type 0
-IsAfterFrame true plan past frame notes kept old new = IsWrittenFrame plan past frame notes kept old new
-IsAfterFrame false plan past frame notes kept old new =
-    (is_unfit plan past frame ≡ true) × KeepsUp (written_of plan) plan past notes kept × (new ≡ old)
+abbrev pub IsAfterFrame : Bool → Job → List Frame → Frame → Notes → Kept → Option (List ℕ) → Option (List ℕ) → Type 0
+IsAfterFrame true job past frame notes kept old new = IsWrittenFrame job past frame notes kept old new
+IsAfterFrame false job past frame notes kept old new =
+    (is_unfit job past frame ≡ true) × KeepsUp (written_of job.plan) job past notes kept × (new ≡ old)
 
 -- the same of a capture alone, behind those frames that were chosen: this one is shown, and does it fit?
 abbrev pub is_unfit_behind : Bool → Format → List Frame → Frame → Bool

@@ -12,6 +12,7 @@ use Rattle.shark_run.specs.declared.plan.Plan.{Plan}
 use Rattle.shark_run.specs.declared.tables.Table.{Table}
 use Rattle.shark_run.specs.declared.tables.Tables.{Tables}
 use Rattle.shark_run.specs.Accessors.{reports_of}
+use Rattle.shark_run.specs.Job.{Job}
 use Rattle.shark_run.specs.Trees.{lets, tree_of}
 
 abbrev pub same_kind : StatKind → StatKind → Bool
@@ -37,9 +38,9 @@ abbrev pub trees_with : Plan → TreeShown → List TreeShown → List TreeShown
 trees_with plan tree trees = if lets plan tree then tree ∷ trees else trees
 
 -- the trees of frames that the filter lets through
-abbrev pub trees_let : Plan → List Frame → List TreeShown
-trees_let plan [] = []
-trees_let plan (frame ∷ past) = trees_with plan (tree_of plan past frame) (trees_let plan past)
+abbrev pub trees_let : Job → List Frame → List TreeShown
+trees_let job [] = []
+trees_let job (frame ∷ past) = trees_with job.plan (tree_of job past frame) (trees_let job past)
 
 -- what is noted for the tables of a kind, where one is asked for, stands for these trees
 pub record IsTable (plan : Plan) (kind : StatKind) (trees : List TreeShown) (table : Table) : Type 0 where

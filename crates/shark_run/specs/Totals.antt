@@ -6,16 +6,17 @@ use Rattle.pk_tree.specs.Trees.{TreeShown, layers_of}
 use Rattle.shark_run.specs.declared.plan.Plan.{Plan}
 use Rattle.shark_run.specs.declared.totals.Totals.{Totals}
 use Rattle.shark_run.specs.Accessors.{is_generated}
+use Rattle.shark_run.specs.Job.{Job}
 use Rattle.shark_run.specs.SelfRun.{layer_count, shown_count}
 use Rattle.shark_run.specs.Trees.{lets, tree_of, trees_of}
 
 -- what is counted of frames, the newest first
-abbrev pub totals_of : Plan → List Frame → Totals
-totals_of plan past = record {
+abbrev pub totals_of : Job → List Frame → Totals
+totals_of job past = record {
   frames = length past;
-  shown = shown_count plan (trees_of plan past);
-  dns = layer_count DNS (trees_of plan past);
-  http = layer_count HTTP (trees_of plan past);
+  shown = shown_count job.plan (trees_of job past);
+  dns = layer_count DNS (trees_of job past);
+  http = layer_count HTTP (trees_of job past);
 }
 
 -- one tree more, which the filter lets through or not
@@ -32,9 +33,12 @@ abbrev pub counts_with : Plan → TreeShown → Totals → Totals
 counts_with plan tree totals = if is_generated plan then with_tree tree (lets plan tree) totals else totals
 
 -- what is counted of frames, the newest first, one after the other
-abbrev pub counts_of : Plan → List Frame → Totals
-counts_of plan [] = record { frames = 0; shown = 0; dns = 0; http = 0 }
-counts_of plan (frame ∷ past) = counts_with plan (tree_of plan past frame) (counts_of plan past)
+abbrev pub nothing_counted : Totals
+nothing_counted = record { frames = 0; shown = 0; dns = 0; http = 0 }
+
+abbrev pub counts_of : Job → List Frame → Totals
+counts_of job [] = nothing_counted
+counts_of job (frame ∷ past) = counts_with job.plan (tree_of job past frame) (counts_of job past)
 
 -- so many frames were counted at most
 pub record AreFew (most : ℕ) (totals : Totals) : Type 0 where

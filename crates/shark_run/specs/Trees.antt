@@ -6,21 +6,22 @@ use Rattle.dissect.specs.Trees.{tree_at}
 use Rattle.pk_tree.specs.Trees.{TreeShown}
 use Rattle.shark_run.specs.declared.plan.Plan.{Plan}
 use Rattle.shark_run.specs.Accessors.{filter_of, rules_of}
+use Rattle.shark_run.specs.Job.{Job, with_links}
 use Rattle.shark_run.specs.Satisfied.{satisfies}
 
--- the tree of a frame, given the frames before it
-abbrev pub tree_of : Plan → List Frame → Frame → TreeShown
-tree_of plan past frame = tree_at (rules_of plan) past frame
+-- the tree of a frame, given the frames before it, with its links to later ones as far as these are known
+abbrev pub tree_of : Job → List Frame → Frame → TreeShown
+tree_of job past frame = with_links job.passes frame.number (tree_at (rules_of job.plan) past frame)
 
 -- the trees of frames
-abbrev pub trees_of : Plan → List Frame → List TreeShown
-trees_of plan [] = []
-trees_of plan (frame ∷ past) = tree_of plan past frame ∷ trees_of plan past
+abbrev pub trees_of : Job → List Frame → List TreeShown
+trees_of job [] = []
+trees_of job (frame ∷ past) = tree_of job past frame ∷ trees_of job past
 
 -- whether the filter lets a tree through
 abbrev pub lets : Plan → TreeShown → Bool
 lets plan tree = satisfies (filter_of plan) tree
 
 -- whether it lets the tree of a frame through
-abbrev pub lets_frame : Plan → List Frame → Frame → Bool
-lets_frame plan past frame = lets plan (tree_of plan past frame)
+abbrev pub lets_frame : Job → List Frame → Frame → Bool
+lets_frame job past frame = lets job.plan (tree_of job past frame)

@@ -1,7 +1,7 @@
 -- The fields that the output asks for.
 use Rattle.std.specs.Prelude.{◌≡◌, ℕ, Bool, true, false, List, [], ◌∷◌, Option, Some, None, IsSome}
 use Rattle.std.specs.List.{AllByRecursion as Each}
-use Rattle.pk_fields.specs.FieldSets.{is_in}
+use Rattle.pk_fields.specs.FieldSets.{every_field, is_in}
 use Rattle.pk_fields.specs.Ids.{FRAME_NUMBER, FRAME_TIME_RELATIVE, FRAME_LEN, ETH_SRC, ETH_DST, IP_SRC, IP_DST, IPV6_SRC, IPV6_DST}
 use Rattle.pk_tree.specs.Trees.{TreeShown, IsKept}
 use Rattle.dissect.specs.Followed.{asks_streams, HasSameValues}
@@ -14,7 +14,7 @@ use Rattle.shark_words.specs.declared.options.LineKind.{LineKind}
 use Rattle.shark_words.specs.declared.options.LineKind.TheVariants.{Text, Fields, Json}
 use Rattle.shark_run.specs.declared.plan.Plan.{Plan}
 use Rattle.shark_run.specs.declared.totals.Totals.{Totals}
-use Rattle.shark_run.specs.Accessors.{fields_of, filter_of, is_quiet, kind_of, needs_streams, written_of}
+use Rattle.shark_run.specs.Accessors.{fields_of, filter_of, is_quiet, kind_of, needs_streams, two_of, written_of}
 use Rattle.shark_run.specs.Lines.{shown}
 use Rattle.shark_run.specs.Tables.{asks_table}
 use Rattle.shark_run.specs.Totals.{counts_with}
@@ -76,15 +76,17 @@ pub record IsNotedAs (plan : Plan) (kind : StatKind) (whole tree : TreeShown) : 
   pub truth : lets plan tree ≡ lets plan whole
   pub kept : IsKeptFor kind whole tree
 
--- such a tree is shown and counted as the whole tree, or chosen as the whole tree where frames are written, it is noted as the whole
--- tree where a table is asked for, and streams are asked where something is told by them
+-- a tree is shown and counted as the whole tree, or chosen as the whole tree where frames are written, and noted as the whole tree
+-- where a table is asked for
+pub record IsToldAs (plan : Plan) (whole tree : TreeShown) : Type 0 where
+  pub shown : written_of plan ≡ None → shown plan tree ≡ shown plan whole
+  pub counted : (totals : Totals) → counts_with plan tree totals ≡ counts_with plan whole totals
+  pub truth : IsSome (written_of plan) → lets plan tree ≡ lets plan whole
+  pub noted : (kind : StatKind) → asks_table plan kind ≡ true → IsNotedAs plan kind whole tree
+
+-- trees of these fields are told as the whole trees; streams are asked where something is told by them, and all fields where the
+-- frames are read twice
 pub record IsEnough (wanted : List ℕ) (plan : Plan) : Type 0 where
-  pub shown : written_of plan ≡ None → (whole tree : TreeShown) → IsMadeFor wanted whole tree
-      → shown plan tree ≡ shown plan whole
-  pub counted : (whole tree : TreeShown) → IsMadeFor wanted whole tree
-      → (totals : Totals) → counts_with plan tree totals ≡ counts_with plan whole totals
-  pub truth : IsSome (written_of plan) → (whole tree : TreeShown) → IsMadeFor wanted whole tree
-      → lets plan tree ≡ lets plan whole
-  pub noted : (kind : StatKind) → asks_table plan kind ≡ true → (whole tree : TreeShown) → IsMadeFor wanted whole tree
-      → IsNotedAs plan kind whole tree
+  pub told : (whole tree : TreeShown) → IsMadeFor wanted whole tree → IsToldAs plan whole tree
   pub streams : needs_streams plan ≡ true → asks_streams wanted ≡ true
+  pub twice : two_of plan ≡ true → wanted ≡ every_field

@@ -1,12 +1,14 @@
 -- How far a run came, by the bytes that it took of its file.
-use Rattle.std.specs.Prelude.{◌≡◌, ◌⊎◌, ◌<◌, ◌≤◌, ℕ, suc, ◌+◌, ◌^◌, List, [], ◌∷◌, ◌++◌, length, reverse, take, Option, Some, None}
+use Rattle.std.specs.Prelude.{Bool, true, false, ◌≡◌, ◌⊎◌, ◌<◌, ◌≤◌, ℕ, suc, ◌+◌, ◌^◌, List, [], ◌∷◌, ◌++◌, length, reverse, take, Option, Some, None}
 use Rattle.std.specs.Io.KnownBytes.{Appends}
 use Rattle.pk_outside.specs.Outside.{AppendsPart}
 use Rattle.capture_read.specs.Answers.{IsFrontOf, IsNear}
 use Rattle.capture_read.specs.Capture.{capture_of}
 use Rattle.capture_read.specs.declared.frame.Frame.{Frame}
 use Rattle.shark_run.specs.declared.plan.Plan.{Plan}
-use Rattle.shark_run.specs.Accessors.{most_of, source_of}
+use Rattle.shark_run.specs.Accessors.{most_of, source_of, two_of}
+use Rattle.shark_run.specs.Fitting.{job_of}
+use Rattle.shark_run.specs.Job.{IfOnce, once}
 use Rattle.shark_run.specs.Lines.{closing, opening, piece, pieces, pieces_of}
 use Rattle.shark_run.specs.Reading.{frames_read}
 use Rattle.shark_run.specs.Source.{IfNamed}
@@ -16,13 +18,24 @@ abbrev pub IsFewer : Option ℕ → ℕ → Type 0
 IsFewer None count = Unit {0}
 IsFewer (Some most) count = count < most
 
--- behind such a front, the lines of the frames were written that the bytes taken of the file hold, as a file by themselves; they
--- are fewer than are asked for
+-- what is written of the frames of these bytes before more of them are there: nothing, where the frames are read twice
+abbrev pub pieces_so_far : Bool → Plan → List ℕ → List ℕ
+pieces_so_far false plan bytes = pieces (once plan) [] (capture_of bytes).frames
+pieces_so_far true plan bytes = []
+
+-- behind such a front, the lines of the frames were written that the bytes taken of the file hold, as a file by themselves, where
+-- the frames are read once; they are fewer than are asked for
 pub record IsReadSoFar (front : List ℕ) (plan : Plan) (file left : List ℕ) (old new : Option (List ℕ)) : Type 0 where
   pub taken : List ℕ
   pub whole : file ≡ taken ++ left
   pub fewer : IsFewer (most_of plan) (length (capture_of taken).frames)
-  pub wrote : Appends old new (front ++ pieces plan [] (capture_of taken).frames)
+  pub wrote : Appends old new (front ++ pieces_so_far (two_of plan) plan taken)
+
+-- the bytes taken of a file hold fewer frames than are asked for
+abbrev pub HoldsFewer : Plan → List ℕ → Option (List ℕ) → Type 0
+HoldsFewer plan file None = Unit {0}
+HoldsFewer plan file (Some left) =
+    (taken : List ℕ) × (file ≡ taken ++ left) × IsFewer (most_of plan) (length (capture_of taken).frames)
 
 -- the same where the capture tells what is left of the file
 abbrev pub WroteTakenBehind : List ℕ → Plan → List ℕ → Option (List ℕ) → Option (List ℕ) → Option (List ℕ) → Type 0
@@ -41,23 +54,27 @@ pub record IsBrokenBehind (start : List ℕ) (plan : Plan) (file : List ℕ) (le
   pub near : IsNear file past left
   pub begun : List ℕ
   pub rest : List ℕ
-  pub line : begun ++ rest ≡ piece plan past frame
-  pub wrote : Appends old new (start ++ (pieces_of plan past ++ begun))
+  pub line : begun ++ rest ≡ piece (once plan) past frame
+  pub wrote : Appends old new (start ++ (pieces_of (once plan) past ++ begun))
 
 -- behind such a front, all frames' lines were written, and a front of what stands behind them
 abbrev pub IsBrokenAtEnd : List ℕ → Plan → List ℕ → Option (List ℕ) → Option (List ℕ) → Type 0
 IsBrokenAtEnd start plan file old new =
-    (begun : List ℕ) × (rest : List ℕ) × (begun ++ rest ≡ closing plan (reverse (frames_read plan file).frames))
-    × Appends old new (start ++ (pieces plan [] (frames_read plan file).frames ++ begun))
+    (begun : List ℕ) × (rest : List ℕ)
+    × (begun ++ rest ≡ closing (job_of plan (frames_read plan file)) (reverse (frames_read plan file).frames))
+    × Appends old new (start ++ (pieces (job_of plan (frames_read plan file)) [] (frames_read plan file).frames ++ begun))
 
 -- behind such a front, a write failed: of a frame's line, or behind the lines
 abbrev pub IsBrokenFrom : List ℕ → Plan → List ℕ → Option (List ℕ) → Option (List ℕ) → Option (List ℕ) → Type 0
 IsBrokenFrom start plan file left old new = IsBrokenBehind start plan file left old new ⊎ IsBrokenAtEnd start plan file old new
 
--- a write failed: of the line of the fields' names, where there is one, before anything was taken of the file, or behind it
+-- where the frames are read once, a write failed: of the line of the fields' names, where there is one, before anything was taken of
+-- the file, or behind it
 abbrev pub IsBrokenOf : Plan → List ℕ → Option (List ℕ) → Option (List ℕ) → Option (List ℕ) → Type 0
 IsBrokenOf plan file left old new =
-    ((0 < length (opening plan)) × (left ≡ Some file) × AppendsPart old new (opening plan)) ⊎ IsBrokenFrom (opening plan) plan file left old new
+    IfOnce (two_of plan)
+    (((0 < length (opening plan)) × (left ≡ Some file) × AppendsPart old new (opening plan))
+    ⊎ IsBrokenFrom (opening plan) plan file left old new)
 
 -- the same where a file is read; nothing is taken of one for a generated capture
 abbrev pub IsBroken : Plan → List ℕ → Option (List ℕ) → Option (List ℕ) → Option (List ℕ) → Type 0

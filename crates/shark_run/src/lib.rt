@@ -5,6 +5,7 @@
 mod fault_text;
 mod file;
 mod generated;
+mod later;
 mod laws;
 mod lines;
 mod notes;
@@ -22,6 +23,7 @@ mod tables;
 mod text;
 mod top;
 mod totals;
+mod two_passes;
 mod wanted;
 mod words;
 

@@ -1,9 +1,10 @@
 // What is noted of frames beside their lines.
 ghost use Rattle.std.specs.Prelude.{◌≡◌, ◌^◌, ℕ, suc, List, [], OnOk};
 ghost use Rattle.pk_tree.specs.Trees.{TreeShown};
+ghost use Rattle.shark_run.specs.Job.{Passes, job_in};
 ghost use Rattle.shark_run.specs.Notes.{AreFewNotes, AreNotes};
 ghost use Rattle.shark_run.specs.Tables.{AreTables, trees_with};
-ghost use Rattle.shark_run.specs.Totals.{AreFew, counts_of, counts_with};
+ghost use Rattle.shark_run.specs.Totals.{AreFew, counts_with, nothing_counted};
 ghost use Rattle.shark_run.specs.Trees.{lets};
 
 use crate::plan::Plan;
@@ -22,8 +23,8 @@ pub(crate) struct Notes {
 
 impl Notes {
     pub(crate) fn new(alloc: Global, plan: &Plan) -> Notes
-        ensures totals { result.totals ≡ counts_of plan.now [] }
-        ensures notes { AreNotes plan.now [] result }
+        ensures totals { result.totals ≡ nothing_counted }
+        ensures notes { (passes : Passes) → AreNotes (job_in plan.now passes) [] result }
     {
         Notes {
             totals: Totals::none(),

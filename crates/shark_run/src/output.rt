@@ -13,7 +13,9 @@ ghost use Rattle.cap_stats.specs.declared.kind.StatKind.{StatKind as KindValue};
 ghost use Rattle.capture_read.specs.FrameList.{IsTime};
 ghost use Rattle.pk_tree.specs.Trees.{TreeShown};
 ghost use Rattle.shark_run.specs.declared.totals.Totals.{Totals as TotalsValue};
-ghost use Rattle.shark_run.specs.Accessors.{is_generated, is_quiet, rules_of, written_of};
+ghost use Rattle.shark_run.specs.Accessors.{is_generated, is_quiet, rules_of, two_of, written_of};
+ghost use Rattle.shark_run.specs.Job.{IfOnce, Passes, job_in, once};
+ghost use Rattle.shark_run.specs.Later.{Serves};
 ghost use Rattle.shark_run.specs.Ended.{CanClose, HasRead};
 ghost use Rattle.shark_run.specs.Steps.{IsAfterFrame, IsPacked, KeepsUp, fit_packet, fit_piece};
 ghost use Rattle.shark_run.specs.Lines.{closing, line_of, opening, shown};
@@ -21,12 +23,13 @@ ghost use Rattle.shark_run.specs.Reading.{frames_read};
 ghost use Rattle.shark_run.specs.Reports.{HasTaken};
 ghost use Rattle.shark_run.specs.Notes.{AreFewNotes, AreNotes};
 ghost use Rattle.shark_run.specs.Tables.{AreTables, asks_table, asks_tables, trees_with};
-ghost use Rattle.shark_run.specs.Totals.{counts_of, counts_with};
+ghost use Rattle.shark_run.specs.Totals.{counts_with, nothing_counted};
 ghost use Rattle.shark_run.specs.Trees.{lets, lets_frame, tree_of};
-ghost use Rattle.shark_run.specs.Wanted.{IsEnough, IsNotedAs};
+ghost use Rattle.shark_run.specs.Wanted.{IsEnough, IsToldAs};
 ghost use Rattle.shark_run.specs.Way.{IsBrokenBehind, IsBrokenFrom, IsBrokenOf, IsFullNearOf, WroteTaken, WroteTakenBehind};
 ghost use Rattle.shark_run.specs.Wrote.{WroteAll, WroteBody, WrotePart, WrotePieces, WroteSomeBody, WroteSomePieces};
 
+use crate::later::{Later, add_links};
 use crate::lines::satisfies;
 use crate::notes::Notes;
 use crate::packet::{write_end, write_packet};
@@ -35,6 +38,7 @@ use crate::reports::write_reports;
 use crate::run_ending::RunEnding;
 use crate::self_run::write_counts;
 use crate::tables::has_tables;
+use crate::two_passes::write_twice;
 use crate::wanted::needed_fields;
 use capture_read::{Ending, Frame, FrameReader, NextFrame, ReadError};
 use capture_write::{Format, Writer};
@@ -59,7 +63,11 @@ pub(crate) enum RunFault {
 }
 
 // A dissector for trees of some fields, by the rules that are asked for.
-fn new_dissector(alloc: Global, plan: &Plan, wanted: FieldSet) -> Result<Dissector, NoMemory>
+pub(crate) fn new_dissector(
+    alloc: Global,
+    plan: &Plan,
+    wanted: FieldSet,
+) -> Result<Dissector, NoMemory>
     ensures stands { IfOk result (λ dissector. StandsWithin [] dissector) }
     ensures wanted { IfOk result (λ dissector. dissector.wanted ≡ wanted) }
     ensures rules { IfOk result (λ dissector. dissector.decode.rules ≡ rules_of plan.now) }
@@ -72,20 +80,20 @@ fn new_dissector(alloc: Global, plan: &Plan, wanted: FieldSet) -> Result<Dissect
 
 // A line, with what writes it, what was noted so far, and what writes a capture.
 #[derive(Drop)]
-struct LineMaker {
-    writer: LineWriter,
+pub(crate) struct LineMaker {
+    pub(crate) writer: LineWriter,
     json: JsonWriter,
     line: Vec<u8>,
-    notes: Notes,
-    capture: Writer,
+    pub(crate) notes: Notes,
+    pub(crate) capture: Writer,
 }
 
 #[tactic(auto, using(crate::proofs::ClosingLemmas::keeps_nothing))]
-fn new_line_maker(alloc: Global, plan: &Plan) -> Result<LineMaker, NoMemory>
+pub(crate) fn new_line_maker(alloc: Global, plan: &Plan) -> Result<LineMaker, NoMemory>
     ensures writer { IfOk result (λ lines. lines.writer ≡ plan.now.fields) }
-    ensures totals { IfOk result (λ lines. lines.notes.totals ≡ counts_of plan.now []) }
-    ensures keeps { IfOk result (λ lines.
-        KeepsUp (written_of plan.now) plan.now [] lines.notes lines.capture) }
+    ensures totals { IfOk result (λ lines. lines.notes.totals ≡ nothing_counted) }
+    ensures keeps { IfOk result (λ lines. (passes : Passes)
+        → KeepsUp (written_of plan.now) (job_in plan.now passes) [] lines.notes lines.capture) }
 {
     Ok(LineMaker {
         writer: LineWriter::new(alloc, plan.fields.slice())?,
@@ -191,23 +199,21 @@ fn write_tree<O: Sink>(
     }
 }
 
-// Takes a frame, of which only the fields are read that the lines are made from.
-#[tactic(auto, using(crate::proofs::WantedLemmas::enough_shown, crate::proofs::WantedLemmas::enough_counted))]
-fn take_frame(plan: &Plan, frame: &Frame, dissector: &mut Dissector) -> Result<Tree, TakeFault>
+// Takes a frame, of which only the fields are read that the output is made from, and adds its links to later frames.
+fn take_frame(
+    plan: &Plan,
+    frame: &Frame,
+    later: &Later,
+    dissector: &mut Dissector,
+) -> Result<Tree, TakeFault>
     requires enough { IsEnough dissector.old.wanted plan.now }
     requires rules { dissector.old.decode.rules ≡ rules_of plan.now }
-    requires lines { written_of plan.now ≡ None }
     requires number { frame.now.number ≡ dissector.old.taken + 1 }
     requires time { IfSome frame.now.time IsTime }
     requires captured { dissector.old.captured + length frame.now.bytes ≤ 2 ^ 28 }
-    ensures line { IfOk result (λ tree. (past : List FrameValue) → StandsWithin past dissector.old
-        → shown plan.now tree ≡ shown plan.now (tree_of plan.now past frame.now)) }
-    ensures counts { IfOk result (λ tree. (past : List FrameValue) → StandsWithin past dissector.old
-        → (totals : TotalsValue)
-        → counts_with plan.now tree totals ≡ counts_with plan.now (tree_of plan.now past frame.now) totals) }
-    ensures noted { IfOk result (λ tree. (past : List FrameValue) → StandsWithin past dissector.old
-        → (kind : KindValue) → asks_table plan.now kind ≡ true
-        → IsNotedAs plan.now kind (tree_of plan.now past frame.now) tree) }
+    ensures told { IfOk result (λ tree. (passes : Passes) (past : List FrameValue)
+        → Serves (two_of plan.now) passes later.now → StandsWithin past dissector.old
+        → IsToldAs plan.now (tree_of (job_in plan.now passes) past frame.now) tree) }
     ensures stands { OnOk result ((past : List FrameValue) → StandsWithin past dissector.old
         → StandsWithin (frame.now ∷ past) dissector.new) }
     ensures kept { dissector.new.wanted ≡ dissector.old.wanted }
@@ -216,7 +222,14 @@ fn take_frame(plan: &Plan, frame: &Frame, dissector: &mut Dissector) -> Result<T
     ensures captured { OnOk result (dissector.new.captured
         ≡ dissector.old.captured + length frame.now.bytes) }
 {
-    dissector.take_wanted(frame)
+    let mut tree = match dissector.take_wanted(frame) {
+        Ok(tree) => tree,
+        Err(fault) => return Err(fault),
+    };
+    match add_links(later, frame.number, &mut tree) {
+        Ok(()) => Ok(tree),
+        Err(NoMemory) => Err(TakeFault::NoMemory),
+    }
 }
 
 // Takes a frame, notes it, and writes its line where the filter lets it through.
@@ -224,6 +237,7 @@ fn write_shown<O: Sink>(
     alloc: Global,
     plan: &Plan,
     frame: &Frame,
+    later: &Later,
     dissector: &mut Dissector,
     lines: &mut LineMaker,
     out: &mut O,
@@ -243,15 +257,18 @@ fn write_shown<O: Sink>(
     ensures taken { OnOk result (dissector.new.taken ≡ dissector.old.taken + 1) }
     ensures captured { OnOk result (dissector.new.captured
         ≡ dissector.old.captured + length frame.now.bytes) }
-    ensures whole { OnOk result ((past : List FrameValue) → StandsWithin past dissector.old
+    ensures whole { OnOk result ((passes : Passes) (past : List FrameValue)
+        → Serves (two_of plan.now) passes later.now → StandsWithin past dissector.old
         → Appends (O.written out.old) (O.written out.new)
-        (shown plan.now (tree_of plan.now past frame.now))) }
-    ensures part { (past : List FrameValue) → StandsWithin past dissector.old
+        (shown plan.now (tree_of (job_in plan.now passes) past frame.now))) }
+    ensures part { (passes : Passes) (past : List FrameValue)
+        → Serves (two_of plan.now) passes later.now → StandsWithin past dissector.old
         → AppendsPart (O.written out.old) (O.written out.new)
-        (shown plan.now (tree_of plan.now past frame.now)) }
-    ensures notes { OnOk result ((past : List FrameValue) → StandsWithin past dissector.old
-        → AreNotes plan.now past lines.old.notes
-        → AreNotes plan.now (frame.now ∷ past) lines.new.notes) }
+        (shown plan.now (tree_of (job_in plan.now passes) past frame.now)) }
+    ensures notes { OnOk result ((passes : Passes) (past : List FrameValue)
+        → Serves (two_of plan.now) passes later.now → StandsWithin past dissector.old
+        → AreNotes (job_in plan.now passes) past lines.old.notes
+        → AreNotes (job_in plan.now passes) (frame.now ∷ past) lines.new.notes) }
     ensures few { (most : ℕ) → AreFewNotes most lines.old.notes → AreFewNotes (suc most) lines.new.notes }
     ensures writer { lines.new.writer ≡ lines.old.writer }
     ensures read { IsErrOf result RunFault.ReadFault → ⊥ }
@@ -259,7 +276,7 @@ fn write_shown<O: Sink>(
         → Rose (O.faults out.old) (O.faults out.new) }
     ensures faults_stay { O.faults out.old ≤ O.faults out.new }
 {
-    let tree = match take_frame(plan, frame, dissector) {
+    let tree = match take_frame(plan, frame, later, dissector) {
         Ok(tree) => tree,
         // The first error ends the run, so that this one is never `Spent`.
         Err(TakeFault::NoMemory | TakeFault::Spent) => return Err(RunFault::NoMemory),
@@ -271,34 +288,13 @@ fn write_shown<O: Sink>(
     }
 }
 
-// Takes a frame, of which only the fields of the filter are read.
-#[tactic(auto, using(crate::proofs::WantedLemmas::enough_truth))]
-fn take_chosen(plan: &Plan, frame: &Frame, dissector: &mut Dissector) -> Result<Tree, TakeFault>
-    requires enough { IsEnough dissector.old.wanted plan.now }
-    requires rules { dissector.old.decode.rules ≡ rules_of plan.now }
-    requires written { IsSome (written_of plan.now) }
-    requires number { frame.now.number ≡ dissector.old.taken + 1 }
-    requires time { IfSome frame.now.time IsTime }
-    requires captured { dissector.old.captured + length frame.now.bytes ≤ 2 ^ 28 }
-    ensures truth { IfOk result (λ tree. (past : List FrameValue) → StandsWithin past dissector.old
-        → lets plan.now tree ≡ lets_frame plan.now past frame.now) }
-    ensures stands { OnOk result ((past : List FrameValue) → StandsWithin past dissector.old
-        → StandsWithin (frame.now ∷ past) dissector.new) }
-    ensures kept { dissector.new.wanted ≡ dissector.old.wanted }
-    ensures rules { dissector.new.decode ≡ dissector.old.decode }
-    ensures taken { OnOk result (dissector.new.taken ≡ dissector.old.taken + 1) }
-    ensures captured { OnOk result (dissector.new.captured
-        ≡ dissector.old.captured + length frame.now.bytes) }
-{
-    dissector.take_wanted(frame)
-}
-
 // Takes a frame and writes it to the capture where the filter lets it through, and answers whether it fits.
 #[tactic(auto, using(crate::proofs::PacketLemmas::packed_truly, crate::proofs::PacketLemmas::part_truly, crate::proofs::PacketLemmas::packed_none))]
 fn write_chosen<O: Sink>(
     alloc: Global,
     plan: &Plan,
     frame: &Frame,
+    later: &Later,
     dissector: &mut Dissector,
     writer: &mut Writer,
     out: &mut O,
@@ -316,18 +312,22 @@ fn write_chosen<O: Sink>(
     ensures taken { OnOk result (dissector.new.taken ≡ dissector.old.taken + 1) }
     ensures captured { OnOk result (dissector.new.captured
         ≡ dissector.old.captured + length frame.now.bytes) }
-    ensures packed { IfOk result (λ fit. (past chosen : List FrameValue) → StandsWithin past dissector.old
-        → Written writer.old chosen → IsPacked fit (lets_frame plan.now past frame.now)
+    ensures packed { IfOk result (λ fit. (passes : Passes) (past chosen : List FrameValue)
+        → Serves (two_of plan.now) passes later.now → StandsWithin past dissector.old
+        → Written writer.old chosen
+        → IsPacked fit (lets_frame (job_in plan.now passes) past frame.now)
         writer.old.format frame.now writer.new chosen (O.written out.old) (O.written out.new)) }
-    ensures part { (past chosen : List FrameValue) → StandsWithin past dissector.old → Written writer.old chosen
-        → AppendsPart (O.written out.old) (O.written out.new)
-        (fit_packet (lets_frame plan.now past frame.now) writer.old.format chosen frame.now) }
+    ensures part { (passes : Passes) (past chosen : List FrameValue)
+        → Serves (two_of plan.now) passes later.now → StandsWithin past dissector.old
+        → Written writer.old chosen → AppendsPart (O.written out.old) (O.written out.new)
+        (fit_packet (lets_frame (job_in plan.now passes) past frame.now)
+        writer.old.format chosen frame.now) }
     ensures read { IsErrOf result RunFault.ReadFault → ⊥ }
     ensures fault { IsErrOf result RunFault.WriteFault
         → Rose (O.faults out.old) (O.faults out.new) }
     ensures faults_stay { O.faults out.old ≤ O.faults out.new }
 {
-    let tree = match take_chosen(plan, frame, dissector) {
+    let tree = match take_frame(plan, frame, later, dissector) {
         Ok(tree) => tree,
         // The first error ends the run, so that this one is never `Spent`.
         Err(TakeFault::NoMemory | TakeFault::Spent) => return Err(RunFault::NoMemory),
@@ -341,10 +341,11 @@ fn write_chosen<O: Sink>(
 
 // Takes a frame and writes what is asked for of it, and answers whether it fits.
 #[tactic(auto, using(crate::proofs::PacketLemmas::frame_packed, crate::proofs::PacketLemmas::part_packed, crate::proofs::PacketLemmas::frame_shown, crate::proofs::PacketLemmas::part_shown, crate::proofs::TotalsLemmas::few_suc))]
-fn write_frame<O: Sink>(
+pub(crate) fn write_frame<O: Sink>(
     alloc: Global,
     plan: &Plan,
     frame: &Frame,
+    later: &Later,
     dissector: &mut Dissector,
     lines: &mut LineMaker,
     out: &mut O,
@@ -363,13 +364,16 @@ fn write_frame<O: Sink>(
     ensures taken { OnOk result (dissector.new.taken ≡ dissector.old.taken + 1) }
     ensures captured { OnOk result (dissector.new.captured
         ≡ dissector.old.captured + length frame.now.bytes) }
-    ensures after { IfOk result (λ fit. (past : List FrameValue) → StandsWithin past dissector.old
-        → KeepsUp (written_of plan.now) plan.now past lines.old.notes lines.old.capture
-        → IsAfterFrame fit plan.now past frame.now lines.new.notes lines.new.capture
+    ensures after { IfOk result (λ fit. (passes : Passes) (past : List FrameValue)
+        → Serves (two_of plan.now) passes later.now → StandsWithin past dissector.old
+        → KeepsUp (written_of plan.now) (job_in plan.now passes) past lines.old.notes lines.old.capture
+        → IsAfterFrame fit (job_in plan.now passes) past frame.now lines.new.notes lines.new.capture
         (O.written out.old) (O.written out.new)) }
-    ensures part { (past : List FrameValue) → StandsWithin past dissector.old
-        → KeepsUp (written_of plan.now) plan.now past lines.old.notes lines.old.capture
-        → AppendsPart (O.written out.old) (O.written out.new) (fit_piece plan.now past frame.now) }
+    ensures part { (passes : Passes) (past : List FrameValue)
+        → Serves (two_of plan.now) passes later.now → StandsWithin past dissector.old
+        → KeepsUp (written_of plan.now) (job_in plan.now passes) past lines.old.notes lines.old.capture
+        → AppendsPart (O.written out.old) (O.written out.new)
+        (fit_piece (job_in plan.now passes) past frame.now) }
     ensures few { (most : ℕ) → AreFewNotes most lines.old.notes → AreFewNotes (suc most) lines.new.notes }
     ensures writer { lines.new.writer ≡ lines.old.writer }
     ensures read { IsErrOf result RunFault.ReadFault → ⊥ }
@@ -379,12 +383,20 @@ fn write_frame<O: Sink>(
 {
     match plan.written {
         Some(_) => {
-            match write_chosen(alloc, plan, frame, dissector, &mut lines.capture, out) {
+            match write_chosen(
+                alloc,
+                plan,
+                frame,
+                later,
+                dissector,
+                &mut lines.capture,
+                out,
+            ) {
                 Ok(fit) => Ok(fit),
                 Err(fault) => Err(fault),
             }
         }
-        None => match write_shown(alloc, plan, frame, dissector, lines, out) {
+        None => match write_shown(alloc, plan, frame, later, dissector, lines, out) {
             Ok(()) => Ok(true),
             Err(fault) => Err(fault),
         },
@@ -392,7 +404,7 @@ fn write_frame<O: Sink>(
 }
 
 // Whether no frame more is asked for.
-fn is_full(most: Option<u32>) -> bool
+pub(crate) fn is_full(most: Option<u32>) -> bool
     ensures full { result ≡ true → most ≡ Some 0 }
     ensures more { result ≡ false → most ≢ Some 0 }
 {
@@ -400,7 +412,7 @@ fn is_full(most: Option<u32>) -> bool
 }
 
 // One frame less.
-fn one_less(most: Option<u32>) -> Option<u32>
+pub(crate) fn one_less(most: Option<u32>) -> Option<u32>
     requires { most ≢ Some 0 }
     ensures { result ≡ option_map (λ n. n - 1) most }
 {
@@ -424,8 +436,9 @@ fn write_rest<C: Capture, O: Sink>(
     requires enough { IsEnough dissector.old.wanted plan.now }
     requires rules { dissector.old.decode.rules ≡ rules_of plan.now }
     requires lines { lines.old.writer ≡ plan.now.fields }
-    requires totals { lines.old.notes.totals ≡ counts_of plan.now [] }
-    requires keeps { KeepsUp (written_of plan.now) plan.now [] lines.old.notes lines.old.capture }
+    requires alone { two_of plan.now ≡ false }
+    requires totals { lines.old.notes.totals ≡ nothing_counted }
+    requires keeps { KeepsUp (written_of plan.now) (once plan.now) [] lines.old.notes lines.old.capture }
     requires reads { (left : List ℕ) → StandsFor reader.old (Some left) left [] }
     requires number { reader.old.state.number ≡ 1 }
     requires at { reader.old.state.at ≡ 0 }
@@ -473,7 +486,7 @@ fn write_rest<C: Capture, O: Sink>(
             // The first error ends the run, so that this one is never `Spent`.
             Err(ReadError::NoMemory | ReadError::Spent) => return Err(RunFault::NoMemory),
         };
-        match write_frame(alloc, plan, &frame, dissector, lines, out) {
+        match write_frame(alloc, plan, &frame, &Later::Unread, dissector, lines, out) {
             Ok(true) => {}
             Ok(false) => return Ok(RunEnding::Unfit(frame.number)),
             Err(fault) => return Err(fault),
@@ -494,12 +507,14 @@ fn write_behind_lines<O: Sink>(
     requires enough { IsEnough dissector.now.wanted plan.now }
     requires taken { HasTaken dissector.now }
     requires lines { written_of plan.now ≡ None }
-    ensures whole { OnOk result ((past : List FrameValue) → StandsWithin past dissector.now
-        → AreNotes plan.now past notes.now
-        → Appends (O.written out.old) (O.written out.new) (closing plan.now past)) }
-    ensures part { (past : List FrameValue) → StandsWithin past dissector.now
-        → AreNotes plan.now past notes.now
-        → AppendsPart (O.written out.old) (O.written out.new) (closing plan.now past) }
+    ensures whole { OnOk result ((passes : Passes) (past : List FrameValue)
+        → StandsWithin past dissector.now → AreNotes (job_in plan.now passes) past notes.now
+        → Appends (O.written out.old) (O.written out.new)
+        (closing (job_in plan.now passes) past)) }
+    ensures part { (passes : Passes) (past : List FrameValue)
+        → StandsWithin past dissector.now → AreNotes (job_in plan.now passes) past notes.now
+        → AppendsPart (O.written out.old) (O.written out.new)
+        (closing (job_in plan.now passes) past) }
     ensures fault { IsErrOf result SinkFault.Failed → Rose (O.faults out.old) (O.faults out.new) }
     ensures faults_stay { O.faults out.old ≤ O.faults out.new }
 {
@@ -515,7 +530,7 @@ fn write_behind_lines<O: Sink>(
 
 // Writes what stands behind the lines of the frames, or at the end of the capture.
 #[tactic(auto, using(crate::proofs::ClosingLemmas::closed_line, crate::proofs::ClosingLemmas::closed_line_part, crate::proofs::ClosingLemmas::closed_capture, crate::proofs::ClosingLemmas::closed_capture_part))]
-fn write_closing<O: Sink>(
+pub(crate) fn write_closing<O: Sink>(
     alloc: Global,
     plan: &Plan,
     dissector: &Dissector,
@@ -524,12 +539,16 @@ fn write_closing<O: Sink>(
 ) -> Result<(), SinkFault>
     requires enough { IsEnough dissector.now.wanted plan.now }
     requires taken { HasTaken dissector.now }
-    ensures whole { OnOk result ((past : List FrameValue)
-        → CanClose (written_of plan.now) plan.now past dissector.now lines.old.notes lines.old.capture
-        → Appends (O.written out.old) (O.written out.new) (closing plan.now past)) }
-    ensures part { (past : List FrameValue)
-        → CanClose (written_of plan.now) plan.now past dissector.now lines.old.notes lines.old.capture
-        → AppendsPart (O.written out.old) (O.written out.new) (closing plan.now past) }
+    ensures whole { OnOk result ((passes : Passes) (past : List FrameValue)
+        → CanClose (written_of plan.now) (job_in plan.now passes) past
+        dissector.now lines.old.notes lines.old.capture
+        → Appends (O.written out.old) (O.written out.new)
+        (closing (job_in plan.now passes) past)) }
+    ensures part { (passes : Passes) (past : List FrameValue)
+        → CanClose (written_of plan.now) (job_in plan.now passes) past
+        dissector.now lines.old.notes lines.old.capture
+        → AppendsPart (O.written out.old) (O.written out.new)
+        (closing (job_in plan.now passes) past) }
     ensures fault { IsErrOf result SinkFault.Failed → Rose (O.faults out.old) (O.faults out.new) }
     ensures faults_stay { O.faults out.old ≤ O.faults out.new }
 {
@@ -561,8 +580,9 @@ fn write_body<C: Capture, O: Sink>(
     requires enough { IsEnough dissector.old.wanted plan.now }
     requires rules { dissector.old.decode.rules ≡ rules_of plan.now }
     requires lines { lines.old.writer ≡ plan.now.fields }
-    requires totals { lines.old.notes.totals ≡ counts_of plan.now [] }
-    requires keeps { KeepsUp (written_of plan.now) plan.now [] lines.old.notes lines.old.capture }
+    requires alone { two_of plan.now ≡ false }
+    requires totals { lines.old.notes.totals ≡ nothing_counted }
+    requires keeps { KeepsUp (written_of plan.now) (once plan.now) [] lines.old.notes lines.old.capture }
     requires reads { (left : List ℕ) → StandsFor reader.old (Some left) left [] }
     requires number { reader.old.state.number ≡ 1 }
     requires at { reader.old.state.at ≡ 0 }
@@ -601,14 +621,15 @@ fn write_body<C: Capture, O: Sink>(
     }
 }
 
-// Reads the begun file and writes what stands behind the opening, and answers how the reading ends.
+// Reads the begun file once and writes what stands behind the opening, and answers how the reading ends.
 #[tactic(auto, using(crate::proofs::ClosingLemmas::none_body))]
-fn write_frames<C: Capture, O: Sink>(
+fn write_once<C: Capture, O: Sink>(
     alloc: Global,
     plan: &Plan,
     capture: &mut C,
     out: &mut O,
 ) -> Result<RunEnding, RunFault>
+    requires { two_of plan.now ≡ false }
     ensures ended { IfOk result (λ ending. IfSome (C.left capture.old) (λ file.
         WroteBody plan.now (frames_read plan.now file) (O.written out.old) (O.written out.new)
         × (ending ≡ (frames_read plan.now file).ending))) }
@@ -647,6 +668,47 @@ fn write_frames<C: Capture, O: Sink>(
         capture,
         out,
     )
+}
+
+// Reads the begun file and writes what stands behind the opening, and answers how the reading ends.
+fn write_frames<C: Capture, O: Sink>(
+    alloc: Global,
+    plan: &Plan,
+    capture: &mut C,
+    out: &mut O,
+) -> Result<RunEnding, RunFault>
+    ensures ended { IfOk result (λ ending. IfSome (C.left capture.old) (λ file.
+        WroteBody plan.now (frames_read plan.now file) (O.written out.old) (O.written out.new)
+        × (ending ≡ (frames_read plan.now file).ending))) }
+    ensures full { OnOk result (IfSome (C.left capture.old) (λ file.
+        IsFullNearOf plan.now file (C.left capture.new))) }
+    ensures part { IfSome (C.left capture.old) (λ file.
+        WroteSomeBody plan.now (frames_read plan.now file) (O.written out.old) (O.written out.new)) }
+    ensures so_far { IsErrOf result RunFault.ReadFault → IfSome (C.left capture.old) (λ file.
+        WroteTakenBehind [] plan.now file (C.left capture.new) (O.written out.old) (O.written out.new)) }
+    ensures near { IsErrOf result RunFault.WriteFault → IfSome (C.left capture.old) (λ file.
+        IfOnce (two_of plan.now)
+        (IsBrokenFrom [] plan.now file (C.left capture.new) (O.written out.old) (O.written out.new))) }
+    ensures took { TookAtMost (suc limit_of_file) (C.left capture.old) (C.left capture.new) }
+    ensures read_fault { IsErrOf result RunFault.ReadFault
+        → Rose (C.faults capture.old) (C.faults capture.new) }
+    ensures write_fault { IsErrOf result RunFault.WriteFault
+        → Rose (O.faults out.old) (O.faults out.new) }
+    ensures asked { C.asked capture.new ≡ C.asked capture.old }
+    ensures begun { C.begun capture.new ≡ C.begun capture.old }
+    ensures missed { C.missed capture.new ≡ C.missed capture.old }
+{
+    if plan.two {
+        match write_twice(alloc, plan, capture, out) {
+            Ok(ending) => Ok(ending),
+            Err(fault) => Err(fault),
+        }
+    } else {
+        match write_once(alloc, plan, capture, out) {
+            Ok(ending) => Ok(ending),
+            Err(fault) => Err(fault),
+        }
+    }
 }
 
 // What stands before the lines of the frames.

@@ -47,6 +47,8 @@ pub struct Plan {
     pub source: PlanSource,
     /// What a frame's tree has to satisfy, where there is a filter.
     pub filter: Option<Filter>,
+    /// Whether the frames are read twice, so that trees also show what later frames bring.
+    pub two: bool,
     /// The columns, in order.
     pub fields: FieldList,
     /// How many frames are read at most, where there is a limit.

@@ -10,6 +10,7 @@ ghost use Rattle.pk_outside.specs.Outside.{AppendsPart, Rose};
 ghost use Rattle.tcp_streams.specs.Standing.{StandsFor, taken_so_far};
 ghost use Rattle.tcp_streams.specs.declared.segment.Segment.{Segment as SegmentValue};
 ghost use Rattle.shark_run.specs.Accessors.{reports_of};
+ghost use Rattle.shark_run.specs.Job.{Passes, job_in};
 ghost use Rattle.shark_run.specs.Notes.{AreNotes};
 ghost use Rattle.shark_run.specs.Reports.{HasTaken, IsAsked, fronts_in, report_text, reports_text};
 
@@ -94,8 +95,9 @@ fn report(
     requires streams { asks_streams dissector.now.wanted ≡ true }
     requires taken { HasTaken dissector.now }
     requires there { IsAsked plan.now asked }
-    ensures { IfOk result (λ text. (past : List FrameValue) → StandsWithin past dissector.now
-        → AreNotes plan.now past notes.now → text.items ≡ report_text plan.now past asked) }
+    ensures { IfOk result (λ text. (passes : Passes) (past : List FrameValue)
+        → StandsWithin past dissector.now → AreNotes (job_in plan.now passes) past notes.now
+        → text.items ≡ report_text (job_in plan.now passes) past asked) }
 {
     match asked {
         Report::Follow(stream) => match followed(alloc, dissector.streams(), stream) {
@@ -121,12 +123,14 @@ fn write_report<O: Sink>(
     requires streams { asks_streams dissector.now.wanted ≡ true }
     requires taken { HasTaken dissector.now }
     requires there { IsAsked plan.now asked }
-    ensures whole { OnOk result ((past : List FrameValue) → StandsWithin past dissector.now
-        → AreNotes plan.now past notes.now
-        → Appends (O.written out.old) (O.written out.new) (report_text plan.now past asked)) }
-    ensures part { (past : List FrameValue) → StandsWithin past dissector.now
-        → AreNotes plan.now past notes.now
-        → AppendsPart (O.written out.old) (O.written out.new) (report_text plan.now past asked) }
+    ensures whole { OnOk result ((passes : Passes) (past : List FrameValue)
+        → StandsWithin past dissector.now → AreNotes (job_in plan.now passes) past notes.now
+        → Appends (O.written out.old) (O.written out.new)
+        (report_text (job_in plan.now passes) past asked)) }
+    ensures part { (passes : Passes) (past : List FrameValue)
+        → StandsWithin past dissector.now → AreNotes (job_in plan.now passes) past notes.now
+        → AppendsPart (O.written out.old) (O.written out.new)
+        (report_text (job_in plan.now passes) past asked) }
     ensures fault { IsErrOf result SinkFault.Failed → Rose (O.faults out.old) (O.faults out.new) }
     ensures faults_stay { O.faults out.old ≤ O.faults out.new }
 {
@@ -152,14 +156,14 @@ pub(crate) fn write_reports<O: Sink>(
     requires streams { 0 < length reports.now → asks_streams dissector.now.wanted ≡ true }
     requires taken { HasTaken dissector.now }
     requires there { reports.now ≡ reports_of plan.now }
-    ensures whole { OnOk result ((past : List FrameValue) → StandsWithin past dissector.now
-        → AreNotes plan.now past notes.now
+    ensures whole { OnOk result ((passes : Passes) (past : List FrameValue)
+        → StandsWithin past dissector.now → AreNotes (job_in plan.now passes) past notes.now
         → Appends (O.written out.old) (O.written out.new)
-        (reports_text plan.now past reports.now)) }
-    ensures part { (past : List FrameValue) → StandsWithin past dissector.now
-        → AreNotes plan.now past notes.now
+        (reports_text (job_in plan.now passes) past reports.now)) }
+    ensures part { (passes : Passes) (past : List FrameValue)
+        → StandsWithin past dissector.now → AreNotes (job_in plan.now passes) past notes.now
         → AppendsPart (O.written out.old) (O.written out.new)
-        (reports_text plan.now past reports.now) }
+        (reports_text (job_in plan.now passes) past reports.now) }
     ensures fault { IsErrOf result SinkFault.Failed → Rose (O.faults out.old) (O.faults out.new) }
     ensures faults_stay { O.faults out.old ≤ O.faults out.new }
 {

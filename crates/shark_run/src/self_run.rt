@@ -4,8 +4,8 @@ ghost use Rattle.std.specs.Io.KnownBytes.{Appends};
 ghost use Rattle.capture_read.specs.declared.frame.Frame.{Frame as FrameValue};
 ghost use Rattle.dissect.specs.Followed.{asks_streams};
 ghost use Rattle.dissect.specs.Stands.{StandsWithin};
-ghost use Rattle.shark_run.specs.declared.plan.Plan.{Plan as PlanValue};
 ghost use Rattle.pk_outside.specs.Outside.{AppendsPart, Rose};
+ghost use Rattle.shark_run.specs.Job.{Job, Passes, job_in};
 ghost use Rattle.shark_run.specs.Lines.{counted_line as line_counted};
 ghost use Rattle.shark_run.specs.Notes.{AreNotes};
 ghost use Rattle.shark_run.specs.SelfRun.{counts_text, self_run_line as line_of_frames};
@@ -39,9 +39,9 @@ fn counts_line(alloc: Global, totals: Totals, tcp: u32, udp: u32) -> Result<Stri
 // The line over all frames that a dissector has taken, of which these are the totals.
 fn self_run_line(alloc: Global, dissector: &Dissector, totals: Totals) -> Result<String, NoMemory>
     requires { asks_streams dissector.now.wanted ≡ true }
-    ensures { IfOk result (λ line. (plan : PlanValue) (past : List FrameValue)
-        → StandsWithin past dissector.now → totals ≡ totals_of plan past
-        → string_bytes line ≡ line_of_frames plan past) }
+    ensures { IfOk result (λ line. (job : Job) (past : List FrameValue)
+        → StandsWithin past dissector.now → totals ≡ totals_of job past
+        → string_bytes line ≡ line_of_frames job past) }
 {
     let tcp = dissector.streams().count();
     let udp = dissector.udp_count();
@@ -60,8 +60,9 @@ fn counted_line(
     notes: &Notes,
 ) -> Result<String, NoMemory>
     requires { IsEnough dissector.now.wanted plan.now }
-    ensures { IfOk result (λ line. (past : List FrameValue) → StandsWithin past dissector.now
-        → AreNotes plan.now past notes.now → string_bytes line ≡ line_counted plan.now past) }
+    ensures { IfOk result (λ line. (passes : Passes) (past : List FrameValue)
+        → StandsWithin past dissector.now → AreNotes (job_in plan.now passes) past notes.now
+        → string_bytes line ≡ line_counted (job_in plan.now passes) past) }
 {
     if plan.source.is_generated() {
         match self_run_line(alloc, dissector, notes.totals) {
@@ -82,12 +83,14 @@ pub(crate) fn write_counts<O: Sink>(
     out: &mut O,
 ) -> Result<(), SinkFault>
     requires { IsEnough dissector.now.wanted plan.now }
-    ensures whole { OnOk result ((past : List FrameValue) → StandsWithin past dissector.now
-        → AreNotes plan.now past notes.now
-        → Appends (O.written out.old) (O.written out.new) (line_counted plan.now past)) }
-    ensures part { (past : List FrameValue) → StandsWithin past dissector.now
-        → AreNotes plan.now past notes.now
-        → AppendsPart (O.written out.old) (O.written out.new) (line_counted plan.now past) }
+    ensures whole { OnOk result ((passes : Passes) (past : List FrameValue)
+        → StandsWithin past dissector.now → AreNotes (job_in plan.now passes) past notes.now
+        → Appends (O.written out.old) (O.written out.new)
+        (line_counted (job_in plan.now passes) past)) }
+    ensures part { (passes : Passes) (past : List FrameValue)
+        → StandsWithin past dissector.now → AreNotes (job_in plan.now passes) past notes.now
+        → AppendsPart (O.written out.old) (O.written out.new)
+        (line_counted (job_in plan.now passes) past) }
     ensures fault { IsErrOf result SinkFault.Failed → Rose (O.faults out.old) (O.faults out.new) }
     ensures faults_stay { O.faults out.old ≤ O.faults out.new }
 {

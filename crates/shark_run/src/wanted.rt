@@ -14,13 +14,14 @@ use flt_types::{Filter, add_fields};
 use pk_fields::{FieldId, FieldSet, ids};
 use shark_words::LineKind;
 
-/// The fields that the output is made from: all for lines of JSON, else those of the filter, of the lines and of the tables, and
-/// what tells of streams where the names of all protocols are shown or something is asked for behind the lines.
+/// The fields that the output is made from: all for lines of JSON and where the frames are read twice, else those of the filter,
+/// of the lines and of the tables, and what tells of streams where the names of all protocols are shown or something is asked
+/// for behind the lines.
 #[tactic(auto, using(crate::proofs::WantedLemmas::enough_all, crate::proofs::WantedLemmas::enough_followed, crate::proofs::WantedLemmas::enough_none, crate::proofs::WantedLemmas::enough_plain))]
 pub(crate) fn needed_fields(plan: &Plan) -> FieldSet
     ensures { IsEnough result plan.now }
 {
-    if shows_trees(plan) {
+    if plan.two || shows_trees(plan) {
         return FieldSet::all();
     }
     if needs_streams(plan) || sums_up(plan) {

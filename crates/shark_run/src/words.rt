@@ -103,6 +103,7 @@ fn plan_with(alloc: Global, options: &Options) -> Result<Plan, PlanError>
     Ok(Plan {
         source: source_in(alloc, &options.source)?,
         filter,
+        two: options.two,
         fields,
         most: options.most,
         decode: PlanRules::new(copy_of(alloc, &options.decode.rules)?),

@@ -1,12 +1,13 @@
+use Rattle.shark_run.specs.Job.{job_in}
 use Rattle.shark_run.proofs.ClosingLemmas.{closed_capture_part}
 use Rattle.shark_run.proofs.output.write_closing.Goals as goal
 
 pub returns-in-Ok-clause-part : goal.returns-in-Ok-clause-part
-returns-in-Ok-clause-part g c =
-    closed_capture_part c.in-Some.format c.args.plan.now c.args.dissector.now c.args.lines.now.notes c.args.lines.now.capture (g.O.Sink.written c.args.out.now) (g.O.Sink.written c.write_end.new.out)
+returns-in-Ok-clause-part g c = λ passes.
+    closed_capture_part c.in-Some.format (job_in c.args.plan.now passes) c.args.dissector.now c.args.lines.now.notes c.args.lines.now.capture (g.O.Sink.written c.args.out.now) (g.O.Sink.written c.write_end.new.out)
     c.in-Some.is (rw c.replace-writer.ensures.value at c.write_end.ensures.part)
 
 pub returns-in-Err-clause-part : goal.returns-in-Err-clause-part
-returns-in-Err-clause-part g c =
-    closed_capture_part c.in-Some.format c.args.plan.now c.args.dissector.now c.args.lines.now.notes c.args.lines.now.capture (g.O.Sink.written c.args.out.now) (g.O.Sink.written c.write_end.new.out)
+returns-in-Err-clause-part g c = λ passes.
+    closed_capture_part c.in-Some.format (job_in c.args.plan.now passes) c.args.dissector.now c.args.lines.now.notes c.args.lines.now.capture (g.O.Sink.written c.args.out.now) (g.O.Sink.written c.write_end.new.out)
     c.in-Some.is (rw c.replace-writer.ensures.value at c.write_end.ensures.part)

@@ -4,14 +4,15 @@ use Rattle.pk_base.specs.Limits.{file_limit}
 use Rattle.capture_read.proofs.TakenLemmas.{took_none}
 use Rattle.shark_run.proofs.Together.{few_taken, has_taken, takeable, together_after}
 use Rattle.shark_run.proofs.TotalsLemmas.{few_after, few_begun}
-use Rattle.shark_run.proofs.WayLemmas.{way_begun, way_further, way_stopped, way_full, read_full, full_near, way_ended, read_ended, ended_near, way_unread, way_unfit, read_unfit, unfit_near, broken_part, broken_near, way_took}
+use Rattle.shark_run.proofs.WayLemmas.{way_begun, way_further, way_stopped, way_full, read_full, full_near, way_ended, read_ended, ended_near, way_unread, way_unfit, read_unfit, unfit_near, broken_part, broken_near, way_took, serves_once}
+use Rattle.shark_run.specs.Job.{One}
 use Rattle.shark_run.specs.Wanted.{IsEnough}
 use Rattle.shark_run.proofs.output.write_rest.Goals as goal
 
 pub loop-alloc-init : goal.loop-alloc-init
 loop-alloc-init g c =
     record {
-      way = way_begun c.args.plan.now (g.C.Capture.left c.args.capture.now) c.args.reader.now c.args.dissector.now c.args.lines.now.notes c.args.lines.now.capture (g.O.Sink.written c.args.out.now) c.requires.reads c.requires.stands c.requires.keeps;
+      way = way_begun c.args.plan.now (g.C.Capture.left c.args.capture.now) c.args.reader.now c.args.dissector.now c.args.lines.now.notes c.args.lines.now.capture (g.O.Sink.written c.args.out.now) c.requires.alone c.requires.reads c.requires.stands c.requires.keeps;
       together = record {
         number = omega (arith, c.requires.number, c.requires.taken);
         captured = omega (arith, c.requires.captured);
@@ -23,7 +24,7 @@ loop-alloc-init g c =
       rules = c.requires.rules;
       stands = ([], c.requires.stands);
       writer = c.requires.lines;
-      few = few_begun c.args.plan.now c.args.dissector.now.taken c.args.lines.now.notes.totals c.requires.totals;
+      few = few_begun c.args.dissector.now.taken c.args.lines.now.notes.totals c.requires.totals;
       asked = refl;
       begun = refl;
       missed = refl;
@@ -105,11 +106,11 @@ write_frame-requires-clause-captured g c =
 
 pub returns-in-Err-clause-part : goal.returns-in-Err-clause-part
 returns-in-Err-clause-part g c =
-    broken_part c.args.plan.now c.loop-alloc.most (g.C.Capture.left c.args.capture.now) c.loop-alloc.reader c.next_frame.new.self (g.C.Capture.left c.loop-alloc.capture) (g.C.Capture.left c.next_frame.new.capture) c.loop-alloc.dissector c.loop-alloc.lines.notes c.loop-alloc.lines.capture (g.O.Sink.written c.args.out.now) (g.O.Sink.written c.loop-alloc.out) (g.O.Sink.written c.write_frame.new.out) c.in-Ok-Frame.frame (c.is_full.ensures.more c.if-is_full.false) c.loop-alloc.invariant.way (rw c.in-Ok-Frame.field-0-is at c.in-Ok-Frame.ensures.answers) c.write_frame.ensures.part
+    broken_part c.args.plan.now c.loop-alloc.most (g.C.Capture.left c.args.capture.now) c.loop-alloc.reader c.next_frame.new.self (g.C.Capture.left c.loop-alloc.capture) (g.C.Capture.left c.next_frame.new.capture) c.loop-alloc.dissector c.loop-alloc.lines.notes c.loop-alloc.lines.capture (g.O.Sink.written c.args.out.now) (g.O.Sink.written c.loop-alloc.out) (g.O.Sink.written c.write_frame.new.out) c.in-Ok-Frame.frame (c.is_full.ensures.more c.if-is_full.false) c.loop-alloc.invariant.way (rw c.in-Ok-Frame.field-0-is at c.in-Ok-Frame.ensures.answers) (λ past. c.write_frame.ensures.part One past (serves_once c.args.plan.now c.requires.alone))
 
 pub returns-in-Err-clause-near : goal.returns-in-Err-clause-near
 returns-in-Err-clause-near g c =
-    λ is. broken_near c.args.plan.now c.loop-alloc.most (g.C.Capture.left c.args.capture.now) c.loop-alloc.reader c.next_frame.new.self (g.C.Capture.left c.loop-alloc.capture) (g.C.Capture.left c.next_frame.new.capture) c.loop-alloc.dissector c.loop-alloc.lines.notes c.loop-alloc.lines.capture (g.O.Sink.written c.args.out.now) (g.O.Sink.written c.loop-alloc.out) (g.O.Sink.written c.write_frame.new.out) c.in-Ok-Frame.frame c.loop-alloc.invariant.way (rw c.in-Ok-Frame.field-0-is at c.in-Ok-Frame.ensures.answers) c.write_frame.ensures.part
+    λ is. broken_near c.args.plan.now c.loop-alloc.most (g.C.Capture.left c.args.capture.now) c.loop-alloc.reader c.next_frame.new.self (g.C.Capture.left c.loop-alloc.capture) (g.C.Capture.left c.next_frame.new.capture) c.loop-alloc.dissector c.loop-alloc.lines.notes c.loop-alloc.lines.capture (g.O.Sink.written c.args.out.now) (g.O.Sink.written c.loop-alloc.out) (g.O.Sink.written c.write_frame.new.out) c.in-Ok-Frame.frame c.loop-alloc.invariant.way (rw c.in-Ok-Frame.field-0-is at c.in-Ok-Frame.ensures.answers) (λ past. c.write_frame.ensures.part One past (serves_once c.args.plan.now c.requires.alone))
 
 pub returns-in-Err-clause-took : goal.returns-in-Err-clause-took
 returns-in-Err-clause-took g c =
@@ -118,7 +119,7 @@ returns-in-Err-clause-took g c =
 pub loop-alloc-preserved : goal.loop-alloc-preserved
 loop-alloc-preserved g c =
     record {
-      way = rw c.one_less-most.ensures (way_further c.args.plan.now c.loop-alloc.most (g.C.Capture.left c.args.capture.now) c.loop-alloc.reader c.next_frame.new.self (g.C.Capture.left c.loop-alloc.capture) (g.C.Capture.left c.next_frame.new.capture) c.loop-alloc.dissector c.write_frame.new.dissector c.loop-alloc.lines.notes c.write_frame.new.lines.notes c.loop-alloc.lines.capture c.write_frame.new.lines.capture (g.O.Sink.written c.args.out.now) (g.O.Sink.written c.loop-alloc.out) (g.O.Sink.written c.write_frame.new.out) c.in-Ok-Frame.frame (c.is_full.ensures.more c.if-is_full.false) c.loop-alloc.invariant.way (rw c.in-Ok-Frame.field-0-is at c.in-Ok-Frame.ensures.answers) c.in-Ok-true.ensures.stands (rw c.in-Ok-true.field-0-test at c.in-Ok-true.ensures.after));
+      way = rw c.one_less-most.ensures (way_further c.args.plan.now c.loop-alloc.most (g.C.Capture.left c.args.capture.now) c.loop-alloc.reader c.next_frame.new.self (g.C.Capture.left c.loop-alloc.capture) (g.C.Capture.left c.next_frame.new.capture) c.loop-alloc.dissector c.write_frame.new.dissector c.loop-alloc.lines.notes c.write_frame.new.lines.notes c.loop-alloc.lines.capture c.write_frame.new.lines.capture (g.O.Sink.written c.args.out.now) (g.O.Sink.written c.loop-alloc.out) (g.O.Sink.written c.write_frame.new.out) c.in-Ok-Frame.frame (c.is_full.ensures.more c.if-is_full.false) c.loop-alloc.invariant.way (rw c.in-Ok-Frame.field-0-is at c.in-Ok-Frame.ensures.answers) c.in-Ok-true.ensures.stands (λ past. (rw c.in-Ok-true.field-0-test at c.in-Ok-true.ensures.after) One past (serves_once c.args.plan.now c.requires.alone)));
       together = together_after c.loop-alloc.reader.state c.next_frame.new.self.state c.loop-alloc.dissector c.write_frame.new.dissector c.in-Ok-Frame.frame c.loop-alloc.invariant.together (rw c.in-Ok-Frame.field-0-is at c.in-Ok-Frame.ensures.counts) c.next_frame.ensures.limit c.in-Ok-true.ensures.taken c.in-Ok-true.ensures.captured;
       took = way_took c.args.plan.now c.loop-alloc.most (g.C.Capture.left c.args.capture.now) c.loop-alloc.reader (g.C.Capture.left c.loop-alloc.capture) (g.C.Capture.left c.next_frame.new.capture) c.loop-alloc.dissector c.loop-alloc.lines.notes c.loop-alloc.lines.capture (g.O.Sink.written c.args.out.now) (g.O.Sink.written c.loop-alloc.out) c.loop-alloc.invariant.way c.next_frame.ensures.took;
       wanted = subst (λ (fields : List ℕ). IsEnough fields c.args.plan.now) (sym c.write_frame.ensures.kept) c.loop-alloc.invariant.wanted;
@@ -136,7 +137,7 @@ loop-alloc-preserved g c =
 pub loop-alloc-preserved-in-Ok-true : goal.loop-alloc-preserved-in-Ok-true
 loop-alloc-preserved-in-Ok-true g c =
     record {
-      way = rw c.one_less-most.ensures (way_further c.args.plan.now c.loop-alloc.most (g.C.Capture.left c.args.capture.now) c.loop-alloc.reader c.next_frame.new.self (g.C.Capture.left c.loop-alloc.capture) (g.C.Capture.left c.next_frame.new.capture) c.loop-alloc.dissector c.write_frame.new.dissector c.loop-alloc.lines.notes c.write_frame.new.lines.notes c.loop-alloc.lines.capture c.write_frame.new.lines.capture (g.O.Sink.written c.args.out.now) (g.O.Sink.written c.loop-alloc.out) (g.O.Sink.written c.write_frame.new.out) c.in-Ok-Frame.frame (c.is_full.ensures.more c.if-is_full.false) c.loop-alloc.invariant.way (rw c.in-Ok-Frame.field-0-is at c.in-Ok-Frame.ensures.answers) c.in-Ok-true.ensures.stands (rw c.in-Ok-true.field-0-test at c.in-Ok-true.ensures.after));
+      way = rw c.one_less-most.ensures (way_further c.args.plan.now c.loop-alloc.most (g.C.Capture.left c.args.capture.now) c.loop-alloc.reader c.next_frame.new.self (g.C.Capture.left c.loop-alloc.capture) (g.C.Capture.left c.next_frame.new.capture) c.loop-alloc.dissector c.write_frame.new.dissector c.loop-alloc.lines.notes c.write_frame.new.lines.notes c.loop-alloc.lines.capture c.write_frame.new.lines.capture (g.O.Sink.written c.args.out.now) (g.O.Sink.written c.loop-alloc.out) (g.O.Sink.written c.write_frame.new.out) c.in-Ok-Frame.frame (c.is_full.ensures.more c.if-is_full.false) c.loop-alloc.invariant.way (rw c.in-Ok-Frame.field-0-is at c.in-Ok-Frame.ensures.answers) c.in-Ok-true.ensures.stands (λ past. (rw c.in-Ok-true.field-0-test at c.in-Ok-true.ensures.after) One past (serves_once c.args.plan.now c.requires.alone)));
       together = together_after c.loop-alloc.reader.state c.next_frame.new.self.state c.loop-alloc.dissector c.write_frame.new.dissector c.in-Ok-Frame.frame c.loop-alloc.invariant.together (rw c.in-Ok-Frame.field-0-is at c.in-Ok-Frame.ensures.counts) c.next_frame.ensures.limit c.in-Ok-true.ensures.taken c.in-Ok-true.ensures.captured;
       took = way_took c.args.plan.now c.loop-alloc.most (g.C.Capture.left c.args.capture.now) c.loop-alloc.reader (g.C.Capture.left c.loop-alloc.capture) (g.C.Capture.left c.next_frame.new.capture) c.loop-alloc.dissector c.loop-alloc.lines.notes c.loop-alloc.lines.capture (g.O.Sink.written c.args.out.now) (g.O.Sink.written c.loop-alloc.out) c.loop-alloc.invariant.way c.next_frame.ensures.took;
       wanted = subst (λ (fields : List ℕ). IsEnough fields c.args.plan.now) (sym c.write_frame.ensures.kept) c.loop-alloc.invariant.wanted;
@@ -153,11 +154,11 @@ loop-alloc-preserved-in-Ok-true g c =
 
 pub returns-in-Ok-false-clause-ended : goal.returns-in-Ok-false-clause-ended
 returns-in-Ok-false-clause-ended g c =
-    way_unfit c.args.plan.now c.loop-alloc.most (g.C.Capture.left c.args.capture.now) c.loop-alloc.reader c.next_frame.new.self (g.C.Capture.left c.loop-alloc.capture) (g.C.Capture.left c.next_frame.new.capture) c.loop-alloc.dissector c.loop-alloc.lines.notes c.write_frame.new.lines.notes c.loop-alloc.lines.capture c.write_frame.new.lines.capture (g.O.Sink.written c.args.out.now) (g.O.Sink.written c.loop-alloc.out) (g.O.Sink.written c.write_frame.new.out) c.in-Ok-Frame.frame (c.is_full.ensures.more c.if-is_full.false) c.loop-alloc.invariant.way (rw c.in-Ok-Frame.field-0-is at c.in-Ok-Frame.ensures.answers) (rw c.in-Ok-false.field-0-test at c.in-Ok-false.ensures.after)
+    way_unfit c.args.plan.now c.loop-alloc.most (g.C.Capture.left c.args.capture.now) c.loop-alloc.reader c.next_frame.new.self (g.C.Capture.left c.loop-alloc.capture) (g.C.Capture.left c.next_frame.new.capture) c.loop-alloc.dissector c.loop-alloc.lines.notes c.write_frame.new.lines.notes c.loop-alloc.lines.capture c.write_frame.new.lines.capture (g.O.Sink.written c.args.out.now) (g.O.Sink.written c.loop-alloc.out) (g.O.Sink.written c.write_frame.new.out) c.in-Ok-Frame.frame (c.is_full.ensures.more c.if-is_full.false) c.loop-alloc.invariant.way (rw c.in-Ok-Frame.field-0-is at c.in-Ok-Frame.ensures.answers) (λ past. (rw c.in-Ok-false.field-0-test at c.in-Ok-false.ensures.after) One past (serves_once c.args.plan.now c.requires.alone))
 
 pub returns-in-Ok-false-clause-read : goal.returns-in-Ok-false-clause-read
 returns-in-Ok-false-clause-read g c =
-    read_unfit c.args.plan.now c.loop-alloc.most (g.C.Capture.left c.args.capture.now) c.loop-alloc.reader c.next_frame.new.self (g.C.Capture.left c.loop-alloc.capture) (g.C.Capture.left c.next_frame.new.capture) c.loop-alloc.dissector c.write_frame.new.dissector c.loop-alloc.lines.notes c.write_frame.new.lines.notes c.loop-alloc.lines.capture c.write_frame.new.lines.capture (g.O.Sink.written c.args.out.now) (g.O.Sink.written c.loop-alloc.out) (g.O.Sink.written c.write_frame.new.out) c.in-Ok-Frame.frame (c.is_full.ensures.more c.if-is_full.false) c.loop-alloc.invariant.way (rw c.in-Ok-Frame.field-0-is at c.in-Ok-Frame.ensures.answers) (rw c.in-Ok-false.field-0-test at c.in-Ok-false.ensures.after)
+    read_unfit c.args.plan.now c.loop-alloc.most (g.C.Capture.left c.args.capture.now) c.loop-alloc.reader c.next_frame.new.self (g.C.Capture.left c.loop-alloc.capture) (g.C.Capture.left c.next_frame.new.capture) c.loop-alloc.dissector c.write_frame.new.dissector c.loop-alloc.lines.notes c.write_frame.new.lines.notes c.loop-alloc.lines.capture c.write_frame.new.lines.capture (g.O.Sink.written c.args.out.now) (g.O.Sink.written c.loop-alloc.out) (g.O.Sink.written c.write_frame.new.out) c.in-Ok-Frame.frame (c.is_full.ensures.more c.if-is_full.false) c.loop-alloc.invariant.way (rw c.in-Ok-Frame.field-0-is at c.in-Ok-Frame.ensures.answers) (λ past. (rw c.in-Ok-false.field-0-test at c.in-Ok-false.ensures.after) One past (serves_once c.args.plan.now c.requires.alone))
 
 pub returns-in-Ok-false-clause-taken : goal.returns-in-Ok-false-clause-taken
 returns-in-Ok-false-clause-taken g c =
@@ -177,7 +178,7 @@ returns-in-Ok-false-clause-full g c =
 
 pub returns-in-Ok-false-clause-part : goal.returns-in-Ok-false-clause-part
 returns-in-Ok-false-clause-part g c =
-    broken_part c.args.plan.now c.loop-alloc.most (g.C.Capture.left c.args.capture.now) c.loop-alloc.reader c.next_frame.new.self (g.C.Capture.left c.loop-alloc.capture) (g.C.Capture.left c.next_frame.new.capture) c.loop-alloc.dissector c.loop-alloc.lines.notes c.loop-alloc.lines.capture (g.O.Sink.written c.args.out.now) (g.O.Sink.written c.loop-alloc.out) (g.O.Sink.written c.write_frame.new.out) c.in-Ok-Frame.frame (c.is_full.ensures.more c.if-is_full.false) c.loop-alloc.invariant.way (rw c.in-Ok-Frame.field-0-is at c.in-Ok-Frame.ensures.answers) c.write_frame.ensures.part
+    broken_part c.args.plan.now c.loop-alloc.most (g.C.Capture.left c.args.capture.now) c.loop-alloc.reader c.next_frame.new.self (g.C.Capture.left c.loop-alloc.capture) (g.C.Capture.left c.next_frame.new.capture) c.loop-alloc.dissector c.loop-alloc.lines.notes c.loop-alloc.lines.capture (g.O.Sink.written c.args.out.now) (g.O.Sink.written c.loop-alloc.out) (g.O.Sink.written c.write_frame.new.out) c.in-Ok-Frame.frame (c.is_full.ensures.more c.if-is_full.false) c.loop-alloc.invariant.way (rw c.in-Ok-Frame.field-0-is at c.in-Ok-Frame.ensures.answers) (λ past. c.write_frame.ensures.part One past (serves_once c.args.plan.now c.requires.alone))
 
 pub returns-in-Ok-false-clause-took : goal.returns-in-Ok-false-clause-took
 returns-in-Ok-false-clause-took g c =

@@ -1,21 +1,22 @@
 use Rattle.std.proofs.Common.{arith}
+use Rattle.shark_run.specs.Job.{job_in}
 use Rattle.shark_run.proofs.ReportLemmas.{is_asked, report_part, report_whole}
 use Rattle.shark_run.proofs.reports.write_reports.Goals as goal
 
 pub returns-in-Err-clause-part : goal.returns-in-Err-clause-part
-returns-in-Err-clause-part g c = λ past stands noted.
-    let so_far = c.loop-asked.invariant.written past stands noted in
-    report_part c.args.plan.now past c.args.reports.now c.loop-asked.asked-index _ so_far.0
+returns-in-Err-clause-part g c = λ passes past stands noted.
+    let so_far = c.loop-asked.invariant.written passes past stands noted in
+    report_part (job_in c.args.plan.now passes) past c.args.reports.now c.loop-asked.asked-index _ so_far.0
     (g.O.Sink.written c.args.out.now) (g.O.Sink.written c.loop-asked.out) (g.O.Sink.written c.write_report.new.out)
-    c.loop-asked-test.true so_far.1 so_far.2 (c.write_report.ensures.part past stands noted)
+    c.loop-asked-test.true so_far.1 so_far.2 (c.write_report.ensures.part passes past stands noted)
 
 pub loop-asked-preserved : goal.loop-asked-preserved
 loop-asked-preserved g c = record {
-  written = λ past stands noted.
-      let so_far = c.loop-asked.invariant.written past stands noted in
-      report_whole c.args.plan.now past c.args.reports.now c.loop-asked.asked-index _ so_far.0
+  written = λ passes past stands noted.
+      let so_far = c.loop-asked.invariant.written passes past stands noted in
+      report_whole (job_in c.args.plan.now passes) past c.args.reports.now c.loop-asked.asked-index _ so_far.0
       (g.O.Sink.written c.args.out.now) (g.O.Sink.written c.loop-asked.out) (g.O.Sink.written c.write_report.new.out)
-      c.loop-asked-test.true so_far.1 so_far.2 (c.in-Ok.ensures.whole past stands noted);
+      c.loop-asked-test.true so_far.1 so_far.2 (c.in-Ok.ensures.whole passes past stands noted);
   faults = omega (arith, c.loop-asked.invariant.faults, c.write_report.ensures.faults_stay);
 }
 

@@ -5,6 +5,6 @@ use Rattle.shark_run.proofs.ClosingLemmas.{line_counted}
 use Rattle.shark_run.proofs.self_run.self_run_line.Goals as goal
 
 pub returns-in-Ok : goal.returns-in-Ok
-returns-in-Ok c = λ plan past stands same.
-    line_counted plan past c.args.totals c.count-tcp.result c.udp_count-udp.result (string_bytes c.in-Ok.line) c.in-Ok.ensures same
+returns-in-Ok c = λ job past stands same.
+    line_counted job past c.args.totals c.count-tcp.result c.udp_count-udp.result (string_bytes c.in-Ok.line) c.in-Ok.ensures same
     (c.count-tcp.ensures.opened (segments_of (events_of past)) (c.streams.ensures.within c.requires past stands)) (c.udp_count-udp.ensures.within past stands)

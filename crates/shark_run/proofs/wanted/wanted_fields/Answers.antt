@@ -1,5 +1,4 @@
-use Rattle.std.proofs.Common.{◌≡◌, ℕ, true, List, subst}
-use Rattle.pk_fields.specs.FieldSets.{is_in}
+use Rattle.std.proofs.Common.{ℕ, List, subst}
 use Rattle.shark_run.specs.Wanted.{HasFields}
 use Rattle.shark_run.proofs.WantedLemmas.{grown_columns, still_asked}
 use Rattle.shark_run.proofs.wanted.wanted_fields.Goals as goal

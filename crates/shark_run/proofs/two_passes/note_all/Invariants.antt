@@ -1,0 +1,22 @@
+use Rattle.std.proofs.Common.{◌≡◌, List, length, ◌++◌, reverse}
+use Rattle.capture_read.specs.declared.frame.Frame.{Frame}
+use Rattle.dissect.specs.Stands.{StandsWithin}
+use Rattle.pk_fields.specs.FieldSets.{every_field}
+use Rattle.second_pass.specs.Stands.{Stands}
+use Rattle.shark_run.specs.Job.{noted_of}
+use Rattle.shark_run.specs.Takeable.{AreTakeable}
+use Rattle.shark_run.proofs.two_passes.note_all.Given as goal
+
+abbrev pub invariant-loop-left : goal.invariant-loop-left
+invariant-loop-left l = record {
+  past : List Frame;
+  joined : reverse past ++ l.left ≡ l.frames;
+  stands : StandsWithin past l.dissector;
+  noted : Stands (noted_of l.dissector.decode.rules past) l.links;
+  rules : l.dissector.decode ≡ l.fn.dissector.decode;
+  wanted : l.dissector.wanted ≡ every_field;
+  takeable : AreTakeable l.dissector.taken l.dissector.captured l.left;
+}
+
+abbrev pub decreases-loop-left : goal.decreases-loop-left
+decreases-loop-left l = length l.left

@@ -1,0 +1,28 @@
+use Rattle.std.proofs.Common.{◌≡◌, Err, ap}
+use Rattle.shark_run.specs.declared.output.RunFault.TheVariants.{ReadFault}
+use Rattle.shark_run.proofs.ClosingLemmas.{none_body}
+use Rattle.shark_run.proofs.TwiceLemmas.{twice_some, twice_unread, twice_wrote}
+use Rattle.shark_run.proofs.two_passes.write_twice.Goals as goal
+
+pub returns-in-Err-clause-part : goal.returns-in-Err-clause-part
+returns-in-Err-clause-part g c = none_body c.args.plan.now (g.C.Capture.left c.args.capture.now) (g.O.Sink.written c.args.out.now)
+
+pub returns-in-Err-clause-so_far : goal.returns-in-Err-clause-so_far
+returns-in-Err-clause-so_far g c = λ is.
+    let same : c.in-Err.fault ≡ ReadFault = cc is in
+    twice_unread c.args.plan.now (g.C.Capture.left c.args.capture.now) (g.C.Capture.left c.keep_frames.new.capture) (g.O.Sink.written c.args.out.now) c.requires (c.in-Err.ensures.so_far (ap Err same))
+
+pub returns-in-Ok-write_again-clause-ended : goal.returns-in-Ok-write_again-clause-ended
+returns-in-Ok-write_again-clause-ended g c =
+    twice_wrote c.args.plan.now (g.C.Capture.left c.args.capture.now) c.in-Ok.kept.frames c.in-Ok.kept.ending c.in-Ok-write_again.ending (g.O.Sink.written c.args.out.now) (g.O.Sink.written c.write_again.new.out)
+    c.in-Ok.ensures.read c.in-Ok-write_again.ensures.ended
+
+pub returns-in-Ok-write_again-clause-part : goal.returns-in-Ok-write_again-clause-part
+returns-in-Ok-write_again-clause-part g c =
+    twice_some c.args.plan.now (g.C.Capture.left c.args.capture.now) c.in-Ok.kept.frames c.in-Ok.kept.ending (g.O.Sink.written c.args.out.now) (g.O.Sink.written c.write_again.new.out)
+    c.in-Ok.ensures.read c.write_again.ensures.part
+
+pub returns-clause-part : goal.returns-clause-part
+returns-clause-part g c =
+    twice_some c.args.plan.now (g.C.Capture.left c.args.capture.now) c.in-Ok.kept.frames c.in-Ok.kept.ending (g.O.Sink.written c.args.out.now) (g.O.Sink.written c.write_again.new.out)
+    c.in-Ok.ensures.read c.write_again.ensures.part

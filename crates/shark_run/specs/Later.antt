@@ -1,0 +1,16 @@
+-- What is known of later frames while lines are made.
+use Rattle.std.specs.Prelude.{Bool, true, false}
+use Rattle.second_pass.specs.Stands.{Stands}
+use Rattle.shark_run.specs.declared.later.Later.{Later}
+use Rattle.shark_run.specs.declared.later.Later.TheVariants.{Unread, Known}
+use Rattle.shark_run.specs.Job.{Passes, One, Two}
+
+-- what is known of later frames serves such passes, where frames are read twice or not: nothing, or the links that stand for the
+-- trees of the first reading
+abbrev pub Serves : Bool → Passes → Later → Type 0
+Serves false One Unread = Unit {0}
+Serves false One (Known links) = ⊥
+Serves false (Two noted) later = ⊥
+Serves true One later = ⊥
+Serves true (Two noted) Unread = ⊥
+Serves true (Two noted) (Known links) = Stands noted links
