@@ -17,6 +17,8 @@ mod head_talks;
 #[cfg(test)]
 mod hostile_rows;
 #[cfg(test)]
+mod later_talks;
+#[cfg(test)]
 mod layer_rows;
 #[cfg(test)]
 mod line_rows;

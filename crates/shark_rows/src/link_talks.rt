@@ -537,7 +537,11 @@ fn sent<'a>(segment: &Segment<'_>, client: u16, bytes: &'a [u8]) -> Segment<'a> 
 }
 
 /// Appends the frame that these words tell. Whether they tell one.
-fn push_packet(alloc: Global, file: &mut Vec<u8>, words: &str) -> Result<bool, AllocError> {
+pub(crate) fn push_packet(
+    alloc: Global,
+    file: &mut Vec<u8>,
+    words: &str,
+) -> Result<bool, AllocError> {
     let (carrier, words) = words.split_once(' ').unwrap_or(("", ""));
     let Some(segment) = segment_of(words, service_of(carrier), LOW) else {
         return Ok(false);
