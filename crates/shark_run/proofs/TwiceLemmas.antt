@@ -1,14 +1,12 @@
 -- Going over kept frames: how far it came, and what was written then.
-use Rattle.std.proofs.Common.{◌≡◌, ◌<◌, ◌≤◌, ℕ, ◌+◌, ◌-◌, ◌^◌, Bool, true, false, if◌then◌else◌, List, [], ◌∷◌, ◌++◌, length, Option, None, Some, refl, sym, ◌∙◌, ap, subst, append-nil, reverse, take, drop, get_or, arith}
+use Rattle.std.proofs.Common.{◌≡◌, ◌<◌, ◌≤◌, ℕ, ◌+◌, ◌-◌, ◌^◌, Bool, true, false, if◌then◌else◌, List, [], ◌∷◌, ◌++◌, length, map, Option, None, Some, refl, sym, ◌∙◌, ap, subst, append-nil, reverse, take, drop, get_or, arith}
 use Rattle.std.specs.Prelude.{IfSome}
 use Rattle.std.specs.Io.KnownBytes.{Appends}
 use Rattle.std.proofs.KnownBytes.{Appends-nil, Appends-trans}
 use Rattle.std.proofs.lemmas.List.{reverse-reverse, take_all}
 use Rattle.pk_base.specs.Limits.{file_limit}
-use Rattle.pk_fields.specs.FieldSets.{every_field}
 use Rattle.pk_outside.specs.Outside.{AppendsPart}
 use Rattle.pk_outside.proofs.Parts.{part_after, part_more, part_none}
-use Rattle.pk_tree.proofs.KeptTrees.{all_kept}
 use Rattle.pk_tree.specs.Trees.{TreeShown, IsKept}
 use Rattle.port_rules.specs.declared.rules.PortRule.{PortRule}
 use Rattle.capture_read.specs.Capture.{Reading, capture_of}
@@ -19,9 +17,11 @@ use Rattle.capture_write.specs.declared.format.Format.{Format}
 use Rattle.dissect.specs.Followed.{asks_streams}
 use Rattle.dissect.specs.Stands.{DissectorShown, StandsWithin}
 use Rattle.dissect.specs.Trees.{tree_at}
+use Rattle.second_pass.specs.Laws.{kept_noted}
 use Rattle.second_pass.specs.Named.{noted_as}
 use Rattle.second_pass.specs.Stands.{Stands}
 use Rattle.second_pass.specs.declared.links.Links.{Links}
+use Rattle.shark_run.specs.declared.later.Later.{Later}
 use Rattle.shark_run.specs.declared.later.Later.TheVariants.{Known}
 use Rattle.shark_run.specs.declared.notes.Notes.{Notes}
 use Rattle.shark_run.specs.declared.plan.Plan.{Plan}
@@ -31,7 +31,7 @@ use Rattle.shark_run.specs.Accessors.{rules_of, two_of, written_of}
 use Rattle.shark_run.specs.Ended.{CanClose}
 use Rattle.shark_run.specs.Fitting.{FramesRead, before, fitting, is_unfit, job_of, over}
 use Rattle.shark_run.specs.Job.{Job, Passes, job_in, noted_of, passes_by}
-use Rattle.shark_run.specs.Later.{Serves}
+use Rattle.shark_run.specs.Later.{ServesKept}
 use Rattle.shark_run.specs.Lines.{closing, pieces, pieces_of, piece}
 use Rattle.shark_run.specs.Reading.{fitting_of, frames_read, limited, read_of}
 use Rattle.shark_run.specs.Notes.{AreFewNotes}
@@ -42,7 +42,8 @@ use Rattle.shark_run.specs.Wrote.{WroteBody, WroteSomeBody, body_of}
 use Rattle.shark_run.proofs.KeepLemmas.{frames_past}
 use Rattle.shark_run.proofs.PacketLemmas.{reverse_more}
 use Rattle.shark_run.proofs.TotalsLemmas.{few_more}
-use Rattle.shark_run.proofs.WantedLemmas.{streams_every}
+use Rattle.shark_run.specs.Wanted.{IsEnough}
+use Rattle.shark_run.proofs.WantedLemmas.{links_streams}
 use Rattle.shark_run.proofs.WayLemmas.{AreFit, can_close, can_end, ending_read, fit_pieces, fitting_passes, fitting_past, pieces_read, reverse_past, with_read}
 
 -- frames of which the first ones were gone over, the newest first, and the rest is left
@@ -73,19 +74,27 @@ pub first_takeable : (taken captured : ℕ) (left : List Frame) (frame : Frame) 
 first_takeable taken captured left frame is some are = subst (AreTakeable taken captured) (first_left left frame is some) are
 
 -- the trees of a first reading
-pub noted_more : (rules : List PortRule) (past : List Frame) (frame : Frame) (tree : TreeShown) (wanted : List ℕ) (links : Links) → wanted ≡ every_field
-    → (asks_streams wanted ≡ true → IsKept wanted (tree_at rules past frame) tree)
-    → Stands (noted_as frame.number tree ∷ noted_of rules past) links → Stands (noted_of rules (frame ∷ past)) links
-noted_more rules past frame tree wanted links all kept stands =
-    let whole : tree ≡ tree_at rules past frame =
-    all_kept (tree_at rules past frame) tree (subst (λ (fields : List ℕ). IsKept fields (tree_at rules past frame) tree) all (kept (ap asks_streams all ∙ streams_every))) in
-    subst (λ (t : TreeShown). Stands (noted_as frame.number t ∷ noted_of rules past) links) whole stands
+pub noted_more : (rules : List PortRule) (past : List Frame) (frame : Frame) (tree : TreeShown) (wanted : List ℕ) (links : Links)
+    → IsKept wanted (tree_at rules past frame) tree → Stands (noted_as frame.number tree ∷ map (kept_noted wanted) (noted_of rules past)) links
+    → Stands (map (kept_noted wanted) (noted_of rules (frame ∷ past))) links
+noted_more rules past frame tree wanted links kept stands =
+    subst (λ (t : TreeShown). Stands (noted_as frame.number t ∷ map (kept_noted wanted) (noted_of rules past)) links) kept.same stands
+
+-- where the frames are read twice, streams are asked
+pub twice_streams : (wanted : List ℕ) (plan : Plan) → two_of plan ≡ true → IsEnough wanted plan → asks_streams wanted ≡ true
+twice_streams wanted plan two enough = links_streams wanted (enough.twice two)
 
 -- the links stand for all of them
-pub serves_twice : (plan : Plan) (frames : List Frame) (links : Links) → two_of plan ≡ true → Stands (noted_of (rules_of plan) (reverse frames)) links
-    → Serves (two_of plan) (passes_by (two_of plan) (rules_of plan) frames) (Known links)
-serves_twice plan frames links two stands =
-    subst (λ (t : Bool). Serves t (passes_by t (rules_of plan) frames) (Known links)) (sym two) stands
+pub serves_twice : (plan : Plan) (wanted : List ℕ) (frames : List Frame) (links : Links) → two_of plan ≡ true
+    → Stands (map (kept_noted wanted) (noted_of (rules_of plan) (reverse frames))) links
+    → ServesKept wanted (two_of plan) (passes_by (two_of plan) (rules_of plan) frames) (Known links)
+serves_twice plan wanted frames links two stands =
+    subst (λ (t : Bool). ServesKept wanted t (passes_by t (rules_of plan) frames) (Known links)) (sym two) stands
+
+-- for a dissector that asks for the same fields
+pub serves_still : (old now : List ℕ) (plan : Plan) (passes : Passes) (later : Later) → now ≡ old → ServesKept old (two_of plan) passes later
+    → ServesKept now (two_of plan) passes later
+serves_still old now plan passes later same serves = subst (λ (fields : List ℕ). ServesKept fields (two_of plan) passes later) (sym same) serves
 
 -- what is read of kept frames
 pub kept_way : (job : Job) (frames past left : List Frame) (ending : Ending) → reverse past ++ left ≡ frames → AreFit job past

@@ -10,6 +10,8 @@ use Rattle.pk_fields.specs.Ids.{DNS, HTTP, TCP_STREAM, TCP_SEQ, TCP_ACK, TCP_LOS
 use Rattle.pk_tree.specs.Trees.{TreeShown, IsKept, kept_layer, kept_tree, layers_of}
 use Rattle.pk_tree.specs.declared.layer.Layer.{Layer}
 use Rattle.pk_tree.proofs.KeptTrees.{all_kept}
+use Rattle.pk_tree.proofs.KeptValues.{values_same}
+use Rattle.pk_tree.specs.FieldValues.{values_of}
 use Rattle.cap_stats.specs.Laws.{fields_of as table_fields}
 use Rattle.cap_stats.specs.declared.kind.StatKind.{StatKind}
 use Rattle.cap_stats.specs.declared.kind.StatKind.TheVariants.{ConvTcp, ConvIp, Phs}
@@ -36,11 +38,13 @@ use Rattle.shark_run.specs.Trees.{lets, tree_of}
 use Rattle.shark_run.proofs.SummaryLemmas.{summary_same}
 use Rattle.shark_run.specs.Wanted.{HasAsked, HasFields, HasPlan, HasTables, IsMadeFor, IsEnough, IsNotedAs, IsToldAs, shows_whole, shows_whole_by, summary_fields, sums_up, sums_up_by}
 use Rattle.second_pass.specs.Forward.{forwarded, forwarded_to}
+use Rattle.second_pass.specs.Laws.{kept_noted, link_fields}
+use Rattle.second_pass.proofs.KeptLinks.{links_same}
 use Rattle.second_pass.specs.Named.{Noted}
 use Rattle.shark_run.specs.declared.later.Later.{Later}
 use Rattle.shark_run.specs.declared.later.Later.TheVariants.{Unread, Known}
 use Rattle.shark_run.specs.Job.{One, Passes, Two, job_in, once, with_links}
-use Rattle.shark_run.specs.Later.{Serves}
+use Rattle.shark_run.specs.Later.{Serves, ServesKept, kept_passes}
 
 -- a set that grows still has what a filter asks for
 pub still_asked : (old new : List ℕ) (filter : Option Typed) → HasAsked old filter → ((f : ℕ) → is_in old f ≡ true → is_in new f ≡ true) →
@@ -274,20 +278,20 @@ noted_all wanted plan kind whole tree all made = record {
   };
 }
 
--- the whole tree is told as itself
-kept_itself : (tree : TreeShown) → tree.wanted ≡ every_field → IsKept every_field tree tree
-kept_itself tree all = record { same = sym (all_kept tree (kept_tree every_field tree) (record { same = refl; all = all })); all = all }
-
-told_itself : (plan : Plan) (tree : TreeShown) → tree.wanted ≡ every_field → IsToldAs plan tree tree
-told_itself plan tree all = record {
-  shown = λ lines. refl;
-  counted = λ totals. refl;
-  truth = λ written. refl;
-  noted = λ kind asked. record { truth = refl; kept = record { wanted = every_field; fields = tables_all kind; kept = kept_itself tree all } };
-}
-
 not_twice : {A : Type 0} (plan : Plan) → two_of plan ≡ false → two_of plan ≡ true → A
 not_twice plan alone is = let bad : false ≡ true = sym alone ∙ is in absurd (cc bad)
+
+-- all fields are those of links
+links_all : HasFields every_field link_fields
+unfolding is_in
+links_all =
+    (refl, (refl, (refl, (refl, (refl, (refl, (refl, (refl, (refl, (refl, (refl, (refl, (refl, (refl, (refl, (refl, (refl, (refl, (refl, tt)))))))))))))))))))
+
+-- where the fields of links are asked, so are streams
+pub links_streams : (wanted : List ℕ) → HasFields wanted link_fields → asks_streams wanted ≡ true
+unfolding asks_streams
+links_streams wanted has =
+    ap (λ (b : Bool). b || is_in wanted TCP_SEQ || is_in wanted TCP_ACK || is_in wanted TCP_LOST || asks_messages wanted) has.1.1.1.1.1.1.1.1.1.1.1.1.1.1.1.0
 
 -- which fields are enough
 pub enough_all : (wanted : List ℕ) (plan : Plan) → wanted ≡ every_field → IsEnough wanted plan
@@ -299,12 +303,12 @@ enough_all wanted plan all = record {
     noted = λ kind asked. noted_all wanted plan kind whole tree all made;
   };
   streams = λ needed. ap asks_streams all ∙ streams_every;
-  twice = λ two. all;
+  twice = λ two. subst (λ (fields : List ℕ). HasFields fields link_fields) (sym all) links_all;
 }
 
-pub enough_followed : (wanted : List ℕ) (plan : Plan) → two_of plan ≡ false → shows_whole plan ≡ false → HasPlan wanted plan → HasTables wanted plan → asks_streams wanted ≡ true
-    → IsEnough wanted plan
-enough_followed wanted plan alone is has tables asks = record {
+pub enough_followed : (wanted : List ℕ) (plan : Plan) → shows_whole plan ≡ false → HasPlan wanted plan → HasTables wanted plan → asks_streams wanted ≡ true
+    → (two_of plan ≡ true → HasFields wanted link_fields) → IsEnough wanted plan
+enough_followed wanted plan is has tables asks links = record {
   told = λ whole tree made. record {
     shown = λ lines. shown_kept wanted plan whole tree made.values (made.kept asks) has lines (which_lines plan lines is);
     counted = λ totals. counted_kept wanted plan whole tree has made.values (made.kept asks) totals;
@@ -315,12 +319,14 @@ enough_followed wanted plan alone is has tables asks = record {
     };
   };
   streams = λ needed. asks;
-  twice = not_twice plan alone;
+  twice = links;
 }
 
-pub enough_none : (wanted : List ℕ) (plan : Plan) → two_of plan ≡ false → (needs_streams plan || sums_up plan) ≡ false → plan.quiet ≡ true → written_of plan ≡ None → IsEnough wanted plan
-enough_none wanted plan alone neither is lines =
-    let not_so : needs_streams plan ≡ false = first_false (needs_streams plan) (sums_up plan) neither in
+pub enough_none : (wanted : List ℕ) (plan : Plan) → (two_of plan || needs_streams plan || sums_up plan) ≡ false → plan.quiet ≡ true → written_of plan ≡ None → IsEnough wanted plan
+enough_none wanted plan none_so is lines =
+    let neither : (two_of plan || needs_streams plan) ≡ false = first_false (two_of plan || needs_streams plan) (sums_up plan) none_so in
+    let alone : two_of plan ≡ false = first_false (two_of plan) (needs_streams plan) neither in
+    let not_so : needs_streams plan ≡ false = second_false (two_of plan) (needs_streams plan) neither in
     record {
       told = λ whole tree made. record {
         shown = λ none. shown_quiet plan tree whole (quiet_asked plan is);
@@ -332,11 +338,13 @@ enough_none wanted plan alone neither is lines =
       twice = not_twice plan alone;
     }
 
-pub enough_plain : (wanted : List ℕ) (plan : Plan) → two_of plan ≡ false → shows_whole plan ≡ false → (needs_streams plan || sums_up plan) ≡ false → HasPlan wanted plan
+pub enough_plain : (wanted : List ℕ) (plan : Plan) → shows_whole plan ≡ false → (two_of plan || needs_streams plan || sums_up plan) ≡ false → HasPlan wanted plan
     → IsEnough wanted plan
-enough_plain wanted plan alone is neither has =
-    let not_so : needs_streams plan ≡ false = first_false (needs_streams plan) (sums_up plan) neither in
-    let unsummed : sums_up plan ≡ false = second_false (needs_streams plan) (sums_up plan) neither in
+enough_plain wanted plan is none_so has =
+    let neither : (two_of plan || needs_streams plan) ≡ false = first_false (two_of plan || needs_streams plan) (sums_up plan) none_so in
+    let alone : two_of plan ≡ false = first_false (two_of plan) (needs_streams plan) neither in
+    let not_so : needs_streams plan ≡ false = second_false (two_of plan) (needs_streams plan) neither in
+    let unsummed : sums_up plan ≡ false = second_false (two_of plan || needs_streams plan) (sums_up plan) none_so in
     record {
       told = λ whole tree made. record {
         shown = λ lines. shown_asked wanted plan whole tree made.values has lines unsummed (which_lines plan lines is);
@@ -367,32 +375,45 @@ still_wanted : (noted : List Noted) (frame : ℕ) (tree : TreeShown) → (forwar
 unfolding forwarded_to
 still_wanted noted frame tree = refl
 
-told_again : (plan : Plan) (rules : List PortRule) (past : List Frame) (frame : Frame) (noted : List Noted) (tree after : TreeShown) → rules ≡ rules_of plan
-    → tree ≡ tree_at rules past frame → (tree_at rules past frame).wanted ≡ every_field → after ≡ forwarded noted frame.number tree
-    → IsToldAs plan (tree_of (job_in plan (Two noted)) past frame) after
-told_again plan rules past frame noted tree after is whole full same =
+-- a tree of some fields gets the links that the whole tree gets
+kept_forwarded : (wanted : List ℕ) (noted : List Noted) (frame : ℕ) (whole tree after : TreeShown) → HasFields wanted link_fields → IsKept wanted whole tree
+    → after ≡ forwarded (map (kept_noted wanted) noted) frame tree → IsKept wanted (forwarded noted frame whole) after
+kept_forwarded wanted noted frame whole tree after links kept same = record {
+  same = same ∙ ap (forwarded (map (kept_noted wanted) noted) frame) kept.same ∙ links_same wanted noted frame whole links;
+  all = still_wanted noted frame whole ∙ kept.all;
+}
+
+made_kept : (wanted : List ℕ) (whole tree : TreeShown) → IsKept wanted whole tree → IsMadeFor wanted whole tree
+made_kept wanted whole tree kept = record {
+  values = λ field layers is. ap (λ (t : TreeShown). values_of t field layers) kept.same ∙ values_same wanted whole field layers is;
+  kept = λ asks. kept;
+}
+
+told_again : (plan : Plan) (rules : List PortRule) (past : List Frame) (frame : Frame) (noted : List Noted) (wanted : List ℕ) (tree after : TreeShown) → rules ≡ rules_of plan
+    → IsEnough wanted plan → HasFields wanted link_fields → IsKept wanted (tree_at rules past frame) tree
+    → after ≡ forwarded (map (kept_noted wanted) noted) frame.number tree → IsToldAs plan (tree_of (job_in plan (Two noted)) past frame) after
+told_again plan rules past frame noted wanted tree after is enough links kept same =
+    let whole : TreeShown = forwarded noted frame.number (tree_at rules past frame) in
     subst (λ (r : List PortRule). IsToldAs plan (forwarded noted frame.number (tree_at r past frame)) after) is
-    (subst (IsToldAs plan (forwarded noted frame.number (tree_at rules past frame))) (sym (same ∙ ap (forwarded noted frame.number) whole))
-    (told_itself plan (forwarded noted frame.number (tree_at rules past frame)) (still_wanted noted frame.number (tree_at rules past frame) ∙ full)))
+    (enough.told whole after (made_kept wanted whole after (kept_forwarded wanted noted frame.number (tree_at rules past frame) tree after links kept same)))
 
 told_by : (two : Bool) (passes : Passes) (later : Later) (wanted : List ℕ) (plan : Plan) (rules : List PortRule) (past : List Frame) (frame : Frame) (tree after : TreeShown)
-    → two_of plan ≡ two → Serves two passes later → IsEnough wanted plan → rules ≡ rules_of plan → IsMadeFor wanted (tree_at rules past frame) tree
-    → after ≡ with_links passes frame.number tree → IsToldAs plan (tree_of (job_in plan passes) past frame) after
+    → two_of plan ≡ two → ServesKept wanted two passes later → IsEnough wanted plan → rules ≡ rules_of plan → IsMadeFor wanted (tree_at rules past frame) tree
+    → after ≡ with_links (kept_passes wanted passes) frame.number tree → IsToldAs plan (tree_of (job_in plan passes) past frame) after
 told_by false One later wanted plan rules past frame tree after two serves enough is made same =
     told_once plan rules past frame tree after is (enough.told (tree_at rules past frame) tree made) same
 told_by true (Two noted) later wanted plan rules past frame tree after two serves enough is made same =
-    let all : wanted ≡ every_field = enough.twice two in
-    told_again plan rules past frame noted tree after is (tree_all wanted (tree_at rules past frame) tree all made)
-    (made.kept (ap asks_streams all ∙ streams_every)).all same
+    let links : HasFields wanted link_fields = enough.twice two in
+    told_again plan rules past frame noted wanted tree after is enough links (made.kept (links_streams wanted links)) same
 told_by false (Two noted) Unread wanted plan rules past frame tree after two serves enough is made same = absurd serves
 told_by false (Two noted) (Known links) wanted plan rules past frame tree after two serves enough is made same = absurd serves
 told_by true One Unread wanted plan rules past frame tree after two serves enough is made same = absurd serves
 told_by true One (Known links) wanted plan rules past frame tree after two serves enough is made same = absurd serves
 
 pub frame_told : (passes : Passes) (later : Later) (wanted : List ℕ) (plan : Plan) (rules : List PortRule) (past : List Frame) (frame : Frame) (tree after : TreeShown)
-    → Serves (two_of plan) passes later → IsEnough wanted plan → rules ≡ rules_of plan → HasSameValues wanted (tree_at rules past frame) tree
+    → ServesKept wanted (two_of plan) passes later → IsEnough wanted plan → rules ≡ rules_of plan → HasSameValues wanted (tree_at rules past frame) tree
     → (asks_streams wanted ≡ true → IsKept wanted (tree_at rules past frame) tree)
     → ((two : Bool) (p : Passes) → Serves two p later → after ≡ with_links p frame.number tree) → IsToldAs plan (tree_of (job_in plan passes) past frame) after
 frame_told passes later wanted plan rules past frame tree after serves enough is values kept linked =
     told_by (two_of plan) passes later wanted plan rules past frame tree after refl serves enough is (record { values = values; kept = kept })
-    (linked (two_of plan) passes serves)
+    (linked (two_of plan) (kept_passes wanted passes) serves)

@@ -1,5 +1,6 @@
 -- What is known of later frames while lines are made.
-use Rattle.std.specs.Prelude.{Bool, true, false}
+use Rattle.std.specs.Prelude.{ℕ, Bool, true, false, List, map}
+use Rattle.second_pass.specs.Laws.{kept_noted}
 use Rattle.second_pass.specs.Stands.{Stands}
 use Rattle.shark_run.specs.declared.later.Later.{Later}
 use Rattle.shark_run.specs.declared.later.Later.TheVariants.{Unread, Known}
@@ -14,3 +15,12 @@ Serves false (Two noted) later = ⊥
 Serves true One later = ⊥
 Serves true (Two noted) Unread = ⊥
 Serves true (Two noted) (Known links) = Stands noted links
+
+-- passes of whose known trees only the items of some fields are kept
+abbrev pub kept_passes : List ℕ → Passes → Passes
+kept_passes wanted One = One
+kept_passes wanted (Two noted) = Two (map (kept_noted wanted) noted)
+
+-- the same where the trees keep the items of some fields alone
+abbrev pub ServesKept : List ℕ → Bool → Passes → Later → Type 0
+ServesKept wanted two passes later = Serves two (kept_passes wanted passes) later

@@ -1,7 +1,7 @@
 -- The fields that the output asks for.
 use Rattle.std.specs.Prelude.{◌≡◌, ℕ, Bool, true, false, List, [], ◌∷◌, Option, Some, None, IsSome}
 use Rattle.std.specs.List.{AllByRecursion as Each}
-use Rattle.pk_fields.specs.FieldSets.{every_field, is_in}
+use Rattle.pk_fields.specs.FieldSets.{is_in}
 use Rattle.pk_fields.specs.Ids.{FRAME_NUMBER, FRAME_TIME_RELATIVE, FRAME_LEN, ETH_SRC, ETH_DST, IP_SRC, IP_DST, IPV6_SRC, IPV6_DST}
 use Rattle.pk_tree.specs.Trees.{TreeShown, IsKept}
 use Rattle.dissect.specs.Followed.{asks_streams, HasSameValues}
@@ -10,6 +10,7 @@ use Rattle.cap_stats.specs.declared.kind.StatKind.{StatKind}
 use Rattle.capture_write.specs.declared.format.Format.{Format}
 use Rattle.flt_types.specs.declared.typed.Typed.{Typed}
 use Rattle.flt_types.specs.Asked.{HasFilter}
+use Rattle.second_pass.specs.Laws.{link_fields}
 use Rattle.shark_words.specs.declared.options.LineKind.{LineKind}
 use Rattle.shark_words.specs.declared.options.LineKind.TheVariants.{Text, Fields, Json}
 use Rattle.shark_run.specs.declared.plan.Plan.{Plan}
@@ -84,9 +85,9 @@ pub record IsToldAs (plan : Plan) (whole tree : TreeShown) : Type 0 where
   pub truth : IsSome (written_of plan) → lets plan tree ≡ lets plan whole
   pub noted : (kind : StatKind) → asks_table plan kind ≡ true → IsNotedAs plan kind whole tree
 
--- trees of these fields are told as the whole trees; streams are asked where something is told by them, and all fields where the
--- frames are read twice
+-- trees of these fields are told as the whole trees; streams are asked where something is told by them, and the fields of links
+-- where the frames are read twice
 pub record IsEnough (wanted : List ℕ) (plan : Plan) : Type 0 where
   pub told : (whole tree : TreeShown) → IsMadeFor wanted whole tree → IsToldAs plan whole tree
   pub streams : needs_streams plan ≡ true → asks_streams wanted ≡ true
-  pub twice : two_of plan ≡ true → wanted ≡ every_field
+  pub twice : two_of plan ≡ true → HasFields wanted link_fields

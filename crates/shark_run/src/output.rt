@@ -15,7 +15,7 @@ ghost use Rattle.pk_tree.specs.Trees.{TreeShown};
 ghost use Rattle.shark_run.specs.declared.totals.Totals.{Totals as TotalsValue};
 ghost use Rattle.shark_run.specs.Accessors.{is_generated, is_quiet, rules_of, two_of, written_of};
 ghost use Rattle.shark_run.specs.Job.{IfOnce, Passes, job_in, once};
-ghost use Rattle.shark_run.specs.Later.{Serves};
+ghost use Rattle.shark_run.specs.Later.{ServesKept};
 ghost use Rattle.shark_run.specs.Ended.{CanClose, HasRead};
 ghost use Rattle.shark_run.specs.Steps.{IsAfterFrame, IsPacked, KeepsUp, fit_packet, fit_piece};
 ghost use Rattle.shark_run.specs.Lines.{closing, line_of, opening, shown};
@@ -212,7 +212,8 @@ fn take_frame(
     requires time { IfSome frame.now.time IsTime }
     requires captured { dissector.old.captured + length frame.now.bytes ≤ 2 ^ 28 }
     ensures told { IfOk result (λ tree. (passes : Passes) (past : List FrameValue)
-        → Serves (two_of plan.now) passes later.now → StandsWithin past dissector.old
+        → ServesKept dissector.old.wanted (two_of plan.now) passes later.now
+        → StandsWithin past dissector.old
         → IsToldAs plan.now (tree_of (job_in plan.now passes) past frame.now) tree) }
     ensures stands { OnOk result ((past : List FrameValue) → StandsWithin past dissector.old
         → StandsWithin (frame.now ∷ past) dissector.new) }
@@ -258,15 +259,18 @@ fn write_shown<O: Sink>(
     ensures captured { OnOk result (dissector.new.captured
         ≡ dissector.old.captured + length frame.now.bytes) }
     ensures whole { OnOk result ((passes : Passes) (past : List FrameValue)
-        → Serves (two_of plan.now) passes later.now → StandsWithin past dissector.old
+        → ServesKept dissector.old.wanted (two_of plan.now) passes later.now
+        → StandsWithin past dissector.old
         → Appends (O.written out.old) (O.written out.new)
         (shown plan.now (tree_of (job_in plan.now passes) past frame.now))) }
     ensures part { (passes : Passes) (past : List FrameValue)
-        → Serves (two_of plan.now) passes later.now → StandsWithin past dissector.old
+        → ServesKept dissector.old.wanted (two_of plan.now) passes later.now
+        → StandsWithin past dissector.old
         → AppendsPart (O.written out.old) (O.written out.new)
         (shown plan.now (tree_of (job_in plan.now passes) past frame.now)) }
     ensures notes { OnOk result ((passes : Passes) (past : List FrameValue)
-        → Serves (two_of plan.now) passes later.now → StandsWithin past dissector.old
+        → ServesKept dissector.old.wanted (two_of plan.now) passes later.now
+        → StandsWithin past dissector.old
         → AreNotes (job_in plan.now passes) past lines.old.notes
         → AreNotes (job_in plan.now passes) (frame.now ∷ past) lines.new.notes) }
     ensures few { (most : ℕ) → AreFewNotes most lines.old.notes → AreFewNotes (suc most) lines.new.notes }
@@ -313,12 +317,14 @@ fn write_chosen<O: Sink>(
     ensures captured { OnOk result (dissector.new.captured
         ≡ dissector.old.captured + length frame.now.bytes) }
     ensures packed { IfOk result (λ fit. (passes : Passes) (past chosen : List FrameValue)
-        → Serves (two_of plan.now) passes later.now → StandsWithin past dissector.old
+        → ServesKept dissector.old.wanted (two_of plan.now) passes later.now
+        → StandsWithin past dissector.old
         → Written writer.old chosen
         → IsPacked fit (lets_frame (job_in plan.now passes) past frame.now)
         writer.old.format frame.now writer.new chosen (O.written out.old) (O.written out.new)) }
     ensures part { (passes : Passes) (past chosen : List FrameValue)
-        → Serves (two_of plan.now) passes later.now → StandsWithin past dissector.old
+        → ServesKept dissector.old.wanted (two_of plan.now) passes later.now
+        → StandsWithin past dissector.old
         → Written writer.old chosen → AppendsPart (O.written out.old) (O.written out.new)
         (fit_packet (lets_frame (job_in plan.now passes) past frame.now)
         writer.old.format chosen frame.now) }
@@ -365,12 +371,14 @@ pub(crate) fn write_frame<O: Sink>(
     ensures captured { OnOk result (dissector.new.captured
         ≡ dissector.old.captured + length frame.now.bytes) }
     ensures after { IfOk result (λ fit. (passes : Passes) (past : List FrameValue)
-        → Serves (two_of plan.now) passes later.now → StandsWithin past dissector.old
+        → ServesKept dissector.old.wanted (two_of plan.now) passes later.now
+        → StandsWithin past dissector.old
         → KeepsUp (written_of plan.now) (job_in plan.now passes) past lines.old.notes lines.old.capture
         → IsAfterFrame fit (job_in plan.now passes) past frame.now lines.new.notes lines.new.capture
         (O.written out.old) (O.written out.new)) }
     ensures part { (passes : Passes) (past : List FrameValue)
-        → Serves (two_of plan.now) passes later.now → StandsWithin past dissector.old
+        → ServesKept dissector.old.wanted (two_of plan.now) passes later.now
+        → StandsWithin past dissector.old
         → KeepsUp (written_of plan.now) (job_in plan.now passes) past lines.old.notes lines.old.capture
         → AppendsPart (O.written out.old) (O.written out.new)
         (fit_piece (job_in plan.now passes) past frame.now) }

@@ -1,20 +1,21 @@
 // Reading the frames twice: the first time for what later frames bring, the second time for the lines.
-ghost use Rattle.std.specs.Prelude.{◌≡◌, true, ◌≤◌, ◌<◌, ◌+◌, ℕ, suc, List, [], ◌∷◌, Some, IfOk, IfSome, IsErrOf, OnOk, reverse};
+ghost use Rattle.std.specs.Prelude.{◌≡◌, true, ◌≤◌, ◌<◌, ◌+◌, ℕ, suc, List, [], ◌∷◌, Some, IfOk, IfSome, IsErrOf, OnOk, map, reverse};
 ghost use Rattle.std.specs.Io.KnownBytes.{Appends};
 ghost use Rattle.pk_base.specs.Limits.{file_limit as limit_of_file};
-ghost use Rattle.pk_fields.specs.FieldSets.{every_field};
 ghost use Rattle.pk_outside.specs.Outside.{AppendsPart, Rose};
 ghost use Rattle.capture_read.specs.Capture.{capture_of};
 ghost use Rattle.capture_read.specs.Reader.{StandsFor};
 ghost use Rattle.capture_read.specs.Taken.{TookAtMost};
 ghost use Rattle.capture_read.specs.declared.frame.Frame.{Frame as FrameValue};
+ghost use Rattle.dissect.specs.Followed.{asks_streams};
 ghost use Rattle.dissect.specs.Stands.{StandsWithin};
+ghost use Rattle.second_pass.specs.Laws.{kept_noted};
 ghost use Rattle.second_pass.specs.Stands.{Stands as Noted};
 ghost use Rattle.shark_run.specs.Accessors.{most_of, rules_of, two_of, written_of};
 ghost use Rattle.shark_run.specs.Ended.{CanClose};
 ghost use Rattle.shark_run.specs.Fitting.{fitting};
 ghost use Rattle.shark_run.specs.Job.{Passes, job_in, noted_of, passes_by};
-ghost use Rattle.shark_run.specs.Later.{Serves};
+ghost use Rattle.shark_run.specs.Later.{ServesKept};
 ghost use Rattle.shark_run.specs.Lines.{pieces};
 ghost use Rattle.shark_run.specs.Reading.{frames_read, limited, read_of};
 ghost use Rattle.shark_run.specs.Reports.{HasTaken};
@@ -128,16 +129,17 @@ fn keep_frames<C: Capture>(
     }
 }
 
-// Notes the trees of frames, for their links to later ones.
+// Notes the trees of frames, of which only the wanted fields are read, for their links to later ones.
 fn note_all(frames: &[Frame], dissector: &mut Dissector, links: &mut Links) -> Result<(), NoMemory>
-    requires fields { dissector.old.wanted ≡ every_field }
+    requires streams { asks_streams dissector.old.wanted ≡ true }
     requires stands { StandsWithin [] dissector.old }
     requires taken { dissector.old.taken ≡ 0 }
     requires captured { dissector.old.captured ≡ 0 }
     requires takeable { AreTakeable 0 0 frames.now }
     requires noted { Noted [] links.old }
     ensures { OnOk result
-        (Noted (noted_of dissector.old.decode.rules (reverse frames.now)) links.new) }
+        (Noted (map (kept_noted dissector.old.wanted)
+        (noted_of dissector.old.decode.rules (reverse frames.now))) links.new) }
 {
     let mut left = frames;
     while let [frame, more @ ..] = left {
@@ -155,13 +157,20 @@ fn note_all(frames: &[Frame], dissector: &mut Dissector, links: &mut Links) -> R
     Ok(())
 }
 
-// The links between frames, by trees of all fields.
-fn links_of(alloc: Global, plan: &Plan, frames: &[Frame]) -> Result<Links, NoMemory>
-    requires { AreTakeable 0 0 frames.now }
+// The links between frames, by trees of the wanted fields.
+fn links_of(
+    alloc: Global,
+    plan: &Plan,
+    wanted: FieldSet,
+    frames: &[Frame],
+) -> Result<Links, NoMemory>
+    requires streams { asks_streams wanted ≡ true }
+    requires takeable { AreTakeable 0 0 frames.now }
     ensures { IfOk result (λ links.
-        Noted (noted_of (rules_of plan.now) (reverse frames.now)) links) }
+        Noted (map (kept_noted wanted)
+        (noted_of (rules_of plan.now) (reverse frames.now))) links) }
 {
-    let mut dissector = new_dissector(alloc, plan, FieldSet::all())?;
+    let mut dissector = new_dissector(alloc, plan, wanted)?;
     let mut links = Links::new(alloc);
     match note_all(frames, &mut dissector, &mut links) {
         Ok(()) => Ok(links),
@@ -190,19 +199,21 @@ fn write_kept<O: Sink>(
     requires captured { dissector.old.captured ≡ 0 }
     requires takeable { AreTakeable 0 0 kept.now.frames }
     ensures ended { IfOk result (λ ending. (passes : Passes)
-        → Serves (two_of plan.now) passes later.now
+        → ServesKept dissector.old.wanted (two_of plan.now) passes later.now
         → Appends (O.written out.old) (O.written out.new)
         (pieces (job_in plan.now passes) []
         (fitting (job_in plan.now passes) [] kept.now.frames kept.now.ending).frames)
         × (ending
         ≡ (fitting (job_in plan.now passes) [] kept.now.frames kept.now.ending).ending)) }
-    ensures read { OnOk result ((passes : Passes) → Serves (two_of plan.now) passes later.now
+    ensures read { OnOk result ((passes : Passes)
+        → ServesKept dissector.old.wanted (two_of plan.now) passes later.now
         → CanClose (written_of plan.now) (job_in plan.now passes)
         (reverse (fitting (job_in plan.now passes) [] kept.now.frames kept.now.ending).frames)
         dissector.new lines.new.notes lines.new.capture) }
     ensures enough { OnOk result (IsEnough dissector.new.wanted plan.now) }
     ensures taken { OnOk result (HasTaken dissector.new) }
-    ensures part { (passes : Passes) → Serves (two_of plan.now) passes later.now
+    ensures part { (passes : Passes)
+        → ServesKept dissector.old.wanted (two_of plan.now) passes later.now
         → AppendsPart (O.written out.old) (O.written out.new)
         (pieces (job_in plan.now passes) []
         (fitting (job_in plan.now passes) [] kept.now.frames kept.now.ending).frames) }
@@ -244,13 +255,14 @@ fn write_kept_body<O: Sink>(
     requires captured { dissector.old.captured ≡ 0 }
     requires takeable { AreTakeable 0 0 kept.now.frames }
     ensures ended { IfOk result (λ ending. (passes : Passes)
-        → Serves (two_of plan.now) passes later.now
+        → ServesKept dissector.old.wanted (two_of plan.now) passes later.now
         → WroteBody plan.now
         (fitting (job_in plan.now passes) [] kept.now.frames kept.now.ending)
         (O.written out.old) (O.written out.new)
         × (ending
         ≡ (fitting (job_in plan.now passes) [] kept.now.frames kept.now.ending).ending)) }
-    ensures part { (passes : Passes) → Serves (two_of plan.now) passes later.now
+    ensures part { (passes : Passes)
+        → ServesKept dissector.old.wanted (two_of plan.now) passes later.now
         → WroteSomeBody plan.now
         (fitting (job_in plan.now passes) [] kept.now.frames kept.now.ending)
         (O.written out.old) (O.written out.new) }
@@ -271,14 +283,19 @@ fn write_kept_body<O: Sink>(
 }
 
 // What is known of later frames, by a first going over all of them.
-fn later_of(alloc: Global, plan: &Plan, frames: &[Frame]) -> Result<Later, NoMemory>
+fn later_of(
+    alloc: Global,
+    plan: &Plan,
+    wanted: FieldSet,
+    frames: &[Frame],
+) -> Result<Later, NoMemory>
     requires two { two_of plan.now ≡ true }
+    requires enough { IsEnough wanted plan.now }
     requires takeable { AreTakeable 0 0 frames.now }
-    ensures { IfOk result (λ later.
-        Serves (two_of plan.now) (passes_by (two_of plan.now) (rules_of plan.now) frames.now)
-        later) }
+    ensures { IfOk result (λ later. ServesKept wanted (two_of plan.now)
+        (passes_by (two_of plan.now) (rules_of plan.now) frames.now) later) }
 {
-    match links_of(alloc, plan, frames) {
+    match links_of(alloc, plan, wanted, frames) {
         Ok(links) => Ok(Later::Known(links)),
         Err(error) => Err(error),
     }
@@ -289,18 +306,21 @@ fn write_known<O: Sink>(
     alloc: Global,
     plan: &Plan,
     kept: &KeptFrames,
+    wanted: FieldSet,
     later: &Later,
     out: &mut O,
 ) -> Result<RunEnding, RunFault>
+    requires enough { IsEnough wanted plan.now }
     requires takeable { AreTakeable 0 0 kept.now.frames }
     ensures ended { IfOk result (λ ending. (passes : Passes)
-        → Serves (two_of plan.now) passes later.now
+        → ServesKept wanted (two_of plan.now) passes later.now
         → WroteBody plan.now
         (fitting (job_in plan.now passes) [] kept.now.frames kept.now.ending)
         (O.written out.old) (O.written out.new)
         × (ending
         ≡ (fitting (job_in plan.now passes) [] kept.now.frames kept.now.ending).ending)) }
-    ensures part { (passes : Passes) → Serves (two_of plan.now) passes later.now
+    ensures part { (passes : Passes)
+        → ServesKept wanted (two_of plan.now) passes later.now
         → WroteSomeBody plan.now
         (fitting (job_in plan.now passes) [] kept.now.frames kept.now.ending)
         (O.written out.old) (O.written out.new) }
@@ -312,7 +332,7 @@ fn write_known<O: Sink>(
         Ok(lines) => lines,
         Err(NoMemory) => return Err(RunFault::NoMemory),
     };
-    let mut dissector = match new_dissector(alloc, plan, needed_fields(plan)) {
+    let mut dissector = match new_dissector(alloc, plan, wanted) {
         Ok(dissector) => dissector,
         Err(NoMemory) => return Err(RunFault::NoMemory),
     };
@@ -344,11 +364,12 @@ fn write_again<O: Sink>(
     ensures write_fault { IsErrOf result RunFault.WriteFault
         → Rose (O.faults out.old) (O.faults out.new) }
 {
-    let later = match later_of(alloc, plan, kept.frames.slice()) {
+    let wanted = needed_fields(plan);
+    let later = match later_of(alloc, plan, wanted, kept.frames.slice()) {
         Ok(later) => later,
         Err(NoMemory) => return Err(RunFault::NoMemory),
     };
-    match write_known(alloc, plan, kept, &later, out) {
+    match write_known(alloc, plan, kept, wanted, &later, out) {
         Ok(ending) => Ok(ending),
         Err(fault) => Err(fault),
     }

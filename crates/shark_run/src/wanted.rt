@@ -2,7 +2,8 @@
 ghost use Rattle.std.specs.Prelude.{◌≡◌, ℕ, true};
 ghost use Rattle.cap_stats.specs.Laws.{fields_of as table_fields};
 ghost use Rattle.pk_fields.specs.FieldSets.{is_in};
-ghost use Rattle.shark_run.specs.Accessors.{needs_streams as are_streams_needed};
+ghost use Rattle.second_pass.specs.Laws.{link_fields};
+ghost use Rattle.shark_run.specs.Accessors.{needs_streams as are_streams_needed, two_of};
 ghost use Rattle.shark_run.specs.Tables.{asks_table};
 ghost use Rattle.shark_run.specs.Wanted.{HasAsked, HasFields, HasPlan, HasTables, IsEnough, shows_whole, summary_fields, sums_up as are_summed_up};
 ghost use Rattle.dissect.specs.Followed.{asks_streams};
@@ -14,17 +15,17 @@ use flt_types::{Filter, add_fields};
 use pk_fields::{FieldId, FieldSet, ids};
 use shark_words::LineKind;
 
-/// The fields that the output is made from: all for lines of JSON and where the frames are read twice, else those of the filter,
-/// of the lines and of the tables, and what tells of streams where the names of all protocols are shown or something is asked
-/// for behind the lines.
+/// The fields that the output is made from: all for lines of JSON, else those of the filter, of the lines and of the tables, what
+/// tells of streams where the names of all protocols are shown or something is asked for behind the lines, and the fields of links
+/// where the frames are read twice.
 #[tactic(auto, using(crate::proofs::WantedLemmas::enough_all, crate::proofs::WantedLemmas::enough_followed, crate::proofs::WantedLemmas::enough_none, crate::proofs::WantedLemmas::enough_plain))]
 pub(crate) fn needed_fields(plan: &Plan) -> FieldSet
     ensures { IsEnough result plan.now }
 {
-    if plan.two || shows_trees(plan) {
+    if shows_trees(plan) {
         return FieldSet::all();
     }
-    if needs_streams(plan) || sums_up(plan) {
+    if plan.two || needs_streams(plan) || sums_up(plan) {
         return followed_fields(plan);
     }
     if plan.quiet && plan.written.is_none() {
@@ -66,14 +67,16 @@ fn needs_streams(plan: &Plan) -> bool
     plan.source.is_generated() || !plan.reports.slice().is_empty()
 }
 
-/// The fields of a plan and of its tables, and one of the streams of TCP.
+/// The fields of a plan and of its tables, one of the streams of TCP, and those of links where the frames are read twice.
 fn followed_fields(plan: &Plan) -> FieldSet
     ensures plan { HasPlan result plan.now }
     ensures tables { HasTables result plan.now }
     ensures streams { asks_streams result ≡ true }
+    ensures links { two_of plan.now ≡ true → HasFields result link_fields }
 {
     let mut wanted = wanted_fields(plan);
     add_tables(plan, &mut wanted);
+    add_links(plan, &mut wanted);
     wanted.add(ids::TCP_STREAM);
     wanted
 }
@@ -94,6 +97,16 @@ fn add_table(plan: &Plan, kind: StatKind, wanted: &mut FieldSet)
 {
     if asks(plan, kind) {
         cap_stats::add_fields(kind, wanted);
+    }
+}
+
+// The fields of links, where the frames are read twice.
+fn add_links(plan: &Plan, wanted: &mut FieldSet)
+    ensures fields { two_of plan.now ≡ true → HasFields wanted.new link_fields }
+    ensures kept { (f : ℕ) → is_in wanted.old f ≡ true → is_in wanted.new f ≡ true }
+{
+    if plan.two {
+        second_pass::add_fields(wanted);
     }
 }
 

@@ -1,6 +1,10 @@
-use Rattle.std.proofs.Common.{◌∙◌, ◌-◌, refl, subst, sym, [], ◌∷◌, drop, length, take}
+use Rattle.std.proofs.Common.{◌∙◌, ◌-◌, ap, refl, ℕ, List, subst, sym, [], ◌∷◌, drop, length, map, take}
 use Rattle.port_rules.specs.declared.rules.DecodeAs.{DecodeAs}
-use Rattle.second_pass.specs.Stands.{Stands}
+use Rattle.capture_read.specs.declared.frame.Frame.{Frame}
+use Rattle.dissect.specs.Followed.{asks_streams}
+use Rattle.dissect.specs.Trees.{tree_at}
+use Rattle.pk_tree.specs.Trees.{IsKept}
+use Rattle.second_pass.specs.Laws.{kept_noted}
 use Rattle.shark_run.specs.Job.{noted_of}
 use Rattle.shark_run.proofs.TwiceLemmas.{first_takeable, left_more, noted_more, takeable_after, takeable_begun}
 use Rattle.shark_run.proofs.two_passes.note_all.Goals as goal
@@ -12,7 +16,7 @@ loop-left-init c = record {
   stands = c.requires.stands;
   noted = c.requires.noted;
   rules = refl;
-  wanted = c.requires.fields;
+  wanted = refl;
   takeable = takeable_begun c.args.dissector.now.taken c.args.dissector.now.captured c.args.frames.now c.requires.taken c.requires.captured c.requires.takeable;
 }
 
@@ -33,9 +37,11 @@ loop-left-preserved c = record {
   past = c.frame-item.result ∷ c.loop-left.invariant.past;
   joined = left_more c.loop-left.invariant.past c.loop-left.left.now c.args.frames.now c.frame-item.result c.frame-item.is c.in-len1-up.len_at_least c.loop-left.invariant.joined;
   stands = c.in-Ok.ensures.stands c.loop-left.invariant.past c.loop-left.invariant.stands;
-  noted = subst (λ (decode : DecodeAs). Stands (noted_of decode.rules (c.frame-item.result ∷ c.loop-left.invariant.past)) c.note.new.self) (sym c.take_wanted.ensures.rules) (noted_more c.loop-left.dissector.decode.rules c.loop-left.invariant.past c.frame-item.result c.in-Ok.tree c.loop-left.dissector.wanted c.note.new.self
-      c.loop-left.invariant.wanted (λ asks. c.in-Ok.ensures.tree asks c.loop-left.invariant.past c.loop-left.invariant.stands)
-      (c.in-Ok-note.ensures.stands (noted_of c.loop-left.dissector.decode.rules c.loop-left.invariant.past) c.loop-left.invariant.noted));
+  noted = noted_more c.args.dissector.now.decode.rules c.loop-left.invariant.past c.frame-item.result c.in-Ok.tree c.args.dissector.now.wanted c.note.new.self
+      (subst (λ (decode : DecodeAs). IsKept c.args.dissector.now.wanted (tree_at decode.rules c.loop-left.invariant.past c.frame-item.result) c.in-Ok.tree) c.loop-left.invariant.rules
+      (subst (λ (fields : List ℕ). IsKept fields (tree_at c.loop-left.dissector.decode.rules c.loop-left.invariant.past c.frame-item.result) c.in-Ok.tree) c.loop-left.invariant.wanted
+      (c.in-Ok.ensures.tree (ap asks_streams c.loop-left.invariant.wanted ∙ c.requires.streams) c.loop-left.invariant.past c.loop-left.invariant.stands)))
+      (c.in-Ok-note.ensures.stands (map (kept_noted c.args.dissector.now.wanted) (noted_of c.args.dissector.now.decode.rules c.loop-left.invariant.past)) c.loop-left.invariant.noted);
   rules = c.take_wanted.ensures.rules ∙ c.loop-left.invariant.rules;
   wanted = c.take_wanted.ensures.wanted ∙ c.loop-left.invariant.wanted;
   takeable = takeable_after c.loop-left.dissector.taken c.loop-left.dissector.captured c.take_wanted.new.self.taken c.take_wanted.new.self.captured c.frame-item.result (take (length c.loop-left.left.now - 1) (drop 1 c.loop-left.left.now))

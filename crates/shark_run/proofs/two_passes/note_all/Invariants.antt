@@ -1,7 +1,7 @@
-use Rattle.std.proofs.Common.{◌≡◌, List, length, ◌++◌, reverse}
+use Rattle.std.proofs.Common.{◌≡◌, List, length, map, ◌++◌, reverse}
 use Rattle.capture_read.specs.declared.frame.Frame.{Frame}
 use Rattle.dissect.specs.Stands.{StandsWithin}
-use Rattle.pk_fields.specs.FieldSets.{every_field}
+use Rattle.second_pass.specs.Laws.{kept_noted}
 use Rattle.second_pass.specs.Stands.{Stands}
 use Rattle.shark_run.specs.Job.{noted_of}
 use Rattle.shark_run.specs.Takeable.{AreTakeable}
@@ -12,9 +12,9 @@ invariant-loop-left l = record {
   past : List Frame;
   joined : reverse past ++ l.left ≡ l.frames;
   stands : StandsWithin past l.dissector;
-  noted : Stands (noted_of l.dissector.decode.rules past) l.links;
+  noted : Stands (map (kept_noted l.fn.dissector.wanted) (noted_of l.fn.dissector.decode.rules past)) l.links;
   rules : l.dissector.decode ≡ l.fn.dissector.decode;
-  wanted : l.dissector.wanted ≡ every_field;
+  wanted : l.dissector.wanted ≡ l.fn.dissector.wanted;
   takeable : AreTakeable l.dissector.taken l.dissector.captured l.left;
 }
 

@@ -1,4 +1,4 @@
-use Rattle.std.proofs.Common.{◌∙◌, ap, sym, subst, ℕ, List, [], ◌∷◌, arith, length, take, drop, ◌-◌}
+use Rattle.std.proofs.Common.{◌∙◌, ap, sym, subst, refl, ℕ, List, [], ◌∷◌, arith, length, take, drop, ◌-◌}
 use Rattle.port_rules.specs.declared.rules.DecodeAs.{DecodeAs}
 use Rattle.pk_outside.proofs.Parts.{part_whole}
 use Rattle.shark_run.specs.Fitting.{fitting}
@@ -6,7 +6,7 @@ use Rattle.shark_run.specs.Job.{job_in}
 use Rattle.shark_run.specs.Lines.{pieces}
 use Rattle.shark_run.specs.Wanted.{IsEnough}
 use Rattle.shark_run.proofs.TotalsLemmas.{few_after, few_begun}
-use Rattle.shark_run.proofs.TwiceLemmas.{all_joined, few_kept, first_takeable, left_first, left_more, takeable_after, takeable_begun, through_begun, through_broken, through_closes, through_ended, through_further, through_unfit, through_unfit_closes}
+use Rattle.shark_run.proofs.TwiceLemmas.{all_joined, few_kept, first_takeable, left_first, left_more, serves_still, takeable_after, takeable_begun, through_begun, through_broken, through_closes, through_ended, through_further, through_unfit, through_unfit_closes}
 use Rattle.shark_run.proofs.two_passes.write_kept.Goals as goal
 
 pub loop-left-init : goal.loop-left-init
@@ -18,6 +18,7 @@ loop-left-init g c = record {
   takeable = takeable_begun c.args.dissector.now.taken c.args.dissector.now.captured c.slice-left.result.now c.requires.taken c.requires.captured (rw c.slice-left.ensures c.requires.takeable);
   taken = omega (arith, c.requires.taken);
   wanted = c.requires.enough;
+  same = refl;
   rules = c.requires.rules;
   writer = c.requires.lines;
   few = few_begun c.args.dissector.now.taken c.args.lines.now.notes.totals c.requires.totals;
@@ -45,7 +46,7 @@ returns-in-Err-clause-part g c = λ passes serves.
     c.loop-left.lines.notes c.loop-left.lines.capture (g.O.Sink.written c.args.out.now) (g.O.Sink.written c.loop-left.out) (g.O.Sink.written c.write_frame.new.out)
     (left_first c.loop-left.invariant.past c.loop-left.left.now c.args.kept.now.frames c.frame-item.result c.frame-item.is c.in-len1-up.len_at_least c.loop-left.invariant.joined)
     (c.loop-left.invariant.way passes serves)
-    (c.write_frame.ensures.part passes c.loop-left.invariant.past serves c.loop-left.invariant.stands (c.loop-left.invariant.way passes serves).keeps)
+    (c.write_frame.ensures.part passes c.loop-left.invariant.past (serves_still c.args.dissector.now.wanted c.loop-left.dissector.wanted c.args.plan.now passes c.args.later.now c.loop-left.invariant.same serves) c.loop-left.invariant.stands (c.loop-left.invariant.way passes serves).keeps)
 
 pub returns-in-Ok-false-clause-part : goal.returns-in-Ok-false-clause-part
 returns-in-Ok-false-clause-part g c = λ passes serves.
@@ -53,7 +54,7 @@ returns-in-Ok-false-clause-part g c = λ passes serves.
     c.loop-left.lines.notes c.loop-left.lines.capture (g.O.Sink.written c.args.out.now) (g.O.Sink.written c.loop-left.out) (g.O.Sink.written c.write_frame.new.out)
     (left_first c.loop-left.invariant.past c.loop-left.left.now c.args.kept.now.frames c.frame-item.result c.frame-item.is c.in-len1-up.len_at_least c.loop-left.invariant.joined)
     (c.loop-left.invariant.way passes serves)
-    (c.write_frame.ensures.part passes c.loop-left.invariant.past serves c.loop-left.invariant.stands (c.loop-left.invariant.way passes serves).keeps)
+    (c.write_frame.ensures.part passes c.loop-left.invariant.past (serves_still c.args.dissector.now.wanted c.loop-left.dissector.wanted c.args.plan.now passes c.args.later.now c.loop-left.invariant.same serves) c.loop-left.invariant.stands (c.loop-left.invariant.way passes serves).keeps)
 
 pub returns-in-Ok-false-clause-ended : goal.returns-in-Ok-false-clause-ended
 returns-in-Ok-false-clause-ended g c = λ passes serves.
@@ -61,7 +62,7 @@ returns-in-Ok-false-clause-ended g c = λ passes serves.
     c.loop-left.lines.notes c.write_frame.new.lines.notes c.loop-left.lines.capture c.write_frame.new.lines.capture (g.O.Sink.written c.args.out.now) (g.O.Sink.written c.loop-left.out) (g.O.Sink.written c.write_frame.new.out)
     (left_first c.loop-left.invariant.past c.loop-left.left.now c.args.kept.now.frames c.frame-item.result c.frame-item.is c.in-len1-up.len_at_least c.loop-left.invariant.joined)
     (c.loop-left.invariant.way passes serves)
-    ((rw c.in-Ok-false.field-0-test at c.in-Ok-false.ensures.after) passes c.loop-left.invariant.past serves c.loop-left.invariant.stands (c.loop-left.invariant.way passes serves).keeps)
+    ((rw c.in-Ok-false.field-0-test at c.in-Ok-false.ensures.after) passes c.loop-left.invariant.past (serves_still c.args.dissector.now.wanted c.loop-left.dissector.wanted c.args.plan.now passes c.args.later.now c.loop-left.invariant.same serves) c.loop-left.invariant.stands (c.loop-left.invariant.way passes serves).keeps)
 
 pub returns-in-Ok-false-clause-read : goal.returns-in-Ok-false-clause-read
 returns-in-Ok-false-clause-read g c = λ passes serves.
@@ -69,7 +70,7 @@ returns-in-Ok-false-clause-read g c = λ passes serves.
     c.write_frame.new.dissector c.loop-left.lines.notes c.write_frame.new.lines.notes c.loop-left.lines.capture c.write_frame.new.lines.capture (g.O.Sink.written c.args.out.now) (g.O.Sink.written c.loop-left.out) (g.O.Sink.written c.write_frame.new.out)
     (left_first c.loop-left.invariant.past c.loop-left.left.now c.args.kept.now.frames c.frame-item.result c.frame-item.is c.in-len1-up.len_at_least c.loop-left.invariant.joined)
     (c.loop-left.invariant.way passes serves)
-    ((rw c.in-Ok-false.field-0-test at c.in-Ok-false.ensures.after) passes c.loop-left.invariant.past serves c.loop-left.invariant.stands (c.loop-left.invariant.way passes serves).keeps)
+    ((rw c.in-Ok-false.field-0-test at c.in-Ok-false.ensures.after) passes c.loop-left.invariant.past (serves_still c.args.dissector.now.wanted c.loop-left.dissector.wanted c.args.plan.now passes c.args.later.now c.loop-left.invariant.same serves) c.loop-left.invariant.stands (c.loop-left.invariant.way passes serves).keeps)
 
 pub returns-in-Ok-false-clause-enough : goal.returns-in-Ok-false-clause-enough
 returns-in-Ok-false-clause-enough g c = subst (λ (fields : List ℕ). IsEnough fields c.args.plan.now) (sym c.write_frame.ensures.kept) c.loop-left.invariant.wanted
@@ -91,11 +92,12 @@ loop-left-preserved g c =
       way = λ passes serves.
           through_further (job_in c.args.plan.now passes) c.loop-left.invariant.past c.frame-item.result c.loop-left.lines.notes c.write_frame.new.lines.notes c.loop-left.lines.capture c.write_frame.new.lines.capture (g.O.Sink.written c.args.out.now) (g.O.Sink.written c.loop-left.out) (g.O.Sink.written c.write_frame.new.out)
           (c.loop-left.invariant.way passes serves)
-          ((rw c.in-Ok-true.field-0-test at c.in-Ok-true.ensures.after) passes c.loop-left.invariant.past serves c.loop-left.invariant.stands (c.loop-left.invariant.way passes serves).keeps);
+          ((rw c.in-Ok-true.field-0-test at c.in-Ok-true.ensures.after) passes c.loop-left.invariant.past (serves_still c.args.dissector.now.wanted c.loop-left.dissector.wanted c.args.plan.now passes c.args.later.now c.loop-left.invariant.same serves) c.loop-left.invariant.stands (c.loop-left.invariant.way passes serves).keeps);
       takeable = takeable_after c.loop-left.dissector.taken c.loop-left.dissector.captured c.write_frame.new.dissector.taken c.write_frame.new.dissector.captured c.frame-item.result (take (length c.loop-left.left.now - 1) (drop 1 c.loop-left.left.now))
           able c.in-Ok-true.ensures.taken c.in-Ok-true.ensures.captured;
       taken = omega (arith, c.in-Ok-true.ensures.taken, able.0.few);
       wanted = subst (λ (fields : List ℕ). IsEnough fields c.args.plan.now) (sym c.write_frame.ensures.kept) c.loop-left.invariant.wanted;
+      same = c.write_frame.ensures.kept ∙ c.loop-left.invariant.same;
       rules = ap (λ (decode : DecodeAs). decode.rules) c.write_frame.ensures.rules ∙ c.loop-left.invariant.rules;
       writer = c.write_frame.ensures.writer ∙ c.loop-left.invariant.writer;
       few = few_after c.loop-left.dissector.taken c.write_frame.new.dissector.taken c.write_frame.new.lines.notes.totals c.in-Ok-true.ensures.taken (c.write_frame.ensures.few c.loop-left.dissector.taken c.loop-left.invariant.few);

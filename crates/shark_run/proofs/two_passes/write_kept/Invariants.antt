@@ -4,7 +4,7 @@ use Rattle.dissect.specs.Stands.{StandsWithin}
 use Rattle.pk_base.specs.Limits.{file_limit}
 use Rattle.shark_run.specs.Accessors.{rules_of, two_of}
 use Rattle.shark_run.specs.Job.{Passes, job_in}
-use Rattle.shark_run.specs.Later.{Serves}
+use Rattle.shark_run.specs.Later.{ServesKept}
 use Rattle.shark_run.specs.Notes.{AreFewNotes}
 use Rattle.shark_run.specs.Takeable.{AreTakeable}
 use Rattle.shark_run.specs.Wanted.{IsEnough}
@@ -16,10 +16,11 @@ invariant-loop-left g l = record {
   past : List Frame;
   joined : reverse past ++ l.left ≡ l.kept.frames;
   stands : StandsWithin past l.dissector;
-  way : (passes : Passes) → Serves (two_of l.plan) passes l.later → IsThrough (job_in l.plan passes) past l.lines.notes l.lines.capture (g.O.Sink.written l.fn.out) (g.O.Sink.written l.out);
+  way : (passes : Passes) → ServesKept l.fn.dissector.wanted (two_of l.plan) passes l.later → IsThrough (job_in l.plan passes) past l.lines.notes l.lines.capture (g.O.Sink.written l.fn.out) (g.O.Sink.written l.out);
   takeable : AreTakeable l.dissector.taken l.dissector.captured l.left;
   taken : l.dissector.taken ≤ file_limit;
   wanted : IsEnough l.dissector.wanted l.plan;
+  same : l.dissector.wanted ≡ l.fn.dissector.wanted;
   rules : l.dissector.decode.rules ≡ rules_of l.plan;
   writer : l.lines.writer ≡ l.plan.fields;
   few : AreFewNotes l.dissector.taken l.lines.notes;
