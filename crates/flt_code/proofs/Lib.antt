@@ -1,0 +1,13 @@
+pub mod Allowed
+pub mod CodeLemmas
+pub mod CompileLemmas
+pub mod Growth
+pub mod Inside
+pub mod LoadLemmas
+pub mod OwnerLemmas
+pub mod ReadKinds
+pub mod Registers
+pub mod Runs
+pub mod SpineLemmas
+pub mod TypesAllow
+pub mod ValueKinds

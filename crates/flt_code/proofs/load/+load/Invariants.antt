@@ -1,0 +1,37 @@
+use Rattle.std.proofs.Common.{◌≡◌, ◌+◌, ◌*◌, vec_len}
+use Rattle.flt_code.specs.Code.{Loads}
+use Rattle.flt_code.specs.Owners.{Grows, owners_of}
+use Rattle.flt_code.specs.Spines.{Stands, left_of_term}
+use Rattle.flt_mean.specs.Terms.{terms_in}
+use Rattle.flt_types.specs.declared.typed.Term.{Term}
+use Rattle.flt_code.proofs.load.+load.Given as goal
+
+abbrev pub decreases-load : goal.decreases-load
+decreases-load l = 6 * terms_in l.term.now + 5
+
+abbrev pub decreases-load_joined : goal.decreases-load_joined
+decreases-load_joined l = 6 * terms_in l.term.now + 4
+
+abbrev pub decreases-load_part : goal.decreases-load_part
+decreases-load_part l = 6 * terms_in l.term.now + 4
+
+abbrev pub decreases-load_call : goal.decreases-load_call
+decreases-load_call l = 6 * terms_in l.inner.now + 8
+
+abbrev pub decreases-load_count : goal.decreases-load_count
+decreases-load_count l = 6 * terms_in l.inner.now + 7
+
+abbrev pub decreases-load_extreme : goal.decreases-load_extreme
+decreases-load_extreme l = 6 * terms_in l.inner.now + 7
+
+abbrev pub decreases-load_each : goal.decreases-load_each
+decreases-load_each l = 6 * terms_in l.inner.now + 6
+
+abbrev pub invariant-load-above : goal.invariant-load-above
+invariant-load-above l = record {
+  chain : (part : Term) × Stands left_of_term l.fn.term l.above.items part × Loads (owners_of l.owners.items) l.fn.extreme part l.loaded.register l.loaded.code.items;
+  grows : Grows (owners_of l.fn.owners.items) (owners_of l.owners.items);
+}
+
+abbrev pub decreases-load-above : goal.decreases-load-above
+decreases-load-above l = vec_len l.above

@@ -1,0 +1,12 @@
+-- What a filter is compiled to.
+use Rattle.std.specs.Prelude.{ℕ, ◌≤◌, length}
+use Rattle.flt_mean.specs.Meaning.{meaning}
+use Rattle.flt_types.specs.declared.typed.Typed.{Typed}
+use Rattle.flt_vm.specs.Programs.{Code, RunsOn}
+use Rattle.pk_tree.specs.Trees.{IsTree, TreeShown}
+
+-- in every tree the program's run exists, has no more steps than the program has instructions, and ends with the truth of
+-- the filter
+unfoldable pub Decides : Code → Typed → Type 0
+Decides code filter = (tree : TreeShown) → IsTree tree → (steps : ℕ)
+    × (steps ≤ length code.items) × RunsOn code filter tree steps (meaning filter tree)

@@ -1,0 +1,4 @@
+pub mod Code
+pub mod Decides
+pub mod Owners
+pub mod Spines

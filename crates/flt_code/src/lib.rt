@@ -1,0 +1,13 @@
+//! Compiles filters to programs of the filter machine.
+#![tactic(auto)]
+
+mod code;
+mod compiler;
+mod joins;
+mod load;
+mod owners;
+mod spines;
+#[cfg(test)]
+mod tests;
+
+pub use compiler::compile;
