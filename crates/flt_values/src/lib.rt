@@ -21,6 +21,8 @@ pub use kinds::{
     kind_of_call, kind_of_value, same_class, takes_call,
 };
 pub use literal::{Constant, Reading, read_quote, read_within, read_word};
-pub use order::{lies_between, octets_of, order_of, related, same_leading};
+pub use order::{
+    holds_in, leading_amount, lies_between, moment_of, octets_of, order_of, related, same_leading,
+};
 pub use relation::{Relation, admits_prefix, kind_of_right, takes};
 pub use slices::{slice, span_of};

@@ -33,7 +33,8 @@ fn amount_of(value: &Value) -> Option<u128>
     }
 }
 
-fn moment_of(value: &Value) -> Option<i128>
+/// The moment of a time. Others have none.
+pub fn moment_of(value: &Value) -> Option<i128>
     ensures { result ≡ moment_of value.now }
 {
     match value {
@@ -43,7 +44,7 @@ fn moment_of(value: &Value) -> Option<i128>
 }
 
 /// The amount that is compared: of an address, the leading bits alone where there is a prefix length.
-fn leading_amount(prefix: Option<u8>, value: &Value) -> Option<u128>
+pub fn leading_amount(prefix: Option<u8>, value: &Value) -> Option<u128>
     ensures { result ≡ leading_amount prefix value.now }
 {
     match (prefix, value) {
@@ -138,7 +139,8 @@ fn by_order(relation: Relation, order: Option<Ordering>) -> bool
     }
 }
 
-fn holds_in(relation: Relation, order: Ordering) -> bool
+/// Whether a relation holds in an order. That the left value has the right one in it is no matter of order.
+pub fn holds_in(relation: Relation, order: Ordering) -> bool
     ensures { result ≡ holds_in relation order }
 {
     match relation {
