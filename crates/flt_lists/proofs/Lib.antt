@@ -1,2 +1,6 @@
+pub mod ClassLemmas
+pub mod KeyLemmas
+pub mod OrderLemmas
 pub mod PairLemmas
+pub mod SearchLemmas
 pub mod WalkLemmas

@@ -1,4 +1,5 @@
 pub mod Called
+pub mod Keys
 pub mod Pairs
 pub mod Passes
 pub mod Questions

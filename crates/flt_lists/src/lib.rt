@@ -2,14 +2,21 @@
 //! tree; and the lists that slices, masks, functions and arithmetic give. The meaning of filters and the machine stand on it.
 #![tactic(auto)]
 
+mod compare;
+mod ends;
+mod keys;
 mod lists;
 mod pairs;
 mod quantify;
 mod question;
+#[cfg(test)]
+mod tests;
+mod ties;
 mod walks;
 
+pub use compare::compares;
 pub use lists::{called_values, masked_values, only, slices};
 pub use pairs::calculated_values;
-pub use quantify::{compares, is_some_value, matched, passes};
+pub use quantify::{is_some_value, matched, passes};
 pub use question::{Question, is_so};
 pub use walks::{asks_field, is_there};

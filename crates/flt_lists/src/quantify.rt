@@ -1,14 +1,13 @@
 // Whether any or all of a list of values pass a test.
 ghost use Rattle.std.specs.Prelude.{◌≡◌};
 ghost use Rattle.std.specs.List.{list_any, list_all};
-ghost use Rattle.flt_lists.specs.Passes.{compares, is_some_value, passes};
+ghost use Rattle.flt_lists.specs.Passes.{is_some_value, passes};
 ghost use Rattle.flt_lists.specs.Questions.{is_matched, is_so};
-ghost use Rattle.flt_values.specs.Relations.{related as are_related};
 
 use crate::question::{Question, is_so};
 use flt_parse::Choice;
 use flt_pattern::Search;
-use flt_values::{Relation, octets_of, related};
+use flt_values::octets_of;
 use pk_tree::Value;
 
 /// Whether any or all of the values answer a question; of no values neither is true.
@@ -38,53 +37,6 @@ fn all_are_so(question: &Question<'_>, values: &[Value]) -> bool
     ensures { result ≡ list_all (λ v. is_so question.now v) values.now }
 {
     values.iter().all(|value| is_so(question, value))
-}
-
-/// Whether any or all pairs of a left and a right value stand in a relation. The right ones may have a prefix length.
-pub fn compares(
-    relation: Relation,
-    choice: Choice,
-    left: &[Value],
-    right: &[Value],
-    prefix: Option<u8>,
-) -> bool
-    ensures { result ≡ compares relation choice left.now right.now prefix }
-{
-    match choice {
-        Choice::Any => any_relates(relation, left, right, prefix),
-        Choice::All => is_some_value(left) && all_relate(relation, left, right, prefix),
-    }
-}
-
-fn any_relates(relation: Relation, left: &[Value], right: &[Value], prefix: Option<u8>) -> bool
-    ensures { result ≡ list_any (λ v.
-        list_any (λ w. are_related relation v w prefix) right.now) left.now }
-{
-    left.iter()
-        .any(|value| any_is_related(relation, value, right, prefix))
-}
-
-fn all_relate(relation: Relation, left: &[Value], right: &[Value], prefix: Option<u8>) -> bool
-    ensures { result ≡ list_all (λ v.
-        passes Choice.All (λ w. are_related relation v w prefix) right.now) left.now }
-{
-    left.iter().all(|value| is_some_value(right) && all_are_related(relation, value, right, prefix))
-}
-
-fn any_is_related(relation: Relation, left: &Value, right: &[Value], prefix: Option<u8>) -> bool
-    ensures { result ≡ list_any (λ w. are_related relation left.now w prefix) right.now }
-{
-    right
-        .iter()
-        .any(|value| related(relation, left, value, prefix))
-}
-
-fn all_are_related(relation: Relation, left: &Value, right: &[Value], prefix: Option<u8>) -> bool
-    ensures { result ≡ list_all (λ w. are_related relation left.now w prefix) right.now }
-{
-    right
-        .iter()
-        .all(|value| related(relation, left, value, prefix))
 }
 
 /// Whether a pattern matches in the bytes of any or all of the values. The search stays as it was.

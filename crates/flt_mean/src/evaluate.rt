@@ -125,7 +125,7 @@ fn compare(
         right => {
             let left = values_of_term(alloc, left, tree)?;
             let right = values_of_term(alloc, right, tree)?;
-            Ok(compares(relation, choice, &left, &right, None))
+            compares(alloc, relation, choice, &left, &right, None)
         }
     }
 }

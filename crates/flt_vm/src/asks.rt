@@ -90,7 +90,7 @@ fn compare_slots(
         right => {
             let left = listed_in(alloc, left, tree)?;
             let right = listed_in(alloc, right, tree)?;
-            Ok(compares(relation, choice, left.slice(), right.slice(), None))
+            Ok(compares(alloc, relation, choice, left.slice(), right.slice(), None)?)
         }
     }
 }
