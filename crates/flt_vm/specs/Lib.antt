@@ -3,3 +3,4 @@ pub mod Machine
 pub mod Programs
 pub mod Slots
 pub mod Stacks
+pub mod Verdicts

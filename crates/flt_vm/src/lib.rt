@@ -3,7 +3,9 @@
 
 mod asks;
 mod copies;
+mod fields;
 mod instr;
+mod laws;
 mod machine;
 mod program;
 mod run;
@@ -14,6 +16,7 @@ mod tests;
 
 pub use copies::{copied_layers, copied_members, copied_ranges};
 pub use instr::{Instr, MemberList, RangeList};
+pub use laws::{trees_with_the_same_values_are_alike, verdicts_are_those_of_runs};
 pub use machine::{Machine, run_program};
 pub use program::Program;
 pub use run::Verdict;

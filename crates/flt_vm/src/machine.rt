@@ -1,8 +1,10 @@
 // The machine over many trees.
-ghost use Rattle.std.specs.Prelude.{◌≡◌, ◌≤◌, ◌<◌, ◌+◌, ◌++◌, IfOk, OnOk, Bool as Truth, ℕ, length};
+ghost use Rattle.std.specs.Prelude.{◌≡◌, ◌≤◌, ◌<◌, ◌+◌, ◌++◌, IfOk, OnOk, Bool as Truth, ℕ, Some, length};
 ghost use Rattle.flt_vm.specs.Machine.{Runs, start};
 ghost use Rattle.flt_vm.specs.Programs.{FitsFilter, Ready, RunsOn, patterns_of};
 ghost use Rattle.flt_vm.specs.Stacks.{patterns_left, size_left, size_of};
+ghost use Rattle.flt_vm.specs.Verdicts.{verdict_of};
+ghost use Rattle.flt_types.specs.declared.typed.Typed.{Typed as TypedValue};
 
 use crate::program::Program;
 use crate::run::{Verdict, run_code};
@@ -65,10 +67,15 @@ impl<'p> Machine<'p> {
               tree = tree.now;
             }) steps (start self.old.code.registers) flag
             → (v.steps ≡ steps) × (v.holds ≡ flag)) }
+        ensures exact { (filter : TypedValue) → self.old.patterns ≡ patterns_of filter
+            → FitsFilter self.old.code filter
+            → IfOk result (λ v. verdict_of self.old.code filter tree.now ≡ Some v) }
         ensures few { IfOk result (λ v. v.steps ≤ length self.old.code.items) }
         ensures some { IfOk result (λ v. 1 ≤ v.steps) }
         ensures same { self.new ≡ self.old }
     {
+        // What is true of each tree.
+        let _layers = tree.layers();
         let slots = self.slots.as_mut_slice();
         unset(slots);
         run_code(
@@ -90,6 +97,7 @@ pub fn run_program(
 ) -> Result<Verdict, NoMemory>
     requires { FitsFilter program.now filter.now }
     ensures run { IfOk result (λ v. RunsOn program.now filter.now tree.now v.steps v.holds) }
+    ensures exact { IfOk result (λ v. verdict_of program.now filter.now tree.now ≡ Some v) }
     ensures few { IfOk result (λ v. v.steps ≤ length program.now.items) }
     ensures some { IfOk result (λ v. 1 ≤ v.steps) }
 {

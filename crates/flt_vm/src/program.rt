@@ -1,8 +1,12 @@
 // Programs.
-ghost use Rattle.std.specs.Prelude.{◌≡◌, length};
+ghost use Rattle.std.specs.Prelude.{◌≡◌, ℕ, true, length};
 ghost use Rattle.flt_vm.specs.Programs.{IsProgram};
+ghost use Rattle.flt_vm.specs.Verdicts.{HasCode};
+ghost use Rattle.pk_fields.specs.FieldSets.{is_in};
 
+use crate::fields::add_asked;
 use crate::instr::Instr;
+use pk_fields::FieldSet;
 use std::marker::Model;
 
 /// A program: instructions, whose jumps lead forward, and of which the last one is RETURN; and how many registers they use.
@@ -52,5 +56,13 @@ impl Program {
         ensures program { IsProgram self.now }
     {
         self.code.as_slice()
+    }
+
+    /// Adds to a set the fields that it asks for, with their protocols.
+    pub fn add_fields(&self, set: &mut FieldSet)
+        ensures fields { HasCode set.new self.now }
+        ensures kept { (f : ℕ) → is_in set.old f ≡ true → is_in set.new f ≡ true }
+    {
+        add_asked(self.code.as_slice(), set);
     }
 }
