@@ -4,6 +4,7 @@ pub mod CompileLemmas
 pub mod Growth
 pub mod Inside
 pub mod LoadLemmas
+pub mod Made
 pub mod OwnerLemmas
 pub mod ReadKinds
 pub mod Registers

@@ -1,5 +1,5 @@
 -- What a filter is compiled to.
-use Rattle.std.specs.Prelude.{ℕ, ◌≤◌, length}
+use Rattle.std.specs.Prelude.{◌≡◌, ℕ, ◌≤◌, Bool as Truth, length}
 use Rattle.flt_mean.specs.Meaning.{meaning}
 use Rattle.flt_types.specs.declared.typed.Typed.{Typed}
 use Rattle.flt_vm.specs.Programs.{Code, RunsOn}
@@ -10,3 +10,8 @@ use Rattle.pk_tree.specs.Trees.{IsTree, TreeShown}
 unfoldable pub Decides : Code → Typed → Type 0
 Decides code filter = (tree : TreeShown) → IsTree tree → (steps : ℕ)
     × (steps ≤ length code.items) × RunsOn code filter tree steps (meaning filter tree)
+
+-- in every tree, of whatever shape, a run of the program that there is ends with the truth of the filter
+unfoldable pub Agrees : Code → Typed → Type 0
+Agrees code filter = (tree : TreeShown) (steps : ℕ) (flag : Truth)
+    → RunsOn code filter tree steps flag → flag ≡ meaning filter tree

@@ -1,4 +1,5 @@
 pub mod Code
 pub mod Decides
+pub mod Laws
 pub mod Owners
 pub mod Spines

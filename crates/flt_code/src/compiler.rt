@@ -1,6 +1,6 @@
 // The program of a filter.
 ghost use Rattle.std.specs.Prelude.{IfOk};
-ghost use Rattle.flt_code.specs.Decides.{Decides};
+ghost use Rattle.flt_code.specs.Decides.{Agrees, Decides};
 ghost use Rattle.flt_vm.specs.Programs.{FitsFilter};
 
 use crate::code::code_for;
@@ -12,6 +12,7 @@ use std::alloc::Global;
 /// The program of a filter: in every tree its run ends with the filter's truth.
 pub fn compile(alloc: Global, filter: &Filter) -> Result<Program, NoMemory>
     ensures decides { IfOk result (λ p. Decides p filter.now) }
+    ensures agrees { IfOk result (λ p. Agrees p filter.now) }
     ensures fits { IfOk result (λ p. FitsFilter p filter.now) }
 {
     let mut owners = Vec::new(alloc);

@@ -4,6 +4,7 @@
 mod code;
 mod compiler;
 mod joins;
+mod laws;
 mod load;
 mod owners;
 mod spines;
@@ -11,3 +12,4 @@ mod spines;
 mod tests;
 
 pub use compiler::compile;
+pub use laws::filters_have_programs;
