@@ -1,11 +1,11 @@
 // The machine over many trees.
-ghost use Rattle.std.specs.Prelude.{◌≡◌, ◌≤◌, ◌<◌, ◌+◌, ◌++◌, IfOk, OnOk, Bool as Truth, ℕ, Some, length};
+ghost use Rattle.std.specs.Prelude.{◌≡◌, ◌≤◌, IfOk, Bool as Truth, ℕ, Some, length};
 ghost use Rattle.flt_vm.specs.Machine.{Runs, start};
 ghost use Rattle.flt_vm.specs.Programs.{FitsFilter, Ready, RunsOn, patterns_of};
-ghost use Rattle.flt_vm.specs.Stacks.{patterns_left, size_left, size_of};
 ghost use Rattle.flt_vm.specs.Verdicts.{verdict_of};
 ghost use Rattle.flt_types.specs.declared.typed.Typed.{Typed as TypedValue};
 
+use crate::patterns::patterns_in;
 use crate::program::Program;
 use crate::run::{Verdict, run_code};
 use crate::slots::{Slot, unset};
@@ -118,68 +118,14 @@ fn all_unset<'p>(alloc: Global, count: usize) -> Result<Vec<Slot<'p>>, NoMemory>
     Ok(slots)
 }
 
-/// A search for each of a filter's patterns, in its order. What is still to be looked at is kept in a list, so that no
-/// call nests as deep as the filter.
+/// A search for each of a filter's patterns, in its order.
 fn searches_for<'f>(alloc: Global, filter: &'f Typed) -> Result<Vec<Search<'f>>, NoMemory>
     ensures { IfOk result (λ searches. searches.items ≡ patterns_of filter.now) }
 {
+    let patterns = patterns_in(alloc, filter)?;
     let mut searches = Vec::new(alloc);
-    let mut left = Vec::new(alloc);
-    left.push(filter)?;
-    'parts: while let Some(part) = left.pop() {
-        take_part(alloc, &mut searches, &mut left, part)?;
+    for pattern in &patterns {
+        searches.push(pattern.search(alloc)?)?;
     }
     Ok(searches)
-}
-
-/// The search of a part, or the parts that it is made of.
-fn take_part<'f>(
-    alloc: Global,
-    searches: &mut Vec<Search<'f>>,
-    left: &mut Vec<&'f Typed>,
-    part: &'f Typed,
-) -> Result<(), NoMemory>
-    ensures patterns { OnOk result (searches.new.items ++ patterns_left left.new.items
-        ≡ searches.old.items ++ (patterns_of part.now ++ patterns_left left.old.items)) }
-    ensures smaller { OnOk result
-        (size_left left.new.items < size_left left.old.items + size_of part.now) }
-{
-    match part {
-        Typed::Either(first, second) => push_both(left, first, second),
-        Typed::Differ(first, second) => push_both(left, first, second),
-        Typed::Both(first, second) => push_both(left, first, second),
-        Typed::Not(inner) => push_part(left, inner),
-        Typed::Matches(_, _, pattern) => {
-            searches.push(pattern.search(alloc)?)?;
-            Ok(())
-        }
-        Typed::Exists(_) | Typed::AnyBit(_) => Ok(()),
-        Typed::Compare(_, _, _, _) | Typed::Among(_, _, _, _) => Ok(()),
-    }
-}
-
-/// Two parts, of which the first one is looked at first.
-fn push_both<'f>(
-    left: &mut Vec<&'f Typed>,
-    first: &'f Typed,
-    second: &'f Typed,
-) -> Result<(), NoMemory>
-    ensures patterns { OnOk result (patterns_left left.new.items
-        ≡ patterns_of first.now ++ (patterns_of second.now ++ patterns_left left.old.items)) }
-    ensures size { OnOk result (size_left left.new.items
-        ≡ size_left left.old.items + size_of second.now + size_of first.now) }
-{
-    push_part(left, second)?;
-    push_part(left, first)
-}
-
-#[tactic(auto, using(crate::proofs::StackLemmas::patterns_push, crate::proofs::StackLemmas::size_push))]
-fn push_part<'f>(left: &mut Vec<&'f Typed>, part: &'f Typed) -> Result<(), NoMemory>
-    ensures patterns { OnOk result (patterns_left left.new.items
-        ≡ patterns_of part.now ++ patterns_left left.old.items) }
-    ensures size { OnOk result (size_left left.new.items
-        ≡ size_left left.old.items + size_of part.now) }
-{
-    left.push(part)?;
-    Ok(())
 }

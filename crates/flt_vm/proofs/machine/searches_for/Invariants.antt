@@ -1,10 +1,7 @@
-use Rattle.std.proofs.Common.{◌≡◌, ◌++◌}
+use Rattle.std.proofs.Common.{◌≡◌, ◌++◌, drop}
 use Rattle.flt_vm.specs.Programs.{patterns_of}
-use Rattle.flt_vm.specs.Stacks.{patterns_left, size_left}
+use Rattle.flt_vm.specs.Sources.{sources_of}
 use Rattle.flt_vm.proofs.machine.searches_for.Given as goal
 
-abbrev pub invariant-parts : goal.invariant-parts
-invariant-parts l = l.searches.items ++ patterns_left l.left.items ≡ patterns_of l.fn.filter
-
-abbrev pub decreases-parts : goal.decreases-parts
-decreases-parts l = size_left l.left.items
+abbrev pub invariant-loop-pattern : goal.invariant-loop-pattern
+invariant-loop-pattern l = l.searches.items ++ sources_of (drop l.pattern-index l.pattern-items) ≡ patterns_of l.filter

@@ -1,6 +1,7 @@
 use Rattle.std.proofs.Common.{◌++◌, ap, arith, sym, ◌∙◌}
 use Rattle.flt_vm.proofs.StackLemmas.{patterns_push, size_push}
-use Rattle.flt_vm.proofs.machine.searches_for.Goals as goal
+use Rattle.flt_vm.specs.Sources.{sources_of}
+use Rattle.flt_vm.proofs.patterns.patterns_in.Goals as goal
 
 pub parts-smaller : goal.parts-smaller
 parts-smaller c =
@@ -10,4 +11,4 @@ parts-smaller c =
 pub parts-preserved : goal.parts-preserved
 parts-preserved c =
     let before = patterns_push c.parts.left.items c.pop.new.self.items c.in-Some.part c.in-Some.ensures.items in
-    c.in_ok-take_part.ensures.patterns ∙ ap (λ x. c.parts.searches.items ++ x) (sym before) ∙ c.parts.invariant
+    c.in_ok-take_part.ensures.patterns ∙ ap (λ x. sources_of c.parts.patterns.items ++ x) (sym before) ∙ c.parts.invariant
