@@ -1,13 +1,13 @@
 -- Chains of signs, which are as deep to the left as they are long: what stands from the whole down to a part on its left,
 -- the whole first.
-use Rattle.std.specs.Prelude.{◌≡◌, ℕ, List, [], ◌∷◌, map, Option, Some, None}
+use Rattle.std.specs.Prelude.{◌≡◌, ℕ, List, [], ◌∷◌, Option, Some, None}
 use Rattle.std.proofs.Common.{Bor}
 use Rattle.flt_types.specs.declared.typed.Term.{Term}
 use Rattle.flt_types.specs.declared.typed.Term.TheVariants as terms
-use Rattle.flt_pattern.specs.declared.pattern.Pattern.{Pattern}
 use Rattle.flt_types.specs.declared.typed.Typed.{Typed}
 use Rattle.flt_types.specs.declared.typed.Typed.TheVariants.{Either', Differ', Both'}
 use Rattle.flt_vm.specs.Programs.{patterns_of}
+pub use Rattle.flt_vm.specs.Sources.{sources_of}
 
 abbrev pub left_of_term : Term → Option Term
 left_of_term (terms.Computed' a p left q right) = Some left
@@ -31,7 +31,3 @@ patterns_right (Either' p left q right) = patterns_of right
 patterns_right (Differ' p left q right) = patterns_of right
 patterns_right (Both' p left q right) = patterns_of right
 patterns_right filter = []
-
--- what patterns are made from
-abbrev pub sources_of : List (Bor Pattern) → List (List ℕ)
-sources_of patterns = map (λ (p : Bor Pattern). p.now) patterns

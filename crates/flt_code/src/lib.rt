@@ -1,10 +1,12 @@
-//! Compiles filters to programs of the filter machine.
+//! Compiles filters to programs of the filter machine, and lists programs.
 #![tactic(auto)]
 
 mod code;
 mod compiler;
 mod joins;
 mod laws;
+mod lines;
+mod literals;
 mod load;
 mod owners;
 mod spines;
@@ -13,3 +15,4 @@ mod tests;
 
 pub use compiler::compile;
 pub use laws::filters_have_programs;
+pub use lines::listing;
