@@ -99,6 +99,14 @@ const LISTINGS: &[(&str, &str)] = &[
         "0 READ r0 udp\n1 JT 6\n2 READ r1 tcp\n3 JF 6\n4 READ r2 ip\n5 NOT\n6 RETURN\n",
     ),
     (
+        "tcp.port == 80 and not ip.ttl < 10",
+        "0 READ r0 tcp.port\n1 CONST r1 80\n2 TEST any == r0 r1\n3 JF 8\n4 READ r2 ip.ttl\n5 CONST r3 10\n6 TEST any < r2 r3\n7 NOT\n8 RETURN\n",
+    ),
+    (
+        "lower(http.host)[0:3] == \"www\"",
+        "0 READ r0 http.host\n1 CALL r1 lower r0\n2 SLICE r2 r1 [0:3]\n3 CONST r3 \"www\"\n4 TEST any == r2 r3\n5 RETURN\n",
+    ),
+    (
         "ip.addr#[1-2,4] != 10.0.0.0/8 and ip.addr#3 == 10.0.0.1",
         "0 READ r0 ip.addr#[1-2,4]\n1 CONST r1 10.0.0.0/8\n2 TEST all != r0 r1\n3 JF 7\n4 READ r2 ip.addr#[3]\n5 CONST r3 10.0.0.1\n6 TEST any == r2 r3\n7 RETURN\n",
     ),
