@@ -7,6 +7,7 @@ use Rattle.flt_parse.specs.declared.fault.FilterReason.TheVariants.{PatternSize}
 use Rattle.flt_types.specs.Texts.{IsFilterFault, IsTypedText}
 use Rattle.flt_types.specs.declared.typed.Typed.{Typed}
 use Rattle.flt_types.proofs.Sure.{typed_or_refused}
+use Rattle.flt_code.proofs.CompileLemmas.{texts_programmed}
 use Rattle.shark_words.specs.declared.options.Options.{Options}
 use Rattle.shark_words.specs.declared.fault.WordFault.{WordFault}
 use Rattle.shark_words.specs.Options.{options_of}
@@ -15,6 +16,7 @@ use Rattle.shark_run.specs.declared.plan.Refused.{Refused}
 use Rattle.shark_run.specs.declared.plan.Refused.TheVariants as refused
 use Rattle.shark_run.specs.Answers.{is_of_size, IsSure}
 use Rattle.shark_run.specs.Columns.{fields_named}
+use Rattle.shark_run.specs.Compiled.{CompiledShown}
 use Rattle.shark_run.specs.Source.{source_in}
 use Rattle.shark_run.specs.Laws.{PlanOrReason}
 use Rattle.shark_run.specs.Plan.{IsFaultAsked, IsFilterAsked, IsPlan, IsPlanFor, IsRefusal, IsRefusalFor}
@@ -23,7 +25,7 @@ use Rattle.shark_run.proofs.PlanLemmas.{IsOfName, names_alone}
 -- the filter that is asked for
 abbrev FilterOrFault : Option (List ℕ) → Type 0
 FilterOrFault text =
-    ((filter : Option Typed) × IsFilterAsked text filter) ⊎ ((fault : FilterFault) × IsFaultAsked text fault × (¬ IsTrue (is_of_size fault.reason)))
+    ((chosen : Option CompiledShown) × IsFilterAsked text chosen) ⊎ ((fault : FilterFault) × IsFaultAsked text fault × (¬ IsTrue (is_of_size fault.reason)))
 
 not_of_size : (reason : FilterReason) → reason ≢ PatternSize → ¬ IsTrue (is_of_size reason)
 not_of_size PatternSize other is = other refl
@@ -31,7 +33,9 @@ not_of_size reason other is = cc
 
 of_text : (text : List ℕ) → ((filter : Typed) × IsTypedText text filter)
     ⊎ ((fault : FilterFault) × IsFilterFault text (Fault fault) × (fault.reason ≢ PatternSize)) → FilterOrFault (Some text)
-of_text text (inl (filter, is)) = inl (Some filter, is)
+of_text text (inl (filter, is)) =
+    let code = texts_programmed text filter is in
+    inl (Some (record { filter = filter; program = code.0 }), (is, code.1, code.2))
 of_text text (inr (fault, is, other)) = inr (fault, is, not_of_size fault.reason other)
 
 filter_asked : (text : Option (List ℕ)) → FilterOrFault text
@@ -43,12 +47,12 @@ abbrev OptionsAnswered : Options → Type 0
 OptionsAnswered options =
     ((plan : Plan) × IsPlanFor options plan) ⊎ ((reason : Refused) × IsRefusalFor options reason × IsSure reason)
 
-with_names : (options : Options) (filter : Option Typed) (fields : Result (List ℕ) Refused) → IsFilterAsked options.filter filter
+with_names : (options : Options) (chosen : Option CompiledShown) (fields : Result (List ℕ) Refused) → IsFilterAsked options.filter chosen
     → IsOfName fields → fields_named options.names ≡ fields → OptionsAnswered options
-with_names options filter (Ok fields) asked alone is =
+with_names options chosen (Ok fields) asked alone is =
     let plan : Plan = record {
       source = source_in options.source;
-      filter = filter;
+      chosen = chosen;
       two = options.two;
       fields = fields;
       most = options.most;
@@ -59,12 +63,12 @@ with_names options filter (Ok fields) asked alone is =
       quiet = options.quiet;
       written = options.written;
     } in
-    inl (plan, record { source = refl; filter = asked; two = refl; fields = is; most = refl; decode = refl; reports = refl; kind = refl; style = refl; quiet = refl; written = refl })
-with_names options filter (Err (refused.Field name)) asked alone is = inr (refused.Field name, ((filter, asked), is), tt)
-with_names options filter (Err reason) asked alone is = absurd alone
+    inl (plan, record { source = refl; chosen = asked; two = refl; fields = is; most = refl; decode = refl; reports = refl; kind = refl; style = refl; quiet = refl; written = refl })
+with_names options chosen (Err (refused.Field name)) asked alone is = inr (refused.Field name, ((chosen, asked), is), tt)
+with_names options chosen (Err reason) asked alone is = absurd alone
 
 with_filter : (options : Options) → FilterOrFault options.filter → OptionsAnswered options
-with_filter options (inl (filter, asked)) = with_names options filter (fields_named options.names) asked (names_alone options.names) refl
+with_filter options (inl (chosen, asked)) = with_names options chosen (fields_named options.names) asked (names_alone options.names) refl
 with_filter options (inr (fault, is, sure)) = inr (refused.Filter fault, is, sure)
 
 -- the words

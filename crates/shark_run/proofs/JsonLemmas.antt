@@ -1,11 +1,11 @@
 -- Lines of JSON without a filter: one for each frame.
-use Rattle.std.proofs.Common.{◌≡◌, Bool, List, [], ◌∷◌, ◌++◌, ℕ, Option, refl, ap, ◌∙◌, if◌then◌else◌}
+use Rattle.std.proofs.Common.{◌≡◌, Bool, List, [], ◌∷◌, ◌++◌, ℕ, Option, option_map, None, Some, refl, ap, ◌∙◌, if◌then◌else◌}
 use Rattle.capture_read.specs.declared.frame.Frame.{Frame}
 use Rattle.capture_write.specs.declared.format.Format.{Format}
-use Rattle.flt_types.specs.declared.typed.Typed.{Typed}
 use Rattle.out_json.specs.Lines.{json_line_of}
 use Rattle.shark_words.specs.declared.options.LineKind.{LineKind}
 use Rattle.tcp_messages.specs.Brought.{MessagesOnce}
+use Rattle.shark_run.specs.Compiled.{CompiledShown}
 use Rattle.shark_run.specs.Job.{Job}
 use Rattle.shark_run.specs.JsonLaws.{MessagesToldOnce, ShowsAll, json_lines}
 use Rattle.shark_run.specs.Lines.{line_by, line_of, piece, piece_by, pieces_of}
@@ -13,12 +13,16 @@ use Rattle.shark_run.specs.Reports.{tcp_segments}
 use Rattle.shark_run.specs.Satisfied.{satisfies}
 use Rattle.shark_run.specs.Trees.{lets, tree_of}
 
+nothing_chosen : (chosen : Option CompiledShown) → option_map (λ (compiled : CompiledShown). compiled.filter) chosen ≡ None → chosen ≡ None
+nothing_chosen None is = refl
+nothing_chosen (Some compiled) is = absurd (cc is)
+
 json_piece : (job : Job) (past : List Frame) (frame : Frame) → ShowsAll job.plan → piece job past frame ≡ json_line_of (tree_of job past frame)
 unfolding satisfies
 json_piece job past frame shows =
     ap (λ (written : Option Format). piece_by written job past frame) shows.lines
     ∙ ap (λ (quiet : Bool). if quiet then [] else if lets job.plan (tree_of job past frame) then line_of job.plan (tree_of job past frame) else []) shows.loud
-    ∙ ap (λ (filter : Option Typed). if satisfies filter (tree_of job past frame) then line_of job.plan (tree_of job past frame) else []) shows.all
+    ∙ ap (λ (chosen : Option CompiledShown). if satisfies chosen (tree_of job past frame) then line_of job.plan (tree_of job past frame) else []) (nothing_chosen job.plan.chosen shows.all)
     ∙ ap (λ (kind : LineKind). line_by kind job.plan (tree_of job past frame)) shows.json
 
 json_pieces : (job : Job) (past : List Frame) → ShowsAll job.plan → pieces_of job past ≡ json_lines job past

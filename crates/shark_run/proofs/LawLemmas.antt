@@ -1,5 +1,5 @@
 -- Two plans of the same words, and two reasons to refuse them.
-use Rattle.std.proofs.Common.{◌≡◌, ◌⊎◌, ⊎_elim, ℕ, suc, Bool, false, not, ◌&&◌, ◌||◌, reverse, List, [], ◌∷◌, ◌++◌, Option, None, Some, Ok, Err, IsTrue, if◌then◌else◌, refl, sym, ◌∙◌, ap, subst}
+use Rattle.std.proofs.Common.{◌≡◌, ◌⊎◌, ⊎_elim, ℕ, suc, Bool, false, not, ◌&&◌, ◌||◌, reverse, List, [], ◌∷◌, ◌++◌, length, Option, None, Some, option_map, Ok, Err, IsTrue, if◌then◌else◌, refl, sym, ◌∙◌, ap, subst}
 use Rattle.std.specs.Prelude.{IfSome}
 use Rattle.capture_read.specs.Capture.{Reading, capture_of}
 use Rattle.capture_read.specs.declared.ending.Ending.{Ending}
@@ -18,9 +18,16 @@ use Rattle.dissect.specs.Trees.{tree_at}
 use Rattle.flt_parse.specs.declared.fault.FilterFault.{FilterFault}
 use Rattle.flt_parse.specs.declared.fault.FilterError.TheVariants.{Fault}
 use Rattle.flt_types.specs.Texts.{IsFilterFault}
+use Rattle.flt_code.specs.Decides.{Agrees}
 use Rattle.flt_types.specs.declared.typed.Typed.{Typed}
 use Rattle.flt_types.proofs.Unique.{one_fault_but_size}
 use Rattle.flt_mean.proofs.OneMeaning.{one_meaning}
+use Rattle.flt_mean.specs.Meaning.{meaning}
+use Rattle.flt_vm.proofs.VerdictLemmas.{computed_run}
+use Rattle.flt_vm.specs.Machine.{start}
+use Rattle.flt_vm.specs.Programs.{job_of as job_for}
+use Rattle.flt_vm.specs.Verdicts.{verdict_of}
+use Rattle.flt_vm.specs.declared.run.Verdict.{Verdict}
 use Rattle.shark_words.specs.declared.options.Options.{Options}
 use Rattle.shark_words.specs.Options.{options_of}
 use Rattle.shark_run.specs.declared.plan.Plan.{Plan}
@@ -32,14 +39,15 @@ use Rattle.shark_run.specs.declared.status.Status.TheVariants as status
 use Rattle.shark_run.specs.Answers.{is_of_size, IsAnswered, IsSure}
 use Rattle.shark_run.specs.Chosen.{chosen, chosen_of, if_shown, is_unfit_in, packet_in}
 use Rattle.shark_run.specs.Fitting.{FramesRead, before, fitting, is_unfit, is_unfit_by, over}
+use Rattle.shark_run.specs.Compiled.{CompiledShown}
 use Rattle.shark_run.specs.Statuses.{status_of}
-use Rattle.shark_run.specs.Laws.{AreAlike, NeverBoth, OneReason, PlansAreAlike}
+use Rattle.shark_run.specs.Laws.{AreAlike, LetsByMeaning, NeverBoth, OneReason, PlansAreAlike}
 use Rattle.shark_run.specs.declared.source.PlanSource.{PlanSource}
 use Rattle.shark_run.specs.Accessors.{is_quiet}
 use Rattle.shark_run.specs.Job.{Passes, job_in, passes_by, with_links}
 use Rattle.shark_run.specs.Lines.{shown, piece, piece_by, pieces, is_headed, line_by, line_of, opening, opening_by, closing, closing_by, counted_line, output_by, output_of}
 use Rattle.shark_run.specs.Reports.{report_text, reports_text}
-use Rattle.shark_run.specs.Satisfied.{satisfies}
+use Rattle.shark_run.specs.Satisfied.{decided, satisfies}
 use Rattle.shark_run.specs.Tables.{trees_let, trees_with}
 use Rattle.cap_stats.specs.Tables.{table_of}
 use Rattle.shark_run.specs.SelfRun.{line_with, self_run_line, shown_count}
@@ -314,12 +322,29 @@ same_read one other file most alike same =
     ap (λ (m : Option ℕ). read_of one (limited m (capture_of file))) most
     ∙ same_read_of one other (limited other.most (capture_of file)) alike same
 
--- the filters of a text let the same trees through
-same_truth : (text : Option (List ℕ)) (one other : Option Typed) (tree : TreeShown) → IsFilterAsked text one → IsFilterAsked text other
-    → satisfies one tree ≡ satisfies other tree
+-- where a program agrees with its filter, the filter's truth is decided
+decides_meaning : (compiled : CompiledShown) (tree : TreeShown) (answer : Option Verdict) → verdict_of compiled.program compiled.filter tree ≡ answer
+    → Agrees compiled.program compiled.filter → decided answer (meaning compiled.filter tree) ≡ meaning compiled.filter tree
+unfolding verdict_of Agrees
+decides_meaning compiled tree None is agrees = refl
+decides_meaning compiled tree (Some verdict) is agrees =
+    agrees tree verdict.steps verdict.holds
+    (computed_run (job_for compiled.program compiled.filter tree) (start compiled.program.registers) (length compiled.program.items) verdict is)
+
+satisfies_meaning : (compiled : CompiledShown) (tree : TreeShown) → Agrees compiled.program compiled.filter
+    → satisfies (Some compiled) tree ≡ meaning compiled.filter tree
 unfolding satisfies
+satisfies_meaning compiled tree agrees =
+    decides_meaning compiled tree (verdict_of compiled.program compiled.filter tree) refl agrees
+
+-- the programs of a text let the same trees through
+same_truth : (text : Option (List ℕ)) (one other : Option CompiledShown) (tree : TreeShown) → IsFilterAsked text one → IsFilterAsked text other
+    → satisfies one tree ≡ satisfies other tree
 same_truth None None None tree is also = refl
-same_truth (Some text) (Some one) (Some other) tree is also = one_meaning text one other tree is also
+same_truth (Some text) (Some one) (Some other) tree is also =
+    satisfies_meaning one tree is.2
+    ∙ one_meaning text one.filter other.filter tree is.0 also.0
+    ∙ sym (satisfies_meaning other tree also.2)
 same_truth None (Some one) other tree is also = absurd is
 same_truth None None (Some other) tree is also = absurd also
 same_truth (Some text) None other tree is also = absurd is
@@ -331,7 +356,7 @@ alike_for options one other is also =
     let fields : one.fields ≡ other.fields = cc both in
     let alike : AreWrittenAlike one other
     = record { source = is.source ∙ sym also.source; two = is.two ∙ sym also.two; decode = is.decode ∙ sym also.decode; reports = is.reports ∙ sym also.reports; kind = is.kind ∙ sym also.kind; fields = fields; style = is.style ∙ sym also.style; quiet = is.quiet ∙ sym also.quiet; written = is.written ∙ sym also.written } in
-    let truth = λ (tree : TreeShown). same_truth options.filter one.filter other.filter tree is.filter also.filter in
+    let truth = λ (tree : TreeShown). same_truth options.filter one.chosen other.chosen tree is.chosen also.chosen in
     record {
       source = is.source ∙ sym also.source;
       read = λ file. same_read one other file (is.most ∙ sym also.most) alike truth;
@@ -343,6 +368,19 @@ pub plans_alike : PlansAreAlike
 unfolding IsPlan
 plans_alike words one other is also =
     alike_for also.0 one other (subst (λ (o : Options). IsPlanFor o one) (same_options words is.0 also.0 is.1 also.1) is.2) also.2
+
+-- the programs of words let the trees through that satisfy their filter
+let_by_meaning : (text : Option (List ℕ)) (chosen : Option CompiledShown) (filter : Typed) (tree : TreeShown) → IsFilterAsked text chosen
+    → option_map (λ (compiled : CompiledShown). compiled.filter) chosen ≡ Some filter → satisfies chosen tree ≡ meaning filter tree
+let_by_meaning text None filter tree asked is = absurd (cc is)
+let_by_meaning None (Some compiled) filter tree asked is = absurd asked
+let_by_meaning (Some text) (Some compiled) filter tree asked is =
+    let same : compiled.filter ≡ filter = cc is in
+    satisfies_meaning compiled tree asked.2 ∙ ap (λ (f : Typed). meaning f tree) same
+
+pub lets_by_meaning : LetsByMeaning
+unfolding IsPlan
+lets_by_meaning words plan filter asked is tree = let_by_meaning asked.0.filter plan.chosen filter tree asked.2.chosen is
 
 -- a run whose words ask for a plan ends as every plan of theirs says, where nothing outside fails
 pub complete_planned : (words : List (List ℕ)) (asked plan : Plan) (files : List ℕ → Option (List ℕ)) (answer : Status) (A B C : Type 0) →

@@ -5,7 +5,6 @@ use Rattle.pk_fields.specs.Fields.{field_named}
 use Rattle.flt_parse.specs.declared.fault.FilterFault.{FilterFault}
 use Rattle.flt_parse.specs.declared.fault.FilterReason.{FilterReason}
 use Rattle.flt_parse.specs.declared.fault.FilterReason.TheVariants.{PatternSize}
-use Rattle.flt_types.specs.declared.typed.Typed.{Typed}
 use Rattle.flt_types.proofs.Unique.{typed_or_fault}
 use Rattle.shark_words.specs.declared.options.Options.{Options}
 use Rattle.shark_words.specs.Options.{options_of}
@@ -16,6 +15,7 @@ use Rattle.shark_run.specs.declared.plan.PlanError.{PlanError}
 use Rattle.shark_run.specs.declared.plan.PlanError.TheVariants as errors
 use Rattle.shark_run.specs.declared.status.Status.{Status}
 use Rattle.shark_run.specs.declared.status.Status.TheVariants as status
+use Rattle.shark_run.specs.Compiled.{CompiledShown}
 use Rattle.shark_run.specs.Columns.{fields_named, known, with_first, with_others}
 use Rattle.shark_run.specs.Plan.{IsFaultAsked, IsFilterAsked, IsPlan, IsPlanFor, IsRefusal, IsRefusalFor}
 use Rattle.shark_run.specs.PlanErrors.{Gives, IsErrorOf}
@@ -34,16 +34,16 @@ abbrev IsOfSize : Refused → Type 0
 IsOfSize (refused.Filter fault) = IsTrue (is_of_size fault.reason)
 IsOfSize reason = ⊥
 
-pub filter_or_fault : (text : Option (List ℕ)) (filter : Option Typed) (fault : FilterFault) → IsFilterAsked text filter → IsFaultAsked text fault
+pub filter_or_fault : (text : Option (List ℕ)) (chosen : Option CompiledShown) (fault : FilterFault) → IsFilterAsked text chosen → IsFaultAsked text fault
     → IsTrue (is_of_size fault.reason)
-filter_or_fault (Some text) (Some filter) fault asked is = of_size fault.reason (typed_or_fault text filter fault asked is)
+filter_or_fault (Some text) (Some compiled) fault asked is = of_size fault.reason (typed_or_fault text compiled.filter fault asked.0 is)
 filter_or_fault (Some text) None fault asked is = absurd asked
-filter_or_fault None filter fault asked is = absurd is
+filter_or_fault None chosen fault asked is = absurd is
 
 -- options that ask for a plan are refused for a pattern's size alone
 plan_or_reason : (options : Options) (plan : Plan) (reason : Refused) → IsPlanFor options plan → IsRefusalFor options reason → IsOfSize reason
 plan_or_reason options plan (refused.Words fault) asked is = absurd is
-plan_or_reason options plan (refused.Filter fault) asked is = filter_or_fault options.filter plan.filter fault asked.filter is
+plan_or_reason options plan (refused.Filter fault) asked is = filter_or_fault options.filter plan.chosen fault asked.chosen is
 plan_or_reason options plan (refused.Field name) asked is =
     let bad : Ok plan.fields ≡ Err (refused.Field name) = sym asked.fields ∙ is.1 in absurd (cc bad)
 
@@ -118,19 +118,19 @@ pub names_alone : (names : List (List ℕ)) → IsOfName (fields_named names)
 names_alone [] = tt
 names_alone (name ∷ names) = first_alone name (field_named name) (fields_named names) (names_alone names)
 
-reason_of_names : (options : Options) (filter : Option Typed) (reason : Refused) → IsFilterAsked options.filter filter → IsOfName (Err reason)
+reason_of_names : (options : Options) (chosen : Option CompiledShown) (reason : Refused) → IsFilterAsked options.filter chosen → IsOfName (Err reason)
     → fields_named options.names ≡ Err reason → IsRefusalFor options reason
-reason_of_names options filter (refused.Field name) asked is fields = ((filter, asked), fields)
-reason_of_names options filter (refused.Words fault) asked is fields = absurd is
-reason_of_names options filter (refused.Filter fault) asked is fields = absurd is
+reason_of_names options chosen (refused.Field name) asked is fields = ((chosen, asked), fields)
+reason_of_names options chosen (refused.Words fault) asked is fields = absurd is
+reason_of_names options chosen (refused.Filter fault) asked is fields = absurd is
 
 -- the options are refused for a name, where their filter is read
-pub names_refused : (options : Options) (filter : Option Typed) (e : PlanError) (answer : Result (List ℕ) PlanError) → IsFilterAsked options.filter filter
+pub names_refused : (options : Options) (chosen : Option CompiledShown) (e : PlanError) (answer : Result (List ℕ) PlanError) → IsFilterAsked options.filter chosen
     → answer ≡ Err e → Gives answer (fields_named options.names) → IsErrorOf (IsRefusalFor options) e
-names_refused options filter errors.NoMemory answer asked same gives = tt
-names_refused options filter (errors.Refused reason) answer asked same gives =
+names_refused options chosen errors.NoMemory answer asked same gives = tt
+names_refused options chosen (errors.Refused reason) answer asked same gives =
     let fields : fields_named options.names ≡ Err reason = subst (λ (a : Result (List ℕ) PlanError). Gives a (fields_named options.names)) same gives in
-    reason_of_names options filter reason asked (subst IsOfName fields (names_alone options.names)) fields
+    reason_of_names options chosen reason asked (subst IsOfName fields (names_alone options.names)) fields
 
 -- where a file is known, P of it
 pub each_file : (file : Option (List ℕ)) (P Q : List ℕ → Type 0) → ((f : List ℕ) → P f → Q f) → IfSome file P → IfSome file Q

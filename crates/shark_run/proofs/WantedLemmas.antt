@@ -25,13 +25,20 @@ use Rattle.shark_words.specs.declared.options.LineKind.TheVariants.{Text, Fields
 use Rattle.shark_words.specs.declared.options.Report.{Report}
 use Rattle.out_lines.proofs.KeptLines.{line_alike}
 use Rattle.out_lines.specs.Summary.{summary_of}
-use Rattle.flt_types.specs.declared.typed.Typed.{Typed}
 use Rattle.flt_mean.proofs.KeptMeaning.{meaning_alike}
+use Rattle.flt_mean.specs.Meaning.{meaning}
+use Rattle.flt_vm.proofs.VerdictLemmas.{verdicts_alike}
+use Rattle.flt_vm.specs.Programs.{Code}
+use Rattle.flt_vm.specs.Verdicts.{HasCode, HasField, verdict_of}
+use Rattle.flt_vm.specs.declared.instr.Instr.{Instr}
+use Rattle.flt_vm.specs.declared.instr.Instr.TheVariants as instr
+use Rattle.flt_vm.specs.declared.run.Verdict.{Verdict}
 use Rattle.shark_run.specs.declared.plan.Plan.{Plan}
 use Rattle.shark_run.specs.declared.totals.Totals.{Totals}
 use Rattle.shark_run.specs.Accessors.{is_generated, is_quiet, needs_streams, reports_of, rules_of, two_of, written_of}
 use Rattle.shark_run.specs.Lines.{line_by, line_of, shown}
-use Rattle.shark_run.specs.Satisfied.{satisfies}
+use Rattle.shark_run.specs.Compiled.{CompiledShown}
+use Rattle.shark_run.specs.Satisfied.{decided, satisfies}
 use Rattle.shark_run.specs.Tables.{asks_table, asks_tables, is_table_of}
 use Rattle.shark_run.specs.Totals.{counts_with, with_tree}
 use Rattle.shark_run.specs.Trees.{lets, tree_of}
@@ -46,11 +53,22 @@ use Rattle.shark_run.specs.declared.later.Later.TheVariants.{Unread, Known}
 use Rattle.shark_run.specs.Job.{One, Passes, Two, job_in, once, with_links}
 use Rattle.shark_run.specs.Later.{Serves, ServesKept, kept_passes}
 
--- a set that grows still has what a filter asks for
-pub still_asked : (old new : List ℕ) (filter : Option Typed) → HasAsked old filter → ((f : ℕ) → is_in old f ≡ true → is_in new f ≡ true) →
-    HasAsked new filter
+-- a set that grows still has what an instruction and what a program asks for
+still_field : (old new : List ℕ) (i : Instr) → HasField old i → ((f : ℕ) → is_in old f ≡ true → is_in new f ≡ true) → HasField new i
+still_field old new (instr.Read r field layers) has grown = grown field has
+still_field old new (instr.Count r field layers) has grown = grown field has
+still_field old new i has grown = tt
+
+still_code : (old new : List ℕ) (code : Code) → HasCode old code → ((f : ℕ) → is_in old f ≡ true → is_in new f ≡ true) → HasCode new code
+unfolding HasCode
+still_code old new code has grown = λ at i there. still_field old new i (has at i there) grown
+
+-- a set that grows still has what a filter and its program ask for
+pub still_asked : (old new : List ℕ) (chosen : Option CompiledShown) → HasAsked old chosen → ((f : ℕ) → is_in old f ≡ true → is_in new f ≡ true) →
+    HasAsked new chosen
 still_asked old new None has grown = tt
-still_asked old new (Some filter) has grown = λ f asked. grown f (has f asked)
+still_asked old new (Some compiled) has grown =
+    (λ f asked. grown f (has.0 f asked), still_code old new compiled.program has.1 grown)
 
 -- a field that was there before, and one that was added
 either_true : (a b : Bool) → (a || (b || true)) ≡ true
@@ -76,7 +94,7 @@ grown_columns old new (field ∷ fields) has grown = (grown field has.0, grown_c
 -- a set that grows still has what a plan asks for
 pub grown_plan : (old new : List ℕ) (plan : Plan) → HasPlan old plan → ((f : ℕ) → is_in old f ≡ true → is_in new f ≡ true) → HasPlan new plan
 grown_plan old new plan has grown = record {
-  filter = still_asked old new plan.filter has.filter grown;
+  filter = still_asked old new plan.chosen has.filter grown;
   columns = grown_columns old new plan.fields has.columns grown;
   summary = λ summed. grown_columns old new summary_fields (has.summary summed) grown;
 }
@@ -103,10 +121,13 @@ unfolding asks_streams
 stream_asked old new added =
     ap (λ (b : Bool). b || is_in new TCP_SEQ || is_in new TCP_ACK || is_in new TCP_LOST || asks_messages new) (added_now TCP_STREAM TCP_STREAM (row_of TCP_STREAM).proto (is_in old TCP_STREAM) (is_in new TCP_STREAM) refl (added TCP_STREAM))
 
-satisfies_same : (wanted : List ℕ) (filter : Option Typed) (t u : TreeShown) → HasSameValues wanted t u → HasAsked wanted filter → satisfies filter u ≡ satisfies filter t
+satisfies_same : (wanted : List ℕ) (chosen : Option CompiledShown) (t u : TreeShown) → HasSameValues wanted t u → HasAsked wanted chosen
+    → satisfies chosen u ≡ satisfies chosen t
 unfolding satisfies
 satisfies_same wanted None t u same has = refl
-satisfies_same wanted (Some filter) t u same has = meaning_alike wanted filter t u same has
+satisfies_same wanted (Some compiled) t u same has =
+    ap (λ (verdict : Option Verdict). decided verdict (meaning compiled.filter u)) (verdicts_alike wanted compiled.program compiled.filter t u same has.1)
+    ∙ ap (decided (verdict_of compiled.program compiled.filter t)) (meaning_alike wanted compiled.filter t u same has.0)
 
 line_same : (wanted : List ℕ) (plan : Plan) (kind : LineKind) (t u : TreeShown) → HasSameValues wanted t u → kind ≡ Fields → HasPlan wanted plan
     → line_by kind plan u ≡ line_by kind plan t
@@ -116,7 +137,7 @@ line_same wanted plan Fields t u same is has = line_alike wanted plan.fields t u
 
 shown_same : (wanted : List ℕ) (plan : Plan) (t u : TreeShown) → HasSameValues wanted t u → plan.kind ≡ Fields → HasPlan wanted plan → shown plan u ≡ shown plan t
 shown_same wanted plan t u same is has =
-    ap (λ (truth : Bool). if is_quiet plan then [] else if truth then line_of plan u else []) (satisfies_same wanted plan.filter t u same has.filter)
+    ap (λ (truth : Bool). if is_quiet plan then [] else if truth then line_of plan u else []) (satisfies_same wanted plan.chosen t u same has.filter)
     ∙ ap (λ (line : List ℕ). if is_quiet plan then [] else if lets plan t then line else []) (line_same wanted plan plan.kind t u same is has)
 
 -- all fields are the whole tree
@@ -167,7 +188,7 @@ summed_up plan lines loud text =
 summary_shown : (wanted : List ℕ) (plan : Plan) (t u : TreeShown) → HasSameValues wanted t u → IsKept wanted t u → HasPlan wanted plan → plan.kind ≡ Text
     → HasFields wanted summary_fields → shown plan u ≡ shown plan t
 summary_shown wanted plan t u same kept has text summed =
-    ap (λ (truth : Bool). if is_quiet plan then [] else if truth then line_of plan u else []) (satisfies_same wanted plan.filter t u same has.filter)
+    ap (λ (truth : Bool). if is_quiet plan then [] else if truth then line_of plan u else []) (satisfies_same wanted plan.chosen t u same has.filter)
     ∙ ap (λ (kind : LineKind). if is_quiet plan then [] else if lets plan t then line_by kind plan u else []) text
     ∙ ap (λ (line : List ℕ). if is_quiet plan then [] else if lets plan t then line else []) (ap summary_of kept.same ∙ summary_same wanted t summed)
     ∙ sym (ap (λ (kind : LineKind). if is_quiet plan then [] else if lets plan t then line_by kind plan t else []) text)
@@ -215,7 +236,7 @@ tree_same wanted t one other totals same =
 counted_kept : (wanted : List ℕ) (plan : Plan) (whole tree : TreeShown) → HasPlan wanted plan → HasSameValues wanted whole tree → IsKept wanted whole tree
     → (totals : Totals) → counts_with plan tree totals ≡ counts_with plan whole totals
 counted_kept wanted plan whole tree has same kept totals =
-    ap (λ (truth : Bool). if is_generated plan then with_tree tree truth totals else totals) (satisfies_same wanted plan.filter whole tree same has.filter)
+    ap (λ (truth : Bool). if is_generated plan then with_tree tree truth totals else totals) (satisfies_same wanted plan.chosen whole tree same has.filter)
     ∙ ap (λ (t : TreeShown). if is_generated plan then with_tree t (lets plan whole) totals else totals) kept.same
     ∙ ap (λ (with : Totals). if is_generated plan then with else totals)
     (tree_same wanted whole (lets plan whole) (lets plan whole) totals refl)
@@ -312,9 +333,9 @@ enough_followed wanted plan is has tables asks links = record {
   told = λ whole tree made. record {
     shown = λ lines. shown_kept wanted plan whole tree made.values (made.kept asks) has lines (which_lines plan lines is);
     counted = λ totals. counted_kept wanted plan whole tree has made.values (made.kept asks) totals;
-    truth = λ written. satisfies_same wanted plan.filter whole tree made.values has.filter;
+    truth = λ written. satisfies_same wanted plan.chosen whole tree made.values has.filter;
     noted = λ kind asked. record {
-      truth = satisfies_same wanted plan.filter whole tree made.values has.filter;
+      truth = satisfies_same wanted plan.chosen whole tree made.values has.filter;
       kept = record { wanted = wanted; fields = tables kind asked; kept = made.kept asks };
     };
   };
@@ -349,7 +370,7 @@ enough_plain wanted plan is none_so has =
       told = λ whole tree made. record {
         shown = λ lines. shown_asked wanted plan whole tree made.values has lines unsummed (which_lines plan lines is);
         counted = λ totals. counted_file plan tree whole (not_generated plan not_so) totals;
-        truth = λ written. satisfies_same wanted plan.filter whole tree made.values has.filter;
+        truth = λ written. satisfies_same wanted plan.chosen whole tree made.values has.filter;
         noted = λ kind asked. no_report plan kind not_so asked;
       };
       streams = not_needed plan not_so;

@@ -1,11 +1,12 @@
 -- What a plan asks for. Only these words look into it.
-use Rattle.std.specs.Prelude.{◌==◌, ℕ, Bool, not, ◌||◌, List, length, Option}
+use Rattle.std.specs.Prelude.{◌==◌, ℕ, Bool, not, ◌||◌, List, length, Option, option_map}
 use Rattle.capture_write.specs.declared.format.Format.{Format}
 use Rattle.flt_types.specs.declared.typed.Typed.{Typed}
 use Rattle.out_lines.specs.declared.style.Style.{Style}
 use Rattle.port_rules.specs.declared.rules.PortRule.{PortRule}
 use Rattle.shark_words.specs.declared.options.LineKind.{LineKind}
 use Rattle.shark_words.specs.declared.options.Report.{Report}
+use Rattle.shark_run.specs.Compiled.{CompiledShown}
 use Rattle.shark_run.specs.declared.plan.Plan.{Plan}
 use Rattle.shark_run.specs.declared.source.PlanSource.{PlanSource}
 use Rattle.shark_run.specs.Source.{is_generated_by, name_by}
@@ -26,9 +27,13 @@ name_of plan = name_by (source_of plan)
 abbrev pub is_generated : Plan → Bool
 is_generated plan = is_generated_by (source_of plan)
 
+-- the filter with its program, where there is one
+abbrev pub compiled_of : Plan → Option CompiledShown
+compiled_of plan = plan.chosen
+
 -- what a frame's tree has to satisfy
 abbrev pub filter_of : Plan → Option Typed
-filter_of plan = plan.filter
+filter_of plan = option_map (λ (compiled : CompiledShown). compiled.filter) (compiled_of plan)
 
 -- the rules that take the place of the usual applications of ports
 abbrev pub rules_of : Plan → List PortRule

@@ -1,6 +1,8 @@
 -- What holds of every list of words.
-use Rattle.std.specs.Prelude.{◌≡◌, ◌⊎◌, ℕ, List}
+use Rattle.std.specs.Prelude.{◌≡◌, ◌⊎◌, ℕ, List, Some}
 use Rattle.capture_read.specs.declared.frame.Frame.{Frame}
+use Rattle.flt_mean.specs.Meaning.{meaning}
+use Rattle.flt_types.specs.declared.typed.Typed.{Typed}
 use Rattle.pk_tree.specs.Trees.{TreeShown}
 use Rattle.shark_run.specs.declared.plan.Plan.{Plan}
 use Rattle.shark_run.specs.declared.plan.Refused.{Refused}
@@ -8,7 +10,7 @@ use Rattle.shark_run.specs.Answers.{IsSure}
 use Rattle.shark_run.specs.Job.{Passes, job_in}
 use Rattle.shark_run.specs.Lines.{output_of}
 use Rattle.shark_run.specs.Plan.{IsPlan, IsRefusal}
-use Rattle.shark_run.specs.Accessors.{source_of}
+use Rattle.shark_run.specs.Accessors.{filter_of, source_of}
 use Rattle.shark_run.specs.Reading.{frames_read}
 use Rattle.shark_run.specs.Trees.{lets}
 
@@ -37,3 +39,8 @@ pub record AreAlike (one other : Plan) : Type 0 where
 -- all plans of the same words are alike
 abbrev pub PlansAreAlike : Type 0
 PlansAreAlike = (words : List (List ℕ)) (one other : Plan) → IsPlan words one → IsPlan words other → AreAlike one other
+
+-- where words ask for a filter, their plan lets exactly the trees through that satisfy it
+abbrev pub LetsByMeaning : Type 0
+LetsByMeaning = (words : List (List ℕ)) (plan : Plan) (filter : Typed) → IsPlan words plan → filter_of plan ≡ Some filter
+    → (tree : TreeShown) → lets plan tree ≡ meaning filter tree

@@ -3,6 +3,7 @@ pub mod Answers
 pub mod Causes
 pub mod Chosen
 pub mod Columns
+pub mod Compiled
 pub mod Ended
 pub mod FaultLines
 pub mod FaultTexts

@@ -2,7 +2,7 @@
 use Rattle.std.specs.Prelude.{◌≡◌, ℕ, List, Option, Some, None, Ok, Err}
 use Rattle.flt_parse.specs.declared.fault.FilterFault.{FilterFault}
 use Rattle.flt_parse.specs.declared.fault.FilterError.TheVariants.{Fault}
-use Rattle.flt_types.specs.declared.typed.Typed.{Typed}
+use Rattle.flt_code.specs.Decides.{Agrees, Decides}
 use Rattle.flt_types.specs.Texts.{IsTypedText, IsFilterFault}
 use Rattle.shark_words.specs.declared.options.Options.{Options}
 use Rattle.shark_words.specs.Options.{options_of}
@@ -10,14 +10,16 @@ use Rattle.shark_run.specs.declared.plan.Plan.{Plan}
 use Rattle.shark_run.specs.declared.plan.Refused.{Refused}
 use Rattle.shark_run.specs.declared.plan.Refused.TheVariants as refused
 use Rattle.shark_run.specs.Columns.{fields_named}
+use Rattle.shark_run.specs.Compiled.{CompiledShown}
 use Rattle.shark_run.specs.Source.{source_in}
 
--- the filter of the text that is asked for, where one is
-abbrev pub IsFilterAsked : Option (List ℕ) → Option Typed → Type 0
+-- the filter of the text that is asked for, where one is, with a program that decides it: its runs end with the filter's truth
+abbrev pub IsFilterAsked : Option (List ℕ) → Option CompiledShown → Type 0
 IsFilterAsked None None = Unit {0}
-IsFilterAsked None (Some filter) = ⊥
+IsFilterAsked None (Some compiled) = ⊥
 IsFilterAsked (Some text) None = ⊥
-IsFilterAsked (Some text) (Some filter) = IsTypedText text filter
+IsFilterAsked (Some text) (Some compiled) =
+    IsTypedText text compiled.filter × Decides compiled.program compiled.filter × Agrees compiled.program compiled.filter
 
 -- the first fault of that text
 abbrev pub IsFaultAsked : Option (List ℕ) → FilterFault → Type 0
@@ -27,7 +29,7 @@ IsFaultAsked (Some text) fault = IsFilterFault text (Fault fault)
 -- the plan that options ask for
 pub record IsPlanFor (options : Options) (plan : Plan) : Type 0 where
   pub source : plan.source ≡ source_in options.source
-  pub filter : IsFilterAsked options.filter plan.filter
+  pub chosen : IsFilterAsked options.filter plan.chosen
   pub two : plan.two ≡ options.two
   pub fields : fields_named options.names ≡ Ok plan.fields
   pub most : plan.most ≡ options.most
@@ -43,7 +45,7 @@ abbrev pub IsRefusalFor : Options → Refused → Type 0
 IsRefusalFor options (refused.Words fault) = ⊥
 IsRefusalFor options (refused.Filter fault) = IsFaultAsked options.filter fault
 IsRefusalFor options (refused.Field name) =
-    ((filter : Option Typed) × IsFilterAsked options.filter filter) × (fields_named options.names ≡ Err (refused.Field name))
+    ((chosen : Option CompiledShown) × IsFilterAsked options.filter chosen) × (fields_named options.names ≡ Err (refused.Field name))
 
 -- the plan that words ask for
 unfoldable pub IsPlan : List (List ℕ) → Plan → Type 0

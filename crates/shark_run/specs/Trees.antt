@@ -5,7 +5,7 @@ use Rattle.capture_read.specs.declared.frame.Frame.{Frame}
 use Rattle.dissect.specs.Trees.{tree_at}
 use Rattle.pk_tree.specs.Trees.{TreeShown}
 use Rattle.shark_run.specs.declared.plan.Plan.{Plan}
-use Rattle.shark_run.specs.Accessors.{filter_of, rules_of}
+use Rattle.shark_run.specs.Accessors.{compiled_of, rules_of}
 use Rattle.shark_run.specs.Job.{Job, with_links}
 use Rattle.shark_run.specs.Satisfied.{satisfies}
 
@@ -18,9 +18,9 @@ abbrev pub trees_of : Job → List Frame → List TreeShown
 trees_of job [] = []
 trees_of job (frame ∷ past) = tree_of job past frame ∷ trees_of job past
 
--- whether the filter lets a tree through
+-- whether the plan's program lets a tree through
 abbrev pub lets : Plan → TreeShown → Bool
-lets plan tree = satisfies (filter_of plan) tree
+lets plan tree = satisfies (compiled_of plan) tree
 
 -- whether it lets the tree of a frame through
 abbrev pub lets_frame : Job → List Frame → Frame → Bool

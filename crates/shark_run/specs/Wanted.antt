@@ -8,23 +8,24 @@ use Rattle.dissect.specs.Followed.{asks_streams, HasSameValues}
 use Rattle.cap_stats.specs.Laws.{IsKeptFor, fields_of as table_fields}
 use Rattle.cap_stats.specs.declared.kind.StatKind.{StatKind}
 use Rattle.capture_write.specs.declared.format.Format.{Format}
-use Rattle.flt_types.specs.declared.typed.Typed.{Typed}
 use Rattle.flt_types.specs.Asked.{HasFilter}
+use Rattle.flt_vm.specs.Verdicts.{HasCode}
 use Rattle.second_pass.specs.Laws.{link_fields}
 use Rattle.shark_words.specs.declared.options.LineKind.{LineKind}
 use Rattle.shark_words.specs.declared.options.LineKind.TheVariants.{Text, Fields, Json}
 use Rattle.shark_run.specs.declared.plan.Plan.{Plan}
 use Rattle.shark_run.specs.declared.totals.Totals.{Totals}
-use Rattle.shark_run.specs.Accessors.{fields_of, filter_of, is_quiet, kind_of, needs_streams, two_of, written_of}
+use Rattle.shark_run.specs.Accessors.{compiled_of, fields_of, is_quiet, kind_of, needs_streams, two_of, written_of}
+use Rattle.shark_run.specs.Compiled.{CompiledShown}
 use Rattle.shark_run.specs.Lines.{shown}
 use Rattle.shark_run.specs.Tables.{asks_table}
 use Rattle.shark_run.specs.Totals.{counts_with}
 use Rattle.shark_run.specs.Trees.{lets}
 
--- a set has the fields that a filter asks for; no filter asks for none
-abbrev pub HasAsked : List ℕ → Option Typed → Type 0
+-- a set has the fields that a filter and its program ask for; no filter asks for none
+abbrev pub HasAsked : List ℕ → Option CompiledShown → Type 0
 HasAsked wanted None = Unit {0}
-HasAsked wanted (Some filter) = HasFilter wanted filter
+HasAsked wanted (Some compiled) = HasFilter wanted compiled.filter × HasCode wanted compiled.program
 
 -- a set has these fields
 abbrev pub HasFields : List ℕ → List ℕ → Type 0
@@ -48,7 +49,7 @@ sums_up plan = sums_up_by (written_of plan) (is_quiet plan) (kind_of plan)
 
 -- a set has the fields of a plan's filter, of its columns, and of the lines that sum up frames where these are written
 pub record HasPlan (wanted : List ℕ) (plan : Plan) : Type 0 where
-  pub filter : HasAsked wanted (filter_of plan)
+  pub filter : HasAsked wanted (compiled_of plan)
   pub columns : HasFields wanted (fields_of plan)
   pub summary : sums_up plan ≡ true → HasFields wanted summary_fields
 

@@ -1,6 +1,6 @@
 // What holds of every list of words and of every capture, stated on functions that do nothing.
 ghost use Rattle.shark_run.specs.JsonLaws.{MessagesToldOnce};
-ghost use Rattle.shark_run.specs.Laws.{NeverBoth, OneReason, PlanOrReason, PlansAreAlike};
+ghost use Rattle.shark_run.specs.Laws.{LetsByMeaning, NeverBoth, OneReason, PlanOrReason, PlansAreAlike};
 ghost use Rattle.shark_run.specs.ReportLaws.{FollowsAlone};
 
 use tcp_messages::messages_once;
@@ -23,6 +23,11 @@ pub fn reasons_are_unique()
 /// All plans of the same words read and write alike.
 pub fn plans_are_alike()
     ensures { PlansAreAlike }
+{}
+
+/// A plan lets the trees through that satisfy the filter of its words.
+pub fn plans_let_by_meaning()
+    ensures { LetsByMeaning }
 {}
 
 /// Behind its first line, the report of a stream rests on the segments of its conversation alone.

@@ -2,12 +2,13 @@
 //! and the lines of the frames that the filter lets through are written, or these frames as a capture.
 #![tactic(auto)]
 
+mod compiled;
 mod fault_text;
 mod file;
 mod generated;
+mod judge;
 mod later;
 mod laws;
-mod lines;
 mod notes;
 mod outcome;
 mod output;
@@ -27,10 +28,11 @@ mod two_passes;
 mod wanted;
 mod words;
 
+pub use compiled::Compiled;
 pub use generated::Generated;
 pub use laws::{
-    follows_stand_alone, plans_are_alike, plans_are_not_refused, reasons_are_unique,
-    words_are_planned_or_refused,
+    follows_stand_alone, plans_are_alike, plans_are_not_refused, plans_let_by_meaning,
+    reasons_are_unique, words_are_planned_or_refused,
 };
 pub use plan::{FieldList, Plan, Refused};
 pub use rules::PlanRules;

@@ -13,7 +13,7 @@ ghost use Rattle.cap_stats.specs.declared.kind.StatKind.{StatKind as KindValue};
 ghost use Rattle.capture_read.specs.FrameList.{IsTime};
 ghost use Rattle.pk_tree.specs.Trees.{TreeShown};
 ghost use Rattle.shark_run.specs.declared.totals.Totals.{Totals as TotalsValue};
-ghost use Rattle.shark_run.specs.Accessors.{is_generated, is_quiet, rules_of, two_of, written_of};
+ghost use Rattle.shark_run.specs.Accessors.{compiled_of, is_generated, is_quiet, rules_of, two_of, written_of};
 ghost use Rattle.shark_run.specs.Job.{IfOnce, Passes, job_in, once};
 ghost use Rattle.shark_run.specs.Later.{ServesKept};
 ghost use Rattle.shark_run.specs.Ended.{CanClose, HasRead};
@@ -29,8 +29,8 @@ ghost use Rattle.shark_run.specs.Wanted.{IsEnough, IsToldAs};
 ghost use Rattle.shark_run.specs.Way.{IsBrokenBehind, IsBrokenFrom, IsBrokenOf, IsFullNearOf, WroteTaken, WroteTakenBehind};
 ghost use Rattle.shark_run.specs.Wrote.{WroteAll, WroteBody, WrotePart, WrotePieces, WroteSomeBody, WroteSomePieces};
 
+use crate::judge::{Judge, judge_for, lets as is_let};
 use crate::later::{Later, add_links};
-use crate::lines::satisfies;
 use crate::notes::Notes;
 use crate::packet::{write_end, write_packet};
 use crate::plan::Plan;
@@ -78,9 +78,10 @@ pub(crate) fn new_dissector(
     Ok(Dissector::for_fields(alloc, DecodeAs { rules }, wanted))
 }
 
-// A line, with what writes it, what was noted so far, and what writes a capture.
+// A line, with what decides whether it is shown, what writes it, what was noted so far, and what writes a capture.
 #[derive(Drop)]
-pub(crate) struct LineMaker {
+pub(crate) struct LineMaker<'p> {
+    pub(crate) judge: Option<Judge<'p>>,
     pub(crate) writer: LineWriter,
     json: JsonWriter,
     line: Vec<u8>,
@@ -89,13 +90,15 @@ pub(crate) struct LineMaker {
 }
 
 #[tactic(auto, using(crate::proofs::ClosingLemmas::keeps_nothing))]
-pub(crate) fn new_line_maker(alloc: Global, plan: &Plan) -> Result<LineMaker, NoMemory>
+pub(crate) fn new_line_maker(alloc: Global, plan: &Plan) -> Result<LineMaker<'_>, NoMemory>
+    ensures judge { IfOk result (λ lines. lines.judge ≡ compiled_of plan.now) }
     ensures writer { IfOk result (λ lines. lines.writer ≡ plan.now.fields) }
     ensures totals { IfOk result (λ lines. lines.notes.totals ≡ nothing_counted) }
     ensures keeps { IfOk result (λ lines. (passes : Passes)
         → KeepsUp (written_of plan.now) (job_in plan.now passes) [] lines.notes lines.capture) }
 {
     Ok(LineMaker {
+        judge: judge_for(alloc, plan)?,
         writer: LineWriter::new(alloc, plan.fields.slice())?,
         json: JsonWriter::new(alloc),
         line: Vec::new(alloc),
@@ -105,10 +108,16 @@ pub(crate) fn new_line_maker(alloc: Global, plan: &Plan) -> Result<LineMaker, No
 }
 
 // Puts the line of a tree, of the kind that is asked for.
-fn put_line(alloc: Global, plan: &Plan, tree: &Tree, lines: &mut LineMaker) -> Result<(), NoMemory>
+fn put_line(
+    alloc: Global,
+    plan: &Plan,
+    tree: &Tree,
+    lines: &mut LineMaker<'_>,
+) -> Result<(), NoMemory>
     requires writer { lines.old.writer ≡ plan.now.fields }
     requires empty { lines.old.line.items ≡ [] }
     ensures line { OnOk result (lines.new.line.items ≡ line_of plan.now tree.now) }
+    ensures judge { lines.new.judge ≡ lines.old.judge }
     ensures writer { lines.new.writer ≡ lines.old.writer }
     ensures notes { lines.new.notes ≡ lines.old.notes }
 {
@@ -140,7 +149,13 @@ fn asks_filter(plan: &Plan) -> bool
 // Makes the line of a tree, where the filter lets it through, else one of no bytes, and notes the tree for what stands behind the
 // lines.
 #[tactic(auto, using(crate::proofs::NoteLemmas::not_counted, crate::proofs::NoteLemmas::not_tabled))]
-fn make_line(alloc: Global, plan: &Plan, tree: &Tree, lines: &mut LineMaker) -> Result<(), NoMemory>
+fn make_line(
+    alloc: Global,
+    plan: &Plan,
+    tree: &Tree,
+    lines: &mut LineMaker<'_>,
+) -> Result<(), NoMemory>
+    requires judge { lines.old.judge ≡ compiled_of plan.now }
     requires writer { lines.old.writer ≡ plan.now.fields }
     requires few { AreFewNotes (2 ^ 28) lines.old.notes }
     ensures line { OnOk result (lines.new.line.items ≡ shown plan.now tree.now) }
@@ -149,6 +164,7 @@ fn make_line(alloc: Global, plan: &Plan, tree: &Tree, lines: &mut LineMaker) -> 
     ensures tables { OnOk result ((trees : List TreeShown)
         → AreTables plan.now trees lines.old.notes.tables
         → AreTables plan.now (trees_with plan.now tree.now trees) lines.new.notes.tables) }
+    ensures judge { lines.new.judge ≡ lines.old.judge }
     ensures writer { lines.new.writer ≡ lines.old.writer }
     ensures few { (most : ℕ) → AreFewNotes most lines.old.notes → AreFewNotes (suc most) lines.new.notes }
 {
@@ -156,7 +172,7 @@ fn make_line(alloc: Global, plan: &Plan, tree: &Tree, lines: &mut LineMaker) -> 
     if !asks_filter(plan) {
         return Ok(());
     }
-    let satisfied = satisfies(alloc, plan, tree)?;
+    let satisfied = is_let(&mut lines.judge, tree)?;
     lines.notes.note(plan, tree, satisfied)?;
     if plan.source.is_generated() {
         return Ok(());
@@ -175,9 +191,10 @@ fn write_tree<O: Sink>(
     alloc: Global,
     plan: &Plan,
     tree: &Tree,
-    lines: &mut LineMaker,
+    lines: &mut LineMaker<'_>,
     out: &mut O,
 ) -> Result<(), SinkFault>
+    requires judge { lines.old.judge ≡ compiled_of plan.now }
     requires writer { lines.old.writer ≡ plan.now.fields }
     requires few { AreFewNotes (2 ^ 28) lines.old.notes }
     ensures whole { OnOk result
@@ -190,6 +207,7 @@ fn write_tree<O: Sink>(
         → AreTables plan.now (trees_with plan.now tree.now trees) lines.new.notes.tables) }
     ensures fault { IsErrOf result SinkFault.Failed → Rose (O.faults out.old) (O.faults out.new) }
     ensures faults_stay { O.faults out.old ≤ O.faults out.new }
+    ensures judge { lines.new.judge ≡ lines.old.judge }
     ensures writer { lines.new.writer ≡ lines.old.writer }
     ensures few { (most : ℕ) → AreFewNotes most lines.old.notes → AreFewNotes (suc most) lines.new.notes }
 {
@@ -240,12 +258,13 @@ fn write_shown<O: Sink>(
     frame: &Frame,
     later: &Later,
     dissector: &mut Dissector,
-    lines: &mut LineMaker,
+    lines: &mut LineMaker<'_>,
     out: &mut O,
 ) -> Result<(), RunFault>
     requires enough { IsEnough dissector.old.wanted plan.now }
     requires rules { dissector.old.decode.rules ≡ rules_of plan.now }
     requires lines_asked { written_of plan.now ≡ None }
+    requires judge { lines.old.judge ≡ compiled_of plan.now }
     requires lines { lines.old.writer ≡ plan.now.fields }
     requires few { AreFewNotes (2 ^ 28) lines.old.notes }
     requires number { frame.now.number ≡ dissector.old.taken + 1 }
@@ -274,6 +293,7 @@ fn write_shown<O: Sink>(
         → AreNotes (job_in plan.now passes) past lines.old.notes
         → AreNotes (job_in plan.now passes) (frame.now ∷ past) lines.new.notes) }
     ensures few { (most : ℕ) → AreFewNotes most lines.old.notes → AreFewNotes (suc most) lines.new.notes }
+    ensures judge { lines.new.judge ≡ lines.old.judge }
     ensures writer { lines.new.writer ≡ lines.old.writer }
     ensures read { IsErrOf result RunFault.ReadFault → ⊥ }
     ensures fault { IsErrOf result RunFault.WriteFault
@@ -295,14 +315,15 @@ fn write_shown<O: Sink>(
 // Takes a frame and writes it to the capture where the filter lets it through, and answers whether it fits.
 #[tactic(auto, using(crate::proofs::PacketLemmas::packed_truly, crate::proofs::PacketLemmas::part_truly, crate::proofs::PacketLemmas::packed_none))]
 fn write_chosen<O: Sink>(
-    alloc: Global,
     plan: &Plan,
     frame: &Frame,
     later: &Later,
     dissector: &mut Dissector,
+    judge: &mut Option<Judge<'_>>,
     writer: &mut Writer,
     out: &mut O,
 ) -> Result<bool, RunFault>
+    requires judge { judge.old ≡ compiled_of plan.now }
     requires enough { IsEnough dissector.old.wanted plan.now }
     requires rules { dissector.old.decode.rules ≡ rules_of plan.now }
     requires written { IsSome (written_of plan.now) }
@@ -328,6 +349,7 @@ fn write_chosen<O: Sink>(
         → Written writer.old chosen → AppendsPart (O.written out.old) (O.written out.new)
         (fit_packet (lets_frame (job_in plan.now passes) past frame.now)
         writer.old.format chosen frame.now) }
+    ensures judge { judge.new ≡ judge.old }
     ensures read { IsErrOf result RunFault.ReadFault → ⊥ }
     ensures fault { IsErrOf result RunFault.WriteFault
         → Rose (O.faults out.old) (O.faults out.new) }
@@ -338,7 +360,7 @@ fn write_chosen<O: Sink>(
         // The first error ends the run, so that this one is never `Spent`.
         Err(TakeFault::NoMemory | TakeFault::Spent) => return Err(RunFault::NoMemory),
     };
-    match write_packet(alloc, plan, frame, &tree, writer, out) {
+    match write_packet(frame, &tree, judge, writer, out) {
         Ok(fit) => Ok(fit),
         Err(SinkFault::Failed) => Err(RunFault::WriteFault),
         Err(SinkFault::NoMemory) => Err(RunFault::NoMemory),
@@ -353,11 +375,12 @@ pub(crate) fn write_frame<O: Sink>(
     frame: &Frame,
     later: &Later,
     dissector: &mut Dissector,
-    lines: &mut LineMaker,
+    lines: &mut LineMaker<'_>,
     out: &mut O,
 ) -> Result<bool, RunFault>
     requires enough { IsEnough dissector.old.wanted plan.now }
     requires rules { dissector.old.decode.rules ≡ rules_of plan.now }
+    requires judge { lines.old.judge ≡ compiled_of plan.now }
     requires lines { lines.old.writer ≡ plan.now.fields }
     requires few { AreFewNotes (2 ^ 28) lines.old.notes }
     requires number { frame.now.number ≡ dissector.old.taken + 1 }
@@ -383,6 +406,7 @@ pub(crate) fn write_frame<O: Sink>(
         → AppendsPart (O.written out.old) (O.written out.new)
         (fit_piece (job_in plan.now passes) past frame.now) }
     ensures few { (most : ℕ) → AreFewNotes most lines.old.notes → AreFewNotes (suc most) lines.new.notes }
+    ensures judge { lines.new.judge ≡ lines.old.judge }
     ensures writer { lines.new.writer ≡ lines.old.writer }
     ensures read { IsErrOf result RunFault.ReadFault → ⊥ }
     ensures fault { IsErrOf result RunFault.WriteFault
@@ -392,11 +416,11 @@ pub(crate) fn write_frame<O: Sink>(
     match plan.written {
         Some(_) => {
             match write_chosen(
-                alloc,
                 plan,
                 frame,
                 later,
                 dissector,
+                &mut lines.judge,
                 &mut lines.capture,
                 out,
             ) {
@@ -437,12 +461,13 @@ fn write_rest<C: Capture, O: Sink>(
     plan: &Plan,
     reader: &mut FrameReader,
     dissector: &mut Dissector,
-    lines: &mut LineMaker,
+    lines: &mut LineMaker<'_>,
     capture: &mut C,
     out: &mut O,
 ) -> Result<RunEnding, RunFault>
     requires enough { IsEnough dissector.old.wanted plan.now }
     requires rules { dissector.old.decode.rules ≡ rules_of plan.now }
+    requires judge { lines.old.judge ≡ compiled_of plan.now }
     requires lines { lines.old.writer ≡ plan.now.fields }
     requires alone { two_of plan.now ≡ false }
     requires totals { lines.old.notes.totals ≡ nothing_counted }
@@ -542,7 +567,7 @@ pub(crate) fn write_closing<O: Sink>(
     alloc: Global,
     plan: &Plan,
     dissector: &Dissector,
-    lines: &mut LineMaker,
+    lines: &mut LineMaker<'_>,
     out: &mut O,
 ) -> Result<(), SinkFault>
     requires enough { IsEnough dissector.now.wanted plan.now }
@@ -581,12 +606,13 @@ fn write_body<C: Capture, O: Sink>(
     plan: &Plan,
     reader: &mut FrameReader,
     dissector: &mut Dissector,
-    lines: &mut LineMaker,
+    lines: &mut LineMaker<'_>,
     capture: &mut C,
     out: &mut O,
 ) -> Result<RunEnding, RunFault>
     requires enough { IsEnough dissector.old.wanted plan.now }
     requires rules { dissector.old.decode.rules ≡ rules_of plan.now }
+    requires judge { lines.old.judge ≡ compiled_of plan.now }
     requires lines { lines.old.writer ≡ plan.now.fields }
     requires alone { two_of plan.now ≡ false }
     requires totals { lines.old.notes.totals ≡ nothing_counted }

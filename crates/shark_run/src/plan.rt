@@ -1,10 +1,10 @@
 ghost use Rattle.std.specs.Prelude.{◌≡◌};
 
+use crate::compiled::Compiled;
 use crate::rules::PlanRules;
 use crate::source::PlanSource;
 use capture_write::Format;
 use flt_parse::FilterFault;
-use flt_types::Filter;
 use out_lines::Style;
 use pk_base::{NoMemory, Octets};
 use pk_fields::FieldId;
@@ -45,8 +45,8 @@ impl FieldList {
 pub struct Plan {
     /// Where the frames come from.
     pub source: PlanSource,
-    /// What a frame's tree has to satisfy, where there is a filter.
-    pub filter: Option<Filter>,
+    /// What a frame's tree has to satisfy, where there is a filter, and the program that decides it.
+    pub chosen: Option<Compiled>,
     /// Whether the frames are read twice, so that trees also show what later frames bring.
     pub two: bool,
     /// The columns, in order.

@@ -11,7 +11,7 @@ ghost use Rattle.dissect.specs.Followed.{asks_streams};
 ghost use Rattle.dissect.specs.Stands.{StandsWithin};
 ghost use Rattle.second_pass.specs.Laws.{kept_noted};
 ghost use Rattle.second_pass.specs.Stands.{Stands as Noted};
-ghost use Rattle.shark_run.specs.Accessors.{most_of, rules_of, two_of, written_of};
+ghost use Rattle.shark_run.specs.Accessors.{compiled_of, most_of, rules_of, two_of, written_of};
 ghost use Rattle.shark_run.specs.Ended.{CanClose};
 ghost use Rattle.shark_run.specs.Fitting.{fitting};
 ghost use Rattle.shark_run.specs.Job.{Passes, job_in, noted_of, passes_by};
@@ -185,11 +185,12 @@ fn write_kept<O: Sink>(
     kept: &KeptFrames,
     later: &Later,
     dissector: &mut Dissector,
-    lines: &mut LineMaker,
+    lines: &mut LineMaker<'_>,
     out: &mut O,
 ) -> Result<RunEnding, RunFault>
     requires enough { IsEnough dissector.old.wanted plan.now }
     requires rules { dissector.old.decode.rules ≡ rules_of plan.now }
+    requires judge { lines.old.judge ≡ compiled_of plan.now }
     requires lines { lines.old.writer ≡ plan.now.fields }
     requires totals { lines.old.notes.totals ≡ nothing_counted }
     requires keeps { (passes : Passes)
@@ -241,11 +242,12 @@ fn write_kept_body<O: Sink>(
     kept: &KeptFrames,
     later: &Later,
     dissector: &mut Dissector,
-    lines: &mut LineMaker,
+    lines: &mut LineMaker<'_>,
     out: &mut O,
 ) -> Result<RunEnding, RunFault>
     requires enough { IsEnough dissector.old.wanted plan.now }
     requires rules { dissector.old.decode.rules ≡ rules_of plan.now }
+    requires judge { lines.old.judge ≡ compiled_of plan.now }
     requires lines { lines.old.writer ≡ plan.now.fields }
     requires totals { lines.old.notes.totals ≡ nothing_counted }
     requires keeps { (passes : Passes)

@@ -8,10 +8,11 @@ ghost use Rattle.shark_run.specs.Tables.{asks_table};
 ghost use Rattle.shark_run.specs.Wanted.{HasAsked, HasFields, HasPlan, HasTables, IsEnough, shows_whole, summary_fields, sums_up as are_summed_up};
 ghost use Rattle.dissect.specs.Followed.{asks_streams};
 
+use crate::compiled::Compiled;
 use crate::plan::Plan;
 use crate::tables::asks;
 use cap_stats::StatKind;
-use flt_types::{Filter, add_fields};
+use flt_types::add_fields;
 use pk_fields::{FieldId, FieldSet, ids};
 use shark_words::LineKind;
 
@@ -110,12 +111,12 @@ fn add_links(plan: &Plan, wanted: &mut FieldSet)
     }
 }
 
-/// The fields of a plan's filter, of its columns, and of the lines that sum up frames.
+/// The fields of a plan's filter and its program, of its columns, and of the lines that sum up frames.
 fn wanted_fields(plan: &Plan) -> FieldSet
     ensures { HasPlan result plan.now }
 {
     let mut wanted = FieldSet::none();
-    add_filter(&plan.filter, &mut wanted);
+    add_filter(&plan.chosen, &mut wanted);
     add_columns(plan.fields.slice(), &mut wanted);
     add_summary(plan, &mut wanted);
     wanted
@@ -144,11 +145,15 @@ fn add_summary(plan: &Plan, wanted: &mut FieldSet)
     }
 }
 
-fn add_filter(filter: &Option<Filter>, wanted: &mut FieldSet)
-    ensures { HasAsked wanted.new filter.now }
+// The fields of a filter and of its program.
+fn add_filter(chosen: &Option<Compiled>, wanted: &mut FieldSet)
+    ensures { HasAsked wanted.new chosen.now }
 {
-    match filter {
-        Some(filter) => add_fields(filter, wanted),
+    match chosen {
+        Some(compiled) => {
+            add_fields(compiled.filter(), wanted);
+            compiled.program().add_fields(wanted);
+        }
         None => {}
     }
 }

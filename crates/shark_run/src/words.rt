@@ -1,6 +1,7 @@
 // The plan that words ask for.
 ghost use Rattle.std.specs.Prelude.{◌≡◌, ◌++◌, IfOk, IfErr, IfSome, All};
 ghost use Rattle.std.specs.Str.{IsUtf8};
+ghost use Rattle.flt_code.specs.Decides.{Agrees, Decides};
 ghost use Rattle.shark_words.specs.Sound.{AreSound, HasFrames};
 ghost use Rattle.shark_words.specs.Utf8.{AreUtf8, name_in};
 ghost use Rattle.shark_words.specs.Words.{texts};
@@ -9,11 +10,13 @@ ghost use Rattle.shark_run.specs.Plan.{IsFilterAsked, IsPlan, IsPlanFor, IsRefus
 ghost use Rattle.shark_run.specs.PlanErrors.{Gives, IsErrorOf, IsFilterError};
 ghost use Rattle.shark_run.specs.Source.{source_in as source_asked};
 
+use crate::compiled::Compiled;
 use crate::generated::Generated;
 use crate::plan::{FieldList, Plan, PlanError, Refused};
 use crate::rules::{PlanRules, copy_of};
 use crate::source::PlanSource;
 use crate::text::Text;
+use flt_code::compile;
 use flt_parse::FilterError;
 use flt_types::{Filter, read_filter};
 use pk_base::{NoMemory, Octets};
@@ -56,8 +59,18 @@ fn find_fields(alloc: Global, names: &[Octets]) -> Result<FieldList, PlanError>
     Ok(FieldList::from_vec(fields))
 }
 
-// The filter, where one is asked for.
-fn filter_asked(alloc: Global, filter: &Option<Octets>) -> Result<Option<Filter>, PlanError>
+// A filter with its program.
+fn with_program(alloc: Global, filter: Filter) -> Result<Compiled, NoMemory>
+    ensures filter { IfOk result (λ compiled. compiled.filter ≡ filter) }
+    ensures decides { IfOk result (λ compiled. Decides compiled.program compiled.filter) }
+    ensures agrees { IfOk result (λ compiled. Agrees compiled.program compiled.filter) }
+{
+    let program = compile(alloc, &filter)?;
+    Ok(Compiled::new(filter, program))
+}
+
+// The filter with its program, where one is asked for.
+fn filter_asked(alloc: Global, filter: &Option<Octets>) -> Result<Option<Compiled>, PlanError>
     requires { IfSome filter.now IsUtf8 }
     ensures ok { IfOk result (IsFilterAsked filter.now) }
     ensures err { IfErr result (IsFilterError filter.now) }
@@ -65,7 +78,7 @@ fn filter_asked(alloc: Global, filter: &Option<Octets>) -> Result<Option<Filter>
     match filter {
         None => Ok(None),
         Some(text) => match read_filter(alloc, text_of(text)) {
-            Ok(filter) => Ok(Some(filter)),
+            Ok(filter) => Ok(Some(with_program(alloc, filter)?)),
             Err(FilterError::Fault(fault)) => Err(PlanError::Refused(Refused::Filter(fault))),
             Err(FilterError::NoMemory) => Err(PlanError::NoMemory),
         },
@@ -98,11 +111,11 @@ fn plan_with(alloc: Global, options: &Options) -> Result<Plan, PlanError>
     ensures ok { IfOk result (IsPlanFor options.now) }
     ensures err { IfErr result (IsErrorOf (IsRefusalFor options.now)) }
 {
-    let filter = filter_asked(alloc, &options.filter)?;
+    let chosen = filter_asked(alloc, &options.filter)?;
     let fields = find_fields(alloc, options.names.slice())?;
     Ok(Plan {
         source: source_in(alloc, &options.source)?,
-        filter,
+        chosen,
         two: options.two,
         fields,
         most: options.most,

@@ -1,7 +1,7 @@
 use Rattle.std.proofs.Common.{◌≡◌, ◌≤◌, ◌-◌, suc, List}
 use Rattle.capture_read.specs.declared.frame.Frame.{Frame}
 use Rattle.dissect.specs.Stands.{StandsWithin}
-use Rattle.shark_run.specs.Accessors.{rules_of}
+use Rattle.shark_run.specs.Accessors.{compiled_of, rules_of}
 use Rattle.pk_base.specs.Limits.{file_limit}
 use Rattle.capture_read.specs.Taken.{TookAtMost}
 use Rattle.shark_run.specs.Notes.{AreFewNotes}
@@ -18,6 +18,7 @@ invariant-loop-alloc g l = record {
   wanted : IsEnough l.dissector.wanted l.plan;
   rules : l.dissector.decode.rules ≡ rules_of l.plan;
   stands : (past : List Frame) × StandsWithin past l.dissector;
+  judge : l.lines.judge ≡ compiled_of l.plan;
   writer : l.lines.writer ≡ l.plan.fields;
   few : AreFewNotes l.dissector.taken l.lines.notes;
   asked : g.C.Capture.asked l.capture ≡ g.C.Capture.asked l.fn.capture;

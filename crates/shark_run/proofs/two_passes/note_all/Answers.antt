@@ -1,6 +1,5 @@
-use Rattle.std.proofs.Common.{◌∙◌, ◌-◌, ap, refl, ℕ, List, subst, sym, [], ◌∷◌, drop, length, map, take}
+use Rattle.std.proofs.Common.{◌∙◌, ◌-◌, ap, refl, ℕ, List, subst, [], ◌∷◌, drop, length, map, take}
 use Rattle.port_rules.specs.declared.rules.DecodeAs.{DecodeAs}
-use Rattle.capture_read.specs.declared.frame.Frame.{Frame}
 use Rattle.dissect.specs.Followed.{asks_streams}
 use Rattle.dissect.specs.Trees.{tree_at}
 use Rattle.pk_tree.specs.Trees.{IsKept}

@@ -2,7 +2,7 @@ use Rattle.std.proofs.Common.{◌≡◌, ◌≤◌, List, length, ◌++◌, reve
 use Rattle.capture_read.specs.declared.frame.Frame.{Frame}
 use Rattle.dissect.specs.Stands.{StandsWithin}
 use Rattle.pk_base.specs.Limits.{file_limit}
-use Rattle.shark_run.specs.Accessors.{rules_of, two_of}
+use Rattle.shark_run.specs.Accessors.{compiled_of, rules_of, two_of}
 use Rattle.shark_run.specs.Job.{Passes, job_in}
 use Rattle.shark_run.specs.Later.{ServesKept}
 use Rattle.shark_run.specs.Notes.{AreFewNotes}
@@ -22,6 +22,7 @@ invariant-loop-left g l = record {
   wanted : IsEnough l.dissector.wanted l.plan;
   same : l.dissector.wanted ≡ l.fn.dissector.wanted;
   rules : l.dissector.decode.rules ≡ rules_of l.plan;
+  judge : l.lines.judge ≡ compiled_of l.plan;
   writer : l.lines.writer ≡ l.plan.fields;
   few : AreFewNotes l.dissector.taken l.lines.notes;
   write_faults : g.O.Sink.faults l.fn.out ≤ g.O.Sink.faults l.out;

@@ -1,0 +1,15 @@
+-- A filter with its program.
+use Rattle.std.specs.Prelude.{◌≡◌}
+use Rattle.flt_types.specs.declared.typed.Typed.{Typed}
+use Rattle.flt_vm.specs.Programs.{Code, FitsFilter, Ready, patterns_of}
+
+-- what is asked of a tree, and the program that decides it
+pub record CompiledShown : Type 0 where
+  pub filter : Typed
+  pub program : Code
+
+-- a machine runs the program, which fits the filter, and searches for the filter's patterns
+pub record IsReadyFor (compiled : CompiledShown) (machine : Ready) : Type 0 where
+  pub fits : FitsFilter compiled.program compiled.filter
+  pub code : machine.code ≡ compiled.program
+  pub patterns : machine.patterns ≡ patterns_of compiled.filter
