@@ -1,12 +1,12 @@
 -- What options ask for together is what was written.
 use Rattle.std.proofs.Common.{◌≡◌, ℕ, length, suc, Bool, true, false, ◌||◌, List, [], ◌∷◌, ◌++◌, Option, Some, None, refl, sym, ap, subst, ◌∙◌, arith, if◌then◌else◌}
-use Rattle.std.specs.Prelude.{option_and_then, option_map, option_to_list, Result, Ok, Err, IfOk}
+use Rattle.std.specs.Prelude.{is_some, option_and_then, option_map, option_to_list, Result, Ok, Err, IfOk}
 use Rattle.std.specs.List.{list_all}
 use Rattle.std.specs.Option.{option_or}
 use Rattle.std.proofs.lemmas.Option.{none-some}
 use Rattle.std.proofs.lemmas.Bool.{both_ways}
 use Rattle.shark_words.specs.declared.letter.Letter.{Letter}
-use Rattle.shark_words.specs.declared.letter.Letter.TheVariants.{Capture, Filter, Two, Kind, Name, Style, Most, Quiet, Decode, Report, Output, Format, SelfRun}
+use Rattle.shark_words.specs.declared.letter.Letter.TheVariants.{Capture, Filter, Two, Kind, Name, Style, Most, Quiet, Decode, Report, Output, Format, SelfRun, FilterStats}
 use Rattle.shark_words.specs.declared.uses.Value.{Value}
 use Rattle.shark_words.specs.declared.uses.Use.{Use}
 use Rattle.shark_words.specs.declared.uses.Use.TheVariants as use_
@@ -24,8 +24,8 @@ use Rattle.shark_words.specs.Reports.{reports_in}
 use Rattle.shark_words.specs.Uses.{uses_from}
 use Rattle.shark_words.specs.Faults.{fault, first_fault, is_given}
 use Rattle.shark_words.specs.Asked.{clash_word, head_of, is_clashing, is_unused, later, style_of, value_of, value_text, values_of, word_of}
-use Rattle.shark_words.specs.Options.{asked, clash_fault, fields_fault, format_written, judged, options_by, options_of, source_by, source_of, together_fault, unless, unused_fault, Gives}
-use Rattle.shark_words.specs.Spelled.{Spelled, spelled_words, is_spelled, Written, written_by, values_in, is_written, HasColumns, HasOutput, IsCommand, asked_by, IsAsked}
+use Rattle.shark_words.specs.Options.{asked, clash_fault, fields_fault, format_written, is_filtered, judged, options_by, options_of, source_by, source_of, together_fault, unless, unused_fault, Gives}
+use Rattle.shark_words.specs.Spelled.{Spelled, spelled_words, is_spelled, Written, written_by, values_in, is_written, HasColumns, IsFiltered, HasOutput, IsCommand, asked_by, IsAsked}
 use Rattle.shark_words.proofs.SlotLemmas.{is_same_itself, same_letter}
 use Rattle.shark_words.proofs.Spelling.{all_written, faultless, sound, spelled_uses, words_spelled, IsSound}
 
@@ -102,31 +102,38 @@ none_where test (use_.Given given ∷ uses) none =
     (none_where test uses (λ letter is. (either_false (is_same letter given.letter) (is_written letter (all_written uses)) (none letter is)).1))
 
 -- options that have no effect
-unused_none : (kind : LineKind) (written : Bool) (all : List Written) → HasColumns kind all → HasOutput written all → NoneOf (is_unused kind written) all
-unused_none Text written all columns output Name h = columns.0
-unused_none Json written all columns output Name h = columns.0
-unused_none Fields written all columns output Name h = absurd (both_ways false refl h)
-unused_none Text written all columns output Style h = columns.1
-unused_none Json written all columns output Style h = columns.1
-unused_none Fields written all columns output Style h = absurd (both_ways false refl h)
-unused_none kind false all columns output Format h = output
-unused_none kind true all columns output Format h = absurd (both_ways false refl h)
-unused_none kind written all columns output Capture h = absurd (both_ways false refl h)
-unused_none kind written all columns output Filter h = absurd (both_ways false refl h)
-unused_none kind written all columns output Two h = absurd (both_ways false refl h)
-unused_none kind written all columns output Kind h = absurd (both_ways false refl h)
-unused_none kind written all columns output Most h = absurd (both_ways false refl h)
-unused_none kind written all columns output Quiet h = absurd (both_ways false refl h)
-unused_none kind written all columns output Decode h = absurd (both_ways false refl h)
-unused_none kind written all columns output Report h = absurd (both_ways false refl h)
-unused_none kind written all columns output Output h = absurd (both_ways false refl h)
-unused_none kind written all columns output SelfRun h = absurd (both_ways false refl h)
+unused_none : (kind : LineKind) (written filtered : Bool) (all : List Written) → HasColumns kind all → HasOutput written all → IsFiltered filtered all
+    → NoneOf (is_unused kind written filtered) all
+unused_none Text written filtered all columns output filter Name h = columns.0
+unused_none Json written filtered all columns output filter Name h = columns.0
+unused_none Fields written filtered all columns output filter Name h = absurd (both_ways false refl h)
+unused_none Text written filtered all columns output filter Style h = columns.1
+unused_none Json written filtered all columns output filter Style h = columns.1
+unused_none Fields written filtered all columns output filter Style h = absurd (both_ways false refl h)
+unused_none kind false filtered all columns output filter Format h = output
+unused_none kind true filtered all columns output filter Format h = absurd (both_ways false refl h)
+unused_none kind written false all columns output filter FilterStats h = filter
+unused_none kind written true all columns output filter FilterStats h = absurd (both_ways false refl h)
+unused_none kind written filtered all columns output filter Capture h = absurd (both_ways false refl h)
+unused_none kind written filtered all columns output filter Filter h = absurd (both_ways false refl h)
+unused_none kind written filtered all columns output filter Two h = absurd (both_ways false refl h)
+unused_none kind written filtered all columns output filter Kind h = absurd (both_ways false refl h)
+unused_none kind written filtered all columns output filter Most h = absurd (both_ways false refl h)
+unused_none kind written filtered all columns output filter Quiet h = absurd (both_ways false refl h)
+unused_none kind written filtered all columns output filter Decode h = absurd (both_ways false refl h)
+unused_none kind written filtered all columns output filter Report h = absurd (both_ways false refl h)
+unused_none kind written filtered all columns output filter Output h = absurd (both_ways false refl h)
+unused_none kind written filtered all columns output filter SelfRun h = absurd (both_ways false refl h)
 
-columns_had : (kind : LineKind) (written : Bool) (all : List Written) → (kind ≡ Fields → is_written Name all ≡ true)
-    → NoneOf (is_unused kind written) all → HasColumns kind all
-columns_had Fields written all named none = named refl
-columns_had Text written all named none = (none Name refl, none Style refl)
-columns_had Json written all named none = (none Name refl, none Style refl)
+columns_had : (kind : LineKind) (written filtered : Bool) (all : List Written) → (kind ≡ Fields → is_written Name all ≡ true)
+    → NoneOf (is_unused kind written filtered) all → HasColumns kind all
+columns_had Fields written filtered all named none = named refl
+columns_had Text written filtered all named none = (none Name refl, none Style refl)
+columns_had Json written filtered all named none = (none Name refl, none Style refl)
+
+filter_had : (kind : LineKind) (written filtered : Bool) (all : List Written) → NoneOf (is_unused kind written filtered) all → IsFiltered filtered all
+filter_had kind written true all none = tt
+filter_had kind written false all none = none FilterStats refl
 
 -- options that can't stand beside `-w`
 clashing_none : (all : List Written) → HasOutput true all → NoneOf is_clashing all
@@ -134,6 +141,7 @@ clashing_none all output Kind h = output.0
 clashing_none all output Quiet h = output.1
 clashing_none all output Report h = output.2
 clashing_none all output SelfRun h = output.3
+clashing_none all output FilterStats h = output.4
 clashing_none all output Capture h = absurd (both_ways false refl h)
 clashing_none all output Filter h = absurd (both_ways false refl h)
 clashing_none all output Two h = absurd (both_ways false refl h)
@@ -144,10 +152,10 @@ clashing_none all output Decode h = absurd (both_ways false refl h)
 clashing_none all output Output h = absurd (both_ways false refl h)
 clashing_none all output Format h = absurd (both_ways false refl h)
 
-output_had : (kind : LineKind) (written : Bool) (all : List Written) → NoneOf (is_unused kind written) all → (written ≡ true → NoneOf is_clashing all)
+output_had : (kind : LineKind) (written filtered : Bool) (all : List Written) → NoneOf (is_unused kind written filtered) all → (written ≡ true → NoneOf is_clashing all)
     → HasOutput written all
-output_had kind false all unused clashing = unused Format refl
-output_had kind true all unused clashing = let none = clashing refl in (none Kind refl, none Quiet refl, none Report refl, none SelfRun refl)
+output_had kind false filtered all unused clashing = unused Format refl
+output_had kind true filtered all unused clashing = let none = clashing refl in (none Kind refl, none Quiet refl, none Report refl, none SelfRun refl, none FilterStats refl)
 
 -- the three faults of options together
 no_fields : (given : Bool) (one : WordFault) → (if given then None else Some one) ≡ None → given ≡ true
@@ -210,34 +218,37 @@ neither (Some fault) other h = absurd (none-some fault (sym h))
 both_none : (one other : Option WordFault) → one ≡ None → other ≡ None → option_or one other ≡ None
 both_none one other e h = rw e h
 
--- columns and output are as they may be exactly where options together have no fault
-abbrev AreFine : LineKind → List Written → Type 0
-AreFine kind all = HasColumns kind all × HasOutput (is_written Output all) all
+-- columns, output and filter are as they may be exactly where options together have no fault
+abbrev AreFine : LineKind → Bool → List Written → Type 0
+AreFine kind filtered all = HasColumns kind all × HasOutput (is_written Output all) all × IsFiltered filtered all
 
-together_had : (behind : ℕ) (uses : List Use) (kind : LineKind) → together_fault behind uses kind ≡ None → AreFine kind (all_written uses)
+together_had : (behind : ℕ) (uses : List Use) (kind : LineKind) → together_fault behind uses kind ≡ None → AreFine kind (is_filtered uses) (all_written uses)
 unfolding together_fault
 together_had behind uses kind h =
     let all = all_written uses in
+    let filtered = is_filtered uses in
     let first = neither (fields_fault behind uses kind) _ h in
     let second = neither (unused_fault uses kind) (clash_fault uses) first.1 in
-    let unused : NoneOf (is_unused kind (is_written Output all)) all
-    = subst (λ (written : Bool). NoneOf (is_unused kind written) all) (given_written Output uses)
-    (where_none (is_unused kind (is_given Output uses)) uses (no_word (λ (word : ℕ). fault word Unused) _ second.0)) in
+    let unused : NoneOf (is_unused kind (is_written Output all) filtered) all
+    = subst (λ (written : Bool). NoneOf (is_unused kind written filtered) all) (given_written Output uses)
+    (where_none (is_unused kind (is_given Output uses) filtered) uses (no_word (λ (word : ℕ). fault word Unused) _ second.0)) in
     let clash : clash_word uses ≡ None = no_word (λ (word : ℕ). fault word Clash) (clash_word uses) second.1 in (
-      columns_had kind (is_written Output all) all (fields_named behind uses kind first.0) unused,
-      output_had kind (is_written Output all) all unused (λ written.
+      columns_had kind (is_written Output all) filtered all (fields_named behind uses kind first.0) unused,
+      output_had kind (is_written Output all) filtered all unused (λ written.
           let found = word_found (word_of (is_same Output) uses) uses refl written in
           where_none is_clashing uses (not_later (word_of (is_same Output) uses) (word_of is_clashing uses) found.0 clash found.1)),
+      filter_had kind (is_written Output all) filtered all unused,
     )
 
-together_fine : (behind : ℕ) (uses : List Use) (kind : LineKind) → AreFine kind (all_written uses) → together_fault behind uses kind ≡ None
+together_fine : (behind : ℕ) (uses : List Use) (kind : LineKind) → AreFine kind (is_filtered uses) (all_written uses) → together_fault behind uses kind ≡ None
 unfolding together_fault
 together_fine behind uses kind fine =
     let all = all_written uses in
-    let unused : word_of (is_unused kind (is_given Output uses)) uses ≡ None
-    = none_where (is_unused kind (is_given Output uses)) uses
-    (subst (λ (written : Bool). NoneOf (is_unused kind written) all) (sym (given_written Output uses))
-    (unused_none kind (is_written Output all) all fine.0 fine.1)) in
+    let filtered = is_filtered uses in
+    let unused : word_of (is_unused kind (is_given Output uses) filtered) uses ≡ None
+    = none_where (is_unused kind (is_given Output uses) filtered) uses
+    (subst (λ (written : Bool). NoneOf (is_unused kind written filtered) all) (sym (given_written Output uses))
+    (unused_none kind (is_written Output all) filtered all fine.0 fine.1 fine.2)) in
     both_none (fields_fault behind uses kind) _ (fields_fine behind uses kind fine.0)
     (both_none (unused_fault uses kind) (clash_fault uses) (ap (option_map (λ (word : ℕ). fault word Unused)) unused)
     (ap (option_map (λ (word : ℕ). fault word Clash)) (clashes_none (is_written Output all) uses refl fine.1)))
@@ -255,14 +266,15 @@ asked_written source all = record {
   quiet = is_written Quiet all;
   decode = record { rules = rules_in (values_in Decode all) };
   reports = reports_in (values_in Report all);
+  stats = is_written FilterStats all;
   written = format_written (is_written Output all) (head_of (values_in Format all));
 }
 
 options_written : (source : Source) (uses : List Use) → options_by source uses ≡ asked_written source (all_written uses)
 options_written source uses =
     rw (values_written Filter uses) (rw (given_written Two uses) (rw (values_written Kind uses) (rw (values_written Name uses) (rw (values_written Style uses)
-    (rw (values_written Most uses) (rw (given_written Quiet uses) (rw (values_written Decode uses) (rw (values_written Report uses)
-    (rw (given_written Output uses) (rw (values_written Format uses) refl))))))))))
+    (rw (values_written Most uses) (rw (given_written Quiet uses) (rw (values_written Decode uses) (rw (values_written Report uses) (rw (given_written FilterStats uses)
+    (rw (given_written Output uses) (rw (values_written Format uses) refl)))))))))))
 
 kind_written : (uses : List Use) → kind_asked (value_of Kind uses) ≡ kind_asked (head_of (values_in Kind (all_written uses)))
 kind_written uses = ap (λ (texts : List (List ℕ)). kind_asked (head_of texts)) (values_written Kind uses)
@@ -286,12 +298,32 @@ unless_ok (Some first) one options h = absurd cc
 abbrev kind_in : List Written → LineKind
 kind_in all = kind_asked (head_of (values_in Kind all))
 
+abbrev filtered_in : List Written → Bool
+filtered_in all = is_some (shown_filter (head_of (values_in Filter all)))
+
+filter_written : (uses : List Use) → is_filtered uses ≡ filtered_in (all_written uses)
+filter_written uses = ap (λ (texts : List (List ℕ)). is_some (shown_filter (head_of texts))) (values_written Filter uses)
+
+abbrev AreFineIn : List Written → Type 0
+AreFineIn all = AreFine (kind_in all) (filtered_in all) all
+
+-- the kind of line and the filter are those written
+fine_written : (uses : List Use) → AreFine (kind_asked (value_of Kind uses)) (is_filtered uses) (all_written uses) → AreFineIn (all_written uses)
+fine_written uses fine =
+    subst (λ (kind : LineKind). AreFine kind (filtered_in (all_written uses)) (all_written uses)) (kind_written uses)
+    (subst (λ (filtered : Bool). AreFine (kind_asked (value_of Kind uses)) filtered (all_written uses)) (filter_written uses) fine)
+
+fine_given : (uses : List Use) → AreFineIn (all_written uses) → AreFine (kind_asked (value_of Kind uses)) (is_filtered uses) (all_written uses)
+fine_given uses fine =
+    subst (λ (kind : LineKind). AreFine kind (is_filtered uses) (all_written uses)) (sym (kind_written uses))
+    (subst (λ (filtered : Bool). AreFine (kind_in (all_written uses)) filtered (all_written uses)) (sym (filter_written uses)) fine)
+
 asked_found : (behind : ℕ) (source : Source) (uses : List Use) → source_written (all_written uses) ≡ Some source
-    → AreFine (kind_in (all_written uses)) (all_written uses) → asked behind uses (source_of uses) ≡ Ok (asked_written source (all_written uses))
+    → AreFineIn (all_written uses) → asked behind uses (source_of uses) ≡ Ok (asked_written source (all_written uses))
 asked_found behind source uses captured fine =
     ap (asked behind uses) (sources_written uses ∙ captured)
     ∙ unless_none (together_fault behind uses (kind_asked (value_of Kind uses))) (options_by source uses)
-    (together_fine behind uses (kind_asked (value_of Kind uses)) (subst (λ (kind : LineKind). AreFine kind (all_written uses)) (sym (kind_written uses)) fine))
+    (together_fine behind uses (kind_asked (value_of Kind uses)) (fine_given uses fine))
     ∙ ap (λ (options : Options). Ok options) (options_written source uses)
 
 -- what is spelled is read
@@ -304,7 +336,7 @@ options_found source all command =
     let fine : IsSound [] (all_written uses) = subst (IsSound []) (sym are.1) (command.values, λ slot. omega (arith, command.once slot)) in
     ap (judged behind uses) (faultless [] uses are.0 fine)
     ∙ asked_found behind source uses (ap source_written are.1 ∙ command.captured)
-    (subst (λ (ws : List Written). AreFine (kind_in ws) ws) (sym are.1) (command.columns, command.output))
+    (subst AreFineIn (sym are.1) (command.columns, command.output, command.filtered))
     ∙ ap (λ (ws : List Written). Ok (asked_written source ws)) are.1
 
 judged_ok : (behind : ℕ) (uses : List Use) (first : Option WordFault) (options : Options) → judged behind uses first ≡ Ok options
@@ -329,9 +361,8 @@ only_spelled all options spelled h =
     let judged = judged_ok behind uses (first_fault [] uses) options h in
     let command : IsSound [] (written_by all) = subst (IsSound []) are.1 (sound [] uses judged.0) in
     let asked = asked_ok behind uses (source_of uses) options judged.1 in
-    let fine : AreFine (kind_in (written_by all)) (written_by all)
-    = subst (λ (ws : List Written). AreFine (kind_in ws) ws) are.1
-    (subst (λ (kind : LineKind). AreFine kind (all_written uses)) (kind_written uses) (together_had behind uses (kind_asked (value_of Kind uses)) asked.2)) in (
+    let fine : AreFineIn (written_by all)
+    = subst AreFineIn are.1 (fine_written uses (together_had behind uses (kind_asked (value_of Kind uses)) asked.2)) in (
       asked.0,
       record {
         spelled = spelled;
@@ -340,6 +371,7 @@ only_spelled all options spelled h =
         captured = ap source_written (sym are.1) ∙ sym (sources_written uses) ∙ asked.1;
         columns = fine.0;
         output = fine.1;
+        filtered = fine.2;
       },
       asked.3 ∙ options_written asked.0 uses ∙ ap (asked_written asked.0) are.1,
     )

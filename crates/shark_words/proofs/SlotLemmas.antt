@@ -7,7 +7,7 @@ use mathlib.Core.Bool.{beq}
 use Rattle.port_rules.specs.Rules.{same_transport}
 use denote.Enum.Bare.{same_true}
 use Rattle.shark_words.specs.declared.letter.Letter.{Letter}
-use Rattle.shark_words.specs.declared.letter.Letter.TheVariants.{Capture, Filter, Two, Kind, Name, Style, Most, Quiet, Decode, Report, Output, Format, SelfRun}
+use Rattle.shark_words.specs.declared.letter.Letter.TheVariants.{Capture, Filter, Two, Kind, Name, Style, Most, Quiet, Decode, Report, Output, Format, SelfRun, FilterStats}
 use Rattle.shark_words.specs.declared.slot.Slot.{Slot}
 use Rattle.shark_words.specs.declared.slot.Slot.TheVariants as slots
 use Rattle.shark_words.specs.declared.port.Port.{Port}
@@ -43,6 +43,7 @@ letter_itself Report = refl
 letter_itself Output = refl
 letter_itself Format = refl
 letter_itself SelfRun = refl
+letter_itself FilterStats = refl
 
 pub is_same_itself : (letter : Letter) → is_same letter letter ≡ true
 is_same_itself letter = eq-eqb (letter_byte letter) (letter_byte letter) refl
@@ -61,7 +62,8 @@ letter_at n =
     else if n == 122 then Report
     else if n == 119 then Output
     else if n == 70 then Format
-    else SelfRun
+    else if n == 256 then SelfRun
+    else FilterStats
 
 letter_of_number : (letter : Letter) → letter_at (letter_byte letter) ≡ letter
 unfolding letter_at
@@ -78,6 +80,7 @@ letter_of_number Report = refl
 letter_of_number Output = refl
 letter_of_number Format = refl
 letter_of_number SelfRun = refl
+letter_of_number FilterStats = refl
 
 pub same_letter : (one other : Letter) → is_same one other ≡ true → one ≡ other
 same_letter one other h =

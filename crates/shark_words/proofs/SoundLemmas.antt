@@ -1,11 +1,11 @@
 -- What words ask for can be carried out.
 use Rattle.std.proofs.Common.{◌≡◌, ◌≤◌, ℕ, suc, Bool, true, false, List, [], ◌∷◌, ◌++◌, Option, None, Some, refl, sym, ap, subst, ◌∙◌, arith, if◌then◌else◌}
-use Rattle.std.specs.Prelude.{◌||◌, ◌&&◌, nat_lt, nat_le, IfSome, IfOk, Result, Ok, Err, option_and_then, option_to_list, take, drop}
+use Rattle.std.specs.Prelude.{◌||◌, ◌&&◌, nat_lt, nat_le, IfSome, IfOk, Result, Ok, Err, IsSome, is_some, option_and_then, option_to_list, take, drop}
 use Rattle.std.proofs.lemmas.Bool.{both_ways}
 use Rattle.std.proofs.lemmas.Bool.Decides.{nat_tests}
 use Rattle.std.proofs.lemmas.Option.{none-some, same_Some}
 use Rattle.shark_words.specs.declared.letter.Letter.{Letter}
-use Rattle.shark_words.specs.declared.letter.Letter.TheVariants.{Capture, Kind, Report, Output, Format, SelfRun}
+use Rattle.shark_words.specs.declared.letter.Letter.TheVariants.{Capture, Kind, Report, Output, Format, SelfRun, FilterStats}
 use Rattle.shark_words.specs.declared.fault.WordsError.{WordsError}
 use Rattle.shark_words.specs.declared.options.Options.{Options}
 use Rattle.shark_words.specs.declared.options.Source.{Source}
@@ -14,7 +14,7 @@ use Rattle.shark_words.specs.Letters.{is_same}
 use Rattle.shark_words.specs.Asked.{head_of}
 use Rattle.shark_words.specs.Options.{format_written, source_by}
 use Rattle.shark_words.specs.Sound.{AreSound, HasFrames, IsNamed, IsWrittenAlone}
-use Rattle.shark_words.specs.Spelled.{Spelled, Written, written_by, values_in, is_written, HasOutput, IsCommand, asked_by, IsAsked}
+use Rattle.shark_words.specs.Spelled.{Spelled, Written, written_by, values_in, is_written, IsFiltered, HasOutput, IsCommand, filter_by, asked_by, IsAsked}
 use Rattle.shark_words.specs.Numbers.{comma_in, decimal_of, up_to}
 use Rattle.shark_words.specs.Reports.{reports_in}
 use Rattle.shark_words.specs.Values.{generated, generated_at, generated_by, kind_asked, most_generated}
@@ -84,13 +84,20 @@ written_alone true format source all command output = record {
   kind = ap (λ (texts : List (List ℕ)). kind_asked (head_of texts)) (unwritten Kind (written_by all) output.0);
   quiet = output.1;
   reports = ap reports_in (unwritten Report (written_by all) output.2);
+  stats = output.4;
 }
+
+-- statistics are written beside a filter alone
+filter_stated : (filter : Option (List ℕ)) (all : List Written) → IsFiltered (is_some filter) all → is_written FilterStats all ≡ true → IsSome filter
+filter_stated None all has is = absurd (both_ways (is_written FilterStats all) has is)
+filter_stated (Some text) all has is = refl
 
 command_sound : (source : Source) (all : List Spelled) → IsCommand source all → AreSound (asked_by source all)
 command_sound source all command = record {
   frames = subst (λ (s : Option Source). IfSome s HasFrames) command.captured
       (source_frames (head_of (values_in Capture (written_by all))) (head_of (values_in SelfRun (written_by all))));
   rules = rules_written (written_by all) command.once;
+  stats = filter_stated (filter_by all) (written_by all) command.filtered;
   written = written_alone (is_written Output (written_by all)) (head_of (values_in Format (written_by all))) source all command command.output;
 }
 

@@ -1,5 +1,5 @@
 -- Words without a fault are options as they are written.
-use Rattle.std.proofs.Common.{◌≡◌, ℕ, ◌+◌, ◌≤◌, length, map, suc, Bool, true, false, not, ◌||◌, ◌&&◌, ◌==◌, List, [], ◌∷◌, ◌++◌, Option, Some, None, refl, sym, ap, subst, ◌∙◌, arith, eqb-true, eq-eqb, if◌then◌else◌}
+use Rattle.std.proofs.Common.{◌≡◌, ℕ, ◌+◌, ◌≤◌, length, map, suc, Bool, true, false, not, ◌||◌, ◌&&◌, ◌==◌, List, [], ◌∷◌, ◌++◌, Option, Some, None, refl, sym, ap, subst, ◌∙◌, arith, eqb-true, if◌then◌else◌}
 use Rattle.std.specs.Prelude.{nat_lt, option_map}
 use Rattle.std.specs.List.{list_all}
 use Rattle.std.specs.Option.{option_or}
@@ -11,19 +11,19 @@ use Rattle.std.proofs.lemmas.Bool.Decides.{nat_tests}
 use Rattle.std.proofs.lemmas.List.Folds.{list_any-append}
 use Rattle.std.proofs.lemmas.Slice.Eq.{bytes_eq-Decides}
 use Rattle.shark_words.specs.declared.letter.Letter.{Letter}
-use Rattle.shark_words.specs.declared.letter.Letter.TheVariants.{Capture, Filter, Two, Kind, Name, Style, Most, Quiet, Decode, Report, Output, Format, SelfRun}
+use Rattle.shark_words.specs.declared.letter.Letter.TheVariants.{Capture, Filter, Two, Kind, Name, Style, Most, Quiet, Decode, Report, Output, Format, SelfRun, FilterStats}
 use Rattle.shark_words.specs.declared.slot.Slot.{Slot}
 use Rattle.shark_words.specs.declared.uses.Value.{Value}
 use Rattle.shark_words.specs.declared.uses.Given.{Given}
 use Rattle.shark_words.specs.declared.uses.Use.{Use}
 use Rattle.shark_words.specs.declared.uses.Use.TheVariants as use_
 use Rattle.shark_words.specs.declared.fault.WordFault.{WordFault}
-use Rattle.shark_words.specs.Letters.{letter_of, letter_byte, is_same, has_letter, has_value}
+use Rattle.shark_words.specs.Letters.{letter_of, letter_byte, has_letter, has_value}
 use Rattle.shark_words.specs.Slots.{slot_of, is_slot, is_same_slot, is_taken, with_slot}
 use Rattle.shark_words.specs.Values.{is_value}
-use Rattle.shark_words.specs.Uses.{uses_from, uses_at, option_at, cluster_uses, value_uses, with_value, without_value, is_cluster as is_known, self_run_name}
+use Rattle.shark_words.specs.Uses.{uses_from, uses_at, option_at, cluster_uses, value_uses, with_value, without_value, is_cluster as is_known, letters_at, self_run_name, filter_stats_name}
 use Rattle.shark_words.specs.Faults.{fault, first_fault, fault_of, value_fault, slot_in, text_in}
-use Rattle.shark_words.specs.Spelled.{End, Bare, Together, Apart, Cluster, Spelled, Clustered, Generate, spelled_words, end_letters, end_words, letters_of, is_flag, is_ended_by, is_end, is_cluster, is_spelled, Written, flag, valued, end_written, written_by, fits, fits_text, text_or_none, one_if, times}
+use Rattle.shark_words.specs.Spelled.{End, Bare, Together, Apart, Cluster, Spelled, Clustered, Generate, Stats, spelled_words, end_letters, end_words, letters_of, is_flag, is_ended_by, is_end, is_cluster, is_spelled, Written, flag, valued, end_written, written_by, fits, fits_text, text_or_none, one_if, times}
 use Rattle.shark_words.proofs.SlotLemmas.{same_slot, slot_itself}
 
 same_bytes : (one other : List ℕ) → bytes_eq one other ≡ true → one ≡ other
@@ -43,6 +43,7 @@ letter_of_byte Report h = refl
 letter_of_byte Output h = refl
 letter_of_byte Format h = refl
 letter_of_byte SelfRun h = absurd (both_ways false refl h)
+letter_of_byte FilterStats h = absurd (both_ways false refl h)
 
 byte_of_letter : (b : ℕ) (letter : Letter) → letter_of b ≡ Some letter → b ≡ letter_byte letter
 byte_of_letter b letter h = grind (arith, nat_tests)
@@ -153,19 +154,19 @@ end_used number (Apart letter text) words is =
     let parts = end_parts letter is in
     value_step (suc number) (letter_byte letter) letter [] (λ waiting. uses_from (suc number) waiting (text ∷ words)) parts.0 parts.1
 
--- letters that are known are not those of `--self-run`
-self_unknown : is_known self_run_name ≡ false
-self_unknown = refl
-
-no_self_run : (letters : List ℕ) (self : Bool) → bytes_eq letters self_run_name ≡ self → is_known letters ≡ true → self ≡ false
-no_self_run letters false is known = refl
-no_self_run letters true is known =
-    absurd (both_ways (is_known letters) (ap is_known (same_bytes letters self_run_name is) ∙ self_unknown) known)
+-- letters that are known are not those of a long name
+no_name : (letters name : List ℕ) (same : Bool) → bytes_eq letters name ≡ same → is_known name ≡ false → is_known letters ≡ true → same ≡ false
+no_name letters name false is unknown known = refl
+no_name letters name true is unknown known =
+    absurd (both_ways (is_known letters) (ap is_known (same_bytes letters name is) ∙ unknown) known)
 
 dashed_uses : (word : ℕ) (letters : List ℕ) (behind : Option Letter → List Use) → nat_lt 0 (length letters) ≡ true → is_known letters ≡ true
     → uses_at word (45 ∷ letters) behind ≡ cluster_uses word letters behind
+unfolding letters_at
 dashed_uses word [] behind some known = absurd (both_ways false refl some)
-dashed_uses word (b ∷ rest) behind some known = rw (no_self_run (b ∷ rest) (bytes_eq (b ∷ rest) self_run_name) refl known) (rw known refl)
+dashed_uses word (b ∷ rest) behind some known =
+    rw (no_name (b ∷ rest) self_run_name (bytes_eq (b ∷ rest) self_run_name) refl refl known)
+    (rw (no_name (b ∷ rest) filter_stats_name (bytes_eq (b ∷ rest) filter_stats_name) refl refl known) (rw known refl))
 
 cluster_used : (number : ℕ) (one : Cluster) (words : List (List ℕ)) → is_cluster one ≡ true
     → uses_from number None ((45 ∷ letters_of one) ∷ (end_words one.end ++ words)) ≡ map (without_value (suc number)) one.flags ++ end_uses number one.end words
@@ -194,10 +195,12 @@ end_as_written number (Apart letter text) words all is =
 
 -- the uses of clusters are what was written
 pub spelled_uses : (number : ℕ) (all : List Spelled) → list_all is_spelled all ≡ true → IsWrittenAs (uses_from number None (spelled_words all)) (written_by all)
-unfolding uses_from
+unfolding uses_from letters_at
 spelled_uses number [] are = (refl, refl)
 spelled_uses number (Generate text ∷ all) are =
     let more = spelled_uses (suc (suc number)) all are in (more.0, ap (λ (ws : List Written). valued SelfRun text ∷ ws) more.1)
+spelled_uses number (Stats ∷ all) are =
+    let more = spelled_uses (suc number) all are in (more.0, ap (λ (ws : List Written). flag FilterStats ∷ ws) more.1)
 spelled_uses number (Clustered one ∷ all) are =
     let both = and_parts (is_cluster one) (list_all is_spelled all) are in
     subst (λ (uses : List Use). IsWrittenAs uses (written_by (Clustered one ∷ all))) (sym (cluster_used number one (spelled_words all) both.0))
@@ -318,33 +321,42 @@ then_spelled first rest words behind =
       both_true (both_true behind.are (both_true behind.is (first_some first rest (letters_of one) behind.letters_are))) behind.spelled,
     )
 
-abbrev option_uses : ℕ → Bool → Bool → List ℕ → List (List ℕ) → List Use
-option_uses word self known letters words =
+abbrev option_uses : ℕ → Bool → Bool → Bool → List ℕ → List (List ℕ) → List Use
+option_uses word self stats known letters words =
     if self then uses_from word (Some SelfRun) words
+    else if stats then without_value word FilterStats ∷ uses_from word None words
     else if known then cluster_uses word letters (λ waiting. uses_from word waiting words)
     else use_.Unknown word ∷ uses_from word None words
 
-option_spelled : (word first : ℕ) (self known : Bool) (rest : List ℕ) (words : List (List ℕ)) (held : List Slot) → bytes_eq (first ∷ rest) self_run_name ≡ self
-    → is_known (first ∷ rest) ≡ known → Behind word words → first_fault held (option_uses word self known (first ∷ rest) words) ≡ None
+option_spelled : (word first : ℕ) (self stats known : Bool) (rest : List ℕ) (words : List (List ℕ)) (held : List Slot) → bytes_eq (first ∷ rest) self_run_name ≡ self
+    → bytes_eq (first ∷ rest) filter_stats_name ≡ stats → is_known (first ∷ rest) ≡ known → Behind word words → first_fault held (option_uses word self stats known (first ∷ rest) words) ≡ None
     → IsSpelled ((45 ∷ first ∷ rest) ∷ words)
 unfolding first_fault
-option_spelled word first true known rest words held same is behind h =
+option_spelled word first true stats known rest words held same named is behind h =
     let more = behind (Some SelfRun) held refl h in (
       Generate more.0 ∷ more.1,
       ap (λ (letters : List ℕ). (45 ∷ letters) ∷ words) (same_bytes (first ∷ rest) self_run_name same)
           ∙ ap (λ (after : List (List ℕ)). (45 ∷ self_run_name) ∷ after) more.2,
       more.3,
     )
-option_spelled word first false true rest words held same is behind h = then_spelled first rest words (cluster_spelled word (first ∷ rest) words held is behind h)
-option_spelled word first false false rest words held same is behind h = absurd (none-some _ (sym h))
+option_spelled word first false true known rest words held same named is behind h =
+    let used = without_value word FilterStats in
+    let more = behind None (with_slot (slot_in used) held) tt (neither (fault_of held used) _ h).1 in (
+      Stats ∷ more.0,
+      ap (λ (letters : List ℕ). (45 ∷ letters) ∷ words) (same_bytes (first ∷ rest) filter_stats_name named)
+          ∙ ap (λ (after : List (List ℕ)). (45 ∷ filter_stats_name) ∷ after) more.1,
+      more.2,
+    )
+option_spelled word first false false true rest words held same named is behind h = then_spelled first rest words (cluster_spelled word (first ∷ rest) words held is behind h)
+option_spelled word first false false false rest words held same named is behind h = absurd (none-some _ (sym h))
 
 word_spelled : (word first second : ℕ) (dash : Bool) (rest : List ℕ) (words : List (List ℕ)) (held : List Slot) → (first == 45) ≡ dash → Behind word words
     → first_fault held (if dash then option_at word (second ∷ rest) (λ waiting. uses_from word waiting words) else use_.Stray word ∷ uses_from word None words) ≡ None
     → IsSpelled ((first ∷ second ∷ rest) ∷ words)
-unfolding first_fault
+unfolding first_fault letters_at
 word_spelled word first second true rest words held is behind h =
     rw (eqb-true first 45 is)
-    (option_spelled word second (bytes_eq (second ∷ rest) self_run_name) (is_known (second ∷ rest)) rest words held refl refl behind h)
+    (option_spelled word second (bytes_eq (second ∷ rest) self_run_name) (bytes_eq (second ∷ rest) filter_stats_name) (is_known (second ∷ rest)) rest words held refl refl refl behind h)
 word_spelled word first second false rest words held is behind h = absurd (none-some _ (sym h))
 
 -- an option that waits for its value has one

@@ -9,7 +9,7 @@ use Rattle.std.proofs.lemmas.List.Elements.{All-nil, All-cons}
 use Rattle.std.proofs.lemmas.Str.{IsUtf8-nil, IsUtf8-string_bytes, IsUtf8-drop, IsCharBoundary-after_ascii}
 use Rattle.shark_words.specs.declared.fault.WordFault.{WordFault}
 use Rattle.shark_words.specs.declared.letter.Letter.{Letter}
-use Rattle.shark_words.specs.declared.letter.Letter.TheVariants.{Capture, Filter, Kind, Name, SelfRun}
+use Rattle.shark_words.specs.declared.letter.Letter.TheVariants.{Capture, Filter, Kind, Name, SelfRun, FilterStats}
 use Rattle.shark_words.specs.declared.options.Options.{Options}
 use Rattle.shark_words.specs.declared.uses.Value.{Value}
 use Rattle.shark_words.specs.declared.uses.Use.{Use}
@@ -22,7 +22,7 @@ use Rattle.shark_words.specs.Values.{generated, generated_at, generated_by, is_b
 use Rattle.shark_words.specs.Letters.{has_value, is_same, letter_of}
 use Rattle.shark_words.specs.Asked.{head_of, value_in, value_of, value_text, values_of}
 use Rattle.shark_words.specs.Options.{asked, judged, options_by, options_of, source_by, source_of, together_fault, unless, Gives}
-use Rattle.shark_words.specs.Uses.{cluster_uses, is_cluster, is_known_before, letter_uses, option_at, self_run_name, uses_at, uses_from, uses_of, value_uses, without_value}
+use Rattle.shark_words.specs.Uses.{cluster_uses, is_cluster, is_known_before, letter_uses, letters_at, option_at, self_run_name, filter_stats_name, uses_at, uses_from, uses_of, value_uses, without_value}
 use Rattle.shark_words.specs.Utf8.{AreUtf8, name_in}
 use Rattle.shark_words.specs.Words.{texts}
 
@@ -71,19 +71,21 @@ cluster_has_text number (b ∷ rest) behind known utf8 others =
     letter_has_text number b rest behind (cluster_uses number rest behind) (letter_of b) refl known utf8 others
     (λ utf8 known. cluster_has_text number rest behind known utf8 others)
 
-option_has_text : (self known : Bool) (number : ℕ) (letters : List ℕ) (behind : Option Letter → List Use) → is_cluster letters ≡ known → IsUtf8 letters
+option_has_text : (self stats known : Bool) (number : ℕ) (letters : List ℕ) (behind : Option Letter → List Use) → is_cluster letters ≡ known → IsUtf8 letters
     → ((waiting : Option Letter) → Each HasText (behind waiting))
-    → Each HasText (if self then behind (Some SelfRun) else if known then cluster_uses number letters behind else use_.Unknown number ∷ behind None)
-option_has_text true known number letters behind is utf8 others = others (Some SelfRun)
-option_has_text false true number letters behind is utf8 others = cluster_has_text number letters behind is utf8 others
-option_has_text false false number letters behind is utf8 others = (tt, others None)
+    → Each HasText (if self then behind (Some SelfRun) else if stats then without_value number FilterStats ∷ behind None else if known then cluster_uses number letters behind else use_.Unknown number ∷ behind None)
+option_has_text true stats known number letters behind is utf8 others = others (Some SelfRun)
+option_has_text false true known number letters behind is utf8 others = (tt, others None)
+option_has_text false false true number letters behind is utf8 others = cluster_has_text number letters behind is utf8 others
+option_has_text false false false number letters behind is utf8 others = (tt, others None)
 
 dashed_has_text : (dash : Bool) (number first : ℕ) (letters : List ℕ) (behind : Option Letter → List Use) → (first == 45) ≡ dash
     → IsUtf8 (first ∷ letters) → ((waiting : Option Letter) → Each HasText (behind waiting))
     → Each HasText (if dash then option_at number letters behind else use_.Stray number ∷ behind None)
+unfolding letters_at
 dashed_has_text true number first letters behind is utf8 others =
     let small : first < 128 = omega (arith, eqb-true first 45 is) in
-    option_has_text (bytes_eq letters self_run_name) (is_cluster letters) number letters behind refl (behind_letter first letters small utf8) others
+    option_has_text (bytes_eq letters self_run_name) (bytes_eq letters filter_stats_name) (is_cluster letters) number letters behind refl (behind_letter first letters small utf8) others
 dashed_has_text false number first letters behind is utf8 others = (tt, others None)
 
 word_has_text : (number : ℕ) (word : List ℕ) (behind : Option Letter → List Use) → IsUtf8 word → ((waiting : Option Letter) → Each HasText (behind waiting))

@@ -9,7 +9,7 @@ use Rattle.shark_words.specs.declared.asked.Sought.TheVariants as sought
 use Rattle.shark_words.specs.declared.key.Key.{Key}
 use Rattle.shark_words.specs.declared.key.Key.TheVariants.{Header, Separator, Aggregator, Occurrence as OccurrenceKey, Quote as QuoteKey}
 use Rattle.shark_words.specs.declared.letter.Letter.{Letter}
-use Rattle.shark_words.specs.declared.letter.Letter.TheVariants.{Kind, Name, Style as StyleLetter, Quiet, Report, Output, Format, SelfRun}
+use Rattle.shark_words.specs.declared.letter.Letter.TheVariants.{Kind, Name, Style as StyleLetter, Quiet, Report, Output, Format, SelfRun, FilterStats}
 use Rattle.shark_words.specs.declared.options.LineKind.{LineKind}
 use Rattle.shark_words.specs.declared.options.LineKind.TheVariants.{Text, Fields, Json}
 use Rattle.shark_words.specs.declared.uses.Value.{Value}
@@ -63,12 +63,14 @@ has_columns Fields = true
 has_columns Text = false
 has_columns Json = false
 
--- whether an option has no effect: `-e` and `-E` are for the lines of fields alone, `-F` for a capture that is written
-abbrev pub is_unused : LineKind → Bool → Letter → Bool
-is_unused kind written Name = not (has_columns kind)
-is_unused kind written StyleLetter = not (has_columns kind)
-is_unused kind written Format = not written
-is_unused kind written letter = false
+-- whether an option has no effect: `-e` and `-E` are for the lines of fields alone, `-F` for a capture that is written,
+-- `--filter-stats` for a filter
+abbrev pub is_unused : LineKind → Bool → Bool → Letter → Bool
+is_unused kind written filtered Name = not (has_columns kind)
+is_unused kind written filtered StyleLetter = not (has_columns kind)
+is_unused kind written filtered Format = not written
+is_unused kind written filtered FilterStats = not filtered
+is_unused kind written filtered letter = false
 
 -- whether an option can't stand beside `-w`
 abbrev pub is_clashing : Letter → Bool
@@ -76,13 +78,14 @@ is_clashing Kind = true
 is_clashing Quiet = true
 is_clashing Report = true
 is_clashing SelfRun = true
+is_clashing FilterStats = true
 is_clashing letter = false
 
 -- whether an option is looked for
 abbrev pub is_sought : Sought → Letter → Bool
 is_sought sought.Output letter = is_same Output letter
 is_sought sought.Clashing letter = is_clashing letter
-is_sought (sought.Unused kind written) letter = is_unused kind written letter
+is_sought (sought.Unused kind written filtered) letter = is_unused kind written filtered letter
 
 abbrev pub word_in : (Letter → Bool) → Use → Option ℕ
 word_in test (use_.Given given) = if test given.letter then Some given.word else None

@@ -1,10 +1,10 @@
 -- The options, by their letters.
 use Rattle.std.specs.Prelude.{ℕ, ◌==◌, Bool, true, false, Option, Some, None, if◌then◌else◌}
 use Rattle.shark_words.specs.declared.letter.Letter.{Letter}
-use Rattle.shark_words.specs.declared.letter.Letter.TheVariants.{Capture, Filter, Two, Kind, Name, Style, Most, Quiet, Decode, Report, Output, Format, SelfRun}
+use Rattle.shark_words.specs.declared.letter.Letter.TheVariants.{Capture, Filter, Two, Kind, Name, Style, Most, Quiet, Decode, Report, Output, Format, SelfRun, FilterStats}
 
--- the bytes of the letters `r`, `Y`, `2`, `T`, `e`, `E`, `c`, `q`, `d`, `z`, `w`, `F`; `--self-run` has no letter, and a
--- number beyond the bytes
+-- the bytes of the letters `r`, `Y`, `2`, `T`, `e`, `E`, `c`, `q`, `d`, `z`, `w`, `F`; `--self-run` and `--filter-stats`
+-- have no letters, and numbers beyond the bytes
 abbrev pub letter_byte : Letter → ℕ
 letter_byte Capture = 114
 letter_byte Filter = 89
@@ -19,6 +19,7 @@ letter_byte Report = 122
 letter_byte Output = 119
 letter_byte Format = 70
 letter_byte SelfRun = 256
+letter_byte FilterStats = 257
 
 -- the option of a byte
 abbrev pub letter_of : ℕ → Option Letter
@@ -43,10 +44,12 @@ is_same one other = letter_byte one == letter_byte other
 -- whether an option has a letter
 abbrev pub has_letter : Letter → Bool
 has_letter SelfRun = false
+has_letter FilterStats = false
 has_letter letter = true
 
 -- whether a value belongs to an option
 abbrev pub has_value : Letter → Bool
 has_value Two = false
 has_value Quiet = false
+has_value FilterStats = false
 has_value letter = true

@@ -1,8 +1,8 @@
 -- What a list of words asks for, or the first reason to refuse it.
-use Rattle.std.specs.Prelude.{◌≡◌, ℕ, suc, Bool, List, [], length, Option, Some, None, option_and_then, option_map, Result, Ok, Err, if◌then◌else◌}
+use Rattle.std.specs.Prelude.{◌≡◌, ℕ, suc, Bool, List, [], length, Option, Some, None, is_some, option_and_then, option_map, Result, Ok, Err, if◌then◌else◌}
 use Rattle.std.specs.Option.{option_or}
 use Rattle.capture_write.specs.declared.format.Format.{Format as CaptureFormat}
-use Rattle.shark_words.specs.declared.letter.Letter.TheVariants.{Capture, Filter, Two, Kind, Name, Style, Most, Quiet, Decode, Report, Output, Format, SelfRun}
+use Rattle.shark_words.specs.declared.letter.Letter.TheVariants.{Capture, Filter, Two, Kind, Name, Style, Most, Quiet, Decode, Report, Output, Format, SelfRun, FilterStats}
 use Rattle.shark_words.specs.declared.uses.Use.{Use}
 use Rattle.shark_words.specs.declared.fault.WordFault.{WordFault}
 use Rattle.shark_words.specs.declared.fault.WordReason.TheVariants.{NoFile, NoFields, Unused, Clash}
@@ -44,6 +44,7 @@ options_by source uses = record {
   quiet = is_given Quiet uses;
   decode = record { rules = rules_in (values_of Decode uses) };
   reports = reports_in (values_of Report uses);
+  stats = is_given FilterStats uses;
   written = format_written (is_given Output uses) (value_of Format uses);
 }
 
@@ -53,10 +54,15 @@ fields_fault behind uses Fields = if is_given Name uses then None else Some (fau
 fields_fault behind uses Text = None
 fields_fault behind uses Json = None
 
+-- whether there is a filter
+abbrev pub is_filtered : List Use → Bool
+is_filtered uses = is_some (shown_filter (value_of Filter uses))
+
 -- the first option that has no effect
 abbrev pub unused_fault : List Use → LineKind → Option WordFault
 unused_fault uses kind =
-    option_map (λ word. fault word Unused) (word_of (is_unused kind (is_given Output uses)) uses)
+    option_map (λ word. fault word Unused)
+    (word_of (is_unused kind (is_given Output uses) (is_filtered uses)) uses)
 
 -- the first option that makes a clash
 abbrev pub clash_fault : List Use → Option WordFault

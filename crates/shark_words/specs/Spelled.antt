@@ -1,9 +1,9 @@
--- Options as they are written: clusters of letters, with values in the same word or the next, and `--self-run` with its
--- value in the next.
-use Rattle.std.specs.Prelude.{◌≡◌, ℕ, ◌+◌, ◌≤◌, nat_lt, Bool, true, false, not, ◌&&◌, length, map, List, [], ◌∷◌, ◌++◌, Option, Some, None, option_and_then, option_to_list, if◌then◌else◌}
+-- Options as they are written: clusters of letters, with values in the same word or the next, `--self-run` with its value
+-- in the next, and `--filter-stats`.
+use Rattle.std.specs.Prelude.{◌≡◌, ℕ, ◌+◌, ◌≤◌, nat_lt, Bool, true, false, not, ◌&&◌, length, map, List, [], ◌∷◌, ◌++◌, Option, Some, None, is_some, option_and_then, option_to_list, if◌then◌else◌}
 use Rattle.std.specs.List.{list_all, list_any}
 use Rattle.shark_words.specs.declared.letter.Letter.{Letter}
-use Rattle.shark_words.specs.declared.letter.Letter.TheVariants.{Capture, Filter, Two, Kind, Name, Style, Most, Quiet, Decode, Report, Output, Format, SelfRun}
+use Rattle.shark_words.specs.declared.letter.Letter.TheVariants.{Capture, Filter, Two, Kind, Name, Style, Most, Quiet, Decode, Report, Output, Format, SelfRun, FilterStats}
 use Rattle.shark_words.specs.declared.slot.Slot.{Slot}
 use Rattle.shark_words.specs.declared.options.LineKind.{LineKind}
 use Rattle.shark_words.specs.declared.options.LineKind.TheVariants.{Text, Fields, Json}
@@ -15,7 +15,7 @@ use Rattle.shark_words.specs.Ports.{rules_in}
 use Rattle.shark_words.specs.Reports.{reports_in}
 use Rattle.shark_words.specs.Values.{is_value, count_of, kind_asked, shown_filter}
 use Rattle.shark_words.specs.Options.{format_written, source_by}
-use Rattle.shark_words.specs.Uses.{self_run_name}
+use Rattle.shark_words.specs.Uses.{self_run_name, filter_stats_name}
 use Rattle.shark_words.specs.Asked.{head_of, style_of}
 
 -- how a cluster ends: `q`; `c2`, where the value has a first byte; `c`, where the value is the next word
@@ -33,6 +33,7 @@ pub record Cluster : Type 0 where
 pub data Spelled : Type 0 where
   Clustered : Cluster → Spelled
   Generate : List ℕ → Spelled
+  Stats : Spelled
 
 abbrev pub end_letters : End → List ℕ
 end_letters Bare = []
@@ -53,6 +54,7 @@ spelled_words [] = []
 spelled_words (Clustered one ∷ more) =
     (45 ∷ letters_of one) ∷ (end_words one.end ++ spelled_words more)
 spelled_words (Generate text ∷ more) = (45 ∷ self_run_name) ∷ text ∷ spelled_words more
+spelled_words (Stats ∷ more) = (45 ∷ filter_stats_name) ∷ spelled_words more
 
 -- a cluster has a letter; its end alone has a value
 abbrev pub is_flag : Letter → Bool
@@ -73,6 +75,7 @@ is_cluster one =
 abbrev pub is_spelled : Spelled → Bool
 is_spelled (Clustered one) = is_cluster one
 is_spelled (Generate text) = true
+is_spelled Stats = true
 
 -- an option that is given, with its value, if it has one
 pub record Written : Type 0 where
@@ -94,6 +97,7 @@ abbrev pub written_by : List Spelled → List Written
 written_by [] = []
 written_by (Clustered one ∷ more) = map flag one.flags ++ (end_written one.end ++ written_by more)
 written_by (Generate text ∷ more) = valued SelfRun text ∷ written_by more
+written_by (Stats ∷ more) = flag FilterStats ∷ written_by more
 
 -- whether an option's value is one of its own
 abbrev pub fits_text : Letter → Option (List ℕ) → Bool
@@ -144,6 +148,15 @@ abbrev pub HasOutput : Bool → List Written → Type 0
 HasOutput false all = is_written Format all ≡ false
 HasOutput true all = (is_written Kind all ≡ false) × (is_written Quiet all ≡ false)
     × (is_written Report all ≡ false) × (is_written SelfRun all ≡ false)
+    × (is_written FilterStats all ≡ false)
+
+-- statistics of a filter are asked for only where there is one
+abbrev pub IsFiltered : Bool → List Written → Type 0
+IsFiltered true all = Unit {0}
+IsFiltered false all = is_written FilterStats all ≡ false
+
+abbrev pub filter_by : List Spelled → Option (List ℕ)
+filter_by all = shown_filter (head_of (spelled_values Filter all))
 
 -- where the frames come from
 abbrev pub spelled_source : List Spelled → Option Source
@@ -151,7 +164,8 @@ spelled_source all =
     source_by (head_of (spelled_values Capture all)) (head_of (spelled_values SelfRun all))
 
 -- a command line with this source: each value is one of its option's, nothing comes twice that may come once, there is a
--- capture, the columns are those of the kind of line, and nothing stands beside a capture that is written
+-- capture, the columns are those of the kind of line, nothing stands beside a capture that is written, and there is a filter
+-- where its statistics are asked for
 pub record IsCommand (source : Source) (all : List Spelled) : Type 0 where
   pub spelled : list_all is_spelled all ≡ true
   pub values : list_all fits (written_by all) ≡ true
@@ -159,12 +173,13 @@ pub record IsCommand (source : Source) (all : List Spelled) : Type 0 where
   pub captured : spelled_source all ≡ Some source
   pub columns : HasColumns (kind_by all) (written_by all)
   pub output : HasOutput (is_written Output (written_by all)) (written_by all)
+  pub filtered : IsFiltered (is_some (filter_by all)) (written_by all)
 
 -- what it asks for
 abbrev pub asked_by : Source → List Spelled → Options
 asked_by source all = record {
   source = source;
-  filter = shown_filter (head_of (spelled_values Filter all));
+  filter = filter_by all;
   two = is_written Two (written_by all);
   kind = kind_by all;
   names = spelled_values Name all;
@@ -173,6 +188,7 @@ asked_by source all = record {
   quiet = is_written Quiet (written_by all);
   decode = record { rules = rules_in (spelled_values Decode all) };
   reports = reports_in (spelled_values Report all);
+  stats = is_written FilterStats (written_by all);
   written =
       format_written (is_written Output (written_by all)) (head_of (spelled_values Format all));
 }

@@ -1,10 +1,11 @@
 -- What the words are used for: options with their values, and words that are neither.
--- A word that begins with `-` and has more is `--self-run`, whose value is the next word, or a cluster of letters.
+-- A word that begins with `-` and has more is `--self-run`, whose value is the next word, `--filter-stats`, which has none, or
+-- a cluster of letters.
 -- The value of a letter that has one is what is left of the word behind it, or the next word where nothing is left.
 use Rattle.std.specs.Prelude.{ℕ, suc, ◌==◌, Bool, true, false, ◌||◌, List, [], ◌∷◌, codes, Option, Some, None, if◌then◌else◌}
 use Rattle.std.specs.Str.{bytes_eq}
 use Rattle.shark_words.specs.declared.letter.Letter.{Letter}
-use Rattle.shark_words.specs.declared.letter.Letter.TheVariants.{SelfRun}
+use Rattle.shark_words.specs.declared.letter.Letter.TheVariants.{SelfRun, FilterStats}
 use Rattle.shark_words.specs.declared.uses.Use.{Use}
 use Rattle.shark_words.specs.declared.uses.Use.TheVariants as use_
 use Rattle.shark_words.specs.Letters.{letter_of, has_value}
@@ -54,12 +55,22 @@ cluster_uses word (b ∷ rest) behind =
 abbrev pub self_run_name : List ℕ
 self_run_name = codes "-self-run"
 
--- the uses from an option on, by what stands behind its `-`
+-- what stands behind the first `-` of `--filter-stats`
+abbrev pub filter_stats_name : List ℕ
+filter_stats_name = codes "-filter-stats"
+
+-- the uses from an option on that isn't `--self-run`, by what stands behind its `-`
+unfoldable pub letters_at : ℕ → List ℕ → (Option Letter → List Use) → List Use
+letters_at word letters behind =
+    if bytes_eq letters filter_stats_name then without_value word FilterStats ∷ behind None
+    else if is_cluster letters then cluster_uses word letters behind
+    else use_.Unknown word ∷ behind None
+
+-- the uses from an option on
 abbrev pub option_at : ℕ → List ℕ → (Option Letter → List Use) → List Use
 option_at word letters behind =
     if bytes_eq letters self_run_name then behind (Some SelfRun)
-    else if is_cluster letters then cluster_uses word letters behind
-    else use_.Unknown word ∷ behind None
+    else letters_at word letters behind
 
 -- the uses from a word on that is no option's value; 45 is `-`
 abbrev pub uses_at : ℕ → List ℕ → (Option Letter → List Use) → List Use

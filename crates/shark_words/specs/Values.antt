@@ -1,12 +1,12 @@
 -- What an option's value may be.
-use Rattle.std.specs.Prelude.{ℕ, suc, ◌==◌, ◌^◌, ◌-◌, nat_lt, Bool, true, false, ◌&&◌, ◌||◌, List, ◌∷◌, length, take, drop, codes, Option, Some, None, is_some, option_and_then, if◌then◌else◌}
+use Rattle.std.specs.Prelude.{ℕ, suc, ◌==◌, ◌^◌, ◌-◌, nat_lt, Bool, true, false, ◌||◌, List, length, take, drop, codes, Option, Some, None, is_some, option_and_then, if◌then◌else◌}
 use Rattle.std.specs.List.{list_all}
 use Rattle.std.specs.Option.{unwrap_or}
 use Rattle.std.specs.Str.{bytes_eq}
 use Rattle.capture_write.specs.declared.format.Format.{Format as CaptureFormat}
 use Rattle.capture_write.specs.declared.format.Format.TheVariants.{Pcap, Pcapng}
 use Rattle.shark_words.specs.declared.letter.Letter.{Letter}
-use Rattle.shark_words.specs.declared.letter.Letter.TheVariants.{Capture, Filter, Two, Kind, Name, Style, Most, Quiet, Decode, Report, Output, Format, SelfRun}
+use Rattle.shark_words.specs.declared.letter.Letter.TheVariants.{Capture, Filter, Two, Kind, Name, Style, Most, Quiet, Decode, Report, Output, Format, SelfRun, FilterStats}
 use Rattle.shark_words.specs.declared.options.LineKind.{LineKind}
 use Rattle.shark_words.specs.declared.options.LineKind.TheVariants.{Text, Fields, Json}
 use Rattle.shark_words.specs.declared.options.Source.{Source}
@@ -63,7 +63,8 @@ abbrev pub format_asked : Option (List ℕ) → CaptureFormat
 format_asked None = Pcapng
 format_asked (Some text) = unwrap_or (format_of text) Pcapng
 
--- whether a text is one of an option's values; `-2` and `-q` have none, and `-w` only `-`, which stands for the standard output
+-- whether a text is one of an option's values; `-2`, `-q` and
+-- `--filter-stats` have none, and `-w` only `-`, which stands for the standard output
 abbrev pub is_value : Letter → List ℕ → Bool
 is_value Capture text = nat_lt 0 (length text)
 is_value Filter text = true
@@ -78,6 +79,7 @@ is_value Report text = is_some (report_of text)
 is_value Output text = bytes_eq text (codes "-")
 is_value Format text = is_some (format_of text)
 is_value SelfRun text = is_some (generated_by text)
+is_value FilterStats text = false
 
 -- spaces, tabs, line feeds and carriage returns alone
 abbrev pub is_blank : List ℕ → Bool

@@ -154,17 +154,23 @@ pub(crate) enum Sought {
     Output,
     /// Those that can't stand beside `-w`.
     Clashing,
-    /// Those that have no effect on lines of this kind, and where a capture is written or not.
-    Unused(LineKind, bool),
+    /// Those that have no effect on lines of this kind, where a capture is written or not, and where there is a filter or none.
+    Unused {
+        kind: LineKind,
+        written: bool,
+        filtered: bool,
+    },
 }
 
-// Whether an option has no effect: `-e` and `-E` are for the lines of fields alone, `-F` for a capture that is written.
-fn is_unused(letter: Letter, kind: LineKind, written: bool) -> bool
-    ensures { result ≡ is_unused_for kind written letter }
+// Whether an option has no effect: `-e` and `-E` are for the lines of fields alone, `-F` for a capture that is written,
+// `--filter-stats` for a filter.
+fn is_unused(letter: Letter, kind: LineKind, written: bool, filtered: bool) -> bool
+    ensures { result ≡ is_unused_for kind written filtered letter }
 {
     match letter {
         Letter::Name | Letter::Style => kind != LineKind::Fields,
         Letter::Format => !written,
+        Letter::FilterStats => !filtered,
         _ => false,
     }
 }
@@ -174,7 +180,7 @@ fn is_clashing(letter: Letter) -> bool
 {
     matches!(
         letter,
-        Letter::Kind | Letter::Quiet | Letter::Report | Letter::SelfRun
+        Letter::Kind | Letter::Quiet | Letter::Report | Letter::SelfRun | Letter::FilterStats
     )
 }
 
@@ -185,7 +191,11 @@ impl Sought {
         match self {
             Sought::Output => letter == Letter::Output,
             Sought::Clashing => is_clashing(letter),
-            Sought::Unused(kind, written) => is_unused(letter, kind, written),
+            Sought::Unused {
+                kind,
+                written,
+                filtered,
+            } => is_unused(letter, kind, written, filtered),
         }
     }
 }

@@ -28,8 +28,10 @@ pub(crate) enum Letter {
     Output,
     /// `-F FORMAT`: the format of that file.
     Format,
-    /// `--self-run NUMBER,FRAMES`: a generated capture in place of a file. The one option without a letter.
+    /// `--self-run NUMBER,FRAMES`: a generated capture in place of a file. It has no letter.
     SelfRun,
+    /// `--filter-stats`: the filter's program and its steps. It has no letter.
+    FilterStats,
 }
 
 impl Letter {
@@ -57,6 +59,6 @@ impl Letter {
     pub(crate) fn has_value(self) -> bool
         ensures { result ≡ has_value self }
     {
-        !matches!(self, Letter::Two | Letter::Quiet)
+        !matches!(self, Letter::Two | Letter::Quiet | Letter::FilterStats)
     }
 }

@@ -113,6 +113,8 @@ pub struct Options {
     /// Which ports are read as other applications than usual, in the order of the words.
     pub decode: DecodeAs,
     pub reports: ReportList,
+    /// Whether the filter's program and its steps are asked for, which they are only where there is a filter.
+    pub stats: bool,
     /// The format of the capture file that is written in place of all lines, where one is.
     pub written: Option<Format>,
 }

@@ -9,7 +9,7 @@ ghost use Rattle.shark_words.specs.Sound.{AreSound};
 ghost use Rattle.shark_words.specs.Words.{texts};
 ghost use Rattle.shark_words.specs.Values.{count_of, format_asked, kind_asked, shown_filter as filter_shown};
 ghost use Rattle.shark_words.specs.Spelled.{Spelled, spelled_words, asked_by, IsCommand, IsAsked};
-ghost use Rattle.shark_words.specs.Options.{asked, clash_fault as clash_fault_of, fields_fault as fields_fault_of, format_written as format_written_by, options_of, source_of as source_given, together_fault as together_fault_of, unused_fault as unused_fault_of, Gives};
+ghost use Rattle.shark_words.specs.Options.{asked, clash_fault as clash_fault_of, fields_fault as fields_fault_of, format_written as format_written_by, is_filtered as is_filtered_by, options_of, source_of as source_given, together_fault as together_fault_of, unused_fault as unused_fault_of, Gives};
 
 use crate::asked::{
     Sought, clash_word, reports_of, rules_of, style_of, value_of, values_of, word_of,
@@ -99,11 +99,26 @@ fn fields_fault(behind: u64, uses: &[Use], kind: LineKind) -> Option<WordFault>
     }
 }
 
+// Whether there is a filter.
+fn is_filtered(uses: &[Use]) -> bool
+    ensures { result ≡ is_filtered_by uses.now }
+{
+    match value_of(uses, Letter::Filter) {
+        Some(text) => !is_blank(text.bytes()),
+        None => false,
+    }
+}
+
 fn unused_fault(uses: &[Use], kind: LineKind) -> Option<WordFault>
     ensures { result ≡ unused_fault_of uses.now kind }
 {
+    let unused = Sought::Unused {
+        kind,
+        written: is_given(uses, Letter::Output),
+        filtered: is_filtered(uses),
+    };
     Some(WordFault {
-        word: word_of(uses, Sought::Unused(kind, is_given(uses, Letter::Output)))?,
+        word: word_of(uses, unused)?,
         reason: WordReason::Unused,
     })
 }
@@ -129,9 +144,10 @@ fn together_fault(behind: u64, uses: &[Use], kind: LineKind) -> Option<WordFault
 
 /// Reads the options that the words of a command line give, or refuses them.
 ///
-/// A word that begins with `-` and has more is `--self-run`, whose value is the next word, or a cluster of letters: `-r`,
-/// `-Y`, `-T`, `-e`, `-E`, `-c`, `-d`, `-z`, `-w` and `-F`, whose value is what is left of the word, or the next word where
-/// nothing is left, and `-2` and `-q`, which have none. Words are numbered from 1, and the first fault in their order is told.
+/// A word that begins with `-` and has more is `--self-run`, whose value is the next word, `--filter-stats`, which has none,
+/// or a cluster of letters: `-r`, `-Y`, `-T`, `-e`, `-E`, `-c`, `-d`, `-z`, `-w` and `-F`, whose value is what is left of
+/// the word, or the next word where nothing is left, and `-2` and `-q`, which have none. Words are numbered from 1, and the
+/// first fault in their order is told.
 #[tactic(auto, using(crate::proofs::Utf8Lemmas::answered_are_utf8))]
 pub fn read_words(alloc: Global, words: &[String]) -> Result<Options, WordsError>
     ensures computed { Gives result (options_of (texts words.now)) }
@@ -189,6 +205,7 @@ fn options_from(
             rules: PortRules::from_vec(rules_of(alloc, uses)?),
         },
         reports: ReportList::from_vec(reports_of(alloc, uses)?),
+        stats: is_given(uses, Letter::FilterStats),
         written: format_written(uses),
     })
 }

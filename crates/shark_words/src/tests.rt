@@ -149,6 +149,7 @@ fn what_follows_an_option_is_its_value(rt: HostRuntime) -> Result<(), Fail> {
     let options = read_words(rt.alloc(), &words)?;
     assert!(rt; is_named(&options.source, b"-"));
     assert!(rt; options.filter.is_none());
+    assert!(rt; !options.stats);
     assert_eq!(rt; options.most, None);
     let names = options.names.slice();
     assert_eq!(rt; names.len(), 3);
@@ -264,7 +265,7 @@ fn many_names_are_read(rt: HostRuntime) -> Result<(), Fail> {
 }
 
 /// Command lines, a space between two words, each behind what is answered: `ok`, or the word and the reason of the refusal.
-static COMMANDS: [&str; 203] = [
+static COMMANDS: [&str; 216] = [
     // Each letter in a word of its own, in a cluster, twice, without a value, with a bad value.
     "ok: -r f",
     "ok: -rf",
@@ -323,7 +324,6 @@ static COMMANDS: [&str; 203] = [
     "2 A3: -q - -r f",
     "1 A3: q -r f",
     "2 A1: -q --q",
-    "1 A1: --filter-stats -r f",
     // A generated capture: its number and how many frames, in a word of its own.
     "ok: --self-run 1,1",
     "ok: --self-run 0,200000 -q -Y dns -c 3",
@@ -393,6 +393,21 @@ static COMMANDS: [&str; 203] = [
     "2 A4: -2",
     "4 A3: -r f -2 2",
     "4 A3: -2 -r f 1",
+    // The filter's program and its steps.
+    "ok: --filter-stats -r f -Y arp",
+    "ok: -Y arp --self-run 1,1 --filter-stats -q",
+    "4 A5: -rf -Yarp --filter-stats --filter-stats",
+    "1 A8: --filter-stats -r f",
+    "4 A8: -r f -q --filter-stats",
+    "3 A8: -r f -e a -Yarp --filter-stats",
+    "6 A9: -r f -Yarp -w - --filter-stats",
+    "5 A9: --filter-stats -Yarp -r f -w -",
+    "3 A8: -r f --filter-stats -w -",
+    "1 A1: --filter-stats=1 -r f",
+    "1 A1: --filter-stat -r f",
+    "1 A1: -filter-stats -r f",
+    "2 A3: --filter-stats 1 -r f -Yarp",
+    "3 A1: -r f --filter-stats- -Yarp",
     // The application of a port: each one over either transport, a port twice, bad values.
     "ok: -r f -d tcp.port==9999,http",
     "ok: -r f -dtcp.port==0,dns",
@@ -598,6 +613,8 @@ fn style_is_what_is_set(rt: HostRuntime) -> Result<(), Fail> {
         rt.alloc(),
         &[
             "-q2rf",
+            "--filter-stats",
+            "-Yarp",
             "-Tfields",
             "-ea",
             "-Eheader=y",
@@ -621,5 +638,6 @@ fn style_is_what_is_set(rt: HostRuntime) -> Result<(), Fail> {
     assert_eq!(rt; options.kind, LineKind::Fields);
     assert!(rt; options.quiet);
     assert!(rt; options.two);
+    assert!(rt; options.stats);
     Ok(())
 }

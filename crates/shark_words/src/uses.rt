@@ -3,7 +3,7 @@ ghost use Rattle.std.specs.Prelude.{◌≡◌, ◌<◌, ◌+◌, ◌-◌, ◌^�
 ghost use Rattle.shark_words.specs.Words.{texts};
 ghost use Rattle.shark_words.specs.declared.letter.Letter.{Letter as IsLetter};
 ghost use Rattle.shark_words.specs.declared.uses.Use.{Use as IsUse};
-ghost use Rattle.shark_words.specs.Uses.{cluster_uses, is_cluster as is_cluster_of, uses_at, uses_from, value_uses, with_value, without_value, uses_of as uses_of_words};
+ghost use Rattle.shark_words.specs.Uses.{cluster_uses, is_cluster as is_cluster_of, letters_at, uses_at, uses_from, value_uses, with_value, without_value, uses_of as uses_of_words};
 
 use crate::letter::Letter;
 use pk_base::{NoMemory, Octets};
@@ -11,6 +11,9 @@ use std::alloc::Global;
 
 /// What stands behind the first `-` of `--self-run`.
 const SELF_RUN: &[u8] = b"-self-run";
+
+/// What stands behind the first `-` of `--filter-stats`.
+const FILTER_STATS: &[u8] = b"-filter-stats";
 
 /// An option's value, and the number of the word that it stands in.
 #[derive(Drop)]
@@ -117,6 +120,29 @@ fn take_letters(
     Ok(None)
 }
 
+// Adds the uses of what stands behind the `-` of an option that isn't `--self-run`. Answers the option whose value the next
+// word is.
+#[tactic(auto, unfolding(crate::specs::Uses::letters_at))]
+fn take_dashed(
+    alloc: Global,
+    uses: &mut Vec<Use>,
+    number: u64,
+    letters: &[u8],
+) -> Result<Option<Letter>, NoMemory>
+    ensures { IfOk result (λ waiting. (behind : Option IsLetter → List IsUse) →
+        uses.old.items ++ letters_at number letters.now behind ≡ uses.new.items ++ behind waiting) }
+{
+    if letters == FILTER_STATS {
+        uses.push(Use::without_value(number, Letter::FilterStats))?;
+        return Ok(None);
+    }
+    if is_cluster(letters) {
+        return take_letters(alloc, uses, number, letters);
+    }
+    uses.push(Use::Unknown(number))?;
+    Ok(None)
+}
+
 // Adds the uses of a word that is no option's value. Answers the option whose value the next word is.
 fn take_option(
     alloc: Global,
@@ -135,11 +161,7 @@ fn take_option(
     if letters == SELF_RUN {
         return Ok(Some(Letter::SelfRun));
     }
-    if is_cluster(letters) {
-        return take_letters(alloc, uses, number, letters);
-    }
-    uses.push(Use::Unknown(number))?;
-    Ok(None)
+    take_dashed(alloc, uses, number, letters)
 }
 
 // Adds the use of the word behind so many others, which is the value of the option that waits for one.

@@ -78,7 +78,7 @@ pub(crate) fn is_value(letter: Letter, text: &[u8]) -> bool
         Letter::Kind => read_kind(text).is_some(),
         Letter::Style => is_setting(text),
         Letter::Most => read_count(text).is_some(),
-        Letter::Two | Letter::Quiet => false,
+        Letter::Two | Letter::Quiet | Letter::FilterStats => false,
         Letter::Decode => read_rule(text).is_some(),
         Letter::Report => read_report(text).is_some(),
         Letter::Output => text == b"-".as_slice(),
