@@ -1,5 +1,5 @@
 -- What is written behind the frames' lines.
-use Rattle.std.proofs.Common.{◌≡◌, ℕ, Bool, true, false, List, [], ◌∷◌, ◌++◌, length, Option, None, Some, inl, inr, refl, sym, ap, ◌∙◌, subst, reverse}
+use Rattle.std.proofs.Common.{◌≡◌, ◌+◌, ℕ, Bool, true, false, List, [], ◌∷◌, ◌++◌, length, Option, None, Some, inl, inr, refl, sym, ap, ◌∙◌, subst, reverse}
 use Rattle.std.specs.Prelude.{IfSome, if◌then◌else◌}
 use Rattle.std.specs.Io.KnownBytes.{Appends}
 use Rattle.std.proofs.KnownBytes.{Appends-trans}
@@ -17,15 +17,17 @@ use Rattle.shark_run.specs.Fitting.{job_of}
 use Rattle.shark_run.specs.Job.{Job, Passes, job_in}
 use Rattle.shark_run.specs.declared.notes.Notes.{Notes}
 use Rattle.shark_run.specs.declared.totals.Totals.{Totals}
-use Rattle.shark_run.specs.Accessors.{is_generated, reports_of, written_of}
+use Rattle.shark_run.specs.Accessors.{compiled_of, is_generated, reports_of, stats_of, written_of}
 use Rattle.shark_run.specs.Chosen.{IsWriting, chosen_of}
 use Rattle.shark_run.specs.Ended.{CanClose, HasRead}
+use Rattle.shark_run.specs.FilterStats.{stats_lines, steps_over, steps_told}
+use Rattle.shark_run.specs.Satisfied.{judged}
 use Rattle.shark_run.specs.Lines.{closing, closing_by, counted_line, pieces}
 use Rattle.shark_run.specs.Reading.{frames_read}
 use Rattle.shark_run.specs.Reports.{reports_text}
 use Rattle.pk_fields.specs.Ids.{DNS, HTTP}
 use Rattle.shark_run.specs.SelfRun.{counts_text, layer_count, self_run_line, shown_count, tcp_count, udp_count}
-use Rattle.shark_run.specs.Totals.{counts_of, counts_with, totals_of, with_tree}
+use Rattle.shark_run.specs.Totals.{counts_of, counts_with, nothing_counted, totals_of, with_tree}
 use Rattle.shark_run.specs.Notes.{AreNotes}
 use Rattle.shark_run.specs.Steps.{KeepsUp}
 use Rattle.shark_run.specs.Trees.{lets_frame, tree_of, trees_of}
@@ -45,15 +47,29 @@ line_counted job past totals tcp udp line is same streams conversations =
     ∙ ap (λ (n : ℕ). counts_text (length past) (shown_count job.plan (trees_of job past)) (tcp_count past) n (layer_count DNS (trees_of job past)) (layer_count HTTP (trees_of job past))) conversations
 
 -- the totals of frames are those that the line tells
+steps_with : (told : Bool) (m n : ℕ) → (if told then m else 0) + (if told then n else 0) ≡ (if told then m + n else 0)
+steps_with true m n = refl
+steps_with false m n = refl
+
 totals_with : (job : Job) (past : List Frame) (frame : Frame) →
-    with_tree (tree_of job past frame) (lets_frame job past frame) (totals_of job past) ≡ totals_of job (frame ∷ past)
-totals_with job past frame = refl
+    record (with_tree (tree_of job past frame) (lets_frame job past frame) (totals_of job past)) {
+      steps = (totals_of job past).steps + steps_told job.plan (judged (compiled_of job.plan) (tree_of job past frame));
+    } ≡ totals_of job (frame ∷ past)
+totals_with job past frame =
+    ap (λ (n : ℕ). record (totals_of job (frame ∷ past)) { steps = n })
+    (steps_with (stats_of job.plan) (steps_over (compiled_of job.plan) (trees_of job past)) (judged (compiled_of job.plan) (tree_of job past frame)).steps)
+
+either_way : (told : Bool) (n : ℕ) → n ≡ (if told then n else n)
+either_way true n = refl
+either_way false n = refl
 
 totals_so_far : (job : Job) (past : List Frame) → is_generated job.plan ≡ true → counts_of job past ≡ totals_of job past
-totals_so_far job [] is = refl
+totals_so_far job [] is = ap (λ (n : ℕ). record nothing_counted { steps = n }) (either_way (stats_of job.plan) 0)
 totals_so_far job (frame ∷ past) is =
     ap (counts_with job.plan (tree_of job past frame)) (totals_so_far job past is)
-    ∙ ap (λ (b : Bool). if b then with_tree (tree_of job past frame) (lets_frame job past frame) (totals_of job past) else totals_of job past) is
+    ∙ ap (λ (b : Bool). record (if b then with_tree (tree_of job past frame) (lets_frame job past frame) (totals_of job past) else totals_of job past) {
+      steps = (totals_of job past).steps + steps_told job.plan (judged (compiled_of job.plan) (tree_of job past frame));
+    }) is
     ∙ totals_with job past frame
 
 pub line_of_counts : (job : Job) (line : List ℕ) (totals : Totals) (past : List Frame) → is_generated job.plan ≡ true → totals ≡ counts_of job past
@@ -64,26 +80,39 @@ line_of_counts job line totals past is counted tells =
 pub no_counts : (job : Job) (past : List Frame) → is_generated job.plan ≡ false → counted_line job past ≡ []
 no_counts job past is = ap (λ (b : Bool). if b then self_run_line job past else []) is
 
--- where lines are written, the reports and the line of what was counted stand behind them
-closing_is : (job : Job) (past : List Frame) → written_of job.plan ≡ None → closing job past ≡ reports_text job past (reports_of job.plan) ++ counted_line job past
+-- where lines are written, the reports, what is told of the program and the line of what was counted stand behind them
+closing_is : (job : Job) (past : List Frame) → written_of job.plan ≡ None
+    → closing job past ≡ reports_text job past (reports_of job.plan) ++ (stats_lines job past ++ counted_line job past)
 unfolding closing
 closing_is job past lines = ap (λ (w : Option Format). closing_by w job past) lines
 
-pub behind_lines : (job : Job) (past : List Frame) (old now new : Option (List ℕ)) → written_of job.plan ≡ None
-    → Appends old now (reports_text job past (reports_of job.plan)) → Appends now new (counted_line job past) → Appends old new (closing job past)
-behind_lines job past old now new lines reported counted =
+pub behind_lines : (job : Job) (past : List Frame) (old now told new : Option (List ℕ)) → written_of job.plan ≡ None
+    → Appends old now (reports_text job past (reports_of job.plan)) → Appends now told (stats_lines job past) → Appends told new (counted_line job past)
+    → Appends old new (closing job past)
+behind_lines job past old now told new lines reported stated counted =
     subst (λ (bytes : List ℕ). Appends old new bytes) (sym (closing_is job past lines))
-    (Appends-trans old now new (reports_text job past (reports_of job.plan)) (counted_line job past) reported counted)
+    (Appends-trans old now new (reports_text job past (reports_of job.plan)) (stats_lines job past ++ counted_line job past) reported
+    (Appends-trans now told new (stats_lines job past) (counted_line job past) stated counted))
+
+pub behind_stats : (job : Job) (past : List Frame) (old now told new : Option (List ℕ)) → written_of job.plan ≡ None
+    → Appends old now (reports_text job past (reports_of job.plan)) → Appends now told (stats_lines job past) → AppendsPart told new (counted_line job past)
+    → AppendsPart old new (closing job past)
+behind_stats job past old now told new lines reported stated part =
+    subst (AppendsPart old new) (sym (closing_is job past lines))
+    (part_after old now new (reports_text job past (reports_of job.plan)) (stats_lines job past ++ counted_line job past) reported
+    (part_after now told new (stats_lines job past) (counted_line job past) stated part))
 
 pub behind_reports : (job : Job) (past : List Frame) (old now new : Option (List ℕ)) → written_of job.plan ≡ None
-    → Appends old now (reports_text job past (reports_of job.plan)) → AppendsPart now new (counted_line job past) → AppendsPart old new (closing job past)
+    → Appends old now (reports_text job past (reports_of job.plan)) → AppendsPart now new (stats_lines job past) → AppendsPart old new (closing job past)
 behind_reports job past old now new lines reported part =
-    subst (AppendsPart old new) (sym (closing_is job past lines)) (part_after old now new (reports_text job past (reports_of job.plan)) (counted_line job past) reported part)
+    subst (AppendsPart old new) (sym (closing_is job past lines))
+    (part_after old now new (reports_text job past (reports_of job.plan)) (stats_lines job past ++ counted_line job past) reported
+    (part_more now new (stats_lines job past) (counted_line job past) part))
 
 pub among_reports : (job : Job) (past : List Frame) (old new : Option (List ℕ)) → written_of job.plan ≡ None
     → AppendsPart old new (reports_text job past (reports_of job.plan)) → AppendsPart old new (closing job past)
 among_reports job past old new lines part =
-    subst (AppendsPart old new) (sym (closing_is job past lines)) (part_more old new (reports_text job past (reports_of job.plan)) (counted_line job past) part)
+    subst (AppendsPart old new) (sym (closing_is job past lines)) (part_more old new (reports_text job past (reports_of job.plan)) (stats_lines job past ++ counted_line job past) part)
 
 -- nothing was written yet
 pub keeps_nothing : (written : Option Format) (job : Job) (t : Notes) (k : Kept) → AreNotes job [] t → k ≡ nothing_kept (unwrap_or written Pcapng) → Written k []

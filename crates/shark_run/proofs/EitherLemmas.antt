@@ -53,6 +53,7 @@ with_names options chosen (Ok fields) asked alone is =
     let plan : Plan = record {
       source = source_in options.source;
       chosen = chosen;
+      stats = options.stats;
       two = options.two;
       fields = fields;
       most = options.most;
@@ -63,7 +64,7 @@ with_names options chosen (Ok fields) asked alone is =
       quiet = options.quiet;
       written = options.written;
     } in
-    inl (plan, record { source = refl; chosen = asked; two = refl; fields = is; most = refl; decode = refl; reports = refl; kind = refl; style = refl; quiet = refl; written = refl })
+    inl (plan, record { source = refl; chosen = asked; stats = refl; two = refl; fields = is; most = refl; decode = refl; reports = refl; kind = refl; style = refl; quiet = refl; written = refl })
 with_names options chosen (Err (refused.Field name)) asked alone is = inr (refused.Field name, ((chosen, asked), is), tt)
 with_names options chosen (Err reason) asked alone is = absurd alone
 

@@ -10,7 +10,7 @@ use Rattle.shark_run.specs.Job.{Job}
 use Rattle.shark_run.specs.JsonLaws.{MessagesToldOnce, ShowsAll, json_lines}
 use Rattle.shark_run.specs.Lines.{line_by, line_of, piece, piece_by, pieces_of}
 use Rattle.shark_run.specs.Reports.{tcp_segments}
-use Rattle.shark_run.specs.Satisfied.{satisfies}
+use Rattle.shark_run.specs.Satisfied.{judged, satisfies}
 use Rattle.shark_run.specs.Trees.{lets, tree_of}
 
 nothing_chosen : (chosen : Option CompiledShown) → option_map (λ (compiled : CompiledShown). compiled.filter) chosen ≡ None → chosen ≡ None
@@ -18,7 +18,7 @@ nothing_chosen None is = refl
 nothing_chosen (Some compiled) is = absurd (cc is)
 
 json_piece : (job : Job) (past : List Frame) (frame : Frame) → ShowsAll job.plan → piece job past frame ≡ json_line_of (tree_of job past frame)
-unfolding satisfies
+unfolding judged
 json_piece job past frame shows =
     ap (λ (written : Option Format). piece_by written job past frame) shows.lines
     ∙ ap (λ (quiet : Bool). if quiet then [] else if lets job.plan (tree_of job past frame) then line_of job.plan (tree_of job past frame) else []) shows.loud

@@ -47,7 +47,7 @@ use Rattle.shark_run.specs.Accessors.{is_quiet}
 use Rattle.shark_run.specs.Job.{Passes, job_in, passes_by, with_links}
 use Rattle.shark_run.specs.Lines.{shown, piece, piece_by, pieces, is_headed, line_by, line_of, opening, opening_by, closing, closing_by, counted_line, output_by, output_of}
 use Rattle.shark_run.specs.Reports.{report_text, reports_text}
-use Rattle.shark_run.specs.Satisfied.{decided, satisfies}
+use Rattle.shark_run.specs.Satisfied.{decided, judged, satisfies}
 use Rattle.shark_run.specs.Tables.{trees_let, trees_with}
 use Rattle.cap_stats.specs.Tables.{table_of}
 use Rattle.shark_run.specs.SelfRun.{line_with, self_run_line, shown_count}
@@ -55,6 +55,8 @@ use Rattle.shark_run.specs.Trees.{lets, lets_frame, tree_of, trees_of}
 use Rattle.shark_run.specs.Source.{is_generated_by}
 use Rattle.shark_run.specs.Plan.{IsFaultAsked, IsFilterAsked, IsPlan, IsPlanFor, IsRefusal, IsRefusalFor}
 use Rattle.shark_run.specs.Reading.{file_by, file_of, fitting_of, limited, frames_read, read_of}
+use Rattle.shark_run.specs.FilterStats.{stats_lines}
+use Rattle.shark_run.proofs.StatsLemmas.{stats_untold}
 use Rattle.shark_run.proofs.PlanLemmas.{answered, each_file, filter_or_fault, of_size, refused_not_planned, same_options}
 
 pub never_refused : NeverBoth
@@ -119,6 +121,7 @@ pub record AreWrittenAlike (one other : Plan) : Type 0 where
   style : one.style ≡ other.style
   quiet : one.quiet ≡ other.quiet
   written : one.written ≡ other.written
+  stats : one.stats ≡ other.stats
 
 -- filters that let the same trees through
 abbrev LetAlike : Plan → Plan → Type 0
@@ -282,32 +285,41 @@ same_reports p one other past (report ∷ reports) alike same =
     ap (λ (text : List ℕ). text ++ reports_text (job_in one p) past reports) (same_report p one other past report alike same)
     ∙ ap (λ (text : List ℕ). report_text (job_in other p) past report ++ text) (same_reports p one other past reports alike same)
 
+-- where nothing is told of the programs
+same_stats : (p : Passes) (one other : Plan) (past : List Frame) → AreWrittenAlike one other → one.stats ≡ false
+    → stats_lines (job_in one p) past ≡ stats_lines (job_in other p) past
+same_stats p one other past alike untold =
+    sym (stats_untold (job_in one p) past untold) ∙ stats_untold (job_in other p) past (sym alike.stats ∙ untold)
+
 same_closing_by : (p : Passes) (written : Option Format) (one other : Plan) (past : List Frame) → AreWrittenAlike one other → LetAlike one other
-    → closing_by written (job_in one p) past ≡ closing_by written (job_in other p) past
-same_closing_by p None one other past alike truth =
-    ap (λ (reports : List Report). reports_text (job_in one p) past reports ++ counted_line (job_in one p) past) alike.reports
-    ∙ ap (λ (text : List ℕ). text ++ counted_line (job_in one p) past) (same_reports p one other past other.reports alike truth)
-    ∙ ap (λ (line : List ℕ). reports_text (job_in other p) past other.reports ++ line) (same_counted p one other past alike truth)
-same_closing_by p (Some format) one other past alike truth =
+    → one.stats ≡ false → closing_by written (job_in one p) past ≡ closing_by written (job_in other p) past
+same_closing_by p None one other past alike truth untold =
+    ap (λ (reports : List Report). reports_text (job_in one p) past reports ++ (stats_lines (job_in one p) past ++ counted_line (job_in one p) past)) alike.reports
+    ∙ ap (λ (text : List ℕ). text ++ (stats_lines (job_in one p) past ++ counted_line (job_in one p) past)) (same_reports p one other past other.reports alike truth)
+    ∙ ap (λ (text : List ℕ). reports_text (job_in other p) past other.reports ++ (text ++ counted_line (job_in one p) past)) (same_stats p one other past alike untold)
+    ∙ ap (λ (line : List ℕ). reports_text (job_in other p) past other.reports ++ (stats_lines (job_in other p) past ++ line)) (same_counted p one other past alike truth)
+same_closing_by p (Some format) one other past alike truth untold =
     ap (λ (frames : List Frame). end_at (kept_of format frames)) (same_past p one other past alike truth)
 
-same_closing : (p : Passes) (one other : Plan) (past : List Frame) → AreWrittenAlike one other → LetAlike one other → closing (job_in one p) past ≡ closing (job_in other p) past
+same_closing : (p : Passes) (one other : Plan) (past : List Frame) → AreWrittenAlike one other → LetAlike one other → one.stats ≡ false
+    → closing (job_in one p) past ≡ closing (job_in other p) past
 unfolding closing
-same_closing p one other past alike truth =
-    ap (λ (w : Option Format). closing_by w (job_in one p) past) alike.written ∙ same_closing_by p other.written one other past alike truth
+same_closing p one other past alike truth untold =
+    ap (λ (w : Option Format). closing_by w (job_in one p) past) alike.written ∙ same_closing_by p other.written one other past alike truth untold
 
 same_output_by : (p : Passes) (w : Option Format) (one other : Plan) (frames : List Frame) → AreWrittenAlike one other → LetAlike one other
-    → output_by w (job_in one p) frames ≡ output_by w (job_in other p) frames
-same_output_by p None one other frames alike truth =
+    → one.stats ≡ false → output_by w (job_in one p) frames ≡ output_by w (job_in other p) frames
+same_output_by p None one other frames alike truth untold =
     ap (λ (start : List ℕ). start ++ (pieces (job_in one p) [] frames ++ closing (job_in one p) (reverse frames))) (same_opening one other alike)
     ∙ ap (λ (lines : List ℕ). opening other ++ (lines ++ closing (job_in one p) (reverse frames))) (same_pieces p one other [] frames alike truth)
-    ∙ ap (λ (end : List ℕ). opening other ++ (pieces (job_in other p) [] frames ++ end)) (same_closing p one other (reverse frames) alike truth)
-same_output_by p (Some format) one other frames alike truth = ap (written format) (same_chosen p one other [] frames alike truth)
+    ∙ ap (λ (end : List ℕ). opening other ++ (pieces (job_in other p) [] frames ++ end)) (same_closing p one other (reverse frames) alike truth untold)
+same_output_by p (Some format) one other frames alike truth untold = ap (written format) (same_chosen p one other [] frames alike truth)
 
-same_output : (p : Passes) (one other : Plan) (frames : List Frame) → AreWrittenAlike one other → LetAlike one other → output_of (job_in one p) frames ≡ output_of (job_in other p) frames
+same_output : (p : Passes) (one other : Plan) (frames : List Frame) → AreWrittenAlike one other → LetAlike one other → one.stats ≡ false
+    → output_of (job_in one p) frames ≡ output_of (job_in other p) frames
 unfolding output_of
-same_output p one other frames alike truth =
-    ap (λ (w : Option Format). output_by w (job_in one p) frames) alike.written ∙ same_output_by p other.written one other frames alike truth
+same_output p one other frames alike truth untold =
+    ap (λ (w : Option Format). output_by w (job_in one p) frames) alike.written ∙ same_output_by p other.written one other frames alike truth untold
 
 same_read_of : (one other : Plan) (reading : Reading) → AreWrittenAlike one other → LetAlike one other → read_of one reading ≡ read_of other reading
 same_read_of one other reading alike same =
@@ -324,7 +336,7 @@ same_read one other file most alike same =
 
 -- where a program agrees with its filter, the filter's truth is decided
 decides_meaning : (compiled : CompiledShown) (tree : TreeShown) (answer : Option Verdict) → verdict_of compiled.program compiled.filter tree ≡ answer
-    → Agrees compiled.program compiled.filter → decided answer (meaning compiled.filter tree) ≡ meaning compiled.filter tree
+    → Agrees compiled.program compiled.filter → (decided answer (meaning compiled.filter tree)).holds ≡ meaning compiled.filter tree
 unfolding verdict_of Agrees
 decides_meaning compiled tree None is agrees = refl
 decides_meaning compiled tree (Some verdict) is agrees =
@@ -333,7 +345,7 @@ decides_meaning compiled tree (Some verdict) is agrees =
 
 satisfies_meaning : (compiled : CompiledShown) (tree : TreeShown) → Agrees compiled.program compiled.filter
     → satisfies (Some compiled) tree ≡ meaning compiled.filter tree
-unfolding satisfies
+unfolding judged
 satisfies_meaning compiled tree agrees =
     decides_meaning compiled tree (verdict_of compiled.program compiled.filter tree) refl agrees
 
@@ -355,13 +367,13 @@ alike_for options one other is also =
     let both : Ok one.fields ≡ Ok other.fields = sym is.fields ∙ also.fields in
     let fields : one.fields ≡ other.fields = cc both in
     let alike : AreWrittenAlike one other
-    = record { source = is.source ∙ sym also.source; two = is.two ∙ sym also.two; decode = is.decode ∙ sym also.decode; reports = is.reports ∙ sym also.reports; kind = is.kind ∙ sym also.kind; fields = fields; style = is.style ∙ sym also.style; quiet = is.quiet ∙ sym also.quiet; written = is.written ∙ sym also.written } in
+    = record { source = is.source ∙ sym also.source; two = is.two ∙ sym also.two; decode = is.decode ∙ sym also.decode; reports = is.reports ∙ sym also.reports; kind = is.kind ∙ sym also.kind; fields = fields; style = is.style ∙ sym also.style; quiet = is.quiet ∙ sym also.quiet; written = is.written ∙ sym also.written; stats = is.stats ∙ sym also.stats } in
     let truth = λ (tree : TreeShown). same_truth options.filter one.chosen other.chosen tree is.chosen also.chosen in
     record {
       source = is.source ∙ sym also.source;
       read = λ file. same_read one other file (is.most ∙ sym also.most) alike truth;
       lets = truth;
-      written = λ passes frames. same_output passes one other frames alike truth;
+      written = λ untold passes frames. same_output passes one other frames alike truth untold;
     }
 
 pub plans_alike : PlansAreAlike

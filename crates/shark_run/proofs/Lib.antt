@@ -11,6 +11,7 @@ mod OpeningLemmas
 mod PacketLemmas
 mod PlanLemmas
 mod ReportLemmas
+mod StatsLemmas
 mod SummaryLemmas
 mod Together
 mod ToldLemmas

@@ -1,20 +1,23 @@
 -- What is noted of one frame more.
-use Rattle.std.proofs.Common.{◌≡◌, Bool, true, false, List, ◌∷◌, sym, ap, ◌∙◌, subst, if◌then◌else◌}
+use Rattle.std.proofs.Common.{◌≡◌, ◌+◌, ℕ, Bool, true, false, List, ◌∷◌, arith, sym, ap, ◌∙◌, subst, if◌then◌else◌}
 use Rattle.cap_stats.proofs.KeptNotes.{stands_alike}
 use Rattle.cap_stats.specs.Stands.{Stands, kind_of}
 use Rattle.cap_stats.specs.declared.kind.StatKind.{StatKind}
 use Rattle.cap_stats.specs.declared.kind.StatKind.TheVariants.{ConvTcp, ConvIp, Phs}
 use Rattle.cap_stats.specs.declared.stats.Stats.{Stats}
 use Rattle.capture_read.specs.declared.frame.Frame.{Frame}
+use Rattle.flt_vm.specs.declared.run.Verdict.{Verdict}
 use Rattle.pk_tree.specs.Trees.{TreeShown}
 use Rattle.shark_run.specs.declared.notes.Notes.{Notes}
 use Rattle.shark_run.specs.declared.plan.Plan.{Plan}
 use Rattle.shark_run.specs.declared.tables.Table.{Table}
 use Rattle.shark_run.specs.declared.tables.Tables.{Tables}
 use Rattle.shark_run.specs.declared.totals.Totals.{Totals}
-use Rattle.shark_run.specs.Accessors.{is_generated}
+use Rattle.shark_run.specs.Accessors.{compiled_of, is_generated, stats_of}
+use Rattle.shark_run.specs.FilterStats.{steps_told}
 use Rattle.shark_run.specs.Job.{Job}
 use Rattle.shark_run.specs.Notes.{AreNotes}
+use Rattle.shark_run.specs.Satisfied.{judged}
 use Rattle.shark_run.specs.Tables.{AreTables, IsTable, asks_table, asks_tables, trees_let, trees_with}
 use Rattle.shark_run.specs.Totals.{counts_with, with_tree}
 use Rattle.shark_run.specs.Trees.{lets, tree_of}
@@ -22,8 +25,16 @@ use Rattle.shark_run.specs.Wanted.{IsNotedAs, IsToldAs}
 use Rattle.shark_run.proofs.WantedLemmas.{no_table}
 
 -- where nothing is counted
-pub not_counted : (plan : Plan) (tree : TreeShown) (totals : Totals) → is_generated plan ≡ false → totals ≡ counts_with plan tree totals
-not_counted plan tree totals is = sym (ap (λ (b : Bool). if b then with_tree tree (lets plan tree) totals else totals) is)
+with_no_steps : (totals : Totals) → record totals { steps = totals.steps + 0 } ≡ totals
+with_no_steps totals =
+    let same : totals.steps + 0 ≡ totals.steps = omega arith in ap (λ (n : ℕ). record totals { steps = n }) same
+
+pub not_counted : (plan : Plan) (tree : TreeShown) (totals : Totals) → is_generated plan ≡ false → stats_of plan ≡ false → totals ≡ counts_with plan tree totals
+not_counted plan tree totals is untold =
+    let verdict = judged (compiled_of plan) tree in
+    sym (ap (λ (b : Bool). record (if b then with_tree tree verdict.holds totals else totals) { steps = totals.steps + steps_told plan verdict }) is
+    ∙ ap (λ (b : Bool). record totals { steps = totals.steps + (if b then verdict.steps else 0) }) untold
+    ∙ with_no_steps totals)
 
 -- where no table is asked for
 unasked : (plan : Plan) (kind : StatKind) (trees others : List TreeShown) (table : Table) → asks_tables plan ≡ false → IsTable plan kind trees table → IsTable plan kind others table
@@ -42,15 +53,15 @@ not_tabled plan tree trees tables untabled are = record {
 }
 
 -- a tree that the filter doesn't let through, and one that it does
-pub tables_left : (plan : Plan) (tree : TreeShown) (trees : List TreeShown) (tables : Tables) (satisfied : Bool) → satisfied ≡ false → satisfied ≡ lets plan tree
-    → AreTables plan trees tables → AreTables plan (trees_with plan tree trees) tables
-tables_left plan tree trees tables satisfied is truth are =
-    subst (λ (b : Bool). AreTables plan (if b then tree ∷ trees else trees) tables) (sym is ∙ truth) are
+pub tables_left : (plan : Plan) (tree : TreeShown) (trees : List TreeShown) (tables : Tables) (verdict : Verdict) → verdict.holds ≡ false
+    → verdict ≡ judged (compiled_of plan) tree → AreTables plan trees tables → AreTables plan (trees_with plan tree trees) tables
+tables_left plan tree trees tables verdict is answers are =
+    subst (λ (b : Bool). AreTables plan (if b then tree ∷ trees else trees) tables) (sym is ∙ ap (λ (v : Verdict). v.holds) answers) are
 
-pub tables_more : (plan : Plan) (tree : TreeShown) (trees : List TreeShown) (tables : Tables) (satisfied : Bool) → satisfied ≡ true → satisfied ≡ lets plan tree
-    → AreTables plan (tree ∷ trees) tables → AreTables plan (trees_with plan tree trees) tables
-tables_more plan tree trees tables satisfied is truth are =
-    subst (λ (b : Bool). AreTables plan (if b then tree ∷ trees else trees) tables) (sym is ∙ truth) are
+pub tables_more : (plan : Plan) (tree : TreeShown) (trees : List TreeShown) (tables : Tables) (verdict : Verdict) → verdict.holds ≡ true
+    → verdict ≡ judged (compiled_of plan) tree → AreTables plan (tree ∷ trees) tables → AreTables plan (trees_with plan tree trees) tables
+tables_more plan tree trees tables verdict is answers are =
+    subst (λ (b : Bool). AreTables plan (if b then tree ∷ trees else trees) tables) (sym is ∙ ap (λ (v : Verdict). v.holds) answers) are
 
 -- by the whole tree, where it is noted
 stands_whole : (plan : Plan) (kind : StatKind) (tree whole : TreeShown) (trees : List TreeShown) (stats : Stats) → kind_of stats ≡ kind → IsNotedAs plan kind whole tree

@@ -1,5 +1,5 @@
 -- How many frames and layers were counted.
-use Rattle.std.proofs.Common.{◌≡◌, ◌≤◌, ◌<◌, ◌+◌, ◌^◌, ℕ, suc, Bool, true, false, sym, subst, if◌then◌else◌, arith}
+use Rattle.std.proofs.Common.{◌≡◌, ◌≤◌, ◌<◌, ◌+◌, ◌*◌, ◌^◌, ℕ, suc, Bool, true, false, sym, subst, if◌then◌else◌, arith}
 use Rattle.pk_fields.specs.Ids.{DNS, HTTP}
 use Rattle.pk_tree.specs.Trees.{TreeShown, layers_of}
 use Rattle.shark_run.specs.declared.totals.Totals.{Totals}
@@ -11,10 +11,11 @@ few_more most more t larger few = record {
   shown = omega (arith, larger, few.shown);
   dns = omega (arith, larger, few.dns);
   http = omega (arith, larger, few.http);
+  steps = omega (arith, larger, few.steps);
 }
 
 pub few_begun : (most : ℕ) (t : Totals) → t ≡ nothing_counted → AreFew most t
-few_begun most t is = subst (λ (totals : Totals). AreFew most totals) (sym is) (record { frames = omega arith; shown = omega arith; dns = omega arith; http = omega arith })
+few_begun most t is = subst (λ (totals : Totals). AreFew most totals) (sym is) (record { frames = omega arith; shown = omega arith; dns = omega arith; http = omega arith; steps = omega arith })
 
 pub few_after : (before after : ℕ) (t : Totals) → after ≡ before + 1 → AreFew (suc before) t → AreFew after t
 few_after before after t is few = few_more (suc before) after t (omega (arith, is)) few
@@ -33,4 +34,15 @@ few_with most t tree shown dns http few = record {
   shown = shown_few most t.shown shown few.shown;
   dns = omega (arith, few.dns, dns);
   http = omega (arith, few.http, http);
+  steps = omega (arith, few.steps);
+}
+
+-- with those steps
+pub few_steps : (most steps : ℕ) (t : Totals) → AreFew most t → steps ≤ most * 2 ^ 32 → AreFew most (record t { steps = steps })
+few_steps most steps t few within = record {
+  frames = few.frames;
+  shown = few.shown;
+  dns = few.dns;
+  http = few.http;
+  steps = within;
 }

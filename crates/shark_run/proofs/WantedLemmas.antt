@@ -35,12 +35,13 @@ use Rattle.flt_vm.specs.declared.instr.Instr.TheVariants as instr
 use Rattle.flt_vm.specs.declared.run.Verdict.{Verdict}
 use Rattle.shark_run.specs.declared.plan.Plan.{Plan}
 use Rattle.shark_run.specs.declared.totals.Totals.{Totals}
-use Rattle.shark_run.specs.Accessors.{is_generated, is_quiet, needs_streams, reports_of, rules_of, two_of, written_of}
+use Rattle.shark_run.specs.Accessors.{is_generated, is_quiet, needs_streams, reports_of, rules_of, stats_of, two_of, written_of}
+use Rattle.shark_run.specs.FilterStats.{steps_told}
 use Rattle.shark_run.specs.Lines.{line_by, line_of, shown}
 use Rattle.shark_run.specs.Compiled.{CompiledShown}
-use Rattle.shark_run.specs.Satisfied.{decided, satisfies}
+use Rattle.shark_run.specs.Satisfied.{decided, judged, satisfies}
 use Rattle.shark_run.specs.Tables.{asks_table, asks_tables, is_table_of}
-use Rattle.shark_run.specs.Totals.{counts_with, with_tree}
+use Rattle.shark_run.specs.Totals.{counts_by, counts_with, with_tree}
 use Rattle.shark_run.specs.Trees.{lets, tree_of}
 use Rattle.shark_run.proofs.SummaryLemmas.{summary_same}
 use Rattle.shark_run.specs.Wanted.{HasAsked, HasFields, HasPlan, HasTables, IsMadeFor, IsEnough, IsNotedAs, IsToldAs, shows_whole, shows_whole_by, summary_fields, sums_up, sums_up_by}
@@ -121,13 +122,17 @@ unfolding asks_streams
 stream_asked old new added =
     ap (λ (b : Bool). b || is_in new TCP_SEQ || is_in new TCP_ACK || is_in new TCP_LOST || asks_messages new) (added_now TCP_STREAM TCP_STREAM (row_of TCP_STREAM).proto (is_in old TCP_STREAM) (is_in new TCP_STREAM) refl (added TCP_STREAM))
 
-satisfies_same : (wanted : List ℕ) (chosen : Option CompiledShown) (t u : TreeShown) → HasSameValues wanted t u → HasAsked wanted chosen
-    → satisfies chosen u ≡ satisfies chosen t
-unfolding satisfies
-satisfies_same wanted None t u same has = refl
-satisfies_same wanted (Some compiled) t u same has =
+judged_same : (wanted : List ℕ) (chosen : Option CompiledShown) (t u : TreeShown) → HasSameValues wanted t u → HasAsked wanted chosen
+    → judged chosen u ≡ judged chosen t
+unfolding judged
+judged_same wanted None t u same has = refl
+judged_same wanted (Some compiled) t u same has =
     ap (λ (verdict : Option Verdict). decided verdict (meaning compiled.filter u)) (verdicts_alike wanted compiled.program compiled.filter t u same has.1)
     ∙ ap (decided (verdict_of compiled.program compiled.filter t)) (meaning_alike wanted compiled.filter t u same has.0)
+
+satisfies_same : (wanted : List ℕ) (chosen : Option CompiledShown) (t u : TreeShown) → HasSameValues wanted t u → HasAsked wanted chosen
+    → satisfies chosen u ≡ satisfies chosen t
+satisfies_same wanted chosen t u same has = ap (λ (v : Verdict). v.holds) (judged_same wanted chosen t u same has)
 
 line_same : (wanted : List ℕ) (plan : Plan) (kind : LineKind) (t u : TreeShown) → HasSameValues wanted t u → kind ≡ Fields → HasPlan wanted plan
     → line_by kind plan u ≡ line_by kind plan t
@@ -225,27 +230,37 @@ tree_same wanted t one other totals same =
       shown = if other then suc totals.shown else totals.shown;
       dns = totals.dns + dns;
       http = totals.http + layers_of HTTP (kept_tree wanted t).layers;
+      steps = totals.steps;
     }) (layers_same wanted DNS t)
     ∙ ap (λ (http : ℕ). record {
       frames = suc totals.frames;
       shown = if other then suc totals.shown else totals.shown;
       dns = totals.dns + layers_of DNS t.layers;
       http = totals.http + http;
+      steps = totals.steps;
     }) (layers_same wanted HTTP t)
 
 counted_kept : (wanted : List ℕ) (plan : Plan) (whole tree : TreeShown) → HasPlan wanted plan → HasSameValues wanted whole tree → IsKept wanted whole tree
     → (totals : Totals) → counts_with plan tree totals ≡ counts_with plan whole totals
 counted_kept wanted plan whole tree has same kept totals =
-    ap (λ (truth : Bool). if is_generated plan then with_tree tree truth totals else totals) (satisfies_same wanted plan.chosen whole tree same has.filter)
-    ∙ ap (λ (t : TreeShown). if is_generated plan then with_tree t (lets plan whole) totals else totals) kept.same
-    ∙ ap (λ (with : Totals). if is_generated plan then with else totals)
+    ap (λ (verdict : Verdict). counts_by plan verdict tree totals) (judged_same wanted plan.chosen whole tree same has.filter)
+    ∙ ap (λ (t : TreeShown). counts_by plan (judged plan.chosen whole) t totals) kept.same
+    ∙ ap (λ (with : Totals). record (if is_generated plan then with else totals) { steps = totals.steps + steps_told plan (judged plan.chosen whole) })
     (tree_same wanted whole (lets plan whole) (lets plan whole) totals refl)
 
--- over a file nothing is counted
-pub counted_file : (plan : Plan) (one other : TreeShown) → is_generated plan ≡ false → (totals : Totals) → counts_with plan one totals ≡ counts_with plan other totals
-counted_file plan one other is totals =
-    ap (λ (generated : Bool). if generated then with_tree one (lets plan one) totals else totals) is
-    ∙ sym (ap (λ (generated : Bool). if generated then with_tree other (lets plan other) totals else totals) is)
+-- over a file nothing is counted but steps
+counted_file : (plan : Plan) (one other : TreeShown) → is_generated plan ≡ false
+    → steps_told plan (judged plan.chosen one) ≡ steps_told plan (judged plan.chosen other)
+    → (totals : Totals) → counts_with plan one totals ≡ counts_with plan other totals
+counted_file plan one other is steps totals =
+    ap (λ (generated : Bool). record (if generated then with_tree one (lets plan one) totals else totals) { steps = totals.steps + steps_told plan (judged plan.chosen one) }) is
+    ∙ ap (λ (n : ℕ). record totals { steps = totals.steps + n }) steps
+    ∙ sym (ap (λ (generated : Bool). record (if generated then with_tree other (lets plan other) totals else totals) { steps = totals.steps + steps_told plan (judged plan.chosen other) }) is)
+
+-- where steps aren't counted either
+no_steps : (plan : Plan) (one other : Verdict) → stats_of plan ≡ false → steps_told plan one ≡ steps_told plan other
+no_steps plan one other untold =
+    ap (λ (b : Bool). if b then one.steps else 0) untold ∙ sym (ap (λ (b : Bool). if b then other.steps else 0) untold)
 
 not_written : {A : Type 0} (plan : Plan) → written_of plan ≡ None → IsSome (written_of plan) → A
 not_written plan lines some = let bad : false ≡ true = subst IsSome lines some in absurd (cc bad)
@@ -343,15 +358,16 @@ enough_followed wanted plan is has tables asks links = record {
   twice = links;
 }
 
-pub enough_none : (wanted : List ℕ) (plan : Plan) → (two_of plan || needs_streams plan || sums_up plan) ≡ false → plan.quiet ≡ true → written_of plan ≡ None → IsEnough wanted plan
-enough_none wanted plan none_so is lines =
+pub enough_none : (wanted : List ℕ) (plan : Plan) → (two_of plan || needs_streams plan || sums_up plan) ≡ false → plan.quiet ≡ true → stats_of plan ≡ false → written_of plan ≡ None
+    → IsEnough wanted plan
+enough_none wanted plan none_so is untold lines =
     let neither : (two_of plan || needs_streams plan) ≡ false = first_false (two_of plan || needs_streams plan) (sums_up plan) none_so in
     let alone : two_of plan ≡ false = first_false (two_of plan) (needs_streams plan) neither in
     let not_so : needs_streams plan ≡ false = second_false (two_of plan) (needs_streams plan) neither in
     record {
       told = λ whole tree made. record {
         shown = λ none. shown_quiet plan tree whole (quiet_asked plan is);
-        counted = λ totals. counted_file plan tree whole (not_generated plan not_so) totals;
+        counted = λ totals. counted_file plan tree whole (not_generated plan not_so) (no_steps plan (judged plan.chosen tree) (judged plan.chosen whole) untold) totals;
         truth = λ written. not_written plan lines written;
         noted = λ kind asked. no_report plan kind not_so asked;
       };
@@ -369,7 +385,8 @@ enough_plain wanted plan is none_so has =
     record {
       told = λ whole tree made. record {
         shown = λ lines. shown_asked wanted plan whole tree made.values has lines unsummed (which_lines plan lines is);
-        counted = λ totals. counted_file plan tree whole (not_generated plan not_so) totals;
+        counted = λ totals. counted_file plan tree whole (not_generated plan not_so)
+            (ap (steps_told plan) (judged_same wanted plan.chosen whole tree made.values has.filter)) totals;
         truth = λ written. satisfies_same wanted plan.chosen whole tree made.values has.filter;
         noted = λ kind asked. no_report plan kind not_so asked;
       };

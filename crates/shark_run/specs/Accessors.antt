@@ -54,6 +54,10 @@ fields_of plan = plan.fields
 abbrev pub style_of : Plan → Style
 style_of plan = plan.style
 
+-- whether the listing and the steps of the program are told
+abbrev pub stats_of : Plan → Bool
+stats_of plan = plan.stats
+
 -- whether the frames are read twice
 abbrev pub two_of : Plan → Bool
 two_of plan = plan.two

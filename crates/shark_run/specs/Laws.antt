@@ -1,5 +1,5 @@
 -- What holds of every list of words.
-use Rattle.std.specs.Prelude.{◌≡◌, ◌⊎◌, ℕ, List, Some}
+use Rattle.std.specs.Prelude.{◌≡◌, ◌⊎◌, ℕ, false, List, Some}
 use Rattle.capture_read.specs.declared.frame.Frame.{Frame}
 use Rattle.flt_mean.specs.Meaning.{meaning}
 use Rattle.flt_types.specs.declared.typed.Typed.{Typed}
@@ -10,7 +10,7 @@ use Rattle.shark_run.specs.Answers.{IsSure}
 use Rattle.shark_run.specs.Job.{Passes, job_in}
 use Rattle.shark_run.specs.Lines.{output_of}
 use Rattle.shark_run.specs.Plan.{IsPlan, IsRefusal}
-use Rattle.shark_run.specs.Accessors.{filter_of, source_of}
+use Rattle.shark_run.specs.Accessors.{filter_of, source_of, stats_of}
 use Rattle.shark_run.specs.Reading.{frames_read}
 use Rattle.shark_run.specs.Trees.{lets}
 
@@ -28,12 +28,12 @@ OneReason = (words : List (List ℕ)) (one other : Refused) → IsRefusal words 
     → one ≡ other
 
 -- two plans have the same source and read the same of it, let the same trees through, and write the same over any frames, in the same
--- passes
+-- passes; where their programs are told, these may differ
 pub record AreAlike (one other : Plan) : Type 0 where
   pub source : source_of one ≡ source_of other
   pub read : (file : List ℕ) → frames_read one file ≡ frames_read other file
   pub lets : (tree : TreeShown) → lets one tree ≡ lets other tree
-  pub written : (passes : Passes) (frames : List Frame)
+  pub written : stats_of one ≡ false → (passes : Passes) (frames : List Frame)
       → output_of (job_in one passes) frames ≡ output_of (job_in other passes) frames
 
 -- all plans of the same words are alike

@@ -7,6 +7,7 @@ pub mod Compiled
 pub mod Ended
 pub mod FaultLines
 pub mod FaultTexts
+pub mod FilterStats
 pub mod Fitting
 pub mod Generated
 pub mod Job

@@ -1,5 +1,5 @@
 -- The output: the line of the fields' names, where it is asked for, one line for each frame that the filter lets through, the
--- reports, and over a generated capture the line of what was counted. In place of all this, the bytes of a capture may be asked for.
+-- reports, what is told of the program, and over a generated capture the line of what was counted. In place of all this, the bytes of a capture may be asked for.
 use Rattle.std.specs.Prelude.{ℕ, Bool, false, not, ◌&&◌, List, [], ◌∷◌, ◌++◌, Option, None, Some, if◌then◌else◌, reverse}
 use Rattle.pk_tree.specs.Trees.{TreeShown}
 use Rattle.capture_read.specs.declared.frame.Frame.{Frame}
@@ -13,6 +13,7 @@ use Rattle.shark_words.specs.declared.options.LineKind.TheVariants.{Text, Fields
 use Rattle.shark_run.specs.declared.plan.Plan.{Plan}
 use Rattle.shark_run.specs.Accessors.{fields_of, is_generated, is_quiet, kind_of, reports_of, style_of, written_of}
 use Rattle.shark_run.specs.Chosen.{chosen, end_in, packet_in}
+use Rattle.shark_run.specs.FilterStats.{stats_lines}
 use Rattle.shark_run.specs.Job.{Job}
 use Rattle.shark_run.specs.Reports.{reports_text}
 use Rattle.shark_run.specs.SelfRun.{self_run_line}
@@ -69,7 +70,7 @@ counted_line job past = if is_generated job.plan then self_run_line job past els
 
 -- what stands behind the frames' lines, over frames of which the newest stands first
 abbrev pub closing_by : Option Format → Job → List Frame → List ℕ
-closing_by None job past = reports_text job past (reports_of job.plan) ++ counted_line job past
+closing_by None job past = reports_text job past (reports_of job.plan) ++ (stats_lines job past ++ counted_line job past)
 closing_by (Some format) job past = end_in format job past
 
 unfoldable pub closing : Job → List Frame → List ℕ

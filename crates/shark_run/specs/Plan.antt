@@ -30,6 +30,7 @@ IsFaultAsked (Some text) fault = IsFilterFault text (Fault fault)
 pub record IsPlanFor (options : Options) (plan : Plan) : Type 0 where
   pub source : plan.source ≡ source_in options.source
   pub chosen : IsFilterAsked options.filter plan.chosen
+  pub stats : plan.stats ≡ options.stats
   pub two : plan.two ≡ options.two
   pub fields : fields_named options.names ≡ Ok plan.fields
   pub most : plan.most ≡ options.most

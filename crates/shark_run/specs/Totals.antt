@@ -1,14 +1,17 @@
 -- What is counted of frames, one after the other.
 use Rattle.std.specs.Prelude.{ℕ, suc, ◌+◌, ◌*◌, ◌^◌, ◌≤◌, Bool, if◌then◌else◌, List, [], ◌∷◌, length}
 use Rattle.capture_read.specs.declared.frame.Frame.{Frame}
+use Rattle.flt_vm.specs.declared.run.Verdict.{Verdict}
 use Rattle.pk_fields.specs.Ids.{DNS, HTTP}
 use Rattle.pk_tree.specs.Trees.{TreeShown, layers_of}
 use Rattle.shark_run.specs.declared.plan.Plan.{Plan}
 use Rattle.shark_run.specs.declared.totals.Totals.{Totals}
-use Rattle.shark_run.specs.Accessors.{is_generated}
+use Rattle.shark_run.specs.Accessors.{compiled_of, is_generated, stats_of}
 use Rattle.shark_run.specs.Job.{Job}
+use Rattle.shark_run.specs.FilterStats.{steps_over, steps_told}
+use Rattle.shark_run.specs.Satisfied.{judged}
 use Rattle.shark_run.specs.SelfRun.{layer_count, shown_count}
-use Rattle.shark_run.specs.Trees.{lets, tree_of, trees_of}
+use Rattle.shark_run.specs.Trees.{tree_of, trees_of}
 
 -- what is counted of frames, the newest first
 abbrev pub totals_of : Job → List Frame → Totals
@@ -17,6 +20,7 @@ totals_of job past = record {
   shown = shown_count job.plan (trees_of job past);
   dns = layer_count DNS (trees_of job past);
   http = layer_count HTTP (trees_of job past);
+  steps = if stats_of job.plan then steps_over (compiled_of job.plan) (trees_of job past) else 0;
 }
 
 -- one tree more, which the filter lets through or not
@@ -26,15 +30,24 @@ with_tree tree shown totals = record {
   shown = if shown then suc totals.shown else totals.shown;
   dns = totals.dns + layers_of DNS tree.layers;
   http = totals.http + layers_of HTTP tree.layers;
+  steps = totals.steps;
 }
 
--- the same where the capture is generated; over a file nothing is counted
+-- the same where the capture is generated; over a file nothing is counted of a tree
+abbrev pub tree_counted : Plan → TreeShown → Bool → Totals → Totals
+tree_counted plan tree shown totals = if is_generated plan then with_tree tree shown totals else totals
+
+-- one tree more, of which the program answers this
+abbrev pub counts_by : Plan → Verdict → TreeShown → Totals → Totals
+counts_by plan verdict tree totals =
+    record (tree_counted plan tree verdict.holds totals) { steps = totals.steps + steps_told plan verdict }
+
 abbrev pub counts_with : Plan → TreeShown → Totals → Totals
-counts_with plan tree totals = if is_generated plan then with_tree tree (lets plan tree) totals else totals
+counts_with plan tree totals = counts_by plan (judged (compiled_of plan) tree) tree totals
 
 -- what is counted of frames, the newest first, one after the other
 abbrev pub nothing_counted : Totals
-nothing_counted = record { frames = 0; shown = 0; dns = 0; http = 0 }
+nothing_counted = record { frames = 0; shown = 0; dns = 0; http = 0; steps = 0 }
 
 abbrev pub counts_of : Job → List Frame → Totals
 counts_of job [] = nothing_counted
@@ -46,3 +59,4 @@ pub record AreFew (most : ℕ) (totals : Totals) : Type 0 where
   pub shown : totals.shown ≤ most
   pub dns : totals.dns ≤ most * 2 ^ 32
   pub http : totals.http ≤ most * 2 ^ 32
+  pub steps : totals.steps ≤ most * 2 ^ 32

@@ -1,11 +1,11 @@
 // Which frames are shown.
 ghost use Rattle.std.specs.Prelude.{◌≡◌, IfOk};
 ghost use Rattle.shark_run.specs.Accessors.{compiled_of};
-ghost use Rattle.shark_run.specs.Satisfied.{satisfies};
+ghost use Rattle.shark_run.specs.Satisfied.{judged, satisfies};
 
 use crate::compiled::Compiled;
 use crate::plan::Plan;
-use flt_vm::Machine;
+use flt_vm::{Machine, Verdict};
 use pk_base::NoMemory;
 use pk_tree::Tree;
 use std::alloc::Global;
@@ -41,14 +41,13 @@ impl<'p> Judge<'p> {
         Ok(Judge { compiled, machine })
     }
 
-    /// Whether the run of the program on a tree ends with the flag true.
-    #[tactic(auto, unfolding(crate::specs::Satisfied::satisfies))]
-    fn lets(&mut self, tree: &Tree) -> Result<bool, NoMemory>
-        ensures truth { IfOk result (λ truth. truth ≡ satisfies (Some self.old) tree.now) }
+    /// What the run of the program on a tree answers.
+    #[tactic(auto, unfolding(crate::specs::Satisfied::judged))]
+    fn answer(&mut self, tree: &Tree) -> Result<Verdict, NoMemory>
+        ensures verdict { IfOk result (λ verdict. verdict ≡ judged (Some self.old) tree.now) }
         ensures same { self.new ≡ self.old }
     {
-        let verdict = self.machine.run(tree)?;
-        Ok(verdict.holds)
+        self.machine.run(tree)
     }
 }
 
@@ -62,14 +61,26 @@ pub(crate) fn judge_for(alloc: Global, plan: &Plan) -> Result<Option<Judge<'_>>,
     }
 }
 
-/// Whether a tree is let through; where there is no filter every tree is.
-#[tactic(auto, unfolding(crate::specs::Satisfied::satisfies))]
+/// Whether a tree is let through, and in how many steps; where there is no filter every tree is, in none.
+#[tactic(auto, unfolding(crate::specs::Satisfied::judged))]
+pub(crate) fn verdict_of(judge: &mut Option<Judge<'_>>, tree: &Tree) -> Result<Verdict, NoMemory>
+    ensures verdict { IfOk result (λ verdict. verdict ≡ judged judge.old tree.now) }
+    ensures same { judge.new ≡ judge.old }
+{
+    match judge {
+        None => Ok(Verdict {
+            holds: true,
+            steps: 0,
+        }),
+        Some(judge) => judge.answer(tree),
+    }
+}
+
+/// Whether a tree is let through.
 pub(crate) fn lets(judge: &mut Option<Judge<'_>>, tree: &Tree) -> Result<bool, NoMemory>
     ensures truth { IfOk result (λ truth. truth ≡ satisfies judge.old tree.now) }
     ensures same { judge.new ≡ judge.old }
 {
-    match judge {
-        None => Ok(true),
-        Some(judge) => judge.lets(tree),
-    }
+    let verdict = verdict_of(judge, tree)?;
+    Ok(verdict.holds)
 }

@@ -5,6 +5,7 @@
 mod compiled;
 mod fault_text;
 mod file;
+mod filter_stats;
 mod generated;
 mod judge;
 mod later;

@@ -13,7 +13,7 @@ ghost use Rattle.cap_stats.specs.declared.kind.StatKind.{StatKind as KindValue};
 ghost use Rattle.capture_read.specs.FrameList.{IsTime};
 ghost use Rattle.pk_tree.specs.Trees.{TreeShown};
 ghost use Rattle.shark_run.specs.declared.totals.Totals.{Totals as TotalsValue};
-ghost use Rattle.shark_run.specs.Accessors.{compiled_of, is_generated, is_quiet, rules_of, two_of, written_of};
+ghost use Rattle.shark_run.specs.Accessors.{compiled_of, is_generated, is_quiet, rules_of, stats_of, two_of, written_of};
 ghost use Rattle.shark_run.specs.Job.{IfOnce, Passes, job_in, once};
 ghost use Rattle.shark_run.specs.Later.{ServesKept};
 ghost use Rattle.shark_run.specs.Ended.{CanClose, HasRead};
@@ -29,7 +29,8 @@ ghost use Rattle.shark_run.specs.Wanted.{IsEnough, IsToldAs};
 ghost use Rattle.shark_run.specs.Way.{IsBrokenBehind, IsBrokenFrom, IsBrokenOf, IsFullNearOf, WroteTaken, WroteTakenBehind};
 ghost use Rattle.shark_run.specs.Wrote.{WroteAll, WroteBody, WrotePart, WrotePieces, WroteSomeBody, WroteSomePieces};
 
-use crate::judge::{Judge, judge_for, lets as is_let};
+use crate::filter_stats::write_stats;
+use crate::judge::{Judge, judge_for, verdict_of};
 use crate::later::{Later, add_links};
 use crate::notes::Notes;
 use crate::packet::{write_end, write_packet};
@@ -131,13 +132,14 @@ fn put_line(
     }
 }
 
-// Whether it is asked if the filter lets a tree through.
+// Whether it is asked what the filter's program answers of a tree.
 fn asks_filter(plan: &Plan) -> bool
     ensures quiet { result ≡ false → is_quiet plan.now ≡ true }
     ensures file { result ≡ false → is_generated plan.now ≡ false }
+    ensures stats { result ≡ false → stats_of plan.now ≡ false }
     ensures tables { result ≡ false → asks_tables plan.now ≡ false }
 {
-    if plan.source.is_generated() {
+    if plan.source.is_generated() || plan.stats {
         return true;
     }
     if !plan.quiet {
@@ -172,15 +174,15 @@ fn make_line(
     if !asks_filter(plan) {
         return Ok(());
     }
-    let satisfied = is_let(&mut lines.judge, tree)?;
-    lines.notes.note(plan, tree, satisfied)?;
+    let verdict = verdict_of(&mut lines.judge, tree)?;
+    lines.notes.note(plan, tree, verdict)?;
     if plan.source.is_generated() {
         return Ok(());
     }
     if plan.quiet {
         return Ok(());
     }
-    if !satisfied {
+    if !verdict.holds {
         return Ok(());
     }
     put_line(alloc, plan, tree, lines)
@@ -528,8 +530,8 @@ fn write_rest<C: Capture, O: Sink>(
     }
 }
 
-// Writes the reports, and over a generated capture the line of what was counted.
-#[tactic(auto, using(crate::proofs::ClosingLemmas::behind_lines, crate::proofs::ClosingLemmas::behind_reports, crate::proofs::ClosingLemmas::among_reports, crate::proofs::WantedLemmas::reports_need))]
+// Writes the reports, what is told of the program, and over a generated capture the line of what was counted.
+#[tactic(auto, using(crate::proofs::ClosingLemmas::behind_lines, crate::proofs::ClosingLemmas::behind_stats, crate::proofs::ClosingLemmas::behind_reports, crate::proofs::ClosingLemmas::among_reports, crate::proofs::WantedLemmas::reports_need))]
 fn write_behind_lines<O: Sink>(
     alloc: Global,
     plan: &Plan,
@@ -552,6 +554,10 @@ fn write_behind_lines<O: Sink>(
     ensures faults_stay { O.faults out.old ≤ O.faults out.new }
 {
     match write_reports(alloc, plan, dissector, notes, plan.reports.slice(), out) {
+        Ok(()) => {}
+        Err(fault) => return Err(fault),
+    }
+    match write_stats(alloc, plan, notes, out) {
         Ok(()) => {}
         Err(fault) => return Err(fault),
     }

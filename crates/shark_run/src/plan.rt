@@ -47,6 +47,8 @@ pub struct Plan {
     pub source: PlanSource,
     /// What a frame's tree has to satisfy, where there is a filter, and the program that decides it.
     pub chosen: Option<Compiled>,
+    /// Whether the listing of that program is written behind the reports, with how many steps it took.
+    pub stats: bool,
     /// Whether the frames are read twice, so that trees also show what later frames bring.
     pub two: bool,
     /// The columns, in order.

@@ -30,6 +30,7 @@ fn counts_line(alloc: Global, totals: Totals, tcp: u32, udp: u32) -> Result<Stri
         shown,
         dns,
         http,
+        steps: _,
     } = totals;
     Ok(format!(in alloc;
         "self-run frames {frames} shown {shown} tcp {tcp} udp {udp} dns {dns} http {http}\n"

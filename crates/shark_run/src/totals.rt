@@ -1,30 +1,33 @@
 // What is counted of the frames of a generated capture.
 ghost use Rattle.std.specs.Prelude.{◌≡◌, ◌<◌, ◌^◌, ℕ, suc};
 ghost use Rattle.pk_tree.specs.Trees.{layers_of as layers_among};
-ghost use Rattle.shark_run.specs.Totals.{AreFew, with_tree};
+ghost use Rattle.shark_run.specs.Totals.{AreFew, nothing_counted, with_tree};
 
 use pk_fields::FieldId;
 use pk_fields::ids::{DNS, HTTP};
 use pk_tree::Tree;
 
-/// How many frames there were, how many of their trees the filter let through, and how many layers they had of DNS and HTTP.
+/// How many frames there were, how many of their trees the filter let through, how many layers they had of DNS and HTTP, and how many
+/// steps the filter's program took.
 #[derive(Clone, Copy, Debug, PartialEq, Eq)]
 pub(crate) struct Totals {
     pub(crate) frames: u64,
     pub(crate) shown: u64,
     pub(crate) dns: u64,
     pub(crate) http: u64,
+    pub(crate) steps: u64,
 }
 
 impl Totals {
     pub(crate) fn none() -> Totals
-        ensures { result ≡ record { frames = 0; shown = 0; dns = 0; http = 0 } }
+        ensures { result ≡ nothing_counted }
     {
         Totals {
             frames: 0,
             shown: 0,
             dns: 0,
             http: 0,
+            steps: 0,
         }
     }
 
@@ -39,6 +42,7 @@ impl Totals {
             shown: self.shown + u64::from(shown),
             dns: self.dns + layers_of(tree, DNS),
             http: self.http + layers_of(tree, HTTP),
+            steps: self.steps,
         }
     }
 }

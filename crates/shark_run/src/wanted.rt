@@ -29,7 +29,7 @@ pub(crate) fn needed_fields(plan: &Plan) -> FieldSet
     if plan.two || needs_streams(plan) || sums_up(plan) {
         return followed_fields(plan);
     }
-    if plan.quiet && plan.written.is_none() {
+    if plan.quiet && !plan.stats && plan.written.is_none() {
         return FieldSet::none();
     }
     wanted_fields(plan)

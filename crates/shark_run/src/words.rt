@@ -116,6 +116,7 @@ fn plan_with(alloc: Global, options: &Options) -> Result<Plan, PlanError>
     Ok(Plan {
         source: source_in(alloc, &options.source)?,
         chosen,
+        stats: options.stats,
         two: options.two,
         fields,
         most: options.most,
