@@ -45,6 +45,8 @@ mod pcap_rows;
 #[cfg(test)]
 mod pcapng_rows;
 #[cfg(test)]
+mod plan_rows;
+#[cfg(test)]
 mod report_rows;
 #[cfg(test)]
 mod request_talks;
@@ -60,6 +62,8 @@ mod self_rows;
 mod sequence_rows;
 #[cfg(test)]
 mod spread_talks;
+#[cfg(test)]
+mod stats_rows;
 #[cfg(test)]
 mod stream_rows;
 mod sure;
