@@ -374,7 +374,7 @@ _shark() {
     -z) mapfile -t COMPREPLY < <(compgen -W "conv,tcp conv,ip io,phs follow,tcp,raw," -- "$word") && compopt -o nospace ;;
     -w) mapfile -t COMPREPLY < <(compgen -W "-" -- "$word") ;;
     -F) mapfile -t COMPREPLY < <(compgen -W "pcap pcapng" -- "$word") ;;
-    *) mapfile -t COMPREPLY < <(compgen -W "-r -c --self-run -Y -2 -d -T -e -E -q -z -w -F --help --version" -- "$word") ;;
+    *) mapfile -t COMPREPLY < <(compgen -W "-r -c --self-run -Y -2 -d -T -e -E -q -z --filter-stats -w -F --help --version" -- "$word") ;;
   esac
 }
 complete -F _shark shark

@@ -37,6 +37,7 @@ pub(crate) static GROUPS: [Group; 5] = [
         title: "Behind the lines:",
         options: &[
             "-z REPORT    a report, again and again: conv,tcp or conv,ip, conversations; io,phs, protocols; follow,tcp,raw,N, the bytes of TCP stream N",
+            "--filter-stats    with -Y how the filter was worked out: its program, and how many steps it took",
         ],
     },
     Group {
@@ -51,9 +52,9 @@ pub(crate) static GROUPS: [Group; 5] = [
 const HEAD: &str = "\
 shark reads a capture file and prints a line for each frame that satisfies a display filter.
 
-Usage: shark -r FILE [-Y FILTER] [-2] [-c N] [-d RULE]... [-q] [-T text | -T json | -T fields -e FIELD... [-E KEY=V]...] [-z REPORT]...
+Usage: shark -r FILE [-Y FILTER] [-2] [-c N] [-d RULE]... [-q] [-T text | -T json | -T fields -e FIELD... [-E KEY=V]...] [-z REPORT]... [--filter-stats]
        shark -r FILE [-Y FILTER] [-2] [-c N] [-d RULE]... -w - [-F pcap | -F pcapng]
-       shark --self-run NUMBER,FRAMES [-Y FILTER] [-2] [-c N] [-d RULE]... [-z REPORT]...
+       shark --self-run NUMBER,FRAMES [-Y FILTER] [-2] [-c N] [-d RULE]... [-z REPORT]... [--filter-stats]
 
 ";
 

@@ -12,9 +12,9 @@ use std::test::Fail;
 const HELP: &str = "\
 shark reads a capture file and prints a line for each frame that satisfies a display filter.
 
-Usage: shark -r FILE [-Y FILTER] [-2] [-c N] [-d RULE]... [-q] [-T text | -T json | -T fields -e FIELD... [-E KEY=V]...] [-z REPORT]...
+Usage: shark -r FILE [-Y FILTER] [-2] [-c N] [-d RULE]... [-q] [-T text | -T json | -T fields -e FIELD... [-E KEY=V]...] [-z REPORT]... [--filter-stats]
        shark -r FILE [-Y FILTER] [-2] [-c N] [-d RULE]... -w - [-F pcap | -F pcapng]
-       shark --self-run NUMBER,FRAMES [-Y FILTER] [-2] [-c N] [-d RULE]... [-z REPORT]...
+       shark --self-run NUMBER,FRAMES [-Y FILTER] [-2] [-c N] [-d RULE]... [-z REPORT]... [--filter-stats]
 
 The capture:
   -r FILE      the capture file, pcap or pcapng
@@ -34,6 +34,7 @@ Lines:
 
 Behind the lines:
   -z REPORT    a report, again and again: conv,tcp or conv,ip, conversations; io,phs, protocols; follow,tcp,raw,N, the bytes of TCP stream N
+  --filter-stats    with -Y how the filter was worked out: its program, and how many steps it took
 
 A capture file in place of lines:
   -w -         the frames as a capture file on standard output
