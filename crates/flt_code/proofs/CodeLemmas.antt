@@ -1,8 +1,8 @@
 -- The code of a filter, by that of its parts.
-use Rattle.std.proofs.Common.{◌≡◌, ◌<◌, ◌≤◌, ◌+◌, ℕ, Bool as Truth, true, false, Bor, Some, None, Option, List, [], ◌∷◌, ◌++◌, append_assoc, ap, arith, length, refl, subst, sym, ◌∙◌}
+use Rattle.std.proofs.Common.{◌≡◌, ◌<◌, ◌≤◌, ℕ, Bor, Some, List, [], ◌∷◌, ◌++◌, append_assoc, ap, arith, length, subst, sym, ◌∙◌}
 use Rattle.std.proofs.lemmas.List.{append-nil}
 use Rattle.std.specs.Global.{Box}
-use Rattle.flt_code.specs.Code.{IsCode, IsPatternAt, Joins, Loads, LoadsTerm, Then, turned}
+use Rattle.flt_code.specs.Code.{IsCode}
 use Rattle.flt_code.specs.Owners.{Grows, IsOwned, Owner, OfPart}
 use Rattle.flt_code.specs.Spines.{Stands, left_of, patterns_right}
 use Rattle.flt_code.proofs.Growth.{code_grows}

@@ -1,7 +1,7 @@
 -- Code stays the code of its filter where there are more registers and more patterns.
-use Rattle.std.proofs.Common.{◌≡◌, ℕ, zero, suc, Bool as Truth, true, false, List, [], ◌∷◌, ◌++◌, Option, Some, None, slice_get, append_assoc, ap, sym, refl, ◌∙◌, subst}
-use Rattle.flt_code.specs.Code.{Chooses, CountsField, IsCode, IsPatternAt, Joins, Loads, LoadsCall, LoadsTerm, Makes, Then, is_several}
-use Rattle.flt_code.specs.Owners.{Grows, IsOwned, Owner, OfTerm, OfExtreme, OfPart}
+use Rattle.std.proofs.Common.{◌≡◌, ℕ, zero, suc, Bool as Truth, true, false, List, [], ◌∷◌, ◌++◌, Some, slice_get}
+use Rattle.flt_code.specs.Code.{Chooses, CountsField, IsCode, Joins, Loads, LoadsCall, Makes, Then, is_several}
+use Rattle.flt_code.specs.Owners.{Owner, OfTerm, OfExtreme, OfPart}
 use Rattle.flt_parse.specs.declared.ast.Function.{Function}
 use Rattle.flt_parse.specs.declared.ast.Function.TheVariants.{Len, Count, Upper, Lower, Min, Max}
 use Rattle.flt_types.specs.Terms.{is_field}

@@ -1,8 +1,8 @@
 -- What is compiled is a program: its registers are there, and its jumps lead forward and inside.
-use Rattle.std.proofs.Common.{◌≡◌, ◌<◌, ◌≤◌, ◌^◌, ℕ, zero, suc, ◌+◌, Bool as Truth, true, false, List, [], ◌∷◌, ◌++◌, length, Option, Some, None, slice_get, ap, sym, refl, ◌∙◌, subst, arith, length-append}
+use Rattle.std.proofs.Common.{◌≡◌, ◌<◌, ◌^◌, ℕ, zero, suc, ◌+◌, Bool as Truth, true, false, List, [], ◌∷◌, ◌++◌, length, Some, slice_get, ap, sym, refl, ◌∙◌, subst, arith, length-append}
 use Rattle.std.proofs.lemmas.Option.{slice_get_within}
-use Rattle.flt_code.specs.Code.{Chooses, CountsField, IsCode, Joins, Loads, LoadsCall, Makes, Then, is_several, turned}
-use Rattle.flt_code.specs.Owners.{IsOwned, Owner, OfTerm, OfExtreme, OfPart}
+use Rattle.flt_code.specs.Code.{Chooses, CountsField, IsCode, Loads, LoadsCall, Makes, Then, is_several, turned}
+use Rattle.flt_code.specs.Owners.{Owner, OfTerm, OfExtreme, OfPart}
 use Rattle.flt_parse.specs.declared.ast.Function.{Function}
 use Rattle.flt_parse.specs.declared.ast.Function.TheVariants.{Len, Count, Upper, Lower, Min, Max}
 use Rattle.flt_types.specs.Terms.{is_field}
@@ -12,7 +12,7 @@ use Rattle.flt_types.specs.declared.typed.Typed.{Typed}
 use Rattle.flt_types.specs.declared.typed.Typed.TheVariants.{Either', Differ', Both', Not', Exists, AnyBit, Compare, Among, Matches}
 use Rattle.flt_values.specs.declared.arithmetic.Extreme.{Extreme}
 use Rattle.flt_values.specs.declared.arithmetic.Extreme.TheVariants.{Least, Greatest}
-use Rattle.flt_vm.specs.Programs.{Code, Fits, IsProgram}
+use Rattle.flt_vm.specs.Programs.{Fits, IsProgram}
 use Rattle.flt_vm.specs.declared.instr.Instr.{Instr}
 use Rattle.flt_vm.specs.declared.instr.Instr.TheVariants as instr
 

@@ -1,24 +1,20 @@
 -- The code of a term, by that of its parts.
-use Rattle.std.proofs.Common.{◌≡◌, ◌<◌, ◌≤◌, ◌+◌, ℕ, Bool as Truth, true, false, Some, None, Option, List, [], ◌∷◌, ◌++◌, ap, arith, refl, slice_get, subst, sym, ◌∙◌}
+use Rattle.std.proofs.Common.{◌≡◌, ◌<◌, ◌≤◌, ℕ, Bool as Truth, true, false, Some, List, [], ◌∷◌, ◌++◌, ap, arith, refl, subst, sym, ◌∙◌}
 use Rattle.std.specs.Global.{Box, Vec}
-use Rattle.flt_code.specs.Code.{Chooses, CountsField, IsCode, Joins, Loads, LoadsCall, LoadsExtreme, Makes, Then, is_several}
-use Rattle.flt_code.specs.Owners.{Grows, IsOwned, Owner, OfTerm, OfExtreme, OfPart}
-use Rattle.flt_code.specs.Spines.{Stands, left_of, left_of_term}
-use Rattle.flt_code.proofs.Growth.{code_grows, get_more, loads_grow}
+use Rattle.flt_code.specs.Code.{Chooses, CountsField, Loads, LoadsCall, Makes}
+use Rattle.flt_code.specs.Owners.{Grows, IsOwned, Owner, OfTerm, OfExtreme}
+use Rattle.flt_code.specs.Spines.{Stands, left_of_term}
+use Rattle.flt_code.proofs.Growth.{get_more, loads_grow}
 use Rattle.flt_code.proofs.SpineLemmas.{part_size}
-use Rattle.flt_mean.specs.Chains.{parts}
 use Rattle.flt_mean.specs.Terms.{terms_in}
 use Rattle.flt_parse.specs.declared.ast.Arithmetic.{Arithmetic}
-use Rattle.flt_parse.specs.declared.ast.Function.{Function}
 use Rattle.flt_parse.specs.declared.ast.RangePart.{RangePart}
 use Rattle.flt_parse.specs.declared.ast.Function.TheVariants.{Count}
 use Rattle.flt_types.specs.Terms.{is_field}
 use Rattle.flt_types.specs.declared.typed.Term.{Term}
 use Rattle.flt_types.specs.declared.typed.Term.TheVariants as terms
-use Rattle.flt_types.specs.declared.typed.Typed.{Typed}
-use Rattle.flt_types.specs.declared.typed.Typed.TheVariants.{Either', Differ', Both', Not', Exists, AnyBit, Compare, Among, Matches}
 use Rattle.flt_values.specs.declared.arithmetic.Extreme.{Extreme}
-use Rattle.flt_values.specs.declared.arithmetic.Extreme.TheVariants.{Least, Greatest}
+use Rattle.flt_values.specs.declared.arithmetic.Extreme.TheVariants.{Least}
 use Rattle.flt_vm.specs.declared.instr.Instr.{Instr}
 use Rattle.flt_vm.specs.declared.instr.Instr.TheVariants as instr
 use Rattle.pk_tree.specs.declared.chosen.Layers.{Layers}

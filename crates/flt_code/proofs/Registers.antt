@@ -1,5 +1,5 @@
 -- What the registers hold while a compiled program runs: each is unset, or holds what its owner has in the tree.
-use Rattle.std.proofs.Common.{◌≡◌, ℕ, zero, suc, List, [], ◌∷◌, length, replicate, Option, Some, None, slice_get, slice_set, ap, sym, refl, ◌∙◌}
+use Rattle.std.proofs.Common.{◌≡◌, ℕ, zero, suc, List, [], ◌∷◌, length, replicate, Option, Some, None, slice_get, slice_set, ap, sym, refl}
 use Rattle.flt_code.specs.Owners.{IsOwned, Owner, held}
 use Rattle.flt_vm.specs.Held.{Held}
 use Rattle.flt_vm.specs.Machine.{kept}

@@ -1,5 +1,5 @@
 -- Chains of signs, one more or one less.
-use Rattle.std.proofs.Common.{◌≡◌, ◌≤◌, ◌<◌, ℕ, Bor, List, [], ◌∷◌, ◌++◌, Option, Some, None, ap, sym, refl, ◌∙◌, subst, arith}
+use Rattle.std.proofs.Common.{◌≡◌, ◌≤◌, ◌<◌, ℕ, Bor, List, [], ◌∷◌, ◌++◌, Option, Some, ap, sym, refl, ◌∙◌, subst, arith}
 use Rattle.flt_code.specs.Spines.{Stands}
 
 push : {A : Type 0} (left : A → Option A) (whole : A) (ns : List (Bor A)) (n : Bor A) (next : A) → Stands left whole ns n.now → left n.now ≡ Some next → Stands left whole (ns ++ n ∷ []) next

@@ -1,8 +1,7 @@
 -- What the types of a filter say: each part takes the values that it meets, in every tree.
-use Rattle.std.proofs.Common.{◌≡◌, ◌≤◌, ◌<◌, ℕ, Bool as Truth, true, false, not, ◌&&◌, ◌||◌, List, [], ◌∷◌, Option, Some, None, is_some, if◌then◌else◌, ap, sym, refl, ◌∙◌, subst, arith}
+use Rattle.std.proofs.Common.{◌≡◌, ◌≤◌, ◌<◌, Bool as Truth, true, false, not, ◌&&◌, ◌||◌, List, [], ◌∷◌, Option, Some, None, is_some, if◌then◌else◌, ap, refl, ◌∙◌, subst, arith}
 use Rattle.std.specs.List.{AllByRecursion as Each, list_all}
 use Rattle.flt_code.specs.Code.{is_several}
-use Rattle.flt_code.specs.Owners.{OfTerm, OfExtreme, held}
 use Rattle.flt_code.proofs.Allowed.{Allows, AllowsCall, AllowsTerm, has, loaded, tells}
 use Rattle.flt_code.proofs.ReadKinds.{IsGood, read_good, word_reads}
 use Rattle.flt_code.proofs.ValueKinds.{IsLike, IsMasking, are_all_of, extreme_computes, kinds_of_values, wide}
@@ -18,12 +17,12 @@ use Rattle.flt_parse.specs.declared.ast.Literal.{Literal}
 use Rattle.flt_parse.specs.declared.ast.Function.{Function}
 use Rattle.flt_parse.specs.declared.ast.Function.TheVariants.{Len, Count, Upper, Lower, Min, Max}
 use Rattle.flt_parse.specs.declared.token.Join.TheVariants as joins
-use Rattle.flt_types.specs.Literals.{end_read, literal_of, literal_read, side_read}
+use Rattle.flt_types.specs.Literals.{literal_read}
 use Rattle.flt_types.specs.Standing.{argument, in_slice, within}
-use Rattle.flt_types.specs.Terms.{IsNumber, IsTerm, are_numbers, is_field, kind_of, takes_term}
-use Rattle.flt_types.specs.Typing.{AreMembers, HasType, IsAlone, IsMember, IsRight, IsTest, relation_of}
+use Rattle.flt_types.specs.Terms.{IsTerm, are_numbers, kind_of, takes_term}
+use Rattle.flt_types.specs.Typing.{AreMembers, HasType, IsAlone, IsMember, IsRight, IsTest}
 use Rattle.flt_types.specs.declared.standing.Standing.{Standing}
-use Rattle.flt_types.specs.declared.standing.Standing.TheVariants.{First, Free, Within, Sliced}
+use Rattle.flt_types.specs.declared.standing.Standing.TheVariants.{First, Free}
 use Rattle.flt_types.specs.declared.typed.Member.{Member}
 use Rattle.flt_types.specs.declared.typed.Member.TheVariants as members
 use Rattle.flt_types.specs.declared.typed.Term.{Term}
@@ -39,7 +38,7 @@ use Rattle.flt_values.specs.declared.literal.Constant.{Constant}
 use Rattle.flt_values.specs.declared.literal.Reading.TheVariants as readings
 use Rattle.flt_values.specs.declared.relation.Relation.{Relation}
 use Rattle.flt_values.specs.declared.relation.Relation.TheVariants as relations
-use Rattle.flt_vm.specs.Held.{Held, are_all, can_be, can_be_among, can_call, can_compare, can_compute, can_end, can_mask, can_relate, can_search, can_slice}
+use Rattle.flt_vm.specs.Held.{are_all, can_be, can_compare, can_compute, can_end, can_relate}
 use Rattle.pk_fields.specs.declared.value_kind.ValueKind.{ValueKind}
 use Rattle.pk_fields.specs.declared.value_kind.ValueKind.TheVariants as kinds
 use Rattle.pk_tree.specs.Trees.{IsTree, TreeShown}

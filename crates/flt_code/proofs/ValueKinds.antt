@@ -1,10 +1,9 @@
 -- The values of a term are of its kind, but that each number counts as the widest.
-use Rattle.std.proofs.Common.{◌≡◌, ℕ, ◌<◌, ◌^◌, Bool as Truth, true, false, not, ◌&&◌, List, [], ◌∷◌, ◌++◌, Option, Some, None, option_map, length, option_to_list, option_and_then, filter_map, zip, is_some, ap, sym, refl, ◌∙◌, subst}
+use Rattle.std.proofs.Common.{◌≡◌, ℕ, Bool as Truth, true, false, not, ◌&&◌, List, [], ◌∷◌, Option, Some, None, option_map, length, option_to_list, option_and_then, filter_map, zip, is_some, ap, sym, refl, ◌∙◌}
 use Rattle.std.specs.List.{AllByRecursion as Each, cons_option, flat_map, list_all}
 use Rattle.flt_code.specs.Code.{is_several}
-use Rattle.flt_code.specs.Owners.{OfTerm, OfExtreme, held}
-use Rattle.flt_code.proofs.Allowed.{has, loaded}
-use Rattle.flt_lists.specs.Called.{values_called}
+use Rattle.flt_code.specs.Owners.{OfExtreme, held}
+use Rattle.flt_code.proofs.Allowed.{has}
 use Rattle.flt_lists.specs.Pairs.{values_calculated}
 use Rattle.flt_mean.specs.Values.{prefix_of_term, values_of_term}
 use Rattle.flt_parse.specs.declared.ast.Arithmetic.{Arithmetic}
@@ -13,13 +12,13 @@ use Rattle.flt_types.specs.Terms.{kind_of}
 use Rattle.flt_types.specs.declared.typed.Term.{Term}
 use Rattle.flt_types.specs.declared.typed.Term.TheVariants as terms
 use Rattle.flt_values.specs.Arithmetic.{calculated, extreme_number, extreme_of, result_of}
-use Rattle.flt_values.specs.Calls.{called, len_of, lowered, masked, uppered}
+use Rattle.flt_values.specs.Calls.{called, lowered, masked, uppered}
 use Rattle.flt_values.specs.Kinds.{is_masked, is_number, kind_of_value}
 use Rattle.flt_values.specs.Relations.{octets_of}
 use Rattle.flt_values.specs.Slices.{sliced, bytes_of_value, taken_by}
 use Rattle.flt_values.specs.declared.arithmetic.Extreme.{Extreme}
 use Rattle.flt_values.specs.declared.arithmetic.Extreme.TheVariants.{Least, Greatest}
-use Rattle.flt_vm.specs.Held.{Held, are_all, can_compute, plain}
+use Rattle.flt_vm.specs.Held.{are_all, can_compute, plain}
 use Rattle.pk_fields.specs.Fields.{row_of}
 use Rattle.pk_fields.specs.declared.value_kind.ValueKind.{ValueKind}
 use Rattle.pk_fields.specs.declared.value_kind.ValueKind.TheVariants as kinds

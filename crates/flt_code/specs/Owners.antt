@@ -1,5 +1,5 @@
 -- What the registers of a compiled program are for: each has an owner, whose values it holds once it is set.
-use Rattle.std.specs.Prelude.{◌≡◌, ℕ, List, [], ◌∷◌, ◌++◌, map, Option, Some, None, slice_get, option_to_list}
+use Rattle.std.specs.Prelude.{◌≡◌, ℕ, List, ◌++◌, map, Some, slice_get, option_to_list}
 use Rattle.flt_code.specs.declared.owners.Owner.{Owner as OwnerRef}
 use Rattle.flt_code.specs.declared.owners.Owner.TheVariants as refs
 use Rattle.flt_mean.specs.Meaning.{meaning}

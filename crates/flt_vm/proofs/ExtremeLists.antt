@@ -1,5 +1,5 @@
 -- The least or the greatest number of two lists.
-use Rattle.std.proofs.Common.{◌≡◌, ℕ, List, [], ◌∷◌, ◌++◌, Option, Some, None, min, max, option_map, option_to_list, ap, sym, refl, ◌∙◌, arith}
+use Rattle.std.proofs.Common.{◌≡◌, ℕ, List, [], ◌∷◌, ◌++◌, Option, Some, None, option_map, option_to_list, ap, sym, refl, ◌∙◌, arith}
 use Rattle.flt_values.specs.Arithmetic.{extreme_number, extreme_of, nearer, nearer_of, number_in}
 use Rattle.flt_values.specs.declared.arithmetic.Extreme.{Extreme}
 use Rattle.flt_values.specs.declared.arithmetic.Extreme.TheVariants.{Least, Greatest}

@@ -1,5 +1,5 @@
 -- Parts still to be looked at, one more or one less.
-use Rattle.std.proofs.Common.{◌≡◌, ℕ, ◌+◌, Bor, List, [], ◌∷◌, ◌++◌, append_assoc, ap, sym, refl, ◌∙◌, arith}
+use Rattle.std.proofs.Common.{◌≡◌, ◌+◌, Bor, List, [], ◌∷◌, ◌++◌, append_assoc, ap, sym, refl, ◌∙◌, arith}
 use Rattle.std.proofs.lemmas.List.{append-nil}
 use Rattle.flt_types.specs.declared.typed.Typed.{Typed}
 use Rattle.flt_vm.specs.Programs.{patterns_of}

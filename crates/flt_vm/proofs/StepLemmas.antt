@@ -18,7 +18,7 @@ use Rattle.flt_values.specs.Slices.{sliced}
 use Rattle.flt_values.specs.declared.arithmetic.Extreme.{Extreme}
 use Rattle.flt_values.specs.declared.relation.Relation.{Relation}
 use Rattle.flt_vm.specs.Held.{Held, can_be_among, can_call, can_compare, can_compute, can_mask, can_search, can_slice, constant_held, kept_truth, plain, truth_held}
-use Rattle.flt_vm.specs.Machine.{Job, Move, Goes, Ends, Missing, State, act, differs, kept, only_if, with_held, given, sets, fills, reads, tells}
+use Rattle.flt_vm.specs.Machine.{Job, Move, Goes, State, act, differs, kept, only_if, with_held, given, sets, fills, reads, tells}
 use Rattle.flt_vm.specs.declared.instr.Instr.{Instr}
 use Rattle.flt_vm.specs.declared.instr.Instr.TheVariants as instr
 use Rattle.flt_vm.specs.Slots.{Does, IsHeld, flag_in, held_in, is_unset, state_in}

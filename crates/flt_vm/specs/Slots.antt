@@ -1,5 +1,5 @@
 -- What slots stand for in a tree: what a register holds, and the flag.
-use Rattle.std.specs.Prelude.{◌≡◌, ℕ, Bool as Truth, true, false, if◌then◌else◌, ◌+◌, ◌<◌, List, ◌∷◌, [], map, Option, Some, None, slice_get}
+use Rattle.std.specs.Prelude.{◌≡◌, ℕ, Bool as Truth, true, false, ◌+◌, ◌<◌, List, map, Option, Some, None, slice_get}
 use Rattle.flt_lists.specs.Passes.{is_some_value}
 use Rattle.flt_vm.specs.Held.{Held, constant_held, plain, truth_held}
 use Rattle.flt_vm.specs.Machine.{Move, Goes, Ends, Missing, State}

@@ -1,4 +1,4 @@
-use Rattle.std.proofs.Common.{◌≡◌, ◌+◌, ◌*◌, vec_len}
+use Rattle.std.proofs.Common.{◌+◌, ◌*◌, vec_len}
 use Rattle.flt_code.specs.Code.{Loads}
 use Rattle.flt_code.specs.Owners.{Grows, owners_of}
 use Rattle.flt_code.specs.Spines.{Stands, left_of_term}

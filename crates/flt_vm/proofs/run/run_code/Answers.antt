@@ -1,4 +1,4 @@
-use Rattle.std.proofs.Common.{◌≡◌, ◌<◌, ◌+◌, ◌∙◌, false, length, arith, refl, subst, sym}
+use Rattle.std.proofs.Common.{◌<◌, ◌+◌, ◌∙◌, false, length, arith, refl, subst, sym}
 use Rattle.std.proofs.lemmas.Option.{slice_get_read}
 use Rattle.flt_vm.proofs.RunLemmas.{leads_on, leads_out, run_ends, run_on}
 use Rattle.flt_vm.specs.Machine.{Job}
