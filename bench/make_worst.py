@@ -17,6 +17,8 @@ names     DNS queries whose names have 127 labels
 heads     HTTP requests whose heads never end, in segments of 1,400 bytes
 chunks    HTTP responses in chunks of one byte, in segments of 1,400 bytes
 fields    HTTP requests with 128 field lines, one in each segment
+texts     DNS TXT records of 32,000 strings of one byte each
+answers   DNS answers of 4,000 records, each with a name of one label
 
 The bytes depend on nothing but the kind, so that every machine measures the same file.
 """
@@ -132,6 +134,16 @@ def fields(place):
     return tcp(1, b"GET / HTTP/1.1\r\n" + b"a:b\r\n" * 128 + b"\r\n", 1024 + place % 60000, 0x0A000000 + place // 60000, 80)
 
 
+def texts(place):
+    record = struct.pack(">BHHIH", 0, 16, 1, 0, 64000) + b"".join(bytes([1, 97 + k % 26]) for k in range(32000))
+    return ether(0x0800, ip4(17, udp(53, 5000 + place % 50000, dns((0, 1, 0, 0), record))))
+
+
+def answers(place):
+    records = b"".join(struct.pack(">HBHHIH", 0x0161, 0, 300 + k, 1, 0, 2) + b"hi" for k in range(4000))
+    return ether(0x0800, ip4(17, udp(53, 5000 + place % 50000, dns((0, 4000, 0, 0), records))))
+
+
 def ordinary(place):
     visit, step = divmod(place, 10)
     port, source = 10000 + visit % 50000, 0x0A000001 + visit // 50000
@@ -143,7 +155,7 @@ def ordinary(place):
     return tcp(1 + (step - 2) * 1000, bytes([place % 256]) * 1000, port, source)
 
 
-KINDS = (ordinary, headers, options, chains, pointers, empty, pads, lone, streams, falling, overlaps, payloads, names, heads, chunks, fields)
+KINDS = (ordinary, headers, options, chains, pointers, empty, pads, lone, streams, falling, overlaps, payloads, names, heads, chunks, fields, texts, answers)
 
 
 def main():

@@ -17,7 +17,7 @@ measure() { # NAME CAPTURE WORDS..
   printf '%-10s cpu %7s s  %5s times ordinary traffic  peak %6s MB\n' "$name" "$1" "$(python3 -c "print(f'{$1 / $base:.1f}')")" "$4"
 }
 
-for kind in ordinary headers options chains pointers empty pads lone streams falling overlaps payloads names heads chunks fields; do
+for kind in ordinary headers options chains pointers empty pads lone streams falling overlaps payloads names heads chunks fields texts answers; do
   capture=bench/out/worst.$kind.pcap
   [ -f "$capture" ] || python3 bench/make_worst.py "$capture" "$kind"
   measure "$kind" "$capture" -T json
@@ -31,4 +31,12 @@ members=$(python3 -c "print('tcp.srcport in {' + ', '.join(str(60000 + n) for n 
 chain=$(python3 -c "print(' or '.join('frame.len==%d' % n for n in range(200)))")
 for filter in 'frame.number == 1' "$brackets" "$members" "$chain" 'tcp.payload matches "(.*)(.*)(.*)(.*)x"' 'tcp.payload matches "([a-z]+)*0"'; do
   measure "${filter:0:10}" "$ordinary" -T fields -e frame.number -Y "$filter"
+done
+
+echo "Two operands with many values in a frame, beside a field alone"
+for filter in 'dns.txt' 'dns.txt > dns.txt' 'dns.txt == dns.qry.name' 'dns.txt != dns.txt'; do
+  measure "${filter:0:16}" bench/out/worst.texts.pcap -T fields -e frame.number -Y "$filter"
+done
+for filter in 'dns.resp.type' 'dns.resp.type > dns.resp.class' 'dns.resp.type == dns.resp.class' 'dns.resp.type != dns.resp.class'; do
+  measure "${filter:0:32}" bench/out/worst.answers.pcap -T fields -e frame.number -Y "$filter"
 done
