@@ -21,9 +21,12 @@ use Rattle.pk_tree.specs.declared.value.Value.{Value}
 use Rattle.pk_tree.specs.declared.value.Value.TheVariants as values
 
 -- a field's name, and the layers that are chosen; a range of one layer is its number
+abbrev pub last_shown : Option ℕ → List ℕ
+last_shown None = []
+last_shown (Some last) = codes "-" ++ decimal last
+
 abbrev pub layer_range_shown : LayerRange → List ℕ
-layer_range_shown range = if range.from == range.to then decimal range.from
-    else decimal range.from ++ (codes "-" ++ decimal range.to)
+layer_range_shown range = decimal range.first ++ last_shown range.last
 
 abbrev pub layers_shown : Layers → List ℕ
 layers_shown All = []

@@ -60,12 +60,14 @@ fn put_further_layer_ranges(line: &mut Vec<u8>, ranges: &[LayerRange]) -> Result
 fn put_layer_range(line: &mut Vec<u8>, range: LayerRange) -> Result<(), NoMemory>
     ensures { OnOk result (line.new.items ≡ line.old.items ++ layer_range_shown range) }
 {
-    put_number(line, u64::from(range.from))?;
-    if range.from == range.to {
-        return Ok(());
+    put_number(line, u64::from(range.first))?;
+    match range.last {
+        None => Ok(()),
+        Some(last) => {
+            line.put_text("-")?;
+            put_number(line, u64::from(last))
+        }
     }
-    line.put_text("-")?;
-    put_number(line, u64::from(range.to))
 }
 
 /// Appends the ranges of a slice, in brackets.

@@ -111,6 +111,10 @@ const LISTINGS: &[(&str, &str)] = &[
         "0 READ r0 ip.addr#[1-2,4]\n1 CONST r1 10.0.0.0/8\n2 TEST all != r0 r1\n3 JF 7\n4 READ r2 ip.addr#[3]\n5 CONST r3 10.0.0.1\n6 TEST any == r2 r3\n7 RETURN\n",
     ),
     (
+        "ip.addr#[2-2,5] == 10.0.0.1",
+        "0 READ r0 ip.addr#[2-2,5]\n1 CONST r1 10.0.0.1\n2 TEST any == r0 r1\n3 RETURN\n",
+    ),
+    (
         "dns.qry.name[0,-1,1:2,0-3,-4--2,:2,3:] contains \"a\\\"b\\x01\\\\\"",
         "0 READ r0 dns.qry.name\n1 SLICE r1 r0 [0,-1,1:2,0-3,-4--2,:2,3:]\n2 CONST r2 \"a\\\"b\\x01\\\\\"\n3 TEST any contains r1 r2\n4 RETURN\n",
     ),

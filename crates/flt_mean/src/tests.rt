@@ -50,7 +50,11 @@ fn every(field: FieldId) -> Term {
 }
 
 fn on_layer(alloc: Global, field: FieldId, nth: u32) -> Result<Term, NoMemory> {
-    let ranges = [LayerRange { from: nth, to: nth }].to_vec(alloc)?;
+    let ranges = [LayerRange {
+        first: nth,
+        last: None,
+    }]
+    .to_vec(alloc)?;
     Ok(Term::Field(field, Layers::These(LayerRanges::from_vec(ranges))))
 }
 

@@ -1,5 +1,5 @@
 -- The layers that a name with `#` chooses: numbers from 1, and ranges that don't fall.
-use Rattle.std.specs.Prelude.{ℕ, Bool, ◌&&◌, nat_le, unwrap_or}
+use Rattle.std.specs.Prelude.{ℕ, Bool, ◌&&◌, nat_le, unwrap_or, None}
 use Rattle.flt_parse.specs.declared.ast.Layer.{Layer}
 use Rattle.flt_parse.specs.declared.ast.LayerRange as written
 use Rattle.pk_tree.specs.declared.chosen.LayerRange as chosen
@@ -16,7 +16,7 @@ is_layer layer = nat_le 1 layer.nth
 
 -- the layers that it chooses
 abbrev pub layers_of : written.LayerRange → chosen.LayerRange
-layers_of range = record { from = range.first; to = last_of range }
+layers_of range = record { first = range.first; last = range.last }
 
 abbrev pub one_layer : Layer → chosen.LayerRange
-one_layer layer = record { from = layer.nth; to = layer.nth }
+one_layer layer = record { first = layer.nth; last = None }

@@ -21,8 +21,8 @@ pub(crate) fn single_layer(alloc: Global, layer: Layer) -> Result<Layers, Filter
     require(1 <= layer.nth, layer.at, FilterReason::OutOfRange)?;
     let mut chosen = Vec::new(alloc);
     chosen.push(pk_tree::LayerRange {
-        from: layer.nth,
-        to: layer.nth,
+        first: layer.nth,
+        last: None,
     })?;
     Ok(Layers::These(LayerRanges::from_vec(chosen)))
 }
@@ -77,7 +77,7 @@ fn layers_of(range: LayerRange) -> pk_tree::LayerRange
     ensures { result ≡ layers_written range }
 {
     pk_tree::LayerRange {
-        from: range.first,
-        to: last_of(range),
+        first: range.first,
+        last: range.last,
     }
 }

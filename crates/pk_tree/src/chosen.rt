@@ -2,11 +2,11 @@ ghost use Rattle.std.specs.Prelude.{◌≡◌};
 
 use std::marker::Model;
 
-/// The layers of a protocol from one number to another, both among them.
+/// The layers of a protocol from one number to another, both among them; a first one alone is also the last.
 #[derive(Clone, Copy, Debug, PartialEq, Eq)]
 pub struct LayerRange {
-    pub from: u32,
-    pub to: u32,
+    pub first: u32,
+    pub last: Option<u32>,
 }
 
 /// A list of ranges of layers.
@@ -70,5 +70,5 @@ fn any_holds(ranges: &[LayerRange], nth: u32) -> bool
 fn in_range(range: &LayerRange, nth: u32) -> bool
     ensures { result ≡ holds range.now nth }
 {
-    range.from <= nth && nth <= range.to
+    range.first <= nth && nth <= range.last.unwrap_or(range.first)
 }

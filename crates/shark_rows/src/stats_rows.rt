@@ -118,7 +118,7 @@ static JOINED: [(&str, &str); 6] = [
 ];
 
 /// Filters of several frames or layers.
-static COUNTED: [Run; 7] = [
+static COUNTED: [Run; 8] = [
     Run {
         shows: "all addresses differ, in three frames",
         words: "-r f -T fields -e frame.number --filter-stats",
@@ -162,6 +162,15 @@ static COUNTED: [Run; 7] = [
         file: &TUNNEL,
         status: Status::Done,
         out: "10.0.0.1,192.168.0.1\nfilter 4 instructions 4 steps\n0 READ r0 ip.src#[2]\n1 CONST r1 192.168.0.1\n2 TEST any == r0 r1\n3 RETURN\n",
+        err: "",
+    },
+    Run {
+        shows: "the address of the inner packet, by a range of one layer",
+        words: "-r f -T fields -e ip.src --filter-stats",
+        filter: "ip.src#[2-2] == 192.168.0.1",
+        file: &TUNNEL,
+        status: Status::Done,
+        out: "10.0.0.1,192.168.0.1\nfilter 4 instructions 4 steps\n0 READ r0 ip.src#[2-2]\n1 CONST r1 192.168.0.1\n2 TEST any == r0 r1\n3 RETURN\n",
         err: "",
     },
     Run {
