@@ -8,7 +8,7 @@ use std::test::Fail;
 /// An ARP request at time 0; behind it, at 1.5 s, a TCP segment from port 56789 of 10.0.0.1 to port 80 of 10.0.0.2 that
 /// carries `GET /Host`; a microsecond later a UDP datagram from port 40000 of 2001:db8::1 to port 9 of 2001:db8::2 that
 /// carries 01 02 03 ff.
-static FILE: [&str; 10] = [
+pub(crate) static FILE: [&str; 10] = [
     HEADER,
     REQUEST_HEAD,
     REQUEST,
@@ -167,6 +167,13 @@ fn patterns_are_nested_at_most_250_deep(rt: HostRuntime) -> Result<(), Fail> {
         )?
     );
     Ok(())
+}
+
+/// The tables of filters that let frames through.
+pub(crate) fn tables() -> [&'static [(&'static str, &'static str)]; 10] {
+    [
+        &ALONE, &JOINS, &EQUAL, &ADDRESSES, &VALUES, &ORDERS, &SETS, &SEARCHES, &SLICES, &FUNCTIONS,
+    ]
 }
 
 static ALONE: [(&str, &str); 12] = [

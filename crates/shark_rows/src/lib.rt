@@ -5,6 +5,8 @@
 #[cfg(test)]
 mod body_talks;
 #[cfg(test)]
+mod both_ways;
+#[cfg(test)]
 mod column_rows;
 #[cfg(test)]
 mod cut_talks;

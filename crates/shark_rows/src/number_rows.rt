@@ -4,6 +4,11 @@ use crate::filter_rows::{chain_of, gives, is_refused, lets_through};
 use std::alloc::{AllocError, Global};
 use std::test::Fail;
 
+/// The tables of filters with numbers that let frames through.
+pub(crate) fn tables() -> [&'static [(&'static str, &'static str)]; 3] {
+    [&RESULTS, &PAIRS, &EXTREMES]
+}
+
 static RESULTS: [(&str, &str); 26] = [
     ("arp.hw.size + arp.proto.size == 10", "1\n"),
     ("arp.hw.size+arp.proto.size==10", "1\n"),

@@ -46,7 +46,7 @@ fn compiled(alloc: Global, text: &str) -> Result<Compiled, NoMemory> {
 
 /// The rules that stand for no option.
 #[tactic(auto, using(crate::proofs::NoRules::no_rules))]
-fn no_rules(alloc: Global) -> PortRules
+pub(crate) fn no_rules(alloc: Global) -> PortRules
     ensures { AreRules result }
 {
     PortRules::from_vec(Vec::new(alloc))
