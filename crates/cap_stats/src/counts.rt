@@ -1,6 +1,5 @@
 // Frames and bytes, and how one more frame changes them.
 ghost use Rattle.std.specs.Prelude.{◌≡◌, ◌+◌, IfOk};
-ghost use Rattle.std.specs.Option.{option_copied};
 ghost use Rattle.cap_stats.specs.Steps.{tally_with, tally_after, talk_with, first_talk, talk_after};
 
 use crate::party::{Flight, Party, is_same};

@@ -1,5 +1,5 @@
 // The parts of which the tables' lines are made.
-ghost use Rattle.std.specs.Prelude.{◌≡◌, ◌∷◌, [], ◌++◌, codes, decimal, IfOk, OnOk};
+ghost use Rattle.std.specs.Prelude.{◌≡◌, ◌∷◌, [], ◌++◌, decimal, IfOk, OnOk};
 ghost use Rattle.cap_stats.specs.Tables.{address_text, port_text, party_text, tally_text, ends_text, tallies_text, talk_text};
 
 use crate::counts::{Talk, Tally};

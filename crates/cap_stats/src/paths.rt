@@ -8,7 +8,7 @@ ghost use Rattle.pk_fields.specs.Fields.{row_of};
 ghost use Rattle.pk_tree.specs.declared.layer.Layer.{Layer};
 ghost use Rattle.cap_stats.specs.Stands.{HasPaths};
 ghost use Rattle.cap_stats.specs.Tables.{paths_table, path_line};
-ghost use Rattle.cap_stats.specs.Told.{path_of, paths_in, paths_to};
+ghost use Rattle.cap_stats.specs.Told.{paths_in, paths_to};
 
 use crate::counts::{Tally, tally_after};
 use crate::lines::begin_table;

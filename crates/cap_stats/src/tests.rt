@@ -1,4 +1,4 @@
-ghost use Rattle.std.specs.Prelude.{◌≡◌, ◌+◌, ◌^◌, ◌<◌, ◌≤◌, length, IfOk, OnOk};
+ghost use Rattle.std.specs.Prelude.{◌≡◌, ◌+◌, ◌^◌, ◌<◌, length, IfOk};
 ghost use Rattle.pk_buffer.specs.Buffers.{IsInside};
 ghost use Rattle.pk_tree.specs.Layouts.{StepsFit};
 ghost use Rattle.pk_tree.specs.Values.{IsProtocol};

@@ -1,4 +1,4 @@
-ghost use Rattle.std.specs.Prelude.{◌≡◌, ◌<◌, ◌≤◌, ◌*◌, ◌^◌, ◌++◌, length, OnOk};
+ghost use Rattle.std.specs.Prelude.{◌≡◌, ◌<◌, ◌*◌, ◌^◌, ◌++◌, length, OnOk};
 ghost use Rattle.capture_write.specs.Frames.{nanoseconds_of};
 ghost use Rattle.capture_write.specs.Pcap.{pcap_header, pcap_record};
 

@@ -2,7 +2,7 @@ ghost use Rattle.std.specs.Prelude.{◌≡◌, ◌<◌, ◌≤◌, ◌^◌, ◌+
 ghost use Rattle.pk_base.specs.Limits.{captured_limit};
 ghost use Rattle.capture_write.specs.Frames.{nanoseconds_of};
 ghost use Rattle.capture_write.specs.Kept.{start_of, start_by, packet_of, fits_by};
-ghost use Rattle.capture_write.specs.Pcapng.{new_interface, packet_by, pcapng_piece, place_of, fits_pcapng};
+ghost use Rattle.capture_write.specs.Pcapng.{new_interface, packet_by, pcapng_piece, fits_pcapng};
 
 use crate::format::Format;
 use crate::links::Links;

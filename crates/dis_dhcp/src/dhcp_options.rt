@@ -1,5 +1,5 @@
-ghost use Rattle.std.specs.Prelude.{◌≡◌, ℕ, ◌+◌, ◌*◌, ◌/◌, ◌<◌, ◌≤◌, ◌^◌, ◌++◌, length, slice_index_or, if◌then◌else◌, IfOk, OnOk};
-ghost use Rattle.pk_tree.specs.Entries.{Adds, goes_on, repeated};
+ghost use Rattle.std.specs.Prelude.{◌≡◌, ◌+◌, ◌*◌, ◌/◌, ◌<◌, ◌≤◌, ◌^◌, ◌++◌, length, slice_index_or, if◌then◌else◌, IfOk, OnOk};
+ghost use Rattle.pk_tree.specs.Entries.{Adds, repeated};
 ghost use Rattle.pk_tree.specs.Layouts.{reach};
 ghost use Rattle.pk_tree.specs.declared.layout.Reach.TheVariants.{All, Short};
 ghost use Rattle.dis_dhcp.specs.DhcpOptions.{address, dhcp_options, option_at, option_data, option_with_length};

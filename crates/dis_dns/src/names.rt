@@ -1,6 +1,6 @@
 ghost use Rattle.dis_dns.specs.Chains.{AreChainEnds, moved_to};
-ghost use Rattle.std.specs.Prelude.{◌≡◌, ℕ, ◌+◌, ◌-◌, ◌*◌, ◌<◌, ◌≤◌, ◌^◌, true, [], length, slice_index, slice_range, IfOk, OnOk};
-ghost use Rattle.dis_dns.specs.Names.{EndsIn, IsWalkIn, TurnFits, after_or, dotted, label_turn, left_by, name_at, pointer_turn, target_at, turn_of, turns_left};
+ghost use Rattle.std.specs.Prelude.{◌≡◌, ℕ, ◌+◌, ◌-◌, ◌*◌, ◌<◌, ◌≤◌, ◌^◌, true, [], length, slice_index, IfOk, OnOk};
+ghost use Rattle.dis_dns.specs.Names.{EndsIn, IsWalkIn, TurnFits, after_or, dotted, label_turn, left_by, name_at, pointer_turn, target_at, turn_of};
 
 use pk_base::{LABEL_LIMIT, NAME_LIMIT};
 use std::alloc::AllocError;

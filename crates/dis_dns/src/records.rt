@@ -1,4 +1,4 @@
-ghost use Rattle.std.specs.Prelude.{◌≡◌, ℕ, true, false, [], Some, ◌+◌, ◌-◌, ◌*◌, ◌<◌, ◌≤◌, ◌^◌, ◌++◌, length, min, IfOk, IfSome, OnOk};
+ghost use Rattle.std.specs.Prelude.{◌≡◌, true, false, [], Some, ◌+◌, ◌-◌, ◌*◌, ◌<◌, ◌≤◌, ◌^◌, length, min, IfOk, IfSome, OnOk};
 ghost use Rattle.pk_tree.specs.Entries.{repeated};
 ghost use Rattle.dis_dns.specs.Chains.{AreChainEnds};
 ghost use Rattle.dis_dns.specs.Collected.{Takes, with_steps};

@@ -1,8 +1,7 @@
-ghost use Rattle.std.specs.Prelude.{◌≡◌, ◌==◌, ◌&&◌, ◌+◌, ◌≤◌, ℕ, true, false, List, [], if◌then◌else◌, nat_le, IfOk, OnOk, IsTrue};
+ghost use Rattle.std.specs.Prelude.{◌≡◌, ◌==◌, ◌&&◌, ℕ, true, false, List, [], if◌then◌else◌, IfOk, OnOk, IsTrue};
 ghost use Rattle.pk_fields.specs.Fields.{row_of};
 ghost use Rattle.pk_fields.specs.FieldSets.{is_in};
 ghost use Rattle.pk_tree.specs.Layouts.{fitted, reach_after, step_reach};
-ghost use Rattle.pk_tree.specs.Values.{size_of};
 ghost use Rattle.pk_tree.specs.declared.value.Value.TheVariants as values;
 ghost use Rattle.pk_tree.specs.declared.layout.Step.TheVariants as steps_of_layers;
 ghost use Rattle.dis_dns.specs.Collected.{IsTaken, is_plain, no_steps, shows, with_step};

@@ -1,17 +1,12 @@
-ghost use Rattle.std.specs.Prelude.{◌≡◌, ◌==◌, ◌&&◌, ℕ, ◌+◌, ◌-◌, ◌<◌, ◌≤◌, ◌^◌, ◌++◌, length, take, drop, reverse, slice_index_or, Some, None, IfOk, IfSome, OnOk, IsTrue, is_none};
+ghost use Rattle.std.specs.Prelude.{◌≡◌, ◌==◌, ◌&&◌, ◌+◌, ◌-◌, ◌<◌, ◌≤◌, ◌^◌, ◌++◌, length, take, drop, reverse, Some, None, IfOk, IfSome, OnOk};
 ghost use Rattle.std.specs.List.{prefix_len};
 ghost use Rattle.std.specs.Str.{str_eq_ignore_ascii_case};
 ghost use Rattle.httparse.specs.Ascii.{colon, space};
 ghost use Rattle.httparse.specs.Grammar.{is_ows};
-ghost use Rattle.httparse.specs.Pieces.{is_newline};
 ghost use Rattle.http_frame.specs.Lines.{is_text};
-ghost use Rattle.pk_fields.specs.Fields.{row_of};
-ghost use Rattle.pk_fields.specs.Ids.{HTTP};
-ghost use Rattle.pk_tree.specs.Entries.{Adds, ends, goes_on, repeated};
-ghost use Rattle.pk_tree.specs.Layouts.{belongs};
-ghost use Rattle.pk_tree.specs.Values.{is_read};
+ghost use Rattle.pk_tree.specs.Entries.{Adds, repeated};
 ghost use Rattle.http_frame.specs.Limits.{field_limit as field_limit_is};
-ghost use Rattle.dis_http.specs.Heads.{behind_end, byte_at, code_at, field_by, field_line, field_rows, further_field, is_other, lead_of, name_at, phrase_len, raw_at, request_at, request_line, run_at, start_line, start_place, status_line, target_place, value_field, value_len, value_steps, version_at, version_place};
+ghost use Rattle.dis_http.specs.Heads.{behind_end, byte_at, code_at, field_line, field_rows, further_field, is_other, lead_of, name_at, phrase_len, raw_at, request_line, run_at, start_line, start_place, status_line, target_place, value_field, value_len, version_at, version_place};
 
 use pk_base::{HTTP_FIELD_LIMIT, NoMemory, Octets};
 use pk_fields::{FieldId, ids};

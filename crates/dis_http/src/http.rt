@@ -1,10 +1,9 @@
-ghost use Rattle.std.specs.Prelude.{◌≡◌, ◌+◌, ◌<◌, ◌≤◌, ◌^◌, ◌++◌, length, true, false, Bool, Some, IfOk, OnOk};
+ghost use Rattle.std.specs.Prelude.{◌≡◌, ◌+◌, ◌<◌, ◌≤◌, ◌^◌, ◌++◌, length, false, IfOk, OnOk};
 ghost use Rattle.pk_buffer.specs.Buffers.{IsInside, bytes_of};
 ghost use Rattle.pk_fields.specs.Ids.{HTTP};
 ghost use Rattle.pk_tree.specs.Layouts.{StepsFit};
-ghost use Rattle.http_frame.specs.Messages.{first_message};
 ghost use Rattle.http_frame.specs.Sizes.{size_of_pieces};
-ghost use Rattle.dis_http.specs.Http.{IsShape, body_read, body_steps, chunked_read, http_layout, http_read, joined, plain_read};
+ghost use Rattle.dis_http.specs.Http.{IsShape, body_steps, chunked_read, http_layout, http_read, joined, plain_read};
 
 use crate::heads::{front, push_fields, push_start, tail};
 use http_frame::{Body, Piece, PieceList, Shape};

@@ -1,4 +1,4 @@
-ghost use Rattle.std.specs.Prelude.{◌≡◌, ℕ, ◌+◌, ◌*◌, ◌<◌, ◌≤◌, ◌^◌, ◌++◌, length, slice_index_or, IfOk, OnOk};
+ghost use Rattle.std.specs.Prelude.{◌≡◌, ◌+◌, ◌*◌, ◌<◌, ◌^◌, ◌++◌, length, slice_index_or, IfOk, OnOk};
 ghost use Rattle.pk_tree.specs.Entries.{Adds};
 ghost use Rattle.dis_neigh.specs.NeighOptions.{neigh_options, option_at, option_data, option_with_length, prefix_rows};
 

@@ -1,5 +1,5 @@
-ghost use Rattle.std.specs.Prelude.{◌≡◌, ℕ, ◌+◌, ◌-◌, ◌*◌, ◌<◌, ◌≤◌, ◌^◌, ◌++◌, length, slice_index_or, IfOk, OnOk};
-ghost use Rattle.pk_tree.specs.Entries.{Adds, goes_on, repeated};
+ghost use Rattle.std.specs.Prelude.{◌≡◌, ◌+◌, ◌-◌, ◌*◌, ◌<◌, ◌^◌, ◌++◌, length, slice_index_or, IfOk, OnOk};
+ghost use Rattle.pk_tree.specs.Entries.{Adds, repeated};
 ghost use Rattle.dis_ports.specs.TcpOptions.{option_at, option_data, option_with_length, sack_block, tcp_options};
 
 use pk_base::NoMemory;

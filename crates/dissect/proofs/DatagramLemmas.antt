@@ -1,5 +1,5 @@
 -- A datagram more: what is shown of it, and what is kept.
-use Rattle.std.proofs.Common.{◌≡◌, ℕ, true, List, ◌∷◌, Option, refl, sym, ◌∙◌, ap, subst}
+use Rattle.std.proofs.Common.{◌≡◌, ℕ, true, List, Option, refl, sym, ◌∙◌, ap, subst}
 use Rattle.pk_base.specs.declared.span.Span.{Span}
 use Rattle.pk_buffer.specs.Buffers.{bytes_of}
 use Rattle.pk_tree.specs.declared.heads.PacketHead.{PacketHead}

@@ -1,5 +1,5 @@
 -- Where no field of HTTP is wanted, no item of a message is kept.
-use Rattle.std.proofs.Common.{◌≡◌, ◌==◌, ℕ, Bool, true, false, ◌&&◌, if◌then◌else◌, List, [], ◌∷◌, ◌++◌, ◌+◌, length, refl, Option, None, Some}
+use Rattle.std.proofs.Common.{◌≡◌, ◌==◌, ℕ, Bool, true, false, if◌then◌else◌, List, [], ◌+◌, length, refl, Option, None, Some}
 use Rattle.std.specs.Prelude.{codes}
 use Rattle.std.specs.List.{AllByRecursion as Each}
 use Rattle.std.specs.Str.{str_eq_ignore_ascii_case}
@@ -8,8 +8,6 @@ use Rattle.pk_fields.specs.Fields.{row_of}
 use Rattle.pk_fields.specs.FieldSets.{is_in}
 use Rattle.pk_fields.specs.Ids.{HTTP, HTTP_REQUEST, HTTP_REQUEST_METHOD, HTTP_REQUEST_URI, HTTP_REQUEST_VERSION, HTTP_RESPONSE, HTTP_RESPONSE_VERSION, HTTP_RESPONSE_CODE, HTTP_RESPONSE_PHRASE, HTTP_HEADER_NAME, HTTP_HEADER_VALUE, HTTP_FILE_DATA, HTTP_HOST, HTTP_USER_AGENT, HTTP_CONTENT_TYPE, HTTP_CONTENT_LENGTH_HEADER, HTTP_TRANSFER_ENCODING, HTTP_CONTENT_ENCODING, HTTP_SERVER, HTTP_LOCATION, HTTP_CONNECTION, HTTP_COOKIE, HTTP_SET_COOKIE, HTTP_REFERER, HTTP_ACCEPT, HTTP_DATE}
 use Rattle.pk_fields.specs.Table.{rows}
-use Rattle.pk_tree.specs.declared.layout.Step.{Step}
-use Rattle.pk_tree.specs.declared.layout.Step.TheVariants.{Part, Made}
 use Rattle.pk_tree.specs.Entries.{Entry, ends, repeated, then_on}
 use Rattle.pk_tree.proofs.EntryLemmas.{each_append, each_then, each_repeated}
 use Rattle.pk_tree.proofs.KeptLemmas.{Unasked}

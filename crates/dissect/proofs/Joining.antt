@@ -8,7 +8,7 @@ use Rattle.tcp_messages.specs.Standing.{ReadsFor}
 use Rattle.port_rules.specs.declared.rules.PortRule.{PortRule}
 use Rattle.dissect.specs.declared.state.State.{State}
 use Rattle.dissect.specs.Conversations.{udp_opened}
-use Rattle.dissect.specs.Events.{Event, NewFrame, Piece, Tcp}
+use Rattle.dissect.specs.Events.{Event, Piece, Tcp}
 use Rattle.dissect.specs.Fragments.{fragment_from, fragments_of}
 use Rattle.dissect.specs.LinkTables.{LinksStandFor}
 use Rattle.dissect.specs.Links.{newest_links}

@@ -1,15 +1,11 @@
 -- One message more among those that links are told by.
-use Rattle.std.proofs.Common.{◌≡◌, ◌≢◌, ◌==◌, ℕ, zero, suc, ◌+◌, ◌<◌, ◌≤◌, Bool, true, false, ◌&&◌, cond, if◌then◌else◌, List, [], ◌∷◌, ◌++◌, length, drop, take, Option, Some, None, refl, sym, ◌∙◌, ap, subst, arith, append_assoc, get_or}
+use Rattle.std.proofs.Common.{◌≡◌, ◌≢◌, ◌==◌, ℕ, zero, suc, ◌+◌, ◌<◌, ◌≤◌, Bool, true, false, ◌&&◌, cond, if◌then◌else◌, List, [], ◌∷◌, ◌++◌, length, drop, take, Option, Some, refl, sym, ◌∙◌, ap, arith, append_assoc, get_or}
 use Rattle.std.proofs.lemmas.Bool.{eqb-true, eqb-false}
 use Rattle.std.proofs.lemmas.List.{length-append}
 use Rattle.std.specs.Prelude.{slice_get, unwrap_or}
-use Rattle.dissect.specs.declared.link_tables.Counts.{Counts}
-use Rattle.dissect.specs.declared.link_tables.Queries.{Queries}
-use Rattle.dissect.specs.declared.link_tables.Requests.{Requests}
-use Rattle.dissect.specs.declared.links.Links.{Links}
 use Rattle.dissect.specs.declared.notes.Direction.{Direction}
 use Rattle.dissect.specs.declared.notes.Note.{Note}
-use Rattle.dissect.specs.declared.notes.Note.TheVariants.{Query, Response, Request, Answer, Other}
+use Rattle.dissect.specs.declared.notes.Note.TheVariants.{Request}
 use Rattle.dissect.specs.declared.notes.RequestKey.{RequestKey}
 use Rattle.dissect.specs.Notes.{Noted, noted_on}
 use Rattle.dissect.specs.Links.{is_answer, link_of, links_from, requests_in, same_direction}

@@ -1,6 +1,5 @@
 -- Adding links layer by layer, and what it leaves as it is.
 use Rattle.std.proofs.Common.{◌≡◌, ◌==◌, ℕ, zero, suc, ◌+◌, ◌-◌, ◌<◌, ◌≤◌, Bool, true, false, cond, if◌then◌else◌, List, [], ◌∷◌, ◌++◌, length, map, get_or, Option, Some, None, refl, sym, ◌∙◌, ap, subst, arith}
-use Rattle.std.specs.Prelude.{slice_get}
 use Rattle.std.proofs.lemmas.Bool.{eqb-true}
 use Rattle.pk_fields.specs.FieldSets.{is_in, every_field}
 use Rattle.pk_fields.specs.Ids.{DNS, DNS_RESPONSE_TO, HTTP, HTTP_REQUEST_IN}
@@ -8,7 +7,7 @@ use Rattle.pk_fields.proofs.FieldSetLemmas.{in_every}
 use Rattle.pk_tree.specs.declared.item.Item.{Item}
 use Rattle.pk_tree.specs.declared.layer.Layer.{Layer}
 use Rattle.pk_tree.specs.declared.value.Value.TheVariants.{Uint}
-use Rattle.pk_tree.specs.Trees.{TreeShown, IsKept, kept, kept_layer, kept_tree, layer_gets, made_of, proto_at}
+use Rattle.pk_tree.specs.Trees.{TreeShown, IsKept, kept, kept_layer, layer_gets, made_of, proto_at}
 use Rattle.pk_tree.proofs.KeptLemmas.{kept-push}
 use Rattle.dissect.specs.declared.linking.Link.{Link}
 use Rattle.dissect.specs.Linked.{layer_link, layer_linked, link_at, linked, linked_at, wanted_link, with_link}

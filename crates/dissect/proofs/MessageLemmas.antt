@@ -1,8 +1,7 @@
 -- Messages in a tree, one behind the other.
-use Rattle.std.proofs.Common.{◌≡◌, ℕ, zero, suc, ◌+◌, ◌-◌, ◌*◌, ◌^◌, ◌<◌, ◌≤◌, Bool, true, List, [], ◌∷◌, ◌++◌, length, take, drop, Option, None, Some, refl, sym, ap, ◌∙◌, subst, arith, get_or, length-append, length-drop}
-use Rattle.std.specs.Prelude.{All}
+use Rattle.std.proofs.Common.{◌≡◌, ℕ, zero, suc, ◌+◌, ◌-◌, ◌*◌, ◌^◌, ◌<◌, ◌≤◌, Bool, true, List, [], ◌∷◌, ◌++◌, length, take, drop, Some, refl, sym, ap, ◌∙◌, subst, arith, get_or, length-append, length-drop}
 use Rattle.std.specs.List.{slice_range}
-use Rattle.std.proofs.lemmas.List.{get_or_push, drop_more, length-take-le}
+use Rattle.std.proofs.lemmas.List.{get_or_push, drop_more}
 use Rattle.pk_base.specs.declared.span.Span.{Span}
 use Rattle.pk_buffer.specs.Buffers.{IsInside, bytes_of, buffer_of}
 use Rattle.pk_buffer.proofs.Spans.{length-bytes_of, inside_part, bytes_of-part}
@@ -10,8 +9,6 @@ use Rattle.pk_fields.specs.Ids.{TCP_SEGMENT, DNS}
 use Rattle.pk_tree.specs.declared.heads.Mode.TheVariants.{Plain as PlainMode}
 use Rattle.pk_tree.specs.Layouts.{within}
 use Rattle.pk_tree.specs.Trees.{TreeShown, with_buffer}
-use Rattle.http_frame.specs.Messages.{first_message}
-use Rattle.http_frame.specs.declared.shape.Shape.{Shape}
 use Rattle.http_frame.proofs.MessageLemmas.{laws_of_messages}
 use Rattle.dis_dns.specs.Dns.{dns_layout}
 use Rattle.stream_messages.specs.declared.told.Told.{Told}
@@ -24,7 +21,7 @@ use Rattle.tcp_messages.specs.declared.met.Source.TheVariants as sources
 use Rattle.tcp_messages.specs.Shown.{IsMessage, IsWholeIn, bytes_from}
 use Rattle.dissect.specs.MessageLayers.{added_span, message_over, messages_over, sourced_over, told_over, with_segments}
 use Rattle.dissect.specs.Payloads.{with_number}
-use Rattle.dissect.proofs.MessageBuffers.{GrowsBy, grows_none, grows_one, grows_on, bytes_stay, inside_stays, http_grows, layer_same}
+use Rattle.dissect.proofs.MessageBuffers.{GrowsBy, grows_none, grows_one, grows_on, http_grows, layer_same}
 
 -- ---- the bytes of a message
 

@@ -22,16 +22,16 @@ use Rattle.pk_tree.specs.declared.value.Value.{Value}
 use Rattle.pk_tree.specs.declared.value.Value.TheVariants.{Proto, Uint}
 use Rattle.pk_tree.specs.Chosen.{is_chosen}
 use Rattle.pk_tree.specs.FieldValues.{chosen_values, item_values, layer_values, proto_values, values_of}
-use Rattle.pk_tree.specs.Layouts.{end_of, fault_of, is_all, items_read, layer_read, reach, reaches_end, with_fault, within, StepsFit}
+use Rattle.pk_tree.specs.Layouts.{end_of, fault_of, is_all, items_read, layer_read, reach, reaches_end, with_fault, within}
 use Rattle.pk_tree.specs.Trees.{IsTree, LayersFit, TreeShown, kept, layers_of, made_of, read_of, with_buffer, with_item, with_layer}
 use Rattle.pk_tree.specs.Values.{is_proto}
-use Rattle.pk_tree.proofs.KeptLemmas.{Unasked, none_asked, passed}
+use Rattle.pk_tree.proofs.KeptLemmas.{none_asked, passed}
 use Rattle.http_frame.specs.declared.shape.Body.{Body}
 use Rattle.http_frame.specs.declared.shape.Body.TheVariants.{None as Bodiless, Plain, Chunked, NotShown}
 use Rattle.http_frame.specs.declared.shape.Shape.{Shape}
 use Rattle.dis_dns.specs.Dns.{dns_layout}
 use Rattle.dis_dns.proofs.DnsFits.{layout_fits}
-use Rattle.dis_http.specs.Http.{http_layout, http_read, body_read, chunked_read, plain_read, with_content, joined}
+use Rattle.dis_http.specs.Http.{http_layout, http_read, body_read, plain_read, with_content, joined}
 use Rattle.stream_messages.specs.declared.told.App.{App as StreamApp}
 use Rattle.stream_messages.specs.declared.told.Told.{Told}
 use Rattle.stream_messages.specs.declared.told.Told.TheVariants as tellings

@@ -1,6 +1,6 @@
 -- A segment that is passed over: what is told of it where nothing of its stream is asked.
 use Rattle.std.specs.Prelude.{◌&&◌, nat_lt}
-use Rattle.std.proofs.Common.{◌≡◌, ◌==◌, ◌||◌, [], length, subst, ℕ, Bool, true, false, List, ◌∷◌, Option, Some, None, if◌then◌else◌, refl, sym, ◌∙◌, ap, true≢false}
+use Rattle.std.proofs.Common.{◌≡◌, ◌==◌, [], length, subst, ℕ, Bool, true, false, List, ◌∷◌, Option, Some, None, if◌then◌else◌, refl, sym, ◌∙◌, ap, true≢false}
 use Rattle.pk_base.specs.declared.span.Span.{Span}
 use Rattle.pk_buffer.specs.Buffers.{bytes_of}
 use Rattle.pk_fields.specs.Fields.{row_of}
@@ -23,7 +23,7 @@ use Rattle.http_frame.specs.declared.shape.Body.{Body}
 use Rattle.http_frame.specs.declared.shape.Body.TheVariants as bodies
 use Rattle.http_frame.specs.declared.shape.Shape.{Shape}
 use Rattle.dis_dns.specs.Dns.{dns_layout}
-use Rattle.dis_http.specs.Http.{http_layout, http_read, body_read, chunked_read, plain_read, with_content, joined}
+use Rattle.dis_http.specs.Http.{http_layout, http_read, body_read, plain_read, with_content, joined}
 use Rattle.stream_messages.specs.declared.told.App.{App as StreamApp}
 use Rattle.stream_messages.specs.declared.told.Told.{Told}
 use Rattle.stream_messages.specs.declared.told.Told.TheVariants as tellings
@@ -41,7 +41,7 @@ use Rattle.dissect.specs.Events.{Event}
 use Rattle.dissect.specs.Followed.{asks_messages, asks_streams, LacksOnly}
 use Rattle.dissect.specs.FrameLayer.{is_cut}
 use Rattle.dissect.specs.MessageLayers.{added_span, carried_over, message_over, messages_over, sourced_over, stream_app, told_over, with_segments}
-use Rattle.dissect.specs.Payloads.{with_number, with_ack, with_payload, with_lost, carried_told, place_told, segment_told}
+use Rattle.dissect.specs.Payloads.{with_number, with_ack, with_lost, carried_told, place_told, segment_told}
 use Rattle.dissect.specs.Segments.{segment_from, segments_of}
 use Rattle.dissect.specs.Stands.{StandsAt, IsWalked}
 use Rattle.dissect.specs.Walks.{segment_met}

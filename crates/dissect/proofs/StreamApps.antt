@@ -1,5 +1,5 @@
 -- Both directions of a conversation have the same application.
-use Rattle.std.proofs.Common.{◌≡◌, ℕ, ◌<◌, Bool, true, false, ◌&&◌, List, refl, sym, ap, ◌∙◌, Option, inl, inr, arith}
+use Rattle.std.proofs.Common.{◌≡◌, ℕ, Bool, true, false, ◌&&◌, List, refl, sym, ap, ◌∙◌, Option, inl, inr, arith}
 use Rattle.std.specs.Prelude.{◌==◌}
 use Rattle.std.proofs.lemmas.Bool.{cases_order, le-leb, lt-leb, eqb-true, cond-true, cond-false, cond_both}
 use Rattle.pk_tree.specs.declared.heads.Address.{Address}

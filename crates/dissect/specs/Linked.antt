@@ -1,5 +1,5 @@
 -- The links of a frame's messages, as items of their layers.
-use Rattle.std.specs.Prelude.{◌==◌, ℕ, zero, suc, ◌-◌, Bool, if◌then◌else◌, List, [], ◌∷◌, ◌++◌, map, Option, Some, None, get_or}
+use Rattle.std.specs.Prelude.{◌==◌, ℕ, zero, suc, ◌-◌, if◌then◌else◌, List, [], ◌∷◌, ◌++◌, map, Option, Some, None, get_or}
 use Rattle.pk_fields.specs.FieldSets.{is_in}
 use Rattle.pk_fields.specs.Ids.{DNS, DNS_RESPONSE_TO, HTTP, HTTP_REQUEST_IN}
 use Rattle.pk_tree.specs.declared.layer.Layer.{Layer}

@@ -1,7 +1,5 @@
 -- What later links ask of the messages that frames show. Lists have the newest first.
-use Rattle.std.specs.Prelude.{◌==◌, ℕ, ◌+◌, ◌*◌, Bool, true, false, nat_le, if◌then◌else◌, List, [], ◌∷◌, drop, length, map, Option, Some, None}
-use Rattle.pk_tree.specs.declared.heads.PacketHead.{PacketHead}
-use Rattle.pk_tree.specs.declared.heads.PortsHead.{PortsHead}
+use Rattle.std.specs.Prelude.{◌==◌, ℕ, ◌+◌, ◌*◌, true, false, nat_le, if◌then◌else◌, List, [], ◌∷◌, drop, length, map, Option, Some, None}
 use Rattle.http_frame.specs.declared.shape.Shape.{Shape}
 use Rattle.tcp_streams.specs.declared.segment.Segment.{Segment}
 use Rattle.tcp_streams.specs.declared.segment.Taken.{Taken}

@@ -1,7 +1,7 @@
 ghost use Rattle.std.specs.Prelude.{◌≡◌, ◌+◌, ◌<◌, ◌≤◌, ◌^◌, length, IfOk, OnOk};
 ghost use Rattle.pk_buffer.specs.Buffers.{IsInside};
 ghost use Rattle.pk_tree.specs.Following.{LeadsInside};
-ghost use Rattle.dissect.specs.Applications.{data_behind, message_over, payload_over};
+ghost use Rattle.dissect.specs.Applications.{data_behind, payload_over};
 ghost use Rattle.dissect.specs.MessageLayers.{in_streams, stream_app};
 
 use crate::data_layer::add_data;

@@ -1,10 +1,9 @@
 ghost use Rattle.std.specs.Prelude.{◌≡◌, ℕ, ◌+◌, ◌<◌, ◌≤◌, ◌^◌, List, [], ◌∷◌, ◌++◌, length, IfOk, OnOk};
-ghost use Rattle.pk_buffer.specs.Buffers.{IsInside, bytes_of};
 ghost use Rattle.pk_tree.specs.Following.{LeadsInside};
 ghost use Rattle.pk_tree.specs.Trees.{last_proto};
 ghost use Rattle.dis_ip.specs.Fragments.{part_proto};
 ghost use Rattle.dissect.specs.declared.state.State.{State as StateValue};
-ghost use Rattle.dissect.specs.Fragments.{error_number, error_field, frame_field, length_field, number_told, conflict_told, frames_told, joined_told, joined_span, joined_packet, joined_todo, todo_by};
+ghost use Rattle.dissect.specs.Fragments.{error_number, frame_field, length_field, number_told, conflict_told, frames_told, joined_told, joined_packet, joined_todo, todo_by};
 ghost use Rattle.dissect.specs.Payloads.{LastIs};
 ghost use Rattle.dissect.specs.Stands.{AddsOneThenEnds};
 ghost use Rattle.dissect.specs.Walks.{IsTodoInside};

@@ -1,4 +1,4 @@
-ghost use Rattle.std.specs.Prelude.{◌≡◌, ◌+◌, ◌<◌, ◌≤◌, ◌^◌, ◌∷◌, ◌++◌, [], length, Some, None, IfOk, IfSome, OnOk};
+ghost use Rattle.std.specs.Prelude.{◌≡◌, ◌<◌, ◌≤◌, ◌^◌, ◌∷◌, [], length, Some, None, IfOk, IfSome, OnOk};
 ghost use Rattle.pk_fields.specs.Ids.{FRAME, FRAME_NUMBER, FRAME_LEN, FRAME_CAP_LEN};
 ghost use Rattle.pk_tree.specs.declared.heads.Mode.TheVariants.{Plain};
 ghost use Rattle.pk_tree.specs.Layouts.{StepFits, StepsFit, layer_read};

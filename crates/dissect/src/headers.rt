@@ -1,4 +1,4 @@
-ghost use Rattle.std.specs.Prelude.{◌≡◌, ◌+◌, ◌<◌, ◌≤◌, ◌^◌, List, length, IfOk, OnOk};
+ghost use Rattle.std.specs.Prelude.{◌≡◌, ◌<◌, ◌^◌, List, length, IfOk};
 ghost use Rattle.pk_buffer.specs.Buffers.{IsInside};
 ghost use Rattle.dissect.specs.Events.{Event};
 ghost use Rattle.dissect.specs.Stands.{StandsAt, IsWalked, IsReady, AddsAtMost, AddsFew, AddsOneThenEnds};

@@ -1,6 +1,5 @@
 ghost use Rattle.std.specs.Prelude.{◌≡◌, ◌<◌, ◌^◌, IfSome, OnOk, length};
 ghost use Rattle.pk_fields.specs.Fields.{row_of};
-ghost use Rattle.pk_fields.specs.FieldSets.{is_in};
 ghost use Rattle.pk_tree.specs.declared.value.Value.TheVariants.{Uint};
 ghost use Rattle.pk_tree.specs.Values.{IsOfKind};
 ghost use Rattle.dissect.specs.Linked.{layer_link, layer_linked, link_at, linked, linked_at, wanted_link};

@@ -1,7 +1,7 @@
-ghost use Rattle.std.specs.Prelude.{◌≡◌, All, map, ◌+◌, ◌++◌, ◌∷◌, [], List, if◌then◌else◌, IfOk, OnOk};
+ghost use Rattle.std.specs.Prelude.{◌≡◌, All, map, ◌+◌, ◌∷◌, [], List, if◌then◌else◌, IfOk, OnOk};
 ghost use Rattle.tcp_messages.specs.Shown.{IsWholeIn};
 ghost use Rattle.dissect.specs.Notes.{Noted, message_note, noted_on};
-ghost use Rattle.dissect.specs.Links.{is_answer, key_of, link_of, links_from, links_of, other_side};
+ghost use Rattle.dissect.specs.Links.{is_answer, key_of, link_of, links_of, other_side};
 ghost use Rattle.dissect.specs.LinkTables.{LinksStandFor};
 
 use crate::link_tables::{Counts, Queries, Requests, one_more};

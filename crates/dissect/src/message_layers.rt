@@ -1,11 +1,10 @@
-ghost use Rattle.std.specs.Prelude.{◌≡◌, ◌+◌, ◌<◌, ◌≤◌, ◌^◌, All, Bool, ◌++◌, ◌∷◌, [], length, IfOk, OnOk};
+ghost use Rattle.std.specs.Prelude.{◌≡◌, ◌+◌, ◌<◌, ◌≤◌, ◌^◌, All, Bool, ◌∷◌, [], length, IfOk, OnOk};
 ghost use Rattle.pk_buffer.specs.Buffers.{IsInside, bytes_of};
 ghost use Rattle.pk_fields.specs.Ids.{TCP};
 ghost use Rattle.pk_tree.specs.Layouts.{within};
 ghost use Rattle.pk_tree.specs.Trees.{last_proto, with_buffer};
-ghost use Rattle.stream_messages.specs.Tellings.{end_of};
-ghost use Rattle.tcp_messages.specs.Shown.{IsMessage, IsWholeIn, bytes_from, frames_told as gathered_from};
-ghost use Rattle.dissect.specs.MessageLayers.{added_span, carried_over, message_over, messages_over, shown_over, told_over, with_segments};
+ghost use Rattle.tcp_messages.specs.Shown.{IsMessage, IsWholeIn, frames_told as gathered_from};
+ghost use Rattle.dissect.specs.MessageLayers.{added_span, carried_over, message_over, messages_over, told_over, with_segments};
 ghost use Rattle.dissect.specs.Payloads.{LastIs};
 
 use crate::data_layer::add_data;

@@ -1,4 +1,4 @@
-ghost use Rattle.std.specs.Prelude.{◌≡◌, ◌+◌, ◌<◌, ◌≤◌, ◌^◌, length, IfOk, IsTrue, OnOk};
+ghost use Rattle.std.specs.Prelude.{◌≡◌, ◌<◌, length, IfOk, IsTrue};
 ghost use Rattle.pk_buffer.specs.Buffers.{IsInside};
 ghost use Rattle.pk_fields.specs.Fields.{row_of};
 ghost use Rattle.pk_fields.specs.Ids.{UDP, TCP};

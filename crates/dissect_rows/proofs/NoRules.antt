@@ -1,5 +1,5 @@
 -- The rules of a command line that names none, or one.
-use Rattle.std.proofs.Common.{◌≡◌, List, [], ◌∷◌, true, rules}
+use Rattle.std.proofs.Common.{◌≡◌, [], ◌∷◌, true, rules}
 use Rattle.std.specs.List.{IsDistinct}
 use Rattle.port_rules.specs.declared.rules.PortRule.{PortRule}
 use Rattle.port_rules.specs.Rules.{AreRules, app_fits}

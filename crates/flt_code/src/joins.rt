@@ -1,7 +1,7 @@
 // Pieces of code, joined. The left one is moved, so that a chain is joined in the time of its length.
 ghost use Rattle.std.specs.Prelude.{◌≡◌, ◌++◌, [], ◌∷◌, IfOk, length};
 ghost use Rattle.flt_code.specs.Code.{turned as turned_by};
-ghost use Rattle.flt_vm.specs.declared.instr.Instr.TheVariants.{Differ, In, JumpFalse, JumpTrue, Save};
+ghost use Rattle.flt_vm.specs.declared.instr.Instr.TheVariants.{Differ, JumpFalse, JumpTrue, Save};
 
 use flt_vm::Instr;
 use pk_base::NoMemory;

@@ -1,5 +1,5 @@
 // Chains of signs, taken apart.
-ghost use Rattle.std.specs.Prelude.{◌≡◌, IfOk, IsTrue};
+ghost use Rattle.std.specs.Prelude.{IfOk, IsTrue};
 ghost use Rattle.flt_code.specs.Spines.{Stands, left_of, left_of_term};
 ghost use Rattle.flt_mean.specs.Chains.{is_single};
 ghost use Rattle.flt_mean.specs.Terms.{is_part};

@@ -1,6 +1,5 @@
 // What is asked of a single value.
 ghost use Rattle.std.specs.Prelude.{◌≡◌};
-ghost use Rattle.std.specs.List.{list_any};
 ghost use Rattle.flt_lists.specs.Questions.{is_among, is_member, is_so};
 
 use flt_types::Member;

@@ -1,5 +1,5 @@
 // Filters joined by signs, negated, and put in parentheses.
-ghost use Rattle.std.specs.Prelude.{◌≡◌, ◌+◌, ℕ, Some, List, [], ◌∷◌, nat_lt, IfOk};
+ghost use Rattle.std.specs.Prelude.{◌≡◌, ◌+◌, Some, [], nat_lt, IfOk};
 ghost use Rattle.flt_parse.specs.Filters.{most_open};
 ghost use Rattle.flt_parse.specs.Grammar.{binds as binding};
 ghost use Rattle.flt_parse.specs.Parser.Reading as reading;

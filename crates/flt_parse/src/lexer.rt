@@ -1,5 +1,5 @@
 // The tokens of a filter's text.
-ghost use Rattle.std.specs.Prelude.{◌≡◌, IfSome, ◌≤◌, ◌<◌, ◌+◌, ◌-◌, ◌^◌, true, length, take, drop, Ok, Err, IfOk, IfErr};
+ghost use Rattle.std.specs.Prelude.{◌≡◌, IfSome, ◌≤◌, ◌<◌, ◌+◌, ◌-◌, length, take, drop, Ok, Err, IfOk, IfErr};
 ghost use Rattle.std.specs.Option.{option_map};
 ghost use Rattle.flt_parse.specs.Letters.{word_len as len_of_word};
 ghost use Rattle.flt_parse.specs.Tokens.{first_sign as sign_in_front, digits_lexeme as lexeme_of_digits, IsTokenError, IsTokensError, bracket_token as token_in_brackets, digits_kind as kind_of_digits, mode_behind as mode_after, next_place as place_behind, plain_token as token_outside, sign_lexeme as lexeme_of_sign, text_lexeme as lexeme_of_text, token_at as token_read, tokens_of, word_lexeme as lexeme_of_word};

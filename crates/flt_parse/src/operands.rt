@@ -3,7 +3,7 @@
 ghost use Rattle.std.specs.Prelude.{◌≡◌, ◌++◌, [], ◌∷◌, Some, None};
 ghost use Rattle.flt_parse.specs.Grammar.{takes_mask as may_mask, takes_slice as may_slice};
 ghost use Rattle.flt_parse.specs.Parser.Reading as reading;
-ghost use Rattle.flt_parse.specs.Parser.States.{IsSpot, spot_of};
+ghost use Rattle.flt_parse.specs.Parser.States.{IsSpot};
 ghost use Rattle.flt_parse.specs.Written.{OnLayersOf, SlicedOf, operand_of};
 
 use crate::ast::{LayerRange, Operand, Place, RangePart, SliceRange, takes_more};

@@ -1,5 +1,5 @@
 // A filter's text to its tree.
-ghost use Rattle.std.specs.Prelude.{◌≡◌, ◌≤◌, IfOk, IfErr, length};
+ghost use Rattle.std.specs.Prelude.{◌≡◌, IfOk, IfErr, length};
 ghost use Rattle.flt_parse.specs.Filters.{IsFilterText, IsRefusal, kinds_of, most_bytes, most_open};
 ghost use Rattle.flt_parse.specs.Grammar.{IsFilter};
 ghost use Rattle.flt_parse.specs.Parser.Reading as reading;

@@ -1,5 +1,5 @@
 // What follows the left operand of a test but for an operator: `in` and a set, or a pattern, token by token.
-ghost use Rattle.std.specs.Prelude.{◌≡◌, ◌++◌, [], ◌∷◌, Some, None, true};
+ghost use Rattle.std.specs.Prelude.{◌++◌, [], ◌∷◌, Some, None, true};
 ghost use Rattle.flt_parse.specs.Parser.Reading as reading;
 ghost use Rattle.flt_parse.specs.Parser.States.{IsTailMove, tail_spot_of};
 ghost use Rattle.flt_parse.specs.Written.{InOf};

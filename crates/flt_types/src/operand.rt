@@ -6,7 +6,7 @@ ghost use Rattle.flt_types.specs.Faults.{IsAnswer, operand_faults, call_faults, 
 ghost use Rattle.flt_types.specs.Layers.{is_layer};
 ghost use Rattle.flt_types.specs.Operands.{is_part, with_right};
 ghost use Rattle.flt_types.specs.Standing.{argument, in_slice, sign_for, within};
-ghost use Rattle.flt_types.specs.Terms.{IsTerm, IsMask, are_numbers as are_numbers_in, kind_of as kind_of_term, number_kind, takes_term};
+ghost use Rattle.flt_types.specs.Terms.{IsTerm, IsMask, are_numbers as are_numbers_in, kind_of as kind_of_term, takes_term};
 ghost use Rattle.flt_types.specs.declared.standing.Standing.{Standing as Place};
 ghost use Rattle.flt_types.specs.declared.standing.Standing.TheVariants.{Free, Sliced};
 ghost use Rattle.flt_values.specs.Kinds.{is_masked as is_masked_kind, is_number as is_number_kind};

@@ -1,5 +1,5 @@
 // A tree's tests, one after the other: what is open around the one that is typed.
-ghost use Rattle.std.specs.Prelude.{◌≡◌, ◌+◌, ◌≤◌, ℕ, List, IfOk, IsTrue};
+ghost use Rattle.std.specs.Prelude.{◌≡◌, ◌+◌, ◌≤◌, IfOk, IsTrue};
 ghost use Rattle.flt_parse.specs.Written.{Written, JoinedOf, NotOf, written};
 ghost use Rattle.flt_parse.specs.declared.ast.Negation.{Negation};
 ghost use Rattle.flt_types.specs.Parts.{Closes, Plugs, is_test, still, tests, waiting};

@@ -1,6 +1,6 @@
 // What tests ask of registers.
 ghost use Rattle.std.specs.Prelude.{◌≡◌, ◌<◌, Some, IfOk, Bool as Truth, List, ℕ, length, slice_get};
-ghost use Rattle.flt_lists.specs.Passes.{compares, is_some_value, passes};
+ghost use Rattle.flt_lists.specs.Passes.{compares, passes};
 ghost use Rattle.flt_lists.specs.Questions.{is_matched, is_so};
 ghost use Rattle.flt_vm.specs.Held.{Held, kept_truth, one_truth};
 ghost use Rattle.flt_vm.specs.Slots.{IsHeld, held_in};

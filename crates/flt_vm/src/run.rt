@@ -1,6 +1,6 @@
 // A run of the machine.
-ghost use Rattle.std.specs.Prelude.{◌≡◌, ◌<◌, ◌≤◌, ◌^◌, IfOk, Bool as Truth, false, ℕ, length};
-ghost use Rattle.flt_vm.specs.Machine.{Job, Runs};
+ghost use Rattle.std.specs.Prelude.{◌≡◌, ◌<◌, ◌≤◌, IfOk, Bool as Truth, false, ℕ, length};
+ghost use Rattle.flt_vm.specs.Machine.{Runs};
 ghost use Rattle.flt_vm.specs.Programs.{IsProgram};
 ghost use Rattle.flt_vm.specs.Slots.{state_in};
 ghost use Rattle.flt_vm.specs.declared.slots.Flag.TheVariants.{Known};

@@ -1,7 +1,7 @@
 -- Keys tie exactly where two fragments are of one datagram.
 use Rattle.std.proofs.Common.{◌≡◌, ◌==◌, ℕ, Bool, true, false, cond, ◌&&◌, ◌||◌, refl, ap, ◌∙◌}
 use Rattle.std.specs.Bool.{beq}
-use Rattle.std.specs.Ordering.{nat_cmp, bool_cmp, ordering_then, is_eq, eq_by_cmp}
+use Rattle.std.specs.Ordering.{bool_cmp, ordering_then, is_eq, eq_by_cmp}
 use Rattle.std.specs.Cmp.{unsigned_tied}
 use Rattle.std.specs.declared.cmp.Ordering.{Ordering}
 use Rattle.std.specs.declared.cmp.Ordering.TheVariants.{Less, Equal, Greater}

@@ -1,4 +1,4 @@
-ghost use Rattle.std.specs.Prelude.{◌≡◌, ◌+◌, ◌≤◌, length};
+ghost use Rattle.std.specs.Prelude.{◌≡◌, ◌+◌};
 ghost use Rattle.ip_join.specs.Fragments.{end_of};
 ghost use Rattle.ip_join.specs.Kept.{has_bytes};
 

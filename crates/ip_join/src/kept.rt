@@ -1,5 +1,4 @@
-ghost use Rattle.std.specs.Prelude.{◌≡◌, ◌≤◌, IfOk};
-ghost use Rattle.ip_join.specs.Fragments.{end_of};
+ghost use Rattle.std.specs.Prelude.{◌≡◌, IfOk};
 ghost use Rattle.ip_join.specs.Forms.{fragment_of};
 
 use crate::fragment::Fragment;

@@ -1,6 +1,6 @@
 // The file: its header, then a record for each word of the generator.
 ghost use Rattle.std.specs.Prelude.{◌≡◌, ◌+◌, ◌<◌, ◌≤◌, ◌^◌, ◌++◌, length, slice_index, ℕ, IfOk, OnOk};
-ghost use Rattle.make_capture.specs.Made.{client_of, file_header, frame_of, generator_after, made, record_head, record_of, records, sent_before, sent_in, word_of};
+ghost use Rattle.make_capture.specs.Made.{client_of, file_header, frame_of, generator_after, made, record_head, record_of, records, sent_in, word_of};
 
 use crate::frames::{put_answer_frame, put_arp_frame, put_query_frame, put_request_frame};
 use bytes::BufMut;

@@ -1,5 +1,5 @@
 // The frames of a generated capture, written behind what a buffer holds.
-ghost use Rattle.std.specs.Prelude.{◌≡◌, ◌+◌, ◌<◌, ◌≤◌, ◌^◌, ◌++◌, length, OnOk};
+ghost use Rattle.std.specs.Prelude.{◌≡◌, ◌+◌, ◌<◌, ◌≤◌, ◌^◌, ◌++◌, OnOk};
 ghost use Rattle.make_capture.specs.Frames as frames;
 
 use bytes::BufMut;

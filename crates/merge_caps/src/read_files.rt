@@ -1,5 +1,5 @@
 // Reading all files, one after the other.
-ghost use Rattle.std.specs.Prelude.{◌≡◌, ◌≤◌, ◌+◌, ◌++◌, ℕ, List, Some, suc, length, false, true, IfErr, IfOk, IfSome, IsErrOf, OnErr, OnOk};
+ghost use Rattle.std.specs.Prelude.{◌≡◌, ◌≤◌, ◌+◌, ℕ, List, length, false, true, IfErr, IfOk, IfSome, IsErrOf, OnErr, OnOk};
 ghost use Rattle.pk_outside.specs.Outside.{Rose, counted};
 ghost use Rattle.capture_read.specs.Capture.{capture_of};
 ghost use Rattle.merge_caps.specs.Reading.{AreSmallUpTo, files_of, is_large_after, is_too_much_of, read_of, so_far, with_reading};

@@ -2,7 +2,7 @@
 ghost use Rattle.std.specs.Prelude.{◌≡◌, ◌≤◌, ◌++◌, ℕ, List, map, IfOk, IsErrOf, OnOk};
 ghost use Rattle.std.specs.Io.KnownBytes.{Appends};
 ghost use Rattle.pk_outside.specs.Outside.{AppendsPart, Rose};
-ghost use Rattle.capture_write.specs.Kept.{end_at, nothing_kept};
+ghost use Rattle.capture_write.specs.Kept.{end_at};
 ghost use Rattle.merge_caps.specs.Merged.{frame_of, frames_of};
 ghost use Rattle.merge_caps.specs.Written.{Steps, file_of, first_unfit, piece_if, unfit_from, written_from};
 

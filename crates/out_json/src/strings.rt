@@ -1,5 +1,5 @@
 // Strings of a line (RFC 8259, section 7).
-ghost use Rattle.std.specs.Prelude.{◌≡◌, ℕ, ◌≤◌, ◌++◌, OnOk};
+ghost use Rattle.std.specs.Prelude.{◌≡◌, ◌≤◌, ◌++◌, OnOk};
 ghost use Rattle.std.specs.List.{All};
 ghost use Rattle.json.specs.Print.{escape, escape_byte};
 ghost use Rattle.pk_fields.specs.Fields.{row_of};

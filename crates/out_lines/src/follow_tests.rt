@@ -1,5 +1,5 @@
-ghost use Rattle.std.specs.Prelude.{◌≡◌, ◌<◌, ◌≤◌, ◌^◌, length, IfOk};
-ghost use Rattle.out_lines.specs.Follow.{AreApart, AreFollowed};
+ghost use Rattle.std.specs.Prelude.{◌≡◌, ◌<◌, ◌≤◌, length, IfOk};
+ghost use Rattle.out_lines.specs.Follow.{AreApart};
 
 use crate::{Fronts, follow_text};
 use pk_base::{NoMemory, Octets, Stretch, Stretches};

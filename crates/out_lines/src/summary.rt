@@ -1,13 +1,13 @@
 // The line that sums up a frame.
-ghost use Rattle.std.specs.Prelude.{◌≡◌, ◌++◌, codes, false, IfOk, OnOk};
-ghost use Rattle.std.specs.Option.{option_copied, option_map};
+ghost use Rattle.std.specs.Prelude.{◌≡◌, ◌++◌, false, IfOk, OnOk};
+ghost use Rattle.std.specs.Option.{option_copied};
 ghost use Rattle.std.specs.List.{find, flat_map};
 ghost use Rattle.pk_fields.specs.Fields.{row_of};
 ghost use Rattle.pk_fields.specs.Ids.{FRAME_LEN};
 ghost use Rattle.pk_tree.specs.FieldValues.{item_values};
 ghost use Rattle.pk_tree.specs.Values.{is_proto};
 ghost use Rattle.pk_tree.specs.declared.layer.Layer.{Layer};
-ghost use Rattle.out_lines.specs.Summary.{first_value, first_in_tree, ip_address, is_ip as is_ip_layer, is_told as is_told_layer, last_told, or_dash, address_in, addresses_of, protocol_of, times_of, summary_of};
+ghost use Rattle.out_lines.specs.Summary.{first_value, first_in_tree, is_ip as is_ip_layer, is_told as is_told_layer, last_told, or_dash, address_in, addresses_of, protocol_of, times_of, summary_of};
 
 use crate::lines::LINE_ROOM;
 use crate::value_text::{put_text, put_value};

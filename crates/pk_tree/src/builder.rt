@@ -1,8 +1,8 @@
-ghost use Rattle.std.specs.Prelude.{◌≡◌, ℕ, List, ◌+◌, ◌-◌, ◌<◌, ◌^◌, false, [], ◌∷◌, ◌++◌, length, vec_len, IfOk, IsTrue, OnErr, OnOk};
+ghost use Rattle.std.specs.Prelude.{◌≡◌, ℕ, ◌+◌, ◌-◌, ◌<◌, ◌^◌, false, [], ◌∷◌, ◌++◌, length, IfOk, IsTrue, OnErr, OnOk};
 ghost use Rattle.pk_buffer.specs.Buffers.{IsInside, bytes_of, buffer_of};
 ghost use Rattle.pk_fields.specs.Fields.{row_of};
 ghost use Rattle.pk_fields.specs.FieldSets.{is_in, every_field};
-ghost use Rattle.pk_tree.specs.Trees.{IsTree, ItemFits, LayersFit, layers_of, layer_gets, proto_at, last_proto, with_layer, with_item, with_last, with_buffer, read_of, derived_of, made_of};
+ghost use Rattle.pk_tree.specs.Trees.{IsTree, ItemFits, last_proto, with_layer, with_item, with_last, with_buffer, read_of, derived_of, made_of};
 ghost use Rattle.pk_tree.specs.Values.{IsOfKind, IsProtocol, HasSize, is_read};
 
 use crate::item::{Item, Items, Place};

@@ -1,4 +1,4 @@
-ghost use Rattle.std.specs.Prelude.{◌≡◌, ℕ, List, ◌+◌, ◌<◌, ◌≤◌, ◌^◌, false, ◌++◌, length, IfOk, OnOk, IsTrue};
+ghost use Rattle.std.specs.Prelude.{◌≡◌, ℕ, List, ◌+◌, ◌<◌, ◌≤◌, ◌^◌, false, ◌++◌, length, IfOk, OnOk};
 ghost use Rattle.std.specs.List.{slice_index_or};
 ghost use Rattle.pk_buffer.specs.Buffers.{IsInside};
 ghost use Rattle.pk_fields.specs.Fields.{row_of};

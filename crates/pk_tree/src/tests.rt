@@ -61,7 +61,11 @@ fn values_are_those_of_the_chosen_layers(rt: HostRuntime) -> Result<(), NoMemory
             [Value::Ip4(0x0a00_0001), Value::Ip4(0xc0a8_0001)]
         )
     );
-    let second = LayerRanges::from_vec([LayerRange { first: 2, last: Some(3) }].to_vec(rt.alloc())?);
+    let second = LayerRanges::from_vec([LayerRange {
+        first: 2,
+        last: Some(3),
+    }]
+    .to_vec(rt.alloc())?);
     let inner = tree.values(ids::IP_SRC, &Layers::These(second))?;
     assert!(rt; matches!(inner.as_slice(), [Value::Ip4(0xc0a8_0001)]));
     let headers = tree.values(ids::IP, &Layers::All)?;
@@ -188,8 +192,19 @@ fn bits_that_are_not_there_spell_nothing(rt: HostRuntime) {
 
 #[test]
 fn lists_keep_what_they_are_made_of(rt: HostRuntime) -> Result<(), NoMemory> {
-    let ranges = LayerRanges::from_vec([LayerRange { first: 1, last: Some(2) }].to_vec(rt.alloc())?);
-    assert!(rt; ranges.slice() == [LayerRange { first: 1, last: Some(2) }].as_slice());
+    let ranges = LayerRanges::from_vec([LayerRange {
+        first: 1,
+        last: Some(2),
+    }]
+    .to_vec(rt.alloc())?);
+    assert!(rt;
+        ranges.slice()
+            == [LayerRange {
+                first: 1,
+                last: Some(2)
+            }]
+            .as_slice()
+    );
     assert!(rt; Items::from_vec(Vec::new(rt.alloc())).slice().is_empty());
     assert!(rt; LayerList::from_vec(Vec::new(rt.alloc())).slice().is_empty());
     Ok(())

@@ -1,5 +1,5 @@
 // The first later frame that answers each query of DNS, or request of HTTP.
-ghost use Rattle.std.specs.Prelude.{◌≡◌, ◌&&◌, ℕ, nat_lt, if◌then◌else◌, Bool, Option, Some, None, OnOk};
+ghost use Rattle.std.specs.Prelude.{◌≡◌, ◌&&◌, ℕ, nat_lt, if◌then◌else◌, Option, Some, None, OnOk};
 ghost use Rattle.std.specs.Option.{option_or};
 ghost use Rattle.std.specs.List.{list_any};
 ghost use Rattle.second_pass.specs.Named.{answers, answered_by, is_response};

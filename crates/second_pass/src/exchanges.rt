@@ -1,8 +1,8 @@
 // Which requests of HTTP were answered, and by which frames.
-ghost use Rattle.std.specs.Prelude.{◌≡◌, ℕ, true, List, [], ◌∷◌, Option, OnOk};
+ghost use Rattle.std.specs.Prelude.{◌≡◌, List, [], ◌∷◌, Option, OnOk};
 ghost use Rattle.second_pass.specs.declared.messages.Kind.TheVariants as kinds;
 ghost use Rattle.second_pass.specs.declared.messages.Message.{Message as MessageValue};
-ghost use Rattle.second_pass.specs.Messages.{direction_in, frame_on, is_request, is_other as is_other_direction, layers_on, message_of, same_direction, with_message};
+ghost use Rattle.second_pass.specs.Messages.{direction_in, frame_on, is_other as is_other_direction, layers_on, message_of, same_direction, with_message};
 ghost use Rattle.second_pass.specs.Replies.{answered, by_other, reply_to, request_of};
 ghost use Rattle.second_pass.specs.Stands.{HasMessages};
 

@@ -1,5 +1,5 @@
 // Reading a file and writing the output over its frames.
-ghost use Rattle.std.specs.Prelude.{◌≡◌, ◌≢◌, ◌<◌, ◌≤◌, ◌+◌, ◌-◌, ◌^◌, ℕ, suc, true, false, IfOk, IfSome, IsSome, IsErrOf, OnOk, [], ◌∷◌, List, None, Some, length, string_bytes};
+ghost use Rattle.std.specs.Prelude.{◌≡◌, ◌≢◌, ◌<◌, ◌≤◌, ◌+◌, ◌-◌, ◌^◌, ℕ, suc, true, false, IfOk, IfSome, IsSome, IsErrOf, OnOk, [], ◌∷◌, List, None, Some, length};
 ghost use Rattle.std.specs.Option.{option_map};
 ghost use Rattle.std.specs.Io.KnownBytes.{Appends};
 ghost use Rattle.pk_base.specs.Limits.{file_limit as limit_of_file};
@@ -9,10 +9,8 @@ ghost use Rattle.capture_read.specs.Taken.{TookAtMost};
 ghost use Rattle.capture_read.specs.declared.frame.Frame.{Frame as FrameValue};
 ghost use Rattle.capture_write.specs.Kept.{Stands as Written};
 ghost use Rattle.dissect.specs.Stands.{StandsWithin};
-ghost use Rattle.cap_stats.specs.declared.kind.StatKind.{StatKind as KindValue};
 ghost use Rattle.capture_read.specs.FrameList.{IsTime};
 ghost use Rattle.pk_tree.specs.Trees.{TreeShown};
-ghost use Rattle.shark_run.specs.declared.totals.Totals.{Totals as TotalsValue};
 ghost use Rattle.shark_run.specs.Accessors.{compiled_of, is_generated, is_quiet, rules_of, stats_of, two_of, written_of};
 ghost use Rattle.shark_run.specs.Job.{IfOnce, Passes, job_in, once};
 ghost use Rattle.shark_run.specs.Later.{ServesKept};
@@ -22,7 +20,7 @@ ghost use Rattle.shark_run.specs.Lines.{closing, line_of, opening, shown};
 ghost use Rattle.shark_run.specs.Reading.{frames_read};
 ghost use Rattle.shark_run.specs.Reports.{HasTaken};
 ghost use Rattle.shark_run.specs.Notes.{AreFewNotes, AreNotes};
-ghost use Rattle.shark_run.specs.Tables.{AreTables, asks_table, asks_tables, trees_with};
+ghost use Rattle.shark_run.specs.Tables.{AreTables, asks_tables, trees_with};
 ghost use Rattle.shark_run.specs.Totals.{counts_with, nothing_counted};
 ghost use Rattle.shark_run.specs.Trees.{lets, lets_frame, tree_of};
 ghost use Rattle.shark_run.specs.Wanted.{IsEnough, IsToldAs};

@@ -1,5 +1,5 @@
 // The plan that words ask for.
-ghost use Rattle.std.specs.Prelude.{◌≡◌, ◌++◌, IfOk, IfErr, IfSome, All};
+ghost use Rattle.std.specs.Prelude.{◌≡◌, IfOk, IfErr, IfSome, All};
 ghost use Rattle.std.specs.Str.{IsUtf8};
 ghost use Rattle.flt_code.specs.Decides.{Agrees, Decides};
 ghost use Rattle.shark_words.specs.Sound.{AreSound, HasFrames};

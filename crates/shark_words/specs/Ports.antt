@@ -1,7 +1,7 @@
 -- What `-d` sets: a port of one transport, as `tcp.port==N` or `udp.port==N`, a comma, and the application that its payload
 -- is read as.
-use Rattle.std.specs.Prelude.{ℕ, suc, ◌^◌, ◌-◌, ◌==◌, Bool, true, false, ◌&&◌, List, [], ◌∷◌, ◌++◌, length, take, drop, codes, Option, Some, None, option_and_then, option_map, option_to_list, if◌then◌else◌}
-use Rattle.std.specs.Option.{option_or, unwrap_or}
+use Rattle.std.specs.Prelude.{ℕ, suc, ◌^◌, ◌-◌, ◌==◌, Bool, true, false, ◌&&◌, List, [], ◌∷◌, ◌++◌, take, drop, codes, Option, Some, None, option_and_then, option_map, option_to_list, if◌then◌else◌}
+use Rattle.std.specs.Option.{option_or}
 use Rattle.std.specs.Str.{bytes_eq}
 use Rattle.port_rules.specs.declared.rules.App.{App}
 use Rattle.port_rules.specs.declared.rules.App.TheVariants.{Http, Dns, Dhcp, Plain}

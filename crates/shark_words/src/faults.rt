@@ -1,6 +1,6 @@
 // What is wrong with words.
 ghost use Rattle.std.specs.Prelude.{◌≡◌, [] as nothing, IfOk, IfNone};
-ghost use Rattle.shark_words.specs.Faults.{fault as fault_at, is_use_of, is_given as is_given_in, slot_in, text_in, value_fault as fault_of_value, given_fault as fault_of_given, fault_of as fault_of_use, first_fault as fault_first};
+ghost use Rattle.shark_words.specs.Faults.{is_use_of, is_given as is_given_in, slot_in, text_in, value_fault as fault_of_value, given_fault as fault_of_given, fault_of as fault_of_use, first_fault as fault_first};
 ghost use Rattle.shark_words.specs.Slots.{slot_of as slot_of_option, with_slot};
 
 use crate::fault::{WordFault, WordReason};

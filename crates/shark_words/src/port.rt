@@ -1,6 +1,6 @@
 // What `-d` sets.
 ghost use Rattle.std.specs.Prelude.{◌≡◌};
-ghost use Rattle.shark_words.specs.Ports.{app_named, app_of, carried as carried_by, is_same_port as is_same_port_of, port_in as port_in_text, port_of, port_over, rule_by as rule_by_name, rule_of, transport_name};
+ghost use Rattle.shark_words.specs.Ports.{app_named, app_of, carried as carried_by, port_in as port_in_text, port_of, port_over, rule_by as rule_by_name, rule_of, transport_name};
 
 use crate::key::strip_name;
 use crate::number::{at_most, comma_in, read_decimal};

@@ -19,11 +19,11 @@ use Rattle.stream_messages.specs.declared.cutting.Cut.TheVariants.{Whole, Rest}
 use Rattle.stream_messages.specs.declared.cutting.Shown.{Shown}
 use Rattle.stream_messages.specs.Tellings.{first_of, end_of, then_of, passed, answers}
 use Rattle.stream_messages.specs.Messages.{Asked, follow, messages, of_front, end_at, above, AgreeBelow, answered}
-use Rattle.stream_messages.specs.Cursors.{IsKnown, next_at, next_behind, mark_behind, cursor_behind, goes, from_cursor, KnowsNext, IsBehind, IsSoundNext, IsSound, AsksBetween, IsCut, IsWhole, IsAskedOf, IsNext, IsRest, IsCutFrom, IsLook}
+use Rattle.stream_messages.specs.Cursors.{next_at, next_behind, mark_behind, cursor_behind, goes, from_cursor, KnowsNext, IsBehind, IsSoundNext, IsSound, AsksBetween, IsCut, IsWhole, IsAskedOf, IsNext, IsRest, IsCutFrom, IsLook}
 use Rattle.stream_messages.proofs.FirstLemmas.{first_some, first_within, first_stays, first_shrinks}
 use Rattle.stream_messages.proofs.MessageLemmas.{all_below, steps, none_left, no_messages}
 use Rattle.stream_messages.proofs.StretchLemmas.{above-append, answered-append}
-use Rattle.stream_messages.proofs.CursorLemmas.{known_front, behind_same, sound_now}
+use Rattle.stream_messages.proofs.CursorLemmas.{behind_same, sound_now}
 
 -- what a cursor says by its mark and whether a message may come
 abbrev from_mark : App → Asked → ℕ → Bool → Mark → List ℕ → List Placed

@@ -17,7 +17,6 @@ use Rattle.stream_messages.specs.declared.part.Going.TheVariants.{Unfinished, Me
 use Rattle.stream_messages.specs.declared.cursor.Cursor.{Cursor}
 use Rattle.stream_messages.specs.declared.cursor.Mark.{Mark}
 use Rattle.stream_messages.specs.declared.cursor.Next.{Next}
-use Rattle.stream_messages.specs.declared.cursor.Started.{Started}
 use Rattle.stream_messages.specs.declared.cursor.Next.TheVariants.{Never, Awaited, Begun}
 use Rattle.stream_messages.specs.declared.cutting.Shown.{Shown}
 use Rattle.stream_messages.specs.declared.cutting.Cut.{Cut}

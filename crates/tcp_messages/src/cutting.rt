@@ -1,4 +1,4 @@
-ghost use Rattle.std.specs.Prelude.{◌≡◌, ◌+◌, ◌-◌, ◌^◌, ◌<◌, ℕ, [], All, length, drop, IfOk};
+ghost use Rattle.std.specs.Prelude.{◌≡◌, ◌-◌, ◌<◌, [], All, length, drop, IfOk};
 ghost use Rattle.tcp_streams.specs.declared.segment.Segment.{Segment as SegmentValue};
 ghost use Rattle.tcp_streams.specs.Ways.{WayState, end_of, lost_in, own_step, stretches, IsWay};
 ghost use Rattle.tcp_streams.specs.Standing.{AreReady, stream_count, way_in};

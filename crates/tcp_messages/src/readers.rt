@@ -1,4 +1,4 @@
-ghost use Rattle.std.specs.Prelude.{◌≡◌, ◌++◌, [], Bool, OnOk};
+ghost use Rattle.std.specs.Prelude.{◌≡◌, ◌++◌, Bool, OnOk};
 ghost use Rattle.std.specs.Option.{option_to_list};
 ghost use Rattle.stream_messages.specs.Sides.{head_of as head_value, heads_in};
 ghost use Rattle.tcp_messages.specs.Readers.{IsBegun, reader_of};

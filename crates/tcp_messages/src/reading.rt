@@ -1,4 +1,4 @@
-ghost use Rattle.std.specs.Prelude.{◌≡◌, ◌==◌, ◌<◌, [], ◌∷◌, Option, List, Bool, not, All, length, slice_get, Some, IfOk, OnOk};
+ghost use Rattle.std.specs.Prelude.{◌≡◌, ◌==◌, ◌<◌, [], ◌∷◌, Option, List, All, length, slice_get, Some, IfOk, OnOk};
 ghost use Rattle.stream_messages.specs.Cursors.{IsSound};
 ghost use Rattle.tcp_streams.specs.declared.segment.Segment.{Segment as SegmentValue};
 ghost use Rattle.tcp_streams.specs.declared.streams.Streams.{Streams as StreamsValue};

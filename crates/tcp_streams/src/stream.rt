@@ -1,4 +1,4 @@
-ghost use Rattle.std.specs.Prelude.{◌≡◌, ◌%◌, ◌^◌, ◌+◌, ◌<◌, not, true, false, Some, IfOk, OnOk, if◌then◌else◌};
+ghost use Rattle.std.specs.Prelude.{◌≡◌, ◌^◌, ◌<◌, not, true, false, Some, IfOk, OnOk, if◌then◌else◌};
 ghost use Rattle.tcp_streams.specs.Ways.{nothing, end_of, own_step, other_step, way_step, same_side, IsWay};
 ghost use Rattle.tcp_streams.specs.States.{state_of};
 ghost use Rattle.tcp_streams.specs.Labels.{told, number_in, ack_in, side_from, restarts, PassesNear};

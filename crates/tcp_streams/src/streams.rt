@@ -2,8 +2,6 @@ ghost use Rattle.std.specs.Prelude.{◌≡◌, ℕ, Bool, ◌+◌, ◌-◌, ◌^
 ghost use Rattle.tcp_streams.specs.declared.segment.Segment.{Segment as SegmentValue};
 ghost use Rattle.tcp_streams.specs.declared.stream.Stream.{Stream as StreamValue};
 ghost use Rattle.tcp_streams.specs.declared.ends.Ends.{Ends as EndsValue};
-ghost use Rattle.tcp_streams.specs.Ways.{end_of, IsWay};
-ghost use Rattle.tcp_streams.specs.States.{state_of};
 ghost use Rattle.tcp_streams.specs.Conversations.{ends_of as ends_value, same_ends, number_of};
 ghost use Rattle.tcp_streams.specs.Labels.{labels, sided_of, opened, side_from, taken_after, PassesNear};
 ghost use Rattle.tcp_streams.specs.Isolation.{HaveSameBetween, IsIsolated};

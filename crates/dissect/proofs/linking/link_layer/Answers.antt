@@ -1,4 +1,4 @@
-use Rattle.std.proofs.Common.{◌≡◌, ◌<◌, ◌∙◌, ℕ, List, length, get_or, ap, sym, subst, refl}
+use Rattle.std.proofs.Common.{◌∙◌, ℕ, List, get_or, ap, sym}
 use Rattle.std.proofs.lemmas.Result.{on_ok_weaker}
 use Rattle.pk_tree.specs.declared.layer.Layer.{Layer}
 use Rattle.pk_tree.specs.declared.value.Value.TheVariants.{Uint}

@@ -1,4 +1,4 @@
-use Rattle.std.proofs.Common.{◌≡◌, ◌+◌, ◌<◌, ℕ, suc, List, [], length, ap, ◌∙◌, sym, subst, arith, Option}
+use Rattle.std.proofs.Common.{◌≡◌, ◌+◌, ℕ, suc, List, length, ap, ◌∙◌, sym, arith, Option}
 use Rattle.pk_tree.specs.declared.layer.Layer.{Layer}
 use Rattle.pk_tree.specs.Trees.{TreeShown}
 use Rattle.dissect.specs.Linked.{layer_linked, linked, linked_at}

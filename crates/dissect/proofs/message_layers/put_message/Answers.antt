@@ -1,5 +1,5 @@
-use Rattle.std.proofs.Common.{◌+◌, length, subst, sym, ap, arith}
-use Rattle.dissect.proofs.MessageLemmas.{within_span, part_inside, part_message, gathered_message, gathered_short}
+use Rattle.std.proofs.Common.{subst, sym}
+use Rattle.dissect.proofs.MessageLemmas.{within_span, part_inside, part_message, gathered_message}
 use Rattle.tcp_messages.specs.Shown.{IsMessage}
 use Rattle.std.proofs.Common.{List, ℕ}
 use Rattle.dissect.proofs.message_layers.put_message.Goals as goal

@@ -1,10 +1,10 @@
-use Rattle.std.proofs.Common.{◌*◌, List, ℕ, length, refl, sym, ap, ◌∙◌, subst, arith, get_or}
+use Rattle.std.proofs.Common.{◌*◌, List, ℕ, sym, subst, arith}
 use Rattle.std.proofs.lemmas.List.Elements.{All-get_or}
 use Rattle.pk_buffer.specs.Buffers.{bytes_of}
 use Rattle.pk_tree.specs.Trees.{TreeShown}
 use Rattle.tcp_messages.specs.declared.met.ShownMessage.{ShownMessage}
 use Rattle.tcp_messages.specs.Shown.{IsWholeIn}
-use Rattle.dissect.proofs.MessageBuffers.{GrowsBy, bytes_stay, inside_stays}
+use Rattle.dissect.proofs.MessageBuffers.{GrowsBy, bytes_stay}
 use Rattle.dissect.proofs.MessageLemmas.{message_grows, messages_next, grows_next}
 use Rattle.dissect.proofs.message_layers.put_messages.Goals as goal
 

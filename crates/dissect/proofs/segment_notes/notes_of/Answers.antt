@@ -1,6 +1,5 @@
 use Rattle.std.proofs.Common.{◌≡◌, ◌+◌, ℕ, suc, List, [], ◌∷◌, ◌++◌, get_or, map, take, ap, ◌∙◌, sym, subst, arith}
 use Rattle.std.proofs.lemmas.List.Elements.{All-get_or}
-use Rattle.tcp_messages.specs.declared.met.ShownMessage.{ShownMessage}
 use Rattle.tcp_messages.specs.Shown.{IsWholeIn}
 use Rattle.dissect.specs.declared.notes.Note.{Note}
 use Rattle.dissect.specs.Notes.{message_note}

@@ -1,4 +1,4 @@
-use Rattle.std.proofs.Common.{◌≡◌, ◌+◌, ◌∙◌, ℕ, suc, List, Option, Some, ap, drop, length, length-drop, take, arith, rules}
+use Rattle.std.proofs.Common.{◌≡◌, ◌+◌, ◌∙◌, ℕ, suc, List, Option, Some, ap, drop, length-drop, take, arith, rules}
 use Rattle.std.proofs.lemmas.List.{take_all}
 use Rattle.port_rules.specs.declared.rules.PortRule.{PortRule}
 use Rattle.shark_words.specs.declared.port.Port.{Port}

@@ -1,7 +1,7 @@
-use Rattle.std.proofs.Common.{◌∙◌, ◌≡◌, ◌<◌, length, sym, ap, subst, get_or, false, drop}
+use Rattle.std.proofs.Common.{◌∙◌, ◌≡◌, ◌<◌, length, sym, subst, get_or, false, drop}
 use Rattle.stream_messages.specs.declared.part.Part.{Part}
 use Rattle.stream_messages.specs.declared.cursor.Next.{Next}
-use Rattle.stream_messages.specs.Cursors.{IsAskedOf, IsKnown, IsSoundNext, part_begun}
+use Rattle.stream_messages.specs.Cursors.{IsAskedOf, IsKnown}
 use Rattle.stream_messages.proofs.CursorLemmas.{begun_known}
 use Rattle.stream_messages.proofs.cutting.started.Goals as goal
 

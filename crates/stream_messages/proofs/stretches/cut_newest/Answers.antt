@@ -1,9 +1,8 @@
-use Rattle.std.proofs.Common.{◌≡◌, ◌∷◌, [], ◌++◌, List, sym, ap, subst, ◌∙◌}
+use Rattle.std.proofs.Common.{sym, subst, ◌∙◌}
 use Rattle.std.specs.Prelude.{All}
 use Rattle.pk_base.specs.declared.stretch.Stretch.{Stretch}
 use Rattle.stream_messages.specs.declared.cursor.Cursor.{Cursor}
-use Rattle.stream_messages.specs.declared.placed.Placed.{Placed}
-use Rattle.stream_messages.specs.Cursors.{answers_before, begun, IsWholeInOne, with_last}
+use Rattle.stream_messages.specs.Cursors.{IsWholeInOne, with_last}
 use Rattle.stream_messages.proofs.PassingLemmas.{CutsAll, passed_by, passed_more, newest_behind, whole_with}
 use Rattle.stream_messages.proofs.stretches.cut_newest.Goals as goal
 

@@ -1,4 +1,4 @@
-use Rattle.std.proofs.Common.{◌≡◌, ◌+◌, ℕ, suc, List, ◌∷◌, ap, ◌∙◌, sym, subst, take, arith}
+use Rattle.std.proofs.Common.{◌≡◌, ◌+◌, ℕ, suc, List, ap, ◌∙◌, sym, subst, take, arith}
 use Rattle.dissect.specs.declared.notes.Note.{Note}
 use Rattle.dissect.specs.Notes.{Noted, noted_on}
 use Rattle.dissect.specs.LinkTables.{LinksStandFor}

@@ -1,4 +1,4 @@
-use Rattle.std.proofs.Common.{◌≡◌, ◌∙◌, ℕ, Bool, List, ap}
+use Rattle.std.proofs.Common.{◌∙◌, ℕ, Bool, List, ap}
 use Rattle.pk_buffer.specs.Buffers.{bytes_of}
 use Rattle.dissect.specs.declared.conversations.Ends.{Ends}
 use Rattle.dissect.specs.Applications.{payload_over}
