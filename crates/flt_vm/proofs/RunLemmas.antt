@@ -1,23 +1,18 @@
 -- A run, step by step.
-use Rattle.std.proofs.Common.{◌≡◌, ℕ, zero, suc, ◌+◌, ◌<◌, Bool as Truth, false, List, [], ◌∷◌, map, length, replicate, get_or, slice_get, Some, None, ap, sym, refl, ◌∙◌, subst, arith}
+use Rattle.std.proofs.Common.{◌≡◌, ℕ, zero, suc, ◌+◌, ◌<◌, Bool as Truth, false, true, List, [], ◌∷◌, map, length, replicate, get_or, slice_get, Some, None, ap, sym, refl, ◌∙◌, subst, arith}
 use Rattle.flt_types.specs.declared.typed.Typed.{Typed}
 use Rattle.flt_vm.specs.Machine.{Job, LeadsOn, Move, Goes, Ends, Missing, Runs, State, act, start, step}
 use Rattle.flt_vm.specs.Programs.{Code, FitsFilter, Ready, RunsOn, patterns_of}
-use Rattle.flt_vm.specs.Slots.{Does, held_in, move_in, state_in}
+use Rattle.flt_vm.specs.Slots.{Does, LeadsTo, held_in, is_return, state_in}
 use Rattle.flt_vm.specs.declared.instr.Instr.{Instr}
-use Rattle.flt_vm.specs.declared.slots.Flag.{Flag}
+use Rattle.flt_vm.specs.declared.instr.Instr.TheVariants as instr
 use Rattle.flt_vm.specs.declared.slots.Flag.TheVariants.{Known}
 use Rattle.flt_vm.specs.declared.slots.Slot.{Slot}
 use Rattle.flt_vm.specs.declared.slots.Slot.TheVariants as slots
-use Rattle.flt_vm.specs.declared.step.Next.{Next}
-use Rattle.flt_vm.specs.declared.step.Next.TheVariants.{On, Done}
 use Rattle.pk_tree.specs.Trees.{IsTree, TreeShown}
 
--- each run from the first state comes by this one, after so many steps
-abbrev pub IsOnWay : Job → State → State → ℕ → Type 0
-IsOnWay job first now steps = (total : ℕ) (flag : Truth) → Runs job total first flag → (rest : ℕ) × Runs job rest now flag × (steps + rest ≡ total)
-
-pub begun : (job : Job) (first : State) → IsOnWay job first first 0
+-- a run leads from its state to where it is after no step
+pub begun : (job : Job) (first : State) → LeadsTo job first first 0
 begun job first total flag run = (total, run, omega arith)
 
 leads_next : (move : Move) (next : State) (n : ℕ) (flag : Truth) (Rest : State → Type 0) → Does move (Goes next) → LeadsOn move n flag Rest → Rest next
@@ -38,13 +33,20 @@ last_step : (job : Job) (now : State) (holds : Truth) (rest : ℕ) (flag : Truth
 last_step job now holds zero flag does run = absurd run
 last_step job now holds (suc n) flag does run = let e = leads_end (step job now) holds n flag (λ t. Runs job n t flag) does run in (ap suc e.0, e.1)
 
-pub run_on : (job : Job) (first now next : State) (steps n : ℕ) → IsOnWay job first now steps → Does (step job now) (Goes next) → n ≡ steps + 1 → IsOnWay job first next n
+pub run_on : (job : Job) (first now next : State) (steps n : ℕ) → LeadsTo job first now steps → Does (step job now) (Goes next) → n ≡ steps + 1 → LeadsTo job first next n
 run_on job first now next steps n way does more total flag run =
     let w = way total flag run in
     let on = on_step job now next w.0 flag does w.1 in
     (on.0, on.2, omega (arith, more, w.2, on.1))
 
-pub run_ends : (job : Job) (first now : State) (holds : Truth) (steps n : ℕ) → IsOnWay job first now steps → Does (step job now) (Ends holds) → n ≡ steps + 1 →
+-- and from there on to a third state
+pub leads_both : (job : Job) (first now next : State) (steps more n : ℕ) → LeadsTo job first now steps → LeadsTo job now next more → n ≡ steps + more → LeadsTo job first next n
+leads_both job first now next steps more n way on sum total flag run =
+    let w = way total flag run in
+    let o = on w.0 flag w.1 in
+    (o.0, o.1, omega (arith, sum, w.2, o.2))
+
+pub run_ends : (job : Job) (first now : State) (holds : Truth) (steps n : ℕ) → LeadsTo job first now steps → Does (step job now) (Ends holds) → n ≡ steps + 1 →
     (total : ℕ) (flag : Truth) → Runs job total first flag → (n ≡ total) × (holds ≡ flag)
 run_ends job first now holds steps n way does more total flag run =
     let w = way total flag run in
@@ -55,16 +57,11 @@ run_ends job first now holds steps n way does more total flag run =
 pub step_at : (job : Job) (s : State) (i : Instr) (move : Move) → slice_get job.code s.at ≡ Some i → Does (act job s (Some i)) move → Does (step job s) move
 step_at job s i move is does = subst (λ x. Does (act job s x) move) (sym is) does
 
--- and leads to where the answer of the instruction says
-pub leads_on : (job : Job) (at place : ℕ) (flag told : Flag) (all new : List Slot) (i : Instr) (next : Next) → slice_get job.code at ≡ Some i → next ≡ On place →
-    Does (act job (state_in job.tree at flag all) (Some i)) (move_in job.tree next told new) → Does (step job (state_in job.tree at flag all)) (Goes (state_in job.tree place told new))
-leads_on job at place flag told all new i next there is does =
-    step_at job (state_in job.tree at flag all) i (Goes (state_in job.tree place told new)) there (subst (λ x. Does (act job (state_in job.tree at flag all) (Some i)) (move_in job.tree x told new)) is does)
-
-pub leads_out : (job : Job) (at : ℕ) (flag told : Flag) (holds : Truth) (all new : List Slot) (i : Instr) (next : Next) → slice_get job.code at ≡ Some i → next ≡ Done holds →
-    Does (act job (state_in job.tree at flag all) (Some i)) (move_in job.tree next told new) → Does (step job (state_in job.tree at flag all)) (Ends holds)
-leads_out job at flag told holds all new i next there is does =
-    step_at job (state_in job.tree at flag all) i (Ends holds) there (subst (λ x. Does (act job (state_in job.tree at flag all) (Some i)) (move_in job.tree x told new)) is does)
+-- RETURN ends a run with the flag
+pub return_ends : (job : Job) (s : State) (i : Instr) (holds : Truth) → is_return i ≡ true → holds ≡ s.flag → Does (act job s (Some i)) (Ends holds)
+unfolding act
+return_ends job s instr.Return holds is same = ap Ends same
+return_ends job s i holds is same = cc
 
 -- a run from unset registers, by what the slots stand for
 pub from_start : (code same_code : List Instr) (patterns same_patterns : List (List ℕ)) (tree : TreeShown) (all : List Slot) (count total : ℕ) (flag : Truth) →

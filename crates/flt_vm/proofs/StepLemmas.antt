@@ -66,8 +66,14 @@ set_same [] i x is = refl
 set_same (y ∷ ys) zero x is = cc
 set_same (y ∷ ys) (suc i) x is = ap (λ zs. y ∷ zs) (set_same ys i x is)
 
-held_at : (tree : TreeShown) (all : List Slot) (r : ℕ) (slot : Slot) → slice_get all r ≡ Some slot → slice_get (map (held_in tree) all) r ≡ Some (held_in tree slot)
+pub held_at : (tree : TreeShown) (all : List Slot) (r : ℕ) (slot : Slot) → slice_get all r ≡ Some slot → slice_get (map (held_in tree) all) r ≡ Some (held_in tree slot)
 held_at tree all r slot is = slice_get-map (held_in tree) all r ∙ ap (option_map (held_in tree)) is
+
+-- what a register holds is what its slot stands for
+pub held_got : (tree : TreeShown) (all : List Slot) (r : ℕ) (d : Slot) (h : Held) → IsHeld tree all r h → held_in tree (get_or all r d) ≡ Some h
+held_got tree [] r d h is = cc
+held_got tree (s ∷ all) zero d h is = let same : Some (held_in tree s) ≡ Some (Some h) = is in cc
+held_got tree (s ∷ all) (suc r) d h is = held_got tree all r d h is
 
 -- a read of an unset register, and of one that is set
 pub read_unset : (tree : TreeShown) (at : ℕ) (old flag : Flag) (all new : List Slot) (r : ℕ) (slot now : Slot) (vs : List Value) → slice_get all r ≡ Some slot → held_in tree slot ≡ None →

@@ -1,16 +1,16 @@
 -- What slots stand for in a tree: what a register holds, and the flag.
-use Rattle.std.specs.Prelude.{◌≡◌, ℕ, Bool as Truth, true, false, ◌+◌, ◌<◌, List, map, Option, Some, None, slice_get}
+use Rattle.std.specs.Prelude.{◌≡◌, ℕ, Bool as Truth, true, false, ◌+◌, List, map, Option, Some, None, slice_get}
 use Rattle.flt_lists.specs.Passes.{is_some_value}
 use Rattle.flt_vm.specs.Held.{Held, constant_held, plain, truth_held}
-use Rattle.flt_vm.specs.Machine.{Move, Goes, Ends, Missing, State}
+use Rattle.flt_vm.specs.Machine.{Job, Move, Goes, Ends, Missing, Runs, State}
+use Rattle.flt_vm.specs.declared.instr.Instr.{Instr}
+use Rattle.flt_vm.specs.declared.instr.Instr.TheVariants as instr
 use Rattle.flt_vm.specs.declared.slots.Flag.{Flag}
 use Rattle.flt_vm.specs.declared.slots.Flag.TheVariants as flags
 use Rattle.flt_vm.specs.declared.slots.Gathered.{Gathered}
 use Rattle.flt_vm.specs.declared.slots.Gathered.TheVariants.{Own, Lent}
 use Rattle.flt_vm.specs.declared.slots.Slot.{Slot}
 use Rattle.flt_vm.specs.declared.slots.Slot.TheVariants as slots
-use Rattle.flt_vm.specs.declared.step.Next.{Next}
-use Rattle.flt_vm.specs.declared.step.Next.TheVariants.{On, Done}
 use Rattle.pk_tree.specs.FieldValues.{values_of}
 use Rattle.pk_tree.specs.Trees.{TreeShown}
 use Rattle.pk_tree.specs.declared.value.Value.{Value}
@@ -42,10 +42,6 @@ abbrev pub state_in : TreeShown → ℕ → Flag → List Slot → State
 state_in tree at flag all =
     record { at = at; flag = flag_in tree flag; registers = map (held_in tree) all }
 
-abbrev pub move_in : TreeShown → Next → Flag → List Slot → Move
-move_in tree (On place) flag all = Goes (state_in tree place flag all)
-move_in tree (Done truth) flag all = Ends truth
-
 -- where there is a step, it is this one
 abbrev pub Does : Move → Move → Type 0
 Does (Goes s) move = move ≡ Goes s
@@ -57,7 +53,11 @@ abbrev pub place_behind : ℕ → Truth → ℕ → ℕ
 place_behind at true count = at + 1 + count
 place_behind at false count = at + 1
 
--- a step leads forward, to a place of the program
-abbrev pub IsAhead : ℕ → ℕ → Next → Type 0
-IsAhead at size (On place) = (at < place) × (place < size)
-IsAhead at size (Done flag) = Unit {0}
+abbrev pub is_return : Instr → Truth
+is_return instr.Return = true
+is_return i = false
+
+-- each run from a state comes to another, after so many steps
+abbrev pub LeadsTo : Job → State → State → ℕ → Type 0
+LeadsTo job first now steps = (total : ℕ) (flag : Truth) → Runs job total first flag
+    → (rest : ℕ) × Runs job rest now flag × (steps + rest ≡ total)

@@ -1,5 +1,5 @@
 // What tests ask of registers.
-ghost use Rattle.std.specs.Prelude.{◌≡◌, ◌<◌, Some, IfOk, Bool as Truth, List, ℕ, length, slice_get};
+ghost use Rattle.std.specs.Prelude.{◌≡◌, ◌<◌, [], ◌∷◌, Some, IfOk, Bool as Truth, List, ℕ, length, slice_get};
 ghost use Rattle.flt_lists.specs.Passes.{compares, passes};
 ghost use Rattle.flt_lists.specs.Questions.{is_matched, is_so};
 ghost use Rattle.flt_vm.specs.Held.{Held, kept_truth, one_truth};
@@ -9,7 +9,7 @@ use crate::slots::{Slot, listed, listed_in};
 use flt_lists::{Question, asks_field, compares, matched, passes};
 use flt_parse::Choice;
 use flt_pattern::Search;
-use flt_values::Relation;
+use flt_values::{Constant, Relation};
 use pk_base::NoMemory;
 use pk_tree::{Tree, Value};
 use std::alloc::Global;
@@ -83,16 +83,31 @@ fn compare_slots(
         → truth ≡ compares relation choice a.values b.values b.prefix) }
 {
     match right {
-        Slot::Single(constant) => {
-            let question = Question::IsRelated(relation, &constant.value, constant.prefix);
-            Ok(asks_slot(alloc, choice, &question, left, tree)?)
-        }
+        Slot::Single(constant) => Ok(compare_constant(
+            alloc, relation, choice, left, constant, tree,
+        )?),
         right => {
             let left = listed_in(alloc, left, tree)?;
             let right = listed_in(alloc, right, tree)?;
             Ok(compares(alloc, relation, choice, left.slice(), right.slice(), None)?)
         }
     }
+}
+
+/// Whether any or all of a slot's values stand in a relation to a constant.
+pub(crate) fn compare_constant(
+    alloc: Global,
+    relation: Relation,
+    choice: Choice,
+    left: &Slot<'_>,
+    constant: &Constant,
+    tree: &Tree,
+) -> Result<bool, NoMemory>
+    ensures { IfOk result (λ truth. (held : Held) → held_in tree.now left.now ≡ Some held
+        → truth ≡ compares relation choice held.values (constant.now.value ∷ []) constant.now.prefix) }
+{
+    let question = Question::IsRelated(relation, &constant.value, constant.prefix);
+    Ok(asks_slot(alloc, choice, &question, left, tree)?)
 }
 
 /// Whether a pattern, of those that there are, matches in any or all of a register's values.

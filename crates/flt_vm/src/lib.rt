@@ -5,6 +5,7 @@ mod asks;
 mod copies;
 mod fields;
 mod instr;
+mod joined;
 mod laws;
 mod machine;
 mod patterns;

@@ -6,8 +6,9 @@ ghost use Rattle.flt_vm.specs.Slots.{state_in};
 ghost use Rattle.flt_vm.specs.declared.slots.Flag.TheVariants.{Known};
 
 use crate::instr::Instr;
-use crate::slots::{Flag, Slot};
-use crate::step::{Next, step};
+use crate::joined::test_at;
+use crate::slots::{Flag, Slot, known};
+use crate::step::{is_return, step};
 use flt_pattern::Search;
 use pk_base::NoMemory;
 use pk_tree::Tree;
@@ -42,9 +43,19 @@ pub(crate) fn run_code<'p>(
     let mut at = 0;
     let mut steps = 0;
     'steps: loop {
-        let next = step(
+        let taken = test_at(alloc, code, at, slots, &mut flag, tree)?;
+        at += taken as usize;
+        steps += taken;
+        let instr = &code[at];
+        if is_return(instr) {
+            return Ok(Verdict {
+                holds: known(&flag, tree),
+                steps: steps + 1,
+            });
+        }
+        at = step(
             alloc,
-            &code[at],
+            instr,
             at,
             code.len(),
             slots,
@@ -53,9 +64,5 @@ pub(crate) fn run_code<'p>(
             tree,
         )?;
         steps += 1;
-        match next {
-            Next::On(place) => at = place,
-            Next::Done(holds) => return Ok(Verdict { holds, steps }),
-        }
     }
 }

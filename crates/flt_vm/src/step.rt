@@ -1,5 +1,5 @@
 // One step of the machine.
-ghost use Rattle.std.specs.Prelude.{◌≡◌, ◌<◌, ◌^◌, ◌+◌, ◌++◌, [], ◌∷◌, IfOk, OnOk, Some, ℕ, length, slice_set};
+ghost use Rattle.std.specs.Prelude.{◌≡◌, ◌<◌, ◌^◌, ◌+◌, ◌++◌, [], ◌∷◌, false, IfOk, OnOk, Some, ℕ, length, slice_set};
 ghost use Rattle.std.specs.List.{filter_map};
 ghost use Rattle.std.specs.Option.{option_to_list};
 ghost use Rattle.flt_lists.specs.Called.{values_called};
@@ -16,7 +16,7 @@ ghost use Rattle.pk_tree.specs.Trees.{TreeShown};
 ghost use Rattle.pk_tree.specs.declared.value.Value.TheVariants.{Uint};
 ghost use Rattle.flt_vm.specs.Machine.{Goes, Job, act, differs as differ, reads};
 ghost use Rattle.flt_vm.specs.Programs.{Fits};
-ghost use Rattle.flt_vm.specs.Slots.{Does, IsAhead, IsHeld, flag_in, held_in, is_unset, move_in, place_behind, state_in};
+ghost use Rattle.flt_vm.specs.Slots.{Does, IsHeld, flag_in, held_in, is_return, is_unset, place_behind, state_in};
 ghost use Rattle.flt_vm.specs.declared.slots.Flag.TheVariants.{Known};
 ghost use Rattle.flt_vm.specs.declared.slots.Slot.TheVariants.{Values};
 
@@ -36,14 +36,14 @@ use pk_fields::FieldId;
 use pk_tree::{Layers, Tree, Value};
 use std::alloc::Global;
 
-/// Where a step leads: on to a place, or to the end of the run.
-#[derive(Clone, Copy)]
-pub(crate) enum Next {
-    On(usize),
-    Done(bool),
+/// Whether an instruction is RETURN.
+pub(crate) fn is_return(instr: &Instr) -> bool
+    ensures { result ≡ is_return instr.now }
+{
+    matches!(instr, Instr::Return)
 }
 
-/// What an instruction at a place of so many does to the registers and the flag.
+/// What an instruction but RETURN, at a place of so many, does to the registers and the flag, and where it leads.
 #[tactic(auto, unfolding(crate::specs::Machine::act))]
 pub(crate) fn step<'p>(
     alloc: Global,
@@ -54,94 +54,95 @@ pub(crate) fn step<'p>(
     flag: &mut Flag<'p>,
     searches: &mut [Search<'p>],
     tree: &Tree,
-) -> Result<Next, NoMemory>
+) -> Result<usize, NoMemory>
     requires fits { Fits (length slots.old) size at instr.now }
     requires small { size < 2 ^ 32 }
-    ensures moves { IfOk result (λ next. (job : Job) → job.tree ≡ tree.now
+    requires on { is_return instr.now ≡ false }
+    ensures moves { IfOk result (λ place. (job : Job) → job.tree ≡ tree.now
         → job.patterns ≡ searches.old
         → Does (act job (state_in tree.now at flag.old slots.old) (Some instr.now))
-        (move_in tree.now next flag.new slots.new)) }
-    ensures ahead { IfOk result (IsAhead at size) }
+        (Goes (state_in tree.now place flag.new slots.new))) }
+    ensures ahead { IfOk result (λ place. (at < place) × (place < size)) }
     ensures count { length slots.new ≡ length slots.old }
     ensures searches { searches.new ≡ searches.old }
 {
     match instr {
         Instr::Read(register, field, layers) => {
             read(slots, flag, *register, *field, layers, tree);
-            Ok(Next::On(at + 1))
+            Ok(at + 1)
         }
         Instr::Const(register, constant) => {
             slots[*register] = Slot::Single(constant);
-            Ok(Next::On(at + 1))
+            Ok(at + 1)
         }
         Instr::Slice(register, source, ranges) => {
             slice(alloc, slots, flag, *register, *source, ranges.slice(), tree)?;
-            Ok(Next::On(at + 1))
+            Ok(at + 1)
         }
         Instr::Mask(register, source, bits) => {
             mask(alloc, slots, *register, *source, *bits, tree)?;
-            Ok(Next::On(at + 1))
+            Ok(at + 1)
         }
         Instr::Call(register, function, source) => {
             call(alloc, slots, *register, *function, *source, tree)?;
-            Ok(Next::On(at + 1))
+            Ok(at + 1)
         }
         Instr::Count(register, field, layers) => {
             count(alloc, slots, *register, *field, layers, tree)?;
-            Ok(Next::On(at + 1))
+            Ok(at + 1)
         }
         Instr::Compute(register, operation, left, right) => {
             compute(alloc, slots, *register, *operation, *left, *right, tree)?;
-            Ok(Next::On(at + 1))
+            Ok(at + 1)
         }
         Instr::Choose(register, extreme, left, right) => {
             choose(alloc, slots, *register, *extreme, *left, *right, tree)?;
-            Ok(Next::On(at + 1))
+            Ok(at + 1)
         }
         Instr::Save(register) => {
             slots[*register] = Slot::Truth(known(flag, tree));
-            Ok(Next::On(at + 1))
+            Ok(at + 1)
         }
         Instr::Test(choice, relation, left, right) => {
             let truth = test(alloc, slots, *choice, *relation, *left, *right, tree)?;
             *flag = Flag::Known(truth);
-            Ok(Next::On(at + 1))
+            Ok(at + 1)
         }
         Instr::In(choice, register, members) => {
             let truth = is_in(alloc, slots, *choice, *register, members.slice(), tree)?;
             *flag = Flag::Known(truth);
-            Ok(Next::On(at + 1))
+            Ok(at + 1)
         }
         Instr::Match(choice, register, pattern) => {
             let truth = finds(alloc, *choice, searches, *pattern, slots, *register, tree)?;
             *flag = Flag::Known(truth);
-            Ok(Next::On(at + 1))
+            Ok(at + 1)
         }
         Instr::NonZero(register) => {
             let truth = has_bit(alloc, slots, *register, tree)?;
             *flag = Flag::Known(truth);
-            Ok(Next::On(at + 1))
+            Ok(at + 1)
         }
         Instr::Not => {
             *flag = Flag::Known(!known(flag, tree));
-            Ok(Next::On(at + 1))
+            Ok(at + 1)
         }
         Instr::Differ(register) => {
             let truth = differs_from(alloc, slots, *register, flag, tree)?;
             *flag = Flag::Known(truth);
-            Ok(Next::On(at + 1))
+            Ok(at + 1)
         }
         Instr::JumpFalse(passed) => {
             let truth = known(flag, tree);
             *flag = Flag::Known(truth);
-            Ok(Next::On(place_behind(at, !truth, *passed)))
+            Ok(place_behind(at, !truth, *passed))
         }
         Instr::JumpTrue(passed) => {
             let truth = known(flag, tree);
             *flag = Flag::Known(truth);
-            Ok(Next::On(place_behind(at, truth, *passed)))
+            Ok(place_behind(at, truth, *passed))
         }
-        Instr::Return => Ok(Next::Done(known(flag, tree))),
+        Instr::Return => unreachable!(),
     }
 }
 
@@ -386,7 +387,7 @@ fn differ(kept: bool, flag: bool) -> bool
 }
 
 /// Sets a register to a field's values where it is unset. The flag tells whether it has a value.
-fn read<'p>(
+pub(crate) fn read<'p>(
     slots: &mut [Slot<'p>],
     flag: &mut Flag<'p>,
     register: usize,

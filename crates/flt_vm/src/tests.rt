@@ -64,13 +64,15 @@ fn span() -> Span
     }
 }
 
-/// A packet with two addresses, to port 8050 with SYN and ACK, and a question for `Host.test`.
+/// A packet in a packet, with three addresses, to port 8050 with SYN and ACK, and a question for `Host.test`.
 #[tactic(auto, unfolding(pk_fields::specs::Fields::row_of, pk_fields::specs::Table::rows))]
 fn packet(alloc: Global) -> Result<Tree, NoMemory> {
     let mut builder = TreeBuilder::new(alloc, Octets::copy(alloc, b"frame")?)?;
     builder.open_layer(ids::IP, span())?;
     builder.made_item(ids::IP_ADDR, Value::Ip4(0x0a00_0001))?;
     builder.made_item(ids::IP_ADDR, Value::Ip4(0x0a00_0002))?;
+    builder.open_layer(ids::IP, span())?;
+    builder.made_item(ids::IP_ADDR, Value::Ip4(0x0a00_0003))?;
     builder.open_layer(ids::TCP, span())?;
     builder.made_item(ids::TCP_PORT, Value::Uint(8050))?;
     builder.made_item(ids::TCP_FLAGS, Value::Uint(0x12))?;
@@ -94,6 +96,10 @@ fn constant(value: Value) -> Constant {
 
 fn number(register: usize, number: u64) -> Instr {
     Instr::Const(register, constant(Value::Uint(number)))
+}
+
+fn address(register: usize, address: u32) -> Instr {
+    Instr::Const(register, constant(Value::Ip4(address)))
 }
 
 fn equal(left: usize, right: usize) -> Instr {
@@ -213,6 +219,110 @@ fn text_rows(alloc: Global, rows: &mut Vec<Row>) -> Result<(), NoMemory> {
     Ok(())
 }
 
+/// A row of instructions, and what they answer.
+fn row_of<const N: usize>(
+    alloc: Global,
+    name: &'static str,
+    code: [Instr; N],
+    packet: (bool, u32),
+    nothing: (bool, u32),
+) -> Result<Row, NoMemory> {
+    Ok(Row {
+        name,
+        code: Vec::from_array(alloc, code)?,
+        packet,
+        nothing,
+    })
+}
+
+/// `tcp.port == 8050`, `udp.port == 8050` and `ip.addr == 10.0.0.3`, each test taken at once.
+fn joined_rows(alloc: Global, rows: &mut Vec<Row>) -> Result<(), NoMemory> {
+    let code = [
+        read(0, ids::TCP_PORT),
+        number(1, 8050),
+        equal(0, 1),
+        Instr::Return,
+    ];
+    rows.push(row_of(alloc, "a field", code, (true, 4), (false, 4))?)?;
+    let code = [
+        read(0, ids::UDP_PORT),
+        number(1, 8050),
+        equal(0, 1),
+        Instr::Return,
+    ];
+    rows.push(row_of(alloc, "an absent field", code, (false, 4), (false, 4))?)?;
+    let code = [
+        read(0, ids::IP_ADDR),
+        address(1, 0x0a00_0003),
+        equal(0, 1),
+        Instr::Return,
+    ];
+    rows.push(row_of(alloc, "a field of two layers", code, (true, 4), (false, 4))?)?;
+    Ok(())
+}
+
+/// The same in registers that are set, the same for both, or in the other order.
+fn kept_rows(alloc: Global, rows: &mut Vec<Row>) -> Result<(), NoMemory> {
+    let code = [
+        read(0, ids::TCP_FLAGS),
+        read(0, ids::TCP_PORT),
+        number(1, 0x12),
+        equal(0, 1),
+        Instr::Return,
+    ];
+    rows.push(row_of(alloc, "a register that is set", code, (true, 5), (false, 5))?)?;
+    let code = [
+        read(0, ids::TCP_PORT),
+        number(0, 7),
+        equal(0, 0),
+        Instr::Return,
+    ];
+    rows.push(row_of(alloc, "one register for both", code, (true, 4), (true, 4))?)?;
+    let code = [
+        read(0, ids::TCP_PORT),
+        number(1, 8050),
+        equal(1, 0),
+        Instr::Return,
+    ];
+    rows.push(row_of(alloc, "the constant first", code, (true, 4), (false, 4))?)?;
+    Ok(())
+}
+
+/// The same among jumps: over them, and into them.
+fn jumped_rows(alloc: Global, rows: &mut Vec<Row>) -> Result<(), NoMemory> {
+    let code = [
+        read(0, ids::TCP_PORT),
+        number(1, 8050),
+        equal(0, 1),
+        Instr::JumpFalse(3),
+        read(2, ids::TCP_FLAGS),
+        number(3, 0x12),
+        equal(2, 3),
+        Instr::Return,
+    ];
+    rows.push(row_of(alloc, "two, joined by and", code, (true, 8), (false, 5))?)?;
+    let code = [
+        read(0, ids::TCP_PORT),
+        Instr::JumpTrue(1),
+        read(2, ids::UDP_PORT),
+        number(1, 8050),
+        equal(0, 1),
+        Instr::Return,
+    ];
+    rows.push(row_of(alloc, "a jump to the constant", code, (true, 5), (false, 6))?)?;
+    let code = [
+        number(1, 8050),
+        read(0, ids::TCP_PORT),
+        Instr::JumpTrue(2),
+        read(2, ids::UDP_PORT),
+        number(1, 7),
+        equal(0, 1),
+        Instr::Return,
+    ];
+    rows.push(row_of(alloc, "a jump to the test", code, (true, 5), (false, 7))?)?;
+    Ok(())
+}
+
 /// What a machine answers, of each tree twice: what it keeps from one doesn't show at the next.
 fn check(rt: &impl Abort, alloc: Global, row: Row, trees: &[Tree]) -> Result<(), Fail> {
     let filter = read_filter(alloc, "dns.qry.name matches \"^host\"")?;
@@ -236,6 +346,9 @@ fn programs_run(rt: HostRuntime) -> Result<(), Fail> {
     read_rows(alloc, &mut rows)?;
     number_rows(alloc, &mut rows)?;
     text_rows(alloc, &mut rows)?;
+    joined_rows(alloc, &mut rows)?;
+    kept_rows(alloc, &mut rows)?;
+    jumped_rows(alloc, &mut rows)?;
     for row in rows {
         check(&rt, alloc, row, &trees)?;
     }

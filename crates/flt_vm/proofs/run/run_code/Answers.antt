@@ -1,32 +1,51 @@
-use Rattle.std.proofs.Common.{◌<◌, ◌+◌, ◌∙◌, false, length, arith, refl, subst, sym}
+use Rattle.std.proofs.Common.{◌+◌, ◌∙◌, false, length, arith, refl, subst, sym}
 use Rattle.std.proofs.lemmas.Option.{slice_get_read}
-use Rattle.flt_vm.proofs.RunLemmas.{leads_on, leads_out, run_ends, run_on}
-use Rattle.flt_vm.specs.Machine.{Job}
-use Rattle.flt_vm.specs.Slots.{IsAhead, state_in}
+use Rattle.flt_vm.proofs.RunLemmas.{leads_both, return_ends, run_ends, run_on, step_at}
+use Rattle.flt_vm.specs.Machine.{Job, Goes, Ends}
+use Rattle.flt_vm.specs.Programs.{Fits}
+use Rattle.flt_vm.specs.Slots.{state_in}
 use Rattle.flt_vm.specs.declared.slots.Flag.TheVariants.{Known}
 use Rattle.flt_vm.proofs.run.run_code.Goals as goal
 
+pub step-requires-clause-fits : goal.step-requires-clause-fits
+step-requires-clause-fits c =
+    let code = c.args.code.now in
+    let place = c.steps.at + c.in_ok-taken.taken in
+    let there = slice_get_read code (length code) place c.index-code-at.result refl c.in_ok-taken.ensures.inside c.index-code-at.is in
+    subst (λ n. Fits n (length code) place c.index-code-at.result) (sym (c.test_at.ensures.count ∙ c.steps.invariant.count)) (c.requires.program.fits place c.index-code-at.result there)
+
 pub steps-preserved : goal.steps-preserved
 steps-preserved c =
-    let job : Job = record { code = c.args.code.now; patterns = c.args.searches.now; tree = c.args.tree.now } in
-    let there = slice_get_read c.args.code.now (length c.args.code.now) c.steps.at c.index-code-at.result refl c.steps.invariant.inside c.index-code-at.is in
-    let ahead : (c.steps.at < c.in-On.place) × (c.in-On.place < length c.args.code.now) = subst (IsAhead c.steps.at (length c.args.code.now)) c.in-On.is c.in_ok-next.ensures.ahead in
-    let does = leads_on job c.steps.at c.in-On.place c.steps.flag c.step.new.flag c.steps.slots c.step.new.slots _ c.in_ok-next.next there c.in-On.is
-    (c.in_ok-next.ensures.moves job refl (sym c.steps.invariant.searches)) in
+    let code = c.args.code.now in
+    let tree = c.args.tree.now in
+    let job : Job = record { code = code; patterns = c.args.searches.now; tree = tree } in
+    let place = c.steps.at + c.in_ok-taken.taken in
+    let steps = c.steps.steps + c.in_ok-taken.taken in
+    let there = slice_get_read code (length code) place c.index-code-at.result refl c.in_ok-taken.ensures.inside c.index-code-at.is in
+    let first = state_in tree 0 (Known false) c.args.slots.now in
+    let now = state_in tree place c.test_at.new.flag c.test_at.new.slots in
+    let next = state_in tree c.in_ok-at.at c.step.new.flag c.step.new.slots in
+    let way = leads_both job first (state_in tree c.steps.at c.steps.flag c.steps.slots) now c.steps.steps c.in_ok-taken.taken steps c.steps.invariant.way (c.in_ok-taken.ensures.leads job refl refl) refl in
+    let does = step_at job now c.index-code-at.result (Goes next) there (c.in_ok-at.ensures.moves job refl (sym c.steps.invariant.searches)) in
     record {
-      inside = ahead.1;
-      few = omega arith;
-      count = c.in_ok-next.ensures.count ∙ c.steps.invariant.count;
-      searches = c.in_ok-next.ensures.searches ∙ c.steps.invariant.searches;
-      way = run_on job (state_in c.args.tree.now 0 (Known false) c.args.slots.now) (state_in c.args.tree.now c.steps.at c.steps.flag c.steps.slots)
-          (state_in c.args.tree.now c.in-On.place c.step.new.flag c.step.new.slots) c.steps.steps (c.steps.steps + 1) c.steps.invariant.way does refl;
+      inside = c.in_ok-at.ensures.ahead.1;
+      few = omega (arith, c.steps.invariant.few, c.in_ok-at.ensures.ahead.0);
+      count = c.step.ensures.count ∙ c.test_at.ensures.count ∙ c.steps.invariant.count;
+      searches = c.step.ensures.searches ∙ c.steps.invariant.searches;
+      way = run_on job first now next steps (steps + 1) way does refl;
     }
 
-pub returns-in-Done-clause-verdict : goal.returns-in-Done-clause-verdict
-returns-in-Done-clause-verdict c =
-    let job : Job = record { code = c.args.code.now; patterns = c.args.searches.now; tree = c.args.tree.now } in
-    let there = slice_get_read c.args.code.now (length c.args.code.now) c.steps.at c.index-code-at.result refl c.steps.invariant.inside c.index-code-at.is in
-    let does = leads_out job c.steps.at c.steps.flag c.step.new.flag c.in-Done.holds c.steps.slots c.step.new.slots _ c.in_ok-next.next there c.in-Done.is
-    (c.in_ok-next.ensures.moves job refl (sym c.steps.invariant.searches)) in
-    run_ends job (state_in c.args.tree.now 0 (Known false) c.args.slots.now) (state_in c.args.tree.now c.steps.at c.steps.flag c.steps.slots)
-    c.in-Done.holds c.steps.steps (c.steps.steps + 1) c.steps.invariant.way does refl
+pub returns-then-is_return-clause-verdict : goal.returns-then-is_return-clause-verdict
+returns-then-is_return-clause-verdict c =
+    let code = c.args.code.now in
+    let tree = c.args.tree.now in
+    let job : Job = record { code = code; patterns = c.args.searches.now; tree = tree } in
+    let place = c.steps.at + c.in_ok-taken.taken in
+    let steps = c.steps.steps + c.in_ok-taken.taken in
+    let there = slice_get_read code (length code) place c.index-code-at.result refl c.in_ok-taken.ensures.inside c.index-code-at.is in
+    let first = state_in tree 0 (Known false) c.args.slots.now in
+    let now = state_in tree place c.test_at.new.flag c.test_at.new.slots in
+    let way = leads_both job first (state_in tree c.steps.at c.steps.flag c.steps.slots) now c.steps.steps c.in_ok-taken.taken steps c.steps.invariant.way (c.in_ok-taken.ensures.leads job refl refl) refl in
+    let holds = c.known.result in
+    let does = step_at job now c.index-code-at.result (Ends holds) there (return_ends job now c.index-code-at.result holds (sym c.is_return.ensures ∙ c.if-is_return.true) c.known.ensures) in
+    run_ends job first now holds steps (steps + 1) way does refl

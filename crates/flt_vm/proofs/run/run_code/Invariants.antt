@@ -1,6 +1,5 @@
 use Rattle.std.proofs.Common.{◌≡◌, ◌≤◌, ◌<◌, ◌-◌, false, length}
-use Rattle.flt_vm.proofs.RunLemmas.{IsOnWay}
-use Rattle.flt_vm.specs.Slots.{state_in}
+use Rattle.flt_vm.specs.Slots.{LeadsTo, state_in}
 use Rattle.flt_vm.specs.declared.slots.Flag.TheVariants.{Known}
 use Rattle.flt_vm.proofs.run.run_code.Given as goal
 
@@ -10,7 +9,7 @@ invariant-steps l = record {
   few : l.steps ≤ l.at;
   count : length l.slots ≡ length l.fn.slots;
   searches : l.searches ≡ l.fn.searches;
-  way : IsOnWay (record { code = l.fn.code; patterns = l.fn.searches; tree = l.fn.tree }) (state_in l.fn.tree 0 (Known false) l.fn.slots) (state_in l.fn.tree l.at l.flag l.slots) l.steps;
+  way : LeadsTo (record { code = l.fn.code; patterns = l.fn.searches; tree = l.fn.tree }) (state_in l.fn.tree 0 (Known false) l.fn.slots) (state_in l.fn.tree l.at l.flag l.slots) l.steps;
 }
 
 abbrev pub decreases-steps : goal.decreases-steps
