@@ -1,13 +1,14 @@
 -- What a program answers, as a function: it is what its runs end with, and trees are alike to it that have the same values
 -- of its fields.
-use Rattle.std.proofs.Common.{◌≡◌, ℕ, zero, suc, ◌+◌, ◌≤◌, ◌<◌, Bool as Truth, List, [], ◌∷◌, length, get_or, ⊎_elim, Option, Some, None, Ok, Err, Result, IfOk, true, option_map, slice_get, ap, sym, refl, ◌∙◌, subst, arith}
+use Rattle.std.proofs.Common.{◌≡◌, ℕ, zero, suc, ◌+◌, ◌≤◌, ◌<◌, Bool as Truth, List, [], ◌∷◌, length, get_or, ⊎_elim, drop, false, ◌||◌, Option, Some, None, Ok, Err, Result, IfOk, true, option_map, slice_get, ap, sym, refl, ◌∙◌, subst, arith}
 use Rattle.std.proofs.lemmas.Bool.{cases_lt}
+use Rattle.std.proofs.lemmas.List.{at_drop_more}
 use Rattle.std.proofs.lemmas.Option.{get_or_from_slice_get}
 use Rattle.flt_types.specs.declared.typed.Typed.{Typed}
 use Rattle.flt_vm.specs.Machine.{Job, LeadsOn, Move, Goes, Ends, Missing, Runs, State, act, fills, kept, sets, start, step}
 use Rattle.flt_vm.specs.Held.{plain}
 use Rattle.flt_vm.specs.Programs.{Code, FitsFilter, Ready, RunsOn, job_of, patterns_of}
-use Rattle.flt_vm.specs.Verdicts.{ComputedIsRun, HasCode, HasField, HaveSame, RunsAreComputed, VerdictsAlike, a_step_more, ended, run_of, verdict_of}
+use Rattle.flt_vm.specs.Verdicts.{ComputedIsRun, HasCode, HasField, HaveSame, RunsAreComputed, VerdictsAlike, a_step_more, asks_by, asks_in, ended, run_of, verdict_of}
 use Rattle.flt_vm.specs.declared.instr.Instr.{Instr}
 use Rattle.flt_vm.specs.declared.instr.Instr.TheVariants as instr
 use Rattle.flt_vm.specs.declared.run.Verdict.{Verdict}
@@ -143,3 +144,18 @@ fields_more old new all n now more has is each k i within found =
     (λ past. let here : n ≡ k = omega (arith, within, past) in
     let same : now ≡ i = is ∙ ap (λ m. get_or all m now) here ∙ get_or_from_slice_get all k i now found in
     subst (HasField new) same has) (cases_lt k n)
+
+-- a part of a join comes to the front
+to_front : (a b c : Truth) → (a || (b || c)) ≡ ((b || a) || c)
+to_front true true c = refl
+to_front true false c = refl
+to_front false true c = refl
+to_front false false c = refl
+
+-- the field of one instruction more was added
+pub added_more : (old new : List ℕ) (all : List Instr) (n : ℕ) (now : Instr) (f : ℕ) (told : Truth) → n < length all → now ≡ get_or all n now → is_in new f ≡ (asks_by now f || is_in old f) →
+    (asks_in (drop n all) f || is_in old f) ≡ told → (asks_in (drop (n + 1) all) f || is_in new f) ≡ told
+added_more old new all n now f told within is by so_far =
+    let left = drop (n + 1) all in
+    ap (λ x. asks_in left f || x) by ∙ to_front (asks_in left f) (asks_by now f) (is_in old f)
+    ∙ sym (at_drop_more (λ xs. asks_in xs f || is_in old f) all n now within ∙ ap (λ x. asks_in (x ∷ left) f || is_in old f) (sym is)) ∙ so_far

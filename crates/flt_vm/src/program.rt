@@ -1,7 +1,7 @@
 // Programs.
-ghost use Rattle.std.specs.Prelude.{◌≡◌, ℕ, true, length};
+ghost use Rattle.std.specs.Prelude.{◌≡◌, ◌||◌, ℕ, true, length};
 ghost use Rattle.flt_vm.specs.Programs.{IsProgram};
-ghost use Rattle.flt_vm.specs.Verdicts.{HasCode};
+ghost use Rattle.flt_vm.specs.Verdicts.{HasCode, asks_in};
 ghost use Rattle.pk_fields.specs.FieldSets.{is_in};
 
 use crate::fields::add_asked;
@@ -61,6 +61,7 @@ impl Program {
     /// Adds to a set the fields that it asks for, with their protocols.
     pub fn add_fields(&self, set: &mut FieldSet)
         ensures fields { HasCode set.new self.now }
+        ensures added { (f : ℕ) → is_in set.new f ≡ (asks_in self.now.items f || is_in set.old f) }
         ensures kept { (f : ℕ) → is_in set.old f ≡ true → is_in set.new f ≡ true }
     {
         add_asked(self.code.as_slice(), set);
