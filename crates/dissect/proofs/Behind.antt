@@ -1,6 +1,6 @@
 -- Behind which layer a payload comes: only the header that says a fragment's place hands on a fragment, only a UDP header a
 -- datagram, and only a TCP header a segment.
-use Rattle.std.proofs.Common.{◌≡◌, ◌≢◌, ℕ, ◌-◌, ◌<◌, Bool, true, false, if◌then◌else◌, List, length, rules}
+use Rattle.std.proofs.Common.{◌≡◌, ◌≢◌, ℕ, ◌-◌, ◌<◌, Bool, true, false, if◌then◌else◌, List, length, rules, subst, sym}
 use Rattle.std.specs.Prelude.{nat_lt, nat_le, ◌==◌}
 use Rattle.pk_base.specs.declared.span.Span.{Span}
 use Rattle.pk_fields.specs.Ids.{UDP, TCP}
@@ -19,7 +19,7 @@ use Rattle.pk_tree.specs.declared.layout.Reach.{Reach}
 use Rattle.pk_tree.specs.declared.layout.Reach.TheVariants.{All, Short, Failed}
 use Rattle.pk_tree.specs.Following.{carried}
 use Rattle.pk_tree.specs.Layouts.{within}
-use Rattle.pk_tree.specs.Trees.{last_proto}
+use Rattle.pk_tree.specs.Trees.{TreeShown, last_proto}
 use Rattle.dis_link.specs.Ethernet.{eth_after}
 use Rattle.dis_link.specs.Link.{link_of, link_after}
 use Rattle.dis_link.specs.LinuxCooked.{sll_after, sll2_after}
@@ -178,3 +178,8 @@ pub tcp_behind : (layers : List Layer) (mode : Mode) (span : Span) (bytes : List
     → (tcp_after mode span bytes ≢ afters.End → last_proto layers ≡ TCP) → ComesBehind (tcp_after mode span bytes) layers
 unfolding tcp_after
 tcp_behind layers mode span bytes some last = tcp_carries_behind layers _ mode _ _ _ some last
+
+-- a layer's payload, by what was read and what follows it
+pub tree_behind : (t read : TreeShown) (after next : After) → t ≡ read → after ≡ next → ComesBehind next read.layers → ComesBehind after t.layers
+tree_behind t read after next by is behind =
+    subst (λ (x : TreeShown). ComesBehind after x.layers) (sym by) (subst (λ (x : After). ComesBehind x read.layers) (sym is) behind)

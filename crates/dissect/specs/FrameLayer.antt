@@ -39,11 +39,10 @@ frame_layout before frame =
     Made FRAME_CAP_LEN (Uint (length frame.bytes)) ∷
     []
 
--- one of this layer's fields is asked
-abbrev pub asks_frame : List ℕ → Bool
-asks_frame wanted =
-    is_in wanted FRAME_NUMBER
-    || is_in wanted FRAME_TIME_EPOCH
+-- one of this layer's fields but the number is asked
+abbrev pub asks_measure : List ℕ → Bool
+asks_measure wanted =
+    is_in wanted FRAME_TIME_EPOCH
     || is_in wanted FRAME_TIME_RELATIVE
     || is_in wanted FRAME_TIME_DELTA
     || is_in wanted FRAME_LEN

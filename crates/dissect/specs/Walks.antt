@@ -146,6 +146,12 @@ abbrev pub mode_behind : Mode → After → Mode
 mode_behind mode (afters.Next (nexts.Neigh kind) span) = mode
 mode_behind mode after = Embedded
 
+-- how what is behind a header is read
+abbrev pub mode_after : Next → Mode → After → Mode
+mode_after nexts.Icmp mode after = mode_behind mode after
+mode_after nexts.Icmp6 mode after = mode_behind mode after
+mode_after which mode after = mode
+
 -- a message of ICMP
 abbrev pub message_met : List PortRule → Frame → Head → TreeShown → List Event → ℕ → List Step → After → Walk
 message_met rules frame head t es proto steps after =

@@ -2,7 +2,7 @@ ghost use Rattle.std.specs.Prelude.{◌≡◌, ◌<◌, ◌≤◌, ◌^◌, ◌�
 ghost use Rattle.pk_fields.specs.Ids.{FRAME, FRAME_NUMBER, FRAME_LEN, FRAME_CAP_LEN};
 ghost use Rattle.pk_tree.specs.declared.heads.Mode.TheVariants.{Plain};
 ghost use Rattle.pk_tree.specs.Layouts.{StepFits, StepsFit, layer_read};
-ghost use Rattle.dissect.specs.FrameLayer.{is_cut, frame_span, frame_layout, asks_frame, kept_frame};
+ghost use Rattle.dissect.specs.FrameLayer.{is_cut, frame_span, frame_layout, asks_measure, kept_frame};
 ghost use Rattle.capture_read.specs.FrameList.{IsTime};
 ghost use Rattle.dissect.specs.Times.{AreTimes};
 
@@ -42,7 +42,7 @@ pub(crate) fn frame_span(frame: &Frame) -> Span
 }
 
 /// A tree of the wanted fields with the layer that tells of the frame itself, given the times of the frames before.
-#[tactic(auto, using(crate::proofs::FramePassed::frame_passed), unfolding(crate::specs::FrameLayer::kept_frame, pk_tree::specs::Layouts::StepsFit))]
+#[tactic(auto, using(crate::proofs::FramePassed::frame_passed, crate::proofs::FramePassed::number_alone), unfolding(crate::specs::FrameLayer::kept_frame, pk_tree::specs::Layouts::StepsFit))]
 pub(crate) fn begin_tree(
     alloc: Global,
     before: Times,
@@ -57,23 +57,38 @@ pub(crate) fn begin_tree(
     ensures most { IfOk result (λ tree. length tree.layers ≤ 2) }
 {
     let mut tree = TreeBuilder::keeping(alloc, frame.bytes.clone()?, wanted)?;
-    if !asks_frame(&wanted) {
+    if asks_measure(&wanted) {
+        add_measured(before, frame, &mut tree)?;
+    } else if wanted.contains(ids::FRAME_NUMBER) {
+        add_frame(frame, &[number(frame)], &mut tree)?;
+    } else {
         add_frame(frame, &[], &mut tree)?;
-        return Ok(tree);
-    }
-    match frame.time {
-        Some(time) => add_frame(frame, &timed_steps(before, frame, time), &mut tree)?,
-        None => add_frame(frame, &untimed_steps(before, frame), &mut tree)?,
     }
     Ok(tree)
 }
 
-/// Whether a field of the frame's own layer is asked.
-fn asks_frame(wanted: &FieldSet) -> bool
-    ensures { result ≡ asks_frame wanted.now }
+/// Adds the layer that tells of the frame itself, with all of its items.
+fn add_measured(before: Times, frame: &Frame, tree: &mut TreeBuilder) -> Result<(), NoMemory>
+    requires bytes { length frame.now.bytes < 2 ^ 32 }
+    requires before { AreTimes before }
+    requires time { IfSome frame.now.time IsTime }
+    requires layers { tree.old.layers ≡ [] }
+    requires buffers { tree.old.buffers ≡ frame.now.bytes ∷ [] }
+    ensures tree { IfOk result (λ _. tree.new ≡ layer_read tree.old FRAME (frame_span frame.now) (frame_layout before frame.now) Plain (is_cut frame.now)) }
+    ensures buffers { tree.new.buffers ≡ tree.old.buffers }
+    ensures most { OnOk result (length tree.new.layers ≤ 2) }
 {
-    wanted.contains(ids::FRAME_NUMBER)
-        || wanted.contains(ids::FRAME_TIME_EPOCH)
+    match frame.time {
+        Some(time) => add_frame(frame, &timed_steps(before, frame, time), tree),
+        None => add_frame(frame, &untimed_steps(before, frame), tree),
+    }
+}
+
+/// Whether a field of the frame's own layer is asked, but its number.
+fn asks_measure(wanted: &FieldSet) -> bool
+    ensures { result ≡ asks_measure wanted.now }
+{
+    wanted.contains(ids::FRAME_TIME_EPOCH)
         || wanted.contains(ids::FRAME_TIME_RELATIVE)
         || wanted.contains(ids::FRAME_TIME_DELTA)
         || wanted.contains(ids::FRAME_LEN)

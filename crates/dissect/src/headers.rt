@@ -2,7 +2,7 @@ ghost use Rattle.std.specs.Prelude.{◌≡◌, ◌<◌, ◌^◌, List, length, I
 ghost use Rattle.pk_buffer.specs.Buffers.{IsInside};
 ghost use Rattle.dissect.specs.Events.{Event};
 ghost use Rattle.dissect.specs.Stands.{StandsAt, IsWalked, IsReady, AddsAtMost, AddsFew, AddsOneThenEnds};
-ghost use Rattle.dissect.specs.Walks.{IsTodoInside, head_met, mode_behind};
+ghost use Rattle.dissect.specs.Walks.{IsTodoInside, head_met, mode_after, mode_behind};
 
 use crate::frame_layer::is_cut;
 use crate::state::State;
@@ -25,76 +25,53 @@ impl State {
         &mut self,
         rules: &[PortRule],
         frame: &Frame,
-        head: Head,
+        head: &Head,
         tree: &mut TreeBuilder,
     ) -> Result<Todo, NoMemory>
-        requires inside { IsInside tree.old.buffers head.span }
+        requires inside { IsInside tree.old.buffers head.now.span }
         requires bytes { length frame.now.bytes < 2 ^ 32 }
         requires ready { IsReady 6 self.old tree.old }
         ensures inside { IfOk result (λ todo. IsTodoInside tree.new.buffers todo) }
         ensures walked { IfOk result (λ todo. (es : List Event) → StandsAt rules.now es self.old
-            → IsWalked rules.now (head_met rules.now frame.now head tree.old es) self.new tree.new
+            → IsWalked rules.now (head_met rules.now frame.now head.now tree.old es) self.new tree.new
             todo) }
         ensures adds { IfOk result (λ todo. AddsOneThenEnds self.old self.new todo) }
         ensures added { AddsAtMost 1 self.old self.new }
         ensures few { IfOk result (λ todo. AddsFew 6 tree.old tree.new todo) }
     {
-        match head.which {
-            Next::Arp => {
-                let after = read_arp(head.span, is_cut(frame), head.mode, tree)?;
-                self.follow(rules, frame, head.packet, head.mode, after, tree)
-            }
-            Next::Vlan => {
-                let after = read_vlan(head.span, is_cut(frame), head.mode, tree)?;
-                self.follow(rules, frame, head.packet, head.mode, after, tree)
-            }
-            Next::Ip4 => {
-                let after = read_ip4(head.span, is_cut(frame), head.mode, tree)?;
-                self.follow(rules, frame, head.packet, head.mode, after, tree)
-            }
-            Next::Ip6 => {
-                let after = read_ip6(head.span, is_cut(frame), head.mode, tree)?;
-                self.follow(rules, frame, head.packet, head.mode, after, tree)
-            }
-            Next::HopOpts | Next::Routing | Next::DstOpts | Next::FragHdr => {
-                let after = read_extension(
-                    head.which,
-                    &head.packet,
-                    head.span,
-                    is_cut(frame),
-                    head.mode,
-                    tree,
-                )?;
-                self.follow(rules, frame, head.packet, head.mode, after, tree)
-            }
-            Next::Udp => {
-                let after = read_udp(head.span, is_cut(frame), head.mode, tree)?;
-                self.follow(rules, frame, head.packet, head.mode, after, tree)
-            }
-            Next::Tcp => {
-                let after = read_tcp(head.span, is_cut(frame), head.mode, tree)?;
-                self.follow(rules, frame, head.packet, head.mode, after, tree)
-            }
-            Next::Icmp => {
-                let after = read_icmp(head.span, is_cut(frame), head.mode, tree)?;
-                let mode = mode_behind(head.mode, &after);
-                self.follow(rules, frame, head.packet, mode, after, tree)
-            }
-            Next::Icmp6 => {
-                let after = read_icmp6(head.span, is_cut(frame), head.mode, tree)?;
-                let mode = mode_behind(head.mode, &after);
-                self.follow(rules, frame, head.packet, mode, after, tree)
-            }
-            Next::Neigh(kind) => {
-                let after = read_neigh(kind, head.span, is_cut(frame), head.mode, tree)?;
-                self.follow(rules, frame, head.packet, head.mode, after, tree)
-            }
-            Next::Igmp => {
-                let after = read_igmp(head.span, is_cut(frame), head.mode, tree)?;
-                self.follow(rules, frame, head.packet, head.mode, after, tree)
-            }
-            Next::Rest => self.rest(head.span, tree),
-        }
+        let after = match head.which {
+            Next::Arp => read_arp(head.span, is_cut(frame), head.mode, tree)?,
+            Next::Vlan => read_vlan(head.span, is_cut(frame), head.mode, tree)?,
+            Next::Ip4 => read_ip4(head.span, is_cut(frame), head.mode, tree)?,
+            Next::Ip6 => read_ip6(head.span, is_cut(frame), head.mode, tree)?,
+            Next::HopOpts | Next::Routing | Next::DstOpts | Next::FragHdr => read_extension(
+                head.which,
+                &head.packet,
+                head.span,
+                is_cut(frame),
+                head.mode,
+                tree,
+            )?,
+            Next::Udp => read_udp(head.span, is_cut(frame), head.mode, tree)?,
+            Next::Tcp => read_tcp(head.span, is_cut(frame), head.mode, tree)?,
+            Next::Icmp => read_icmp(head.span, is_cut(frame), head.mode, tree)?,
+            Next::Icmp6 => read_icmp6(head.span, is_cut(frame), head.mode, tree)?,
+            Next::Neigh(kind) => read_neigh(kind, head.span, is_cut(frame), head.mode, tree)?,
+            Next::Igmp => read_igmp(head.span, is_cut(frame), head.mode, tree)?,
+            Next::Rest => return self.rest(head.span, tree),
+        };
+        let mode = mode_after(head.which, head.mode, &after);
+        self.follow(rules, frame, &head.packet, mode, &after, tree)
+    }
+}
+
+/// How what is behind a header is read.
+fn mode_after(which: Next, mode: Mode, after: &After) -> Mode
+    ensures { result ≡ mode_after which mode after.now }
+{
+    match which {
+        Next::Icmp | Next::Icmp6 => mode_behind(mode, after),
+        _ => mode,
     }
 }
 

@@ -42,18 +42,18 @@ impl State {
         &mut self,
         rules: &[PortRule],
         frame: &Frame,
-        packet: PacketHead,
+        packet: &PacketHead,
         mode: Mode,
-        after: After,
+        after: &After,
         tree: &mut TreeBuilder,
     ) -> Result<Todo, NoMemory>
-        requires inside { LeadsInside tree.old.buffers after }
-        requires last { ComesBehind after tree.old.layers }
+        requires inside { LeadsInside tree.old.buffers after.now }
+        requires last { ComesBehind after.now tree.old.layers }
         requires bytes { length frame.now.bytes < 2 ^ 32 }
         requires ready { IsReady 4 self.old tree.old }
         ensures inside { IfOk result (λ todo. IsTodoInside tree.new.buffers todo) }
         ensures walked { IfOk result (λ todo. (es : List Event) → StandsAt rules.now es self.old
-            → IsWalked rules.now (followed rules.now frame.now packet mode tree.old es after)
+            → IsWalked rules.now (followed rules.now frame.now packet.now mode tree.old es after.now)
             self.new tree.new todo) }
         ensures adds { IfOk result (λ todo. AddsOneThenEnds self.old self.new todo) }
         ensures added { AddsAtMost 1 self.old self.new }
@@ -61,20 +61,20 @@ impl State {
     {
         match after {
             After::Next(which, span) => Ok(Todo::Head(Head {
-                which,
-                span,
-                packet,
+                which: *which,
+                span: *span,
+                packet: *packet,
                 mode,
             })),
             After::Packet(which, span, packet) => Ok(Todo::Head(Head {
-                which,
-                span,
-                packet,
+                which: *which,
+                span: *span,
+                packet: *packet,
                 mode,
             })),
-            After::Fragment(head, span) => self.fragment(frame, packet, head, span, tree),
-            After::Datagram(head, span) => self.datagram(rules, frame, packet, head, span, tree),
-            After::Segment(head, span) => self.segment(rules, frame, packet, head, span, tree),
+            After::Fragment(head, span) => self.fragment(frame, *packet, *head, *span, tree),
+            After::Datagram(head, span) => self.datagram(rules, frame, *packet, *head, *span, tree),
+            After::Segment(head, span) => self.segment(rules, frame, *packet, *head, *span, tree),
             After::End => Ok(Todo::Done),
         }
     }
@@ -101,7 +101,7 @@ impl State {
     {
         let mut left = most;
         let mut todo = first;
-        while let Todo::Head(head) = todo {
+        while let Todo::Head(head) = &todo {
             if left == 0 {
                 self.rest(head.span, tree)?;
                 return Ok(());
@@ -137,7 +137,7 @@ impl State {
         }
         let span = frame_span(frame);
         let after = read_link(frame.link, frame.little, is_cut(frame), span, tree)?;
-        self.follow(rules, frame, no_packet(), Mode::Plain, after, tree)
+        self.follow(rules, frame, &no_packet(), Mode::Plain, &after, tree)
     }
 
     /// Reads all of a frame's headers behind the layer of the frame itself.

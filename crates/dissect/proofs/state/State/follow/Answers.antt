@@ -9,7 +9,7 @@ use Rattle.dissect.proofs.state.State.follow.Goals as goal
 pub returns-in-Next-clause-walked : goal.returns-in-Next-clause-walked
 unfolding followed
 returns-in-Next-clause-walked c = rw c.in-Next.is
-    (λ es stands. walked_same c.args.rules.now (go_on c.args.tree.now es (record { which = c.in-Next.which; span = c.in-Next.span; packet = c.args.packet; mode = c.args.mode })) c.args.self.now c.args.tree.now _ stands refl refl)
+    (λ es stands. walked_same c.args.rules.now (go_on c.args.tree.now es (record { which = c.in-Next.which; span = c.in-Next.span; packet = c.args.packet.now; mode = c.args.mode })) c.args.self.now c.args.tree.now _ stands refl refl)
 
 pub returns-in-Packet-clause-walked : goal.returns-in-Packet-clause-walked
 unfolding followed
@@ -24,7 +24,7 @@ returns-in-End-clause-walked c = rw c.in-End.is
 pub returns-in-Datagram-clause-walked : goal.returns-in-Datagram-clause-walked
 unfolding followed
 returns-in-Datagram-clause-walked c = rw c.in-Datagram.is
-    (walked_met c.args.rules.now c.args.self.now c.datagram.new.self (λ (es : List Event). datagram_met c.args.rules.now c.args.frame.now c.args.packet c.args.tree.now es c.in-Datagram.head c.in-Datagram.span) c.datagram.new.tree c.datagram.result c.datagram.ensures.walked)
+    (walked_met c.args.rules.now c.args.self.now c.datagram.new.self (λ (es : List Event). datagram_met c.args.rules.now c.args.frame.now c.args.packet.now c.args.tree.now es c.in-Datagram.head c.in-Datagram.span) c.datagram.new.tree c.datagram.result c.datagram.ensures.walked)
 
 pub returns-in-Fragment-clause-few : goal.returns-in-Fragment-clause-few
 returns-in-Fragment-clause-few c = few_all 4 2 c.args.tree.now c.fragment.new.tree c.fragment.result (omega arith) c.fragment.ensures.buffers c.fragment.ensures.most
