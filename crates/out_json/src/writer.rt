@@ -188,6 +188,7 @@ impl JsonWriter {
 }
 
 /// Appends a key and a number.
+#[inline(always)]
 fn put_count(line: &mut Vec<u8>, key: &str, number: u32) -> Result<(), NoMemory>
     ensures { OnOk result (line.new.items ≡ line.old.items ++ (key.now ++ decimal number)) }
 {
@@ -196,6 +197,7 @@ fn put_count(line: &mut Vec<u8>, key: &str, number: u32) -> Result<(), NoMemory>
 }
 
 /// Appends a key and the name of a field or a protocol.
+#[inline(always)]
 fn put_named(line: &mut Vec<u8>, key: &str, field: FieldId) -> Result<(), NoMemory>
     ensures { OnOk result (line.new.items
         ≡ line.old.items ++ (key.now ++ string_text (row_of field).name)) }

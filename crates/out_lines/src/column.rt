@@ -70,6 +70,7 @@ impl Column {
     }
 
     /// Makes ready for one more value.
+    #[inline(always)]
     fn begin_value(&mut self, style: &Style) -> Result<(), NoMemory>
         ensures { OnOk result (self.new
             ≡ record {

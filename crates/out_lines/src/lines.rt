@@ -197,6 +197,7 @@ fn put_further(
     Ok(())
 }
 
+#[inline(always)]
 fn put_column(
     line: &mut Vec<u8>,
     columns: &[Column],

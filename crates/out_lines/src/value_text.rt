@@ -33,6 +33,7 @@ pub fn put_value(
 }
 
 /// Appends a text.
+#[inline(always)]
 pub fn put_text(line: &mut Vec<u8>, text: &str) -> Result<(), NoMemory>
     ensures { OnOk result (line.new.items ≡ line.old.items ++ text.now) }
 {
@@ -41,6 +42,7 @@ pub fn put_text(line: &mut Vec<u8>, text: &str) -> Result<(), NoMemory>
 }
 
 /// Appends a number in decimal.
+#[inline(always)]
 pub fn put_number(line: &mut Vec<u8>, number: u64) -> Result<(), NoMemory>
     ensures { OnOk result (line.new.items ≡ line.old.items ++ decimal number) }
 {

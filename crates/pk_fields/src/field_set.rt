@@ -1,4 +1,5 @@
-ghost use Rattle.std.specs.Prelude.{◌≡◌, ◌==◌, ◌||◌, ◌<◌, ◌*◌, ◌^◌, ℕ, true, false, length};
+ghost use Rattle.std.specs.Prelude.{◌≡◌, ◌==◌, ◌||◌, ◌<◌, ◌*◌, ◌^◌, ℕ, true, false, length, count_ones};
+ghost use Rattle.std.specs.List.{sum_by};
 ghost use Rattle.pk_fields.specs.Fields.{row_of};
 ghost use Rattle.pk_fields.specs.FieldSets.{is_in, least_fields, every_field};
 
@@ -48,6 +49,20 @@ impl FieldSet {
         ensures { result ≡ is_in self.now field }
     {
         has_bit(&self.words, field)
+    }
+
+    /// How many numbers of fields and protocols the set holds.
+    pub fn count(&self) -> usize
+        ensures { result ≡ sum_by count_ones self.now }
+    {
+        let [a, b, c, d, e, f] = self.words;
+        let count = a.count_ones()
+            + b.count_ones()
+            + c.count_ones()
+            + d.count_ones()
+            + e.count_ones()
+            + f.count_ones();
+        count as usize
     }
 
     /// Whether the protocol or a field of it may be in the set.
@@ -108,6 +123,9 @@ mod tests {
             assert!(rt; set.contains(field) == wanted, "{}", name(field));
             assert!(rt; FieldSet::all().contains(field), "{}", name(field));
         }
+        // The two fields with their protocols, and `frame`.
+        assert_eq!(rt; set.count(), 5);
+        assert_eq!(rt; FieldSet::none().count(), 1);
         assert!(rt; set.has_any_of(ids::TCP));
         assert!(rt; !set.has_any_of(ids::UDP));
     }

@@ -71,7 +71,21 @@ impl TextSink for String {
 }
 
 /// Appends a number in decimal.
+#[inline(always)]
+#[tactic(auto, using(std::proofs::lemmas::Fmt::decimal_digit))]
 pub fn put_number<S: TextSink>(sink: &mut S, number: u64) -> Result<(), NoMemory>
+    ensures { OnOk result (S.taken sink.new ≡ S.taken sink.old ++ decimal number) }
+{
+    if number < 10 {
+        sink.put_ascii(b'0' + number as u8)
+    } else {
+        put_digits_of(sink, number)
+    }
+}
+
+/// Appends a number in decimal, whatever number of digits it has.
+#[inline(never)]
+fn put_digits_of<S: TextSink>(sink: &mut S, number: u64) -> Result<(), NoMemory>
     ensures { OnOk result (S.taken sink.new ≡ S.taken sink.old ++ decimal number) }
 {
     let mut buffer = Buffer::new();
@@ -114,6 +128,7 @@ fn put_four<S: TextSink>(sink: &mut S, four: &[u8]) -> Result<(), NoMemory>
 }
 
 /// Appends a byte as two lower-case hexadecimal digits.
+#[inline(always)]
 pub(crate) fn put_pair<S: TextSink>(sink: &mut S, byte: u8) -> Result<(), NoMemory>
     ensures { OnOk result (S.taken sink.new ≡ S.taken sink.old ++ hex_pair byte) }
 {

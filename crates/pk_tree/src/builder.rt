@@ -1,4 +1,4 @@
-ghost use Rattle.std.specs.Prelude.{◌≡◌, ℕ, ◌+◌, ◌-◌, ◌<◌, ◌^◌, false, [], ◌∷◌, ◌++◌, length, IfOk, IsTrue, OnErr, OnOk};
+ghost use Rattle.std.specs.Prelude.{◌≡◌, ℕ, ◌+◌, ◌-◌, ◌<◌, ◌≤◌, ◌^◌, false, [], ◌∷◌, ◌++◌, length, IfOk, IsTrue, OnErr, OnOk};
 ghost use Rattle.pk_buffer.specs.Buffers.{IsInside, bytes_of, buffer_of};
 ghost use Rattle.pk_fields.specs.Fields.{row_of};
 ghost use Rattle.pk_fields.specs.FieldSets.{is_in, every_field};
@@ -15,6 +15,9 @@ use pk_buffer::Buffers;
 use pk_fields::{FieldId, FieldSet};
 use std::alloc::Global;
 use std::marker::Model;
+
+/// A layer of so few items has room for all of them from the start.
+const FEW_ITEMS: usize = 8;
 
 /// How many layers a tree has room for from the start. Most frames have fewer.
 const FEW_LAYERS: usize = 8;
@@ -99,7 +102,7 @@ impl TreeBuilder {
         self.open_with_room(proto, span, 0)
     }
 
-    /// As `open_layer`, with room for so many items.
+    /// As `open_layer`, with room for so many items, but not for more than fields are wanted.
     pub(crate) fn open_with_room(
         &mut self,
         proto: FieldId,
@@ -119,13 +122,25 @@ impl TreeBuilder {
             proto,
             nth: next_number(&self.layers, proto),
             span,
-            items: Items::with_room(self.alloc, items)?,
+            items: Items::with_room(self.alloc, self.room_for(items))?,
         };
         self.layers.push(layer)?;
         Ok(())
     }
 
+    /// How many of so many items there is room for from the start: of one field there may be several, which is rare.
+    fn room_for(&self, items: usize) -> usize
+        ensures { result ≤ items }
+    {
+        if items <= FEW_ITEMS {
+            items
+        } else {
+            items.min(self.wanted.count())
+        }
+    }
+
     /// Adds the item that a field's row reads in a span, if the field is wanted.
+    #[inline(always)]
     #[tactic(auto, unfolding(crate::specs::Trees::with_item))]
     pub fn read_item(&mut self, field: FieldId, span: Span) -> Result<(), NoMemory>
         requires inside { IsInside self.old.buffers span }
@@ -143,6 +158,24 @@ impl TreeBuilder {
         if !self.wants(field) {
             return Ok(());
         }
+        self.read_wanted(field, span)
+    }
+
+    /// As `read_item`, of a field that is wanted.
+    #[inline(never)]
+    fn read_wanted(&mut self, field: FieldId, span: Span) -> Result<(), NoMemory>
+        requires inside { IsInside self.old.buffers span }
+        requires read { IsTrue (is_read (row_of field)) }
+        requires size { HasSize (row_of field).bits span.len }
+        requires layer { 0 < length self.old.layers }
+        requires belongs { (row_of field).proto ≡ last_proto self.old.layers }
+        ensures ok { OnOk result (self.new
+            ≡ with_last self.old (read_of self.old.buffers field span)) }
+        ensures err { OnErr result (self.new ≡ self.old) }
+        ensures buffers { self.new.buffers ≡ self.old.buffers }
+        ensures count { length self.new.layers ≡ length self.old.layers }
+        ensures last { last_proto self.new.layers ≡ last_proto self.old.layers }
+    {
         let value = read_value(&self.buffers, field, span)?;
         let item = Item {
             field,
@@ -259,6 +292,7 @@ impl TreeBuilder {
         Tree::from_parts(self.layers, self.buffers, self.wanted, self.alloc)
     }
 
+    #[inline(always)]
     fn push_item(&mut self, item: Item) -> Result<(), NoMemory>
         requires fits { ItemFits self.old.buffers (last_proto self.old.layers) item }
         requires layer { 0 < length self.old.layers }

@@ -62,6 +62,7 @@ impl Items {
         })
     }
 
+    #[inline(always)]
     pub(crate) fn push(&mut self, item: Item) -> Result<(), NoMemory>
         ensures ok { OnOk result (self.new ≡ self.old ++ item ∷ []) }
         ensures err { OnErr result (self.new ≡ self.old) }

@@ -63,6 +63,7 @@ pub(crate) fn next_number(layers: &[Layer], proto: FieldId) -> u32
 }
 
 /// Adds an item to the last layer.
+#[inline(always)]
 pub(crate) fn push_last(layers: &mut Vec<Layer>, item: Item) -> Result<(), NoMemory>
     requires { 0 < vec_len layers.old }
     ensures ok { OnOk result (layers.new.items
@@ -74,6 +75,7 @@ pub(crate) fn push_last(layers: &mut Vec<Layer>, item: Item) -> Result<(), NoMem
 }
 
 /// Adds an item to the layer at a place.
+#[inline(always)]
 pub(crate) fn push_at(layers: &mut Vec<Layer>, at: usize, item: Item) -> Result<(), NoMemory>
     requires { at < vec_len layers.old }
     ensures ok { OnOk result (layers.new.items ≡ layer_gets layers.old.items at item) }

@@ -73,8 +73,23 @@ fn scaled_number(place: BitPlace, bytes: &[u8]) -> u64
     ensures value { result ≡ scaled bytes.now place }
     ensures bound { result < place.scale * 2 ^ place.width }
 {
-    let number = be_bits(bytes, usize::from(place.first), u32::from(place.width));
-    u64::from(place.scale) * number
+    u64::from(place.scale) * placed_number(place, bytes)
+}
+
+/// The number that bits spell. Where the width is a constant, the compiler reads whole bytes at once.
+fn placed_number(place: BitPlace, bytes: &[u8]) -> u64
+    requires some { 1 ≤ place.width }
+    requires most { place.width ≤ 64 }
+    requires inside { place.first + place.width ≤ 8 * length bytes.now }
+    ensures value { result ≡ number_of_bits bytes.now place.first place.width }
+    ensures bound { result < 2 ^ place.width }
+{
+    match (place.first, place.width) {
+        (0, 8) => be_bits(bytes, 0, 8),
+        (0, 16) => be_bits(bytes, 0, 16),
+        (0, 32) => be_bits(bytes, 0, 32),
+        (first, width) => be_bits(bytes, usize::from(first), u32::from(width)),
+    }
 }
 
 /// The number that sixteen bytes spell.

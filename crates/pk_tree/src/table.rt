@@ -15,9 +15,6 @@ use crate::layout::{Reach, Step, close_layer, read_part, read_some, read_steps};
 use pk_base::{NoMemory, Span};
 use pk_fields::{FieldId, field_of, size};
 
-/// How many items a layer has room for from the start, where its rows are as many. More grow into it.
-const FEW_ITEMS: usize = 12;
-
 /// One step of a layer's reading that stands in a table: a field's number, and places from the layer's first byte.
 /// What depends on the bytes is named by its number in the lists of conditions and of sizes.
 #[derive(Clone, Copy)]
@@ -63,7 +60,8 @@ pub fn read_table(
     ensures most { OnOk result (length tree.new.layers ≤ length tree.old.layers + 2) }
     ensures last { IfOk result (λ r. r ≡ Reach.All → last_proto tree.new.layers ≡ proto) }
 {
-    tree.open_with_room(proto, span, slots.len().min(FEW_ITEMS))?;
+    let items = slots.len().saturating_add(more.len());
+    tree.open_with_room(proto, span, items)?;
     let reach = read_both(tree, span, slots, holds, sizes, more)?;
     close_layer(tree, span, reach, mode, cut)?;
     Ok(reach)
