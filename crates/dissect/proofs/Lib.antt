@@ -1,6 +1,7 @@
 mod Asked
 mod Behind
 mod Chains
+mod DataLemmas
 mod DatagramLemmas
 mod FramePassed
 mod HttpUnasked

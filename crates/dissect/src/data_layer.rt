@@ -4,10 +4,10 @@ ghost use Rattle.dissect.specs.DataLayer.{data_layout, data_over};
 
 use pk_base::{NoMemory, Span};
 use pk_fields::ids;
-use pk_tree::{Mode, Step, TreeBuilder, Value, read_layer};
+use pk_tree::{Mode, Reach, Step, TreeBuilder, Value, pass_layer, read_layer};
 
 /// Shows bytes that no protocol reads. There is no layer for no bytes.
-#[tactic(auto, unfolding(crate::specs::DataLayer::data_over, pk_tree::specs::Layouts::StepsFit, pk_fields::specs::Fields::row_of, pk_fields::specs::Table::rows))]
+#[tactic(auto, using(crate::proofs::DataLemmas::data_read), unfolding(crate::specs::DataLayer::data_over, pk_tree::specs::Layouts::StepsFit, pk_fields::specs::Fields::row_of, pk_fields::specs::Table::rows))]
 pub(crate) fn add_data(span: Span, tree: &mut TreeBuilder) -> Result<(), NoMemory>
     requires inside { IsInside tree.old.buffers span }
     requires room { length tree.old.layers + 2 < 2 ^ 32 }
@@ -17,6 +17,9 @@ pub(crate) fn add_data(span: Span, tree: &mut TreeBuilder) -> Result<(), NoMemor
 {
     if span.len == 0 {
         return Ok(());
+    }
+    if !tree.asks(ids::DATA) {
+        return pass_layer(tree, ids::DATA, span, Reach::All, Mode::Plain, false);
     }
     let steps = data_steps(span.len);
     read_layer(tree, ids::DATA, span, &steps, Mode::Plain, false)?;

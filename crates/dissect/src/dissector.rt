@@ -196,6 +196,7 @@ impl Dissector {
 
     /// As `take`, for a tree that has only the items of the fields that the dissector was made for, with the same values of these
     /// as the whole tree.
+    #[inline(always)]
     #[tactic(auto, using(crate::proofs::Told::follows_asked), unfolding(crate::specs::Stands::StandsWithin))]
     pub fn take_wanted(&mut self, frame: &Frame) -> Result<Tree, TakeFault>
         requires number { frame.now.number ≡ self.old.taken + 1 }
@@ -221,6 +222,7 @@ impl Dissector {
     }
 
     /// Takes a frame for a tree of some fields, of which those of streams are told only where streams are followed.
+    #[inline(always)]
     fn take_asked(&mut self, frame: &Frame, asked: FieldSet) -> Result<Tree, TakeFault>
         requires number { frame.now.number ≡ self.old.taken + 1 }
         requires time { IfSome frame.now.time IsTime }

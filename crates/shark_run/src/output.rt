@@ -218,6 +218,7 @@ fn write_tree<O: Sink>(
 }
 
 // Takes a frame, of which only the fields are read that the output is made from, and adds its links to later frames.
+#[inline(always)]
 fn take_frame(
     plan: &Plan,
     frame: &Frame,
