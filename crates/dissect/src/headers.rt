@@ -39,11 +39,11 @@ impl State {
         ensures added { AddsAtMost 1 self.old self.new }
         ensures few { IfOk result (λ todo. AddsFew 6 tree.old tree.new todo) }
     {
-        let after = match head.which {
-            Next::Arp => read_arp(head.span, is_cut(frame), head.mode, tree)?,
-            Next::Vlan => read_vlan(head.span, is_cut(frame), head.mode, tree)?,
-            Next::Ip4 => read_ip4(head.span, is_cut(frame), head.mode, tree)?,
-            Next::Ip6 => read_ip6(head.span, is_cut(frame), head.mode, tree)?,
+        let read = match head.which {
+            Next::Arp => read_arp(head.span, is_cut(frame), head.mode, tree),
+            Next::Vlan => read_vlan(head.span, is_cut(frame), head.mode, tree),
+            Next::Ip4 => read_ip4(head.span, is_cut(frame), head.mode, tree),
+            Next::Ip6 => read_ip6(head.span, is_cut(frame), head.mode, tree),
             Next::HopOpts | Next::Routing | Next::DstOpts | Next::FragHdr => read_extension(
                 head.which,
                 &head.packet,
@@ -51,15 +51,16 @@ impl State {
                 is_cut(frame),
                 head.mode,
                 tree,
-            )?,
-            Next::Udp => read_udp(head.span, is_cut(frame), head.mode, tree)?,
-            Next::Tcp => read_tcp(head.span, is_cut(frame), head.mode, tree)?,
-            Next::Icmp => read_icmp(head.span, is_cut(frame), head.mode, tree)?,
-            Next::Icmp6 => read_icmp6(head.span, is_cut(frame), head.mode, tree)?,
-            Next::Neigh(kind) => read_neigh(kind, head.span, is_cut(frame), head.mode, tree)?,
-            Next::Igmp => read_igmp(head.span, is_cut(frame), head.mode, tree)?,
+            ),
+            Next::Udp => read_udp(head.span, is_cut(frame), head.mode, tree),
+            Next::Tcp => read_tcp(head.span, is_cut(frame), head.mode, tree),
+            Next::Icmp => read_icmp(head.span, is_cut(frame), head.mode, tree),
+            Next::Icmp6 => read_icmp6(head.span, is_cut(frame), head.mode, tree),
+            Next::Neigh(kind) => read_neigh(kind, head.span, is_cut(frame), head.mode, tree),
+            Next::Igmp => read_igmp(head.span, is_cut(frame), head.mode, tree),
             Next::Rest => return self.rest(head.span, tree),
         };
+        let after = read?;
         let mode = mode_after(head.which, head.mode, &after);
         self.follow(rules, frame, &head.packet, mode, &after, tree)
     }
