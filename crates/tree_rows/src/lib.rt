@@ -1,0 +1,57 @@
+//! Trees as text, for the tables of tests: a line for each layer, `name start+length: field=value ..`.
+#![tactic(auto)]
+
+mod items;
+
+use crate::items::push_item;
+pub use crate::items::{Places, value_text};
+use pk_base::Span;
+use pk_fields::name;
+use pk_tree::Layer;
+use std::alloc::{AllocError, Global};
+
+/// The layers of a tree, a line each.
+pub fn layers_text(alloc: Global, layers: &[Layer], places: Places) -> Result<String, AllocError> {
+    let mut text = String::new(alloc);
+    for layer in layers {
+        push_layer(alloc, &mut text, layer, places)?;
+    }
+    Ok(text)
+}
+
+/// Adds a layer's name, its first byte and size, and its items.
+fn push_layer(
+    alloc: Global,
+    text: &mut String,
+    layer: &Layer,
+    places: Places,
+) -> Result<(), AllocError> {
+    push_head(alloc, text, name(layer.proto), layer.span)?;
+    for item in layer.items.slice() {
+        push_item(alloc, text, item, places)?;
+    }
+    text.push_str("\n")
+}
+
+fn push_head(alloc: Global, text: &mut String, name: &str, span: Span) -> Result<(), AllocError> {
+    let head = format!(in alloc; "{name} {}+{}:", span.start, span.len)?;
+    text.push_str(&head)
+}
+
+/// The parts of a text, one behind the other.
+pub fn joined_text(alloc: Global, parts: &[&str]) -> Result<String, AllocError> {
+    let mut text = String::new(alloc);
+    for part in parts {
+        text.push_str(part)?;
+    }
+    Ok(text)
+}
+
+/// The parts of a message, one behind the other.
+pub fn joined_bytes(alloc: Global, parts: &[&[u8]]) -> Result<Vec<u8>, AllocError> {
+    let mut bytes = Vec::new(alloc);
+    for part in parts {
+        bytes.extend_from_slice(part)?;
+    }
+    Ok(bytes)
+}
