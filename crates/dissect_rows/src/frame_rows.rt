@@ -69,7 +69,7 @@ const IP_FLAGS: &str =
     " ip.id=1 ip.flags.rb=false ip.flags.df=false ip.flags.mf=false ip.frag_offset=0 ip.ttl=64";
 
 const IP_ADDRESSES: &str =
-    " ip.checksum=0 ip.src=167772161 ip.addr=167772161 ip.dst=167772162 ip.addr=167772162\n";
+    " ip.checksum=0 ip.src=10.0.0.1 ip.addr=10.0.0.1 ip.dst=10.0.0.2 ip.addr=10.0.0.2\n";
 
 /// A SYN from port 40000 to port 81 (RFC 9293, 3.1).
 const SYN: &[u8] = b"\x9c\x40\0\x51\0\0\0\x01\0\0\0\0\x50\x02\xff\xff\0\0\0\0";
@@ -148,8 +148,8 @@ static FRAMES: [Capture; 7] = [
                 "eth 0+42: eth.dst=[255, 255, 255, 255, 255, 255] eth.addr=[255, 255, 255, 255, 255, 255] ",
                 "eth.src=[2, 0, 0, 0, 0, 1] eth.addr=[2, 0, 0, 0, 0, 1] eth.type=2054\n",
                 "arp 14+28: arp.hw.type=1 arp.proto.type=2048 arp.hw.size=6 arp.proto.size=4 arp.opcode=1 ",
-                "arp.src.hw_mac=[2, 0, 0, 0, 0, 1] arp.src.proto_ipv4=167772161 ",
-                "arp.dst.hw_mac=[0, 0, 0, 0, 0, 0] arp.dst.proto_ipv4=167772162\n",
+                "arp.src.hw_mac=[2, 0, 0, 0, 0, 1] arp.src.proto_ipv4=10.0.0.1 ",
+                "arp.dst.hw_mac=[0, 0, 0, 0, 0, 0] arp.dst.proto_ipv4=10.0.0.2\n",
             ],
             ..PACKET
         }],
@@ -381,7 +381,7 @@ static CARRIED: [Capture; 4] = [
             told: &[
                 "frame 0+56: frame.number=1 frame.len=56 frame.cap_len=56\n",
                 "ipv6 0+56: ipv6.version=6 ipv6.tclass=0 ipv6.flow=0 ipv6.plen=16 ipv6.nxt=0 ipv6.hlim=64",
-                " ipv6.src=? ipv6.addr=? ipv6.dst=? ipv6.addr=?\n",
+                " ipv6.src=0 ipv6.addr=0 ipv6.dst=0 ipv6.addr=0\n",
                 "ipv6.hopopts 40+16: ipv6.hopopts.nxt=17 ipv6.hopopts.len=0 ipv6.hopopts.options=[1, 4, 0, 0, 0, 0]\n",
                 "udp 48+8: udp.srcport=40000 udp.port=40000 udp.dstport=7 udp.port=7 udp.length=8 udp.checksum=0 udp.stream=0\n",
             ],

@@ -1,4 +1,4 @@
-ghost use Rattle.std.specs.Prelude.{◌≡◌, ◌+◌, ◌*◌, ◌≤◌, ◌<◌, IfSome, OnOk};
+ghost use Rattle.std.specs.Prelude.{◌≡◌, ◌×◌, ◌+◌, ◌*◌, ◌≤◌, ◌<◌, None, IfOk, IfSome, OnOk};
 ghost use Rattle.port_rules.specs.Rules.{AreRules};
 ghost use Rattle.capture_read.specs.FrameList.{IsTime};
 
@@ -14,6 +14,7 @@ use pk_tree::{Layer, Tree, Value};
 use std::alloc::{AllocError, Global};
 use std::process::Abort;
 use std::test::Fail;
+use tree_rows::{Places, joined_bytes, joined_text, layers_text, value_text};
 
 /// The rules that stand for no option.
 #[tactic(auto, using(crate::proofs::NoRules::no_rules))]
@@ -25,39 +26,6 @@ pub(crate) fn no_rules(alloc: Global) -> DecodeAs
     }
 }
 
-/// A layer's name, first byte and size, and its items.
-fn layer_text(alloc: Global, layer: &Layer) -> Result<String, AllocError> {
-    let span = layer.span;
-    let mut text = format!(in alloc; "{} {}+{}:", name(layer.proto), span.start, span.len)?;
-    for item in layer.items.slice() {
-        text.push_str(" ")?;
-        text.push_str(name(item.field))?;
-        text.push_str(&value_text(alloc, &item.value)?)?;
-    }
-    text.push_str("\n")?;
-    Ok(text)
-}
-
-pub(crate) fn value_text(alloc: Global, value: &Value) -> Result<String, AllocError> {
-    match value {
-        Value::Uint(number) => format!(in alloc; "={number}"),
-        Value::Bool(truth) => format!(in alloc; "={truth}"),
-        Value::Ip4(address) => format!(in alloc; "={address}"),
-        Value::Ether(address) => format!(in alloc; "={address:?}"),
-        Value::Bytes(bytes) => format!(in alloc; "={:?}", bytes.bytes()),
-        Value::Time(time) => format!(in alloc; "={time}"),
-        _ => format!(in alloc; "=?"),
-    }
-}
-
-fn tree_text(alloc: Global, tree: &Tree) -> Result<String, AllocError> {
-    let mut text = String::new(alloc);
-    for layer in tree.layers() {
-        text.push_str(&layer_text(alloc, layer)?)?;
-    }
-    Ok(text)
-}
-
 /// Whether a field tells of a datagram's fragments or its conversation, or how many bytes of data there are.
 fn is_told(field: FieldId) -> bool {
     field == ids::IP_FRAGMENT
@@ -67,19 +35,39 @@ fn is_told(field: FieldId) -> bool {
         || field == ids::DATA_LEN
 }
 
+/// Adds a value, as `=value`.
+pub(crate) fn push_value(
+    alloc: Global,
+    text: &mut String,
+    value: &Value,
+) -> Result<(), AllocError> {
+    let value = value_text(alloc, value)?;
+    text.push_str(&value)
+}
+
+/// Adds a layer's name, with what it tells of fragments and conversations.
+fn push_name(alloc: Global, text: &mut String, layer: &Layer) -> Result<(), AllocError> {
+    text.push_str(name(layer.proto))?;
+    for item in layer.items.slice() {
+        if is_told(item.field) {
+            push_value(alloc, text, &item.value)?;
+        }
+    }
+    text.push_str(" ")
+}
+
 /// The names of a tree's layers, with what they tell of fragments and conversations.
-pub(crate) fn names_text(alloc: Global, tree: &Tree) -> Result<String, AllocError> {
+fn names_text(alloc: Global, tree: &Tree) -> Result<String, AllocError> {
     let mut text = String::new(alloc);
     for layer in tree.layers() {
-        text.push_str(name(layer.proto))?;
-        for item in layer.items.slice() {
-            if is_told(item.field) {
-                text.push_str(&value_text(alloc, &item.value)?)?;
-            }
-        }
-        text.push_str(" ")?;
+        push_name(alloc, &mut text, layer)?;
     }
     Ok(text)
+}
+
+fn counted_names(alloc: Global, tree: &Tree, conversations: u32) -> Result<String, AllocError> {
+    let names = names_text(alloc, tree)?;
+    format!(in alloc; "{}of {conversations}", names.as_str())
 }
 
 /// What is told of a frame, once it is taken.
@@ -90,20 +78,27 @@ fn told_text(
     dissector: &Dissector,
 ) -> Result<String, AllocError> {
     match told {
-        Told::Layers => tree_text(alloc, tree),
-        Told::Names => {
-            let names = names_text(alloc, tree)?;
-            format!(in alloc; "{}of {}", names.as_str(), dissector.udp_count())
-        }
+        Told::Layers => layers_text(alloc, tree.layers(), Places::Hidden),
+        Told::Names => counted_names(alloc, tree, dissector.udp_count()),
     }
 }
 
 pub(crate) fn joined(alloc: Global, parts: &[&[u8]]) -> Result<Octets, NoMemory> {
-    let mut bytes = Vec::new(alloc);
-    for part in parts {
-        bytes.extend_from_slice(part)?;
-    }
+    let bytes = joined_bytes(alloc, parts)?;
     Octets::from_vec(bytes)
+}
+
+/// Compares a text with the parts that are wanted.
+fn compare(
+    rt: &impl Abort,
+    alloc: Global,
+    text: &str,
+    wanted: &[&str],
+    shows: &str,
+) -> Result<(), Fail> {
+    let wanted = joined_text(alloc, wanted)?;
+    assert_eq!(rt; text, wanted.as_str(), "{shows}");
+    Ok(())
 }
 
 /// The nanoseconds of a time.
@@ -116,7 +111,54 @@ fn time_of(seconds: Option<u32>) -> Option<i128>
     }
 }
 
+fn frame_of(alloc: Global, number: u32, row: &Row) -> Result<Frame, NoMemory>
+    ensures number { IfOk result (λ frame. frame.number ≡ number) }
+    ensures time { IfOk result (λ frame. IfSome frame.time IsTime) }
+{
+    let bytes = joined(alloc, row.parts)?;
+    Ok(Frame {
+        number,
+        time: time_of(row.seconds),
+        link: row.link,
+        little: true,
+        bytes,
+        original: row.original,
+    })
+}
+
+/// Compares what is told of a frame's tree.
+fn check_tree(
+    rt: &impl Abort,
+    alloc: Global,
+    dissector: &Dissector,
+    tree: &Tree,
+    capture: &Capture,
+    row: &Row,
+) -> Result<(), Fail> {
+    let text = told_text(alloc, capture.told, tree, dissector)?;
+    compare(rt, alloc, &text, row.told, capture.shows)
+}
+
 /// Takes a frame, and compares what is told of it.
+fn take_frame(
+    rt: &impl Abort,
+    alloc: Global,
+    dissector: &mut Dissector,
+    frame: &Frame,
+    capture: &Capture,
+    row: &Row,
+) -> Result<(), Fail>
+    requires number { frame.now.number ≡ dissector.old.taken + 1 }
+    requires time { IfSome frame.now.time IsTime }
+    requires captured { dissector.old.captured ≤ 1000 * dissector.old.taken }
+    requires few { frame.now.number < 100 }
+    ensures counted { OnOk result ((dissector.new.taken ≡ frame.now.number) × (dissector.new.captured ≤ 1000 * frame.now.number)) }
+{
+    assert!(rt; frame.bytes.bytes().len() <= 1_000);
+    let tree = dissector.take(frame)?;
+    check_tree(rt, alloc, dissector, &tree, capture, row)
+}
+
 fn take_row(
     rt: &impl Abort,
     alloc: Global,
@@ -130,52 +172,53 @@ fn take_row(
     requires few { number < 100 }
     ensures counted { OnOk result ((dissector.new.taken ≡ number) × (dissector.new.captured ≤ 1000 * number)) }
 {
-    let frame = Frame {
-        number,
-        time: time_of(row.seconds),
-        link: row.link,
-        little: true,
-        bytes: joined(alloc, row.parts)?,
-        original: row.original,
-    };
-    assert!(rt; frame.bytes.bytes().len() <= 1_000);
-    let tree = dissector.take(&frame)?;
-    let mut wanted = String::new(alloc);
-    for part in row.told {
-        wanted.push_str(part)?;
-    }
-    let text = told_text(alloc, capture.told, &tree, dissector)?;
-    assert_eq!(rt; text.as_str(), wanted.as_str(), "{}", capture.shows);
-    Ok(())
+    let frame = frame_of(alloc, number, row)?;
+    take_frame(rt, alloc, dissector, &frame, capture, row)
 }
 
 /// Takes the frames of a capture one after the other, and compares what is told of each.
-fn check_capture(rt: &impl Abort, alloc: Global, capture: &Capture) -> Result<(), Fail> {
-    let mut dissector = Dissector::new(alloc, no_rules(alloc));
+fn take_rows(
+    rt: &impl Abort,
+    alloc: Global,
+    dissector: &mut Dissector,
+    capture: &Capture,
+) -> Result<(), Fail>
+    requires taken { dissector.old.taken ≡ 0 }
+    requires captured { dissector.old.captured ≡ 0 }
+{
     let mut number = 0;
     for row in capture.rows {
         assert!(rt; number < 90);
         number += 1;
-        take_row(rt, alloc, &mut dissector, number, capture, row)?;
+        take_row(rt, alloc, dissector, number, capture, row)?;
+    }
+    Ok(())
+}
+
+fn check_capture(rt: &impl Abort, alloc: Global, capture: &Capture) -> Result<(), Fail> {
+    let mut dissector = Dissector::new(alloc, no_rules(alloc));
+    take_rows(rt, alloc, &mut dissector, capture)
+}
+
+fn check_captures(rt: &impl Abort, alloc: Global, captures: &[Capture]) -> Result<(), Fail> {
+    for capture in captures {
+        check_capture(rt, alloc, capture)?;
     }
     Ok(())
 }
 
 #[test]
-fn captures_are_read(rt: HostRuntime) -> Result<(), Fail> {
-    for captures in [
-        frames(),
-        times(),
-        carried(),
-        conversations(),
-        applications(),
-        fragments(),
-    ] {
-        for capture in captures {
-            check_capture(&rt, rt.alloc(), capture)?;
-        }
-    }
-    Ok(())
+fn the_layers_of_frames_are_read(rt: HostRuntime) -> Result<(), Fail> {
+    check_captures(&rt, rt.alloc(), frames())?;
+    check_captures(&rt, rt.alloc(), times())?;
+    check_captures(&rt, rt.alloc(), carried())
+}
+
+#[test]
+fn conversations_and_fragments_are_told(rt: HostRuntime) -> Result<(), Fail> {
+    check_captures(&rt, rt.alloc(), conversations())?;
+    check_captures(&rt, rt.alloc(), applications())?;
+    check_captures(&rt, rt.alloc(), fragments())
 }
 
 /// A frame of a part, so many times another, and more parts; and how many layers it has, with the last one's name, number
@@ -231,7 +274,29 @@ static DEEP: [Deep; 5] = [
     },
 ];
 
+fn first_frame(link: u16, original: u32, bytes: Octets) -> Frame
+    ensures { result ≡ record { number = 1; time = None; link = link; little = true; bytes = bytes; original = original } }
+{
+    Frame {
+        number: 1,
+        time: None,
+        link,
+        little: true,
+        bytes,
+        original,
+    }
+}
+
 /// The tree of a frame, the first of a capture, with the items of some fields.
+fn tree_of(rt: &impl Abort, alloc: Global, frame: &Frame, wanted: FieldSet) -> Result<Tree, Fail>
+    requires number { frame.now.number ≡ 1 }
+    requires time { frame.now.time ≡ None }
+{
+    assert!(rt; frame.bytes.bytes().len() <= 1_000);
+    let mut dissector = Dissector::new(alloc, no_rules(alloc));
+    Ok(dissector.take_kept(frame, wanted)?)
+}
+
 fn one_tree(
     rt: &impl Abort,
     alloc: Global,
@@ -240,16 +305,8 @@ fn one_tree(
     bytes: Octets,
     wanted: FieldSet,
 ) -> Result<Tree, Fail> {
-    let frame = Frame {
-        number: 1,
-        time: None,
-        link,
-        little: true,
-        bytes,
-        original,
-    };
-    assert!(rt; frame.bytes.bytes().len() <= 1_000);
-    Ok(Dissector::new(alloc, no_rules(alloc)).take_kept(&frame, wanted)?)
+    let frame = first_frame(link, original, bytes);
+    tree_of(rt, alloc, &frame, wanted)
 }
 
 /// How many layers a tree has, and the last one.
@@ -273,8 +330,30 @@ fn check_deep(
     told: &str,
 ) -> Result<(), Fail> {
     let tree = one_tree(rt, alloc, link, 1_000, bytes, FieldSet::all())?;
-    let text = last_text(alloc, &tree)?;
+    check_last(rt, alloc, &tree, shows, told)
+}
+
+fn check_last(
+    rt: &impl Abort,
+    alloc: Global,
+    tree: &Tree,
+    shows: &str,
+    told: &str,
+) -> Result<(), Fail> {
+    let text = last_text(alloc, tree)?;
     assert_eq!(rt; text.as_str(), told, "{shows}");
+    Ok(())
+}
+
+fn check_row(rt: &impl Abort, alloc: Global, deep: &Deep) -> Result<(), Fail> {
+    let bytes = deep_bytes(alloc, deep)?;
+    check_deep(rt, alloc, deep.shows, deep.link, bytes, deep.told)
+}
+
+fn check_rows(rt: &impl Abort, alloc: Global, rows: &[Deep]) -> Result<(), Fail> {
+    for row in rows {
+        check_row(rt, alloc, row)?;
+    }
     Ok(())
 }
 
@@ -305,20 +384,14 @@ fn nested(alloc: Global, headers: u8) -> Result<Octets, NoMemory>
 
 #[test]
 fn behind_32_layers_all_is_data_but_a_message(rt: HostRuntime) -> Result<(), Fail> {
-    let alloc = rt.alloc();
-    for deep in &DEEP {
-        let bytes = deep_bytes(alloc, deep)?;
-        check_deep(&rt, alloc, deep.shows, deep.link, bytes, deep.told)?;
-    }
-    let bytes = nested(alloc, 40)?;
-    check_deep(
-        &rt,
-        alloc,
-        "packets in packets",
-        RAW,
-        bytes,
-        "33 data 1 620+180",
-    )
+    check_rows(&rt, rt.alloc(), &DEEP)
+}
+
+#[test]
+fn behind_32_packets_all_is_data(rt: HostRuntime) -> Result<(), Fail> {
+    let bytes = nested(rt.alloc(), 40)?;
+    let told = "33 data 1 620+180";
+    check_deep(&rt, rt.alloc(), "packets in packets", RAW, bytes, told)
 }
 
 #[test]
@@ -346,12 +419,16 @@ fn some_fields() -> FieldSet {
     wanted
 }
 
+fn check_some(rt: &impl Abort, alloc: Global, tree: &Tree) -> Result<(), Fail> {
+    let text = layers_text(alloc, tree.layers(), Places::Hidden)?;
+    assert_eq!(rt; text.as_str(), SOME_OF_ARP);
+    Ok(())
+}
+
 #[test]
 fn a_tree_of_some_fields_has_their_items_and_all_layers(rt: HostRuntime) -> Result<(), Fail> {
     let alloc = rt.alloc();
     let bytes = joined(alloc, ARP_FRAME)?;
     let tree = one_tree(&rt, alloc, ETHERNET, 42, bytes, some_fields())?;
-    let text = tree_text(alloc, &tree)?;
-    assert_eq!(rt; text.as_str(), SOME_OF_ARP);
-    Ok(())
+    check_some(&rt, alloc, &tree)
 }

@@ -1,12 +1,12 @@
 // Segments of TCP in frames: what their layers tell of their streams, worked out by hand from RFC 9293.
-ghost use Rattle.std.specs.Prelude.{◌≡◌, ◌+◌, ◌*◌, ◌≤◌, ◌<◌, OnOk};
+ghost use Rattle.std.specs.Prelude.{◌≡◌, ◌×◌, ◌+◌, ◌*◌, ◌≤◌, ◌<◌, None, IfOk, OnOk};
 
-use crate::frame_tests::{no_rules, value_text};
+use crate::frame_tests::{no_rules, push_value};
 use capture_read::Frame;
 use dissect::Dissector;
 use pk_base::{NoMemory, Octets};
 use pk_fields::{FieldId, FieldSet, ids, name};
-use pk_tree::Tree;
+use pk_tree::{Item, Layer, Tree};
 use std::alloc::{AllocError, Global};
 use std::process::Abort;
 use std::test::Fail;
@@ -53,21 +53,34 @@ pub(crate) fn segment(
     Octets::from_vec(bytes)
 }
 
+/// Adds an item, as `field=value`.
+fn push_item(alloc: Global, text: &mut String, item: &Item) -> Result<(), AllocError> {
+    text.push_str(name(item.field))?;
+    push_value(alloc, text, &item.value)?;
+    text.push_str(" ")
+}
+
+fn tells_of_streams(field: FieldId) -> bool {
+    field == ids::TCP_STREAM
+        || field == ids::TCP_SEQ
+        || field == ids::TCP_ACK
+        || field == ids::TCP_LOST
+}
+
+fn push_told(alloc: Global, text: &mut String, layer: &Layer) -> Result<(), AllocError> {
+    for item in layer.items.slice() {
+        if tells_of_streams(item.field) {
+            push_item(alloc, text, item)?;
+        }
+    }
+    Ok(())
+}
+
 /// What a tree's layers tell of streams.
 fn stream_text(alloc: Global, tree: &Tree) -> Result<String, AllocError> {
     let mut text = String::new(alloc);
     for layer in tree.layers() {
-        for item in layer.items.slice() {
-            if item.field == ids::TCP_STREAM
-                || item.field == ids::TCP_SEQ
-                || item.field == ids::TCP_ACK
-                || item.field == ids::TCP_LOST
-            {
-                text.push_str(name(item.field))?;
-                text.push_str(&value_text(alloc, &item.value)?)?;
-                text.push_str(" ")?;
-            }
-        }
+        push_told(alloc, &mut text, layer)?;
     }
     Ok(text)
 }
@@ -281,7 +294,67 @@ fn check_fronts(rt: &impl Abort, dissector: &Dissector, fronts: Fronts) {
     }
 }
 
-/// Takes a segment, and compares what is told of its stream.
+/// A packet of IP by itself, of which all bytes are there.
+pub(crate) fn packet(number: u32, bytes: Octets) -> Frame
+    ensures { result ≡ record { number = number; time = None; link = 101; little = true; bytes = bytes; original = 0 } }
+{
+    Frame {
+        number,
+        time: None,
+        link: RAW,
+        little: true,
+        bytes,
+        original: 0,
+    }
+}
+
+fn sent_frame(alloc: Global, number: u32, sent: &Sent) -> Result<Frame, NoMemory>
+    ensures number { IfOk result (λ frame. frame.number ≡ number) }
+    ensures time { IfOk result (λ frame. frame.time ≡ None) }
+{
+    let bytes = segment(
+        alloc,
+        sent.headers,
+        sent.seq,
+        sent.ack,
+        sent.flags,
+        sent.payload,
+    )?;
+    Ok(packet(number, bytes))
+}
+
+fn check_told(
+    rt: &impl Abort,
+    alloc: Global,
+    tree: &Tree,
+    shows: &str,
+    told: &str,
+) -> Result<(), Fail> {
+    let text = stream_text(alloc, tree)?;
+    assert_eq!(rt; text.as_str(), told, "{shows}");
+    Ok(())
+}
+
+/// Takes a frame, and compares what is told of its stream.
+fn take_frame(
+    rt: &impl Abort,
+    alloc: Global,
+    dissector: &mut Dissector,
+    frame: &Frame,
+    shows: &str,
+    sent: &Sent,
+) -> Result<(), Fail>
+    requires number { frame.now.number ≡ dissector.old.taken + 1 }
+    requires time { frame.now.time ≡ None }
+    requires captured { dissector.old.captured ≤ 200 * dissector.old.taken }
+    requires few { frame.now.number < 100 }
+    ensures counted { OnOk result ((dissector.new.taken ≡ frame.now.number) × (dissector.new.captured ≤ 200 * frame.now.number)) }
+{
+    assert!(rt; frame.bytes.bytes().len() <= 200);
+    let tree = dissector.take_kept(frame, asked_fields(sent.asked))?;
+    check_told(rt, alloc, &tree, shows, sent.told)
+}
+
 fn take_sent(
     rt: &impl Abort,
     alloc: Global,
@@ -295,46 +368,53 @@ fn take_sent(
     requires few { number < 100 }
     ensures counted { OnOk result ((dissector.new.taken ≡ number) × (dissector.new.captured ≤ 200 * number)) }
 {
-    let frame = Frame {
-        number,
-        time: None,
-        link: RAW,
-        little: true,
-        bytes: segment(
-            alloc,
-            sent.headers,
-            sent.seq,
-            sent.ack,
-            sent.flags,
-            sent.payload,
-        )?,
-        original: 0,
-    };
-    assert!(rt; frame.bytes.bytes().len() <= 200);
-    let tree = dissector.take_kept(&frame, asked_fields(sent.asked))?;
-    assert_eq!(rt; stream_text(alloc, &tree)?.as_str(), sent.told, "{shows}");
+    let frame = sent_frame(alloc, number, sent)?;
+    take_frame(rt, alloc, dissector, &frame, shows, sent)?;
+    if let Some(fronts) = sent.fronts {
+        check_fronts(rt, dissector, fronts);
+    }
     Ok(())
 }
 
 /// Takes segments one after the other, and compares what is told of each, and the streams.
-fn check_talk(rt: &impl Abort, alloc: Global, talk: &Talk) -> Result<(), Fail> {
-    let mut dissector = Dissector::new(alloc, no_rules(alloc));
+fn take_talk(
+    rt: &impl Abort,
+    alloc: Global,
+    dissector: &mut Dissector,
+    talk: &Talk,
+) -> Result<(), Fail>
+    requires taken { dissector.old.taken ≡ 0 }
+    requires captured { dissector.old.captured ≡ 0 }
+{
     let mut number = 0;
     for sent in talk.segments {
         assert!(rt; number < 90);
         number += 1;
-        take_sent(rt, alloc, &mut dissector, number, talk.shows, sent)?;
-        if let Some(fronts) = sent.fronts {
-            check_fronts(rt, &dissector, fronts);
-        }
+        take_sent(rt, alloc, dissector, number, talk.shows, sent)?;
+    }
+    Ok(())
+}
+
+fn check_talk(rt: &impl Abort, alloc: Global, talk: &Talk) -> Result<(), Fail> {
+    let mut dissector = Dissector::new(alloc, no_rules(alloc));
+    take_talk(rt, alloc, &mut dissector, talk)
+}
+
+fn check_talks(rt: &impl Abort, alloc: Global, talks: &[Talk]) -> Result<(), Fail> {
+    for talk in talks {
+        check_talk(rt, alloc, talk)?;
     }
     Ok(())
 }
 
 #[test]
 fn segments_are_told_of_their_streams(rt: HostRuntime) -> Result<(), Fail> {
-    for talk in &TALKS {
-        check_talk(&rt, rt.alloc(), talk)?;
+    check_talks(&rt, rt.alloc(), &TALKS)
+}
+
+fn push_items(alloc: Global, text: &mut String, layer: &Layer) -> Result<(), AllocError> {
+    for item in layer.items.slice() {
+        push_item(alloc, text, item)?;
     }
     Ok(())
 }
@@ -343,44 +423,80 @@ fn segments_are_told_of_their_streams(rt: HostRuntime) -> Result<(), Fail> {
 fn items_text(alloc: Global, tree: &Tree) -> Result<String, AllocError> {
     let mut text = String::new(alloc);
     for layer in tree.layers() {
-        for item in layer.items.slice() {
-            text.push_str(name(item.field))?;
-            text.push_str(&value_text(alloc, &item.value)?)?;
-            text.push_str(" ")?;
-        }
+        push_items(alloc, &mut text, layer)?;
     }
     Ok(text)
 }
 
-/// Takes a segment for one field, and compares what is told of it, and how many streams are kept.
-fn check_asked(
-    rt: &impl Abort,
-    alloc: Global,
-    field: FieldId,
-    told: &str,
-    streams: u32,
-) -> Result<(), Fail> {
+/// A field that is asked alone, what is told of a SYN then, and how many streams are kept.
+type Asking = (FieldId, &'static str, u32);
+
+fn syn_frame(alloc: Global) -> Result<Frame, NoMemory>
+    ensures number { IfOk result (λ frame. frame.number ≡ 1) }
+    ensures time { IfOk result (λ frame. frame.time ≡ None) }
+{
+    let bytes = segment(alloc, &[THERE], 100, 0, SYN, b"ab")?;
+    Ok(packet(1, bytes))
+}
+
+fn one_field(field: FieldId) -> FieldSet {
     let mut wanted = FieldSet::none();
     wanted.add(field);
-    let mut dissector = Dissector::for_fields(alloc, no_rules(alloc), wanted);
-    let frame = Frame {
-        number: 1,
-        time: None,
-        link: RAW,
-        little: true,
-        bytes: segment(alloc, &[THERE], 100, 0, SYN, b"ab")?,
-        original: 0,
-    };
+    wanted
+}
+
+fn check_items(rt: &impl Abort, alloc: Global, tree: &Tree, told: &str) -> Result<(), Fail> {
+    let text = items_text(alloc, tree)?;
+    assert_eq!(rt; text.as_str(), told);
+    Ok(())
+}
+
+/// Takes a first frame for one field, and compares what is told of it, and how many streams are kept.
+fn take_asked(
+    rt: &impl Abort,
+    alloc: Global,
+    dissector: &mut Dissector,
+    frame: &Frame,
+    row: Asking,
+) -> Result<(), Fail>
+    requires taken { dissector.old.taken ≡ 0 }
+    requires captured { dissector.old.captured ≡ 0 }
+    requires number { frame.now.number ≡ 1 }
+    requires time { frame.now.time ≡ None }
+{
     assert!(rt; frame.bytes.bytes().len() <= 200);
-    let tree = dissector.take_wanted(&frame)?;
-    assert_eq!(rt; items_text(alloc, &tree)?.as_str(), told);
-    assert_eq!(rt; dissector.streams().count(), streams);
+    let tree = dissector.take_wanted(frame)?;
+    assert_eq!(rt; dissector.streams().count(), row.2);
+    check_items(rt, alloc, &tree, row.1)
+}
+
+fn check_asked(rt: &impl Abort, alloc: Global, frame: &Frame, row: Asking) -> Result<(), Fail>
+    requires number { frame.now.number ≡ 1 }
+    requires time { frame.now.time ≡ None }
+{
+    let mut dissector = Dissector::for_fields(alloc, no_rules(alloc), one_field(row.0));
+    take_asked(rt, alloc, &mut dissector, frame, row)
+}
+
+fn check_all_asked(
+    rt: &impl Abort,
+    alloc: Global,
+    frame: &Frame,
+    rows: &[Asking],
+) -> Result<(), Fail>
+    requires number { frame.now.number ≡ 1 }
+    requires time { frame.now.time ≡ None }
+{
+    for row in rows {
+        check_asked(rt, alloc, frame, *row)?;
+    }
     Ok(())
 }
 
 #[test]
 fn streams_are_followed_where_a_field_of_theirs_is_asked(rt: HostRuntime) -> Result<(), Fail> {
-    for (field, told, streams) in [
+    let frame = syn_frame(rt.alloc())?;
+    let rows = [
         (ids::TCP_STREAM, "tcp.stream=0 ", 1),
         (ids::TCP_SEQ, "tcp.seq=0 ", 1),
         (ids::TCP_ACK, "", 1),
@@ -392,8 +508,6 @@ fn streams_are_followed_where_a_field_of_theirs_is_asked(rt: HostRuntime) -> Res
         (ids::TCP_LEN, "tcp.len=2 ", 0),
         (ids::TCP_DSTPORT, "tcp.dstport=9999 ", 0),
         (ids::FRAME, "", 0),
-    ] {
-        check_asked(&rt, rt.alloc(), field, told, streams)?;
-    }
-    Ok(())
+    ];
+    check_all_asked(&rt, rt.alloc(), &frame, &rows)
 }

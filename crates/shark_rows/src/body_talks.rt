@@ -1,5 +1,5 @@
 // Bodies by their length and by chunks, worked out from RFC 9112, 6 and 7.
-use crate::talks::{Talk, WEB, is_told};
+use crate::talks::{Talk, WEB, all_told};
 use std::test::Fail;
 
 static LENGTHS: [Talk; 25] = [
@@ -272,10 +272,6 @@ fn chunks() -> &'static [Talk] {
 
 #[test]
 fn bodies_end_as_their_heads_tell(rt: HostRuntime) -> Result<(), Fail> {
-    for talks in [lengths(), chunks()] {
-        for talk in talks {
-            assert!(rt; is_told(rt.alloc(), &WEB, talk)?, "{}", talk.shows);
-        }
-    }
-    Ok(())
+    all_told(&rt, rt.alloc(), &WEB, lengths())?;
+    all_told(&rt, rt.alloc(), &WEB, chunks())
 }

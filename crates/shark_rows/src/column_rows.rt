@@ -3,6 +3,7 @@
 use crate::runs::bytes_of;
 use crate::talks::{RAW, writes};
 use std::alloc::{AllocError, Global};
+use std::process::Abort;
 use std::test::Fail;
 
 /// An answer of DNS with a record of five texts: `"a'`, none, `b,c`, a backslash and `;"'`.
@@ -79,25 +80,41 @@ static COLUMNS: [&str; 63] = [
     "-E quote=s -E occurrence=l -E separator=\\ -E aggregator=\\@'7'\\';\"'''\\\\'16'",
 ];
 
-fn columns() -> &'static [&'static str] {
-    &COLUMNS
+fn columns() -> (&'static [&'static str], &'static [&'static str]) {
+    COLUMNS.split_at(COLUMNS.len() / 2)
+}
+
+fn words_of(alloc: Global, style: &str) -> Result<String, AllocError> {
+    format!(in alloc; "-r f -T fields {style} -e dns.id -e dns.txt -e tcp.port -e dns.resp.type")
+}
+
+fn line_of(alloc: Global, line: &str) -> Result<String, AllocError> {
+    format!(in alloc; "{line}\n")
+}
+
+fn writes_line(alloc: Global, words: &str, line: &str) -> Result<bool, AllocError> {
+    let out = line_of(alloc, line)?;
+    let file = bytes_of(alloc, &ANSWER)?;
+    writes(alloc, words, "", file, out.as_str())
 }
 
 /// Whether a run writes the line of a row.
 fn is_written(alloc: Global, row: &str) -> Result<bool, AllocError> {
     let (style, line) = row.rsplit_once('@').unwrap_or(("", ""));
-    let words = format!(in alloc;
-        "-r f -T fields {style} -e dns.id -e dns.txt -e tcp.port -e dns.resp.type"
-    )?;
-    let out = format!(in alloc; "{line}\n")?;
-    let file = bytes_of(alloc, &ANSWER)?;
-    writes(alloc, words.as_str(), "", file, out.as_str())
+    let words = words_of(alloc, style)?;
+    writes_line(alloc, words.as_str(), line)
+}
+
+fn all_written(rt: &impl Abort, alloc: Global, rows: &[&str]) -> Result<(), Fail> {
+    for row in rows {
+        assert!(rt; is_written(alloc, row)?, "{row}");
+    }
+    Ok(())
 }
 
 #[test]
 fn quotes_and_separators_meet_in_a_column(rt: HostRuntime) -> Result<(), Fail> {
-    for row in columns() {
-        assert!(rt; is_written(rt.alloc(), row)?, "{row}");
-    }
-    Ok(())
+    let (some, others) = columns();
+    all_written(&rt, rt.alloc(), some)?;
+    all_written(&rt, rt.alloc(), others)
 }

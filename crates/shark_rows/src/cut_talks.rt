@@ -1,8 +1,11 @@
 // Messages whose bytes come in two segments, cut at each place, and in fifty segments of one byte, in several orders. Expected
 // lines follow from the numbers of the frames alone.
+ghost use Rattle.std.specs.Prelude.{◌≤◌};
+
 use crate::runs::bytes_of;
 use crate::talks::{Kind, NAMES, RAW, Segment, WEB, push_segment, writes};
 use std::alloc::{AllocError, Global};
+use std::process::Abort;
 use std::test::Fail;
 
 /// One message, and what its frame's line tells behind the frames that brought it.
@@ -101,6 +104,40 @@ fn push_cut(
     }
 }
 
+fn push_pairs(
+    file: &mut Vec<u8>,
+    kind: &Kind,
+    cut: &Cut,
+    later_first: bool,
+) -> Result<(), AllocError> {
+    for place in 1..cut.bytes.len() {
+        push_cut(file, kind, cut, place, later_first)?;
+    }
+    Ok(())
+}
+
+fn line_at(alloc: Global, cut: &Cut, place: usize) -> Result<String, AllocError>
+    requires { 1 ≤ place }
+{
+    let last = place.min(1000) * 3;
+    format!(in alloc; ";;;;\n;;;;\n;{},{last};{}\n", last - 1, cut.line)
+}
+
+fn push_line(alloc: Global, out: &mut String, cut: &Cut, place: usize) -> Result<(), AllocError>
+    requires { 1 ≤ place }
+{
+    let line = line_at(alloc, cut, place)?;
+    out.push_str(&line)
+}
+
+fn lines_of(alloc: Global, cut: &Cut) -> Result<String, AllocError> {
+    let mut out = String::new(alloc);
+    for place in 1..cut.bytes.len() {
+        push_line(alloc, &mut out, cut, place)?;
+    }
+    Ok(out)
+}
+
 /// Whether the second segment of each pair shows the message, wherever it is cut; each pair is a stream of its own.
 fn is_shown_cut(
     alloc: Global,
@@ -108,14 +145,9 @@ fn is_shown_cut(
     cut: &Cut,
     later_first: bool,
 ) -> Result<bool, AllocError> {
+    let out = lines_of(alloc, cut)?;
     let mut file = bytes_of(alloc, &[RAW])?;
-    let mut out = String::new(alloc);
-    for place in 1..cut.bytes.len() {
-        push_cut(&mut file, kind, cut, place, later_first)?;
-        let last = place.min(1000) * 3;
-        out.push_str(";;;;\n;;;;\n;")?;
-        out.push_str(&format!(in alloc; "{},{last};{}\n", last - 1, cut.line)?)?;
-    }
+    push_pairs(&mut file, kind, cut, later_first)?;
     writes(alloc, kind.words, "", file, out.as_str())
 }
 
@@ -127,27 +159,27 @@ fn name_cuts() -> &'static [Cut] {
     &NAME_CUTS
 }
 
-#[test]
-fn messages_are_shown_wherever_they_are_cut(rt: HostRuntime) -> Result<(), Fail> {
-    for cut in web_cuts() {
+fn all_shown(
+    rt: &impl Abort,
+    alloc: Global,
+    kind: &Kind,
+    cuts: &[Cut],
+    later_first: bool,
+) -> Result<(), Fail> {
+    for cut in cuts {
         assert!(rt;
-            is_shown_cut(rt.alloc(), &WEB, cut, false)?,
-            "{}",
-            cut.shows
-        );
-        assert!(rt; is_shown_cut(rt.alloc(), &WEB, cut, true)?, "{}", cut.shows);
-    }
-    for cut in name_cuts() {
-        assert!(rt;
-            is_shown_cut(rt.alloc(), &NAMES, cut, false)?,
-            "{}",
-            cut.shows
-        );
-        assert!(rt;
-            is_shown_cut(rt.alloc(), &NAMES, cut, true)?,
+            is_shown_cut(alloc, kind, cut, later_first)?,
             "{}",
             cut.shows
         );
     }
     Ok(())
+}
+
+#[test]
+fn messages_are_shown_wherever_they_are_cut(rt: HostRuntime) -> Result<(), Fail> {
+    all_shown(&rt, rt.alloc(), &WEB, web_cuts(), false)?;
+    all_shown(&rt, rt.alloc(), &WEB, web_cuts(), true)?;
+    all_shown(&rt, rt.alloc(), &NAMES, name_cuts(), false)?;
+    all_shown(&rt, rt.alloc(), &NAMES, name_cuts(), true)
 }

@@ -1,8 +1,9 @@
 // Filters over three frames, with expected values worked by hand from the rules of the language.
 use crate::pcap_rows::{HEADER, PADDING, REQUEST, REQUEST_HEAD};
-use crate::runs::{Expected, NO_FAULTS, bytes_of, ends_so, words_of};
+use crate::runs::{Expected, NO_FAULTS, bytes_of, capture_of, ends_with};
 use shark_run::Status;
 use std::alloc::{AllocError, Global};
+use std::process::Abort;
 use std::test::Fail;
 
 /// An ARP request at time 0; behind it, at 1.5 s, a TCP segment from port 56789 of 10.0.0.1 to port 80 of 10.0.0.2 that
@@ -23,19 +24,20 @@ pub(crate) static FILE: [&str; 10] = [
 
 /// Whether a filter lets through these frames, or has this fault.
 pub(crate) fn gives(alloc: Global, filter: &str, out: &str, err: &str) -> Result<bool, AllocError> {
-    let words = words_of(alloc, "-r f -T fields -e frame.number", filter)?;
+    let bytes = bytes_of(alloc, &FILE)?;
+    let mut capture = capture_of(alloc, "f", bytes, &NO_FAULTS)?;
     let status = if err.is_empty() {
         Status::Done
     } else {
         Status::BadFilter
     };
-    let bytes = bytes_of(alloc, &FILE)?;
     let expected = Expected {
         status,
         out: out.as_bytes(),
         err,
     };
-    ends_so(alloc, words.as_slice(), "f", bytes, &NO_FAULTS, expected)
+    let words = "-r f -T fields -e frame.number";
+    ends_with(alloc, words, filter, &mut capture, &NO_FAULTS, expected)
 }
 
 /// Whether a filter lets through these frames.
@@ -67,52 +69,87 @@ fn wrapped(
     Ok(all)
 }
 
-#[test]
-fn at_most_4096_bytes_are_read(rt: HostRuntime) -> Result<(), Fail> {
-    let alloc = rt.alloc();
-    let mut filter = String::from_str(alloc, "arp")?;
-    for _ in 0..4093usize {
-        filter.push(' ')?;
+/// Asserts of each filter that it lets the frames of these numbers through.
+pub(crate) fn all_let_through(
+    rt: &impl Abort,
+    alloc: Global,
+    rows: &[(&str, &str)],
+) -> Result<(), Fail> {
+    for row in rows {
+        assert!(rt; lets_through(alloc, row)?, "{}", row.0);
     }
-    assert!(rt; gives(alloc, filter.as_str(), "1\n", "")?);
-    filter.push(' ')?;
-    assert!(rt;
-        gives(
-            alloc,
-            filter.as_str(),
-            "",
-            "shark: filter byte 4096: F8 TooLong\n"
-        )?
-    );
+    Ok(())
+}
+
+/// Asserts of each filter that it is refused with its text.
+pub(crate) fn all_refused(
+    rt: &impl Abort,
+    alloc: Global,
+    rows: &[(&str, &str)],
+) -> Result<(), Fail> {
+    for row in rows {
+        assert!(rt; is_refused(alloc, row)?, "{}", row.0);
+    }
+    Ok(())
+}
+
+const TOO_LONG: &str = "shark: filter byte 4096: F8 TooLong\n";
+
+const TOO_DEEP: &str = "shark: filter byte 64: F9 TooDeep\n";
+
+/// How often a text stands before a field and behind it, and what is written and told then.
+type Wrapped = (usize, char, char, &'static str, &'static str);
+
+static BLANKS: [Wrapped; 2] = [(4093, ' ', ' ', "1\n", ""), (4094, ' ', ' ', "", TOO_LONG)];
+
+static OPEN: [Wrapped; 4] = [
+    (64, '(', ')', "1\n", ""),
+    (65, '(', ')', "", TOO_DEEP),
+    (64, '!', ' ', "1\n", ""),
+    (65, '!', ' ', "", TOO_DEEP),
+];
+
+fn gives_padded(alloc: Global, row: &Wrapped) -> Result<bool, AllocError> {
+    let filter = wrapped(alloc, 0, row.1, "arp", row.2)?;
+    let filter = padded(filter, row.0)?;
+    gives(alloc, filter.as_str(), row.3, row.4)
+}
+
+fn padded(text: String, blanks: usize) -> Result<String, AllocError> {
+    let mut text = text;
+    for _ in 0..blanks {
+        text.push(' ')?;
+    }
+    Ok(text)
+}
+
+fn gives_wrapped(alloc: Global, row: &Wrapped) -> Result<bool, AllocError> {
+    let filter = wrapped(alloc, row.0, row.1, "arp", row.2)?;
+    gives(alloc, filter.as_str(), row.3, row.4)
+}
+
+fn all_padded(rt: &impl Abort, alloc: Global, rows: &[Wrapped]) -> Result<(), Fail> {
+    for row in rows {
+        assert!(rt; gives_padded(alloc, row)?, "{}", row.0);
+    }
+    Ok(())
+}
+
+fn all_wrapped(rt: &impl Abort, alloc: Global, rows: &[Wrapped]) -> Result<(), Fail> {
+    for row in rows {
+        assert!(rt; gives_wrapped(alloc, row)?, "{} {}", row.0, row.1);
+    }
     Ok(())
 }
 
 #[test]
+fn at_most_4096_bytes_are_read(rt: HostRuntime) -> Result<(), Fail> {
+    all_padded(&rt, rt.alloc(), &BLANKS)
+}
+
+#[test]
 fn at_most_64_are_open_at_once(rt: HostRuntime) -> Result<(), Fail> {
-    let alloc = rt.alloc();
-    let deep = wrapped(alloc, 64, '(', "arp", ')')?;
-    assert!(rt; gives(alloc, deep.as_str(), "1\n", "")?);
-    let deep = wrapped(alloc, 65, '(', "arp", ')')?;
-    assert!(rt;
-        gives(
-            alloc,
-            deep.as_str(),
-            "",
-            "shark: filter byte 64: F9 TooDeep\n"
-        )?
-    );
-    let deep = wrapped(alloc, 64, '!', "arp", ' ')?;
-    assert!(rt; gives(alloc, deep.as_str(), "1\n", "")?);
-    let deep = wrapped(alloc, 65, '!', "arp", ' ')?;
-    assert!(rt;
-        gives(
-            alloc,
-            deep.as_str(),
-            "",
-            "shark: filter byte 64: F9 TooDeep\n"
-        )?
-    );
-    Ok(())
+    all_wrapped(&rt, rt.alloc(), &OPEN)
 }
 
 /// A text, so many copies of another behind it, and a third at the end.
@@ -131,15 +168,16 @@ pub(crate) fn chain_of(
     Ok(filter)
 }
 
+fn gives_chain(alloc: Global, part: &str) -> Result<bool, AllocError> {
+    let chain = chain_of(alloc, "arp", part, 818, "")?;
+    gives(alloc, chain.as_str(), "1\n", "")
+}
+
 #[test]
 fn the_longest_chains_are_asked(rt: HostRuntime) -> Result<(), Fail> {
     let alloc = rt.alloc();
-    let any = chain_of(alloc, "arp", "||arp", 818, "")?;
-    assert!(rt; gives(alloc, any.as_str(), "1\n", "")?);
-    let odd = chain_of(alloc, "arp", "^^arp", 818, "")?;
-    assert!(rt; gives(alloc, odd.as_str(), "1\n", "")?);
-    let all = chain_of(alloc, "arp", "&&arp", 818, "")?;
-    assert!(rt; gives(alloc, all.as_str(), "1\n", "")?);
+    assert!(rt; gives_chain(alloc, "||arp")?);
+    assert!(rt; gives_chain(alloc, "^^arp")? && gives_chain(alloc, "&&arp")?);
     Ok(())
 }
 
@@ -152,20 +190,17 @@ fn nested(alloc: Global, groups: usize) -> Result<String, AllocError> {
     Ok(filter)
 }
 
+fn gives_nested(alloc: Global, groups: usize, out: &str, err: &str) -> Result<bool, AllocError> {
+    let filter = nested(alloc, groups)?;
+    gives(alloc, filter.as_str(), out, err)
+}
+
 #[test]
 fn patterns_are_nested_at_most_250_deep(rt: HostRuntime) -> Result<(), Fail> {
     let alloc = rt.alloc();
-    let filter = nested(alloc, 250)?;
-    assert!(rt; gives(alloc, filter.as_str(), "2\n", "")?);
-    let filter = nested(alloc, 251)?;
-    assert!(rt;
-        gives(
-            alloc,
-            filter.as_str(),
-            "",
-            "shark: filter byte 20: F7 BadPattern\n"
-        )?
-    );
+    let told = "shark: filter byte 20: F7 BadPattern\n";
+    assert!(rt; gives_nested(alloc, 250, "2\n", "")?);
+    assert!(rt; gives_nested(alloc, 251, "", told)?);
     Ok(())
 }
 
@@ -193,10 +228,7 @@ static ALONE: [(&str, &str); 12] = [
 
 #[test]
 fn operands_that_stand_alone(rt: HostRuntime) -> Result<(), Fail> {
-    for row in &ALONE {
-        assert!(rt; lets_through(rt.alloc(), row)?, "{}", row.0);
-    }
-    Ok(())
+    all_let_through(&rt, rt.alloc(), &ALONE)
 }
 
 static JOINS: [(&str, &str); 16] = [
@@ -220,10 +252,7 @@ static JOINS: [(&str, &str); 16] = [
 
 #[test]
 fn joins_and_negations(rt: HostRuntime) -> Result<(), Fail> {
-    for row in &JOINS {
-        assert!(rt; lets_through(rt.alloc(), row)?, "{}", row.0);
-    }
-    Ok(())
+    all_let_through(&rt, rt.alloc(), &JOINS)
 }
 
 static EQUAL: [(&str, &str); 19] = [
@@ -250,10 +279,7 @@ static EQUAL: [(&str, &str); 19] = [
 
 #[test]
 fn equalities(rt: HostRuntime) -> Result<(), Fail> {
-    for row in &EQUAL {
-        assert!(rt; lets_through(rt.alloc(), row)?, "{}", row.0);
-    }
-    Ok(())
+    all_let_through(&rt, rt.alloc(), &EQUAL)
 }
 
 static ADDRESSES: [(&str, &str); 16] = [
@@ -277,10 +303,7 @@ static ADDRESSES: [(&str, &str); 16] = [
 
 #[test]
 fn addresses_and_prefixes(rt: HostRuntime) -> Result<(), Fail> {
-    for row in &ADDRESSES {
-        assert!(rt; lets_through(rt.alloc(), row)?, "{}", row.0);
-    }
-    Ok(())
+    all_let_through(&rt, rt.alloc(), &ADDRESSES)
 }
 
 static VALUES: [(&str, &str); 16] = [
@@ -304,10 +327,7 @@ static VALUES: [(&str, &str); 16] = [
 
 #[test]
 fn truth_times_and_bytes(rt: HostRuntime) -> Result<(), Fail> {
-    for row in &VALUES {
-        assert!(rt; lets_through(rt.alloc(), row)?, "{}", row.0);
-    }
-    Ok(())
+    all_let_through(&rt, rt.alloc(), &VALUES)
 }
 
 static ORDERS: [(&str, &str); 18] = [
@@ -333,10 +353,7 @@ static ORDERS: [(&str, &str); 18] = [
 
 #[test]
 fn orders(rt: HostRuntime) -> Result<(), Fail> {
-    for row in &ORDERS {
-        assert!(rt; lets_through(rt.alloc(), row)?, "{}", row.0);
-    }
-    Ok(())
+    all_let_through(&rt, rt.alloc(), &ORDERS)
 }
 
 static SETS: [(&str, &str); 17] = [
@@ -361,10 +378,7 @@ static SETS: [(&str, &str); 17] = [
 
 #[test]
 fn sets(rt: HostRuntime) -> Result<(), Fail> {
-    for row in &SETS {
-        assert!(rt; lets_through(rt.alloc(), row)?, "{}", row.0);
-    }
-    Ok(())
+    all_let_through(&rt, rt.alloc(), &SETS)
 }
 
 static SEARCHES: [(&str, &str); 15] = [
@@ -387,10 +401,7 @@ static SEARCHES: [(&str, &str); 15] = [
 
 #[test]
 fn searches(rt: HostRuntime) -> Result<(), Fail> {
-    for row in &SEARCHES {
-        assert!(rt; lets_through(rt.alloc(), row)?, "{}", row.0);
-    }
-    Ok(())
+    all_let_through(&rt, rt.alloc(), &SEARCHES)
 }
 
 static SLICES: [(&str, &str); 19] = [
@@ -417,10 +428,7 @@ static SLICES: [(&str, &str); 19] = [
 
 #[test]
 fn slices(rt: HostRuntime) -> Result<(), Fail> {
-    for row in &SLICES {
-        assert!(rt; lets_through(rt.alloc(), row)?, "{}", row.0);
-    }
-    Ok(())
+    all_let_through(&rt, rt.alloc(), &SLICES)
 }
 
 static FUNCTIONS: [(&str, &str); 16] = [
@@ -444,10 +452,7 @@ static FUNCTIONS: [(&str, &str); 16] = [
 
 #[test]
 fn functions_and_layers(rt: HostRuntime) -> Result<(), Fail> {
-    for row in &FUNCTIONS {
-        assert!(rt; lets_through(rt.alloc(), row)?, "{}", row.0);
-    }
-    Ok(())
+    all_let_through(&rt, rt.alloc(), &FUNCTIONS)
 }
 
 static TEXTS: [(&str, &str); 20] = [
@@ -493,10 +498,7 @@ static TEXTS: [(&str, &str); 20] = [
 
 #[test]
 fn faults_of_the_text(rt: HostRuntime) -> Result<(), Fail> {
-    for row in &TEXTS {
-        assert!(rt; is_refused(rt.alloc(), row)?, "{}", row.0);
-    }
-    Ok(())
+    all_refused(&rt, rt.alloc(), &TEXTS)
 }
 
 static NAMES: [(&str, &str); 13] = [
@@ -526,10 +528,7 @@ static NAMES: [(&str, &str); 13] = [
 
 #[test]
 fn unknown_names(rt: HostRuntime) -> Result<(), Fail> {
-    for row in &NAMES {
-        assert!(rt; is_refused(rt.alloc(), row)?, "{}", row.0);
-    }
-    Ok(())
+    all_refused(&rt, rt.alloc(), &NAMES)
 }
 
 static KINDS: [(&str, &str); 20] = [
@@ -605,10 +604,7 @@ static KINDS: [(&str, &str); 20] = [
 
 #[test]
 fn kinds_that_do_not_fit(rt: HostRuntime) -> Result<(), Fail> {
-    for row in &KINDS {
-        assert!(rt; is_refused(rt.alloc(), row)?, "{}", row.0);
-    }
-    Ok(())
+    all_refused(&rt, rt.alloc(), &KINDS)
 }
 
 static LITERALS: [(&str, &str); 12] = [
@@ -661,10 +657,7 @@ static LITERALS: [(&str, &str); 12] = [
 
 #[test]
 fn literals_that_are_not_read(rt: HostRuntime) -> Result<(), Fail> {
-    for row in &LITERALS {
-        assert!(rt; is_refused(rt.alloc(), row)?, "{}", row.0);
-    }
-    Ok(())
+    all_refused(&rt, rt.alloc(), &LITERALS)
 }
 
 static RANGES: [(&str, &str); 15] = [
@@ -714,10 +707,7 @@ static RANGES: [(&str, &str); 15] = [
 
 #[test]
 fn numbers_out_of_range(rt: HostRuntime) -> Result<(), Fail> {
-    for row in &RANGES {
-        assert!(rt; is_refused(rt.alloc(), row)?, "{}", row.0);
-    }
-    Ok(())
+    all_refused(&rt, rt.alloc(), &RANGES)
 }
 
 static FIRST: [(&str, &str); 12] = [
@@ -767,8 +757,5 @@ static FIRST: [(&str, &str); 12] = [
 
 #[test]
 fn the_first_of_two_faults(rt: HostRuntime) -> Result<(), Fail> {
-    for row in &FIRST {
-        assert!(rt; is_refused(rt.alloc(), row)?, "{}", row.0);
-    }
-    Ok(())
+    all_refused(&rt, rt.alloc(), &FIRST)
 }

@@ -1,5 +1,5 @@
 // Fragments of datagrams, written by hand from RFC 791, 5722 and 8200.
-use crate::runs::{Run, holds};
+use crate::runs::{Run, all_hold};
 use shark_run::Status;
 use std::test::Fail;
 
@@ -238,16 +238,10 @@ static CONFLICTS: [Run; 5] = [
 
 #[test]
 fn fragments_are_joined(rt: HostRuntime) -> Result<(), Fail> {
-    for row in &JOINED {
-        assert!(rt; holds(rt.alloc(), row)?, "{}", row.shows);
-    }
-    Ok(())
+    all_hold(&rt, rt.alloc(), &JOINED)
 }
 
 #[test]
 fn conflicts_of_fragments_are_told(rt: HostRuntime) -> Result<(), Fail> {
-    for row in &CONFLICTS {
-        assert!(rt; holds(rt.alloc(), row)?, "{}", row.shows);
-    }
-    Ok(())
+    all_hold(&rt, rt.alloc(), &CONFLICTS)
 }

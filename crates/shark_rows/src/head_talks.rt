@@ -1,7 +1,8 @@
 // Responses to HEAD, which have no body: a response is to the request that was shown before the response's first byte came.
 use crate::runs::bytes_of;
-use crate::talks::{LOW, PAIRS, RAW, Talk, is_told, push_told, writes};
+use crate::talks::{LOW, PAIRS, RAW, Talk, all_told, push_told, writes};
 use std::alloc::{AllocError, Global};
+use std::process::Abort;
 use std::test::Fail;
 
 static PAIRED: [Talk; 13] = [
@@ -153,10 +154,7 @@ fn orders() -> &'static [(&'static str, &'static str)] {
 
 #[test]
 fn responses_to_head_have_no_body(rt: HostRuntime) -> Result<(), Fail> {
-    for talk in paired() {
-        assert!(rt; is_told(rt.alloc(), &PAIRS, talk)?, "{}", talk.shows);
-    }
-    Ok(())
+    all_told(&rt, rt.alloc(), &PAIRS, paired())
 }
 
 fn segment_of(letter: char) -> &'static str {
@@ -168,37 +166,50 @@ fn segment_of(letter: char) -> &'static str {
     }
 }
 
+fn push_letters(file: &mut Vec<u8>, order: &str) -> Result<(), AllocError> {
+    for letter in order.chars() {
+        push_told(file, &PAIRS, LOW, segment_of(letter))?;
+    }
+    Ok(())
+}
+
 /// Both sides' SYN, and the segments in an order.
 fn file_of(alloc: Global, order: &str) -> Result<Vec<u8>, AllocError> {
     let mut file = bytes_of(alloc, &[RAW])?;
     push_told(&mut file, &PAIRS, LOW, "client-syn 0 - ")?;
     push_told(&mut file, &PAIRS, LOW, "server-syn 0 - ")?;
-    for letter in order.chars() {
-        push_told(&mut file, &PAIRS, LOW, segment_of(letter))?;
-    }
+    push_letters(&mut file, order)?;
     Ok(file)
+}
+
+fn push_line(out: &mut String, line: &str) -> Result<(), AllocError> {
+    out.push_str(line)?;
+    out.push_str("\n")
 }
 
 /// The lines of both SYN, and these.
 fn out_of(alloc: Global, lines: &str) -> Result<String, AllocError> {
     let mut out = String::from_str(alloc, ";;;;\n;;;;\n")?;
     for line in lines.split(' ') {
-        out.push_str(line)?;
-        out.push_str("\n")?;
+        push_line(&mut out, line)?;
     }
     Ok(out)
 }
 
-fn is_paired(alloc: Global, order: &str, lines: &str) -> Result<bool, AllocError> {
-    let out = out_of(alloc, lines)?;
-    let file = file_of(alloc, order)?;
+fn is_paired(alloc: Global, row: &(&str, &str)) -> Result<bool, AllocError> {
+    let out = out_of(alloc, row.1)?;
+    let file = file_of(alloc, row.0)?;
     writes(alloc, PAIRS.words, "", file, out.as_str())
+}
+
+fn all_paired(rt: &impl Abort, alloc: Global, rows: &[(&str, &str)]) -> Result<(), Fail> {
+    for row in rows {
+        assert!(rt; is_paired(alloc, row)?, "{}", row.0);
+    }
+    Ok(())
 }
 
 #[test]
 fn requests_and_responses_are_paired_in_every_order(rt: HostRuntime) -> Result<(), Fail> {
-    for (order, lines) in orders() {
-        assert!(rt; is_paired(rt.alloc(), order, lines)?, "{order}");
-    }
-    Ok(())
+    all_paired(&rt, rt.alloc(), orders())
 }

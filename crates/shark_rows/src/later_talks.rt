@@ -3,6 +3,7 @@ use crate::link_talks::push_packet;
 use crate::runs::bytes_of;
 use crate::talks::{RAW, Talk, writes};
 use std::alloc::{AllocError, Global};
+use std::process::Abort;
 use std::test::Fail;
 
 /// What each line tells: first what later frames bring, the frames of the responses and the frame that joins a message of the segment's
@@ -613,13 +614,16 @@ fn holds(alloc: Global, talk: &Talk) -> Result<bool, AllocError> {
     )
 }
 
-#[test]
-fn later_frames_are_linked(rt: HostRuntime) -> Result<(), Fail> {
-    for talk in queries() {
-        assert!(rt; holds(rt.alloc(), talk)?, "{}", talk.shows);
-    }
-    for talk in requests() {
-        assert!(rt; holds(rt.alloc(), talk)?, "{}", talk.shows);
+/// Asserts of each talk that its later frames are linked.
+fn all_linked(rt: &impl Abort, alloc: Global, talks: &[Talk]) -> Result<(), Fail> {
+    for talk in talks {
+        assert!(rt; holds(alloc, talk)?, "{}", talk.shows);
     }
     Ok(())
+}
+
+#[test]
+fn later_frames_are_linked(rt: HostRuntime) -> Result<(), Fail> {
+    all_linked(&rt, rt.alloc(), queries())?;
+    all_linked(&rt, rt.alloc(), requests())
 }

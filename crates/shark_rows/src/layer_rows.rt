@@ -1,6 +1,6 @@
 // Frames, and what is shown of their layers.
 use crate::pcap_rows::{HEADER, PADDING, REQUEST, REQUEST_HEAD};
-use crate::runs::{Run, holds};
+use crate::runs::{Run, all_hold};
 use shark_run::Status;
 use std::test::Fail;
 
@@ -260,8 +260,5 @@ static LAYERS: [Run; 24] = [
 
 #[test]
 fn layers_are_shown(rt: HostRuntime) -> Result<(), Fail> {
-    for row in &LAYERS {
-        assert!(rt; holds(rt.alloc(), row)?, "{}", row.shows);
-    }
-    Ok(())
+    all_hold(&rt, rt.alloc(), &LAYERS)
 }

@@ -1,8 +1,9 @@
 // Kinds of lines, and how the lines of fields are written, with expected lines worked by hand.
 use crate::pcap_rows::{HEADER, PADDING, REQUEST, REQUEST_HEAD};
-use crate::runs::{Expected, NO_FAULTS, bytes_of, ends_so, words_of};
-use shark_run::Status;
+use crate::runs::bytes_of;
+use crate::talks;
 use std::alloc::{AllocError, Global};
+use std::process::Abort;
 use std::test::Fail;
 
 /// An ARP request of one frame.
@@ -74,33 +75,39 @@ fn writes(alloc: Global, file: &[&str], row: &str) -> Result<bool, AllocError> {
     }
 }
 
-/// Whether these words write this output.
-fn writes_so(alloc: Global, file: &[&str], words: &str, out: &str) -> Result<bool, AllocError> {
+fn words_behind(alloc: Global, words: &str) -> Result<String, AllocError> {
     let mut all = String::from_str(alloc, "-r f ")?;
     all.push_str(words)?;
-    let words = words_of(alloc, all.as_str(), "")?;
-    let expected = Expected {
-        status: Status::Done,
-        out: out.as_bytes(),
-        err: "",
-    };
-    let bytes = bytes_of(alloc, file)?;
-    ends_so(alloc, words.as_slice(), "f", bytes, &NO_FAULTS, expected)
+    Ok(all)
 }
 
-#[test]
-fn lines_are_written_in_each_style(rt: HostRuntime) -> Result<(), Fail> {
-    for row in &REQUEST_LINES {
-        assert!(rt; writes(rt.alloc(), &REQUEST_FILE, row)?, "{row}");
+/// Whether these words write this output.
+fn writes_so(alloc: Global, file: &[&str], words: &str, out: &str) -> Result<bool, AllocError> {
+    let words = words_behind(alloc, words)?;
+    let bytes = bytes_of(alloc, file)?;
+    talks::writes(alloc, words.as_str(), "", bytes, out)
+}
+
+fn all_written(rt: &impl Abort, alloc: Global, file: &[&str], rows: &[&str]) -> Result<(), Fail> {
+    for row in rows {
+        assert!(rt; writes(alloc, file, row)?, "{row}");
     }
-    for row in &NESTED_LINES {
-        assert!(rt; writes(rt.alloc(), &NESTED_FILE, row)?, "{row}");
-    }
-    for words in &SHORT_WORDS {
+    Ok(())
+}
+
+fn all_short(rt: &impl Abort, alloc: Global, rows: &[&str]) -> Result<(), Fail> {
+    for words in rows {
         assert!(rt;
-            writes_so(rt.alloc(), &SHORT_FILE, words, SHORT_LINE)?,
+            writes_so(alloc, &SHORT_FILE, words, SHORT_LINE)?,
             "{words}"
         );
     }
     Ok(())
+}
+
+#[test]
+fn lines_are_written_in_each_style(rt: HostRuntime) -> Result<(), Fail> {
+    all_written(&rt, rt.alloc(), &REQUEST_FILE, &REQUEST_LINES)?;
+    all_written(&rt, rt.alloc(), &NESTED_FILE, &NESTED_LINES)?;
+    all_short(&rt, rt.alloc(), &SHORT_WORDS)
 }

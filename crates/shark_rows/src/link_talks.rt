@@ -4,6 +4,7 @@ use crate::talks::{LOW, RAW, Segment, Talk, push_ends, push_segment, segment_of,
 use hex::decode;
 use shark_run::Status;
 use std::alloc::{AllocError, Global};
+use std::process::Abort;
 use std::test::Fail;
 
 /// What each line tells: the frame, and the frames of the queries and requests that its messages are to.
@@ -577,14 +578,18 @@ fn is_linked(alloc: Global, talk: &Talk) -> Result<bool, AllocError> {
     writes(alloc, WORDS, "", file, out.as_str())
 }
 
+/// Asserts of each talk that its responses are linked.
+fn all_linked(rt: &impl Abort, alloc: Global, rows: &[Talk]) -> Result<(), Fail> {
+    for row in rows {
+        assert!(rt; is_linked(alloc, row)?, "{}", row.shows);
+    }
+    Ok(())
+}
+
 #[test]
 fn responses_are_linked(rt: HostRuntime) -> Result<(), Fail> {
-    for talk in queries() {
-        assert!(rt; is_linked(rt.alloc(), talk)?, "{}", talk.shows);
-    }
-    for talk in requests() {
-        assert!(rt; is_linked(rt.alloc(), talk)?, "{}", talk.shows);
-    }
+    all_linked(&rt, rt.alloc(), queries())?;
+    all_linked(&rt, rt.alloc(), requests())?;
     assert!(rt; holds(rt.alloc(), &SAME_ENDS)?);
     Ok(())
 }

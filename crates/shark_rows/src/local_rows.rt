@@ -1,5 +1,5 @@
 // Protocols of local networks, written by hand from RFC 2236, 4861, 5905 and 6762.
-use crate::runs::{Run, holds};
+use crate::runs::{Run, all_hold};
 use shark_run::Status;
 use std::test::Fail;
 
@@ -176,8 +176,5 @@ static LOCAL: [Run; 11] = [
 
 #[test]
 fn protocols_of_local_networks_are_read(rt: HostRuntime) -> Result<(), Fail> {
-    for row in &LOCAL {
-        assert!(rt; holds(rt.alloc(), row)?, "{}", row.shows);
-    }
-    Ok(())
+    all_hold(&rt, rt.alloc(), &LOCAL)
 }

@@ -3,6 +3,7 @@
 use crate::runs::bytes_of;
 use crate::talks::{RAW, Segment, push_segment, writes};
 use std::alloc::{AllocError, Global};
+use std::process::Abort;
 use std::test::Fail;
 
 const WORDS: &str =
@@ -234,20 +235,21 @@ fn is_shown(alloc: Global, long: &Long) -> Result<bool, AllocError> {
     writes(alloc, WORDS, long.filter, file, long.out)
 }
 
-#[test]
-fn heads_chunk_lines_and_trailers_keep_to_the_limits(rt: HostRuntime) -> Result<(), Fail> {
-    for rows in [heads(), parts()] {
-        for long in rows {
-            assert!(rt; is_shown(rt.alloc(), long)?, "{}", long.shows);
-        }
+/// Asserts of each message that it is shown, or not, by its size.
+fn all_shown(rt: &impl Abort, alloc: Global, rows: &[Long]) -> Result<(), Fail> {
+    for row in rows {
+        assert!(rt; is_shown(alloc, row)?, "{}", row.shows);
     }
     Ok(())
 }
 
 #[test]
+fn heads_chunk_lines_and_trailers_keep_to_the_limits(rt: HostRuntime) -> Result<(), Fail> {
+    all_shown(&rt, rt.alloc(), heads())?;
+    all_shown(&rt, rt.alloc(), parts())
+}
+
+#[test]
 fn bodies_keep_to_the_limit(rt: HostRuntime) -> Result<(), Fail> {
-    for long in bodies() {
-        assert!(rt; is_shown(rt.alloc(), long)?, "{}", long.shows);
-    }
-    Ok(())
+    all_shown(&rt, rt.alloc(), bodies())
 }

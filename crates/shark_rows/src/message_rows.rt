@@ -1,5 +1,5 @@
 // Messages in streams of TCP, worked out by hand from RFC 9112 and RFC 1035, 4.2.2.
-use crate::runs::{Run, holds};
+use crate::runs::{Run, all_hold};
 use shark_run::Status;
 use std::test::Fail;
 
@@ -285,30 +285,17 @@ static PAGES: [Run; 2] = [
 
 #[test]
 fn queries_in_streams_are_shown(rt: HostRuntime) -> Result<(), Fail> {
-    for row in &NAMES {
-        assert!(rt; holds(rt.alloc(), row)?, "{}", row.shows);
-    }
-    Ok(())
+    all_hold(&rt, rt.alloc(), &NAMES)
 }
 
 #[test]
 fn requests_in_streams_are_shown(rt: HostRuntime) -> Result<(), Fail> {
-    for row in &REQUESTS {
-        assert!(rt; holds(rt.alloc(), row)?, "{}", row.shows);
-    }
-    for row in &FIELDS {
-        assert!(rt; holds(rt.alloc(), row)?, "{}", row.shows);
-    }
-    Ok(())
+    all_hold(&rt, rt.alloc(), &REQUESTS)?;
+    all_hold(&rt, rt.alloc(), &FIELDS)
 }
 
 #[test]
 fn responses_in_streams_are_shown(rt: HostRuntime) -> Result<(), Fail> {
-    for row in &RESPONSES {
-        assert!(rt; holds(rt.alloc(), row)?, "{}", row.shows);
-    }
-    for row in &PAGES {
-        assert!(rt; holds(rt.alloc(), row)?, "{}", row.shows);
-    }
-    Ok(())
+    all_hold(&rt, rt.alloc(), &RESPONSES)?;
+    all_hold(&rt, rt.alloc(), &PAGES)
 }

@@ -1,5 +1,5 @@
 // Messages of DNS in streams, worked out from RFC 1035, 4.2.2. Most have a header alone.
-use crate::talks::{NAMES, Talk, is_told};
+use crate::talks::{NAMES, Talk, all_told};
 use std::test::Fail;
 
 static MESSAGES: [Talk; 18] = [
@@ -153,8 +153,5 @@ fn messages() -> &'static [Talk] {
 
 #[test]
 fn messages_of_names_are_cut_from_streams(rt: HostRuntime) -> Result<(), Fail> {
-    for talk in messages() {
-        assert!(rt; is_told(rt.alloc(), &NAMES, talk)?, "{}", talk.shows);
-    }
-    Ok(())
+    all_told(&rt, rt.alloc(), &NAMES, messages())
 }

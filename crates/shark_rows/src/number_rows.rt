@@ -1,6 +1,6 @@
 // Sums, differences, products, `min` and `max` in filters over the three frames of the other filters, with expected values
 // worked by hand from the rules of the language.
-use crate::filter_rows::{chain_of, gives, is_refused, lets_through};
+use crate::filter_rows::{all_let_through, all_refused, chain_of, gives};
 use std::alloc::{AllocError, Global};
 use std::test::Fail;
 
@@ -43,10 +43,7 @@ static RESULTS: [(&str, &str); 26] = [
 
 #[test]
 fn sums_differences_and_products(rt: HostRuntime) -> Result<(), Fail> {
-    for row in &RESULTS {
-        assert!(rt; lets_through(rt.alloc(), row)?, "{}", row.0);
-    }
-    Ok(())
+    all_let_through(&rt, rt.alloc(), &RESULTS)
 }
 
 static PAIRS: [(&str, &str); 12] = [
@@ -66,10 +63,7 @@ static PAIRS: [(&str, &str); 12] = [
 
 #[test]
 fn pairs_of_values(rt: HostRuntime) -> Result<(), Fail> {
-    for row in &PAIRS {
-        assert!(rt; lets_through(rt.alloc(), row)?, "{}", row.0);
-    }
-    Ok(())
+    all_let_through(&rt, rt.alloc(), &PAIRS)
 }
 
 static EXTREMES: [(&str, &str); 21] = [
@@ -98,10 +92,7 @@ static EXTREMES: [(&str, &str); 21] = [
 
 #[test]
 fn the_least_and_the_greatest(rt: HostRuntime) -> Result<(), Fail> {
-    for row in &EXTREMES {
-        assert!(rt; lets_through(rt.alloc(), row)?, "{}", row.0);
-    }
-    Ok(())
+    all_let_through(&rt, rt.alloc(), &EXTREMES)
 }
 
 static GRAMMAR: [(&str, &str); 16] = [
@@ -158,10 +149,7 @@ static GRAMMAR: [(&str, &str); 16] = [
 
 #[test]
 fn signs_where_none_stands(rt: HostRuntime) -> Result<(), Fail> {
-    for row in &GRAMMAR {
-        assert!(rt; is_refused(rt.alloc(), row)?, "{}", row.0);
-    }
-    Ok(())
+    all_refused(&rt, rt.alloc(), &GRAMMAR)
 }
 
 static NAMES: [(&str, &str); 14] = [
@@ -219,10 +207,7 @@ static NAMES: [(&str, &str); 14] = [
 
 #[test]
 fn numbers_where_a_name_stands(rt: HostRuntime) -> Result<(), Fail> {
-    for row in &NAMES {
-        assert!(rt; is_refused(rt.alloc(), row)?, "{}", row.0);
-    }
-    Ok(())
+    all_refused(&rt, rt.alloc(), &NAMES)
 }
 
 static KINDS: [(&str, &str); 22] = [
@@ -315,10 +300,7 @@ static KINDS: [(&str, &str); 22] = [
 
 #[test]
 fn parts_that_are_no_numbers(rt: HostRuntime) -> Result<(), Fail> {
-    for row in &KINDS {
-        assert!(rt; is_refused(rt.alloc(), row)?, "{}", row.0);
-    }
-    Ok(())
+    all_refused(&rt, rt.alloc(), &KINDS)
 }
 
 static RANGES: [(&str, &str); 4] = [
@@ -342,10 +324,7 @@ static RANGES: [(&str, &str); 4] = [
 
 #[test]
 fn numbers_beyond_64_bits(rt: HostRuntime) -> Result<(), Fail> {
-    for row in &RANGES {
-        assert!(rt; is_refused(rt.alloc(), row)?, "{}", row.0);
-    }
-    Ok(())
+    all_refused(&rt, rt.alloc(), &RANGES)
 }
 
 /// `max` of the frame's number, so many calls deep, tested for one number.
@@ -362,31 +341,36 @@ fn nested(alloc: Global, calls: usize) -> Result<String, AllocError> {
     Ok(filter)
 }
 
+fn gives_nested(alloc: Global, calls: usize, out: &str, err: &str) -> Result<bool, AllocError> {
+    let filter = nested(alloc, calls)?;
+    gives(alloc, filter.as_str(), out, err)
+}
+
 #[test]
 fn at_most_64_calls_are_open(rt: HostRuntime) -> Result<(), Fail> {
     let alloc = rt.alloc();
-    let deep = nested(alloc, 64)?;
-    assert!(rt; gives(alloc, deep.as_str(), "1\n2\n", "")?);
-    let deep = nested(alloc, 65)?;
-    assert!(rt;
-        gives(
-            alloc,
-            deep.as_str(),
-            "",
-            "shark: filter byte 256: F9 TooDeep\n"
-        )?
-    );
+    let told = "shark: filter byte 256: F9 TooDeep\n";
+    assert!(rt; gives_nested(alloc, 64, "1\n2\n", "")?);
+    assert!(rt; gives_nested(alloc, 65, "", told)?);
     Ok(())
+}
+
+fn gives_chain(
+    alloc: Global,
+    first: &str,
+    part: &str,
+    last: &str,
+    out: &str,
+) -> Result<bool, AllocError> {
+    let chain = chain_of(alloc, first, part, 2000, last)?;
+    gives(alloc, chain.as_str(), out, "")
 }
 
 #[test]
 fn the_longest_sums_and_products_are_computed(rt: HostRuntime) -> Result<(), Fail> {
     let alloc = rt.alloc();
-    let sum = chain_of(alloc, "frame.number", "+1", 2000, "==2001")?;
-    assert!(rt; gives(alloc, sum.as_str(), "1\n", "")?);
-    let product = chain_of(alloc, "frame.number", "*1", 2000, "==2")?;
-    assert!(rt; gives(alloc, product.as_str(), "2\n", "")?);
-    let least = chain_of(alloc, "min(frame.number", ",2", 2000, ")==2")?;
-    assert!(rt; gives(alloc, least.as_str(), "2\n3\n", "")?);
+    assert!(rt; gives_chain(alloc, "frame.number", "+1", "==2001", "1\n")?);
+    assert!(rt; gives_chain(alloc, "frame.number", "*1", "==2", "2\n")?);
+    assert!(rt; gives_chain(alloc, "min(frame.number", ",2", ")==2", "2\n3\n")?);
     Ok(())
 }

@@ -1,10 +1,11 @@
 // Runs that something outside fails, and files of the greatest size.
 use crate::pcap_rows::{HEADER, PADDING, REQUEST, REQUEST_HEAD};
-use crate::runs::{Faults, NO_FAULTS, Run, bytes_of, comes_to};
+use crate::runs::{Faults, NO_FAULTS, Run, bytes_of, comes_to, words_of};
 use crate::sure::sure_run;
 use pk_outside::SureSink;
 use shark_run::Status;
 use std::alloc::{AllocError, Global};
+use std::process::Abort;
 use std::test::Fail;
 
 const NUMBERS: &str = "-r f -T fields -e frame.number";
@@ -38,7 +39,8 @@ fn fails(
         out,
         err,
     };
-    comes_to(alloc, &row, name, bytes_of(alloc, &REQUESTS)?, faults)
+    let bytes = bytes_of(alloc, &REQUESTS)?;
+    comes_to(alloc, &row, name, bytes, faults)
 }
 
 #[test]
@@ -103,21 +105,38 @@ fn ends_byte_by_byte(
             ""
         },
     };
-    comes_to(alloc, &row, "f", bytes_of(alloc, &THREE_REQUESTS)?, &faults)
+    let bytes = bytes_of(alloc, &THREE_REQUESTS)?;
+    comes_to(alloc, &row, "f", bytes, &faults)
 }
 
 const FIRST_NUMBER: &str = "-r f -c 1 -T fields -e frame.number";
 
+/// Words, the calls that fail, and how the run ends with which lines.
+type Ending = (&'static str, &'static [u64], Status, &'static str);
+
+static ENDINGS: [Ending; 5] = [
+    (NUMBERS, &[202], Status::ReadFault, "1\n2\n"),
+    (NUMBERS, &[177], Status::ReadFault, "1\n"),
+    (NUMBERS, &[26], Status::ReadFault, ""),
+    (NUMBERS, &[], Status::Done, "1\n2\n3\n"),
+    // What follows the last frame asked for isn't read.
+    (FIRST_NUMBER, &[102], Status::Done, "1\n"),
+];
+
+fn all_end(rt: &impl Abort, alloc: Global, rows: &[Ending]) -> Result<(), Fail> {
+    for row in rows {
+        assert!(rt;
+            ends_byte_by_byte(alloc, row.0, row.1, row.2, row.3)?,
+            "{}",
+            row.3
+        );
+    }
+    Ok(())
+}
+
 #[test]
 fn lines_before_a_read_that_fails_are_written(rt: HostRuntime) -> Result<(), Fail> {
-    let alloc = rt.alloc();
-    assert!(rt; ends_byte_by_byte(alloc, NUMBERS, &[202], Status::ReadFault, "1\n2\n")?);
-    assert!(rt; ends_byte_by_byte(alloc, NUMBERS, &[177], Status::ReadFault, "1\n")?);
-    assert!(rt; ends_byte_by_byte(alloc, NUMBERS, &[26], Status::ReadFault, "")?);
-    assert!(rt; ends_byte_by_byte(alloc, NUMBERS, &[], Status::Done, "1\n2\n3\n")?);
-    // What follows the last frame asked for isn't read.
-    assert!(rt; ends_byte_by_byte(alloc, FIRST_NUMBER, &[102], Status::Done, "1\n")?);
-    Ok(())
+    all_end(&rt, rt.alloc(), &ENDINGS)
 }
 
 #[test]
@@ -160,14 +179,21 @@ fn the_bytes_of_a_name_are_escaped(rt: HostRuntime) -> Result<(), Fail> {
 }
 
 /// A run that nothing outside fails, and that writes no line.
-fn ends_without_a_line(alloc: Global, file: Vec<u8>, status: Status) -> Result<bool, AllocError> {
-    let mut words = Vec::new(alloc);
-    for word in NUMBERS.split(' ') {
-        words.push(String::from_str(alloc, word)?)?;
-    }
+fn ends_silently(
+    alloc: Global,
+    words: &str,
+    filter: &str,
+    file: Vec<u8>,
+    status: Status,
+) -> Result<bool, AllocError> {
+    let words = words_of(alloc, words, filter)?;
     let mut out = SureSink::new(alloc);
     let found = sure_run(alloc, words.as_slice(), file, &mut out);
     Ok(found == status && out.bytes().is_empty())
+}
+
+fn ends_without_a_line(alloc: Global, file: Vec<u8>, status: Status) -> Result<bool, AllocError> {
+    ends_silently(alloc, NUMBERS, "", file, status)
 }
 
 /// A block that isn't known and ends past byte 2^28, behind a section.
@@ -176,57 +202,73 @@ const SECTION_AND_BLOCK: [&str; 2] = [
     "0b000000 00000010",
 ];
 
+/// Appends so many blocks of 65,536 zeros.
+fn push_zeros(file: &mut Vec<u8>, alloc: Global, blocks: u32) -> Result<(), AllocError> {
+    let room = vec![in alloc; 0; 65_536]?;
+    for _ in 0..blocks {
+        file.extend_from_slice(room.as_slice())?;
+    }
+    file.extend_from_slice(&room[..65_501])
+}
+
+fn block_file(alloc: Global) -> Result<Vec<u8>, AllocError> {
+    let mut file = bytes_of(alloc, &SECTION_AND_BLOCK)?;
+    push_zeros(&mut file, alloc, 4095)?;
+    Ok(file)
+}
+
 // The file has 2^28 + 1 bytes.
 #[test]
 fn a_file_above_the_limit_is_too_large(rt: HostRuntime) -> Result<(), Fail> {
-    let alloc = rt.alloc();
-    let mut file = bytes_of(alloc, &SECTION_AND_BLOCK)?;
-    let room = vec![in alloc; 0; 65_536]?;
-    for _ in 0..4095 {
-        file.extend_from_slice(room.as_slice())?;
-    }
-    file.extend_from_slice(&room[..65_501])?;
-    assert!(rt; ends_without_a_line(alloc, file, Status::TooLarge)?);
+    let file = block_file(rt.alloc())?;
+    assert!(rt; ends_without_a_line(rt.alloc(), file, Status::TooLarge)?);
     Ok(())
+}
+
+/// The header of a record of 262,144 bytes.
+static LARGE_HEAD: [u8; 16] = [0, 0, 0, 0, 0, 0, 0, 0, 0, 0, 4, 0, 0, 0, 4, 0];
+
+/// Appends so many records of 262,144 zeros.
+fn push_records(file: &mut Vec<u8>, alloc: Global, records: u32) -> Result<(), AllocError> {
+    let bytes = vec![in alloc; 0; 262_144]?;
+    for _ in 0..records {
+        file.extend_from_slice(&LARGE_HEAD)?;
+        file.extend_from_slice(bytes.as_slice())?;
+    }
+    Ok(())
+}
+
+fn records_file(alloc: Global) -> Result<Vec<u8>, AllocError> {
+    let mut file = bytes_of(alloc, &[HEADER])?;
+    push_records(&mut file, alloc, 1024)?;
+    Ok(file)
 }
 
 // 1,024 records of 262,144 bytes reach past byte 2^28.
 #[test]
 fn records_above_the_limit_are_too_large(rt: HostRuntime) -> Result<(), Fail> {
-    let alloc = rt.alloc();
-    let mut file = bytes_of(alloc, &[HEADER])?;
-    let head = bytes_of(alloc, &["00000000 00000000 00000400 00000400"])?;
-    let bytes = vec![in alloc; 0; 262_144]?;
-    for _ in 0..1024 {
-        file.extend_from_slice(head.as_slice())?;
-        file.extend_from_slice(bytes.as_slice())?;
-    }
-    let mut words = Vec::new(alloc);
-    for word in "-r f -T fields -e frame.number -Y eth.len==1501".split(' ') {
-        words.push(String::from_str(alloc, word)?)?;
-    }
-    let mut out = SureSink::new(alloc);
-    assert_eq!(rt;
-        sure_run(alloc, words.as_slice(), file, &mut out),
-        Status::TooLarge
-    );
-    assert!(rt; out.bytes().is_empty());
+    let file = records_file(rt.alloc())?;
+    let ends = ends_silently(rt.alloc(), NUMBERS, "eth.len==1501", file, Status::TooLarge)?;
+    assert!(rt; ends);
     Ok(())
+}
+
+fn cut_block_file(alloc: Global) -> Result<Vec<u8>, AllocError> {
+    let mut file = bytes_of(alloc, &SECTION_AND_BLOCK)?;
+    file.extend_from_slice(&[0; 64])?;
+    Ok(file)
 }
 
 #[test]
 fn the_same_file_cut_at_a_hundred_bytes_is_damaged(rt: HostRuntime) -> Result<(), Fail> {
-    let alloc = rt.alloc();
-    let mut file = bytes_of(alloc, &SECTION_AND_BLOCK)?;
-    file.extend_from_slice(&[0; 64])?;
-    assert!(rt; ends_without_a_line(alloc, file, Status::Damaged)?);
+    let file = cut_block_file(rt.alloc())?;
+    assert!(rt; ends_without_a_line(rt.alloc(), file, Status::Damaged)?);
     Ok(())
 }
 
 #[test]
 fn nothing_fails_where_nothing_outside_fails(rt: HostRuntime) -> Result<(), Fail> {
-    let alloc = rt.alloc();
-    let file = bytes_of(alloc, &[HEADER])?;
-    assert!(rt; ends_without_a_line(alloc, file, Status::Done)?);
+    let file = bytes_of(rt.alloc(), &[HEADER])?;
+    assert!(rt; ends_without_a_line(rt.alloc(), file, Status::Done)?);
     Ok(())
 }

@@ -1,6 +1,6 @@
 // Packets, and what is shown of their layers, written by hand from RFC 791, 792, 768, 9293, 8200 and 4443.
 use crate::pcap_rows::HEADER;
-use crate::runs::{Run, bytes_of, holds};
+use crate::runs::{Run, all_hold, bytes_of};
 use crate::sure::sure_run;
 use pk_outside::SureSink;
 use shark_run::Status;
@@ -635,29 +635,18 @@ static IP6: [Run; 14] = [
 
 #[test]
 fn ip4_packets_are_shown(rt: HostRuntime) -> Result<(), Fail> {
-    for row in &IP4_FIRST {
-        assert!(rt; holds(rt.alloc(), row)?, "{}", row.shows);
-    }
-    for row in &IP4_MORE {
-        assert!(rt; holds(rt.alloc(), row)?, "{}", row.shows);
-    }
-    Ok(())
+    all_hold(&rt, rt.alloc(), &IP4_FIRST)?;
+    all_hold(&rt, rt.alloc(), &IP4_MORE)
 }
 
 #[test]
 fn datagrams_and_segments_are_shown(rt: HostRuntime) -> Result<(), Fail> {
-    for row in &PORTS {
-        assert!(rt; holds(rt.alloc(), row)?, "{}", row.shows);
-    }
-    Ok(())
+    all_hold(&rt, rt.alloc(), &PORTS)
 }
 
 #[test]
 fn ip6_packets_are_shown(rt: HostRuntime) -> Result<(), Fail> {
-    for row in &IP6 {
-        assert!(rt; holds(rt.alloc(), row)?, "{}", row.shows);
-    }
-    Ok(())
+    all_hold(&rt, rt.alloc(), &IP6)
 }
 
 /// A file of one packet: so many IPv4 headers, each around the next.

@@ -1,7 +1,9 @@
 // Rows of two passes: what a frame shows of later ones, worked by hand.
-use crate::runs::{Expected, Faults, NO_FAULTS, Run, bytes_of, ends_so, holds, words_of};
+use crate::runs::{Expected, Faults, NO_FAULTS, Run, all_hold, bytes_of, capture_of, ends_with};
+use pk_outside::MemoryCapture;
 use shark_run::Status;
 use std::alloc::{AllocError, Global};
+use std::process::Abort;
 use std::test::Fail;
 
 /// A pcap file's header, for frames that begin with an IP header.
@@ -562,9 +564,9 @@ fn ends(
         err: &[],
         step: 100,
     };
-    let words = words_of(alloc, words, "")?;
     let file = bytes_of(alloc, TALK)?;
-    ends_so(alloc, words.as_slice(), "f", file, &faults, expected)
+    let mut capture = capture_of(alloc, "f", file, &faults)?;
+    ends_with(alloc, words, "", &mut capture, &faults, expected)
 }
 
 fn with_status(status: Status, out: &'static str, err: &'static str) -> Expected<'static> {
@@ -585,73 +587,156 @@ const ONCE: &str = "-r f -T fields -e frame.number -e dns.response_in";
 
 const HEADER_LINE: &str = "frame.number\tdns.response_in\n";
 
+/// Words, the calls of the capture and the writes that fail, and what comes of it.
+#[derive(Clone, Copy)]
+struct Failing {
+    words: &'static str,
+    capture: &'static [u64],
+    out: &'static [u64],
+    status: Status,
+    written: &'static str,
+}
+
+const READS: Failing = Failing {
+    words: COLUMNS,
+    capture: &[],
+    out: &[],
+    status: Status::ReadFault,
+    written: "",
+};
+
 // The first call opens the file, the second to the fifth read it, and the sixth finds its end.
+static FAILED_READS: [Failing; 7] = [
+    Failing {
+        capture: &[5],
+        ..READS
+    },
+    Failing {
+        capture: &[2],
+        ..READS
+    },
+    Failing {
+        words: WITH_HEADER,
+        capture: &[5],
+        written: HEADER_LINE,
+        ..READS
+    },
+    Failing {
+        words: WITH_HEADER,
+        capture: &[6],
+        written: HEADER_LINE,
+        ..READS
+    },
+    Failing {
+        words: ONCE,
+        capture: &[5],
+        written: "1\t\n2\t\n3\t\n4\t\n",
+        ..READS
+    },
+    Failing {
+        words: FOUR,
+        capture: &[5],
+        status: Status::Done,
+        written: "1\t2\n2\t\n3\t\n4\t\n",
+        ..READS
+    },
+    Failing {
+        words: WITH_HEADER,
+        capture: &[1],
+        status: Status::CannotOpen,
+        ..READS
+    },
+];
+
+const WRITES: Failing = Failing {
+    status: Status::WriteFault,
+    ..READS
+};
+
+static FAILED_WRITES: [Failing; 4] = [
+    Failing {
+        out: &[1],
+        ..WRITES
+    },
+    Failing {
+        out: &[2],
+        written: "1\t2\n",
+        ..WRITES
+    },
+    Failing {
+        words: WITH_HEADER,
+        capture: &[5],
+        out: &[1],
+        ..WRITES
+    },
+    Failing {
+        words: WITH_HEADER,
+        out: &[2],
+        written: HEADER_LINE,
+        ..WRITES
+    },
+];
+
+fn told_of(status: Status) -> &'static str {
+    match status {
+        Status::ReadFault => "shark: read fault\n",
+        Status::CannotOpen => "shark: cannot open f\n",
+        _ => "",
+    }
+}
+
+fn all_end(rt: &impl Abort, alloc: Global, rows: &[Failing]) -> Result<(), Fail> {
+    for row in rows {
+        let expected = with_status(row.status, row.written, told_of(row.status));
+        assert!(rt;
+            ends(alloc, row.words, row.capture, row.out, expected)?,
+            "{}",
+            row.written
+        );
+    }
+    Ok(())
+}
+
 #[test]
 fn where_a_read_fails_no_line_but_the_header_is_written(rt: HostRuntime) -> Result<(), Fail> {
-    let alloc = rt.alloc();
-    let nothing = with_status(Status::ReadFault, "", "shark: read fault\n");
-    let header = with_status(Status::ReadFault, HEADER_LINE, "shark: read fault\n");
-    let once = with_status(
-        Status::ReadFault,
-        "1\t\n2\t\n3\t\n4\t\n",
-        "shark: read fault\n",
-    );
-    let four = with_status(Status::Done, "1\t2\n2\t\n3\t\n4\t\n", "");
-    let unopened = with_status(Status::CannotOpen, "", "shark: cannot open f\n");
-    assert!(rt; ends(alloc, COLUMNS, &[5], &[], nothing)?);
-    assert!(rt; ends(alloc, COLUMNS, &[2], &[], nothing)?);
-    assert!(rt; ends(alloc, WITH_HEADER, &[5], &[], header)?);
-    assert!(rt; ends(alloc, WITH_HEADER, &[6], &[], header)?);
-    assert!(rt; ends(alloc, ONCE, &[5], &[], once)?);
-    assert!(rt; ends(alloc, FOUR, &[5], &[], four)?);
-    assert!(rt; ends(alloc, WITH_HEADER, &[1], &[], unopened)?);
-    Ok(())
+    all_end(&rt, rt.alloc(), &FAILED_READS)
 }
 
 #[test]
 fn nothing_is_written_behind_a_write_that_failed(rt: HostRuntime) -> Result<(), Fail> {
-    let alloc = rt.alloc();
-    let nothing = with_status(Status::WriteFault, "", "");
-    let first = with_status(Status::WriteFault, "1\t2\n", "");
-    let header = with_status(Status::WriteFault, HEADER_LINE, "");
-    assert!(rt; ends(alloc, COLUMNS, &[], &[1], nothing)?);
-    assert!(rt; ends(alloc, COLUMNS, &[], &[2], first)?);
-    assert!(rt; ends(alloc, WITH_HEADER, &[5], &[1], nothing)?);
-    assert!(rt; ends(alloc, WITH_HEADER, &[], &[2], header)?);
-    Ok(())
+    all_end(&rt, rt.alloc(), &FAILED_WRITES)
 }
 
-/// Whether the frames that a filter lets through are written as a capture.
-fn is_written(alloc: Global, words: &str, filter: &str, file: &[&str]) -> Result<bool, AllocError> {
-    let words = words_of(alloc, words, filter)?;
+fn writes_capture(
+    alloc: Global,
+    words: &str,
+    filter: &str,
+    capture: &mut MemoryCapture,
+    file: &[&str],
+) -> Result<bool, AllocError> {
     let out = bytes_of(alloc, file)?;
     let expected = Expected {
         status: Status::Done,
         out: out.as_slice(),
         err: "",
     };
+    ends_with(alloc, words, filter, capture, &NO_FAULTS, expected)
+}
+
+/// Whether the frames that a filter lets through are written as a capture.
+fn is_written(alloc: Global, words: &str, filter: &str, file: &[&str]) -> Result<bool, AllocError> {
     let talk = bytes_of(alloc, TALK)?;
-    ends_so(alloc, words.as_slice(), "f", talk, &NO_FAULTS, expected)
+    let mut capture = capture_of(alloc, "f", talk, &NO_FAULTS)?;
+    writes_capture(alloc, words, filter, &mut capture, file)
 }
 
 #[test]
 fn later_frames_are_shown(rt: HostRuntime) -> Result<(), Fail> {
-    for row in &LINKS {
-        assert!(rt; holds(rt.alloc(), row)?, "{}", row.shows);
-    }
-    for row in &PARTS_JOINED {
-        assert!(rt; holds(rt.alloc(), row)?, "{}", row.shows);
-    }
-    for row in &FILTERS {
-        assert!(rt; holds(rt.alloc(), row)?, "{}", row.shows);
-    }
-    for row in &ENDS {
-        assert!(rt; holds(rt.alloc(), row)?, "{}", row.shows);
-    }
-    for row in &REPORTS {
-        assert!(rt; holds(rt.alloc(), row)?, "{}", row.shows);
-    }
-    Ok(())
+    all_hold(&rt, rt.alloc(), &LINKS)?;
+    all_hold(&rt, rt.alloc(), &PARTS_JOINED)?;
+    all_hold(&rt, rt.alloc(), &FILTERS)?;
+    all_hold(&rt, rt.alloc(), &ENDS)?;
+    all_hold(&rt, rt.alloc(), &REPORTS)
 }
 
 #[test]

@@ -1,5 +1,5 @@
 // Files in the pcap format, each with its frames and its end, written by hand from the format's text (pcap-savefile(5)).
-use crate::runs::{Run, holds};
+use crate::runs::{Run, all_hold};
 use shark_run::Status;
 use std::test::Fail;
 
@@ -328,11 +328,6 @@ static PCAP_RECORDS: [Run; 11] = [
 
 #[test]
 fn pcap_files_are_read_to_their_frames_and_end(rt: HostRuntime) -> Result<(), Fail> {
-    for row in &PCAP_HEADS {
-        assert!(rt; holds(rt.alloc(), row)?, "{}", row.shows);
-    }
-    for row in &PCAP_RECORDS {
-        assert!(rt; holds(rt.alloc(), row)?, "{}", row.shows);
-    }
-    Ok(())
+    all_hold(&rt, rt.alloc(), &PCAP_HEADS)?;
+    all_hold(&rt, rt.alloc(), &PCAP_RECORDS)
 }

@@ -1,7 +1,7 @@
 // Files in the pcapng format, each with its frames and its end, written by hand from the format's text
 // (draft-ietf-opsawg-pcapng).
 use crate::pcap_rows::{PADDING, REQUEST};
-use crate::runs::{Run, holds};
+use crate::runs::{Run, all_hold};
 use shark_run::Status;
 use std::test::Fail;
 
@@ -414,11 +414,6 @@ static PACKETS: [Run; 18] = [
 
 #[test]
 fn pcapng_files_are_read_to_their_frames_and_end(rt: HostRuntime) -> Result<(), Fail> {
-    for row in &SECTIONS {
-        assert!(rt; holds(rt.alloc(), row)?, "{}", row.shows);
-    }
-    for row in &PACKETS {
-        assert!(rt; holds(rt.alloc(), row)?, "{}", row.shows);
-    }
-    Ok(())
+    all_hold(&rt, rt.alloc(), &SECTIONS)?;
+    all_hold(&rt, rt.alloc(), &PACKETS)
 }

@@ -1,7 +1,7 @@
 // Reports of followed streams, with the bytes of their segments worked by hand.
 use crate::message_rows::REQUEST_OUT_OF_ORDER;
 use crate::pcap_rows::{HEADER, PADDING, REQUEST, REQUEST_HEAD};
-use crate::runs::{Faults, Run, bytes_of, comes_to, holds};
+use crate::runs::{Faults, Run, all_hold, bytes_of, comes_to};
 use shark_run::Status;
 use std::test::Fail;
 
@@ -176,12 +176,8 @@ static STOPPED: Run = Run {
 
 #[test]
 fn streams_are_reported(rt: HostRuntime) -> Result<(), Fail> {
-    for row in &STREAMS {
-        assert!(rt; holds(rt.alloc(), row)?, "{}", row.shows);
-    }
-    for row in &AMONG_OTHERS {
-        assert!(rt; holds(rt.alloc(), row)?, "{}", row.shows);
-    }
+    all_hold(&rt, rt.alloc(), &STREAMS)?;
+    all_hold(&rt, rt.alloc(), &AMONG_OTHERS)?;
     let bytes = bytes_of(rt.alloc(), STOPPED.file)?;
     assert!(rt; comes_to(rt.alloc(), &STOPPED, "f", bytes, &SECOND_WRITE_FAILS)?);
     Ok(())

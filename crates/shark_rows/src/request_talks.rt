@@ -1,5 +1,5 @@
 // Requests in streams, worked out from RFC 9112 and the limits of what is read.
-use crate::talks::{Talk, WEB, is_told};
+use crate::talks::{Talk, WEB, all_told};
 use std::test::Fail;
 
 static REQUESTS: [Talk; 21] = [
@@ -279,10 +279,6 @@ fn lines() -> &'static [Talk] {
 
 #[test]
 fn requests_are_cut_from_streams(rt: HostRuntime) -> Result<(), Fail> {
-    for talks in [requests(), lines()] {
-        for talk in talks {
-            assert!(rt; is_told(rt.alloc(), &WEB, talk)?, "{}", talk.shows);
-        }
-    }
-    Ok(())
+    all_told(&rt, rt.alloc(), &WEB, requests())?;
+    all_told(&rt, rt.alloc(), &WEB, lines())
 }

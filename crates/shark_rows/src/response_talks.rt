@@ -1,5 +1,5 @@
 // Responses in streams, and messages around bytes that the capture lost, worked out from RFC 9112 and RFC 9293.
-use crate::talks::{Talk, WEB, is_told};
+use crate::talks::{Talk, WEB, all_told};
 use std::test::Fail;
 
 static RESPONSES: [Talk; 32] = [
@@ -358,10 +358,6 @@ fn lost() -> &'static [Talk] {
 
 #[test]
 fn responses_and_what_follows_lost_bytes_are_cut_from_streams(rt: HostRuntime) -> Result<(), Fail> {
-    for talks in [responses(), lost()] {
-        for talk in talks {
-            assert!(rt; is_told(rt.alloc(), &WEB, talk)?, "{}", talk.shows);
-        }
-    }
-    Ok(())
+    all_told(&rt, rt.alloc(), &WEB, responses())?;
+    all_told(&rt, rt.alloc(), &WEB, lost())
 }

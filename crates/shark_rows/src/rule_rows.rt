@@ -1,6 +1,6 @@
 // Ports that are read as other applications than usual, over messages of the other rows sent to other ports.
 use crate::message_rows::REQUEST_OUT_OF_ORDER;
-use crate::runs::{Run, holds};
+use crate::runs::{Run, all_hold};
 use crate::udp_rows::ZEROS;
 use shark_run::Status;
 use std::test::Fail;
@@ -152,11 +152,6 @@ static OVER_UDP: [Run; 5] = [
 
 #[test]
 fn ports_are_read_by_rules(rt: HostRuntime) -> Result<(), Fail> {
-    for row in &OVER_TCP {
-        assert!(rt; holds(rt.alloc(), row)?, "{}", row.shows);
-    }
-    for row in &OVER_UDP {
-        assert!(rt; holds(rt.alloc(), row)?, "{}", row.shows);
-    }
-    Ok(())
+    all_hold(&rt, rt.alloc(), &OVER_TCP)?;
+    all_hold(&rt, rt.alloc(), &OVER_UDP)
 }

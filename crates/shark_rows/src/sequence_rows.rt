@@ -2,6 +2,7 @@
 use crate::runs::{Expected, NO_FAULTS, bytes_of, ends_so, words_of};
 use shark_run::Status;
 use std::alloc::{AllocError, Global};
+use std::process::Abort;
 use std::test::Fail;
 
 /// The header of a file whose frames are IP packets.
@@ -600,24 +601,22 @@ fn is_told(alloc: Global, sequence: &Sequence) -> Result<bool, AllocError> {
     ends_so(alloc, words.as_slice(), "f", file, &NO_FAULTS, expected)
 }
 
-#[test]
-fn segments_have_their_places_whatever_their_order(rt: HostRuntime) -> Result<(), Fail> {
-    for sequence in &CONNECTIONS {
-        assert!(rt; is_told(rt.alloc(), sequence)?, "{}", sequence.shows);
-    }
-    for sequence in &ORDERS {
-        assert!(rt; is_told(rt.alloc(), sequence)?, "{}", sequence.shows);
+/// Asserts of each sequence that a run over it tells the places.
+fn all_told(rt: &impl Abort, alloc: Global, rows: &[Sequence]) -> Result<(), Fail> {
+    for row in rows {
+        assert!(rt; is_told(alloc, row)?, "{}", row.shows);
     }
     Ok(())
 }
 
 #[test]
+fn segments_have_their_places_whatever_their_order(rt: HostRuntime) -> Result<(), Fail> {
+    all_told(&rt, rt.alloc(), &CONNECTIONS)?;
+    all_told(&rt, rt.alloc(), &ORDERS)
+}
+
+#[test]
 fn gaps_and_windows_are_told(rt: HostRuntime) -> Result<(), Fail> {
-    for sequence in &GAPS {
-        assert!(rt; is_told(rt.alloc(), sequence)?, "{}", sequence.shows);
-    }
-    for sequence in &WINDOWS {
-        assert!(rt; is_told(rt.alloc(), sequence)?, "{}", sequence.shows);
-    }
-    Ok(())
+    all_told(&rt, rt.alloc(), &GAPS)?;
+    all_told(&rt, rt.alloc(), &WINDOWS)
 }

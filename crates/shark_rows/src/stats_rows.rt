@@ -2,9 +2,10 @@
 // compiled.
 use crate::pcap_rows::{HEADER, PADDING, REQUEST, REQUEST_HEAD};
 use crate::report_rows::TWO_STREAMS;
-use crate::runs::{Run, holds};
+use crate::runs::{Run, all_hold, holds};
 use shark_run::Status;
 use std::alloc::{AllocError, Global};
+use std::process::Abort;
 use std::test::Fail;
 
 /// The header of a file whose frames are IP packets.
@@ -356,35 +357,32 @@ fn is_listed(alloc: Global, row: &(&'static str, &'static str)) -> Result<bool, 
     holds(alloc, &run)
 }
 
-#[test]
-fn programs_are_listed(rt: HostRuntime) -> Result<(), Fail> {
-    for row in &SLICED {
-        assert!(rt; is_listed(rt.alloc(), row)?, "{}", row.0);
-    }
-    for row in &CALCULATED {
-        assert!(rt; is_listed(rt.alloc(), row)?, "{}", row.0);
-    }
-    for row in &JOINED {
-        assert!(rt; is_listed(rt.alloc(), row)?, "{}", row.0);
+/// Asserts of each filter that its program is listed.
+fn all_listed(
+    rt: &impl Abort,
+    alloc: Global,
+    rows: &[(&'static str, &'static str)],
+) -> Result<(), Fail> {
+    for row in rows {
+        assert!(rt; is_listed(alloc, row)?, "{}", row.0);
     }
     Ok(())
+}
+
+#[test]
+fn programs_are_listed(rt: HostRuntime) -> Result<(), Fail> {
+    all_listed(&rt, rt.alloc(), &SLICED)?;
+    all_listed(&rt, rt.alloc(), &CALCULATED)?;
+    all_listed(&rt, rt.alloc(), &JOINED)
 }
 
 #[test]
 fn steps_are_counted(rt: HostRuntime) -> Result<(), Fail> {
-    for row in &COUNTED {
-        assert!(rt; holds(rt.alloc(), row)?, "{}", row.shows);
-    }
-    for row in &AMONG_OTHERS {
-        assert!(rt; holds(rt.alloc(), row)?, "{}", row.shows);
-    }
-    Ok(())
+    all_hold(&rt, rt.alloc(), &COUNTED)?;
+    all_hold(&rt, rt.alloc(), &AMONG_OTHERS)
 }
 
 #[test]
 fn statistics_are_refused(rt: HostRuntime) -> Result<(), Fail> {
-    for row in &REFUSED {
-        assert!(rt; holds(rt.alloc(), row)?, "{}", row.shows);
-    }
-    Ok(())
+    all_hold(&rt, rt.alloc(), &REFUSED)
 }

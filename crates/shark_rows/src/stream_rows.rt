@@ -1,5 +1,5 @@
 // Streams of TCP, written by hand from RFC 9293.
-use crate::runs::{Run, holds};
+use crate::runs::{Run, all_hold};
 use shark_run::Status;
 use std::test::Fail;
 
@@ -107,16 +107,10 @@ static GAPS: [Run; 2] = [
 
 #[test]
 fn segments_have_their_places(rt: HostRuntime) -> Result<(), Fail> {
-    for row in &PLACES {
-        assert!(rt; holds(rt.alloc(), row)?, "{}", row.shows);
-    }
-    Ok(())
+    all_hold(&rt, rt.alloc(), &PLACES)
 }
 
 #[test]
 fn gaps_that_are_passed_are_told(rt: HostRuntime) -> Result<(), Fail> {
-    for row in &GAPS {
-        assert!(rt; holds(rt.alloc(), row)?, "{}", row.shows);
-    }
-    Ok(())
+    all_hold(&rt, rt.alloc(), &GAPS)
 }

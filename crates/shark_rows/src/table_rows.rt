@@ -1,11 +1,12 @@
 // Tables of statistics, with their numbers worked by hand.
 use crate::pcap_rows::{HEADER, PADDING, REQUEST, REQUEST_HEAD};
 use crate::report_rows::TWO_STREAMS;
-use crate::runs::{Run, bytes_of, holds};
+use crate::runs::{Run, all_hold, bytes_of, holds};
 use crate::table_captures::{Capture, PAIR_CUT, pieces_of};
 use crate::talks::writes;
 use shark_run::Status;
 use std::alloc::{AllocError, Global};
+use std::process::Abort;
 use std::test::Fail;
 
 static TABLES: [Run; 5] = [
@@ -355,17 +356,19 @@ fn is_tagged(alloc: Global) -> Result<bool, AllocError> {
     )
 }
 
+/// Asserts of each count that a run tells it.
+fn all_counted(rt: &impl Abort, alloc: Global, rows: &[Count]) -> Result<(), Fail> {
+    for row in rows {
+        assert!(rt; is_counted(alloc, row)?, "{}", row.shows);
+    }
+    Ok(())
+}
+
 #[test]
 fn tables_are_counted(rt: HostRuntime) -> Result<(), Fail> {
-    for row in &TABLES {
-        assert!(rt; holds(rt.alloc(), row)?, "{}", row.shows);
-    }
-    for count in of_pair() {
-        assert!(rt; is_counted(rt.alloc(), count)?, "{}", count.shows);
-    }
-    for count in of_others() {
-        assert!(rt; is_counted(rt.alloc(), count)?, "{}", count.shows);
-    }
+    all_hold(&rt, rt.alloc(), &TABLES)?;
+    all_counted(&rt, rt.alloc(), of_pair())?;
+    all_counted(&rt, rt.alloc(), of_others())?;
     assert!(rt; holds(rt.alloc(), &DAMAGED)?);
     assert!(rt; holds(rt.alloc(), &LATE_DAMAGE)?);
     assert!(rt; is_tagged(rt.alloc())?);

@@ -1,8 +1,10 @@
 // Streams of TCP as frames of a capture, and the lines that their frames write.
-use crate::runs::{Expected, NO_FAULTS, bytes_of, ends_so, words_of};
+use crate::runs::{Expected, NO_FAULTS, bytes_of, capture_of, ends_with};
 use crate::sequence_rows::push_heads;
 use shark_run::Status;
 use std::alloc::{AllocError, Global};
+use std::process::Abort;
+use std::test::Fail;
 
 /// The header of a file whose frames are IP packets.
 pub(crate) const RAW: &str = "d4c3b2a1 02000400 00000000 00000000 00000400 65000000";
@@ -154,13 +156,56 @@ pub(crate) fn writes(
     file: Vec<u8>,
     out: &str,
 ) -> Result<bool, AllocError> {
-    let words = words_of(alloc, words, filter)?;
+    let mut capture = capture_of(alloc, "f", file, &NO_FAULTS)?;
     let expected = Expected {
         status: Status::Done,
         out: out.as_bytes(),
         err: "",
     };
-    ends_so(alloc, words.as_slice(), "f", file, &NO_FAULTS, expected)
+    ends_with(alloc, words, filter, &mut capture, &NO_FAULTS, expected)
+}
+
+/// The words of a row, and its frame's line.
+fn parts_of(row: &str) -> (&str, &str) {
+    row.rsplit_once('|').unwrap_or(("", ""))
+}
+
+/// Appends the frames of the segments. Whether all rows tell one.
+fn push_all(
+    file: &mut Vec<u8>,
+    kind: &Kind,
+    rows: &[&str],
+    origins: Origins,
+) -> Result<bool, AllocError> {
+    for row in rows {
+        if !push_told(file, kind, origins, parts_of(row).0)? {
+            return Ok(false);
+        }
+    }
+    Ok(true)
+}
+
+fn push_line(out: &mut String, row: &str) -> Result<(), AllocError> {
+    out.push_str(parts_of(row).1)?;
+    out.push_str("\n")
+}
+
+fn lines_of(alloc: Global, rows: &[&str]) -> Result<String, AllocError> {
+    let mut out = String::new(alloc);
+    for row in rows {
+        push_line(&mut out, row)?;
+    }
+    Ok(out)
+}
+
+fn writes_lines(
+    alloc: Global,
+    kind: &Kind,
+    talk: &Talk,
+    file: Vec<u8>,
+) -> Result<bool, AllocError> {
+    let out = lines_of(alloc, talk.segments)?;
+    writes(alloc, kind.words, "", file, out.as_str())
 }
 
 /// Whether a run over the segments, from these numbers on, writes their lines.
@@ -171,19 +216,27 @@ fn is_told_from(
     origins: Origins,
 ) -> Result<bool, AllocError> {
     let mut file = bytes_of(alloc, &[RAW])?;
-    let mut out = String::new(alloc);
-    for row in talk.segments {
-        let (words, line) = row.rsplit_once('|').unwrap_or(("", ""));
-        if !push_told(&mut file, kind, origins, words)? {
-            return Ok(false);
-        }
-        out.push_str(line)?;
-        out.push_str("\n")?;
+    if push_all(&mut file, kind, talk.segments, origins)? {
+        writes_lines(alloc, kind, talk, file)
+    } else {
+        Ok(false)
     }
-    writes(alloc, kind.words, "", file, out.as_str())
 }
 
 /// Whether a run over the segments writes their lines, whatever their first numbers.
 pub(crate) fn is_told(alloc: Global, kind: &Kind, talk: &Talk) -> Result<bool, AllocError> {
     Ok(is_told_from(alloc, kind, talk, LOW)? && is_told_from(alloc, kind, talk, ROUND)?)
+}
+
+/// Asserts of each talk that a run over it writes its lines.
+pub(crate) fn all_told(
+    rt: &impl Abort,
+    alloc: Global,
+    kind: &Kind,
+    rows: &[Talk],
+) -> Result<(), Fail> {
+    for row in rows {
+        assert!(rt; is_told(alloc, kind, row)?, "{}", row.shows);
+    }
+    Ok(())
 }

@@ -1,6 +1,6 @@
 // Conversations over UDP and their messages, written by hand from RFC 768, 1035, 2131 and 2132.
 use crate::pcap_rows::HEADER;
-use crate::runs::{Run, holds};
+use crate::runs::{Run, all_hold};
 use shark_run::Status;
 use std::test::Fail;
 
@@ -174,16 +174,10 @@ static MESSAGES: [Run; 5] = [
 
 #[test]
 fn conversations_are_numbered(rt: HostRuntime) -> Result<(), Fail> {
-    for row in &CONVERSATIONS {
-        assert!(rt; holds(rt.alloc(), row)?, "{}", row.shows);
-    }
-    Ok(())
+    all_hold(&rt, rt.alloc(), &CONVERSATIONS)
 }
 
 #[test]
 fn messages_are_shown(rt: HostRuntime) -> Result<(), Fail> {
-    for row in &MESSAGES {
-        assert!(rt; holds(rt.alloc(), row)?, "{}", row.shows);
-    }
-    Ok(())
+    all_hold(&rt, rt.alloc(), &MESSAGES)
 }

@@ -1,6 +1,6 @@
 // Lists of words, and what is told of them.
 use crate::pcap_rows::{HEADER, PADDING, REQUEST, REQUEST_HEAD};
-use crate::runs::{Run, holds};
+use crate::runs::{Run, all_hold};
 use shark_run::Status;
 use std::test::Fail;
 
@@ -252,8 +252,5 @@ static WORDS: [Run; 27] = [
 
 #[test]
 fn words_are_read_or_refused(rt: HostRuntime) -> Result<(), Fail> {
-    for row in &WORDS {
-        assert!(rt; holds(rt.alloc(), row)?, "{}", row.shows);
-    }
-    Ok(())
+    all_hold(&rt, rt.alloc(), &WORDS)
 }

@@ -1,6 +1,6 @@
 // Filters over frames of their own, with expected lines worked by hand.
 use crate::pcap_rows::{HEADER, PADDING, REQUEST, REQUEST_HEAD};
-use crate::runs::{Run, holds};
+use crate::runs::{Run, all_hold};
 use shark_run::Status;
 use std::test::Fail;
 
@@ -149,17 +149,8 @@ static LAYERS: [Run; 3] = [
 
 #[test]
 fn filters_choose_frames(rt: HostRuntime) -> Result<(), Fail> {
-    for row in &REQUESTS {
-        assert!(rt; holds(rt.alloc(), row)?, "{}", row.shows);
-    }
-    for row in &HOSTS {
-        assert!(rt; holds(rt.alloc(), row)?, "{}", row.shows);
-    }
-    for row in &PORTS {
-        assert!(rt; holds(rt.alloc(), row)?, "{}", row.shows);
-    }
-    for row in &LAYERS {
-        assert!(rt; holds(rt.alloc(), row)?, "{}", row.shows);
-    }
-    Ok(())
+    all_hold(&rt, rt.alloc(), &REQUESTS)?;
+    all_hold(&rt, rt.alloc(), &HOSTS)?;
+    all_hold(&rt, rt.alloc(), &PORTS)?;
+    all_hold(&rt, rt.alloc(), &LAYERS)
 }

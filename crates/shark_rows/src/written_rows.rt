@@ -3,6 +3,7 @@ use crate::pcap_rows::{HEADER, PADDING, REQUEST, REQUEST_HEAD};
 use crate::runs::{Expected, NO_FAULTS, bytes_of, ends_so, words_of};
 use shark_run::Status;
 use std::alloc::{AllocError, Global};
+use std::process::Abort;
 use std::test::Fail;
 
 /// A run over a file, and the bytes of the capture that it writes, in hexadecimal digits.
@@ -189,12 +190,17 @@ fn writes(alloc: Global, row: &Row) -> Result<bool, AllocError> {
     ends_so(alloc, words.as_slice(), "f", file, &NO_FAULTS, expected)
 }
 
-#[test]
-fn frames_are_written_as_a_capture(rt: HostRuntime) -> Result<(), Fail> {
-    for rows in [&FORMATS, &CHOSEN, &UNFIT] {
-        for row in rows {
-            assert!(rt; writes(rt.alloc(), row)?, "{}", row.shows);
-        }
+/// Asserts of each row that a run writes its capture.
+fn all_written(rt: &impl Abort, alloc: Global, rows: &[Row]) -> Result<(), Fail> {
+    for row in rows {
+        assert!(rt; writes(alloc, row)?, "{}", row.shows);
     }
     Ok(())
+}
+
+#[test]
+fn frames_are_written_as_a_capture(rt: HostRuntime) -> Result<(), Fail> {
+    all_written(&rt, rt.alloc(), &FORMATS)?;
+    all_written(&rt, rt.alloc(), &CHOSEN)?;
+    all_written(&rt, rt.alloc(), &UNFIT)
 }

@@ -1,5 +1,5 @@
 use Rattle.std.proofs.Common.{◌≡◌, ◌*◌, ◌≤◌}
-use Rattle.dissect_rows.proofs.message_tests.check_talk.Given as goal
+use Rattle.dissect_rows.proofs.message_tests.take_talk.Given as goal
 
 -- all frames so far were taken, none of which has more bytes than a row may have
 abbrev pub invariant-loop-sent : goal.invariant-loop-sent

@@ -1,5 +1,5 @@
 use Rattle.std.proofs.Common.{◌≡◌, ◌*◌, ◌≤◌}
-use Rattle.dissect_rows.proofs.frame_tests.check_capture.Given as goal
+use Rattle.dissect_rows.proofs.frame_tests.take_rows.Given as goal
 
 -- all frames so far were taken, none of which has more bytes than a row may have
 abbrev pub invariant-loop-row : goal.invariant-loop-row

@@ -1,5 +1,5 @@
 use Rattle.std.proofs.Common.{◌≡◌, ◌*◌, ◌≤◌}
-use Rattle.dissect_rows.proofs.message_tests.a_message_is_gathered_byte_by_byte.Given as goal
+use Rattle.dissect_rows.proofs.message_tests.take_message.Given as goal
 
 -- all frames so far were taken, none of which has more bytes than a row may have
 abbrev pub invariant-loop-byte : goal.invariant-loop-byte
