@@ -3,8 +3,6 @@
 
 mod icmp;
 mod icmp6;
-#[cfg(test)]
-mod tests;
 
 pub use icmp::read_icmp;
 pub use icmp6::read_icmp6;

@@ -10,8 +10,6 @@ mod options;
 mod packet;
 mod protocol;
 mod routing;
-#[cfg(test)]
-mod tests;
 
 pub use extension::read_extension;
 pub use ip4::read_ip4;

@@ -7,8 +7,6 @@ mod ethernet;
 mod link;
 mod linux_cooked;
 mod null;
-#[cfg(test)]
-mod tests;
 mod vlan;
 
 pub use arp::read_arp;

@@ -3,8 +3,6 @@
 
 mod igmp;
 mod ntp;
-#[cfg(test)]
-mod tests;
 
 pub use igmp::read_igmp;
 pub use ntp::read_ntp;

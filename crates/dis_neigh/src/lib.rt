@@ -3,7 +3,5 @@
 
 mod neigh;
 mod neigh_options;
-#[cfg(test)]
-mod tests;
 
 pub use neigh::read_neigh;

@@ -4,8 +4,6 @@
 
 mod tcp;
 mod tcp_options;
-#[cfg(test)]
-mod tests;
 mod udp;
 
 pub use tcp::read_tcp;

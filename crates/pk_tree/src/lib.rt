@@ -10,8 +10,6 @@ mod layer;
 mod layout;
 mod reading;
 mod table;
-#[cfg(test)]
-mod tests;
 mod tree;
 mod value;
 

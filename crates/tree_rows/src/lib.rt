@@ -55,3 +55,31 @@ pub fn joined_bytes(alloc: Global, parts: &[&[u8]]) -> Result<Vec<u8>, AllocErro
     }
     Ok(bytes)
 }
+
+/// The line of a layer of which so many bytes are there, with the items that end within them. Each item stands beside the
+/// place where it ends. Behind it comes the line of a fault, if one is named.
+pub fn front_text(
+    alloc: Global,
+    layer: &str,
+    items: &[(&str, usize)],
+    len: usize,
+    fault: &str,
+) -> Result<String, AllocError> {
+    let mut text = format!(in alloc; "{layer} 0+{len}:")?;
+    for (item, end) in items {
+        if *end <= len {
+            text.push_str(item)?;
+        }
+    }
+    text.push_str("\n")?;
+    push_fault(alloc, &mut text, fault, len)?;
+    Ok(text)
+}
+
+fn push_fault(alloc: Global, text: &mut String, fault: &str, len: usize) -> Result<(), AllocError> {
+    if fault.is_empty() {
+        return Ok(());
+    }
+    let line = format!(in alloc; "{fault} {len}+0:\n")?;
+    text.push_str(&line)
+}
