@@ -8,8 +8,6 @@ mod piece;
 mod pieces;
 mod ranges;
 mod row;
-#[cfg(test)]
-mod tests;
 mod waiting;
 
 pub use joined_ranges::JoinedRanges;

@@ -1,0 +1,7 @@
+//! What is kept between packets, in tables: bytes by their positions, datagrams of fragments, streams of segments.
+#![tactic(auto)]
+
+#[cfg(test)]
+mod joined_tests;
+#[cfg(test)]
+mod range_tests;
