@@ -7,10 +7,6 @@ mod joins;
 mod kept;
 mod key;
 mod parts;
-#[cfg(test)]
-mod sequences;
-#[cfg(test)]
-mod tests;
 
 pub use joined::{ConflictKind, Datagram, Joined};
 pub use joins::Joins;

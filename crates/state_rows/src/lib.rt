@@ -2,6 +2,10 @@
 #![tactic(auto)]
 
 #[cfg(test)]
+mod fragment_tests;
+#[cfg(test)]
+mod fragments;
+#[cfg(test)]
 mod joined_tests;
 #[cfg(test)]
 mod range_tests;

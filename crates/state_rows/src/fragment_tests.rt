@@ -1,5 +1,6 @@
-use crate::sequences::Expected::{Pending, Whole};
-use crate::sequences::*;
+// Datagrams joined from fragments, whatever the order in which these come (RFC 791, 3.2; RFC 8200, 4.5).
+use crate::fragments::Expected::{Pending, Whole};
+use crate::fragments::*;
 use pk_base::NoMemory;
 
 static ORDERS: [Sequence; 12] = [
@@ -103,10 +104,7 @@ static ORDERS: [Sequence; 12] = [
 
 #[test]
 fn fragments_are_joined_in_any_order(rt: HostRuntime) -> Result<(), NoMemory> {
-    for sequence in &ORDERS {
-        assert!(rt; is_answered(rt.alloc(), sequence)?, "{}", sequence.shows);
-    }
-    Ok(())
+    are_answered(&rt, rt.alloc(), &ORDERS)
 }
 
 static REPEATS: [Sequence; 12] = [
@@ -219,10 +217,7 @@ static REPEATS: [Sequence; 12] = [
 
 #[test]
 fn ipv4_bytes_that_came_first_stay(rt: HostRuntime) -> Result<(), NoMemory> {
-    for sequence in &REPEATS {
-        assert!(rt; is_answered(rt.alloc(), sequence)?, "{}", sequence.shows);
-    }
-    Ok(())
+    are_answered(&rt, rt.alloc(), &REPEATS)
 }
 
 static ENDS: [Sequence; 14] = [
@@ -289,10 +284,7 @@ static ENDS: [Sequence; 14] = [
 
 #[test]
 fn a_datagram_has_one_end_and_at_most_65535_bytes(rt: HostRuntime) -> Result<(), NoMemory> {
-    for sequence in &ENDS {
-        assert!(rt; is_answered(rt.alloc(), sequence)?, "{}", sequence.shows);
-    }
-    Ok(())
+    are_answered(&rt, rt.alloc(), &ENDS)
 }
 
 static OVERLAPS: [Sequence; 11] = [
@@ -366,10 +358,7 @@ static OVERLAPS: [Sequence; 11] = [
 
 #[test]
 fn ipv6_fragments_may_be_repeated_and_not_overlap(rt: HostRuntime) -> Result<(), NoMemory> {
-    for sequence in &OVERLAPS {
-        assert!(rt; is_answered(rt.alloc(), sequence)?, "{}", sequence.shows);
-    }
-    Ok(())
+    are_answered(&rt, rt.alloc(), &OVERLAPS)
 }
 
 static KEYS: [Sequence; 11] = [
@@ -473,10 +462,7 @@ static KEYS: [Sequence; 11] = [
 
 #[test]
 fn each_part_of_a_key_keeps_datagrams_apart(rt: HostRuntime) -> Result<(), NoMemory> {
-    for sequence in &KEYS {
-        assert!(rt; is_answered(rt.alloc(), sequence)?, "{}", sequence.shows);
-    }
-    Ok(())
+    are_answered(&rt, rt.alloc(), &KEYS)
 }
 
 static EMPTIES: [Sequence; 8] = [
@@ -536,10 +522,7 @@ static EMPTIES: [Sequence; 8] = [
 
 #[test]
 fn a_fragment_of_no_bytes_counts_and_overlaps_none(rt: HostRuntime) -> Result<(), NoMemory> {
-    for sequence in &EMPTIES {
-        assert!(rt; is_answered(rt.alloc(), sequence)?, "{}", sequence.shows);
-    }
-    Ok(())
+    are_answered(&rt, rt.alloc(), &EMPTIES)
 }
 
 static AGAIN: [Sequence; 6] = [
@@ -601,8 +584,5 @@ static AGAIN: [Sequence; 6] = [
 
 #[test]
 fn a_whole_datagram_and_a_conflict_forget_their_fragments(rt: HostRuntime) -> Result<(), NoMemory> {
-    for sequence in &AGAIN {
-        assert!(rt; is_answered(rt.alloc(), sequence)?, "{}", sequence.shows);
-    }
-    Ok(())
+    are_answered(&rt, rt.alloc(), &AGAIN)
 }

@@ -1,9 +1,11 @@
+ghost use Rattle.std.specs.Prelude.{◌≡◌, true};
+
 // Sequences of fragments, and what must come of them.
-use crate::joined::{ConflictKind, Joined};
-use crate::joins::Joins;
+use ip_join::{ConflictKind, Joined, Joins};
 use pk_base::{NoMemory, Octets};
 use pk_tree::{Address, FragmentHead};
 use std::alloc::Global;
+use std::process::Abort;
 
 /// Fragments in the order in which they come. Their frames are numbered from 1.
 #[derive(Clone, Copy)]
@@ -220,23 +222,49 @@ pub(crate) const AT_8191_SHORT: Part = Part {
 };
 
 /// Whether each fragment makes of those before it what its sequence says.
-pub(crate) fn is_answered(alloc: Global, sequence: &Sequence) -> Result<bool, NoMemory> {
+fn is_answered(alloc: Global, sequence: &Sequence) -> Result<bool, NoMemory> {
     let mut joins = Joins::new(alloc);
     let mut frame: u32 = 0;
     for (head, part, expected) in sequence.taken {
         frame = frame.saturating_add(1);
-        let head = FragmentHead {
-            offset: part.offset,
-            more: part.more,
-            whole: true,
-            ..*head
-        };
-        let joined = joins.take(&head, frame, &Octets::copy(alloc, part.bytes)?)?;
-        if !is_expected(&joined, expected) {
+        if !is_taken(
+            &mut joins,
+            alloc,
+            frame,
+            &head_of(head, part),
+            part,
+            expected,
+        )? {
             return Ok(false);
         }
     }
     Ok(true)
+}
+
+fn head_of(head: &FragmentHead, part: &Part) -> FragmentHead
+    ensures { result.whole ≡ true }
+{
+    FragmentHead {
+        offset: part.offset,
+        more: part.more,
+        whole: true,
+        ..*head
+    }
+}
+
+/// Takes a fragment. Whether it makes of those before it what is expected.
+fn is_taken(
+    joins: &mut Joins,
+    alloc: Global,
+    frame: u32,
+    head: &FragmentHead,
+    part: &Part,
+    expected: &Expected,
+) -> Result<bool, NoMemory>
+    requires { head.now.whole ≡ true }
+{
+    let joined = joins.take(head, frame, &Octets::copy(alloc, part.bytes)?)?;
+    Ok(is_expected(&joined, expected))
 }
 
 fn is_expected(joined: &Joined, expected: &Expected) -> bool {
@@ -250,4 +278,16 @@ fn is_expected(joined: &Joined, expected: &Expected) -> bool {
         }
         _ => false,
     }
+}
+
+pub(crate) fn are_answered(
+    rt: &impl Abort,
+    alloc: Global,
+    sequences: &[Sequence],
+) -> Result<(), NoMemory> {
+    for sequence in sequences {
+        let is_answered = is_answered(alloc, sequence)?;
+        assert!(rt; is_answered, "{}", sequence.shows);
+    }
+    Ok(())
 }
