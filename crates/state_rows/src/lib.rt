@@ -2,6 +2,8 @@
 #![tactic(auto)]
 
 #[cfg(test)]
+mod drawn_orders;
+#[cfg(test)]
 mod fragment_tests;
 #[cfg(test)]
 mod fragments;
@@ -9,3 +11,9 @@ mod fragments;
 mod joined_tests;
 #[cfg(test)]
 mod range_tests;
+#[cfg(test)]
+mod segment_tests;
+#[cfg(test)]
+mod segments;
+#[cfg(test)]
+mod sent;

@@ -1,8 +1,6 @@
 //! TCP streams, whatever the order, loss or repetition of their segments (RFC 9293).
 #![tactic(auto)]
 
-#[cfg(test)]
-mod drawn_orders;
 mod ends;
 mod kept;
 mod newest;
@@ -10,13 +8,9 @@ mod numbers;
 mod passing;
 mod reads;
 mod segment;
-#[cfg(test)]
-mod sequences;
 mod steps;
 mod stream;
 mod streams;
-#[cfg(test)]
-mod tests;
 mod way;
 
 pub use segment::{Segment, Taken};

@@ -1,6 +1,28 @@
+// TCP streams, whatever the order, loss or repetition of their segments (RFC 9293).
 use crate::drawn_orders::orders_agree;
-use crate::sequences::*;
+use crate::segments::*;
 use pk_base::NoMemory;
+
+const OUT_OF_ORDER: &[&str] = &[
+    "client 10 - - a: 0 0 1 - 0 0 1",
+    "client 13 - - d: 0 0 4 - 3 1 1",
+    "client 11 - - bc: 0 0 2 - 1 1 4",
+];
+
+const LAST_OF_WINDOW: &[&str] = &[
+    "client 100 - - -: 0 0 1 - 0 0 0",
+    "client 16777315 - - z: 0 0 16777216 - 16777215 0 0",
+];
+
+const PAST_WINDOW: &[&str] = &[
+    "client 100 - - -: 0 0 1 - 0 0 0",
+    "client 16777316 - - z: 0 0 16777217 - 16777216 0 0",
+];
+
+const FAR_AHEAD: &[&str] = &[
+    "client 100 - - -: 0 0 1 - 0 0 0",
+    "client 2147483748 - - z: 0 0 2147483649 - -2147483648 0 0",
+];
 
 static CONNECTIONS: [Sequence; 10] = [
     Sequence {
@@ -100,7 +122,7 @@ static CONNECTIONS: [Sequence; 10] = [
     },
 ];
 
-static ORDERS: [Sequence; 21] = [
+static NUMBERS: [Sequence; 8] = [
     Sequence {
         shows: "numbers that wrap",
         lines: &[
@@ -171,13 +193,12 @@ static ORDERS: [Sequence; 21] = [
         ],
         ends: &[((0, 0), "0 0123456789")],
     },
+];
+
+static ORDERS: [Sequence; 13] = [
     Sequence {
         shows: "out of order",
-        lines: &[
-            "client 10 - - a: 0 0 1 - 0 0 1",
-            "client 13 - - d: 0 0 4 - 3 1 1",
-            "client 11 - - bc: 0 0 2 - 1 1 4",
-        ],
+        lines: OUT_OF_ORDER,
         ends: &[((0, 0), "0 abcd")],
     },
     Sequence {
@@ -533,71 +554,90 @@ static WINDOWS: [Sequence; 8] = [
     },
     Sequence {
         shows: "the last byte of the window of no front",
-        lines: &[
-            "client 100 - - -: 0 0 1 - 0 0 0",
-            "client 16777315 - - z: 0 0 16777216 - 16777215 0 0",
-        ],
+        lines: LAST_OF_WINDOW,
         ends: &[((0, 0), "0 -")],
     },
     Sequence {
         shows: "one past the window of no front",
-        lines: &[
-            "client 100 - - -: 0 0 1 - 0 0 0",
-            "client 16777316 - - z: 0 0 16777217 - 16777216 0 0",
-        ],
+        lines: PAST_WINDOW,
         ends: &[((0, 0), "0 -")],
     },
     Sequence {
         shows: "2^31 ahead of no front",
-        lines: &[
-            "client 100 - - -: 0 0 1 - 0 0 0",
-            "client 2147483748 - - z: 0 0 2147483649 - -2147483648 0 0",
-        ],
+        lines: FAR_AHEAD,
         ends: &[((0, 0), "0 -")],
     },
 ];
 
 #[test]
 fn segments_open_streams_or_go_on_with_them(rt: HostRuntime) -> Result<(), NoMemory> {
-    for sequence in &CONNECTIONS {
-        assert!(rt; is_told(rt.alloc(), sequence)?, "{}", sequence.shows);
-    }
-    Ok(())
+    all_hold(&rt, rt.alloc(), &CONNECTIONS)
 }
 
 #[test]
 fn bytes_come_in_any_order(rt: HostRuntime) -> Result<(), NoMemory> {
-    for sequence in &ORDERS {
-        assert!(rt; is_told(rt.alloc(), sequence)?, "{}", sequence.shows);
-    }
+    all_hold(&rt, rt.alloc(), &NUMBERS)?;
+    all_hold(&rt, rt.alloc(), &ORDERS)?;
     assert!(rt; orders_agree(rt.alloc(), 4_294_967_200, 20)?);
     Ok(())
 }
 
 #[test]
 fn gaps_are_passed_where_they_are_acknowledged(rt: HostRuntime) -> Result<(), NoMemory> {
-    for sequence in &GAPS {
-        assert!(rt; is_told(rt.alloc(), sequence)?, "{}", sequence.shows);
-    }
-    Ok(())
+    all_hold(&rt, rt.alloc(), &GAPS)
 }
 
 #[test]
 fn bytes_past_the_window_are_left_out(rt: HostRuntime) -> Result<(), NoMemory> {
-    for sequence in &WINDOWS {
-        assert!(rt; is_told(rt.alloc(), sequence)?, "{}", sequence.shows);
-    }
-    Ok(())
+    all_hold(&rt, rt.alloc(), &WINDOWS)
 }
+
+static ORIGINS: [Origins; 6] = [
+    Origins {
+        lines: OUT_OF_ORDER,
+        from: 0,
+        to: 4,
+        frames: &[1, 2, 3],
+        held: true,
+    },
+    Origins {
+        lines: OUT_OF_ORDER,
+        from: 1,
+        to: 3,
+        frames: &[3],
+        held: true,
+    },
+    Origins {
+        lines: OUT_OF_ORDER,
+        from: 3,
+        to: 5,
+        frames: &[2],
+        held: false,
+    },
+    Origins {
+        lines: LAST_OF_WINDOW,
+        from: 16777215,
+        to: 16777216,
+        frames: &[2],
+        held: true,
+    },
+    Origins {
+        lines: PAST_WINDOW,
+        from: 16777216,
+        to: 16777217,
+        frames: &[2],
+        held: false,
+    },
+    Origins {
+        lines: FAR_AHEAD,
+        from: 2147483648,
+        to: 2147483649,
+        frames: &[2],
+        held: false,
+    },
+];
 
 #[test]
 fn frames_of_bytes_are_told(rt: HostRuntime) -> Result<(), NoMemory> {
-    let alloc = rt.alloc();
-    assert!(rt; come_from(alloc, &ORDERS[8], 0, 4, &[1, 2, 3])?);
-    assert!(rt; come_from(alloc, &ORDERS[8], 1, 3, &[3])?);
-    assert!(rt; !come_from(alloc, &ORDERS[8], 3, 5, &[2])?);
-    assert!(rt; come_from(alloc, &WINDOWS[5], 16777215, 16777216, &[2])?);
-    assert!(rt; !come_from(alloc, &WINDOWS[6], 16777216, 16777217, &[2])?);
-    assert!(rt; !come_from(alloc, &WINDOWS[7], 2147483648, 2147483649, &[2])?);
-    Ok(())
+    all_held(&rt, rt.alloc(), &ORIGINS)
 }
