@@ -12,8 +12,6 @@ mod links;
 mod messages;
 mod reading;
 mod requests;
-#[cfg(test)]
-mod tests;
 
 pub use fields::add_fields;
 pub use laws::kept_trees_get_the_same_links;
