@@ -11,8 +11,6 @@ mod party;
 mod paths;
 mod stats;
 mod streams;
-#[cfg(test)]
-mod tests;
 mod told;
 
 pub use fields::add_fields;

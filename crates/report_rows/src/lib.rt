@@ -7,3 +7,7 @@ mod link_rows;
 mod link_tests;
 #[cfg(test)]
 mod made;
+#[cfg(test)]
+mod stat_rows;
+#[cfg(test)]
+mod stat_tests;
