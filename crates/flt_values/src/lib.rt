@@ -10,8 +10,6 @@ mod literal;
 mod order;
 mod relation;
 mod slices;
-#[cfg(test)]
-mod tests;
 
 pub use arithmetic::{Extreme, calculate, extreme_of};
 pub use calls::{call, is_nonzero, len_of, lowered, masked, uppered};

@@ -1,0 +1,7 @@
+//! Tables of what filters' texts, patterns and single values are, worked out by hand from the rules of the language.
+#![tactic(auto)]
+
+#[cfg(test)]
+mod literal_tests;
+#[cfg(test)]
+mod value_tests;
