@@ -4,4 +4,8 @@
 #[cfg(test)]
 mod literal_tests;
 #[cfg(test)]
+mod parse_tests;
+#[cfg(test)]
+mod shape_tests;
+#[cfg(test)]
 mod value_tests;

@@ -16,8 +16,6 @@ mod state;
 mod steps;
 mod strings;
 mod tails;
-#[cfg(test)]
-mod tests;
 mod token;
 mod word;
 
