@@ -6,6 +6,8 @@ mod literal_tests;
 #[cfg(test)]
 mod parse_tests;
 #[cfg(test)]
+mod pattern_tests;
+#[cfg(test)]
 mod shape_tests;
 #[cfg(test)]
 mod value_tests;

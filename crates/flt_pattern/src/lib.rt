@@ -5,8 +5,6 @@
 mod fault;
 mod pattern;
 mod search;
-#[cfg(test)]
-mod tests;
 
 pub use fault::PatternFault;
 pub use pattern::Pattern;
