@@ -1,6 +1,6 @@
 // Filters and faults by the rules of the language. The places are counted by hand.
 
-use flt_parse::{FilterError, FilterFault, FilterReason, parse};
+use flt_parse::{FilterError, FilterReason, parse};
 use std::alloc::{AllocError, Global};
 use std::process::Abort;
 use std::test::Fail;
@@ -13,7 +13,7 @@ fn all_parse(rt: &impl Abort, alloc: Global, texts: &[&str]) {
 
 fn has_fault(alloc: Global, text: &str, at: u32, reason: FilterReason) -> bool {
     match &parse(alloc, text) {
-        Err(FilterError::Fault(fault)) => *fault == FilterFault { at, reason },
+        Err(FilterError::Fault(fault)) => fault.at == at && fault.reason == reason,
         _ => false,
     }
 }

@@ -1,7 +1,7 @@
 // What the syntax trees of filters are: their operators, joins, operands, sets, slices and layers.
 
 use flt_parse::{
-    Arithmetic, Ast, Choice, Function, Operand, Operator, Place, RangePart, SliceRange, Tail, parse,
+    Arithmetic, Ast, Choice, Function, Operand, Operator, RangePart, SliceRange, Tail, parse,
 };
 use std::alloc::Global;
 use std::process::Abort;
@@ -361,39 +361,38 @@ fn sets_are_read(rt: HostRuntime) {
     assert!(rt; set_of(alloc, "not a in {b}").is_none());
 }
 
-/// Whether a filter is a slice with its `[` at this place, and these ranges' places and parts.
-fn has_ranges(alloc: Global, text: &str, bracket: u32, want: &[SliceRange]) -> bool {
-    match &parse(alloc, text) {
-        Ok(Ast::Alone(Operand::Sliced(_, at, ranges))) => {
-            *at == bracket && ranges.as_slice() == want
-        }
+/// Whether a range takes two bytes from the one behind the first, and stands at this place.
+fn is_two_bytes(range: &SliceRange, at: u32) -> bool {
+    match range.part {
+        RangePart::Counted(from, 2) => range.at == at && !from.from_end && from.offset == 1,
         _ => false,
     }
 }
 
-const RANGES: [SliceRange; 2] = [
-    SliceRange {
-        at: 2,
-        part: RangePart::Counted(
-            Place {
-                from_end: false,
-                offset: 1,
-            },
-            2,
-        ),
-    },
-    SliceRange {
-        at: 7,
-        part: RangePart::One(Place {
-            from_end: true,
-            offset: 3,
-        }),
-    },
-];
+/// Whether a range takes the third byte from the end, and stands at this place.
+fn is_third_last(range: &SliceRange, at: u32) -> bool {
+    match range.part {
+        RangePart::One(byte) => range.at == at && byte.from_end && byte.offset == 3,
+        _ => false,
+    }
+}
+
+/// Whether a filter is a slice with its `[` at this place, and with these two ranges at theirs.
+fn has_ranges(alloc: Global, text: &str, bracket: u32, first: u32, second: u32) -> bool {
+    match &parse(alloc, text) {
+        Ok(Ast::Alone(Operand::Sliced(_, at, ranges))) => match ranges.as_slice() {
+            [two, third] => {
+                *at == bracket && is_two_bytes(two, first) && is_third_last(third, second)
+            }
+            _ => false,
+        },
+        _ => false,
+    }
+}
 
 #[test]
 fn slices_are_read(rt: HostRuntime) {
-    assert!(rt; has_ranges(rt.alloc(), "a[1:2, -3]", 1, &RANGES));
+    assert!(rt; has_ranges(rt.alloc(), "a[1:2, -3]", 1, 2, 7));
 }
 
 fn has_layer(alloc: Global, text: &str, at: u32, nth: u32) -> bool {

@@ -40,7 +40,7 @@ fn place(from_end: bool, offset: u32) -> Place {
 
 /// What a range takes of five bytes.
 fn takes(rt: &impl Abort, range: RangePart, want: Option<(usize, usize)>) {
-    assert!(rt; span_of(5, range) == want, "{range:?}");
+    assert!(rt; span_of(5, range) == want, "{want:?}");
 }
 
 /// Single places in five bytes.
@@ -176,7 +176,7 @@ fn all_slice(
     rows: &[(&[RangePart], Option<&[u8]>)],
 ) -> Result<(), Fail> {
     for (ranges, want) in rows {
-        assert!(rt; slices_to(alloc, value, ranges, *want)?, "{ranges:?}");
+        assert!(rt; slices_to(alloc, value, ranges, *want)?, "{want:?}");
     }
     Ok(())
 }
