@@ -9,8 +9,6 @@ mod lists;
 mod pairs;
 mod quantify;
 mod question;
-#[cfg(test)]
-mod tests;
 mod ties;
 mod walks;
 

@@ -1,0 +1,5 @@
+//! Tables of what filters mean of trees, how their programs run, and how programs are listed, worked out by hand.
+#![tactic(auto)]
+
+#[cfg(test)]
+mod list_tests;
