@@ -10,8 +10,6 @@ mod literals;
 mod load;
 mod owners;
 mod spines;
-#[cfg(test)]
-mod tests;
 
 pub use compiler::compile;
 pub use laws::filters_have_programs;

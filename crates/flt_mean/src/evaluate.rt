@@ -26,7 +26,7 @@ pub fn holds(alloc: Global, filter: &Filter, tree: &Tree) -> Result<bool, NoMemo
 
 /// The same of a part of a filter. What stands to the right of a sign is asked only where it decides.
 #[cycle(truth)]
-pub(crate) fn is_true(alloc: Global, filter: &Typed, tree: &Tree) -> Result<bool, NoMemory>
+fn is_true(alloc: Global, filter: &Typed, tree: &Tree) -> Result<bool, NoMemory>
     ensures { IfOk result (λ truth. truth ≡ meaning filter.now tree.now) }
 {
     let Chain { first, mut rights } = chain_of(alloc, filter)?;

@@ -5,8 +5,6 @@ mod chain;
 mod evaluate;
 mod laws;
 mod terms;
-#[cfg(test)]
-mod tests;
 mod values;
 
 pub use evaluate::holds;

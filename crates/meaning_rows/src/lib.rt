@@ -3,3 +3,9 @@
 
 #[cfg(test)]
 mod list_tests;
+#[cfg(test)]
+mod listing_tests;
+#[cfg(test)]
+mod meaning_tests;
+#[cfg(test)]
+mod packets;

@@ -1,91 +1,29 @@
-ghost use Rattle.std.specs.Prelude.{◌≡◌};
+// Listings of programs, each with one instruction and one literal more.
 
-use crate::compiler::compile;
-use crate::lines::listing;
-use flt_mean::holds;
-use flt_types::read_filter;
-use flt_vm::run_program;
-use pk_base::{NoMemory, Octets, Span};
-use pk_fields::ids;
-use pk_tree::{Tree, TreeBuilder, Value};
+use flt_code::{compile, listing};
+use flt_types::{Filter, read_filter};
+use pk_base::NoMemory;
 use std::alloc::Global;
+use std::process::Abort;
 use std::test::Fail;
 
-fn span() -> Span
-    ensures { result ≡ record { buffer = 0; start = 0; len = 5 } }
-{
-    Span {
-        buffer: 0,
-        start: 0,
-        len: 5,
-    }
+/// Whether the program of a filter is listed so.
+fn is_listed(alloc: Global, filter: &Filter, lines: &[u8]) -> Result<bool, NoMemory> {
+    let program = compile(alloc, filter)?;
+    let shown = listing(alloc, &program, filter)?;
+    Ok(shown.as_slice() == lines)
 }
 
-/// A packet from 10.0.0.1 to 10.0.0.2 around one with 192.168.0.1, to port 8050, with a question for `Host.test`.
-#[tactic(auto, unfolding(pk_fields::specs::Fields::row_of, pk_fields::specs::Table::rows))]
-fn packet(alloc: Global) -> Result<Tree, NoMemory> {
-    let mut builder = TreeBuilder::new(alloc, Octets::copy(alloc, b"frame")?)?;
-    builder.open_layer(ids::IP, span())?;
-    builder.made_item(ids::IP_ADDR, Value::Ip4(0x0a00_0001))?;
-    builder.made_item(ids::IP_ADDR, Value::Ip4(0x0a00_0002))?;
-    builder.open_layer(ids::IP, span())?;
-    builder.made_item(ids::IP_ADDR, Value::Ip4(0xc0a8_0001))?;
-    builder.open_layer(ids::TCP, span())?;
-    builder.made_item(ids::TCP_PORT, Value::Uint(8050))?;
-    builder.made_item(ids::TCP_FLAGS, Value::Uint(0x12))?;
-    builder.open_layer(ids::DNS, span())?;
-    let name = Octets::copy(alloc, b"Host.test")?;
-    builder.made_item(ids::DNS_QRY_NAME, Value::Text(name))?;
-    Ok(builder.finish())
-}
-
-/// Filters, their truth of the packet, and the steps and the length of their programs.
-const ROWS: &[(&str, bool, u32, u32)] = &[
-    ("tcp.port == 8050", true, 4, 4),
-    ("udp.port == 53 or tcp.port == 8050", true, 8, 8),
-    ("tcp.port == 8050 or udp.port == 53", true, 5, 8),
-    ("udp and tcp", false, 3, 4),
-    ("tcp xor udp", true, 5, 5),
-    ("not udp and not arp and tcp", true, 8, 8),
-    (
-        "tcp.port in {80, 8000..8100} and tcp.port not in {80}",
-        true,
-        7,
-        7,
-    ),
-    ("ip.addr#2 == 192.168.0.0/16", true, 4, 4),
-    ("all ip.addr == 10.0.0.0/8", false, 4, 4),
-    (
-        "dns.qry.name matches \"^host\" and not dns.qry.name matches \"^test\"",
-        true,
-        7,
-        7,
-    ),
-    ("dns.qry.name[0:4] contains \"ost\"", true, 5, 5),
-    ("lower(dns.qry.name) == \"host.test\"", true, 5, 5),
-    ("tcp.flags & 2 and not tcp.flags & 4", true, 9, 9),
-    ("tcp.port + 50 * 2 == 8150", true, 8, 8),
-    ("max(tcp.port, tcp.flags, 9000) == 9000", true, 8, 8),
-    ("min(tcp.flags) == 18 and count(ip.addr) == 3", true, 9, 9),
-];
-
-#[test]
-fn programs_decide_as_filters_mean(rt: HostRuntime) -> Result<(), Fail> {
-    let alloc = rt.alloc();
-    let tree = packet(alloc)?;
-    for (text, truth, steps, size) in ROWS {
+fn all_listed(rt: &impl Abort, alloc: Global, rows: &[(&str, &str)]) -> Result<(), Fail> {
+    for (text, lines) in rows {
         let filter = read_filter(alloc, text)?;
-        let program = compile(alloc, &filter)?;
-        let verdict = run_program(alloc, &program, &filter, &tree)?;
-        assert_eq!(rt; verdict.holds, *truth, "{text}");
-        assert_eq!(rt; holds(alloc, &filter, &tree)?, *truth, "{text}");
-        assert_eq!(rt; (verdict.steps, program.len()), (*steps, *size), "{text}");
+        assert!(rt; is_listed(alloc, &filter, lines.as_bytes())?, "{text}");
     }
     Ok(())
 }
 
-/// Filters, and the listings of their programs.
-const LISTINGS: &[(&str, &str)] = &[
+/// Filters with one instruction after the other, and the listings of their programs.
+const INSTRUCTIONS: [(&str, &str); 13] = [
     (
         "arp.opcode == 1",
         "0 READ r0 arp.opcode\n1 CONST r1 1\n2 TEST any == r0 r1\n3 RETURN\n",
@@ -138,6 +76,10 @@ const LISTINGS: &[(&str, &str)] = &[
         "min(tcp.port) !== 80",
         "0 READ r0 tcp.port\n1 MIN r1 r0 r0\n2 CONST r2 80\n3 TEST any != r1 r2\n4 RETURN\n",
     ),
+];
+
+/// The same with one literal after the other.
+const LITERALS: [(&str, &str); 10] = [
     (
         "tcp.port not in {80, 8000..8100}",
         "0 READ r0 tcp.port\n1 IN any r0 {80, 8000..8100}\n2 NOT\n3 RETURN\n",
@@ -181,13 +123,11 @@ const LISTINGS: &[(&str, &str)] = &[
 ];
 
 #[test]
-fn listings_show_each_instruction_and_literal(rt: HostRuntime) -> Result<(), Fail> {
-    let alloc = rt.alloc();
-    for (text, lines) in LISTINGS {
-        let filter = read_filter(alloc, text)?;
-        let program = compile(alloc, &filter)?;
-        let shown = listing(alloc, &program, &filter)?;
-        assert_eq!(rt; shown.as_slice(), lines.as_bytes(), "{text}");
-    }
-    Ok(())
+fn listings_show_each_instruction(rt: HostRuntime) -> Result<(), Fail> {
+    all_listed(&rt, rt.alloc(), &INSTRUCTIONS)
+}
+
+#[test]
+fn listings_show_each_literal(rt: HostRuntime) -> Result<(), Fail> {
+    all_listed(&rt, rt.alloc(), &LITERALS)
 }
