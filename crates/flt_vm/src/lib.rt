@@ -13,8 +13,6 @@ mod program;
 mod run;
 mod slots;
 mod step;
-#[cfg(test)]
-mod tests;
 
 pub use copies::{copied_layers, copied_members, copied_ranges};
 pub use instr::{Instr, MemberList, RangeList};

@@ -6,6 +6,8 @@ mod list_tests;
 #[cfg(test)]
 mod listing_tests;
 #[cfg(test)]
+mod machine_tests;
+#[cfg(test)]
 mod meaning_tests;
 #[cfg(test)]
 mod packets;
