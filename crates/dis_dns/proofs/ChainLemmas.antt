@@ -1,5 +1,7 @@
 -- A name that goes on at the end of a chain of bare pointers reads the same as from the chain's beginning.
-use Rattle.std.proofs.Common.{◌≡◌, ℕ, ◌+◌, ◌<◌, ◌≤◌, List, length, Some, refl, sym, ◌∙◌, arith}
+use Rattle.std.proofs.Common.{◌≡◌, ℕ, ◌+◌, ◌<◌, ◌≤◌, List, [], ◌∷◌, ◌++◌, length, Some, refl, sym, subst, inl, inr, ◌∙◌, arith}
+use Rattle.std.proofs.lemmas.Bool.{cases_lt}
+use Rattle.std.proofs.lemmas.List.{get_or_append_left, get_or_push}
 use Rattle.std.specs.Prelude.{slice_index, slice_range}
 use Rattle.dis_dns.specs.declared.names.NameEnd.{NameEnd}
 use Rattle.dis_dns.specs.declared.names.Turn.TheVariants.{Label, Jump}
@@ -86,3 +88,18 @@ pub ends_on : (bytes : List ℕ) (place target end : ℕ) → target ≡ target_
 ends_on bytes place target end is room high before chain =
     let bare : IsBare bytes place = record { room = room; high = high; before = rw is at before } in
     record { leads = onward place end bare (rw is at chain.leads); last = chain.last }
+
+below_or_at : (P : ℕ → Type 0) (a i : ℕ) → a < i + 1 → (a < i → P a) → P i → P a
+below_or_at P a i less below here =
+    elim (cases_lt a i) [
+      | inl earlier ↦ below earlier
+      | inr later ↦ let same : i ≡ a = omega arith in subst P same here
+    ]
+
+-- the ends for the places before one, and the end for that one
+pub ends_grow : (bytes ends : List ℕ) (place end : ℕ) → length ends ≡ place → ((before : ℕ) → before < place → IsChainEnd bytes before (slice_index ends before)) → IsChainEnd bytes place end →
+    (before : ℕ) → before < place + 1 → IsChainEnd bytes before (slice_index (ends ++ end ∷ []) before)
+ends_grow bytes ends place end size each here before less =
+    below_or_at (λ b. IsChainEnd bytes b (slice_index (ends ++ end ∷ []) b)) before place less
+    (λ below. rw (get_or_append_left ends (end ∷ []) 0 before (omega (arith, size, below))) (each before below))
+    (rw (get_or_push ends end 0 place size) here)

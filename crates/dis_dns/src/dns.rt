@@ -15,7 +15,7 @@ ghost use Rattle.dis_dns.specs.Texts.{AllStrings};
 use crate::chains::chain_ends;
 use crate::fields::{DnsFields, dns_fields, mdns_fields};
 use crate::records::{Message, push_question, push_record, word_at};
-use crate::steps::{Steps, Taken};
+use crate::steps::{Steps, Taken, push_rows};
 use pk_base::{NoMemory, Span};
 use pk_fields::{FieldId, ids};
 use pk_tree::{Mode, Step, TreeBuilder, pass_layer, read_layer};
@@ -167,9 +167,21 @@ fn push_message(
         base,
         alloc,
     };
-    push_header(steps, &message)?;
-    push_sections(steps, &message)?;
-    Ok(())
+    push_parts(steps, &message)
+}
+
+/// Adds the rows of a message's header, and the steps of what follows it.
+#[tactic(auto, using(crate::proofs::CollectedLemmas::with_steps_append), unfolding(crate::specs::Dns::message_steps))]
+fn push_parts(steps: &mut Steps, message: &Message) -> Result<(), NoMemory>
+    requires chains { AreChainEnds message.now.bytes.now message.now.chain_ends.now }
+    requires base { message.now.base ≤ 2 }
+    requires short { length message.now.bytes.now < 2 ^ 32 }
+    ensures { OnOk result (steps.new
+        ≡ with_steps steps.old
+        (message_steps message.now.fields message.now.base message.now.bytes.now)) }
+{
+    push_header(steps, message)?;
+    push_sections(steps, message)
 }
 
 /// The bytes behind the length, where it is there.
@@ -188,23 +200,27 @@ fn push_header(steps: &mut Steps, message: &Message) -> Result<(), NoMemory>
 {
     let fields = message.fields.header;
     let base = message.base;
-    steps.push(Step::Row(fields.id, base))?;
-    steps.push(Step::Row(fields.flags, base + 2))?;
-    steps.push(Step::Row(fields.response, base + 2))?;
-    steps.push(Step::Row(fields.opcode, base + 2))?;
-    steps.push(Step::Row(fields.authoritative, base + 2))?;
-    steps.push(Step::Row(fields.truncated, base + 2))?;
-    steps.push(Step::Row(fields.recursion_desired, base + 2))?;
-    steps.push(Step::Row(fields.recursion_available, base + 3))?;
-    steps.push(Step::Row(fields.reserved, base + 3))?;
-    steps.push(Step::Row(fields.authenticated, base + 3))?;
-    steps.push(Step::Row(fields.checking_disabled, base + 3))?;
-    steps.push(Step::Row(fields.response_code, base + 3))?;
-    steps.push(Step::Row(fields.questions, base + 4))?;
-    steps.push(Step::Row(fields.answers, base + 6))?;
-    steps.push(Step::Row(fields.name_servers, base + 8))?;
-    steps.push(Step::Row(fields.further_records, base + 10))?;
-    Ok(())
+    push_rows(
+        steps,
+        &[
+            (fields.id, base),
+            (fields.flags, base + 2),
+            (fields.response, base + 2),
+            (fields.opcode, base + 2),
+            (fields.authoritative, base + 2),
+            (fields.truncated, base + 2),
+            (fields.recursion_desired, base + 2),
+            (fields.recursion_available, base + 3),
+            (fields.reserved, base + 3),
+            (fields.authenticated, base + 3),
+            (fields.checking_disabled, base + 3),
+            (fields.response_code, base + 3),
+            (fields.questions, base + 4),
+            (fields.answers, base + 6),
+            (fields.name_servers, base + 8),
+            (fields.further_records, base + 10),
+        ],
+    )
 }
 
 /// Adds the steps of a message's questions and records.
@@ -222,8 +238,7 @@ fn push_sections(steps: &mut Steps, message: &Message) -> Result<(), NoMemory>
         return Ok(());
     };
     let records = record_count(message.bytes);
-    push_records(steps, message, records, at)?;
-    Ok(())
+    push_records(steps, message, records, at)
 }
 
 /// The records of the three sections behind the questions.

@@ -8,7 +8,5 @@ mod fields;
 mod names;
 mod records;
 mod steps;
-#[cfg(test)]
-mod tests;
 
 pub use dns::{read_dns, read_mdns};

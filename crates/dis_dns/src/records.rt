@@ -1,13 +1,15 @@
-ghost use Rattle.std.specs.Prelude.{◌≡◌, true, false, [], Some, ◌+◌, ◌-◌, ◌*◌, ◌<◌, ◌≤◌, ◌^◌, length, min, IfOk, IfSome, OnOk};
-ghost use Rattle.pk_tree.specs.Entries.{repeated};
+ghost use Rattle.std.specs.Prelude.{◌≡◌, true, false, [], ◌∷◌, nat_le, Some, None, ◌+◌, ◌-◌, ◌*◌, ◌<◌, ◌≤◌, ◌^◌, length, min, IfOk, IfSome, IsTrue, OnOk};
+ghost use Rattle.std.specs.List.{flat_map};
+ghost use Rattle.pk_tree.specs.Entries.{ends, goes_on, repeated};
+ghost use Rattle.pk_tree.specs.declared.layout.Step.TheVariants as steps_of_layers;
 ghost use Rattle.dis_dns.specs.Chains.{AreChainEnds};
-ghost use Rattle.dis_dns.specs.Collected.{Takes, with_steps};
+ghost use Rattle.dis_dns.specs.Collected.{Takes, is_plain, with_steps};
 ghost use Rattle.dis_dns.specs.Names.{EndsIn, name_at};
-ghost use Rattle.dis_dns.specs.Records.{class_rows, data_row, data_steps, mail_data, name_entry, question, record_head, record_tail, resource, service_data, service_or_data, shown_name, text_string, word_at, zone_data, zone_numbers};
+ghost use Rattle.dis_dns.specs.Records.{class_rows, data_row, data_steps, mail_data, name_entry, question, question_tail, record_head, record_tail, resource, service_data, service_or_data, shown_name, text_string, word_at, zone_data, zone_numbers};
 
-use crate::fields::{ClassFields, DnsFields, ServiceFields};
+use crate::fields::{ClassFields, DnsFields, QuestionFields, ServiceFields};
 use crate::names::{NameEnd, read_name};
-use crate::steps::Steps;
+use crate::steps::{Steps, push_rows};
 use pk_base::{NAME_LIMIT, NoMemory, Octets};
 use pk_fields::FieldId;
 use pk_tree::{Step, peek};
@@ -76,8 +78,24 @@ pub(crate) fn push_question(
     let Some(at) = push_name(steps, message, fields.name, end, at)? else {
         return Ok(None);
     };
-    steps.push(Step::Row(fields.kind, message.base + at))?;
-    push_class(steps, fields.class, message.base + at + 2)?;
+    push_question_tail(steps, fields, message.base, at)
+}
+
+/// Adds the steps of what follows a question's name, and answers where the next question is.
+#[tactic(auto, unfolding(crate::specs::Collected::with_steps))]
+fn push_question_tail(
+    steps: &mut Steps,
+    fields: QuestionFields,
+    base: usize,
+    at: usize,
+) -> Result<Option<usize>, NoMemory>
+    requires base { base ≤ 2 }
+    requires place { at < 2 ^ 32 }
+    ensures adds { IfOk result (Takes steps.old steps.new (question_tail fields base at)) }
+    ensures bound { IfOk result (λ next. IfSome next (λ place. place < 2 ^ 33)) }
+{
+    steps.push(Step::Row(fields.kind, base + at))?;
+    push_class(steps, fields.class, base + at + 2)?;
     Ok(Some(at + 4))
 }
 
@@ -149,9 +167,10 @@ fn push_record_head(steps: &mut Steps, message: &Message, at: usize) -> Result<(
     let fields = message.fields.record_head;
     steps.push(Step::Row(fields.kind, at))?;
     push_class(steps, fields.class, at + 2)?;
-    steps.push(Step::Row(fields.time_to_live, at + 4))?;
-    steps.push(Step::Row(fields.len, at + 8))?;
-    Ok(())
+    push_rows(
+        steps,
+        &[(fields.time_to_live, at + 4), (fields.len, at + 8)],
+    )
 }
 
 /// Adds the steps of the data of a type, of so many bytes from a place on.
@@ -175,19 +194,19 @@ fn push_data(
 {
     let fields = message.fields.record_data;
     let place = message.base + at;
+    let end = at + len;
     match (kind, len) {
-        (ADDRESS, 4) => steps.push(Step::Row(fields.address, place))?,
-        (ADDRESS_6, 16) => steps.push(Step::Row(fields.address_6, place))?,
-        (NAME_SERVER, _) => push_name_data(steps, message, fields.name_server, at, len)?,
-        (CANONICAL_NAME, _) => push_name_data(steps, message, fields.canonical_name, at, len)?,
-        (POINTER, _) => push_name_data(steps, message, fields.pointer, at, len)?,
-        (MAIL_EXCHANGE, _) => push_mail(steps, message, at, at + len)?,
-        (START_OF_AUTHORITY, _) => push_zone(steps, message, at, at + len)?,
-        (TEXT, _) => push_texts(steps, message, at, len)?,
-        (SERVICE, _) => push_service_or_data(steps, message, at, len)?,
-        _ => steps.push(Step::Part(fields.other, place, len))?,
+        (ADDRESS, 4) => steps.push(Step::Row(fields.address, place)),
+        (ADDRESS_6, 16) => steps.push(Step::Row(fields.address_6, place)),
+        (NAME_SERVER, _) => push_name_within(steps, message, fields.name_server, end, at),
+        (CANONICAL_NAME, _) => push_name_within(steps, message, fields.canonical_name, end, at),
+        (POINTER, _) => push_name_within(steps, message, fields.pointer, end, at),
+        (MAIL_EXCHANGE, _) => push_mail(steps, message, at, end),
+        (START_OF_AUTHORITY, _) => push_zone(steps, message, at, end),
+        (TEXT, _) => push_texts(steps, message, at, len),
+        (SERVICE, _) => push_service_or_data(steps, message, at, len),
+        _ => steps.push(Step::Part(fields.other, place, len)),
     }
-    Ok(())
 }
 
 /// Adds the steps of the data of a service where it has fields, else of so many bytes.
@@ -232,34 +251,29 @@ fn push_service(
         ≡ with_steps steps.old
         (service_data fields message.now.base message.now.bytes.now at end)) }
 {
-    push_row(steps, message, end, fields.priority, at, 2)?;
-    push_row(steps, message, end, fields.weight, at + 2, 2)?;
-    push_row(steps, message, end, fields.port, at + 4, 2)?;
-    let limit = end.min(message.bytes.len());
-    push_name(steps, message, fields.target, limit, at + 6)?;
-    Ok(())
+    let rows = [(fields.priority, 0), (fields.weight, 2), (fields.port, 4)];
+    push_data_rows(steps, message, end, at, 2, &rows)?;
+    push_name_within(steps, message, fields.target, end, at + 6)
 }
 
-/// Adds the steps of data that is a name.
-fn push_name_data(
+/// Adds the steps of a name in a record's data, which ends at a place.
+fn push_name_within(
     steps: &mut Steps,
     message: &Message,
     field: FieldId,
+    end: usize,
     at: usize,
-    len: usize,
 ) -> Result<(), NoMemory>
     requires chains { AreChainEnds message.now.bytes.now message.now.chain_ends.now }
     requires base { message.now.base ≤ 2 }
-    requires short { length message.now.bytes.now < 2 ^ 32 }
-    requires place { at < 2 ^ 33 }
-    requires len { len < 65536 }
+    requires place { at < 2 ^ 34 }
     ensures { OnOk result (steps.new
         ≡ with_steps steps.old
         (name_entry message.now.base message.now.bytes.now field
-        (min (at + len) (length message.now.bytes.now)) at).steps) }
+        (min end (length message.now.bytes.now)) at).steps) }
 {
-    let end = message.bytes.len().min(at + len);
-    push_name(steps, message, field, end, at)?;
+    let limit = end.min(message.bytes.len());
+    push_name(steps, message, field, limit, at)?;
     Ok(())
 }
 
@@ -277,9 +291,7 @@ fn push_mail(steps: &mut Steps, message: &Message, at: usize, end: usize) -> Res
 {
     let fields = message.fields.record_data;
     push_row(steps, message, end, fields.preference, at, 2)?;
-    let limit = end.min(message.bytes.len());
-    push_name(steps, message, fields.mail_exchange, limit, at + 2)?;
-    Ok(())
+    push_name_within(steps, message, fields.mail_exchange, end, at + 2)
 }
 
 /// Adds the steps of a zone's start of authority, whose data ends at a place.
@@ -320,11 +332,36 @@ fn push_zone_numbers(
         (zone_numbers message.now.fields.record_data.zone message.now.base end at).steps) }
 {
     let fields = message.fields.record_data.zone;
-    push_row(steps, message, end, fields.serial, at, 4)?;
-    push_row(steps, message, end, fields.refresh, at + 4, 4)?;
-    push_row(steps, message, end, fields.retry, at + 8, 4)?;
-    push_row(steps, message, end, fields.expire, at + 12, 4)?;
-    push_row(steps, message, end, fields.minimum, at + 16, 4)?;
+    let rows = [
+        (fields.serial, 0),
+        (fields.refresh, 4),
+        (fields.retry, 8),
+        (fields.expire, 12),
+        (fields.minimum, 16),
+    ];
+    push_data_rows(steps, message, end, at, 4, &rows)
+}
+
+/// Adds the steps of rows of a record's data, each a field and its place behind another, of so many bytes each.
+#[tactic(auto, using(crate::proofs::CollectedLemmas::with_steps_append), unfolding(crate::specs::Collected::with_steps))]
+fn push_data_rows(
+    steps: &mut Steps,
+    message: &Message,
+    end: usize,
+    at: usize,
+    len: usize,
+    rows: &[(FieldId, u8)],
+) -> Result<(), NoMemory>
+    requires base { message.now.base ≤ 2 }
+    requires place { at < 2 ^ 33 }
+    requires len { len ≤ 4 }
+    ensures { OnOk result (steps.new
+        ≡ with_steps steps.old
+        (flat_map (λ row. data_row message.now.base end row.0 (at + row.1) len) rows.now)) }
+{
+    for row in rows {
+        push_row(steps, message, end, row.0, at + usize::from(row.1), len)?;
+    }
     Ok(())
 }
 
@@ -345,8 +382,7 @@ fn push_row(
         ≡ with_steps steps.old (data_row message.now.base end field at len)) }
 {
     steps.push(Step::Room(at + len <= end))?;
-    steps.push(Step::Row(field, message.base + at))?;
-    Ok(())
+    steps.push(Step::Row(field, message.base + at))
 }
 
 /// Adds the steps of the strings of a text, in so many bytes from a place on.
@@ -388,14 +424,44 @@ fn push_text(
         return Ok(None);
     }
     let Some(len) = message.bytes.get(at) else {
-        steps.push(Step::Room(false))?;
-        return Ok(None);
+        return push_last(steps, Step::Room(false));
     };
-    let len = usize::from(*len);
+    push_string(steps, message, at, usize::from(*len), end)
+}
+
+/// Adds the steps of the string of so many bytes behind its length, and answers where it ends.
+#[tactic(auto, unfolding(crate::specs::Collected::with_steps))]
+fn push_string(
+    steps: &mut Steps,
+    message: &Message,
+    at: usize,
+    len: usize,
+    end: usize,
+) -> Result<Option<usize>, NoMemory>
+    requires base { message.now.base ≤ 2 }
+    requires place { at < 2 ^ 32 }
+    requires len { len < 256 }
+    ensures { IfOk result (Takes steps.old steps.new
+        (goes_on
+        (steps_of_layers.Room (nat_le (at + 1 + len) end)
+        ∷ steps_of_layers.Whole message.now.fields.record_data.text (message.now.base + at + 1) len
+        ∷ []) (at + 1 + len))) }
+{
     let next = at + 1 + len;
     steps.push(Step::Room(next <= end))?;
     steps.push(Step::Whole(message.fields.record_data.text, message.base + at + 1, len))?;
     Ok(Some(next))
+}
+
+/// Adds a step behind which nothing is read.
+#[tactic(auto, unfolding(crate::specs::Collected::with_steps))]
+fn push_last(steps: &mut Steps, step: Step) -> Result<Option<usize>, NoMemory>
+    requires plain { IsTrue (is_plain step) }
+    ensures takes { IfOk result (Takes steps.old steps.new (ends (step ∷ []))) }
+    ensures none { IfOk result (λ next. next ≡ None) }
+{
+    steps.push(step)?;
+    Ok(None)
 }
 
 /// Adds the steps of the name at a place, whose first run may not go past `end`, and answers where it ends.
@@ -423,14 +489,8 @@ fn push_name(
             steps.push_name(field, text, message.base + place, after - place)?;
             Ok(Some(after))
         }
-        NameEnd::Leaves => {
-            steps.push(Step::Room(false))?;
-            Ok(None)
-        }
-        NameEnd::Fails => {
-            steps.push(Step::Check(false))?;
-            Ok(None)
-        }
+        NameEnd::Leaves => push_last(steps, Step::Room(false)),
+        NameEnd::Fails => push_last(steps, Step::Check(false)),
     }
 }
 

@@ -1,10 +1,10 @@
-ghost use Rattle.std.specs.Prelude.{◌≡◌, ◌==◌, ◌&&◌, ℕ, true, false, List, [], if◌then◌else◌, IfOk, OnOk, IsTrue};
+ghost use Rattle.std.specs.Prelude.{◌≡◌, ◌==◌, ◌&&◌, ℕ, true, false, List, [], map, if◌then◌else◌, IfOk, OnOk, IsTrue};
 ghost use Rattle.pk_fields.specs.Fields.{row_of};
 ghost use Rattle.pk_fields.specs.FieldSets.{is_in};
 ghost use Rattle.pk_tree.specs.Layouts.{fitted, reach_after, step_reach};
 ghost use Rattle.pk_tree.specs.declared.value.Value.TheVariants as values;
 ghost use Rattle.pk_tree.specs.declared.layout.Step.TheVariants as steps_of_layers;
-ghost use Rattle.dis_dns.specs.Collected.{IsTaken, is_plain, no_steps, shows, with_step};
+ghost use Rattle.dis_dns.specs.Collected.{IsTaken, is_plain, no_steps, shows, with_step, with_steps};
 
 use pk_base::{NoMemory, Octets};
 use pk_fields::{FieldId, size};
@@ -86,9 +86,9 @@ impl<'a> Steps<'a> {
     {
         if self.keeps {
             self.list.push(step)?;
-        } else {
-            self.reach = reach_after(self.reach, step_reach(self.end, &step));
+            return Ok(());
         }
+        self.reach = passed(self.reach, self.end, step);
         Ok(())
     }
 
@@ -125,6 +125,25 @@ impl<'a> Steps<'a> {
             Taken::Reach(self.reach)
         }
     }
+}
+
+/// Takes rows, each a field at a place.
+#[tactic(auto, unfolding(crate::specs::Collected::with_steps))]
+pub(crate) fn push_rows(steps: &mut Steps, rows: &[(FieldId, usize)]) -> Result<(), NoMemory>
+    ensures { OnOk result (steps.new
+        ≡ with_steps steps.old (map (λ row. steps_of_layers.Row row.0 row.1) rows.now)) }
+{
+    for row in rows {
+        steps.push(Step::Row(row.0, row.1))?;
+    }
+    Ok(())
+}
+
+/// How far a layer of so many bytes is read behind one more step, which is not kept.
+fn passed(reach: Reach, end: usize, step: Step) -> Reach
+    ensures { result ≡ reach_after reach (step_reach end step) }
+{
+    reach_after(reach, step_reach(end, &step))
 }
 
 /// How far a step lets reading go on in a layer of so many bytes.
