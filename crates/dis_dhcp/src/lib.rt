@@ -3,7 +3,5 @@
 
 mod dhcp;
 mod dhcp_options;
-#[cfg(test)]
-mod tests;
 
 pub use dhcp::read_dhcp;

@@ -4,7 +4,5 @@
 
 mod heads;
 mod http;
-#[cfg(test)]
-mod tests;
 
 pub use http::read_http;

@@ -1,3 +1,4 @@
+use dis_dhcp::read_dhcp;
 use dis_dns::{read_dns, read_mdns};
 use pk_base::{NoMemory, Octets, Span};
 use pk_fields::FieldSet;
@@ -12,6 +13,7 @@ use tree_rows::{Places, joined_bytes, joined_text, layers_text};
 pub(crate) enum Kind {
     Dns { prefixed: bool, cut: bool },
     Multicast { cut: bool },
+    Dhcp { cut: bool },
 }
 
 impl Kind {
@@ -19,6 +21,7 @@ impl Kind {
         match self {
             Kind::Dns { .. } => "dns",
             Kind::Multicast { .. } => "mdns",
+            Kind::Dhcp { .. } => "dhcp",
         }
     }
 
@@ -26,6 +29,15 @@ impl Kind {
         match self {
             Kind::Dns { cut, .. } => cut,
             Kind::Multicast { cut } => cut,
+            Kind::Dhcp { cut } => cut,
+        }
+    }
+
+    /// The places of the computed texts of names are compared too.
+    fn places(self) -> Places {
+        match self {
+            Kind::Dhcp { .. } => Places::Hidden,
+            _ => Places::Derived,
         }
     }
 }
@@ -75,7 +87,7 @@ fn tree_text(
 ) -> Result<String, NoMemory> {
     let bytes = joined_bytes(alloc, message)?;
     let tree = tree_of(alloc, wanted, kind, bytes)?;
-    Ok(layers_text(alloc, tree.layers(), Places::Derived)?)
+    Ok(layers_text(alloc, tree.layers(), kind.places())?)
 }
 
 /// The tree of a message of at most 100,000 bytes.
@@ -93,6 +105,7 @@ fn tree_of(alloc: Global, wanted: FieldSet, kind: Kind, bytes: Vec<u8>) -> Resul
     match kind {
         Kind::Dns { prefixed, cut } => read_dns(whole, prefixed, cut, &mut b)?,
         Kind::Multicast { cut } => read_mdns(whole, cut, &mut b)?,
+        Kind::Dhcp { cut } => read_dhcp(whole, cut, &mut b)?,
     }
     Ok(b.finish())
 }
