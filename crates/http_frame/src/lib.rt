@@ -12,8 +12,6 @@ mod plans;
 mod progress;
 mod resuming;
 mod shape;
-#[cfg(test)]
-mod tests;
 
 pub use heads::head_laws;
 pub use message::{Framed, begin_law, message_laws, next_message};

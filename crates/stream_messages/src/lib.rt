@@ -7,8 +7,6 @@ mod laws;
 mod part;
 mod placed;
 mod stretches;
-#[cfg(test)]
-mod tests;
 mod told;
 
 pub use cursor::Cursor;

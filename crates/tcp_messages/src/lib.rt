@@ -9,8 +9,6 @@ mod message_streams;
 mod met;
 mod readers;
 mod reading;
-#[cfg(test)]
-mod tests;
 
 pub use laws::{messages_alone, messages_once, ports_law};
 pub use message_streams::MessageStreams;
