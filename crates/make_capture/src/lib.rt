@@ -3,7 +3,5 @@
 
 mod file;
 mod frames;
-#[cfg(test)]
-mod tests;
 
 pub use file::make;

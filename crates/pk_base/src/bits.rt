@@ -35,21 +35,3 @@ fn bits_of_byte(byte: u8, passed: u32, count: u32) -> u64
 {
     u64::from(byte >> (8 - passed - count)) % (1 << count)
 }
-
-#[cfg(test)]
-mod tests {
-    use super::*;
-
-    // The first bytes of an IPv4 header (RFC 791, 3.1): version 4, five words, total length 60, don't fragment.
-    #[test]
-    fn fields_of_an_internet_header_are_read(rt: HostRuntime) {
-        let header = [0x45, 0x00, 0x00, 0x3c, 0x1c, 0x46, 0x40, 0x00];
-        assert_eq!(rt; be_bits(&header, 0, 4), 4);
-        assert_eq!(rt; be_bits(&header, 4, 4), 5);
-        assert_eq!(rt; be_bits(&header, 16, 16), 60);
-        assert_eq!(rt; be_bits(&header, 49, 1), 1);
-        assert_eq!(rt; be_bits(&header, 51, 13), 0);
-        assert_eq!(rt; be_bits(&header, 29, 11), 0x41c);
-        assert_eq!(rt; be_bits(&header, 0, 64), 0x4500_003c_1c46_4000);
-    }
-}

@@ -37,17 +37,3 @@ impl LostList {
         self.all.as_slice()
     }
 }
-
-#[cfg(test)]
-mod tests {
-    use super::*;
-    use std::test::Fail;
-
-    #[test]
-    fn lost_positions_are_kept_in_order(rt: HostRuntime) -> Result<(), Fail> {
-        let lost = [Lost { from: 5, to: 9 }, Lost { from: 20, to: 21 }];
-        let list = LostList::from_vec(lost.to_vec(rt.alloc())?);
-        assert_eq!(rt; list.slice(), lost.as_slice());
-        Ok(())
-    }
-}

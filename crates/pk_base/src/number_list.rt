@@ -29,16 +29,3 @@ impl Numbers {
         self.all.as_slice()
     }
 }
-
-#[cfg(test)]
-mod tests {
-    use super::*;
-    use std::test::Fail;
-
-    #[test]
-    fn numbers_are_kept_in_order(rt: HostRuntime) -> Result<(), Fail> {
-        let numbers = Numbers::from_vec([3, 1, 2].to_vec(rt.alloc())?);
-        assert_eq!(rt; numbers.slice(), [3, 1, 2].as_slice());
-        Ok(())
-    }
-}

@@ -76,23 +76,3 @@ impl Clone for Octets {
         })
     }
 }
-
-#[cfg(test)]
-mod tests {
-    use super::*;
-    use std::test::Fail;
-
-    #[test]
-    fn bytes_are_kept_cut_and_shared(rt: HostRuntime) -> Result<(), Fail> {
-        let whole = Octets::copy(rt.alloc(), b"captured")?;
-        assert_eq!(rt; whole.bytes().len(), 8);
-        let part = whole.part(2, 5)?;
-        assert_eq!(rt; part.bytes(), b"ptu".as_slice());
-        let copy = part.clone()?;
-        assert_eq!(rt; copy.bytes(), b"ptu".as_slice());
-        let taken = Octets::from_vec([1, 2].to_vec(rt.alloc())?)?;
-        assert_eq!(rt; taken.bytes(), [1, 2].as_slice());
-        assert_eq!(rt; Octets::new().bytes().len(), 0);
-        Ok(())
-    }
-}

@@ -38,23 +38,3 @@ impl Stretches {
         self.all.as_slice()
     }
 }
-
-#[cfg(test)]
-mod tests {
-    use super::*;
-    use std::test::Fail;
-
-    #[test]
-    fn stretches_are_kept_in_order(rt: HostRuntime) -> Result<(), Fail> {
-        let mut all = Vec::new(rt.alloc());
-        for (start, bytes) in [(0, b"GET"), (9, b"end")] {
-            let bytes = Octets::copy(rt.alloc(), bytes)?;
-            all.push(Stretch { start, bytes })?;
-        }
-        let list = Stretches::from_vec(all);
-        assert_eq!(rt; list.slice().len(), 2);
-        assert_eq!(rt; list.slice()[1].start, 9);
-        assert_eq!(rt; list.slice()[1].bytes.bytes(), b"end".as_slice());
-        Ok(())
-    }
-}

@@ -82,25 +82,3 @@ impl Buffers {
         self.all[span.buffer as usize].part(start, start + span.len as usize)
     }
 }
-
-#[cfg(test)]
-mod tests {
-    use super::*;
-
-    #[test]
-    fn spans_are_read_in_the_buffer_that_they_name(rt: HostRuntime) -> Result<(), NoMemory> {
-        let mut buffers = Buffers::new(rt.alloc());
-        assert_eq!(rt; buffers.add(Octets::copy(rt.alloc(), b"frame")?)?, 0);
-        assert_eq!(rt; buffers.add(Octets::copy(rt.alloc(), b"joined")?)?, 1);
-        assert_eq!(rt; buffers.count(), 2);
-        assert_eq!(rt; buffers.size(1), 6);
-        let span = Span {
-            buffer: 1,
-            start: 2,
-            len: 3,
-        };
-        assert!(rt; buffers.bytes(span) == b"ine".as_slice());
-        assert!(rt; buffers.part(span)?.bytes() == b"ine".as_slice());
-        Ok(())
-    }
-}

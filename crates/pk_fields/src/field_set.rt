@@ -98,35 +98,3 @@ fn set_bit(words: &mut [u64; 6], field: FieldId)
     let number = usize::from(field.0);
     words[number / 64] |= 1 << (number % 64);
 }
-
-#[cfg(test)]
-mod tests {
-    use super::*;
-    use crate::ids;
-    use crate::registry::name;
-
-    #[test]
-    fn a_set_holds_what_was_added_and_its_protocols(rt: HostRuntime) {
-        let mut set = FieldSet::none();
-        set.add(ids::TCP_DSTPORT);
-        set.add(ids::IPV6_FRAGMENT);
-        for (field, wanted) in [
-            (ids::FRAME, true),
-            (ids::TCP_DSTPORT, true),
-            (ids::TCP, true),
-            (ids::IPV6_FRAGHDR, true),
-            (ids::TCP_SRCPORT, false),
-            (ids::IPV6, false),
-            (ids::FRAME_NUMBER, false),
-            (ids::MDNS_DATA, false),
-        ] {
-            assert!(rt; set.contains(field) == wanted, "{}", name(field));
-            assert!(rt; FieldSet::all().contains(field), "{}", name(field));
-        }
-        // The two fields with their protocols, and `frame`.
-        assert_eq!(rt; set.count(), 5);
-        assert_eq!(rt; FieldSet::none().count(), 1);
-        assert!(rt; set.has_any_of(ids::TCP));
-        assert!(rt; !set.has_any_of(ids::UDP));
-    }
-}

@@ -14,8 +14,6 @@ mod sink;
 mod std_sink;
 mod sure_capture;
 mod sure_sink;
-#[cfg(test)]
-mod tests;
 
 pub use capture::{Capture, Failed};
 pub use file_capture::FileCapture;

@@ -11,8 +11,6 @@ mod number;
 mod octets;
 mod pairs;
 mod puts;
-#[cfg(test)]
-mod tests;
 mod time;
 
 pub use digits::read_digits;

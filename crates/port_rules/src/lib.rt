@@ -3,8 +3,6 @@
 
 mod applications;
 mod rules;
-#[cfg(test)]
-mod tests;
 
 pub use applications::{tcp_app, udp_app};
 pub use rules::{App, DecodeAs, PortRule, PortRules};

@@ -1,4 +1,6 @@
-use crate::{App, PortRule, PortRules, tcp_app, udp_app};
+// Which application a port's payload is read as.
+use port_rules::{App, PortRule, tcp_app, udp_app};
+use std::process::Abort;
 
 const RULES: [PortRule; 4] = [
     PortRule {
@@ -43,13 +45,27 @@ const UDP: [(u16, u16, Option<App>); 7] = [
     (40000, 40001, None),
 ];
 
+fn segments_are_read_as(rt: &impl Abort, rows: &[(u16, u16, Option<App>)]) {
+    for (source, target, want) in rows {
+        assert!(rt;
+            tcp_app(&RULES, *source, *target) == *want,
+            "{source} {target}"
+        );
+    }
+}
+
+fn datagrams_are_read_as(rt: &impl Abort, rows: &[(u16, u16, Option<App>)]) {
+    for (source, target, want) in rows {
+        assert!(rt;
+            udp_app(&RULES, *source, *target) == *want,
+            "{source} {target}"
+        );
+    }
+}
+
 #[test]
 fn a_rule_takes_the_place_of_the_usual_application(rt: HostRuntime) {
-    for (source, target, want) in TCP {
-        assert_eq!(rt; tcp_app(&RULES, source, target), want);
-    }
-    for (source, target, want) in UDP {
-        assert_eq!(rt; udp_app(&RULES, source, target), want);
-    }
-    assert_eq!(rt; udp_app(&[], 9000, 53), Some(App::Dns));
+    segments_are_read_as(&rt, &TCP);
+    datagrams_are_read_as(&rt, &UDP);
+    assert!(rt; udp_app(&[], 9000, 53) == Some(App::Dns));
 }
