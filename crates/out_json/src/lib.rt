@@ -2,8 +2,6 @@
 #![tactic(auto)]
 
 mod strings;
-#[cfg(test)]
-mod tests;
 mod writer;
 
 pub use writer::{JsonWriter, json_line};

@@ -4,14 +4,10 @@
 mod column;
 mod columns;
 mod follow;
-#[cfg(test)]
-mod follow_tests;
 mod laws;
 mod lines;
 mod style;
 mod summary;
-#[cfg(test)]
-mod tests;
 mod value_text;
 
 pub use follow::{Fronts, follow_text};

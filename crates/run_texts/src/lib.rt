@@ -2,8 +2,6 @@
 #![tactic(auto)]
 
 mod fault_text;
-#[cfg(test)]
-mod tests;
 mod text;
 
 pub use fault_text::{

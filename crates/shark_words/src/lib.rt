@@ -12,8 +12,6 @@ mod port;
 mod read;
 mod report;
 mod slot;
-#[cfg(test)]
-mod tests;
 mod uses;
 mod values;
 

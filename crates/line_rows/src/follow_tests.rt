@@ -1,7 +1,8 @@
+// The report of a followed stream.
 ghost use Rattle.std.specs.Prelude.{◌≡◌, ◌<◌, ◌≤◌, length, IfOk};
-ghost use Rattle.out_lines.specs.Follow.{AreApart};
+ghost use Rattle.out_lines.specs.Follow.{AreApart, AreFollowed};
 
-use crate::{Fronts, follow_text};
+use out_lines::{Fronts, follow_text};
 use pk_base::{NoMemory, Octets, Stretch, Stretches};
 use std::alloc::Global;
 use std::test::Fail;
@@ -39,20 +40,36 @@ fn empty(alloc: Global) -> Stretches
     Stretches::from_vec(Vec::new(alloc))
 }
 
+/// What the zeroth side sent, and nothing of the other side.
+fn gapped(alloc: Global) -> Result<Fronts, NoMemory>
+    ensures { IfOk result AreFollowed }
+{
+    let zero = side(alloc, b"ab", 12, b"fghi")?;
+    let one = side(alloc, b"", 0, b"")?;
+    Ok(Fronts { zero, one })
+}
+
+/// No stretch of the zeroth side, and the last position of the other side.
+fn one_sided(alloc: Global) -> Result<Fronts, NoMemory>
+    ensures { IfOk result AreFollowed }
+{
+    let one = side(alloc, b"", 4_294_967_295, b"\x00\xff\x0a")?;
+    Ok(Fronts {
+        zero: empty(alloc),
+        one,
+    })
+}
+
 #[test]
 fn each_stretch_has_a_line_and_each_gap_before_one(rt: HostRuntime) -> Result<(), Fail> {
-    let zero = side(rt.alloc(), b"ab", 12, b"fghi")?;
-    let one = side(rt.alloc(), b"", 0, b"")?;
-    let text = follow_text(rt.alloc(), 0, Some(Fronts { zero, one }))?;
+    let text = follow_text(rt.alloc(), 0, Some(gapped(rt.alloc())?))?;
     assert!(rt; text.as_slice() == b"follow tcp 0\n0 6162\n0 lost 10\n0 66676869\n1 \n".as_slice());
     Ok(())
 }
 
 #[test]
 fn a_side_without_bytes_has_a_line(rt: HostRuntime) -> Result<(), Fail> {
-    let zero = empty(rt.alloc());
-    let one = side(rt.alloc(), b"", 4_294_967_295, b"\x00\xff\x0a")?;
-    let text = follow_text(rt.alloc(), 4_294_967_295, Some(Fronts { zero, one }))?;
+    let text = follow_text(rt.alloc(), 4_294_967_295, Some(one_sided(rt.alloc())?))?;
     assert!(rt;
         text.as_slice()
             == b"follow tcp 4294967295\n0 \n1 \n1 lost 4294967295\n1 00ff0a\n".as_slice()
