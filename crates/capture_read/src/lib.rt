@@ -20,8 +20,6 @@ mod position;
 mod read_error;
 mod reading;
 mod state;
-#[cfg(test)]
-mod tests;
 
 pub use ending::{Damage, Ending};
 pub use frame::Frame;

@@ -9,8 +9,6 @@ mod options;
 mod rate;
 mod sections;
 mod step;
-#[cfg(test)]
-mod tests;
 
 pub use sections::Sections;
 pub use step::BlockStep;
