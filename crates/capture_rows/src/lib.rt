@@ -1,4 +1,5 @@
-//! Tables of capture files with what is read of them, worked out by hand from the formats.
+//! Tables of capture files with what is read of them, worked out by hand from the formats, and of frames with the files
+//! that are written of them.
 #![tactic(auto)]
 
 #[cfg(test)]
@@ -13,3 +14,9 @@ mod pieces;
 mod reader_tests;
 #[cfg(test)]
 mod sources;
+#[cfg(test)]
+mod writing;
+#[cfg(test)]
+mod written_rows;
+#[cfg(test)]
+mod written_tests;

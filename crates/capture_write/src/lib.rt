@@ -9,8 +9,6 @@ mod numbers;
 mod pcap;
 mod pcapng;
 mod pieces;
-#[cfg(test)]
-mod tests;
 mod writer;
 
 pub use added::Added;

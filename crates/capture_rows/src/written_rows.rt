@@ -1,46 +1,13 @@
-use crate::{Added, Format, Writer};
-use capture_read::{Ending, Frame, frames};
-use pk_base::{NoMemory, Octets};
-use std::alloc::Global;
-use std::test::Fail;
-
-/// A request of ARP from 10.0.0.1 for 10.0.0.2, in an Ethernet frame (RFC 826).
-const REQUEST: [u8; 60] = [
-    0xFF, 0xFF, 0xFF, 0xFF, 0xFF, 0xFF, 2, 0, 0, 0, 0, 1, 8, 6, 0, 1, 8, 0, 6, 4, 0, 1, 2, 0, 0, 0,
-    0, 1, 10, 0, 0, 1, 0, 0, 0, 0, 0, 0, 10, 0, 0, 2, 0, 0, 0, 0, 0, 0, 0, 0, 0, 0, 0, 0, 0, 0, 0,
-    0, 0, 0,
-];
-
-/// The header of a pcap file of nanoseconds, little-endian, version 2.4, Ethernet.
-const HEADER: [u8; 24] = [
-    0x4D, 0x3C, 0xB2, 0xA1, 2, 0, 4, 0, 0, 0, 0, 0, 0, 0, 0, 0, 0, 0, 4, 0, 1, 0, 0, 0,
-];
-
-/// The head of the request's record, taken at the start of 1970.
-const RECORD_HEAD: [u8; 16] = [0, 0, 0, 0, 0, 0, 0, 0, 60, 0, 0, 0, 60, 0, 0, 0];
-
-/// A little-endian section, version 1.0, of unknown length.
-const SECTION: [u8; 28] = [
-    0x0A, 0x0D, 0x0D, 0x0A, 28, 0, 0, 0, 0x4D, 0x3C, 0x2B, 0x1A, 1, 0, 0, 0, 0xFF, 0xFF, 0xFF,
-    0xFF, 0xFF, 0xFF, 0xFF, 0xFF, 28, 0, 0, 0,
-];
-
-/// An Ethernet interface whose clock counts nanoseconds, and the head of the request's enhanced packet.
-const INTERFACE_AND_HEAD: [u8; 60] = [
-    1, 0, 0, 0, 32, 0, 0, 0, 1, 0, 0, 0, 0, 0, 0, 0, 9, 0, 1, 0, 9, 0, 0, 0, 0, 0, 0, 0, 32, 0, 0,
-    0, 6, 0, 0, 0, 92, 0, 0, 0, 0, 0, 0, 0, 0, 0, 0, 0, 0, 0, 0, 0, 60, 0, 0, 0, 60, 0, 0, 0,
-];
-
-const PACKET_TAIL: [u8; 4] = [92, 0, 0, 0];
+// Frames that are written as capture files.
 
 /// A frame of so many bytes.
 #[derive(Clone, Copy)]
-struct Row {
-    time: Option<i128>,
-    link: u16,
-    little: bool,
-    len: usize,
-    original: u32,
+pub(crate) struct Row {
+    pub(crate) time: Option<i128>,
+    pub(crate) link: u16,
+    pub(crate) little: bool,
+    pub(crate) len: usize,
+    pub(crate) original: u32,
 }
 
 /// A little-endian Ethernet frame of 60 bytes on the wire.
@@ -60,7 +27,7 @@ const UNTIMED: Row = Row {
     ..ETHERNET
 };
 
-const EARLY: Row = Row {
+pub(crate) const EARLY: Row = Row {
     time: Some(0),
     ..ETHERNET
 };
@@ -184,10 +151,10 @@ const UNTIMED_EMPTY: Row = Row {
 };
 
 /// Frames, and the places of those that don't fit into a pcap file and into a pcapng file.
-struct List {
-    rows: &'static [Row],
-    pcap: &'static [usize],
-    pcapng: &'static [usize],
+pub(crate) struct List {
+    pub(crate) rows: &'static [Row],
+    pub(crate) pcap: &'static [usize],
+    pub(crate) pcapng: &'static [usize],
 }
 
 /// Frames that all fit into both.
@@ -197,7 +164,7 @@ const FITTING: List = List {
     pcapng: &[],
 };
 
-static LISTS: [List; 42] = [
+pub(crate) static TIMES_AND_LENGTHS: [List; 15] = [
     FITTING,
     List {
         rows: &[ETHERNET, EARLY, ETHERNET],
@@ -264,6 +231,9 @@ static LISTS: [List; 42] = [
         pcap: &[0],
         pcapng: &[0],
     },
+];
+
+pub(crate) static ORDERS_AND_LINKS: [List; 14] = [
     List {
         rows: &[BIG_LOOPBACK, BIG_LOOPBACK],
         ..FITTING
@@ -330,6 +300,9 @@ static LISTS: [List; 42] = [
         pcap: &[1, 2, 3],
         pcapng: &[1, 3],
     },
+];
+
+pub(crate) static SEVERAL: [List; 13] = [
     List {
         rows: &[UNTIMED_CUT, UNTIMED, ETHERNET],
         pcap: &[0, 1],
@@ -394,130 +367,3 @@ static LISTS: [List; 42] = [
         pcapng: &[0, 2],
     },
 ];
-
-fn frame(alloc: Global, row: Row, bytes: &[u8]) -> Result<Frame, NoMemory> {
-    Ok(Frame {
-        number: 7,
-        time: row.time,
-        link: row.link,
-        little: row.little,
-        bytes: Octets::copy(alloc, bytes)?,
-        original: row.original,
-    })
-}
-
-fn frames_of(alloc: Global, rows: &[Row]) -> Result<Vec<Frame>, NoMemory> {
-    let mut list = Vec::new(alloc);
-    for row in rows {
-        let mut bytes = Vec::new(alloc);
-        for place in 0..row.len {
-            bytes.push((place % 251) as u8)?;
-        }
-        list.push(frame(alloc, *row, bytes.as_slice())?)?;
-    }
-    Ok(list)
-}
-
-/// The bytes of the file of the frames that fit, the places of these, and those of the others.
-#[derive(Drop)]
-struct Written {
-    file: Vec<u8>,
-    fit: Vec<usize>,
-    unfit: Vec<usize>,
-}
-
-fn write(alloc: Global, format: Format, list: &[Frame]) -> Result<Written, NoMemory> {
-    let mut writer = Writer::new(alloc, format);
-    let mut file = Vec::new(alloc);
-    let mut fit = Vec::new(alloc);
-    let mut unfit = Vec::new(alloc);
-    for (place, frame) in list.iter().enumerate() {
-        match writer.add(frame)? {
-            Added::Bytes(bytes) => {
-                file.extend_from_slice(bytes.bytes())?;
-                fit.push(place)?;
-            }
-            Added::Unfit => unfit.push(place)?,
-        }
-    }
-    file.extend_from_slice(writer.finish()?.bytes())?;
-    Ok(Written { file, fit, unfit })
-}
-
-/// Whether a frame is the one that was written, but for the file's byte order.
-fn is_same(read: &Frame, written: &Frame) -> bool {
-    read.time == written.time
-        && read.link == written.link
-        && read.original == written.original
-        && read.bytes.bytes() == written.bytes.bytes()
-}
-
-/// Whether the frames that don't fit are those of these places, and the others are read back, numbered from 1.
-fn is_written(
-    alloc: Global,
-    format: Format,
-    rows: &[Row],
-    places: &[usize],
-) -> Result<bool, NoMemory> {
-    let list = frames_of(alloc, rows)?;
-    let written = write(alloc, format, list.as_slice())?;
-    let (read, ending) = frames(alloc, written.file.as_slice())?;
-    let mut same = written.unfit.as_slice() == places
-        && ending == Ending::Whole
-        && read.slice().len() == written.fit.len();
-    for (at, (frame, place)) in read.slice().iter().zip(written.fit.as_slice()).enumerate() {
-        same = same
-            && frame.number as usize == at + 1
-            && match list.get(*place) {
-                Some(wanted) => is_same(frame, wanted),
-                None => false,
-            };
-    }
-    Ok(same)
-}
-
-fn joined(alloc: Global, parts: &[&[u8]]) -> Result<Vec<u8>, NoMemory> {
-    let mut all = Vec::new(alloc);
-    for part in parts {
-        all.extend_from_slice(part)?;
-    }
-    Ok(all)
-}
-
-#[test]
-fn files_are_written_byte_by_byte(rt: HostRuntime) -> Result<(), Fail> {
-    let alloc = rt.alloc();
-    let request = [frame(alloc, EARLY, &REQUEST)?];
-    let pcap = write(alloc, Format::Pcap, &request)?.file;
-    let records = joined(alloc, &[&HEADER, &RECORD_HEAD, &REQUEST])?;
-    assert_eq!(rt; pcap.len(), 100);
-    assert_eq!(rt; pcap.as_slice(), records.as_slice());
-    let pcapng = write(alloc, Format::Pcapng, &request)?.file;
-    let blocks = joined(
-        alloc,
-        &[&SECTION, &INTERFACE_AND_HEAD, &REQUEST, &PACKET_TAIL],
-    )?;
-    assert_eq!(rt; pcapng.len(), 152);
-    assert_eq!(rt; pcapng.as_slice(), blocks.as_slice());
-    let empty = write(alloc, Format::Pcap, &[])?.file;
-    assert_eq!(rt; empty.as_slice(), HEADER.as_slice());
-    let section = write(alloc, Format::Pcapng, &[])?.file;
-    assert_eq!(rt; section.as_slice(), SECTION.as_slice());
-    Ok(())
-}
-
-#[test]
-fn frames_that_fit_are_read_back(rt: HostRuntime) -> Result<(), Fail> {
-    let alloc = rt.alloc();
-    for (index, list) in LISTS.iter().enumerate() {
-        assert!(rt;
-            is_written(alloc, Format::Pcap, list.rows, list.pcap)?,
-            "{index}"
-        );
-        assert!(rt;
-            is_written(alloc, Format::Pcapng, list.rows, list.pcapng)?,
-            "{index}"
-        );
-    }
-    Ok(())
-}
