@@ -1,6 +1,7 @@
 // Filters and faults by the rules of the language. The places are counted by hand.
 
-use flt_parse::{FilterError, FilterReason, parse};
+use flt_parse::parse;
+use flt_syntax::{FilterError, FilterReason};
 use std::alloc::{AllocError, Global};
 use std::process::Abort;
 use std::test::Fail;

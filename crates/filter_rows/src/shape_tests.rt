@@ -1,7 +1,8 @@
 // What the syntax trees of filters are: their operators, joins, operands, sets, slices and layers.
 
-use flt_parse::{
-    Arithmetic, Ast, Choice, Function, Operand, Operator, RangePart, SliceRange, Tail, parse,
+use flt_parse::parse;
+use flt_syntax::{
+    Arithmetic, Ast, Choice, Function, Operand, Operator, RangePart, SliceRange, Tail,
 };
 use std::alloc::Global;
 use std::process::Abort;

@@ -1,6 +1,6 @@
 // Slices of each form, pairs of values of each class, and what functions, masks and signs give.
 
-use flt_parse::{Arithmetic, Function, Place, RangePart};
+use flt_syntax::{Arithmetic, Function, Place, RangePart};
 use flt_values::{
     Extreme, Relation, calculate, call, contains, extreme_of, is_nonzero, len_of, lies_between,
     masked, order_of, related, same_leading, slice, span_of,

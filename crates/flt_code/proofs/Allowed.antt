@@ -2,8 +2,8 @@
 use Rattle.std.proofs.Common.{◌≡◌, Bool as Truth, true, false, cond}
 use Rattle.flt_code.specs.Code.{is_several}
 use Rattle.flt_code.specs.Owners.{Owner, OfTerm, OfExtreme, held}
-use Rattle.flt_parse.specs.declared.ast.Function.{Function}
-use Rattle.flt_parse.specs.declared.ast.Function.TheVariants.{Len, Count, Upper, Lower, Min, Max}
+use Rattle.flt_syntax.specs.declared.ast.Function.{Function}
+use Rattle.flt_syntax.specs.declared.ast.Function.TheVariants.{Len, Count, Upper, Lower, Min, Max}
 use Rattle.flt_types.specs.Terms.{is_field}
 use Rattle.flt_types.specs.declared.typed.Term.{Term}
 use Rattle.flt_types.specs.declared.typed.Term.TheVariants as terms

@@ -12,8 +12,8 @@ use Rattle.flt_code.proofs.Made.{filter_code}
 use Rattle.flt_code.proofs.Runs.{whole_agrees, whole_runs}
 use Rattle.flt_code.proofs.TypesAllow.{types_allow}
 use Rattle.flt_mean.specs.Meaning.{meaning}
-use Rattle.flt_parse.specs.Grammar.{IsGrouped}
-use Rattle.flt_parse.specs.Written.{Written}
+use Rattle.flt_syntax.specs.Grammar.{IsGrouped}
+use Rattle.flt_syntax.specs.Written.{Written}
 use Rattle.flt_types.specs.Texts.{IsFilter}
 use Rattle.flt_types.specs.Typing.{HasType}
 use Rattle.flt_types.specs.declared.typed.Typed.{Typed}

@@ -7,9 +7,9 @@ use Rattle.flt_code.specs.Spines.{Stands, left_of_term}
 use Rattle.flt_code.proofs.Growth.{get_more, loads_grow}
 use Rattle.flt_code.proofs.SpineLemmas.{part_size}
 use Rattle.flt_mean.specs.Terms.{terms_in}
-use Rattle.flt_parse.specs.declared.ast.Arithmetic.{Arithmetic}
-use Rattle.flt_parse.specs.declared.ast.RangePart.{RangePart}
-use Rattle.flt_parse.specs.declared.ast.Function.TheVariants.{Count}
+use Rattle.flt_syntax.specs.declared.ast.Arithmetic.{Arithmetic}
+use Rattle.flt_syntax.specs.declared.ast.RangePart.{RangePart}
+use Rattle.flt_syntax.specs.declared.ast.Function.TheVariants.{Count}
 use Rattle.flt_types.specs.Terms.{is_field}
 use Rattle.flt_types.specs.declared.typed.Term.{Term}
 use Rattle.flt_types.specs.declared.typed.Term.TheVariants as terms

@@ -6,8 +6,8 @@ use Rattle.flt_code.specs.Owners.{Grows, IsOwned, Owner, OfTerm, OfExtreme, OfPa
 use Rattle.flt_code.proofs.Growth.{code_grows}
 use Rattle.flt_code.proofs.LoadLemmas.{loads_on, makes, owned_on}
 use Rattle.flt_code.proofs.OwnerLemmas.{get_last, grows_on}
-use Rattle.flt_parse.specs.declared.ast.Function.{Function}
-use Rattle.flt_parse.specs.declared.ast.Function.TheVariants.{Len, Count, Upper, Lower, Min, Max}
+use Rattle.flt_syntax.specs.declared.ast.Function.{Function}
+use Rattle.flt_syntax.specs.declared.ast.Function.TheVariants.{Len, Count, Upper, Lower, Min, Max}
 use Rattle.flt_types.specs.declared.typed.Term.{Term}
 use Rattle.flt_types.specs.declared.typed.Term.TheVariants as terms
 use Rattle.flt_types.specs.declared.typed.Typed.{Typed}

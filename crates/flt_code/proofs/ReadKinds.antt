@@ -1,8 +1,8 @@
 -- What a literal writes is of the kind by which it is read, with a prefix length only where one may stand.
 use Rattle.std.proofs.Common.{◌≡◌, ℕ, Bool as Truth, true, false, cond, nat_le, List, Option, Some, None, option_map, refl, subst}
 use Rattle.flt_code.proofs.ValueKinds.{wide}
-use Rattle.flt_parse.specs.declared.ast.Literal.{Literal}
-use Rattle.flt_parse.specs.declared.ast.Literal.TheVariants as literals
+use Rattle.flt_syntax.specs.declared.ast.Literal.{Literal}
+use Rattle.flt_syntax.specs.declared.ast.Literal.TheVariants as literals
 use Rattle.flt_types.specs.Literals.{literal_read}
 use Rattle.flt_values.specs.Kinds.{kind_of_value}
 use Rattle.flt_values.specs.Literals.{leading_read, number_read, number_within, prefix_of, quote_read, truth_of, value_read, word_read}

@@ -12,9 +12,9 @@ use Rattle.flt_lists.specs.Passes.{compares, is_some_value, passes}
 use Rattle.flt_lists.specs.Questions.{is_among, is_matched}
 use Rattle.flt_mean.specs.Meaning.{exactly_one, meaning, opposite}
 use Rattle.flt_mean.specs.Values.{values_of_term}
-use Rattle.flt_parse.specs.declared.ast.Choice.{Choice}
-use Rattle.flt_parse.specs.declared.ast.Function.{Function}
-use Rattle.flt_parse.specs.declared.ast.Function.TheVariants.{Len, Count, Upper, Lower, Min, Max}
+use Rattle.flt_syntax.specs.declared.ast.Choice.{Choice}
+use Rattle.flt_syntax.specs.declared.ast.Function.{Function}
+use Rattle.flt_syntax.specs.declared.ast.Function.TheVariants.{Len, Count, Upper, Lower, Min, Max}
 use Rattle.flt_types.specs.Terms.{is_field}
 use Rattle.flt_types.specs.declared.typed.Term.{Term}
 use Rattle.flt_types.specs.declared.typed.Term.TheVariants as terms
@@ -32,8 +32,8 @@ use Rattle.flt_vm.specs.declared.instr.Instr.{Instr}
 use Rattle.flt_vm.specs.declared.instr.Instr.TheVariants as instr
 use Rattle.pk_tree.specs.FieldValues.{values_of}
 use Rattle.pk_tree.specs.Trees.{TreeShown}
-use Rattle.flt_parse.specs.declared.ast.Arithmetic.{Arithmetic}
-use Rattle.flt_parse.specs.declared.ast.RangePart.{RangePart}
+use Rattle.flt_syntax.specs.declared.ast.Arithmetic.{Arithmetic}
+use Rattle.flt_syntax.specs.declared.ast.RangePart.{RangePart}
 use Rattle.flt_types.specs.declared.typed.Member.{Member}
 use Rattle.flt_values.specs.declared.literal.Constant.{Constant}
 use Rattle.flt_values.specs.declared.relation.Relation.{Relation}

@@ -6,17 +6,17 @@ use Rattle.flt_code.proofs.Allowed.{Allows, AllowsCall, AllowsTerm, has, loaded,
 use Rattle.flt_code.proofs.ReadKinds.{IsGood, read_good, word_reads}
 use Rattle.flt_code.proofs.ValueKinds.{IsLike, IsMasking, are_all_of, extreme_computes, kinds_of_values, wide}
 use Rattle.flt_mean.specs.Values.{prefix_of_term, values_of_term}
-use Rattle.flt_parse.specs.Grammar.{IsGrouped, IsOperand, IsTail, IsTestOperand, arguments, binds_arithmetic, least_in, sum, takes_mask, takes_slice, tightness}
-use Rattle.flt_parse.specs.Written.{Written, WrittenOperand, WrittenTail, TextOf, NamedOf, OnLayerOf, OnLayersOf, SlicedOf, MaskedOf, CalledOf, ComputedOf, ArgumentsOf, CompareOf, InOf, MatchesOf, JoinedOf, NotOf, GroupOf, AloneOf, TestOf}
-use Rattle.flt_parse.specs.declared.ast.Arithmetic.{Arithmetic}
-use Rattle.flt_parse.specs.declared.ast.Arithmetic.TheVariants as arithmetic
-use Rattle.flt_parse.specs.declared.ast.Choice.{Choice}
-use Rattle.flt_parse.specs.declared.ast.Element.{Element}
-use Rattle.flt_parse.specs.declared.ast.Element.TheVariants as elements
-use Rattle.flt_parse.specs.declared.ast.Literal.{Literal}
-use Rattle.flt_parse.specs.declared.ast.Function.{Function}
-use Rattle.flt_parse.specs.declared.ast.Function.TheVariants.{Len, Count, Upper, Lower, Min, Max}
-use Rattle.flt_parse.specs.declared.token.Join.TheVariants as joins
+use Rattle.flt_syntax.specs.Grammar.{IsGrouped, IsOperand, IsTail, IsTestOperand, arguments, binds_arithmetic, least_in, sum, takes_mask, takes_slice, tightness}
+use Rattle.flt_syntax.specs.Written.{Written, WrittenOperand, WrittenTail, TextOf, NamedOf, OnLayerOf, OnLayersOf, SlicedOf, MaskedOf, CalledOf, ComputedOf, ArgumentsOf, CompareOf, InOf, MatchesOf, JoinedOf, NotOf, GroupOf, AloneOf, TestOf}
+use Rattle.flt_syntax.specs.declared.ast.Arithmetic.{Arithmetic}
+use Rattle.flt_syntax.specs.declared.ast.Arithmetic.TheVariants as arithmetic
+use Rattle.flt_syntax.specs.declared.ast.Choice.{Choice}
+use Rattle.flt_syntax.specs.declared.ast.Element.{Element}
+use Rattle.flt_syntax.specs.declared.ast.Element.TheVariants as elements
+use Rattle.flt_syntax.specs.declared.ast.Literal.{Literal}
+use Rattle.flt_syntax.specs.declared.ast.Function.{Function}
+use Rattle.flt_syntax.specs.declared.ast.Function.TheVariants.{Len, Count, Upper, Lower, Min, Max}
+use Rattle.flt_syntax.specs.declared.token.Join.TheVariants as joins
 use Rattle.flt_types.specs.Literals.{literal_read}
 use Rattle.flt_types.specs.Standing.{argument, in_slice, within}
 use Rattle.flt_types.specs.Terms.{IsTerm, are_numbers, kind_of, takes_term}

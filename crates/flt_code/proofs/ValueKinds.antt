@@ -6,8 +6,8 @@ use Rattle.flt_code.specs.Owners.{OfExtreme, held}
 use Rattle.flt_code.proofs.Allowed.{has}
 use Rattle.flt_lists.specs.Pairs.{values_calculated}
 use Rattle.flt_mean.specs.Values.{prefix_of_term, values_of_term}
-use Rattle.flt_parse.specs.declared.ast.Arithmetic.{Arithmetic}
-use Rattle.flt_parse.specs.declared.ast.Function.TheVariants.{Len, Count, Upper, Lower, Min, Max}
+use Rattle.flt_syntax.specs.declared.ast.Arithmetic.{Arithmetic}
+use Rattle.flt_syntax.specs.declared.ast.Function.TheVariants.{Len, Count, Upper, Lower, Min, Max}
 use Rattle.flt_types.specs.Terms.{kind_of}
 use Rattle.flt_types.specs.declared.typed.Term.{Term}
 use Rattle.flt_types.specs.declared.typed.Term.TheVariants as terms

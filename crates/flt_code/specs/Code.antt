@@ -1,8 +1,8 @@
 -- The code of a filter, as a relation in which it is free which register is whose.
 use Rattle.std.specs.Prelude.{◌≡◌, ℕ, Bool as Truth, true, false, List, [], ◌∷◌, ◌++◌, length, Some, slice_get}
 use Rattle.flt_code.specs.Owners.{Owner, OfTerm, OfExtreme, OfPart, IsOwned}
-use Rattle.flt_parse.specs.declared.ast.Function.{Function}
-use Rattle.flt_parse.specs.declared.ast.Function.TheVariants.{Count, Min, Max}
+use Rattle.flt_syntax.specs.declared.ast.Function.{Function}
+use Rattle.flt_syntax.specs.declared.ast.Function.TheVariants.{Count, Min, Max}
 use Rattle.flt_types.specs.Terms.{is_field}
 use Rattle.pk_tree.specs.declared.chosen.Layers.{Layers}
 use Rattle.flt_types.specs.declared.typed.Term.{Term}

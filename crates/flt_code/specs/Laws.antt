@@ -1,8 +1,8 @@
 -- What holds of every filter.
 use Rattle.std.specs.Prelude.{ℕ, List}
 use Rattle.flt_code.specs.Decides.{Agrees, Decides}
-use Rattle.flt_parse.specs.Grammar.{IsGrouped}
-use Rattle.flt_parse.specs.Written.{Written}
+use Rattle.flt_syntax.specs.Grammar.{IsGrouped}
+use Rattle.flt_syntax.specs.Written.{Written}
 use Rattle.flt_types.specs.Texts.{IsTypedText}
 use Rattle.flt_types.specs.Typing.{HasType}
 use Rattle.flt_types.specs.declared.typed.Typed.{Typed}

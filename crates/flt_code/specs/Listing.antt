@@ -1,12 +1,12 @@
 -- The listing of a program: a line for each instruction, which is its place from 0, and its words.
 use Rattle.std.specs.Prelude.{ℕ, ◌+◌, ◌<◌, ◌^◌, List, [], ◌∷◌, ◌++◌, codes, decimal, unwrap_or, slice_get}
 use Rattle.flt_code.specs.Literals.{constant_shown, field_shown, members_shown, ranges_shown, string_shown}
-use Rattle.flt_parse.specs.declared.ast.Arithmetic.{Arithmetic}
-use Rattle.flt_parse.specs.declared.ast.Arithmetic.TheVariants.{Sum, Difference, Product}
-use Rattle.flt_parse.specs.declared.ast.Choice.{Choice}
-use Rattle.flt_parse.specs.declared.ast.Choice.TheVariants as choices
-use Rattle.flt_parse.specs.declared.ast.Function.{Function}
-use Rattle.flt_parse.specs.declared.ast.Function.TheVariants as functions
+use Rattle.flt_syntax.specs.declared.ast.Arithmetic.{Arithmetic}
+use Rattle.flt_syntax.specs.declared.ast.Arithmetic.TheVariants.{Sum, Difference, Product}
+use Rattle.flt_syntax.specs.declared.ast.Choice.{Choice}
+use Rattle.flt_syntax.specs.declared.ast.Choice.TheVariants as choices
+use Rattle.flt_syntax.specs.declared.ast.Function.{Function}
+use Rattle.flt_syntax.specs.declared.ast.Function.TheVariants as functions
 use Rattle.flt_types.specs.declared.typed.Typed.{Typed}
 use Rattle.flt_values.specs.declared.arithmetic.Extreme.{Extreme}
 use Rattle.flt_values.specs.declared.arithmetic.Extreme.TheVariants.{Least, Greatest}

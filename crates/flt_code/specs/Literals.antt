@@ -1,9 +1,9 @@
 -- The texts of fields, ranges and literals in a listing.
 use Rattle.std.specs.Prelude.{◌==◌, ℕ, Bool as Truth, if◌then◌else◌, List, [], ◌∷◌, ◌++◌, codes, decimal, Option, Some, None}
 use Rattle.std.specs.List.{flat_map, join_by}
-use Rattle.flt_parse.specs.declared.ast.Place.{Place}
-use Rattle.flt_parse.specs.declared.ast.RangePart.{RangePart}
-use Rattle.flt_parse.specs.declared.ast.RangePart.TheVariants as parts
+use Rattle.flt_syntax.specs.declared.ast.Place.{Place}
+use Rattle.flt_syntax.specs.declared.ast.RangePart.{RangePart}
+use Rattle.flt_syntax.specs.declared.ast.RangePart.TheVariants as parts
 use Rattle.flt_types.specs.declared.typed.Member.{Member}
 use Rattle.flt_types.specs.declared.typed.Member.TheVariants as members
 use Rattle.flt_values.specs.declared.literal.Constant.{Constant}

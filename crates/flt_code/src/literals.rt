@@ -3,7 +3,7 @@ ghost use Rattle.std.specs.Prelude.{◌≡◌, ◌++◌, codes, OnOk};
 ghost use Rattle.std.specs.List.{flat_map, join_by};
 ghost use Rattle.flt_code.specs.Literals.{bytes_shown, constant_shown, field_shown, layer_range_shown, layers_shown, member_shown, members_shown, place_shown, prefix_shown, quoted_byte, range_shown, ranges_shown, string_shown, value_shown};
 
-use flt_parse::{Place, RangePart};
+use flt_syntax::{Place, RangePart};
 use flt_types::Member;
 use flt_values::Constant;
 use pk_base::NoMemory;

@@ -5,14 +5,14 @@ ghost use Rattle.flt_code.specs.Owners.{Grows, OfTerm, owners_of};
 ghost use Rattle.flt_code.specs.Spines.{left_of_term};
 ghost use Rattle.flt_mean.specs.Terms.{is_part};
 ghost use Rattle.flt_types.specs.declared.typed.Term.{Term as TermValue};
-ghost use Rattle.flt_parse.specs.declared.ast.Function.TheVariants.{Count};
+ghost use Rattle.flt_syntax.specs.declared.ast.Function.TheVariants.{Count};
 ghost use Rattle.flt_values.specs.declared.arithmetic.Extreme.TheVariants.{Least};
 ghost use Rattle.flt_vm.specs.declared.instr.Instr.TheVariants as instr;
 
 use crate::joins::{alone, then, then_both};
 use crate::owners::{Owner, own_extreme, own_term, register_for};
 use crate::spines::{Terms, terms_of};
-use flt_parse::Function;
+use flt_syntax::Function;
 use flt_types::Term;
 use flt_values::Extreme;
 use flt_vm::{Instr, copied_layers, copied_ranges};

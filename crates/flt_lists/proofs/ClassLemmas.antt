@@ -9,8 +9,8 @@ use Rattle.std.specs.declared.cmp.Ordering.{Ordering}
 use Rattle.std.specs.declared.cmp.Ordering.TheVariants as orders
 use Rattle.flt_lists.specs.Keys.{KeyShown, are_of_class, are_of_one_class, chosen_pass, key_cmp, key_of, keys_of, pairs_hold}
 use Rattle.flt_lists.specs.Passes.{compares, passes}
-use Rattle.flt_parse.specs.declared.ast.Choice.{Choice}
-use Rattle.flt_parse.specs.declared.ast.Choice.TheVariants.{Any, All}
+use Rattle.flt_syntax.specs.declared.ast.Choice.{Choice}
+use Rattle.flt_syntax.specs.declared.ast.Choice.TheVariants.{Any, All}
 use Rattle.flt_values.specs.Kinds.{class_eq, class_of, kind_of_value, same_class}
 use Rattle.flt_values.specs.Relations.{by_order, holds_in, number_of_truth, order_by_leading, related}
 use Rattle.flt_values.specs.declared.kinds.Class.{Class}

@@ -14,8 +14,8 @@ use Rattle.flt_lists.proofs.OrderLemmas.{all_unequal, any_unequal, ends_decide, 
 use Rattle.flt_lists.proofs.SearchLemmas.{search_finds}
 use Rattle.flt_lists.specs.Keys.{KeyShown, decisive, end_of, furthest, is_order, key_cmp, key_of, key_shown, keys_of, opposite, order_of_keys, pairs_hold}
 use Rattle.flt_lists.specs.declared.keys.Key.{Key}
-use Rattle.flt_parse.specs.declared.ast.Choice.{Choice}
-use Rattle.flt_parse.specs.declared.ast.Choice.TheVariants.{Any, All}
+use Rattle.flt_syntax.specs.declared.ast.Choice.{Choice}
+use Rattle.flt_syntax.specs.declared.ast.Choice.TheVariants.{Any, All}
 use Rattle.flt_values.specs.Relations.{holds_in}
 use Rattle.flt_values.specs.declared.arithmetic.Extreme.{Extreme}
 use Rattle.flt_values.specs.declared.relation.Relation.{Relation}

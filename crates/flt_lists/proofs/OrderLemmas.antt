@@ -8,8 +8,8 @@ use Rattle.std.specs.List.{list_any, list_all}
 use Rattle.std.specs.Ordering.{is_eq, is_ne, is_lt, is_gt, is_le, is_ge, ordering_reverse}
 use Rattle.std.specs.declared.cmp.Ordering.{Ordering}
 use Rattle.std.specs.declared.cmp.Ordering.TheVariants as orders
-use Rattle.flt_parse.specs.declared.ast.Choice.{Choice}
-use Rattle.flt_parse.specs.declared.ast.Choice.TheVariants.{Any, All}
+use Rattle.flt_syntax.specs.declared.ast.Choice.{Choice}
+use Rattle.flt_syntax.specs.declared.ast.Choice.TheVariants.{Any, All}
 use Rattle.flt_values.specs.declared.relation.Relation.{Relation}
 use Rattle.flt_values.specs.declared.relation.Relation.TheVariants.{Equal, Unequal, Greater, Less, AtLeast, AtMost, Contains}
 use Rattle.flt_values.specs.declared.arithmetic.Extreme.{Extreme}

@@ -3,7 +3,7 @@ use Rattle.std.proofs.Common.{◌≡◌, ◌≢◌, ◌⊎◌, inl, inr, List, [
 use Rattle.std.specs.List.{filter_map, zip}
 use Rattle.flt_values.specs.Arithmetic.{calculated}
 use Rattle.flt_lists.specs.Pairs.{values_calculated}
-use Rattle.flt_parse.specs.declared.ast.Arithmetic.{Arithmetic}
+use Rattle.flt_syntax.specs.declared.ast.Arithmetic.{Arithmetic}
 use Rattle.pk_tree.specs.declared.value.Value.{Value}
 
 pub single_left : (a : Arithmetic) (vs ws : List Value) (d : Value) → length vs ≡ 1 → values_calculated a vs ws ≡ filter_map (λ w. calculated a (get_or vs 0 d) w) ws

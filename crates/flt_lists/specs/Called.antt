@@ -2,8 +2,8 @@
 use Rattle.std.specs.Prelude.{List, [], ◌∷◌, length}
 use Rattle.std.specs.List.{filter_map}
 use Rattle.std.specs.Option.{option_to_list}
-use Rattle.flt_parse.specs.declared.ast.Function.{Function}
-use Rattle.flt_parse.specs.declared.ast.Function.TheVariants.{Count, Min, Max}
+use Rattle.flt_syntax.specs.declared.ast.Function.{Function}
+use Rattle.flt_syntax.specs.declared.ast.Function.TheVariants.{Count, Min, Max}
 use Rattle.flt_values.specs.Arithmetic.{extreme_of}
 use Rattle.flt_values.specs.Calls.{called}
 use Rattle.flt_values.specs.declared.arithmetic.Extreme.TheVariants.{Least, Greatest}

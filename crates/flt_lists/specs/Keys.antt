@@ -5,8 +5,8 @@ use Rattle.std.specs.List.{list_any, list_all}
 use Rattle.std.specs.Ordering.{nat_cmp, int_cmp, ordering_then, is_lt, is_gt}
 use Rattle.std.specs.declared.cmp.Ordering.{Ordering}
 use Rattle.flt_lists.specs.declared.keys.Key.{Key}
-use Rattle.flt_parse.specs.declared.ast.Choice.{Choice}
-use Rattle.flt_parse.specs.declared.ast.Choice.TheVariants.{Any, All}
+use Rattle.flt_syntax.specs.declared.ast.Choice.{Choice}
+use Rattle.flt_syntax.specs.declared.ast.Choice.TheVariants.{Any, All}
 use Rattle.flt_values.specs.Kinds.{kind_of_value, same_class}
 use Rattle.flt_values.specs.Relations.{holds_in, leading_amount, moment_of, octets_of}
 use Rattle.flt_values.specs.declared.arithmetic.Extreme.{Extreme}

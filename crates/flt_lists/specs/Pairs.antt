@@ -2,7 +2,7 @@
 use Rattle.std.specs.Prelude.{List, [], ◌∷◌}
 use Rattle.std.specs.List.{filter_map, zip}
 use Rattle.flt_values.specs.Arithmetic.{calculated}
-use Rattle.flt_parse.specs.declared.ast.Arithmetic.{Arithmetic}
+use Rattle.flt_syntax.specs.declared.ast.Arithmetic.{Arithmetic}
 use Rattle.pk_tree.specs.declared.value.Value.{Value}
 
 -- a single value goes with each of the other list; else the first goes with the first and so on, as far as the shorter

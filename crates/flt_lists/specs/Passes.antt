@@ -1,8 +1,8 @@
 -- Tests of lists of values: of any, or of all of them, and of pairs (wireshark-filter(4)).
 use Rattle.std.specs.Prelude.{ℕ, ◌&&◌, Bool as Truth, true, false, List, [], ◌∷◌, Option}
 use Rattle.std.specs.List.{list_any, list_all}
-use Rattle.flt_parse.specs.declared.ast.Choice.{Choice}
-use Rattle.flt_parse.specs.declared.ast.Choice.TheVariants.{Any, All}
+use Rattle.flt_syntax.specs.declared.ast.Choice.{Choice}
+use Rattle.flt_syntax.specs.declared.ast.Choice.TheVariants.{Any, All}
 use Rattle.flt_values.specs.Relations.{related}
 use Rattle.flt_values.specs.declared.relation.Relation.{Relation}
 use Rattle.pk_tree.specs.declared.value.Value.{Value}

@@ -3,7 +3,7 @@ ghost use Rattle.std.specs.Prelude.{◌≡◌, ◌<◌, true, length, IfOk};
 ghost use Rattle.std.specs.List.{list_any, list_all};
 ghost use Rattle.flt_lists.specs.Keys.{are_of_class, are_of_one_class, key_cmp, keys_of, pairs_hold};
 ghost use Rattle.flt_lists.specs.Passes.{compares, passes};
-ghost use Rattle.flt_parse.specs.declared.ast.Choice.TheVariants.{All};
+ghost use Rattle.flt_syntax.specs.declared.ast.Choice.TheVariants.{All};
 ghost use Rattle.flt_values.specs.Kinds.{kind_of_value, same_class};
 ghost use Rattle.flt_values.specs.Relations.{related as are_related};
 ghost use Rattle.flt_values.specs.declared.relation.Relation.TheVariants.{Equal, Unequal};
@@ -11,7 +11,7 @@ ghost use Rattle.flt_values.specs.declared.relation.Relation.TheVariants.{Equal,
 use crate::ends::ends_hold;
 use crate::quantify::is_some_value;
 use crate::ties::{all_tie, any_ties};
-use flt_parse::Choice;
+use flt_syntax::Choice;
 use flt_values::{Relation, kind_of_value, related, same_class};
 use pk_base::NoMemory;
 use pk_fields::ValueKind;

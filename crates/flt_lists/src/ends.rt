@@ -3,7 +3,7 @@ ghost use Rattle.std.specs.Prelude.{◌≡◌, ◌<◌, true, length};
 ghost use Rattle.flt_lists.specs.Keys.{decisive, end_of, favoured, further as further_key, is_order, key_cmp, key_shown, keys_of, opposite, pairs_hold};
 
 use crate::keys::{Key, key_of};
-use flt_parse::Choice;
+use flt_syntax::Choice;
 use flt_values::{Extreme, Relation, holds_in};
 use pk_tree::Value;
 

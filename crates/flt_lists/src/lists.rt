@@ -7,7 +7,7 @@ ghost use Rattle.flt_values.specs.Arithmetic.{extreme_of as extreme_among};
 ghost use Rattle.flt_values.specs.Calls.{called, masked};
 ghost use Rattle.flt_values.specs.Slices.{sliced};
 
-use flt_parse::{Function, RangePart};
+use flt_syntax::{Function, RangePart};
 use flt_values::{Extreme, call, extreme_of, masked, slice};
 use pk_base::NoMemory;
 use pk_tree::Value;

@@ -4,7 +4,7 @@ ghost use Rattle.std.specs.List.{filter_map, zip};
 ghost use Rattle.flt_lists.specs.Pairs.{values_calculated};
 ghost use Rattle.flt_values.specs.Arithmetic.{calculated};
 
-use flt_parse::Arithmetic;
+use flt_syntax::Arithmetic;
 use flt_values::calculate;
 use pk_base::NoMemory;
 use pk_tree::Value;

@@ -5,8 +5,8 @@ ghost use Rattle.flt_lists.specs.Passes.{is_some_value, passes};
 ghost use Rattle.flt_lists.specs.Questions.{is_matched, is_so};
 
 use crate::question::{Question, is_so};
-use flt_parse::Choice;
 use flt_pattern::Search;
+use flt_syntax::Choice;
 use flt_values::octets_of;
 use pk_tree::Value;
 

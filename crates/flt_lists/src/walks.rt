@@ -10,7 +10,7 @@ ghost use Rattle.std.specs.List.{list_any, list_all};
 
 use crate::quantify::passes;
 use crate::question::{Question, is_so};
-use flt_parse::Choice;
+use flt_syntax::Choice;
 use pk_base::NoMemory;
 use pk_fields::{FieldId, ValueKind, kind, proto};
 use pk_tree::{Item, Layer, Layers, Tree};

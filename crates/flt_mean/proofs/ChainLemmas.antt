@@ -5,8 +5,8 @@ use Rattle.std.specs.List.{All}
 use Rattle.flt_mean.specs.Chains.{joined_truth, parts, truth_by}
 use Rattle.flt_mean.specs.Meaning.{exactly_one, meaning}
 use Rattle.flt_mean.specs.declared.chain.Right.{Right}
-use Rattle.flt_parse.specs.declared.token.Join.{Join}
-use Rattle.flt_parse.specs.declared.token.Join.TheVariants as joins
+use Rattle.flt_syntax.specs.declared.token.Join.{Join}
+use Rattle.flt_syntax.specs.declared.token.Join.TheVariants as joins
 use Rattle.pk_tree.specs.Trees.{TreeShown}
 
 pub truth_push : (tree : TreeShown) (rs : List Right) (r : Right) (truth : Truth) →

@@ -2,8 +2,8 @@
 use Rattle.std.specs.Prelude.{ℕ, ◌+◌, ◌&&◌, ◌||◌, Bool as Truth, true, false, List, [], ◌∷◌}
 use Rattle.flt_mean.specs.Meaning.{exactly_one, meaning}
 use Rattle.flt_mean.specs.declared.chain.Right.{Right}
-use Rattle.flt_parse.specs.declared.token.Join.{Join}
-use Rattle.flt_parse.specs.declared.token.Join.TheVariants as joins
+use Rattle.flt_syntax.specs.declared.token.Join.{Join}
+use Rattle.flt_syntax.specs.declared.token.Join.TheVariants as joins
 use Rattle.flt_types.specs.declared.typed.Typed.{Typed}
 use Rattle.flt_types.specs.declared.typed.Typed.TheVariants.{Either', Differ', Both', Not'}
 use Rattle.pk_tree.specs.Trees.{TreeShown}

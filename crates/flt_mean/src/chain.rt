@@ -5,7 +5,7 @@ ghost use Rattle.flt_mean.specs.Chains.{is_single, joined_truth, parts};
 ghost use Rattle.flt_mean.specs.Meaning.{meaning};
 ghost use Rattle.pk_tree.specs.Trees.{TreeShown};
 
-use flt_parse::Join;
+use flt_syntax::Join;
 use flt_types::Typed;
 use pk_base::NoMemory;
 use std::alloc::Global;

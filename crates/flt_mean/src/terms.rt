@@ -5,7 +5,7 @@ ghost use Rattle.flt_mean.specs.Terms.{is_part, terms_behind, terms_in, values_j
 ghost use Rattle.flt_mean.specs.Values.{values_of_term};
 ghost use Rattle.pk_tree.specs.Trees.{TreeShown};
 
-use flt_parse::Arithmetic;
+use flt_syntax::Arithmetic;
 use flt_types::Term;
 use pk_base::NoMemory;
 use std::alloc::Global;

@@ -3,27 +3,27 @@ use Rattle.std.proofs.Common.{◌≡◌, ℕ, ◌+◌, ◌<◌, ◌≤◌, max, 
 use Rattle.std.proofs.lemmas.Bool.{lt-ltb, le-leb}
 use Rattle.std.proofs.lemmas.Bool.Decides.{nat_tests}
 use Rattle.std.proofs.lemmas.List.{append-nil}
-use Rattle.flt_parse.specs.Grammar.{IsFilter, IsGrouped, IsOperand, IsTail, IsTestOperand, arguments, binds, binds_arithmetic, calls, calls_behind, depth, element, last_layer, more_elements, more_layers, more_ranges, operand, part, place, range, ranges, sign_of_place, spelled, strength, sum, tail, takes_mask, takes_more, takes_operator, takes_slice, tightness, unary}
+use Rattle.flt_syntax.specs.Grammar.{IsFilter, IsGrouped, IsOperand, IsTail, IsTestOperand, arguments, binds, binds_arithmetic, calls, calls_behind, depth, element, last_layer, more_elements, more_layers, more_ranges, operand, part, place, range, ranges, sign_of_place, spelled, strength, sum, tail, takes_mask, takes_more, takes_operator, takes_slice, tightness, unary}
 use Rattle.flt_parse.specs.Parser.Reading.{Left, LeftOf, Frame, Waiting, WaitingFor, Link, Comma, Sign, Call, Side, OnLeft, OnRight, LayerWanted, RangeSpot, RangeWanted, PlaceRead, ColonRead, EndWanted, PartRead, Spot, OperandWanted, OperandRead, InLayers, InRanges, ElementWanted, InSet, State, Want, Have, InOperand, InTail, Go, Stop, Answer, Whole, Bad, binds_link, ended, have, linked, no_frame, operand_end, open_around, open_at, read, settle, side_end, start, step, then_go, wait, whole_operand, with_part}
-use Rattle.flt_parse.specs.Written.{Written, WrittenOperand, WrittenTail, TextOf, NamedOf, OnLayerOf, OnLayersOf, SlicedOf, MaskedOf, CalledOf, ComputedOf, ArgumentsOf, CompareOf, InOf, MatchesOf, JoinedOf, NotOf, GroupOf, AloneOf, TestOf}
-use Rattle.flt_parse.specs.declared.ast.Choice.{Choice}
-use Rattle.flt_parse.specs.declared.ast.Element.{Element}
-use Rattle.flt_parse.specs.declared.ast.Element.TheVariants as elements
-use Rattle.flt_parse.specs.declared.ast.Function.{Function}
-use Rattle.flt_parse.specs.declared.ast.LayerRange.{LayerRange}
-use Rattle.flt_parse.specs.declared.ast.Literal.TheVariants as literals
-use Rattle.flt_parse.specs.declared.ast.Negation.{Negation}
-use Rattle.flt_parse.specs.declared.ast.Operator.{Operator}
-use Rattle.flt_parse.specs.declared.ast.Place.{Place}
-use Rattle.flt_parse.specs.declared.ast.RangePart.{RangePart}
-use Rattle.flt_parse.specs.declared.ast.RangePart.TheVariants as parts
-use Rattle.flt_parse.specs.declared.ast.SliceRange.{SliceRange}
-use Rattle.flt_parse.specs.declared.token.Join.{Join}
-use Rattle.flt_parse.specs.declared.token.Join.TheVariants as joins
-use Rattle.flt_parse.specs.declared.token.Kind.{Kind}
-use Rattle.flt_parse.specs.declared.token.Kind.TheVariants as kinds
-use Rattle.flt_parse.specs.declared.fault.FilterReason.TheVariants.{Unexpected}
-use Rattle.flt_parse.specs.declared.word.Word.{Word}
+use Rattle.flt_syntax.specs.Written.{Written, WrittenOperand, WrittenTail, TextOf, NamedOf, OnLayerOf, OnLayersOf, SlicedOf, MaskedOf, CalledOf, ComputedOf, ArgumentsOf, CompareOf, InOf, MatchesOf, JoinedOf, NotOf, GroupOf, AloneOf, TestOf}
+use Rattle.flt_syntax.specs.declared.ast.Choice.{Choice}
+use Rattle.flt_syntax.specs.declared.ast.Element.{Element}
+use Rattle.flt_syntax.specs.declared.ast.Element.TheVariants as elements
+use Rattle.flt_syntax.specs.declared.ast.Function.{Function}
+use Rattle.flt_syntax.specs.declared.ast.LayerRange.{LayerRange}
+use Rattle.flt_syntax.specs.declared.ast.Literal.TheVariants as literals
+use Rattle.flt_syntax.specs.declared.ast.Negation.{Negation}
+use Rattle.flt_syntax.specs.declared.ast.Operator.{Operator}
+use Rattle.flt_syntax.specs.declared.ast.Place.{Place}
+use Rattle.flt_syntax.specs.declared.ast.RangePart.{RangePart}
+use Rattle.flt_syntax.specs.declared.ast.RangePart.TheVariants as parts
+use Rattle.flt_syntax.specs.declared.ast.SliceRange.{SliceRange}
+use Rattle.flt_syntax.specs.declared.token.Join.{Join}
+use Rattle.flt_syntax.specs.declared.token.Join.TheVariants as joins
+use Rattle.flt_syntax.specs.declared.token.Kind.{Kind}
+use Rattle.flt_syntax.specs.declared.token.Kind.TheVariants as kinds
+use Rattle.flt_syntax.specs.declared.fault.FilterReason.TheVariants.{Unexpected}
+use Rattle.flt_syntax.specs.declared.word.Word.{Word}
 use Rattle.flt_parse.proofs.Linked.{comma_least, link_below, none_small}
 use Rattle.flt_parse.proofs.Printed.{IsUnder, least_of, link_kind}
 

@@ -1,24 +1,24 @@
 -- Texts whose tokens are computed.
 use Rattle.std.proofs.Common.{◌≡◌, ℕ, List, [], ◌∷◌, codes, Some, None, true, false, Ok, Err, Result, refl}
-use Rattle.flt_parse.specs.Filters.{kinds_of}
-use Rattle.flt_parse.specs.Grammar.{spelled}
-use Rattle.flt_parse.specs.Tokens.{tokens_of}
-use Rattle.flt_parse.specs.Written.{NamedOf, OnLayersOf, SlicedOf, MaskedOf, CalledOf, ComputedOf, ArgumentsOf, CompareOf, InOf, MatchesOf, JoinedOf, NotOf, GroupOf, AloneOf, TestOf}
-use Rattle.flt_parse.specs.declared.ast.Arithmetic.TheVariants as arithmetic
-use Rattle.flt_parse.specs.declared.ast.Choice.TheVariants as choices
-use Rattle.flt_parse.specs.declared.ast.Element.TheVariants as elements
-use Rattle.flt_parse.specs.declared.ast.Function.TheVariants.{Len, Max}
-use Rattle.flt_parse.specs.declared.ast.Literal.TheVariants as literals
-use Rattle.flt_parse.specs.declared.ast.Negation.TheVariants as negations
-use Rattle.flt_parse.specs.declared.ast.Operator.TheVariants as operators
-use Rattle.flt_parse.specs.declared.ast.RangePart.TheVariants as parts
-use Rattle.flt_parse.specs.declared.fault.FilterFault.{FilterFault}
-use Rattle.flt_parse.specs.declared.fault.FilterReason.{FilterReason}
-use Rattle.flt_parse.specs.declared.fault.FilterReason.TheVariants.{BadChar, BadString}
-use Rattle.flt_parse.specs.declared.token.Join.TheVariants as joins
-use Rattle.flt_parse.specs.declared.token.Kind.{Kind}
-use Rattle.flt_parse.specs.declared.token.Token.{Token}
-use Rattle.flt_parse.specs.declared.word.Word.{Word}
+use Rattle.flt_syntax.specs.Filters.{kinds_of}
+use Rattle.flt_syntax.specs.Grammar.{spelled}
+use Rattle.flt_syntax.specs.Tokens.{tokens_of}
+use Rattle.flt_syntax.specs.Written.{NamedOf, OnLayersOf, SlicedOf, MaskedOf, CalledOf, ComputedOf, ArgumentsOf, CompareOf, InOf, MatchesOf, JoinedOf, NotOf, GroupOf, AloneOf, TestOf}
+use Rattle.flt_syntax.specs.declared.ast.Arithmetic.TheVariants as arithmetic
+use Rattle.flt_syntax.specs.declared.ast.Choice.TheVariants as choices
+use Rattle.flt_syntax.specs.declared.ast.Element.TheVariants as elements
+use Rattle.flt_syntax.specs.declared.ast.Function.TheVariants.{Len, Max}
+use Rattle.flt_syntax.specs.declared.ast.Literal.TheVariants as literals
+use Rattle.flt_syntax.specs.declared.ast.Negation.TheVariants as negations
+use Rattle.flt_syntax.specs.declared.ast.Operator.TheVariants as operators
+use Rattle.flt_syntax.specs.declared.ast.RangePart.TheVariants as parts
+use Rattle.flt_syntax.specs.declared.fault.FilterFault.{FilterFault}
+use Rattle.flt_syntax.specs.declared.fault.FilterReason.{FilterReason}
+use Rattle.flt_syntax.specs.declared.fault.FilterReason.TheVariants.{BadChar, BadString}
+use Rattle.flt_syntax.specs.declared.token.Join.TheVariants as joins
+use Rattle.flt_syntax.specs.declared.token.Kind.{Kind}
+use Rattle.flt_syntax.specs.declared.token.Token.{Token}
+use Rattle.flt_syntax.specs.declared.word.Word.{Word}
 
 abbrev kinds_read : Result (List Token) FilterFault → List Kind
 kinds_read (Ok ts) = kinds_of ts

@@ -1,16 +1,16 @@
 -- No text is a filter and has a fault; the first fault is the only one.
 use Rattle.std.proofs.Common.{◌≡◌, ℕ, ◌<◌, List, [], ◌∷◌, ◌++◌, length, append_assoc, arith, sym, ap, ◌∙◌, refl, subst}
 use Rattle.std.proofs.lemmas.List.{append-nil}
-use Rattle.flt_parse.specs.Filters.{IsFilterText, IsFaultFor, IsLexicalFault, IsSyntaxFault, IsFault, BeginsFilter, kinds_of, place_of, most_bytes, most_open}
+use Rattle.flt_syntax.specs.Filters.{IsFilterText, IsFaultFor, IsLexicalFault, IsSyntaxFault, IsFault, BeginsFilter, kinds_of, place_of, most_bytes, most_open}
 use Rattle.flt_parse.proofs.Complete.{one_tree}
-use Rattle.flt_parse.specs.Grammar.{IsFilter}
+use Rattle.flt_syntax.specs.Grammar.{IsFilter}
 use Rattle.flt_parse.specs.Laws.{NeverBoth, OneFault, OneFilter}
-use Rattle.flt_parse.specs.Written.{Written}
-use Rattle.flt_parse.specs.declared.fault.FilterFault.{FilterFault}
-use Rattle.flt_parse.specs.declared.fault.FilterReason.{FilterReason}
-use Rattle.flt_parse.specs.declared.fault.FilterReason.TheVariants.{BadChar, BadString, Unexpected, TooLong, TooDeep}
-use Rattle.flt_parse.specs.declared.token.Kind.{Kind}
-use Rattle.flt_parse.specs.declared.token.Token.{Token}
+use Rattle.flt_syntax.specs.Written.{Written}
+use Rattle.flt_syntax.specs.declared.fault.FilterFault.{FilterFault}
+use Rattle.flt_syntax.specs.declared.fault.FilterReason.{FilterReason}
+use Rattle.flt_syntax.specs.declared.fault.FilterReason.TheVariants.{BadChar, BadString, Unexpected, TooLong, TooDeep}
+use Rattle.flt_syntax.specs.declared.token.Kind.{Kind}
+use Rattle.flt_syntax.specs.declared.token.Token.{Token}
 
 kinds_joined : (ts us : List Token) → kinds_of (ts ++ us) ≡ kinds_of ts ++ kinds_of us
 kinds_joined [] us = refl

@@ -3,8 +3,8 @@ use Rattle.std.proofs.Common.{◌≡◌, ℕ, ◌≤◌, Bool, true, false, nat_
 use Rattle.std.specs.List.{find, starts_with}
 use Rattle.std.specs.Prelude.{IfSome}
 use Rattle.std.proofs.lemmas.Slice.Eq.{bytes_eq-Decides}
-use Rattle.flt_parse.specs.Tokens.{all_signs, first_sign, sign_text}
-use Rattle.flt_parse.specs.declared.token.Sign.{Sign}
+use Rattle.flt_syntax.specs.Tokens.{all_signs, first_sign, sign_text}
+use Rattle.flt_syntax.specs.declared.token.Sign.{Sign}
 
 front_fits : (text needle : List ℕ) → starts_with nat_eq text needle ≡ true → length needle ≤ length text
 front_fits text needle e =

@@ -2,16 +2,16 @@
 use Rattle.std.proofs.Common.{◌≡◌, ℕ, zero, suc, ◌+◌, ◌-◌, ◌<◌, true, false, List, [], ◌∷◌, ◌++◌, length, drop, get_or, Result, Ok, Err, add-zero, add-one, append_assoc, arith, sym, ap, ◌∙◌, refl}
 use Rattle.std.proofs.lemmas.List.{drop-drop}
 use Rattle.std.proofs.Math.Seq.{drop-cons}
-use Rattle.flt_parse.specs.Letters.{is_blank}
-use Rattle.flt_parse.specs.Tokens.{IsTokenError, IsTokensError, before, mode_behind, then_read, token_at, tokens_from, tokens_of}
-use Rattle.flt_parse.specs.declared.fault.FilterError.{FilterError}
-use Rattle.flt_parse.specs.declared.fault.FilterError.TheVariants.{Fault, NoMemory}
-use Rattle.flt_parse.specs.declared.fault.FilterFault.{FilterFault}
-use Rattle.flt_parse.specs.declared.fault.FilterReason.{FilterReason}
-use Rattle.flt_parse.specs.declared.token.Lexeme.{Lexeme}
-use Rattle.flt_parse.specs.declared.token.Mode.{Mode}
-use Rattle.flt_parse.specs.declared.token.Mode.TheVariants.{Plain}
-use Rattle.flt_parse.specs.declared.token.Token.{Token}
+use Rattle.flt_syntax.specs.Letters.{is_blank}
+use Rattle.flt_syntax.specs.Tokens.{IsTokenError, IsTokensError, before, mode_behind, then_read, token_at, tokens_from, tokens_of}
+use Rattle.flt_syntax.specs.declared.fault.FilterError.{FilterError}
+use Rattle.flt_syntax.specs.declared.fault.FilterError.TheVariants.{Fault, NoMemory}
+use Rattle.flt_syntax.specs.declared.fault.FilterFault.{FilterFault}
+use Rattle.flt_syntax.specs.declared.fault.FilterReason.{FilterReason}
+use Rattle.flt_syntax.specs.declared.token.Lexeme.{Lexeme}
+use Rattle.flt_syntax.specs.declared.token.Mode.{Mode}
+use Rattle.flt_syntax.specs.declared.token.Mode.TheVariants.{Plain}
+use Rattle.flt_syntax.specs.declared.token.Token.{Token}
 
 abbrev pub Read : Type 0
 Read = Result (List Token) FilterFault

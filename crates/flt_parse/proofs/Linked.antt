@@ -2,13 +2,13 @@
 use Rattle.std.proofs.Common.{◌≡◌, ℕ, ◌+◌, ◌<◌, ◌≤◌, max, Bool, true, false, List, [], ◌∷◌, ◌++◌, cond, leb, append_assoc, arith, sym, ap, ◌∙◌, refl, subst}
 use Rattle.std.proofs.lemmas.Bool.{leb-true}
 use Rattle.std.proofs.lemmas.Bool.Decides.{nat_tests}
-use Rattle.flt_parse.specs.Grammar.{IsOperand, arguments, binds_arithmetic, calls, least_in, operand, part, sum, takes_more, tightness}
+use Rattle.flt_syntax.specs.Grammar.{IsOperand, arguments, binds_arithmetic, calls, least_in, operand, part, sum, takes_more, tightness}
 use Rattle.flt_parse.specs.Parser.Reading.{Call, Waiting, WaitingFor, Link, Comma, Sign, all_linked, binds_link, linked, wait}
-use Rattle.flt_parse.specs.Written.{WrittenOperand}
-use Rattle.flt_parse.specs.declared.ast.Arithmetic.{Arithmetic}
-use Rattle.flt_parse.specs.declared.ast.Arithmetic.TheVariants as arithmetic
-use Rattle.flt_parse.specs.declared.ast.Function.{Function}
-use Rattle.flt_parse.specs.declared.token.Kind.{Kind}
+use Rattle.flt_syntax.specs.Written.{WrittenOperand}
+use Rattle.flt_syntax.specs.declared.ast.Arithmetic.{Arithmetic}
+use Rattle.flt_syntax.specs.declared.ast.Arithmetic.TheVariants as arithmetic
+use Rattle.flt_syntax.specs.declared.ast.Function.{Function}
+use Rattle.flt_syntax.specs.declared.token.Kind.{Kind}
 use Rattle.flt_parse.proofs.Printed.{IsUnder, IsWaiting, least_of, link_kind, print_waiting}
 
 pub false_less : (m n : ℕ) → leb m n ≡ false → n < m

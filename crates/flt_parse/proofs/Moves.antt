@@ -1,24 +1,24 @@
 -- Moves of the reading, as the parser comes to them.
 use Rattle.std.proofs.Common.{◌≡◌, ℕ, ◌+◌, ◌==◌, true, false, List, [], ◌∷◌, ◌++◌, length, Option, Some, None, Result, Err, ltb, zero-add, sym, ap, ◌∙◌, refl, subst}
-use Rattle.flt_parse.specs.Grammar.{takes_mask, takes_more, takes_slice, is_open}
+use Rattle.flt_syntax.specs.Grammar.{takes_mask, takes_more, takes_slice, is_open}
 use Rattle.flt_parse.specs.Parser.Reading.{Frame, Waiting, Call, Comma, Side, OnLeft, OnRight, Spot, OperandWanted, OperandRead, LayersWanted, InLayers, InRanges, MaskWanted, TailSpot, InOperand, InTail, Move, Go, Stop, LayerSpot, RangeSpot, RangeWanted, behind_hash, call_end, have, left_end, operand_end, operand_move, operand_step, tail_move, wait, whole_have, whole_operand}
 use Rattle.flt_parse.specs.Parser.Answers.{further, goes_on, operand_read}
 use Rattle.flt_parse.specs.Parser.States.{IsMove, IsSpot, IsTailMove, IsWhole, around_of, calls_of}
-use Rattle.flt_parse.specs.Written.{Written, WrittenOperand, WrittenTail, TestOf}
-use Rattle.flt_parse.specs.declared.ast.Ast.{Ast}
-use Rattle.flt_parse.specs.declared.ast.Choice.{Choice}
-use Rattle.flt_parse.specs.declared.ast.LayerRange.{LayerRange}
-use Rattle.flt_parse.specs.declared.ast.Operator.{Operator}
-use Rattle.flt_parse.specs.declared.ast.SliceRange.{SliceRange}
-use Rattle.flt_parse.specs.declared.fault.FilterReason.TheVariants.{Unexpected}
+use Rattle.flt_syntax.specs.Written.{Written, WrittenOperand, WrittenTail, TestOf}
+use Rattle.flt_syntax.specs.declared.ast.Ast.{Ast}
+use Rattle.flt_syntax.specs.declared.ast.Choice.{Choice}
+use Rattle.flt_syntax.specs.declared.ast.LayerRange.{LayerRange}
+use Rattle.flt_syntax.specs.declared.ast.Operator.{Operator}
+use Rattle.flt_syntax.specs.declared.ast.SliceRange.{SliceRange}
+use Rattle.flt_syntax.specs.declared.fault.FilterReason.TheVariants.{Unexpected}
 use Rattle.flt_parse.specs.declared.state.Call.{Call as Called}
 use Rattle.flt_parse.specs.declared.state.Frame.{Frame as Framed}
 use Rattle.flt_parse.specs.declared.state.Refusal.{Refusal}
 use Rattle.flt_parse.specs.declared.state.Refusal.TheVariants.{Fault, NoMemory}
 use Rattle.flt_parse.specs.declared.state.State.{State as Stated}
-use Rattle.flt_parse.specs.declared.token.Kind.{Kind}
-use Rattle.flt_parse.specs.declared.token.Kind.TheVariants as kinds
-use Rattle.flt_parse.specs.declared.word.Word.{Word}
+use Rattle.flt_syntax.specs.declared.token.Kind.{Kind}
+use Rattle.flt_syntax.specs.declared.token.Kind.TheVariants as kinds
+use Rattle.flt_syntax.specs.declared.word.Word.{Word}
 
 abbrev pub Answered : Type 0
 Answered = Result Stated Refusal

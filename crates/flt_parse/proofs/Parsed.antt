@@ -1,30 +1,30 @@
 -- What the parser answers, in the words of the grammar.
 use Rattle.std.proofs.Common.{◌≡◌, ℕ, zero, suc, ◌+◌, ◌-◌, ◌<◌, ◌≤◌, ◌==◌, Bool, true, false, cond, drop, List, [], ◌∷◌, length, Option, Some, None, Result, Ok, Err, sym, ap, ◌∙◌, refl, subst}
 use Rattle.std.specs.Char.{is_ascii_digit}
-use Rattle.flt_parse.specs.Filters.{IsFault, IsFaultFor, IsFilterText, IsLexicalFault, IsSyntaxFault, IsRefusal, kinds_of, most_bytes, most_open}
-use Rattle.flt_parse.specs.Grammar.{IsFilter}
+use Rattle.flt_syntax.specs.Filters.{IsFault, IsFaultFor, IsFilterText, IsLexicalFault, IsSyntaxFault, IsRefusal, kinds_of, most_bytes, most_open}
+use Rattle.flt_syntax.specs.Grammar.{IsFilter}
 use Rattle.flt_parse.specs.Parser.Reading.{State, Go, Answer, Whole, Bad, ended, start, step, then_go, whole}
 use Rattle.flt_parse.specs.Parser.Answers.{IsParseError, IsReadError, refused, tokens_read}
 use Rattle.flt_parse.specs.Parser.States.{IsMove, IsWhole}
-use Rattle.flt_parse.specs.Letters.{is_blank}
-use Rattle.flt_parse.specs.Strings.{raw_inside, string_inside}
-use Rattle.flt_parse.specs.Tokens.{IsTokensError, before, bracket_token, digits_lexeme, first_sign, lexeme, mode_behind, next_place, plain_token, sign_lexeme, text_lexeme, then_read, token_at, tokens_from, tokens_of}
-use Rattle.flt_parse.specs.Written.{Written, written}
-use Rattle.flt_parse.specs.declared.ast.Ast.{Ast}
-use Rattle.flt_parse.specs.declared.fault.FilterError.{FilterError}
-use Rattle.flt_parse.specs.declared.fault.FilterError.TheVariants as errors
-use Rattle.flt_parse.specs.declared.fault.FilterFault.{FilterFault}
-use Rattle.flt_parse.specs.declared.fault.FilterReason.{FilterReason}
-use Rattle.flt_parse.specs.declared.fault.FilterReason.TheVariants.{BadChar, BadString, Unexpected, TooLong, TooDeep}
+use Rattle.flt_syntax.specs.Letters.{is_blank}
+use Rattle.flt_syntax.specs.Strings.{raw_inside, string_inside}
+use Rattle.flt_syntax.specs.Tokens.{IsTokensError, before, bracket_token, digits_lexeme, first_sign, lexeme, mode_behind, next_place, plain_token, sign_lexeme, text_lexeme, then_read, token_at, tokens_from, tokens_of}
+use Rattle.flt_syntax.specs.Written.{Written, written}
+use Rattle.flt_syntax.specs.declared.ast.Ast.{Ast}
+use Rattle.flt_syntax.specs.declared.fault.FilterError.{FilterError}
+use Rattle.flt_syntax.specs.declared.fault.FilterError.TheVariants as errors
+use Rattle.flt_syntax.specs.declared.fault.FilterFault.{FilterFault}
+use Rattle.flt_syntax.specs.declared.fault.FilterReason.{FilterReason}
+use Rattle.flt_syntax.specs.declared.fault.FilterReason.TheVariants.{BadChar, BadString, Unexpected, TooLong, TooDeep}
 use Rattle.flt_parse.specs.declared.state.Refusal.{Refusal}
 use Rattle.flt_parse.specs.declared.state.Refusal.TheVariants.{Fault, NoMemory}
-use Rattle.flt_parse.specs.declared.token.Kind.{Kind}
-use Rattle.flt_parse.specs.declared.token.Kind.TheVariants as kinds
-use Rattle.flt_parse.specs.declared.token.Lexeme.{Lexeme}
-use Rattle.flt_parse.specs.declared.token.Mode.{Mode}
-use Rattle.flt_parse.specs.declared.token.Mode.TheVariants.{Plain, BehindHash, InBrackets}
-use Rattle.flt_parse.specs.declared.token.Sign.{Sign}
-use Rattle.flt_parse.specs.declared.token.Token.{Token}
+use Rattle.flt_syntax.specs.declared.token.Kind.{Kind}
+use Rattle.flt_syntax.specs.declared.token.Kind.TheVariants as kinds
+use Rattle.flt_syntax.specs.declared.token.Lexeme.{Lexeme}
+use Rattle.flt_syntax.specs.declared.token.Mode.{Mode}
+use Rattle.flt_syntax.specs.declared.token.Mode.TheVariants.{Plain, BehindHash, InBrackets}
+use Rattle.flt_syntax.specs.declared.token.Sign.{Sign}
+use Rattle.flt_syntax.specs.declared.token.Token.{Token}
 use Rattle.flt_parse.proofs.Stops.{read_fault, read_filter}
 
 pub read_on : (s next : State) (t : Token) (ts : List Token) → step most_open s t.kind ≡ Go next → tokens_read most_open s (t ∷ ts) ≡ tokens_read most_open next ts

@@ -1,14 +1,14 @@
 -- The tokens that lead to a state of the reading, and what holds of every state that is reached.
 use Rattle.std.proofs.Common.{◌≡◌, ℕ, ◌+◌, ◌<◌, ◌≤◌, true, List, [], ◌∷◌, ◌++◌, length, append_assoc, sym, ap, ◌∙◌, refl}
-use Rattle.flt_parse.specs.Grammar.{IsFilled, IsGrouped, IsOperand, IsTestOperand, binds, calls, choice, depth, element, layer_range, layers, least_in, literal, more_elements, more_layers, more_ranges, not_before, operand, part, place, range, ranges, set, spelled, strength, sum, takes_mask, takes_operator, takes_slice, tightness, unary}
+use Rattle.flt_syntax.specs.Grammar.{IsFilled, IsGrouped, IsOperand, IsTestOperand, binds, calls, choice, depth, element, layer_range, layers, least_in, literal, more_elements, more_layers, more_ranges, not_before, operand, part, place, range, ranges, set, spelled, strength, sum, takes_mask, takes_operator, takes_slice, tightness, unary}
 use Rattle.flt_parse.specs.Parser.Reading.{Left, LeftOf, Frame, Waiting, WaitingFor, Link, Comma, Sign, Call, Side, OnLeft, OnRight, LayerSpot, LayerWanted, FirstRead, LastWanted, LastRead, RangeSpot, RangeWanted, DigitsWanted, PlaceRead, ColonRead, EndWanted, EndDigitsWanted, CountWanted, PartRead, Spot, OperandWanted, OperandRead, LayersWanted, InLayers, InRanges, MaskWanted, ElementSpot, ElementWanted, LiteralRead, SecondWanted, SecondRead, TailSpot, InWanted, SetWanted, InSet, PatternWanted, State, Want, Have, InOperand, InTail, binds_link, open_around, open_at}
-use Rattle.flt_parse.specs.declared.ast.Element.{Element}
-use Rattle.flt_parse.specs.declared.ast.LayerRange.{LayerRange}
-use Rattle.flt_parse.specs.declared.ast.Negation.{Negation}
-use Rattle.flt_parse.specs.declared.ast.Negation.TheVariants as negations
-use Rattle.flt_parse.specs.declared.ast.SliceRange.{SliceRange}
-use Rattle.flt_parse.specs.declared.token.Kind.{Kind}
-use Rattle.flt_parse.specs.declared.token.Kind.TheVariants as kinds
+use Rattle.flt_syntax.specs.declared.ast.Element.{Element}
+use Rattle.flt_syntax.specs.declared.ast.LayerRange.{LayerRange}
+use Rattle.flt_syntax.specs.declared.ast.Negation.{Negation}
+use Rattle.flt_syntax.specs.declared.ast.Negation.TheVariants as negations
+use Rattle.flt_syntax.specs.declared.ast.SliceRange.{SliceRange}
+use Rattle.flt_syntax.specs.declared.token.Kind.{Kind}
+use Rattle.flt_syntax.specs.declared.token.Kind.TheVariants as kinds
 
 abbrev pub print_lefts : List Left → List Kind
 print_lefts [] = []

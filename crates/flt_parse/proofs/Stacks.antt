@@ -2,15 +2,15 @@
 use Rattle.std.proofs.Common.{◌≡◌, ℕ, suc, ◌+◌, ◌-◌, ◌<◌, ◌≤◌, true, false, List, [], ◌∷◌, ◌++◌, take, drop, get_or, length, length-append, ltb, leb, arith, sym, ap, ◌∙◌, refl, subst}
 use Rattle.std.proofs.Math.Seq.{take-length}
 use Rattle.std.proofs.lemmas.Bool.Decides.{nat_tests}
-use Rattle.flt_parse.specs.Grammar.{binds}
+use Rattle.flt_syntax.specs.Grammar.{binds}
 use Rattle.flt_parse.specs.Parser.Reading as reading
 use Rattle.flt_parse.specs.Parser.States.{around_of, frame_of, left_of, reversed, waiting_of}
-use Rattle.flt_parse.specs.Written.{Written, WrittenOperand, JoinedOf, operand_of, written}
+use Rattle.flt_syntax.specs.Written.{Written, WrittenOperand, JoinedOf, operand_of, written}
 use Rattle.flt_parse.specs.declared.state.Frame.{Frame}
 use Rattle.flt_parse.specs.declared.state.Left.{Left}
 use Rattle.flt_parse.specs.declared.state.Link.{Link}
 use Rattle.flt_parse.specs.declared.state.Waiting.{Waiting}
-use Rattle.flt_parse.specs.declared.token.Join.{Join}
+use Rattle.flt_syntax.specs.declared.token.Join.{Join}
 
 pub reversed_push : {A B : Type 0} (f : A → B) (xs : List A) (x : A) → reversed f (xs ++ x ∷ []) ≡ f x ∷ reversed f xs
 reversed_push f [] x = refl

@@ -2,25 +2,25 @@
 use Rattle.std.proofs.Common.{◌≡◌, ℕ, ◌+◌, ◌<◌, ◌≤◌, Bool, true, List, [], ◌∷◌, ◌++◌, length, Option, Some, None, ltb, leb, append_assoc, arith, sym, ap, ◌∙◌, refl, subst}
 use Rattle.std.proofs.lemmas.Bool.{ltb-true, leb-true}
 use Rattle.std.proofs.lemmas.List.{append-nil}
-use Rattle.flt_parse.specs.Grammar.{IsFilter, IsGrouped, IsOperand, IsTail, IsTestOperand, binds, calls, calls_behind, choice, depth, element, layer_range, literal, not_before, operand, range, spelled, strength, tail, takes_mask, takes_more, takes_operator, takes_slice, tightness, unary}
+use Rattle.flt_syntax.specs.Grammar.{IsFilter, IsGrouped, IsOperand, IsTail, IsTestOperand, binds, calls, calls_behind, choice, depth, element, layer_range, literal, not_before, operand, range, spelled, strength, tail, takes_mask, takes_more, takes_operator, takes_slice, tightness, unary}
 use Rattle.flt_parse.specs.Parser.Reading.{Left, LeftOf, Frame, Waiting, Link, Comma, Sign, Call, Side, OnLeft, OnRight, LayerSpot, LayerWanted, FirstRead, LastWanted, LastRead, RangeSpot, RangeWanted, DigitsWanted, PlaceRead, ColonRead, EndWanted, EndDigitsWanted, CountWanted, PartRead, Spot, OperandWanted, OperandRead, LayersWanted, InLayers, InRanges, MaskWanted, ElementSpot, ElementWanted, LiteralRead, SecondWanted, SecondRead, TailSpot, InWanted, SetWanted, InSet, PatternWanted, State, Want, Have, InOperand, InTail, Move, Go, Stop, all_linked, begin, binds_link, behind, behind_hash, call_begin, call_end, closing, have, joined, layers_end, layers_step, left_alone, left_end, literal_step, negated, no_frame, not_before_in, open_around, open_at, operand_end, operand_move, operand_step, otherwise, ranges_end, ranges_step, set_done, set_step, settle, side_end, step, tail_done, tail_move, tail_step, wait, whole, whole_have, whole_operand, whole_test}
-use Rattle.flt_parse.specs.Written.{Written, WrittenOperand, WrittenTail, NamedOf, CompareOf, JoinedOf, NotOf, GroupOf, AloneOf, TestOf}
-use Rattle.flt_parse.specs.declared.ast.Choice.{Choice}
-use Rattle.flt_parse.specs.declared.ast.Element.{Element}
-use Rattle.flt_parse.specs.declared.ast.Element.TheVariants as elements
-use Rattle.flt_parse.specs.declared.ast.LayerRange.{LayerRange}
-use Rattle.flt_parse.specs.declared.ast.Literal.{Literal}
-use Rattle.flt_parse.specs.declared.ast.Literal.TheVariants as literals
-use Rattle.flt_parse.specs.declared.ast.Negation.{Negation}
-use Rattle.flt_parse.specs.declared.ast.Negation.TheVariants as negations
-use Rattle.flt_parse.specs.declared.ast.RangePart.TheVariants as parts
-use Rattle.flt_parse.specs.declared.ast.SliceRange.{SliceRange}
-use Rattle.flt_parse.specs.declared.fault.FilterReason.TheVariants.{Unexpected, TooDeep}
-use Rattle.flt_parse.specs.declared.token.Join.{Join}
-use Rattle.flt_parse.specs.declared.token.Join.TheVariants as joins
-use Rattle.flt_parse.specs.declared.token.Kind.{Kind}
-use Rattle.flt_parse.specs.declared.token.Kind.TheVariants as kinds
-use Rattle.flt_parse.specs.declared.word.Word.{Word}
+use Rattle.flt_syntax.specs.Written.{Written, WrittenOperand, WrittenTail, NamedOf, CompareOf, JoinedOf, NotOf, GroupOf, AloneOf, TestOf}
+use Rattle.flt_syntax.specs.declared.ast.Choice.{Choice}
+use Rattle.flt_syntax.specs.declared.ast.Element.{Element}
+use Rattle.flt_syntax.specs.declared.ast.Element.TheVariants as elements
+use Rattle.flt_syntax.specs.declared.ast.LayerRange.{LayerRange}
+use Rattle.flt_syntax.specs.declared.ast.Literal.{Literal}
+use Rattle.flt_syntax.specs.declared.ast.Literal.TheVariants as literals
+use Rattle.flt_syntax.specs.declared.ast.Negation.{Negation}
+use Rattle.flt_syntax.specs.declared.ast.Negation.TheVariants as negations
+use Rattle.flt_syntax.specs.declared.ast.RangePart.TheVariants as parts
+use Rattle.flt_syntax.specs.declared.ast.SliceRange.{SliceRange}
+use Rattle.flt_syntax.specs.declared.fault.FilterReason.TheVariants.{Unexpected, TooDeep}
+use Rattle.flt_syntax.specs.declared.token.Join.{Join}
+use Rattle.flt_syntax.specs.declared.token.Join.TheVariants as joins
+use Rattle.flt_syntax.specs.declared.token.Kind.{Kind}
+use Rattle.flt_syntax.specs.declared.token.Kind.TheVariants as kinds
+use Rattle.flt_syntax.specs.declared.word.Word.{Word}
 use Rattle.flt_parse.proofs.Linked.{IsLinked, all_linked_good, chosen_by, false_less, least_more, least_sign, least_sum, link_below, under_part, wait_good}
 use Rattle.flt_parse.proofs.Printed.{IsAround, IsBelow, IsFrame, IsGood, IsLefts, IsSpot, filled, least_of, link_kind, layers_before, layers_closed, layers_more, print_around, print_calls, print_frame, print_layer, print_lefts, print_nots, print_range, print_side, print_spot, print_tail, print_waiting, printed, ranges_before, ranges_closed, ranges_more, set_before, set_closed, set_more, spot_calls}
 

@@ -2,15 +2,15 @@
 -- stops stands the first fault.
 use Rattle.std.proofs.Common.{◌≡◌, ℕ, suc, ◌≤◌, ⊎_elim, max, List, [], ◌∷◌, ◌++◌, map, Option, Some, None, append_assoc, arith, sym, ap, ◌∙◌, refl, subst}
 use Rattle.std.proofs.lemmas.List.{append-nil}
-use Rattle.flt_parse.specs.Filters.{BeginsFilter, IsFault, IsTokenFault, kinds_of, most_open, place_of}
-use Rattle.flt_parse.specs.Grammar.{IsFilter}
+use Rattle.flt_syntax.specs.Filters.{BeginsFilter, IsFault, IsTokenFault, kinds_of, most_open, place_of}
+use Rattle.flt_syntax.specs.Grammar.{IsFilter}
 use Rattle.flt_parse.specs.Parser.Reading.{State, Move, Go, Stop, Answer, Whole, Bad, ended, read, start, step, then_go, whole}
-use Rattle.flt_parse.specs.Written.{Written}
-use Rattle.flt_parse.specs.declared.fault.FilterFault.{FilterFault}
-use Rattle.flt_parse.specs.declared.fault.FilterReason.{FilterReason}
-use Rattle.flt_parse.specs.declared.fault.FilterReason.TheVariants.{Unexpected, TooDeep}
-use Rattle.flt_parse.specs.declared.token.Kind.{Kind}
-use Rattle.flt_parse.specs.declared.token.Token.{Token}
+use Rattle.flt_syntax.specs.Written.{Written}
+use Rattle.flt_syntax.specs.declared.fault.FilterFault.{FilterFault}
+use Rattle.flt_syntax.specs.declared.fault.FilterReason.{FilterReason}
+use Rattle.flt_syntax.specs.declared.fault.FilterReason.TheVariants.{Unexpected, TooDeep}
+use Rattle.flt_syntax.specs.declared.token.Kind.{Kind}
+use Rattle.flt_syntax.specs.declared.token.Token.{Token}
 use Rattle.flt_parse.proofs.Complete.{complete, deeper, over}
 use Rattle.flt_parse.proofs.Printed.{IsGood, printed}
 use Rattle.flt_parse.proofs.Steady.{steady, whole_good}

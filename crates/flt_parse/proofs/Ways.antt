@@ -2,19 +2,19 @@
 use Rattle.std.proofs.Common.{◌≡◌, ℕ, suc, ◌+◌, ◌<◌, ◌≤◌, ◌⊎◌, inl, inr, Bool, true, false, List, [], ◌∷◌, length, Option, Some, None, cond, ltb, arith, sym, ap, ◌∙◌, refl, subst}
 use Rattle.std.proofs.lemmas.Bool.{lt-ltb, ltb-true}
 use Rattle.flt_parse.specs.Parser.Reading.{Left, Frame, Waiting, Call, Side, OnLeft, OnRight, LayerWanted, FirstRead, LastWanted, LastRead, RangeWanted, DigitsWanted, PlaceRead, ColonRead, EndWanted, EndDigitsWanted, CountWanted, PartRead, Spot, OperandWanted, OperandRead, LayersWanted, InLayers, InRanges, MaskWanted, ElementWanted, LiteralRead, SecondWanted, SecondRead, TailSpot, InWanted, SetWanted, InSet, PatternWanted, State, Want, Have, InOperand, InTail, Move, Go, Stop, Whole, Bad, all_linked, begin, behind, call_begin, call_end, closing, have, joined, left_alone, left_end, negated, not_before_in, open_at, operand_end, operand_move, operand_step, opens, otherwise, side_end, step, tail_done, tail_move, tail_step, then_go}
-use Rattle.flt_parse.specs.Grammar.{takes_more}
-use Rattle.flt_parse.specs.Written.{Written, WrittenOperand, WrittenTail, CalledOf, CompareOf, MatchesOf, GroupOf, AloneOf, TestOf}
-use Rattle.flt_parse.specs.declared.ast.Choice.{Choice}
-use Rattle.flt_parse.specs.declared.ast.Element.{Element}
-use Rattle.flt_parse.specs.declared.ast.Negation.{Negation}
-use Rattle.flt_parse.specs.declared.ast.Negation.TheVariants as negations
-use Rattle.flt_parse.specs.declared.ast.Operator.{Operator}
-use Rattle.flt_parse.specs.declared.fault.FilterReason.{FilterReason}
-use Rattle.flt_parse.specs.declared.fault.FilterReason.TheVariants.{Unexpected, TooDeep}
-use Rattle.flt_parse.specs.declared.token.Kind.{Kind}
-use Rattle.flt_parse.specs.declared.token.Kind.TheVariants as kinds
-use Rattle.flt_parse.specs.declared.word.Quote.{Quote}
-use Rattle.flt_parse.specs.declared.word.Word.{Word}
+use Rattle.flt_syntax.specs.Grammar.{takes_more}
+use Rattle.flt_syntax.specs.Written.{Written, WrittenOperand, WrittenTail, CalledOf, CompareOf, MatchesOf, GroupOf, AloneOf, TestOf}
+use Rattle.flt_syntax.specs.declared.ast.Choice.{Choice}
+use Rattle.flt_syntax.specs.declared.ast.Element.{Element}
+use Rattle.flt_syntax.specs.declared.ast.Negation.{Negation}
+use Rattle.flt_syntax.specs.declared.ast.Negation.TheVariants as negations
+use Rattle.flt_syntax.specs.declared.ast.Operator.{Operator}
+use Rattle.flt_syntax.specs.declared.fault.FilterReason.{FilterReason}
+use Rattle.flt_syntax.specs.declared.fault.FilterReason.TheVariants.{Unexpected, TooDeep}
+use Rattle.flt_syntax.specs.declared.token.Kind.{Kind}
+use Rattle.flt_syntax.specs.declared.token.Kind.TheVariants as kinds
+use Rattle.flt_syntax.specs.declared.word.Quote.{Quote}
+use Rattle.flt_syntax.specs.declared.word.Word.{Word}
 use Rattle.flt_parse.proofs.Complete.{Follows, over}
 use Rattle.flt_parse.proofs.Printed.{IsFrame, IsGood}
 use Rattle.flt_parse.proofs.Linked.{chosen_by}

@@ -6,7 +6,7 @@ use Rattle.std.proofs.lemmas.Bool.{and_parts}
 use Rattle.std.proofs.lemmas.Bool.Decides.{nat_tests}
 use Rattle.std.proofs.lemmas.List.{get_or-drop}
 use Rattle.std.proofs.lemmas.Str.{IsCharBoundary-before_ascii, IsCharBoundary-after_ascii}
-use Rattle.flt_parse.specs.Letters.{is_word_byte, word_len}
+use Rattle.flt_syntax.specs.Letters.{is_word_byte, word_len}
 
 is_ascii : (b : ℕ) → is_word_byte b ≡ true → b < 128
 is_ascii b h = grind (arith, nat_tests)

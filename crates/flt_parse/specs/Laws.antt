@@ -1,8 +1,8 @@
 -- What holds of every text.
 use Rattle.std.specs.Prelude.{◌≡◌, ◌⊎◌, ℕ, List}
-use Rattle.flt_parse.specs.Filters.{IsFilterText, IsFirstFault}
-use Rattle.flt_parse.specs.Written.{Written}
-use Rattle.flt_parse.specs.declared.fault.FilterFault.{FilterFault}
+use Rattle.flt_syntax.specs.Filters.{IsFilterText, IsFirstFault}
+use Rattle.flt_syntax.specs.Written.{Written}
+use Rattle.flt_syntax.specs.declared.fault.FilterFault.{FilterFault}
 
 -- no text is a filter and has a fault
 abbrev pub NeverBoth : Type 0

@@ -1,15 +1,13 @@
 // Filters joined by signs, negated, and put in parentheses.
-ghost use Rattle.std.specs.Prelude.{◌≡◌, ◌+◌, Some, [], nat_lt, IfOk};
-ghost use Rattle.flt_parse.specs.Filters.{most_open};
-ghost use Rattle.flt_parse.specs.Grammar.{binds as binding};
+ghost use Rattle.std.specs.Prelude.{◌≡◌, ◌+◌, ◌++◌, ◌∷◌, Some, Err, [], nat_lt, IfOk};
+ghost use Rattle.flt_syntax.specs.Filters.{most_open};
+ghost use Rattle.flt_syntax.specs.Grammar.{binds as binding};
 ghost use Rattle.flt_parse.specs.Parser.Reading as reading;
 ghost use Rattle.flt_parse.specs.Parser.States.{IsMove, around_of, behind_of, frame_of, left_of, reversed};
-ghost use Rattle.flt_parse.specs.Written.{JoinedOf, written};
+ghost use Rattle.flt_syntax.specs.Written.{GroupOf, JoinedOf, written};
 
-use crate::ast::{Ast, Negation};
-use crate::fault::FilterReason;
 use crate::state::{Frame, Left, Open, Refusal, State};
-use crate::token::{Join, Kind};
+use flt_syntax::{Ast, FilterReason, Join, Kind, Negation};
 use pk_base::{FILTER_DEPTH_LIMIT, NoMemory};
 use std::alloc::Global;
 
@@ -29,12 +27,16 @@ fn join_left(alloc: Global, left: Left, right: Ast) -> Result<Ast, NoMemory>
     ensures { IfOk result (λ t.
         written t ≡ JoinedOf left.join (written left.filter) (written right)) }
 {
-    let l = Box::new(alloc, left.filter)?;
-    let r = Box::new(alloc, right)?;
-    match left.join {
-        Join::Or => Ok(Ast::Or(l, r)),
-        Join::Xor => Ok(Ast::Xor(l, r)),
-        Join::And => Ok(Ast::And(l, r)),
+    match (Box::new(alloc, left.filter), Box::new(alloc, right)) {
+        (Ok(l), Ok(r)) => match left.join {
+            Join::Or => Ok(Ast::Or(l, r)),
+            Join::Xor => Ok(Ast::Xor(l, r)),
+            Join::And => Ok(Ast::And(l, r)),
+        },
+        (l, r) => {
+            let_go((l, r));
+            Err(NoMemory)
+        }
     }
 }
 
@@ -47,7 +49,13 @@ pub fn join_all(alloc: Global, lefts: Vec<Left>, filter: Ast) -> Result<Ast, NoM
     let mut rest = lefts;
     let mut all = filter;
     'lefts: while let Some(left) = rest.pop() {
-        all = join_left(alloc, left, all)?;
+        all = match join_left(alloc, left, all) {
+            Ok(joined) => joined,
+            Err(NoMemory) => {
+                let_go(rest);
+                return Err(NoMemory);
+            }
+        };
     }
     Ok(all)
 }
@@ -68,14 +76,39 @@ pub fn settle(
     let mut all = filter;
     'lefts: while let Some(left) = rest.pop() {
         if binds(left.join) < binds(join) {
-            rest.push(left)?;
-            rest.push(Left { filter: all, join })?;
-            return Ok(rest);
+            return with_two(rest, left, Left { filter: all, join });
         }
-        all = join_left(alloc, left, all)?;
+        all = match join_left(alloc, left, all) {
+            Ok(joined) => joined,
+            Err(NoMemory) => {
+                let_go(rest);
+                return Err(NoMemory);
+            }
+        };
     }
-    rest.push(Left { filter: all, join })?;
-    Ok(rest)
+    with_one(rest, Left { filter: all, join })
+}
+
+/// One more that waits.
+fn with_one(lefts: Vec<Left>, left: Left) -> Result<Vec<Left>, NoMemory>
+    ensures { IfOk result (λ v. v.items ≡ lefts.items ++ left ∷ []) }
+{
+    let mut all = lefts;
+    all.push(left)?;
+    Ok(all)
+}
+
+/// Two more that wait.
+fn with_two(lefts: Vec<Left>, left: Left, next: Left) -> Result<Vec<Left>, NoMemory>
+    ensures { IfOk result (λ v. v.items ≡ (lefts.items ++ left ∷ []) ++ next ∷ []) }
+{
+    match with_one(lefts, left) {
+        Ok(all) => with_one(all, next),
+        Err(NoMemory) => {
+            let_go(next);
+            Err(NoMemory)
+        }
+    }
 }
 
 /// A filter behind its negations.
@@ -87,7 +120,13 @@ pub fn negate(alloc: Global, nots: Vec<Negation>, filter: Ast) -> Result<Ast, No
     let mut rest = nots;
     let mut all = filter;
     'nots: while let Some(negation) = rest.pop() {
-        all = Ast::Not(negation, Box::new(alloc, all)?);
+        all = match Box::new(alloc, all) {
+            Ok(inner) => Ast::Not(negation, inner),
+            Err(error) => {
+                let_go((error, rest));
+                return Err(NoMemory);
+            }
+        };
     }
     Ok(all)
 }
@@ -98,8 +137,10 @@ pub fn have(alloc: Global, outer: Open, filter: Ast) -> Result<State, Refusal>
 {
     let Open { frame, around } = outer;
     let Frame { lefts, nots } = frame;
-    let all = negate(alloc, nots, filter)?;
-    Ok(State::Have(lefts, all, around))
+    match negate(alloc, nots, filter) {
+        Ok(all) => Ok(State::Have(lefts, all, around)),
+        Err(NoMemory) => refused(Refusal::NoMemory, (lefts, around)),
+    }
 }
 
 /// At `)` behind all that it ends.
@@ -109,18 +150,25 @@ fn close(alloc: Global, filter: Ast, around: Vec<Frame>) -> Result<State, Refusa
 {
     let mut outer = around;
     match outer.pop() {
-        Some(frame) => {
-            let group = Ast::Group(Box::new(alloc, filter)?);
-            have(
-                alloc,
-                Open {
-                    frame,
-                    around: outer,
-                },
-                group,
-            )
-        }
-        None => unexpected(),
+        Some(frame) => close_frame(
+            alloc,
+            filter,
+            Open {
+                frame,
+                around: outer,
+            },
+        ),
+        None => unexpected((filter, outer)),
+    }
+}
+
+/// Behind the `)` of what is open.
+fn close_frame(alloc: Global, filter: Ast, outer: Open) -> Result<State, Refusal>
+    ensures { IsMove (reading.Go (behind_of outer (GroupOf (written filter)))) result }
+{
+    match Box::new(alloc, filter) {
+        Ok(inner) => have(alloc, outer, Ast::Group(inner)),
+        Err(error) => refused(Refusal::NoMemory, (error, outer)),
     }
 }
 
@@ -130,15 +178,15 @@ pub fn behind(
     lefts: Vec<Left>,
     filter: Ast,
     around: Vec<Frame>,
-    kind: Kind,
+    kind: &Kind,
 ) -> Result<State, Refusal>
     ensures { IsMove (reading.behind (reversed left_of lefts.items) (written filter)
-        (around_of around.items) kind) result }
+        (around_of around.items) kind.now) result }
 {
     match kind {
-        Kind::Joins(join) => join_at(alloc, join, lefts, filter, around),
+        Kind::Joins(join) => join_at(alloc, *join, lefts, filter, around),
         Kind::Close => close_all(alloc, lefts, filter, around),
-        _ => unexpected(),
+        _ => unexpected((lefts, filter, around)),
     }
 }
 
@@ -152,12 +200,16 @@ fn join_at(
     ensures { IsMove (reading.behind (reversed left_of lefts.items) (written filter)
         (around_of around.items) (Kind.Joins join)) result }
 {
-    let lefts = settle(alloc, join, lefts, filter)?;
-    let frame = Frame {
-        lefts,
-        nots: Vec::new(alloc),
-    };
-    Ok(State::Want(Open { frame, around }))
+    match settle(alloc, join, lefts, filter) {
+        Ok(lefts) => {
+            let frame = Frame {
+                lefts,
+                nots: Vec::new(alloc),
+            };
+            Ok(State::Want(Open { frame, around }))
+        }
+        Err(NoMemory) => refused(Refusal::NoMemory, around),
+    }
 }
 
 fn close_all(
@@ -169,28 +221,43 @@ fn close_all(
     ensures { IsMove (reading.behind (reversed left_of lefts.items) (written filter)
         (around_of around.items) Kind.Close) result }
 {
-    let all = join_all(alloc, lefts, filter)?;
-    close(alloc, all, around)
+    match join_all(alloc, lefts, filter) {
+        Ok(all) => close(alloc, all, around),
+        Err(NoMemory) => refused(Refusal::NoMemory, around),
+    }
 }
 
 /// At a token behind a test.
-pub fn behind_test(alloc: Global, outer: Open, test: Ast, kind: Kind) -> Result<State, Refusal>
-    ensures { IsMove (reading.step most_open (behind_of outer (written test)) kind) result }
+pub fn behind_test(alloc: Global, outer: Open, test: Ast, kind: &Kind) -> Result<State, Refusal>
+    ensures { IsMove (reading.step most_open (behind_of outer (written test)) kind.now) result }
 {
     let Open { frame, around } = outer;
     let Frame { lefts, nots } = frame;
-    let all = negate(alloc, nots, test)?;
-    behind(alloc, lefts, all, around, kind)
+    match negate(alloc, nots, test) {
+        Ok(all) => behind(alloc, lefts, all, around, kind),
+        Err(NoMemory) => refused(Refusal::NoMemory, (lefts, around)),
+    }
 }
 
-pub fn unexpected() -> Result<State, Refusal>
+/// Lets a value go: its destructor is written out here alone, and not at each exit of what owned it.
+pub fn let_go<T: Drop>(_value: T) {}
+
+/// Where a token isn't read for a reason: what was read before it is given up.
+pub fn refused<A, T: Drop>(refusal: Refusal, _read: T) -> Result<A, Refusal>
+    ensures { result ≡ Err refusal }
+{
+    Err(refusal)
+}
+
+/// Where a token isn't read: what was read before it is given up.
+pub fn unexpected<T: Drop>(_read: T) -> Result<State, Refusal>
     ensures { IsMove (reading.Stop FilterReason.Unexpected) result }
 {
     Err(Refusal::Fault(FilterReason::Unexpected))
 }
 
 /// Whether one more may be open.
-#[tactic(auto, unfolding(crate::specs::Filters::most_open), using(crate::proofs::Stacks::room_within, crate::proofs::Stacks::room_beyond))]
+#[tactic(auto, unfolding(flt_syntax::specs::Filters::most_open), using(crate::proofs::Stacks::room_within, crate::proofs::Stacks::room_beyond))]
 pub fn has_room(calls: usize, outer: &Open) -> bool
     ensures { result ≡ nat_lt
         (calls + reading.open_at (frame_of outer.now.frame) (around_of outer.now.around.items))

@@ -1,9 +1,8 @@
 // The reserved words of filters, and their functions.
 ghost use Rattle.std.specs.Prelude.{◌≡◌};
-ghost use Rattle.flt_parse.specs.Tokens.{keyword_text as text_of_keyword, keyword_of as keyword_in, keyword_kind as kind_of_keyword, function_text as text_of_function, function_of as function_in};
+ghost use Rattle.flt_syntax.specs.Tokens.{keyword_text as text_of_keyword, keyword_of as keyword_in, keyword_kind as kind_of_keyword, function_text as text_of_function, function_of as function_in};
 
-use crate::ast::{Choice, Function, Negation, Operator};
-use crate::token::{Join, Keyword, Kind};
+use flt_syntax::{Choice, Function, Join, Keyword, Kind, Negation, Operator};
 
 const KEYWORDS: [Keyword; 19] = [
     Keyword::And,

@@ -2,7 +2,7 @@
 ghost use Rattle.std.specs.Prelude.{◌≡◌, true, ◌≤◌, ◌<◌, length, IfSome};
 ghost use Rattle.std.specs.Bool.{OnTrue};
 ghost use Rattle.std.specs.Str.Parse.{digits_value};
-ghost use Rattle.flt_parse.specs.Letters.{is_blank as blank, blanks as blanks_of, is_word_byte as in_word, begins_word as word_begins_in, word_len as len_of_word, digits_len as len_of_digits, is_number as is_of_digits, opening as opening_of};
+ghost use Rattle.flt_syntax.specs.Letters.{is_blank as blank, blanks as blanks_of, is_word_byte as in_word, begins_word as word_begins_in, word_len as len_of_word, digits_len as len_of_digits, is_number as is_of_digits, opening as opening_of};
 
 use pk_base::are_digits;
 

@@ -1,19 +1,18 @@
 // The tokens of a filter's text.
 ghost use Rattle.std.specs.Prelude.{◌≡◌, IfSome, ◌≤◌, ◌<◌, ◌+◌, ◌-◌, length, take, drop, Ok, Err, IfOk, IfErr};
 ghost use Rattle.std.specs.Option.{option_map};
-ghost use Rattle.flt_parse.specs.Letters.{word_len as len_of_word};
-ghost use Rattle.flt_parse.specs.Tokens.{first_sign as sign_in_front, digits_lexeme as lexeme_of_digits, IsTokenError, IsTokensError, bracket_token as token_in_brackets, digits_kind as kind_of_digits, mode_behind as mode_after, next_place as place_behind, plain_token as token_outside, sign_lexeme as lexeme_of_sign, text_lexeme as lexeme_of_text, token_at as token_read, tokens_of, word_lexeme as lexeme_of_word};
+ghost use Rattle.flt_syntax.specs.Letters.{word_len as len_of_word};
+ghost use Rattle.flt_syntax.specs.Tokens.{first_sign as sign_in_front, digits_lexeme as lexeme_of_digits, IsTokenError, IsTokensError, bracket_token as token_in_brackets, digits_kind as kind_of_digits, mode_behind as mode_after, next_place as place_behind, plain_token as token_outside, sign_lexeme as lexeme_of_sign, text_lexeme as lexeme_of_text, token_at as token_read, tokens_of, word_lexeme as lexeme_of_word};
 
-use crate::ast::Layer;
-use crate::fault::{FilterError, FilterFault, FilterReason};
 use crate::keywords::{function_of, keyword_kind, keyword_of};
 use crate::letters::{
     begins_word, blanks, digits_len, is_blank, is_number, number_of, opening, word_len,
 };
 use crate::signs::{first_sign, sign_kind, sign_text};
 use crate::strings::{Inside, read_raw, read_string};
-use crate::token::{Kind, Lexeme, Mode, Token};
-use crate::word::{Quote, Word, WordText};
+use flt_syntax::{
+    FilterError, FilterFault, FilterReason, Kind, Layer, Lexeme, Mode, Quote, Token, Word, WordText,
+};
 use pk_base::{NoMemory, bytes_from};
 use std::alloc::Global;
 use std::collections::VecDeque;

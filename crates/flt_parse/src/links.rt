@@ -1,11 +1,12 @@
 // Operands joined by signs, and arguments by commas.
-ghost use Rattle.std.specs.Prelude.{◌≡◌, IfOk};
+ghost use Rattle.std.specs.Prelude.{◌≡◌, ◌++◌, [], ◌∷◌, IfOk, OnOk};
 ghost use Rattle.flt_parse.specs.Parser.Reading as reading;
 ghost use Rattle.flt_parse.specs.Parser.States.{waiting_of};
-ghost use Rattle.flt_parse.specs.Written.{operand_of};
+ghost use Rattle.flt_syntax.specs.Written.{operand_of};
 
-use crate::ast::{Arithmetic, Operand};
+use crate::joins::let_go;
 use crate::state::{Link, Waiting};
+use flt_syntax::{Arithmetic, Operand};
 use pk_base::NoMemory;
 use std::alloc::Global;
 
@@ -26,11 +27,15 @@ fn link_left(alloc: Global, left: Waiting, right: Operand) -> Result<Operand, No
     ensures { IfOk result (λ o.
         operand_of o ≡ reading.linked left.link (operand_of left.operand) (operand_of right)) }
 {
-    let l = Box::new(alloc, left.operand)?;
-    let r = Box::new(alloc, right)?;
-    match left.link {
-        Link::Comma => Ok(Operand::Arguments(l, r)),
-        Link::Sign(arithmetic, at) => Ok(Operand::Computed(arithmetic, at, l, r)),
+    match (Box::new(alloc, left.operand), Box::new(alloc, right)) {
+        (Ok(l), Ok(r)) => match left.link {
+            Link::Comma => Ok(Operand::Arguments(l, r)),
+            Link::Sign(arithmetic, at) => Ok(Operand::Computed(arithmetic, at, l, r)),
+        },
+        (l, r) => {
+            let_go((l, r));
+            Err(NoMemory)
+        }
     }
 }
 
@@ -43,7 +48,13 @@ pub fn link_all(alloc: Global, waiting: Vec<Waiting>, operand: Operand) -> Resul
     let mut rest = waiting;
     let mut all = operand;
     'waiting: while let Some(left) = rest.pop() {
-        all = link_left(alloc, left, all)?;
+        all = match link_left(alloc, left, all) {
+            Ok(linked) => linked,
+            Err(NoMemory) => {
+                let_go(rest);
+                return Err(NoMemory);
+            }
+        };
     }
     Ok(all)
 }
@@ -53,22 +64,33 @@ pub fn link_all(alloc: Global, waiting: Vec<Waiting>, operand: Operand) -> Resul
 pub fn wait(
     alloc: Global,
     link: Link,
-    waiting: Vec<Waiting>,
+    waiting: &mut Vec<Waiting>,
     operand: Operand,
-) -> Result<Vec<Waiting>, NoMemory>
-    ensures { IfOk result (λ v.
-        waiting_of v.items ≡ reading.wait link (waiting_of waiting.items) (operand_of operand)) }
+) -> Result<(), NoMemory>
+    ensures { OnOk result (waiting_of waiting.new.items
+        ≡ reading.wait link (waiting_of waiting.old.items) (operand_of operand)) }
 {
-    let mut rest = waiting;
     let mut all = operand;
-    'waiting: while let Some(left) = rest.pop() {
+    'waiting: while let Some(left) = waiting.pop() {
         if binds(left.link) < binds(link) {
-            rest.push(left)?;
-            rest.push(Waiting { operand: all, link })?;
-            return Ok(rest);
+            return push_two(waiting, left, Waiting { operand: all, link });
         }
         all = link_left(alloc, left, all)?;
     }
-    rest.push(Waiting { operand: all, link })?;
-    Ok(rest)
+    waiting.push(Waiting { operand: all, link })?;
+    Ok(())
+}
+
+/// Two more that wait.
+fn push_two(waiting: &mut Vec<Waiting>, left: Waiting, next: Waiting) -> Result<(), NoMemory>
+    ensures { OnOk result
+        (waiting.new.items ≡ (waiting.old.items ++ left ∷ []) ++ next ∷ []) }
+{
+    match waiting.push(left) {
+        Ok(()) => Ok(waiting.push(next)?),
+        Err(error) => {
+            let_go((error, next));
+            Err(NoMemory)
+        }
+    }
 }

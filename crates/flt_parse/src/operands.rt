@@ -1,27 +1,28 @@
 // Operands, token by token, as far as no call opens or ends. Each function answers where the operand stands behind the
 // token, or nothing where the token doesn't go on with it.
-ghost use Rattle.std.specs.Prelude.{◌≡◌, ◌++◌, [], ◌∷◌, Some, None};
-ghost use Rattle.flt_parse.specs.Grammar.{takes_mask as may_mask, takes_slice as may_slice};
+ghost use Rattle.std.specs.Prelude.{◌≡◌, ℕ, List, ◌++◌, [], ◌∷◌, Some, None, IfOk};
+ghost use Rattle.flt_syntax.specs.Grammar.{takes_mask as may_mask, takes_more as may_take_more, takes_slice as may_slice};
 ghost use Rattle.flt_parse.specs.Parser.Reading as reading;
-ghost use Rattle.flt_parse.specs.Parser.States.{IsSpot};
-ghost use Rattle.flt_parse.specs.Written.{OnLayersOf, SlicedOf, operand_of};
+ghost use Rattle.flt_parse.specs.Parser.States.{IsRangeMove, IsSpot, layers_moved};
+ghost use Rattle.flt_syntax.specs.declared.ast.LayerRange.{LayerRange};
+ghost use Rattle.flt_syntax.specs.declared.word.Word.{Word};
+ghost use Rattle.flt_syntax.specs.Written.{OnLayersOf, SlicedOf, operand_of};
 
-use crate::ast::{LayerRange, Operand, Place, RangePart, SliceRange, takes_more};
 use crate::state::{LayerSpot, RangeSpot, Refusal, Spot};
-use crate::token::Kind;
-use crate::word::Word;
+use flt_syntax::{Function, Kind, LayerRange, Operand, Place, RangePart, SliceRange, Word};
+use pk_base::NoMemory;
 use std::alloc::Global;
 
 /// Behind the `#` of a word.
-pub fn layers_begun(alloc: Global, word: Word, kind: Kind) -> Option<Spot>
-    ensures { IsSpot (reading.operand_step (reading.LayersWanted word) kind) (Ok result) }
+pub fn layers_begun(alloc: Global, word: Word, kind: &Kind) -> Option<Spot>
+    ensures { IsSpot (reading.operand_step (reading.LayersWanted word) kind.now) (Ok result) }
 {
     match kind {
-        Kind::LayerNumber(layer) => Some(Spot::Read(Operand::OnLayer(word, layer))),
+        Kind::LayerNumber(layer) => Some(Spot::Read(Operand::OnLayer(word, *layer))),
         Kind::OpenLayers(next) => Some(Spot::InLayers(
             word,
             Vec::new(alloc),
-            next,
+            *next,
             LayerSpot::LayerWanted,
         )),
         _ => None,
@@ -34,92 +35,102 @@ pub fn layers_step(
     done: Vec<LayerRange>,
     at: u32,
     spot: LayerSpot,
-    kind: Kind,
+    kind: &Kind,
 ) -> Result<Option<Spot>, Refusal>
-    ensures { IsSpot (reading.layers_step word done.items at spot kind) result }
+    ensures { IsSpot (reading.layers_step word done.items at spot kind.now) result }
+{
+    match layer_move(at, spot, kind) {
+        LayerMove::On(spot) => Ok(Some(Spot::InLayers(word, done, at, spot))),
+        LayerMove::Next(range, next) => next_layers(word, done, range, next),
+        LayerMove::End(range) => all_layers(word, done, range),
+        LayerMove::Wrong => nothing((word, done)),
+    }
+}
+
+/// What a token does in a range of layers: it goes on with it, ends it and begins another, ends the last, or none of these.
+#[derive(Clone, Copy)]
+pub enum LayerMove {
+    On(LayerSpot),
+    Next(LayerRange, u32),
+    End(LayerRange),
+    Wrong,
+}
+
+fn layer_move(at: u32, spot: LayerSpot, kind: &Kind) -> LayerMove
+    ensures { (w : Word) (done : List LayerRange) →
+        reading.layers_step w done at spot kind.now ≡ layers_moved w done at result }
 {
     match spot {
-        LayerSpot::LayerWanted => layer_wanted(word, done, at, kind),
-        LayerSpot::FirstRead(first) => first_read(word, done, at, first, kind),
-        LayerSpot::LastWanted(first) => last_wanted(word, done, at, first, kind),
-        LayerSpot::LastRead(first, last) => last_read(word, done, at, first, last, kind),
+        LayerSpot::LayerWanted => layer_wanted(kind),
+        LayerSpot::FirstRead(first) => first_read(at, first, kind),
+        LayerSpot::LastWanted(first) => last_wanted(first, kind),
+        LayerSpot::LastRead(first, last) => layers_end(
+            LayerRange {
+                at,
+                first,
+                last: Some(last),
+            },
+            kind,
+        ),
     }
 }
 
-fn layer_wanted(
-    word: Word,
-    done: Vec<LayerRange>,
-    at: u32,
-    kind: Kind,
-) -> Result<Option<Spot>, Refusal>
-    ensures { IsSpot (reading.layers_step word done.items at reading.LayerWanted kind) result }
+fn layer_wanted(kind: &Kind) -> LayerMove
+    ensures { (w : Word) (done : List LayerRange) (at : ℕ) →
+        reading.layers_step w done at reading.LayerWanted kind.now ≡ layers_moved w done at result }
 {
     match kind {
-        Kind::Number(n) => Ok(Some(Spot::InLayers(word, done, at, LayerSpot::FirstRead(n)))),
-        _ => Ok(None),
+        Kind::Number(n) => LayerMove::On(LayerSpot::FirstRead(*n)),
+        _ => LayerMove::Wrong,
     }
 }
 
-fn first_read(
-    word: Word,
-    done: Vec<LayerRange>,
-    at: u32,
-    first: u32,
-    kind: Kind,
-) -> Result<Option<Spot>, Refusal>
-    ensures { IsSpot (reading.layers_step word done.items at (reading.FirstRead first) kind)
-        result }
+fn first_read(at: u32, first: u32, kind: &Kind) -> LayerMove
+    ensures { (w : Word) (done : List LayerRange) →
+        reading.layers_step w done at (reading.FirstRead first) kind.now
+        ≡ layers_moved w done at result }
 {
-    let range = LayerRange {
-        at,
-        first,
-        last: None,
-    };
     match kind {
-        Kind::Minus => Ok(Some(Spot::InLayers(word, done, at, LayerSpot::LastWanted(first)))),
-        Kind::NextRange(next) => next_layers(word, done, range, next),
-        Kind::CloseBracket => all_layers(word, done, range),
-        _ => Ok(None),
+        Kind::Minus => LayerMove::On(LayerSpot::LastWanted(first)),
+        _ => layers_end(
+            LayerRange {
+                at,
+                first,
+                last: None,
+            },
+            kind,
+        ),
     }
 }
 
-fn last_wanted(
-    word: Word,
-    done: Vec<LayerRange>,
-    at: u32,
-    first: u32,
-    kind: Kind,
-) -> Result<Option<Spot>, Refusal>
-    ensures { IsSpot (reading.layers_step word done.items at (reading.LastWanted first) kind)
-        result }
+fn last_wanted(first: u32, kind: &Kind) -> LayerMove
+    ensures { (w : Word) (done : List LayerRange) (at : ℕ) →
+        reading.layers_step w done at (reading.LastWanted first) kind.now
+        ≡ layers_moved w done at result }
 {
     match kind {
-        Kind::Number(n) => Ok(Some(Spot::InLayers(word, done, at, LayerSpot::LastRead(first, n)))),
-        _ => Ok(None),
+        Kind::Number(n) => LayerMove::On(LayerSpot::LastRead(first, *n)),
+        _ => LayerMove::Wrong,
     }
 }
 
-fn last_read(
-    word: Word,
-    done: Vec<LayerRange>,
-    at: u32,
-    first: u32,
-    last: u32,
-    kind: Kind,
-) -> Result<Option<Spot>, Refusal>
-    ensures { IsSpot (reading.layers_step word done.items at (reading.LastRead first last) kind)
-        result }
+/// Behind a range that may end.
+fn layers_end(range: LayerRange, kind: &Kind) -> LayerMove
+    ensures { (w : Word) (done : List LayerRange) (at : ℕ) →
+        reading.layers_end w (done ++ range ∷ []) kind.now ≡ layers_moved w done at result }
 {
-    let range = LayerRange {
-        at,
-        first,
-        last: Some(last),
-    };
     match kind {
-        Kind::NextRange(next) => next_layers(word, done, range, next),
-        Kind::CloseBracket => all_layers(word, done, range),
-        _ => Ok(None),
+        Kind::NextRange(next) => LayerMove::Next(range, *next),
+        Kind::CloseBracket => LayerMove::End(range),
+        _ => LayerMove::Wrong,
     }
+}
+
+/// Where a token doesn't go on with an operand: what was read before it is given up.
+fn nothing<T: Drop>(_read: T) -> Result<Option<Spot>, Refusal>
+    ensures { IsSpot None result }
+{
+    Ok(None)
 }
 
 /// Behind the comma after a range.
@@ -145,6 +156,16 @@ fn all_layers(word: Word, done: Vec<LayerRange>, range: LayerRange) -> Result<Op
     let mut done = done;
     done.push(range)?;
     Ok(Some(Spot::Read(Operand::OnLayers(word, done))))
+}
+
+/// Whether a function has one argument or more.
+pub fn takes_more(function: Function) -> bool
+    ensures { result ≡ may_take_more function }
+{
+    match function {
+        Function::Min | Function::Max => true,
+        Function::Len | Function::Count | Function::Upper | Function::Lower => false,
+    }
 }
 
 /// Whether this is sliced.
@@ -207,20 +228,127 @@ pub fn ranges_step(
     slice: Slice,
     at: u32,
     spot: RangeSpot,
-    kind: Kind,
+    kind: &Kind,
 ) -> Result<Option<Spot>, Refusal>
     ensures { IsSpot (reading.ranges_step
-        (operand_of slice.operand) slice.bracket slice.done.items at spot kind) result }
+        (operand_of slice.operand) slice.bracket slice.done.items at spot kind.now) result }
+{
+    match range_move(spot, kind) {
+        RangeMove::On(spot) => in_range(slice, at, spot),
+        RangeMove::Next(part, next) => next_range(slice, at, part, next),
+        RangeMove::End(part) => all_ranges(alloc, slice, at, part),
+        RangeMove::Wrong => nothing(slice),
+    }
+}
+
+/// What a token does in a range of bytes: it goes on with it, ends it and begins another, ends the last, or none of these.
+#[derive(Clone, Copy)]
+pub enum RangeMove {
+    On(RangeSpot),
+    Next(RangePart, u32),
+    End(RangePart),
+    Wrong,
+}
+
+fn range_move(spot: RangeSpot, kind: &Kind) -> RangeMove
+    ensures { IsRangeMove spot kind.now result }
 {
     match spot {
-        RangeSpot::RangeWanted => range_wanted(slice, at, kind),
-        RangeSpot::DigitsWanted => digits_wanted(slice, at, kind),
-        RangeSpot::PlaceRead(place) => place_read(alloc, slice, at, place, kind),
-        RangeSpot::ColonRead(place) => colon_read(alloc, slice, at, place, kind),
-        RangeSpot::EndWanted(place) => end_wanted(slice, at, place, kind),
-        RangeSpot::EndDigitsWanted(place) => end_digits_wanted(slice, at, place, kind),
-        RangeSpot::CountWanted => count_wanted(slice, at, kind),
-        RangeSpot::PartRead(part) => part_read(alloc, slice, at, part, kind),
+        RangeSpot::RangeWanted => range_wanted(kind),
+        RangeSpot::DigitsWanted => digits_wanted(kind),
+        RangeSpot::PlaceRead(place) => place_read(place, kind),
+        RangeSpot::ColonRead(place) => colon_read(place, kind),
+        RangeSpot::EndWanted(place) => end_wanted(place, kind),
+        RangeSpot::EndDigitsWanted(place) => end_digits_wanted(place, kind),
+        RangeSpot::CountWanted => count_wanted(kind),
+        RangeSpot::PartRead(part) => part_read(part, kind),
+    }
+}
+
+fn range_wanted(kind: &Kind) -> RangeMove
+    ensures { IsRangeMove reading.RangeWanted kind.now result }
+{
+    match kind {
+        Kind::Number(n) => RangeMove::On(RangeSpot::PlaceRead(forward(*n))),
+        Kind::Minus => RangeMove::On(RangeSpot::DigitsWanted),
+        Kind::Colon => RangeMove::On(RangeSpot::CountWanted),
+        _ => RangeMove::Wrong,
+    }
+}
+
+fn digits_wanted(kind: &Kind) -> RangeMove
+    ensures { IsRangeMove reading.DigitsWanted kind.now result }
+{
+    match kind {
+        Kind::Number(n) => RangeMove::On(RangeSpot::PlaceRead(backward(*n))),
+        _ => RangeMove::Wrong,
+    }
+}
+
+fn place_read(place: Place, kind: &Kind) -> RangeMove
+    ensures { IsRangeMove (reading.PlaceRead place) kind.now result }
+{
+    match kind {
+        Kind::Colon => RangeMove::On(RangeSpot::ColonRead(place)),
+        Kind::Minus => RangeMove::On(RangeSpot::EndWanted(place)),
+        Kind::NextRange(next) => RangeMove::Next(RangePart::One(place), *next),
+        Kind::CloseBracket => RangeMove::End(RangePart::One(place)),
+        _ => RangeMove::Wrong,
+    }
+}
+
+fn colon_read(place: Place, kind: &Kind) -> RangeMove
+    ensures { IsRangeMove (reading.ColonRead place) kind.now result }
+{
+    match kind {
+        Kind::Number(n) => RangeMove::On(RangeSpot::PartRead(RangePart::Counted(place, *n))),
+        Kind::NextRange(next) => RangeMove::Next(RangePart::ToEnd(place), *next),
+        Kind::CloseBracket => RangeMove::End(RangePart::ToEnd(place)),
+        _ => RangeMove::Wrong,
+    }
+}
+
+fn end_wanted(place: Place, kind: &Kind) -> RangeMove
+    ensures { IsRangeMove (reading.EndWanted place) kind.now result }
+{
+    match kind {
+        Kind::Number(n) => RangeMove::On(RangeSpot::PartRead(RangePart::Between(
+            place,
+            forward(*n),
+        ))),
+        Kind::Minus => RangeMove::On(RangeSpot::EndDigitsWanted(place)),
+        _ => RangeMove::Wrong,
+    }
+}
+
+fn end_digits_wanted(place: Place, kind: &Kind) -> RangeMove
+    ensures { IsRangeMove (reading.EndDigitsWanted place) kind.now result }
+{
+    match kind {
+        Kind::Number(n) => RangeMove::On(RangeSpot::PartRead(RangePart::Between(
+            place,
+            backward(*n),
+        ))),
+        _ => RangeMove::Wrong,
+    }
+}
+
+fn count_wanted(kind: &Kind) -> RangeMove
+    ensures { IsRangeMove reading.CountWanted kind.now result }
+{
+    match kind {
+        Kind::Number(n) => RangeMove::On(RangeSpot::PartRead(RangePart::Front(*n))),
+        _ => RangeMove::Wrong,
+    }
+}
+
+fn part_read(part: RangePart, kind: &Kind) -> RangeMove
+    ensures { IsRangeMove (reading.PartRead part) kind.now result }
+{
+    match kind {
+        Kind::NextRange(next) => RangeMove::Next(part, *next),
+        Kind::CloseBracket => RangeMove::End(part),
+        _ => RangeMove::Wrong,
     }
 }
 
@@ -232,148 +360,14 @@ fn in_range(slice: Slice, at: u32, spot: RangeSpot) -> Result<Option<Spot>, Refu
     Ok(Some(Spot::InRanges(slice.operand, slice.bracket, slice.done, at, spot)))
 }
 
-fn range_wanted(slice: Slice, at: u32, kind: Kind) -> Result<Option<Spot>, Refusal>
-    ensures { IsSpot (reading.ranges_step
-        (operand_of slice.operand) slice.bracket slice.done.items at reading.RangeWanted kind)
-        result }
-{
-    match kind {
-        Kind::Number(n) => in_range(slice, at, RangeSpot::PlaceRead(forward(n))),
-        Kind::Minus => in_range(slice, at, RangeSpot::DigitsWanted),
-        Kind::Colon => in_range(slice, at, RangeSpot::CountWanted),
-        _ => Ok(None),
-    }
-}
-
-fn digits_wanted(slice: Slice, at: u32, kind: Kind) -> Result<Option<Spot>, Refusal>
-    ensures { IsSpot (reading.ranges_step
-        (operand_of slice.operand) slice.bracket slice.done.items at reading.DigitsWanted kind)
-        result }
-{
-    match kind {
-        Kind::Number(n) => in_range(slice, at, RangeSpot::PlaceRead(backward(n))),
-        _ => Ok(None),
-    }
-}
-
-fn place_read(
-    alloc: Global,
-    slice: Slice,
-    at: u32,
-    place: Place,
-    kind: Kind,
-) -> Result<Option<Spot>, Refusal>
-    ensures { IsSpot (reading.ranges_step
-        (operand_of slice.operand) slice.bracket slice.done.items at (reading.PlaceRead place) kind)
-        result }
-{
-    match kind {
-        Kind::Colon => in_range(slice, at, RangeSpot::ColonRead(place)),
-        Kind::Minus => in_range(slice, at, RangeSpot::EndWanted(place)),
-        Kind::NextRange(next) => next_range(slice, at, RangePart::One(place), next),
-        Kind::CloseBracket => all_ranges(alloc, slice, at, RangePart::One(place)),
-        _ => Ok(None),
-    }
-}
-
-fn colon_read(
-    alloc: Global,
-    slice: Slice,
-    at: u32,
-    place: Place,
-    kind: Kind,
-) -> Result<Option<Spot>, Refusal>
-    ensures { IsSpot (reading.ranges_step
-        (operand_of slice.operand) slice.bracket slice.done.items at (reading.ColonRead place) kind)
-        result }
-{
-    match kind {
-        Kind::Number(n) => in_range(slice, at, RangeSpot::PartRead(RangePart::Counted(place, n))),
-        Kind::NextRange(next) => next_range(slice, at, RangePart::ToEnd(place), next),
-        Kind::CloseBracket => all_ranges(alloc, slice, at, RangePart::ToEnd(place)),
-        _ => Ok(None),
-    }
-}
-
-fn end_wanted(slice: Slice, at: u32, place: Place, kind: Kind) -> Result<Option<Spot>, Refusal>
-    ensures { IsSpot (reading.ranges_step
-        (operand_of slice.operand) slice.bracket slice.done.items at (reading.EndWanted place) kind)
-        result }
-{
-    match kind {
-        Kind::Number(n) => in_range(
-            slice,
-            at,
-            RangeSpot::PartRead(RangePart::Between(place, forward(n))),
-        ),
-        Kind::Minus => in_range(slice, at, RangeSpot::EndDigitsWanted(place)),
-        _ => Ok(None),
-    }
-}
-
-fn end_digits_wanted(
-    slice: Slice,
-    at: u32,
-    place: Place,
-    kind: Kind,
-) -> Result<Option<Spot>, Refusal>
-    ensures { IsSpot (reading.ranges_step
-        (operand_of slice.operand) slice.bracket slice.done.items at
-        (reading.EndDigitsWanted place) kind) result }
-{
-    match kind {
-        Kind::Number(n) => in_range(
-            slice,
-            at,
-            RangeSpot::PartRead(RangePart::Between(place, backward(n))),
-        ),
-        _ => Ok(None),
-    }
-}
-
-fn count_wanted(slice: Slice, at: u32, kind: Kind) -> Result<Option<Spot>, Refusal>
-    ensures { IsSpot (reading.ranges_step
-        (operand_of slice.operand) slice.bracket slice.done.items at reading.CountWanted kind)
-        result }
-{
-    match kind {
-        Kind::Number(n) => in_range(slice, at, RangeSpot::PartRead(RangePart::Front(n))),
-        _ => Ok(None),
-    }
-}
-
-fn part_read(
-    alloc: Global,
-    slice: Slice,
-    at: u32,
-    part: RangePart,
-    kind: Kind,
-) -> Result<Option<Spot>, Refusal>
-    ensures { IsSpot (reading.ranges_step
-        (operand_of slice.operand) slice.bracket slice.done.items at (reading.PartRead part) kind)
-        result }
-{
-    match kind {
-        Kind::NextRange(next) => next_range(slice, at, part, next),
-        Kind::CloseBracket => all_ranges(alloc, slice, at, part),
-        _ => Ok(None),
-    }
-}
-
 /// Behind the comma after a range.
 fn next_range(slice: Slice, at: u32, part: RangePart, next: u32) -> Result<Option<Spot>, Refusal>
     ensures { IsSpot (Some (reading.InRanges (operand_of slice.operand) slice.bracket
         (reading.with_part at slice.done.items part) next reading.RangeWanted)) result }
 {
-    let mut done = slice.done;
-    done.push(SliceRange { at, part })?;
-    Ok(Some(Spot::InRanges(
-        slice.operand,
-        slice.bracket,
-        done,
-        next,
-        RangeSpot::RangeWanted,
-    )))
+    let mut slice = slice;
+    slice.done.push(SliceRange { at, part })?;
+    in_range(slice, next, RangeSpot::RangeWanted)
 }
 
 /// Behind the `]` after a range.
@@ -387,9 +381,16 @@ fn all_ranges(
         (SlicedOf (operand_of slice.operand) slice.bracket
         (reading.with_part at slice.done.items part)))) result }
 {
-    let mut done = slice.done;
-    done.push(SliceRange { at, part })?;
-    Ok(Some(Spot::Read(Operand::Sliced(Box::new(alloc, slice.operand)?, slice.bracket, done))))
+    let mut slice = slice;
+    slice.done.push(SliceRange { at, part })?;
+    Ok(Some(Spot::Read(sliced(alloc, slice)?)))
+}
+
+fn sliced(alloc: Global, slice: Slice) -> Result<Operand, NoMemory>
+    ensures { IfOk result (λ o. operand_of o
+        ≡ SlicedOf (operand_of slice.operand) slice.bracket slice.done.items) }
+{
+    Ok(Operand::Sliced(Box::new(alloc, slice.operand)?, slice.bracket, slice.done))
 }
 
 fn forward(offset: u32) -> Place

@@ -1,18 +1,16 @@
 // A filter's text to its tree.
 ghost use Rattle.std.specs.Prelude.{◌≡◌, IfOk, IfErr, length};
-ghost use Rattle.flt_parse.specs.Filters.{IsFilterText, IsRefusal, kinds_of, most_bytes, most_open};
-ghost use Rattle.flt_parse.specs.Grammar.{IsFilter};
+ghost use Rattle.flt_syntax.specs.Filters.{IsFilterText, IsRefusal, kinds_of, most_bytes, most_open};
+ghost use Rattle.flt_syntax.specs.Grammar.{IsFilter};
 ghost use Rattle.flt_parse.specs.Parser.Reading as reading;
 ghost use Rattle.flt_parse.specs.Parser.Answers.{IsParseError, IsReadError, refused as refused_as, tokens_read};
 ghost use Rattle.flt_parse.specs.Parser.States.{state_of};
-ghost use Rattle.flt_parse.specs.Written.{written};
+ghost use Rattle.flt_syntax.specs.Written.{written};
 
-use crate::ast::Ast;
-use crate::fault::{FilterError, FilterFault, FilterReason};
 use crate::lexer::tokens_in;
 use crate::state::{Frame, Open, Refusal, State};
 use crate::steps::{finish, step};
-use crate::token::Token;
+use flt_syntax::{Ast, FilterError, FilterFault, FilterReason, Token};
 use pk_base::FILTER_LIMIT;
 use std::alloc::Global;
 use std::collections::VecDeque;
@@ -20,7 +18,7 @@ use std::collections::VecDeque;
 /// Reads the text of a filter. The answer is its tree, or its first fault: that it has more than 4,096 bytes; else the
 /// first byte that begins no token, or string that doesn't end or has another escape; else the first token that no
 /// filter has there, or that opens the 65th parenthesis, negation or call.
-#[tactic(auto, using(crate::proofs::Parsed::of_lexical, crate::proofs::Parsed::of_syntax, crate::proofs::Parsed::of_length, crate::proofs::Parsed::of_filter), unfolding(crate::specs::Filters::most_bytes))]
+#[tactic(auto, using(crate::proofs::Parsed::of_lexical, crate::proofs::Parsed::of_syntax, crate::proofs::Parsed::of_length, crate::proofs::Parsed::of_filter), unfolding(flt_syntax::specs::Filters::most_bytes))]
 pub fn parse(alloc: Global, text: &str) -> Result<Ast, FilterError>
     ensures ok { IfOk result (λ ast. IsFilterText text.now (written ast)) }
     ensures err { IfErr result (IsRefusal text.now) }

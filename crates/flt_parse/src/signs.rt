@@ -1,9 +1,8 @@
 // The signs of a filter's text outside brackets.
 ghost use Rattle.std.specs.Prelude.{◌≡◌, ◌≤◌, ◌<◌, length, IfSome};
-ghost use Rattle.flt_parse.specs.Tokens.{sign_text as text_of_sign, first_sign as sign_in_front, sign_kind as kind_of_sign, bracket_kind as kind_of_bracket};
+ghost use Rattle.flt_syntax.specs.Tokens.{sign_text as text_of_sign, first_sign as sign_in_front, sign_kind as kind_of_sign, bracket_kind as kind_of_bracket};
 
-use crate::ast::{Arithmetic, Negation, Operator};
-use crate::token::{Join, Kind, Mode, Sign};
+use flt_syntax::{Arithmetic, Join, Kind, Mode, Negation, Operator, Sign};
 
 /// All signs, each before those that it begins with.
 const SIGNS: [Sign; 26] = [

@@ -1,17 +1,14 @@
 // How far a filter is read: the state of the parser between two tokens.
 
-use crate::ast::{
-    Arithmetic, Ast, Choice, Element, Function, LayerRange, Literal, Negation, Operand, Operator,
-    Place, RangePart, SliceRange, Tail,
+use flt_syntax::{
+    Arithmetic, Ast, Choice, Element, FilterReason, Function, Join, LayerRange, Literal, Negation,
+    Operand, Operator, Place, RangePart, SliceRange, Tail, Word,
 };
-use crate::fault::FilterReason;
-use crate::token::Join;
-use crate::word::Word;
 use pk_base::NoMemory;
 use std::alloc::{AllocError, AllocFailed};
 
 /// How far a range of layers is read.
-#[derive(Clone, Copy, Debug, PartialEq, Eq)]
+#[derive(Clone, Copy)]
 pub enum LayerSpot {
     LayerWanted,
     FirstRead(u32),
@@ -20,7 +17,7 @@ pub enum LayerSpot {
 }
 
 /// How far a range of bytes is read.
-#[derive(Clone, Copy, Debug, PartialEq, Eq)]
+#[derive(Clone, Copy)]
 pub enum RangeSpot {
     RangeWanted,
     DigitsWanted,
@@ -77,7 +74,7 @@ pub enum Side {
 }
 
 /// What joins two operands: the comma between arguments, or a sign and its place.
-#[derive(Clone, Copy, Debug, PartialEq, Eq)]
+#[derive(Clone, Copy)]
 pub enum Link {
     Comma,
     Sign(Arithmetic, u32),
@@ -141,7 +138,7 @@ pub enum State {
 }
 
 /// Why a token isn't read.
-#[derive(Clone, Copy, Debug, PartialEq, Eq)]
+#[derive(Clone, Copy)]
 pub enum Refusal {
     Fault(FilterReason),
     NoMemory,

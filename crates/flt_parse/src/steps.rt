@@ -1,30 +1,29 @@
 // One token further: what the parser's state becomes, or why the token isn't read.
-ghost use Rattle.std.specs.Prelude.{◌≡◌, Some, None, true, Option};
+ghost use Rattle.std.specs.Prelude.{◌≡◌, [], Some, None, true, Option, IfOk};
 ghost use Rattle.std.specs.Option.{option_map};
-ghost use Rattle.flt_parse.specs.Filters.{most_open};
-ghost use Rattle.flt_parse.specs.Grammar.{is_open as asks_none};
-ghost use Rattle.flt_parse.specs.Written.{operand_of, written};
+ghost use Rattle.flt_syntax.specs.Filters.{most_open};
+ghost use Rattle.flt_syntax.specs.Grammar.{is_open as asks_none};
+ghost use Rattle.flt_syntax.specs.Written.{CalledOf, operand_of, written};
 ghost use Rattle.flt_parse.specs.Parser.Answers.{goes_on as goes_on_with, operand_read as read_operand};
 ghost use Rattle.flt_parse.specs.Parser.Reading as reading;
-ghost use Rattle.flt_parse.specs.Parser.States.{IsMove, IsSpot, IsWhole, around_of, begun_at, behind_of, call_end_in, call_of, end_in, frame_of, further_in, go_in, in_spot, left_end_in, left_of, level_end_in, link_in, not_in_of, range_spot, reversed, side_end_in, side_of, spot_of, state_of, step_in, tail_spot_of, want, in_tail as at_tail};
+ghost use Rattle.flt_parse.specs.Parser.States.{IsMove, IsSpot, IsWhole, around_of, begun_at, behind_of, call_end_in, call_of, end_in, frame_of, further_in, go_in, in_spot, left_end_in, left_of, level_end_in, link_in, not_in_of, range_spot, reversed, side_end_in, side_of, spot_of, state_of, step_in, tail_spot_of, waiting_of, want, in_tail as at_tail};
 
-use crate::ast::{
-    Ast, Choice, Function, LayerRange, Negation, Operand, Operator, Tail, takes_more,
-};
-use crate::fault::FilterReason;
-use crate::joins::{behind, behind_test, has_room, have, join_all, negate, unexpected};
+use crate::joins::{behind, behind_test, has_room, have, join_all, negate, refused, unexpected};
 use crate::links::{link_all, wait};
 use crate::operands::{
-    Slice, layers_begun, layers_step, mask_wanted, ranges_step, takes_mask, takes_slice,
+    Slice, layers_begun, layers_step, mask_wanted, ranges_step, takes_mask, takes_more, takes_slice,
 };
 use crate::state::{
     Call, Frame, Inside, LayerSpot, Left, Link, Open, RangeSpot, Refusal, Side, Spot, State,
-    TailMove, TailSpot,
+    TailMove, TailSpot, Waiting,
 };
 use crate::tails::tail_step;
-use crate::token::Kind;
-use crate::word::Word;
+use flt_syntax::{
+    Ast, Choice, FilterReason, Function, Kind, LayerRange, Negation, Operand, Operator, Tail, Word,
+};
+use pk_base::NoMemory;
 use std::alloc::Global;
+use std::mem;
 
 /// The state behind a token.
 pub fn step(alloc: Global, state: State, kind: Kind) -> Result<State, Refusal>
@@ -32,7 +31,7 @@ pub fn step(alloc: Global, state: State, kind: Kind) -> Result<State, Refusal>
 {
     match state {
         State::Want(outer) => begin(alloc, outer, kind),
-        State::Have(lefts, filter, around) => behind(alloc, lefts, filter, around, kind),
+        State::Have(lefts, filter, around) => behind(alloc, lefts, filter, around, &kind),
         State::InOperand(spot, inside) => in_operand(alloc, spot, inside, kind),
         State::InTail(spot, choice, operand, outer) => in_tail(
             alloc, spot, choice, operand, outer, kind,
@@ -58,13 +57,13 @@ fn open_not(outer: Open, negation: Negation) -> Result<State, Refusal>
     ensures { IsMove (reading.step most_open (want outer) (Kind.Negates negation)) result }
 {
     if !has_room(0, &outer) {
-        return too_deep();
+        return too_deep(outer);
     }
-    let Open { frame, around } = outer;
-    let Frame { lefts, mut nots } = frame;
-    nots.push(negation)?;
-    let frame = Frame { lefts, nots };
-    Ok(State::Want(Open { frame, around }))
+    let mut inner = outer;
+    match inner.frame.nots.push(negation) {
+        Ok(()) => Ok(State::Want(inner)),
+        Err(error) => refused(Refusal::NoMemory, (error, inner)),
+    }
 }
 
 /// Behind `(`.
@@ -73,18 +72,27 @@ fn open_group(alloc: Global, outer: Open) -> Result<State, Refusal>
     ensures { IsMove (reading.step most_open (want outer) Kind.Open) result }
 {
     if !has_room(0, &outer) {
-        return too_deep();
+        return too_deep(outer);
     }
-    let Open { frame, mut around } = outer;
-    around.push(frame)?;
-    let frame = Frame {
-        lefts: Vec::new(alloc),
-        nots: Vec::new(alloc),
-    };
-    Ok(State::Want(Open { frame, around }))
+    let mut inner = outer;
+    let frame = mem::replace(&mut inner.frame, no_frame(alloc));
+    match inner.around.push(frame) {
+        Ok(()) => Ok(State::Want(inner)),
+        Err(error) => refused(Refusal::NoMemory, (error, inner)),
+    }
 }
 
-fn too_deep() -> Result<State, Refusal>
+/// Parentheses in which nothing is read.
+pub fn no_frame(alloc: Global) -> Frame
+    ensures { (result.lefts.items ≡ []) × (result.nots.items ≡ []) }
+{
+    Frame {
+        lefts: Vec::new(alloc),
+        nots: Vec::new(alloc),
+    }
+}
+
+fn too_deep<T: Drop>(_read: T) -> Result<State, Refusal>
     ensures { IsMove (reading.Stop FilterReason.TooDeep) result }
 {
     Err(Refusal::Fault(FilterReason::TooDeep))
@@ -122,7 +130,7 @@ fn in_operand(alloc: Global, spot: Spot, inside: Inside, kind: Kind) -> Result<S
 {
     match spot {
         Spot::Wanted => wanted(alloc, inside, kind),
-        Spot::Read(operand) => read(alloc, operand, inside, kind),
+        Spot::Read(operand) => read(alloc, operand, inside, &kind),
         Spot::LayersWanted(word) => behind_sharp(alloc, word, inside, kind),
         Spot::InLayers(word, done, at, spot) => in_layers(word, done, at, spot, inside, kind),
         Spot::InRanges(operand, bracket, done, at, spot) => {
@@ -142,7 +150,7 @@ fn in_operand(alloc: Global, spot: Spot, inside: Inside, kind: Kind) -> Result<S
 fn behind_sharp(alloc: Global, word: Word, inside: Inside, kind: Kind) -> Result<State, Refusal>
     ensures { IsMove (step_in (reading.LayersWanted word) inside kind) result }
 {
-    on_if(Ok(layers_begun(alloc, word, kind)), inside)
+    on_if(Ok(layers_begun(alloc, word, &kind)), inside)
 }
 
 /// In the brackets of layers.
@@ -157,7 +165,7 @@ fn in_layers(
 ) -> Result<State, Refusal>
     ensures { IsMove (step_in (reading.InLayers word done.items at spot) inside kind) result }
 {
-    on_if(layers_step(word, done, at, spot, kind), inside)
+    on_if(layers_step(word, done, at, spot, &kind), inside)
 }
 
 /// In the brackets of a slice.
@@ -172,7 +180,7 @@ fn in_ranges(
 ) -> Result<State, Refusal>
     ensures { IsMove (step_in (range_spot slice at spot) inside kind) result }
 {
-    on_if(ranges_step(alloc, slice, at, spot, kind), inside)
+    on_if(ranges_step(alloc, slice, at, spot, &kind), inside)
 }
 
 /// Behind the `&` of an operand.
@@ -197,7 +205,7 @@ fn wanted(alloc: Global, inside: Inside, kind: Kind) -> Result<State, Refusal>
         Kind::Calls(function, at) => open_call(alloc, inside, function, at),
         Kind::Text(quote) => on(Spot::Read(Operand::Text(quote)), inside),
         Kind::Name(word) => on(Spot::Read(Operand::Named(word)), inside),
-        _ => unexpected(),
+        _ => unexpected(inside),
     }
 }
 
@@ -207,26 +215,19 @@ fn open_call(alloc: Global, inside: Inside, function: Function, at: u32) -> Resu
     ensures { IsMove (step_in reading.OperandWanted inside (Kind.Calls function at)) result }
 {
     if !has_room(inside.calls.len(), &inside.outer) {
-        return too_deep();
+        return too_deep(inside);
     }
-    let Inside {
-        side,
-        waiting,
-        mut calls,
-        outer,
-    } = inside;
-    calls.push(Call {
+    let mut inner = inside;
+    let waiting = mem::replace(&mut inner.waiting, Vec::new(alloc));
+    let call = Call {
         function,
         at,
         waiting,
-    })?;
-    let inner = Inside {
-        side,
-        waiting: Vec::new(alloc),
-        calls,
-        outer,
     };
-    on(Spot::Wanted, inner)
+    match inner.calls.push(call) {
+        Ok(()) => on(Spot::Wanted, inner),
+        Err(error) => refused(Refusal::NoMemory, (error, inner)),
+    }
 }
 
 /// Further on in an operand.
@@ -238,10 +239,10 @@ fn on(spot: Spot, inside: Inside) -> Result<State, Refusal>
 
 /// Behind an operand that is whole, as far as it is read.
 #[tactic(auto, using(crate::proofs::Moves::read_other))]
-fn read(alloc: Global, operand: Operand, inside: Inside, kind: Kind) -> Result<State, Refusal>
-    ensures { IsMove (step_in (reading.OperandRead (operand_of operand)) inside kind) result }
+fn read(alloc: Global, operand: Operand, inside: Inside, kind: &Kind) -> Result<State, Refusal>
+    ensures { IsMove (step_in (reading.OperandRead (operand_of operand)) inside kind.now) result }
 {
-    if goes_on(&kind) {
+    if goes_on(kind) {
         return read_on(alloc, operand, inside, kind);
     }
     operand_end(alloc, operand, inside, kind)
@@ -256,15 +257,15 @@ fn goes_on(kind: &Kind) -> bool
     }
 }
 
-fn read_on(alloc: Global, operand: Operand, inside: Inside, kind: Kind) -> Result<State, Refusal>
-    requires { goes_on_with kind ≡ true }
-    ensures { IsMove (step_in (reading.OperandRead (operand_of operand)) inside kind) result }
+fn read_on(alloc: Global, operand: Operand, inside: Inside, kind: &Kind) -> Result<State, Refusal>
+    requires { goes_on_with kind.now ≡ true }
+    ensures { IsMove (step_in (reading.OperandRead (operand_of operand)) inside kind.now) result }
 {
     match kind {
         Kind::Hash => layers_of(operand, inside),
-        Kind::OpenRanges(at, next) => slice_of(alloc, operand, at, next, inside),
-        Kind::Mask(at) => mask_of(operand, at, inside),
-        _ => unexpected(),
+        Kind::OpenRanges(at, next) => slice_of(alloc, operand, *at, *next, inside),
+        Kind::Mask(at) => mask_of(operand, *at, inside),
+        _ => unexpected((operand, inside)),
     }
 }
 
@@ -275,7 +276,7 @@ fn layers_of(operand: Operand, inside: Inside) -> Result<State, Refusal>
 {
     match spot_behind_hash(operand) {
         Some(spot) => on(spot, inside),
-        None => unexpected(),
+        None => unexpected(inside),
     }
 }
 
@@ -298,7 +299,7 @@ fn slice_of(
         (Kind.OpenRanges at next)) result }
 {
     if !takes_slice(&operand) {
-        return unexpected();
+        return unexpected((operand, inside));
     }
     let spot = Spot::InRanges(operand, at, Vec::new(alloc), next, RangeSpot::RangeWanted);
     on(spot, inside)
@@ -311,7 +312,7 @@ fn mask_of(operand: Operand, at: u32, inside: Inside) -> Result<State, Refusal>
         result }
 {
     if !takes_mask(&operand) {
-        return unexpected();
+        return unexpected((operand, inside));
     }
     on(Spot::MaskWanted(operand, at), inside)
 }
@@ -322,9 +323,9 @@ fn on_if(next: Result<Option<Spot>, Refusal>, inside: Inside) -> Result<State, R
     ensures { (n : Option reading.Spot) → IsSpot n next → IsMove (further_in n inside) result }
 {
     match next {
-        Ok(Some(spot)) => Ok(State::InOperand(spot, inside)),
-        Ok(None) => unexpected(),
-        Err(error) => Err(error),
+        Ok(Some(spot)) => on(spot, inside),
+        Ok(None) => unexpected(inside),
+        Err(error) => refused(error, inside),
     }
 }
 
@@ -333,14 +334,14 @@ fn operand_end(
     alloc: Global,
     operand: Operand,
     inside: Inside,
-    kind: Kind,
+    kind: &Kind,
 ) -> Result<State, Refusal>
-    ensures { IsMove (end_in (operand_of operand) inside kind) result }
+    ensures { IsMove (end_in (operand_of operand) inside kind.now) result }
 {
     match kind {
         Kind::Computes(arithmetic, at) => behind_link(
             alloc,
-            Link::Sign(arithmetic, at),
+            Link::Sign(*arithmetic, *at),
             operand,
             inside,
         ),
@@ -357,47 +358,40 @@ fn behind_link(
 ) -> Result<State, Refusal>
     ensures { IsMove (reading.Go (link_in link (operand_of operand) inside)) result }
 {
-    let Inside {
-        side,
-        waiting,
-        calls,
-        outer,
-    } = inside;
-    let waiting = wait(alloc, link, waiting, operand)?;
-    let behind = Inside {
-        side,
-        waiting,
-        calls,
-        outer,
-    };
-    on(Spot::Wanted, behind)
+    let mut behind = inside;
+    match wait(alloc, link, &mut behind.waiting, operand) {
+        Ok(()) => on(Spot::Wanted, behind),
+        Err(NoMemory) => refused(Refusal::NoMemory, behind),
+    }
 }
 
 /// At a token, other than a sign, behind an operand.
 #[tactic(auto, using(crate::proofs::Stacks::reversed_push))]
-fn level_end(alloc: Global, operand: Operand, inside: Inside, kind: Kind) -> Result<State, Refusal>
-    ensures { IsMove (level_end_in (operand_of operand) inside kind) result }
+fn level_end(alloc: Global, operand: Operand, inside: Inside, kind: &Kind) -> Result<State, Refusal>
+    ensures { IsMove (level_end_in (operand_of operand) inside kind.now) result }
+{
+    let mut inside = inside;
+    match inside.calls.pop() {
+        Some(call) => call_end(alloc, call, operand, inside, kind),
+        None => calls_end(alloc, operand, inside, kind),
+    }
+}
+
+/// At a token behind an operand around which no call is open.
+fn calls_end(alloc: Global, operand: Operand, inside: Inside, kind: &Kind) -> Result<State, Refusal>
+    requires { inside.calls.items ≡ [] }
+    ensures { IsMove (level_end_in (operand_of operand) inside kind.now) result }
 {
     let Inside {
         side,
         waiting,
-        mut calls,
+        calls,
         outer,
     } = inside;
-    match calls.pop() {
-        Some(call) => {
-            let inside = Inside {
-                side,
-                waiting,
-                calls,
-                outer,
-            };
-            call_end(alloc, call, operand, inside, kind)
-        }
-        None => {
-            let all = link_all(alloc, waiting, operand)?;
-            side_end(alloc, side, all, outer, kind)
-        }
+    drop(calls);
+    match link_all(alloc, waiting, operand) {
+        Ok(all) => side_end(alloc, side, all, outer, kind),
+        Err(NoMemory) => refused(Refusal::NoMemory, (side, outer)),
     }
 }
 
@@ -407,14 +401,14 @@ fn call_end(
     call: Call,
     operand: Operand,
     inside: Inside,
-    kind: Kind,
+    kind: &Kind,
 ) -> Result<State, Refusal>
-    ensures { IsMove (call_end_in (call_of call) (operand_of operand) inside kind) result }
+    ensures { IsMove (call_end_in (call_of call) (operand_of operand) inside kind.now) result }
 {
     match kind {
         Kind::Close => close_call(alloc, call, operand, inside),
         Kind::Comma => next_argument(alloc, call, operand, inside),
-        _ => unexpected(),
+        _ => unexpected((call, operand, inside)),
     }
 }
 
@@ -422,26 +416,27 @@ fn call_end(
 fn close_call(alloc: Global, call: Call, operand: Operand, inside: Inside) -> Result<State, Refusal>
     ensures { IsMove (call_end_in (call_of call) (operand_of operand) inside Kind.Close) result }
 {
-    let Inside {
-        side,
-        waiting,
-        calls,
-        outer,
-    } = inside;
-    let Call {
-        function,
-        at,
-        waiting: around,
-    } = call;
+    let mut outside = inside;
+    let waiting = mem::replace(&mut outside.waiting, call.waiting);
+    match called(alloc, call.function, call.at, waiting, operand) {
+        Ok(called) => on(Spot::Read(called), outside),
+        Err(NoMemory) => refused(Refusal::NoMemory, outside),
+    }
+}
+
+/// A call, whose last argument stands behind the operands that wait.
+fn called(
+    alloc: Global,
+    function: Function,
+    at: u32,
+    waiting: Vec<Waiting>,
+    operand: Operand,
+) -> Result<Operand, NoMemory>
+    ensures { IfOk result (λ o. operand_of o ≡ CalledOf function at
+        (reading.all_linked (waiting_of waiting.items) (operand_of operand))) }
+{
     let argument = link_all(alloc, waiting, operand)?;
-    let called = Operand::Called(function, at, Box::new(alloc, argument)?);
-    let outside = Inside {
-        side,
-        waiting: around,
-        calls,
-        outer,
-    };
-    on(Spot::Read(called), outside)
+    Ok(Operand::Called(function, at, Box::new(alloc, argument)?))
 }
 
 /// Behind the comma after an argument.
@@ -455,22 +450,13 @@ fn next_argument(
     ensures { IsMove (call_end_in (call_of call) (operand_of operand) inside Kind.Comma) result }
 {
     if !takes_more(call.function) {
-        return unexpected();
+        return unexpected((call, operand, inside));
     }
-    let Inside {
-        side,
-        waiting,
-        mut calls,
-        outer,
-    } = inside;
-    calls.push(call)?;
-    let inside = Inside {
-        side,
-        waiting,
-        calls,
-        outer,
-    };
-    behind_link(alloc, Link::Comma, operand, inside)
+    let mut inside = inside;
+    match inside.calls.push(call) {
+        Ok(()) => behind_link(alloc, Link::Comma, operand, inside),
+        Err(error) => refused(Refusal::NoMemory, (error, operand, inside)),
+    }
 }
 
 /// At a token behind the left or the right operand.
@@ -479,9 +465,9 @@ fn side_end(
     side: Side,
     operand: Operand,
     outer: Open,
-    kind: Kind,
+    kind: &Kind,
 ) -> Result<State, Refusal>
-    ensures { IsMove (side_end_in (side_of side) (operand_of operand) outer kind) result }
+    ensures { IsMove (side_end_in (side_of side) (operand_of operand) outer kind.now) result }
 {
     match side {
         Side::OnLeft(None) => left_end(alloc, operand, outer, kind),
@@ -494,17 +480,16 @@ fn side_end(
 }
 
 /// At a token behind a left operand without `any` and `all`.
-fn left_end(alloc: Global, operand: Operand, outer: Open, kind: Kind) -> Result<State, Refusal>
-    ensures { IsMove (left_end_in None (operand_of operand) outer kind) result }
+fn left_end(alloc: Global, operand: Operand, outer: Open, kind: &Kind) -> Result<State, Refusal>
+    ensures { IsMove (left_end_in None (operand_of operand) outer kind.now) result }
 {
     match kind {
-        Kind::Compares(operator, at) => compare(alloc, None, operand, operator, at, outer),
-        Kind::Negates(negation) => not_in(negation, None, operand, outer),
-        Kind::In => Ok(State::InTail(TailSpot::SetWanted(false), None, operand, outer)),
-        Kind::Matches(at) => Ok(State::InTail(TailSpot::PatternWanted(at), None, operand, outer)),
-        Kind::Joins(join) => behind_test(alloc, outer, Ast::Alone(operand), Kind::Joins(join)),
-        Kind::Close => behind_test(alloc, outer, Ast::Alone(operand), Kind::Close),
-        _ => unexpected(),
+        Kind::Compares(operator, at) => compare(alloc, None, operand, *operator, *at, outer),
+        Kind::Negates(negation) => not_in(*negation, None, operand, outer),
+        Kind::In => tail_on(TailSpot::SetWanted(false), None, operand, outer),
+        Kind::Matches(at) => tail_on(TailSpot::PatternWanted(*at), None, operand, outer),
+        Kind::Joins(_) | Kind::Close => behind_test(alloc, outer, Ast::Alone(operand), kind),
+        _ => unexpected((operand, outer)),
     }
 }
 
@@ -514,22 +499,32 @@ fn chosen_end(
     choice: Choice,
     operand: Operand,
     outer: Open,
-    kind: Kind,
+    kind: &Kind,
 ) -> Result<State, Refusal>
-    ensures { IsMove (left_end_in (Some choice) (operand_of operand) outer kind) result }
+    ensures { IsMove (left_end_in (Some choice) (operand_of operand) outer kind.now) result }
 {
     match kind {
-        Kind::Compares(operator, at) => compare_chosen(alloc, choice, operand, operator, at, outer),
-        Kind::Negates(negation) => not_in(negation, Some(choice), operand, outer),
-        Kind::In => Ok(State::InTail(TailSpot::SetWanted(false), Some(choice), operand, outer)),
-        Kind::Matches(at) => Ok(State::InTail(
-            TailSpot::PatternWanted(at),
-            Some(choice),
-            operand,
-            outer,
-        )),
-        _ => unexpected(),
+        Kind::Compares(operator, at) => compare_chosen(
+            alloc, choice, operand, *operator, *at, outer,
+        ),
+        Kind::Negates(negation) => not_in(*negation, Some(choice), operand, outer),
+        Kind::In => tail_on(TailSpot::SetWanted(false), Some(choice), operand, outer),
+        Kind::Matches(at) => tail_on(TailSpot::PatternWanted(*at), Some(choice), operand, outer),
+        _ => unexpected((operand, outer)),
     }
+}
+
+/// Further on in what follows a left operand.
+fn tail_on(
+    spot: TailSpot,
+    choice: Option<Choice>,
+    operand: Operand,
+    outer: Open,
+) -> Result<State, Refusal>
+    ensures { IsMove (reading.Go
+        (at_tail (tail_spot_of spot) choice (operand_of operand) outer)) result }
+{
+    Ok(State::InTail(spot, choice, operand, outer))
 }
 
 /// Behind an operator.
@@ -566,7 +561,7 @@ fn compare_chosen(
         (Kind.Compares operator at)) result }
 {
     if !is_open(operator) {
-        return unexpected();
+        return unexpected((operand, outer));
     }
     compare(alloc, Some(choice), operand, operator, at, outer)
 }
@@ -592,8 +587,8 @@ fn not_in(
     ensures { IsMove (not_in_of negation choice (operand_of operand) outer) result }
 {
     match negation {
-        Negation::Word => Ok(State::InTail(TailSpot::InWanted, choice, operand, outer)),
-        Negation::Sign => unexpected(),
+        Negation::Word => tail_on(TailSpot::InWanted, choice, operand, outer),
+        Negation::Sign => unexpected((operand, outer)),
     }
 }
 
@@ -611,10 +606,10 @@ fn in_tail(
         (at_tail (tail_spot_of spot) choice (operand_of operand) outer) kind) result }
 {
     match tail_step(alloc, spot, kind) {
-        Ok(TailMove::Further(next)) => Ok(State::InTail(next, choice, operand, outer)),
+        Ok(TailMove::Further(next)) => tail_on(next, choice, operand, outer),
         Ok(TailMove::Done(tail)) => have(alloc, outer, Ast::Test(choice, operand, tail)),
-        Ok(TailMove::Wrong) => unexpected(),
-        Err(error) => Err(error),
+        Ok(TailMove::Wrong) => unexpected((operand, outer)),
+        Err(error) => refused(error, (operand, outer)),
     }
 }
 
@@ -625,11 +620,13 @@ pub fn finish(alloc: Global, state: State) -> Result<Ast, Refusal>
     match state {
         State::Have(lefts, filter, around) => whole(alloc, lefts, filter, around),
         State::InOperand(spot, inside) => whole_spot(alloc, spot, inside),
-        State::Want(_) | State::InTail(_, _, _, _) => cut_off(),
+        State::Want(outer) => cut_off(outer),
+        State::InTail(spot, _, operand, outer) => cut_off((spot, operand, outer)),
     }
 }
 
-fn cut_off() -> Result<Ast, Refusal>
+/// Where the tokens end too early: what was read is given up.
+fn cut_off<T: Drop>(_read: T) -> Result<Ast, Refusal>
     ensures { IsWhole None result }
 {
     Err(Refusal::Fault(FilterReason::Unexpected))
@@ -642,7 +639,7 @@ fn whole(alloc: Global, lefts: Vec<Left>, filter: Ast, around: Vec<Frame>) -> Re
         result }
 {
     if !around.is_empty() {
-        return cut_off();
+        return cut_off((lefts, filter, around));
     }
     Ok(join_all(alloc, lefts, filter)?)
 }
@@ -653,7 +650,7 @@ fn whole_spot(alloc: Global, spot: Spot, inside: Inside) -> Result<Ast, Refusal>
 {
     match operand_read(spot) {
         Some(operand) => whole_operand(alloc, operand, inside),
-        None => cut_off(),
+        None => cut_off(inside),
     }
 }
 
@@ -673,10 +670,19 @@ fn whole_operand(alloc: Global, operand: Operand, inside: Inside) -> Result<Ast,
         result }
 {
     if !inside.calls.is_empty() {
-        return cut_off();
+        return cut_off((operand, inside));
     }
-    let all = link_all(alloc, inside.waiting, operand)?;
-    whole_test(alloc, all, inside.side, inside.outer)
+    let Inside {
+        side,
+        waiting,
+        calls,
+        outer,
+    } = inside;
+    drop(calls);
+    match link_all(alloc, waiting, operand) {
+        Ok(all) => whole_test(alloc, all, side, outer),
+        Err(NoMemory) => refused(Refusal::NoMemory, (side, outer)),
+    }
 }
 
 fn whole_test(alloc: Global, operand: Operand, side: Side, outer: Open) -> Result<Ast, Refusal>
@@ -685,7 +691,7 @@ fn whole_test(alloc: Global, operand: Operand, side: Side, outer: Open) -> Resul
 {
     match side {
         Side::OnLeft(None) => whole_behind(alloc, Ast::Alone(operand), outer),
-        Side::OnLeft(Some(_)) => cut_off(),
+        Side::OnLeft(Some(_)) => cut_off((operand, outer)),
         Side::OnRight(choice, left, operator, at) => {
             let test = Ast::Test(choice, left, Tail::Compare(operator, at, operand));
             whole_behind(alloc, test, outer)
@@ -698,6 +704,8 @@ fn whole_behind(alloc: Global, test: Ast, outer: Open) -> Result<Ast, Refusal>
 {
     let Open { frame, around } = outer;
     let Frame { lefts, nots } = frame;
-    let all = negate(alloc, nots, test)?;
-    whole(alloc, lefts, all, around)
+    match negate(alloc, nots, test) {
+        Ok(all) => whole(alloc, lefts, all, around),
+        Err(NoMemory) => refused(Refusal::NoMemory, (lefts, around)),
+    }
 }

@@ -1,14 +1,14 @@
 // The strings of a filter's text.
-ghost use Rattle.std.specs.Prelude.{◌≡◌, ◌==◌, position, ◌≤◌, ◌<◌, ◌+◌, IfOk, IfSome, length};
+ghost use Rattle.std.specs.Prelude.{◌≡◌, ◌==◌, position, ◌≤◌, ◌<◌, None, Ok, IfOk, IfSome, length};
 ghost use Rattle.std.specs.Option.{option_map};
-ghost use Rattle.flt_parse.specs.Strings.{hex_byte as byte_of_hex, escape as escape_of, piece as piece_of, string_inside, raw_inside};
+ghost use Rattle.flt_syntax.specs.Strings.{hex_byte as byte_of_hex, escape as escape_of, piece as piece_of, string_inside, raw_inside};
 
 use pk_base::{NoMemory, Octets, bytes_from};
 use std::alloc::Global;
 
 /// A byte of a string, and how many bytes spell it.
 #[derive(Clone, Copy)]
-struct Piece {
+pub struct Piece {
     value: u8,
     width: usize,
 }
@@ -18,6 +18,13 @@ struct Piece {
 pub struct Inside {
     pub bytes: Octets,
     pub width: usize,
+}
+
+/// Where no string stands: what was read before is given up.
+fn nothing<T: Drop>(_read: T) -> Result<Option<Inside>, NoMemory>
+    ensures { result ≡ Ok None }
+{
+    Ok(None)
 }
 
 /// Reads a string behind its opening `"`; None where it doesn't end, or has another escape.
@@ -31,13 +38,13 @@ pub fn read_string(alloc: Global, text: &[u8]) -> Result<Option<Inside>, NoMemor
     let mut at = 0;
     'pieces: while at < text.len() && text[at] != b'"' {
         let Some(piece) = piece_at(bytes_from(text, at)) else {
-            return Ok(None);
+            return nothing(bytes);
         };
         bytes.push(piece.value)?;
         at += piece.width;
     }
     if at >= text.len() {
-        return Ok(None);
+        return nothing(bytes);
     }
     Ok(Some(Inside {
         bytes: Octets::from_vec(bytes)?,
@@ -69,6 +76,7 @@ fn quote_in(text: &[u8]) -> Option<usize>
 }
 
 /// The first byte that the inside of a string stands for; None at the text's end and at an escape that is none.
+#[tactic(auto, using(crate::proofs::Inside::escape_fits))]
 fn piece_at(text: &[u8]) -> Option<Piece>
     ensures value { option_map (λ p. (p.value, p.width)) result ≡ piece_of text.now }
     ensures within { IfSome result (λ p. (0 < p.width) × (p.width ≤ length text.now)) }
@@ -84,8 +92,7 @@ fn piece_at(text: &[u8]) -> Option<Piece>
 }
 
 fn escape_at(text: &[u8]) -> Option<Piece>
-    ensures value { option_map (λ p. (p.value, p.width)) result ≡ escape_of text.now }
-    ensures within { IfSome result (λ p. (0 < p.width) × (p.width ≤ length text.now + 1)) }
+    ensures { option_map (λ p. (p.value, p.width)) result ≡ escape_of text.now }
 {
     match text {
         [b'\\', ..] => Some(Piece {
@@ -114,8 +121,7 @@ fn escape_at(text: &[u8]) -> Option<Piece>
 }
 
 fn hex_at(text: &[u8]) -> Option<Piece>
-    ensures value { option_map (λ p. (p.value, p.width)) result ≡ byte_of_hex text.now }
-    ensures within { IfSome result (λ p. (p.width ≡ 4) × (2 ≤ length text.now)) }
+    ensures { option_map (λ p. (p.value, p.width)) result ≡ byte_of_hex text.now }
 {
     let [high, low, ..] = text else {
         return None;

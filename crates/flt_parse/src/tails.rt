@@ -2,11 +2,10 @@
 ghost use Rattle.std.specs.Prelude.{◌++◌, [], ◌∷◌, Some, None, true};
 ghost use Rattle.flt_parse.specs.Parser.Reading as reading;
 ghost use Rattle.flt_parse.specs.Parser.States.{IsTailMove, tail_spot_of};
-ghost use Rattle.flt_parse.specs.Written.{InOf};
+ghost use Rattle.flt_syntax.specs.Written.{InOf};
 
-use crate::ast::{Element, Literal, Tail};
 use crate::state::{ElementSpot, Refusal, TailMove, TailSpot};
-use crate::token::Kind;
+use flt_syntax::{Element, Kind, Literal, Tail};
 use std::alloc::Global;
 
 pub fn tail_step(alloc: Global, spot: TailSpot, kind: Kind) -> Result<TailMove, Refusal>
@@ -14,17 +13,17 @@ pub fn tail_step(alloc: Global, spot: TailSpot, kind: Kind) -> Result<TailMove, 
         (reading.tail_done (tail_spot_of spot) kind) result }
 {
     match spot {
-        TailSpot::InWanted => in_wanted(kind),
-        TailSpot::SetWanted(negated) => set_wanted(alloc, negated, kind),
+        TailSpot::InWanted => in_wanted(&kind),
+        TailSpot::SetWanted(negated) => set_wanted(alloc, negated, &kind),
         TailSpot::InSet(negated, done, spot) => set_step(negated, done, spot, kind),
         TailSpot::PatternWanted(at) => pattern_wanted(at, kind),
     }
 }
 
 /// Behind `not`.
-fn in_wanted(kind: Kind) -> Result<TailMove, Refusal>
-    ensures { IsTailMove (reading.tail_step reading.InWanted kind)
-        (reading.tail_done reading.InWanted kind) result }
+fn in_wanted(kind: &Kind) -> Result<TailMove, Refusal>
+    ensures { IsTailMove (reading.tail_step reading.InWanted kind.now)
+        (reading.tail_done reading.InWanted kind.now) result }
 {
     match kind {
         Kind::In => Ok(TailMove::Further(TailSpot::SetWanted(true))),
@@ -33,9 +32,9 @@ fn in_wanted(kind: Kind) -> Result<TailMove, Refusal>
 }
 
 /// Behind `in`.
-fn set_wanted(alloc: Global, negated: bool, kind: Kind) -> Result<TailMove, Refusal>
-    ensures { IsTailMove (reading.tail_step (reading.SetWanted negated) kind)
-        (reading.tail_done (reading.SetWanted negated) kind) result }
+fn set_wanted(alloc: Global, negated: bool, kind: &Kind) -> Result<TailMove, Refusal>
+    ensures { IsTailMove (reading.tail_step (reading.SetWanted negated) kind.now)
+        (reading.tail_done (reading.SetWanted negated) kind.now) result }
 {
     match kind {
         Kind::OpenBrace => Ok(TailMove::Further(TailSpot::InSet(
@@ -70,9 +69,9 @@ fn set_step(
 {
     match spot {
         ElementSpot::ElementWanted => element_wanted(negated, done, kind),
-        ElementSpot::LiteralRead(first) => literal_read(negated, done, first, kind),
+        ElementSpot::LiteralRead(first) => literal_read(negated, done, first, &kind),
         ElementSpot::SecondWanted(first) => second_wanted(negated, done, first, kind),
-        ElementSpot::SecondRead(first, second) => second_read(negated, done, first, second, kind),
+        ElementSpot::SecondRead(first, second) => second_read(negated, done, first, second, &kind),
     }
 }
 
@@ -92,7 +91,7 @@ fn element_wanted(negated: bool, done: Vec<Element>, kind: Kind) -> Result<TailM
             done,
             ElementSpot::LiteralRead(Literal::Text(quote)),
         ),
-        _ => Ok(TailMove::Wrong),
+        _ => wrong(done),
     }
 }
 
@@ -100,18 +99,18 @@ fn literal_read(
     negated: bool,
     done: Vec<Element>,
     first: Literal,
-    kind: Kind,
+    kind: &Kind,
 ) -> Result<TailMove, Refusal>
     ensures { IsTailMove (reading.tail_step
-        (reading.InSet negated done.items (reading.LiteralRead first)) kind)
-        (reading.tail_done (reading.InSet negated done.items (reading.LiteralRead first)) kind)
+        (reading.InSet negated done.items (reading.LiteralRead first)) kind.now)
+        (reading.tail_done (reading.InSet negated done.items (reading.LiteralRead first)) kind.now)
         result }
 {
     match kind {
         Kind::DotDot => in_element(negated, done, ElementSpot::SecondWanted(first)),
         Kind::Comma => next_element(negated, done, Element::One(first)),
         Kind::CloseBrace => all_elements(negated, done, Element::One(first)),
-        _ => Ok(TailMove::Wrong),
+        _ => wrong((done, first)),
     }
 }
 
@@ -137,7 +136,7 @@ fn second_wanted(
             done,
             ElementSpot::SecondRead(first, Literal::Text(quote)),
         ),
-        _ => Ok(TailMove::Wrong),
+        _ => wrong((done, first)),
     }
 }
 
@@ -146,18 +145,25 @@ fn second_read(
     done: Vec<Element>,
     first: Literal,
     second: Literal,
-    kind: Kind,
+    kind: &Kind,
 ) -> Result<TailMove, Refusal>
     ensures { IsTailMove (reading.tail_step
-        (reading.InSet negated done.items (reading.SecondRead first second)) kind)
+        (reading.InSet negated done.items (reading.SecondRead first second)) kind.now)
         (reading.tail_done (reading.InSet negated done.items (reading.SecondRead first second))
-        kind) result }
+        kind.now) result }
 {
     match kind {
         Kind::Comma => next_element(negated, done, Element::Between(first, second)),
         Kind::CloseBrace => all_elements(negated, done, Element::Between(first, second)),
-        _ => Ok(TailMove::Wrong),
+        _ => wrong((done, first, second)),
     }
+}
+
+/// Where a token isn't read: what was read before it is given up.
+fn wrong<T: Drop>(_read: T) -> Result<TailMove, Refusal>
+    ensures { IsTailMove None None result }
+{
+    Ok(TailMove::Wrong)
 }
 
 /// A spot in the same element.

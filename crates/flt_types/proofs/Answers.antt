@@ -1,8 +1,8 @@
 -- The first of two lists of faults, one behind the other.
 use Rattle.std.proofs.Common.{◌≡◌, inl, inr, ℕ, Bool, true, List, [], ◌∷◌, ◌++◌, Option, Some}
-use Rattle.flt_parse.specs.declared.fault.FilterError.{FilterError}
-use Rattle.flt_parse.specs.declared.fault.FilterError.TheVariants.{Fault, NoMemory}
-use Rattle.flt_parse.specs.declared.fault.FilterReason.{FilterReason}
+use Rattle.flt_syntax.specs.declared.fault.FilterError.{FilterError}
+use Rattle.flt_syntax.specs.declared.fault.FilterError.TheVariants.{Fault, NoMemory}
+use Rattle.flt_syntax.specs.declared.fault.FilterReason.{FilterReason}
 use Rattle.flt_types.specs.Faults.{Found, At, PatternAt, IsAnswer, IsClear, IsFirst, given, unless}
 use Rattle.pk_fields.specs.declared.value_kind.ValueKind.{ValueKind}
 

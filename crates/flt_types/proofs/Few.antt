@@ -1,8 +1,8 @@
 -- The lists in a tree are as short as its text.
 use Rattle.std.proofs.Common.{ℕ, ◌<◌, ◌≤◌, ◌^◌, List, [], ◌∷◌, ◌++◌, length, arith, length-append}
-use Rattle.flt_parse.specs.Grammar.{element, more_elements, more_ranges, range, ranges, set}
-use Rattle.flt_parse.specs.declared.ast.Element.{Element}
-use Rattle.flt_parse.specs.declared.ast.SliceRange.{SliceRange}
+use Rattle.flt_syntax.specs.Grammar.{element, more_elements, more_ranges, range, ranges, set}
+use Rattle.flt_syntax.specs.declared.ast.Element.{Element}
+use Rattle.flt_syntax.specs.declared.ast.SliceRange.{SliceRange}
 
 -- a list that a `Vec` can hold
 abbrev pub IsFew : {A : Type 0} → List A → Type 0

@@ -4,5 +4,3 @@ pub mod Few
 pub mod HaveTypes
 pub mod OpenParts
 pub mod PartLemmas
-pub mod Sure
-pub mod Unique

@@ -1,10 +1,10 @@
 -- What is open around a part of a tree, one more or one less.
 use Rattle.std.proofs.Common.{◌≡◌, ◌+◌, List, [], ◌∷◌, ◌++◌, ap, sym, refl, subst, ◌∙◌, arith, Bor}
-use Rattle.flt_parse.specs.Written.{Written, JoinedOf, NotOf, written}
-use Rattle.flt_parse.specs.declared.ast.Ast.{Ast}
-use Rattle.flt_parse.specs.declared.ast.Negation.{Negation}
-use Rattle.flt_parse.specs.declared.fault.FilterError.{FilterError}
-use Rattle.flt_parse.specs.declared.token.Join.{Join}
+use Rattle.flt_syntax.specs.Written.{Written, JoinedOf, NotOf, written}
+use Rattle.flt_syntax.specs.declared.ast.Ast.{Ast}
+use Rattle.flt_syntax.specs.declared.ast.Negation.{Negation}
+use Rattle.flt_syntax.specs.declared.fault.FilterError.{FilterError}
+use Rattle.flt_syntax.specs.declared.token.Join.{Join}
 use Rattle.flt_types.specs.Faults.{IsAnswer, faults}
 use Rattle.flt_types.specs.Parts.{Fills, Plugs, tests_in, waiting}
 use Rattle.flt_types.specs.Typing.{HasType}

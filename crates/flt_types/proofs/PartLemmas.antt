@@ -2,10 +2,10 @@
 use Rattle.std.proofs.Common.{◌≡◌, ◌<◌, ℕ, true, List, [], ◌∷◌, ◌++◌, Some, None, ap, sym, refl, subst, ◌∙◌}
 use Rattle.std.proofs.lemmas.List.Elements.{All-pop, All-push}
 use Rattle.std.specs.List.{All}
-use Rattle.flt_parse.specs.Written.{WrittenOperand, ComputedOf, ArgumentsOf, operand_of}
-use Rattle.flt_parse.specs.declared.ast.Arithmetic.{Arithmetic}
-use Rattle.flt_parse.specs.declared.fault.FilterError.{FilterError}
-use Rattle.flt_parse.specs.declared.fault.FilterReason.TheVariants.{TypeMismatch}
+use Rattle.flt_syntax.specs.Written.{WrittenOperand, ComputedOf, ArgumentsOf, operand_of}
+use Rattle.flt_syntax.specs.declared.ast.Arithmetic.{Arithmetic}
+use Rattle.flt_syntax.specs.declared.fault.FilterError.{FilterError}
+use Rattle.flt_syntax.specs.declared.fault.FilterReason.TheVariants.{TypeMismatch}
 use Rattle.flt_types.specs.Faults.{IsAnswer, given, kind_written, number_faults, operand_faults}
 use Rattle.flt_types.specs.Operands.{joined, parts_right, with_right}
 use Rattle.flt_types.specs.Standing.{sign_for}

@@ -3,19 +3,19 @@
 -- the first one counts, so what stands behind one may be anything.
 use Rattle.std.specs.Prelude.{◌≡◌, ◌⊎◌, ◌&&◌, ℕ, Bool as Truth, true, false, List, [], ◌∷◌, ◌++◌, Option, Some, None, is_some}
 use Rattle.std.specs.Option.{option_map, option_map_or}
-use Rattle.flt_parse.specs.Written.{Written, WrittenOperand, WrittenTail, TextOf, NamedOf, OnLayerOf, OnLayersOf, SlicedOf, MaskedOf, CalledOf, ComputedOf, ArgumentsOf, CompareOf, InOf, MatchesOf, JoinedOf, NotOf, GroupOf, AloneOf, TestOf}
-use Rattle.flt_parse.specs.declared.ast.Element.{Element}
-use Rattle.flt_parse.specs.declared.ast.Element.TheVariants as elements
-use Rattle.flt_parse.specs.declared.ast.Function.{Function}
-use Rattle.flt_parse.specs.declared.ast.Function.TheVariants.{Count, Min, Max}
-use Rattle.flt_parse.specs.declared.ast.LayerRange.{LayerRange}
-use Rattle.flt_parse.specs.declared.ast.Literal.{Literal}
-use Rattle.flt_parse.specs.declared.ast.SliceRange.{SliceRange}
-use Rattle.flt_parse.specs.declared.fault.FilterError.{FilterError}
-use Rattle.flt_parse.specs.declared.fault.FilterError.TheVariants.{Fault, NoMemory}
-use Rattle.flt_parse.specs.declared.fault.FilterReason.{FilterReason}
-use Rattle.flt_parse.specs.declared.fault.FilterReason.TheVariants.{UnknownField, TypeMismatch, OutOfRange, BadPattern, PatternSize}
-use Rattle.flt_parse.specs.declared.word.Word.{Word}
+use Rattle.flt_syntax.specs.Written.{Written, WrittenOperand, WrittenTail, TextOf, NamedOf, OnLayerOf, OnLayersOf, SlicedOf, MaskedOf, CalledOf, ComputedOf, ArgumentsOf, CompareOf, InOf, MatchesOf, JoinedOf, NotOf, GroupOf, AloneOf, TestOf}
+use Rattle.flt_syntax.specs.declared.ast.Element.{Element}
+use Rattle.flt_syntax.specs.declared.ast.Element.TheVariants as elements
+use Rattle.flt_syntax.specs.declared.ast.Function.{Function}
+use Rattle.flt_syntax.specs.declared.ast.Function.TheVariants.{Count, Min, Max}
+use Rattle.flt_syntax.specs.declared.ast.LayerRange.{LayerRange}
+use Rattle.flt_syntax.specs.declared.ast.Literal.{Literal}
+use Rattle.flt_syntax.specs.declared.ast.SliceRange.{SliceRange}
+use Rattle.flt_syntax.specs.declared.fault.FilterError.{FilterError}
+use Rattle.flt_syntax.specs.declared.fault.FilterError.TheVariants.{Fault, NoMemory}
+use Rattle.flt_syntax.specs.declared.fault.FilterReason.{FilterReason}
+use Rattle.flt_syntax.specs.declared.fault.FilterReason.TheVariants.{UnknownField, TypeMismatch, OutOfRange, BadPattern, PatternSize}
+use Rattle.flt_syntax.specs.declared.word.Word.{Word}
 use Rattle.flt_pattern.specs.Patterns.{IsPattern, IsNoPattern, MayBeLarge}
 use Rattle.flt_types.specs.Layers.{is_layer, is_layers}
 use Rattle.flt_types.specs.Literals.{end_read, literal_of, literal_read, place_of_literal, side_read}

@@ -1,12 +1,8 @@
--- What holds of every tree and every text.
-use Rattle.std.specs.Prelude.{◌≡◌, ◌≢◌, ◌⊎◌, ℕ, List}
-use Rattle.flt_parse.specs.Filters.{IsFilterText}
-use Rattle.flt_parse.specs.Written.{Written}
-use Rattle.flt_parse.specs.declared.fault.FilterError.TheVariants.{Fault}
-use Rattle.flt_parse.specs.declared.fault.FilterFault.{FilterFault}
-use Rattle.flt_parse.specs.declared.fault.FilterReason.TheVariants.{PatternSize}
+-- What holds of every tree.
+use Rattle.std.specs.Prelude.{ℕ, List}
+use Rattle.flt_syntax.specs.Filters.{IsFilterText}
+use Rattle.flt_syntax.specs.Written.{Written}
 use Rattle.flt_types.specs.Faults.{IsClear, faults}
-use Rattle.flt_types.specs.Texts.{IsFilterFault, IsTypedText}
 use Rattle.flt_types.specs.Typing.{HasType}
 use Rattle.flt_types.specs.declared.typed.Typed.{Typed}
 
@@ -18,20 +14,3 @@ TypedIsClear = (tree : Written) (filter : Typed) → HasType tree filter → IsC
 abbrev pub ClearIsTyped : Type 0
 ClearIsTyped = (text : List ℕ) (tree : Written) → IsFilterText text tree → IsClear (faults tree)
     → (filter : Typed) × HasType tree filter
-
--- a text is a filter, or has a first fault that isn't the size of a pattern
-abbrev pub TypedOrRefused : Type 0
-TypedOrRefused = (text : List ℕ) → ((filter : Typed) × IsTypedText text filter)
-    ⊎ ((fault : FilterFault) × IsFilterFault text (Fault fault) × (fault.reason ≢ PatternSize))
-
--- a text that is a filter may be refused for a pattern's size, and for nothing else
-abbrev pub TypedOrFault : Type 0
-TypedOrFault = (text : List ℕ) (filter : Typed) (fault : FilterFault) → IsTypedText text filter
-    → IsFilterFault text (Fault fault)
-    → fault.reason ≡ PatternSize
-
--- a text has at most one first fault, but that a pattern's size may be one in its stead
-abbrev pub OneFault : Type 0
-OneFault = (text : List ℕ) (f g : FilterFault) → IsFilterFault text (Fault f)
-    → IsFilterFault text (Fault g)
-    → (f ≡ g) ⊎ ((f.reason ≡ PatternSize) ⊎ (g.reason ≡ PatternSize))

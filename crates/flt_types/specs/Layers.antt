@@ -1,7 +1,7 @@
 -- The layers that a name with `#` chooses: numbers from 1, and ranges that don't fall.
 use Rattle.std.specs.Prelude.{ℕ, Bool, ◌&&◌, nat_le, unwrap_or, None}
-use Rattle.flt_parse.specs.declared.ast.Layer.{Layer}
-use Rattle.flt_parse.specs.declared.ast.LayerRange as written
+use Rattle.flt_syntax.specs.declared.ast.Layer.{Layer}
+use Rattle.flt_syntax.specs.declared.ast.LayerRange as written
 use Rattle.pk_tree.specs.declared.chosen.LayerRange as chosen
 
 -- a range as it is written; a number alone is its own last

@@ -1,9 +1,9 @@
 -- Literals where they stand: in a test's right side, in a set, behind `&`.
 use Rattle.std.specs.Prelude.{ℕ, Bool as Truth, false, if◌then◌else◌, Option, Some, None}
-use Rattle.flt_parse.specs.Written.{WrittenOperand, TextOf, NamedOf}
-use Rattle.flt_parse.specs.declared.ast.Literal.{Literal}
-use Rattle.flt_parse.specs.declared.ast.Literal.TheVariants as literals
-use Rattle.flt_parse.specs.declared.word.Word.{Word}
+use Rattle.flt_syntax.specs.Written.{WrittenOperand, TextOf, NamedOf}
+use Rattle.flt_syntax.specs.declared.ast.Literal.{Literal}
+use Rattle.flt_syntax.specs.declared.ast.Literal.TheVariants as literals
+use Rattle.flt_syntax.specs.declared.word.Word.{Word}
 use Rattle.flt_values.specs.Kinds.{admits_prefix, is_truth, kind_of_right}
 use Rattle.flt_values.specs.Literals.{quote_read, word_read}
 use Rattle.flt_values.specs.declared.literal.Reading.{Reading}

@@ -1,7 +1,7 @@
 -- Operands that signs or commas join, taken apart: the first part, and what stands to the right of each sign or comma, the
 -- last one first.
 use Rattle.std.specs.Prelude.{ℕ, ◌+◌, Bool, true, false, List, [], ◌∷◌}
-use Rattle.flt_parse.specs.Written.{WrittenOperand, SlicedOf, MaskedOf, CalledOf, ComputedOf, ArgumentsOf, operand_of}
+use Rattle.flt_syntax.specs.Written.{WrittenOperand, SlicedOf, MaskedOf, CalledOf, ComputedOf, ArgumentsOf, operand_of}
 use Rattle.flt_types.specs.declared.operands.Right.{Right}
 use Rattle.flt_types.specs.declared.operands.Right.TheVariants.{Computes, Argument}
 

@@ -1,8 +1,8 @@
 -- The ranges of a slice that may stand: they have a byte.
 use Rattle.std.specs.Prelude.{ℕ, Bool, true, false, nat_le}
-use Rattle.flt_parse.specs.declared.ast.Place.{Place}
-use Rattle.flt_parse.specs.declared.ast.RangePart.{RangePart}
-use Rattle.flt_parse.specs.declared.ast.RangePart.TheVariants as parts
+use Rattle.flt_syntax.specs.declared.ast.Place.{Place}
+use Rattle.flt_syntax.specs.declared.ast.RangePart.{RangePart}
+use Rattle.flt_syntax.specs.declared.ast.RangePart.TheVariants as parts
 
 -- whether the second place isn't before the first; of places on different sides nothing is known
 abbrev pub order_by : Bool → Bool → ℕ → ℕ → Bool

@@ -1,8 +1,8 @@
 -- Where an operand stands, which decides what a word that names no field is there.
 use Rattle.std.specs.Prelude.{ℕ, Some, None}
-use Rattle.flt_parse.specs.Written.{WrittenOperand, ComputedOf}
-use Rattle.flt_parse.specs.declared.ast.Function.{Function}
-use Rattle.flt_parse.specs.declared.ast.Function.TheVariants.{Min, Max}
+use Rattle.flt_syntax.specs.Written.{WrittenOperand, ComputedOf}
+use Rattle.flt_syntax.specs.declared.ast.Function.{Function}
+use Rattle.flt_syntax.specs.declared.ast.Function.TheVariants.{Min, Max}
 use Rattle.flt_types.specs.declared.standing.Standing.{Standing}
 use Rattle.flt_types.specs.declared.standing.Standing.TheVariants.{First, Free, Within, Sliced}
 

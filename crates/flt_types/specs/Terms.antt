@@ -1,10 +1,10 @@
 -- Operands with their types: a relation between what is written, where it stands, and what it stands for.
 use Rattle.std.specs.Prelude.{◌≡◌, ◌&&◌, ℕ, Bool as Truth, true, false, IsTrue, List, [], ◌∷◌, map, Some, None}
 use Rattle.std.specs.List.{list_all}
-use Rattle.flt_parse.specs.Written.{WrittenOperand, NamedOf, OnLayerOf, OnLayersOf, SlicedOf, MaskedOf, CalledOf, ComputedOf, ArgumentsOf}
-use Rattle.flt_parse.specs.declared.ast.Function.{Function}
-use Rattle.flt_parse.specs.declared.ast.Function.TheVariants.{Count, Min, Max}
-use Rattle.flt_parse.specs.declared.word.Word.{Word}
+use Rattle.flt_syntax.specs.Written.{WrittenOperand, NamedOf, OnLayerOf, OnLayersOf, SlicedOf, MaskedOf, CalledOf, ComputedOf, ArgumentsOf}
+use Rattle.flt_syntax.specs.declared.ast.Function.{Function}
+use Rattle.flt_syntax.specs.declared.ast.Function.TheVariants.{Count, Min, Max}
+use Rattle.flt_syntax.specs.declared.word.Word.{Word}
 use Rattle.flt_types.specs.Layers.{is_layer, is_layers, layers_of, one_layer}
 use Rattle.flt_types.specs.Ranges.{is_range}
 use Rattle.flt_types.specs.Standing.{argument, in_slice, within}

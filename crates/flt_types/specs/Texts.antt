@@ -1,10 +1,10 @@
 -- A filter's text, its typed filter, and its first fault.
 use Rattle.std.specs.Prelude.{◌⊎◌, ℕ, List}
-use Rattle.flt_parse.specs.Filters.{IsFilterText, IsFirstFault}
-use Rattle.flt_parse.specs.Written.{Written}
-use Rattle.flt_parse.specs.declared.fault.FilterError.{FilterError}
-use Rattle.flt_parse.specs.declared.fault.FilterError.TheVariants.{Fault, NoMemory}
-use Rattle.flt_parse.specs.declared.fault.FilterFault.{FilterFault}
+use Rattle.flt_syntax.specs.Filters.{IsFilterText, IsFirstFault}
+use Rattle.flt_syntax.specs.Written.{Written}
+use Rattle.flt_syntax.specs.declared.fault.FilterError.{FilterError}
+use Rattle.flt_syntax.specs.declared.fault.FilterError.TheVariants.{Fault, NoMemory}
+use Rattle.flt_syntax.specs.declared.fault.FilterFault.{FilterFault}
 use Rattle.flt_types.specs.Faults.{IsFirst, faults}
 use Rattle.flt_types.specs.Typing.{HasType}
 use Rattle.flt_types.specs.declared.typed.Typed.{Typed}

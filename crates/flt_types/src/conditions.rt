@@ -1,7 +1,7 @@
 // The tests of a filter: what is asked of the values of a left operand.
 ghost use Rattle.std.specs.Prelude.{◌≡◌, [], ◌∷◌, ◌++◌, ℕ, List, None, IfOk, IfErr, OnOk, IsTrue};
-ghost use Rattle.flt_parse.specs.Written.{WrittenOperand, operand_of, tail_of, CompareOf, InOf, MatchesOf, AloneOf, TestOf};
-ghost use Rattle.flt_parse.specs.declared.fault.FilterReason.TheVariants.{TypeMismatch};
+ghost use Rattle.flt_syntax.specs.Written.{WrittenOperand, operand_of, tail_of, CompareOf, InOf, MatchesOf, AloneOf, TestOf};
+ghost use Rattle.flt_syntax.specs.declared.fault.FilterReason.TheVariants.{TypeMismatch};
 ghost use Rattle.flt_pattern.specs.Patterns.{HasCause, IsPattern};
 ghost use Rattle.flt_types.specs.Faults.{IsAnswer, faults, right_faults, unless, PatternAt};
 ghost use Rattle.flt_types.specs.Literals.{literal_of};
@@ -17,8 +17,8 @@ use crate::operands::first_sign;
 use crate::sets::members;
 use crate::standing::Standing;
 use crate::typed::{Term, Typed};
-use flt_parse::{Choice, Element, FilterError, FilterReason, Operand, Operator, Quote, Tail};
 use flt_pattern::{Pattern, PatternFault};
+use flt_syntax::{Choice, Element, FilterError, FilterReason, Operand, Operator, Quote, Tail};
 use flt_values::{Relation, is_searched, same_class, takes};
 use pk_fields::{ValueKind, by_name};
 use std::alloc::Global;

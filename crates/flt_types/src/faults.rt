@@ -1,8 +1,8 @@
 ghost use Rattle.std.specs.Prelude.{◌≡◌, OnOk, IfErr, IsTrue};
-ghost use Rattle.flt_parse.specs.declared.fault.FilterError.TheVariants.{Fault};
+ghost use Rattle.flt_syntax.specs.declared.fault.FilterError.TheVariants.{Fault};
 ghost use Rattle.flt_types.specs.Faults.{IsAnswer, unless};
 
-use flt_parse::{FilterError, FilterFault, FilterReason};
+use flt_syntax::{FilterError, FilterFault, FilterReason};
 
 /// The error of a fault at a place.
 pub(crate) fn fault(at: u32, reason: FilterReason) -> FilterError

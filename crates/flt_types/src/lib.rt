@@ -19,11 +19,8 @@ mod typing;
 
 pub use asked::add_fields;
 pub use filter::Filter;
-pub use laws::{
-    clear_trees_have_a_type, faults_are_unique, texts_are_filters_or_refused,
-    typed_texts_have_no_fault, typed_trees_have_no_fault,
-};
+pub use laws::{clear_trees_have_a_type, typed_trees_have_no_fault};
 pub use operand::kind_of;
 pub use standing::Standing;
 pub use typed::{Member, Term, Typed};
-pub use typing::{check, read_filter};
+pub use typing::check;

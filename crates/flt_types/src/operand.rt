@@ -1,7 +1,7 @@
 // Operands: the names, numbers, layers, slices, masks, functions and arithmetic of a filter.
 ghost use Rattle.std.specs.Prelude.{◌≡◌, ◌++◌, Some, None, IfOk, IfErr, OnOk, IsTrue};
-ghost use Rattle.flt_parse.specs.declared.fault.FilterReason.TheVariants.{OutOfRange};
-ghost use Rattle.flt_parse.specs.Written.{WrittenOperand, operand_of, NamedOf, OnLayerOf, OnLayersOf, SlicedOf, MaskedOf, CalledOf, ComputedOf, ArgumentsOf};
+ghost use Rattle.flt_syntax.specs.declared.fault.FilterReason.TheVariants.{OutOfRange};
+ghost use Rattle.flt_syntax.specs.Written.{WrittenOperand, operand_of, NamedOf, OnLayerOf, OnLayersOf, SlicedOf, MaskedOf, CalledOf, ComputedOf, ArgumentsOf};
 ghost use Rattle.flt_types.specs.Faults.{IsAnswer, operand_faults, call_faults, layers_faults, mask_faults, number_faults, slice_faults, given, kind_written, unless, nameless, word_faults, misplaced as misplaced_at};
 ghost use Rattle.flt_types.specs.Layers.{is_layer};
 ghost use Rattle.flt_types.specs.Operands.{is_part, with_right};
@@ -19,7 +19,7 @@ use crate::operands::{Parts, Right, parts_of};
 use crate::ranges::parts_in;
 use crate::standing::Standing;
 use crate::typed::Term;
-use flt_parse::{
+use flt_syntax::{
     Arithmetic, FilterError, FilterReason, Function, Layer, LayerRange, Operand, SliceRange, Word,
 };
 use flt_values::{

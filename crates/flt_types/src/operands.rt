@@ -1,11 +1,11 @@
 // Operands that signs or commas join, taken apart.
 ghost use Rattle.std.specs.Prelude.{◌≡◌, ◌≤◌, ◌<◌, IfOk, IsTrue};
 ghost use Rattle.std.specs.List.{All};
-ghost use Rattle.flt_parse.specs.Written.{operand_of};
+ghost use Rattle.flt_syntax.specs.Written.{operand_of};
 ghost use Rattle.flt_types.specs.Faults.{first_sign as first_sign_of};
 ghost use Rattle.flt_types.specs.Operands.{is_part, joined, parts, parts_right};
 
-use flt_parse::{Arithmetic, Operand};
+use flt_syntax::{Arithmetic, Operand};
 use pk_base::NoMemory;
 use std::alloc::Global;
 

@@ -1,12 +1,12 @@
 // A tree's tests, one after the other: what is open around the one that is typed.
 ghost use Rattle.std.specs.Prelude.{◌≡◌, ◌+◌, ◌≤◌, IfOk, IsTrue};
-ghost use Rattle.flt_parse.specs.Written.{Written, JoinedOf, NotOf, written};
-ghost use Rattle.flt_parse.specs.declared.ast.Negation.{Negation};
+ghost use Rattle.flt_syntax.specs.Written.{Written, JoinedOf, NotOf, written};
+ghost use Rattle.flt_syntax.specs.declared.ast.Negation.{Negation};
 ghost use Rattle.flt_types.specs.Parts.{Closes, Plugs, is_test, still, tests, waiting};
 ghost use Rattle.flt_types.specs.Typing.{HasType};
 
 use crate::typed::Typed;
-use flt_parse::{Ast, Join};
+use flt_syntax::{Ast, Join};
 use pk_base::NoMemory;
 use std::alloc::Global;
 

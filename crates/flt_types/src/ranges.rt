@@ -5,7 +5,7 @@ ghost use Rattle.flt_types.specs.Faults.{IsAnswer, ranges_faults};
 ghost use Rattle.flt_types.specs.Ranges.{in_order as are_in_order, is_range as is_range_part};
 
 use crate::faults::fault;
-use flt_parse::{FilterError, FilterReason, Place, RangePart, SliceRange};
+use flt_syntax::{FilterError, FilterReason, Place, RangePart, SliceRange};
 use pk_base::NoMemory;
 use std::alloc::Global;
 

@@ -1,12 +1,12 @@
 // The sets of `in`.
 ghost use Rattle.std.specs.Prelude.{IfOk, IfErr};
-ghost use Rattle.flt_parse.specs.declared.ast.Element.TheVariants.{Between};
+ghost use Rattle.flt_syntax.specs.declared.ast.Element.TheVariants.{Between};
 ghost use Rattle.flt_types.specs.Faults.{IsAnswer, element_faults, elements_faults};
 ghost use Rattle.flt_types.specs.Typing.{AreMembers, IsMember};
 
 use crate::literals::{element, range_end};
 use crate::typed::Member;
-use flt_parse::{Element, FilterError, Literal};
+use flt_syntax::{Element, FilterError, Literal};
 use pk_fields::ValueKind;
 use std::alloc::Global;
 

@@ -1,9 +1,9 @@
 // Where an operand stands, which decides what a word that names no field is there.
 ghost use Rattle.std.specs.Prelude.{◌≡◌};
-ghost use Rattle.flt_parse.specs.Written.{operand_of};
+ghost use Rattle.flt_syntax.specs.Written.{operand_of};
 ghost use Rattle.flt_types.specs.Standing.{argument as argument_of, in_slice as in_slice_of, sign_for as sign_asking, within as within_at};
 
-use flt_parse::{Function, Operand};
+use flt_syntax::{Function, Operand};
 
 /// Where an operand stands. What a tree's types are is said by it.
 #[derive(Clone, Copy, Debug, PartialEq, Eq)]

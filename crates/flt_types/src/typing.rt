@@ -1,17 +1,16 @@
 // The filter that a text's syntax tree is.
 ghost use Rattle.std.specs.Prelude.{IfOk, IfErr, IsTrue, ℕ, List};
-ghost use Rattle.flt_parse.specs.Filters.{IsFilterText};
-ghost use Rattle.flt_parse.specs.Written.{written};
+ghost use Rattle.flt_syntax.specs.Filters.{IsFilterText};
+ghost use Rattle.flt_syntax.specs.Written.{written};
 ghost use Rattle.flt_types.specs.Parts.{is_test};
 ghost use Rattle.flt_types.specs.Faults.{IsAnswer, IsClear, faults};
-ghost use Rattle.flt_types.specs.Texts.{IsFilterFault, IsTypedText};
 ghost use Rattle.flt_types.specs.Typing.{HasType};
 
 use crate::conditions::{alone, test};
 use crate::filter::Filter;
 use crate::parts::{Closed, close, first_test};
 use crate::typed::Typed;
-use flt_parse::{Ast, FilterError, parse};
+use flt_syntax::{Ast, FilterError};
 use std::alloc::Global;
 
 /// Gives the syntax tree of a filter's text its types. The error is the tree's first fault: F4 to F7 or F10, with its
@@ -25,15 +24,6 @@ pub fn check(alloc: Global, ast: Ast) -> Result<Filter, FilterError>
 {
     let root = typed(alloc, &ast)?;
     Ok(Filter { root })
-}
-
-/// Reads the text of a filter. The error is the text's first fault, F1 to F10, with its place.
-pub fn read_filter(alloc: Global, text: &str) -> Result<Filter, FilterError>
-    ensures ok { IfOk result (IsTypedText text.now) }
-    ensures err { IfErr result (IsFilterFault text.now) }
-{
-    let ast = parse(alloc, text)?;
-    check(alloc, ast)
 }
 
 /// The filter that a tree is. Its tests are typed one after the other, and what is open around them is kept in a list, so

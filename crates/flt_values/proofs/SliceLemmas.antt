@@ -1,7 +1,7 @@
 -- What ranges take.
 use Rattle.std.proofs.Common.{◌≡◌, ◌<◌, ◌≤◌, ◌+◌, ℕ, suc, List, [], ◌∷◌, ◌++◌, Option, Some, None, length, drop, get_or, add-one, drop-cons, append_assoc, slice_range, refl, sym, ap, ◌∙◌, option_map, option_and_then, arith}
 use Rattle.std.proofs.lemmas.List.{append-nil, drop_all}
-use Rattle.flt_parse.specs.declared.ast.RangePart.{RangePart}
+use Rattle.flt_syntax.specs.declared.ast.RangePart.{RangePart}
 use Rattle.flt_values.specs.Slices.{taken_by, part_of, span_of}
 
 -- bytes behind those in front

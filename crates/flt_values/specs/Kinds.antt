@@ -1,7 +1,7 @@
 -- What a filter may do with the values of a kind.
 use Rattle.std.specs.Prelude.{Bool as Truth, true, false, not}
-use Rattle.flt_parse.specs.declared.ast.Function.{Function}
-use Rattle.flt_parse.specs.declared.ast.Function.TheVariants.{Len, Count, Upper, Lower, Min, Max}
+use Rattle.flt_syntax.specs.declared.ast.Function.{Function}
+use Rattle.flt_syntax.specs.declared.ast.Function.TheVariants.{Len, Count, Upper, Lower, Min, Max}
 use Rattle.flt_values.specs.declared.kinds.Class.{Class}
 use Rattle.flt_values.specs.declared.kinds.Class.TheVariants as classes
 use Rattle.flt_values.specs.declared.relation.Relation.{Relation}

@@ -2,7 +2,7 @@
 ghost use Rattle.std.specs.Prelude.{◌≡◌, IfSome};
 ghost use Rattle.flt_values.specs.Arithmetic.{IsExtreme, calculated, extreme_number, extreme_of, nearer, nearer_of, number_in, result_of};
 
-use flt_parse::Arithmetic;
+use flt_syntax::Arithmetic;
 use pk_tree::Value;
 
 /// Which of some numbers is asked for.

@@ -3,7 +3,7 @@ ghost use Rattle.std.specs.Prelude.{◌≡◌, IfOk};
 ghost use Rattle.flt_values.specs.Calls.{masked, is_nonzero, len_of, uppered, lowered, called};
 
 use crate::order::octets_of;
-use flt_parse::Function;
+use flt_syntax::Function;
 use pk_base::{NoMemory, Octets};
 use pk_tree::Value;
 use std::alloc::Global;

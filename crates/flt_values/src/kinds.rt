@@ -2,7 +2,7 @@
 ghost use Rattle.std.specs.Prelude.{◌≡◌};
 ghost use Rattle.flt_values.specs.Kinds.{class_of, same_class, kind_of_value, is_truth, is_measured, is_sliced, is_masked, is_number, is_searched, takes_call, kind_of_call};
 
-use flt_parse::Function;
+use flt_syntax::Function;
 use pk_fields::ValueKind;
 use pk_tree::Value;
 

@@ -4,7 +4,7 @@ ghost use Rattle.std.specs.Option.{option_map};
 ghost use Rattle.pk_tree.specs.declared.value.Value.TheVariants as values;
 ghost use Rattle.flt_values.specs.Slices.{place_in, within, span_of, taken_by, sliced};
 
-use flt_parse::{Place, RangePart};
+use flt_syntax::{Place, RangePart};
 use pk_base::{NoMemory, Octets};
 use pk_tree::Value;
 use std::alloc::Global;

@@ -7,10 +7,10 @@ use Rattle.flt_lists.specs.Called.{values_called}
 use Rattle.flt_lists.specs.Pairs.{values_calculated}
 use Rattle.flt_lists.specs.Passes.{compares, is_some_value, passes}
 use Rattle.flt_lists.specs.Questions.{is_among, is_matched}
-use Rattle.flt_parse.specs.declared.ast.Arithmetic.{Arithmetic}
-use Rattle.flt_parse.specs.declared.ast.Choice.{Choice}
-use Rattle.flt_parse.specs.declared.ast.Function.{Function}
-use Rattle.flt_parse.specs.declared.ast.RangePart.{RangePart}
+use Rattle.flt_syntax.specs.declared.ast.Arithmetic.{Arithmetic}
+use Rattle.flt_syntax.specs.declared.ast.Choice.{Choice}
+use Rattle.flt_syntax.specs.declared.ast.Function.{Function}
+use Rattle.flt_syntax.specs.declared.ast.RangePart.{RangePart}
 use Rattle.flt_types.specs.declared.typed.Member.{Member}
 use Rattle.flt_values.specs.Arithmetic.{extreme_of}
 use Rattle.flt_values.specs.Calls.{is_nonzero, masked}

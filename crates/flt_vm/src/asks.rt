@@ -7,8 +7,8 @@ ghost use Rattle.flt_vm.specs.Slots.{IsHeld, held_in};
 
 use crate::slots::{Slot, listed, listed_in};
 use flt_lists::{Question, asks_field, compares, matched, passes};
-use flt_parse::Choice;
 use flt_pattern::Search;
+use flt_syntax::Choice;
 use flt_values::{Constant, Relation};
 use pk_base::NoMemory;
 use pk_tree::{Tree, Value};

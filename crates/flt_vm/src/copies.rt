@@ -2,7 +2,7 @@
 ghost use Rattle.std.specs.Prelude.{◌≡◌, IfOk};
 
 use crate::instr::{MemberList, RangeList};
-use flt_parse::RangePart;
+use flt_syntax::RangePart;
 use flt_types::Member;
 use pk_base::NoMemory;
 use pk_tree::{LayerRanges, Layers};

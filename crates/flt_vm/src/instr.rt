@@ -1,6 +1,6 @@
 // The instructions of the machine.
 
-use flt_parse::{Arithmetic, Choice, Function, RangePart};
+use flt_syntax::{Arithmetic, Choice, Function, RangePart};
 use flt_types::Member;
 use flt_values::{Constant, Extreme, Relation};
 use pk_fields::FieldId;
@@ -15,7 +15,7 @@ pub struct RangeList {
 
 impl Model for RangeList {
     ghost use Rattle.std.specs.Prelude.{List};
-    ghost use Rattle.flt_parse.specs.declared.ast.RangePart.{RangePart};
+    ghost use Rattle.flt_syntax.specs.declared.ast.RangePart.{RangePart};
 
     ghost Value = { List RangePart };
 

@@ -27,8 +27,8 @@ use flt_lists::{
     Question, calculated_values, called_values, is_some_value as some_value, masked_values, only,
     slices,
 };
-use flt_parse::{Arithmetic, Choice, Function, RangePart};
 use flt_pattern::Search;
+use flt_syntax::{Arithmetic, Choice, Function, RangePart};
 use flt_types::Member;
 use flt_values::{Extreme, Relation, extreme_of};
 use pk_base::NoMemory;

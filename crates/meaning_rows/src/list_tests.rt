@@ -1,7 +1,7 @@
 // Any and all pairs of two lists of twenty values.
 
 use flt_lists::compares;
-use flt_parse::Choice;
+use flt_syntax::Choice;
 use flt_values::Relation;
 use pk_base::NoMemory;
 use pk_tree::Value;

@@ -1,7 +1,8 @@
 // Listings of programs, each with one instruction and one literal more.
 
 use flt_code::{compile, listing};
-use flt_types::{Filter, read_filter};
+use flt_read::read_filter;
+use flt_types::Filter;
 use pk_base::NoMemory;
 use std::alloc::Global;
 use std::process::Abort;

@@ -3,7 +3,8 @@
 use crate::packets::packet;
 use flt_code::compile;
 use flt_mean::holds;
-use flt_types::{Filter, read_filter};
+use flt_read::read_filter;
+use flt_types::Filter;
 use flt_vm::{Verdict, run_program};
 use pk_base::NoMemory;
 use pk_tree::Tree;

@@ -4,7 +4,7 @@ ghost use Rattle.port_rules.specs.Rules.{AreRules};
 use crate::pcap_rows::{HEADER, PADDING, REQUEST, REQUEST_HEAD};
 use crate::runs::bytes_of;
 use flt_code::compile;
-use flt_types::read_filter;
+use flt_read::read_filter;
 use out_lines::Style;
 use pk_base::NoMemory;
 use pk_fields::ids::FRAME_NUMBER;

@@ -1,12 +1,12 @@
 -- Words ask for a plan or have a sure reason to be refused.
 use Rattle.std.proofs.Common.{◌≡◌, ◌≢◌, ◌⊎◌, inl, inr, ℕ, List, Option, None, Some, Result, Ok, Err, IsTrue, refl}
-use Rattle.flt_parse.specs.declared.fault.FilterFault.{FilterFault}
-use Rattle.flt_parse.specs.declared.fault.FilterError.TheVariants.{Fault}
-use Rattle.flt_parse.specs.declared.fault.FilterReason.{FilterReason}
-use Rattle.flt_parse.specs.declared.fault.FilterReason.TheVariants.{PatternSize}
+use Rattle.flt_syntax.specs.declared.fault.FilterFault.{FilterFault}
+use Rattle.flt_syntax.specs.declared.fault.FilterError.TheVariants.{Fault}
+use Rattle.flt_syntax.specs.declared.fault.FilterReason.{FilterReason}
+use Rattle.flt_syntax.specs.declared.fault.FilterReason.TheVariants.{PatternSize}
 use Rattle.flt_types.specs.Texts.{IsFilterFault, IsTypedText}
 use Rattle.flt_types.specs.declared.typed.Typed.{Typed}
-use Rattle.flt_types.proofs.Sure.{typed_or_refused}
+use Rattle.flt_read.proofs.Sure.{typed_or_refused}
 use Rattle.flt_code.proofs.CompileLemmas.{texts_programmed}
 use Rattle.shark_words.specs.declared.options.Options.{Options}
 use Rattle.shark_words.specs.declared.fault.WordFault.{WordFault}

@@ -15,12 +15,12 @@ use Rattle.shark_words.specs.declared.options.Report.{Report}
 use Rattle.shark_words.specs.declared.options.Report.TheVariants.{Follow, Table}
 use Rattle.port_rules.specs.declared.rules.PortRule.{PortRule}
 use Rattle.dissect.specs.Trees.{tree_at}
-use Rattle.flt_parse.specs.declared.fault.FilterFault.{FilterFault}
-use Rattle.flt_parse.specs.declared.fault.FilterError.TheVariants.{Fault}
+use Rattle.flt_syntax.specs.declared.fault.FilterFault.{FilterFault}
+use Rattle.flt_syntax.specs.declared.fault.FilterError.TheVariants.{Fault}
 use Rattle.flt_types.specs.Texts.{IsFilterFault}
 use Rattle.flt_code.specs.Decides.{Agrees}
 use Rattle.flt_types.specs.declared.typed.Typed.{Typed}
-use Rattle.flt_types.proofs.Unique.{one_fault_but_size}
+use Rattle.flt_read.proofs.Unique.{one_fault_but_size}
 use Rattle.flt_mean.proofs.OneMeaning.{one_meaning}
 use Rattle.flt_mean.specs.Meaning.{meaning}
 use Rattle.flt_vm.proofs.VerdictLemmas.{computed_run}

@@ -7,8 +7,8 @@ use Rattle.pk_outside.specs.Outside.{AppendsPart}
 use Rattle.pk_text.specs.Escape.{escaped}
 use Rattle.capture_read.specs.declared.ending.Ending.{Ending}
 use Rattle.capture_read.specs.declared.ending.Ending.TheVariants as ending
-use Rattle.flt_parse.specs.declared.fault.FilterReason.{FilterReason}
-use Rattle.flt_parse.specs.declared.fault.FilterReason.TheVariants as filter
+use Rattle.flt_syntax.specs.declared.fault.FilterReason.{FilterReason}
+use Rattle.flt_syntax.specs.declared.fault.FilterReason.TheVariants as filter
 use Rattle.shark_words.specs.declared.fault.WordReason.{WordReason}
 use Rattle.shark_words.specs.declared.fault.WordReason.TheVariants.{UnknownOption, MissingValue, StrayWord, NoFile, Repeated, BadValue, NoFields, Unused, Clash}
 use Rattle.shark_run.specs.declared.outcome.Outcome.{Outcome}

@@ -1,7 +1,7 @@
 -- What a list of words asks for: its options, then its filter, then the fields of its names.
 use Rattle.std.specs.Prelude.{◌≡◌, ℕ, List, Option, Some, None, Ok, Err}
-use Rattle.flt_parse.specs.declared.fault.FilterFault.{FilterFault}
-use Rattle.flt_parse.specs.declared.fault.FilterError.TheVariants.{Fault}
+use Rattle.flt_syntax.specs.declared.fault.FilterFault.{FilterFault}
+use Rattle.flt_syntax.specs.declared.fault.FilterError.TheVariants.{Fault}
 use Rattle.flt_code.specs.Decides.{Agrees, Decides}
 use Rattle.flt_types.specs.Texts.{IsTypedText, IsFilterFault}
 use Rattle.shark_words.specs.declared.options.Options.{Options}

@@ -12,7 +12,7 @@ use crate::outcome::Outcome;
 use crate::plan::{Plan, Refused};
 use crate::run_ending::RunEnding;
 use capture_read::Ending;
-use flt_parse::FilterReason;
+use flt_syntax::FilterReason;
 use pk_base::{NoMemory, Reason};
 use pk_outside::{Sink, write_whole};
 use pk_text::escape_text;

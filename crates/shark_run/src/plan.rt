@@ -4,7 +4,7 @@ use crate::compiled::Compiled;
 use crate::rules::PlanRules;
 use crate::source::PlanSource;
 use capture_write::Format;
-use flt_parse::FilterFault;
+use flt_syntax::FilterFault;
 use out_lines::Style;
 use pk_base::{NoMemory, Octets};
 use pk_fields::FieldId;

@@ -1,16 +1,16 @@
 -- What the parser answers, beside the reading.
 use Rattle.std.specs.Prelude.{◌≡◌, ℕ, Bool, true, false, List, Option, Some, None}
-use Rattle.flt_parse.specs.Filters.{IsTokenFault, place_of}
+use Rattle.flt_syntax.specs.Filters.{IsTokenFault, place_of}
 use Rattle.flt_parse.specs.Parser.Reading as reading
-use Rattle.flt_parse.specs.Written.{WrittenOperand}
-use Rattle.flt_parse.specs.declared.fault.FilterError.{FilterError}
-use Rattle.flt_parse.specs.declared.fault.FilterError.TheVariants as errors
-use Rattle.flt_parse.specs.declared.fault.FilterReason.TheVariants.{Unexpected}
+use Rattle.flt_syntax.specs.Written.{WrittenOperand}
+use Rattle.flt_syntax.specs.declared.fault.FilterError.{FilterError}
+use Rattle.flt_syntax.specs.declared.fault.FilterError.TheVariants as errors
+use Rattle.flt_syntax.specs.declared.fault.FilterReason.TheVariants.{Unexpected}
 use Rattle.flt_parse.specs.declared.state.Refusal.{Refusal}
 use Rattle.flt_parse.specs.declared.state.Refusal.TheVariants.{Fault, NoMemory}
-use Rattle.flt_parse.specs.declared.token.Kind.{Kind}
-use Rattle.flt_parse.specs.declared.token.Kind.TheVariants as kinds
-use Rattle.flt_parse.specs.declared.token.Token.{Token}
+use Rattle.flt_syntax.specs.declared.token.Kind.{Kind}
+use Rattle.flt_syntax.specs.declared.token.Kind.TheVariants as kinds
+use Rattle.flt_syntax.specs.declared.token.Token.{Token}
 
 -- an operand that goes on, or a token that doesn't go on with it
 abbrev pub further : Option reading.Spot → reading.Side → List reading.Waiting → List reading.Call

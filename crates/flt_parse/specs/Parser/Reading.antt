@@ -2,24 +2,24 @@
 -- state behind each token, or the fault at it. What a filter is is said by the grammar alone.
 use Rattle.std.specs.Prelude.{ℕ, suc, ◌+◌, Bool, true, false, nat_lt, nat_le, if◌then◌else◌, List, [], ◌∷◌, ◌++◌, length, Option, Some, None}
 use Rattle.std.specs.Option.{option_map}
-use Rattle.flt_parse.specs.Grammar.{arguments, binds, binds_arithmetic, takes_mask, takes_more, takes_operator, takes_slice}
-use Rattle.flt_parse.specs.Written.{Written, WrittenOperand, WrittenTail, TextOf, NamedOf, OnLayerOf, OnLayersOf, SlicedOf, MaskedOf, CalledOf, ComputedOf, ArgumentsOf, CompareOf, InOf, MatchesOf, JoinedOf, NotOf, GroupOf, AloneOf, TestOf}
-use Rattle.flt_parse.specs.declared.ast.Choice.{Choice}
-use Rattle.flt_parse.specs.declared.ast.Element.{Element}
-use Rattle.flt_parse.specs.declared.ast.Element.TheVariants as elements
-use Rattle.flt_parse.specs.declared.ast.Function.{Function}
-use Rattle.flt_parse.specs.declared.ast.LayerRange.{LayerRange}
-use Rattle.flt_parse.specs.declared.ast.Literal.{Literal}
-use Rattle.flt_parse.specs.declared.ast.Literal.TheVariants as literals
-use Rattle.flt_parse.specs.declared.ast.Negation.{Negation}
-use Rattle.flt_parse.specs.declared.ast.Negation.TheVariants as negations
-use Rattle.flt_parse.specs.declared.ast.Operator.{Operator}
-use Rattle.flt_parse.specs.declared.ast.Place.{Place}
-use Rattle.flt_parse.specs.declared.ast.RangePart.{RangePart}
-use Rattle.flt_parse.specs.declared.ast.RangePart.TheVariants as parts
-use Rattle.flt_parse.specs.declared.ast.SliceRange.{SliceRange}
-use Rattle.flt_parse.specs.declared.fault.FilterReason.{FilterReason}
-use Rattle.flt_parse.specs.declared.fault.FilterReason.TheVariants.{Unexpected, TooDeep}
+use Rattle.flt_syntax.specs.Grammar.{arguments, binds, binds_arithmetic, takes_mask, takes_more, takes_operator, takes_slice}
+use Rattle.flt_syntax.specs.Written.{Written, WrittenOperand, WrittenTail, TextOf, NamedOf, OnLayerOf, OnLayersOf, SlicedOf, MaskedOf, CalledOf, ComputedOf, ArgumentsOf, CompareOf, InOf, MatchesOf, JoinedOf, NotOf, GroupOf, AloneOf, TestOf, word_alone}
+use Rattle.flt_syntax.specs.declared.ast.Choice.{Choice}
+use Rattle.flt_syntax.specs.declared.ast.Element.{Element}
+use Rattle.flt_syntax.specs.declared.ast.Element.TheVariants as elements
+use Rattle.flt_syntax.specs.declared.ast.Function.{Function}
+use Rattle.flt_syntax.specs.declared.ast.LayerRange.{LayerRange}
+use Rattle.flt_syntax.specs.declared.ast.Literal.{Literal}
+use Rattle.flt_syntax.specs.declared.ast.Literal.TheVariants as literals
+use Rattle.flt_syntax.specs.declared.ast.Negation.{Negation}
+use Rattle.flt_syntax.specs.declared.ast.Negation.TheVariants as negations
+use Rattle.flt_syntax.specs.declared.ast.Operator.{Operator}
+use Rattle.flt_syntax.specs.declared.ast.Place.{Place}
+use Rattle.flt_syntax.specs.declared.ast.RangePart.{RangePart}
+use Rattle.flt_syntax.specs.declared.ast.RangePart.TheVariants as parts
+use Rattle.flt_syntax.specs.declared.ast.SliceRange.{SliceRange}
+use Rattle.flt_syntax.specs.declared.fault.FilterReason.{FilterReason}
+use Rattle.flt_syntax.specs.declared.fault.FilterReason.TheVariants.{Unexpected, TooDeep}
 pub use Rattle.flt_parse.specs.declared.state.ElementSpot.{ElementSpot}
 pub use Rattle.flt_parse.specs.declared.state.ElementSpot.TheVariants.{ElementWanted, LiteralRead, SecondWanted, SecondRead}
 pub use Rattle.flt_parse.specs.declared.state.LayerSpot.{LayerSpot}
@@ -28,10 +28,10 @@ pub use Rattle.flt_parse.specs.declared.state.Link.{Link}
 pub use Rattle.flt_parse.specs.declared.state.Link.TheVariants.{Comma, Sign}
 pub use Rattle.flt_parse.specs.declared.state.RangeSpot.{RangeSpot}
 pub use Rattle.flt_parse.specs.declared.state.RangeSpot.TheVariants.{RangeWanted, DigitsWanted, PlaceRead, ColonRead, EndWanted, EndDigitsWanted, CountWanted, PartRead}
-use Rattle.flt_parse.specs.declared.token.Join.{Join}
-use Rattle.flt_parse.specs.declared.token.Kind.{Kind}
-use Rattle.flt_parse.specs.declared.token.Kind.TheVariants as kinds
-use Rattle.flt_parse.specs.declared.word.Word.{Word}
+use Rattle.flt_syntax.specs.declared.token.Join.{Join}
+use Rattle.flt_syntax.specs.declared.token.Kind.{Kind}
+use Rattle.flt_syntax.specs.declared.token.Kind.TheVariants as kinds
+use Rattle.flt_syntax.specs.declared.word.Word.{Word}
 
 -- a filter that waits for what stands to the right of its sign
 pub data Left : Type 0 where
@@ -150,10 +150,6 @@ ranges_step o bracket done at (PartRead part) kind =
 ranges_step o bracket done at spot kind = None
 
 -- an operand, as far as no call opens or ends
-abbrev pub word_alone : WrittenOperand → Option Word
-word_alone (NamedOf w) = Some w
-word_alone o = None
-
 abbrev pub behind_hash : WrittenOperand → Option Spot
 behind_hash o = option_map (λ w. LayersWanted w) (word_alone o)
 

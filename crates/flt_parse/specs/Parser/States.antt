@@ -1,13 +1,19 @@
 -- The parser's state as the reading's, without the places in memory of its parts.
 use Rattle.std.specs.Prelude.{◌≡◌, ℕ, List, [], ◌∷◌, ◌++◌, Option, Some, None, Result, Ok, Err}
-use Rattle.flt_parse.specs.Filters.{most_open}
+use Rattle.flt_syntax.specs.Filters.{most_open}
 use Rattle.flt_parse.specs.Parser.Answers.{further}
 use Rattle.flt_parse.specs.Parser.Reading as reading
-use Rattle.flt_parse.specs.Written.{Written, WrittenOperand, WrittenTail, operand_of, tail_of, written}
-use Rattle.flt_parse.specs.declared.ast.Ast.{Ast}
-use Rattle.flt_parse.specs.declared.ast.Choice.{Choice}
-use Rattle.flt_parse.specs.declared.ast.Negation.{Negation}
-use Rattle.flt_parse.specs.declared.fault.FilterReason.TheVariants.{Unexpected}
+use Rattle.flt_syntax.specs.Written.{OnLayersOf, SlicedOf, Written, WrittenOperand, WrittenTail, operand_of, tail_of, written}
+use Rattle.flt_syntax.specs.declared.ast.Ast.{Ast}
+use Rattle.flt_syntax.specs.declared.ast.Choice.{Choice}
+use Rattle.flt_syntax.specs.declared.ast.Negation.{Negation}
+use Rattle.flt_syntax.specs.declared.fault.FilterReason.TheVariants.{Unexpected}
+use Rattle.flt_syntax.specs.declared.ast.LayerRange.{LayerRange}
+use Rattle.flt_syntax.specs.declared.ast.SliceRange.{SliceRange}
+use Rattle.flt_parse.specs.declared.operands.LayerMove.{LayerMove}
+use Rattle.flt_parse.specs.declared.operands.LayerMove.TheVariants as layers
+use Rattle.flt_parse.specs.declared.operands.RangeMove.{RangeMove}
+use Rattle.flt_parse.specs.declared.operands.RangeMove.TheVariants as ranges
 use Rattle.flt_parse.specs.declared.operands.Slice.{Slice}
 use Rattle.flt_parse.specs.declared.state.Call.{Call}
 use Rattle.flt_parse.specs.declared.state.Frame.{Frame}
@@ -28,7 +34,8 @@ use Rattle.flt_parse.specs.declared.state.TailMove.TheVariants.{Further, Done, W
 use Rattle.flt_parse.specs.declared.state.TailSpot.{TailSpot}
 use Rattle.flt_parse.specs.declared.state.TailSpot.TheVariants.{InWanted, SetWanted, InSet, PatternWanted}
 use Rattle.flt_parse.specs.declared.state.Waiting.{Waiting}
-use Rattle.flt_parse.specs.declared.token.Kind.{Kind}
+use Rattle.flt_syntax.specs.declared.token.Kind.{Kind}
+use Rattle.flt_syntax.specs.declared.word.Word.{Word}
 
 -- a list whose last is the first
 abbrev pub reversed : {A B : Type 0} → (A → B) → List A → List B
@@ -107,6 +114,28 @@ state_of (InTail spot c o outer) = in_tail (tail_spot_of spot) c (operand_of o) 
 abbrev pub range_spot : Slice → ℕ → RangeSpot → reading.Spot
 range_spot slice at spot =
     reading.InRanges (operand_of slice.operand) slice.bracket slice.done.items at spot
+
+-- where a token in a range leads
+abbrev pub layers_moved : Word → List LayerRange → ℕ → LayerMove → Option reading.Spot
+layers_moved w done at (layers.On spot) = Some (reading.InLayers w done at spot)
+layers_moved w done at (layers.Next range next) =
+    Some (reading.InLayers w (done ++ range ∷ []) next reading.LayerWanted)
+layers_moved w done at (layers.End range) =
+    Some (reading.OperandRead (OnLayersOf w (done ++ range ∷ [])))
+layers_moved w done at layers.Wrong = None
+
+abbrev pub ranges_moved : WrittenOperand → ℕ → List SliceRange → ℕ → RangeMove
+    → Option reading.Spot
+ranges_moved o bracket done at (ranges.On spot) = Some (reading.InRanges o bracket done at spot)
+ranges_moved o bracket done at (ranges.Next part next) =
+    Some (reading.InRanges o bracket (reading.with_part at done part) next reading.RangeWanted)
+ranges_moved o bracket done at (ranges.End part) =
+    Some (reading.OperandRead (SlicedOf o bracket (reading.with_part at done part)))
+ranges_moved o bracket done at ranges.Wrong = None
+
+abbrev pub IsRangeMove : RangeSpot → Kind → RangeMove → Type 0
+IsRangeMove spot kind m = (o : WrittenOperand) (bracket : ℕ) (done : List SliceRange) (at : ℕ)
+    → reading.ranges_step o bracket done at spot kind ≡ ranges_moved o bracket done at m
 
 -- the reading's moves at an operand, which goes on or ends, by what is open around it
 abbrev pub go_in : reading.Spot → Inside → reading.Move

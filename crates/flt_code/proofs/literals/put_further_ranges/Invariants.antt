@@ -1,6 +1,6 @@
 use Rattle.std.proofs.Common.{◌≡◌, ◌++◌, codes, drop}
 use Rattle.std.specs.List.{flat_map}
-use Rattle.flt_parse.specs.declared.ast.RangePart.{RangePart}
+use Rattle.flt_syntax.specs.declared.ast.RangePart.{RangePart}
 use Rattle.flt_code.specs.Literals.{range_shown}
 use Rattle.flt_code.proofs.literals.put_further_ranges.Given as goal
 

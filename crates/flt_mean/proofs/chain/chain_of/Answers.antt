@@ -4,7 +4,7 @@ use Rattle.flt_mean.specs.Meaning.{meaning}
 use Rattle.flt_mean.specs.declared.chain.Right.{Right}
 use Rattle.flt_mean.proofs.ChainLemmas.{truth_step, within_push}
 use Rattle.flt_mean.proofs.chain.chain_of.Goals as goal
-use Rattle.flt_parse.specs.declared.token.Join.TheVariants as joins
+use Rattle.flt_syntax.specs.declared.token.Join.TheVariants as joins
 
 pub signs-preserved-in-Either : goal.signs-preserved-in-Either
 signs-preserved-in-Either c =

@@ -1,7 +1,7 @@
 use Rattle.std.proofs.Common.{◌≡◌, vec_len}
 use Rattle.flt_parse.specs.Parser.Reading as reading
 use Rattle.flt_parse.specs.Parser.States.{left_of, reversed}
-use Rattle.flt_parse.specs.Written.{written}
+use Rattle.flt_syntax.specs.Written.{written}
 use Rattle.flt_parse.proofs.joins.join_all.Given as goal
 
 abbrev pub invariant-lefts : goal.invariant-lefts

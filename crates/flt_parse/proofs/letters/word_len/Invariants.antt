@@ -1,5 +1,5 @@
 use Rattle.std.proofs.Common.{◌≡◌, ◌+◌, drop}
-use Rattle.flt_parse.specs.Letters.{word_len}
+use Rattle.flt_syntax.specs.Letters.{word_len}
 use Rattle.flt_parse.proofs.letters.word_len.Given as goal
 
 abbrev pub invariant-loop-len : goal.invariant-loop-len

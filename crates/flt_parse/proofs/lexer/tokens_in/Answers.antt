@@ -1,6 +1,6 @@
 use Rattle.std.proofs.Common.{◌≡◌, ◌<◌, false, length, get_or, is_ok, ap, arith, rules}
 use Rattle.std.proofs.ResultArms.{chosen}
-use Rattle.flt_parse.specs.Letters.{is_blank}
+use Rattle.flt_syntax.specs.Letters.{is_blank}
 use Rattle.flt_parse.proofs.Lexing.{begun, token_taken}
 use Rattle.flt_parse.proofs.lexer.tokens_in.Goals as goal
 

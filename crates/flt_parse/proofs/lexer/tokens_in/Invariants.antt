@@ -1,5 +1,5 @@
 use Rattle.std.proofs.Common.{◌≡◌, ◌-◌, ◌≤◌, length, drop}
-use Rattle.flt_parse.specs.Tokens.{tokens_from, tokens_of}
+use Rattle.flt_syntax.specs.Tokens.{tokens_from, tokens_of}
 use Rattle.flt_parse.proofs.Lexing.{all_before}
 use Rattle.flt_parse.proofs.lexer.tokens_in.Given as goal
 

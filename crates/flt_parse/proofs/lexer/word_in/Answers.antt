@@ -1,5 +1,5 @@
 use Rattle.std.proofs.Common.{◌≡◌, ◌∙◌, ap, drop}
-use Rattle.flt_parse.specs.Letters.{word_len}
+use Rattle.flt_syntax.specs.Letters.{word_len}
 use Rattle.flt_parse.proofs.Words.{word_begins, word_ends}
 use Rattle.flt_parse.proofs.lexer.word_in.Goals as goal
 

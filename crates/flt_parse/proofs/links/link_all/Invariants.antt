@@ -1,7 +1,7 @@
 use Rattle.std.proofs.Common.{◌≡◌, vec_len}
 use Rattle.flt_parse.specs.Parser.Reading as reading
 use Rattle.flt_parse.specs.Parser.States.{waiting_of}
-use Rattle.flt_parse.specs.Written.{operand_of}
+use Rattle.flt_syntax.specs.Written.{operand_of}
 use Rattle.flt_parse.proofs.links.link_all.Given as goal
 
 abbrev pub invariant-waiting : goal.invariant-waiting

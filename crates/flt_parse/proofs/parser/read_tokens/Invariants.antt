@@ -1,5 +1,5 @@
 use Rattle.std.proofs.Common.{◌≡◌, length}
-use Rattle.flt_parse.specs.Filters.{most_open}
+use Rattle.flt_syntax.specs.Filters.{most_open}
 use Rattle.flt_parse.specs.Parser.Reading as reading
 use Rattle.flt_parse.specs.Parser.Answers.{tokens_read}
 use Rattle.flt_parse.specs.Parser.States.{state_of}

@@ -1,4 +1,4 @@
-use Rattle.flt_parse.specs.Written.{operand_of}
+use Rattle.flt_syntax.specs.Written.{operand_of}
 use Rattle.flt_parse.proofs.Moves.{mask_wanted}
 use Rattle.flt_parse.proofs.steps.behind_mask.Goals as goal
 

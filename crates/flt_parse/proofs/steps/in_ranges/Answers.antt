@@ -1,4 +1,4 @@
-use Rattle.flt_parse.specs.Written.{operand_of}
+use Rattle.flt_syntax.specs.Written.{operand_of}
 use Rattle.flt_parse.proofs.Moves.{in_ranges}
 use Rattle.flt_parse.proofs.steps.in_ranges.Goals as goal
 

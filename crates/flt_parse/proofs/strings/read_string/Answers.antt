@@ -1,6 +1,6 @@
 use Rattle.std.proofs.Common.{◌≡◌, length, drop, is_ok, Some, length-drop, arith, ap, sym, ◌∙◌, rules}
 use Rattle.std.proofs.ResultArms.{chosen}
-use Rattle.flt_parse.specs.Strings.{piece}
+use Rattle.flt_syntax.specs.Strings.{piece}
 use Rattle.flt_parse.proofs.Inside.{read_on}
 use Rattle.flt_parse.proofs.strings.read_string.Goals as goal
 

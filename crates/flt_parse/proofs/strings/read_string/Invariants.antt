@@ -1,5 +1,5 @@
 use Rattle.std.proofs.Common.{◌≡◌, ◌-◌, ◌≤◌, length, drop}
-use Rattle.flt_parse.specs.Strings.{string_inside}
+use Rattle.flt_syntax.specs.Strings.{string_inside}
 use Rattle.flt_parse.proofs.Inside.{behind}
 use Rattle.flt_parse.proofs.strings.read_string.Given as goal
 

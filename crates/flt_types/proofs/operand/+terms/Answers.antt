@@ -1,6 +1,6 @@
 use Rattle.std.proofs.Common.{subst}
 use Rattle.std.proofs.lemmas.Result.{err_from_is_err_and}
-use Rattle.flt_parse.specs.Written.{operand_of}
+use Rattle.flt_syntax.specs.Written.{operand_of}
 use Rattle.flt_types.specs.Faults.{IsAnswer, number_faults}
 use Rattle.flt_types.specs.Operands.{parts, with_right}
 use Rattle.flt_types.specs.Terms.{kind_of}

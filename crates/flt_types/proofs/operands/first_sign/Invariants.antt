@@ -1,5 +1,5 @@
 use Rattle.std.proofs.Common.{◌≡◌}
-use Rattle.flt_parse.specs.Written.{operand_of}
+use Rattle.flt_syntax.specs.Written.{operand_of}
 use Rattle.flt_types.specs.Faults.{first_sign}
 use Rattle.flt_types.proofs.operands.first_sign.Given as goal
 

@@ -1,5 +1,5 @@
 use Rattle.std.proofs.Common.{◌≡◌, ap, sym, ◌∙◌, arith}
-use Rattle.flt_parse.specs.Written.{ComputedOf, ArgumentsOf, operand_of}
+use Rattle.flt_syntax.specs.Written.{ComputedOf, ArgumentsOf, operand_of}
 use Rattle.flt_types.specs.Operands.{parts, with_right}
 use Rattle.flt_types.specs.declared.operands.Right.{Right}
 use Rattle.flt_types.specs.declared.operands.Right.TheVariants.{Computes, Argument}

@@ -1,6 +1,6 @@
 use Rattle.std.proofs.Common.{◌≡◌, ◌≤◌, ◌<◌}
 use Rattle.std.specs.List.{All}
-use Rattle.flt_parse.specs.Written.{operand_of}
+use Rattle.flt_syntax.specs.Written.{operand_of}
 use Rattle.flt_types.specs.Operands.{joined, parts, parts_right}
 use Rattle.flt_types.proofs.operands.parts_of.Given as goal
 

@@ -1,6 +1,6 @@
 use Rattle.std.proofs.Common.{◌≡◌, ap, sym, ◌∙◌, arith}
-use Rattle.flt_parse.specs.Written.{GroupOf, JoinedOf, NotOf, written}
-use Rattle.flt_parse.specs.declared.token.Join.TheVariants as joins
+use Rattle.flt_syntax.specs.Written.{GroupOf, JoinedOf, NotOf, written}
+use Rattle.flt_syntax.specs.declared.token.Join.TheVariants as joins
 use Rattle.flt_types.specs.Parts.{tests}
 use Rattle.flt_types.specs.declared.parts.Open.{Open}
 use Rattle.flt_types.specs.declared.parts.Open.TheVariants.{Group, Not, Before}

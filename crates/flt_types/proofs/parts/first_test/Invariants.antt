@@ -1,5 +1,5 @@
 use Rattle.std.proofs.Common.{◌≡◌, ◌+◌}
-use Rattle.flt_parse.specs.Written.{Written, written}
+use Rattle.flt_syntax.specs.Written.{Written, written}
 use Rattle.flt_types.specs.Parts.{Plugs, tests, waiting}
 use Rattle.flt_types.proofs.parts.first_test.Given as goal
 

@@ -1,5 +1,5 @@
 use Rattle.std.proofs.Common.{List, ◌++◌, drop}
-use Rattle.flt_parse.specs.declared.fault.FilterError.{FilterError}
+use Rattle.flt_syntax.specs.declared.fault.FilterError.{FilterError}
 use Rattle.flt_types.specs.Faults.{IsAnswer, elements_faults}
 use Rattle.flt_types.specs.Typing.{AreMembers}
 use Rattle.flt_types.specs.declared.typed.Member.{Member}

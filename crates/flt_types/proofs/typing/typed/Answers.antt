@@ -1,5 +1,5 @@
 use Rattle.std.proofs.lemmas.Result.{err_from_is_err_and}
-use Rattle.flt_parse.specs.Written.{written}
+use Rattle.flt_syntax.specs.Written.{written}
 use Rattle.flt_types.proofs.OpenParts.{fault_of_part}
 use Rattle.flt_types.proofs.typing.typed.Goals as goal
 

@@ -34,7 +34,7 @@ pub struct FilterFault {
 }
 
 /// A text that isn't read.
-#[derive(Clone, Copy, Debug, PartialEq, Eq)]
+#[derive(Clone, Copy, Debug)]
 pub enum FilterError {
     Fault(FilterFault),
     NoMemory,
@@ -42,7 +42,7 @@ pub enum FilterError {
 
 impl From<NoMemory> for FilterError {
     ghost use Rattle.std.specs.Prelude.{◌≡◌};
-    ghost use Rattle.flt_parse.specs.declared.fault.FilterError.TheVariants as errors;
+    ghost use Rattle.flt_syntax.specs.declared.fault.FilterError.TheVariants as errors;
 
     ghost from_gives = { λ _ e. e ≡ errors.NoMemory };
 
@@ -53,7 +53,7 @@ impl From<NoMemory> for FilterError {
 
 impl From<AllocError> for FilterError {
     ghost use Rattle.std.specs.Prelude.{◌≡◌};
-    ghost use Rattle.flt_parse.specs.declared.fault.FilterError.TheVariants as errors;
+    ghost use Rattle.flt_syntax.specs.declared.fault.FilterError.TheVariants as errors;
 
     ghost from_gives = { λ _ e. e ≡ errors.NoMemory };
 
@@ -64,7 +64,7 @@ impl From<AllocError> for FilterError {
 
 impl<T: Drop> From<AllocFailed<T>> for FilterError {
     ghost use Rattle.std.specs.Prelude.{◌≡◌};
-    ghost use Rattle.flt_parse.specs.declared.fault.FilterError.TheVariants as errors;
+    ghost use Rattle.flt_syntax.specs.declared.fault.FilterError.TheVariants as errors;
 
     ghost from_gives = { λ _ e. e ≡ errors.NoMemory };
 

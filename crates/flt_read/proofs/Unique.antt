@@ -1,14 +1,14 @@
 -- A text's filter and its first fault exclude each other, and the first fault is one, but for patterns that may be too large.
 use Rattle.std.proofs.Common.{◌≡◌, ◌⊎◌, inl, inr, ℕ, List, [], ◌∷◌, sym, refl, ◌∙◌, subst}
-use Rattle.flt_parse.specs.Written.{Written}
-use Rattle.flt_parse.specs.declared.fault.FilterFault.{FilterFault}
-use Rattle.flt_parse.specs.declared.fault.FilterReason.{FilterReason}
-use Rattle.flt_parse.specs.declared.fault.FilterReason.TheVariants.{BadPattern, PatternSize}
+use Rattle.flt_syntax.specs.Written.{Written}
+use Rattle.flt_syntax.specs.declared.fault.FilterFault.{FilterFault}
+use Rattle.flt_syntax.specs.declared.fault.FilterReason.{FilterReason}
+use Rattle.flt_syntax.specs.declared.fault.FilterReason.TheVariants.{BadPattern, PatternSize}
 use Rattle.flt_parse.proofs.Faults.{never_both, one_fault, one_filter}
 use Rattle.flt_pattern.specs.Patterns.{IsPattern}
 use Rattle.flt_pattern.proofs.Never.{never_pattern}
 use Rattle.flt_types.specs.Faults.{Found, At, PatternAt, IsClear, IsFirst, IsPatternFault, faults}
-use Rattle.flt_types.specs.Laws.{OneFault, TypedOrFault}
+use Rattle.flt_read.specs.Laws.{OneFault, TypedOrFault}
 use Rattle.flt_types.proofs.Clear.{type_clear}
 
 -- a pattern is refused for its size alone

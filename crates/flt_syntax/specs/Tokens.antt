@@ -4,30 +4,30 @@ use Rattle.std.specs.Char.{is_ascii_digit}
 use Rattle.std.specs.List.{find, starts_with}
 use Rattle.std.specs.Str.{bytes_eq}
 use Rattle.std.specs.Str.Parse.{digits_value}
-use Rattle.flt_parse.specs.Letters.{is_blank, begins_word, blanks, word_len, digits_len, is_number, opening}
-use Rattle.flt_parse.specs.Strings.{string_inside, raw_inside}
-use Rattle.flt_parse.specs.declared.ast.Arithmetic.TheVariants as arithmetic
-use Rattle.flt_parse.specs.declared.ast.Choice.TheVariants as choices
-use Rattle.flt_parse.specs.declared.ast.Function.{Function}
-use Rattle.flt_parse.specs.declared.ast.Function.TheVariants.{Len, Count, Upper, Lower, Min, Max}
-use Rattle.flt_parse.specs.declared.ast.Negation.TheVariants as negations
-use Rattle.flt_parse.specs.declared.ast.Operator.TheVariants as operators
-use Rattle.flt_parse.specs.declared.fault.FilterError.{FilterError}
-use Rattle.flt_parse.specs.declared.fault.FilterError.TheVariants.{Fault, NoMemory}
-use Rattle.flt_parse.specs.declared.fault.FilterFault.{FilterFault}
-use Rattle.flt_parse.specs.declared.fault.FilterReason.{FilterReason}
-use Rattle.flt_parse.specs.declared.fault.FilterReason.TheVariants.{BadChar, BadString}
-use Rattle.flt_parse.specs.declared.token.Join.TheVariants as joins
-use Rattle.flt_parse.specs.declared.token.Keyword.{Keyword}
-use Rattle.flt_parse.specs.declared.token.Keyword.TheVariants as words
-use Rattle.flt_parse.specs.declared.token.Kind.{Kind}
-use Rattle.flt_parse.specs.declared.token.Kind.TheVariants as kinds
-use Rattle.flt_parse.specs.declared.token.Lexeme.{Lexeme}
-use Rattle.flt_parse.specs.declared.token.Mode.{Mode}
-use Rattle.flt_parse.specs.declared.token.Mode.TheVariants.{Plain, BehindHash, InBrackets}
-use Rattle.flt_parse.specs.declared.token.Sign.{Sign}
-use Rattle.flt_parse.specs.declared.token.Sign.TheVariants as signs
-use Rattle.flt_parse.specs.declared.token.Token.{Token}
+use Rattle.flt_syntax.specs.Letters.{is_blank, begins_word, blanks, word_len, digits_len, is_number, opening}
+use Rattle.flt_syntax.specs.Strings.{string_inside, raw_inside}
+use Rattle.flt_syntax.specs.declared.ast.Arithmetic.TheVariants as arithmetic
+use Rattle.flt_syntax.specs.declared.ast.Choice.TheVariants as choices
+use Rattle.flt_syntax.specs.declared.ast.Function.{Function}
+use Rattle.flt_syntax.specs.declared.ast.Function.TheVariants.{Len, Count, Upper, Lower, Min, Max}
+use Rattle.flt_syntax.specs.declared.ast.Negation.TheVariants as negations
+use Rattle.flt_syntax.specs.declared.ast.Operator.TheVariants as operators
+use Rattle.flt_syntax.specs.declared.fault.FilterError.{FilterError}
+use Rattle.flt_syntax.specs.declared.fault.FilterError.TheVariants.{Fault, NoMemory}
+use Rattle.flt_syntax.specs.declared.fault.FilterFault.{FilterFault}
+use Rattle.flt_syntax.specs.declared.fault.FilterReason.{FilterReason}
+use Rattle.flt_syntax.specs.declared.fault.FilterReason.TheVariants.{BadChar, BadString}
+use Rattle.flt_syntax.specs.declared.token.Join.TheVariants as joins
+use Rattle.flt_syntax.specs.declared.token.Keyword.{Keyword}
+use Rattle.flt_syntax.specs.declared.token.Keyword.TheVariants as words
+use Rattle.flt_syntax.specs.declared.token.Kind.{Kind}
+use Rattle.flt_syntax.specs.declared.token.Kind.TheVariants as kinds
+use Rattle.flt_syntax.specs.declared.token.Lexeme.{Lexeme}
+use Rattle.flt_syntax.specs.declared.token.Mode.{Mode}
+use Rattle.flt_syntax.specs.declared.token.Mode.TheVariants.{Plain, BehindHash, InBrackets}
+use Rattle.flt_syntax.specs.declared.token.Sign.{Sign}
+use Rattle.flt_syntax.specs.declared.token.Sign.TheVariants as signs
+use Rattle.flt_syntax.specs.declared.token.Token.{Token}
 
 -- how the signs are written
 abbrev pub sign_text : Sign → List ℕ

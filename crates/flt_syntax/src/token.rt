@@ -4,7 +4,7 @@ use crate::ast::{Arithmetic, Choice, Function, Layer, Negation, Operator};
 use crate::word::{Quote, Word};
 
 /// What joins two filters.
-#[derive(Clone, Copy, Debug, PartialEq, Eq)]
+#[derive(Clone, Copy)]
 pub enum Join {
     Or,
     Xor,
@@ -78,7 +78,7 @@ pub struct Token {
 }
 
 /// What the text is read as from a place on, which the token before decides.
-#[derive(Clone, Copy, Debug, PartialEq, Eq)]
+#[derive(Clone, Copy, PartialEq, Eq)]
 pub enum Mode {
     Plain,
     /// Directly behind `#`.
@@ -95,7 +95,7 @@ pub struct Lexeme {
 }
 
 /// The signs outside brackets.
-#[derive(Clone, Copy, Debug, PartialEq, Eq)]
+#[derive(Clone, Copy)]
 pub enum Sign {
     AllEqual,
     AnyUnequal,
@@ -126,7 +126,7 @@ pub enum Sign {
 }
 
 /// The reserved words.
-#[derive(Clone, Copy, Debug, PartialEq, Eq)]
+#[derive(Clone, Copy)]
 pub enum Keyword {
     And,
     Or,

@@ -1,14 +1,12 @@
 // The syntax tree of a filter's text. Every `u32` named or described as a place is that of a byte in the text.
 
 ghost use Rattle.std.specs.Prelude.{◌≡◌};
-ghost use Rattle.flt_parse.specs.Grammar.{takes_more as may_take_more};
-ghost use Rattle.flt_parse.specs.Parser.Reading.{word_alone};
-ghost use Rattle.flt_parse.specs.Written.{operand_of};
+ghost use Rattle.flt_syntax.specs.Written.{operand_of, word_alone};
 
 use crate::word::{Quote, Word};
 
 /// How a negation is written.
-#[derive(Clone, Copy, Debug, PartialEq, Eq)]
+#[derive(Clone, Copy)]
 pub enum Negation {
     /// `!`
     Sign,
@@ -17,7 +15,7 @@ pub enum Negation {
 }
 
 /// The word before a test that says over which pairs of values it asks.
-#[derive(Clone, Copy, Debug, PartialEq, Eq)]
+#[derive(Clone, Copy, PartialEq, Eq)]
 pub enum Choice {
     /// `any`
     Any,
@@ -26,7 +24,7 @@ pub enum Choice {
 }
 
 /// What stands between two operands.
-#[derive(Clone, Copy, Debug, PartialEq, Eq)]
+#[derive(Clone, Copy, PartialEq, Eq)]
 pub enum Operator {
     /// `==`, `eq`
     Equal,
@@ -52,7 +50,7 @@ pub enum Operator {
     Contains,
 }
 
-#[derive(Clone, Copy, Debug, PartialEq, Eq)]
+#[derive(Clone, Copy, PartialEq, Eq)]
 pub enum Function {
     /// `len`
     Len,
@@ -68,18 +66,8 @@ pub enum Function {
     Max,
 }
 
-/// Whether a function has one argument or more.
-pub fn takes_more(function: Function) -> bool
-    ensures { result ≡ may_take_more function }
-{
-    match function {
-        Function::Min | Function::Max => true,
-        Function::Len | Function::Count | Function::Upper | Function::Lower => false,
-    }
-}
-
 /// What is computed of two numbers.
-#[derive(Clone, Copy, Debug, PartialEq, Eq)]
+#[derive(Clone, Copy, PartialEq, Eq)]
 pub enum Arithmetic {
     /// `+`
     Sum,
@@ -90,14 +78,14 @@ pub enum Arithmetic {
 }
 
 /// The number behind `#`: its place, and the layer that it chooses, counted from 1.
-#[derive(Clone, Copy, Debug, PartialEq, Eq)]
+#[derive(Clone, Copy)]
 pub struct Layer {
     pub at: u32,
     pub nth: u32,
 }
 
 /// A range of layers in `#[..]`: the place of its first token, its first layer, and its last, if one is written.
-#[derive(Clone, Copy, Debug, PartialEq, Eq)]
+#[derive(Clone, Copy)]
 pub struct LayerRange {
     pub at: u32,
     pub first: u32,
@@ -127,7 +115,7 @@ pub enum RangePart {
 }
 
 /// A range of a slice: the place of its first token, and what it takes.
-#[derive(Clone, Copy, Debug, PartialEq, Eq)]
+#[derive(Clone, Copy, PartialEq, Eq)]
 pub struct SliceRange {
     pub at: u32,
     pub part: RangePart,
@@ -158,7 +146,7 @@ pub enum Operand {
 
 impl Operand {
     /// The word that this is, if it is no more than that.
-    pub(crate) fn into_word(self) -> Option<Word>
+    pub fn into_word(self) -> Option<Word>
         ensures { result ≡ word_alone (operand_of self) }
     {
         match self {

@@ -1,23 +1,23 @@
 -- A tree has no fault, or a first one that isn't the size of a pattern.
 use Rattle.std.proofs.Common.{◌≢◌, ◌⊎◌, inl, inr, ℕ, Bool, true, false, List, [], ◌∷◌, ◌++◌, Option, Some, None, refl, subst}
-use Rattle.flt_parse.specs.Filters.{IsFaultFor, IsFilterText, IsFirstFault}
-use Rattle.flt_parse.specs.Written.{Written, WrittenOperand, WrittenTail, TextOf, NamedOf, OnLayerOf, OnLayersOf, SlicedOf, MaskedOf, CalledOf, ComputedOf, ArgumentsOf, CompareOf, InOf, MatchesOf, JoinedOf, NotOf, GroupOf, AloneOf, TestOf}
-use Rattle.flt_parse.specs.declared.ast.Element.{Element}
-use Rattle.flt_parse.specs.declared.ast.Element.TheVariants as elements
-use Rattle.flt_parse.specs.declared.ast.Function.{Function}
-use Rattle.flt_parse.specs.declared.ast.LayerRange.{LayerRange}
-use Rattle.flt_parse.specs.declared.ast.Literal.{Literal}
-use Rattle.flt_parse.specs.declared.ast.SliceRange.{SliceRange}
-use Rattle.flt_parse.specs.declared.fault.FilterFault.{FilterFault}
-use Rattle.flt_parse.specs.declared.fault.FilterReason.{FilterReason}
-use Rattle.flt_parse.specs.declared.fault.FilterReason.TheVariants.{UnknownField, TypeMismatch, OutOfRange, BadPattern, PatternSize}
-use Rattle.flt_parse.specs.declared.word.Word.{Word}
+use Rattle.flt_syntax.specs.Filters.{IsFaultFor, IsFilterText, IsFirstFault}
+use Rattle.flt_syntax.specs.Written.{Written, WrittenOperand, WrittenTail, TextOf, NamedOf, OnLayerOf, OnLayersOf, SlicedOf, MaskedOf, CalledOf, ComputedOf, ArgumentsOf, CompareOf, InOf, MatchesOf, JoinedOf, NotOf, GroupOf, AloneOf, TestOf}
+use Rattle.flt_syntax.specs.declared.ast.Element.{Element}
+use Rattle.flt_syntax.specs.declared.ast.Element.TheVariants as elements
+use Rattle.flt_syntax.specs.declared.ast.Function.{Function}
+use Rattle.flt_syntax.specs.declared.ast.LayerRange.{LayerRange}
+use Rattle.flt_syntax.specs.declared.ast.Literal.{Literal}
+use Rattle.flt_syntax.specs.declared.ast.SliceRange.{SliceRange}
+use Rattle.flt_syntax.specs.declared.fault.FilterFault.{FilterFault}
+use Rattle.flt_syntax.specs.declared.fault.FilterReason.{FilterReason}
+use Rattle.flt_syntax.specs.declared.fault.FilterReason.TheVariants.{UnknownField, TypeMismatch, OutOfRange, BadPattern, PatternSize}
+use Rattle.flt_syntax.specs.declared.word.Word.{Word}
 use Rattle.flt_parse.proofs.Every.{filter_or_fault}
 use Rattle.flt_pattern.specs.Patterns.{IsNoPattern, IsPattern}
 use Rattle.flt_pattern.proofs.Decided.{pattern_or_none}
 use Rattle.flt_types.specs.Faults.{Found, At, PatternAt, IsClear, IsFirst, alone_faults, call_faults, class_faults, element_faults, elements_faults, faults, given, kind_written, layers_faults, mask_faults, misplaced, nameless, number_faults, operand_faults, ranges_faults, reading_faults, right_faults, slice_faults, tail_faults, takes_written, unless, word_faults}
 use Rattle.flt_types.specs.Layers.{is_layer, is_layers}
-use Rattle.flt_types.specs.Laws.{TypedOrRefused}
+use Rattle.flt_read.specs.Laws.{TypedOrRefused}
 use Rattle.flt_types.specs.Literals.{end_read, literal_of, literal_read, place_of_literal, side_read}
 use Rattle.flt_types.specs.Ranges.{is_range}
 use Rattle.flt_types.specs.Standing.{argument, in_slice, sign_for, within}

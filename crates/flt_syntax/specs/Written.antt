@@ -1,24 +1,24 @@
 -- A filter as it is written: the tree of `Ast` without the places in memory of its parts.
-use Rattle.std.specs.Prelude.{ℕ, Bool, List, Option}
-use Rattle.flt_parse.specs.declared.ast.Arithmetic.{Arithmetic}
-use Rattle.flt_parse.specs.declared.ast.Ast.{Ast}
-use Rattle.flt_parse.specs.declared.ast.Ast.TheVariants.{Or', Xor', And', Not', Group', Alone, Test}
-use Rattle.flt_parse.specs.declared.ast.Choice.{Choice}
-use Rattle.flt_parse.specs.declared.ast.Element.{Element}
-use Rattle.flt_parse.specs.declared.ast.Function.{Function}
-use Rattle.flt_parse.specs.declared.ast.Layer.{Layer}
-use Rattle.flt_parse.specs.declared.ast.LayerRange.{LayerRange}
-use Rattle.flt_parse.specs.declared.ast.Negation.{Negation}
-use Rattle.flt_parse.specs.declared.ast.Operand.{Operand}
-use Rattle.flt_parse.specs.declared.ast.Operand.TheVariants.{Text, Named, OnLayer, OnLayers, Sliced', Masked', Called', Computed', Arguments'}
-use Rattle.flt_parse.specs.declared.ast.Operator.{Operator}
-use Rattle.flt_parse.specs.declared.ast.SliceRange.{SliceRange}
-use Rattle.flt_parse.specs.declared.ast.Tail.{Tail}
-use Rattle.flt_parse.specs.declared.ast.Tail.TheVariants.{Compare, In, Matches}
-use Rattle.flt_parse.specs.declared.token.Join.{Join}
-use Rattle.flt_parse.specs.declared.token.Join.TheVariants as joins
-use Rattle.flt_parse.specs.declared.word.Quote.{Quote}
-use Rattle.flt_parse.specs.declared.word.Word.{Word}
+use Rattle.std.specs.Prelude.{ℕ, Bool, List, Option, Some, None}
+use Rattle.flt_syntax.specs.declared.ast.Arithmetic.{Arithmetic}
+use Rattle.flt_syntax.specs.declared.ast.Ast.{Ast}
+use Rattle.flt_syntax.specs.declared.ast.Ast.TheVariants.{Or', Xor', And', Not', Group', Alone, Test}
+use Rattle.flt_syntax.specs.declared.ast.Choice.{Choice}
+use Rattle.flt_syntax.specs.declared.ast.Element.{Element}
+use Rattle.flt_syntax.specs.declared.ast.Function.{Function}
+use Rattle.flt_syntax.specs.declared.ast.Layer.{Layer}
+use Rattle.flt_syntax.specs.declared.ast.LayerRange.{LayerRange}
+use Rattle.flt_syntax.specs.declared.ast.Negation.{Negation}
+use Rattle.flt_syntax.specs.declared.ast.Operand.{Operand}
+use Rattle.flt_syntax.specs.declared.ast.Operand.TheVariants.{Text, Named, OnLayer, OnLayers, Sliced', Masked', Called', Computed', Arguments'}
+use Rattle.flt_syntax.specs.declared.ast.Operator.{Operator}
+use Rattle.flt_syntax.specs.declared.ast.SliceRange.{SliceRange}
+use Rattle.flt_syntax.specs.declared.ast.Tail.{Tail}
+use Rattle.flt_syntax.specs.declared.ast.Tail.TheVariants.{Compare, In, Matches}
+use Rattle.flt_syntax.specs.declared.token.Join.{Join}
+use Rattle.flt_syntax.specs.declared.token.Join.TheVariants as joins
+use Rattle.flt_syntax.specs.declared.word.Quote.{Quote}
+use Rattle.flt_syntax.specs.declared.word.Word.{Word}
 
 -- an operand; what is sliced, masked, called or computed stands inside. A comma joins the arguments of a call
 pub data WrittenOperand : Type 0 where
@@ -56,6 +56,11 @@ operand_of (Masked' p o at w) = MaskedOf (operand_of o) at w
 operand_of (Called' f at p o) = CalledOf f at (operand_of o)
 operand_of (Computed' a at p l q r) = ComputedOf a at (operand_of l) (operand_of r)
 operand_of (Arguments' p l q r) = ArgumentsOf (operand_of l) (operand_of r)
+
+-- the word that an operand is, if it is no more than that
+abbrev pub word_alone : WrittenOperand → Option Word
+word_alone (NamedOf w) = Some w
+word_alone o = None
 
 abbrev pub tail_of : Tail → WrittenTail
 tail_of (Compare operator at right) = CompareOf operator at (operand_of right)

@@ -21,7 +21,8 @@ impl Model for WordText {
 }
 
 impl WordText {
-    pub(crate) fn copy(alloc: Global, text: &str) -> Result<WordText, NoMemory>
+    /// The same letters.
+    pub fn copy(alloc: Global, text: &str) -> Result<WordText, NoMemory>
         ensures { IfOk result (λ word. word ≡ text.now) }
     {
         Ok(WordText {

@@ -1,0 +1,17 @@
+// What holds of every text, stated on functions that do nothing.
+ghost use Rattle.flt_read.specs.Laws.{OneFault, TypedOrFault, TypedOrRefused};
+
+/// A text that is a filter may be refused for a pattern's size, and for nothing else.
+pub fn typed_texts_have_no_fault()
+    ensures { TypedOrFault }
+{}
+
+/// A text has at most one first fault, but that a pattern's size may be one in its stead.
+pub fn faults_are_unique()
+    ensures { OneFault }
+{}
+
+/// A text is a filter, or has a first fault that isn't the size of a pattern.
+pub fn texts_are_filters_or_refused()
+    ensures { TypedOrRefused }
+{}

@@ -1,5 +1,0 @@
-use Rattle.flt_types.proofs.Unique.{one_fault_but_size}
-use Rattle.flt_types.proofs.laws.faults_are_unique.Goals as goal
-
-pub returns : goal.returns
-returns c = one_fault_but_size
