@@ -301,11 +301,11 @@ fn frames_of_two_sections_are_numbered_through(rt: HostRuntime) -> Result<(), Fa
 }
 
 /// An Ethernet interface whose clock counts 2^-10 seconds.
-const BINARY: &[u8] =
+pub(crate) const BINARY: &[u8] =
     b"\x01\0\0\0\x20\0\0\0\x01\0\0\0\0\0\x04\0\x09\0\x01\0\x8a\0\0\0\0\0\0\0\x20\0\0\0";
 
 /// A packet of no bytes at tick 1.
-const AT_TICK_1: &[u8] =
+pub(crate) const AT_TICK_1: &[u8] =
     b"\x06\0\0\0\x20\0\0\0\0\0\0\0\0\0\0\0\x01\0\0\0\0\0\0\0\0\0\0\0\x20\0\0\0";
 
 /// The frame of the packet of no bytes.

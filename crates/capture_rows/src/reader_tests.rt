@@ -1,4 +1,5 @@
 // The answers of a reader, one after the other.
+use crate::file_tests::{AT_TICK_1, BINARY};
 use crate::pieces::{
     BIG_ETHERNET, BIG_PACKET, BIG_SECTION, BIG_UNKNOWN, ETHERNET, LITTLE, PACKET, RECORD, SECTION,
     joined,
@@ -268,8 +269,8 @@ static ENDS: [Reading; 4] = [
         answers: &[FRAME, WHOLE, WHOLE],
     },
     Reading {
-        shows: "a packet",
-        parts: &[SECTION, ETHERNET, PACKET],
+        shows: "a packet by a clock of 2^-10 seconds",
+        parts: &[SECTION, BINARY, AT_TICK_1],
         step: 65_536,
         failing: &[],
         answers: &[FRAME, WHOLE, WHOLE],
