@@ -1,9 +1,13 @@
-//! Tables of capture files with what is read of them, worked out by hand from the formats, and of frames with the files
-//! that are written of them.
+//! Tables of capture files with what is read of them, worked out by hand from the formats; of frames with the files that
+//! are written of them; and of files with what comes of merging them.
 #![tactic(auto)]
 
 #[cfg(test)]
 mod file_tests;
+#[cfg(test)]
+mod merged_rows;
+#[cfg(test)]
+mod merged_tests;
 #[cfg(test)]
 mod pcap_tests;
 #[cfg(test)]

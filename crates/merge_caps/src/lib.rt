@@ -8,8 +8,6 @@ mod read_file;
 mod read_files;
 mod readings;
 mod status;
-#[cfg(test)]
-mod tests;
 mod told;
 mod top;
 mod words;
