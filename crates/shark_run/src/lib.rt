@@ -13,6 +13,7 @@ mod laws;
 mod notes;
 mod outcome;
 mod output;
+mod owned;
 mod packet;
 mod plan;
 mod reports;

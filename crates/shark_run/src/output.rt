@@ -31,6 +31,7 @@ use crate::filter_stats::write_stats;
 use crate::judge::{Judge, judge_for, verdict_of};
 use crate::later::{Later, add_links};
 use crate::notes::Notes;
+use crate::owned::let_go;
 use crate::packet::{write_end, write_packet};
 use crate::plan::Plan;
 use crate::reports::write_reports;
@@ -695,10 +696,13 @@ fn write_once<C: Capture, O: Sink>(
     };
     let mut dissector = match new_dissector(alloc, plan, needed_fields(plan)) {
         Ok(dissector) => dissector,
-        Err(NoMemory) => return Err(RunFault::NoMemory),
+        Err(NoMemory) => {
+            let_go(lines);
+            return Err(RunFault::NoMemory);
+        }
     };
     let mut reader = FrameReader::new(alloc);
-    write_body(
+    let ended = write_body(
         alloc,
         plan,
         &mut reader,
@@ -706,7 +710,11 @@ fn write_once<C: Capture, O: Sink>(
         &mut lines,
         capture,
         out,
-    )
+    );
+    let_go(reader);
+    let_go(dissector);
+    let_go(lines);
+    ended
 }
 
 // Reads the begun file and writes what stands behind the opening, and answers how the reading ends.

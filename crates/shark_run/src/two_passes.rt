@@ -30,6 +30,7 @@ use crate::output::{
     LineMaker, RunFault, is_full, new_dissector, new_line_maker, one_less, write_closing,
     write_frame,
 };
+use crate::owned::let_go;
 use crate::plan::Plan;
 use crate::run_ending::RunEnding;
 use crate::wanted::needed_fields;
@@ -171,9 +172,14 @@ fn links_of(
 {
     let mut dissector = new_dissector(alloc, plan, wanted)?;
     let mut links = Links::new(alloc);
-    match note_all(frames, &mut dissector, &mut links) {
+    let noted = note_all(frames, &mut dissector, &mut links);
+    let_go(dissector);
+    match noted {
         Ok(()) => Ok(links),
-        Err(error) => Err(error),
+        Err(error) => {
+            let_go(links);
+            Err(error)
+        }
     }
 }
 
@@ -303,6 +309,7 @@ fn later_of(
 }
 
 // Goes over kept frames with what is known of later ones, and writes what stands behind the opening.
+#[tactic(auto, using(crate::proofs::TwiceLemmas::body_still))]
 fn write_known<O: Sink>(
     alloc: Global,
     plan: &Plan,
@@ -335,9 +342,15 @@ fn write_known<O: Sink>(
     };
     let mut dissector = match new_dissector(alloc, plan, wanted) {
         Ok(dissector) => dissector,
-        Err(NoMemory) => return Err(RunFault::NoMemory),
+        Err(NoMemory) => {
+            let_go(lines);
+            return Err(RunFault::NoMemory);
+        }
     };
-    match write_kept_body(alloc, plan, kept, later, &mut dissector, &mut lines, out) {
+    let ended = write_kept_body(alloc, plan, kept, later, &mut dissector, &mut lines, out);
+    let_go(dissector);
+    let_go(lines);
+    match ended {
         Ok(ending) => Ok(ending),
         Err(fault) => Err(fault),
     }
@@ -370,7 +383,9 @@ fn write_again<O: Sink>(
         Ok(later) => later,
         Err(NoMemory) => return Err(RunFault::NoMemory),
     };
-    match write_known(alloc, plan, kept, wanted, &later, out) {
+    let ended = write_known(alloc, plan, kept, wanted, &later, out);
+    let_go(later);
+    match ended {
         Ok(ending) => Ok(ending),
         Err(fault) => Err(fault),
     }
@@ -407,7 +422,9 @@ pub(crate) fn write_twice<C: Capture, O: Sink>(
         Ok(kept) => kept,
         Err(fault) => return Err(fault),
     };
-    match write_again(alloc, plan, &kept, out) {
+    let ended = write_again(alloc, plan, &kept, out);
+    let_go(kept);
+    match ended {
         Ok(ending) => Ok(ending),
         Err(fault) => Err(fault),
     }

@@ -12,17 +12,17 @@ returns-in-Err-clause-so_far g c = λ is.
     let same : c.in-Err.fault ≡ ReadFault = cc is in
     twice_unread c.args.plan.now (g.C.Capture.left c.args.capture.now) (g.C.Capture.left c.keep_frames.new.capture) (g.O.Sink.written c.args.out.now) c.requires (c.in-Err.ensures.so_far (ap Err same))
 
-pub returns-in-Ok-write_again-clause-ended : goal.returns-in-Ok-write_again-clause-ended
-returns-in-Ok-write_again-clause-ended g c =
-    twice_wrote c.args.plan.now (g.C.Capture.left c.args.capture.now) c.in-Ok.kept.frames c.in-Ok.kept.ending c.in-Ok-write_again.ending (g.O.Sink.written c.args.out.now) (g.O.Sink.written c.write_again.new.out)
-    c.in-Ok.ensures.read c.in-Ok-write_again.ensures.ended
+pub returns-in-Ok-ended-clause-ended : goal.returns-in-Ok-ended-clause-ended
+returns-in-Ok-ended-clause-ended g c =
+    twice_wrote c.args.plan.now (g.C.Capture.left c.args.capture.now) c.in-Ok.kept.frames c.in-Ok.kept.ending c.in-Ok-ended.ending (g.O.Sink.written c.args.out.now) (g.O.Sink.written c.write_again-ended.new.out)
+    c.in-Ok.ensures.read c.in-Ok-ended.ensures.ended
 
-pub returns-in-Ok-write_again-clause-part : goal.returns-in-Ok-write_again-clause-part
-returns-in-Ok-write_again-clause-part g c =
-    twice_some c.args.plan.now (g.C.Capture.left c.args.capture.now) c.in-Ok.kept.frames c.in-Ok.kept.ending (g.O.Sink.written c.args.out.now) (g.O.Sink.written c.write_again.new.out)
-    c.in-Ok.ensures.read c.write_again.ensures.part
+pub returns-in-Ok-ended-clause-part : goal.returns-in-Ok-ended-clause-part
+returns-in-Ok-ended-clause-part g c =
+    twice_some c.args.plan.now (g.C.Capture.left c.args.capture.now) c.in-Ok.kept.frames c.in-Ok.kept.ending (g.O.Sink.written c.args.out.now) (g.O.Sink.written c.write_again-ended.new.out)
+    c.in-Ok.ensures.read c.write_again-ended.ensures.part
 
-pub returns-clause-part : goal.returns-clause-part
-returns-clause-part g c =
-    twice_some c.args.plan.now (g.C.Capture.left c.args.capture.now) c.in-Ok.kept.frames c.in-Ok.kept.ending (g.O.Sink.written c.args.out.now) (g.O.Sink.written c.write_again.new.out)
-    c.in-Ok.ensures.read c.write_again.ensures.part
+pub returns-in-Err-ended-clause-part : goal.returns-in-Err-ended-clause-part
+returns-in-Err-ended-clause-part g c =
+    twice_some c.args.plan.now (g.C.Capture.left c.args.capture.now) c.in-Ok.kept.frames c.in-Ok.kept.ending (g.O.Sink.written c.args.out.now) (g.O.Sink.written c.write_again-ended.new.out)
+    c.in-Ok.ensures.read c.write_again-ended.ensures.part
