@@ -5,35 +5,35 @@ use Rattle.std.specs.Io.KnownBytes.{Appends}
 use Rattle.std.proofs.KnownBytes.{Appends-trans}
 use Rattle.pk_outside.specs.Outside.{AppendsPart}
 use Rattle.pk_outside.proofs.Parts.{part_after, part_more, part_none}
-use Rattle.std.specs.Option.{unwrap_or}
-use Rattle.capture_write.specs.Kept.{Kept, Stands as Written, end_at, kept_of, nothing_kept}
+use Rattle.capture_write.specs.Kept.{Kept, end_at, kept_of}
 use Rattle.capture_write.specs.declared.format.Format.{Format}
-use Rattle.capture_write.specs.declared.format.Format.TheVariants.{Pcapng}
-use Rattle.shark_run.specs.declared.run_ending.RunEnding.{RunEnding}
+use Rattle.run_frames.specs.declared.run_ending.RunEnding.{RunEnding}
 use Rattle.capture_read.specs.declared.frame.Frame.{Frame}
 use Rattle.dissect.specs.Stands.{DissectorShown, StandsWithin}
-use Rattle.shark_run.specs.declared.plan.Plan.{Plan}
-use Rattle.shark_run.specs.Fitting.{job_of}
-use Rattle.shark_run.specs.Job.{Job, Passes, job_in}
-use Rattle.shark_run.specs.declared.notes.Notes.{Notes}
-use Rattle.shark_run.specs.declared.totals.Totals.{Totals}
-use Rattle.shark_run.specs.Accessors.{compiled_of, is_generated, reports_of, stats_of, written_of}
-use Rattle.shark_run.specs.Chosen.{IsWriting, chosen_of}
-use Rattle.shark_run.specs.Ended.{CanClose, HasRead}
-use Rattle.shark_run.specs.FilterStats.{stats_lines, steps_over, steps_told}
-use Rattle.shark_run.specs.Satisfied.{judged}
-use Rattle.shark_run.specs.Lines.{closing, closing_by, counted_line, pieces}
-use Rattle.shark_run.specs.Reading.{frames_read}
+use Rattle.run_frames.specs.declared.plan.Plan.{Plan}
+use Rattle.run_frames.specs.Fitting.{job_of}
+use Rattle.run_frames.specs.Job.{Job, Passes, job_in}
+use Rattle.run_frames.specs.declared.notes.Notes.{Notes}
+use Rattle.run_frames.specs.declared.totals.Totals.{Totals}
+use Rattle.run_frames.specs.Accessors.{compiled_of, is_generated, reports_of, stats_of, written_of}
+use Rattle.run_frames.specs.Chosen.{IsWriting, chosen_of}
+use Rattle.run_passes.specs.Ended.{CanClose, HasRead}
+use Rattle.shark_run.specs.FilterStats.{stats_lines, steps_over}
+use Rattle.run_frames.specs.Totals.{steps_told, counts_of, counts_with, nothing_counted, with_tree}
+use Rattle.run_frames.specs.Satisfied.{judged}
+use Rattle.shark_run.specs.Lines.{closing, closing_by, counted_line}
+use Rattle.run_frames.specs.Pieces.{pieces}
+use Rattle.run_passes.specs.Reading.{frames_read}
 use Rattle.shark_run.specs.Reports.{reports_text}
 use Rattle.pk_fields.specs.Ids.{DNS, HTTP}
-use Rattle.shark_run.specs.SelfRun.{counts_text, layer_count, self_run_line, shown_count, tcp_count, udp_count}
-use Rattle.shark_run.specs.Totals.{counts_of, counts_with, nothing_counted, totals_of, with_tree}
-use Rattle.shark_run.specs.Notes.{AreNotes}
-use Rattle.shark_run.specs.Steps.{KeepsUp}
-use Rattle.shark_run.specs.Trees.{lets_frame, tree_of, trees_of}
-use Rattle.shark_run.specs.Way.{IsBrokenBehind, IsBrokenFrom}
-use Rattle.shark_run.proofs.PacketLemmas.{kept_is}
-use Rattle.shark_run.specs.Wrote.{WroteBody, WrotePieces, WroteSomeBody, WroteSomePieces, body_of}
+use Rattle.shark_run.specs.SelfRun.{counts_text, layer_count, self_run_line, shown_count, tcp_count, udp_count, totals_of}
+use Rattle.run_frames.specs.Notes.{AreNotes}
+use Rattle.run_frames.specs.Trees.{lets_frame, tree_of, trees_of}
+use Rattle.run_passes.specs.SoFar.{IsBrokenBehind}
+use Rattle.shark_run.specs.Way.{IsBrokenFrom}
+use Rattle.run_frames.proofs.PacketLemmas.{kept_is}
+use Rattle.shark_run.specs.Wrote.{WroteBody, WroteSomeBody, body_of}
+use Rattle.run_passes.specs.WrotePieces.{WrotePieces, WroteSomePieces}
 
 -- the line over frames tells their totals
 pub line_counted : (job : Job) (past : List Frame) (totals : Totals) (tcp udp : ℕ) (line : List ℕ)
@@ -113,12 +113,6 @@ pub among_reports : (job : Job) (past : List Frame) (old new : Option (List ℕ)
     → AppendsPart old new (reports_text job past (reports_of job.plan)) → AppendsPart old new (closing job past)
 among_reports job past old new lines part =
     subst (AppendsPart old new) (sym (closing_is job past lines)) (part_more old new (reports_text job past (reports_of job.plan)) (stats_lines job past ++ counted_line job past) part)
-
--- nothing was written yet
-pub keeps_nothing : (written : Option Format) (job : Job) (t : Notes) (k : Kept) → AreNotes job [] t → k ≡ nothing_kept (unwrap_or written Pcapng) → Written k []
-    → KeepsUp written job [] t k
-keeps_nothing None job t k counted is stands = counted
-keeps_nothing (Some format) job t k counted is stands = (ap (λ (kept : Kept). kept.format) is, stands)
 
 -- what stands at the end is written
 pub closed_line : (job : Job) (d : DissectorShown) (t : Notes) (k : Kept) (now new : Option (List ℕ)) → written_of job.plan ≡ None

@@ -3,11 +3,11 @@ use Rattle.std.proofs.Common.{◌≡◌, ◌⊎◌, inl, inr, ℕ, List, Option,
 use Rattle.std.specs.Prelude.{IfSome}
 use Rattle.shark_run.specs.declared.outcome.Outcome.{Outcome}
 use Rattle.shark_run.specs.declared.outcome.Outcome.TheVariants as outcome
-use Rattle.shark_run.specs.declared.plan.Plan.{Plan}
+use Rattle.run_frames.specs.declared.plan.Plan.{Plan}
 use Rattle.shark_run.specs.declared.status.Status.{Status}
 use Rattle.shark_run.specs.declared.status.Status.TheVariants as status
 use Rattle.shark_run.specs.Outcomes.{outcome_status, IfEnded}
-use Rattle.shark_run.specs.Reading.{file_of, frames_read}
+use Rattle.run_passes.specs.Reading.{file_of, frames_read}
 use Rattle.shark_run.specs.Statuses.{status_of}
 use Rattle.shark_run.proofs.PlanLemmas.{any_file, each_file}
 

@@ -11,13 +11,13 @@ use Rattle.flt_code.proofs.CompileLemmas.{texts_programmed}
 use Rattle.shark_words.specs.declared.options.Options.{Options}
 use Rattle.shark_words.specs.declared.fault.WordFault.{WordFault}
 use Rattle.shark_words.specs.Options.{options_of}
-use Rattle.shark_run.specs.declared.plan.Plan.{Plan}
-use Rattle.shark_run.specs.declared.plan.Refused.{Refused}
-use Rattle.shark_run.specs.declared.plan.Refused.TheVariants as refused
+use Rattle.run_frames.specs.declared.plan.Plan.{Plan}
+use Rattle.shark_run.specs.declared.refused.Refused.{Refused}
+use Rattle.shark_run.specs.declared.refused.Refused.TheVariants as refused
 use Rattle.shark_run.specs.Answers.{is_of_size, IsSure}
 use Rattle.shark_run.specs.Columns.{fields_named}
-use Rattle.shark_run.specs.Compiled.{CompiledShown}
-use Rattle.shark_run.specs.Source.{source_in}
+use Rattle.run_frames.specs.Compiled.{CompiledShown}
+use Rattle.run_frames.specs.Source.{source_in}
 use Rattle.shark_run.specs.Laws.{PlanOrReason}
 use Rattle.shark_run.specs.Plan.{IsFaultAsked, IsFilterAsked, IsPlan, IsPlanFor, IsRefusal, IsRefusalFor}
 use Rattle.shark_run.proofs.PlanLemmas.{IsOfName, names_alone}

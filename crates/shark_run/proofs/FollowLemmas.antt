@@ -16,7 +16,7 @@ use Rattle.tcp_streams.specs.Standing.{StandsFor, taken_so_far, way_for}
 use Rattle.tcp_streams.specs.Ways.{AreApart, IsWay, Sided, WayState, end_of, same_side, stretches, way_after}
 use Rattle.tcp_streams.specs.declared.segment.Segment.{Segment}
 use Rattle.tcp_streams.specs.declared.streams.Streams.{Streams}
-use Rattle.shark_run.specs.Job.{Job}
+use Rattle.run_frames.specs.Job.{Job}
 use Rattle.shark_run.specs.ReportLaws.{AreSameReports, FollowsAlone, IsSameReport}
 use Rattle.shark_run.specs.Reports.{fronts_if, fronts_in, tcp_segments}
 

@@ -5,13 +5,13 @@ use Rattle.capture_write.specs.declared.format.Format.{Format}
 use Rattle.out_json.specs.Lines.{json_line_of}
 use Rattle.shark_words.specs.declared.options.LineKind.{LineKind}
 use Rattle.tcp_messages.specs.Brought.{MessagesOnce}
-use Rattle.shark_run.specs.Compiled.{CompiledShown}
-use Rattle.shark_run.specs.Job.{Job}
+use Rattle.run_frames.specs.Compiled.{CompiledShown}
+use Rattle.run_frames.specs.Job.{Job}
 use Rattle.shark_run.specs.JsonLaws.{MessagesToldOnce, ShowsAll, json_lines}
-use Rattle.shark_run.specs.Lines.{line_by, line_of, piece, piece_by, pieces_of}
+use Rattle.run_frames.specs.Pieces.{line_by, line_of, piece, piece_by, pieces_of}
 use Rattle.shark_run.specs.Reports.{tcp_segments}
-use Rattle.shark_run.specs.Satisfied.{judged, satisfies}
-use Rattle.shark_run.specs.Trees.{lets, tree_of}
+use Rattle.run_frames.specs.Satisfied.{judged, satisfies}
+use Rattle.run_frames.specs.Trees.{lets, tree_of}
 
 nothing_chosen : (chosen : Option CompiledShown) → option_map (λ (compiled : CompiledShown). compiled.filter) chosen ≡ None → chosen ≡ None
 nothing_chosen None is = refl

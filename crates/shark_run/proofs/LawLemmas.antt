@@ -30,31 +30,32 @@ use Rattle.flt_vm.specs.Verdicts.{verdict_of}
 use Rattle.flt_vm.specs.declared.run.Verdict.{Verdict}
 use Rattle.shark_words.specs.declared.options.Options.{Options}
 use Rattle.shark_words.specs.Options.{options_of}
-use Rattle.shark_run.specs.declared.plan.Plan.{Plan}
-use Rattle.shark_run.specs.declared.plan.Refused.{Refused}
-use Rattle.shark_run.specs.declared.plan.Refused.TheVariants as refused
-use Rattle.shark_run.specs.declared.run_ending.RunEnding.TheVariants.{Unfit}
+use Rattle.run_frames.specs.declared.plan.Plan.{Plan}
+use Rattle.shark_run.specs.declared.refused.Refused.{Refused}
+use Rattle.shark_run.specs.declared.refused.Refused.TheVariants as refused
+use Rattle.run_frames.specs.declared.run_ending.RunEnding.TheVariants.{Unfit}
 use Rattle.shark_run.specs.declared.status.Status.{Status}
 use Rattle.shark_run.specs.declared.status.Status.TheVariants as status
 use Rattle.shark_run.specs.Answers.{is_of_size, IsAnswered, IsSure}
-use Rattle.shark_run.specs.Chosen.{chosen, chosen_of, if_shown, is_unfit_in, packet_in}
-use Rattle.shark_run.specs.Fitting.{FramesRead, before, fitting, is_unfit, is_unfit_by, over}
-use Rattle.shark_run.specs.Compiled.{CompiledShown}
+use Rattle.run_frames.specs.Chosen.{chosen, chosen_of, if_shown, is_unfit_in, packet_in}
+use Rattle.run_frames.specs.Fitting.{FramesRead, before, fitting, is_unfit, is_unfit_by, over}
+use Rattle.run_frames.specs.Compiled.{CompiledShown}
 use Rattle.shark_run.specs.Statuses.{status_of}
 use Rattle.shark_run.specs.Laws.{AreAlike, LetsByMeaning, NeverBoth, OneReason, PlansAreAlike}
-use Rattle.shark_run.specs.declared.source.PlanSource.{PlanSource}
-use Rattle.shark_run.specs.Accessors.{is_quiet}
-use Rattle.shark_run.specs.Job.{Passes, job_in, passes_by, with_links}
-use Rattle.shark_run.specs.Lines.{shown, piece, piece_by, pieces, is_headed, line_by, line_of, opening, opening_by, closing, closing_by, counted_line, output_by, output_of}
+use Rattle.run_frames.specs.declared.source.PlanSource.{PlanSource}
+use Rattle.run_frames.specs.Accessors.{is_quiet}
+use Rattle.run_frames.specs.Job.{Passes, job_in, passes_by, with_links}
+use Rattle.run_frames.specs.Pieces.{shown, piece, piece_by, pieces, line_by, line_of}
+use Rattle.shark_run.specs.Lines.{is_headed, opening, opening_by, closing, closing_by, counted_line, output_by, output_of}
 use Rattle.shark_run.specs.Reports.{report_text, reports_text}
-use Rattle.shark_run.specs.Satisfied.{decided, judged, satisfies}
-use Rattle.shark_run.specs.Tables.{trees_let, trees_with}
+use Rattle.run_frames.specs.Satisfied.{decided, judged, satisfies}
+use Rattle.run_frames.specs.Tables.{trees_let, trees_with}
 use Rattle.cap_stats.specs.Tables.{table_of}
 use Rattle.shark_run.specs.SelfRun.{line_with, self_run_line, shown_count}
-use Rattle.shark_run.specs.Trees.{lets, lets_frame, tree_of, trees_of}
-use Rattle.shark_run.specs.Source.{is_generated_by}
+use Rattle.run_frames.specs.Trees.{lets, lets_frame, tree_of, trees_of}
+use Rattle.run_frames.specs.Source.{is_generated_by}
 use Rattle.shark_run.specs.Plan.{IsFaultAsked, IsFilterAsked, IsPlan, IsPlanFor, IsRefusal, IsRefusalFor}
-use Rattle.shark_run.specs.Reading.{file_by, file_of, fitting_of, limited, frames_read, read_of}
+use Rattle.run_passes.specs.Reading.{file_by, file_of, fitting_of, limited, frames_read, read_of}
 use Rattle.shark_run.specs.FilterStats.{stats_lines}
 use Rattle.shark_run.proofs.StatsLemmas.{stats_untold}
 use Rattle.shark_run.proofs.PlanLemmas.{answered, each_file, filter_or_fault, of_size, refused_not_planned, same_options}

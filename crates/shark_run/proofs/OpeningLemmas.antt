@@ -1,22 +1,66 @@
 -- What is written behind the line of the fields' names.
-use Rattle.std.proofs.Common.{◌≡◌, ◌<◌, ℕ, Bool, true, false, List, [], length, ◌++◌, Option, None, Some, inl, inr, refl, sym, ap, ◌∙◌, subst}
+use Rattle.std.proofs.Common.{◌≡◌, ◌<◌, ℕ, Bool, true, false, List, [], length, ◌++◌, Option, None, Some, inl, inr, refl, sym, ap, ◌∙◌, subst, ◌∷◌, append_assoc, append-nil, reverse, if◌then◌else◌}
 use Rattle.std.specs.Prelude.{IfOk, IfSome, Result, Ok, Err}
 use Rattle.std.specs.Io.KnownBytes.{Appends}
 use Rattle.std.proofs.KnownBytes.{Appends-trans}
 use Rattle.pk_outside.specs.Outside.{AppendsPart}
 use Rattle.pk_outside.proofs.Parts.{part_after, part_more}
 use Rattle.capture_write.specs.declared.format.Format.{Format}
-use Rattle.shark_run.specs.declared.run_ending.RunEnding.{RunEnding}
-use Rattle.shark_run.specs.Accessors.{two_of, written_of}
-use Rattle.shark_run.specs.Fitting.{FramesRead, job_of}
-use Rattle.shark_run.specs.Job.{IfOnce, once}
-use Rattle.shark_run.specs.declared.output.RunFault.{RunFault}
-use Rattle.shark_run.specs.declared.plan.Plan.{Plan}
-use Rattle.shark_run.specs.Lines.{opening, opening_by, output_by, output_of, pieces, pieces_of}
-use Rattle.shark_run.specs.Reading.{frames_read}
-use Rattle.shark_run.specs.Way.{IsBrokenFrom, IsBrokenOf, WroteTaken, WroteTakenBehind, pieces_so_far}
-use Rattle.shark_run.proofs.PacketLemmas.{written_whole}
+use Rattle.run_frames.specs.declared.run_ending.RunEnding.{RunEnding}
+use Rattle.run_frames.specs.Accessors.{two_of, written_of}
+use Rattle.run_frames.specs.Fitting.{FramesRead, job_of}
+use Rattle.run_frames.specs.Job.{IfOnce, once, Job}
+use Rattle.run_frames.specs.declared.frames.RunFault.{RunFault}
+use Rattle.run_frames.specs.declared.plan.Plan.{Plan}
+use Rattle.shark_run.specs.Lines.{opening, opening_by, output_by, output_of, closing, closing_by}
+use Rattle.run_frames.specs.Pieces.{pieces, pieces_of, piece, piece_by}
+use Rattle.run_passes.specs.Reading.{frames_read}
+use Rattle.shark_run.specs.Way.{IsBrokenFrom, IsBrokenOf, WroteTaken}
+use Rattle.run_passes.specs.SoFar.{WroteTakenBehind, pieces_so_far}
 use Rattle.shark_run.specs.Wrote.{WroteAll, WroteBody, WrotePart, WroteSomeBody, body_of}
+use Rattle.capture_read.specs.declared.frame.Frame.{Frame}
+use Rattle.capture_write.specs.Kept.{kept_of, piece_at, written}
+use Rattle.capture_write.proofs.KeptLaws.{bytes_from, whole-file}
+use Rattle.run_frames.specs.Chosen.{chosen, chosen_of, end_in, if_shown, packet_in}
+use Rattle.run_frames.specs.Trees.{lets_frame}
+use Rattle.run_frames.proofs.PacketLemmas.{reverse_more}
+
+-- the pieces of the frames chosen, and those of the end, are the file of these frames
+packets : Format → Job → List Frame → List Frame → List ℕ
+packets format job past [] = end_in format job past
+packets format job past (frame ∷ frames) = packet_in format job past frame ++ packets format job (frame ∷ past) frames
+
+packets_chosen : (format : Format) (job : Job) (past frames : List Frame)
+    → packets format job past frames ≡ bytes_from (kept_of format (chosen_of job past)) (chosen job past frames)
+unfolding packets
+packets_chosen format job past [] = refl
+packets_chosen format job past (frame ∷ frames) =
+    ap (λ (rest : List ℕ). packet_in format job past frame ++ rest) (packets_chosen format job (frame ∷ past) frames)
+    ∙ by (lets_frame job past frame)
+  where
+    by : (shown : Bool) → (if shown then piece_at (kept_of format (chosen_of job past)) frame else [])
+        ++ bytes_from (kept_of format (if_shown shown frame (chosen_of job past))) (chosen job (frame ∷ past) frames)
+        ≡ bytes_from (kept_of format (chosen_of job past)) (if_shown shown frame (chosen job (frame ∷ past) frames))
+    by true = refl
+    by false = refl
+
+pieces_packets : (format : Format) (job : Job) (past frames : List Frame) → written_of job.plan ≡ Some format
+    → pieces job past frames ++ closing job (reverse frames ++ past) ≡ packets format job past frames
+unfolding packets closing
+pieces_packets format job past [] is = ap (λ (w : Option Format). closing_by w job past) is
+pieces_packets format job past (frame ∷ frames) is =
+    append_assoc (piece job past frame) (pieces job (frame ∷ past) frames) (closing job (reverse (frame ∷ frames) ++ past))
+    ∙ ap (λ (end : List Frame). piece job past frame ++ (pieces job (frame ∷ past) frames ++ closing job end)) (reverse_more frame frames past)
+    ∙ ap (λ (rest : List ℕ). piece job past frame ++ rest) (pieces_packets format job (frame ∷ past) frames is)
+    ∙ ap (λ (w : Option Format). piece_by w job past frame ++ packets format job (frame ∷ past) frames) is
+
+pub written_whole : (format : Format) (job : Job) (frames : List Frame) → written_of job.plan ≡ Some format
+    → written format (chosen job [] frames) ≡ pieces job [] frames ++ closing job (reverse frames)
+written_whole format job frames is =
+    sym (whole-file format (chosen job [] frames))
+    ∙ sym (packets_chosen format job [] frames)
+    ∙ sym (pieces_packets format job [] frames is)
+    ∙ ap (λ (past : List Frame). pieces job [] frames ++ closing job past) (append-nil (reverse frames))
 
 -- the output is the opening and what stands behind it
 no_opening : (format : Format) (plan : Plan) → written_of plan ≡ Some format → opening plan ≡ []

@@ -8,19 +8,19 @@ use Rattle.flt_syntax.specs.declared.fault.FilterReason.TheVariants.{PatternSize
 use Rattle.flt_read.proofs.Unique.{typed_or_fault}
 use Rattle.shark_words.specs.declared.options.Options.{Options}
 use Rattle.shark_words.specs.Options.{options_of}
-use Rattle.shark_run.specs.declared.plan.Plan.{Plan}
-use Rattle.shark_run.specs.declared.plan.Refused.{Refused}
-use Rattle.shark_run.specs.declared.plan.Refused.TheVariants as refused
-use Rattle.shark_run.specs.declared.plan.PlanError.{PlanError}
-use Rattle.shark_run.specs.declared.plan.PlanError.TheVariants as errors
+use Rattle.run_frames.specs.declared.plan.Plan.{Plan}
+use Rattle.shark_run.specs.declared.refused.Refused.{Refused}
+use Rattle.shark_run.specs.declared.refused.Refused.TheVariants as refused
+use Rattle.shark_run.specs.declared.refused.PlanError.{PlanError}
+use Rattle.shark_run.specs.declared.refused.PlanError.TheVariants as errors
 use Rattle.shark_run.specs.declared.status.Status.{Status}
 use Rattle.shark_run.specs.declared.status.Status.TheVariants as status
-use Rattle.shark_run.specs.Compiled.{CompiledShown}
+use Rattle.run_frames.specs.Compiled.{CompiledShown}
 use Rattle.shark_run.specs.Columns.{fields_named, known, with_first, with_others}
 use Rattle.shark_run.specs.Plan.{IsFaultAsked, IsFilterAsked, IsPlan, IsPlanFor, IsRefusal, IsRefusalFor}
 use Rattle.shark_run.specs.PlanErrors.{Gives, IsErrorOf}
 use Rattle.shark_run.specs.Answers.{is_of_size, IsAnswered, IsRefusedForSize, IsSure}
-use Rattle.shark_run.specs.Reading.{file_of, frames_read}
+use Rattle.run_passes.specs.Reading.{file_of, frames_read}
 use Rattle.shark_run.specs.Statuses.{refusal_status, status_of}
 
 pub same_options : (words : List (List ℕ)) (one other : Options) → options_of words ≡ Ok one → options_of words ≡ Ok other → one ≡ other

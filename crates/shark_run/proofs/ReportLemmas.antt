@@ -12,11 +12,11 @@ use Rattle.std.specs.List.{list_any}
 use Rattle.std.proofs.lemmas.List.Folds.{list_any_at}
 use Rattle.cap_stats.specs.declared.kind.StatKind.{StatKind}
 use Rattle.cap_stats.specs.declared.kind.StatKind.TheVariants.{ConvTcp, ConvIp, Phs}
-use Rattle.shark_run.specs.declared.plan.Plan.{Plan}
-use Rattle.shark_run.specs.Job.{Job}
-use Rattle.shark_run.specs.Accessors.{reports_of}
+use Rattle.run_frames.specs.declared.plan.Plan.{Plan}
+use Rattle.run_frames.specs.Job.{Job}
+use Rattle.run_frames.specs.Accessors.{reports_of}
 use Rattle.shark_run.specs.Reports.{IsAsked, report_text, reports_text}
-use Rattle.shark_run.specs.Tables.{is_table_of, same_kind}
+use Rattle.run_frames.specs.Tables.{is_table_of, same_kind}
 
 -- a line more, and a part of it
 pub line_part : (n : ℕ) (rest text done line : List ℕ) (old now new : Option (List ℕ)) → line ≡ take n rest → done ++ rest ≡ text

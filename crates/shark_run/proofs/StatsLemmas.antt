@@ -1,16 +1,16 @@
 -- What is told of the program.
 use Rattle.std.proofs.Common.{◌≡◌, ◌+◌, ℕ, Bool, true, false, List, [], ◌∷◌, Option, None, Some, refl, sym, ap, ◌∙◌, if◌then◌else◌}
 use Rattle.capture_read.specs.declared.frame.Frame.{Frame}
-use Rattle.shark_run.specs.Accessors.{compiled_of, stats_of}
-use Rattle.shark_run.specs.Compiled.{CompiledShown}
-use Rattle.shark_run.specs.FilterStats.{stats_by, stats_lines, stats_text, steps_over, steps_told}
-use Rattle.shark_run.specs.Job.{Job}
-use Rattle.shark_run.specs.Notes.{AreNotes}
-use Rattle.shark_run.specs.Satisfied.{judged}
-use Rattle.shark_run.specs.Totals.{counts_of}
-use Rattle.shark_run.specs.Trees.{tree_of, trees_of}
-use Rattle.shark_run.specs.declared.notes.Notes.{Notes}
-use Rattle.shark_run.specs.declared.totals.Totals.{Totals}
+use Rattle.run_frames.specs.Accessors.{compiled_of, stats_of}
+use Rattle.run_frames.specs.Compiled.{CompiledShown}
+use Rattle.shark_run.specs.FilterStats.{stats_by, stats_lines, stats_text, steps_over}
+use Rattle.run_frames.specs.Totals.{steps_told, counts_of}
+use Rattle.run_frames.specs.Job.{Job}
+use Rattle.run_frames.specs.Notes.{AreNotes}
+use Rattle.run_frames.specs.Satisfied.{judged}
+use Rattle.run_frames.specs.Trees.{tree_of, trees_of}
+use Rattle.run_frames.specs.declared.notes.Notes.{Notes}
+use Rattle.run_frames.specs.declared.totals.Totals.{Totals}
 
 -- where they are told, the steps that were counted are those over all trees
 steps_so_far : (job : Job) (past : List Frame) → stats_of job.plan ≡ true

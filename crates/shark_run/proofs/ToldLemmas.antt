@@ -8,15 +8,15 @@ use Rattle.pk_outside.proofs.Parts.{part_none}
 use Rattle.capture_read.specs.declared.ending.Ending.TheVariants as ending
 use Rattle.shark_run.specs.declared.outcome.Outcome.{Outcome}
 use Rattle.shark_run.specs.declared.outcome.Outcome.TheVariants as outcome
-use Rattle.shark_run.specs.declared.run_ending.RunEnding.TheVariants.{Read, Unfit}
-use Rattle.shark_run.specs.declared.plan.Plan.{Plan}
-use Rattle.shark_run.specs.declared.plan.Refused.{Refused}
-use Rattle.shark_run.specs.declared.plan.Refused.TheVariants as refused
+use Rattle.run_frames.specs.declared.run_ending.RunEnding.TheVariants.{Read, Unfit}
+use Rattle.run_frames.specs.declared.plan.Plan.{Plan}
+use Rattle.shark_run.specs.declared.refused.Refused.{Refused}
+use Rattle.shark_run.specs.declared.refused.Refused.TheVariants as refused
 use Rattle.shark_run.specs.declared.status.Status.{Status}
 use Rattle.shark_run.specs.declared.status.Status.TheVariants as status
 use Rattle.shark_run.specs.FaultTexts.{refusal_text, ending_text, outcome_text, run_ending_text, IsFaultText, IsNone, IsSame, Told, ToldWhole}
 use Rattle.shark_run.specs.Outcomes.{outcome_status, IfEnded}
-use Rattle.shark_run.specs.Reading.{file_of, frames_read}
+use Rattle.run_passes.specs.Reading.{file_of, frames_read}
 use Rattle.shark_run.specs.Statuses.{refusal_status}
 
 pub told : (IsAsked : Plan → Type 0) (IsReason : Refused → Type 0) (files : List ℕ → Option (List ℕ)) (answer : Status) (text : List ℕ) (old new : Option (List ℕ)) →

@@ -1,8 +1,8 @@
 -- The columns: the fields of the names after `-e`.
 use Rattle.std.specs.Prelude.{ℕ, List, [], ◌∷◌, Option, Some, None, Result, Ok, Err}
 use Rattle.pk_fields.specs.Fields.{field_named}
-use Rattle.shark_run.specs.declared.plan.Refused.{Refused}
-use Rattle.shark_run.specs.declared.plan.Refused.TheVariants as refused
+use Rattle.shark_run.specs.declared.refused.Refused.{Refused}
+use Rattle.shark_run.specs.declared.refused.Refused.TheVariants as refused
 
 -- the field of a name, or the refusal of a name that isn't known
 abbrev pub known : List ℕ → Option ℕ → Result ℕ Refused

@@ -13,14 +13,14 @@ use Rattle.shark_words.specs.declared.fault.WordReason.{WordReason}
 use Rattle.shark_words.specs.declared.fault.WordReason.TheVariants.{UnknownOption, MissingValue, StrayWord, NoFile, Repeated, BadValue, NoFields, Unused, Clash}
 use Rattle.shark_run.specs.declared.outcome.Outcome.{Outcome}
 use Rattle.shark_run.specs.declared.outcome.Outcome.TheVariants as outcome
-use Rattle.shark_run.specs.declared.run_ending.RunEnding.{RunEnding}
-use Rattle.shark_run.specs.declared.run_ending.RunEnding.TheVariants.{Read, Unfit}
-use Rattle.shark_run.specs.declared.plan.Plan.{Plan}
-use Rattle.shark_run.specs.declared.plan.Refused.{Refused}
-use Rattle.shark_run.specs.declared.plan.Refused.TheVariants as refused
+use Rattle.run_frames.specs.declared.run_ending.RunEnding.{RunEnding}
+use Rattle.run_frames.specs.declared.run_ending.RunEnding.TheVariants.{Read, Unfit}
+use Rattle.run_frames.specs.declared.plan.Plan.{Plan}
+use Rattle.shark_run.specs.declared.refused.Refused.{Refused}
+use Rattle.shark_run.specs.declared.refused.Refused.TheVariants as refused
 use Rattle.shark_run.specs.declared.status.Status.{Status}
 use Rattle.shark_run.specs.declared.status.Status.TheVariants as status
-use Rattle.shark_run.specs.Reading.{name_of, file_of, frames_read}
+use Rattle.run_passes.specs.Reading.{name_of, file_of, frames_read}
 use Rattle.shark_run.specs.Statuses.{refusal_status, status_of}
 
 -- the code and name of a reason why a file is damaged

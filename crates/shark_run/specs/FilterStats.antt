@@ -2,18 +2,12 @@
 use Rattle.std.specs.Prelude.{ℕ, ◌+◌, if◌then◌else◌, List, [], ◌∷◌, ◌++◌, codes, decimal, length, Option, None, Some}
 use Rattle.capture_read.specs.declared.frame.Frame.{Frame}
 use Rattle.flt_code.specs.Listing.{listing_of}
-use Rattle.flt_vm.specs.declared.run.Verdict.{Verdict}
 use Rattle.pk_tree.specs.Trees.{TreeShown}
-use Rattle.shark_run.specs.Accessors.{compiled_of, stats_of}
-use Rattle.shark_run.specs.Compiled.{CompiledShown}
-use Rattle.shark_run.specs.Job.{Job}
-use Rattle.shark_run.specs.Satisfied.{judged}
-use Rattle.shark_run.specs.Trees.{trees_of}
-use Rattle.shark_run.specs.declared.plan.Plan.{Plan}
-
--- the steps that a run adds, where steps are counted
-abbrev pub steps_told : Plan → Verdict → ℕ
-steps_told plan verdict = if stats_of plan then verdict.steps else 0
+use Rattle.run_frames.specs.Accessors.{compiled_of, stats_of}
+use Rattle.run_frames.specs.Compiled.{CompiledShown}
+use Rattle.run_frames.specs.Job.{Job}
+use Rattle.run_frames.specs.Satisfied.{judged}
+use Rattle.run_frames.specs.Trees.{trees_of}
 
 -- the steps of the runs over trees
 abbrev pub steps_over : Option CompiledShown → List TreeShown → ℕ

@@ -9,12 +9,12 @@ use Rattle.stream_messages.specs.Sides.{asked_in, noted, shown_in}
 use Rattle.tcp_messages.specs.Brought.{brought}
 use Rattle.tcp_streams.specs.Labels.{Label, labels, way_of}
 use Rattle.tcp_streams.specs.Ways.{stretches}
-use Rattle.shark_run.specs.declared.plan.Plan.{Plan}
-use Rattle.shark_run.specs.Accessors.{filter_of, is_quiet, kind_of, written_of}
-use Rattle.shark_run.specs.Job.{Job}
-use Rattle.shark_run.specs.Lines.{pieces_of}
+use Rattle.run_frames.specs.declared.plan.Plan.{Plan}
+use Rattle.run_frames.specs.Accessors.{filter_of, is_quiet, kind_of, written_of}
+use Rattle.run_frames.specs.Job.{Job}
+use Rattle.run_frames.specs.Pieces.{pieces_of}
 use Rattle.shark_run.specs.Reports.{tcp_segments}
-use Rattle.shark_run.specs.Trees.{tree_of}
+use Rattle.run_frames.specs.Trees.{tree_of}
 
 -- lines of JSON, and no filter
 pub record ShowsAll (plan : Plan) : Type 0 where

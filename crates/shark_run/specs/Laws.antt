@@ -4,15 +4,15 @@ use Rattle.capture_read.specs.declared.frame.Frame.{Frame}
 use Rattle.flt_mean.specs.Meaning.{meaning}
 use Rattle.flt_types.specs.declared.typed.Typed.{Typed}
 use Rattle.pk_tree.specs.Trees.{TreeShown}
-use Rattle.shark_run.specs.declared.plan.Plan.{Plan}
-use Rattle.shark_run.specs.declared.plan.Refused.{Refused}
+use Rattle.run_frames.specs.declared.plan.Plan.{Plan}
+use Rattle.shark_run.specs.declared.refused.Refused.{Refused}
 use Rattle.shark_run.specs.Answers.{IsSure}
-use Rattle.shark_run.specs.Job.{Passes, job_in}
+use Rattle.run_frames.specs.Job.{Passes, job_in}
 use Rattle.shark_run.specs.Lines.{output_of}
 use Rattle.shark_run.specs.Plan.{IsPlan, IsRefusal}
-use Rattle.shark_run.specs.Accessors.{filter_of, source_of, stats_of}
-use Rattle.shark_run.specs.Reading.{frames_read}
-use Rattle.shark_run.specs.Trees.{lets}
+use Rattle.run_frames.specs.Accessors.{filter_of, source_of, stats_of}
+use Rattle.run_passes.specs.Reading.{frames_read}
+use Rattle.run_frames.specs.Trees.{lets}
 
 -- words that ask for a plan have no sure reason to be refused
 abbrev pub NeverBoth : Type 0

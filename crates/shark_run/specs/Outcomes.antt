@@ -1,5 +1,5 @@
 -- How carrying out a plan ends.
-use Rattle.shark_run.specs.declared.run_ending.RunEnding.{RunEnding}
+use Rattle.run_frames.specs.declared.run_ending.RunEnding.{RunEnding}
 use Rattle.shark_run.specs.declared.outcome.Outcome.{Outcome}
 use Rattle.shark_run.specs.declared.outcome.Outcome.TheVariants as outcome
 use Rattle.shark_run.specs.declared.status.Status.{Status}

@@ -6,12 +6,12 @@ use Rattle.flt_code.specs.Decides.{Agrees, Decides}
 use Rattle.flt_types.specs.Texts.{IsTypedText, IsFilterFault}
 use Rattle.shark_words.specs.declared.options.Options.{Options}
 use Rattle.shark_words.specs.Options.{options_of}
-use Rattle.shark_run.specs.declared.plan.Plan.{Plan}
-use Rattle.shark_run.specs.declared.plan.Refused.{Refused}
-use Rattle.shark_run.specs.declared.plan.Refused.TheVariants as refused
+use Rattle.run_frames.specs.declared.plan.Plan.{Plan}
+use Rattle.shark_run.specs.declared.refused.Refused.{Refused}
+use Rattle.shark_run.specs.declared.refused.Refused.TheVariants as refused
 use Rattle.shark_run.specs.Columns.{fields_named}
-use Rattle.shark_run.specs.Compiled.{CompiledShown}
-use Rattle.shark_run.specs.Source.{source_in}
+use Rattle.run_frames.specs.Compiled.{CompiledShown}
+use Rattle.run_frames.specs.Source.{source_in}
 
 -- the filter of the text that is asked for, where one is, with a program that decides it: its runs end with the filter's truth
 abbrev pub IsFilterAsked : Option (List ℕ) → Option CompiledShown → Type 0

@@ -1,9 +1,9 @@
 -- The errors of what reads a plan.
 use Rattle.std.specs.Prelude.{◌≡◌, ℕ, List, Option, Result, Ok, Err}
-use Rattle.shark_run.specs.declared.plan.Refused.{Refused}
-use Rattle.shark_run.specs.declared.plan.Refused.TheVariants as refused
-use Rattle.shark_run.specs.declared.plan.PlanError.{PlanError}
-use Rattle.shark_run.specs.declared.plan.PlanError.TheVariants as error
+use Rattle.shark_run.specs.declared.refused.Refused.{Refused}
+use Rattle.shark_run.specs.declared.refused.Refused.TheVariants as refused
+use Rattle.shark_run.specs.declared.refused.PlanError.{PlanError}
+use Rattle.shark_run.specs.declared.refused.PlanError.TheVariants as error
 use Rattle.shark_run.specs.Plan.{IsFaultAsked}
 
 -- an answer is what is wanted, or refuses for the same reason, or had no memory

@@ -5,7 +5,7 @@ use Rattle.shark_words.specs.declared.options.Report.TheVariants.{Follow}
 use Rattle.tcp_streams.specs.Isolation.{HaveSameBetween, streams_of}
 use Rattle.tcp_streams.specs.Labels.{labels}
 use Rattle.tcp_streams.specs.declared.segment.Segment.{Segment}
-use Rattle.shark_run.specs.Job.{Job}
+use Rattle.run_frames.specs.Job.{Job}
 use Rattle.shark_run.specs.Reports.{report_text, tcp_segments}
 
 -- the reports of two streams, each over frames of its own, are the same but for the streams' numbers in their first lines

@@ -1,23 +1,21 @@
 -- The reports that stand behind the lines: a stream over all frames that were read, a table over those that the filter lets
 -- through. Lists of frames and of segments have the newest first.
-use Rattle.std.specs.Prelude.{◌≡◌, ◌≤◌, ℕ, Bool, true, false, nat_lt, List, [], ◌∷◌, ◌++◌, Option, None, Some}
+use Rattle.std.specs.Prelude.{◌≡◌, ℕ, Bool, true, false, nat_lt, List, [], ◌∷◌, ◌++◌, Option, None, Some}
 use Rattle.cap_stats.specs.Tables.{table_of}
 use Rattle.capture_read.specs.declared.frame.Frame.{Frame}
 use Rattle.dissect.specs.Segments.{segments_of}
-use Rattle.dissect.specs.Stands.{DissectorShown, StandsWithin}
 use Rattle.dissect.specs.Trees.{events_of}
 use Rattle.out_lines.specs.Follow.{follow_of}
 use Rattle.out_lines.specs.declared.follow.Fronts.{Fronts}
-use Rattle.pk_base.specs.Limits.{file_limit}
 use Rattle.shark_words.specs.declared.options.Report.{Report}
 use Rattle.shark_words.specs.declared.options.Report.TheVariants as reports
 use Rattle.tcp_streams.specs.Labels.{labels, opened}
 use Rattle.tcp_streams.specs.Standing.{way_for}
 use Rattle.tcp_streams.specs.Ways.{stretches}
 use Rattle.tcp_streams.specs.declared.segment.Segment.{Segment}
-use Rattle.shark_run.specs.declared.plan.Plan.{Plan}
-use Rattle.shark_run.specs.Job.{Job}
-use Rattle.shark_run.specs.Tables.{asks_table, trees_let}
+use Rattle.run_frames.specs.declared.plan.Plan.{Plan}
+use Rattle.run_frames.specs.Job.{Job}
+use Rattle.run_frames.specs.Tables.{asks_table, trees_let}
 
 -- the stretches of both directions of a stream, where there is one
 abbrev pub fronts_if : Bool → List Segment → ℕ → Option Fronts
@@ -48,7 +46,3 @@ reports_text job past (report ∷ reports) = report_text job past report ++ repo
 abbrev pub IsAsked : Plan → Report → Type 0
 IsAsked plan (reports.Follow stream) = Unit {0}
 IsAsked plan (reports.Table kind) = asks_table plan kind ≡ true
-
--- a dissector has taken frames, and not more than a file has bytes
-abbrev pub HasTaken : DissectorShown → Type 0
-HasTaken d = (past : List Frame) × StandsWithin past d × (d.taken ≤ file_limit)

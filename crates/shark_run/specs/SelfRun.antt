@@ -7,9 +7,12 @@ use Rattle.dissect.specs.Trees.{events_of}
 use Rattle.pk_fields.specs.Ids.{DNS, HTTP}
 use Rattle.pk_tree.specs.Trees.{TreeShown, layers_of}
 use Rattle.tcp_streams.specs.Labels.{labels, opened}
-use Rattle.shark_run.specs.declared.plan.Plan.{Plan}
-use Rattle.shark_run.specs.Job.{Job}
-use Rattle.shark_run.specs.Trees.{lets, trees_of}
+use Rattle.run_frames.specs.declared.plan.Plan.{Plan}
+use Rattle.run_frames.specs.Job.{Job}
+use Rattle.run_frames.specs.Trees.{lets, trees_of}
+use Rattle.run_frames.specs.declared.totals.Totals.{Totals}
+use Rattle.run_frames.specs.Accessors.{compiled_of, stats_of}
+use Rattle.shark_run.specs.FilterStats.{steps_over}
 
 -- how many trees the filter lets through
 abbrev pub shown_count : Plan → List TreeShown → ℕ
@@ -46,3 +49,13 @@ line_with past trees shown =
 
 unfoldable pub self_run_line : Job → List Frame → List ℕ
 self_run_line job past = line_with past (trees_of job past) (shown_count job.plan (trees_of job past))
+
+-- what is counted of frames, the newest first
+abbrev pub totals_of : Job → List Frame → Totals
+totals_of job past = record {
+  frames = length past;
+  shown = shown_count job.plan (trees_of job past);
+  dns = layer_count DNS (trees_of job past);
+  http = layer_count HTTP (trees_of job past);
+  steps = if stats_of job.plan then steps_over (compiled_of job.plan) (trees_of job past) else 0;
+}

@@ -2,9 +2,10 @@
 use Rattle.std.specs.Prelude.{ℕ, List, [], ◌++◌, reverse, Option}
 use Rattle.std.specs.Io.KnownBytes.{Appends}
 use Rattle.pk_outside.specs.Outside.{AppendsPart}
-use Rattle.shark_run.specs.declared.plan.Plan.{Plan}
-use Rattle.shark_run.specs.Fitting.{FramesRead, job_of}
-use Rattle.shark_run.specs.Lines.{closing, output_of, pieces}
+use Rattle.run_frames.specs.declared.plan.Plan.{Plan}
+use Rattle.run_frames.specs.Fitting.{FramesRead, job_of}
+use Rattle.shark_run.specs.Lines.{closing, output_of}
+use Rattle.run_frames.specs.Pieces.{pieces}
 
 -- the whole output was appended, and nothing else
 abbrev pub WroteAll : Plan → FramesRead → Option (List ℕ) → Option (List ℕ) → Type 0
@@ -13,14 +14,6 @@ WroteAll plan read old new = Appends old new (output_of (job_of plan read) read.
 -- a front of the output was appended, and nothing else
 abbrev pub WrotePart : Plan → FramesRead → Option (List ℕ) → Option (List ℕ) → Type 0
 WrotePart plan read old new = AppendsPart old new (output_of (job_of plan read) read.frames)
-
--- all that is written of the frames was appended, and nothing else
-abbrev pub WrotePieces : Plan → FramesRead → Option (List ℕ) → Option (List ℕ) → Type 0
-WrotePieces plan read old new = Appends old new (pieces (job_of plan read) [] read.frames)
-
--- a front of this was appended, and nothing else
-abbrev pub WroteSomePieces : Plan → FramesRead → Option (List ℕ) → Option (List ℕ) → Type 0
-WroteSomePieces plan read old new = AppendsPart old new (pieces (job_of plan read) [] read.frames)
 
 -- all that is written of the frames, and what stands behind it
 abbrev pub body_of : Plan → FramesRead → List ℕ

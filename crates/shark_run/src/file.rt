@@ -4,14 +4,14 @@ ghost use Rattle.make_capture.specs.Made.{made};
 ghost use Rattle.pk_outside.specs.Outside.{counted};
 ghost use Rattle.shark_run.specs.Causes.{IsUnopened};
 
-use crate::generated::Generated;
-use crate::text::Text;
+use crate::owned::let_go;
 use pk_base::NoMemory;
 use pk_outside::{Capture, Failed, SureCapture};
+use run_frames::{Generated, Text};
 use std::alloc::Global;
 
 /// Why no file was begun.
-#[derive(Clone, Copy, Debug, PartialEq, Eq)]
+#[derive(Clone, Copy)]
 pub(crate) enum FileFault {
     CannotOpen,
     NoMemory,
@@ -49,9 +49,14 @@ pub(crate) fn begin_generated(alloc: Global, capture: &Generated) -> Result<Sure
     ensures { IfOk result (λ begun. Some begun.left ≡ Some (made capture.now.start capture.now.frames)) }
 {
     let file = capture.file(alloc)?;
-    let mut begun = SureCapture::new(Vec::from_slice(alloc, file.bytes())?);
+    let copied = Vec::from_slice(alloc, file.bytes());
+    let_go(file);
+    let mut begun = SureCapture::new(copied?);
     match begun.begin(String::new(alloc)) {
         Ok(()) => Ok(begun),
-        Err(Failed) => Err(NoMemory),
+        Err(Failed) => {
+            let_go(begun);
+            Err(NoMemory)
+        }
     }
 }

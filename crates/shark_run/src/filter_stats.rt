@@ -4,16 +4,15 @@ ghost use Rattle.std.specs.Io.KnownBytes.{Appends};
 ghost use Rattle.capture_read.specs.declared.frame.Frame.{Frame as FrameValue};
 ghost use Rattle.pk_outside.specs.Outside.{AppendsPart, Rose};
 ghost use Rattle.shark_run.specs.FilterStats.{stats_lines, stats_text};
-ghost use Rattle.shark_run.specs.Job.{Passes, job_in};
-ghost use Rattle.shark_run.specs.Notes.{AreNotes};
+ghost use Rattle.run_frames.specs.Job.{Passes, job_in};
+ghost use Rattle.run_frames.specs.Notes.{AreNotes};
 
-use crate::compiled::Compiled;
-use crate::notes::Notes;
-use crate::plan::Plan;
+use crate::owned::let_go;
 use crate::reports::write_lines;
 use flt_code::listing;
 use pk_base::NoMemory;
 use pk_outside::{Sink, SinkFault};
+use run_frames::{Compiled, Notes, Plan};
 use std::alloc::Global;
 
 // How many instructions a program has, and how many steps it took.
@@ -24,16 +23,37 @@ fn counts_line(alloc: Global, instructions: u32, steps: u64) -> Result<String, N
     Ok(format!(in alloc; "filter {instructions} instructions {steps} steps\n")?)
 }
 
+// The bytes of that line.
+fn counts_bytes(alloc: Global, instructions: u32, steps: u64) -> Result<Vec<u8>, NoMemory>
+    ensures { IfOk result (λ line. line.items
+        ≡ codes "filter " ++ (decimal instructions ++ (codes " instructions " ++ (decimal steps ++ codes " steps\n")))) }
+{
+    let line = counts_line(alloc, instructions, steps)?;
+    Ok(Vec::from_slice(alloc, line.as_bytes())?)
+}
+
 // That line, and the listing.
 fn text_of(alloc: Global, compiled: &Compiled, steps: u64) -> Result<Vec<u8>, NoMemory>
     ensures { IfOk result (λ text. text.items ≡ stats_text compiled.now steps) }
 {
     let program = compiled.program();
-    let line = counts_line(alloc, program.len(), steps)?;
     let listing = listing(alloc, program, compiled.filter())?;
-    let mut text = Vec::from_slice(alloc, line.as_bytes())?;
-    text.extend_from_slice(listing.as_slice())?;
-    Ok(text)
+    let mut text = match counts_bytes(alloc, program.len(), steps) {
+        Ok(text) => text,
+        Err(error) => {
+            let_go(listing);
+            return Err(error);
+        }
+    };
+    let added = text.extend_from_slice(listing.as_slice());
+    let_go(listing);
+    match added {
+        Ok(()) => Ok(text),
+        Err(_) => {
+            let_go(text);
+            Err(NoMemory)
+        }
+    }
 }
 
 // What is told, where it is asked for.

@@ -1,12 +1,12 @@
 ghost use Rattle.std.specs.Prelude.{◌≡◌};
 ghost use Rattle.shark_run.specs.Outcomes.{outcome_status};
 
-use crate::run_ending::RunEnding;
 use crate::status::Status;
 use capture_read::Ending;
+use run_frames::RunEnding;
 
 /// How carrying out a plan ended.
-#[derive(Clone, Copy, Debug, PartialEq, Eq)]
+#[derive(Clone, Copy)]
 pub(crate) enum Outcome {
     /// The output over all frames that were read was written, and they end so.
     Ended(RunEnding),

@@ -5,19 +5,16 @@ ghost use Rattle.capture_read.specs.declared.frame.Frame.{Frame as FrameValue};
 ghost use Rattle.dissect.specs.Followed.{asks_streams};
 ghost use Rattle.dissect.specs.Stands.{StandsWithin};
 ghost use Rattle.pk_outside.specs.Outside.{AppendsPart, Rose};
-ghost use Rattle.shark_run.specs.Job.{Job, Passes, job_in};
+ghost use Rattle.run_frames.specs.Job.{Job, Passes, job_in};
 ghost use Rattle.shark_run.specs.Lines.{counted_line as line_counted};
-ghost use Rattle.shark_run.specs.Notes.{AreNotes};
-ghost use Rattle.shark_run.specs.SelfRun.{counts_text, self_run_line as line_of_frames};
-ghost use Rattle.shark_run.specs.Totals.{totals_of};
-ghost use Rattle.shark_run.specs.Wanted.{IsEnough};
+ghost use Rattle.run_frames.specs.Notes.{AreNotes};
+ghost use Rattle.shark_run.specs.SelfRun.{counts_text, self_run_line as line_of_frames, totals_of};
+ghost use Rattle.run_frames.specs.Wanted.{IsEnough};
 
-use crate::notes::Notes;
-use crate::plan::Plan;
-use crate::totals::Totals;
 use dissect::Dissector;
 use pk_base::NoMemory;
 use pk_outside::{Sink, SinkFault, write_whole};
+use run_frames::{Notes, Plan, Totals};
 use std::alloc::Global;
 
 // The line of these counts.

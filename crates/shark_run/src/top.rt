@@ -3,32 +3,30 @@ ghost use Rattle.std.specs.Prelude.{◌≡◌, ◌≤◌, ◌+◌, ◌⊎◌, �
 ghost use Rattle.make_capture.specs.Made.{made};
 ghost use Rattle.pk_outside.specs.Outside.{Rose};
 ghost use Rattle.shark_words.specs.Words.{texts};
-ghost use Rattle.shark_run.specs.declared.plan.Plan.{Plan};
-ghost use Rattle.shark_run.specs.declared.plan.Refused.{Refused};
+ghost use Rattle.run_frames.specs.declared.plan.Plan.{Plan};
+ghost use Rattle.shark_run.specs.declared.refused.Refused.{Refused};
 ghost use Rattle.shark_run.specs.Plan.{IsPlan, IsRefusal};
 ghost use Rattle.shark_run.specs.Answers.{IsSure, IsAnswered};
-ghost use Rattle.shark_run.specs.Reading.{name_of, file_of, frames_read};
-ghost use Rattle.shark_run.specs.Taken.{Took};
-ghost use Rattle.shark_run.specs.Statuses.{status_of, refusal_status};
-ghost use Rattle.shark_run.specs.Statuses.{IsNoRefusal, IsRefusing, WhenEnded};
+ghost use Rattle.run_passes.specs.Reading.{name_of, file_of, frames_read};
+ghost use Rattle.run_passes.specs.Taken.{Took};
+ghost use Rattle.shark_run.specs.Statuses.{status_of, refusal_status, IsNoRefusal, IsRefusing, WhenEnded};
 ghost use Rattle.shark_run.specs.FaultTexts.{IsNone, IsSame, Told, ToldWhole};
 ghost use Rattle.shark_run.specs.Outcomes.{IfEnded};
 ghost use Rattle.shark_run.specs.Causes.{IsUnopened, IsUnread};
-ghost use Rattle.shark_run.specs.Way.{IsBroken, IsBrokenOf, IsFullNear, IsFullNearOf, WroteTaken};
+ghost use Rattle.shark_run.specs.Way.{IsBroken, IsBrokenOf, IsFullNear, WroteTaken};
+ghost use Rattle.run_passes.specs.SoFar.{IsFullNearOf};
 ghost use Rattle.shark_run.specs.Wrote.{WroteAll, WrotePart};
 
 use crate::fault_text::{outcome_text, refusal_text, tell};
 use crate::file::{FileFault, begin_file, begin_generated};
-use crate::generated::Generated;
 use crate::outcome::Outcome;
-use crate::output::{RunFault, write_output};
-use crate::plan::{Plan, PlanError, Refused};
-use crate::source::PlanSource;
+use crate::output::write_output;
+use crate::refused::{PlanError, Refused};
 use crate::status::{Status, status_of_refusal};
-use crate::text::Text;
 use crate::words::read_plan;
 use pk_base::NoMemory;
 use pk_outside::{Capture, Sink};
+use run_frames::{Generated, Plan, PlanSource, RunFault, Text};
 use std::alloc::Global;
 
 // Reads the file of a name and writes the output over its frames.

@@ -8,20 +8,17 @@ ghost use Rattle.shark_words.specs.Words.{texts};
 ghost use Rattle.shark_run.specs.Columns.{field_or_refusal, fields_named};
 ghost use Rattle.shark_run.specs.Plan.{IsFilterAsked, IsPlan, IsPlanFor, IsRefusal, IsRefusalFor};
 ghost use Rattle.shark_run.specs.PlanErrors.{Gives, IsErrorOf, IsFilterError};
-ghost use Rattle.shark_run.specs.Source.{source_in as source_asked};
+ghost use Rattle.run_frames.specs.Source.{source_in as source_asked};
 
-use crate::compiled::Compiled;
-use crate::generated::Generated;
-use crate::plan::{FieldList, Plan, PlanError, Refused};
-use crate::rules::{PlanRules, copy_of};
-use crate::source::PlanSource;
-use crate::text::Text;
+use crate::owned::let_go;
+use crate::refused::{PlanError, Refused};
 use flt_code::compile;
 use flt_read::read_filter;
 use flt_syntax::FilterError;
 use flt_types::Filter;
 use pk_base::{NoMemory, Octets};
 use pk_fields::{FieldId, by_name};
+use run_frames::{Compiled, FieldList, Generated, Plan, PlanRules, PlanSource, Text, copy_rules};
 use shark_words::{Options, ReportList, Source, WordsError, read_words};
 use std::alloc::Global;
 use std::str;
@@ -113,16 +110,49 @@ fn plan_with(alloc: Global, options: &Options) -> Result<Plan, PlanError>
     ensures err { IfErr result (IsErrorOf (IsRefusalFor options.now)) }
 {
     let chosen = filter_asked(alloc, &options.filter)?;
-    let fields = find_fields(alloc, options.names.slice())?;
+    let fields = match find_fields(alloc, options.names.slice()) {
+        Ok(fields) => fields,
+        Err(error) => {
+            let_go(chosen);
+            return Err(error);
+        }
+    };
+    let source = match source_in(alloc, &options.source) {
+        Ok(source) => source,
+        Err(NoMemory) => {
+            let_go(chosen);
+            let_go(fields);
+            return Err(PlanError::NoMemory);
+        }
+    };
+    let decode = match copy_rules(alloc, &options.decode.rules) {
+        Ok(rules) => PlanRules::new(rules),
+        Err(NoMemory) => {
+            let_go(chosen);
+            let_go(fields);
+            let_go(source);
+            return Err(PlanError::NoMemory);
+        }
+    };
+    let reports = match reports_in(alloc, &options.reports) {
+        Ok(reports) => reports,
+        Err(NoMemory) => {
+            let_go(chosen);
+            let_go(fields);
+            let_go(source);
+            let_go(decode);
+            return Err(PlanError::NoMemory);
+        }
+    };
     Ok(Plan {
-        source: source_in(alloc, &options.source)?,
+        source,
         chosen,
         stats: options.stats,
         two: options.two,
         fields,
         most: options.most,
-        decode: PlanRules::new(copy_of(alloc, &options.decode.rules)?),
-        reports: reports_in(alloc, &options.reports)?,
+        decode,
+        reports,
         kind: options.kind,
         style: options.style,
         quiet: options.quiet,

@@ -1,4 +1,4 @@
-use Rattle.shark_run.specs.Job.{job_in}
+use Rattle.run_frames.specs.Job.{job_in}
 use Rattle.shark_run.proofs.StatsLemmas.{stats_told}
 use Rattle.shark_run.proofs.filter_stats.stats.Goals as goal
 

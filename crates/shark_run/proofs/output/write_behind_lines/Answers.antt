@@ -1,4 +1,4 @@
-use Rattle.shark_run.specs.Job.{job_in}
+use Rattle.run_frames.specs.Job.{job_in}
 use Rattle.shark_run.proofs.ClosingLemmas.{among_reports, behind_lines, behind_reports, behind_stats}
 use Rattle.shark_run.proofs.output.write_behind_lines.Goals as goal
 

@@ -1,4 +1,4 @@
-use Rattle.shark_run.specs.Job.{job_in}
+use Rattle.run_frames.specs.Job.{job_in}
 use Rattle.shark_run.proofs.ClosingLemmas.{closed_capture_part}
 use Rattle.shark_run.proofs.output.write_closing.Goals as goal
 

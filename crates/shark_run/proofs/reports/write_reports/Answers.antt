@@ -1,5 +1,5 @@
 use Rattle.std.proofs.Common.{arith}
-use Rattle.shark_run.specs.Job.{job_in}
+use Rattle.run_frames.specs.Job.{job_in}
 use Rattle.shark_run.proofs.ReportLemmas.{is_asked, report_part, report_whole}
 use Rattle.shark_run.proofs.reports.write_reports.Goals as goal
 

@@ -2,8 +2,8 @@ use Rattle.std.proofs.Common.{◌≡◌, ◌≤◌, ℕ, List, drop, ◌++◌}
 use Rattle.std.specs.Io.KnownBytes.{Appends}
 use Rattle.capture_read.specs.declared.frame.Frame.{Frame}
 use Rattle.dissect.specs.Stands.{StandsWithin}
-use Rattle.shark_run.specs.Job.{Passes, job_in}
-use Rattle.shark_run.specs.Notes.{AreNotes}
+use Rattle.run_frames.specs.Job.{Passes, job_in}
+use Rattle.run_frames.specs.Notes.{AreNotes}
 use Rattle.shark_run.specs.Reports.{reports_text}
 use Rattle.shark_run.proofs.reports.write_reports.Given as goal
 

@@ -1,6 +1,6 @@
 use Rattle.std.proofs.Common.{sym, ◌∙◌}
 use Rattle.std.specs.Prelude.{string_bytes}
-use Rattle.shark_run.specs.Job.{job_in}
+use Rattle.run_frames.specs.Job.{job_in}
 use Rattle.shark_run.proofs.ClosingLemmas.{line_of_counts}
 use Rattle.shark_run.proofs.self_run.counted_line.Goals as goal
 

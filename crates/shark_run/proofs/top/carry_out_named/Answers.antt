@@ -1,5 +1,5 @@
 use Rattle.std.proofs.Common.{Err, ap}
-use Rattle.shark_run.proofs.WayLemmas.{took_begun}
+use Rattle.run_passes.proofs.WayLemmas.{took_begun}
 use Rattle.shark_run.proofs.top.carry_out_named.Goals as goal
 
 pub returns-in-Ok-write_output-clause-ended : goal.returns-in-Ok-write_output-clause-ended

@@ -1,7 +1,7 @@
 use Rattle.std.proofs.Common.{sym, subst}
 use Rattle.shark_words.specs.Words.{texts}
-use Rattle.shark_run.specs.declared.plan.Plan.{Plan}
-use Rattle.shark_run.specs.declared.plan.Refused.{Refused}
+use Rattle.run_frames.specs.declared.plan.Plan.{Plan}
+use Rattle.shark_run.specs.declared.refused.Refused.{Refused}
 use Rattle.shark_run.specs.FaultTexts.{IsNone, IsSame}
 use Rattle.shark_run.specs.Plan.{IsPlan, IsRefusal}
 use Rattle.shark_run.proofs.PlanLemmas.{complete_refused, reason_given, refused_not_planned, refused_or_none}

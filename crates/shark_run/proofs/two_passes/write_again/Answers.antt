@@ -1,6 +1,6 @@
-use Rattle.shark_run.specs.Accessors.{rules_of, two_of}
-use Rattle.shark_run.specs.Job.{passes_by}
-use Rattle.shark_run.proofs.TwiceLemmas.{body_none}
+use Rattle.run_frames.specs.Accessors.{rules_of, two_of}
+use Rattle.run_frames.specs.Job.{passes_by}
+use Rattle.shark_run.proofs.BodyLemmas.{body_none}
 use Rattle.shark_run.proofs.two_passes.write_again.Goals as goal
 
 pub returns-in-Err-clause-part : goal.returns-in-Err-clause-part

@@ -1,7 +1,7 @@
 use Rattle.std.proofs.Common.{[], reverse}
-use Rattle.shark_run.specs.Fitting.{fitting}
-use Rattle.shark_run.specs.Job.{job_in}
-use Rattle.shark_run.proofs.TwiceLemmas.{body_broken, body_closing, body_kept}
+use Rattle.run_frames.specs.Fitting.{fitting}
+use Rattle.run_frames.specs.Job.{job_in}
+use Rattle.shark_run.proofs.BodyLemmas.{body_broken, body_closing, body_kept}
 use Rattle.shark_run.proofs.two_passes.write_kept_body.Goals as goal
 
 pub returns-in-Err-clause-part : goal.returns-in-Err-clause-part

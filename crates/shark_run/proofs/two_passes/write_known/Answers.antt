@@ -1,4 +1,4 @@
-use Rattle.shark_run.proofs.TwiceLemmas.{body_still}
+use Rattle.shark_run.proofs.BodyLemmas.{body_still}
 use Rattle.shark_run.proofs.two_passes.write_known.Goals as goal
 
 pub returns-in-Err-clause-part : goal.returns-in-Err-clause-part

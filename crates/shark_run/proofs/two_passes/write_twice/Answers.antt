@@ -1,7 +1,7 @@
 use Rattle.std.proofs.Common.{◌≡◌, Err, ap}
-use Rattle.shark_run.specs.declared.output.RunFault.TheVariants.{ReadFault}
+use Rattle.run_frames.specs.declared.frames.RunFault.TheVariants.{ReadFault}
 use Rattle.shark_run.proofs.ClosingLemmas.{none_body}
-use Rattle.shark_run.proofs.TwiceLemmas.{twice_some, twice_unread, twice_wrote}
+use Rattle.shark_run.proofs.BodyLemmas.{twice_some, twice_unread, twice_wrote}
 use Rattle.shark_run.proofs.two_passes.write_twice.Goals as goal
 
 pub returns-in-Err-clause-part : goal.returns-in-Err-clause-part

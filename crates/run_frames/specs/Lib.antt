@@ -1,0 +1,16 @@
+pub mod Accessors
+pub mod Chosen
+pub mod Compiled
+pub mod Fitting
+pub mod Generated
+pub mod Job
+pub mod Later
+pub mod Notes
+pub mod Pieces
+pub mod Satisfied
+pub mod Source
+pub mod Steps
+pub mod Tables
+pub mod Totals
+pub mod Trees
+pub mod Wanted

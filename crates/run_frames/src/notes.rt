@@ -1,0 +1,93 @@
+// What is noted of frames beside their lines.
+ghost use Rattle.std.specs.Prelude.{◌≡◌, ◌≤◌, ◌+◌, ◌*◌, ◌^◌, ℕ, suc, List, [], OnOk};
+ghost use Rattle.pk_tree.specs.Trees.{TreeShown};
+ghost use Rattle.run_frames.specs.Accessors.{compiled_of};
+ghost use Rattle.run_frames.specs.Totals.{steps_told, AreFew, counts_by, counts_with, nothing_counted};
+ghost use Rattle.run_frames.specs.Job.{Passes, job_in};
+ghost use Rattle.run_frames.specs.Notes.{AreFewNotes, AreNotes};
+ghost use Rattle.run_frames.specs.Satisfied.{judged};
+ghost use Rattle.run_frames.specs.Tables.{AreTables, trees_with};
+
+use crate::plan::Plan;
+use crate::tables::Tables;
+use crate::totals::Totals;
+use flt_vm::Verdict;
+use pk_base::NoMemory;
+use pk_tree::Tree;
+use std::alloc::Global;
+
+/// What is noted of the frames that were taken, for what stands behind their lines.
+#[derive(Drop)]
+pub struct Notes {
+    pub totals: Totals,
+    pub tables: Tables,
+}
+
+impl Notes {
+    pub(crate) fn new(alloc: Global, plan: &Plan) -> Notes
+        ensures totals { result.totals ≡ nothing_counted }
+        ensures notes { (passes : Passes) → AreNotes (job_in plan.now passes) [] result }
+    {
+        Notes {
+            totals: Totals::none(),
+            tables: Tables::new(alloc, plan),
+        }
+    }
+
+    /// One tree more, of which the filter's program answers this.
+    #[tactic(auto, using(crate::proofs::NoteLemmas::tables_left, crate::proofs::NoteLemmas::tables_more))]
+    pub(crate) fn note(
+        &mut self,
+        plan: &Plan,
+        tree: &Tree,
+        verdict: Verdict,
+    ) -> Result<(), NoMemory>
+        requires few { AreFewNotes (2 ^ 28) self.old }
+        requires verdict { verdict ≡ judged (compiled_of plan.now) tree.now }
+        ensures totals { OnOk result (self.new.totals ≡ counts_with plan.now tree.now self.old.totals) }
+        ensures tables { OnOk result ((trees : List TreeShown) → AreTables plan.now trees self.old.tables
+            → AreTables plan.now (trees_with plan.now tree.now trees) self.new.tables) }
+        ensures few { (most : ℕ) → AreFewNotes most self.old → AreFewNotes (suc most) self.new }
+    {
+        self.totals = totals_after(plan, tree, verdict, self.totals);
+        if verdict.holds {
+            match self.tables.note(tree) {
+                Ok(()) => Ok(()),
+                Err(error) => Err(error),
+            }
+        } else {
+            Ok(())
+        }
+    }
+}
+
+// The totals with one tree more, where they are counted.
+#[tactic(auto, using(crate::proofs::TotalsLemmas::few_suc))]
+fn totals_after(plan: &Plan, tree: &Tree, verdict: Verdict, totals: Totals) -> Totals
+    requires { AreFew (2 ^ 28) totals }
+    ensures value { result ≡ counts_by plan.now verdict tree.now totals }
+    ensures few { (most : ℕ) → AreFew most totals → AreFew (suc most) result }
+{
+    let steps = steps_after(plan, verdict, totals.steps);
+    if plan.source.is_generated() {
+        Totals {
+            steps,
+            ..totals.with(tree, verdict.holds)
+        }
+    } else {
+        Totals { steps, ..totals }
+    }
+}
+
+// The steps with those of one run more, where they are counted.
+fn steps_after(plan: &Plan, verdict: Verdict, steps: u64) -> u64
+    requires { steps ≤ 2 ^ 28 * 2 ^ 32 }
+    ensures value { result ≡ steps + steps_told plan.now verdict }
+    ensures few { (most : ℕ) → steps ≤ most * 2 ^ 32 → result ≤ suc most * 2 ^ 32 }
+{
+    if plan.stats {
+        steps + u64::from(verdict.steps)
+    } else {
+        steps
+    }
+}

@@ -1,0 +1,137 @@
+// The tables of statistics behind the lines: what is noted for them of each frame that the filter lets through.
+ghost use Rattle.std.specs.Prelude.{◌≡◌, true, List, [], ◌∷◌, IfOk, OnOk};
+ghost use Rattle.cap_stats.specs.Tables.{table_of};
+ghost use Rattle.cap_stats.specs.declared.kind.StatKind.{StatKind as KindValue};
+ghost use Rattle.pk_tree.specs.Trees.{TreeShown};
+ghost use Rattle.run_frames.specs.Tables.{AreTables, IsTable, asks_table, asks_tables, is_table_of};
+ghost use Rattle.run_frames.specs.declared.plan.Plan.{Plan as PlanValue};
+
+use crate::plan::Plan;
+use cap_stats::{StatKind, Stats};
+use pk_base::NoMemory;
+use pk_tree::Tree;
+use shark_words::Report;
+use std::alloc::Global;
+
+/// What is noted for the tables of a kind, where one is asked for.
+#[derive(Drop)]
+pub(crate) struct Table {
+    asked: bool,
+    stats: Stats,
+}
+
+impl Table {
+    fn new(alloc: Global, plan: &Plan, kind: StatKind) -> Table
+        ensures { IsTable plan.now kind [] result }
+    {
+        Table {
+            asked: asks(plan, kind),
+            stats: Stats::new(alloc, kind),
+        }
+    }
+
+    /// Notes a tree.
+    fn note(&mut self, tree: &Tree) -> Result<(), NoMemory>
+        ensures { OnOk result ((plan : PlanValue) (kind : KindValue) (trees : List TreeShown)
+            → IsTable plan kind trees self.old → IsTable plan kind (tree.now ∷ trees) self.new) }
+    {
+        if !self.asked {
+            return Ok(());
+        }
+        self.stats.note(tree)
+    }
+
+    /// The table, where it is asked for.
+    fn text(&self) -> Result<Vec<u8>, NoMemory>
+        ensures { IfOk result (λ text. (plan : PlanValue) (kind : KindValue) (trees : List TreeShown)
+            → IsTable plan kind trees self.now → asks_table plan kind ≡ true
+            → text.items ≡ table_of kind trees) }
+    {
+        match self.stats.table() {
+            Ok(text) => Ok(text),
+            Err(error) => Err(error),
+        }
+    }
+}
+
+/// Whether a table of a kind is asked for.
+pub(crate) fn asks(plan: &Plan, kind: StatKind) -> bool
+    ensures { result ≡ asks_table plan.now kind }
+{
+    plan.reports
+        .slice()
+        .iter()
+        .any(|report| is_table(*report, kind))
+}
+
+/// Whether any table is asked for.
+pub(crate) fn has_tables(plan: &Plan) -> bool
+    ensures { result ≡ asks_tables plan.now }
+{
+    asks(plan, StatKind::ConvTcp) || asks(plan, StatKind::ConvIp) || asks(plan, StatKind::Phs)
+}
+
+fn is_table(report: Report, kind: StatKind) -> bool
+    ensures { result ≡ is_table_of kind report }
+{
+    match report {
+        Report::Follow(_) => false,
+        Report::Table(asked) => asked == kind,
+    }
+}
+
+/// What is noted for tables, those of each kind by themselves.
+#[derive(Drop)]
+pub struct Tables {
+    conv_tcp: Table,
+    conv_ip: Table,
+    phs: Table,
+}
+
+impl Tables {
+    pub(crate) fn new(alloc: Global, plan: &Plan) -> Tables
+        ensures { AreTables plan.now [] result }
+    {
+        Tables {
+            conv_tcp: Table::new(alloc, plan, StatKind::ConvTcp),
+            conv_ip: Table::new(alloc, plan, StatKind::ConvIp),
+            phs: Table::new(alloc, plan, StatKind::Phs),
+        }
+    }
+
+    /// Notes a tree that the filter lets through.
+    pub(crate) fn note(&mut self, tree: &Tree) -> Result<(), NoMemory>
+        ensures { OnOk result ((plan : PlanValue) (trees : List TreeShown)
+            → AreTables plan trees self.old → AreTables plan (tree.now ∷ trees) self.new) }
+    {
+        self.conv_tcp.note(tree)?;
+        self.conv_ip.note(tree)?;
+        match self.phs.note(tree) {
+            Ok(()) => Ok(()),
+            Err(error) => Err(error),
+        }
+    }
+
+    /// The table of a kind that is asked for.
+    pub fn text(&self, kind: StatKind) -> Result<Vec<u8>, NoMemory>
+        ensures { IfOk result (λ text. (plan : PlanValue) (trees : List TreeShown)
+            → AreTables plan trees self.now → asks_table plan kind ≡ true
+            → text.items ≡ table_of kind trees) }
+    {
+        match self.of_kind(kind).text() {
+            Ok(text) => Ok(text),
+            Err(error) => Err(error),
+        }
+    }
+
+    fn of_kind(&self, kind: StatKind) -> &Table
+        ensures { (plan : PlanValue) (trees : List TreeShown) → AreTables plan trees self.now
+            → IsTable plan kind trees result.now }
+    {
+        match kind {
+            StatKind::ConvTcp => &self.conv_tcp,
+            StatKind::ConvIp => &self.conv_ip,
+            StatKind::Phs => &self.phs,
+        }
+    }
+}

@@ -1,0 +1,5 @@
+mod FrontLemmas
+mod KeepLemmas
+pub mod Together
+pub mod TwiceLemmas
+pub mod WayLemmas

@@ -1,0 +1,6 @@
+pub mod Ended
+pub mod Reading
+pub mod SoFar
+pub mod Takeable
+pub mod Taken
+pub mod WrotePieces

@@ -1,0 +1,116 @@
+// Going over the frames of a file once.
+ghost use Rattle.std.specs.Prelude.{◌≡◌, ◌≢◌, ◌<◌, ◌≤◌, ◌-◌, ℕ, suc, true, false, IfOk, IfSome, IsErrOf, OnOk, [], List, None, Some};
+ghost use Rattle.std.specs.Option.{option_map};
+ghost use Rattle.pk_base.specs.Limits.{file_limit as limit_of_file};
+ghost use Rattle.pk_outside.specs.Outside.{Rose};
+ghost use Rattle.capture_read.specs.Reader.{StandsFor};
+ghost use Rattle.capture_read.specs.Taken.{TookAtMost};
+ghost use Rattle.dissect.specs.Stands.{StandsWithin};
+ghost use Rattle.run_frames.specs.Accessors.{compiled_of, rules_of, two_of, written_of};
+ghost use Rattle.run_frames.specs.Job.{once};
+ghost use Rattle.run_passes.specs.Ended.{HasRead, HasTaken};
+ghost use Rattle.run_frames.specs.Steps.{KeepsUp};
+ghost use Rattle.run_passes.specs.Reading.{frames_read};
+ghost use Rattle.run_frames.specs.Totals.{nothing_counted};
+ghost use Rattle.run_frames.specs.Wanted.{IsEnough};
+ghost use Rattle.run_passes.specs.SoFar.{IsBrokenBehind, IsFullNearOf, WroteTakenBehind};
+ghost use Rattle.run_passes.specs.WrotePieces.{WrotePieces, WroteSomePieces};
+
+use capture_read::{Ending, FrameReader, NextFrame, ReadError};
+use dissect::Dissector;
+use pk_outside::{Capture, Sink};
+use run_frames::{Later, LineMaker, Plan, RunEnding, RunFault, write_frame};
+use std::alloc::Global;
+
+// Whether no frame more is asked for.
+pub(crate) fn is_full(most: Option<u32>) -> bool
+    ensures full { result ≡ true → most ≡ Some 0 }
+    ensures more { result ≡ false → most ≢ Some 0 }
+{
+    most == Some(0)
+}
+
+// One frame less.
+pub(crate) fn one_less(most: Option<u32>) -> Option<u32>
+    requires { most ≢ Some 0 }
+    ensures { result ≡ option_map (λ n. n - 1) most }
+{
+    match most {
+        Some(most) => Some(most - 1),
+        None => None,
+    }
+}
+
+/// Reads the begun file frame by frame and writes the line of each before it reads on, up to the last that is asked for, and answers
+/// how the reading ends.
+pub fn write_rest<C: Capture, O: Sink>(
+    alloc: Global,
+    plan: &Plan,
+    reader: &mut FrameReader,
+    dissector: &mut Dissector,
+    lines: &mut LineMaker<'_>,
+    capture: &mut C,
+    out: &mut O,
+) -> Result<RunEnding, RunFault>
+    requires enough { IsEnough dissector.old.wanted plan.now }
+    requires rules { dissector.old.decode.rules ≡ rules_of plan.now }
+    requires judge { lines.old.judge ≡ compiled_of plan.now }
+    requires lines { lines.old.writer ≡ plan.now.fields }
+    requires alone { two_of plan.now ≡ false }
+    requires totals { lines.old.notes.totals ≡ nothing_counted }
+    requires keeps { KeepsUp (written_of plan.now) (once plan.now) [] lines.old.notes lines.old.capture }
+    requires reads { (left : List ℕ) → StandsFor reader.old (Some left) left [] }
+    requires number { reader.old.state.number ≡ 1 }
+    requires at { reader.old.state.at ≡ 0 }
+    requires stands { StandsWithin [] dissector.old }
+    requires taken { dissector.old.taken ≡ 0 }
+    requires captured { dissector.old.captured ≡ 0 }
+
+    // What was written, and how far the file was read then.
+    ensures ended { IfOk result (λ ending. IfSome (C.left capture.old) (λ file.
+        WrotePieces plan.now (frames_read plan.now file) (O.written out.old) (O.written out.new)
+        × (ending ≡ (frames_read plan.now file).ending))) }
+    ensures read { OnOk result (IfSome (C.left capture.old) (λ file.
+        HasRead plan.now file dissector.new lines.new.notes lines.new.capture)) }
+    ensures enough { OnOk result (IsEnough dissector.new.wanted plan.now) }
+    ensures taken { OnOk result (HasTaken dissector.new) }
+    ensures full { OnOk result (IfSome (C.left capture.old) (λ file.
+        IsFullNearOf plan.now file (C.left capture.new))) }
+    ensures part { IfSome (C.left capture.old) (λ file.
+        WroteSomePieces plan.now (frames_read plan.now file) (O.written out.old) (O.written out.new)) }
+    ensures so_far { IsErrOf result RunFault.ReadFault → IfSome (C.left capture.old) (λ file.
+        WroteTakenBehind [] plan.now file (C.left capture.new) (O.written out.old) (O.written out.new)) }
+    ensures near { IsErrOf result RunFault.WriteFault → IfSome (C.left capture.old) (λ file.
+        IsBrokenBehind [] plan.now file (C.left capture.new) (O.written out.old) (O.written out.new)) }
+    ensures took { TookAtMost (suc limit_of_file) (C.left capture.old) (C.left capture.new) }
+
+    // The causes of errors, and what stays of the capture.
+    ensures read_fault { IsErrOf result RunFault.ReadFault
+        → Rose (C.faults capture.old) (C.faults capture.new) }
+    ensures write_fault { IsErrOf result RunFault.WriteFault
+        → Rose (O.faults out.old) (O.faults out.new) }
+    ensures faults_stay { O.faults out.old ≤ O.faults out.new }
+    ensures asked { C.asked capture.new ≡ C.asked capture.old }
+    ensures begun { C.begun capture.new ≡ C.begun capture.old }
+    ensures missed { C.missed capture.new ≡ C.missed capture.old }
+{
+    let mut most = plan.most;
+    loop {
+        if is_full(most) {
+            return Ok(RunEnding::Read(Ending::Whole));
+        }
+        let frame = match reader.next_frame(capture) {
+            Ok(NextFrame::Frame(frame)) => frame,
+            Ok(NextFrame::End(ending)) => return Ok(RunEnding::Read(ending)),
+            Err(ReadError::ReadFault) => return Err(RunFault::ReadFault),
+            // The first error ends the run, so that this one is never `Spent`.
+            Err(ReadError::NoMemory | ReadError::Spent) => return Err(RunFault::NoMemory),
+        };
+        match write_frame(alloc, plan, &frame, &Later::Unread, dissector, lines, out) {
+            Ok(true) => {}
+            Ok(false) => return Ok(RunEnding::Unfit(frame.number)),
+            Err(fault) => return Err(fault),
+        }
+        most = one_less(most);
+    }
+}

@@ -1,0 +1,261 @@
+// Keeping the frames of a file, and going over them twice: the first time for what later frames bring, the second time for what is
+// written.
+ghost use Rattle.std.specs.Prelude.{◌≡◌, true, ◌≤◌, ◌<◌, ℕ, suc, List, [], Some, IfOk, IfSome, IsErrOf, OnOk, map, reverse};
+ghost use Rattle.std.specs.Io.KnownBytes.{Appends};
+ghost use Rattle.pk_base.specs.Limits.{file_limit as limit_of_file};
+ghost use Rattle.pk_outside.specs.Outside.{AppendsPart, Rose};
+ghost use Rattle.capture_read.specs.Capture.{capture_of};
+ghost use Rattle.capture_read.specs.Reader.{StandsFor};
+ghost use Rattle.capture_read.specs.Taken.{TookAtMost};
+ghost use Rattle.dissect.specs.Followed.{asks_streams};
+ghost use Rattle.dissect.specs.Stands.{StandsWithin};
+ghost use Rattle.second_pass.specs.Laws.{kept_noted};
+ghost use Rattle.second_pass.specs.Stands.{Stands as Noted};
+ghost use Rattle.run_frames.specs.Accessors.{compiled_of, most_of, rules_of, two_of, written_of};
+ghost use Rattle.run_passes.specs.Ended.{CanClose, HasTaken};
+ghost use Rattle.run_frames.specs.Fitting.{fitting};
+ghost use Rattle.run_frames.specs.Job.{Passes, job_in, noted_of, passes_by};
+ghost use Rattle.run_frames.specs.Later.{ServesKept};
+ghost use Rattle.run_frames.specs.Pieces.{pieces};
+ghost use Rattle.run_passes.specs.Reading.{limited};
+ghost use Rattle.run_frames.specs.Steps.{KeepsUp};
+ghost use Rattle.run_passes.specs.Takeable.{AreTakeable};
+ghost use Rattle.run_frames.specs.Totals.{nothing_counted};
+ghost use Rattle.run_frames.specs.Wanted.{IsEnough};
+ghost use Rattle.run_passes.specs.SoFar.{HoldsFewer, IsFullNearOf};
+
+use crate::once::{is_full, one_less};
+use crate::owned::{give_up_links, give_up_reader};
+use capture_read::{Ending, Frame, FrameList, FrameReader, NextFrame, ReadError};
+use dissect::{Dissector, TakeFault};
+use pk_base::NoMemory;
+use pk_fields::FieldSet;
+use pk_outside::{Capture, Sink};
+use run_frames::{
+    Later, LineMaker, Plan, RunEnding, RunFault, give_up_dissector, give_up_tree, new_dissector,
+    write_frame,
+};
+use second_pass::Links;
+use std::alloc::Global;
+
+// Reads the begun file, up to the last frame that is asked for, keeps its frames, and answers how the reading ends. Their bytes
+// stay in the blocks of memory that they were read into.
+fn keep_rest<C: Capture>(
+    plan: &Plan,
+    reader: &mut FrameReader,
+    frames: &mut Vec<Frame>,
+    capture: &mut C,
+) -> Result<Ending, RunFault>
+    requires none { frames.old.items ≡ [] }
+    requires reads { (left : List ℕ) → StandsFor reader.old (Some left) left [] }
+    requires number { reader.old.state.number ≡ 1 }
+    requires at { reader.old.state.at ≡ 0 }
+    ensures read { IfOk result (λ ending. IfSome (C.left capture.old) (λ file.
+        limited (most_of plan.now) (capture_of file)
+        ≡ record { frames = frames.new.items; ending = ending })) }
+    ensures takeable { OnOk result (AreTakeable 0 0 frames.new.items) }
+    ensures full { OnOk result (IfSome (C.left capture.old) (λ file.
+        IsFullNearOf plan.now file (C.left capture.new))) }
+    ensures so_far { IsErrOf result RunFault.ReadFault → IfSome (C.left capture.old) (λ file.
+        HoldsFewer plan.now file (C.left capture.new)) }
+    ensures took { TookAtMost (suc limit_of_file) (C.left capture.old) (C.left capture.new) }
+    ensures read_fault { IsErrOf result RunFault.ReadFault
+        → Rose (C.faults capture.old) (C.faults capture.new) }
+    ensures write_fault { IsErrOf result RunFault.WriteFault → ⊥ }
+    ensures asked { C.asked capture.new ≡ C.asked capture.old }
+    ensures begun { C.begun capture.new ≡ C.begun capture.old }
+    ensures missed { C.missed capture.new ≡ C.missed capture.old }
+{
+    let mut most = plan.most;
+    loop {
+        if is_full(most) {
+            return Ok(Ending::Whole);
+        }
+        let frame = match reader.next_frame(capture) {
+            Ok(NextFrame::Frame(frame)) => frame,
+            Ok(NextFrame::End(ending)) => return Ok(ending),
+            Err(ReadError::ReadFault) => return Err(RunFault::ReadFault),
+            // The first error ends the run, so that this one is never `Spent`.
+            Err(ReadError::NoMemory | ReadError::Spent) => return Err(RunFault::NoMemory),
+        };
+        match frames.push(frame) {
+            Ok(()) => {}
+            Err(_) => return Err(RunFault::NoMemory),
+        }
+        most = one_less(most);
+    }
+}
+
+/// The frames that are read of a file, and how the reading ends.
+#[derive(Drop)]
+pub struct KeptFrames {
+    pub frames: FrameList,
+    pub ending: Ending,
+}
+
+/// Reads the begun file, and keeps its frames.
+pub fn keep_frames<C: Capture>(
+    alloc: Global,
+    plan: &Plan,
+    capture: &mut C,
+) -> Result<KeptFrames, RunFault>
+    ensures read { IfOk result (λ kept. IfSome (C.left capture.old) (λ file.
+        limited (most_of plan.now) (capture_of file)
+        ≡ record { frames = kept.frames; ending = kept.ending })) }
+    ensures takeable { IfOk result (λ kept. AreTakeable 0 0 kept.frames) }
+    ensures full { OnOk result (IfSome (C.left capture.old) (λ file.
+        IsFullNearOf plan.now file (C.left capture.new))) }
+    ensures so_far { IsErrOf result RunFault.ReadFault → IfSome (C.left capture.old) (λ file.
+        HoldsFewer plan.now file (C.left capture.new)) }
+    ensures took { TookAtMost (suc limit_of_file) (C.left capture.old) (C.left capture.new) }
+    ensures read_fault { IsErrOf result RunFault.ReadFault
+        → Rose (C.faults capture.old) (C.faults capture.new) }
+    ensures write_fault { IsErrOf result RunFault.WriteFault → ⊥ }
+    ensures asked { C.asked capture.new ≡ C.asked capture.old }
+    ensures begun { C.begun capture.new ≡ C.begun capture.old }
+    ensures missed { C.missed capture.new ≡ C.missed capture.old }
+{
+    let mut reader = FrameReader::new(alloc);
+    let mut frames = Vec::new(alloc);
+    let kept = keep_rest(plan, &mut reader, &mut frames, capture);
+    give_up_reader(reader);
+    match kept {
+        Ok(ending) => Ok(KeptFrames {
+            frames: FrameList::from_vec(frames),
+            ending,
+        }),
+        Err(fault) => Err(fault),
+    }
+}
+
+// Notes the trees of frames, of which only the wanted fields are read, for their links to later ones.
+fn note_all(frames: &[Frame], dissector: &mut Dissector, links: &mut Links) -> Result<(), NoMemory>
+    requires streams { asks_streams dissector.old.wanted ≡ true }
+    requires stands { StandsWithin [] dissector.old }
+    requires taken { dissector.old.taken ≡ 0 }
+    requires captured { dissector.old.captured ≡ 0 }
+    requires takeable { AreTakeable 0 0 frames.now }
+    requires noted { Noted [] links.old }
+    ensures { OnOk result
+        (Noted (map (kept_noted dissector.old.wanted)
+        (noted_of dissector.old.decode.rules (reverse frames.now))) links.new) }
+{
+    let mut left = frames;
+    while let [frame, more @ ..] = left {
+        let tree = match dissector.take_wanted(frame) {
+            Ok(tree) => tree,
+            // The first error ends the run, so that this one is never `Spent`.
+            Err(TakeFault::NoMemory | TakeFault::Spent) => return Err(NoMemory),
+        };
+        let noted = links.note(frame.number, &tree);
+        give_up_tree(tree);
+        match noted {
+            Ok(()) => {}
+            Err(error) => return Err(error),
+        }
+        left = more;
+    }
+    Ok(())
+}
+
+// The links between frames, by trees of the wanted fields.
+fn links_of(
+    alloc: Global,
+    plan: &Plan,
+    wanted: FieldSet,
+    frames: &[Frame],
+) -> Result<Links, NoMemory>
+    requires streams { asks_streams wanted ≡ true }
+    requires takeable { AreTakeable 0 0 frames.now }
+    ensures { IfOk result (λ links.
+        Noted (map (kept_noted wanted)
+        (noted_of (rules_of plan.now) (reverse frames.now))) links) }
+{
+    let mut dissector = new_dissector(alloc, plan, wanted)?;
+    let mut links = Links::new(alloc);
+    let noted = note_all(frames, &mut dissector, &mut links);
+    give_up_dissector(dissector);
+    match noted {
+        Ok(()) => Ok(links),
+        Err(error) => {
+            give_up_links(links);
+            Err(error)
+        }
+    }
+}
+
+/// Writes what is asked for of frames, up to the first that can't be written, and answers how they end.
+pub fn write_kept<O: Sink>(
+    alloc: Global,
+    plan: &Plan,
+    kept: &KeptFrames,
+    later: &Later,
+    dissector: &mut Dissector,
+    lines: &mut LineMaker<'_>,
+    out: &mut O,
+) -> Result<RunEnding, RunFault>
+    requires enough { IsEnough dissector.old.wanted plan.now }
+    requires rules { dissector.old.decode.rules ≡ rules_of plan.now }
+    requires judge { lines.old.judge ≡ compiled_of plan.now }
+    requires lines { lines.old.writer ≡ plan.now.fields }
+    requires totals { lines.old.notes.totals ≡ nothing_counted }
+    requires keeps { (passes : Passes)
+        → KeepsUp (written_of plan.now) (job_in plan.now passes) [] lines.old.notes lines.old.capture }
+    requires stands { StandsWithin [] dissector.old }
+    requires taken { dissector.old.taken ≡ 0 }
+    requires captured { dissector.old.captured ≡ 0 }
+    requires takeable { AreTakeable 0 0 kept.now.frames }
+    ensures ended { IfOk result (λ ending. (passes : Passes)
+        → ServesKept dissector.old.wanted (two_of plan.now) passes later.now
+        → Appends (O.written out.old) (O.written out.new)
+        (pieces (job_in plan.now passes) []
+        (fitting (job_in plan.now passes) [] kept.now.frames kept.now.ending).frames)
+        × (ending
+        ≡ (fitting (job_in plan.now passes) [] kept.now.frames kept.now.ending).ending)) }
+    ensures read { OnOk result ((passes : Passes)
+        → ServesKept dissector.old.wanted (two_of plan.now) passes later.now
+        → CanClose (written_of plan.now) (job_in plan.now passes)
+        (reverse (fitting (job_in plan.now passes) [] kept.now.frames kept.now.ending).frames)
+        dissector.new lines.new.notes lines.new.capture) }
+    ensures enough { OnOk result (IsEnough dissector.new.wanted plan.now) }
+    ensures taken { OnOk result (HasTaken dissector.new) }
+    ensures part { (passes : Passes)
+        → ServesKept dissector.old.wanted (two_of plan.now) passes later.now
+        → AppendsPart (O.written out.old) (O.written out.new)
+        (pieces (job_in plan.now passes) []
+        (fitting (job_in plan.now passes) [] kept.now.frames kept.now.ending).frames) }
+    ensures read_fault { IsErrOf result RunFault.ReadFault → ⊥ }
+    ensures write_fault { IsErrOf result RunFault.WriteFault
+        → Rose (O.faults out.old) (O.faults out.new) }
+    ensures faults_stay { O.faults out.old ≤ O.faults out.new }
+{
+    let mut left = kept.frames.slice();
+    while let [frame, more @ ..] = left {
+        match write_frame(alloc, plan, frame, later, dissector, lines, out) {
+            Ok(true) => {}
+            Ok(false) => return Ok(RunEnding::Unfit(frame.number)),
+            Err(fault) => return Err(fault),
+        }
+        left = more;
+    }
+    Ok(RunEnding::Read(kept.ending))
+}
+
+/// What is known of later frames, by a first going over all of them.
+pub fn later_of(
+    alloc: Global,
+    plan: &Plan,
+    wanted: FieldSet,
+    frames: &[Frame],
+) -> Result<Later, NoMemory>
+    requires two { two_of plan.now ≡ true }
+    requires enough { IsEnough wanted plan.now }
+    requires takeable { AreTakeable 0 0 frames.now }
+    ensures { IfOk result (λ later. ServesKept wanted (two_of plan.now)
+        (passes_by (two_of plan.now) (rules_of plan.now) frames.now) later) }
+{
+    match links_of(alloc, plan, wanted, frames) {
+        Ok(links) => Ok(Later::Known(links)),
+        Err(error) => Err(error),
+    }
+}

@@ -1,7 +1,0 @@
-use Rattle.shark_run.proofs.WantedLemmas.{frame_told}
-use Rattle.shark_run.proofs.output.take_frame.Goals as goal
-
-pub returns-in-Ok-add_links-clause-told : goal.returns-in-Ok-add_links-clause-told
-returns-in-Ok-add_links-clause-told c = λ passes past serves stands.
-    frame_told passes c.args.later.now c.args.dissector.now.wanted c.args.plan.now c.args.dissector.now.decode.rules past c.args.frame.now c.in-Ok.tree c.add_links.new.tree
-    serves c.requires.enough c.requires.rules (c.in-Ok.ensures.values past stands) (λ asks. c.in-Ok.ensures.tree asks past stands) c.in-Ok-add_links.ensures
