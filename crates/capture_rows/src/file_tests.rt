@@ -5,7 +5,7 @@ use crate::pieces::{
 };
 use capture_read::{Damage, Ending, Frame, frames};
 use pk_base::{NoMemory, Reason};
-use std::alloc::Global;
+use std::alloc::{AllocError, Global};
 use std::process::Abort;
 use std::test::Fail;
 
@@ -433,22 +433,26 @@ const OF_PACKET: Wanted = Wanted {
 
 static TWO_PACKETS: [Wanted; 2] = [OF_PACKET, OF_PACKET];
 
+/// Two packets and what stands before them.
+const BEFORE: &[&[u8]] = &[SECTION, ETHERNET, PACKET, PACKET];
+
+/// The bytes of a file whose block behind two packets is of a kind and wrong.
+fn wrong_file(alloc: Global, kind: &[u8], row: &Wrong) -> Result<Vec<u8>, AllocError> {
+    let mut file = joined(alloc, BEFORE)?;
+    file.extend_from_slice(kind)?;
+    file.extend_from_slice(row.length)?;
+    file.extend_from_slice(row.body)?;
+    file.extend_from_slice(row.repeated)?;
+    Ok(file)
+}
+
 fn is_wrong(alloc: Global, kind: &[u8], row: &Wrong) -> Result<bool, NoMemory> {
-    let parts = [
-        SECTION,
-        ETHERNET,
-        PACKET,
-        PACKET,
-        kind,
-        row.length,
-        row.body,
-        row.repeated,
-    ];
+    let file = wrong_file(alloc, kind, row)?;
     let ending = Ending::Damaged(Damage {
         at: 120,
         reason: row.reason,
     });
-    is_read(alloc, &parts, &TWO_PACKETS, ending)
+    has_frames(alloc, &file, &TWO_PACKETS, ending)
 }
 
 fn are_wrong(rt: &impl Abort, alloc: Global, kind: &[u8], rows: &[Wrong]) -> Result<(), Fail> {

@@ -1,4 +1,4 @@
-ghost use Rattle.std.specs.Prelude.{◌≡◌, ◌×◌, ◌+◌, ◌*◌, ◌≤◌, ◌<◌, None, IfOk, IfSome, OnOk};
+ghost use Rattle.std.specs.Prelude.{◌≡◌, ◌+◌, ◌*◌, ◌≤◌, ◌<◌, true, None, IfOk, IfSome, OnOk};
 ghost use Rattle.port_rules.specs.Rules.{AreRules};
 ghost use Rattle.capture_read.specs.FrameList.{IsTime};
 

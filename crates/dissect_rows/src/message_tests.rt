@@ -1,5 +1,5 @@
 // Messages of TCP streams in frames: which layers a frame shows, where they lie, and which frames brought them.
-ghost use Rattle.std.specs.Prelude.{◌≡◌, ◌×◌, ◌+◌, ◌*◌, ◌≤◌, ◌<◌, None, OnOk};
+ghost use Rattle.std.specs.Prelude.{◌≡◌, ◌+◌, ◌*◌, ◌≤◌, ◌<◌, None, OnOk};
 
 use crate::frame_tests::no_rules;
 use crate::message_rows::{LONG, Sent, TO_WEB, Talk, names, requests, responses};

@@ -1,5 +1,5 @@
 // Segments of TCP in frames: what their layers tell of their streams, worked out by hand from RFC 9293.
-ghost use Rattle.std.specs.Prelude.{◌≡◌, ◌×◌, ◌+◌, ◌*◌, ◌≤◌, ◌<◌, None, IfOk, OnOk};
+ghost use Rattle.std.specs.Prelude.{◌≡◌, ◌+◌, ◌*◌, ◌≤◌, ◌<◌, true, None, IfOk, OnOk};
 
 use crate::frame_tests::{no_rules, push_value};
 use capture_read::Frame;

@@ -193,13 +193,7 @@ fn counts(layers: &[Layer], after: After) -> Option<(usize, &'static str)> {
 
 /// How many of the rows that end there are within so many bytes.
 fn count_within(ends: &[usize], len: usize) -> usize {
-    let mut count = 0;
-    for end in ends {
-        if *end <= len {
-            count += 1;
-        }
-    }
-    count
+    ends.iter().filter(|end| **end <= len).count()
 }
 
 /// Compares how many items a header has of which these bytes are there, and the name of its last layer.

@@ -24,6 +24,8 @@ const PACKET: &[u8] = b"\x45\0\0\x28\0\x01\0\0\x40\x04\x66\xce\x0a\0\0\x01\x0a\0
 /// A question's name in a message.
 const NAME: &[u8] = b"\x01h\x04test\0";
 
+const FRAME: &[u8] = b"frame";
+
 fn span(start: u32, len: u32) -> Span
     ensures { result ≡ record { buffer = 0; start = start; len = len } }
 {
@@ -36,7 +38,7 @@ fn span(start: u32, len: u32) -> Span
 
 /// A tree of these fields that is built over the packet.
 fn packet_builder(alloc: Global, wanted: FieldSet) -> Result<TreeBuilder, NoMemory>
-    ensures buffers { IfOk result (λ b. b.buffers ≡ PACKET ∷ []) }
+    ensures buffers { IfOk result (λ b. b.buffers ≡ PACKET.now ∷ []) }
     ensures layers { IfOk result (λ b. b.layers ≡ []) }
 {
     let frame = Octets::copy(alloc, PACKET)?;
@@ -156,17 +158,17 @@ fn name_span() -> Span
 
 /// A tree that is built over a frame.
 fn frame_builder(alloc: Global) -> Result<TreeBuilder, NoMemory>
-    ensures buffers { IfOk result (λ b. b.buffers ≡ b "frame" ∷ []) }
+    ensures buffers { IfOk result (λ built. built.buffers ≡ FRAME.now ∷ []) }
     ensures layers { IfOk result (λ b. b.layers ≡ []) }
 {
-    let frame = Octets::copy(alloc, b"frame")?;
+    let frame = Octets::copy(alloc, FRAME)?;
     TreeBuilder::new(alloc, frame)
 }
 
 /// Adds a buffer with the name.
 fn add_name(alloc: Global, builder: &mut TreeBuilder) -> Result<u32, NoMemory>
     requires { length builder.old.buffers ≡ 1 }
-    ensures buffers { OnOk result (builder.new.buffers ≡ builder.old.buffers ++ NAME ∷ []) }
+    ensures buffers { OnOk result (builder.new.buffers ≡ builder.old.buffers ++ NAME.now ∷ []) }
     ensures layers { builder.new.layers ≡ builder.old.layers }
 {
     let name = Octets::copy(alloc, NAME)?;
@@ -404,7 +406,7 @@ fn asks_for_sources(builder: &TreeBuilder) -> bool {
 
 /// Whether the first two bytes of the inner header are read.
 fn reads_part(builder: &TreeBuilder) -> Result<bool, NoMemory>
-    requires { builder.now.buffers ≡ PACKET ∷ [] }
+    requires { builder.now.buffers ≡ PACKET.now ∷ [] }
 {
     let part = builder.part(span(20, 2))?;
     Ok(part.bytes() == b"\x45\0".as_slice())
@@ -412,7 +414,7 @@ fn reads_part(builder: &TreeBuilder) -> Result<bool, NoMemory>
 
 /// Reads both headers by the table, the second without its condition, and answers what was told on the way.
 fn read_tables(builder: &mut TreeBuilder) -> Result<bool, NoMemory>
-    requires buffers { builder.old.buffers ≡ PACKET ∷ [] }
+    requires buffers { builder.old.buffers ≡ PACKET.now ∷ [] }
     requires layers { builder.old.layers ≡ [] }
 {
     let asked = asks_for_sources(builder);
@@ -433,7 +435,7 @@ fn a_table_is_read_as_far_as_its_fields_are_wanted(rt: HostRuntime) -> Result<()
 /// Passes the outer header, unless some field of it is asked.
 #[tactic(auto, unfolding(pk_tree::specs::Layouts::StepsFit, pk_fields::specs::Fields::row_of, pk_fields::specs::Table::rows))]
 fn pass_header(builder: &mut TreeBuilder) -> Result<(), NoMemory>
-    requires buffers { builder.old.buffers ≡ PACKET ∷ [] }
+    requires buffers { builder.old.buffers ≡ PACKET.now ∷ [] }
     requires layers { builder.old.layers ≡ [] }
 {
     if builder.asks(ids::IP) {

@@ -99,7 +99,10 @@ fn check_data(
     rt: &impl Abort,
     alloc: Global,
     layout: Kind,
-    (kind, len, data, items): DataRow,
+    kind: u8,
+    len: u8,
+    data: &[u8],
+    items: &str,
     fault: &str,
 ) -> Result<(), NoMemory> {
     assert!(rt; data.len() <= 1_000);
@@ -126,8 +129,8 @@ fn check_all_data(
     rows: &[DataRow],
     fault: &str,
 ) -> Result<(), NoMemory> {
-    for row in rows {
-        check_data(rt, alloc, layout, *row, fault)?;
+    for (kind, len, data, items) in rows {
+        check_data(rt, alloc, layout, *kind, *len, data, items, fault)?;
     }
     Ok(())
 }
@@ -429,7 +432,7 @@ fn check_whole_data(
 ) -> Result<(), NoMemory> {
     for (kind, data, items) in rows {
         let len = (data.len() % 256) as u8;
-        check_data(rt, alloc, DATAGRAM, (*kind, len, data, items), "")?;
+        check_data(rt, alloc, DATAGRAM, *kind, len, data, items, "")?;
     }
     Ok(())
 }
@@ -521,10 +524,10 @@ fn check_cut_data(
     layout: Kind,
     rows: &[DataRow],
 ) -> Result<(), NoMemory> {
-    for row in rows {
-        assert!(rt; row.2.len() <= 20);
-        let fault = fault_text(alloc, layout.is_cut(), 23 + row.2.len())?;
-        check_data(rt, alloc, layout, *row, &fault)?;
+    for (kind, len, data, items) in rows {
+        assert!(rt; data.len() <= 20);
+        let fault = fault_text(alloc, layout.is_cut(), 23 + data.len())?;
+        check_data(rt, alloc, layout, *kind, *len, data, items, &fault)?;
     }
     Ok(())
 }

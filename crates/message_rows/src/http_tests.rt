@@ -72,9 +72,8 @@ fn shape_of(alloc: Global, bytes: &[u8]) -> Result<Option<Shape>, NoMemory>
     }
 }
 
-fn tree_of(alloc: Global, bytes: &[u8], shape: &Shape) -> Result<Tree, NoMemory>
-    requires { IsShape shape.now bytes.now }
-{
+/// The tree of bytes that are one message.
+fn tree_of(alloc: Global, bytes: &[u8]) -> Result<Option<Tree>, NoMemory> {
     if bytes.len() > 1_000 {
         return Err(NoMemory);
     }
@@ -84,21 +83,17 @@ fn tree_of(alloc: Global, bytes: &[u8], shape: &Shape) -> Result<Tree, NoMemory>
         len: bytes.len() as u32,
     };
     let mut b = TreeBuilder::new(alloc, Octets::copy(alloc, bytes)?)?;
-    read_http(whole, shape, &mut b)?;
-    Ok(b.finish())
-}
-
-fn shape_text(alloc: Global, bytes: &[u8], shape: &Shape) -> Result<String, NoMemory>
-    requires { IsShape shape.now bytes.now }
-{
-    let tree = tree_of(alloc, bytes, shape)?;
-    Ok(layers_text(alloc, tree.layers(), Places::Read)?)
+    let Some(shape) = shape_of(alloc, b.bytes(whole))? else {
+        return Ok(None);
+    };
+    read_http(whole, &shape, &mut b)?;
+    Ok(Some(b.finish()))
 }
 
 /// The layers of bytes that are one message.
 fn message_text(alloc: Global, bytes: &[u8]) -> Result<String, NoMemory> {
-    match shape_of(alloc, bytes)? {
-        Some(shape) => shape_text(alloc, bytes, &shape),
+    match tree_of(alloc, bytes)? {
+        Some(tree) => Ok(layers_text(alloc, tree.layers(), Places::Read)?),
         None => Ok(joined_text(alloc, &["no message"])?),
     }
 }

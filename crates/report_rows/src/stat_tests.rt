@@ -73,14 +73,14 @@ fn add_part(builder: &mut TreeBuilder, part: Part) -> Result<(), NoMemory>
 
 /// A frame's own layer. Fewer of its bytes were captured than it has.
 #[tactic(auto, unfolding(pk_tree::specs::Layouts::StepsFit, pk_fields::specs::Fields::row_of, pk_fields::specs::Table::rows))]
-fn add_frame(builder: &mut TreeBuilder, length: u32) -> Result<(), NoMemory>
+fn add_frame(builder: &mut TreeBuilder, bytes: u32) -> Result<(), NoMemory>
     requires inside { IsInside builder.old.buffers (record { buffer = 0; start = 0; len = 5 }) }
     requires room { length builder.old.layers + 2 < 2 ^ 32 }
     ensures { builder.new.buffers ≡ builder.old.buffers }
 {
     let items = [
         Step::Made(ids::FRAME_CAP_LEN, Value::Uint(3)),
-        Step::Made(ids::FRAME_LEN, Value::Uint(u64::from(length))),
+        Step::Made(ids::FRAME_LEN, Value::Uint(u64::from(bytes))),
     ];
     add(builder, ids::FRAME, &items)
 }

@@ -1,6 +1,6 @@
-use Rattle.pcapng_read.specs.Sections.{IsReady}
+use Rattle.std.specs.Prelude.{◌≢◌, None}
 use Rattle.capture_rows.proofs.pcapng_tests.are_steps_behind.Given as goal
 
--- the first block is a section, and the others stand behind one
+-- every block stands behind a section
 abbrev pub invariant-loop-wanted : goal.invariant-loop-wanted
-invariant-loop-wanted l = IsReady l.sections l.rest
+invariant-loop-wanted l = l.sections.order ≢ None
