@@ -457,7 +457,8 @@ fn take_asked(
     alloc: Global,
     dissector: &mut Dissector,
     frame: &Frame,
-    row: Asking,
+    told: &str,
+    streams: u32,
 ) -> Result<(), Fail>
     requires taken { dissector.old.taken ≡ 0 }
     requires captured { dissector.old.captured ≡ 0 }
@@ -466,16 +467,23 @@ fn take_asked(
 {
     assert!(rt; frame.bytes.bytes().len() <= 200);
     let tree = dissector.take_wanted(frame)?;
-    assert_eq!(rt; dissector.streams().count(), row.2);
-    check_items(rt, alloc, &tree, row.1)
+    assert_eq!(rt; dissector.streams().count(), streams);
+    check_items(rt, alloc, &tree, told)
 }
 
-fn check_asked(rt: &impl Abort, alloc: Global, frame: &Frame, row: Asking) -> Result<(), Fail>
+fn check_asked(
+    rt: &impl Abort,
+    alloc: Global,
+    frame: &Frame,
+    field: FieldId,
+    told: &str,
+    streams: u32,
+) -> Result<(), Fail>
     requires number { frame.now.number ≡ 1 }
     requires time { frame.now.time ≡ None }
 {
-    let mut dissector = Dissector::for_fields(alloc, no_rules(alloc), one_field(row.0));
-    take_asked(rt, alloc, &mut dissector, frame, row)
+    let mut dissector = Dissector::for_fields(alloc, no_rules(alloc), one_field(field));
+    take_asked(rt, alloc, &mut dissector, frame, told, streams)
 }
 
 fn check_all_asked(
@@ -487,8 +495,8 @@ fn check_all_asked(
     requires number { frame.now.number ≡ 1 }
     requires time { frame.now.time ≡ None }
 {
-    for row in rows {
-        check_asked(rt, alloc, frame, *row)?;
+    for (field, told, streams) in rows {
+        check_asked(rt, alloc, frame, *field, told, *streams)?;
     }
     Ok(())
 }

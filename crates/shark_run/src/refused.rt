@@ -1,4 +1,6 @@
 // Why words are refused.
+ghost use Rattle.std.specs.Prelude.{◌≡◌};
+
 use flt_syntax::FilterFault;
 use pk_base::{NoMemory, Octets};
 use shark_words::WordFault;
