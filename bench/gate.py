@@ -1,5 +1,5 @@
 """What bench/gate.sh prints. It looks twice a second at the processes of rt: a process counts for the crate that it was called
-for, with those that it started itself and has waited for."""
+for, with those that it started itself and has waited for. Interrupted, it prints what it saw until then."""
 import os
 import re
 import shutil
@@ -107,11 +107,11 @@ def main(names):
     os.makedirs("bench/out", exist_ok=True)
     watch, begun = Watch(), time.time()
     watch.start()
-    with open(LOG, "w") as log:
-        if names:
-            status = max([prove_alone(it, deps, log) for it in names])
-        else:
-            status = call(["rt", "ci"], ".", log)
+    try:
+        with open(LOG, "w") as log:
+            status = max([prove_alone(it, deps, log) for it in names]) if names else call(["rt", "ci"], ".", log)
+    except KeyboardInterrupt:
+        status = 130
     watch.is_over = True
     watch.join()
     sums = watch.seconds()
