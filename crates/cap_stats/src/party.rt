@@ -4,14 +4,14 @@ ghost use Rattle.cap_stats.specs.Counts.{is_same, is_same_address, is_same_port}
 use pk_tree::Address;
 
 /// An end of a conversation: an address, and a port where the conversation is one of ports.
-#[derive(Clone, Copy, Debug)]
+#[derive(Clone, Copy)]
 pub(crate) struct Party {
     pub address: Address,
     pub port: Option<u64>,
 }
 
 /// The way of a frame from one end of a conversation to the other.
-#[derive(Clone, Copy, Debug)]
+#[derive(Clone, Copy)]
 pub(crate) struct Flight {
     pub from: Party,
     pub to: Party,

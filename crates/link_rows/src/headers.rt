@@ -39,7 +39,7 @@ pub(crate) struct Row {
 pub(crate) fn check(rt: &impl Abort, alloc: Global, rows: &[Row]) -> Result<(), NoMemory> {
     for row in rows {
         let after = check_layers(rt, alloc, row.header, row.cut, row.bytes, row.layers)?;
-        assert!(rt; after == after_of(row.next), "{after:?}");
+        assert!(rt; after == after_of(row.next));
     }
     Ok(())
 }

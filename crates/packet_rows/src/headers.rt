@@ -159,7 +159,7 @@ pub(crate) fn check_kept(
 }
 
 pub(crate) fn check_after(rt: &impl Abort, after: After, wanted: Follows) {
-    assert!(rt; after == after_of(wanted), "{after:?}");
+    assert!(rt; after == after_of(wanted));
 }
 
 fn check_text(

@@ -2,7 +2,7 @@ ghost use Rattle.std.specs.Prelude.{◌≡◌, ℕ, ◌+◌, ◌-◌, ◌<◌, �
 ghost use Rattle.pk_buffer.specs.Buffers.{IsInside, bytes_of, buffer_of};
 ghost use Rattle.pk_fields.specs.Fields.{row_of};
 ghost use Rattle.pk_fields.specs.FieldSets.{is_in, every_field};
-ghost use Rattle.pk_tree.specs.Trees.{IsTree, ItemFits, last_proto, with_layer, with_item, with_last, with_buffer, read_of, derived_of, made_of};
+ghost use Rattle.pk_tree.specs.Trees.{IsTree, ItemFits, PlaceFits, last_proto, with_layer, with_item, with_last, with_buffer, read_of, derived_of, made_of};
 ghost use Rattle.pk_tree.specs.Values.{IsOfKind, IsProtocol, HasSize, is_read};
 
 use crate::item::{Item, Items, Place};
@@ -186,7 +186,6 @@ impl TreeBuilder {
     }
 
     /// Adds an item whose value a rule works out from a span, if its field is wanted.
-    #[tactic(auto, unfolding(crate::specs::Trees::with_item))]
     pub fn derived_item(&mut self, field: FieldId, value: Value, span: Span) -> Result<(), NoMemory>
         requires inside { IsInside self.old.buffers span }
         requires kind { IsOfKind (row_of field).kind value }
@@ -198,19 +197,14 @@ impl TreeBuilder {
         ensures count { length self.new.layers ≡ length self.old.layers }
         ensures last { last_proto self.new.layers ≡ last_proto self.old.layers }
     {
-        if !self.wants(field) {
-            return Ok(());
-        }
-        let item = Item {
+        self.add_item(Item {
             field,
             value,
             place: Place::Derived(span),
-        };
-        self.push_item(item)
+        })
     }
 
     /// Adds an item whose value has no place, if its field is wanted.
-    #[tactic(auto, unfolding(crate::specs::Trees::with_item))]
     pub fn made_item(&mut self, field: FieldId, value: Value) -> Result<(), NoMemory>
         requires kind { IsOfKind (row_of field).kind value }
         requires layer { 0 < length self.old.layers }
@@ -221,15 +215,60 @@ impl TreeBuilder {
         ensures count { length self.new.layers ≡ length self.old.layers }
         ensures last { last_proto self.new.layers ≡ last_proto self.old.layers }
     {
+        self.add_item(Item {
+            field,
+            value,
+            place: Place::Made,
+        })
+    }
+
+    /// Adds an item whose value is a copy, if its field is wanted.
+    #[tactic(auto, unfolding(crate::specs::Trees::with_item))]
+    pub(crate) fn copied_item(
+        &mut self,
+        field: FieldId,
+        value: &Value,
+        place: Place,
+    ) -> Result<(), NoMemory>
+        requires place { PlaceFits self.old.buffers field value.now place }
+        requires kind { IsOfKind (row_of field).kind value.now }
+        requires layer { 0 < length self.old.layers }
+        requires belongs { (row_of field).proto ≡ last_proto self.old.layers }
+        ensures ok { OnOk result (self.new
+            ≡ with_item self.old (record { field = field; value = value.now; place = place })) }
+        ensures err { OnErr result (self.new ≡ self.old) }
+        ensures buffers { self.new.buffers ≡ self.old.buffers }
+        ensures count { length self.new.layers ≡ length self.old.layers }
+        ensures last { last_proto self.new.layers ≡ last_proto self.old.layers }
+    {
         if !self.wants(field) {
             return Ok(());
         }
         let item = Item {
             field,
-            value,
-            place: Place::Made,
+            value: value.clone()?,
+            place,
         };
         self.push_item(item)
+    }
+
+    /// Adds an item, if its field is wanted.
+    #[tactic(auto, unfolding(crate::specs::Trees::with_item))]
+    fn add_item(&mut self, item: Item) -> Result<(), NoMemory>
+        requires fits { ItemFits self.old.buffers (last_proto self.old.layers) item }
+        requires layer { 0 < length self.old.layers }
+        ensures ok { OnOk result (self.new ≡ with_item self.old item) }
+        ensures err { OnErr result (self.new ≡ self.old) }
+        ensures buffers { self.new.buffers ≡ self.old.buffers }
+        ensures count { length self.new.layers ≡ length self.old.layers }
+        ensures last { last_proto self.new.layers ≡ last_proto self.old.layers }
+    {
+        if self.wants(item.field) {
+            self.push_item(item)
+        } else {
+            let_go(item);
+            Ok(())
+        }
     }
 
     /// Adds a buffer behind the others and answers its number.
@@ -306,3 +345,5 @@ impl TreeBuilder {
         Ok(())
     }
 }
+
+fn let_go(_item: Item) {}

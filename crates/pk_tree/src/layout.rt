@@ -7,6 +7,7 @@ ghost use Rattle.pk_tree.specs.Values.{IsProtocol, IsOfKind, HasSize, is_read, s
 
 use crate::builder::TreeBuilder;
 use crate::heads::Mode;
+use crate::item::Place;
 use crate::value::Value;
 use pk_base::{NoMemory, Span, be_bits};
 use pk_fields::{FieldId, ids};
@@ -31,7 +32,7 @@ pub enum Step {
 }
 
 /// How far the steps of a layer were read.
-#[derive(Clone, Copy, Debug, PartialEq, Eq)]
+#[derive(Clone, Copy)]
 pub enum Reach {
     All,
     /// Up to a row that doesn't fit.
@@ -207,7 +208,7 @@ pub(crate) fn read_part(
     }
 }
 
-#[tactic(auto, unfolding(crate::specs::Layouts::with_items, crate::specs::Trees::with_item))]
+#[tactic(auto, unfolding(crate::specs::Layouts::with_items))]
 fn derive_part(
     tree: &mut TreeBuilder,
     span: Span,
@@ -230,17 +231,14 @@ fn derive_part(
 {
     match part(tree, span, at, len) {
         Some(place) => {
-            if !tree.wants(field) {
-                return Ok(Reach::All);
-            }
-            tree.derived_item(field, value.clone()?, place)?;
+            tree.copied_item(field, value, Place::Derived(place))?;
             Ok(Reach::All)
         }
         None => Ok(Reach::Short),
     }
 }
 
-#[tactic(auto, unfolding(crate::specs::Layouts::with_items, crate::specs::Trees::with_item))]
+#[tactic(auto, unfolding(crate::specs::Layouts::with_items))]
 fn make(tree: &mut TreeBuilder, field: FieldId, value: &Value) -> Result<Reach, NoMemory>
     requires layer { 0 < length tree.old.layers }
     requires belongs { (row_of field).proto ≡ last_proto tree.old.layers }
@@ -252,10 +250,7 @@ fn make(tree: &mut TreeBuilder, field: FieldId, value: &Value) -> Result<Reach, 
     ensures count { length tree.new.layers ≡ length tree.old.layers }
     ensures last { last_proto tree.new.layers ≡ last_proto tree.old.layers }
 {
-    if !tree.wants(field) {
-        return Ok(Reach::All);
-    }
-    tree.made_item(field, value.clone()?)?;
+    tree.copied_item(field, value, Place::Made)?;
     Ok(Reach::All)
 }
 

@@ -3,7 +3,7 @@ ghost use Rattle.std.specs.List.{AllByRecursion as Each};
 ghost use Rattle.pk_fields.specs.Fields.{row_of};
 ghost use Rattle.pk_buffer.specs.Buffers.{IsInside};
 ghost use Rattle.pk_tree.specs.declared.layer.Layer.{Layer};
-ghost use Rattle.pk_tree.specs.FieldValues.{values_of, layer_values, proto_values, item_values};
+ghost use Rattle.pk_tree.specs.FieldValues.{values_of, layer_values, chosen_values, proto_values, item_values};
 ghost use Rattle.pk_tree.specs.Trees.{IsTree, LayerFits, proto_at, with_item_at, made_of};
 ghost use Rattle.pk_tree.specs.Values.{IsOfKind, is_proto};
 
@@ -84,9 +84,7 @@ impl Tree {
     {
         let mut values = Vec::new(self.alloc);
         for layer in &self.layers {
-            if layers.contains(layer.nth) {
-                push_values(&mut values, &self.buffers, field, layer)?;
-            }
+            push_chosen(&mut values, &self.buffers, field, layers, layer)?;
         }
         Ok(values)
     }
@@ -108,6 +106,25 @@ impl Tree {
             place: Place::Made,
         };
         push_at(&mut self.layers, layer, item)?;
+        Ok(())
+    }
+}
+
+/// Adds a layer's values of a field, if the layer is chosen.
+fn push_chosen(
+    values: &mut Vec<Value>,
+    buffers: &Buffers,
+    field: FieldId,
+    layers: &Layers,
+    layer: &Layer,
+) -> Result<(), NoMemory>
+    requires { (before : List Layer) × LayerFits buffers.now before layer.now }
+    ensures { OnOk result (values.new.items
+        ≡ values.old.items ++ chosen_values buffers.now field layers.now layer.now) }
+{
+    if layers.contains(layer.nth) {
+        push_values(values, buffers, field, layer)
+    } else {
         Ok(())
     }
 }

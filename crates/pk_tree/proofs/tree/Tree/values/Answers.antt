@@ -4,8 +4,8 @@ use Rattle.pk_tree.proofs.FieldLemmas.{layers_kind}
 use Rattle.pk_tree.proofs.LayersFit.{fits_at}
 use Rattle.pk_tree.proofs.tree.Tree.values.Goals as goal
 
-pub push_values-requires : goal.push_values-requires
-push_values-requires c =
+pub push_chosen-requires : goal.push_chosen-requires
+push_chosen-requires c =
     let inside : c.loop-layer.layer-index < length c.deref-layer-items.result.now = omega arith in
     let fit = fits_at c.self.inside.buffers [] c.deref-layer-items.result.now c.loop-layer.layer-index c.layer-item.result (rw c.deref-layer-items.ensures.value c.self.invariant.layers) inside in
     (_, rw (← c.layer-item.is) at fit)
