@@ -20,14 +20,19 @@ infixl 10 ◌>>=◌
 abbrev pub ◌>>=◌ : {A B : Type 0} → Option A → (A → Option B) → Option B
 o >>= f = option_and_then f o
 
+-- the address of four numbers, computed
+abbrev pub address_of : List ℕ → List ℕ → List ℕ → List ℕ → Option ℕ
+address_of first second third fourth = do
+  a ← part_read first
+  b ← part_read second
+  c ← part_read third
+  d ← part_read fourth
+  Some (from_be_bytes w32 (a ∷ b ∷ c ∷ d ∷ []))
+
 -- the address that a text writes, computed; 46 is `.`
 unfoldable pub ip4_of : List ℕ → Option ℕ
 ip4_of text = do
   first ← cut_at 46 text
   second ← cut_at 46 first.1
   third ← cut_at 46 second.1
-  a ← part_read first.0
-  b ← part_read second.0
-  c ← part_read third.0
-  d ← part_read third.1
-  Some (from_be_bytes w32 (a ∷ b ∷ c ∷ d ∷ []))
+  address_of first.0 second.0 third.0 third.1

@@ -1,6 +1,6 @@
 ghost use Rattle.std.specs.Prelude.{◌≡◌, ℕ, ◌^◌, ◌<◌, ◌++◌, codes, decimal, IfOk, IfSome, OnOk};
 ghost use Rattle.std.specs.String.{string_bytes};
-ghost use Rattle.pk_text.specs.Ip4.{ip4_of, ip4_shown, part_read};
+ghost use Rattle.pk_text.specs.Ip4.{address_of, ip4_of, ip4_shown, part_read};
 
 use crate::digits::read_short;
 use crate::puts::{TextSink, put_number};
@@ -60,6 +60,13 @@ fn ip4_in(text: &str) -> Option<u32>
     let (first, rest) = text.split_once('.')?;
     let (second, rest) = rest.split_once('.')?;
     let (third, fourth) = rest.split_once('.')?;
+    address_of(first, second, third, fourth)
+}
+
+/// The address of four numbers.
+fn address_of(first: &str, second: &str, third: &str, fourth: &str) -> Option<u32>
+    ensures { result ≡ address_of first.now second.now third.now fourth.now }
+{
     Some(u32::from_be_bytes([
         read_part(first)?,
         read_part(second)?,

@@ -1,4 +1,4 @@
-ghost use Rattle.std.specs.Prelude.{◌≡◌, ℕ, ◌+◌, ◌-◌, ◌*◌, ◌^◌, ◌<◌, ◌≤◌, ◌++◌, ◌/◌, ◌%◌, ◌==◌, IfOk, IfSome, OnOk, option_and_then, nat_lt, if◌then◌else◌};
+ghost use Rattle.std.specs.Prelude.{◌≡◌, ℕ, [], ◌+◌, ◌-◌, ◌*◌, ◌^◌, ◌<◌, ◌≤◌, ◌++◌, ◌/◌, ◌%◌, ◌==◌, IfOk, IfSome, OnOk, option_and_then, nat_lt, if◌then◌else◌};
 ghost use Rattle.std.specs.String.{string_bytes};
 ghost use Rattle.std.specs.Option.{option_map};
 ghost use Rattle.std.specs.List.{prefix_len};
@@ -71,20 +71,28 @@ fn group_at(address: u128, place: u32) -> u16
     ((address >> place) % GROUP) as u16
 }
 
-#[tactic(auto, using(crate::proofs::Ip6RunLemmas::plain_text, crate::proofs::Ip6RunLemmas::shortened_text))]
 fn groups_text(alloc: Global, groups: &[u16]) -> Result<String, NoMemory>
     ensures { IfOk result (λ text. IsIp6Text groups.now (string_bytes text)) }
 {
     let mut text = String::with_capacity(alloc, TEXT_LEN)?;
-    let run = best_run(groups);
-    if run.count < 2 {
-        push_groups(&mut text, groups)?;
-        return Ok(text);
-    }
-    push_groups(&mut text, &groups[..run.start])?;
-    text.push_str("::")?;
-    push_groups(&mut text, &groups[run.start + run.count..])?;
+    push_address(&mut text, groups, best_run(groups))?;
     Ok(text)
+}
+
+/// Appends the groups, of which the best run is shortened where it is longer than a group.
+#[tactic(auto, using(crate::proofs::Ip6RunLemmas::plain_text, crate::proofs::Ip6RunLemmas::shortened_text))]
+fn push_address(text: &mut String, groups: &[u16], run: Run) -> Result<(), NoMemory>
+    requires best { IsBestRun groups.now run.start run.count }
+    requires empty { string_bytes text.old ≡ [] }
+    ensures { OnOk result (IsIp6Text groups.now (string_bytes text.new)) }
+{
+    if run.count < 2 {
+        push_groups(text, groups)?;
+        return Ok(());
+    }
+    push_groups(text, &groups[..run.start])?;
+    text.push_str("::")?;
+    push_groups(text, &groups[run.start + run.count..])
 }
 
 fn push_groups(text: &mut String, groups: &[u16]) -> Result<(), NoMemory>

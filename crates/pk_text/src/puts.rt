@@ -103,7 +103,15 @@ pub fn put_hex<S: TextSink>(sink: &mut S, bytes: &[u8]) -> Result<(), NoMemory>
         put_four(sink, four)?;
         left = more;
     }
-    for byte in left {
+    put_pairs(sink, left)
+}
+
+/// Appends bytes one by one.
+#[tactic(auto, unfolding(crate::specs::Digits::hex_shown))]
+fn put_pairs<S: TextSink>(sink: &mut S, bytes: &[u8]) -> Result<(), NoMemory>
+    ensures { OnOk result (S.taken sink.new ≡ S.taken sink.old ++ hex_shown bytes.now) }
+{
+    for byte in bytes {
         put_pair(sink, *byte)?;
     }
     Ok(())

@@ -1,4 +1,4 @@
-ghost use Rattle.std.specs.Prelude.{◌≡◌, ◌+◌, ◌-◌, ◌^◌, ◌<◌, ◌≤◌, ◌++◌, decimal, replicate, IfOk, IfSome, OnOk};
+ghost use Rattle.std.specs.Prelude.{◌≡◌, ◌∷◌, ◌+◌, ◌-◌, ◌/◌, ◌%◌, ◌^◌, ◌<◌, ◌≤◌, ◌++◌, decimal, replicate, IfOk, IfSome, OnOk};
 ghost use Rattle.std.specs.String.{string_bytes};
 ghost use Rattle.std.specs.Fmt.{sign_text};
 ghost use Rattle.pk_text.specs.Time.{TimeForm, IsTimeForm, decimal_in, time_form_text, time_form_value, time_of, time_shown, whole_seconds, size_read, seconds_read, fraction_read};
@@ -38,8 +38,15 @@ pub fn time_text(alloc: Global, ns: i128) -> Result<String, NoMemory>
 pub fn put_time<S: TextSink>(sink: &mut S, time: i128) -> Result<(), NoMemory>
     ensures { OnOk result (S.taken sink.new ≡ S.taken sink.old ++ time_shown time) }
 {
-    let size = time.unsigned_abs();
     put_sign(sink, time < 0)?;
+    put_size(sink, time.unsigned_abs())
+}
+
+/// Appends a time without its sign.
+fn put_size<S: TextSink>(sink: &mut S, size: u128) -> Result<(), NoMemory>
+    ensures { OnOk result (S.taken sink.new ≡ S.taken sink.old
+        ++ (decimal (size / 10 ^ 9) ++ (46 ∷ decimal_in 9 (size % 10 ^ 9)))) }
+{
     put_seconds(sink, size / SECOND)?;
     sink.put_ascii(b'.')?;
     put_fraction(sink, (size % SECOND) as u32)

@@ -1,4 +1,4 @@
-use Rattle.std.proofs.Common.{◌≡◌, ◌++◌, drop, length}
+use Rattle.std.proofs.Common.{◌≡◌, ◌++◌, length}
 use Rattle.std.specs.List.{flat_map}
 use Rattle.pk_text.specs.Digits.{hex_pair}
 use Rattle.pk_text.proofs.puts.put_hex.Given as goal
@@ -9,7 +9,3 @@ invariant-loop-left g l =
 
 abbrev pub decreases-loop-left : goal.decreases-loop-left
 decreases-loop-left g l = length l.left
-
-abbrev pub invariant-loop-byte : goal.invariant-loop-byte
-invariant-loop-byte g l =
-    g.S.TextSink.taken l.sink ++ flat_map hex_pair (drop l.byte-index l.byte-items) ≡ g.S.TextSink.taken l.fn.sink ++ flat_map hex_pair l.bytes
