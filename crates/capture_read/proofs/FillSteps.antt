@@ -2,7 +2,7 @@
 use Rattle.std.proofs.Common.{◌≡◌, ◌<◌, ◌≤◌, ℕ, suc, subst, ◌+◌, ◌-◌, ◌^◌, List, [], ◌∷◌, ◌++◌, length, take, Option, Some, None, refl, sym, ap, ◌∙◌, arith}
 use Rattle.std.specs.Io.KnownBytes.{Consumes, IsAtEnd}
 use Rattle.std.proofs.KnownBytes.{Consumes-trans}
-use Rattle.std.proofs.lemmas.List.{append_assoc, append-nil, length-append, length-take, take-append-drop}
+use Rattle.std.proofs.lemmas.List.{append_assoc, append-nil, length-append, length-take, nil_from_length, take-append-drop}
 use Rattle.pk_outside.specs.Outside.{Moves}
 use Rattle.capture_read.specs.Answers.{open_count}
 use Rattle.capture_read.specs.Fill.{IsFilled, IsFilledTo}
@@ -36,38 +36,105 @@ moves_one (Some bytes) new to_old to_new n one moved =
 abbrev pub ReadSoFar : List ℕ → List ℕ → Option (List ℕ) → Option (List ℕ) → Type 0
 ReadSoFar held bytes old new = (got : List ℕ) × (bytes ≡ held ++ got) × Consumes old new got
 
-pub filled_beyond : (held : List ℕ) (filled : Filled) (need most : ℕ) (a b c : Option (List ℕ)) → ReadSoFar held filled.bytes.items a b
-    → ((beyond : List ℕ) × Consumes b c beyond × ((size : ℕ) → IsFilledTo filled.seen beyond size size c) × (length beyond ≤ 1) × (open_count filled.seen ≡ 0))
-    → length filled.bytes.items < need → length filled.bytes.items ≡ most → IsFilled held filled need most a c
-filled_beyond held filled need most a b c read behind few full =
-    let sizes : length filled.bytes.items ≡ length held + length read.0 = rw read.1 (length-append held read.0) in
+-- one byte past those that are looked at was read, or none is left
+pub next_beyond : (bytes : List ℕ) (filled : Filled) (most : ℕ) (old new : Option (List ℕ)) → filled.bytes.items ≡ bytes
+    → ((beyond : List ℕ) × Consumes old new beyond × ((size : ℕ) → IsFilledTo filled.seen beyond size size new) × (length beyond ≤ 1) × (open_count filled.seen ≡ 0))
+    → length bytes ≡ most → IsFilled bytes filled (length bytes + 1) most old new
+next_beyond bytes filled most old new same behind full =
+    let size : length filled.bytes.items ≡ most = ap length same ∙ full in
     record {
-      got = read.0;
+      got = [];
       beyond = behind.0;
-      bytes = read.1;
-      taken = Consumes-trans a b c read.0 behind.0 read.2 behind.1;
-      behind = subst (λ (m : ℕ). IsFilledTo filled.seen behind.0 (length filled.bytes.items) m c) full (behind.2 (length filled.bytes.items));
-      few = omega (arith, few, behind.3);
-      within = omega (arith, full);
-      more = omega (arith, sizes, behind.4);
+      bytes = same ∙ sym (append-nil bytes);
+      taken = behind.1;
+      behind = subst (λ (m : ℕ). IsFilledTo filled.seen behind.0 (length filled.bytes.items) m new) size (behind.2 (length filled.bytes.items));
+      few = omega (arith, size, full, behind.3);
+      within = omega (arith, size);
+      more = omega (arith, size, full, behind.4);
     }
 
-pub filled_ended : (held : List ℕ) (filled : Filled) (before : List ℕ) (need most : ℕ) (a b c : Option (List ℕ)) → ReadSoFar held before a b
-    → ReadSoFar before filled.bytes.items b c → filled.seen ≡ seen.Ended → IsAtEnd c
-    → length filled.bytes.items < need + 2 ^ 16 → length filled.bytes.items ≤ most → IsFilled held filled need most a c
-filled_ended held filled before need most a b c read more is ended few within =
-    let all : filled.bytes.items ≡ held ++ (read.0 ++ more.0) = more.1 ∙ ap (λ (front : List ℕ). front ++ more.0) read.1 ∙ append_assoc held read.0 more.0 in
-    let sizes : length filled.bytes.items ≡ length held + length (read.0 ++ more.0) = rw all (length-append held (read.0 ++ more.0)) in
-    let none : open_count filled.seen ≡ 0 = rw is refl in
+-- bytes were read behind these
+pub next_more : (bytes : List ℕ) (filled : Filled) (most : ℕ) (old new : Option (List ℕ)) → ReadSoFar bytes filled.bytes.items old new
+    → filled.seen ≡ seen.Open → length bytes < length filled.bytes.items → length filled.bytes.items ≤ length bytes + 2 ^ 16 → length filled.bytes.items ≤ most
+    → IsFilled bytes filled (length bytes + 1) most old new
+next_more bytes filled most old new read is grown few within =
+    let one : open_count filled.seen ≡ 1 = rw is refl in
     record {
-      got = read.0 ++ more.0;
+      got = read.0;
       beyond = [];
-      bytes = all;
-      taken = subst (λ (bytes : List ℕ). Consumes a c bytes) (sym (append-nil (read.0 ++ more.0))) (Consumes-trans a b c read.0 more.0 read.2 more.2);
-      behind = subst (λ (s : Seen). IsFilledTo s [] (length filled.bytes.items) most c) (sym is) (refl, ended);
+      bytes = read.1;
+      taken = subst (λ (got : List ℕ). Consumes old new got) (sym (append-nil read.0)) read.2;
+      behind = subst (λ (s : Seen). IsFilledTo s [] (length filled.bytes.items) most new) (sym is) refl;
+      few = omega (arith, few);
+      within = within;
+      more = omega (arith, grown, one);
+    }
+
+-- none is left behind these, of which the last were just read
+pub next_ended : (bytes : List ℕ) (filled : Filled) (most : ℕ) (old new : Option (List ℕ)) → ReadSoFar bytes filled.bytes.items old new
+    → filled.seen ≡ seen.Ended → IsAtEnd new → length filled.bytes.items ≤ length bytes + 2 ^ 16 → length filled.bytes.items ≤ most
+    → IsFilled bytes filled (length bytes + 1) most old new
+next_ended bytes filled most old new read is ended few within =
+    let none : open_count filled.seen ≡ 0 = rw is refl in
+    let sizes : length filled.bytes.items ≡ length bytes + length read.0 = rw read.1 (length-append bytes read.0) in
+    record {
+      got = read.0;
+      beyond = [];
+      bytes = read.1;
+      taken = subst (λ (got : List ℕ). Consumes old new got) (sym (append-nil read.0)) read.2;
+      behind = subst (λ (s : Seen). IsFilledTo s [] (length filled.bytes.items) most new) (sym is) (refl, ended);
       few = omega (arith, few);
       within = within;
       more = omega (arith, sizes, none);
+    }
+
+all_of : (held got more before after : List ℕ) → before ≡ held ++ got → after ≡ before ++ more → after ≡ held ++ (got ++ more)
+all_of held got more before after first then = then ∙ ap (λ (front : List ℕ). front ++ more) first ∙ append_assoc held got more
+
+-- bytes were read so far, and the last read told what is behind them
+pub filled_next : (held : List ℕ) (filled : Filled) (before : List ℕ) (need most : ℕ) (a b c : Option (List ℕ)) → ReadSoFar held before a b
+    → IsFilled before filled (length before + 1) most b c → length before < need → IsFilled held filled need most a c
+filled_next held filled before need most a b c read next few =
+    let size : length before ≡ length held + length read.0 = rw read.1 (length-append held read.0) in
+    record {
+      got = read.0 ++ next.got;
+      beyond = next.beyond;
+      bytes = all_of held read.0 next.got before filled.bytes.items read.1 next.bytes;
+      taken = subst (λ (bytes : List ℕ). Consumes a c bytes) (sym (append_assoc read.0 next.got next.beyond)) (Consumes-trans a b c read.0 (next.got ++ next.beyond) read.2 next.taken);
+      behind = next.behind;
+      few = omega (arith, few, next.few);
+      within = next.within;
+      more = omega (arith, size, next.more);
+    }
+
+-- the same, where more may be behind them
+pub read_on : (held : List ℕ) (filled : Filled) (before : List ℕ) (most : ℕ) (a b c : Option (List ℕ)) → ReadSoFar held before a b
+    → IsFilled before filled (length before + 1) most b c → filled.seen ≡ seen.Open → ReadSoFar held filled.bytes.items a c
+read_on held filled before most a b c read next is =
+    let none : length next.beyond ≡ 0 = subst (λ (s : Seen). IsFilledTo s next.beyond (length filled.bytes.items) most c) is next.behind in
+    let taken : Consumes b c next.got = subst (λ (bytes : List ℕ). Consumes b c bytes) (ap (λ (rest : List ℕ). next.got ++ rest) (nil_from_length next.beyond none) ∙ append-nil next.got) next.taken in
+    (read.0 ++ next.got, all_of held read.0 next.got before filled.bytes.items read.1 next.bytes, Consumes-trans a b c read.0 next.got read.2 taken)
+
+pub grown_on : (before : List ℕ) (filled : Filled) (most : ℕ) (b c : Option (List ℕ)) → IsFilled before filled (length before + 1) most b c → filled.seen ≡ seen.Open
+    → length before < length filled.bytes.items
+grown_on before filled most b c next is =
+    let one : open_count filled.seen ≡ 1 = rw is refl in
+    omega (arith, next.more, one)
+
+-- as many as are needed were read
+pub filled_open : (held : List ℕ) (filled : Filled) (need most : ℕ) (a b : Option (List ℕ)) → ReadSoFar held filled.bytes.items a b → filled.seen ≡ seen.Open
+    → length held < need → need ≤ length filled.bytes.items → length filled.bytes.items < need + 2 ^ 16 → length filled.bytes.items ≤ most → IsFilled held filled need most a b
+filled_open held filled need most a b read is less enough few within =
+    let one : open_count filled.seen ≡ 1 = rw is refl in
+    record {
+      got = read.0;
+      beyond = [];
+      bytes = read.1;
+      taken = subst (λ (got : List ℕ). Consumes a b got) (sym (append-nil read.0)) read.2;
+      behind = subst (λ (s : Seen). IsFilledTo s [] (length filled.bytes.items) most b) (sym is) refl;
+      few = omega (arith, few);
+      within = within;
+      more = omega (arith, one, less, enough);
     }
 
 -- bytes were read so far, and then some more

@@ -10,7 +10,7 @@ use Rattle.pk_base.proofs.SameFront.{IsSameFront, part_same}
 use Rattle.pcapng_read.specs.Sections.{Scope, IsStepWithin, WhenUntaken, scope_of}
 use Rattle.pcapng_read.specs.declared.step.BlockStep.{BlockStep}
 use Rattle.pcapng_read.specs.declared.step.BlockStep.TheVariants as step
-use Rattle.capture_read.specs.Answers.{IsFrontOf, IsNear, HoldsExactly, Finds, GoesOn, FailsAt, TakesFew}
+use Rattle.capture_read.specs.Answers.{IsFrontOf, IsNear, HoldsExactly, Finds, GoesOn, FailsAt, Sees, TakesFew}
 use Rattle.capture_read.specs.Capture.{capture_of, ended, frame_of, is_large, reading_of, with_frame}
 use Rattle.capture_read.specs.Ending.{damage_at}
 use Rattle.capture_read.specs.Fill.{IsFilled, IsFilledTo, IsUnfilled}
@@ -23,6 +23,7 @@ use Rattle.capture_read.specs.declared.kind.Kind.{Kind}
 use Rattle.capture_read.specs.declared.kind.Seen.{Seen}
 use Rattle.capture_read.specs.declared.kind.Seen.TheVariants as seen
 use Rattle.capture_read.specs.declared.next_frame.NextFrame.TheVariants as next
+use Rattle.capture_read.specs.declared.position.Sight.{Sight}
 use Rattle.capture_read.proofs.HereSteps.{after_step, follows_here}
 use Rattle.capture_read.proofs.ReaderSteps.{IsSoon, few_front, front-append, over_step}
 use Rattle.capture_read.proofs.TakenLemmas.{took_more}
@@ -433,6 +434,15 @@ looked_step inside bytes s t kind scope looked is = (
   looked.kind_is ∙ ap (λ (u : BlockStep). kind_then u inside.kind bytes) is ∙ ap (kind_then t inside.kind) looked.held,
   looked.scope_is ∙ ap (scope_then inside.kind inside.scope) looked.held,
 )
+
+-- more bytes are needed, and nothing is known then that wasn't before
+pub need_by : (sight : Sight) (r inside : Reader) (s : BlockStep) (kind : Option Kind) (scope : Scope) (need : ℕ) → inside ≡ r → s ≡ step.Need need
+    → WhenUntaken s ((kind ≡ inside.kind) × (scope ≡ inside.scope))
+    → Sees sight (record { kind = kind; scope = scope; number = inside.number; at = inside.at; held = inside.held; seen = inside.seen }) (record { kind = kind; scope = scope; number = inside.number; at = inside.at; held = inside.held; seen = inside.seen })
+    → Sees sight r (record { kind = kind; scope = scope; number = inside.number; at = inside.at; held = inside.held; seen = inside.seen })
+need_by sight r inside s kind scope need view is untaken sees =
+    let same : (kind ≡ inside.kind) × (scope ≡ inside.scope) = subst (λ (t : BlockStep). WhenUntaken t ((kind ≡ inside.kind) × (scope ≡ inside.scope))) is untaken in
+    rw (← view, same.0, same.1) (rw (same.0, same.1) at sees)
 
 pub bad_by : (r inside : Reader) (bytes : List ℕ) (s : BlockStep) (kind : Option Kind) (scope : Scope) (ending : Ending) (left : Option (List ℕ)) (reason : Reason)
     → inside ≡ r → IsKept inside → IsLooked inside bytes s kind scope → s ≡ step.Bad reason → WhenUntaken s ((kind ≡ inside.kind) × (scope ≡ inside.scope))

@@ -1,9 +1,10 @@
 -- What a reader answers.
 use Rattle.std.specs.Prelude.{◌≡◌, ◌<◌, ◌≤◌, ℕ, ◌+◌, ◌-◌, ◌^◌, List, ◌∷◌, ◌++◌, length, Option, Some, None, IfSome}
 use Rattle.pk_base.specs.Limits.{file_limit}
+use Rattle.pcapng_read.specs.declared.step.BlockStep.TheVariants as step
 use Rattle.capture_read.specs.Capture.{Reading, capture_of, ended}
 use Rattle.capture_read.specs.FrameList.{IsTime}
-use Rattle.capture_read.specs.Reader.{Reader, ReaderShown, Stands, StandsFor, HasFew, with_past}
+use Rattle.capture_read.specs.Reader.{Reader, ReaderShown, Stands, StandsFor, HasFew, step_here, with_past}
 use Rattle.capture_read.specs.Taken.{TookFew}
 use Rattle.capture_read.specs.declared.ending.Ending.{Ending}
 use Rattle.capture_read.specs.declared.frame.Frame.{Frame}
@@ -13,6 +14,8 @@ use Rattle.capture_read.specs.declared.kind.Seen.{Seen}
 use Rattle.capture_read.specs.declared.kind.Seen.TheVariants as seen
 use Rattle.capture_read.specs.declared.next_frame.NextFrame.{NextFrame}
 use Rattle.capture_read.specs.declared.next_frame.NextFrame.TheVariants as next
+use Rattle.capture_read.specs.declared.position.Sight.{Sight}
+use Rattle.capture_read.specs.declared.position.Sight.TheVariants as sight
 use Rattle.capture_read.specs.declared.position.Turn.{Turn}
 use Rattle.capture_read.specs.declared.position.Turn.TheVariants as turn
 
@@ -115,3 +118,15 @@ abbrev pub CountsTurn : Turn → Reader → Reader → Type 0
 CountsTurn (turn.Next answer) old new = CountsNext answer old new
 CountsTurn turn.Again old new =
     (new.number ≡ old.number) × (old.at ≤ new.at) × (work_left new < work_left old)
+
+-- a look at the bytes held: what a step comes to without a read, or that more bytes are needed, which may be there
+abbrev pub Sees : Sight → Reader → Reader → Type 0
+Sees (sight.Told answer) old new =
+    (left : Option (List ℕ)) → Turns answer old new left left
+Sees (sight.Need need) old new =
+    (new ≡ old) × (old.seen ≡ seen.Open) × (length old.held < need)
+    × (step_here old.kind old.scope old.held ≡ step.Need need)
+
+abbrev pub CountsSight : Sight → Reader → Reader → Type 0
+CountsSight (sight.Told answer) old new = CountsTurn answer old new
+CountsSight (sight.Need need) old new = Unit {0}

@@ -5,6 +5,7 @@ ghost use Rattle.pk_outside.specs.Outside.{Rose, counted};
 ghost use Rattle.capture_read.specs.Answers.{open_count};
 ghost use Rattle.capture_read.specs.Fill.{IsFilled, IsFilledTo, IsUnfilled};
 ghost use Rattle.capture_read.specs.Taken.{TookAtMost};
+ghost use Rattle.capture_read.specs.declared.kind.Seen.TheVariants as behind;
 
 use crate::kind::Seen;
 use crate::read_error::ReadError;
@@ -55,6 +56,8 @@ fn read_more<C: Capture>(
     ensures no_fault { OnOk result (C.faults capture.new ≡ C.faults capture.old) }
     ensures fault { IsErrOf result ReadError.ReadFault
         → C.faults capture.new ≡ counted (C.faults capture.old) }
+    ensures starved { IsErrOf result ReadError.NoMemory
+        → C.faults capture.new ≡ C.faults capture.old }
     ensures faults_stay { C.faults capture.old ≤ C.faults capture.new }
     ensures spent { IsErrOf result ReadError.Spent → ⊥ }
 {
@@ -84,6 +87,7 @@ fn read_beyond<C: Capture>(capture: &mut C, piece: &mut [u8]) -> Result<Seen, Re
     ensures fault { IsErrOf result ReadError.ReadFault
         → C.faults capture.new ≡ counted (C.faults capture.old) }
     ensures no_fault { OnOk result (C.faults capture.new ≡ C.faults capture.old) }
+    ensures fed { IsErrOf result ReadError.NoMemory → ⊥ }
     ensures faults_stay { C.faults capture.old ≤ C.faults capture.new }
     ensures spent { IsErrOf result ReadError.Spent → ⊥ }
 {
@@ -92,6 +96,56 @@ fn read_beyond<C: Capture>(capture: &mut C, piece: &mut [u8]) -> Result<Seen, Re
         Ok(_) => Ok(Seen::Beyond),
         Err(Failed) => Err(ReadError::ReadFault),
     }
+}
+
+/// Reads once behind these bytes, or one byte past those that are looked at where as many are held, and tells what is
+/// known then of the bytes behind.
+fn read_next<C: Capture>(
+    capture: &mut C,
+    piece: &mut [u8],
+    bytes: &mut Vec<u8>,
+    most: usize,
+) -> Result<Seen, ReadError>
+    requires some { 0 < length piece.old }
+    requires size { length piece.old ≤ 2 ^ 16 }
+    requires within { length bytes.old.items ≤ most }
+    ensures piece { length piece.new ≡ length piece.old }
+    ensures read { IfOk result (λ seen. IsFilled bytes.old.items
+        (record { bytes = bytes.new; seen = seen }) (length bytes.old.items + 1) most
+        (C.left capture.old) (C.left capture.new)) }
+    ensures unread { IsErrOf result ReadError.ReadFault → C.left capture.new ≡ C.left capture.old }
+    ensures took { TookAtMost (suc most - length bytes.old.items)
+        (C.left capture.old) (C.left capture.new) }
+    ensures file { (n : List ℕ) → C.file capture.new n ≡ C.file capture.old n }
+    ensures asked { C.asked capture.new ≡ C.asked capture.old }
+    ensures refused { C.refused capture.new ≡ C.refused capture.old }
+    ensures begun { C.begun capture.new ≡ C.begun capture.old }
+    ensures missed { C.missed capture.new ≡ C.missed capture.old }
+    ensures no_fault { OnOk result (C.faults capture.new ≡ C.faults capture.old) }
+    ensures fault { IsErrOf result ReadError.ReadFault
+        → C.faults capture.new ≡ counted (C.faults capture.old) }
+    ensures starved { IsErrOf result ReadError.NoMemory
+        → C.faults capture.new ≡ C.faults capture.old }
+    ensures faults_stay { C.faults capture.old ≤ C.faults capture.new }
+    ensures spent { IsErrOf result ReadError.Spent → ⊥ }
+{
+    let room = piece.len().min(most - bytes.len());
+    if room == 0 {
+        let seen = read_beyond(capture, &mut piece[..1])?;
+        return Ok(seen);
+    }
+    let more = read_more(capture, &mut piece[..room], bytes)?;
+    if !more {
+        return Ok(Seen::Ended);
+    }
+    Ok(Seen::Open)
+}
+
+/// Whether more bytes may come behind those held.
+fn is_open(seen: Seen) -> bool
+    ensures { IsTrue result → seen ≡ behind.Open }
+{
+    matches!(seen, Seen::Open)
 }
 
 /// Reads on behind the bytes held until there are as many as are needed, or the file ends. Of more than `most` bytes one
@@ -122,18 +176,16 @@ pub fn fill<C: Capture>(
     ensures missed { C.missed capture.new ≡ C.missed capture.old }
     ensures fault { IsErrOf result ReadError.ReadFault
         → Rose (C.faults capture.old) (C.faults capture.new) }
+    ensures no_fault { OnOk result (C.faults capture.new ≡ C.faults capture.old) }
+    ensures starved { IsErrOf result ReadError.NoMemory
+        → C.faults capture.new ≡ C.faults capture.old }
     ensures faults_stay { C.faults capture.old ≤ C.faults capture.new }
     ensures spent { IsErrOf result ReadError.Spent → ⊥ }
 {
     let mut bytes = held.to_vec(alloc)?;
     while bytes.len() < need {
-        let room = piece.len().min(most - bytes.len());
-        if room == 0 {
-            let seen = read_beyond(capture, &mut piece[..1])?;
-            return Ok(Filled { bytes, seen });
-        }
-        if !read_more(capture, &mut piece[..room], &mut bytes)? {
-            let seen = Seen::Ended;
+        let seen = read_next(capture, piece, &mut bytes, most)?;
+        if !is_open(seen) {
             return Ok(Filled { bytes, seen });
         }
     }

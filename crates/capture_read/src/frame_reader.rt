@@ -1,5 +1,5 @@
 // A capture file, frame by frame, as its bytes come.
-ghost use Rattle.std.specs.Prelude.{◌≡◌, ◌↔◌, ◌≤◌, ℕ, List, [], Some, Ok, IfOk, IsErrOf, OnErr};
+ghost use Rattle.std.specs.Prelude.{◌≡◌, ◌↔◌, ◌≤◌, ℕ, List, [], Some, Ok, IfOk, IsErrOf, OnErr, OnOk};
 ghost use Rattle.pk_base.specs.Limits.{file_limit as limit_of_file};
 ghost use Rattle.pk_outside.specs.Outside.{Rose};
 ghost use Rattle.capture_read.specs.Answers.{Answers, CountsNext, Fails, KeepsEnd, TakesFewOf};
@@ -77,6 +77,11 @@ impl FrameReader {
         ensures took { TakesFewOf self.old (C.left capture.old) (C.left capture.new) }
         ensures spent { IsErrOf result ReadError.Spent ↔ (self.old.phase ≡ phase.Spent) }
         ensures spent_after { OnErr result (self.new.phase ≡ phase.Spent) }
+
+        // No failed read is counted with an answer, nor where memory lacks.
+        ensures no_fault { OnOk result (C.faults capture.new ≡ C.faults capture.old) }
+        ensures starved { IsErrOf result ReadError.NoMemory
+            → C.faults capture.new ≡ C.faults capture.old }
 
         // What stays of the capture.
         ensures file { (n : List ℕ) → C.file capture.new n ≡ C.file capture.old n }

@@ -3,9 +3,10 @@ ghost use Rattle.std.specs.Prelude.{◌≡◌, ◌+◌, ◌≤◌, ◌<◌, ◌^
 ghost use Rattle.pcapng_read.specs.declared.step.BlockStep.TheVariants as step;
 ghost use Rattle.pk_base.specs.Limits.{file_limit as limit_of_file};
 ghost use Rattle.pk_outside.specs.Outside.{Rose};
-ghost use Rattle.capture_read.specs.Answers.{CountsNext, CountsTurn, FailsAt, Finds, TakesFew, Turns};
+ghost use Rattle.capture_read.specs.Answers.{CountsNext, CountsSight, CountsTurn, FailsAt, Finds, Sees, TakesFew, Turns};
 ghost use Rattle.capture_read.specs.Capture.{frame_of};
 ghost use Rattle.capture_read.specs.Reader.{Stands, cut_here, step_here};
+ghost use Rattle.capture_read.specs.declared.kind.Seen.TheVariants as seen;
 
 use crate::ending::{Ending, damage_at, end_of_bytes, unfinished};
 use crate::fill::{fill, read_size};
@@ -28,6 +29,15 @@ pub enum Turn {
     Next(NextFrame),
     /// No answer yet.
     Again,
+}
+
+/// What stands at a reader's place.
+#[derive(Drop)]
+pub enum Sight {
+    /// What the step comes to, without a read.
+    Told(Turn),
+    /// More bytes are needed than are held: so many.
+    Need(usize),
 }
 
 /// The place of the next header, record or block of a file, what is known there, and the bytes held
@@ -104,10 +114,25 @@ impl Position {
         }
     }
 
+    /// How the file ends where more bytes are needed than are held, or that they are to be read.
+    fn want(&self, need: usize) -> Sight
+        requires needs { step_here self.now.kind self.now.scope self.now.held ≡ step.Need need }
+        requires few { length self.now.held < need }
+        ensures sees { Sees result self.now self.now }
+        ensures counts { CountsSight result self.now self.now }
+    {
+        match self.seen {
+            Seen::Ended => Sight::Told(Turn::Next(NextFrame::End(self.cut(false)))),
+            Seen::Beyond => Sight::Told(Turn::Next(NextFrame::End(self.cut(true)))),
+            Seen::Open => Sight::Need(need),
+        }
+    }
+
     /// Reads on where more bytes are needed than are held.
     fn need_more<C: Capture>(&mut self, capture: &mut C, need: usize) -> Result<Turn, ReadError>
         requires needs { step_here self.old.kind self.old.scope self.old.held ≡ step.Need need }
         requires few { length self.old.held < need }
+        requires open { self.old.seen ≡ seen.Open }
         ensures turns { IfOk result (λ turn. Turns turn self.old self.new
             (C.left capture.old) (C.left capture.new)) }
         ensures counts { IfOk result (λ turn. CountsTurn turn self.old self.new) }
@@ -116,6 +141,9 @@ impl Position {
             → FailsAt self.old (C.left capture.old) (C.left capture.new) }
         ensures fault { IsErrOf result ReadError.ReadFault
             → Rose (C.faults capture.old) (C.faults capture.new) }
+        ensures no_fault { OnOk result (C.faults capture.new ≡ C.faults capture.old) }
+        ensures starved { IsErrOf result ReadError.NoMemory
+            → C.faults capture.new ≡ C.faults capture.old }
         ensures took { TakesFew self.old (C.left capture.old) (C.left capture.new) }
         ensures spent { IsErrOf result ReadError.Spent → ⊥ }
         ensures file { (n : List ℕ) → C.file capture.new n ≡ C.file capture.old n }
@@ -125,11 +153,6 @@ impl Position {
         ensures missed { C.missed capture.new ≡ C.missed capture.old }
         ensures faults_stay { C.faults capture.old ≤ C.faults capture.new }
     {
-        match self.seen {
-            Seen::Ended => return Ok(Turn::Next(NextFrame::End(self.cut(false)))),
-            Seen::Beyond => return Ok(Turn::Next(NextFrame::End(self.cut(true)))),
-            Seen::Open => {}
-        }
         let most = file_limit() - self.at;
         make_room(self.alloc, &mut self.room)?;
         let room = &mut self.room;
@@ -157,6 +180,33 @@ impl Position {
         })
     }
 
+    /// Looks at the header, record or block at hand, and goes behind it where it is held.
+    fn look_on(&mut self) -> Result<Sight, NoMemory>
+        ensures sees { IfOk result (λ sight. Sees sight self.old self.new) }
+        ensures counts { IfOk result (λ sight. CountsSight sight self.old self.new) }
+        ensures limit { self.new.at ≤ limit_of_file }
+    {
+        match look(&mut self.kind, &mut self.sections, self.held.bytes())? {
+            BlockStep::Need(need) => Ok(self.want(need)),
+            BlockStep::Bad(reason) => {
+                let ending = damage_at(self.at, reason);
+                Ok(Sight::Told(Turn::Next(NextFrame::End(ending))))
+            }
+            BlockStep::Item(found) => {
+                let frame = self.frame(self.number, &found)?;
+                self.number += 1;
+                self.at += found.end;
+                self.held.pass(found.end);
+                Ok(Sight::Told(Turn::Next(NextFrame::Frame(frame))))
+            }
+            BlockStep::Skipped(size) => {
+                self.at += size;
+                self.held.pass(size);
+                Ok(Sight::Told(Turn::Again))
+            }
+        }
+    }
+
     /// Looks at the header, record or block at hand, and goes behind it or reads on.
     fn turn<C: Capture>(&mut self, capture: &mut C) -> Result<Turn, ReadError>
         ensures turns { IfOk result (λ turn. Turns turn self.old self.new
@@ -167,6 +217,9 @@ impl Position {
             → FailsAt self.old (C.left capture.old) (C.left capture.new) }
         ensures fault { IsErrOf result ReadError.ReadFault
             → Rose (C.faults capture.old) (C.faults capture.new) }
+        ensures no_fault { OnOk result (C.faults capture.new ≡ C.faults capture.old) }
+        ensures starved { IsErrOf result ReadError.NoMemory
+            → C.faults capture.new ≡ C.faults capture.old }
         ensures took { TakesFew self.old (C.left capture.old) (C.left capture.new) }
         ensures spent { IsErrOf result ReadError.Spent → ⊥ }
         ensures file { (n : List ℕ) → C.file capture.new n ≡ C.file capture.old n }
@@ -176,21 +229,9 @@ impl Position {
         ensures missed { C.missed capture.new ≡ C.missed capture.old }
         ensures faults_stay { C.faults capture.old ≤ C.faults capture.new }
     {
-        match look(&mut self.kind, &mut self.sections, self.held.bytes())? {
-            BlockStep::Need(need) => self.need_more(capture, need),
-            BlockStep::Bad(reason) => Ok(Turn::Next(NextFrame::End(damage_at(self.at, reason)))),
-            BlockStep::Item(found) => {
-                let frame = self.frame(self.number, &found)?;
-                self.number += 1;
-                self.at += found.end;
-                self.held.pass(found.end);
-                Ok(Turn::Next(NextFrame::Frame(frame)))
-            }
-            BlockStep::Skipped(size) => {
-                self.at += size;
-                self.held.pass(size);
-                Ok(Turn::Again)
-            }
+        match self.look_on()? {
+            Sight::Told(told) => Ok(told),
+            Sight::Need(need) => self.need_more(capture, need),
         }
     }
 
@@ -204,6 +245,9 @@ impl Position {
             → FailsAt self.old (C.left capture.old) (C.left capture.new) }
         ensures fault { IsErrOf result ReadError.ReadFault
             → Rose (C.faults capture.old) (C.faults capture.new) }
+        ensures no_fault { OnOk result (C.faults capture.new ≡ C.faults capture.old) }
+        ensures starved { IsErrOf result ReadError.NoMemory
+            → C.faults capture.new ≡ C.faults capture.old }
         ensures took { TakesFew self.old (C.left capture.old) (C.left capture.new) }
         ensures spent { IsErrOf result ReadError.Spent → ⊥ }
         ensures file { (n : List ℕ) → C.file capture.new n ≡ C.file capture.old n }

@@ -1,8 +1,9 @@
-ghost use Rattle.std.specs.Prelude.{◌≡◌, IfOk};
+ghost use Rattle.std.specs.Prelude.{◌≡◌, ◌++◌, IfOk, OnOk};
 ghost use Rattle.capture_read.specs.Capture.{capture_of};
 ghost use Rattle.capture_read.specs.FrameList.{AreTimesSmall};
 
 use crate::ending::Ending;
+use crate::frame::Frame;
 use crate::frame_list::FrameList;
 use crate::held_frames::HeldFrames;
 use crate::held_part::telling_bytes;
@@ -18,10 +19,19 @@ pub fn frames(alloc: Global, bytes: &[u8]) -> Result<(FrameList, Ending), NoMemo
 {
     let mut held = HeldFrames::new(alloc, Octets::copy(alloc, telling_bytes(bytes))?);
     let mut list = Vec::new(alloc);
+    let ending = add_frames(&mut held, &mut list)?;
+    Ok((FrameList::from_vec(list), ending))
+}
+
+/// Adds the frames that are still to come, and answers how the file ends.
+fn add_frames(held: &mut HeldFrames, list: &mut Vec<Frame>) -> Result<Ending, NoMemory>
+    ensures frames { OnOk result (list.new.items ≡ list.old.items ++ held.old.frames) }
+    ensures ending { IfOk result (λ ending. ending ≡ held.old.ending) }
+{
     loop {
         match held.next_frame()? {
             NextFrame::Frame(frame) => list.push(frame)?,
-            NextFrame::End(ending) => return Ok((FrameList::from_vec(list), ending)),
+            NextFrame::End(ending) => return Ok(ending),
         }
     }
 }

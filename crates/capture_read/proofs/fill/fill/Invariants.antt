@@ -3,8 +3,8 @@ use Rattle.std.specs.Io.KnownBytes.{Consumes}
 use Rattle.capture_read.proofs.fill.fill.Given as goal
 
 -- the bytes read so far stand behind those held
-abbrev pub invariant-loop-bytes : goal.invariant-loop-bytes
-invariant-loop-bytes g l = record {
+abbrev pub invariant-loop-capture : goal.invariant-loop-capture
+invariant-loop-capture g l = record {
   piece : length l.piece ≡ length l.fn.piece;
   within : length l.bytes.items ≤ l.fn.most;
   few : length l.bytes.items < l.fn.need + 2 ^ 16;
@@ -17,5 +17,5 @@ invariant-loop-bytes g l = record {
   faults : g.C.Capture.faults l.capture ≡ g.C.Capture.faults l.fn.capture;
 }
 
-abbrev pub decreases-loop-bytes : goal.decreases-loop-bytes
-decreases-loop-bytes g l = l.fn.most - length l.bytes.items
+abbrev pub decreases-loop-capture : goal.decreases-loop-capture
+decreases-loop-capture g l = l.fn.most - length l.bytes.items

@@ -13,7 +13,7 @@ invariant-loop-next g l = record {
   refused : g.C.Capture.refused l.capture ≡ g.C.Capture.refused l.fn.capture;
   begun : g.C.Capture.begun l.capture ≡ g.C.Capture.begun l.fn.capture;
   missed : g.C.Capture.missed l.capture ≡ g.C.Capture.missed l.fn.capture;
-  faults : g.C.Capture.faults l.fn.capture ≤ g.C.Capture.faults l.capture;
+  faults : g.C.Capture.faults l.capture ≡ g.C.Capture.faults l.fn.capture;
 }
 
 abbrev pub decreases-loop-next : goal.decreases-loop-next

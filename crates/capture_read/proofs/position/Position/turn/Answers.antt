@@ -1,48 +1,45 @@
-use Rattle.std.proofs.Common.{arith}
-use Rattle.capture_read.proofs.ReaderBounds.{number_few, step_few}
-use Rattle.capture_read.proofs.ReaderTurns.{bad_by, found_by, skipped_by, stands_few}
+use Rattle.capture_read.proofs.ReaderTurns.{stands_few}
 use Rattle.capture_read.proofs.position.Position.turn.Goals as goal
 
-pub overflow_add-self : goal.overflow_add-self
-overflow_add-self g c = omega (arith, number_few _ c.self.invariant.1)
+pub returns-in_err-told-clause-took : goal.returns-in_err-told-clause-took
+returns-in_err-told-clause-took g c = λ file past so. stands_few c.args.self.now (g.C.Capture.left c.args.capture.now) file past so
 
-pub overflow_add-self-in-Item : goal.overflow_add-self-in-Item
-overflow_add-self-in-Item g c =
-    omega (arith, step_few _ c.bytes.result.now _ _ c.self.invariant.1 c.bytes.ensures c.in-Item.is c.in_ok-need.ensures.within)
+pub returns-in-Told-clause-took : goal.returns-in-Told-clause-took
+returns-in-Told-clause-took g c = λ file past so. stands_few c.args.self.now (g.C.Capture.left c.args.capture.now) file past so
 
-pub overflow_add-self-in-Skipped : goal.overflow_add-self-in-Skipped
-overflow_add-self-in-Skipped g c =
-    omega (arith, step_few _ c.bytes.result.now _ _ c.self.invariant.1 c.bytes.ensures c.in-Skipped.is c.in_ok-need.ensures.within)
+pub returns-in-Told-clause-turns : goal.returns-in-Told-clause-turns
+returns-in-Told-clause-turns g c = (rw c.in-Told.is at c.in_ok-told.ensures.sees) (g.C.Capture.left c.args.capture.now)
 
-pub returns-in-Bad-clause-turns : goal.returns-in-Bad-clause-turns
-returns-in-Bad-clause-turns g c =
-    bad_by c.args.self.now _ c.bytes.result.now c.in_ok-need.field-0 c.look.new.kind c.look.new.sections c.damage_at.result (g.C.Capture.left c.args.capture.now) c.in-Bad.reason
-    c.self.view_is c.self.invariant.1 (record { held = c.bytes.ensures; found = c.in_ok-need.ensures.step; kind_is = c.in_ok-need.ensures.kind; scope_is = c.in_ok-need.ensures.scope })
-    c.in-Bad.is c.in_ok-need.ensures.untaken c.damage_at.ensures
+pub returns-in-Told-clause-counts : goal.returns-in-Told-clause-counts
+returns-in-Told-clause-counts g c = rw c.in-Told.is at c.in_ok-told.ensures.counts
 
-pub returns-in_ok-frame-in-Item-clause-turns : goal.returns-in_ok-frame-in-Item-clause-turns
-returns-in_ok-frame-in-Item-clause-turns g c =
-    found_by c.args.self.now _ c.bytes.result.now c.pass.new.self c.in_ok-need.field-0 c.look.new.kind c.look.new.sections _ c.in_ok-frame-in-Item.frame (g.C.Capture.left c.args.capture.now) c.in-Item.found
-    c.self.view_is c.self.invariant.1 (record { held = c.bytes.ensures; found = c.in_ok-need.ensures.step; kind_is = c.in_ok-need.ensures.kind; scope_is = c.in_ok-need.ensures.scope })
-    c.in-Item.is c.in_ok-need.ensures.within c.pass.ensures (omega arith) c.in_ok-frame-in-Item.ensures
+pub need_more-requires-clause-needs : goal.need_more-requires-clause-needs
+need_more-requires-clause-needs g c =
+    let sees = rw c.in-Need.is at c.in_ok-told.ensures.sees in
+    rw sees.0 sees.3
 
-pub returns-in-Skipped-clause-turns : goal.returns-in-Skipped-clause-turns
-returns-in-Skipped-clause-turns g c =
-    skipped_by c.args.self.now _ c.bytes.result.now c.pass-in-Skipped.new.self c.in_ok-need.field-0 c.look.new.kind c.look.new.sections (g.C.Capture.left c.args.capture.now) c.in-Skipped.size
-    c.self.view_is c.self.invariant.1 (record { held = c.bytes.ensures; found = c.in_ok-need.ensures.step; kind_is = c.in_ok-need.ensures.kind; scope_is = c.in_ok-need.ensures.scope })
-    c.in-Skipped.is c.in_ok-need.ensures.within c.pass-in-Skipped.ensures
+pub need_more-requires-clause-few : goal.need_more-requires-clause-few
+need_more-requires-clause-few g c =
+    let sees = rw c.in-Need.is at c.in_ok-told.ensures.sees in
+    rw sees.0 sees.2
 
-pub returns-in_err-need-clause-took : goal.returns-in_err-need-clause-took
-returns-in_err-need-clause-took g c = λ file past so. stands_few c.args.self.now (g.C.Capture.left c.args.capture.now) file past so
+pub need_more-requires-clause-open : goal.need_more-requires-clause-open
+need_more-requires-clause-open g c =
+    let sees = rw c.in-Need.is at c.in_ok-told.ensures.sees in
+    rw sees.0 sees.1
 
-pub returns-in_err-frame-in-Item-clause-took : goal.returns-in_err-frame-in-Item-clause-took
-returns-in_err-frame-in-Item-clause-took g c = λ file past so. stands_few c.args.self.now (g.C.Capture.left c.args.capture.now) file past so
+pub returns-in-Need-clause-turns : goal.returns-in-Need-clause-turns
+returns-in-Need-clause-turns g c =
+    rw (← (rw c.in-Need.is at c.in_ok-told.ensures.sees).0) c.need_more.ensures.turns
 
-pub returns-in-Bad-clause-took : goal.returns-in-Bad-clause-took
-returns-in-Bad-clause-took g c = λ file past so. stands_few c.args.self.now (g.C.Capture.left c.args.capture.now) file past so
+pub returns-in-Need-clause-counts : goal.returns-in-Need-clause-counts
+returns-in-Need-clause-counts g c =
+    rw (← (rw c.in-Need.is at c.in_ok-told.ensures.sees).0) c.need_more.ensures.counts
 
-pub returns-in_ok-frame-in-Item-clause-took : goal.returns-in_ok-frame-in-Item-clause-took
-returns-in_ok-frame-in-Item-clause-took g c = λ file past so. stands_few c.args.self.now (g.C.Capture.left c.args.capture.now) file past so
+pub returns-in-Need-clause-fails : goal.returns-in-Need-clause-fails
+returns-in-Need-clause-fails g c =
+    rw (← (rw c.in-Need.is at c.in_ok-told.ensures.sees).0) c.need_more.ensures.fails
 
-pub returns-in-Skipped-clause-took : goal.returns-in-Skipped-clause-took
-returns-in-Skipped-clause-took g c = λ file past so. stands_few c.args.self.now (g.C.Capture.left c.args.capture.now) file past so
+pub returns-in-Need-clause-took : goal.returns-in-Need-clause-took
+returns-in-Need-clause-took g c =
+    rw (← (rw c.in-Need.is at c.in_ok-told.ensures.sees).0) c.need_more.ensures.took
