@@ -1,5 +1,5 @@
 -- Reading one file after the other.
-use Rattle.std.proofs.Common.{◌≡◌, ◌<◌, ◌≤◌, ℕ, suc, ◌+◌, Bool, true, false, List, [], ◌∷◌, ◌++◌, length, take, Option, Some, None, IfSome, refl, sym, ap, ◌∙◌, subst, append_assoc, append-nil, arith, get_or, ⊎_elim}
+use Rattle.std.proofs.Common.{◌≡◌, ◌<◌, ◌≤◌, ℕ, suc, ◌+◌, Bool, true, false, List, [], ◌∷◌, ◌++◌, length, take, Option, Some, None, IfSome, refl, sym, ap, ◌∙◌, subst, append_assoc, append-nil, arith, get_or, inr, ⊎_elim}
 use Rattle.std.specs.Prelude.{nat_lt}
 use Rattle.std.proofs.lemmas.List.{take_more}
 use Rattle.std.proofs.lemmas.Bool.{cases_eq}
@@ -9,13 +9,14 @@ use Rattle.pk_base.specs.Limits.{file_limit}
 use Rattle.pk_outside.specs.Outside.{Rose, counted}
 use Rattle.capture_read.specs.Capture.{capture_of}
 use Rattle.capture_read.specs.FrameList.{captured_bytes}
+use Rattle.capture_read.specs.Taken.{TookAtMost}
 use Rattle.capture_read.specs.declared.ending.Ending.{Ending}
 use Rattle.merge_caps.specs.declared.place.Entry.{Entry}
 use Rattle.merge_caps.specs.declared.readings.Cause.{Cause}
 use Rattle.merge_caps.specs.declared.readings.Cause.TheVariants as cause
 use Rattle.merge_caps.specs.Causes.{IsLargeAt}
 use Rattle.merge_caps.specs.Merged.{all_placed, placed_from}
-use Rattle.merge_caps.specs.Reading.{ReadSoFar, with_file, files_of, endings_of, captured_of, is_too_much, is_too_much_of, are_too_large, with_reading, read_of, AreSmallUpTo}
+use Rattle.merge_caps.specs.Reading.{ReadSoFar, with_file, files_of, endings_of, captured_of, is_too_much, is_too_much_of, are_too_large, with_reading, read_of, AreSmallUpTo, IsLeftOf, IsLeftOfOne}
 use Rattle.merge_caps.specs.Stopped.{Seen, IsCause}
 
 -- the files of names, and of one more
@@ -170,3 +171,14 @@ cause_is cause.ReadFault names place name old mid new within is begun few missed
     }
 cause_is cause.TooLarge names place name old mid new within is begun few missed faults unopened unread large = large refl
 cause_is cause.NoMemory names place name old mid new within is begun few missed faults unopened unread large = tt
+
+-- what is left behind the next file, and behind none
+pub left_next : (tell here : List ℕ → Option (List ℕ)) (names : List (List ℕ)) (place : ℕ) (name : List ℕ) (a b c : Option (List ℕ)) → place < length names
+    → name ≡ get_or names place name → here name ≡ tell name → IsLeftOfOne tell names a b → IsLeftOf here name b c → IsLeftOfOne tell names a c
+left_next tell here names place name a b c within is same before next =
+    ⊎_elim (λ (stays : c ≡ b). subst (λ (left : Option (List ℕ)). IsLeftOfOne tell names a left) (sym stays) before)
+    (λ took. inr (place, name, slice_get_read names (length names) place name refl within is, subst (λ (file : Option (List ℕ)). TookAtMost (suc file_limit) file c) same took)) next
+
+-- the file of a name was begun, and few bytes were taken of it
+pub left_begun : (tell : List ℕ → Option (List ℕ)) (name : List ℕ) (a b c : Option (List ℕ)) → b ≡ tell name → TookAtMost (suc file_limit) b c → IsLeftOf tell name a c
+left_begun tell name a b c begun took = inr (subst (λ (file : Option (List ℕ)). TookAtMost (suc file_limit) file c) begun took)

@@ -1,9 +1,10 @@
 -- What is read of several files, one after the other.
-use Rattle.std.specs.Prelude.{◌≡◌, ◌≤◌, ℕ, ◌+◌, Bool, true, false, ◌||◌, nat_lt, List, [], ◌∷◌, ◌++◌, length, take, Option, None, Some, IfSome}
+use Rattle.std.specs.Prelude.{◌≡◌, ◌⊎◌, ◌≤◌, ℕ, suc, ◌+◌, Bool, true, false, ◌||◌, nat_lt, List, [], ◌∷◌, ◌++◌, length, take, slice_get, Option, None, Some, IfSome}
 use Rattle.std.specs.List.{list_any}
 use Rattle.pk_base.specs.Limits.{file_limit}
 use Rattle.capture_read.specs.Capture.{Reading, capture_of}
 use Rattle.capture_read.specs.FrameList.{captured_bytes}
+use Rattle.capture_read.specs.Taken.{TookAtMost}
 use Rattle.capture_read.specs.declared.ending.Ending.{Ending}
 use Rattle.capture_read.specs.declared.ending.Ending.TheVariants as ending
 use Rattle.capture_read.specs.declared.frame.Frame.{Frame}
@@ -92,3 +93,14 @@ abbrev pub AreSmallUpTo : (List ℕ → Option (List ℕ)) → List (List ℕ) �
 AreSmallUpTo tell names count =
     (n : ℕ) → n ≤ count → IfSome (files_of tell (take n names)) (λ files.
     are_too_large files ≡ false)
+
+-- what is left is what was left before, or what follows at most 2^28 + 1 bytes of the file of this name
+abbrev pub IsLeftOf : (List ℕ → Option (List ℕ)) → List ℕ → Option (List ℕ) → Option (List ℕ)
+    → Type 0
+IsLeftOf tell name old new = (new ≡ old) ⊎ TookAtMost (suc file_limit) (tell name) new
+
+-- the same of one of these names
+abbrev pub IsLeftOfOne : (List ℕ → Option (List ℕ)) → List (List ℕ) → Option (List ℕ)
+    → Option (List ℕ) → Type 0
+IsLeftOfOne tell names old new = (new ≡ old) ⊎ ((place : ℕ) × (name : List ℕ)
+    × (slice_get names place ≡ Some name) × TookAtMost (suc file_limit) (tell name) new)

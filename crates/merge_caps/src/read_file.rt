@@ -1,10 +1,11 @@
 // Reading one file to its end.
-ghost use Rattle.std.specs.Prelude.{◌≡◌, ◌≤◌, ◌<◌, ◌+◌, ◌++◌, ◌^◌, ◌∷◌, ℕ, List, [], Some, length, IfOk, IfSome, IsErrOf, OnOk};
+ghost use Rattle.std.specs.Prelude.{◌≡◌, ◌≤◌, ◌<◌, ◌+◌, ◌++◌, ◌^◌, ◌∷◌, ℕ, suc, List, [], Some, length, IfOk, IfSome, IsErrOf, OnOk};
 ghost use Rattle.std.specs.Option.{option_or};
 ghost use Rattle.pk_base.specs.Limits.{file_limit as limit_of_file};
 ghost use Rattle.pk_outside.specs.Outside.{Rose};
 ghost use Rattle.capture_read.specs.Capture.{capture_of};
 ghost use Rattle.capture_read.specs.Reader.{StandsFor};
+ghost use Rattle.capture_read.specs.Taken.{TookAtMost};
 ghost use Rattle.merge_caps.specs.Merged.{placed};
 ghost use Rattle.merge_caps.specs.Reading.{so_far, with_frames, with_reading};
 
@@ -58,6 +59,7 @@ fn read_frames<C: Capture>(
     ensures endings { readings.new.endings.items ≡ readings.old.endings.items }
     ensures fault { IsErrOf result ReadError.ReadFault
         → Rose (C.faults capture.old) (C.faults capture.new) }
+    ensures took { TookAtMost (suc limit_of_file) (C.left capture.old) (C.left capture.new) }
     ensures file { (n : List ℕ) → C.file capture.new n ≡ C.file capture.old n }
     ensures asked { C.asked capture.new ≡ C.asked capture.old }
     ensures refused { C.refused capture.new ≡ C.refused capture.old }
@@ -91,6 +93,7 @@ pub(crate) fn read_file<C: Capture>(
         ≡ readings.old.endings.items ++ ending ∷ []) }
     ensures fault { IsErrOf result ReadError.ReadFault
         → Rose (C.faults capture.old) (C.faults capture.new) }
+    ensures took { TookAtMost (suc limit_of_file) (C.left capture.old) (C.left capture.new) }
     ensures file { (n : List ℕ) → C.file capture.new n ≡ C.file capture.old n }
     ensures asked { C.asked capture.new ≡ C.asked capture.old }
     ensures refused { C.refused capture.new ≡ C.refused capture.old }

@@ -2,7 +2,7 @@
 ghost use Rattle.std.specs.Prelude.{◌≡◌, ◌≤◌, ◌+◌, ℕ, List, length, false, true, IfErr, IfOk, IfSome, IsErrOf, OnErr, OnOk};
 ghost use Rattle.pk_outside.specs.Outside.{Rose, counted};
 ghost use Rattle.capture_read.specs.Capture.{capture_of};
-ghost use Rattle.merge_caps.specs.Reading.{AreSmallUpTo, files_of, is_large_after, is_too_much_of, read_of, so_far, with_reading};
+ghost use Rattle.merge_caps.specs.Reading.{AreSmallUpTo, IsLeftOf, IsLeftOfOne, files_of, is_large_after, is_too_much_of, read_of, so_far, with_reading};
 ghost use Rattle.merge_caps.specs.Stopped.{IsStopped};
 
 use crate::read_file::read_file;
@@ -17,6 +17,7 @@ use std::alloc::Global;
 fn begin<C: Capture>(alloc: Global, name: &Text, capture: &mut C) -> Result<(), Cause>
     ensures file { (n : List ℕ) → C.file capture.new n ≡ C.file capture.old n }
     ensures left { OnOk result (C.left capture.new ≡ C.file capture.old name.now) }
+    ensures left_err { OnErr result (C.left capture.new ≡ C.left capture.old) }
     ensures begun { OnOk result (C.begun capture.new ≡ counted (C.begun capture.old)) }
     ensures not_missed { OnOk result (C.missed capture.new ≡ C.missed capture.old) }
     ensures asked { OnOk result (C.asked capture.new ≡ name.now) }
@@ -48,6 +49,7 @@ fn is_large(ending: Ending, captured: usize) -> bool
 }
 
 // Reads the file of a name to its end.
+#[tactic(auto, using(crate::proofs::FilesSteps::left_begun))]
 fn read_next<C: Capture>(
     alloc: Global,
     name: &Text,
@@ -62,6 +64,8 @@ fn read_next<C: Capture>(
     ensures small { OnOk result (is_too_much_of (so_far readings.new) ≡ false) }
     ensures large { IsErrOf result Cause.TooLarge → IfSome (C.file capture.old name.now) (λ file.
         is_too_much_of (with_reading (capture_of file) (so_far readings.old)) ≡ true) }
+    ensures took { IsLeftOf (C.file capture.old) name.now
+        (C.left capture.old) (C.left capture.new) }
     ensures file { (n : List ℕ) → C.file capture.new n ≡ C.file capture.old n }
     ensures begun { OnOk result (C.begun capture.new ≡ counted (C.begun capture.old)) }
     ensures not_missed { OnOk result (C.missed capture.new ≡ C.missed capture.old) }
@@ -103,6 +107,8 @@ pub(crate) fn read_files<C: Capture>(
     ensures ends { IfOk result (λ readings. length readings.endings.items ≡ length names.now) }
     ensures small { OnOk result
         (AreSmallUpTo (C.file capture.old) names.now (length names.now)) }
+    ensures took { IsLeftOfOne (C.file capture.old) names.now
+        (C.left capture.old) (C.left capture.new) }
     ensures stopped { IfErr result (λ stopped. IsStopped names.now stopped
         (record {
           tell = C.file capture.old;

@@ -3,7 +3,7 @@ ghost use Rattle.std.specs.Prelude.{◌≡◌, ◌≢◌, ◌<◌, ◌⊎◌, �
 ghost use Rattle.pk_outside.specs.Outside.{Rose};
 ghost use Rattle.shark_words.specs.Words.{texts};
 ghost use Rattle.merge_caps.specs.Causes.{IsLargeAt, IsUnopened, IsUnread};
-ghost use Rattle.merge_caps.specs.Reading.{AreSmallUpTo, files_of};
+ghost use Rattle.merge_caps.specs.Reading.{AreSmallUpTo, IsLeftOfOne, files_of};
 ghost use Rattle.merge_caps.specs.Statuses.{IsNoFault, IsRefused, IsWritten, WhenRead, WhenUnread, WhenWritten, WrotePart};
 ghost use Rattle.merge_caps.specs.Texts.{Told, ToldRefusal, ToldRefusalWhole, ToldWhole};
 ghost use Rattle.merge_caps.specs.Words.{wanted as wanted_by, wanted_of};
@@ -71,6 +71,8 @@ fn merge_files<C: Capture, O: Sink, E: Sink>(
         × IsLargeAt (C.file capture.old) wanted.now.names.items place }
     ensures small { WhenRead result (AreSmallUpTo (C.file capture.old) wanted.now.names.items
         (length wanted.now.names.items)) }
+    ensures took { IsLeftOfOne (C.file capture.old) wanted.now.names.items
+        (C.left capture.old) (C.left capture.new) }
     ensures write_fault { result ≡ MergeStatus.WriteFault
         → Rose (O.faults out.old) (O.faults out.new) }
     ensures told { Told (wanted_by wanted.now) (C.file capture.old) (C.asked capture.new) result
@@ -136,6 +138,10 @@ pub fn merge<C: Capture, O: Sink, E: Sink>(
         AreSmallUpTo (C.file capture.old) wanted.names (length wanted.names))) }
     ensures write_fault { result ≡ MergeStatus.WriteFault
         → Rose (O.faults out.old) (O.faults out.new) }
+
+    // No file is read on behind what is looked at, its first 2^28 bytes and one more.
+    ensures took { IfOk (wanted_of (texts words.now)) (λ wanted.
+        IsLeftOfOne (C.file capture.old) wanted.names (C.left capture.old) (C.left capture.new)) }
 
     // Where no fault rose, merging comes to an end, or finds no memory.
     ensures complete { ¬ Rose (C.missed capture.old) (C.missed capture.new)

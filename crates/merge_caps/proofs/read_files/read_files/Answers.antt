@@ -1,7 +1,7 @@
-use Rattle.std.proofs.Common.{Err, refl, ap, ◌∙◌, ◌+◌, length, take, false, arith}
+use Rattle.std.proofs.Common.{Err, inl, refl, ap, ◌∙◌, ◌+◌, length, take, false, arith}
 use Rattle.merge_caps.specs.Reading.{so_far}
 use Rattle.merge_caps.specs.Stopped.{Seen}
-use Rattle.merge_caps.proofs.FilesSteps.{cause_is, judged, large_next, little_first, reads_next, small_first, small_more}
+use Rattle.merge_caps.proofs.FilesSteps.{cause_is, judged, large_next, left_next, little_first, reads_next, small_first, small_more}
 use Rattle.merge_caps.proofs.read_files.read_files.Goals as goal
 
 pub loop-place-init : goal.loop-place-init
@@ -10,6 +10,7 @@ loop-place-init g c = record {
   small = small_first (g.C.Capture.file c.args.capture.now) c.args.names.now;
   little = little_first (record { entries = c.new.result.items; endings = c.new-2.result.items; captured = 0 }) c.new-2.ensures.items refl;
   ends = ap length c.new-2.ensures.items;
+  left = inl refl;
   file = λ n. refl;
   begun = omega arith;
   few = omega arith;
@@ -53,6 +54,11 @@ returns-in-Err-clause-stopped g c =
           c.loop-place-test.true c.index-names-place.is (c.loop-place.invariant.file c.index-names-place.result) c.loop-place.invariant.read (c.in-Err.ensures.large (ap Err is)));
     }
 
+pub returns-in-Err-clause-took : goal.returns-in-Err-clause-took
+returns-in-Err-clause-took g c =
+    left_next (g.C.Capture.file c.args.capture.now) (g.C.Capture.file c.loop-place.capture) c.args.names.now c.loop-place.place c.index-names-place.result
+    (g.C.Capture.left c.args.capture.now) (g.C.Capture.left c.loop-place.capture) (g.C.Capture.left c.read_next.new.capture) c.loop-place-test.true c.index-names-place.is (c.loop-place.invariant.file c.index-names-place.result) c.loop-place.invariant.left c.read_next.ensures.took
+
 pub loop-place-preserved : goal.loop-place-preserved
 loop-place-preserved g c =
     let read = reads_next (g.C.Capture.file c.args.capture.now) (g.C.Capture.file c.loop-place.capture) c.args.names.now c.loop-place.place c.index-names-place.result
@@ -64,6 +70,8 @@ loop-place-preserved g c =
           (judged (g.C.Capture.file c.args.capture.now) (take (c.loop-place.place + 1) c.args.names.now) (so_far c.read_next.new.readings) false read c.in-Ok.ensures.small);
       little = c.in-Ok.ensures.small;
       ends = omega (arith, c.in-Ok.ensures.count, c.loop-place.invariant.ends);
+      left = left_next (g.C.Capture.file c.args.capture.now) (g.C.Capture.file c.loop-place.capture) c.args.names.now c.loop-place.place c.index-names-place.result
+          (g.C.Capture.left c.args.capture.now) (g.C.Capture.left c.loop-place.capture) (g.C.Capture.left c.read_next.new.capture) c.loop-place-test.true c.index-names-place.is (c.loop-place.invariant.file c.index-names-place.result) c.loop-place.invariant.left c.read_next.ensures.took;
       file = λ n. c.read_next.ensures.file n ∙ c.loop-place.invariant.file n;
       begun = omega (arith, c.loop-place.invariant.begun, c.read_next.ensures.begun_stay);
       few = omega (arith, c.loop-place.invariant.few, c.in-Ok.ensures.begun);

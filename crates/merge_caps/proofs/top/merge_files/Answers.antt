@@ -36,3 +36,9 @@ returns-clause-told_whole g c = λ calm fed.
     (text_told_by (wanted c.args.wanted.now) (g.C.Capture.file c.args.capture.now) (g.C.Capture.asked c.read_files.new.capture) (so_far c.in-Ok.readings) c.write_merged-written.result
     (g.O.Sink.written c.args.out.now) (g.O.Sink.written c.write_merged-written.new.out) c.tell_written.result t.0 c.as_slice-names.result.now c.as_slice.result.now
     c.as_slice-names.ensures.value c.as_slice.ensures.value c.in-Ok.ensures.read c.in-Ok.ensures.ends c.write_merged-written.ensures.written t.1) t.2
+
+pub returns-in-Err-clause-took : goal.returns-in-Err-clause-took
+returns-in-Err-clause-took g c = rw c.as_slice-names.ensures.value at c.read_files.ensures.took
+
+pub returns-clause-took : goal.returns-clause-took
+returns-clause-took g c = rw c.as_slice-names.ensures.value at c.read_files.ensures.took
