@@ -2,6 +2,8 @@
 #![tactic(auto)]
 
 #[cfg(test)]
+mod closing_tests;
+#[cfg(test)]
 mod command_tests;
 #[cfg(test)]
 mod follow_tests;

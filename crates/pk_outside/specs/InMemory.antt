@@ -19,6 +19,14 @@ pub record SureSinkState : Type 0 where
   pub taken : List ℕ
   pub starved : ℕ
 
+-- a sink in memory that holds back what it takes: what was handed on, what waits, whether handing on fails, and how often it failed
+pub record GatheringSinkState : Type 0 where
+  pub handed : List ℕ
+  pub waiting : List ℕ
+  pub fails : Bool
+  pub failures : ℕ
+  pub starved : ℕ
+
 -- a capture in memory that fails nowhere: each name is that of a file of these bytes
 pub record SureCaptureState : Type 0 where
   pub bytes : List ℕ

@@ -1,5 +1,5 @@
 -- What the calls of a capture and a sink do to their counts and their bytes.
-use Rattle.std.specs.Prelude.{◌≡◌, ◌↔◌, ℕ, ◌+◌, ◌-◌, ◌^◌, ◌≤◌, min, List, [], ◌++◌, length, take, drop, Some, None, Option}
+use Rattle.std.specs.Prelude.{⊤, ◌≡◌, ◌↔◌, ℕ, ◌+◌, ◌-◌, ◌^◌, ◌≤◌, min, List, [], ◌++◌, length, take, drop, Some, None, Option}
 use Rattle.std.specs.Io.KnownBytes.{Appends}
 use Rattle.pk_outside.specs.declared.sink.SinkFault.{SinkFault}
 use Rattle.pk_outside.specs.declared.sink.SinkFault.TheVariants.{Failed, NoMemory}
@@ -35,3 +35,9 @@ CountsFault Failed faults_old faults_new starved_old starved_new =
     CountsOne faults_old faults_new starved_old starved_new
 CountsFault NoMemory faults_old faults_new starved_old starved_new =
     CountsOne starved_old starved_new faults_old faults_new
+
+-- what was held back was handed on behind what had been handed on before, and nothing is held back any more
+abbrev pub HandsOn : Option (List ℕ) → Option (List ℕ) → Option (List ℕ) → Option (List ℕ) → Type 0
+HandsOn None handed_old waiting_new handed_new = ⊤
+HandsOn (Some waiting) handed_old waiting_new handed_new =
+    (waiting_new ≡ Some []) × Appends handed_old handed_new waiting

@@ -7,6 +7,8 @@
 mod calls;
 mod capture;
 mod file_capture;
+mod gathering;
+mod gathering_sink;
 mod memory_capture;
 mod memory_sink;
 mod moves;
@@ -17,6 +19,8 @@ mod sure_sink;
 
 pub use capture::{Capture, Failed};
 pub use file_capture::FileCapture;
+pub use gathering::Gathers;
+pub use gathering_sink::GatheringSink;
 pub use memory_capture::{MemoryCapture, NamedFile};
 pub use memory_sink::MemorySink;
 pub use sink::{Sink, SinkFault, write_whole};

@@ -1,6 +1,8 @@
 // A sink over a stream of the system.
 ghost use Rattle.std.specs.Prelude.{◌≡◌, ◌<◌, ◌≤◌, None, length, IfOk, IfErr, OnOk, OnErr};
 
+use crate::capture::Failed;
+use crate::gathering::Gathers;
 use crate::sink::{Sink, SinkFault};
 use std::io::Write;
 
@@ -53,6 +55,29 @@ impl<W: Write + Drop> Sink for StdSink<W> {
             _ => {
                 self.faults = self.faults.saturating_add(1);
                 Err(SinkFault::Failed)
+            }
+        }
+    }
+}
+
+impl<W: Write + Drop> Gathers for StdSink<W> {
+    ghost use Rattle.pk_outside.specs.Outside.{counted};
+
+    ghost waiting = { λ _. None };
+
+    ghost handed = { λ _. None };
+
+    ghost failures = { λ s. s.faults };
+
+    fn hand_on(&mut self) -> Result<(), Failed>
+        ensures no_failure { OnOk result (self.new.faults ≡ self.old.faults) }
+        ensures failure { OnErr result (self.new.faults ≡ counted self.old.faults) }
+    {
+        match self.stream.flush() {
+            Ok(()) => Ok(()),
+            Err(_) => {
+                self.faults = self.faults.saturating_add(1);
+                Err(Failed)
             }
         }
     }

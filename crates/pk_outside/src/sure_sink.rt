@@ -37,6 +37,13 @@ impl SureSink {
     {
         self.bytes.as_slice()
     }
+
+    /// How many writes found no memory.
+    pub fn starved(&self) -> u64
+        ensures { result ≡ self.now.starved }
+    {
+        self.starved
+    }
 }
 
 impl Sink for SureSink {
