@@ -35,8 +35,7 @@ const SIGNS: [Sign; 26] = [
 ];
 
 pub fn sign_text(sign: Sign) -> &'static [u8]
-    ensures value { result.now ≡ text_of_sign sign }
-    ensures some { 0 < length result.now }
+    ensures { result.now ≡ text_of_sign sign }
 {
     match sign {
         Sign::AllEqual => b"===",
@@ -72,7 +71,8 @@ pub fn sign_text(sign: Sign) -> &'static [u8]
 #[tactic(auto, using(crate::proofs::Fronts::sign_fits))]
 pub fn first_sign(bytes: &[u8]) -> Option<Sign>
     ensures value { result ≡ sign_in_front bytes.now }
-    ensures within { IfSome result (λ s. length (text_of_sign s) ≤ length bytes.now) }
+    ensures within { IfSome result (λ s. (0 < length (text_of_sign s))
+        × (length (text_of_sign s) ≤ length bytes.now)) }
 {
     SIGNS
         .iter()
