@@ -1,7 +1,9 @@
 -- A sign in front has some bytes, and no more than the text that it begins.
-use Rattle.std.proofs.Common.{◌≡◌, ℕ, ◌<◌, ◌≤◌, Bool, true, false, nat_eq, List, [], ◌∷◌, ◌++◌, Option, Some, cond, length, length-append, drop, take-append-drop, arith, ap, ◌∙◌, refl}
+use Rattle.std.proofs.Common.{◌≡◌, ℕ, ◌+◌, ◌<◌, ◌≤◌, Bool, true, false, nat_eq, List, [], ◌∷◌, ◌++◌, Option, Some, cond, length, length-append, get_or, drop, take-append-drop, arith, ap, sym, ◌∙◌, refl, subst}
 use Rattle.std.specs.List.{find, starts_with}
 use Rattle.std.specs.Prelude.{IfSome}
+use Rattle.std.proofs.lemmas.Bool.{cond-false, cond-true}
+use Rattle.std.proofs.lemmas.List.{at_drop_more}
 use Rattle.std.proofs.lemmas.Slice.Eq.{bytes_eq-Decides}
 use Rattle.flt_syntax.specs.Tokens.{all_signs, first_sign, sign_text}
 use Rattle.flt_syntax.specs.declared.token.Sign.{Sign}
@@ -57,3 +59,13 @@ fits_in bytes (s ∷ ss) =
 
 pub sign_fits : (bytes : List ℕ) → IfSome (first_sign bytes) (λ s. (0 < length (sign_text s)) × (length (sign_text s) ≤ length bytes))
 sign_fits bytes = fits_in bytes all_signs
+
+pub found_fits : (bytes : List ℕ) (s : Sign) → Some s ≡ first_sign bytes → (0 < length (sign_text s)) × (length (sign_text s) ≤ length bytes)
+found_fits bytes s found = subst (λ found. IfSome found (Fits bytes)) (sym found) (sign_fits bytes)
+
+-- the first that passes, from a place on
+pub found_here : {A : Type 0} (p : A → Bool) (xs : List A) (i : ℕ) (d : A) → i < length xs → p (get_or xs i d) ≡ true → find p (drop i xs) ≡ Some (get_or xs i d)
+found_here p xs i d inside passes = at_drop_more (find p) xs i d inside ∙ cond-true _ _ _ passes
+
+pub found_later : {A : Type 0} (p : A → Bool) (xs : List A) (i : ℕ) (d : A) → i < length xs → p (get_or xs i d) ≡ false → find p (drop i xs) ≡ find p (drop (i + 1) xs)
+found_later p xs i d inside fails = at_drop_more (find p) xs i d inside ∙ cond-false _ _ _ fails
