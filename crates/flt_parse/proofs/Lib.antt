@@ -9,6 +9,7 @@ pub mod Linked
 pub mod Moves
 pub mod Numbers
 pub mod Parsed
+pub mod Plain
 pub mod Printed
 pub mod Stacks
 pub mod Steady

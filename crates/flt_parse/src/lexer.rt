@@ -1,8 +1,10 @@
 // The tokens of a filter's text.
 ghost use Rattle.std.specs.Prelude.{◌≡◌, IfSome, ◌≤◌, ◌<◌, ◌+◌, ◌-◌, length, take, drop, Ok, Err, IfOk, IfErr};
 ghost use Rattle.std.specs.Option.{option_map};
-ghost use Rattle.flt_syntax.specs.Letters.{word_len as len_of_word};
-ghost use Rattle.flt_syntax.specs.Tokens.{first_sign as sign_in_front, digits_lexeme as lexeme_of_digits, IsTokenError, IsTokensError, bracket_token as token_in_brackets, digits_kind as kind_of_digits, mode_behind as mode_after, next_place as place_behind, plain_token as token_outside, sign_lexeme as lexeme_of_sign, text_lexeme as lexeme_of_text, token_at as token_read, tokens_of, word_lexeme as lexeme_of_word};
+ghost use Rattle.flt_parse.specs.Parser.Lexemes.{IsToken};
+ghost use Rattle.flt_syntax.specs.Letters.{opening as opening_in, word_len as len_of_word};
+ghost use Rattle.flt_syntax.specs.Strings.{raw_inside, string_inside};
+ghost use Rattle.flt_syntax.specs.Tokens.{first_sign as sign_in_front, digits_lexeme as lexeme_of_digits, IsTokenError, IsTokensError, bracket_token as token_in_brackets, digits_kind as kind_of_digits, function_of as function_in, lexeme as lexeme_of, mode_behind as mode_after, name_or_call as lexeme_of_call, next_place as place_behind, plain_token as token_outside, sign_lexeme as lexeme_of_sign, text_lexeme as lexeme_of_text, token_at as token_read, tokens_of, word_lexeme as lexeme_of_word};
 
 use crate::keywords::{function_of, keyword_kind, keyword_of};
 use crate::letters::{
@@ -18,7 +20,6 @@ use std::alloc::Global;
 use std::collections::VecDeque;
 
 /// The tokens of a text, or the first byte or string that is none.
-#[tactic(auto, using(crate::proofs::Lexing::token_refused))]
 pub fn tokens_in(alloc: Global, text: &str) -> Result<VecDeque<Token>, FilterError>
     requires { length text.now ≤ 4096 }
     ensures ok { IfOk result (λ tokens. tokens_of text.now ≡ Ok tokens.items) }
@@ -33,16 +34,29 @@ pub fn tokens_in(alloc: Global, text: &str) -> Result<VecDeque<Token>, FilterErr
             at += 1;
             continue;
         }
-        let lexeme = token_at(alloc, text, mode, at)?;
-        mode = mode_behind(&lexeme.kind);
-        let width = lexeme.width;
-        tokens.push_back(Token {
+        let Lexeme { kind, width } = match token_at(alloc, text, mode, at) {
+            Ok(lexeme) => lexeme,
+            Err(error) => return given_up(error, tokens),
+        };
+        mode = mode_behind(&kind);
+        let token = Token {
             at: at as u32,
-            kind: lexeme.kind,
-        })?;
+            kind,
+        };
+        match tokens.push_back(token) {
+            Ok(()) => {}
+            Err(error) => return given_up(FilterError::NoMemory, (error, tokens)),
+        }
         at += width;
     }
     Ok(tokens)
+}
+
+/// Where no token is read: those that were read before it are given up.
+fn given_up<T: Drop>(error: FilterError, _read: T) -> Result<VecDeque<Token>, FilterError>
+    ensures { result ≡ Err error }
+{
+    Err(error)
 }
 
 /// How the text is read behind a token.
@@ -66,9 +80,7 @@ fn mode_behind(kind: &Kind) -> Mode
 fn token_at(alloc: Global, text: &str, mode: Mode, at: usize) -> Result<Lexeme, FilterError>
     requires short { length text.now ≤ 4096 }
     requires inside { at < length text.now }
-    ensures ok { IfOk result (λ l. token_read mode at (drop at text.now) ≡ Ok l) }
-    ensures within { IfOk result (λ l. (0 < l.width) × (at + l.width ≤ length text.now)) }
-    ensures err { IfErr result (IsTokenError at (token_read mode at (drop at text.now))) }
+    ensures { IsToken at (length text.now - at) (token_read mode at (drop at text.now)) result }
 {
     match mode {
         Mode::InBrackets => bracket_token(bytes_from(text.as_bytes(), at), at),
@@ -79,29 +91,58 @@ fn token_at(alloc: Global, text: &str, mode: Mode, at: usize) -> Result<Lexeme, 
 fn plain_token(alloc: Global, text: &str, mode: Mode, at: usize) -> Result<Lexeme, FilterError>
     requires short { length text.now ≤ 4096 }
     requires inside { at < length text.now }
-    ensures ok { IfOk result (λ l. token_outside mode at (drop at text.now) ≡ Ok l) }
-    ensures within { IfOk result (λ l. (0 < l.width) × (at + l.width ≤ length text.now)) }
-    ensures err { IfErr result (IsTokenError at (token_outside mode at (drop at text.now))) }
+    ensures { IsToken at (length text.now - at) (token_outside mode at (drop at text.now)) result }
 {
     let rest = bytes_from(text.as_bytes(), at);
     if rest.starts_with(b"\"") {
-        let inside = read_string(alloc, bytes_from(rest, 1))?;
-        return text_lexeme(at, 1, inside);
+        return string_token(alloc, at, rest);
     }
     if rest.starts_with(b"r\"") {
-        let inside = read_raw(alloc, bytes_from(rest, 2))?;
-        return text_lexeme(at, 2, inside);
+        return raw_token(alloc, at, rest);
     }
     if begins_word(rest) {
-        return Ok(word_lexeme(
-            alloc,
-            mode,
-            at,
-            word_in(text, at),
-            bytes_from(rest, word_len(rest)),
-        )?);
+        return word_token(alloc, mode, at, word_in(text, at), rest);
     }
     sign_lexeme(mode, at, rest)
+}
+
+/// A string at a place, with its opening `"`.
+fn string_token(alloc: Global, at: usize, text: &[u8]) -> Result<Lexeme, FilterError>
+    requires some { 1 ≤ length text.now }
+    requires short { at + length text.now ≤ 4096 }
+    ensures { IsToken at (length text.now)
+        (lexeme_of_text at 1 (string_inside 0 (drop 1 text.now))) result }
+{
+    let inside = read_string(alloc, bytes_from(text, 1))?;
+    text_lexeme(at, 1, inside)
+}
+
+/// A raw string at a place, with its `r"`.
+fn raw_token(alloc: Global, at: usize, text: &[u8]) -> Result<Lexeme, FilterError>
+    requires some { 2 ≤ length text.now }
+    requires short { at + length text.now ≤ 4096 }
+    ensures { IsToken at (length text.now)
+        (lexeme_of_text at 2 (raw_inside (drop 2 text.now))) result }
+{
+    let inside = read_raw(alloc, bytes_from(text, 2))?;
+    text_lexeme(at, 2, inside)
+}
+
+/// A word at a place, with what follows it.
+fn word_token(
+    alloc: Global,
+    mode: Mode,
+    at: usize,
+    word: &str,
+    text: &[u8],
+) -> Result<Lexeme, FilterError>
+    requires word { word.now ≡ take (len_of_word text.now) text.now }
+    requires some { 0 < len_of_word text.now }
+    requires short { at + length text.now ≤ 4096 }
+    ensures { IsToken at (length text.now) (Ok (lexeme_of_word mode at
+        (take (len_of_word text.now) text.now) (drop (len_of_word text.now) text.now))) result }
+{
+    Ok(word_lexeme(alloc, mode, at, word, bytes_from(text, word_len(text)))?)
 }
 
 /// The word at a place where one stands.
@@ -127,33 +168,49 @@ fn word_lexeme(
     ensures within { IfOk result (λ l. (length word.now ≤ l.width)
         × (l.width ≤ length word.now + length rest.now)) }
 {
-    let place = at as u32;
-    let width = word.len();
     if mode == Mode::BehindHash && is_number(word.as_bytes()) {
         let nth = number_of(word.as_bytes());
         return Ok(Lexeme {
-            kind: Kind::LayerNumber(Layer { at: place, nth }),
-            width,
+            kind: Kind::LayerNumber(Layer { at: at as u32, nth }),
+            width: word.len(),
         });
     }
-    if let Some(keyword) = keyword_of(word) {
-        return Ok(Lexeme {
-            kind: keyword_kind(place, keyword),
-            width,
-        });
+    match keyword_of(word) {
+        Some(keyword) => Ok(Lexeme {
+            kind: keyword_kind(at as u32, keyword),
+            width: word.len(),
+        }),
+        None => call_lexeme(alloc, at, word, rest),
     }
+}
+
+/// A function with its `(`, or else a word that isn't reserved.
+fn call_lexeme(alloc: Global, at: usize, word: &str, rest: &[u8]) -> Result<Lexeme, NoMemory>
+    requires { at + length word.now + length rest.now ≤ 4096 }
+    ensures ok { IfOk result (λ l.
+        l ≡ lexeme_of_call at word.now (function_in word.now) (opening_in rest.now)) }
+    ensures within { IfOk result (λ l. (length word.now ≤ l.width)
+        × (l.width ≤ length word.now + length rest.now)) }
+{
     if let Some(function) = function_of(word)
         && let Some(more) = opening(rest)
     {
         return Ok(Lexeme {
-            kind: Kind::Calls(function, place),
-            width: width + more,
+            kind: Kind::Calls(function, at as u32),
+            width: word.len() + more,
         });
     }
+    name_lexeme(alloc, at as u32, word)
+}
+
+fn name_lexeme(alloc: Global, at: u32, word: &str) -> Result<Lexeme, NoMemory>
+    ensures { IfOk result (λ l. l ≡ lexeme_of
+        (Kind.Name (record { at = at; text = word.now })) (length word.now)) }
+{
     let text = WordText::copy(alloc, word)?;
     Ok(Lexeme {
-        kind: Kind::Name(Word { at: place, text }),
-        width,
+        kind: Kind::Name(Word { at, text }),
+        width: word.len(),
     })
 }
 

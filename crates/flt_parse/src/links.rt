@@ -75,10 +75,25 @@ pub fn wait(
         if binds(left.link) < binds(link) {
             return push_two(waiting, left, Waiting { operand: all, link });
         }
-        all = link_left(alloc, left, all)?;
+        all = match link_left(alloc, left, all) {
+            Ok(linked) => linked,
+            Err(NoMemory) => return Err(NoMemory),
+        };
     }
-    waiting.push(Waiting { operand: all, link })?;
-    Ok(())
+    push_one(waiting, Waiting { operand: all, link })
+}
+
+/// One more that waits.
+fn push_one(waiting: &mut Vec<Waiting>, next: Waiting) -> Result<(), NoMemory>
+    ensures { OnOk result (waiting.new.items ≡ waiting.old.items ++ next ∷ []) }
+{
+    match waiting.push(next) {
+        Ok(()) => Ok(()),
+        Err(error) => {
+            let_go(error);
+            Err(NoMemory)
+        }
+    }
 }
 
 /// Two more that wait.
@@ -86,10 +101,10 @@ fn push_two(waiting: &mut Vec<Waiting>, left: Waiting, next: Waiting) -> Result<
     ensures { OnOk result
         (waiting.new.items ≡ (waiting.old.items ++ left ∷ []) ++ next ∷ []) }
 {
-    match waiting.push(left) {
-        Ok(()) => Ok(waiting.push(next)?),
-        Err(error) => {
-            let_go((error, next));
+    match push_one(waiting, left) {
+        Ok(()) => push_one(waiting, next),
+        Err(NoMemory) => {
+            let_go(next);
             Err(NoMemory)
         }
     }

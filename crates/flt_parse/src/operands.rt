@@ -1,6 +1,6 @@
 // Operands, token by token, as far as no call opens or ends. Each function answers where the operand stands behind the
 // token, or nothing where the token doesn't go on with it.
-ghost use Rattle.std.specs.Prelude.{◌≡◌, ℕ, List, ◌++◌, [], ◌∷◌, Some, None, IfOk};
+ghost use Rattle.std.specs.Prelude.{◌≡◌, ℕ, List, ◌++◌, [], ◌∷◌, Some, None};
 ghost use Rattle.flt_syntax.specs.Grammar.{takes_mask as may_mask, takes_more as may_take_more, takes_slice as may_slice};
 ghost use Rattle.flt_parse.specs.Parser.Reading as reading;
 ghost use Rattle.flt_parse.specs.Parser.States.{IsRangeMove, IsSpot, layers_moved};
@@ -8,9 +8,9 @@ ghost use Rattle.flt_syntax.specs.declared.ast.LayerRange.{LayerRange};
 ghost use Rattle.flt_syntax.specs.declared.word.Word.{Word};
 ghost use Rattle.flt_syntax.specs.Written.{OnLayersOf, SlicedOf, operand_of};
 
+use crate::joins::refused;
 use crate::state::{LayerSpot, RangeSpot, Refusal, Spot};
 use flt_syntax::{Function, Kind, LayerRange, Operand, Place, RangePart, SliceRange, Word};
-use pk_base::NoMemory;
 use std::alloc::Global;
 
 /// Behind the `#` of a word.
@@ -144,8 +144,10 @@ fn next_layers(
         (done.items ++ range ∷ []) next reading.LayerWanted)) result }
 {
     let mut done = done;
-    done.push(range)?;
-    Ok(Some(Spot::InLayers(word, done, next, LayerSpot::LayerWanted)))
+    match done.push(range) {
+        Ok(()) => Ok(Some(Spot::InLayers(word, done, next, LayerSpot::LayerWanted))),
+        Err(error) => refused(Refusal::NoMemory, (error, word, done)),
+    }
 }
 
 /// Behind the `]` after a range.
@@ -154,8 +156,10 @@ fn all_layers(word: Word, done: Vec<LayerRange>, range: LayerRange) -> Result<Op
         result }
 {
     let mut done = done;
-    done.push(range)?;
-    Ok(Some(Spot::Read(Operand::OnLayers(word, done))))
+    match done.push(range) {
+        Ok(()) => Ok(Some(Spot::Read(Operand::OnLayers(word, done)))),
+        Err(error) => refused(Refusal::NoMemory, (error, word, done)),
+    }
 }
 
 /// Whether a function has one argument or more.
@@ -205,12 +209,11 @@ pub fn mask_wanted(
         result }
 {
     match kind {
-        Kind::Name(word) => Ok(Some(Spot::Read(Operand::Masked(
-            Box::new(alloc, operand)?,
-            at,
-            word,
-        )))),
-        _ => Ok(None),
+        Kind::Name(word) => match Box::new(alloc, operand) {
+            Ok(inner) => Ok(Some(Spot::Read(Operand::Masked(inner, at, word)))),
+            Err(error) => refused(Refusal::NoMemory, (error, word)),
+        },
+        _ => nothing((operand, kind)),
     }
 }
 
@@ -366,8 +369,10 @@ fn next_range(slice: Slice, at: u32, part: RangePart, next: u32) -> Result<Optio
         (reading.with_part at slice.done.items part) next reading.RangeWanted)) result }
 {
     let mut slice = slice;
-    slice.done.push(SliceRange { at, part })?;
-    in_range(slice, next, RangeSpot::RangeWanted)
+    match slice.done.push(SliceRange { at, part }) {
+        Ok(()) => in_range(slice, next, RangeSpot::RangeWanted),
+        Err(error) => refused(Refusal::NoMemory, (error, slice)),
+    }
 }
 
 /// Behind the `]` after a range.
@@ -382,15 +387,25 @@ fn all_ranges(
         (reading.with_part at slice.done.items part)))) result }
 {
     let mut slice = slice;
-    slice.done.push(SliceRange { at, part })?;
-    Ok(Some(Spot::Read(sliced(alloc, slice)?)))
+    match slice.done.push(SliceRange { at, part }) {
+        Ok(()) => sliced(alloc, slice),
+        Err(error) => refused(Refusal::NoMemory, (error, slice)),
+    }
 }
 
-fn sliced(alloc: Global, slice: Slice) -> Result<Operand, NoMemory>
-    ensures { IfOk result (λ o. operand_of o
-        ≡ SlicedOf (operand_of slice.operand) slice.bracket slice.done.items) }
+fn sliced(alloc: Global, slice: Slice) -> Result<Option<Spot>, Refusal>
+    ensures { IsSpot (Some (reading.OperandRead
+        (SlicedOf (operand_of slice.operand) slice.bracket slice.done.items))) result }
 {
-    Ok(Operand::Sliced(Box::new(alloc, slice.operand)?, slice.bracket, slice.done))
+    let Slice {
+        operand,
+        bracket,
+        done,
+    } = slice;
+    match Box::new(alloc, operand) {
+        Ok(inner) => Ok(Some(Spot::Read(Operand::Sliced(inner, bracket, done)))),
+        Err(error) => refused(Refusal::NoMemory, (error, done)),
+    }
 }
 
 fn forward(offset: u32) -> Place

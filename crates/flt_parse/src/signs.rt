@@ -35,8 +35,7 @@ const SIGNS: [Sign; 26] = [
 ];
 
 pub fn sign_text(sign: Sign) -> &'static [u8]
-    ensures value { result.now ≡ text_of_sign sign }
-    ensures some { 0 < length result.now }
+    ensures { result.now ≡ text_of_sign sign }
 {
     match sign {
         Sign::AllEqual => b"===",
@@ -69,15 +68,17 @@ pub fn sign_text(sign: Sign) -> &'static [u8]
 }
 
 /// The longest sign in front.
-#[tactic(auto, using(crate::proofs::Fronts::sign_fits))]
 pub fn first_sign(bytes: &[u8]) -> Option<Sign>
     ensures value { result ≡ sign_in_front bytes.now }
-    ensures within { IfSome result (λ s. length (text_of_sign s) ≤ length bytes.now) }
+    ensures within { IfSome result (λ s. (0 < length (text_of_sign s))
+        × (length (text_of_sign s) ≤ length bytes.now)) }
 {
-    SIGNS
-        .iter()
-        .copied()
-        .find(|sign| bytes.starts_with(sign_text(*sign)))
+    for sign in &SIGNS {
+        if bytes.starts_with(sign_text(*sign)) {
+            return Some(*sign);
+        }
+    }
+    None
 }
 
 /// What a sign is at a place, where the next token stands at another.

@@ -3,6 +3,7 @@ ghost use Rattle.std.specs.Prelude.{◌≡◌, ◌==◌, position, ◌≤◌, �
 ghost use Rattle.std.specs.Option.{option_map};
 ghost use Rattle.flt_syntax.specs.Strings.{hex_byte as byte_of_hex, escape as escape_of, piece as piece_of, string_inside, raw_inside};
 
+use crate::joins::let_go;
 use pk_base::{NoMemory, Octets, bytes_from};
 use std::alloc::Global;
 
@@ -40,7 +41,13 @@ pub fn read_string(alloc: Global, text: &[u8]) -> Result<Option<Inside>, NoMemor
         let Some(piece) = piece_at(bytes_from(text, at)) else {
             return nothing(bytes);
         };
-        bytes.push(piece.value)?;
+        match bytes.push(piece.value) {
+            Ok(()) => {}
+            Err(error) => {
+                let_go((error, bytes));
+                return Err(NoMemory);
+            }
+        }
         at += piece.width;
     }
     if at >= text.len() {

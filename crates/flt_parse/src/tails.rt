@@ -4,6 +4,7 @@ ghost use Rattle.flt_parse.specs.Parser.Reading as reading;
 ghost use Rattle.flt_parse.specs.Parser.States.{IsTailMove, tail_spot_of};
 ghost use Rattle.flt_syntax.specs.Written.{InOf};
 
+use crate::joins::refused;
 use crate::state::{ElementSpot, Refusal, TailMove, TailSpot};
 use flt_syntax::{Element, Kind, Literal, Tail};
 use std::alloc::Global;
@@ -53,7 +54,7 @@ fn pattern_wanted(at: u32, kind: Kind) -> Result<TailMove, Refusal>
 {
     match kind {
         Kind::Text(quote) => Ok(TailMove::Done(Tail::Matches(at, quote))),
-        _ => Ok(TailMove::Wrong),
+        _ => wrong(kind),
     }
 }
 
@@ -179,8 +180,10 @@ fn next_element(negated: bool, done: Vec<Element>, element: Element) -> Result<T
         (reading.InSet negated (done.items ++ element ∷ []) reading.ElementWanted)) None result }
 {
     let mut done = done;
-    done.push(element)?;
-    Ok(TailMove::Further(TailSpot::InSet(negated, done, ElementSpot::ElementWanted)))
+    match done.push(element) {
+        Ok(()) => Ok(TailMove::Further(TailSpot::InSet(negated, done, ElementSpot::ElementWanted))),
+        Err(error) => refused(Refusal::NoMemory, (error, done)),
+    }
 }
 
 /// Behind the `}` after an element.
@@ -188,6 +191,8 @@ fn all_elements(negated: bool, done: Vec<Element>, element: Element) -> Result<T
     ensures { IsTailMove None (Some (InOf negated (done.items ++ element ∷ []))) result }
 {
     let mut done = done;
-    done.push(element)?;
-    Ok(TailMove::Done(Tail::In(negated, done)))
+    match done.push(element) {
+        Ok(()) => Ok(TailMove::Done(Tail::In(negated, done))),
+        Err(error) => refused(Refusal::NoMemory, (error, done)),
+    }
 }
