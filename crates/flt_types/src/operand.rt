@@ -5,7 +5,7 @@ ghost use Rattle.flt_syntax.specs.declared.fault.FilterReason.TheVariants.{OutOf
 ghost use Rattle.flt_syntax.specs.Written.{WrittenOperand, operand_of, NamedOf, OnLayerOf, OnLayersOf, SlicedOf, MaskedOf, CalledOf, ComputedOf, ArgumentsOf};
 ghost use Rattle.flt_types.specs.Faults.{IsAnswer, operand_faults, call_faults, layers_faults, mask_faults, number_faults, slice_faults, given, kind_written, unless, nameless, word_faults, misplaced as misplaced_at};
 ghost use Rattle.flt_types.specs.Layers.{is_layer};
-ghost use Rattle.flt_types.specs.Operands.{is_part, with_right};
+ghost use Rattle.flt_types.specs.Operands.{is_around, is_part, with_right};
 ghost use Rattle.flt_types.specs.Standing.{argument, in_slice, within};
 ghost use Rattle.flt_types.specs.Terms.{IsTerm, IsMask, are_numbers as are_numbers_in, kind_of as kind_of_term, takes_term};
 ghost use Rattle.flt_types.specs.declared.standing.Side.{Side as TestSide};
@@ -91,6 +91,23 @@ fn part(alloc: Global, position: Position, operand: &Operand) -> Result<Term, Fi
         Operand::Named(word) => named(alloc, position.standing, word),
         Operand::OnLayer(word, layer) => on_layer(alloc, word, *layer),
         Operand::OnLayers(word, ranges) => on_layers(alloc, word, ranges),
+        Operand::Sliced(_, _, _) | Operand::Masked(_, _, _) | Operand::Called(_, _, _) => {
+            around(alloc, position, operand)
+        }
+        Operand::Computed(_, _, _, _) | Operand::Arguments(_, _) => unreachable!(),
+    }
+}
+
+/// The term that a slice, a mask or a call is.
+#[cycle(terms)]
+#[tactic(auto, using(crate::proofs::Answers::answer_left))]
+fn around(alloc: Global, position: Position, operand: &Operand) -> Result<Term, FilterError>
+    requires { IsTrue (is_around (operand_of operand.now)) }
+    ensures ok { IfOk result (IsTerm position.standing (operand_of operand.now)) }
+    ensures err { IfErr result
+        (IsAnswer (operand_faults position.side position.standing (operand_of operand.now))) }
+{
+    match operand {
         Operand::Sliced(inner, at, ranges) => {
             match term(alloc, position.in_slice(), inner) {
                 Ok(inner) => slice(alloc, inner, *at, ranges),
@@ -109,7 +126,7 @@ fn part(alloc: Global, position: Position, operand: &Operand) -> Result<Term, Fi
                 Err(error) => Err(error),
             }
         }
-        Operand::Computed(_, _, _, _) | Operand::Arguments(_, _) => unreachable!(),
+        _ => unreachable!(),
     }
 }
 

@@ -151,7 +151,8 @@ impl Position {
 
     /// As the argument of a function at a place.
     pub(crate) fn argument(self, function: Function, at: u32, operand: &Operand) -> Position
-        ensures side { result.side ≡ taken_by_function function at (operand_of operand.now) self.side }
+        ensures side { result.side
+            ≡ taken_by_function function at (operand_of operand.now) self.side }
         ensures standing { result.standing
             ≡ argument_of function at (operand_of operand.now) self.standing }
     {

@@ -64,22 +64,22 @@ term-rights-preserved t c =
 pub compute-returns-in-Err-clause-err : goal.compute-returns-in-Err-clause-err
 compute-returns-in-Err-clause-err t c = λ o is. rw c.refused.ensures (c.in-Err.ensures.err c.args.operation o is)
 
-pub part-returns-in-Ok-clause-err : goal.part-returns-in-Ok-clause-err
-part-returns-in-Ok-clause-err t c =
-    let inner = operand_of c.deref-in-Sliced.result.now in
-    rw (c.in-Sliced.is, ← c.deref-in-Sliced.ensures, ← c.deref-in-Ok.ensures.value)
+pub around-returns-in-Ok-clause-err : goal.around-returns-in-Ok-clause-err
+around-returns-in-Ok-clause-err t c =
+    let inner = operand_of c.deref.result.now in
+    rw (c.in-Sliced.is, ← c.deref.ensures, ← c.deref-in-Ok.ensures.value)
     (c.slice.ensures.err c.args.position.side c.args.position.standing inner
     (subst (λ st. IsTerm st inner c.in-Ok.inner) c.in_slice.ensures.standing c.in-Ok.ensures.ok))
 
-pub part-returns-in-Ok-term-clause-err : goal.part-returns-in-Ok-term-clause-err
-part-returns-in-Ok-term-clause-err t c =
+pub around-returns-in-Ok-term-clause-err : goal.around-returns-in-Ok-term-clause-err
+around-returns-in-Ok-term-clause-err t c =
     let inner = operand_of c.deref-in-Masked.result.now in
     rw (c.in-Masked.is, ← c.deref-in-Masked.ensures)
     (c.mask.ensures.err (taken c.in-Masked.at c.args.position.side) c.args.position.standing inner
     (subst (λ st. IsTerm st inner c.in-Ok-term.inner) c.within.ensures.standing c.in-Ok-term.ensures.ok))
 
-pub part-returns-in-Ok-term-2-clause-err : goal.part-returns-in-Ok-term-2-clause-err
-part-returns-in-Ok-term-2-clause-err t c =
+pub around-returns-in-Ok-term-2-clause-err : goal.around-returns-in-Ok-term-2-clause-err
+around-returns-in-Ok-term-2-clause-err t c =
     let f = c.in-Called.function in
     let at = c.in-Called.at in
     let st = c.args.position.standing in
