@@ -20,8 +20,10 @@ use Rattle.flt_types.specs.Layers.{is_layer, is_layers}
 use Rattle.flt_read.specs.Laws.{TypedOrRefused}
 use Rattle.flt_types.specs.Literals.{end_read, literal_of, literal_read, place_of_literal, side_read}
 use Rattle.flt_types.specs.Ranges.{is_range}
-use Rattle.flt_types.specs.Standing.{argument, in_slice, sign_for, within}
+use Rattle.flt_types.specs.Standing.{argument, by_itself, in_slice, sign_for, taken, taken_by, within}
 use Rattle.flt_types.specs.Terms.{number_kind}
+use Rattle.flt_types.specs.declared.standing.Side.{Side}
+use Rattle.flt_types.specs.declared.standing.Side.TheVariants as sides
 use Rattle.flt_types.specs.declared.standing.Standing.{Standing}
 use Rattle.flt_types.specs.declared.standing.Standing.TheVariants.{First, Free, Within, Sliced}
 use Rattle.flt_types.specs.Texts.{IsTypeFault, IsTypedText}
@@ -81,9 +83,8 @@ sure_word : (found : Option ℕ) (st : Standing) (w : Word) → AreSure (word_fa
 sure_word (Some field) st w = tt
 sure_word None st w = sure_nameless st w
 
-sure_misplaced : (st : Standing) (at : ℕ) → AreSure (misplaced st at)
-sure_misplaced (Within around) at = (type_sure, tt)
-sure_misplaced st at = (type_sure, tt)
+sure_misplaced : (side : Side) (at : ℕ) → AreSure (misplaced side at)
+sure_misplaced side at = (type_sure, tt)
 
 sure_layers : (ls : List LayerRange) → AreSure (layers_faults ls)
 sure_layers [] = tt
@@ -110,29 +111,30 @@ sure_call f at st o kind = sure_unless (takes_written f st o kind) at TypeMismat
 sure_number : (at : ℕ) (kind : ValueKind) → AreSure (number_faults at kind)
 sure_number at kind = sure_unless (is_number kind) at TypeMismatch type_sure
 
-sure_inside : (st : Standing) (o : WrittenOperand) (f : ValueKind → List Found) → AreSure (operand_faults st o) → ((kind : ValueKind) → AreSure (f kind))
-    → AreSure (operand_faults st o ++ given (kind_written st o) f)
-sure_inside st o f own all = sure_both (operand_faults st o) (given (kind_written st o) f) own (sure_given (kind_written st o) f all)
+sure_inside : (side : Side) (st : Standing) (o : WrittenOperand) (f : ValueKind → List Found) → AreSure (operand_faults side st o) → ((kind : ValueKind) → AreSure (f kind))
+    → AreSure (operand_faults side st o ++ given (kind_written st o) f)
+sure_inside side st o f own all = sure_both (operand_faults side st o) (given (kind_written st o) f) own (sure_given (kind_written st o) f all)
 
-sure_operand : (st : Standing) (o : WrittenOperand) → AreSure (operand_faults st o)
-sure_operand st (TextOf q) = sure_misplaced st q.at
-sure_operand st (NamedOf w) = sure_word (field_named w.text) st w
-sure_operand st (OnLayerOf w l) =
+sure_operand : (side : Side) (st : Standing) (o : WrittenOperand) → AreSure (operand_faults side st o)
+sure_operand side st (TextOf q) = sure_misplaced side q.at
+sure_operand side st (NamedOf w) = sure_word (field_named w.text) st w
+sure_operand side st (OnLayerOf w l) =
     sure_both (word_faults (field_named w.text) Sliced w) (unless (is_layer l) l.at OutOfRange)
     (sure_word (field_named w.text) Sliced w) (sure_unless (is_layer l) l.at OutOfRange range_sure)
-sure_operand st (OnLayersOf w ls) =
+sure_operand side st (OnLayersOf w ls) =
     sure_both (word_faults (field_named w.text) Sliced w) (layers_faults ls) (sure_word (field_named w.text) Sliced w) (sure_layers ls)
-sure_operand st (SlicedOf o at rs) = sure_inside (in_slice st) o (slice_faults at rs) (sure_operand (in_slice st) o) (sure_slice at rs)
-sure_operand st (MaskedOf o at w) = sure_inside (within at st) o (mask_faults at w) (sure_operand (within at st) o) (sure_mask at w)
-sure_operand st (CalledOf f at o) =
+sure_operand side st (SlicedOf o at rs) = sure_inside side (in_slice st) o (slice_faults at rs) (sure_operand side (in_slice st) o) (sure_slice at rs)
+sure_operand side st (MaskedOf o at w) = sure_inside (taken at side) (within at st) o (mask_faults at w) (sure_operand (taken at side) (within at st) o) (sure_mask at w)
+sure_operand side st (CalledOf f at o) =
     let inside = argument f at o st in
-    sure_inside inside o (call_faults f at inside o) (sure_operand inside o) (sure_call f at inside o)
-sure_operand st (ComputedOf a at l r) =
+    let around = taken_by f at o side in
+    sure_inside around inside o (call_faults f at inside o) (sure_operand around inside o) (sure_call f at inside o)
+sure_operand side st (ComputedOf a at l r) =
     let first = number_faults (sign_for st at) in
     let other = Free (Some at) in
-    sure_both (operand_faults st l ++ given (kind_written st l) first) (operand_faults other r ++ given (kind_written other r) (number_faults at))
-    (sure_inside st l first (sure_operand st l) (sure_number (sign_for st at))) (sure_inside other r (number_faults at) (sure_operand other r) (sure_number at))
-sure_operand st (ArgumentsOf l r) = sure_both (operand_faults st l) (operand_faults (Free None) r) (sure_operand st l) (sure_operand (Free None) r)
+    sure_both (operand_faults side st l ++ given (kind_written st l) first) (operand_faults (by_itself side) other r ++ given (kind_written other r) (number_faults at))
+    (sure_inside side st l first (sure_operand side st l) (sure_number (sign_for st at))) (sure_inside (by_itself side) other r (number_faults at) (sure_operand (by_itself side) other r) (sure_number at))
+sure_operand side st (ArgumentsOf l r) = sure_both (operand_faults side st l) (operand_faults (by_itself side) (Free None) r) (sure_operand side st l) (sure_operand (by_itself side) (Free None) r)
 
 sure_class : (at : ℕ) (kind other : ValueKind) → AreSure (class_faults at kind other)
 sure_class at kind other = sure_unless (same_class kind other) at TypeMismatch type_sure
@@ -140,7 +142,7 @@ sure_class at kind other = sure_unless (same_class kind other) at TypeMismatch t
 sure_right : (relation : Relation) (at : ℕ) (kind : ValueKind) (o : WrittenOperand) (found : Option Literal) → AreSure (right_faults relation at kind o found)
 sure_right relation at kind o (Some l) = sure_reading (place_of_literal l) (side_read relation kind l)
 sure_right relation at kind o None =
-    sure_inside (Free None) o (class_faults at kind) (sure_operand (Free None) o) (sure_class at kind)
+    sure_inside (sides.Right None) (Free None) o (class_faults at kind) (sure_operand (sides.Right None) (Free None) o) (sure_class at kind)
 
 sure_element : (kind : ValueKind) (e : Element) → AreSure (element_faults kind e)
 sure_element kind (elements.One l) = sure_reading (place_of_literal l) (literal_read true kind l)
@@ -169,9 +171,9 @@ sure_faults : (t : Written) → AreSure (faults t)
 sure_faults (JoinedOf j l r) = sure_both (faults l) (faults r) (sure_faults l) (sure_faults r)
 sure_faults (NotOf n t) = sure_faults t
 sure_faults (GroupOf t) = sure_faults t
-sure_faults (AloneOf o) = sure_both (operand_faults First o) (alone_faults o) (sure_operand First o) (sure_alone o)
+sure_faults (AloneOf o) = sure_both (operand_faults sides.Left First o) (alone_faults o) (sure_operand sides.Left First o) (sure_alone o)
 sure_faults (TestOf c o t) =
-    sure_inside First o (tail_faults t) (sure_operand First o) (sure_tail t)
+    sure_inside sides.Left First o (tail_faults t) (sure_operand sides.Left First o) (sure_tail t)
 
 -- a list of faults
 abbrev ClearOrFirst : List Found → Type 0

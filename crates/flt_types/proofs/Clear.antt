@@ -22,9 +22,11 @@ use Rattle.flt_types.specs.Faults.{Found, PatternAt, IsAnswer, IsClear, are_numb
 use Rattle.flt_types.specs.Layers.{is_layer, is_layers}
 use Rattle.flt_types.specs.Literals.{end_read, literal_of, literal_read, place_of_literal, side_read, word_or_name}
 use Rattle.flt_types.specs.Ranges.{is_range}
-use Rattle.flt_types.specs.Standing.{argument, in_slice, sign_for, within}
+use Rattle.flt_types.specs.Standing.{argument, by_itself, in_slice, sign_for, taken, taken_by, within}
 use Rattle.flt_types.specs.Terms.{IsNumber, IsTerm, are_numbers, is_field, kind_of, number_kind, takes_term}
 use Rattle.flt_types.specs.Typing.{AreMembers, HasType, IsAlone, IsMember, IsRight, IsTest, relation_of}
+use Rattle.flt_types.specs.declared.standing.Side.{Side}
+use Rattle.flt_types.specs.declared.standing.Side.TheVariants as sides
 use Rattle.flt_types.specs.declared.standing.Standing.{Standing}
 use Rattle.flt_types.specs.declared.standing.Standing.TheVariants.{First, Free, Sliced}
 use Rattle.flt_types.specs.declared.typed.Member.{Member}
@@ -137,54 +139,56 @@ number_clear : (s : Standing) (w : Word) (c : Constant) → IsNumber s w c → I
 number_clear (Free before) w c h = number_read_clear before w c (field_named w.text) h.0 h.1
 number_clear s w c h = absurd h
 
-pub term_clear : (s : Standing) (o : WrittenOperand) (t : Term) → IsTerm s o t → IsClear (operand_faults s o)
-term_clear s (NamedOf w) (terms.Field field layers) h = known_clear (field_named w.text) s w field h.0
-term_clear s (NamedOf w) (terms.Constant c) h = number_clear s w c h
-term_clear s (OnLayerOf w l) (terms.Field field layers) h =
+pub term_clear : (side : Side) (s : Standing) (o : WrittenOperand) (t : Term) → IsTerm s o t → IsClear (operand_faults side s o)
+term_clear side s (NamedOf w) (terms.Field field layers) h = known_clear (field_named w.text) s w field h.0
+term_clear side s (NamedOf w) (terms.Constant c) h = number_clear s w c h
+term_clear side s (OnLayerOf w l) (terms.Field field layers) h =
     clear_both (word_faults (field_named w.text) Sliced w) (unless (is_layer l) l.at OutOfRange)
     (known_clear (field_named w.text) Sliced w field h.0) (clear_unless (is_layer l) l.at OutOfRange h.1)
-term_clear s (OnLayersOf w ls) (terms.Field field layers) h =
+term_clear side s (OnLayersOf w ls) (terms.Field field layers) h =
     clear_both (word_faults (field_named w.text) Sliced w) (layers_faults ls)
     (known_clear (field_named w.text) Sliced w field h.0) (layers_clear ls h.1)
-term_clear s (SlicedOf o at rs) (terms.Slice' p t ranges) h =
-    clear_both (operand_faults (in_slice s) o) (given (kind_written (in_slice s) o) (slice_faults at rs)) (term_clear (in_slice s) o t h.0)
+term_clear side s (SlicedOf o at rs) (terms.Slice' p t ranges) h =
+    clear_both (operand_faults side (in_slice s) o) (given (kind_written (in_slice s) o) (slice_faults at rs)) (term_clear side (in_slice s) o t h.0)
     (given_clear (kind_written (in_slice s) o) (kind_of t) (slice_faults at rs) (term_kind (in_slice s) o t h.0)
     (clear_both (unless (is_sliced (kind_of t)) at TypeMismatch) (ranges_faults rs)
     (clear_unless (is_sliced (kind_of t)) at TypeMismatch h.1) (ranges_clear rs h.2)))
-term_clear s (MaskedOf o at w) (terms.Mask' p t mask) h =
-    clear_both (operand_faults (within at s) o) (given (kind_written (within at s) o) (mask_faults at w)) (term_clear (within at s) o t h.0)
+term_clear side s (MaskedOf o at w) (terms.Mask' p t mask) h =
+    clear_both (operand_faults (taken at side) (within at s) o) (given (kind_written (within at s) o) (mask_faults at w)) (term_clear (taken at side) (within at s) o t h.0)
     (given_clear (kind_written (within at s) o) (kind_of t) (mask_faults at w) (term_kind (within at s) o t h.0)
     (clear_both (unless (is_masked (kind_of t)) at TypeMismatch) (reading_faults w.at (word_read false (kind_of t) w.text))
     (clear_unless (is_masked (kind_of t)) at TypeMismatch h.1)
     (reading_clear w.at (word_read false (kind_of t) w.text) h.2.0 h.2.1)))
-term_clear s (CalledOf f at o) (terms.Called' g p t) h =
+term_clear side s (CalledOf f at o) (terms.Called' g p t) h =
     let inside = argument f at o s in
-    clear_both (operand_faults inside o) (given (kind_written inside o) (call_faults f at inside o)) (term_clear inside o t h.0)
+    let around = taken_by f at o side in
+    clear_both (operand_faults around inside o) (given (kind_written inside o) (call_faults f at inside o)) (term_clear around inside o t h.0)
     (given_clear (kind_written inside o) (kind_of t) (call_faults f at inside o) (term_kind inside o t h.0)
     (clear_unless (takes_written f inside o (kind_of t)) at TypeMismatch (same_takes f inside o t h.0 ∙ h.1)))
-term_clear s (ComputedOf a at l r) (terms.Computed' b p t q u) h =
+term_clear side s (ComputedOf a at l r) (terms.Computed' b p t q u) h =
     let behind = Free (Some at) in
+    let other = by_itself side in
     let first = number_faults (sign_for s at) in
-    clear_both (operand_faults s l ++ given (kind_written s l) first) (operand_faults behind r ++ given (kind_written behind r) (number_faults at))
-    (clear_both (operand_faults s l) (given (kind_written s l) first) (term_clear s l t h.0)
+    clear_both (operand_faults side s l ++ given (kind_written s l) first) (operand_faults other behind r ++ given (kind_written behind r) (number_faults at))
+    (clear_both (operand_faults side s l) (given (kind_written s l) first) (term_clear side s l t h.0)
     (given_clear (kind_written s l) (kind_of t) first (term_kind s l t h.0) (clear_unless (is_number (kind_of t)) (sign_for s at) TypeMismatch h.2)))
-    (clear_both (operand_faults behind r) (given (kind_written behind r) (number_faults at)) (term_clear behind r u h.1)
+    (clear_both (operand_faults other behind r) (given (kind_written behind r) (number_faults at)) (term_clear other behind r u h.1)
     (given_clear (kind_written behind r) (kind_of u) (number_faults at) (term_kind behind r u h.1) (clear_unless (is_number (kind_of u)) at TypeMismatch h.3)))
-term_clear s (ArgumentsOf l r) (terms.Arguments' p t q u) h =
-    clear_both (operand_faults s l) (operand_faults (Free None) r) (term_clear s l t h.0) (term_clear (Free None) r u h.1)
-term_clear s o t h = absurd h
+term_clear side s (ArgumentsOf l r) (terms.Arguments' p t q u) h =
+    clear_both (operand_faults side s l) (operand_faults (by_itself side) (Free None) r) (term_clear side s l t h.0) (term_clear (by_itself side) (Free None) r u h.1)
+term_clear side s o t h = absurd h
 
 -- faults for the kind of an operand's term are those behind the operand
-pub behind : (s : Standing) (o : WrittenOperand) (t : Term) (f : ValueKind → List Found) (e : FilterError) →
-    IsTerm s o t → IsAnswer (f (kind_of t)) e → IsAnswer (operand_faults s o ++ given (kind_written s o) f) e
-behind s o t f e h a =
-    answer_right (operand_faults s o) (given (kind_written s o) f) e (term_clear s o t h)
+pub behind : (side : Side) (s : Standing) (o : WrittenOperand) (t : Term) (f : ValueKind → List Found) (e : FilterError) →
+    IsTerm s o t → IsAnswer (f (kind_of t)) e → IsAnswer (operand_faults side s o ++ given (kind_written s o) f) e
+behind side s o t f e h a =
+    answer_right (operand_faults side s o) (given (kind_written s o) f) e (term_clear side s o t h)
     (given_answer (kind_written s o) (kind_of t) f e (term_kind s o t h) a)
 
-pub behind_clear : (s : Standing) (o : WrittenOperand) (t : Term) (f : ValueKind → List Found) →
-    IsTerm s o t → IsClear (f (kind_of t)) → IsClear (operand_faults s o ++ given (kind_written s o) f)
-behind_clear s o t f h c =
-    clear_both (operand_faults s o) (given (kind_written s o) f) (term_clear s o t h)
+pub behind_clear : (side : Side) (s : Standing) (o : WrittenOperand) (t : Term) (f : ValueKind → List Found) →
+    IsTerm s o t → IsClear (f (kind_of t)) → IsClear (operand_faults side s o ++ given (kind_written s o) f)
+behind_clear side s o t f h c =
+    clear_both (operand_faults side s o) (given (kind_written s o) f) (term_clear side s o t h)
     (given_clear (kind_written s o) (kind_of t) f (term_kind s o t h) c)
 
 -- a right side
@@ -195,7 +199,7 @@ constant_clear relation at kind o found l c is read = rw is (reading_clear (plac
 operand_clear : (relation : Relation) (at : ℕ) (kind : ValueKind) (o : WrittenOperand) (found : Option Literal) (t : Term) →
     found ≡ None → IsTerm (Free None) o t → same_class kind (kind_of t) ≡ true → IsClear (right_faults relation at kind o found)
 operand_clear relation at kind o found t is h same =
-    rw is (behind_clear (Free None) o t (class_faults at kind) h (clear_unless (same_class kind (kind_of t)) at TypeMismatch same))
+    rw is (behind_clear (sides.Right None) (Free None) o t (class_faults at kind) h (clear_unless (same_class kind (kind_of t)) at TypeMismatch same))
 
 right_clear : (relation : Relation) (at : ℕ) (kind : ValueKind) (o : WrittenOperand) (t : Term) → IsRight relation kind o t → IsClear (right_faults relation at kind o (literal_of o))
 right_clear relation at kind o (terms.Constant c) h = constant_clear relation at kind o (literal_of o) h.0 c h.1 h.2
@@ -218,25 +222,25 @@ members_clear kind (e ∷ es) [] h = absurd h
 -- a test
 test_clear : (choice : Option Choice) (o : WrittenOperand) (tail : WrittenTail) (filter : Typed) → IsTest choice o tail filter → IsClear (faults (TestOf choice o tail))
 test_clear choice o (CompareOf operator at right) (Compare relation pairs t r) h =
-    behind_clear First o t (tail_faults (CompareOf operator at right)) h.0
+    behind_clear sides.Left First o t (tail_faults (CompareOf operator at right)) h.0
     (clear_both (unless (takes (relation_of operator) (kind_of t)) at TypeMismatch) (right_faults (relation_of operator) at (kind_of t) right (literal_of right))
     (clear_unless (takes (relation_of operator) (kind_of t)) at TypeMismatch (ap (λ x. takes x (kind_of t)) (sym h.1) ∙ h.3))
     (right_clear (relation_of operator) at (kind_of t) right r (subst (λ x. IsRight x (kind_of t) right r) h.1 h.4)))
 test_clear choice o (InOf negated es) (Among opposite pairs t ms) h =
-    behind_clear First o t (tail_faults (InOf negated es)) h.0 (members_clear (kind_of t) es ms.items h.3)
+    behind_clear sides.Left First o t (tail_faults (InOf negated es)) h.0 (members_clear (kind_of t) es ms.items h.3)
 test_clear choice o (MatchesOf at q) (Matches pairs t pattern) h =
-    behind_clear First o t (tail_faults (MatchesOf at q)) h.0
+    behind_clear sides.Left First o t (tail_faults (MatchesOf at q)) h.0
     (clear_both (unless (is_searched (kind_of t)) at TypeMismatch) (PatternAt q.at q.bytes ∷ [])
     (clear_unless (is_searched (kind_of t)) at TypeMismatch h.2) (h.4, tt))
 test_clear choice o tail filter h = absurd h
 
 alone_clear : (o : WrittenOperand) (filter : Typed) → IsAlone o filter → IsClear (faults (AloneOf o))
-alone_clear (NamedOf w) (Exists t) h = clear_both (operand_faults First (NamedOf w)) [] (term_clear First (NamedOf w) t h) tt
-alone_clear (OnLayerOf w l) (Exists t) h = clear_both (operand_faults First (OnLayerOf w l)) [] (term_clear First (OnLayerOf w l) t h) tt
-alone_clear (OnLayersOf w ls) (Exists t) h = clear_both (operand_faults First (OnLayersOf w ls)) [] (term_clear First (OnLayersOf w ls) t h) tt
-alone_clear (SlicedOf o at rs) (Exists t) h = clear_both (operand_faults First (SlicedOf o at rs)) [] (term_clear First (SlicedOf o at rs) t h) tt
-alone_clear (MaskedOf o at w) (AnyBit t) h = clear_both (operand_faults First (MaskedOf o at w)) [] (term_clear First (MaskedOf o at w) t h) tt
-alone_clear (ArgumentsOf l r) (Exists t) h = clear_both (operand_faults First (ArgumentsOf l r)) [] (term_clear First (ArgumentsOf l r) t h) tt
+alone_clear (NamedOf w) (Exists t) h = clear_both (operand_faults sides.Left First (NamedOf w)) [] (term_clear sides.Left First (NamedOf w) t h) tt
+alone_clear (OnLayerOf w l) (Exists t) h = clear_both (operand_faults sides.Left First (OnLayerOf w l)) [] (term_clear sides.Left First (OnLayerOf w l) t h) tt
+alone_clear (OnLayersOf w ls) (Exists t) h = clear_both (operand_faults sides.Left First (OnLayersOf w ls)) [] (term_clear sides.Left First (OnLayersOf w ls) t h) tt
+alone_clear (SlicedOf o at rs) (Exists t) h = clear_both (operand_faults sides.Left First (SlicedOf o at rs)) [] (term_clear sides.Left First (SlicedOf o at rs) t h) tt
+alone_clear (MaskedOf o at w) (AnyBit t) h = clear_both (operand_faults sides.Left First (MaskedOf o at w)) [] (term_clear sides.Left First (MaskedOf o at w) t h) tt
+alone_clear (ArgumentsOf l r) (Exists t) h = clear_both (operand_faults sides.Left First (ArgumentsOf l r)) [] (term_clear sides.Left First (ArgumentsOf l r) t h) tt
 alone_clear o filter h = absurd h
 
 -- a filter with a type has no fault
@@ -250,35 +254,35 @@ type_clear (AloneOf o) filter h = alone_clear o filter h
 type_clear (TestOf choice o tail) filter h = test_clear choice o tail filter h
 type_clear t filter h = absurd h
 
-pub slice_behind : (s : Standing) (o : WrittenOperand) (t : Term) (at : ℕ) (rs : List SliceRange) (e : FilterError) →
-    IsTerm s o t → IsAnswer (slice_faults at rs (kind_of t)) e → IsAnswer (operand_faults s o ++ given (kind_written s o) (slice_faults at rs)) e
-slice_behind s o t at rs e h a = behind s o t (slice_faults at rs) e h a
+pub slice_behind : (side : Side) (s : Standing) (o : WrittenOperand) (t : Term) (at : ℕ) (rs : List SliceRange) (e : FilterError) →
+    IsTerm s o t → IsAnswer (slice_faults at rs (kind_of t)) e → IsAnswer (operand_faults side s o ++ given (kind_written s o) (slice_faults at rs)) e
+slice_behind side s o t at rs e h a = behind side s o t (slice_faults at rs) e h a
 
-pub mask_behind : (s : Standing) (o : WrittenOperand) (t : Term) (at : ℕ) (w : Word) (e : FilterError) →
-    IsTerm s o t → IsAnswer (mask_faults at w (kind_of t)) e → IsAnswer (operand_faults s o ++ given (kind_written s o) (mask_faults at w)) e
-mask_behind s o t at w e h a = behind s o t (mask_faults at w) e h a
+pub mask_behind : (side : Side) (s : Standing) (o : WrittenOperand) (t : Term) (at : ℕ) (w : Word) (e : FilterError) →
+    IsTerm s o t → IsAnswer (mask_faults at w (kind_of t)) e → IsAnswer (operand_faults side s o ++ given (kind_written s o) (mask_faults at w)) e
+mask_behind side s o t at w e h a = behind side s o t (mask_faults at w) e h a
 
-pub call_behind : (s : Standing) (o : WrittenOperand) (t : Term) (at : ℕ) (f : Function) (e : FilterError) →
-    IsTerm s o t → IsAnswer (unless (takes_term f t) at TypeMismatch) e → IsAnswer (operand_faults s o ++ given (kind_written s o) (call_faults f at s o)) e
-call_behind s o t at f e h a = behind s o t (call_faults f at s o) e h (rw (same_takes f s o t h) a)
+pub call_behind : (side : Side) (s : Standing) (o : WrittenOperand) (t : Term) (at : ℕ) (f : Function) (e : FilterError) →
+    IsTerm s o t → IsAnswer (unless (takes_term f t) at TypeMismatch) e → IsAnswer (operand_faults side s o ++ given (kind_written s o) (call_faults f at s o)) e
+call_behind side s o t at f e h a = behind side s o t (call_faults f at s o) e h (rw (same_takes f s o t h) a)
 
 pub class_behind : (at : ℕ) (kind : ValueKind) (o : WrittenOperand) (t : Term) (e : FilterError) →
-    IsTerm (Free None) o t → IsAnswer (unless (same_class kind (kind_of t)) at TypeMismatch) e → IsAnswer (operand_faults (Free None) o ++ given (kind_written (Free None) o) (class_faults at kind)) e
-class_behind at kind o t e h a = behind (Free None) o t (class_faults at kind) e h a
+    IsTerm (Free None) o t → IsAnswer (unless (same_class kind (kind_of t)) at TypeMismatch) e → IsAnswer (operand_faults (sides.Right None) (Free None) o ++ given (kind_written (Free None) o) (class_faults at kind)) e
+class_behind at kind o t e h a = behind (sides.Right None) (Free None) o t (class_faults at kind) e h a
 
 pub test_behind : (o : WrittenOperand) (t : Term) (tail : WrittenTail) (e : FilterError) →
-    IsTerm First o t → IsAnswer (tail_faults tail (kind_of t)) e → IsAnswer (operand_faults First o ++ given (kind_written First o) (tail_faults tail)) e
-test_behind o t tail e h a = behind First o t (tail_faults tail) e h a
+    IsTerm First o t → IsAnswer (tail_faults tail (kind_of t)) e → IsAnswer (operand_faults sides.Left First o ++ given (kind_written First o) (tail_faults tail)) e
+test_behind o t tail e h a = behind sides.Left First o t (tail_faults tail) e h a
 
 pub alone_behind : (f : Function) (at : ℕ) (o : WrittenOperand) (t : Term) (e : FilterError) →
     IsTerm First (CalledOf f at o) t → IsAnswer (unless false at TypeMismatch) e → IsAnswer (faults (AloneOf (CalledOf f at o))) e
 alone_behind f at o t e h a =
-    answer_right (operand_faults First (CalledOf f at o)) (unless false at TypeMismatch) e (term_clear First (CalledOf f at o) t h) a
+    answer_right (operand_faults sides.Left First (CalledOf f at o)) (unless false at TypeMismatch) e (term_clear sides.Left First (CalledOf f at o) t h) a
 
 pub sum_behind : (a : Arithmetic) (at sign : ℕ) (l r : WrittenOperand) (t : Term) (e : FilterError) → sign ≡ first_sign at l →
     IsTerm First (ComputedOf a at l r) t → IsAnswer (unless false sign TypeMismatch) e → IsAnswer (faults (AloneOf (ComputedOf a at l r))) e
 sum_behind a at sign l r t e is h found =
-    answer_right (operand_faults First (ComputedOf a at l r)) (unless false (first_sign at l) TypeMismatch) e (term_clear First (ComputedOf a at l r) t h)
+    answer_right (operand_faults sides.Left First (ComputedOf a at l r)) (unless false (first_sign at l) TypeMismatch) e (term_clear sides.Left First (ComputedOf a at l r) t h)
     (subst (λ place. IsAnswer (unless false place TypeMismatch) e) is found)
 
 pub joined_behind : (l r : Written) (filter : Typed) (e : FilterError) → HasType l filter → IsAnswer (faults r) e → IsAnswer (faults l ++ faults r) e
@@ -308,13 +312,13 @@ right_term relation kind (ComputedOf a at l r) (terms.Constant c) is h same = ab
 right_term relation kind (ArgumentsOf l r) (terms.Constant c) is h same = absurd h
 
 pub among_behind : (o : WrittenOperand) (t : Term) (es : List Element) (e : FilterError) →
-    IsTerm First o t → IsAnswer (elements_faults (kind_of t) es) e → IsAnswer (operand_faults First o ++ given (kind_written First o) (λ kind. elements_faults kind es)) e
-among_behind o t es e h a = behind First o t (λ kind. elements_faults kind es) e h a
+    IsTerm First o t → IsAnswer (elements_faults (kind_of t) es) e → IsAnswer (operand_faults sides.Left First o ++ given (kind_written First o) (λ kind. elements_faults kind es)) e
+among_behind o t es e h a = behind sides.Left First o t (λ kind. elements_faults kind es) e h a
 
 pub search_behind : (o : WrittenOperand) (t : Term) (at place : ℕ) (text : List ℕ) (e : FilterError) →
     IsTerm First o t → IsAnswer (unless (is_searched (kind_of t)) at TypeMismatch ++ PatternAt place text ∷ []) e →
-    IsAnswer (operand_faults First o ++ given (kind_written First o) (λ kind. unless (is_searched kind) at TypeMismatch ++ PatternAt place text ∷ [])) e
-search_behind o t at place text e h a = behind First o t (λ kind. unless (is_searched kind) at TypeMismatch ++ PatternAt place text ∷ []) e h a
+    IsAnswer (operand_faults sides.Left First o ++ given (kind_written First o) (λ kind. unless (is_searched kind) at TypeMismatch ++ PatternAt place text ∷ [])) e
+search_behind o t at place text e h a = behind sides.Left First o t (λ kind. unless (is_searched kind) at TypeMismatch ++ PatternAt place text ∷ []) e h a
 
 -- the members that were read are all
 pub members_done : (kind : ValueKind) (es : List Element) (i : ℕ) (ms : List Member) → drop i es ≡ [] →
@@ -324,6 +328,6 @@ members_done kind es i ms all so_far = subst (AreMembers kind es) (append-nil ms
 pub compare_behind : (o : WrittenOperand) (t : Term) (operator : Operator) (at : ℕ) (right : WrittenOperand) (relation : Relation) (kind : ValueKind) (e : FilterError) →
     relation ≡ relation_of operator → kind ≡ kind_of t → IsTerm First o t →
     IsAnswer (unless (takes relation kind) at TypeMismatch ++ right_faults relation at kind right (literal_of right)) e →
-    IsAnswer (operand_faults First o ++ given (kind_written First o) (tail_faults (CompareOf operator at right))) e
+    IsAnswer (operand_faults sides.Left First o ++ given (kind_written First o) (tail_faults (CompareOf operator at right))) e
 compare_behind o t operator at right relation kind e asked is h a =
-    behind First o t (tail_faults (CompareOf operator at right)) e h (rw (← asked, ← is) a)
+    behind sides.Left First o t (tail_faults (CompareOf operator at right)) e h (rw (← asked, ← is) a)

@@ -22,14 +22,16 @@ use Rattle.flt_syntax.specs.declared.token.Join.TheVariants as joins
 use Rattle.flt_syntax.specs.declared.token.Kind.TheVariants as kinds
 use Rattle.flt_syntax.specs.declared.word.Word.{Word}
 use Rattle.flt_syntax.proofs.Few.{spelled_few}
-use Rattle.flt_types.specs.Faults.{Found, At, PatternAt, IsClear, alone_faults, call_faults, class_faults, element_faults, elements_faults, faults, given, kind_written, layers_faults, mask_faults, misplaced, nameless, number_faults, operand_faults, ranges_faults, reading_faults, right_faults, slice_faults, tail_faults, takes_written, unless, word_faults}
+use Rattle.flt_types.specs.Faults.{Found, At, PatternAt, IsClear, alone_faults, call_faults, class_faults, element_faults, elements_faults, faults, given, kind_written, layers_faults, mask_faults, nameless, number_faults, operand_faults, ranges_faults, reading_faults, right_faults, slice_faults, tail_faults, takes_written, unless, word_faults}
 use Rattle.flt_types.specs.Layers.{is_layer, is_layers, layers_of, one_layer}
 use Rattle.flt_types.specs.Laws.{ClearIsTyped}
 use Rattle.flt_types.specs.Literals.{end_read, literal_of, literal_read, place_of_literal, side_read}
 use Rattle.flt_types.specs.Ranges.{is_range}
-use Rattle.flt_types.specs.Standing.{argument, in_slice, sign_for, within}
+use Rattle.flt_types.specs.Standing.{argument, by_itself, in_slice, sign_for, taken, taken_by, within}
 use Rattle.flt_types.specs.Terms.{IsMask, IsTerm, kind_of, number_kind}
 use Rattle.flt_types.specs.Typing.{AreMembers, HasType, IsAlone, IsMember, IsRight, IsTest, choice_of, chosen, relation_of}
+use Rattle.flt_types.specs.declared.standing.Side.{Side}
+use Rattle.flt_types.specs.declared.standing.Side.TheVariants as sides
 use Rattle.flt_types.specs.declared.standing.Standing.{Standing}
 use Rattle.flt_types.specs.declared.standing.Standing.TheVariants.{First, Free, Within, Sliced}
 use Rattle.flt_types.specs.declared.typed.Member.{Member}
@@ -83,10 +85,6 @@ is_reading at (Reads c) h = (c, refl)
 is_reading at Beyond h = absurd h
 is_reading at Unread h = absurd h
 
-not_misplaced : (st : Standing) (at : ℕ) → IsClear (misplaced st at) → ⊥
-not_misplaced (Within around) at h = h
-not_misplaced st at h = h
-
 both_hold : (a b : Bool) → a ≡ true → b ≡ true → (a && b) ≡ true
 both_hold a b p q = rw (p, q) refl
 
@@ -117,10 +115,10 @@ mask_of kind text is read =
 abbrev TermOf : Standing → WrittenOperand → Type 0
 TermOf st o = (t : Term) × IsTerm st o t
 
-given_at : (st : Standing) (o : WrittenOperand) (t : Term) (f : ValueKind → List Found) → IsTerm st o t
-    → IsClear (operand_faults st o ++ given (kind_written st o) f) → IsClear (f (kind_of t))
-given_at st o t f is h =
-    let behind = clear_right (operand_faults st o) (given (kind_written st o) f) h in
+given_at : (side : Side) (st : Standing) (o : WrittenOperand) (t : Term) (f : ValueKind → List Found) → IsTerm st o t
+    → IsClear (operand_faults side st o ++ given (kind_written st o) f) → IsClear (f (kind_of t))
+given_at side st o t f is h =
+    let behind = clear_right (operand_faults side st o) (given (kind_written st o) f) h in
     subst (λ (k : Option ValueKind). IsClear (given k f)) (term_kind st o t is) behind
 
 -- a word that names a field, or is a number
@@ -143,10 +141,10 @@ word_of : (st : Standing) (w : Word) (found : Option ℕ) → field_named w.text
 word_of st w (Some field) is h = (terms.Field field All, (is, refl))
 word_of st w None is h = number_of st w is h
 
-slice_of : (st : Standing) (o : WrittenOperand) (at : ℕ) (rs : List SliceRange) → IsFew rs → TermOf (in_slice st) o
-    → IsClear (operand_faults (in_slice st) o ++ given (kind_written (in_slice st) o) (slice_faults at rs)) → TermOf st (SlicedOf o at rs)
-slice_of st o at rs few (t, is) h =
-    let own = given_at (in_slice st) o t (slice_faults at rs) is h in
+slice_of : (side : Side) (st : Standing) (o : WrittenOperand) (at : ℕ) (rs : List SliceRange) → IsFew rs → TermOf (in_slice st) o
+    → IsClear (operand_faults side (in_slice st) o ++ given (kind_written (in_slice st) o) (slice_faults at rs)) → TermOf st (SlicedOf o at rs)
+slice_of side st o at rs few (t, is) h =
+    let own = given_at side (in_slice st) o t (slice_faults at rs) is h in
     let parts = vec_of (map (λ r. r.part) rs) (omega (arith, few_parts rs)) in (
       terms.Slice' place t parts.0,
       (
@@ -157,30 +155,31 @@ slice_of st o at rs few (t, is) h =
       ),
     )
 
-masked_of : (st : Standing) (o : WrittenOperand) (at : ℕ) (w : Word) → TermOf (within at st) o
-    → IsClear (operand_faults (within at st) o ++ given (kind_written (within at st) o) (mask_faults at w)) → TermOf st (MaskedOf o at w)
-masked_of st o at w (t, is) h =
-    let own = given_at (within at st) o t (mask_faults at w) is h in
+masked_of : (side : Side) (st : Standing) (o : WrittenOperand) (at : ℕ) (w : Word) → TermOf (within at st) o
+    → IsClear (operand_faults (taken at side) (within at st) o ++ given (kind_written (within at st) o) (mask_faults at w)) → TermOf st (MaskedOf o at w)
+masked_of side st o at w (t, is) h =
+    let own = given_at (taken at side) (within at st) o t (mask_faults at w) is h in
     let reading = reading_faults w.at (word_read false (kind_of t) w.text) in
     let bits = test_holds (is_masked (kind_of t)) at TypeMismatch (clear_left (unless (is_masked (kind_of t)) at TypeMismatch) reading own) in
     let read = is_reading w.at (word_read false (kind_of t) w.text) (clear_right (unless (is_masked (kind_of t)) at TypeMismatch) reading own) in
     let mask = mask_of (kind_of t) w.text bits read in
     (terms.Mask' place t mask.0, (is, bits, mask.1))
 
-called_of : (st : Standing) (f : Function) (at : ℕ) (o : WrittenOperand) → TermOf (argument f at o st) o
-    → IsClear (operand_faults (argument f at o st) o ++ given (kind_written (argument f at o st) o) (call_faults f at (argument f at o st) o))
+called_of : (side : Side) (st : Standing) (f : Function) (at : ℕ) (o : WrittenOperand) → TermOf (argument f at o st) o
+    → IsClear (operand_faults (taken_by f at o side) (argument f at o st) o ++ given (kind_written (argument f at o st) o) (call_faults f at (argument f at o st) o))
     → TermOf st (CalledOf f at o)
-called_of st f at o (t, is) h =
+called_of side st f at o (t, is) h =
     let inside = argument f at o st in
-    let own = given_at inside o t (call_faults f at inside o) is h in
+    let around = taken_by f at o side in
+    let own = given_at around inside o t (call_faults f at inside o) is h in
     (terms.Called' f place t, (is, sym (same_takes f inside o t is) ∙ test_holds (takes_written f inside o (kind_of t)) at TypeMismatch own, refl))
 
 -- a side of a sign, which is a number
 abbrev NumberOf : Standing → WrittenOperand → Type 0
 NumberOf st o = (t : Term) × IsTerm st o t × (is_number (kind_of t) ≡ true)
 
-side_of : (st : Standing) (o : WrittenOperand) (at : ℕ) → TermOf st o → IsClear (operand_faults st o ++ given (kind_written st o) (number_faults at)) → NumberOf st o
-side_of st o at (t, is) h = (t, is, test_holds (is_number (kind_of t)) at TypeMismatch (given_at st o t (number_faults at) is h))
+side_of : (side : Side) (st : Standing) (o : WrittenOperand) (at : ℕ) → TermOf st o → IsClear (operand_faults side st o ++ given (kind_written st o) (number_faults at)) → NumberOf st o
+side_of side st o at (t, is) h = (t, is, test_holds (is_number (kind_of t)) at TypeMismatch (given_at side st o t (number_faults at) is h))
 
 computed_of : (st : Standing) (a : Arithmetic) (at : ℕ) (l r : WrittenOperand) → NumberOf st l → NumberOf (Free (Some at)) r → TermOf st (ComputedOf a at l r)
 computed_of st a at l r (left, is, number) (right, also, other) = (terms.Computed' a place left place right, (is, also, number, other, refl))
@@ -188,47 +187,48 @@ computed_of st a at l r (left, is, number) (right, also, other) = (terms.Compute
 arguments_of : (st : Standing) (l r : WrittenOperand) → TermOf st l → TermOf (Free None) r → TermOf st (ArgumentsOf l r)
 arguments_of st l r (left, is) (right, also) = (terms.Arguments' place left place right, (is, also))
 
-term_of : (st : Standing) (o : WrittenOperand) → IsFew (operand o) → IsClear (operand_faults st o) → TermOf st o
-term_of st (TextOf q) few h = absurd (not_misplaced st q.at h)
-term_of st (NamedOf w) few h = word_of st w (field_named w.text) refl h
-term_of st (OnLayerOf w l) few h =
+term_of : (side : Side) (st : Standing) (o : WrittenOperand) → IsFew (operand o) → IsClear (operand_faults side st o) → TermOf st o
+term_of side st (TextOf q) few h = absurd h
+term_of side st (NamedOf w) few h = word_of st w (field_named w.text) refl h
+term_of side st (OnLayerOf w l) few h =
     let name = word_faults (field_named w.text) Sliced w in
     let layer = unless (is_layer l) l.at OutOfRange in
     let named = layer_name (field_named w.text) w (clear_left name layer h) in
     (terms.Field named.0 (These (one_layer l ∷ [])), (named.1, test_holds (is_layer l) l.at OutOfRange (clear_right name layer h), refl))
-term_of st (OnLayersOf w ls) few h =
+term_of side st (OnLayersOf w ls) few h =
     let name = word_faults (field_named w.text) Sliced w in
     let named = layer_name (field_named w.text) w (clear_left name (layers_faults ls) h) in
     (terms.Field named.0 (These (map layers_of ls)), (named.1, layers_hold ls (clear_right name (layers_faults ls) h), refl))
-term_of st (SlicedOf o at rs) few h =
-    slice_of st o at rs (few_ranges at rs (few_right (operand o) (ranges at rs) few))
-    (term_of (in_slice st) o (few_left (operand o) (ranges at rs) few)
-    (clear_left (operand_faults (in_slice st) o) (given (kind_written (in_slice st) o) (slice_faults at rs)) h)) h
-term_of st (MaskedOf o at w) few h =
-    masked_of st o at w
-    (term_of (within at st) o (few_left (operand o) (kinds.Mask at ∷ kinds.Name w ∷ []) few)
-    (clear_left (operand_faults (within at st) o) (given (kind_written (within at st) o) (mask_faults at w)) h)) h
-term_of st (CalledOf f at o) few h =
+term_of side st (SlicedOf o at rs) few h =
+    slice_of side st o at rs (few_ranges at rs (few_right (operand o) (ranges at rs) few))
+    (term_of side (in_slice st) o (few_left (operand o) (ranges at rs) few)
+    (clear_left (operand_faults side (in_slice st) o) (given (kind_written (in_slice st) o) (slice_faults at rs)) h)) h
+term_of side st (MaskedOf o at w) few h =
+    masked_of side st o at w
+    (term_of (taken at side) (within at st) o (few_left (operand o) (kinds.Mask at ∷ kinds.Name w ∷ []) few)
+    (clear_left (operand_faults (taken at side) (within at st) o) (given (kind_written (within at st) o) (mask_faults at w)) h)) h
+term_of side st (CalledOf f at o) few h =
     let inside = argument f at o st in
-    called_of st f at o
-    (term_of inside o (few_left (operand o) (kinds.Close ∷ []) (few_rest (kinds.Calls f at) (operand o ++ kinds.Close ∷ []) few))
-    (clear_left (operand_faults inside o) (given (kind_written inside o) (call_faults f at inside o)) h)) h
-term_of st (ComputedOf a at l r) few h =
+    let around = taken_by f at o side in
+    called_of side st f at o
+    (term_of around inside o (few_left (operand o) (kinds.Close ∷ []) (few_rest (kinds.Calls f at) (operand o ++ kinds.Close ∷ []) few))
+    (clear_left (operand_faults around inside o) (given (kind_written inside o) (call_faults f at inside o)) h)) h
+term_of side st (ComputedOf a at l r) few h =
     let other = Free (Some at) in
     let first = given (kind_written st l) (number_faults (sign_for st at)) in
     let second = given (kind_written other r) (number_faults at) in
-    let left = clear_left (operand_faults st l ++ first) (operand_faults other r ++ second) h in
-    let right = clear_right (operand_faults st l ++ first) (operand_faults other r ++ second) h in
+    let left = clear_left (operand_faults side st l ++ first) (operand_faults (by_itself side) other r ++ second) h in
+    let right = clear_right (operand_faults side st l ++ first) (operand_faults (by_itself side) other r ++ second) h in
     computed_of st a at l r
-    (side_of st l (sign_for st at) (term_of st l (few_left (operand l) (kinds.Computes a at ∷ operand r) few) (clear_left (operand_faults st l) first left)) left)
-    (side_of other r at
-    (term_of other r (few_rest (kinds.Computes a at) (operand r) (few_right (operand l) (kinds.Computes a at ∷ operand r) few))
-    (clear_left (operand_faults other r) second right)) right)
-term_of st (ArgumentsOf l r) few h =
+    (side_of side st l (sign_for st at) (term_of side st l (few_left (operand l) (kinds.Computes a at ∷ operand r) few) (clear_left (operand_faults side st l) first left)) left)
+    (side_of (by_itself side) other r at
+    (term_of (by_itself side) other r (few_rest (kinds.Computes a at) (operand r) (few_right (operand l) (kinds.Computes a at ∷ operand r) few))
+    (clear_left (operand_faults (by_itself side) other r) second right)) right)
+term_of side st (ArgumentsOf l r) few h =
     arguments_of st l r
-    (term_of st l (few_left (operand l) (kinds.Comma ∷ operand r) few) (clear_left (operand_faults st l) (operand_faults (Free None) r) h))
-    (term_of (Free None) r (few_rest kinds.Comma (operand r) (few_right (operand l) (kinds.Comma ∷ operand r) few))
-    (clear_right (operand_faults st l) (operand_faults (Free None) r) h))
+    (term_of side st l (few_left (operand l) (kinds.Comma ∷ operand r) few) (clear_left (operand_faults side st l) (operand_faults (by_itself side) (Free None) r) h))
+    (term_of (by_itself side) (Free None) r (few_rest kinds.Comma (operand r) (few_right (operand l) (kinds.Comma ∷ operand r) few))
+    (clear_right (operand_faults side st l) (operand_faults (by_itself side) (Free None) r) h))
 
 -- a right side
 right_of : (relation : Relation) (at : ℕ) (kind : ValueKind) (o : WrittenOperand) (found : Option Literal) → IsFew (operand o) → literal_of o ≡ found
@@ -237,8 +237,8 @@ right_of relation at kind o (Some literal) few is h =
     let read = is_reading (place_of_literal literal) (side_read relation kind literal) h in
     (terms.Constant read.0, (literal, is, read.1))
 right_of relation at kind o None few is h =
-    let term = term_of (Free None) o few (clear_left (operand_faults (Free None) o) (given (kind_written (Free None) o) (class_faults at kind)) h) in
-    let same = test_holds (same_class kind (kind_of term.0)) at TypeMismatch (given_at (Free None) o term.0 (class_faults at kind) term.1 h) in
+    let term = term_of (sides.Right None) (Free None) o few (clear_left (operand_faults (sides.Right None) (Free None) o) (given (kind_written (Free None) o) (class_faults at kind)) h) in
+    let same = test_holds (same_class kind (kind_of term.0)) at TypeMismatch (given_at (sides.Right None) (Free None) o term.0 (class_faults at kind) term.1 h) in
     (term.0, right_term relation kind o term.0 is term.1 same)
 
 -- a set
@@ -292,8 +292,8 @@ tail_of c o (MatchesOf at q) term few is h =
 
 test_of : (c : Option Choice) (o : WrittenOperand) (t : WrittenTail) → IsFew (operand o ++ tail t) → IsClear (faults (TestOf c o t)) → TestIs c o t
 test_of c o t few h =
-    let term = term_of First o (few_left (operand o) (tail t) few) (clear_left (operand_faults First o) (given (kind_written First o) (tail_faults t)) h) in
-    tail_of c o t term.0 (few_right (operand o) (tail t) few) term.1 (given_at First o term.0 (tail_faults t) term.1 h)
+    let term = term_of sides.Left First o (few_left (operand o) (tail t) few) (clear_left (operand_faults sides.Left First o) (given (kind_written First o) (tail_faults t)) h) in
+    tail_of c o t term.0 (few_right (operand o) (tail t) few) term.1 (given_at sides.Left First o term.0 (tail_faults t) term.1 h)
 
 alone_is : (o : WrittenOperand) → TermOf First o → IsClear (alone_faults o) → (filter : Typed) × IsAlone o filter
 alone_is (TextOf q) (t, is) h = absurd is
@@ -308,7 +308,7 @@ alone_is (ArgumentsOf l r) (t, is) h = (Exists t, is)
 
 alone_of : (o : WrittenOperand) → IsFew (operand o) → IsClear (faults (AloneOf o)) → (filter : Typed) × IsAlone o filter
 alone_of o few h =
-    alone_is o (term_of First o few (clear_left (operand_faults First o) (alone_faults o) h)) (clear_right (operand_faults First o) (alone_faults o) h)
+    alone_is o (term_of sides.Left First o few (clear_left (operand_faults sides.Left First o) (alone_faults o) h)) (clear_right (operand_faults sides.Left First o) (alone_faults o) h)
 
 -- a filter
 abbrev FilterIs : Written → Type 0

@@ -20,9 +20,11 @@ use Rattle.flt_pattern.specs.Patterns.{IsPattern, IsNoPattern, MayBeLarge}
 use Rattle.flt_types.specs.Layers.{is_layer, is_layers}
 use Rattle.flt_types.specs.Literals.{end_read, literal_of, literal_read, place_of_literal, side_read}
 use Rattle.flt_types.specs.Ranges.{is_range}
-use Rattle.flt_types.specs.Standing.{argument, in_slice, sign_for, within}
+use Rattle.flt_types.specs.Standing.{argument, blamed, by_itself, in_slice, sign_for, taken, taken_by, within}
 use Rattle.flt_types.specs.Terms.{number_kind}
 use Rattle.flt_types.specs.Typing.{relation_of}
+use Rattle.flt_types.specs.declared.standing.Side.{Side}
+use Rattle.flt_types.specs.declared.standing.Side.TheVariants as sides
 use Rattle.flt_types.specs.declared.standing.Standing.{Standing}
 use Rattle.flt_types.specs.declared.standing.Standing.TheVariants.{First, Free, Within, Sliced}
 use Rattle.flt_values.specs.Kinds.{is_masked, is_number, is_searched, is_sliced, kind_of_call, same_class, takes, takes_call}
@@ -53,12 +55,14 @@ reading_faults at (Reads constant) = []
 reading_faults at Beyond = At at OutOfRange ∷ []
 reading_faults at Unread = At at TypeMismatch ∷ []
 
--- a word, or a string, that isn't where only a field may stand; in what takes no literal, that gets the blame. Else the
--- word is a number
-abbrev pub misplaced : Standing → ℕ → List Found
-misplaced (Within around) at = At around TypeMismatch ∷ []
-misplaced s at = At at TypeMismatch ∷ []
+-- a string where only a field or a number may stand: on the left side of a test the fault is at the string; on the right
+-- side, where a mask takes the string, at its `&`, where `len`, `count`, `upper` or `lower` takes it, at the function, and
+-- at the string else
+abbrev pub misplaced : Side → ℕ → List Found
+misplaced side at = At (blamed side at) TypeMismatch ∷ []
 
+-- a word that names no field: where only a field may stand, the fault is at the word; in what takes no literal, that gets
+-- the blame on either side. Else the word is a number
 abbrev pub nameless : Standing → Word → List Found
 nameless First w = At w.at UnknownField ∷ []
 nameless Sliced w = At w.at UnknownField ∷ []
@@ -134,26 +138,30 @@ call_faults f at s o kind = unless (takes_written f s o kind) at TypeMismatch
 abbrev pub number_faults : ℕ → ValueKind → List Found
 number_faults at kind = unless (is_number kind) at TypeMismatch
 
--- of an operand, by where it stands. The parts of arithmetic are looked at from left to right, each by itself and then
--- for the sign before it, the first one for the first sign; a part that is a product has been by its own signs.
-abbrev pub operand_faults : Standing → WrittenOperand → List Found
-operand_faults s (TextOf q) = misplaced s q.at
-operand_faults s (NamedOf w) = word_faults (field_named w.text) s w
-operand_faults s (OnLayerOf w l) =
+-- of an operand, by the side of its test and by where it stands. The parts of arithmetic are looked at from left to right,
+-- each by itself and then for the sign before it, the first one for the first sign; a part that is a product has been by
+-- its own signs.
+abbrev pub operand_faults : Side → Standing → WrittenOperand → List Found
+operand_faults side s (TextOf q) = misplaced side q.at
+operand_faults side s (NamedOf w) = word_faults (field_named w.text) s w
+operand_faults side s (OnLayerOf w l) =
     word_faults (field_named w.text) Sliced w ++ unless (is_layer l) l.at OutOfRange
-operand_faults s (OnLayersOf w ls) = word_faults (field_named w.text) Sliced w ++ layers_faults ls
-operand_faults s (SlicedOf o at rs) =
-    operand_faults (in_slice s) o ++ given (kind_written (in_slice s) o) (slice_faults at rs)
-operand_faults s (MaskedOf o at w) =
-    operand_faults (within at s) o ++ given (kind_written (within at s) o) (mask_faults at w)
-operand_faults s (CalledOf f at o) =
-    operand_faults (argument f at o s) o
+operand_faults side s (OnLayersOf w ls) =
+    word_faults (field_named w.text) Sliced w ++ layers_faults ls
+operand_faults side s (SlicedOf o at rs) =
+    operand_faults side (in_slice s) o ++ given (kind_written (in_slice s) o) (slice_faults at rs)
+operand_faults side s (MaskedOf o at w) =
+    operand_faults (taken at side) (within at s) o
+    ++ given (kind_written (within at s) o) (mask_faults at w)
+operand_faults side s (CalledOf f at o) =
+    operand_faults (taken_by f at o side) (argument f at o s) o
     ++ given (kind_written (argument f at o s) o) (call_faults f at (argument f at o s) o)
-operand_faults s (ComputedOf a at l r) =
-    (operand_faults s l ++ given (kind_written s l) (number_faults (sign_for s at)))
-    ++ (operand_faults (Free (Some at)) r
+operand_faults side s (ComputedOf a at l r) =
+    (operand_faults side s l ++ given (kind_written s l) (number_faults (sign_for s at)))
+    ++ (operand_faults (by_itself side) (Free (Some at)) r
     ++ given (kind_written (Free (Some at)) r) (number_faults at))
-operand_faults s (ArgumentsOf l r) = operand_faults s l ++ operand_faults (Free None) r
+operand_faults side s (ArgumentsOf l r) =
+    operand_faults side s l ++ operand_faults (by_itself side) (Free None) r
 
 -- of a right side, for a left operand of a kind
 abbrev pub class_faults : ℕ → ValueKind → ValueKind → List Found
@@ -163,7 +171,8 @@ abbrev pub right_faults : Relation → ℕ → ValueKind → WrittenOperand → 
 right_faults relation at kind o (Some literal) =
     reading_faults (place_of_literal literal) (side_read relation kind literal)
 right_faults relation at kind o None =
-    operand_faults (Free None) o ++ given (kind_written (Free None) o) (class_faults at kind)
+    operand_faults (sides.Right None) (Free None) o
+    ++ given (kind_written (Free None) o) (class_faults at kind)
 
 abbrev pub element_faults : ValueKind → Element → List Found
 element_faults kind (elements.One literal) =
@@ -199,9 +208,9 @@ abbrev pub faults : Written → List Found
 faults (JoinedOf j l r) = faults l ++ faults r
 faults (NotOf n t) = faults t
 faults (GroupOf t) = faults t
-faults (AloneOf o) = operand_faults First o ++ alone_faults o
+faults (AloneOf o) = operand_faults sides.Left First o ++ alone_faults o
 faults (TestOf choice o tail) =
-    operand_faults First o ++ given (kind_written First o) (tail_faults tail)
+    operand_faults sides.Left First o ++ given (kind_written First o) (tail_faults tail)
 
 -- there is none: each pattern is one
 abbrev pub IsClear : List Found → Type 0

@@ -11,6 +11,13 @@ is_part (ComputedOf a at l r) = false
 is_part (ArgumentsOf l r) = false
 is_part o = true
 
+-- whether a part is a slice, a mask or a call, around another operand
+abbrev pub is_around : WrittenOperand → Bool
+is_around (SlicedOf o at rs) = true
+is_around (MaskedOf o at w) = true
+is_around (CalledOf f at o) = true
+is_around o = false
+
 -- how many operands stand in an operand
 abbrev pub parts : WrittenOperand → ℕ
 parts (SlicedOf o at rs) = parts o + 1

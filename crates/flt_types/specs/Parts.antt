@@ -28,6 +28,13 @@ abbrev pub waiting : List Open → ℕ
 waiting [] = 0
 waiting (x ∷ xs) = tests_in x + waiting xs
 
+-- how many signs, negations and parentheses stand in a tree
+abbrev pub signs : Written → ℕ
+signs (JoinedOf j l r) = signs l + signs r + 1
+signs (NotOf n t) = signs t + 1
+signs (GroupOf t) = signs t + 1
+signs t = 0
+
 -- the part is this larger one, inside what is open
 abbrev pub Fills : Open → Written → Written → Type 0
 Fills Group part larger = larger ≡ GroupOf part

@@ -14,8 +14,9 @@ use crate::faults::{fault, require};
 use crate::literals::{right_quote, right_word};
 use crate::operand::{kind_of, term};
 use crate::operands::first_sign;
+use crate::owned::refused;
 use crate::sets::members;
-use crate::standing::Standing;
+use crate::standing::{LEFT, RIGHT};
 use crate::typed::{Term, Typed};
 use flt_pattern::{Pattern, PatternFault};
 use flt_syntax::{Choice, Element, FilterError, FilterReason, Operand, Operator, Quote, Tail};
@@ -29,12 +30,13 @@ pub(crate) fn alone(alloc: Global, operand: &Operand) -> Result<Typed, FilterErr
     ensures ok { IfOk result (HasType (AloneOf (operand_of operand.now))) }
     ensures err { IfErr result (IsAnswer (faults (AloneOf (operand_of operand.now)))) }
 {
-    let inner = term(alloc, Standing::First, operand)?;
+    let inner = term(alloc, LEFT, operand)?;
     match operand {
         Operand::Masked(_, _, _) => Ok(Typed::AnyBit(inner)),
-        Operand::Called(_, at, _) => Err(fault(*at, FilterReason::TypeMismatch)),
+        Operand::Called(_, at, _) => refused(fault(*at, FilterReason::TypeMismatch), inner),
         Operand::Computed(_, at, left, _) => {
-            Err(fault(first_sign(*at, left), FilterReason::TypeMismatch))
+            let sign = first_sign(*at, left);
+            refused(fault(sign, FilterReason::TypeMismatch), inner)
         }
         _ => Ok(Typed::Exists(inner)),
     }
@@ -52,7 +54,7 @@ pub(crate) fn test(
     ensures err { IfErr result
         (IsAnswer (faults (TestOf choice (operand_of operand.now) (tail_of tail.now)))) }
 {
-    let left = term(alloc, Standing::First, operand)?;
+    let left = term(alloc, LEFT, operand)?;
     test_of(alloc, choice, left, tail)
 }
 
@@ -93,9 +95,11 @@ fn compare(
         (faults (TestOf choice o (CompareOf operator at (operand_of right.now))))) }
 {
     let relation = relation_of(operator);
-    let right = right_of(alloc, relation, at, kind_of(&left), right)?;
     let choice = chosen(choice, choice_of(operator));
-    Ok(Typed::Compare(relation, choice, left, right))
+    match right_of(alloc, relation, at, kind_of(&left), right) {
+        Ok(right) => Ok(Typed::Compare(relation, choice, left, right)),
+        Err(error) => refused(error, left),
+    }
 }
 
 /// The right side of a relation that a left operand of a kind may stand in.
@@ -114,7 +118,7 @@ fn right_of(
         (literal_of (operand_of operand.now)))) }
 {
     require(takes(relation, kind), at, FilterReason::TypeMismatch)?;
-    Ok(right_side(alloc, relation, at, kind, operand)?)
+    right_side(alloc, relation, at, kind, operand)
 }
 
 #[tactic(auto, using(crate::proofs::Clear::among_behind))]
@@ -130,9 +134,11 @@ fn among(
     ensures err { (o : WrittenOperand) → IsTerm First o left
         → IfErr result (IsAnswer (faults (TestOf choice o (InOf negated elements.now)))) }
 {
-    let members = members(alloc, kind_of(&left), elements)?;
     let choice = chosen(choice, Choice::Any);
-    Ok(Typed::Among(negated, choice, left, members))
+    match members(alloc, kind_of(&left), elements) {
+        Ok(members) => Ok(Typed::Among(negated, choice, left, members)),
+        Err(error) => refused(error, left),
+    }
 }
 
 #[tactic(auto, using(crate::proofs::Clear::search_behind))]
@@ -148,8 +154,11 @@ fn searched(
     ensures err { (o : WrittenOperand) → IsTerm First o left
         → IfErr result (IsAnswer (faults (TestOf choice o (MatchesOf at quote.now)))) }
 {
-    let pattern = pattern_for(alloc, kind_of(&left), at, quote)?;
-    Ok(Typed::Matches(chosen(choice, Choice::Any), left, pattern))
+    let choice = chosen(choice, Choice::Any);
+    match pattern_for(alloc, kind_of(&left), at, quote) {
+        Ok(pattern) => Ok(Typed::Matches(choice, left, pattern)),
+        Err(error) => refused(error, left),
+    }
 }
 
 /// The pattern of a string, for a left operand of a kind.
@@ -168,7 +177,7 @@ fn pattern_for(
         ++ PatternAt quote.now.at quote.now.bytes ∷ [])) }
 {
     require(is_searched(kind), at, FilterReason::TypeMismatch)?;
-    Ok(pattern(alloc, quote)?)
+    pattern(alloc, quote)
 }
 
 /// The right side of a relation, for a left operand of a kind.
@@ -185,10 +194,16 @@ fn right_side(
         (literal_of (operand_of operand.now)))) }
 {
     match operand {
-        Operand::Text(quote) => Ok(Term::Constant(right_quote(relation, kind, quote)?)),
+        Operand::Text(quote) => match right_quote(relation, kind, quote) {
+            Ok(text) => Ok(Term::Constant(text)),
+            Err(error) => Err(error),
+        },
         Operand::Named(word) => match by_name(word.text.as_str()) {
             Some(_) => right_term(alloc, relation, at, kind, operand),
-            None => Ok(Term::Constant(right_word(alloc, relation, kind, word)?)),
+            None => match right_word(alloc, relation, kind, word) {
+                Ok(literal) => Ok(Term::Constant(literal)),
+                Err(error) => Err(error),
+            },
         },
         _ => right_term(alloc, relation, at, kind, operand),
     }
@@ -207,13 +222,12 @@ fn right_term(
     ensures err { IfErr result
         (IsAnswer (right_faults relation at kind (operand_of operand.now) None)) }
 {
-    let right = term(alloc, Standing::Free(None), operand)?;
-    require(
-        same_class(kind, kind_of(&right)),
-        at,
-        FilterReason::TypeMismatch,
-    )?;
-    Ok(right)
+    let right = term(alloc, RIGHT, operand)?;
+    let same = same_class(kind, kind_of(&right));
+    match require(same, at, FilterReason::TypeMismatch) {
+        Ok(()) => Ok(right),
+        Err(error) => refused(error, right),
+    }
 }
 
 /// The pattern of a string.

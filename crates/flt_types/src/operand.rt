@@ -1,12 +1,14 @@
 // Operands: the names, numbers, layers, slices, masks, functions and arithmetic of a filter.
 ghost use Rattle.std.specs.Prelude.{◌≡◌, ◌++◌, Some, None, IfOk, IfErr, OnOk, IsTrue};
+ghost use Rattle.flt_syntax.specs.declared.ast.Arithmetic.{Arithmetic as Operation};
 ghost use Rattle.flt_syntax.specs.declared.fault.FilterReason.TheVariants.{OutOfRange};
 ghost use Rattle.flt_syntax.specs.Written.{WrittenOperand, operand_of, NamedOf, OnLayerOf, OnLayersOf, SlicedOf, MaskedOf, CalledOf, ComputedOf, ArgumentsOf};
 ghost use Rattle.flt_types.specs.Faults.{IsAnswer, operand_faults, call_faults, layers_faults, mask_faults, number_faults, slice_faults, given, kind_written, unless, nameless, word_faults, misplaced as misplaced_at};
 ghost use Rattle.flt_types.specs.Layers.{is_layer};
-ghost use Rattle.flt_types.specs.Operands.{is_part, with_right};
-ghost use Rattle.flt_types.specs.Standing.{argument, in_slice, sign_for, within};
+ghost use Rattle.flt_types.specs.Operands.{is_around, is_part, with_right};
+ghost use Rattle.flt_types.specs.Standing.{argument, in_slice, within};
 ghost use Rattle.flt_types.specs.Terms.{IsTerm, IsMask, are_numbers as are_numbers_in, kind_of as kind_of_term, takes_term};
+ghost use Rattle.flt_types.specs.declared.standing.Side.{Side as TestSide};
 ghost use Rattle.flt_types.specs.declared.standing.Standing.{Standing as Place};
 ghost use Rattle.flt_types.specs.declared.standing.Standing.TheVariants.{Free, Sliced};
 ghost use Rattle.flt_values.specs.Kinds.{is_masked as is_masked_kind, is_number as is_number_kind};
@@ -16,15 +18,15 @@ use crate::faults::{fault, require};
 use crate::layers::{layers_in, single_layer};
 use crate::literals::constant;
 use crate::operands::{Parts, Right, parts_of};
-use crate::ranges::parts_in;
-use crate::standing::Standing;
+use crate::owned::{both_boxed, let_go, refused};
+use crate::ranges::parts_for;
+use crate::standing::{Position, Side, Standing};
 use crate::typed::Term;
 use flt_syntax::{
     Arithmetic, FilterError, FilterReason, Function, Layer, LayerRange, Operand, SliceRange, Word,
 };
-use flt_values::{
-    is_number, is_sliced, kind_of_call, kind_of_value, read_within, read_word, takes_call,
-};
+use flt_values::{is_number, kind_of_call, kind_of_value, read_within, read_word, takes_call};
+use pk_base::NoMemory;
 use pk_fields::{FieldId, ValueKind, by_name, kind};
 use pk_text::Wide;
 use pk_tree::Layers;
@@ -53,46 +55,78 @@ pub fn kind_of(term: &Term) -> ValueKind
 #[tactic(auto, using(crate::proofs::PartLemmas::fault_of_parts))]
 pub(crate) fn term(
     alloc: Global,
-    standing: Standing,
+    position: Position,
     operand: &Operand,
 ) -> Result<Term, FilterError>
-    ensures ok { IfOk result (IsTerm standing (operand_of operand.now)) }
-    ensures err { IfErr result (IsAnswer (operand_faults standing (operand_of operand.now))) }
+    ensures ok { IfOk result (IsTerm position.standing (operand_of operand.now)) }
+    ensures err { IfErr result
+        (IsAnswer (operand_faults position.side position.standing (operand_of operand.now))) }
 {
     let Parts { first, mut rights } = parts_of(alloc, operand)?;
-    let mut term = part(alloc, standing, first)?;
+    let mut term = match part(alloc, position, first) {
+        Ok(term) => term,
+        Err(error) => return refused(error, rights),
+    };
     'rights: while let Some(right) = rights.pop() {
-        term = with(alloc, standing, term, &right)?;
+        term = match with(alloc, position, term, &right) {
+            Ok(term) => term,
+            Err(error) => return refused(error, rights),
+        };
     }
+    let_go(rights);
     Ok(term)
 }
 
 /// The term that an operand is whose parts no sign or comma joins.
 #[cycle(terms)]
 #[tactic(auto, using(crate::proofs::Answers::answer_left))]
-fn part(alloc: Global, standing: Standing, operand: &Operand) -> Result<Term, FilterError>
+fn part(alloc: Global, position: Position, operand: &Operand) -> Result<Term, FilterError>
     requires { IsTrue (is_part (operand_of operand.now)) }
-    ensures ok { IfOk result (IsTerm standing (operand_of operand.now)) }
-    ensures err { IfErr result (IsAnswer (operand_faults standing (operand_of operand.now))) }
+    ensures ok { IfOk result (IsTerm position.standing (operand_of operand.now)) }
+    ensures err { IfErr result
+        (IsAnswer (operand_faults position.side position.standing (operand_of operand.now))) }
 {
     match operand {
-        Operand::Text(quote) => Err(misplaced(standing, quote.at)),
-        Operand::Named(word) => named(alloc, standing, word),
+        Operand::Text(quote) => Err(misplaced(position.side, quote.at)),
+        Operand::Named(word) => named(alloc, position.standing, word),
         Operand::OnLayer(word, layer) => on_layer(alloc, word, *layer),
         Operand::OnLayers(word, ranges) => on_layers(alloc, word, ranges),
-        Operand::Sliced(inner, at, ranges) => {
-            let inner = term(alloc, standing.in_slice(), inner)?;
-            slice(alloc, inner, *at, ranges)
-        }
-        Operand::Masked(inner, at, word) => {
-            let inner = term(alloc, standing.within(*at), inner)?;
-            mask(alloc, inner, *at, word)
-        }
-        Operand::Called(function, at, inner) => {
-            let inner = term(alloc, standing.argument(*function, *at, inner), inner)?;
-            call(alloc, inner, *at, *function)
+        Operand::Sliced(_, _, _) | Operand::Masked(_, _, _) | Operand::Called(_, _, _) => {
+            around(alloc, position, operand)
         }
         Operand::Computed(_, _, _, _) | Operand::Arguments(_, _) => unreachable!(),
+    }
+}
+
+/// The term that a slice, a mask or a call is.
+#[cycle(terms)]
+#[tactic(auto, using(crate::proofs::Answers::answer_left))]
+fn around(alloc: Global, position: Position, operand: &Operand) -> Result<Term, FilterError>
+    requires { IsTrue (is_around (operand_of operand.now)) }
+    ensures ok { IfOk result (IsTerm position.standing (operand_of operand.now)) }
+    ensures err { IfErr result
+        (IsAnswer (operand_faults position.side position.standing (operand_of operand.now))) }
+{
+    match operand {
+        Operand::Sliced(inner, at, ranges) => {
+            match term(alloc, position.in_slice(), inner) {
+                Ok(inner) => slice(alloc, inner, *at, ranges),
+                Err(error) => Err(error),
+            }
+        }
+        Operand::Masked(inner, at, word) => {
+            match term(alloc, position.within(*at), inner) {
+                Ok(inner) => mask(alloc, inner, *at, word),
+                Err(error) => Err(error),
+            }
+        }
+        Operand::Called(function, at, inner) => {
+            match term(alloc, position.argument(*function, *at, inner), inner) {
+                Ok(inner) => call(alloc, inner, *at, *function),
+                Err(error) => Err(error),
+            }
+        }
+        _ => unreachable!(),
     }
 }
 
@@ -100,20 +134,20 @@ fn part(alloc: Global, standing: Standing, operand: &Operand) -> Result<Term, Fi
 #[cycle(terms)]
 fn with(
     alloc: Global,
-    standing: Standing,
+    position: Position,
     left: Term,
     right: &Right<'_>,
 ) -> Result<Term, FilterError>
-    ensures ok { (o : WrittenOperand) → IsTerm standing o left
-        → IfOk result (IsTerm standing (with_right right.now o)) }
-    ensures err { (o : WrittenOperand) → IsTerm standing o left
-        → IfErr result (IsAnswer (operand_faults standing (with_right right.now o))) }
+    ensures ok { (o : WrittenOperand) → IsTerm position.standing o left
+        → IfOk result (IsTerm position.standing (with_right right.now o)) }
+    ensures err { (o : WrittenOperand) → IsTerm position.standing o left → IfErr result
+        (IsAnswer (operand_faults position.side position.standing (with_right right.now o))) }
 {
     match right {
         Right::Computes(operation, at, operand) => {
-            compute(alloc, standing, left, *operation, *at, operand)
+            compute(alloc, position, left, *operation, *at, operand)
         }
-        Right::Argument(operand) => add_argument(alloc, left, operand),
+        Right::Argument(operand) => add_argument(alloc, position, left, operand),
     }
 }
 
@@ -121,22 +155,49 @@ fn with(
 #[cycle(terms)]
 fn compute(
     alloc: Global,
-    standing: Standing,
+    position: Position,
     left: Term,
     operation: Arithmetic,
     at: u32,
     operand: &Operand,
 ) -> Result<Term, FilterError>
-    ensures ok { (o : WrittenOperand) → IsTerm standing o left
-        → IfOk result (IsTerm standing (ComputedOf operation at o (operand_of operand.now))) }
-    ensures err { (o : WrittenOperand) → IsTerm standing o left
-        → IfErr result (IsAnswer
-        (operand_faults standing (ComputedOf operation at o (operand_of operand.now)))) }
+    ensures ok { (o : WrittenOperand) → IsTerm position.standing o left → IfOk result
+        (IsTerm position.standing (ComputedOf operation at o (operand_of operand.now))) }
+    ensures err { (o : WrittenOperand) → IsTerm position.standing o left
+        → IfErr result (IsAnswer (operand_faults position.side position.standing
+        (ComputedOf operation at o (operand_of operand.now)))) }
 {
-    require_number(&left, standing.sign_for(at))?;
-    let right = term(alloc, Standing::Free(Some(at)), operand)?;
-    require_number(&right, at)?;
-    Ok(Term::Computed(operation, Box::new(alloc, left)?, Box::new(alloc, right)?))
+    match second_number(alloc, position, &left, at, operand) {
+        Ok(right) => match both_boxed(alloc, left, right) {
+            Ok((left, right)) => Ok(Term::Computed(operation, left, right)),
+            Err(NoMemory) => Err(FilterError::NoMemory),
+        },
+        Err(error) => refused(error, left),
+    }
+}
+
+/// The number behind a sign, to the left of which there is one, too.
+#[cycle(terms)]
+fn second_number(
+    alloc: Global,
+    position: Position,
+    left: &Term,
+    at: u32,
+    operand: &Operand,
+) -> Result<Term, FilterError>
+    ensures left { OnOk result (IsTrue (is_number_kind (kind_of_term left.now))) }
+    ensures right { IfOk result (λ right. IsTrue (is_number_kind (kind_of_term right))) }
+    ensures ok { IfOk result (IsTerm (Free (Some at)) (operand_of operand.now)) }
+    ensures err { (a : Operation) (o : WrittenOperand) → IsTerm position.standing o left.now
+        → IfErr result (IsAnswer (operand_faults position.side position.standing
+        (ComputedOf a at o (operand_of operand.now)))) }
+{
+    require_number(left, position.sign_for(at))?;
+    let right = term(alloc, position.behind(Some(at)), operand)?;
+    match require_number(&right, at) {
+        Ok(()) => Ok(right),
+        Err(error) => refused(error, right),
+    }
 }
 
 /// The fault of a part of arithmetic that is no number.
@@ -150,24 +211,31 @@ fn require_number(term: &Term, at: u32) -> Result<(), FilterError>
 /// Arguments, and an operand behind a comma.
 #[cycle(terms)]
 #[tactic(auto, using(crate::proofs::PartLemmas::next_argument))]
-fn add_argument(alloc: Global, left: Term, operand: &Operand) -> Result<Term, FilterError>
+fn add_argument(
+    alloc: Global,
+    position: Position,
+    left: Term,
+    operand: &Operand,
+) -> Result<Term, FilterError>
     ensures ok { (s : Place) (o : WrittenOperand) → IsTerm s o left
         → IfOk result (IsTerm s (ArgumentsOf o (operand_of operand.now))) }
-    ensures err { (s : Place) (o : WrittenOperand) → IsTerm s o left
-        → IfErr result (IsAnswer (operand_faults s (ArgumentsOf o (operand_of operand.now)))) }
+    ensures err { (s : Place) (o : WrittenOperand) → IsTerm s o left → IfErr result
+        (IsAnswer (operand_faults position.side s (ArgumentsOf o (operand_of operand.now)))) }
 {
-    let right = term(alloc, Standing::Free(None), operand)?;
-    Ok(Term::Arguments(Box::new(alloc, left)?, Box::new(alloc, right)?))
+    match term(alloc, position.behind(None), operand) {
+        Ok(right) => match both_boxed(alloc, left, right) {
+            Ok((left, right)) => Ok(Term::Arguments(left, right)),
+            Err(NoMemory) => Err(FilterError::NoMemory),
+        },
+        Err(error) => refused(error, left),
+    }
 }
 
 /// The fault of a string.
-fn misplaced(standing: Standing, at: u32) -> FilterError
-    ensures { IsAnswer (misplaced_at standing at) result }
+fn misplaced(side: Side, at: u32) -> FilterError
+    ensures { IsAnswer (misplaced_at side at) result }
 {
-    match standing {
-        Standing::Within(around) => fault(around, FilterReason::TypeMismatch),
-        _ => fault(at, FilterReason::TypeMismatch),
-    }
+    fault(side.blamed(at), FilterReason::TypeMismatch)
 }
 
 /// The field of a word, or the number that it is in place of a name.
@@ -231,18 +299,19 @@ fn on_layers(alloc: Global, word: &Word, ranges: &[LayerRange]) -> Result<Term, 
 }
 
 /// A slice of what an operand stands for.
-#[tactic(auto, using(crate::proofs::Clear::slice_behind, crate::proofs::Answers::answer_left, crate::proofs::Answers::answer_right, crate::proofs::Answers::clear_unless))]
+#[tactic(auto, using(crate::proofs::Clear::slice_behind))]
 fn slice(alloc: Global, inner: Term, at: u32, ranges: &[SliceRange]) -> Result<Term, FilterError>
     ensures ok { (s : Place) (o : WrittenOperand) → IsTerm (in_slice s) o inner
         → IfOk result (IsTerm s (SlicedOf o at ranges.now)) }
-    ensures err { (s : Place) (o : WrittenOperand) → IsTerm (in_slice s) o inner
+    ensures err { (side : TestSide) (s : Place) (o : WrittenOperand) → IsTerm (in_slice s) o inner
         → IfErr result (IsAnswer
-        (operand_faults (in_slice s) o
+        (operand_faults side (in_slice s) o
         ++ given (kind_written (in_slice s) o) (slice_faults at ranges.now))) }
 {
-    require(is_sliced(kind_of(&inner)), at, FilterReason::TypeMismatch)?;
-    let parts = parts_in(alloc, ranges)?;
-    Ok(Term::Slice(Box::new(alloc, inner)?, parts))
+    match parts_for(alloc, kind_of(&inner), at, ranges) {
+        Ok(parts) => Ok(Term::Slice(Box::new(alloc, inner)?, parts)),
+        Err(error) => refused(error, inner),
+    }
 }
 
 /// What an operand stands for, masked by a number that fits its width.
@@ -250,13 +319,15 @@ fn slice(alloc: Global, inner: Term, at: u32, ranges: &[SliceRange]) -> Result<T
 fn mask(alloc: Global, inner: Term, at: u32, word: &Word) -> Result<Term, FilterError>
     ensures ok { (s : Place) (o : WrittenOperand) → IsTerm (within at s) o inner
         → IfOk result (IsTerm s (MaskedOf o at word.now)) }
-    ensures err { (s : Place) (o : WrittenOperand) → IsTerm (within at s) o inner
+    ensures err { (side : TestSide) (s : Place) (o : WrittenOperand) → IsTerm (within at s) o inner
         → IfErr result (IsAnswer
-        (operand_faults (within at s) o
+        (operand_faults side (within at s) o
         ++ given (kind_written (within at s) o) (mask_faults at word.now))) }
 {
-    let number = mask_number(kind_of(&inner), at, word)?;
-    Ok(Term::Mask(Box::new(alloc, inner)?, number))
+    match mask_number(kind_of(&inner), at, word) {
+        Ok(number) => Ok(Term::Mask(Box::new(alloc, inner)?, number)),
+        Err(error) => refused(error, inner),
+    }
 }
 
 /// The number of a mask's word, for an operand of a kind.
@@ -281,13 +352,16 @@ fn mask_number(kind: ValueKind, at: u32, word: &Word) -> Result<u64, FilterError
 fn call(alloc: Global, inner: Term, at: u32, function: Function) -> Result<Term, FilterError>
     ensures ok { (s : Place) (o : WrittenOperand) → IsTerm (argument function at o s) o inner
         → IfOk result (IsTerm s (CalledOf function at o)) }
-    ensures err { (s : Place) (o : WrittenOperand) → IsTerm (argument function at o s) o inner
-        → IfErr result (IsAnswer (operand_faults (argument function at o s) o
+    ensures err { (side : TestSide) (s : Place) (o : WrittenOperand)
+        → IsTerm (argument function at o s) o inner
+        → IfErr result (IsAnswer (operand_faults side (argument function at o s) o
         ++ given (kind_written (argument function at o s) o)
         (call_faults function at (argument function at o s) o))) }
 {
-    require(takes(function, &inner), at, FilterReason::TypeMismatch)?;
-    Ok(Term::Called(function, Box::new(alloc, inner)?))
+    match require(takes(function, &inner), at, FilterReason::TypeMismatch) {
+        Ok(()) => Ok(Term::Called(function, Box::new(alloc, inner)?)),
+        Err(error) => refused(error, inner),
+    }
 }
 
 /// Whether a function takes a term.

@@ -1,10 +1,11 @@
 // A tree's tests, one after the other: what is open around the one that is typed.
-ghost use Rattle.std.specs.Prelude.{◌≡◌, ◌+◌, ◌≤◌, IfOk, IsTrue};
+ghost use Rattle.std.specs.Prelude.{◌≡◌, ◌+◌, ◌≤◌, ◌<◌, IfOk, IfSome, IfNone, IsTrue};
 ghost use Rattle.flt_syntax.specs.Written.{Written, JoinedOf, NotOf, written};
 ghost use Rattle.flt_syntax.specs.declared.ast.Negation.{Negation};
-ghost use Rattle.flt_types.specs.Parts.{Closes, Plugs, is_test, still, tests, waiting};
+ghost use Rattle.flt_types.specs.Parts.{Closes, Fills, Plugs, is_test, signs, still, tests, tests_in, waiting};
 ghost use Rattle.flt_types.specs.Typing.{HasType};
 
+use crate::owned::both_boxed;
 use crate::typed::Typed;
 use flt_syntax::{Ast, Join};
 use pk_base::NoMemory;
@@ -41,32 +42,31 @@ pub(crate) fn first_test<'a>(around: &mut Vec<Open<'a>>, part: &'a Ast) -> Resul
         waiting around.new.items + 1 ≡ waiting around.old.items + tests (written part.now)) }
 {
     let mut first = part;
-    'parts: loop {
-        match first {
-            Ast::Or(left, right) => {
-                around.push(Open::Before(Join::Or, right))?;
-                first = left;
-            }
-            Ast::Xor(left, right) => {
-                around.push(Open::Before(Join::Xor, right))?;
-                first = left;
-            }
-            Ast::And(left, right) => {
-                around.push(Open::Before(Join::And, right))?;
-                first = left;
-            }
-            Ast::Not(_, inner) => {
-                around.push(Open::Not)?;
-                first = inner;
-            }
-            Ast::Group(inner) => {
-                around.push(Open::Group)?;
-                first = inner;
-            }
-            _ => break,
-        }
+    'parts: while let Some((open, inner)) = opened(first) {
+        around.push(open)?;
+        first = inner;
     }
     Ok(first)
+}
+
+/// What opens at the front of a part of a tree, and the part inside; nothing where the part is a test.
+fn opened<'a>(part: &'a Ast) -> Option<(Open<'a>, &'a Ast)>
+    ensures fills { IfSome result (λ both.
+        Fills both.0 (written both.1.now) (written part.now)) }
+    ensures count { IfSome result (λ both.
+        tests_in both.0 + tests (written both.1.now) ≡ tests (written part.now)) }
+    ensures less { IfSome result (λ both.
+        signs (written both.1.now) < signs (written part.now)) }
+    ensures test { IfNone result (IsTrue (is_test (written part.now))) }
+{
+    match part {
+        Ast::Or(left, right) => Some((Open::Before(Join::Or, right), left)),
+        Ast::Xor(left, right) => Some((Open::Before(Join::Xor, right), left)),
+        Ast::And(left, right) => Some((Open::Before(Join::And, right), left)),
+        Ast::Not(_, inner) => Some((Open::Not, inner)),
+        Ast::Group(inner) => Some((Open::Group, inner)),
+        Ast::Alone(_) | Ast::Test(_, _, _) => None,
+    }
 }
 
 /// Closes what is open around a filter, up to a sign whose right side is not typed yet.
@@ -109,8 +109,7 @@ fn join(alloc: Global, join: Join, left: Typed, right: Typed) -> Result<Typed, N
     ensures { IfOk result (λ filter. (l r : Written) → HasType l left → HasType r right
         → HasType (JoinedOf join l r) filter) }
 {
-    let left = Box::new(alloc, left)?;
-    let right = Box::new(alloc, right)?;
+    let (left, right) = both_boxed(alloc, left, right)?;
     match join {
         Join::Or => Ok(Typed::Either(left, right)),
         Join::Xor => Ok(Typed::Differ(left, right)),

@@ -1,16 +1,36 @@
 // The ranges of a slice.
 ghost use Rattle.std.specs.Prelude.{◌≡◌, map, IfOk, IfErr, OnOk, IsTrue};
 ghost use Rattle.std.specs.List.{list_all};
-ghost use Rattle.flt_types.specs.Faults.{IsAnswer, ranges_faults};
+ghost use Rattle.flt_types.specs.Faults.{IsAnswer, ranges_faults, slice_faults};
 ghost use Rattle.flt_types.specs.Ranges.{in_order as are_in_order, is_range as is_range_part};
+ghost use Rattle.flt_values.specs.Kinds.{is_sliced as is_sliced_kind};
 
-use crate::faults::fault;
+use crate::faults::{fault, require};
 use flt_syntax::{FilterError, FilterReason, Place, RangePart, SliceRange};
+use flt_values::is_sliced;
 use pk_base::NoMemory;
+use pk_fields::ValueKind;
 use std::alloc::Global;
 
+/// What the ranges of a slice take, for an operand of a kind.
+#[tactic(auto, using(crate::proofs::Answers::answer_left, crate::proofs::Answers::answer_right, crate::proofs::Answers::clear_unless))]
+pub(crate) fn parts_for(
+    alloc: Global,
+    kind: ValueKind,
+    at: u32,
+    ranges: &[SliceRange],
+) -> Result<Vec<RangePart>, FilterError>
+    ensures sliced { OnOk result (IsTrue (is_sliced_kind kind)) }
+    ensures valid { OnOk result (IsTrue (list_all (λ r. is_range_part r.part) ranges.now)) }
+    ensures ok { IfOk result (λ parts. parts.items ≡ map (λ r. r.part) ranges.now) }
+    ensures err { IfErr result (IsAnswer (slice_faults at ranges.now kind)) }
+{
+    require(is_sliced(kind), at, FilterReason::TypeMismatch)?;
+    parts_in(alloc, ranges)
+}
+
 /// What the ranges of a slice take, each of which may stand.
-pub(crate) fn parts_in(alloc: Global, ranges: &[SliceRange]) -> Result<Vec<RangePart>, FilterError>
+fn parts_in(alloc: Global, ranges: &[SliceRange]) -> Result<Vec<RangePart>, FilterError>
     ensures valid { OnOk result (IsTrue (list_all (λ r. is_range_part r.part) ranges.now)) }
     ensures ok { IfOk result (λ parts. parts.items ≡ map (λ r. r.part) ranges.now) }
     ensures err { IfErr result (IsAnswer (ranges_faults ranges.now)) }

@@ -5,6 +5,7 @@ ghost use Rattle.flt_types.specs.Faults.{IsAnswer, element_faults, elements_faul
 ghost use Rattle.flt_types.specs.Typing.{AreMembers, IsMember};
 
 use crate::literals::{element, range_end};
+use crate::owned::refused;
 use crate::typed::Member;
 use flt_syntax::{Element, FilterError, Literal};
 use pk_fields::ValueKind;
@@ -48,6 +49,8 @@ fn range(
     ensures err { IfErr result (IsAnswer (element_faults kind (Between low.now high.now))) }
 {
     let first = range_end(alloc, kind, low)?;
-    let last = range_end(alloc, kind, high)?;
-    Ok(Member::Between(first, last))
+    match range_end(alloc, kind, high) {
+        Ok(last) => Ok(Member::Between(first, last)),
+        Err(error) => refused(error, first),
+    }
 }

@@ -29,17 +29,12 @@ impl Drop for Term {
     fn drop(mut self) {
         loop {
             match self {
-                Term::Computed(_, first, right) => {
-                    drop(right);
-                    self = Box::into_inner(first);
-                }
-                Term::Arguments(first, right) => {
+                Term::Computed(_, first, right) | Term::Arguments(first, right) => {
                     drop(right);
                     self = Box::into_inner(first);
                 }
                 Term::Slice(inner, _ranges) => self = Box::into_inner(inner),
-                Term::Mask(inner, _) => self = Box::into_inner(inner),
-                Term::Called(_, inner) => self = Box::into_inner(inner),
+                Term::Mask(inner, _) | Term::Called(_, inner) => self = Box::into_inner(inner),
                 Term::Constant(_constant) => return,
                 Term::Field(_, _layers) => return,
             }
@@ -80,21 +75,14 @@ impl Drop for Typed {
     fn drop(mut self) {
         loop {
             match self {
-                Typed::Either(first, right) => {
-                    drop(right);
-                    self = Box::into_inner(first);
-                }
-                Typed::Differ(first, right) => {
-                    drop(right);
-                    self = Box::into_inner(first);
-                }
-                Typed::Both(first, right) => {
+                Typed::Either(first, right)
+                | Typed::Differ(first, right)
+                | Typed::Both(first, right) => {
                     drop(right);
                     self = Box::into_inner(first);
                 }
                 Typed::Not(inner) => self = Box::into_inner(inner),
-                Typed::Exists(_term) => return,
-                Typed::AnyBit(_term) => return,
+                Typed::Exists(_term) | Typed::AnyBit(_term) => return,
                 Typed::Compare(_, _, _left, _right) => return,
                 Typed::Among(_, _, _term, _members) => return,
                 Typed::Matches(_, _term, _pattern) => return,

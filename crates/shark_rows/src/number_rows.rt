@@ -303,6 +303,80 @@ fn parts_that_are_no_numbers(rt: HostRuntime) -> Result<(), Fail> {
     all_refused(&rt, rt.alloc(), &KINDS)
 }
 
+static STRINGS: [(&str, &str); 18] = [
+    (
+        "ip.len + upper(\"a\") == 1",
+        "shark: filter byte 15: F5 TypeMismatch\n",
+    ),
+    (
+        "ip.len + count(\"a\") == 1",
+        "shark: filter byte 15: F5 TypeMismatch\n",
+    ),
+    (
+        "max(ip.len,len(\"a\")) == 1",
+        "shark: filter byte 15: F5 TypeMismatch\n",
+    ),
+    (
+        "ip.len + len(\"a\")[0] == 1",
+        "shark: filter byte 13: F5 TypeMismatch\n",
+    ),
+    (
+        "ip.len + \"a\" & 1 == 1",
+        "shark: filter byte 9: F5 TypeMismatch\n",
+    ),
+    ("len(\"a\") == 1", "shark: filter byte 4: F5 TypeMismatch\n"),
+    ("\"a\" & 1 == 1", "shark: filter byte 0: F5 TypeMismatch\n"),
+    (
+        "min(\"a\" & 1) == 1",
+        "shark: filter byte 4: F5 TypeMismatch\n",
+    ),
+    (
+        "ip.len == max(upper(\"a\"))",
+        "shark: filter byte 14: F5 TypeMismatch\n",
+    ),
+    (
+        "ip.len == max(len(\"a\"),1)",
+        "shark: filter byte 14: F5 TypeMismatch\n",
+    ),
+    (
+        "ip.len == max(\"a\" & 1)",
+        "shark: filter byte 18: F5 TypeMismatch\n",
+    ),
+    (
+        "ip.len == max(ip.len, \"a\" & 1)",
+        "shark: filter byte 26: F5 TypeMismatch\n",
+    ),
+    (
+        "ip.len == max(\"a\")",
+        "shark: filter byte 14: F5 TypeMismatch\n",
+    ),
+    (
+        "ip.len == lower(\"a\")",
+        "shark: filter byte 10: F5 TypeMismatch\n",
+    ),
+    (
+        "ip.len == len(lower(\"a\"))",
+        "shark: filter byte 14: F5 TypeMismatch\n",
+    ),
+    (
+        "ip.len == 1 + \"a\"",
+        "shark: filter byte 14: F5 TypeMismatch\n",
+    ),
+    (
+        "ip.len == 1 + len(\"a\")",
+        "shark: filter byte 14: F5 TypeMismatch\n",
+    ),
+    (
+        "ip.len == len(\"a\" + 1)",
+        "shark: filter byte 14: F5 TypeMismatch\n",
+    ),
+];
+
+#[test]
+fn strings_are_blamed_by_their_side(rt: HostRuntime) -> Result<(), Fail> {
+    all_refused(&rt, rt.alloc(), &STRINGS)
+}
+
 static RANGES: [(&str, &str); 4] = [
     (
         "frame.number + 18446744073709551616 == 2",

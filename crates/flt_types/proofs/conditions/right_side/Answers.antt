@@ -5,11 +5,11 @@ use Rattle.flt_types.specs.Literals.{literal_of, word_or_name}
 use Rattle.flt_types.proofs.conditions.right_side.Goals as goal
 use Rattle.pk_fields.specs.Fields.{field_named}
 
-pub returns-in_ok-right_quote-in-Text-clause-ok : goal.returns-in_ok-right_quote-in-Text-clause-ok
-returns-in_ok-right_quote-in-Text-clause-ok c =
-    (Text c.in-Text.quote, ap (λ o. literal_of (operand_of o)) c.in-Text.is, c.in_ok-right_quote-in-Text.ensures.ok)
+pub returns-in-Ok-clause-ok : goal.returns-in-Ok-clause-ok
+returns-in-Ok-clause-ok c =
+    (Text c.in-Text.quote, ap (λ o. literal_of (operand_of o)) c.in-Text.is, c.in-Ok.ensures.ok)
 
-pub returns-in_ok-right_word-in-None-clause-ok : goal.returns-in_ok-right_word-in-None-clause-ok
-returns-in_ok-right_word-in-None-clause-ok c =
+pub returns-in-Ok-right_word-clause-ok : goal.returns-in-Ok-right_word-clause-ok
+returns-in-Ok-right_word-clause-ok c =
     let no_name = ap field_named (sym c.as_str.ensures) ∙ sym c.by_name.ensures.computed ∙ c.in-None.is in
-    (Bare c.in-Named.word, ap (λ o. literal_of (operand_of o)) c.in-Named.is ∙ ap (word_or_name c.in-Named.word) no_name, c.in_ok-right_word-in-None.ensures.ok)
+    (Bare c.in-Named.word, ap (λ o. literal_of (operand_of o)) c.in-Named.is ∙ ap (word_or_name c.in-Named.word) no_name, c.in-Ok-right_word.ensures.ok)

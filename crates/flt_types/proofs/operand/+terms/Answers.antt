@@ -1,48 +1,52 @@
-use Rattle.std.proofs.Common.{subst}
+use Rattle.std.proofs.Common.{Some, ap, subst}
 use Rattle.std.proofs.lemmas.Result.{err_from_is_err_and}
-use Rattle.flt_syntax.specs.Written.{operand_of}
-use Rattle.flt_types.specs.Faults.{IsAnswer, number_faults}
+use Rattle.flt_syntax.specs.Written.{WrittenOperand, operand_of}
+use Rattle.flt_types.specs.Faults.{IsAnswer, number_faults, operand_faults}
 use Rattle.flt_types.specs.Operands.{parts, with_right}
-use Rattle.flt_types.specs.Terms.{kind_of}
+use Rattle.flt_types.specs.Standing.{argument, taken, taken_by}
+use Rattle.flt_types.specs.Terms.{IsTerm, kind_of}
+use Rattle.flt_types.specs.declared.standing.Standing.TheVariants.{Free}
 use Rattle.flt_types.proofs.PartLemmas.{fault_of_parts, joined_less, left_number, right_number, right_part, within_pop}
 use Rattle.flt_types.proofs.operand.+terms.Goals as goal
 
-pub compute-returns-in_err-require_number-clause-err : goal.compute-returns-in_err-require_number-clause-err
-compute-returns-in_err-require_number-clause-err t c =
+pub second_number-returns-in_err-require_number-clause-err : goal.second_number-returns-in_err-require_number-clause-err
+second_number-returns-in_err-require_number-clause-err t c =
     let p = err_from_is_err_and c.from_residual.result c.from_residual.ensures.1 in
-    λ o is. rw (p.1, p.2)
-    (left_number c.args.standing c.args.operation c.args.at o (operand_of c.args.operand.now) c.args.left c.in_err-require_number.field-0.0 is
-    (subst (λ sign. IsAnswer (number_faults sign (kind_of c.args.left)) c.in_err-require_number.field-0.0) c.sign_for.ensures c.in_err-require_number.ensures.err))
+    λ a o is. rw (p.1, p.2)
+    (left_number c.args.position.side c.args.position.standing a c.args.at o (operand_of c.args.operand.now) c.args.left.now c.in_err-require_number.field-0.0 is
+    (subst (λ sign. IsAnswer (number_faults sign (kind_of c.args.left.now)) c.in_err-require_number.field-0.0) c.sign_for.ensures c.in_err-require_number.ensures.err))
 
-pub compute-returns-in_err-right-clause-err : goal.compute-returns-in_err-right-clause-err
-compute-returns-in_err-right-clause-err t c =
+pub second_number-returns-in_err-right-clause-err : goal.second_number-returns-in_err-right-clause-err
+second_number-returns-in_err-right-clause-err t c =
     let p = err_from_is_err_and c.from_residual-in_err-right.result c.from_residual-in_err-right.ensures.1 in
-    λ o is. rw (p.1, p.2)
-    (right_part c.args.standing c.args.operation c.args.at o (operand_of c.args.operand.now) c.args.left c.in_err-right.field-0.0 is
-    c.in_ok-require_number.ensures.ok c.in_err-right.ensures.err)
+    λ a o is. rw (p.1, p.2)
+    (right_part c.args.position.side c.args.position.standing a c.args.at o (operand_of c.args.operand.now) c.args.left.now c.in_err-right.field-0.0 is
+    c.in_ok-require_number.ensures.ok
+    (subst (λ side. IsAnswer (operand_faults side (Free (Some c.args.at)) (operand_of c.args.operand.now)) c.in_err-right.field-0.0) c.behind.ensures.side
+    (subst (λ st. IsAnswer (operand_faults c.behind.result.side st (operand_of c.args.operand.now)) c.in_err-right.field-0.0) c.behind.ensures.standing
+    c.in_err-right.ensures.err)))
 
-pub compute-returns-in_err-require_number-2-clause-err : goal.compute-returns-in_err-require_number-2-clause-err
-compute-returns-in_err-require_number-2-clause-err t c =
-    let p = err_from_is_err_and c.from_residual-in_err-require_number-2.result c.from_residual-in_err-require_number-2.ensures.1 in
-    λ o is. rw (p.1, p.2)
-    (right_number c.args.standing c.args.operation c.args.at o (operand_of c.args.operand.now) c.args.left c.in_ok-right.right c.in_err-require_number-2.field-0.0 is
-    c.in_ok-require_number.ensures.ok c.in_ok-right.ensures.ok c.in_err-require_number-2.ensures.err)
+pub second_number-returns-in-Err-clause-err : goal.second_number-returns-in-Err-clause-err
+second_number-returns-in-Err-clause-err t c =
+    λ a o is. rw c.refused.ensures
+    (right_number c.args.position.side c.args.position.standing a c.args.at o (operand_of c.args.operand.now) c.args.left.now c.in_ok-right.right c.in-Err.error is
+    c.in_ok-require_number.ensures.ok
+    (subst (λ st. IsTerm st (operand_of c.args.operand.now) c.in_ok-right.right) c.behind.ensures.standing c.in_ok-right.ensures.ok) c.in-Err.ensures.err)
 
 pub part-returns-in-OnLayer-clause-ok : goal.part-returns-in-OnLayer-clause-ok
-part-returns-in-OnLayer-clause-ok t c = rw c.in-OnLayer.is (c.on_layer.ensures.ok c.args.standing)
+part-returns-in-OnLayer-clause-ok t c = rw c.in-OnLayer.is (c.on_layer.ensures.ok c.args.position.standing)
 
 pub part-returns-in-OnLayers-clause-ok : goal.part-returns-in-OnLayers-clause-ok
-part-returns-in-OnLayers-clause-ok t c = rw (c.in-OnLayers.is, ← c.deref.ensures.value) (c.on_layers.ensures.ok c.args.standing)
+part-returns-in-OnLayers-clause-ok t c = rw (c.in-OnLayers.is, ← c.deref.ensures.value) (c.on_layers.ensures.ok c.args.position.standing)
 
-pub term-returns-in_err-term-2-clause-err : goal.term-returns-in_err-term-2-clause-err
-term-returns-in_err-term-2-clause-err t c =
-    let p = err_from_is_err_and c.from_residual-in_err-term-2.result c.from_residual-in_err-term-2.ensures.1 in
+pub term-returns-in-Err-with-clause-err : goal.term-returns-in-Err-with-clause-err
+term-returns-in-Err-with-clause-err t c =
     let part = c.rights.invariant.part in
     let right = c.in-Some.right in
-    rw (p.1, p.2)
-    (fault_of_parts c.args.standing c.pop.new.self.items (with_right right part.0) (operand_of c.args.operand.now) c.in_err-term-2.field-0.0
+    rw c.refused-in-Err-with.ensures
+    (fault_of_parts c.args.position.side c.args.position.standing c.pop.new.self.items (with_right right part.0) (operand_of c.args.operand.now) c.in-Err-with.error
     (joined_less c.pop.new.self.items c.rights.rights.items right part.0 (operand_of c.args.operand.now) part.2 c.in-Some.ensures.items)
-    (c.in_err-term-2.ensures.err part.0 part.1))
+    (c.in-Err-with.ensures.err part.0 part.1))
 
 pub term-rights-preserved : goal.term-rights-preserved
 term-rights-preserved t c =
@@ -51,8 +55,37 @@ term-rights-preserved t c =
     record {
       part = (
         with_right right part.0,
-        c.in_ok-term-2.ensures.ok part.0 part.1,
+        c.in-Ok-with.ensures.ok part.0 part.1,
         joined_less c.pop.new.self.items c.rights.rights.items right part.0 (operand_of c.args.operand.now) part.2 c.in-Some.ensures.items,
       );
       within = within_pop (parts (operand_of c.args.operand.now)) c.pop.new.self.items c.rights.rights.items right c.rights.invariant.within c.in-Some.ensures.items;
     }
+
+pub compute-returns-in-Err-clause-err : goal.compute-returns-in-Err-clause-err
+compute-returns-in-Err-clause-err t c = λ o is. rw c.refused.ensures (c.in-Err.ensures.err c.args.operation o is)
+
+pub around-returns-in-Ok-clause-err : goal.around-returns-in-Ok-clause-err
+around-returns-in-Ok-clause-err t c =
+    let inner = operand_of c.deref.result.now in
+    rw (c.in-Sliced.is, ← c.deref.ensures, ← c.deref-in-Ok.ensures.value)
+    (c.slice.ensures.err c.args.position.side c.args.position.standing inner
+    (subst (λ st. IsTerm st inner c.in-Ok.inner) c.in_slice.ensures.standing c.in-Ok.ensures.ok))
+
+pub around-returns-in-Ok-term-clause-err : goal.around-returns-in-Ok-term-clause-err
+around-returns-in-Ok-term-clause-err t c =
+    let inner = operand_of c.deref-in-Masked.result.now in
+    rw (c.in-Masked.is, ← c.deref-in-Masked.ensures)
+    (c.mask.ensures.err (taken c.in-Masked.at c.args.position.side) c.args.position.standing inner
+    (subst (λ st. IsTerm st inner c.in-Ok-term.inner) c.within.ensures.standing c.in-Ok-term.ensures.ok))
+
+pub around-returns-in-Ok-term-2-clause-err : goal.around-returns-in-Ok-term-2-clause-err
+around-returns-in-Ok-term-2-clause-err t c =
+    let f = c.in-Called.function in
+    let at = c.in-Called.at in
+    let st = c.args.position.standing in
+    let inner = operand_of c.in-Called.inner.value in
+    rw c.in-Called.is
+    (c.call.ensures.err (taken_by f at inner c.args.position.side) st inner
+    (subst (λ (o : WrittenOperand). IsTerm (argument f at o st) inner c.in-Ok-term-2.inner) (ap operand_of c.deref-in-Called.ensures)
+    (subst (λ x. IsTerm x inner c.in-Ok-term-2.inner) c.argument.ensures.standing
+    (subst (λ (o : WrittenOperand). IsTerm c.argument.result.standing o c.in-Ok-term-2.inner) (ap operand_of c.deref-in-Called-2.ensures) c.in-Ok-term-2.ensures.ok))))

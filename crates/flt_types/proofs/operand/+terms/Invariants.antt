@@ -6,23 +6,29 @@ use Rattle.flt_types.specs.Terms.{IsTerm}
 use Rattle.flt_types.proofs.operand.+terms.Given as goal
 
 abbrev pub decreases-term : goal.decreases-term
-decreases-term l = 4 * parts (operand_of l.operand.now) + 1
+decreases-term l = 6 * parts (operand_of l.operand.now) + 2
 
 abbrev pub decreases-part : goal.decreases-part
-decreases-part l = 4 * parts (operand_of l.operand.now)
+decreases-part l = 6 * parts (operand_of l.operand.now) + 1
+
+abbrev pub decreases-around : goal.decreases-around
+decreases-around l = 6 * parts (operand_of l.operand.now)
 
 abbrev pub decreases-with : goal.decreases-with
-decreases-with l = 4 * parts_right l.right.now + 3
+decreases-with l = 6 * parts_right l.right.now + 5
 
 abbrev pub decreases-compute : goal.decreases-compute
-decreases-compute l = 4 * parts (operand_of l.operand.now) + 2
+decreases-compute l = 6 * parts (operand_of l.operand.now) + 4
+
+abbrev pub decreases-second_number : goal.decreases-second_number
+decreases-second_number l = 6 * parts (operand_of l.operand.now) + 3
 
 abbrev pub decreases-add_argument : goal.decreases-add_argument
-decreases-add_argument l = 4 * parts (operand_of l.operand.now) + 2
+decreases-add_argument l = 6 * parts (operand_of l.operand.now) + 4
 
 abbrev pub invariant-term-rights : goal.invariant-term-rights
 invariant-term-rights l = record {
-  part : (o : WrittenOperand) × IsTerm l.standing o l.term × (joined l.rights.items o ≡ operand_of l.fn.operand);
+  part : (o : WrittenOperand) × IsTerm l.position.standing o l.term × (joined l.rights.items o ≡ operand_of l.fn.operand);
   within : All (λ r. parts_right r < parts (operand_of l.fn.operand)) l.rights.items;
 }
 
