@@ -1,10 +1,14 @@
-"""What bench/gate.sh prints. It looks twice a second at the processes of rt: a process counts for the crate that it was called
-for, with those that it started itself and has waited for. Interrupted, it prints what it saw until then."""
+"""What bench/gate.sh prints. It looks five times a second at the processes of rt: a process counts for the crate that it was called
+for, with those that it started itself. What a process did behind the last look isn't seen: the last line tells how much of all that
+ran it saw, beside which rt itself, LLVM, the tests and the programs run. Interrupted, it prints what it saw until then."""
 import os
 import re
+import resource
 import shutil
+import signal
 import subprocess
 import sys
+import tempfile
 import threading
 import time
 
@@ -33,23 +37,33 @@ def read(path):
 
 
 def proofs():
-    """Yields each proof that runs now: its process and when that began, its crate, which part of it, and the ticks so far."""
-    running = {}
+    """Yields each proof of this call that runs now: its process and when that began, its crate, which part of it, and the ticks so far, with those
+    of the processes that it started, as long as they run and when it has waited for them."""
+    stats, roots = {}, {}
     for pid in filter(str.isdigit, os.listdir("/proc")):
-        words = read(f"/proc/{pid}/cmdline").decode(errors="replace").split("\0")
-        if words[0].endswith("/rattle") and "--crate-name" in words:
-            stat = read(f"/proc/{pid}/stat").rpartition(b")")[2].split()
-            if stat:
-                running[pid] = words, stat
-    for pid, (words, stat) in running.items():
-        if stat[1].decode() in running:
-            continue
+        stat = read(f"/proc/{pid}/stat").rpartition(b")")[2].split()
+        if stat:
+            stats[pid] = stat
+    ours = {str(os.getpid())}
+    for pid in sorted(stats, key=lambda it: int(stats[it][19])):
+        if stats[pid][1].decode() in ours:
+            ours.add(pid)
+            words = read(f"/proc/{pid}/cmdline").decode(errors="replace").split("\0")
+            if words[0].endswith("/rattle") and "--crate-name" in words:
+                roots[pid] = words
+    ticks = {pid: sum(map(int, stat[11:15])) for pid, stat in stats.items() if pid in roots}
+    for pid in sorted(ticks, key=lambda it: int(stats[it][19]), reverse=True):
+        parent = stats[pid][1].decode()
+        if parent in roots:
+            ticks[parent] = ticks.get(parent, 0) + ticks.pop(pid)
+    for pid, used in ticks.items():
+        words = roots[pid]
         try:
             is_edit = os.path.basename(os.readlink(f"/proc/{pid}/cwd")).startswith("rt-edit-")
         except OSError:
             continue
         part = "edits" if is_edit else "tests" if "--test" in words else "library"
-        yield (pid, stat[19]), words[words.index("--crate-name") + 1], part, sum(map(int, stat[11:15]))
+        yield (pid, stats[pid][19]), words[words.index("--crate-name") + 1], part, used
 
 
 class Watch(threading.Thread):
@@ -60,8 +74,9 @@ class Watch(threading.Thread):
     def run(self):
         while not self.is_over:
             for process, crate, part, ticks in proofs():
+                ticks = max(ticks, self.seen.get(process, (crate, part, 0))[2])
                 self.seen[process] = crate, part, ticks
-            time.sleep(0.5)
+            time.sleep(0.2)
 
     def seconds(self):
         sums = {}
@@ -72,22 +87,50 @@ class Watch(threading.Thread):
 
 
 def call(words, folder, log):
-    return subprocess.run(words, cwd=folder, stdin=subprocess.DEVNULL, stdout=log, stderr=subprocess.STDOUT).returncode
+    """Runs a command, and lets it end in its own way where this is interrupted."""
+    ran = subprocess.Popen(words, cwd=folder, stdin=subprocess.DEVNULL, stdout=log, stderr=subprocess.STDOUT)
+    try:
+        return ran.wait()
+    except KeyboardInterrupt:
+        ran.send_signal(signal.SIGINT)
+        try:
+            ran.wait(60)
+        except (subprocess.TimeoutExpired, KeyboardInterrupt):
+            ran.kill()
+            ran.wait()
+        raise
+
+
+def copy_of(crate, deps, room):
+    """Copies a crate and those that it stands on to a folder, without what was made of them, lowest first."""
+    needed = {crate}
+    for it in reversed(deps):
+        if it in needed:
+            needed.update(below for below in deps[it] if below in deps)
+    needed = [it for it in deps if it in needed]
+    for it in needed:
+        shutil.copytree(f"crates/{it}", f"{room}/crates/{it}", ignore=shutil.ignore_patterns("out"))
+    with open(f"{room}/crates.txt", "w") as lines:
+        lines.writelines(f"{it}: {' '.join(deps[it])}\n" for it in needed)
+    shutil.copy("HANDLES", room)
+    return needed[:-1]
 
 
 def prove_alone(crate, deps, log):
-    """Proves a crate, its tests and its edits from nothing, over built libraries."""
-    folder = f"crates/{crate}"
-    built = [it for it in deps[crate] if it in deps]
-    status = max([call(["rt", "lib"], f"crates/{it}", log) for it in built], default=0)
-    shutil.rmtree(f"{folder}/out", ignore_errors=True)
-    is_program = os.path.exists(f"{folder}/src/main.rt")
-    status = status or call(["rt", "check" if is_program else "lib", "--jobs", "1"], folder, log)
-    shutil.rmtree(f"{folder}/out/incremental", ignore_errors=True)
-    sources = [f"{at}/{name}" for at, _, names in os.walk(f"{folder}/src") for name in names]
-    if any(b"#[test]" in read(it) for it in sources):
-        status = status or call(["rt", "check", "--test", "--jobs", "1"], folder, log)
-    return status or call(["rt", "must-fail", crate], ".", log)
+    """Proves a crate, its tests and its edits from nothing, over built libraries, in a copy whose text is no other's by a line: rt
+    begins with what any copy keeps of the same text, else with what stands in out/incremental, which is empty here."""
+    with tempfile.TemporaryDirectory(prefix="gate-") as room:
+        folder = f"{room}/crates/{crate}"
+        status = max([call(["rt", "lib"], f"{room}/crates/{it}", log) for it in copy_of(crate, deps, room)], default=0)
+        sources = [f"{at}/{name}" for at, _, names in os.walk(f"{folder}/src") for name in names]
+        root = next(it for it in sources if it.endswith(("/src/lib.rt", "/src/main.rt")))
+        with open(root, "a") as text:
+            text.write(f"// Measured at {time.time()}.\n")
+        for words in ([], ["--test"]) if any(b"#[test]" in read(it) for it in sources) else ([],):
+            shutil.rmtree(f"{folder}/out", ignore_errors=True)
+            os.makedirs(f"{folder}/out/incremental")
+            status = status or call(["rt", "check", *words, "--jobs", "1"], folder, log)
+        return status or call(["rt", "must-fail", "--anew", crate], room, log)
 
 
 def longest(deps, sums):
@@ -106,15 +149,20 @@ def main(names):
         sys.exit(f"gate.sh: crates.txt has no {unknown[0]}")
     os.makedirs("bench/out", exist_ok=True)
     watch, begun = Watch(), time.time()
+    signal.signal(signal.SIGTERM, signal.default_int_handler)
+    signal.signal(signal.SIGINT, signal.default_int_handler)
     watch.start()
     try:
         with open(LOG, "w") as log:
-            status = max([prove_alone(it, deps, log) for it in names]) if names else call(["rt", "ci"], ".", log)
+            status = max([prove_alone(it, deps, log) for it in names]) if names else call(["rt", "ci", "--anew"], ".", log)
     except KeyboardInterrupt:
         status = 130
+        print("# interrupted: what was seen until then")
     watch.is_over = True
     watch.join()
+    used = resource.getrusage(resource.RUSAGE_CHILDREN)
     sums = watch.seconds()
+    seen = sum(sum(row.values()) for row in sums.values())
     print(f"# {'crate':<16} {'library':>8} {'tests':>8} {'edits':>8}")
     rows = [it for it in deps if it in (names or sums)]
     for crate in rows:
@@ -127,6 +175,8 @@ def main(names):
         print(f"# longest chain of libraries: {seconds / 60:.1f} minutes, {' > '.join(chain)}")
     last = re.sub(r"\s+", " ", read(LOG).decode(errors="replace").strip().rpartition("\n")[2])
     print(f"# by the clock {(time.time() - begun) / 60:.1f} minutes on {len(os.sched_getaffinity(0))} processors; {last[:90]} (all of it: {LOG})")
+    if status != 130:
+        print(f"# all that ran took {(used.ru_utime + used.ru_stime) / 60:.1f} minutes, of which {seen / 60:.1f} were proofs that were looked at")
     return status
 
 

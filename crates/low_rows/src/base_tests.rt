@@ -68,10 +68,22 @@ fn takes(alloc: Global) -> Result<bool, NoMemory> {
     Ok(Octets::from_vec(bytes)?.bytes() == [1, 2].as_slice())
 }
 
+fn begin_empty() -> bool {
+    Octets::new().bytes().is_empty()
+}
+
+fn are_cut(alloc: Global) -> Result<bool, NoMemory> {
+    let whole = captured(alloc)?;
+    cuts(&whole)
+}
+
+fn are_shared(alloc: Global) -> Result<bool, NoMemory> {
+    Ok(keeps(alloc)? && are_cut(alloc)? && takes(alloc)?)
+}
+
 #[test]
 fn bytes_are_kept_cut_and_shared(rt: HostRuntime) -> Result<(), Fail> {
-    assert!(rt; keeps(rt.alloc())? && cuts(&captured(rt.alloc())?)?);
-    assert!(rt; takes(rt.alloc())? && Octets::new().bytes().is_empty());
+    assert!(rt; begin_empty() && are_shared(rt.alloc())?);
     Ok(())
 }
 

@@ -21,19 +21,30 @@ fn reads_spans(buffers: &Buffers, span: Span) -> Result<bool, NoMemory> {
     {
         return Ok(false);
     }
-    Ok(buffers.bytes(span) == b"ine".as_slice() && buffers.part(span)?.bytes() == b"ine".as_slice())
+    let part = buffers.part(span)?;
+    Ok(buffers.bytes(span) == b"ine".as_slice() && part.bytes() == b"ine".as_slice())
+}
+
+const SPAN: Span = Span {
+    buffer: 1,
+    start: 2,
+    len: 3,
+};
+
+/// Whether two buffers have the numbers 0 and 1, and are all.
+fn are_numbered(buffers: &mut Buffers, alloc: Global) -> Result<bool, NoMemory> {
+    let first = add(buffers, alloc, b"frame")?;
+    let second = add(buffers, alloc, b"joined")?;
+    Ok(first == 0 && second == 1 && buffers.count() == 2)
+}
+
+fn are_read(buffers: &mut Buffers, alloc: Global) -> Result<bool, NoMemory> {
+    Ok(are_numbered(buffers, alloc)? && reads_spans(buffers, SPAN)?)
 }
 
 #[test]
 fn spans_are_read_in_the_buffer_that_they_name(rt: HostRuntime) -> Result<(), Fail> {
     let mut buffers = Buffers::new(rt.alloc());
-    assert!(rt; add(&mut buffers, rt.alloc(), b"frame")? == 0);
-    assert!(rt; add(&mut buffers, rt.alloc(), b"joined")? == 1);
-    let span = Span {
-        buffer: 1,
-        start: 2,
-        len: 3,
-    };
-    assert!(rt; buffers.count() == 2 && reads_spans(&buffers, span)?);
+    assert!(rt; are_read(&mut buffers, rt.alloc())?);
     Ok(())
 }

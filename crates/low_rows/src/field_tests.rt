@@ -135,11 +135,14 @@ fn are_held(rt: &impl Abort, set: &FieldSet, rows: &[(FieldId, bool)]) {
     }
 }
 
+/// Whether the set has two fields with their protocols, and `frame`, which stands in each set.
+fn has_five(set: &FieldSet) -> bool {
+    set.count() == 5 && FieldSet::none().count() == 1
+}
+
 #[test]
 fn a_set_holds_what_was_added_and_its_protocols(rt: HostRuntime) {
     let set = two_fields();
     are_held(&rt, &set, &IN_SET);
-    // The two fields with their protocols, and `frame`.
-    assert!(rt; set.count() == 5 && FieldSet::none().count() == 1);
-    assert!(rt; set.has_any_of(ids::TCP) && !set.has_any_of(ids::UDP));
+    assert!(rt; has_five(&set) && set.has_any_of(ids::TCP) && !set.has_any_of(ids::UDP));
 }

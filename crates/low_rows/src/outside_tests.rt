@@ -48,11 +48,17 @@ fn named(alloc: Global, name: &str, bytes: &[u8]) -> Result<NamedFile, Fail> {
     Ok(NamedFile::new(name, bytes))
 }
 
+fn push_named(alloc: Global, files: &mut Vec<NamedFile>, bytes: &[u8]) -> Result<(), Fail> {
+    let file = named(alloc, "f", bytes)?;
+    files.push(file)?;
+    Ok(())
+}
+
 // Two files of one name.
 fn two_names(alloc: Global) -> Result<Vec<NamedFile>, Fail> {
     let mut files = Vec::new(alloc);
-    files.push(named(alloc, "f", b"abcde")?)?;
-    files.push(named(alloc, "f", b"later")?)?;
+    push_named(alloc, &mut files, b"abcde")?;
+    push_named(alloc, &mut files, b"later")?;
     Ok(files)
 }
 
@@ -63,51 +69,84 @@ fn two_files(alloc: Global) -> Result<MemoryCapture, Fail> {
     Ok(MemoryCapture::new(files, failing, 2))
 }
 
+// Whether the capture begins with the name and gives these bytes.
+fn begins_and_gives<C: Capture>(
+    alloc: Global,
+    capture: &mut C,
+    name: &str,
+    want: &[u8],
+) -> Result<bool, Fail> {
+    Ok(begin(alloc, capture, name)? && gives(alloc, capture, want)?)
+}
+
+// Whether the first of two files is read past the call that fails, and a third name begins none.
+fn counts_calls<C: Capture>(alloc: Global, capture: &mut C) -> Result<bool, Fail> {
+    Ok(begins_and_gives(alloc, capture, "f", b"ab!cde")? && !begin(alloc, capture, "g")?)
+}
+
+fn counts_calls_of_two(alloc: Global) -> Result<bool, Fail> {
+    let mut capture = two_files(alloc)?;
+    counts_calls(alloc, &mut capture)
+}
+
 #[test]
 fn calls_are_counted_together_and_the_named_ones_fail(rt: HostRuntime) -> Result<(), Fail> {
-    let mut capture = two_files(rt.alloc())?;
-    assert!(rt; begin(rt.alloc(), &mut capture, "f")?);
-    assert!(rt; gives(rt.alloc(), &mut capture, b"ab!cde")?);
-    assert!(rt; !begin(rt.alloc(), &mut capture, "g")?);
+    assert!(rt; counts_calls_of_two(rt.alloc())?);
     Ok(())
+}
+
+fn is_sure(alloc: Global) -> Result<bool, Fail> {
+    let mut capture = SureCapture::new(Vec::from_slice(alloc, b"abcde")?);
+    begins_and_gives(alloc, &mut capture, "g", b"abcde")
 }
 
 #[test]
 fn a_sure_capture_begins_with_any_name(rt: HostRuntime) -> Result<(), Fail> {
-    let mut capture = SureCapture::new(Vec::from_slice(rt.alloc(), b"abcde")?);
-    assert!(rt; begin(rt.alloc(), &mut capture, "g")?);
-    assert!(rt; gives(rt.alloc(), &mut capture, b"abcde")?);
+    assert!(rt; is_sure(rt.alloc())?);
     Ok(())
+}
+
+// Whether the sink takes the first and the third of three pieces.
+fn takes_two_of_three<S: Sink>(sink: &mut S) -> bool {
+    let first = takes(sink, b"first");
+    let second = takes(sink, b"second");
+    let third = takes(sink, b"third");
+    first && !second && third
+}
+
+fn keeps_two_of_three(alloc: Global) -> Result<bool, Fail> {
+    let mut sink = MemorySink::new(alloc, Vec::from_slice(alloc, &[2])?);
+    Ok(takes_two_of_three(&mut sink) && sink.bytes() == b"firstthird".as_slice())
 }
 
 #[test]
 fn a_piece_is_one_write(rt: HostRuntime) -> Result<(), Fail> {
-    let mut sink = MemorySink::new(rt.alloc(), Vec::from_slice(rt.alloc(), &[2])?);
-    let first = takes(&mut sink, b"first");
-    let second = takes(&mut sink, b"second");
-    let third = takes(&mut sink, b"third");
-    assert!(rt; first && !second && third);
-    assert!(rt; sink.bytes() == b"firstthird".as_slice());
+    assert!(rt; keeps_two_of_three(rt.alloc())?);
     Ok(())
 }
 
+fn keeps_both(sink: &mut SureSink) -> bool {
+    let first = takes(sink, b"first");
+    let second = takes(sink, b"second");
+    first && second && sink.bytes() == b"firstsecond".as_slice()
+}
+
 #[test]
-fn a_sure_sink_takes_all(rt: HostRuntime) -> Result<(), Fail> {
+fn a_sure_sink_takes_all(rt: HostRuntime) {
     let mut sink = SureSink::new(rt.alloc());
-    let first = takes(&mut sink, b"first");
-    let second = takes(&mut sink, b"second");
-    assert!(rt; first && second && sink.bytes() == b"firstsecond".as_slice());
-    Ok(())
+    let keeps = keeps_both(&mut sink);
+    assert!(rt; keeps);
+}
+
+fn reads(rt: &HostRuntime, name: &str, want: &[u8]) -> Result<bool, Fail> {
+    let mut files = FileCapture::new(rt);
+    begins_and_gives(rt.alloc(), &mut files, name, want)
 }
 
 // Whether the file is read to its end, which lies behind the room of one read.
 fn is_read_whole(rt: &HostRuntime, name: &str) -> Result<bool, Fail> {
-    let mut files = FileCapture::new(rt);
-    if !begin(rt.alloc(), &mut files, name)? {
-        return Ok(false);
-    }
     let whole = fs::read(rt, name)?;
-    Ok(whole.len() > ROOM && gives(rt.alloc(), &mut files, whole.as_slice())?)
+    Ok(whole.len() > ROOM && reads(rt, name, whole.as_slice())?)
 }
 
 #[test]
@@ -116,12 +155,20 @@ fn a_file_is_read_to_its_end(rt: HostRuntime) -> Result<(), Fail> {
     Ok(())
 }
 
+// Whether no file begins, and behind it a directory, of which each read fails.
+fn misses_then_fails<C: Capture>(alloc: Global, capture: &mut C) -> Result<bool, Fail> {
+    let is_missed = !begin(alloc, capture, "/no/such/file")?;
+    Ok(is_missed && begins_and_gives(alloc, capture, "/", b"!!!!!!!!")?)
+}
+
+fn files_fail(rt: &HostRuntime) -> Result<bool, Fail> {
+    let mut files = FileCapture::new(rt);
+    misses_then_fails(rt.alloc(), &mut files)
+}
+
 #[test]
 fn a_missing_file_is_missed_and_a_directory_does_not_read(rt: HostRuntime) -> Result<(), Fail> {
-    let mut files = FileCapture::new(&rt);
-    assert!(rt; !begin(rt.alloc(), &mut files, "/no/such/file")?);
-    assert!(rt; begin(rt.alloc(), &mut files, "/")?);
-    assert!(rt; gives(rt.alloc(), &mut files, b"!!!!!!!!")?);
+    assert!(rt; files_fail(&rt)?);
     Ok(())
 }
 

@@ -126,6 +126,11 @@ const ETHERS: [(&str, Option<[u8; 6]>); 11] = [
     ("", None),
 ];
 
+fn is_written_ether(alloc: Global, v: [u8; 6], want: &str) -> Result<bool, Fail> {
+    let text = ether_text(alloc, v)?;
+    Ok(text.as_str() == want)
+}
+
 fn are_read_ethers(rt: &impl Abort, rows: &[(&str, Option<[u8; 6]>)]) {
     for (text, want) in rows {
         assert!(rt; read_ether(text) == *want, "{text}");
@@ -134,7 +139,7 @@ fn are_read_ethers(rt: &impl Abort, rows: &[(&str, Option<[u8; 6]>)]) {
 
 #[test]
 fn ethernet_addresses_have_six_pairs(rt: HostRuntime) -> Result<(), Fail> {
-    assert!(rt; ether_text(rt.alloc(), ETHER)?.as_str() == "00:1a:2b:3c:4d:fe");
+    assert!(rt; is_written_ether(rt.alloc(), ETHER, "00:1a:2b:3c:4d:fe")?);
     are_read_ethers(&rt, &ETHERS);
     Ok(())
 }
@@ -271,10 +276,15 @@ fn ip6_addresses_are_written_by_rfc_5952_and_read_by_rfc_4291(rt: HostRuntime) -
     Ok(())
 }
 
+fn is_escaped(alloc: Global, bytes: &[u8], want: &str) -> Result<bool, Fail> {
+    let text = escape_text(alloc, bytes)?;
+    Ok(text.as_str() == want)
+}
+
 #[test]
 fn bytes_are_escaped_outside_printable_ascii(rt: HostRuntime) -> Result<(), Fail> {
-    let text = escape_text(rt.alloc(), b"a\\b\n\x00 ~\x7f\xff\"")?;
-    assert!(rt; text.as_str() == "a\\\\b\\x0a\\x00 ~\\x7f\\xff\"");
+    let told = "a\\\\b\\x0a\\x00 ~\\x7f\\xff\"";
+    assert!(rt; is_escaped(rt.alloc(), b"a\\b\n\x00 ~\x7f\xff\"", told)?);
     Ok(())
 }
 
@@ -305,9 +315,14 @@ fn are_read_bytes(rt: &impl Abort, alloc: Global, rows: &[(&str, &[u8])]) -> Res
     Ok(())
 }
 
+fn is_unread(alloc: Global, text: &str) -> Result<bool, Fail> {
+    let bytes = read_bytes(alloc, text)?;
+    Ok(bytes.is_none())
+}
+
 fn are_no_bytes(rt: &impl Abort, alloc: Global, texts: &[&str]) -> Result<(), Fail> {
     for text in texts {
-        assert!(rt; read_bytes(alloc, text)?.is_none(), "{text}");
+        assert!(rt; is_unread(alloc, text)?, "{text}");
     }
     Ok(())
 }
