@@ -20,12 +20,14 @@ use Rattle.dissect.specs.declared.state.State.{State}
 use Rattle.dissect.specs.declared.todo.Head.{Head}
 use Rattle.dissect.specs.declared.todo.Todo.{Todo}
 use Rattle.dissect.specs.declared.todo.Todo.TheVariants as todos
-use Rattle.dissect.specs.Followed.{asks_streams, LacksOnly}
+use Rattle.dissect.specs.Followed.{asks_streams}
+use Rattle.app_layers.specs.Aside.{LacksOnly}
 use Rattle.dissect.specs.Events.{Event}
-use Rattle.dissect.specs.Fragments.{joined_told, joined_todo}
+use Rattle.head_layers.specs.Fragments.{joined_told}
+use Rattle.dissect.specs.Fragments.{joined_todo}
 use Rattle.dissect.specs.Stands.{StandsAt, IsMet, IsToldAs, IsWalked}
 use Rattle.dissect.specs.Walks.{Walk, extension_met, followed, going, head_by, joined_met, link_met, mode_after, stop}
-use Rattle.dissect.proofs.MessagesAside.{lacks_none, lacks_on}
+use Rattle.app_layers.proofs.MessagesAside.{lacks_none, lacks_on}
 
 -- the very tree
 pub told_same : (state : State) (next : Todo) (whole t : TreeShown) → t ≡ whole → IsToldAs state next whole t

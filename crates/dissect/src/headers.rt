@@ -4,7 +4,6 @@ ghost use Rattle.dissect.specs.Events.{Event};
 ghost use Rattle.dissect.specs.Stands.{StandsAt, IsWalked, IsReady, AddsAtMost, AddsFew, AddsOneThenEnds};
 ghost use Rattle.dissect.specs.Walks.{IsTodoInside, head_met, mode_after, mode_behind};
 
-use crate::frame_layer::is_cut;
 use crate::state::State;
 use crate::todo::{Head, Todo};
 use capture_read::Frame;
@@ -14,6 +13,7 @@ use dis_link::{read_arp, read_vlan};
 use dis_more::read_igmp;
 use dis_neigh::read_neigh;
 use dis_ports::{read_tcp, read_udp};
+use head_layers::is_cut;
 use pk_base::NoMemory;
 use pk_tree::{After, Mode, Next, TreeBuilder};
 use port_rules::PortRule;

@@ -13,7 +13,7 @@ use Rattle.dis_neigh.specs.Neigh.{neigh_layout}
 use Rattle.pk_buffer.specs.Buffers.{bytes_of}
 use Rattle.dissect.specs.Events.{Event}
 use Rattle.dissect.specs.Walks.{followed, head_by, head_met, mode_after, mode_behind}
-use Rattle.dissect.proofs.Behind.{tree_behind, vlan_behind, icmp_behind, icmp6_behind, igmp_behind, ip4_behind, ip6_behind, extension_behind, udp_behind, tcp_behind}
+use Rattle.head_layers.proofs.Behind.{tree_behind, vlan_behind, icmp_behind, icmp6_behind, igmp_behind, ip4_behind, ip6_behind, extension_behind, udp_behind, tcp_behind}
 use Rattle.dissect.proofs.Told.{extension_by, extension_mode, followed_alike, walked_alike}
 use Rattle.dissect.proofs.state.State.head.Goals as goal
 use Rattle.dissect.proofs.state.State.head.Goals.{in-Arp, in-Vlan, in-Ip4, in-Ip6, in-HopOpts, in-Udp, in-Tcp, in-Icmp, in-Icmp6, in-Neigh, in-Igmp}

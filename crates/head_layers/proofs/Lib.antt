@@ -1,0 +1,4 @@
+pub mod Behind
+mod FramePassed
+pub mod KeptHeads
+pub mod ToldHeads

@@ -1,0 +1,4 @@
+pub mod Fragments
+pub mod FrameLayer
+pub mod Payloads
+pub mod Times
