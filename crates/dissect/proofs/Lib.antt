@@ -1,6 +1,7 @@
 mod Asked
 mod Chains
 mod DatagramLemmas
+mod HeadWords
 mod Joining
 mod Kept
 mod Opens
