@@ -10,14 +10,8 @@ use Rattle.pk_fields.specs.Ids.{DNS, HTTP, TCP_SEGMENT, WS_MALFORMED, WS_SHORT, 
 use Rattle.pk_fields.specs.Rows.{FieldRow, whole}
 use Rattle.pk_fields.specs.Table.{rows}
 use Rattle.pk_fields.proofs.Names.{rows_len}
+use Rattle.app_layers.proofs.MessagesAside.{AsksNoMessages}
 use Rattle.dissect.specs.Followed.{asks_any, asks_messages}
-
-pub record AsksNoMessages (wanted : List ℕ) : Type 0 where
-  pub segment : is_in wanted TCP_SEGMENT ≡ false
-  pub short : is_in wanted WS_SHORT ≡ false
-  pub malformed : is_in wanted WS_MALFORMED ≡ false
-  pub http : (f : ℕ) → (row_of f).proto ≡ HTTP → is_in wanted f ≡ false
-  pub dns : (f : ℕ) → (row_of f).proto ≡ DNS → is_in wanted f ≡ false
 
 or_none : (a b : Bool) → (a || b) ≡ false → (a ≡ false) × (b ≡ false)
 or_none true b none = absurd (true≢false none)

@@ -11,19 +11,22 @@ use Rattle.port_rules.specs.declared.rules.App.{App}
 use Rattle.port_rules.specs.declared.rules.PortRule.{PortRule}
 use Rattle.port_rules.specs.Applications.{udp_app}
 use Rattle.capture_read.specs.declared.frame.Frame.{Frame}
-use Rattle.dissect.specs.declared.conversations.Ends.{Ends}
+use Rattle.conversations.specs.declared.conversations.Ends.{Ends}
 use Rattle.dissect.specs.declared.state.State.{State}
 use Rattle.dissect.specs.declared.todo.Todo.TheVariants as todos
-use Rattle.dissect.specs.Applications.{payload_over}
-use Rattle.dissect.specs.Conversations.{number_in, udp_ends, udp_opened, udp_stream, with_ends}
+use Rattle.app_layers.specs.Applications.{payload_over}
+use Rattle.conversations.specs.Conversations.{number_in, udp_ends, with_ends}
+use Rattle.dissect.specs.Conversations.{udp_opened, udp_stream}
 use Rattle.dissect.specs.Events.{Event}
 use Rattle.dissect.specs.Fragments.{fragments_of}
-use Rattle.dissect.specs.FrameLayer.{is_cut}
-use Rattle.dissect.specs.Links.{links_of, newest_links}
-use Rattle.dissect.specs.LinkTables.{LinksStandFor}
-use Rattle.dissect.specs.MessageLayers.{app_of_segment}
-use Rattle.dissect.specs.Notes.{Noted, datagram_notes, noted, noted_on, udp_direction}
-use Rattle.dissect.specs.Payloads.{datagram_told}
+use Rattle.head_layers.specs.FrameLayer.{is_cut}
+use Rattle.message_links.specs.Links.{links_of}
+use Rattle.dissect.specs.Links.{newest_links}
+use Rattle.message_links.specs.LinkTables.{LinksStandFor}
+use Rattle.app_layers.specs.MessageLayers.{app_of_segment}
+use Rattle.message_links.specs.Notes.{Noted, datagram_notes, noted_on, udp_direction}
+use Rattle.dissect.specs.Notes.{noted}
+use Rattle.head_layers.specs.Payloads.{datagram_told}
 use Rattle.dissect.specs.Segments.{segments_of}
 use Rattle.dissect.specs.Stands.{StandsAt, IsLinked, IsMet}
 use Rattle.dissect.specs.Walks.{datagram_met}

@@ -10,9 +10,9 @@ use Rattle.dissect.specs.declared.state.State.{State}
 use Rattle.dissect.specs.Conversations.{udp_opened}
 use Rattle.dissect.specs.Events.{Event, Piece, Tcp}
 use Rattle.dissect.specs.Fragments.{fragment_from, fragments_of}
-use Rattle.dissect.specs.LinkTables.{LinksStandFor}
+use Rattle.message_links.specs.LinkTables.{LinksStandFor}
 use Rattle.dissect.specs.Links.{newest_links}
-use Rattle.dissect.specs.MessageLayers.{app_of_segment}
+use Rattle.app_layers.specs.MessageLayers.{app_of_segment}
 use Rattle.dissect.specs.Notes.{noted}
 use Rattle.dissect.specs.Segments.{segment_from, segments_of}
 use Rattle.dissect.specs.Stands.{StandsAt}

@@ -1,7 +1,7 @@
 -- Reading a frame with some fields is reading all of it and keeping those.
-use Rattle.std.proofs.Common.{◌≡◌, ◌==◌, ℕ, zero, suc, ◌-◌, Bool, true, false, if◌then◌else◌, List, [], ◌∷◌, length, Option, Some, None, refl, sym, subst}
+use Rattle.std.proofs.Common.{◌≡◌, ◌==◌, ℕ, zero, suc, ◌-◌, Bool, true, false, if◌then◌else◌, List, ◌∷◌, length, refl, sym, subst}
 use Rattle.pk_base.specs.declared.span.Span.{Span}
-use Rattle.pk_fields.specs.Ids.{UDP_STREAM, UDP_PAYLOAD, TCP_STREAM, TCP_SEQ, TCP_ACK, TCP_LEN, TCP_PAYLOAD, TCP_LOST}
+use Rattle.pk_fields.specs.Ids.{UDP_STREAM, UDP_PAYLOAD}
 use Rattle.pk_tree.specs.declared.heads.After.{After}
 use Rattle.pk_tree.specs.declared.heads.After.TheVariants as afters
 use Rattle.pk_tree.specs.declared.heads.FragmentHead.{FragmentHead}
@@ -13,32 +13,29 @@ use Rattle.pk_tree.specs.declared.heads.PacketHead.{PacketHead}
 use Rattle.pk_tree.specs.declared.heads.PortsHead.{PortsHead}
 use Rattle.pk_tree.specs.declared.heads.TcpHead.{TcpHead}
 use Rattle.pk_tree.specs.declared.layout.Step.{Step}
-use Rattle.pk_tree.specs.declared.value.Value.TheVariants.{Uint}
-use Rattle.pk_tree.specs.Trees.{TreeShown, IsKept as IsKeptTree, kept_tree, read_of, made_of}
-use Rattle.pk_tree.proofs.KeptTrees.{item_kept, buffer_kept, count_kept, layer_kept}
+use Rattle.pk_tree.specs.Trees.{TreeShown, IsKept as IsKeptTree, kept_tree, made_of}
+use Rattle.pk_tree.proofs.KeptTrees.{item_kept, count_kept, layer_kept}
 use Rattle.dis_link.specs.Link.{link_of}
 use Rattle.dis_link.proofs.LinkKept.{link_kept}
 use Rattle.ip_join.specs.declared.joined.Datagram.{Datagram}
 use Rattle.ip_join.specs.declared.joined.Joined.{Joined}
 use Rattle.ip_join.specs.declared.joined.Joined.TheVariants.{Pending, Whole, Conflict}
-use Rattle.tcp_streams.specs.declared.segment.Taken.{Taken}
-use Rattle.tcp_streams.specs.Gaps.{lost_bytes}
 use Rattle.port_rules.specs.declared.rules.PortRule.{PortRule}
 use Rattle.capture_read.specs.declared.frame.Frame.{Frame}
-use Rattle.port_rules.specs.declared.rules.App.{App}
-use Rattle.port_rules.specs.declared.rules.App.TheVariants.{Http, Dns, Dhcp, Ntp, Mdns, Plain}
-use Rattle.dissect.specs.declared.times.Times.{Times}
+use Rattle.head_layers.specs.declared.times.Times.{Times}
 use Rattle.dissect.specs.declared.todo.Head.{Head}
 use Rattle.dissect.specs.declared.todo.Todo.{Todo}
 use Rattle.dissect.specs.declared.todo.Todo.TheVariants as todos
-use Rattle.dissect.specs.Applications.{data_behind, message_over, payload_over}
-use Rattle.dissect.specs.DataLayer.{data_over}
+use Rattle.app_layers.specs.Applications.{payload_over}
 use Rattle.dissect.specs.Events.{Event, NewFrame}
-use Rattle.dissect.specs.Fragments.{number_told, conflict_told, error_field, frame_field, length_field, frames_told, joined_told, joined_todo}
-use Rattle.dissect.specs.FrameLayer.{frame_span, is_cut, kept_frame, frame_tree}
-use Rattle.dissect.specs.Payloads.{with_number, with_ack, with_payload, with_lost, datagram_told, place_told, segment_told}
+use Rattle.head_layers.specs.Fragments.{conflict_told, error_field, joined_told}
+use Rattle.dissect.specs.Fragments.{joined_todo}
+use Rattle.head_layers.specs.FrameLayer.{frame_span, is_cut}
+use Rattle.head_layers.specs.Payloads.{datagram_told}
 use Rattle.dissect.specs.Trees.{kept_walk, walk_of}
-use Rattle.dissect.proofs.KeptMessages.{tree_as, kept_if, carried_kept}
+use Rattle.head_layers.proofs.KeptHeads.{kept_if, frame_kept, joined_kept, payload_kept, segment_kept}
+use Rattle.app_layers.proofs.KeptMessages.{carried_kept}
+use Rattle.app_layers.proofs.KeptPayloads.{data_kept, message_kept}
 use Rattle.dissect.specs.Walks.{Walk, going, stop, rest_met, joined_met, fragment_by, fragment_met, datagram_met, segment_met, followed, layer_met, message_met, mode_behind, head_by, head_met, step_on, step, rest_on, chain, layers_left, link_met, all_met, no_packet}
 
 -- two ways that differ in the items that are kept alone
@@ -58,24 +55,8 @@ same_if : (wanted : List ℕ) (test : Bool) (v x v1 x1 : Walk) → IsSameWay wan
 same_if wanted true v x v1 x1 k k1 = k
 same_if wanted false v x v1 x1 k k1 = k1
 
--- data
-data_kept : (wanted : List ℕ) (t u : TreeShown) (span : Span) → IsKeptTree wanted t u → IsKeptTree wanted (data_over t span) (data_over u span)
-unfolding data_over
-data_kept wanted t u span k = kept_if wanted (span.len == 0) t u _ _ k (layer_kept wanted t u _ span _ _ false k)
-
 rest_same : (wanted : List ℕ) (t u : TreeShown) (es : List Event) (span : Span) → IsKeptTree wanted t u → IsSameWay wanted (rest_met t es span) (rest_met u es span)
 rest_same wanted t u es span k = same_going wanted _ _ es todos.Done (data_kept wanted t u span k)
-
--- fragments
-frames_kept : (wanted : List ℕ) (six : Bool) (frames : List ℕ) (t u : TreeShown) → IsKeptTree wanted t u → IsKeptTree wanted (frames_told t six frames) (frames_told u six frames)
-frames_kept wanted six [] t u k = k
-frames_kept wanted six (frame ∷ frames) t u k =
-    frames_kept wanted six frames (number_told t (frame_field six) frame) (number_told u (frame_field six) frame) (item_kept wanted t u (made_of (frame_field six) (Uint frame)) k)
-
-joined_kept : (wanted : List ℕ) (six : Bool) (datagram : Datagram) (t u : TreeShown) → IsKeptTree wanted t u → IsKeptTree wanted (joined_told t six datagram) (joined_told u six datagram)
-unfolding joined_told
-joined_kept wanted six datagram t u k =
-    buffer_kept wanted _ _ datagram.bytes (item_kept wanted _ _ (made_of (length_field six) (Uint (length datagram.bytes))) (frames_kept wanted six datagram.frames t u k))
 
 joined_same : (wanted : List ℕ) (joined : Joined) (es : List Event) (head : FragmentHead) (span : Span) (t u : TreeShown) → IsKeptTree wanted t u → IsSameWay wanted (joined_met joined t es head span) (joined_met joined u es head span)
 unfolding joined_met conflict_told
@@ -91,33 +72,6 @@ fragment_by_same wanted true es frame head span t u k =
     way_as wanted (λ v. fragment_by true v es frame head span) t u k (λ one. joined_same wanted _ _ head span t (kept_tree wanted t) one)
 fragment_by_same wanted false es frame head span t u k = rest_same wanted t u es span k
 
--- what UDP and TCP headers carry
-payload_kept : (wanted : List ℕ) (field : ℕ) (span : Span) (t u : TreeShown) → IsKeptTree wanted t u → IsKeptTree wanted (with_payload t field span) (with_payload u field span)
-payload_kept wanted field span t u k =
-    tree_as wanted (λ v. with_payload v field span) t u k (λ one. kept_if wanted (span.len == 0) t (kept_tree wanted t) _ _ one (item_kept wanted t (kept_tree wanted t) (read_of t.buffers field span) one))
-
-behind_kept : (wanted : List ℕ) (after : After) (t u : TreeShown) → IsKeptTree wanted t u → IsKeptTree wanted (data_behind t after) (data_behind u after)
-behind_kept wanted (afters.Next which span) t u k = data_kept wanted t u span k
-behind_kept wanted (afters.Packet which span packet) t u k = k
-behind_kept wanted (afters.Fragment head span) t u k = k
-behind_kept wanted (afters.Datagram head span) t u k = k
-behind_kept wanted (afters.Segment head span) t u k = k
-behind_kept wanted afters.End t u k = k
-
-message_kept : (wanted : List ℕ) (app : Option App) (cut : Bool) (span : Span) (t u : TreeShown) → IsKeptTree wanted t u → IsKeptTree wanted (message_over app t cut span) (message_over app u cut span)
-message_kept wanted (Some Dns) cut span t u k =
-    tree_as wanted (λ v. message_over (Some Dns) v cut span) t u k (λ one. layer_kept wanted t (kept_tree wanted t) _ span _ PlainMode cut one)
-message_kept wanted (Some Dhcp) cut span t u k =
-    tree_as wanted (λ v. message_over (Some Dhcp) v cut span) t u k (λ one. layer_kept wanted t (kept_tree wanted t) _ span _ PlainMode cut one)
-message_kept wanted (Some Ntp) cut span t u k =
-    tree_as wanted (λ v. message_over (Some Ntp) v cut span) t u k
-    (λ one. behind_kept wanted _ _ _ (layer_kept wanted t (kept_tree wanted t) _ span _ PlainMode cut one))
-message_kept wanted (Some Mdns) cut span t u k =
-    tree_as wanted (λ v. message_over (Some Mdns) v cut span) t u k (λ one. layer_kept wanted t (kept_tree wanted t) _ span _ PlainMode cut one)
-message_kept wanted (Some Http) cut span t u k = data_kept wanted t u span k
-message_kept wanted (Some Plain) cut span t u k = data_kept wanted t u span k
-message_kept wanted None cut span t u k = data_kept wanted t u span k
-
 datagram_same : (rules : List PortRule) (wanted : List ℕ) (frame : Frame) (packet : PacketHead) (es : List Event) (head : PortsHead) (span : Span) (t u : TreeShown) → IsKeptTree wanted t u →
     IsSameWay wanted (datagram_met rules frame packet t es head span) (datagram_met rules frame packet u es head span)
 unfolding datagram_met datagram_told payload_over
@@ -126,25 +80,6 @@ datagram_same rules wanted frame packet es head span t u k =
     (λ one.
     let told = payload_kept wanted UDP_PAYLOAD span _ _ (item_kept wanted t (kept_tree wanted t) (made_of UDP_STREAM _) one) in
     same_going wanted _ _ _ todos.Done (kept_if wanted (span.len == 0) _ _ _ _ told (message_kept wanted _ (is_cut frame) span _ _ told)))
-
-number_kept : (wanted : List ℕ) (field number : ℕ) (t u : TreeShown) → IsKeptTree wanted t u → IsKeptTree wanted (with_number t field number) (with_number u field number)
-number_kept wanted field number t u k = item_kept wanted t u (made_of field (Uint number)) k
-
-ack_kept : (wanted : List ℕ) (ack : Option ℕ) (t u : TreeShown) → IsKeptTree wanted t u → IsKeptTree wanted (with_ack t ack) (with_ack u ack)
-ack_kept wanted None t u k = k
-ack_kept wanted (Some ack) t u k = number_kept wanted TCP_ACK ack t u k
-
-place_kept : (wanted : List ℕ) (taken : Taken) (t u : TreeShown) → IsKeptTree wanted t u → IsKeptTree wanted (place_told t taken) (place_told u taken)
-unfolding place_told
-place_kept wanted taken t u k = ack_kept wanted taken.ack _ _ (number_kept wanted TCP_SEQ taken.seq _ _ (number_kept wanted TCP_STREAM taken.stream t u k))
-
-lost_kept : (wanted : List ℕ) (lost : ℕ) (t u : TreeShown) → IsKeptTree wanted t u → IsKeptTree wanted (with_lost t lost) (with_lost u lost)
-lost_kept wanted lost t u k = kept_if wanted (lost == 0) t u _ _ k (number_kept wanted TCP_LOST lost t u k)
-
-segment_kept : (wanted : List ℕ) (taken : Taken) (span : Span) (t u : TreeShown) → IsKeptTree wanted t u → IsKeptTree wanted (segment_told t taken span) (segment_told u taken span)
-unfolding segment_told
-segment_kept wanted taken span t u k =
-    lost_kept wanted (lost_bytes taken.lost) _ _ (payload_kept wanted TCP_PAYLOAD span _ _ (number_kept wanted TCP_LEN span.len _ _ (place_kept wanted taken t u k)))
 
 segment_same : (rules : List PortRule) (wanted : List ℕ) (frame : Frame) (packet : PacketHead) (es : List Event) (head : TcpHead) (span : Span) (t u : TreeShown) → IsKeptTree wanted t u →
     IsSameWay wanted (segment_met rules frame packet t es head span) (segment_met rules frame packet u es head span)
@@ -229,10 +164,6 @@ link_same rules wanted frame es t u k =
     way_as wanted (λ v. link_met rules frame v es) t u k
     (λ one. same_if wanted (length frame.bytes == 0) (stop t es) (stop (kept_tree wanted t) es) _ _ (same_going wanted t (kept_tree wanted t) es todos.Done one)
     (followed_same rules wanted frame no_packet PlainMode es _ _ _ (link_kept wanted (link_of frame.link) frame.little t (frame_span frame) (is_cut frame) one)))
-
-frame_kept : (wanted : List ℕ) (before : Times) (frame : Frame) → IsKeptTree wanted (frame_tree before frame) (kept_frame wanted before frame)
-unfolding kept_frame
-frame_kept wanted before frame = layer_kept wanted _ _ _ _ _ _ _ (record { same = refl; all = refl })
 
 pub walk_kept : (rules : List PortRule) (wanted : List ℕ) (before : Times) (es : List Event) (frame : Frame) → IsSameWay wanted (walk_of rules before es frame) (kept_walk rules wanted before es frame)
 unfolding walk_of kept_walk

@@ -1,25 +1,14 @@
 mod Asked
-mod Behind
 mod Chains
-mod DataLemmas
 mod DatagramLemmas
-mod FramePassed
-mod HttpUnasked
+mod HeadWords
 mod Joining
 mod Kept
-mod KeptMessages
-mod LinkKeys
-mod LinkLemmas
-mod LinkedLemmas
-mod MessageBuffers
-mod MessageLemmas
-mod MessagesAside
-mod NoteLemmas
 mod Opens
 mod Passing
 pub mod RuleEvents
+mod SameValues
 mod Segmenting
 mod Spaces
-mod StreamApps
 mod Taken
 mod Told

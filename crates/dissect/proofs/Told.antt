@@ -1,14 +1,12 @@
 -- How a tree is told of a way.
 use Rattle.std.proofs.lemmas.Bool.{cond-true}
 use Rattle.std.specs.Prelude.{IfOk, Result, Ok, Err}
-use Rattle.std.proofs.Common.{◌≡◌, ◌⊎◌, ⊎_elim, List, length, eq-eqb, Bool, true, false, refl, sym, ap, subst, ◌∙◌, true≢false}
+use Rattle.std.proofs.Common.{◌≡◌, List, length, eq-eqb, Bool, true, false, refl, sym, ap, subst, ◌∙◌, true≢false}
 use Rattle.pk_base.specs.declared.memory.NoMemory.{NoMemory}
 use Rattle.pk_base.specs.declared.span.Span.{Span}
 use Rattle.pk_tree.specs.declared.heads.After.{After}
 use Rattle.pk_tree.specs.declared.heads.FragmentHead.{FragmentHead}
 use Rattle.pk_tree.specs.declared.heads.Mode.{Mode}
-use Rattle.pk_tree.specs.declared.heads.Next.{Next}
-use Rattle.pk_tree.specs.declared.heads.Next.TheVariants as nexts
 use Rattle.pk_tree.specs.declared.heads.PacketHead.{PacketHead}
 use Rattle.pk_tree.specs.Trees.{TreeShown}
 use Rattle.ip_join.specs.declared.joined.Datagram.{Datagram}
@@ -20,12 +18,14 @@ use Rattle.dissect.specs.declared.state.State.{State}
 use Rattle.dissect.specs.declared.todo.Head.{Head}
 use Rattle.dissect.specs.declared.todo.Todo.{Todo}
 use Rattle.dissect.specs.declared.todo.Todo.TheVariants as todos
-use Rattle.dissect.specs.Followed.{asks_streams, LacksOnly}
+use Rattle.dissect.specs.Followed.{asks_streams}
+use Rattle.app_layers.specs.Aside.{LacksOnly}
 use Rattle.dissect.specs.Events.{Event}
-use Rattle.dissect.specs.Fragments.{joined_told, joined_todo}
+use Rattle.head_layers.specs.Fragments.{joined_told}
+use Rattle.dissect.specs.Fragments.{joined_todo}
 use Rattle.dissect.specs.Stands.{StandsAt, IsMet, IsToldAs, IsWalked}
-use Rattle.dissect.specs.Walks.{Walk, extension_met, followed, going, head_by, joined_met, link_met, mode_after, stop}
-use Rattle.dissect.proofs.MessagesAside.{lacks_none, lacks_on}
+use Rattle.dissect.specs.Walks.{Walk, followed, going, joined_met, link_met, stop}
+use Rattle.app_layers.proofs.MessagesAside.{lacks_none, lacks_on}
 
 -- the very tree
 pub told_same : (state : State) (next : Todo) (whole t : TreeShown) → t ≡ whole → IsToldAs state next whole t
@@ -92,19 +92,3 @@ pub followed_alike : (rules : List PortRule) (frame : Frame) (packet : PacketHea
     → followed rules frame packet used t es after ≡ followed rules frame packet mode read es next
 followed_alike rules frame packet used mode t read after next es by_mode by_tree by_after =
     ap (λ m. followed rules frame packet m t es after) by_mode ∙ ap (λ x. followed rules frame packet mode x es after) by_tree ∙ ap (λ a. followed rules frame packet mode read es a) by_after
-
--- an extension header of IPv6
-abbrev pub IsExtension : Next → Type 0
-IsExtension which = (which ≡ nexts.HopOpts) ⊎ ((which ≡ nexts.Routing) ⊎ ((which ≡ nexts.DstOpts) ⊎ (which ≡ nexts.FragHdr)))
-
-each_extension : (A : Next → Type 0) (which : Next) → A nexts.HopOpts → A nexts.Routing → A nexts.DstOpts → A nexts.FragHdr → IsExtension which → A which
-each_extension A which hop routing target part is =
-    ⊎_elim (λ e. subst A (sym e) hop) (λ more. ⊎_elim (λ e. subst A (sym e) routing) (λ last. ⊎_elim (λ e. subst A (sym e) target) (λ e. subst A (sym e) part) last) more) is
-
-pub extension_by : (rules : List PortRule) (frame : Frame) (head : Head) (t : TreeShown) (es : List Event) (which : Next) → IsExtension which → extension_met rules which frame head t es ≡ head_by rules which frame head t es
-unfolding head_by
-extension_by rules frame head t es which is =
-    each_extension (λ x. extension_met rules x frame head t es ≡ head_by rules x frame head t es) which refl refl refl refl is
-
-pub extension_mode : (which : Next) (mode : Mode) (after : After) → IsExtension which → mode_after which mode after ≡ mode
-extension_mode which mode after is = each_extension (λ x. mode_after x mode after ≡ mode) which refl refl refl refl is

@@ -1,11 +1,9 @@
 -- What of a frame is told by the streams of TCP.
-use Rattle.std.specs.Prelude.{◌≡◌, ◌==◌, ℕ, zero, suc, Bool, true, false, ◌&&◌, ◌||◌, List, [], ◌++◌}
-use Rattle.std.specs.List.{AllByRecursion as Each}
+use Rattle.std.specs.Prelude.{◌≡◌, ◌==◌, ℕ, zero, suc, Bool, true, false, ◌&&◌, ◌||◌, List}
 use Rattle.pk_fields.specs.Fields.{row_of}
 use Rattle.pk_fields.specs.FieldSets.{is_in}
 use Rattle.pk_fields.specs.Ids.{DNS, HTTP, TCP_ACK, TCP_LOST, TCP_SEGMENT, TCP_SEQ, TCP_STREAM, WS_MALFORMED, WS_SHORT, field_count}
 use Rattle.pk_tree.specs.declared.chosen.Layers.{Layers}
-use Rattle.pk_tree.specs.declared.layer.Layer.{Layer}
 use Rattle.pk_tree.specs.FieldValues.{values_of}
 use Rattle.pk_tree.specs.Trees.{TreeShown}
 
@@ -27,18 +25,6 @@ asks_messages wanted =
 unfoldable pub asks_streams : List ℕ → Bool
 asks_streams wanted =
     is_in wanted TCP_STREAM || is_in wanted TCP_SEQ || is_in wanted TCP_ACK || is_in wanted TCP_LOST || asks_messages wanted
-
--- a layer that has nothing to show of the wanted fields
-abbrev pub IsAside : List ℕ → Layer → Type 0
-IsAside wanted layer = (is_in wanted layer.proto ≡ false) × (layer.items ≡ [])
-
--- what a tree lacks of the whole tree are layers behind its own that have nothing to show, and buffers
-pub record LacksOnly (whole t : TreeShown) : Type 0 where
-  pub layers : List Layer
-  pub whole_layers : whole.layers ≡ t.layers ++ layers
-  pub aside : Each (IsAside whole.wanted) layers
-  pub buffers : List (List ℕ)
-  pub whole_buffers : whole.buffers ≡ t.buffers ++ buffers
 
 -- a tree has the same values of the wanted fields as the whole tree
 abbrev pub HasSameValues : List ℕ → TreeShown → TreeShown → Type 0

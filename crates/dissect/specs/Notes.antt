@@ -1,76 +1,16 @@
--- What later links ask of the messages that frames show. Lists have the newest first.
-use Rattle.std.specs.Prelude.{◌==◌, ℕ, ◌+◌, ◌*◌, true, false, nat_le, if◌then◌else◌, List, [], ◌∷◌, drop, length, map, Option, Some, None}
-use Rattle.http_frame.specs.declared.shape.Shape.{Shape}
+-- The messages that frames showed, among all that was met. Lists have the newest first.
+use Rattle.std.specs.Prelude.{List, [], ◌∷◌, map}
 use Rattle.tcp_streams.specs.declared.segment.Segment.{Segment}
-use Rattle.tcp_streams.specs.declared.segment.Taken.{Taken}
 use Rattle.tcp_streams.specs.Labels.{taken_after}
-use Rattle.stream_messages.specs.declared.told.Told.{Told}
-use Rattle.stream_messages.specs.declared.told.Told.TheVariants as tellings
-use Rattle.stream_messages.specs.Tellings.{end_of}
-use Rattle.tcp_messages.specs.declared.met.ShownMessage.{ShownMessage}
-use Rattle.tcp_messages.specs.Shown.{bytes_from, shown_after}
-use Rattle.port_rules.specs.declared.rules.App.{App}
-use Rattle.port_rules.specs.declared.rules.App.TheVariants.{Http, Dns, Dhcp, Ntp, Mdns, Plain}
+use Rattle.tcp_messages.specs.Shown.{shown_after}
 use Rattle.port_rules.specs.declared.rules.PortRule.{PortRule}
 use Rattle.port_rules.specs.Applications.{udp_app}
-use Rattle.dissect.specs.declared.notes.Direction.{Direction}
-use Rattle.dissect.specs.declared.notes.Note.{Note}
-use Rattle.dissect.specs.declared.notes.Note.TheVariants.{Query, Response, Request, Answer, Other}
+use Rattle.app_layers.specs.MessageLayers.{app_of_segment}
+use Rattle.message_links.specs.declared.notes.Note.{Note}
+use Rattle.message_links.specs.Notes.{Noted, datagram_notes, message_note, noted_on, tcp_direction, udp_direction}
 use Rattle.dissect.specs.Conversations.{udp_stream}
 use Rattle.dissect.specs.Events.{Event, NewFrame, Piece, Udp, Tcp}
-use Rattle.dissect.specs.MessageLayers.{app_of_segment}
 use Rattle.dissect.specs.Segments.{segment_from, segments_of}
-
--- a message of DNS is a query or a response by the first bit behind its id (RFC 1035, 4.1.1); one that ends before its flags do is
--- neither, and its layer tells no flags
-abbrev pub dns_note : List ℕ → Note
-dns_note [] = Other
-dns_note (high ∷ []) = Other
-dns_note (high ∷ low ∷ []) = Other
-dns_note (high ∷ low ∷ flags ∷ []) = Other
-dns_note (high ∷ low ∷ flags ∷ more ∷ rest) =
-    if nat_le 128 flags then Response (high * 256 + low) else Query (high * 256 + low)
-
--- an interim response ends no answer (RFC 9110, 15.2)
-abbrev pub http_note : Shape → Note
-http_note shape = if shape.request then Request else (if shape.interim then Other else Answer)
-
--- in a stream the length of a DNS message stands before it (RFC 1035, 4.2.2)
-abbrev pub told_note : Told → List ℕ → Note
-told_note (tellings.Dns end) bytes = dns_note (drop 2 bytes)
-told_note (tellings.Http shape) bytes = http_note shape
-
--- a message that the frame of a segment with this payload shows
-abbrev pub message_note : List ℕ → ShownMessage → Note
-message_note payload m = told_note m.message.told (bytes_from payload (end_of m.message.told) m.source)
-
--- what a datagram carries is at most one message; multicast DNS has no links
-abbrev pub datagram_notes : Option App → List ℕ → List Note
-datagram_notes (Some Dns) bytes = if length bytes == 0 then [] else dns_note bytes ∷ []
-datagram_notes (Some Http) bytes = []
-datagram_notes (Some Dhcp) bytes = []
-datagram_notes (Some Ntp) bytes = []
-datagram_notes (Some Mdns) bytes = []
-datagram_notes (Some Plain) bytes = []
-datagram_notes None bytes = []
-
--- the direction in which a packet's messages go; over UDP links don't ask for the side
-abbrev pub udp_direction : ℕ → Direction
-udp_direction stream = record { tcp = false; stream = stream; side = false }
-
-abbrev pub tcp_direction : Taken → Direction
-tcp_direction taken = record { tcp = true; stream = taken.stream; side = taken.side == 1 }
-
--- a message, with the frame that showed it
-pub record Noted : Type 0 where
-  pub frame : ℕ
-  pub at : Direction
-  pub note : Note
-
--- a frame's messages, in their order, behind earlier ones
-abbrev pub noted_on : ℕ → Direction → List Note → List Noted → List Noted
-noted_on frame at [] ns = ns
-noted_on frame at (note ∷ notes) ns = noted_on frame at notes (record { frame = frame; at = at; note = note } ∷ ns)
 
 abbrev pub segment_notes : List PortRule → List Segment → Segment → List Note
 segment_notes rules past s = map (message_note s.payload) (shown_after (app_of_segment rules s) past s)

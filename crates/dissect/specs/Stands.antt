@@ -8,23 +8,26 @@ use Rattle.pk_tree.specs.Trees.{TreeShown, IsTree}
 use Rattle.ip_join.specs.Stands.{Stands as JoinsStandFor}
 use Rattle.tcp_streams.specs.Standing.{taken_so_far}
 use Rattle.tcp_messages.specs.Standing.{ReadsFor, streams_in}
-use Rattle.dissect.specs.declared.notes.Direction.{Direction}
-use Rattle.dissect.specs.declared.notes.Note.{Note}
+use Rattle.message_links.specs.declared.notes.Direction.{Direction}
+use Rattle.message_links.specs.declared.notes.Note.{Note}
 use Rattle.dissect.specs.declared.state.State.{State}
-use Rattle.dissect.specs.declared.times.Times.{Times}
+use Rattle.head_layers.specs.declared.times.Times.{Times}
 use Rattle.dissect.specs.declared.todo.Todo.{Todo}
 use Rattle.dissect.specs.declared.todo.Todo.TheVariants as todos
 use Rattle.dissect.specs.Conversations.{udp_opened}
 use Rattle.dissect.specs.Events.{Event}
-use Rattle.dissect.specs.Followed.{asks_streams, LacksOnly}
+use Rattle.dissect.specs.Followed.{asks_streams}
+use Rattle.app_layers.specs.Aside.{LacksOnly}
 use Rattle.dissect.specs.Fragments.{fragments_of}
-use Rattle.dissect.specs.LinkTables.{LinksStandFor}
-use Rattle.dissect.specs.Linked.{linked}
-use Rattle.dissect.specs.Links.{links_of, newest_links}
-use Rattle.dissect.specs.MessageLayers.{app_of_segment}
-use Rattle.dissect.specs.Notes.{Noted, noted, noted_on}
+use Rattle.message_links.specs.LinkTables.{LinksStandFor}
+use Rattle.message_links.specs.Linked.{linked}
+use Rattle.message_links.specs.Links.{links_of}
+use Rattle.dissect.specs.Links.{newest_links}
+use Rattle.app_layers.specs.MessageLayers.{app_of_segment}
+use Rattle.message_links.specs.Notes.{Noted, noted_on}
+use Rattle.dissect.specs.Notes.{noted}
 use Rattle.dissect.specs.Segments.{segments_of}
-use Rattle.dissect.specs.Times.{AreTimes}
+use Rattle.head_layers.specs.Times.{AreTimes}
 use Rattle.dissect.specs.Trees.{times_of, events_of}
 use Rattle.dissect.specs.Walks.{Walk}
 

@@ -1,26 +1,20 @@
 ghost use Rattle.std.specs.Prelude.{◌≡◌, ◌<◌, ◌^◌, List, length, IfOk};
 ghost use Rattle.pk_buffer.specs.Buffers.{IsInside};
+ghost use Rattle.head_layers.specs.Heads.{is_rest};
 ghost use Rattle.dissect.specs.Events.{Event};
 ghost use Rattle.dissect.specs.Stands.{StandsAt, IsWalked, IsReady, AddsAtMost, AddsFew, AddsOneThenEnds};
 ghost use Rattle.dissect.specs.Walks.{IsTodoInside, head_met, mode_after, mode_behind};
 
-use crate::frame_layer::is_cut;
 use crate::state::State;
 use crate::todo::{Head, Todo};
 use capture_read::Frame;
-use dis_icmp::{read_icmp, read_icmp6};
-use dis_ip::{read_extension, read_ip4, read_ip6};
-use dis_link::{read_arp, read_vlan};
-use dis_more::read_igmp;
-use dis_neigh::read_neigh;
-use dis_ports::{read_tcp, read_udp};
+use head_layers::{is_cut, read_head};
 use pk_base::NoMemory;
 use pk_tree::{After, Mode, Next, TreeBuilder};
 use port_rules::PortRule;
 
 impl State {
     /// Reads a header by its protocol. What an ICMP message carries is read as an embedded packet.
-    #[tactic(auto, unfolding(crate::specs::Walks::head_by))]
     pub(crate) fn head(
         &mut self,
         rules: &[PortRule],
@@ -39,31 +33,27 @@ impl State {
         ensures added { AddsAtMost 1 self.old self.new }
         ensures few { IfOk result (λ todo. AddsFew 6 tree.old tree.new todo) }
     {
-        let read = match head.which {
-            Next::Arp => read_arp(head.span, is_cut(frame), head.mode, tree),
-            Next::Vlan => read_vlan(head.span, is_cut(frame), head.mode, tree),
-            Next::Ip4 => read_ip4(head.span, is_cut(frame), head.mode, tree),
-            Next::Ip6 => read_ip6(head.span, is_cut(frame), head.mode, tree),
-            Next::HopOpts | Next::Routing | Next::DstOpts | Next::FragHdr => read_extension(
-                head.which,
-                &head.packet,
-                head.span,
-                is_cut(frame),
-                head.mode,
-                tree,
-            ),
-            Next::Udp => read_udp(head.span, is_cut(frame), head.mode, tree),
-            Next::Tcp => read_tcp(head.span, is_cut(frame), head.mode, tree),
-            Next::Icmp => read_icmp(head.span, is_cut(frame), head.mode, tree),
-            Next::Icmp6 => read_icmp6(head.span, is_cut(frame), head.mode, tree),
-            Next::Neigh(kind) => read_neigh(kind, head.span, is_cut(frame), head.mode, tree),
-            Next::Igmp => read_igmp(head.span, is_cut(frame), head.mode, tree),
-            Next::Rest => return self.rest(head.span, tree),
-        };
-        let after = read?;
+        if is_rest(head.which) {
+            return self.rest(head.span, tree);
+        }
+        let after = read_head(
+            head.which,
+            &head.packet,
+            head.span,
+            is_cut(frame),
+            head.mode,
+            tree,
+        )?;
         let mode = mode_after(head.which, head.mode, &after);
         self.follow(rules, frame, &head.packet, mode, &after, tree)
     }
+}
+
+/// Whether no header is to be read, but the rest.
+fn is_rest(which: Next) -> bool
+    ensures { result ≡ is_rest which }
+{
+    matches!(which, Next::Rest)
 }
 
 /// How what is behind a header is read.

@@ -2,11 +2,11 @@ ghost use Rattle.std.specs.Prelude.{◌≡◌, ◌∷◌, All, List, map, true, 
 ghost use Rattle.port_rules.specs.declared.rules.PortRule.{PortRule as PortRuleValue};
 ghost use Rattle.tcp_messages.specs.Shown.{IsWholeIn};
 ghost use Rattle.dissect.specs.Events.{Event, NewFrame};
-ghost use Rattle.dissect.specs.Notes.{datagram_notes, message_note, tcp_direction, udp_direction};
+ghost use Rattle.message_links.specs.Notes.{datagram_notes, message_note, tcp_direction, udp_direction};
 ghost use Rattle.dissect.specs.Stands.{StandsAt, AddsAtMost, IsLinked, IsSameButLinks};
 
-use crate::notes::{Direction, Note, dns_note, tcp_direction, udp_direction};
 use crate::state::State;
+use message_links::{Direction, Note, dns_note, tcp_direction, udp_direction};
 use pk_base::NoMemory;
 use port_rules::App;
 use tcp_messages::Met;

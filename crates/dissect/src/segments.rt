@@ -1,24 +1,27 @@
-ghost use Rattle.std.specs.Prelude.{◌≡◌, ◌+◌, ◌<◌, ◌^◌, Bool, true, List, [], length, IfOk, OnOk};
-ghost use Rattle.pk_buffer.specs.Buffers.{IsInside};
+ghost use Rattle.std.specs.Prelude.{◌≡◌, ◌+◌, ◌<◌, ◌^◌, All, Bool, true, List, [], length, map, IfOk, OnOk};
+ghost use Rattle.pk_buffer.specs.Buffers.{IsInside, bytes_of};
 ghost use Rattle.pk_fields.specs.Ids.{TCP};
+ghost use Rattle.tcp_streams.specs.Labels.{PassesNear};
+ghost use Rattle.tcp_messages.specs.Shown.{IsWholeIn, frames_told as gathered_from};
 ghost use Rattle.dissect.specs.Events.{Event};
-ghost use Rattle.dissect.specs.MessageLayers.{carried_over};
-ghost use Rattle.dissect.specs.Payloads.{LastIs, carried_told};
+ghost use Rattle.head_layers.specs.FrameLayer.{is_cut};
+ghost use Rattle.message_links.specs.Notes.{message_note, tcp_direction};
+ghost use Rattle.app_layers.specs.MessageLayers.{carried_over};
+ghost use Rattle.head_layers.specs.Payloads.{LastIs, carried_told, segment_told};
 ghost use Rattle.dissect.specs.Segments.{segment_from};
-ghost use Rattle.dissect.specs.Stands.{StandsAt, IsWalked, IsReady, AddsAtMost, AddsFew, AddsOneThenEnds};
+ghost use Rattle.dissect.specs.Stands.{StandsAt, IsWalked, IsReady, IsLinked, IsSameButLinks, AddsAtMost, AddsFew, AddsOneThenEnds};
 ghost use Rattle.dissect.specs.Walks.{IsTodoInside, segment_met};
 
-use crate::applications::stream_app;
-use crate::frame_layer::is_cut;
-use crate::message_layers::{add_carried, add_passed};
-use crate::payload::{tell_carried, tell_segment};
 use crate::state::State;
 use crate::todo::Todo;
+use app_layers::{add_carried, add_passed, stream_app};
 use capture_read::Frame;
+use head_layers::{is_cut, tell_carried, tell_segment};
 use pk_base::{NoMemory, Octets, Span};
 use pk_tree::{Endpoint, PacketHead, TcpHead, TreeBuilder};
 use port_rules::PortRule;
 use stream_messages::App as StreamApp;
+use tcp_messages::Met;
 use tcp_streams::Segment;
 
 impl State {
@@ -80,10 +83,40 @@ impl State {
         let app = stream_app(rules, head.source, head.target);
         let _streams = self.streams.streams();
         let met = self.streams.take(&segment, app)?;
-        self.link_segment(frame.number, &met, segment.payload.bytes())?;
+        match self.show_met(frame, &met, app, segment.payload.bytes(), span, tree) {
+            Ok(()) => Ok(Todo::Done),
+            Err(NoMemory) => Err(NoMemory),
+        }
+    }
+
+    /// Links the messages that a segment's frame shows, and shows them behind the segment's place in its stream.
+    fn show_met(
+        &mut self,
+        frame: &Frame,
+        met: &Met,
+        app: Option<StreamApp>,
+        payload: &[u8],
+        span: Span,
+        tree: &mut TreeBuilder,
+    ) -> Result<(), NoMemory>
+        requires inside { IsInside tree.old.buffers span }
+        requires last { LastIs TCP tree.old.layers }
+        requires bytes { length frame.now.bytes < 2 ^ 32 }
+        requires layers { length tree.old.layers < 2 ^ 31 }
+        requires buffers { length tree.old.buffers < 2 ^ 31 }
+        requires near { PassesNear met.now.taken }
+        requires frames { met.now.frames ≡ gathered_from met.now.messages }
+        requires payload { payload.now ≡ bytes_of tree.old.buffers span }
+        requires whole { All (IsWholeIn payload.now) met.now.messages }
+        ensures links { OnOk result (IsLinked frame.now.number (tcp_direction met.now.taken) (map
+            (message_note payload.now) met.now.messages) self.old self.new) }
+        ensures same { IsSameButLinks self.old self.new }
+        ensures tree { OnOk result (tree.new ≡ carried_over app (is_cut frame.now) span
+            (segment_told tree.old met.now.taken span) met.now.messages) }
+    {
+        self.link_segment(frame.number, met, payload)?;
         tell_segment(&met.taken, span, tree)?;
-        add_carried(app, &met, is_cut(frame), span, tree)?;
-        Ok(Todo::Done)
+        add_carried(app, met, is_cut(frame), span, tree)
     }
 }
 

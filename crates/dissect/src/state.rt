@@ -1,6 +1,6 @@
-use crate::conversations::Conversations;
-use crate::links::Links;
+use conversations::Conversations;
 use ip_join::Joins;
+use message_links::Links;
 use tcp_messages::MessageStreams;
 
 /// What is kept of earlier frames' packets.

@@ -1,3 +1,4 @@
+pub mod MessageBytes
 pub mod Growing
 pub mod Passing
 pub mod Sides

@@ -1,6 +1,6 @@
 use Rattle.std.proofs.Common.{refl}
 use Rattle.dissect.specs.declared.todo.Todo.TheVariants as todos
-use Rattle.dissect.specs.DataLayer.{data_over}
+use Rattle.app_layers.specs.DataLayer.{data_over}
 use Rattle.dissect.proofs.Told.{told_same}
 use Rattle.dissect.proofs.state.State.rest.Goals as goal
 

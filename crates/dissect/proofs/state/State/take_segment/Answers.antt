@@ -1,43 +1,43 @@
-use Rattle.std.proofs.Common.{◌≡◌, ◌∙◌, ℕ, Bool, List, ◌∷◌, map, Option, ap, subst, sym}
+use Rattle.std.proofs.Common.{◌≡◌, ◌∙◌, ℕ, List, ◌∷◌, map, Option, ap, refl, subst, sym}
 use Rattle.stream_messages.specs.declared.told.App.{App as StreamApp}
 use Rattle.tcp_streams.specs.Standing.{StandsFor}
 use Rattle.tcp_messages.specs.Shown.{shown_after}
 use Rattle.tcp_messages.specs.Standing.{ReadsFor}
-use Rattle.dissect.specs.MessageLayers.{app_of_segment, carried_over}
-use Rattle.dissect.specs.Links.{links_of}
-use Rattle.dissect.specs.LinkTables.{LinksStandFor}
-use Rattle.dissect.specs.Notes.{message_note, noted_on, tcp_direction}
+use Rattle.head_layers.specs.FrameLayer.{is_cut}
+use Rattle.head_layers.specs.Payloads.{segment_told}
+use Rattle.app_layers.specs.MessageLayers.{app_of_segment, carried_over}
+use Rattle.message_links.specs.Links.{links_of}
+use Rattle.message_links.specs.LinkTables.{LinksStandFor}
+use Rattle.message_links.specs.Notes.{message_note, noted_on, tcp_direction}
 use Rattle.dissect.specs.Segments.{segment_from}
 use Rattle.dissect.proofs.Segmenting.{shown-walked}
-use Rattle.dissect.proofs.StreamApps.{apps_of_ends}
+use Rattle.app_layers.proofs.StreamApps.{apps_of_ends}
 use Rattle.dissect.proofs.state.State.take_segment.Goals as goal
 
-pub returns-clause-walked : goal.returns-clause-walked
-returns-clause-walked c =
+pub returns-in-Ok-clause-walked : goal.returns-in-Ok-clause-walked
+returns-in-Ok-clause-walked c =
     let rules = c.args.rules.now in
     let frame = c.args.frame.now in
     let segment = c.segment_from-segment.result in
     let met = c.in_ok-met.met in
-    let told = c.tell_segment.new.tree in
+    let told = segment_told c.args.tree.now met.taken c.args.span in
     let app_is : c.stream_app-app.result ≡ app_of_segment rules segment = c.stream_app-app.ensures ∙ sym (ap (app_of_segment rules) c.segment_from-segment.ensures) in
-    shown-walked rules frame c.args.packet c.args.head c.args.span segment met.taken met.messages c.args.self.now _ c.args.tree.now told c.add_carried.new.tree
+    shown-walked rules frame c.args.packet c.args.head c.args.span segment met.taken met.messages c.args.self.now _ c.args.tree.now told c.show_met.new.tree
     (record {
       segment_is = c.segment_from-segment.ensures ∙ ap (segment_from frame.number c.args.packet c.args.head) c.in_ok-part.ensures;
       follows = c.requires.follows;
-      joins = c.link_segment.ensures.same.joins;
-      udp = c.link_segment.ensures.same.udp;
+      joins = c.show_met.ensures.same.joins;
+      udp = c.show_met.ensures.same.udp;
       stands = λ past reads. subst (StandsFor past) c.streams-streams.ensures.streams (c.streams-streams.ensures.stands (app_of_segment rules) past reads);
       taken_is = c.in_ok-met.ensures.taken;
       messages_is = λ past reads. c.in_ok-met.ensures.shown (app_of_segment rules) past (apps_of_ends rules) app_is reads ∙ ap (λ (app : Option StreamApp). shown_after app past segment) app_is;
-      kept = λ past reads. subst (ReadsFor (app_of_segment rules) (segment ∷ past)) (sym c.link_segment.ensures.same.streams) (c.in_ok-met.ensures.stands (app_of_segment rules) past (apps_of_ends rules) app_is reads);
+      kept = λ past reads. subst (ReadsFor (app_of_segment rules) (segment ∷ past)) (sym c.show_met.ensures.same.streams) (c.in_ok-met.ensures.stands (app_of_segment rules) past (apps_of_ends rules) app_is reads);
       links = record {
-        found = λ ns stands. c.in_ok-link_segment.ensures.links.found ns stands
+        found = λ ns stands. c.in-Ok.ensures.links.found ns stands
             ∙ ap (λ (bytes : List ℕ). links_of ns (tcp_direction met.taken) (map (message_note bytes) met.messages)) c.bytes.ensures;
-        links = λ ns stands. subst (λ (bytes : List ℕ). LinksStandFor (noted_on frame.number (tcp_direction met.taken) (map (message_note bytes) met.messages) ns) c.link_segment.new.self.links)
-            c.bytes.ensures (c.in_ok-link_segment.ensures.links.links ns stands);
+        links = λ ns stands. subst (λ (bytes : List ℕ). LinksStandFor (noted_on frame.number (tcp_direction met.taken) (map (message_note bytes) met.messages) ns) c.show_met.new.self.links)
+            c.bytes.ensures (c.in-Ok.ensures.links.links ns stands);
       };
-      told = c.in_ok-tell_segment.ensures.tree;
-      shown = c.in_ok-add_carried.ensures.tree
-          ∙ ap (λ (app : Option StreamApp). carried_over app c.is_cut.result c.args.span told met.messages) app_is
-          ∙ ap (λ (cut : Bool). carried_over (app_of_segment rules segment) cut c.args.span told met.messages) c.is_cut.ensures;
+      told = refl;
+      shown = c.in-Ok.ensures.tree ∙ ap (λ (app : Option StreamApp). carried_over app (is_cut frame) c.args.span told met.messages) app_is;
     })

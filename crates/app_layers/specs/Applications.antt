@@ -1,0 +1,40 @@
+-- What the payload of a datagram is read as.
+use Rattle.std.specs.Prelude.{◌==◌, Bool, false, if◌then◌else◌, Option, Some, None}
+use Rattle.pk_base.specs.declared.span.Span.{Span}
+use Rattle.pk_buffer.specs.Buffers.{bytes_of}
+use Rattle.pk_fields.specs.Ids.{DNS, DHCP, NTP, MDNS}
+use Rattle.pk_tree.specs.declared.heads.After.{After}
+use Rattle.pk_tree.specs.declared.heads.After.TheVariants as afters
+use Rattle.pk_tree.specs.declared.heads.Mode.TheVariants.{Plain as PlainMode}
+use Rattle.pk_tree.specs.Layouts.{layer_read}
+use Rattle.pk_tree.specs.Trees.{TreeShown}
+use Rattle.dis_dhcp.specs.Dhcp.{dhcp_layout}
+use Rattle.dis_dns.specs.Dns.{dns_layout, mdns_layout}
+use Rattle.dis_more.specs.Ntp.{ntp_layout, ntp_after}
+use Rattle.port_rules.specs.declared.rules.App.{App}
+use Rattle.port_rules.specs.declared.rules.App.TheVariants.{Http, Dns, Dhcp, Ntp, Mdns, Plain}
+use Rattle.app_layers.specs.DataLayer.{data_over}
+
+-- the tree with what follows a layer, as data
+abbrev pub data_behind : TreeShown → After → TreeShown
+data_behind t (afters.Next which span) = data_over t span
+data_behind t (afters.Packet which span packet) = t
+data_behind t (afters.Fragment head span) = t
+data_behind t (afters.Datagram head span) = t
+data_behind t (afters.Segment head span) = t
+data_behind t afters.End = t
+
+-- the tree with a datagram's payload, read by its application, which is a single message
+abbrev pub message_over : Option App → TreeShown → Bool → Span → TreeShown
+message_over (Some Dns) t cut span = layer_read t DNS span (dns_layout false (bytes_of t.buffers span)) PlainMode cut
+message_over (Some Dhcp) t cut span = layer_read t DHCP span (dhcp_layout (bytes_of t.buffers span)) PlainMode cut
+message_over (Some Ntp) t cut span =
+    data_behind (layer_read t NTP span (ntp_layout (bytes_of t.buffers span)) PlainMode cut) (ntp_after span (bytes_of t.buffers span))
+message_over (Some Mdns) t cut span = layer_read t MDNS span (mdns_layout (bytes_of t.buffers span)) PlainMode cut
+message_over (Some Http) t cut span = data_over t span
+message_over (Some Plain) t cut span = data_over t span
+message_over None t cut span = data_over t span
+
+-- a payload of no bytes is no message
+unfoldable pub payload_over : Option App → TreeShown → Bool → Span → TreeShown
+payload_over app t cut span = if span.len == 0 then t else message_over app t cut span

@@ -1,0 +1,4 @@
+pub mod Applications
+pub mod Aside
+pub mod DataLayer
+pub mod MessageLayers

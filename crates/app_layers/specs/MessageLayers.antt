@@ -1,0 +1,80 @@
+-- What the tree of a frame shows of the messages of a TCP stream: the frames that brought them, and then their layers, one behind
+-- the other.
+use Rattle.std.specs.Prelude.{ℕ, Bool, true, List, [], ◌∷◌, length, Option, Some, None}
+use Rattle.pk_base.specs.declared.span.Span.{Span}
+use Rattle.pk_buffer.specs.Buffers.{bytes_of}
+use Rattle.pk_fields.specs.Ids.{DNS, TCP_SEGMENT}
+use Rattle.pk_tree.specs.declared.heads.Mode.TheVariants.{Plain as PlainMode}
+use Rattle.pk_tree.specs.Layouts.{layer_read, within}
+use Rattle.pk_tree.specs.Trees.{TreeShown, with_buffer}
+use Rattle.dis_dns.specs.Dns.{dns_layout}
+use Rattle.dis_http.specs.Http.{http_read}
+use Rattle.tcp_streams.specs.declared.segment.Segment.{Segment}
+use Rattle.stream_messages.specs.declared.told.App.{App as StreamApp}
+use Rattle.stream_messages.specs.declared.told.App.TheVariants as stream_apps
+use Rattle.stream_messages.specs.declared.told.Told.{Told}
+use Rattle.stream_messages.specs.declared.told.Told.TheVariants as tellings
+use Rattle.stream_messages.specs.Tellings.{end_of}
+use Rattle.tcp_messages.specs.declared.met.ShownMessage.{ShownMessage}
+use Rattle.tcp_messages.specs.declared.met.Source.{Source}
+use Rattle.tcp_messages.specs.declared.met.Source.TheVariants as sources
+use Rattle.tcp_messages.specs.Shown.{frames_told as gathered_from}
+use Rattle.port_rules.specs.declared.rules.App.{App}
+use Rattle.port_rules.specs.declared.rules.App.TheVariants.{Http, Dns, Dhcp, Ntp, Mdns, Plain}
+use Rattle.port_rules.specs.declared.rules.PortRule.{PortRule}
+use Rattle.port_rules.specs.Applications.{tcp_app}
+use Rattle.app_layers.specs.DataLayer.{data_over}
+use Rattle.head_layers.specs.Payloads.{with_number}
+
+-- those that have messages in streams
+abbrev pub in_streams : Option App → Option StreamApp
+in_streams (Some Dns) = Some stream_apps.Dns
+in_streams (Some Http) = Some stream_apps.Http
+in_streams (Some Dhcp) = None
+in_streams (Some Ntp) = None
+in_streams (Some Mdns) = None
+in_streams (Some Plain) = None
+in_streams None = None
+
+-- the application of a stream, by the ports of one of its segments
+unfoldable pub stream_app : List PortRule → ℕ → ℕ → Option StreamApp
+stream_app rules source target = in_streams (tcp_app rules source target)
+
+abbrev pub app_of_segment : List PortRule → Segment → Option StreamApp
+app_of_segment rules s = stream_app rules s.from.port s.to.port
+
+-- the frames that brought the bytes of messages, in the layer of the TCP header
+abbrev pub with_segments : TreeShown → List ℕ → TreeShown
+with_segments t [] = t
+with_segments t (frame ∷ frames) = with_segments (with_number t TCP_SEGMENT frame) frames
+
+-- a message's layer over its bytes; before a DNS message stands its length there (RFC 1035, 4.2.2)
+abbrev pub told_over : Bool → TreeShown → Span → Told → TreeShown
+told_over cut t span (tellings.Dns end) = layer_read t DNS span (dns_layout true (bytes_of t.buffers span)) PlainMode cut
+told_over cut t span (tellings.Http shape) = http_read t span shape
+
+-- all of a buffer that is added
+abbrev pub added_span : TreeShown → List ℕ → Span
+added_span t bytes = record { buffer = length t.buffers; start = 0; len = length bytes }
+
+-- a message that its frame alone brought lies in the bytes of the frame's segment; the bytes of any other are a buffer of their own
+abbrev pub sourced_over : Bool → Span → TreeShown → Told → Source → TreeShown
+sourced_over cut span t told (sources.Segment place) = told_over cut t (within span place (end_of told)) told
+sourced_over cut span t told (sources.Gathered g) = told_over cut (with_buffer t g.bytes) (added_span t g.bytes) told
+
+unfoldable pub message_over : Bool → Span → TreeShown → ShownMessage → TreeShown
+message_over cut span t m = sourced_over cut span t m.message.told m.source
+
+-- one message behind the other
+abbrev pub messages_over : Bool → Span → TreeShown → List ShownMessage → TreeShown
+messages_over cut span t [] = t
+messages_over cut span t (m ∷ ms) = messages_over cut span (message_over cut span t m) ms
+
+-- the messages that a frame shows, behind the frames that brought them
+abbrev pub shown_over : Bool → Span → TreeShown → List ShownMessage → TreeShown
+shown_over cut span t messages = messages_over cut span (with_segments t (gathered_from messages)) messages
+
+-- what a segment carries: the messages that its frame shows, and where its stream has no application, its bytes as data
+unfoldable pub carried_over : Option StreamApp → Bool → Span → TreeShown → List ShownMessage → TreeShown
+carried_over None cut span t messages = data_over t span
+carried_over (Some app) cut span t messages = shown_over cut span t messages

@@ -1,0 +1,80 @@
+ghost use Rattle.std.specs.Prelude.{◌≡◌, ◌+◌, ◌<◌, ◌≤◌, ◌^◌, length, IfOk, OnOk};
+ghost use Rattle.pk_buffer.specs.Buffers.{IsInside};
+ghost use Rattle.pk_tree.specs.Following.{LeadsInside};
+ghost use Rattle.app_layers.specs.Applications.{data_behind, payload_over};
+ghost use Rattle.app_layers.specs.MessageLayers.{in_streams, stream_app};
+
+use crate::data_layer::add_data;
+use dis_dhcp::read_dhcp;
+use dis_dns::{read_dns, read_mdns};
+use dis_more::read_ntp;
+use pk_base::{NoMemory, Span};
+use pk_tree::{After, TreeBuilder};
+use port_rules::{App, PortRule, tcp_app};
+use stream_messages::App as StreamApp;
+
+/// The application of a stream, by the ports of one of its segments.
+#[tactic(auto, unfolding(crate::specs::MessageLayers::stream_app))]
+pub fn stream_app(rules: &[PortRule], source: u16, target: u16) -> Option<StreamApp>
+    ensures { result ≡ stream_app rules.now source target }
+{
+    in_streams(tcp_app(rules, source, target))
+}
+
+/// The applications that have messages in streams.
+fn in_streams(app: Option<App>) -> Option<StreamApp>
+    ensures { result ≡ in_streams app }
+{
+    match app {
+        Some(App::Dns) => Some(StreamApp::Dns),
+        Some(App::Http) => Some(StreamApp::Http),
+        Some(App::Dhcp) | Some(App::Ntp) | Some(App::Mdns) | Some(App::Plain) | None => None,
+    }
+}
+
+/// Reads the payload of a datagram by its application. One of no bytes is no message.
+#[tactic(auto, unfolding(crate::specs::Applications::payload_over))]
+pub fn add_message(
+    app: Option<App>,
+    cut: bool,
+    span: Span,
+    tree: &mut TreeBuilder,
+) -> Result<(), NoMemory>
+    requires inside { IsInside tree.old.buffers span }
+    requires room { length tree.old.layers + 4 < 2 ^ 32 }
+    ensures tree { IfOk result (λ _. tree.new ≡ payload_over app tree.old cut span) }
+    ensures buffers { tree.new.buffers ≡ tree.old.buffers }
+    ensures most { OnOk result (length tree.new.layers ≤ length tree.old.layers + 4) }
+{
+    if span.len == 0 {
+        return Ok(());
+    }
+    match app {
+        Some(App::Dns) => read_dns(span, false, cut, tree),
+        Some(App::Dhcp) => read_dhcp(span, cut, tree),
+        Some(App::Ntp) => {
+            let after = read_ntp(span, cut, tree)?;
+            add_rest(after, tree)
+        }
+        Some(App::Mdns) => read_mdns(span, cut, tree),
+        Some(App::Http) | Some(App::Plain) | None => add_data(span, tree),
+    }
+}
+
+/// Shows what follows a layer as data.
+fn add_rest(after: After, tree: &mut TreeBuilder) -> Result<(), NoMemory>
+    requires inside { LeadsInside tree.old.buffers after }
+    requires room { length tree.old.layers + 2 < 2 ^ 32 }
+    ensures tree { IfOk result (λ _. tree.new ≡ data_behind tree.old after) }
+    ensures buffers { tree.new.buffers ≡ tree.old.buffers }
+    ensures most { OnOk result (length tree.new.layers ≤ length tree.old.layers + 2) }
+{
+    match after {
+        After::Next(_, span) => add_data(span, tree),
+        After::Packet(_, _, _)
+        | After::Fragment(_, _)
+        | After::Datagram(_, _)
+        | After::Segment(_, _)
+        | After::End => Ok(()),
+    }
+}

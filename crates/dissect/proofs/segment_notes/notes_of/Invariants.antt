@@ -1,7 +1,0 @@
-use Rattle.std.proofs.Common.{◌≡◌, map, take}
-use Rattle.dissect.specs.Notes.{message_note}
-use Rattle.dissect.proofs.segment_notes.notes_of.Given as goal
-
--- the messages so far
-abbrev pub invariant-loop-message : goal.invariant-loop-message
-invariant-loop-message l = l.notes.items ≡ map (message_note l.payload) (take l.message-index l.messages)

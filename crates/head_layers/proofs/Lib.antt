@@ -1,0 +1,5 @@
+pub mod Behind
+mod FramePassed
+mod HeadLemmas
+pub mod KeptHeads
+pub mod ToldHeads

@@ -1,0 +1,5 @@
+pub mod Fragments
+pub mod FrameLayer
+pub mod Heads
+pub mod Payloads
+pub mod Times

@@ -1,0 +1,4 @@
+mod LinkKeys
+mod LinkLemmas
+pub mod LinkedLemmas
+mod NoteLemmas

@@ -1,0 +1,31 @@
+-- The notes of messages, one behind the other.
+use Rattle.std.proofs.Common.{◌≡◌, ℕ, zero, suc, ◌+◌, ◌<◌, ◌≤◌, List, [], ◌∷◌, ◌++◌, length, map, take, get_or, refl, sym, ap, ◌∙◌, subst, arith}
+use Rattle.std.specs.List.{slice_range}
+use Rattle.stream_messages.specs.Tellings.{end_of}
+use Rattle.tcp_messages.specs.declared.met.ShownMessage.{ShownMessage}
+use Rattle.tcp_messages.specs.declared.met.Source.{Source}
+use Rattle.tcp_messages.specs.declared.met.Source.TheVariants as sources
+use Rattle.tcp_messages.specs.Shown.{IsMessage, IsWholeIn, bytes_from}
+use Rattle.tcp_messages.proofs.MessageBytes.{segment_fits}
+
+pub map_next : {A B : Type 0} (f : A → B) (xs : List A) (i : ℕ) (d : A) → i < length xs → map f (take (suc i) xs) ≡ map f (take i xs) ++ f (get_or xs i d) ∷ []
+map_next f [] i d within = absurd (omega (arith, within))
+map_next f (x ∷ xs) zero d within = refl
+map_next f (x ∷ xs) (suc i) d within = ap (λ rest. f x ∷ rest) (map_next f xs i d (omega (arith, within)))
+
+pub taken_all : {A : Type 0} (i : ℕ) (xs : List A) → length xs ≤ i → take i xs ≡ xs
+taken_all zero [] past = refl
+taken_all (suc i) [] past = refl
+taken_all zero (x ∷ xs) past = absurd (omega (arith, past))
+taken_all (suc i) (x ∷ xs) past = ap (λ rest. x ∷ rest) (taken_all i xs (omega (arith, past)))
+
+-- a message that its segment brought
+module _ (payload : List ℕ) (m : ShownMessage) (place len : ℕ) (source : m.source ≡ sources.Segment place) (whole : IsWholeIn payload m) (size : len ≡ end_of m.message.told) where
+  part_is : IsMessage m.message.told (slice_range payload place (place + end_of m.message.told))
+  part_is = subst (λ (s : Source). IsMessage m.message.told (bytes_from payload (end_of m.message.told) s)) source whole.is
+
+  pub part_fits : place + len ≤ length payload
+  part_fits = omega (arith, size, segment_fits payload m.message.told place part_is)
+
+  pub part_whole : (bytes : List ℕ) → bytes ≡ slice_range payload place (place + len) → IsMessage m.message.told bytes
+  part_whole bytes is = subst (IsMessage m.message.told) (sym (is ∙ ap (λ (n : ℕ). slice_range payload place (place + n)) size)) part_is

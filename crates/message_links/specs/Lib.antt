@@ -1,0 +1,4 @@
+pub mod Linked
+pub mod LinkTables
+pub mod Links
+pub mod Notes
