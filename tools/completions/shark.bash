@@ -360,9 +360,25 @@ vlan.id
 vlan.len
 vlan.priority"
 
+# A sign of equality ends a word for bash, so that a value behind one stands by itself.
 _shark() {
-  local word=${COMP_WORDS[COMP_CWORD]}
-  case ${COMP_WORDS[COMP_CWORD - 1]} in
+  local word=${COMP_WORDS[COMP_CWORD]} before=${COMP_WORDS[COMP_CWORD - 1]} key=
+  case $word in
+    = | ==) key=$before$word word= ;;
+    *) [[ $before != = && $before != == ]] || key=${COMP_WORDS[COMP_CWORD - 2]}$before ;;
+  esac
+  case $key in
+    header=) mapfile -t COMPREPLY < <(compgen -W 'y n' -- "$word") && return ;;
+    separator=) mapfile -t COMPREPLY < <(compgen -W '/t /s , ;' -- "$word") && return ;;
+    aggregator=) mapfile -t COMPREPLY < <(compgen -W '/s , ;' -- "$word") && return ;;
+    occurrence=) mapfile -t COMPREPLY < <(compgen -W 'f l a' -- "$word") && return ;;
+    quote=) mapfile -t COMPREPLY < <(compgen -W 'd s n' -- "$word") && return ;;
+  esac
+  [[ $word != *,* ]] || case $key in
+    tcp.port==) mapfile -t COMPREPLY < <(compgen -P "${word%%,*}," -W 'http dns data' -- "${word#*,}") && return ;;
+    udp.port==) mapfile -t COMPREPLY < <(compgen -P "${word%%,*}," -W 'dns dhcp data' -- "${word#*,}") && return ;;
+  esac
+  case $before in
     -r) mapfile -t COMPREPLY < <(compgen -f -- "$word") ;;
     -c) COMPREPLY=() ;;
     --self-run) COMPREPLY=() ;;
@@ -370,11 +386,11 @@ _shark() {
     -d) mapfile -t COMPREPLY < <(compgen -W "tcp.port== udp.port==" -- "$word") && compopt -o nospace ;;
     -T) mapfile -t COMPREPLY < <(compgen -W "text fields json" -- "$word") ;;
     -e) mapfile -t COMPREPLY < <(compgen -W "$_shark_fields" -- "$word") ;;
-    -E) COMPREPLY=() ;;
+    -E) mapfile -t COMPREPLY < <(compgen -W "header= separator= aggregator= occurrence= quote=" -- "$word") && compopt -o nospace ;;
     -z) mapfile -t COMPREPLY < <(compgen -W "conv,tcp conv,ip io,phs follow,tcp,raw," -- "$word") && compopt -o nospace ;;
     -w) mapfile -t COMPREPLY < <(compgen -W "-" -- "$word") ;;
     -F) mapfile -t COMPREPLY < <(compgen -W "pcap pcapng" -- "$word") ;;
     *) mapfile -t COMPREPLY < <(compgen -W "-r -c --self-run -Y -2 -d -T -e -E -q -z --filter-stats -w -F --help --version" -- "$word") ;;
   esac
 }
-complete -F _shark shark
+complete -F _shark shark sharkt
