@@ -1,12 +1,14 @@
 #!/usr/bin/env bash
 # Eight captures of web traffic (10,000 visits, 49 MB each) on all processors, a file each, by xargs: seconds by the clock of bin/shark, and of tshark where it is
-# installed, with the ratio. bench/many.sh 2 takes two processors.
+# installed, with the ratio.
+#
+#     bench/many.sh [PROCESSORS [VISITS]]
 set -eu
 cd "$(dirname "$0")/.."
-lanes=${1:-$(nproc)}
+lanes=${1:-$(nproc)} visits=${2:-10000}
 work=$(mktemp -d)
 trap 'rm -rf "$work"' EXIT
-python3 bench/make_web.py "$work/0.pcap" 10000
+python3 bench/make_web.py "$work/0.pcap" "$visits"
 for number in 1 2 3 4 5 6 7; do
   cp "$work/0.pcap" "$work/$number.pcap"
 done

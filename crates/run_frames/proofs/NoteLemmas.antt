@@ -14,14 +14,16 @@ use Rattle.run_frames.specs.declared.tables.Table.{Table}
 use Rattle.run_frames.specs.declared.tables.Tables.{Tables}
 use Rattle.run_frames.specs.declared.totals.Totals.{Totals}
 use Rattle.run_frames.specs.Accessors.{compiled_of, is_generated, stats_of}
-use Rattle.run_frames.specs.Totals.{steps_told, counts_with, with_tree}
+use Rattle.run_frames.specs.Totals.{steps_told, counts_by, counts_with, with_tree}
 use Rattle.run_frames.specs.Job.{Job}
-use Rattle.run_frames.specs.Notes.{AreNotes}
+use Rattle.run_frames.specs.Notes.{AreNotes, AreOneMore, HasNoted}
 use Rattle.run_frames.specs.Satisfied.{judged}
 use Rattle.run_frames.specs.Tables.{AreTables, IsTable, asks_table, asks_tables, trees_let, trees_with}
 use Rattle.run_frames.specs.Trees.{lets, tree_of}
 use Rattle.run_frames.specs.Wanted.{IsNotedAs, IsToldAs}
+use Rattle.run_frames.proofs.TotalsLemmas.{few_suc}
 use Rattle.run_frames.proofs.WantedLemmas.{no_table}
+use Rattle.std.specs.Prelude.{Result, Ok, Err, OnOk}
 use Rattle.std.specs.Option.{unwrap_or}
 use Rattle.capture_write.specs.Kept.{Kept, Stands as Written, nothing_kept}
 use Rattle.capture_write.specs.declared.format.Format.{Format}
@@ -33,7 +35,7 @@ with_no_steps : (totals : Totals) → record totals { steps = totals.steps + 0 }
 with_no_steps totals =
     let same : totals.steps + 0 ≡ totals.steps = omega arith in ap (λ (n : ℕ). record totals { steps = n }) same
 
-pub not_counted : (plan : Plan) (tree : TreeShown) (totals : Totals) → is_generated plan ≡ false → stats_of plan ≡ false → totals ≡ counts_with plan tree totals
+not_counted : (plan : Plan) (tree : TreeShown) (totals : Totals) → is_generated plan ≡ false → stats_of plan ≡ false → totals ≡ counts_with plan tree totals
 not_counted plan tree totals is untold =
     let verdict = judged (compiled_of plan) tree in
     sym (ap (λ (b : Bool). record (if b then with_tree tree verdict.holds totals else totals) { steps = totals.steps + steps_told plan verdict }) is
@@ -48,7 +50,7 @@ unasked plan kind trees others table untabled is = record {
   counts = is.counts;
 }
 
-pub not_tabled : (plan : Plan) (tree : TreeShown) (trees : List TreeShown) (tables : Tables) → asks_tables plan ≡ false → AreTables plan trees tables
+not_tabled : (plan : Plan) (tree : TreeShown) (trees : List TreeShown) (tables : Tables) → asks_tables plan ≡ false → AreTables plan trees tables
     → AreTables plan (trees_with plan tree trees) tables
 not_tabled plan tree trees tables untabled are = record {
   conv_tcp = unasked plan ConvTcp trees (trees_with plan tree trees) tables.conv_tcp untabled are.conv_tcp;
@@ -56,16 +58,45 @@ not_tabled plan tree trees tables untabled are = record {
   phs = unasked plan Phs trees (trees_with plan tree trees) tables.phs untabled are.phs;
 }
 
+-- where neither is asked for
+pub noted_nothing : (plan : Plan) (tree : TreeShown) (notes : Notes) → is_generated plan ≡ false → stats_of plan ≡ false → asks_tables plan ≡ false
+    → HasNoted plan tree notes notes
+noted_nothing plan tree notes is untold untabled = record {
+  totals = not_counted plan tree notes.totals is untold;
+  tables = λ trees are. not_tabled plan tree trees notes.tables untabled are;
+}
+
+pub one_more_same : (notes : Notes) → AreOneMore notes notes
+one_more_same notes = record { few = λ most few. few_suc most notes.totals few }
+
 -- a tree that the filter doesn't let through, and one that it does
-pub tables_left : (plan : Plan) (tree : TreeShown) (trees : List TreeShown) (tables : Tables) (verdict : Verdict) → verdict.holds ≡ false
+tables_left : (plan : Plan) (tree : TreeShown) (trees : List TreeShown) (tables : Tables) (verdict : Verdict) → verdict.holds ≡ false
     → verdict ≡ judged (compiled_of plan) tree → AreTables plan trees tables → AreTables plan (trees_with plan tree trees) tables
 tables_left plan tree trees tables verdict is answers are =
     subst (λ (b : Bool). AreTables plan (if b then tree ∷ trees else trees) tables) (sym is ∙ ap (λ (v : Verdict). v.holds) answers) are
 
-pub tables_more : (plan : Plan) (tree : TreeShown) (trees : List TreeShown) (tables : Tables) (verdict : Verdict) → verdict.holds ≡ true
+tables_more : (plan : Plan) (tree : TreeShown) (trees : List TreeShown) (tables : Tables) (verdict : Verdict) → verdict.holds ≡ true
     → verdict ≡ judged (compiled_of plan) tree → AreTables plan (tree ∷ trees) tables → AreTables plan (trees_with plan tree trees) tables
 tables_more plan tree trees tables verdict is answers are =
     subst (λ (b : Bool). AreTables plan (if b then tree ∷ trees else trees) tables) (sym is ∙ ap (λ (v : Verdict). v.holds) answers) are
+
+pub noted_left : (plan : Plan) (tree : TreeShown) (verdict : Verdict) (old : Notes) (totals : Totals) → verdict.holds ≡ false
+    → verdict ≡ judged (compiled_of plan) tree → totals ≡ counts_by plan verdict tree old.totals
+    → HasNoted plan tree old (record { totals = totals; tables = old.tables })
+noted_left plan tree verdict old totals is answers counted = record {
+  totals = counted ∙ ap (λ (v : Verdict). counts_by plan v tree old.totals) answers;
+  tables = λ trees are. tables_left plan tree trees old.tables verdict is answers are;
+}
+
+pub noted_more : {A E : Type 0} (result : Result A E) (plan : Plan) (tree : TreeShown) (verdict : Verdict) (old : Notes) (totals : Totals) (tables : Tables)
+    → verdict.holds ≡ true → verdict ≡ judged (compiled_of plan) tree → totals ≡ counts_by plan verdict tree old.totals
+    → OnOk result ((p : Plan) (trees : List TreeShown) → AreTables p trees old.tables → AreTables p (tree ∷ trees) tables)
+    → OnOk result (HasNoted plan tree old (record { totals = totals; tables = tables }))
+noted_more (Err error) plan tree verdict old totals tables is answers counted tabled = tt
+noted_more (Ok done) plan tree verdict old totals tables is answers counted tabled = record {
+  totals = counted ∙ ap (λ (v : Verdict). counts_by plan v tree old.totals) answers;
+  tables = λ trees are. tables_more plan tree trees tables verdict is answers (tabled plan trees are);
+}
 
 -- by the whole tree, where it is noted
 stands_whole : (plan : Plan) (kind : StatKind) (tree whole : TreeShown) (trees : List TreeShown) (stats : Stats) → kind_of stats ≡ kind → IsNotedAs plan kind whole tree
@@ -85,14 +116,12 @@ table_same plan kind tree whole trees table same is = record {
   counts = is.counts;
 }
 
-pub notes_after : (job : Job) (past : List Frame) (frame : Frame) (tree : TreeShown) (old new : Notes) → new.totals ≡ counts_with job.plan tree old.totals
-    → IsToldAs job.plan (tree_of job past frame) tree
-    → ((trees : List TreeShown) → AreTables job.plan trees old.tables → AreTables job.plan (trees_with job.plan tree trees) new.tables)
-    → AreNotes job past old → AreNotes job (frame ∷ past) new
-notes_after job past frame tree old new counted told tabled notes =
-    let tables : AreTables job.plan (trees_with job.plan tree (trees_let job past)) new.tables = tabled (trees_let job past) notes.tables in
+pub notes_after : (job : Job) (past : List Frame) (frame : Frame) (tree : TreeShown) (old new : Notes) → HasNoted job.plan tree old new
+    → IsToldAs job.plan (tree_of job past frame) tree → AreNotes job past old → AreNotes job (frame ∷ past) new
+notes_after job past frame tree old new noted told notes =
+    let tables : AreTables job.plan (trees_with job.plan tree (trees_let job past)) new.tables = noted.tables (trees_let job past) notes.tables in
     record {
-      totals = counted ∙ told.counted old.totals ∙ ap (counts_with job.plan (tree_of job past frame)) notes.totals;
+      totals = noted.totals ∙ told.counted old.totals ∙ ap (counts_with job.plan (tree_of job past frame)) notes.totals;
       tables = record {
         conv_tcp = table_same job.plan ConvTcp tree (tree_of job past frame) (trees_let job past) new.tables.conv_tcp (told.noted ConvTcp) tables.conv_tcp;
         conv_ip = table_same job.plan ConvIp tree (tree_of job past frame) (trees_let job past) new.tables.conv_ip (told.noted ConvIp) tables.conv_ip;

@@ -1,26 +1,25 @@
 // A frame of a run: its tree, its line or its packet, and what is noted of it.
-ghost use Rattle.std.specs.Prelude.{◌≡◌, ◌<◌, ◌≤◌, ◌+◌, ◌-◌, ◌^◌, ℕ, suc, true, false, IfOk, IfSome, IsSome, IsErrOf, OnOk, [], ◌∷◌, List, None, Some, length};
+ghost use Rattle.std.specs.Prelude.{◌≡◌, ◌≢◌, ◌<◌, ◌≤◌, ◌+◌, ◌-◌, ◌^◌, ℕ, suc, true, false, IfOk, IfSome, IsErrOf, OnOk, [], ◌∷◌, List, length};
 ghost use Rattle.std.specs.Io.KnownBytes.{Appends};
 ghost use Rattle.pk_outside.specs.Outside.{Rose, AppendsPart};
 ghost use Rattle.capture_read.specs.declared.frame.Frame.{Frame as FrameValue};
-ghost use Rattle.capture_write.specs.Kept.{Stands as Written};
 ghost use Rattle.dissect.specs.Stands.{StandsWithin};
 ghost use Rattle.capture_read.specs.FrameList.{IsTime};
-ghost use Rattle.pk_tree.specs.Trees.{TreeShown};
-ghost use Rattle.run_frames.specs.Accessors.{compiled_of, is_generated, is_quiet, rules_of, stats_of, two_of, written_of};
+ghost use Rattle.run_frames.specs.Accessors.{compiled_of, is_generated, is_quiet as is_plan_quiet, rules_of, stats_of, two_of, written_of};
 ghost use Rattle.run_frames.specs.Job.{Passes, job_in};
 ghost use Rattle.run_frames.specs.Later.{ServesKept};
-ghost use Rattle.run_frames.specs.Steps.{IsAfterFrame, IsPacked, KeepsUp, fit_packet, fit_piece};
+ghost use Rattle.run_frames.specs.Steps.{IsAfterFrame, KeepsUp, fit_piece};
 ghost use Rattle.run_frames.specs.Pieces.{line_of, shown};
-ghost use Rattle.run_frames.specs.Notes.{AreFewNotes, AreNotes};
-ghost use Rattle.run_frames.specs.Tables.{AreTables, asks_tables, trees_with};
-ghost use Rattle.run_frames.specs.Totals.{counts_with, nothing_counted};
-ghost use Rattle.run_frames.specs.Trees.{lets, lets_frame, tree_of};
+ghost use Rattle.run_frames.specs.Notes.{AreFewNotes, AreOneMore, HasNoted};
+ghost use Rattle.run_frames.specs.Tables.{asks_tables};
+ghost use Rattle.run_frames.specs.Totals.{nothing_counted};
+ghost use Rattle.run_frames.specs.Trees.{tree_of};
 ghost use Rattle.run_frames.specs.Wanted.{IsEnough, IsToldAs};
 
 use crate::judge::{Judge, judge_for, verdict_of};
 use crate::later::{Later, add_links};
 use crate::notes::Notes;
+use crate::owned::give_up_tree;
 use crate::packet::write_packet;
 use crate::plan::Plan;
 use crate::tables::has_tables;
@@ -62,8 +61,8 @@ pub fn new_dissector(alloc: Global, plan: &Plan, wanted: FieldSet) -> Result<Dis
 pub struct LineMaker<'p> {
     pub judge: Option<Judge<'p>>,
     pub writer: LineWriter,
-    json: JsonWriter,
-    line: Vec<u8>,
+    pub(crate) json: JsonWriter,
+    pub(crate) line: Vec<u8>,
     pub notes: Notes,
     pub capture: Writer,
 }
@@ -77,9 +76,11 @@ pub fn new_line_maker(alloc: Global, plan: &Plan) -> Result<LineMaker<'_>, NoMem
     ensures keeps { IfOk result (λ lines. (passes : Passes)
         → KeepsUp (written_of plan.now) (job_in plan.now passes) [] lines.notes lines.capture) }
 {
+    let writer = LineWriter::new(alloc, plan.fields.slice())?;
+    let judge = judge_for(alloc, plan)?;
     Ok(LineMaker {
-        judge: judge_for(alloc, plan)?,
-        writer: LineWriter::new(alloc, plan.fields.slice())?,
+        judge,
+        writer,
         json: JsonWriter::new(alloc),
         line: Vec::new(alloc),
         notes: Notes::new(alloc, plan),
@@ -113,7 +114,7 @@ fn put_line(
 
 // Whether it is asked what the filter's program answers of a tree.
 fn asks_filter(plan: &Plan) -> bool
-    ensures quiet { result ≡ false → is_quiet plan.now ≡ true }
+    ensures quiet { result ≡ false → is_plan_quiet plan.now ≡ true }
     ensures file { result ≡ false → is_generated plan.now ≡ false }
     ensures stats { result ≡ false → stats_of plan.now ≡ false }
     ensures tables { result ≡ false → asks_tables plan.now ≡ false }
@@ -127,9 +128,16 @@ fn asks_filter(plan: &Plan) -> bool
     has_tables(plan)
 }
 
+// Whether no line of a tree is made.
+fn is_quiet(plan: &Plan) -> bool
+    ensures { result ≡ is_plan_quiet plan.now }
+{
+    plan.source.is_generated() || plan.quiet
+}
+
 // Makes the line of a tree, where the filter lets it through, else one of no bytes, and notes the tree for what stands behind the
 // lines.
-#[tactic(auto, using(crate::proofs::NoteLemmas::not_counted, crate::proofs::NoteLemmas::not_tabled))]
+#[tactic(auto, using(crate::proofs::NoteLemmas::noted_nothing, crate::proofs::NoteLemmas::one_more_same))]
 fn make_line(
     alloc: Global,
     plan: &Plan,
@@ -140,14 +148,10 @@ fn make_line(
     requires writer { lines.old.writer ≡ plan.now.fields }
     requires few { AreFewNotes (2 ^ 28) lines.old.notes }
     ensures line { OnOk result (lines.new.line.items ≡ shown plan.now tree.now) }
-    ensures totals { OnOk result (lines.new.notes.totals
-        ≡ counts_with plan.now tree.now lines.old.notes.totals) }
-    ensures tables { OnOk result ((trees : List TreeShown)
-        → AreTables plan.now trees lines.old.notes.tables
-        → AreTables plan.now (trees_with plan.now tree.now trees) lines.new.notes.tables) }
+    ensures noted { OnOk result (HasNoted plan.now tree.now lines.old.notes lines.new.notes) }
     ensures judge { lines.new.judge ≡ lines.old.judge }
     ensures writer { lines.new.writer ≡ lines.old.writer }
-    ensures few { (most : ℕ) → AreFewNotes most lines.old.notes → AreFewNotes (suc most) lines.new.notes }
+    ensures few { AreOneMore lines.old.notes lines.new.notes }
 {
     lines.line.clear();
     if !asks_filter(plan) {
@@ -155,10 +159,7 @@ fn make_line(
     }
     let verdict = verdict_of(&mut lines.judge, tree)?;
     lines.notes.note(plan, tree, verdict)?;
-    if plan.source.is_generated() {
-        return Ok(());
-    }
-    if plan.quiet {
+    if is_quiet(plan) {
         return Ok(());
     }
     if !verdict.holds {
@@ -181,16 +182,12 @@ fn write_tree<O: Sink>(
     ensures whole { OnOk result
         (Appends (O.written out.old) (O.written out.new) (shown plan.now tree.now)) }
     ensures part { AppendsPart (O.written out.old) (O.written out.new) (shown plan.now tree.now) }
-    ensures totals { OnOk result (lines.new.notes.totals
-        ≡ counts_with plan.now tree.now lines.old.notes.totals) }
-    ensures tables { OnOk result ((trees : List TreeShown)
-        → AreTables plan.now trees lines.old.notes.tables
-        → AreTables plan.now (trees_with plan.now tree.now trees) lines.new.notes.tables) }
+    ensures noted { OnOk result (HasNoted plan.now tree.now lines.old.notes lines.new.notes) }
     ensures fault { IsErrOf result SinkFault.Failed → Rose (O.faults out.old) (O.faults out.new) }
     ensures faults_stay { O.faults out.old ≤ O.faults out.new }
     ensures judge { lines.new.judge ≡ lines.old.judge }
     ensures writer { lines.new.writer ≡ lines.old.writer }
-    ensures few { (most : ℕ) → AreFewNotes most lines.old.notes → AreFewNotes (suc most) lines.new.notes }
+    ensures few { AreOneMore lines.old.notes lines.new.notes }
 {
     match make_line(alloc, plan, tree, lines) {
         Ok(()) => write_whole(out, lines.line.as_slice()),
@@ -229,128 +226,63 @@ fn take_frame(
     };
     match add_links(later, frame.number, &mut tree) {
         Ok(()) => Ok(tree),
-        Err(NoMemory) => Err(TakeFault::NoMemory),
+        Err(NoMemory) => {
+            give_up_tree(tree);
+            Err(TakeFault::NoMemory)
+        }
     }
 }
 
-// Takes a frame, notes it, and writes its line where the filter lets it through.
-fn write_shown<O: Sink>(
+// Writes what is asked for of a frame of this tree, and answers whether it fits.
+#[tactic(auto, using(crate::proofs::NoteLemmas::one_more_same))]
+fn write_told<O: Sink>(
     alloc: Global,
     plan: &Plan,
     frame: &Frame,
-    later: &Later,
-    dissector: &mut Dissector,
+    tree: &Tree,
     lines: &mut LineMaker<'_>,
     out: &mut O,
-) -> Result<(), RunFault>
-    requires enough { IsEnough dissector.old.wanted plan.now }
-    requires rules { dissector.old.decode.rules ≡ rules_of plan.now }
-    requires lines_asked { written_of plan.now ≡ None }
+) -> Result<bool, SinkFault>
     requires judge { lines.old.judge ≡ compiled_of plan.now }
-    requires lines { lines.old.writer ≡ plan.now.fields }
+    requires writer { lines.old.writer ≡ plan.now.fields }
     requires few { AreFewNotes (2 ^ 28) lines.old.notes }
-    requires number { frame.now.number ≡ dissector.old.taken + 1 }
-    requires time { IfSome frame.now.time IsTime }
-    requires captured { dissector.old.captured + length frame.now.bytes ≤ 2 ^ 28 }
-    ensures stands { OnOk result ((past : List FrameValue) → StandsWithin past dissector.old
-        → StandsWithin (frame.now ∷ past) dissector.new) }
-    ensures kept { dissector.new.wanted ≡ dissector.old.wanted }
-    ensures rules { dissector.new.decode ≡ dissector.old.decode }
-    ensures taken { OnOk result (dissector.new.taken ≡ dissector.old.taken + 1) }
-    ensures captured { OnOk result (dissector.new.captured
-        ≡ dissector.old.captured + length frame.now.bytes) }
-    ensures whole { OnOk result ((passes : Passes) (past : List FrameValue)
-        → ServesKept dissector.old.wanted (two_of plan.now) passes later.now
-        → StandsWithin past dissector.old
-        → Appends (O.written out.old) (O.written out.new)
-        (shown plan.now (tree_of (job_in plan.now passes) past frame.now))) }
+    ensures after { IfOk result (λ fit. (passes : Passes) (past : List FrameValue)
+        → IsToldAs plan.now (tree_of (job_in plan.now passes) past frame.now) tree.now
+        → KeepsUp (written_of plan.now) (job_in plan.now passes) past lines.old.notes lines.old.capture
+        → IsAfterFrame fit (job_in plan.now passes) past frame.now lines.new.notes lines.new.capture
+        (O.written out.old) (O.written out.new)) }
     ensures part { (passes : Passes) (past : List FrameValue)
-        → ServesKept dissector.old.wanted (two_of plan.now) passes later.now
-        → StandsWithin past dissector.old
+        → IsToldAs plan.now (tree_of (job_in plan.now passes) past frame.now) tree.now
+        → KeepsUp (written_of plan.now) (job_in plan.now passes) past lines.old.notes lines.old.capture
         → AppendsPart (O.written out.old) (O.written out.new)
-        (shown plan.now (tree_of (job_in plan.now passes) past frame.now)) }
-    ensures notes { OnOk result ((passes : Passes) (past : List FrameValue)
-        → ServesKept dissector.old.wanted (two_of plan.now) passes later.now
-        → StandsWithin past dissector.old
-        → AreNotes (job_in plan.now passes) past lines.old.notes
-        → AreNotes (job_in plan.now passes) (frame.now ∷ past) lines.new.notes) }
-    ensures few { (most : ℕ) → AreFewNotes most lines.old.notes → AreFewNotes (suc most) lines.new.notes }
+        (fit_piece (job_in plan.now passes) past frame.now) }
+    ensures few { AreOneMore lines.old.notes lines.new.notes }
     ensures judge { lines.new.judge ≡ lines.old.judge }
     ensures writer { lines.new.writer ≡ lines.old.writer }
-    ensures read { IsErrOf result RunFault.ReadFault → ⊥ }
-    ensures fault { IsErrOf result RunFault.WriteFault
-        → Rose (O.faults out.old) (O.faults out.new) }
+    ensures fault { IsErrOf result SinkFault.Failed → Rose (O.faults out.old) (O.faults out.new) }
     ensures faults_stay { O.faults out.old ≤ O.faults out.new }
 {
-    let tree = match take_frame(plan, frame, later, dissector) {
-        Ok(tree) => tree,
-        // The first error ends the run, so that this one is never `Spent`.
-        Err(TakeFault::NoMemory | TakeFault::Spent) => return Err(RunFault::NoMemory),
-    };
-    match write_tree(alloc, plan, &tree, lines, out) {
-        Ok(()) => Ok(()),
-        Err(SinkFault::Failed) => Err(RunFault::WriteFault),
-        Err(SinkFault::NoMemory) => Err(RunFault::NoMemory),
+    match plan.written {
+        Some(_) => write_packet(frame, tree, &mut lines.judge, &mut lines.capture, out),
+        None => match write_tree(alloc, plan, tree, lines, out) {
+            Ok(()) => Ok(true),
+            Err(fault) => Err(fault),
+        },
     }
 }
 
-// Takes a frame and writes it to the capture where the filter lets it through, and answers whether it fits.
-#[tactic(auto, using(crate::proofs::PacketLemmas::packed_truly, crate::proofs::PacketLemmas::part_truly, crate::proofs::PacketLemmas::packed_none))]
-fn write_chosen<O: Sink>(
-    plan: &Plan,
-    frame: &Frame,
-    later: &Later,
-    dissector: &mut Dissector,
-    judge: &mut Option<Judge<'_>>,
-    writer: &mut Writer,
-    out: &mut O,
-) -> Result<bool, RunFault>
-    requires judge { judge.old ≡ compiled_of plan.now }
-    requires enough { IsEnough dissector.old.wanted plan.now }
-    requires rules { dissector.old.decode.rules ≡ rules_of plan.now }
-    requires written { IsSome (written_of plan.now) }
-    requires number { frame.now.number ≡ dissector.old.taken + 1 }
-    requires time { IfSome frame.now.time IsTime }
-    requires captured { dissector.old.captured + length frame.now.bytes ≤ 2 ^ 28 }
-    ensures stands { OnOk result ((past : List FrameValue) → StandsWithin past dissector.old
-        → StandsWithin (frame.now ∷ past) dissector.new) }
-    ensures kept { dissector.new.wanted ≡ dissector.old.wanted }
-    ensures rules { dissector.new.decode ≡ dissector.old.decode }
-    ensures taken { OnOk result (dissector.new.taken ≡ dissector.old.taken + 1) }
-    ensures captured { OnOk result (dissector.new.captured
-        ≡ dissector.old.captured + length frame.now.bytes) }
-    ensures packed { IfOk result (λ fit. (passes : Passes) (past chosen : List FrameValue)
-        → ServesKept dissector.old.wanted (two_of plan.now) passes later.now
-        → StandsWithin past dissector.old
-        → Written writer.old chosen
-        → IsPacked fit (lets_frame (job_in plan.now passes) past frame.now)
-        writer.old.format frame.now writer.new chosen (O.written out.old) (O.written out.new)) }
-    ensures part { (passes : Passes) (past chosen : List FrameValue)
-        → ServesKept dissector.old.wanted (two_of plan.now) passes later.now
-        → StandsWithin past dissector.old
-        → Written writer.old chosen → AppendsPart (O.written out.old) (O.written out.new)
-        (fit_packet (lets_frame (job_in plan.now passes) past frame.now)
-        writer.old.format chosen frame.now) }
-    ensures judge { judge.new ≡ judge.old }
-    ensures read { IsErrOf result RunFault.ReadFault → ⊥ }
-    ensures fault { IsErrOf result RunFault.WriteFault
-        → Rose (O.faults out.old) (O.faults out.new) }
-    ensures faults_stay { O.faults out.old ≤ O.faults out.new }
+// How a run ends where its output can't be written.
+fn run_fault(fault: SinkFault) -> RunFault
+    ensures failed { result ≡ RunFault.WriteFault → fault ≡ SinkFault.Failed }
+    ensures read { result ≢ RunFault.ReadFault }
 {
-    let tree = match take_frame(plan, frame, later, dissector) {
-        Ok(tree) => tree,
-        // The first error ends the run, so that this one is never `Spent`.
-        Err(TakeFault::NoMemory | TakeFault::Spent) => return Err(RunFault::NoMemory),
-    };
-    match write_packet(frame, &tree, judge, writer, out) {
-        Ok(fit) => Ok(fit),
-        Err(SinkFault::Failed) => Err(RunFault::WriteFault),
-        Err(SinkFault::NoMemory) => Err(RunFault::NoMemory),
+    match fault {
+        SinkFault::Failed => RunFault::WriteFault,
+        SinkFault::NoMemory => RunFault::NoMemory,
     }
 }
 
 /// Takes a frame and writes what is asked for of it, and answers whether it fits.
-#[tactic(auto, using(crate::proofs::PacketLemmas::frame_packed, crate::proofs::PacketLemmas::part_packed, crate::proofs::PacketLemmas::frame_shown, crate::proofs::PacketLemmas::part_shown, crate::proofs::TotalsLemmas::few_suc))]
 pub fn write_frame<O: Sink>(
     alloc: Global,
     plan: &Plan,
@@ -395,24 +327,15 @@ pub fn write_frame<O: Sink>(
         → Rose (O.faults out.old) (O.faults out.new) }
     ensures faults_stay { O.faults out.old ≤ O.faults out.new }
 {
-    match plan.written {
-        Some(_) => {
-            match write_chosen(
-                plan,
-                frame,
-                later,
-                dissector,
-                &mut lines.judge,
-                &mut lines.capture,
-                out,
-            ) {
-                Ok(fit) => Ok(fit),
-                Err(fault) => Err(fault),
-            }
-        }
-        None => match write_shown(alloc, plan, frame, later, dissector, lines, out) {
-            Ok(()) => Ok(true),
-            Err(fault) => Err(fault),
-        },
+    let tree = match take_frame(plan, frame, later, dissector) {
+        Ok(tree) => tree,
+        // The first error ends the run, so that this one is never `Spent`.
+        Err(TakeFault::NoMemory | TakeFault::Spent) => return Err(RunFault::NoMemory),
+    };
+    let written = write_told(alloc, plan, frame, &tree, lines, out);
+    give_up_tree(tree);
+    match written {
+        Ok(fit) => Ok(fit),
+        Err(fault) => Err(run_fault(fault)),
     }
 }

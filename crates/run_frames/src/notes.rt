@@ -1,12 +1,10 @@
 // What is noted of frames beside their lines.
-ghost use Rattle.std.specs.Prelude.{◌≡◌, ◌≤◌, ◌+◌, ◌*◌, ◌^◌, ℕ, suc, List, [], OnOk};
-ghost use Rattle.pk_tree.specs.Trees.{TreeShown};
+ghost use Rattle.std.specs.Prelude.{◌≡◌, ◌≤◌, ◌+◌, ◌*◌, ◌^◌, ℕ, suc, [], OnOk};
 ghost use Rattle.run_frames.specs.Accessors.{compiled_of};
-ghost use Rattle.run_frames.specs.Totals.{steps_told, AreFew, counts_by, counts_with, nothing_counted};
+ghost use Rattle.run_frames.specs.Totals.{steps_told, AreFew, counts_by, nothing_counted};
 ghost use Rattle.run_frames.specs.Job.{Passes, job_in};
-ghost use Rattle.run_frames.specs.Notes.{AreFewNotes, AreNotes};
+ghost use Rattle.run_frames.specs.Notes.{AreFewNotes, AreNotes, AreOneMore, HasNoted};
 ghost use Rattle.run_frames.specs.Satisfied.{judged};
-ghost use Rattle.run_frames.specs.Tables.{AreTables, trees_with};
 
 use crate::plan::Plan;
 use crate::tables::Tables;
@@ -35,7 +33,6 @@ impl Notes {
     }
 
     /// One tree more, of which the filter's program answers this.
-    #[tactic(auto, using(crate::proofs::NoteLemmas::tables_left, crate::proofs::NoteLemmas::tables_more))]
     pub(crate) fn note(
         &mut self,
         plan: &Plan,
@@ -44,17 +41,12 @@ impl Notes {
     ) -> Result<(), NoMemory>
         requires few { AreFewNotes (2 ^ 28) self.old }
         requires verdict { verdict ≡ judged (compiled_of plan.now) tree.now }
-        ensures totals { OnOk result (self.new.totals ≡ counts_with plan.now tree.now self.old.totals) }
-        ensures tables { OnOk result ((trees : List TreeShown) → AreTables plan.now trees self.old.tables
-            → AreTables plan.now (trees_with plan.now tree.now trees) self.new.tables) }
-        ensures few { (most : ℕ) → AreFewNotes most self.old → AreFewNotes (suc most) self.new }
+        ensures noted { OnOk result (HasNoted plan.now tree.now self.old self.new) }
+        ensures few { AreOneMore self.old self.new }
     {
         self.totals = totals_after(plan, tree, verdict, self.totals);
         if verdict.holds {
-            match self.tables.note(tree) {
-                Ok(()) => Ok(()),
-                Err(error) => Err(error),
-            }
+            self.tables.note(tree)
         } else {
             Ok(())
         }

@@ -1,14 +1,35 @@
 // Giving up what a run owns. The destructor of a value is written out at each place where the value is dropped, and in each crate
 // anew: so those of large types are dropped here alone, by all crates that own them.
 use crate::frames::LineMaker;
+use crate::judge::Judge;
+use crate::notes::Notes;
+use capture_write::Writer;
 use dissect::Dissector;
 use pk_tree::Tree;
 
 /// Gives a dissector up.
 pub fn give_up_dissector(_dissector: Dissector) {}
 
-/// Gives a line maker up.
-pub fn give_up_lines(_lines: LineMaker<'_>) {}
+fn give_up_judge(_judge: Option<Judge<'_>>) {}
+
+fn give_up_notes(_notes: Notes) {}
+
+fn give_up_capture(_capture: Writer) {}
+
+/// Gives a line maker up, part by part.
+pub fn give_up_lines(lines: LineMaker<'_>) {
+    let LineMaker {
+        judge,
+        writer: _writer,
+        json: _json,
+        line: _line,
+        notes,
+        capture,
+    } = lines;
+    give_up_judge(judge);
+    give_up_notes(notes);
+    give_up_capture(capture);
+}
 
 /// Gives a tree up.
 pub fn give_up_tree(_tree: Tree) {}

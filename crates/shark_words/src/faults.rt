@@ -90,17 +90,24 @@ fn fault_of(held: &mut Held, used: &Use) -> Result<Option<WordFault>, NoMemory>
     }
 }
 
-/// The first fault in the order of the words.
+// The first fault of uses, behind others that gave this.
 #[tactic(auto, unfolding(crate::specs::Faults::first_fault))]
-pub(crate) fn first_fault(alloc: Global, uses: &[Use]) -> Result<Option<WordFault>, NoMemory>
-    ensures { IfOk result (λ fault. fault ≡ fault_first nothing uses.now) }
+fn first_fault_behind(held: &mut Held, uses: &[Use]) -> Result<Option<WordFault>, NoMemory>
+    ensures { IfOk result (λ fault. fault ≡ fault_first held.old uses.now) }
 {
-    let mut held = Held::new(alloc);
     for used in uses {
-        let fault = fault_of(&mut held, used)?;
+        let fault = fault_of(held, used)?;
         if fault.is_some() {
             return Ok(fault);
         }
     }
     Ok(None)
+}
+
+/// The first fault in the order of the words.
+pub(crate) fn first_fault(alloc: Global, uses: &[Use]) -> Result<Option<WordFault>, NoMemory>
+    ensures { IfOk result (λ fault. fault ≡ fault_first nothing uses.now) }
+{
+    let mut held = Held::new(alloc);
+    first_fault_behind(&mut held, uses)
 }

@@ -6,7 +6,7 @@ ghost use Rattle.shark_words.specs.Keys.{begins as begins_with, behind_key, behi
 use out_lines::{Occurrence, Quote};
 
 /// A key of `-E`.
-#[derive(Clone, Copy, Debug, PartialEq, Eq, Hash)]
+#[derive(Clone, Copy, PartialEq, Eq, Hash)]
 pub(crate) enum Key {
     /// `header=`: whether the fields' names stand first.
     Header,

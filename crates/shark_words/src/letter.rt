@@ -2,7 +2,7 @@ ghost use Rattle.std.specs.Prelude.{◌≡◌};
 ghost use Rattle.shark_words.specs.Letters.{has_value, letter_of as letter_of_byte};
 
 /// An option, by its letter.
-#[derive(Clone, Copy, Debug, PartialEq, Eq, Hash)]
+#[derive(Clone, Copy, PartialEq, Eq, Hash)]
 pub(crate) enum Letter {
     /// `-r NAME`: the capture file.
     Capture,

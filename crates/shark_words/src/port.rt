@@ -7,7 +7,7 @@ use crate::number::{at_most, comma_in, read_decimal};
 use port_rules::{App, PortRule};
 
 /// A port of one transport.
-#[derive(Clone, Copy, Debug, PartialEq, Eq, Hash)]
+#[derive(Clone, Copy, PartialEq, Eq, Hash)]
 pub(crate) struct Port {
     /// Whether it is a port of TCP, else of UDP.
     pub(crate) tcp: bool,

@@ -1,15 +1,17 @@
-ghost use Rattle.std.specs.Prelude.{◌≡◌, List, Some, Ok, IfOk, option_and_then};
+ghost use Rattle.std.specs.Prelude.{◌≡◌, [] as nothing, List, Some, Ok, Err, IfOk, option_and_then};
 ghost use Rattle.std.specs.Option.{option_copied};
-ghost use Rattle.shark_words.specs.declared.letter.Letter.TheVariants.{Output as OutputLetter, Format as FormatLetter};
+ghost use Rattle.shark_words.specs.declared.letter.Letter.TheVariants.{Decode as DecodeLetter, Filter as FilterLetter, Format as FormatLetter, Kind as KindLetter, Name as NameLetter, Output as OutputLetter, Report as ReportLetter};
 ghost use Rattle.shark_words.specs.declared.options.Source.{Source as IsSource};
-ghost use Rattle.shark_words.specs.Asked.{value_of as value_given};
-ghost use Rattle.shark_words.specs.Faults.{is_given as is_given_in};
+ghost use Rattle.shark_words.specs.Asked.{value_of as value_given, values_of as values_given};
+ghost use Rattle.shark_words.specs.Faults.{first_fault as fault_first, is_given as is_given_in};
+ghost use Rattle.shark_words.specs.Ports.{rules_in};
+ghost use Rattle.shark_words.specs.Reports.{reports_in};
 ghost use Rattle.shark_words.specs.Utf8.{AreUtf8};
 ghost use Rattle.shark_words.specs.Sound.{AreSound};
 ghost use Rattle.shark_words.specs.Words.{texts};
 ghost use Rattle.shark_words.specs.Values.{count_of, format_asked, kind_asked, shown_filter as filter_shown};
 ghost use Rattle.shark_words.specs.Spelled.{Spelled, spelled_words, asked_by, IsCommand, IsAsked};
-ghost use Rattle.shark_words.specs.Options.{asked, clash_fault as clash_fault_of, fields_fault as fields_fault_of, format_written as format_written_by, is_filtered as is_filtered_by, options_of, source_of as source_given, together_fault as together_fault_of, unused_fault as unused_fault_of, Gives};
+ghost use Rattle.shark_words.specs.Options.{asked, clash_fault as clash_fault_of, fields_fault as fields_fault_of, format_written as format_written_by, is_filtered as is_filtered_by, judged, options_by, options_of, source_of as source_given, together_fault as together_fault_of, unused_fault as unused_fault_of, Gives};
 
 use crate::asked::{
     Sought, clash_word, reports_of, rules_of, style_of, value_of, values_of, word_of,
@@ -160,18 +162,23 @@ pub fn read_words(alloc: Global, words: &[String]) -> Result<Options, WordsError
     options_in(alloc, words)
 }
 
-// First the faults word by word, then what is missing in all.
 #[tactic(auto, unfolding(crate::specs::Options::options_of))]
 fn options_in(alloc: Global, words: &[String]) -> Result<Options, WordsError>
     ensures { Gives result (options_of (texts words.now)) }
 {
     let uses = uses_of(alloc, words)?;
-    if let Some(fault) = first_fault(alloc, &uses)? {
+    judged_options(alloc, &uses, words.len() as u64 + 1)
+}
+
+// First the faults word by word, then what is missing in all.
+fn judged_options(alloc: Global, uses: &[Use], behind: u64) -> Result<Options, WordsError>
+    ensures { Gives result (judged behind uses.now (fault_first nothing uses.now)) }
+{
+    if let Some(fault) = first_fault(alloc, uses)? {
         return Err(WordsError::Fault(fault));
     }
-    let behind = words.len() as u64 + 1;
-    match source_of(&uses)? {
-        Some(source) => options_from(alloc, &uses, behind, source),
+    match source_of(uses)? {
+        Some(source) => options_from(alloc, uses, behind, source),
         None => Err(WordsError::Fault(WordFault {
             word: behind,
             reason: WordReason::NoFile,
@@ -189,23 +196,73 @@ fn options_from(
     ensures { Gives result (asked behind uses.now (Some source)) }
 {
     let kind = line_kind(value_of(uses, Letter::Kind));
-    if let Some(fault) = together_fault(behind, uses, kind) {
-        return Err(WordsError::Fault(fault));
-    }
-    Ok(Options {
-        source,
-        filter: shown_filter(value_of(uses, Letter::Filter))?,
-        two: is_given(uses, Letter::Two),
-        kind,
-        names: NameList::from_vec(values_of(alloc, uses, Letter::Name)?),
-        style: style_of(uses),
-        most: read_most(value_of(uses, Letter::Most)),
-        quiet: is_given(uses, Letter::Quiet),
-        decode: DecodeAs {
-            rules: PortRules::from_vec(rules_of(alloc, uses)?),
+    match together_fault(behind, uses, kind) {
+        Some(fault) => refused(WordsError::Fault(fault), source),
+        None => match filter_and_names(alloc, uses) {
+            Ok((filter, names)) => options_with(alloc, uses, kind, source, filter, names),
+            Err(NoMemory) => refused(WordsError::NoMemory, source),
         },
-        reports: ReportList::from_vec(reports_of(alloc, uses)?),
-        stats: is_given(uses, Letter::FilterStats),
-        written: format_written(uses),
-    })
+    }
+}
+
+// No options, and what was read for them is given up.
+fn refused<T: Drop>(error: WordsError, _read: T) -> Result<Options, WordsError>
+    ensures { result ≡ Err error }
+{
+    Err(error)
+}
+
+fn filter_and_names(alloc: Global, uses: &[Use]) -> Result<(Option<Octets>, NameList), NoMemory>
+    ensures filter { IfOk result (λ both. both.0 ≡ filter_shown (value_given FilterLetter uses.now)) }
+    ensures names { IfOk result (λ both. both.1 ≡ values_given NameLetter uses.now) }
+{
+    let filter = shown_filter(value_of(uses, Letter::Filter))?;
+    match values_of(alloc, uses, Letter::Name) {
+        Ok(names) => Ok((filter, NameList::from_vec(names))),
+        Err(error) => Err(error),
+    }
+}
+
+fn rules_and_reports(alloc: Global, uses: &[Use]) -> Result<(PortRules, ReportList), NoMemory>
+    ensures rules { IfOk result (λ both. both.0 ≡ rules_in (values_given DecodeLetter uses.now)) }
+    ensures reports { IfOk result (λ both. both.1 ≡ reports_in (values_given ReportLetter uses.now)) }
+{
+    let rules = rules_of(alloc, uses)?;
+    match reports_of(alloc, uses) {
+        Ok(reports) => Ok((PortRules::from_vec(rules), ReportList::from_vec(reports))),
+        Err(error) => Err(error),
+    }
+}
+
+// The options, of which these parts were read.
+fn options_with(
+    alloc: Global,
+    uses: &[Use],
+    kind: LineKind,
+    source: Source,
+    filter: Option<Octets>,
+    names: NameList,
+) -> Result<Options, WordsError>
+    requires kind { kind ≡ kind_asked (value_given KindLetter uses.now) }
+    requires filter { filter ≡ filter_shown (value_given FilterLetter uses.now) }
+    requires names { names ≡ values_given NameLetter uses.now }
+    ensures { Gives result (Ok (options_by source uses.now)) }
+{
+    match rules_and_reports(alloc, uses) {
+        Ok((rules, reports)) => Ok(Options {
+            source,
+            filter,
+            two: is_given(uses, Letter::Two),
+            kind,
+            names,
+            style: style_of(uses),
+            most: read_most(value_of(uses, Letter::Most)),
+            quiet: is_given(uses, Letter::Quiet),
+            decode: DecodeAs { rules },
+            reports,
+            stats: is_given(uses, Letter::FilterStats),
+            written: format_written(uses),
+        }),
+        Err(NoMemory) => refused(WordsError::NoMemory, (source, filter, names)),
+    }
 }
