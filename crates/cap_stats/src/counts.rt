@@ -6,14 +6,14 @@ use crate::party::{Flight, Party, is_same};
 use pk_base::NoMemory;
 
 /// Frames, and the sum of their lengths.
-#[derive(Clone, Copy, Debug)]
+#[derive(Clone, Copy)]
 pub(crate) struct Tally {
     pub frames: u64,
     pub bytes: u64,
 }
 
 /// What two ends sent each other.
-#[derive(Clone, Copy, Debug)]
+#[derive(Clone, Copy)]
 pub(crate) struct Talk {
     /// The end that the first frame left, and the one that it went to.
     pub from: Party,

@@ -16,11 +16,35 @@ type Row = (
 
 const ENDS: [Row; 6] = [
     (0, b"1\n2\n", b"", false, (0, b"1\n2\n", b"")),
-    (6, b"1\n", b"shark: damaged\n", false, (6, b"1\n", b"shark: damaged\n")),
-    (10, b"", b"shark: cannot write frame 2\n", false, (10, b"", b"shark: cannot write frame 2\n")),
+    (
+        6,
+        b"1\n",
+        b"shark: damaged\n",
+        false,
+        (6, b"1\n", b"shark: damaged\n"),
+    ),
+    (
+        10,
+        b"",
+        b"shark: cannot write frame 2\n",
+        false,
+        (10, b"", b"shark: cannot write frame 2\n"),
+    ),
     (0, b"1\n2\n", b"", true, (WRITE_FAULT, b"", b"")),
-    (6, b"1\n", b"shark: damaged\n", true, (WRITE_FAULT, b"", b"")),
-    (10, b"1\n", b"shark: cannot write frame 2\n", true, (WRITE_FAULT, b"", b"")),
+    (
+        6,
+        b"1\n",
+        b"shark: damaged\n",
+        true,
+        (WRITE_FAULT, b"", b""),
+    ),
+    (
+        10,
+        b"1\n",
+        b"shark: cannot write frame 2\n",
+        true,
+        (WRITE_FAULT, b"", b""),
+    ),
 ];
 
 fn ends_so(alloc: Global, row: &Row) -> bool {

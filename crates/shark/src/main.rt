@@ -53,9 +53,7 @@ fn status_over<O: Sink, E: Sink>(
 fn main(rt: HostRuntime) -> ExitCode {
     let number = match words(&rt) {
         Ok(words) => number_of(&rt, words.as_slice()),
-        Err(error) => {
-            without_words(error.kind(), &mut StdSink::new(rt.stderr())).exit_number()
-        }
+        Err(error) => { without_words(error.kind(), &mut StdSink::new(rt.stderr())).exit_number() }
     };
     ExitCode::from(number)
 }
