@@ -1,5 +1,5 @@
 -- Telling with some fields is telling all and keeping those.
-use Rattle.std.proofs.Common.{◌==◌, ℕ, ◌-◌, Bool, true, false, if◌then◌else◌, List, [], ◌∷◌, length, Option, Some, None, refl, sym, subst}
+use Rattle.std.proofs.Common.{◌==◌, ℕ, Bool, true, false, if◌then◌else◌, List, [], ◌∷◌, length, Option, Some, None, refl, sym, subst}
 use Rattle.pk_base.specs.declared.span.Span.{Span}
 use Rattle.pk_fields.specs.Ids.{TCP_STREAM, TCP_SEQ, TCP_ACK, TCP_LEN, TCP_PAYLOAD, TCP_LOST}
 use Rattle.pk_tree.specs.declared.value.Value.TheVariants.{Uint}
