@@ -133,7 +133,21 @@ fn ranges_reach_both_ends(rt: HostRuntime) {
     ends_take(&rt, &ENDS);
 }
 
-/// Whether a slice of a value has these bytes, or there is none.
+fn has_bytes(value: &Value, want: &[u8]) -> bool {
+    match value {
+        Value::Bytes(bytes) => bytes.bytes() == want,
+        _ => false,
+    }
+}
+
+/// Whether a slice has these bytes, or there is none.
+fn is_slice(slice: &Option<Value>, want: Option<&[u8]>) -> bool {
+    match slice {
+        Some(value) => want.is_some_and(|want| has_bytes(value, want)),
+        None => want.is_none(),
+    }
+}
+
 fn slices_to(
     alloc: Global,
     value: &Value,
@@ -141,11 +155,7 @@ fn slices_to(
     want: Option<&[u8]>,
 ) -> Result<bool, NoMemory> {
     let slice = slice(alloc, value, ranges)?;
-    match (&slice, want) {
-        (Some(Value::Bytes(bytes)), Some(want)) => Ok(bytes.bytes() == want),
-        (None, None) => Ok(true),
-        _ => Ok(false),
-    }
+    Ok(is_slice(&slice, want))
 }
 
 const MIDDLE: RangePart = RangePart::Counted(
@@ -181,9 +191,14 @@ fn all_slice(
     Ok(())
 }
 
+fn text_of(alloc: Global, bytes: &[u8]) -> Result<Value, NoMemory> {
+    let bytes = Octets::copy(alloc, bytes)?;
+    Ok(Value::Text(bytes))
+}
+
 #[test]
 fn bytes_are_sliced(rt: HostRuntime) -> Result<(), Fail> {
-    let text = Value::Text(Octets::copy(rt.alloc(), b"abcde")?);
+    let text = text_of(rt.alloc(), b"abcde")?;
     all_slice(&rt, rt.alloc(), &text, &SLICES)
 }
 
@@ -195,13 +210,15 @@ const FIRST_TWO: [(Plain, Option<&[u8]>); 4] = [
     (Plain::Uint(1), None),
 ];
 
+/// Whether these are the first two bytes of a value.
+fn begins(alloc: Global, plain: Plain, want: Option<&[u8]>) -> Result<bool, NoMemory> {
+    let value = value_of(plain);
+    slices_to(alloc, &value, &[RangePart::Front(2)], want)
+}
+
 fn all_begin(rt: &impl Abort, alloc: Global, rows: &[(Plain, Option<&[u8]>)]) -> Result<(), Fail> {
     for (plain, want) in rows {
-        let value = value_of(*plain);
-        assert!(rt;
-            slices_to(alloc, &value, &[RangePart::Front(2)], *want)?,
-            "{want:?}"
-        );
+        assert!(rt; begins(alloc, *plain, *want)?, "{want:?}");
     }
     Ok(())
 }
@@ -282,15 +299,23 @@ fn values_of_a_class_are_ordered(rt: HostRuntime) {
 
 /// Whether a text is below bytes that begin with it.
 fn is_short_below(alloc: Global, long: &Value) -> Result<bool, NoMemory> {
-    let short = Value::Text(Octets::copy(alloc, b"ab")?);
+    let short = text_of(alloc, b"ab")?;
     Ok(order_of(&short, long) == Some(Ordering::Less))
+}
+
+fn is_ether_above(long: &Value) -> bool {
+    order_of(&Value::Ether([98; 6]), long) == Some(Ordering::Greater)
+}
+
+fn is_between(alloc: Global, long: Octets) -> Result<bool, NoMemory> {
+    let long = Value::Bytes(long);
+    Ok(is_short_below(alloc, &long)? && is_ether_above(&long))
 }
 
 #[test]
 fn bytes_are_ordered_by_the_first_that_differs(rt: HostRuntime) -> Result<(), Fail> {
-    let long = Value::Bytes(Octets::copy(rt.alloc(), b"ab\x00")?);
-    assert!(rt; is_short_below(rt.alloc(), &long)?);
-    assert!(rt; order_of(&Value::Ether([98; 6]), &long) == Some(Ordering::Greater));
+    let long = Octets::copy(rt.alloc(), b"ab\x00")?;
+    assert!(rt; is_between(rt.alloc(), long)?);
     Ok(())
 }
 
@@ -375,13 +400,17 @@ fn bytes_are_searched(rt: HostRuntime) {
     are_searched(&rt, &NEEDLES);
 }
 
+fn is_text(answer: &Option<Value>, want: &[u8]) -> bool {
+    match answer {
+        Some(Value::Text(bytes)) => bytes.bytes() == want,
+        _ => false,
+    }
+}
+
 /// Whether a function gives a text these bytes.
 fn gives(alloc: Global, function: Function, text: &Value, want: &[u8]) -> Result<bool, NoMemory> {
     let answer = call(alloc, function, text)?;
-    match &answer {
-        Some(Value::Text(bytes)) => Ok(bytes.bytes() == want),
-        _ => Ok(false),
-    }
+    Ok(is_text(&answer, want))
 }
 
 fn number_of(value: &Option<Value>) -> Option<u64> {
@@ -391,20 +420,44 @@ fn number_of(value: &Option<Value>) -> Option<u64> {
     }
 }
 
+fn has_len(text: &Value, len: u64) -> bool {
+    number_of(&len_of(text)) == Some(len)
+}
+
+/// Whether each function gives what it is to.
+fn is_called(alloc: Global, text: &Value) -> Result<bool, NoMemory> {
+    let upper = gives(alloc, Function::Upper, text, b"@AZ[`AZ{\xE4\xC4")?;
+    let lower = gives(alloc, Function::Lower, text, b"@az[`az{\xE4\xC4")?;
+    Ok(upper && lower && has_len(text, 10))
+}
+
+fn all_called(alloc: Global) -> Result<bool, NoMemory> {
+    let text = text_of(alloc, b"@AZ[`az{\xE4\xC4")?;
+    is_called(alloc, &text)
+}
+
 #[test]
 fn functions_are_called(rt: HostRuntime) -> Result<(), Fail> {
-    let text = Value::Text(Octets::copy(rt.alloc(), b"@AZ[`az{\xE4\xC4")?);
-    let upper = gives(rt.alloc(), Function::Upper, &text, b"@AZ[`AZ{\xE4\xC4")?;
-    let lower = gives(rt.alloc(), Function::Lower, &text, b"@az[`az{\xE4\xC4")?;
-    assert!(rt; upper && lower && number_of(&len_of(&text)) == Some(10));
+    assert!(rt; all_called(rt.alloc())?);
     Ok(())
+}
+
+fn masked_number(mask: u64, plain: Plain) -> Option<u64> {
+    number_of(&masked(mask, &value_of(plain)))
+}
+
+fn has_no_mask(plain: Plain) -> bool {
+    masked(1, &value_of(plain)).is_none()
+}
+
+fn counts(number: u64) -> bool {
+    is_nonzero(&Value::Uint(number))
 }
 
 #[test]
 fn masks_keep_their_bits(rt: HostRuntime) {
-    assert!(rt; number_of(&masked(0xF0, &Value::Uint(0xAB))) == Some(0xA0));
-    assert!(rt; masked(1, &Value::Ip4(1)).is_none());
-    assert!(rt; is_nonzero(&Value::Uint(1)) && !is_nonzero(&Value::Uint(0)));
+    assert!(rt; masked_number(0xF0, Plain::Uint(0xAB)) == Some(0xA0));
+    assert!(rt; has_no_mask(Plain::Ip4(1)) && counts(1) && !counts(0));
 }
 
 const RESULTS: [(Arithmetic, u64, u64, Option<u64>); 11] = [
@@ -434,10 +487,14 @@ fn all_result(rt: &impl Abort, rows: &[(Arithmetic, u64, u64, Option<u64>)]) {
     }
 }
 
+fn has_no_sum(left: Plain, right: Plain) -> bool {
+    calculate(Arithmetic::Sum, &value_of(left), &value_of(right)).is_none()
+}
+
 #[test]
 fn results_are_exact_or_none(rt: HostRuntime) {
     all_result(&rt, &RESULTS);
-    assert!(rt; calculate(Arithmetic::Sum, &Value::Uint(1), &Value::Ip4(1)).is_none());
+    assert!(rt; has_no_sum(Plain::Uint(1), Plain::Ip4(1)));
 }
 
 /// The least or the greatest of 7, 3, an address, and 9.

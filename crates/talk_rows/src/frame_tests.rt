@@ -457,19 +457,54 @@ fn end_text(alloc: Global, end: usize, then: Then) -> Result<String, AllocError>
     }
 }
 
-/// Compares a message with what is told of it.
+/// Compares a message with what is told of it, and its end with where it must end.
 fn check_shape(
     rt: &impl Abort,
     alloc: Global,
     shape: &Shape,
+    end: usize,
     told: &str,
 ) -> Result<(), AllocError> {
     let text = shape_text(alloc, shape)?;
-    assert_eq!(rt; text.as_str(), told);
+    assert!(rt; shape.end == end && text.as_str() == told, "{told}");
     Ok(())
 }
 
-/// The same of the first message of bytes, if there is one.
+/// Compares the first message of bytes, if there is one, with what is told. Whether there is.
+fn is_there(
+    rt: &impl Abort,
+    alloc: Global,
+    framed: &Framed,
+    end: Option<usize>,
+    told: &str,
+) -> Result<bool, AllocError> {
+    match framed {
+        Framed::Message(shape) => {
+            check_shape(rt, alloc, shape, end.unwrap_or(shape.end), told)?;
+            Ok(true)
+        }
+        Framed::Unfinished => Ok(false),
+    }
+}
+
+/// Looks for the first message of bytes, which ends at this place where one is given.
+fn look(
+    rt: &impl Abort,
+    alloc: Global,
+    bytes: &[u8],
+    asked: bool,
+    end: Option<usize>,
+    told: &str,
+) -> Result<bool, NoMemory> {
+    let framed = next_message(alloc, bytes, asked)?;
+    Ok(is_there(rt, alloc, &framed, end, told)?)
+}
+
+fn check_unfinished(rt: &impl Abort, told: &str) {
+    assert!(rt; told == "unfinished", "{told}");
+}
+
+/// Compares the first message of bytes, if there is one, with what is told of it.
 fn check_first(
     rt: &impl Abort,
     alloc: Global,
@@ -477,9 +512,8 @@ fn check_first(
     asked: bool,
     told: &str,
 ) -> Result<(), NoMemory> {
-    match next_message(alloc, bytes, asked)? {
-        Framed::Message(shape) => check_shape(rt, alloc, &shape, told)?,
-        Framed::Unfinished => assert_eq!(rt; "unfinished", told),
+    if !look(rt, alloc, bytes, asked, None, told)? {
+        check_unfinished(rt, told);
     }
     Ok(())
 }
@@ -493,14 +527,37 @@ fn check_anew(
     told: &str,
 ) -> Result<(), NoMemory> {
     for cut in 0..=bytes.len() {
-        if let Framed::Message(shape) = next_message(alloc, &bytes[..cut], asked)? {
-            assert_eq!(rt; shape.end, cut, "{told}");
-            check_shape(rt, alloc, &shape, told)?;
+        if look(rt, alloc, &bytes[..cut], asked, Some(cut), told)? {
             return Ok(());
         }
     }
-    assert_eq!(rt; "unfinished", told);
+    check_unfinished(rt, told);
     Ok(())
+}
+
+fn after_message(
+    rt: &impl Abort,
+    alloc: Global,
+    shape: &Shape,
+    end: usize,
+    told: &str,
+) -> Result<Option<Progress>, AllocError> {
+    check_shape(rt, alloc, shape, end, told)?;
+    Ok(None)
+}
+
+/// How far a look came, or nothing where it found the message that is told.
+fn progress_of(
+    rt: &impl Abort,
+    alloc: Global,
+    framing: Framing,
+    end: usize,
+    told: &str,
+) -> Result<Option<Progress>, AllocError> {
+    match framing {
+        Framing::Unfinished(next) => Ok(Some(next)),
+        Framing::Message(shape) => after_message(rt, alloc, &shape, end, told),
+    }
 }
 
 /// The same from where the last look stopped.
@@ -513,16 +570,13 @@ fn check_resumed(
 ) -> Result<(), NoMemory> {
     let mut progress = Progress::begun(asked);
     for cut in 0..=bytes.len() {
-        match resume(alloc, &bytes[..cut], progress)? {
-            Framing::Unfinished(next) => progress = next,
-            Framing::Message(shape) => {
-                assert_eq!(rt; shape.end, cut, "{told}");
-                check_shape(rt, alloc, &shape, told)?;
-                return Ok(());
-            }
+        let framing = resume(alloc, &bytes[..cut], progress)?;
+        match progress_of(rt, alloc, framing, cut, told)? {
+            Some(next) => progress = next,
+            None => return Ok(()),
         }
     }
-    assert_eq!(rt; "unfinished", told);
+    check_unfinished(rt, told);
     Ok(())
 }
 
