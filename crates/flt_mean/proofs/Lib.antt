@@ -1,4 +1,3 @@
 pub mod ChainLemmas
 pub mod KeptMeaning
-pub mod OneMeaning
 pub mod TermLemmas

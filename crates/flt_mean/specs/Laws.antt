@@ -1,15 +1,9 @@
--- What holds of every text and every filter.
+-- What holds of every filter.
 use Rattle.std.specs.Prelude.{◌≡◌, ℕ, List}
 use Rattle.flt_mean.specs.Meaning.{meaning}
 use Rattle.flt_types.specs.Asked.{HasFilter}
-use Rattle.flt_types.specs.Texts.{IsTypedText}
 use Rattle.flt_types.specs.declared.typed.Typed.{Typed}
 use Rattle.pk_tree.specs.Trees.{TreeShown, kept_tree}
-
--- a text has one meaning
-abbrev pub OneMeaning : Type 0
-OneMeaning = (text : List ℕ) (f g : Typed) (tree : TreeShown) → IsTypedText text f
-    → IsTypedText text g → meaning f tree ≡ meaning g tree
 
 -- a tree that keeps the items of some fields alone is as the whole tree to a filter that asks for no others
 abbrev pub KeptMeaning : Type 0

@@ -8,4 +8,4 @@ mod terms;
 mod values;
 
 pub use evaluate::holds;
-pub use laws::{kept_trees_keep_the_meaning, texts_have_one_meaning};
+pub use laws::kept_trees_keep_the_meaning;

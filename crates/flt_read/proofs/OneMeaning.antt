@@ -26,8 +26,8 @@ use Rattle.flt_values.specs.declared.literal.Constant.{Constant}
 use Rattle.flt_values.specs.declared.literal.Reading.{Reading}
 use Rattle.flt_values.specs.declared.literal.Reading.TheVariants.{Reads}
 use Rattle.flt_values.specs.declared.relation.Relation.{Relation}
-use Rattle.flt_mean.specs.Laws.{OneMeaning}
 use Rattle.flt_lists.specs.Passes.{is_some_value}
+use Rattle.flt_read.specs.Laws.{OneMeaning}
 use Rattle.flt_mean.specs.Meaning.{meaning}
 use Rattle.flt_mean.specs.Values.{prefix_of_term, values_of_term}
 use Rattle.pk_fields.specs.Fields.{field_named}

@@ -1,10 +1,12 @@
 -- What holds of every text.
 use Rattle.std.specs.Prelude.{◌≡◌, ◌≢◌, ◌⊎◌, ℕ, List}
+use Rattle.flt_mean.specs.Meaning.{meaning}
 use Rattle.flt_syntax.specs.declared.fault.FilterError.TheVariants.{Fault}
 use Rattle.flt_syntax.specs.declared.fault.FilterFault.{FilterFault}
 use Rattle.flt_syntax.specs.declared.fault.FilterReason.TheVariants.{PatternSize}
 use Rattle.flt_types.specs.Texts.{IsFilterFault, IsTypedText}
 use Rattle.flt_types.specs.declared.typed.Typed.{Typed}
+use Rattle.pk_tree.specs.Trees.{TreeShown}
 
 -- a text is a filter, or has a first fault that isn't the size of a pattern
 abbrev pub TypedOrRefused : Type 0
@@ -22,3 +24,8 @@ abbrev pub OneFault : Type 0
 OneFault = (text : List ℕ) (f g : FilterFault) → IsFilterFault text (Fault f)
     → IsFilterFault text (Fault g)
     → (f ≡ g) ⊎ ((f.reason ≡ PatternSize) ⊎ (g.reason ≡ PatternSize))
+
+-- a text has one meaning
+abbrev pub OneMeaning : Type 0
+OneMeaning = (text : List ℕ) (f g : Typed) (tree : TreeShown) → IsTypedText text f
+    → IsTypedText text g → meaning f tree ≡ meaning g tree

@@ -1,5 +1,5 @@
 // What holds of every text, stated on functions that do nothing.
-ghost use Rattle.flt_read.specs.Laws.{OneFault, TypedOrFault, TypedOrRefused};
+ghost use Rattle.flt_read.specs.Laws.{OneFault, OneMeaning, TypedOrFault, TypedOrRefused};
 
 /// A text that is a filter may be refused for a pattern's size, and for nothing else.
 pub fn typed_texts_have_no_fault()
@@ -14,4 +14,9 @@ pub fn faults_are_unique()
 /// A text is a filter, or has a first fault that isn't the size of a pattern.
 pub fn texts_are_filters_or_refused()
     ensures { TypedOrRefused }
+{}
+
+/// A text has one meaning: whatever filters it is, they ask the same of each tree.
+pub fn texts_have_one_meaning()
+    ensures { OneMeaning }
 {}

@@ -4,5 +4,8 @@
 mod laws;
 mod reading;
 
-pub use laws::{faults_are_unique, texts_are_filters_or_refused, typed_texts_have_no_fault};
+pub use laws::{
+    faults_are_unique, texts_are_filters_or_refused, texts_have_one_meaning,
+    typed_texts_have_no_fault,
+};
 pub use reading::read_filter;

@@ -20,8 +20,8 @@ use Rattle.flt_syntax.specs.declared.fault.FilterError.TheVariants.{Fault}
 use Rattle.flt_types.specs.Texts.{IsFilterFault}
 use Rattle.flt_code.specs.Decides.{Agrees}
 use Rattle.flt_types.specs.declared.typed.Typed.{Typed}
+use Rattle.flt_read.proofs.OneMeaning.{one_meaning}
 use Rattle.flt_read.proofs.Unique.{one_fault_but_size}
-use Rattle.flt_mean.proofs.OneMeaning.{one_meaning}
 use Rattle.flt_mean.specs.Meaning.{meaning}
 use Rattle.flt_vm.proofs.VerdictLemmas.{computed_run}
 use Rattle.flt_vm.specs.Machine.{start}
