@@ -1,3 +1,4 @@
+pub mod FaultLemmas
 mod FrontLemmas
 mod KeepLemmas
 pub mod Together

@@ -1,20 +1,17 @@
 // Going over the frames of a file once.
-ghost use Rattle.std.specs.Prelude.{◌≡◌, ◌≢◌, ◌<◌, ◌≤◌, ◌-◌, ℕ, suc, true, false, IfOk, IfSome, IsErrOf, OnOk, [], List, None, Some};
+ghost use Rattle.std.specs.Prelude.{◌≡◌, ◌≢◌, ◌<◌, ◌≤◌, ◌-◌, ℕ, suc, true, false, IfErr, IfOk, OnOk, [], List, None, Some};
 ghost use Rattle.std.specs.Option.{option_map};
 ghost use Rattle.pk_base.specs.Limits.{file_limit as limit_of_file};
-ghost use Rattle.pk_outside.specs.Outside.{Rose};
 ghost use Rattle.capture_read.specs.Reader.{StandsFor};
 ghost use Rattle.capture_read.specs.Taken.{TookAtMost};
 ghost use Rattle.dissect.specs.Stands.{StandsWithin};
 ghost use Rattle.run_frames.specs.Accessors.{compiled_of, rules_of, two_of, written_of};
 ghost use Rattle.run_frames.specs.Job.{once};
-ghost use Rattle.run_passes.specs.Ended.{HasRead, HasTaken};
+ghost use Rattle.run_passes.specs.Ended.{HasTaken};
 ghost use Rattle.run_frames.specs.Steps.{KeepsUp};
-ghost use Rattle.run_passes.specs.Reading.{frames_read};
+ghost use Rattle.run_passes.specs.Passed.{AreCutOff, AreFullNear, AreRead, HaveBegun, HavePassed, IsCaused, IsReadOn};
 ghost use Rattle.run_frames.specs.Totals.{nothing_counted};
 ghost use Rattle.run_frames.specs.Wanted.{IsEnough};
-ghost use Rattle.run_passes.specs.SoFar.{IsBrokenBehind, IsFullNearOf, WroteTakenBehind};
-ghost use Rattle.run_passes.specs.WrotePieces.{WrotePieces, WroteSomePieces};
 
 use capture_read::{Ending, FrameReader, NextFrame, ReadError};
 use dissect::Dissector;
@@ -67,32 +64,24 @@ pub fn write_rest<C: Capture, O: Sink>(
     requires captured { dissector.old.captured ≡ 0 }
 
     // What was written, and how far the file was read then.
-    ensures ended { IfOk result (λ ending. IfSome (C.left capture.old) (λ file.
-        WrotePieces plan.now (frames_read plan.now file) (O.written out.old) (O.written out.new)
-        × (ending ≡ (frames_read plan.now file).ending))) }
-    ensures read { OnOk result (IfSome (C.left capture.old) (λ file.
-        HasRead plan.now file dissector.new lines.new.notes lines.new.capture)) }
+    ensures ended { IfOk result (HavePassed plan.now
+        (C.left capture.old) (O.written out.old) (O.written out.new)) }
+    ensures read { OnOk result (AreRead plan.now (C.left capture.old)
+        dissector.new lines.new.notes lines.new.capture) }
     ensures enough { OnOk result (IsEnough dissector.new.wanted plan.now) }
     ensures taken { OnOk result (HasTaken dissector.new) }
-    ensures full { OnOk result (IfSome (C.left capture.old) (λ file.
-        IsFullNearOf plan.now file (C.left capture.new))) }
-    ensures part { IfSome (C.left capture.old) (λ file.
-        WroteSomePieces plan.now (frames_read plan.now file) (O.written out.old) (O.written out.new)) }
-    ensures so_far { IsErrOf result RunFault.ReadFault → IfSome (C.left capture.old) (λ file.
-        WroteTakenBehind [] plan.now file (C.left capture.new) (O.written out.old) (O.written out.new)) }
-    ensures near { IsErrOf result RunFault.WriteFault → IfSome (C.left capture.old) (λ file.
-        IsBrokenBehind [] plan.now file (C.left capture.new) (O.written out.old) (O.written out.new)) }
+    ensures full { OnOk result (AreFullNear plan.now (C.left capture.old) (C.left capture.new)) }
+    ensures part { HaveBegun plan.now (C.left capture.old) (O.written out.old) (O.written out.new) }
+    ensures broken { IfErr result (AreCutOff plan.now (C.left capture.old) (C.left capture.new)
+        (O.written out.old) (O.written out.new)) }
     ensures took { TookAtMost (suc limit_of_file) (C.left capture.old) (C.left capture.new) }
 
     // The causes of errors, and what stays of the capture.
-    ensures read_fault { IsErrOf result RunFault.ReadFault
-        → Rose (C.faults capture.old) (C.faults capture.new) }
-    ensures write_fault { IsErrOf result RunFault.WriteFault
-        → Rose (O.faults out.old) (O.faults out.new) }
+    ensures caused { IfErr result (IsCaused (C.faults capture.old) (C.faults capture.new)
+        (O.faults out.old) (O.faults out.new)) }
     ensures faults_stay { O.faults out.old ≤ O.faults out.new }
-    ensures asked { C.asked capture.new ≡ C.asked capture.old }
-    ensures begun { C.begun capture.new ≡ C.begun capture.old }
-    ensures missed { C.missed capture.new ≡ C.missed capture.old }
+    ensures stays { IsReadOn (C.asked capture.old) (C.asked capture.new)
+        (C.begun capture.old) (C.begun capture.new) (C.missed capture.old) (C.missed capture.new) }
 {
     let mut most = plan.most;
     loop {

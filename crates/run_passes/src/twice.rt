@@ -1,28 +1,22 @@
 // Keeping the frames of a file, and going over them twice: the first time for what later frames bring, the second time for what is
 // written.
-ghost use Rattle.std.specs.Prelude.{◌≡◌, true, ◌≤◌, ◌<◌, ℕ, suc, List, [], Some, IfOk, IfSome, IsErrOf, OnOk, map, reverse};
-ghost use Rattle.std.specs.Io.KnownBytes.{Appends};
+ghost use Rattle.std.specs.Prelude.{◌≡◌, true, ◌≤◌, ◌<◌, ℕ, suc, List, [], Some, IfErr, IfOk, OnOk, map, reverse};
 ghost use Rattle.pk_base.specs.Limits.{file_limit as limit_of_file};
-ghost use Rattle.pk_outside.specs.Outside.{AppendsPart, Rose};
-ghost use Rattle.capture_read.specs.Capture.{capture_of};
 ghost use Rattle.capture_read.specs.Reader.{StandsFor};
 ghost use Rattle.capture_read.specs.Taken.{TookAtMost};
 ghost use Rattle.dissect.specs.Followed.{asks_streams};
 ghost use Rattle.dissect.specs.Stands.{StandsWithin};
 ghost use Rattle.second_pass.specs.Laws.{kept_noted};
 ghost use Rattle.second_pass.specs.Stands.{Stands as Noted};
-ghost use Rattle.run_frames.specs.Accessors.{compiled_of, most_of, rules_of, two_of, written_of};
+ghost use Rattle.run_frames.specs.Accessors.{compiled_of, rules_of, two_of, written_of};
 ghost use Rattle.run_passes.specs.Ended.{CanClose, HasTaken};
-ghost use Rattle.run_frames.specs.Fitting.{fitting};
 ghost use Rattle.run_frames.specs.Job.{Passes, job_in, noted_of, passes_by};
 ghost use Rattle.run_frames.specs.Later.{ServesKept};
-ghost use Rattle.run_frames.specs.Pieces.{pieces};
-ghost use Rattle.run_passes.specs.Reading.{limited};
+ghost use Rattle.run_passes.specs.Passed.{AreFewer, AreFullNear, AreKept, HaveBegunKept, HavePassedKept, IsReadCaused, IsReadOn, IsWriteCaused, kept_read};
 ghost use Rattle.run_frames.specs.Steps.{KeepsUp};
 ghost use Rattle.run_passes.specs.Takeable.{AreTakeable};
 ghost use Rattle.run_frames.specs.Totals.{nothing_counted};
 ghost use Rattle.run_frames.specs.Wanted.{IsEnough};
-ghost use Rattle.run_passes.specs.SoFar.{HoldsFewer, IsFullNearOf};
 
 use crate::once::{is_full, one_less};
 use crate::owned::{give_up_links, give_up_reader};
@@ -50,21 +44,14 @@ fn keep_rest<C: Capture>(
     requires reads { (left : List ℕ) → StandsFor reader.old (Some left) left [] }
     requires number { reader.old.state.number ≡ 1 }
     requires at { reader.old.state.at ≡ 0 }
-    ensures read { IfOk result (λ ending. IfSome (C.left capture.old) (λ file.
-        limited (most_of plan.now) (capture_of file)
-        ≡ record { frames = frames.new.items; ending = ending })) }
+    ensures read { IfOk result (AreKept plan.now (C.left capture.old) frames.new.items) }
     ensures takeable { OnOk result (AreTakeable 0 0 frames.new.items) }
-    ensures full { OnOk result (IfSome (C.left capture.old) (λ file.
-        IsFullNearOf plan.now file (C.left capture.new))) }
-    ensures so_far { IsErrOf result RunFault.ReadFault → IfSome (C.left capture.old) (λ file.
-        HoldsFewer plan.now file (C.left capture.new)) }
+    ensures full { OnOk result (AreFullNear plan.now (C.left capture.old) (C.left capture.new)) }
+    ensures broken { IfErr result (AreFewer plan.now (C.left capture.old) (C.left capture.new)) }
     ensures took { TookAtMost (suc limit_of_file) (C.left capture.old) (C.left capture.new) }
-    ensures read_fault { IsErrOf result RunFault.ReadFault
-        → Rose (C.faults capture.old) (C.faults capture.new) }
-    ensures write_fault { IsErrOf result RunFault.WriteFault → ⊥ }
-    ensures asked { C.asked capture.new ≡ C.asked capture.old }
-    ensures begun { C.begun capture.new ≡ C.begun capture.old }
-    ensures missed { C.missed capture.new ≡ C.missed capture.old }
+    ensures caused { IfErr result (IsReadCaused (C.faults capture.old) (C.faults capture.new)) }
+    ensures stays { IsReadOn (C.asked capture.old) (C.asked capture.new)
+        (C.begun capture.old) (C.begun capture.new) (C.missed capture.old) (C.missed capture.new) }
 {
     let mut most = plan.most;
     loop {
@@ -99,21 +86,15 @@ pub fn keep_frames<C: Capture>(
     plan: &Plan,
     capture: &mut C,
 ) -> Result<KeptFrames, RunFault>
-    ensures read { IfOk result (λ kept. IfSome (C.left capture.old) (λ file.
-        limited (most_of plan.now) (capture_of file)
-        ≡ record { frames = kept.frames; ending = kept.ending })) }
+    ensures read { IfOk result (λ kept.
+        AreKept plan.now (C.left capture.old) kept.frames kept.ending) }
     ensures takeable { IfOk result (λ kept. AreTakeable 0 0 kept.frames) }
-    ensures full { OnOk result (IfSome (C.left capture.old) (λ file.
-        IsFullNearOf plan.now file (C.left capture.new))) }
-    ensures so_far { IsErrOf result RunFault.ReadFault → IfSome (C.left capture.old) (λ file.
-        HoldsFewer plan.now file (C.left capture.new)) }
+    ensures full { OnOk result (AreFullNear plan.now (C.left capture.old) (C.left capture.new)) }
+    ensures broken { IfErr result (AreFewer plan.now (C.left capture.old) (C.left capture.new)) }
     ensures took { TookAtMost (suc limit_of_file) (C.left capture.old) (C.left capture.new) }
-    ensures read_fault { IsErrOf result RunFault.ReadFault
-        → Rose (C.faults capture.old) (C.faults capture.new) }
-    ensures write_fault { IsErrOf result RunFault.WriteFault → ⊥ }
-    ensures asked { C.asked capture.new ≡ C.asked capture.old }
-    ensures begun { C.begun capture.new ≡ C.begun capture.old }
-    ensures missed { C.missed capture.new ≡ C.missed capture.old }
+    ensures caused { IfErr result (IsReadCaused (C.faults capture.old) (C.faults capture.new)) }
+    ensures stays { IsReadOn (C.asked capture.old) (C.asked capture.new)
+        (C.begun capture.old) (C.begun capture.new) (C.missed capture.old) (C.missed capture.new) }
 {
     let mut reader = FrameReader::new(alloc);
     let mut frames = Vec::new(alloc);
@@ -207,26 +188,20 @@ pub fn write_kept<O: Sink>(
     requires takeable { AreTakeable 0 0 kept.now.frames }
     ensures ended { IfOk result (λ ending. (passes : Passes)
         → ServesKept dissector.old.wanted (two_of plan.now) passes later.now
-        → Appends (O.written out.old) (O.written out.new)
-        (pieces (job_in plan.now passes) []
-        (fitting (job_in plan.now passes) [] kept.now.frames kept.now.ending).frames)
-        × (ending
-        ≡ (fitting (job_in plan.now passes) [] kept.now.frames kept.now.ending).ending)) }
+        → HavePassedKept plan.now passes kept.now.frames kept.now.ending
+        (O.written out.old) (O.written out.new) ending) }
     ensures read { OnOk result ((passes : Passes)
         → ServesKept dissector.old.wanted (two_of plan.now) passes later.now
         → CanClose (written_of plan.now) (job_in plan.now passes)
-        (reverse (fitting (job_in plan.now passes) [] kept.now.frames kept.now.ending).frames)
+        (reverse (kept_read plan.now passes kept.now.frames kept.now.ending).frames)
         dissector.new lines.new.notes lines.new.capture) }
     ensures enough { OnOk result (IsEnough dissector.new.wanted plan.now) }
     ensures taken { OnOk result (HasTaken dissector.new) }
     ensures part { (passes : Passes)
         → ServesKept dissector.old.wanted (two_of plan.now) passes later.now
-        → AppendsPart (O.written out.old) (O.written out.new)
-        (pieces (job_in plan.now passes) []
-        (fitting (job_in plan.now passes) [] kept.now.frames kept.now.ending).frames) }
-    ensures read_fault { IsErrOf result RunFault.ReadFault → ⊥ }
-    ensures write_fault { IsErrOf result RunFault.WriteFault
-        → Rose (O.faults out.old) (O.faults out.new) }
+        → HaveBegunKept plan.now passes kept.now.frames kept.now.ending
+        (O.written out.old) (O.written out.new) }
+    ensures caused { IfErr result (IsWriteCaused (O.faults out.old) (O.faults out.new)) }
     ensures faults_stay { O.faults out.old ≤ O.faults out.new }
 {
     let mut left = kept.frames.slice();

@@ -1,13 +1,14 @@
 ghost use Rattle.std.specs.Prelude.{◌≡◌, ◌⊎◌, IfSome, Some};
 ghost use Rattle.shark_words.specs.Words.{texts};
 ghost use Rattle.run_frames.specs.declared.plan.Plan.{Plan};
-ghost use Rattle.shark_run.specs.declared.refused.Refused.{Refused};
-ghost use Rattle.shark_run.specs.Answers.{IsAnswered, IsSure};
-ghost use Rattle.shark_run.specs.Plan.{IsPlan, IsRefusal};
+ghost use Rattle.run_words.specs.declared.refused.Refused.{Refused};
+ghost use Rattle.shark_run.specs.Answers.{IsAnswered};
+ghost use Rattle.run_words.specs.Plan.{IsPlan, IsRefusal};
+ghost use Rattle.run_words.specs.Sure.{IsSure};
 ghost use Rattle.run_passes.specs.Reading.{file_of, frames_read};
 ghost use Rattle.shark_run.specs.Statuses.{status_of, refusal_status};
 ghost use Rattle.shark_run.specs.Statuses.{IsNoFault, IsRefusing, WhenEnded};
-ghost use Rattle.shark_run.specs.Wrote.{WroteAll, WrotePart};
+ghost use Rattle.run_output.specs.Wrote.{WroteAll, WrotePart};
 
 use pk_outside::{SureCapture, SureSink};
 use shark_run::{Status, run};

@@ -9,7 +9,7 @@ use Rattle.shark_run.specs.declared.status.Status.TheVariants as status
 use Rattle.shark_run.specs.Outcomes.{outcome_status, IfEnded}
 use Rattle.run_passes.specs.Reading.{file_of, frames_read}
 use Rattle.shark_run.specs.Statuses.{status_of}
-use Rattle.shark_run.proofs.PlanLemmas.{any_file, each_file}
+use Rattle.shark_run.proofs.AnswerLemmas.{any_file, each_file}
 
 -- nothing failed, so the status is that of the end, or tells of want of memory
 abbrev Ends : Plan → Status → Type 0 → Type 0 → Type 0 → List ℕ → Type 0

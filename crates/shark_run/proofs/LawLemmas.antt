@@ -1,5 +1,5 @@
--- Two plans of the same words, and two reasons to refuse them.
-use Rattle.std.proofs.Common.{◌≡◌, ◌⊎◌, ⊎_elim, ℕ, suc, Bool, false, not, ◌&&◌, ◌||◌, reverse, List, [], ◌∷◌, ◌++◌, length, Option, None, Some, option_map, Ok, Err, IsTrue, if◌then◌else◌, refl, sym, ◌∙◌, ap, subst}
+-- Two plans of the same words.
+use Rattle.std.proofs.Common.{◌≡◌, ◌⊎◌, ℕ, suc, Bool, false, not, ◌&&◌, ◌||◌, reverse, List, [], ◌∷◌, ◌++◌, Option, None, Some, Ok, if◌then◌else◌, refl, sym, ◌∙◌, ap, subst}
 use Rattle.std.specs.Prelude.{IfSome}
 use Rattle.capture_read.specs.Capture.{Reading, capture_of}
 use Rattle.capture_read.specs.declared.ending.Ending.{Ending}
@@ -15,100 +15,34 @@ use Rattle.shark_words.specs.declared.options.Report.{Report}
 use Rattle.shark_words.specs.declared.options.Report.TheVariants.{Follow, Table}
 use Rattle.port_rules.specs.declared.rules.PortRule.{PortRule}
 use Rattle.dissect.specs.Trees.{tree_at}
-use Rattle.flt_syntax.specs.declared.fault.FilterFault.{FilterFault}
-use Rattle.flt_syntax.specs.declared.fault.FilterError.TheVariants.{Fault}
-use Rattle.flt_types.specs.Texts.{IsFilterFault}
-use Rattle.flt_code.specs.Decides.{Agrees}
-use Rattle.flt_types.specs.declared.typed.Typed.{Typed}
-use Rattle.flt_read.proofs.OneMeaning.{one_meaning}
-use Rattle.flt_read.proofs.Unique.{one_fault_but_size}
-use Rattle.flt_mean.specs.Meaning.{meaning}
-use Rattle.flt_vm.proofs.VerdictLemmas.{computed_run}
-use Rattle.flt_vm.specs.Machine.{start}
-use Rattle.flt_vm.specs.Programs.{job_of as job_for}
-use Rattle.flt_vm.specs.Verdicts.{verdict_of}
-use Rattle.flt_vm.specs.declared.run.Verdict.{Verdict}
 use Rattle.shark_words.specs.declared.options.Options.{Options}
-use Rattle.shark_words.specs.Options.{options_of}
 use Rattle.run_frames.specs.declared.plan.Plan.{Plan}
-use Rattle.shark_run.specs.declared.refused.Refused.{Refused}
-use Rattle.shark_run.specs.declared.refused.Refused.TheVariants as refused
 use Rattle.run_frames.specs.declared.run_ending.RunEnding.TheVariants.{Unfit}
 use Rattle.shark_run.specs.declared.status.Status.{Status}
 use Rattle.shark_run.specs.declared.status.Status.TheVariants as status
-use Rattle.shark_run.specs.Answers.{is_of_size, IsAnswered, IsSure}
+use Rattle.shark_run.specs.Answers.{IsAnswered}
 use Rattle.run_frames.specs.Chosen.{chosen, chosen_of, if_shown, is_unfit_in, packet_in}
 use Rattle.run_frames.specs.Fitting.{FramesRead, before, fitting, is_unfit, is_unfit_by, over}
-use Rattle.run_frames.specs.Compiled.{CompiledShown}
 use Rattle.shark_run.specs.Statuses.{status_of}
-use Rattle.shark_run.specs.Laws.{AreAlike, LetsByMeaning, NeverBoth, OneReason, PlansAreAlike}
+use Rattle.shark_run.specs.Laws.{AreAlike, PlansAreAlike}
 use Rattle.run_frames.specs.declared.source.PlanSource.{PlanSource}
 use Rattle.run_frames.specs.Accessors.{is_quiet}
 use Rattle.run_frames.specs.Job.{Passes, job_in, passes_by, with_links}
 use Rattle.run_frames.specs.Pieces.{shown, piece, piece_by, pieces, line_by, line_of}
-use Rattle.shark_run.specs.Lines.{is_headed, opening, opening_by, closing, closing_by, counted_line, output_by, output_of}
-use Rattle.shark_run.specs.Reports.{report_text, reports_text}
-use Rattle.run_frames.specs.Satisfied.{decided, judged, satisfies}
+use Rattle.run_output.specs.Lines.{is_headed, opening, opening_by, closing, closing_by, counted_line, output_by, output_of}
+use Rattle.run_output.specs.Reports.{report_text, reports_text}
 use Rattle.run_frames.specs.Tables.{trees_let, trees_with}
 use Rattle.cap_stats.specs.Tables.{table_of}
-use Rattle.shark_run.specs.SelfRun.{line_with, self_run_line, shown_count}
+use Rattle.run_output.specs.SelfRun.{line_with, self_run_line, shown_count}
 use Rattle.run_frames.specs.Trees.{lets, lets_frame, tree_of, trees_of}
 use Rattle.run_frames.specs.Source.{is_generated_by}
-use Rattle.shark_run.specs.Plan.{IsFaultAsked, IsFilterAsked, IsPlan, IsPlanFor, IsRefusal, IsRefusalFor}
+use Rattle.run_words.specs.Plan.{IsPlan, IsPlanFor}
 use Rattle.run_passes.specs.Reading.{file_by, file_of, fitting_of, limited, frames_read, read_of}
-use Rattle.shark_run.specs.FilterStats.{stats_lines}
-use Rattle.shark_run.proofs.StatsLemmas.{stats_untold}
-use Rattle.shark_run.proofs.PlanLemmas.{answered, each_file, filter_or_fault, of_size, refused_not_planned, same_options}
-
-pub never_refused : NeverBoth
-never_refused words plan reason asked is sure = refused_not_planned words plan reason asked is sure
-
-one_filter_fault : (text : List ℕ) (f g : FilterFault) → ¬ IsTrue (is_of_size f.reason) → ¬ IsTrue (is_of_size g.reason)
-    → IsFilterFault text (Fault f) → IsFilterFault text (Fault g) → f ≡ g
-one_filter_fault text f g sure certain is also =
-    ⊎_elim
-    (λ same. same)
-    (λ size. ⊎_elim (λ large. absurd (sure (of_size f.reason large))) (λ large. absurd (certain (of_size g.reason large))) size)
-    (one_fault_but_size text f g is also)
-
-one_asked : (text : Option (List ℕ)) (f g : FilterFault) → ¬ IsTrue (is_of_size f.reason) → ¬ IsTrue (is_of_size g.reason)
-    → IsFaultAsked text f → IsFaultAsked text g → f ≡ g
-one_asked None f g sure certain is also = absurd is
-one_asked (Some text) f g sure certain is also = one_filter_fault text f g sure certain is also
-
-one_for : (options : Options) (one other : Refused) → IsSure one → IsSure other → IsRefusalFor options one → IsRefusalFor options other → one ≡ other
-one_for options (refused.Words f) other sure certain is also = absurd is
-one_for options (refused.Filter f) (refused.Words g) sure certain is also = absurd also
-one_for options (refused.Field name) (refused.Words g) sure certain is also = absurd also
-one_for options (refused.Filter f) (refused.Filter g) sure certain is also = ap refused.Filter (one_asked options.filter f g sure certain is also)
-one_for options (refused.Filter f) (refused.Field name) sure certain is also =
-    absurd (sure (filter_or_fault options.filter also.0.0 f also.0.1 is))
-one_for options (refused.Field name) (refused.Filter g) sure certain is also =
-    absurd (certain (filter_or_fault options.filter is.0.0 g is.0.1 also))
-one_for options (refused.Field name) (refused.Field known) sure certain is also =
-    let both : Err (refused.Field name) ≡ Err (refused.Field known) = sym is.1 ∙ also.1 in cc
-
--- a reason of options
-abbrev IsOfOptions : List (List ℕ) → Refused → Type 0
-IsOfOptions words reason = (options : Options) × (options_of words ≡ Ok options) × IsRefusalFor options reason
-
-one_of_options : (words : List (List ℕ)) (one other : Refused) → IsSure one → IsSure other → IsOfOptions words one → IsOfOptions words other
-    → one ≡ other
-one_of_options words one other sure certain is also =
-    one_for also.0 one other sure certain
-    (subst (λ (o : Options). IsRefusalFor o one) (same_options words is.0 also.0 is.1 also.1) is.2) also.2
-
-pub one_reason : OneReason
-unfolding IsRefusal
-one_reason words (refused.Words f) (refused.Words g) is also sure certain = let both : Err f ≡ Err g = sym is ∙ also in cc
-one_reason words (refused.Words f) (refused.Filter g) is also sure certain = let bad : Ok also.0 ≡ Err f = sym also.1 ∙ is in absurd (cc bad)
-one_reason words (refused.Words f) (refused.Field name) is also sure certain = let bad : Ok also.0 ≡ Err f = sym also.1 ∙ is in absurd (cc bad)
-one_reason words (refused.Filter f) (refused.Words g) is also sure certain = let bad : Ok is.0 ≡ Err g = sym is.1 ∙ also in absurd (cc bad)
-one_reason words (refused.Field name) (refused.Words g) is also sure certain = let bad : Ok is.0 ≡ Err g = sym is.1 ∙ also in absurd (cc bad)
-one_reason words (refused.Filter f) (refused.Filter g) is also sure certain = one_of_options words (refused.Filter f) (refused.Filter g) sure certain is also
-one_reason words (refused.Filter f) (refused.Field name) is also sure certain = one_of_options words (refused.Filter f) (refused.Field name) sure certain is also
-one_reason words (refused.Field name) (refused.Filter g) is also sure certain = one_of_options words (refused.Field name) (refused.Filter g) sure certain is also
-one_reason words (refused.Field name) (refused.Field known) is also sure certain = one_of_options words (refused.Field name) (refused.Field known) sure certain is also
+use Rattle.run_output.specs.FilterStats.{stats_lines}
+use Rattle.run_output.proofs.StatsLemmas.{stats_untold}
+use Rattle.run_words.proofs.PlanLemmas.{same_options}
+use Rattle.run_words.proofs.TruthLemmas.{same_truth}
+use Rattle.shark_run.proofs.AnswerLemmas.{answered, each_file}
 
 -- the same source, as many passes, the same rules for ports, the same kind of line, of the same fields, in the same style, and the same reports, or
 -- the same capture
@@ -335,34 +269,6 @@ same_read one other file most alike same =
     ap (λ (m : Option ℕ). read_of one (limited m (capture_of file))) most
     ∙ same_read_of one other (limited other.most (capture_of file)) alike same
 
--- where a program agrees with its filter, the filter's truth is decided
-decides_meaning : (compiled : CompiledShown) (tree : TreeShown) (answer : Option Verdict) → verdict_of compiled.program compiled.filter tree ≡ answer
-    → Agrees compiled.program compiled.filter → (decided answer (meaning compiled.filter tree)).holds ≡ meaning compiled.filter tree
-unfolding verdict_of Agrees
-decides_meaning compiled tree None is agrees = refl
-decides_meaning compiled tree (Some verdict) is agrees =
-    agrees tree verdict.steps verdict.holds
-    (computed_run (job_for compiled.program compiled.filter tree) (start compiled.program.registers) (length compiled.program.items) verdict is)
-
-satisfies_meaning : (compiled : CompiledShown) (tree : TreeShown) → Agrees compiled.program compiled.filter
-    → satisfies (Some compiled) tree ≡ meaning compiled.filter tree
-unfolding judged
-satisfies_meaning compiled tree agrees =
-    decides_meaning compiled tree (verdict_of compiled.program compiled.filter tree) refl agrees
-
--- the programs of a text let the same trees through
-same_truth : (text : Option (List ℕ)) (one other : Option CompiledShown) (tree : TreeShown) → IsFilterAsked text one → IsFilterAsked text other
-    → satisfies one tree ≡ satisfies other tree
-same_truth None None None tree is also = refl
-same_truth (Some text) (Some one) (Some other) tree is also =
-    satisfies_meaning one tree is.2
-    ∙ one_meaning text one.filter other.filter tree is.0 also.0
-    ∙ sym (satisfies_meaning other tree also.2)
-same_truth None (Some one) other tree is also = absurd is
-same_truth None None (Some other) tree is also = absurd also
-same_truth (Some text) None other tree is also = absurd is
-same_truth (Some text) (Some one) None tree is also = absurd also
-
 alike_for : (options : Options) (one other : Plan) → IsPlanFor options one → IsPlanFor options other → AreAlike one other
 alike_for options one other is also =
     let both : Ok one.fields ≡ Ok other.fields = sym is.fields ∙ also.fields in
@@ -381,19 +287,6 @@ pub plans_alike : PlansAreAlike
 unfolding IsPlan
 plans_alike words one other is also =
     alike_for also.0 one other (subst (λ (o : Options). IsPlanFor o one) (same_options words is.0 also.0 is.1 also.1) is.2) also.2
-
--- the programs of words let the trees through that satisfy their filter
-let_by_meaning : (text : Option (List ℕ)) (chosen : Option CompiledShown) (filter : Typed) (tree : TreeShown) → IsFilterAsked text chosen
-    → option_map (λ (compiled : CompiledShown). compiled.filter) chosen ≡ Some filter → satisfies chosen tree ≡ meaning filter tree
-let_by_meaning text None filter tree asked is = absurd (cc is)
-let_by_meaning None (Some compiled) filter tree asked is = absurd asked
-let_by_meaning (Some text) (Some compiled) filter tree asked is =
-    let same : compiled.filter ≡ filter = cc is in
-    satisfies_meaning compiled tree asked.2 ∙ ap (λ (f : Typed). meaning f tree) same
-
-pub lets_by_meaning : LetsByMeaning
-unfolding IsPlan
-lets_by_meaning words plan filter asked is tree = let_by_meaning asked.0.filter plan.chosen filter tree asked.2.chosen is
 
 -- a run whose words ask for a plan ends as every plan of theirs says, where nothing outside fails
 pub complete_planned : (words : List (List ℕ)) (asked plan : Plan) (files : List ℕ → Option (List ℕ)) (answer : Status) (A B C : Type 0) →

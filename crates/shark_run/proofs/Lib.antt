@@ -1,13 +1,5 @@
-mod BodyLemmas
-mod ClosingLemmas
+mod AnswerLemmas
+mod CauseLemmas
 mod CompleteLemmas
-mod EitherLemmas
-mod FollowLemmas
-mod JsonLemmas
 mod LawLemmas
-mod OpeningLemmas
-mod PlanLemmas
-mod ReportLemmas
-mod StatsLemmas
 mod ToldLemmas
-mod WordLemmas

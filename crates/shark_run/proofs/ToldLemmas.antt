@@ -10,8 +10,8 @@ use Rattle.shark_run.specs.declared.outcome.Outcome.{Outcome}
 use Rattle.shark_run.specs.declared.outcome.Outcome.TheVariants as outcome
 use Rattle.run_frames.specs.declared.run_ending.RunEnding.TheVariants.{Read, Unfit}
 use Rattle.run_frames.specs.declared.plan.Plan.{Plan}
-use Rattle.shark_run.specs.declared.refused.Refused.{Refused}
-use Rattle.shark_run.specs.declared.refused.Refused.TheVariants as refused
+use Rattle.run_words.specs.declared.refused.Refused.{Refused}
+use Rattle.run_words.specs.declared.refused.Refused.TheVariants as refused
 use Rattle.shark_run.specs.declared.status.Status.{Status}
 use Rattle.shark_run.specs.declared.status.Status.TheVariants as status
 use Rattle.shark_run.specs.FaultTexts.{refusal_text, ending_text, outcome_text, run_ending_text, IsFaultText, IsNone, IsSame, Told, ToldWhole}

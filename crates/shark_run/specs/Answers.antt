@@ -1,22 +1,11 @@
 -- Which answer words get: the one that is wanted, want of memory, and one more that is free.
-use Rattle.std.specs.Prelude.{◌≡◌, ◌⊎◌, ℕ, Bool, true, false, IsTrue, List}
+use Rattle.std.specs.Prelude.{◌≡◌, ◌⊎◌, ℕ, IsTrue, List}
 use Rattle.flt_syntax.specs.declared.fault.FilterFault.{FilterFault}
-use Rattle.flt_syntax.specs.declared.fault.FilterReason.{FilterReason}
-use Rattle.flt_syntax.specs.declared.fault.FilterReason.TheVariants.{PatternSize}
-use Rattle.shark_run.specs.declared.refused.Refused.{Refused}
-use Rattle.shark_run.specs.declared.refused.Refused.TheVariants as refused
+use Rattle.run_words.specs.declared.refused.Refused.TheVariants as refused
 use Rattle.shark_run.specs.declared.status.Status.{Status}
 use Rattle.shark_run.specs.declared.status.Status.TheVariants.{BadFilter, NoMemory}
-use Rattle.shark_run.specs.Plan.{IsRefusal}
-
-abbrev pub is_of_size : FilterReason → Bool
-is_of_size PatternSize = true
-is_of_size reason = false
-
--- a reason that isn't the size of a pattern: `regex` may refuse a large pattern that it could read
-abbrev pub IsSure : Refused → Type 0
-IsSure (refused.Filter fault) = ¬ IsTrue (is_of_size fault.reason)
-IsSure reason = Unit {0}
+use Rattle.run_words.specs.Plan.{IsRefusal}
+use Rattle.run_words.specs.Sure.{is_of_size}
 
 -- words are refused for the size of a pattern in their filter
 abbrev pub IsRefusedForSize : List (List ℕ) → Status → Type 0

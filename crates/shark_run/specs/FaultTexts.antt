@@ -16,8 +16,8 @@ use Rattle.shark_run.specs.declared.outcome.Outcome.TheVariants as outcome
 use Rattle.run_frames.specs.declared.run_ending.RunEnding.{RunEnding}
 use Rattle.run_frames.specs.declared.run_ending.RunEnding.TheVariants.{Read, Unfit}
 use Rattle.run_frames.specs.declared.plan.Plan.{Plan}
-use Rattle.shark_run.specs.declared.refused.Refused.{Refused}
-use Rattle.shark_run.specs.declared.refused.Refused.TheVariants as refused
+use Rattle.run_words.specs.declared.refused.Refused.{Refused}
+use Rattle.run_words.specs.declared.refused.Refused.TheVariants as refused
 use Rattle.shark_run.specs.declared.status.Status.{Status}
 use Rattle.shark_run.specs.declared.status.Status.TheVariants as status
 use Rattle.run_passes.specs.Reading.{name_of, file_of, frames_read}

@@ -4,8 +4,8 @@ use Rattle.capture_read.specs.declared.ending.Ending.{Ending}
 use Rattle.capture_read.specs.declared.ending.Ending.TheVariants as ending
 use Rattle.run_frames.specs.declared.run_ending.RunEnding.{RunEnding}
 use Rattle.run_frames.specs.declared.run_ending.RunEnding.TheVariants.{Read, Unfit}
-use Rattle.shark_run.specs.declared.refused.Refused.{Refused}
-use Rattle.shark_run.specs.declared.refused.Refused.TheVariants as refused
+use Rattle.run_words.specs.declared.refused.Refused.{Refused}
+use Rattle.run_words.specs.declared.refused.Refused.TheVariants as refused
 use Rattle.shark_run.specs.declared.status.Status.{Status}
 use Rattle.shark_run.specs.declared.status.Status.TheVariants.{Done, BadWords, BadFilter, BadField, CannotOpen, ReadFault, Damaged, TooLarge, WriteFault, NoMemory, CannotWrite}
 

@@ -9,13 +9,13 @@ ghost use Rattle.shark_run.specs.FaultTexts.{ending_text as text_of_ending, run_
 ghost use Rattle.shark_run.specs.FaultTexts.{refusal_text as text_of_refusal};
 
 use crate::outcome::Outcome;
-use crate::refused::Refused;
 use capture_read::Ending;
 use flt_syntax::FilterReason;
 use pk_base::{NoMemory, Reason};
 use pk_outside::{Sink, write_whole};
 use pk_text::escape_text;
 use run_frames::{Plan, RunEnding};
+use run_words::Refused;
 use shark_words::WordReason;
 use std::alloc::Global;
 

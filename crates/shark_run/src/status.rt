@@ -1,7 +1,7 @@
 ghost use Rattle.std.specs.Prelude.{◌≡◌};
 ghost use Rattle.shark_run.specs.Statuses.{exit_number, refusal_status};
 
-use crate::refused::Refused;
+use run_words::Refused;
 
 /// How a run ended. The program ends with the number of this variant, 0 for `Done`.
 #[derive(Clone, Copy, Debug, PartialEq, Eq)]

@@ -4,29 +4,29 @@ ghost use Rattle.make_capture.specs.Made.{made};
 ghost use Rattle.pk_outside.specs.Outside.{Rose};
 ghost use Rattle.shark_words.specs.Words.{texts};
 ghost use Rattle.run_frames.specs.declared.plan.Plan.{Plan};
-ghost use Rattle.shark_run.specs.declared.refused.Refused.{Refused};
-ghost use Rattle.shark_run.specs.Plan.{IsPlan, IsRefusal};
-ghost use Rattle.shark_run.specs.Answers.{IsSure, IsAnswered};
+ghost use Rattle.run_words.specs.declared.refused.Refused.{Refused};
+ghost use Rattle.run_words.specs.Plan.{IsPlan, IsRefusal};
+ghost use Rattle.run_words.specs.Sure.{IsSure};
+ghost use Rattle.shark_run.specs.Answers.{IsAnswered};
 ghost use Rattle.run_passes.specs.Reading.{name_of, file_of, frames_read};
 ghost use Rattle.run_passes.specs.Taken.{Took};
 ghost use Rattle.shark_run.specs.Statuses.{status_of, refusal_status, IsNoRefusal, IsRefusing, WhenEnded};
 ghost use Rattle.shark_run.specs.FaultTexts.{IsNone, IsSame, Told, ToldWhole};
 ghost use Rattle.shark_run.specs.Outcomes.{IfEnded};
 ghost use Rattle.shark_run.specs.Causes.{IsUnopened, IsUnread};
-ghost use Rattle.shark_run.specs.Way.{IsBroken, IsBrokenOf, IsFullNear, WroteTaken};
+ghost use Rattle.run_output.specs.Way.{IsBroken, IsBrokenOf, IsFullNear, WroteTaken};
 ghost use Rattle.run_passes.specs.SoFar.{IsFullNearOf};
-ghost use Rattle.shark_run.specs.Wrote.{WroteAll, WrotePart};
+ghost use Rattle.run_output.specs.Wrote.{WroteAll, WrotePart};
 
 use crate::fault_text::{outcome_text, refusal_text, tell};
 use crate::file::{FileFault, begin_file, begin_generated};
 use crate::outcome::Outcome;
-use crate::output::write_output;
-use crate::refused::{PlanError, Refused};
 use crate::status::{Status, status_of_refusal};
-use crate::words::read_plan;
 use pk_base::NoMemory;
 use pk_outside::{Capture, Sink};
 use run_frames::{Generated, Plan, PlanSource, RunFault, Text};
+use run_output::write_output;
+use run_words::{PlanError, Refused, read_plan};
 use std::alloc::Global;
 
 // Reads the file of a name and writes the output over its frames.

@@ -2,6 +2,7 @@ use Rattle.std.proofs.Common.{◌∙◌, ap, sym, subst, ℕ, List, [], ◌∷�
 use Rattle.port_rules.specs.declared.rules.DecodeAs.{DecodeAs}
 use Rattle.pk_base.specs.Limits.{file_limit}
 use Rattle.capture_read.proofs.TakenLemmas.{took_none}
+use Rattle.run_passes.proofs.FaultLemmas.{caused_write, cut_off, read_further, rose_before, write_caused}
 use Rattle.run_passes.proofs.Together.{few_taken, has_taken, takeable, together_after}
 use Rattle.run_frames.proofs.TotalsLemmas.{few_after, few_begun}
 use Rattle.run_passes.proofs.WayLemmas.{way_begun, way_further, way_stopped, way_full, read_full, full_near, way_ended, read_ended, ended_near, way_unread, way_unfit, read_unfit, unfit_near, broken_part, broken_near, way_took, serves_once}
@@ -26,9 +27,7 @@ loop-alloc-init g c =
       judge = c.requires.judge;
       writer = c.requires.lines;
       few = few_begun c.args.dissector.now.taken c.args.lines.now.notes.totals c.requires.totals;
-      asked = refl;
-      begun = refl;
-      missed = refl;
+      on = record { asked = refl; begun = refl; missed = refl };
       read_faults = omega arith;
       write_faults = omega arith;
     }
@@ -73,9 +72,9 @@ pub returns-in-Err-ReadFault-clause-part : goal.returns-in-Err-ReadFault-clause-
 returns-in-Err-ReadFault-clause-part g c =
     way_stopped c.args.plan.now c.loop-alloc.most (g.C.Capture.left c.args.capture.now) c.loop-alloc.reader (g.C.Capture.left c.loop-alloc.capture) c.loop-alloc.dissector c.loop-alloc.lines.notes c.loop-alloc.lines.capture (g.O.Sink.written c.args.out.now) (g.O.Sink.written c.loop-alloc.out) c.loop-alloc.invariant.way
 
-pub returns-in-Err-ReadFault-clause-so_far : goal.returns-in-Err-ReadFault-clause-so_far
-returns-in-Err-ReadFault-clause-so_far g c =
-    λ is. way_unread c.args.plan.now c.loop-alloc.most (g.C.Capture.left c.args.capture.now) c.loop-alloc.reader (g.C.Capture.left c.loop-alloc.capture) (g.C.Capture.left c.next_frame.new.capture) c.loop-alloc.dissector c.loop-alloc.lines.notes c.loop-alloc.lines.capture (g.O.Sink.written c.args.out.now) (g.O.Sink.written c.loop-alloc.out) (c.is_full.ensures.more c.if-is_full.false) c.loop-alloc.invariant.way (c.in-Err-ReadFault.ensures.fails (ap Err c.in-Err-ReadFault.field-0-is))
+pub returns-in-Err-ReadFault-clause-broken : goal.returns-in-Err-ReadFault-clause-broken
+returns-in-Err-ReadFault-clause-broken g c =
+    way_unread c.args.plan.now c.loop-alloc.most (g.C.Capture.left c.args.capture.now) c.loop-alloc.reader (g.C.Capture.left c.loop-alloc.capture) (g.C.Capture.left c.next_frame.new.capture) c.loop-alloc.dissector c.loop-alloc.lines.notes c.loop-alloc.lines.capture (g.O.Sink.written c.args.out.now) (g.O.Sink.written c.loop-alloc.out) (c.is_full.ensures.more c.if-is_full.false) c.loop-alloc.invariant.way (c.in-Err-ReadFault.ensures.fails (ap Err c.in-Err-ReadFault.field-0-is))
 
 pub returns-in-Err-ReadFault-clause-took : goal.returns-in-Err-ReadFault-clause-took
 returns-in-Err-ReadFault-clause-took g c =
@@ -109,9 +108,10 @@ pub returns-in-Err-clause-part : goal.returns-in-Err-clause-part
 returns-in-Err-clause-part g c =
     broken_part c.args.plan.now c.loop-alloc.most (g.C.Capture.left c.args.capture.now) c.loop-alloc.reader c.next_frame.new.self (g.C.Capture.left c.loop-alloc.capture) (g.C.Capture.left c.next_frame.new.capture) c.loop-alloc.dissector c.loop-alloc.lines.notes c.loop-alloc.lines.capture (g.O.Sink.written c.args.out.now) (g.O.Sink.written c.loop-alloc.out) (g.O.Sink.written c.write_frame.new.out) c.in-Ok-Frame.frame (c.is_full.ensures.more c.if-is_full.false) c.loop-alloc.invariant.way (rw c.in-Ok-Frame.field-0-is at c.in-Ok-Frame.ensures.answers) (λ past. c.write_frame.ensures.part One past (serves_once c.args.plan.now c.requires.alone))
 
-pub returns-in-Err-clause-near : goal.returns-in-Err-clause-near
-returns-in-Err-clause-near g c =
-    λ is. broken_near c.args.plan.now c.loop-alloc.most (g.C.Capture.left c.args.capture.now) c.loop-alloc.reader c.next_frame.new.self (g.C.Capture.left c.loop-alloc.capture) (g.C.Capture.left c.next_frame.new.capture) c.loop-alloc.dissector c.loop-alloc.lines.notes c.loop-alloc.lines.capture (g.O.Sink.written c.args.out.now) (g.O.Sink.written c.loop-alloc.out) (g.O.Sink.written c.write_frame.new.out) c.in-Ok-Frame.frame c.loop-alloc.invariant.way (rw c.in-Ok-Frame.field-0-is at c.in-Ok-Frame.ensures.answers) (λ past. c.write_frame.ensures.part One past (serves_once c.args.plan.now c.requires.alone))
+pub returns-in-Err-clause-broken : goal.returns-in-Err-clause-broken
+returns-in-Err-clause-broken g c =
+    cut_off c.args.plan.now (g.C.Capture.left c.args.capture.now) (g.C.Capture.left c.next_frame.new.capture) (g.O.Sink.written c.args.out.now) (g.O.Sink.written c.write_frame.new.out) c.in-Err.fault (λ is. c.in-Err.ensures.read (ap Err is))
+    (broken_near c.args.plan.now c.loop-alloc.most (g.C.Capture.left c.args.capture.now) c.loop-alloc.reader c.next_frame.new.self (g.C.Capture.left c.loop-alloc.capture) (g.C.Capture.left c.next_frame.new.capture) c.loop-alloc.dissector c.loop-alloc.lines.notes c.loop-alloc.lines.capture (g.O.Sink.written c.args.out.now) (g.O.Sink.written c.loop-alloc.out) (g.O.Sink.written c.write_frame.new.out) c.in-Ok-Frame.frame c.loop-alloc.invariant.way (rw c.in-Ok-Frame.field-0-is at c.in-Ok-Frame.ensures.answers) (λ past. c.write_frame.ensures.part One past (serves_once c.args.plan.now c.requires.alone)))
 
 pub returns-in-Err-clause-took : goal.returns-in-Err-clause-took
 returns-in-Err-clause-took g c =
@@ -129,9 +129,11 @@ loop-alloc-preserved g c =
       judge = c.write_frame.ensures.judge ∙ c.loop-alloc.invariant.judge;
       writer = c.write_frame.ensures.writer ∙ c.loop-alloc.invariant.writer;
       few = few_after c.loop-alloc.dissector.taken c.write_frame.new.dissector.taken c.write_frame.new.lines.notes.totals c.in-Ok-true.ensures.taken (c.write_frame.ensures.few c.loop-alloc.dissector.taken c.loop-alloc.invariant.few);
-      asked = c.next_frame.ensures.asked ∙ c.loop-alloc.invariant.asked;
-      begun = c.next_frame.ensures.begun ∙ c.loop-alloc.invariant.begun;
-      missed = c.next_frame.ensures.missed ∙ c.loop-alloc.invariant.missed;
+      on = record {
+        asked = c.next_frame.ensures.asked ∙ c.loop-alloc.invariant.on.asked;
+        begun = c.next_frame.ensures.begun ∙ c.loop-alloc.invariant.on.begun;
+        missed = c.next_frame.ensures.missed ∙ c.loop-alloc.invariant.on.missed;
+      };
       read_faults = omega (arith, c.loop-alloc.invariant.read_faults, c.next_frame.ensures.faults_stay);
       write_faults = omega (arith, c.loop-alloc.invariant.write_faults, c.write_frame.ensures.faults_stay);
     }
@@ -148,9 +150,11 @@ loop-alloc-preserved-in-Ok-true g c =
       judge = c.write_frame.ensures.judge ∙ c.loop-alloc.invariant.judge;
       writer = c.write_frame.ensures.writer ∙ c.loop-alloc.invariant.writer;
       few = few_after c.loop-alloc.dissector.taken c.write_frame.new.dissector.taken c.write_frame.new.lines.notes.totals c.in-Ok-true.ensures.taken (c.write_frame.ensures.few c.loop-alloc.dissector.taken c.loop-alloc.invariant.few);
-      asked = c.next_frame.ensures.asked ∙ c.loop-alloc.invariant.asked;
-      begun = c.next_frame.ensures.begun ∙ c.loop-alloc.invariant.begun;
-      missed = c.next_frame.ensures.missed ∙ c.loop-alloc.invariant.missed;
+      on = record {
+        asked = c.next_frame.ensures.asked ∙ c.loop-alloc.invariant.on.asked;
+        begun = c.next_frame.ensures.begun ∙ c.loop-alloc.invariant.on.begun;
+        missed = c.next_frame.ensures.missed ∙ c.loop-alloc.invariant.on.missed;
+      };
       read_faults = omega (arith, c.loop-alloc.invariant.read_faults, c.next_frame.ensures.faults_stay);
       write_faults = omega (arith, c.loop-alloc.invariant.write_faults, c.write_frame.ensures.faults_stay);
     }
@@ -186,3 +190,40 @@ returns-in-Ok-false-clause-part g c =
 pub returns-in-Ok-false-clause-took : goal.returns-in-Ok-false-clause-took
 returns-in-Ok-false-clause-took g c =
     way_took c.args.plan.now c.loop-alloc.most (g.C.Capture.left c.args.capture.now) c.loop-alloc.reader (g.C.Capture.left c.loop-alloc.capture) (g.C.Capture.left c.next_frame.new.capture) c.loop-alloc.dissector c.loop-alloc.lines.notes c.loop-alloc.lines.capture (g.O.Sink.written c.args.out.now) (g.O.Sink.written c.loop-alloc.out) c.loop-alloc.invariant.way c.next_frame.ensures.took
+
+pub returns-in-Ok-End-clause-stays : goal.returns-in-Ok-End-clause-stays
+returns-in-Ok-End-clause-stays g c =
+    read_further (g.C.Capture.asked c.args.capture.now) (g.C.Capture.asked c.loop-alloc.capture) (g.C.Capture.asked c.next_frame.new.capture) (g.C.Capture.begun c.args.capture.now) (g.C.Capture.begun c.loop-alloc.capture) (g.C.Capture.begun c.next_frame.new.capture) (g.C.Capture.missed c.args.capture.now) (g.C.Capture.missed c.loop-alloc.capture) (g.C.Capture.missed c.next_frame.new.capture)
+    c.loop-alloc.invariant.on c.next_frame.ensures.asked c.next_frame.ensures.begun c.next_frame.ensures.missed
+
+pub returns-in-Err-ReadFault-clause-stays : goal.returns-in-Err-ReadFault-clause-stays
+returns-in-Err-ReadFault-clause-stays g c =
+    read_further (g.C.Capture.asked c.args.capture.now) (g.C.Capture.asked c.loop-alloc.capture) (g.C.Capture.asked c.next_frame.new.capture) (g.C.Capture.begun c.args.capture.now) (g.C.Capture.begun c.loop-alloc.capture) (g.C.Capture.begun c.next_frame.new.capture) (g.C.Capture.missed c.args.capture.now) (g.C.Capture.missed c.loop-alloc.capture) (g.C.Capture.missed c.next_frame.new.capture)
+    c.loop-alloc.invariant.on c.next_frame.ensures.asked c.next_frame.ensures.begun c.next_frame.ensures.missed
+
+pub returns-in-Err-NoMemory-clause-stays : goal.returns-in-Err-NoMemory-clause-stays
+returns-in-Err-NoMemory-clause-stays g c =
+    read_further (g.C.Capture.asked c.args.capture.now) (g.C.Capture.asked c.loop-alloc.capture) (g.C.Capture.asked c.next_frame.new.capture) (g.C.Capture.begun c.args.capture.now) (g.C.Capture.begun c.loop-alloc.capture) (g.C.Capture.begun c.next_frame.new.capture) (g.C.Capture.missed c.args.capture.now) (g.C.Capture.missed c.loop-alloc.capture) (g.C.Capture.missed c.next_frame.new.capture)
+    c.loop-alloc.invariant.on c.next_frame.ensures.asked c.next_frame.ensures.begun c.next_frame.ensures.missed
+
+pub returns-in-Err-clause-stays : goal.returns-in-Err-clause-stays
+returns-in-Err-clause-stays g c =
+    read_further (g.C.Capture.asked c.args.capture.now) (g.C.Capture.asked c.loop-alloc.capture) (g.C.Capture.asked c.next_frame.new.capture) (g.C.Capture.begun c.args.capture.now) (g.C.Capture.begun c.loop-alloc.capture) (g.C.Capture.begun c.next_frame.new.capture) (g.C.Capture.missed c.args.capture.now) (g.C.Capture.missed c.loop-alloc.capture) (g.C.Capture.missed c.next_frame.new.capture)
+    c.loop-alloc.invariant.on c.next_frame.ensures.asked c.next_frame.ensures.begun c.next_frame.ensures.missed
+
+pub returns-in-Ok-false-clause-stays : goal.returns-in-Ok-false-clause-stays
+returns-in-Ok-false-clause-stays g c =
+    read_further (g.C.Capture.asked c.args.capture.now) (g.C.Capture.asked c.loop-alloc.capture) (g.C.Capture.asked c.next_frame.new.capture) (g.C.Capture.begun c.args.capture.now) (g.C.Capture.begun c.loop-alloc.capture) (g.C.Capture.begun c.next_frame.new.capture) (g.C.Capture.missed c.args.capture.now) (g.C.Capture.missed c.loop-alloc.capture) (g.C.Capture.missed c.next_frame.new.capture)
+    c.loop-alloc.invariant.on c.next_frame.ensures.asked c.next_frame.ensures.begun c.next_frame.ensures.missed
+
+pub returns-in-Err-ReadFault-clause-caused : goal.returns-in-Err-ReadFault-clause-caused
+returns-in-Err-ReadFault-clause-caused g c =
+    rose_before (g.C.Capture.faults c.args.capture.now) (g.C.Capture.faults c.loop-alloc.capture) (g.C.Capture.faults c.next_frame.new.capture) c.loop-alloc.invariant.read_faults (c.in-Err-ReadFault.ensures.fault (ap Err c.in-Err-ReadFault.field-0-is))
+
+pub returns-in-Err-clause-caused : goal.returns-in-Err-clause-caused
+returns-in-Err-clause-caused g c =
+    caused_write (g.C.Capture.faults c.args.capture.now) (g.C.Capture.faults c.next_frame.new.capture) (g.O.Sink.faults c.args.out.now) (g.O.Sink.faults c.write_frame.new.out) c.in-Err.fault
+    (write_caused (g.O.Sink.faults c.args.out.now) (g.O.Sink.faults c.loop-alloc.out) (g.O.Sink.faults c.write_frame.new.out) c.in-Err.fault c.loop-alloc.invariant.write_faults (λ is. c.in-Err.ensures.read (ap Err is)) (λ is. c.in-Err.ensures.fault (ap Err is)))
+
+pub returns-in-Ok-false-clause-enough : goal.returns-in-Ok-false-clause-enough
+returns-in-Ok-false-clause-enough g c = subst (λ (fields : List ℕ). IsEnough fields c.args.plan.now) (sym c.write_frame.ensures.kept) c.loop-alloc.invariant.wanted

@@ -5,6 +5,7 @@ use Rattle.run_frames.specs.Accessors.{compiled_of, rules_of}
 use Rattle.pk_base.specs.Limits.{file_limit}
 use Rattle.capture_read.specs.Taken.{TookAtMost}
 use Rattle.run_frames.specs.Notes.{AreFewNotes}
+use Rattle.run_passes.specs.Passed.{IsReadOn}
 use Rattle.run_passes.proofs.Together.{AreTogether}
 use Rattle.run_passes.proofs.WayLemmas.{AreOnTheWay}
 use Rattle.run_frames.specs.Wanted.{IsEnough}
@@ -21,9 +22,7 @@ invariant-loop-alloc g l = record {
   judge : l.lines.judge ≡ compiled_of l.plan;
   writer : l.lines.writer ≡ l.plan.fields;
   few : AreFewNotes l.dissector.taken l.lines.notes;
-  asked : g.C.Capture.asked l.capture ≡ g.C.Capture.asked l.fn.capture;
-  begun : g.C.Capture.begun l.capture ≡ g.C.Capture.begun l.fn.capture;
-  missed : g.C.Capture.missed l.capture ≡ g.C.Capture.missed l.fn.capture;
+  on : IsReadOn (g.C.Capture.asked l.fn.capture) (g.C.Capture.asked l.capture) (g.C.Capture.begun l.fn.capture) (g.C.Capture.begun l.capture) (g.C.Capture.missed l.fn.capture) (g.C.Capture.missed l.capture);
   read_faults : g.C.Capture.faults l.fn.capture ≤ g.C.Capture.faults l.capture;
   write_faults : g.O.Sink.faults l.fn.out ≤ g.O.Sink.faults l.out;
 }

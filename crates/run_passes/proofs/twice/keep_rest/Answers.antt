@@ -1,6 +1,7 @@
 use Rattle.std.proofs.Common.{◌∙◌, ap, suc, Err, refl, arith}
 use Rattle.pk_base.specs.Limits.{file_limit}
 use Rattle.capture_read.proofs.TakenLemmas.{took_none}
+use Rattle.run_passes.proofs.FaultLemmas.{read_further, rose_before}
 use Rattle.run_passes.proofs.KeepLemmas.{counts_begun, counts_more, keep_begun, keep_ended, keep_ended_near, keep_full, keep_full_near, keep_further, keep_took, keep_unread, takeable_more, takeable_none}
 use Rattle.run_passes.proofs.twice.keep_rest.Goals as goal
 
@@ -10,9 +11,7 @@ loop-most-init g c = record {
   counted = counts_begun c.args.reader.now.state c.args.frames.now.items c.requires.none c.requires.number c.requires.at;
   takeable = takeable_none c.args.frames.now.items c.requires.none;
   took = took_none (suc file_limit) (g.C.Capture.left c.args.capture.now) (g.C.Capture.left c.args.capture.now) refl;
-  asked = refl;
-  begun = refl;
-  missed = refl;
+  on = record { asked = refl; begun = refl; missed = refl };
   read_faults = omega arith;
 }
 
@@ -40,8 +39,8 @@ pub returns-in-Ok-End-clause-took : goal.returns-in-Ok-End-clause-took
 returns-in-Ok-End-clause-took g c =
     keep_took c.args.plan.now c.loop-most.most (g.C.Capture.left c.args.capture.now) c.loop-most.reader (g.C.Capture.left c.loop-most.capture) (g.C.Capture.left c.next_frame.new.capture) c.loop-most.frames.items c.loop-most.invariant.way c.next_frame.ensures.took
 
-pub returns-in-Err-ReadFault-clause-so_far : goal.returns-in-Err-ReadFault-clause-so_far
-returns-in-Err-ReadFault-clause-so_far g c = λ is.
+pub returns-in-Err-ReadFault-clause-broken : goal.returns-in-Err-ReadFault-clause-broken
+returns-in-Err-ReadFault-clause-broken g c =
     keep_unread c.args.plan.now c.loop-most.most (g.C.Capture.left c.args.capture.now) c.loop-most.reader (g.C.Capture.left c.loop-most.capture) (g.C.Capture.left c.next_frame.new.capture) c.loop-most.frames.items
     (c.is_full.ensures.more c.if-is_full.false) c.loop-most.invariant.way (c.in-Err-ReadFault.ensures.fails (ap Err c.in-Err-ReadFault.field-0-is))
 
@@ -64,8 +63,34 @@ loop-most-preserved g c = record {
   counted = rw c.in-Ok.ensures.items (counts_more c.loop-most.reader.state c.next_frame.new.self.state c.loop-most.frames.items c.in-Ok-Frame.frame c.loop-most.invariant.counted (rw c.in-Ok-Frame.field-0-is at c.in-Ok-Frame.ensures.counts) c.next_frame.ensures.limit);
   takeable = rw c.in-Ok.ensures.items (takeable_more c.loop-most.reader.state c.next_frame.new.self.state c.loop-most.frames.items c.in-Ok-Frame.frame c.loop-most.invariant.counted (rw c.in-Ok-Frame.field-0-is at c.in-Ok-Frame.ensures.counts) c.next_frame.ensures.limit c.loop-most.invariant.takeable);
   took = keep_took c.args.plan.now c.loop-most.most (g.C.Capture.left c.args.capture.now) c.loop-most.reader (g.C.Capture.left c.loop-most.capture) (g.C.Capture.left c.next_frame.new.capture) c.loop-most.frames.items c.loop-most.invariant.way c.next_frame.ensures.took;
-  asked = c.next_frame.ensures.asked ∙ c.loop-most.invariant.asked;
-  begun = c.next_frame.ensures.begun ∙ c.loop-most.invariant.begun;
-  missed = c.next_frame.ensures.missed ∙ c.loop-most.invariant.missed;
+  on = record {
+    asked = c.next_frame.ensures.asked ∙ c.loop-most.invariant.on.asked;
+    begun = c.next_frame.ensures.begun ∙ c.loop-most.invariant.on.begun;
+    missed = c.next_frame.ensures.missed ∙ c.loop-most.invariant.on.missed;
+  };
   read_faults = omega (arith, c.loop-most.invariant.read_faults, c.next_frame.ensures.faults_stay);
 }
+
+pub returns-in-Ok-End-clause-stays : goal.returns-in-Ok-End-clause-stays
+returns-in-Ok-End-clause-stays g c =
+    read_further (g.C.Capture.asked c.args.capture.now) (g.C.Capture.asked c.loop-most.capture) (g.C.Capture.asked c.next_frame.new.capture) (g.C.Capture.begun c.args.capture.now) (g.C.Capture.begun c.loop-most.capture) (g.C.Capture.begun c.next_frame.new.capture) (g.C.Capture.missed c.args.capture.now) (g.C.Capture.missed c.loop-most.capture) (g.C.Capture.missed c.next_frame.new.capture)
+    c.loop-most.invariant.on c.next_frame.ensures.asked c.next_frame.ensures.begun c.next_frame.ensures.missed
+
+pub returns-in-Err-ReadFault-clause-stays : goal.returns-in-Err-ReadFault-clause-stays
+returns-in-Err-ReadFault-clause-stays g c =
+    read_further (g.C.Capture.asked c.args.capture.now) (g.C.Capture.asked c.loop-most.capture) (g.C.Capture.asked c.next_frame.new.capture) (g.C.Capture.begun c.args.capture.now) (g.C.Capture.begun c.loop-most.capture) (g.C.Capture.begun c.next_frame.new.capture) (g.C.Capture.missed c.args.capture.now) (g.C.Capture.missed c.loop-most.capture) (g.C.Capture.missed c.next_frame.new.capture)
+    c.loop-most.invariant.on c.next_frame.ensures.asked c.next_frame.ensures.begun c.next_frame.ensures.missed
+
+pub returns-in-Err-NoMemory-clause-stays : goal.returns-in-Err-NoMemory-clause-stays
+returns-in-Err-NoMemory-clause-stays g c =
+    read_further (g.C.Capture.asked c.args.capture.now) (g.C.Capture.asked c.loop-most.capture) (g.C.Capture.asked c.next_frame.new.capture) (g.C.Capture.begun c.args.capture.now) (g.C.Capture.begun c.loop-most.capture) (g.C.Capture.begun c.next_frame.new.capture) (g.C.Capture.missed c.args.capture.now) (g.C.Capture.missed c.loop-most.capture) (g.C.Capture.missed c.next_frame.new.capture)
+    c.loop-most.invariant.on c.next_frame.ensures.asked c.next_frame.ensures.begun c.next_frame.ensures.missed
+
+pub returns-in-Err-clause-stays : goal.returns-in-Err-clause-stays
+returns-in-Err-clause-stays g c =
+    read_further (g.C.Capture.asked c.args.capture.now) (g.C.Capture.asked c.loop-most.capture) (g.C.Capture.asked c.next_frame.new.capture) (g.C.Capture.begun c.args.capture.now) (g.C.Capture.begun c.loop-most.capture) (g.C.Capture.begun c.next_frame.new.capture) (g.C.Capture.missed c.args.capture.now) (g.C.Capture.missed c.loop-most.capture) (g.C.Capture.missed c.next_frame.new.capture)
+    c.loop-most.invariant.on c.next_frame.ensures.asked c.next_frame.ensures.begun c.next_frame.ensures.missed
+
+pub returns-in-Err-ReadFault-clause-caused : goal.returns-in-Err-ReadFault-clause-caused
+returns-in-Err-ReadFault-clause-caused g c =
+    rose_before (g.C.Capture.faults c.args.capture.now) (g.C.Capture.faults c.loop-most.capture) (g.C.Capture.faults c.next_frame.new.capture) c.loop-most.invariant.read_faults (c.in-Err-ReadFault.ensures.fault (ap Err c.in-Err-ReadFault.field-0-is))

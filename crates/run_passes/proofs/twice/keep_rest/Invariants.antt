@@ -1,6 +1,7 @@
-use Rattle.std.proofs.Common.{◌≡◌, ◌≤◌, ◌-◌, suc}
+use Rattle.std.proofs.Common.{◌≤◌, ◌-◌, suc}
 use Rattle.capture_read.specs.Taken.{TookAtMost}
 use Rattle.pk_base.specs.Limits.{file_limit}
+use Rattle.run_passes.specs.Passed.{IsReadOn}
 use Rattle.run_passes.specs.Takeable.{AreTakeable}
 use Rattle.run_passes.proofs.KeepLemmas.{AreCounted, AreKeeping}
 use Rattle.run_passes.proofs.twice.keep_rest.Given as goal
@@ -11,9 +12,7 @@ invariant-loop-most g l = record {
   counted : AreCounted l.reader.state l.frames.items;
   takeable : AreTakeable 0 0 l.frames.items;
   took : TookAtMost (suc file_limit) (g.C.Capture.left l.fn.capture) (g.C.Capture.left l.capture);
-  asked : g.C.Capture.asked l.capture ≡ g.C.Capture.asked l.fn.capture;
-  begun : g.C.Capture.begun l.capture ≡ g.C.Capture.begun l.fn.capture;
-  missed : g.C.Capture.missed l.capture ≡ g.C.Capture.missed l.fn.capture;
+  on : IsReadOn (g.C.Capture.asked l.fn.capture) (g.C.Capture.asked l.capture) (g.C.Capture.begun l.fn.capture) (g.C.Capture.begun l.capture) (g.C.Capture.missed l.fn.capture) (g.C.Capture.missed l.capture);
   read_faults : g.C.Capture.faults l.fn.capture ≤ g.C.Capture.faults l.capture;
 }
 

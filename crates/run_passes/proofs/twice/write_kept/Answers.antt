@@ -1,4 +1,4 @@
-use Rattle.std.proofs.Common.{◌∙◌, ap, sym, subst, refl, ℕ, List, [], ◌∷◌, arith, length, take, drop, ◌-◌}
+use Rattle.std.proofs.Common.{◌∙◌, ap, sym, subst, refl, Err, ℕ, List, [], ◌∷◌, arith, length, take, drop, ◌-◌}
 use Rattle.port_rules.specs.declared.rules.DecodeAs.{DecodeAs}
 use Rattle.pk_outside.proofs.Parts.{part_whole}
 use Rattle.run_frames.specs.Fitting.{fitting}
@@ -6,6 +6,7 @@ use Rattle.run_frames.specs.Job.{job_in}
 use Rattle.run_frames.specs.Pieces.{pieces}
 use Rattle.run_frames.specs.Wanted.{IsEnough}
 use Rattle.run_frames.proofs.TotalsLemmas.{few_after, few_begun}
+use Rattle.run_passes.proofs.FaultLemmas.{write_caused}
 use Rattle.run_passes.proofs.TwiceLemmas.{all_joined, few_kept, first_takeable, left_first, left_more, serves_still, takeable_after, takeable_begun, through_begun, through_broken, through_closes, through_ended, through_further, through_unfit, through_unfit_closes}
 use Rattle.run_passes.proofs.twice.write_kept.Goals as goal
 
@@ -121,3 +122,7 @@ returns-clause-part g c = λ passes serves.
     part_whole (g.O.Sink.written c.args.out.now) (g.O.Sink.written c.loop-left.out) (pieces (job_in c.args.plan.now passes) [] (fitting (job_in c.args.plan.now passes) [] c.args.kept.now.frames c.args.kept.now.ending).frames)
     (through_ended (job_in c.args.plan.now passes) c.args.kept.now.frames c.loop-left.invariant.past c.args.kept.now.ending c.loop-left.lines.notes c.loop-left.lines.capture (g.O.Sink.written c.args.out.now) (g.O.Sink.written c.loop-left.out)
     (all_joined c.loop-left.invariant.past c.loop-left.left.now c.args.kept.now.frames c.in_default.len_below c.loop-left.invariant.joined) (c.loop-left.invariant.way passes serves)).0
+
+pub returns-in-Err-clause-caused : goal.returns-in-Err-clause-caused
+returns-in-Err-clause-caused g c =
+    write_caused (g.O.Sink.faults c.args.out.now) (g.O.Sink.faults c.loop-left.out) (g.O.Sink.faults c.write_frame.new.out) c.in-Err.fault c.loop-left.invariant.write_faults (λ is. c.in-Err.ensures.read (ap Err is)) (λ is. c.in-Err.ensures.fault (ap Err is))

@@ -1,10 +1,11 @@
 use Rattle.std.proofs.Common.{sym, subst}
 use Rattle.shark_words.specs.Words.{texts}
 use Rattle.run_frames.specs.declared.plan.Plan.{Plan}
-use Rattle.shark_run.specs.declared.refused.Refused.{Refused}
+use Rattle.run_words.specs.declared.refused.Refused.{Refused}
 use Rattle.shark_run.specs.FaultTexts.{IsNone, IsSame}
-use Rattle.shark_run.specs.Plan.{IsPlan, IsRefusal}
-use Rattle.shark_run.proofs.PlanLemmas.{complete_refused, reason_given, refused_not_planned, refused_or_none}
+use Rattle.run_words.specs.Plan.{IsPlan, IsRefusal}
+use Rattle.run_words.proofs.PlanLemmas.{reason_given, refused_not_planned}
+use Rattle.shark_run.proofs.AnswerLemmas.{complete_refused, refused_or_none}
 use Rattle.shark_run.proofs.LawLemmas.{complete_planned}
 use Rattle.shark_run.proofs.ToldLemmas.{told_more, whole_more, told_nothing, whole_nothing}
 use Rattle.shark_run.proofs.top.run.Goals as goal

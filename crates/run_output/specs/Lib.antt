@@ -1,0 +1,8 @@
+pub mod FilterStats
+pub mod JsonLaws
+pub mod Lines
+pub mod ReportLaws
+pub mod Reports
+pub mod SelfRun
+pub mod Way
+pub mod Wrote

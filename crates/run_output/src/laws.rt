@@ -1,0 +1,18 @@
+// What holds of every capture, stated on functions that do nothing.
+ghost use Rattle.run_output.specs.JsonLaws.{MessagesToldOnce};
+ghost use Rattle.run_output.specs.ReportLaws.{FollowsAlone};
+
+use tcp_messages::messages_once;
+
+/// Behind its first line, the report of a stream rests on the segments of its conversation alone.
+pub fn follows_stand_alone()
+    ensures { FollowsAlone }
+{}
+
+/// Where lines of JSON are written and no filter is given, each frame has a line, and each message of a TCP stream's direction is
+/// shown by one of them, in the order of its bytes.
+pub fn messages_are_told_once()
+    ensures { MessagesToldOnce }
+{
+    messages_once();
+}

@@ -1,0 +1,5 @@
+mod EitherLemmas
+pub mod PlanLemmas
+mod ReasonLemmas
+pub mod TruthLemmas
+mod WordLemmas

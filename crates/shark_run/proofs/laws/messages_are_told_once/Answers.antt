@@ -1,5 +1,0 @@
-use Rattle.shark_run.proofs.JsonLemmas.{told_once}
-use Rattle.shark_run.proofs.laws.messages_are_told_once.Goals as goal
-
-pub returns : goal.returns
-returns c = told_once c.messages_once.ensures
