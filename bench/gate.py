@@ -142,6 +142,42 @@ def longest(deps, sums):
     return max(chains.values())
 
 
+def reckoned(deps, sums, lanes, is_gate):
+    """Returns the seconds that so many processors would take by the clock, one proof on each, in rt's order: first what the longest chain of
+    proofs waits for, and edits where nothing else can run. Without is_gate it is the libraries of the programs alone, as ./build proves them."""
+    tasks, behind = {}, {}
+    needed = {it for it in deps if os.path.exists(f"crates/{it}/src/main.rt")}
+    for crate in reversed(deps):
+        if crate in needed:
+            needed.update(deps[crate])
+    for crate in deps:
+        row = sums.get(crate, dict.fromkeys(PARTS, 0.0))
+        under = [(it, "library") for it in deps[crate] if it in deps]
+        if is_gate or crate in needed:
+            tasks[crate, "library"] = row["library"], under
+        if is_gate and row["tests"]:
+            tasks[crate, "tests"] = row["tests"], under
+        if is_gate and row["edits"]:
+            # the crate once more, over which they are tried, and then they
+            first = min(row["library"], row["edits"])
+            tasks[crate, "seed"] = first, under
+            tasks[crate, "edits"] = row["edits"] - first, [(crate, "seed"), (crate, "library")]
+    for key in reversed(tasks):
+        behind[key] = behind.get(key, 0.0) + tasks[key][0]
+        for it in tasks[key][1]:
+            behind[it] = max(behind.get(it, 0.0), behind[key] if key[1] in ("library", "tests") else 0.0)
+    left = sorted(tasks, key=lambda it: (it[1] in ("seed", "edits"), -behind[it]))
+    now, running, done = 0.0, [], set()
+    while left or running:
+        for key in [it for it in left if done.issuperset(tasks[it][1])][: lanes - len(running)]:
+            left.remove(key)
+            running.append((now + tasks[key][0], key))
+        running.sort()
+        now, key = running.pop(0)
+        done.add(key)
+    return now
+
+
 def main(names):
     deps = below()
     unknown = [it for it in names if it not in deps]
@@ -173,6 +209,9 @@ def main(names):
     if not names:
         seconds, chain = longest(deps, sums)
         print(f"# longest chain of libraries: {seconds / 60:.1f} minutes, {' > '.join(chain)}")
+        for lanes in (2, 4):
+            whole, build = (reckoned(deps, sums, lanes, is_gate) / 60 for is_gate in (True, False))
+            print(f"# reckoned from these for {lanes} processors: the gate {whole:.0f} minutes, ./build {build:.0f}")
     last = re.sub(r"\s+", " ", read(LOG).decode(errors="replace").strip().rpartition("\n")[2])
     print(f"# by the clock {(time.time() - begun) / 60:.1f} minutes on {len(os.sched_getaffinity(0))} processors; {last[:90]} (all of it: {LOG})")
     if status != 130:
