@@ -1,5 +1,5 @@
 -- How a program ends behind its run: the number that it ends with, and what is told.
-use Rattle.std.specs.Prelude.{◌≡◌, ◌==◌, ℕ, List, Option}
+use Rattle.std.specs.Prelude.{◌≡◌, ◌==◌, if◌then◌else◌, ℕ, List, Option}
 use Rattle.pk_outside.specs.Outside.{AppendsPart, HandsOn, Rose}
 
 -- the number of a program whose output couldn't be written, and of one that found no memory for its answer
