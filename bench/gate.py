@@ -101,6 +101,12 @@ def call(words, folder, log):
         raise
 
 
+def anew():
+    """Returns the word by which rt uses nothing that earlier runs kept; a kit whose rt keeps nothing has none."""
+    told = subprocess.run(["rt", "help"], stdout=subprocess.PIPE, stderr=subprocess.STDOUT, text=True, errors="replace").stdout
+    return ["--anew"] if "--anew" in told else []
+
+
 def copy_of(crate, deps, room):
     """Copies a crate and those that it stands on to a folder, without what was made of them, lowest first."""
     needed = {crate}
@@ -130,7 +136,7 @@ def prove_alone(crate, deps, log):
             shutil.rmtree(f"{folder}/out", ignore_errors=True)
             os.makedirs(f"{folder}/out/incremental")
             status = status or call(["rt", "check", *words, "--jobs", "1"], folder, log)
-        return status or call(["rt", "must-fail", "--anew", crate], room, log)
+        return status or call(["rt", "must-fail", *anew(), crate], room, log)
 
 
 def longest(deps, sums):
@@ -190,7 +196,7 @@ def main(names):
     watch.start()
     try:
         with open(LOG, "w") as log:
-            status = max([prove_alone(it, deps, log) for it in names]) if names else call(["rt", "ci", "--anew"], ".", log)
+            status = max([prove_alone(it, deps, log) for it in names]) if names else call(["rt", "ci", *anew()], ".", log)
     except KeyboardInterrupt:
         status = 130
         print("# interrupted: what was seen until then")
