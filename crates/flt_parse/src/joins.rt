@@ -242,11 +242,11 @@ pub fn behind_test(alloc: Global, outer: Open, test: Ast, kind: &Kind) -> Result
 /// Lets a value go: its destructor is written out here alone, and not at each exit of what owned it.
 pub fn let_go<T: Drop>(_value: T) {}
 
-/// Where a token isn't read for a reason: what was read before it is given up.
-pub fn refused<A, T: Drop>(refusal: Refusal, _read: T) -> Result<A, Refusal>
-    ensures { result ≡ Err refusal }
+/// Where nothing is read for a reason: what was read before is given up.
+pub fn refused<A, E, T: Drop>(error: E, _read: T) -> Result<A, E>
+    ensures { result ≡ Err error }
 {
-    Err(refusal)
+    Err(error)
 }
 
 /// Where a token isn't read: what was read before it is given up.

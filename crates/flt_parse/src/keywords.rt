@@ -65,10 +65,12 @@ fn keyword_text(keyword: Keyword) -> &'static str
 pub fn keyword_of(word: &str) -> Option<Keyword>
     ensures { result ≡ keyword_in word.now }
 {
-    KEYWORDS
-        .iter()
-        .copied()
-        .find(|keyword| keyword_text(*keyword) == word)
+    for keyword in &KEYWORDS {
+        if keyword_text(*keyword) == word {
+            return Some(*keyword);
+        }
+    }
+    None
 }
 
 /// What a reserved word at a place is.
@@ -115,8 +117,10 @@ fn function_text(function: Function) -> &'static str
 pub fn function_of(word: &str) -> Option<Function>
     ensures { result ≡ function_in word.now }
 {
-    FUNCTIONS
-        .iter()
-        .copied()
-        .find(|function| function_text(*function) == word)
+    for function in &FUNCTIONS {
+        if function_text(*function) == word {
+            return Some(*function);
+        }
+    }
+    None
 }

@@ -4,8 +4,9 @@ ghost use Rattle.std.specs.Option.{option_map};
 ghost use Rattle.flt_parse.specs.Parser.Lexemes.{IsToken};
 ghost use Rattle.flt_syntax.specs.Letters.{opening as opening_in, word_len as len_of_word};
 ghost use Rattle.flt_syntax.specs.Strings.{raw_inside, string_inside};
-ghost use Rattle.flt_syntax.specs.Tokens.{first_sign as sign_in_front, digits_lexeme as lexeme_of_digits, IsTokenError, IsTokensError, bracket_token as token_in_brackets, digits_kind as kind_of_digits, function_of as function_in, lexeme as lexeme_of, mode_behind as mode_after, name_or_call as lexeme_of_call, next_place as place_behind, plain_token as token_outside, sign_lexeme as lexeme_of_sign, text_lexeme as lexeme_of_text, token_at as token_read, tokens_of, word_lexeme as lexeme_of_word};
+ghost use Rattle.flt_syntax.specs.Tokens.{first_sign as sign_in_front, digits_lexeme as lexeme_of_digits, IsTokenError, IsTokensError, bracket_token as token_in_brackets, function_of as function_in, lexeme as lexeme_of, mode_behind as mode_after, name_or_call as lexeme_of_call, next_place as place_behind, plain_token as token_outside, sign_lexeme as lexeme_of_sign, text_lexeme as lexeme_of_text, token_at as token_read, tokens_of, word_lexeme as lexeme_of_word};
 
+use crate::joins::refused;
 use crate::keywords::{function_of, keyword_kind, keyword_of};
 use crate::letters::{
     begins_word, blanks, digits_len, is_blank, is_number, number_of, opening, word_len,
@@ -36,7 +37,7 @@ pub fn tokens_in(alloc: Global, text: &str) -> Result<VecDeque<Token>, FilterErr
         }
         let Lexeme { kind, width } = match token_at(alloc, text, mode, at) {
             Ok(lexeme) => lexeme,
-            Err(error) => return given_up(error, tokens),
+            Err(error) => return refused(error, tokens),
         };
         mode = mode_behind(&kind);
         let token = Token {
@@ -45,18 +46,11 @@ pub fn tokens_in(alloc: Global, text: &str) -> Result<VecDeque<Token>, FilterErr
         };
         match tokens.push_back(token) {
             Ok(()) => {}
-            Err(error) => return given_up(FilterError::NoMemory, (error, tokens)),
+            Err(error) => return refused(FilterError::NoMemory, (error, tokens)),
         }
         at += width;
     }
     Ok(tokens)
-}
-
-/// Where no token is read: those that were read before it are given up.
-fn given_up<T: Drop>(error: FilterError, _read: T) -> Result<VecDeque<Token>, FilterError>
-    ensures { result ≡ Err error }
-{
-    Err(error)
 }
 
 /// How the text is read behind a token.
@@ -300,16 +294,15 @@ fn digits_lexeme(rest: &[u8]) -> Lexeme
     ensures within { result.width ≤ length rest.now }
 {
     let width = digits_len(rest);
-    let kind = digits_kind(&rest[..width]);
-    Lexeme { kind, width }
-}
-
-fn digits_kind(digits: &[u8]) -> Kind
-    ensures { result ≡ kind_of_digits digits.now }
-{
-    if is_number(digits) {
-        Kind::Number(number_of(digits))
-    } else {
-        Kind::LongNumber
+    let digits = &rest[..width];
+    if !is_number(digits) {
+        return Lexeme {
+            kind: Kind::LongNumber,
+            width,
+        };
+    }
+    Lexeme {
+        kind: Kind::Number(number_of(digits)),
+        width,
     }
 }

@@ -79,7 +79,12 @@ fn quote_in(text: &[u8]) -> Option<usize>
     ensures value { result ≡ position (λ b. b == 34) text.now }
     ensures within { IfSome result (λ n. n < length text.now) }
 {
-    text.iter().position(|byte| *byte == b'"')
+    for (at, byte) in text.iter().enumerate() {
+        if *byte == b'"' {
+            return Some(at);
+        }
+    }
+    None
 }
 
 /// The first byte that the inside of a string stands for; None at the text's end and at an escape that is none.

@@ -20,5 +20,5 @@ tokens-preserved c =
 pub returns-in-Err-clause-err : goal.returns-in-Err-clause-err
 returns-in-Err-clause-err c =
     let other : is_blank (get_or c.args.text.now c.tokens.at 0) ≡ false = search rules in
-    rw c.given_up.ensures
+    rw c.refused.ensures
     (token_refused c.args.text.now c.tokens.tokens.items c.tokens.mode c.tokens.at c.in-Err.error (omega arith) other c.tokens.invariant.read c.in-Err.ensures)
