@@ -1,20 +1,25 @@
 -- Moves of the reading, as the parser comes to them.
+use Rattle.std.specs.Option.{option_map}
 use Rattle.std.proofs.Common.{◌≡◌, ℕ, ◌+◌, ◌==◌, true, false, List, [], ◌∷◌, ◌++◌, length, Option, Some, None, Result, Err, ltb, zero-add, sym, ap, ◌∙◌, refl, subst}
-use Rattle.flt_syntax.specs.Grammar.{takes_mask, takes_more, takes_slice, is_open}
-use Rattle.flt_parse.specs.Parser.Reading.{Frame, Waiting, Call, Comma, Side, OnLeft, OnRight, Spot, OperandWanted, OperandRead, LayersWanted, InLayers, InRanges, MaskWanted, TailSpot, InOperand, InTail, Move, Go, Stop, LayerSpot, RangeSpot, RangeWanted, behind_hash, call_end, have, left_end, operand_end, operand_move, operand_step, tail_move, wait, whole_have, whole_operand}
-use Rattle.flt_parse.specs.Parser.Answers.{further, goes_on, operand_read}
-use Rattle.flt_parse.specs.Parser.States.{IsMove, IsSpot, IsTailMove, IsWhole, around_of, calls_of}
-use Rattle.flt_syntax.specs.Written.{Written, WrittenOperand, WrittenTail, TestOf}
+use Rattle.flt_syntax.specs.Filters.{most_open}
+use Rattle.flt_syntax.specs.Grammar.{takes_mask, takes_more, takes_operator, takes_slice}
+use Rattle.flt_parse.specs.Parser.Reading.{Frame, Waiting, Call, Comma, Side, OnLeft, OnRight, Spot, OperandWanted, OperandRead, LayersWanted, InRanges, MaskWanted, TailSpot, InOperand, InTail, Move, Go, Stop, RangeWanted, begin, behind_hash, call_end, have, left_end, operand_end, operand_move, operand_step, tail_move, wait, whole_have, whole_operand}
+use Rattle.flt_parse.specs.Parser.Answers.{begins_more, further}
+use Rattle.flt_parse.specs.Parser.States.{IsMove, IsSpot, IsTailMove, IsWhole, around_of, calls_of, frame_of, part_of, side_of, step_in, waiting_of}
+use Rattle.flt_syntax.specs.Written.{Written, WrittenOperand, WrittenTail, TestOf, word_alone}
 use Rattle.flt_syntax.specs.declared.ast.Ast.{Ast}
 use Rattle.flt_syntax.specs.declared.ast.Choice.{Choice}
-use Rattle.flt_syntax.specs.declared.ast.LayerRange.{LayerRange}
 use Rattle.flt_syntax.specs.declared.ast.Operator.{Operator}
-use Rattle.flt_syntax.specs.declared.ast.SliceRange.{SliceRange}
 use Rattle.flt_syntax.specs.declared.fault.FilterReason.TheVariants.{Unexpected}
 use Rattle.flt_parse.specs.declared.state.Call.{Call as Called}
 use Rattle.flt_parse.specs.declared.state.Frame.{Frame as Framed}
+use Rattle.flt_parse.specs.declared.state.Inside.{Inside}
+use Rattle.flt_parse.specs.declared.state.Open.{Open}
+use Rattle.flt_parse.specs.declared.state.Part.{Part}
+use Rattle.flt_parse.specs.declared.state.Part.TheVariants as parts
 use Rattle.flt_parse.specs.declared.state.Refusal.{Refusal}
 use Rattle.flt_parse.specs.declared.state.Refusal.TheVariants.{Fault, NoMemory}
+use Rattle.flt_parse.specs.declared.state.Side.TheVariants as sides
 use Rattle.flt_parse.specs.declared.state.State.{State as Stated}
 use Rattle.flt_syntax.specs.declared.token.Kind.{Kind}
 use Rattle.flt_syntax.specs.declared.token.Kind.TheVariants as kinds
@@ -30,18 +35,29 @@ moved m n r e h = subst (λ x. IsMove x r) (sym e) h
 pub no_calls : (n m : ℕ) → ltb (0 + n) m ≡ ltb n m
 no_calls n m = ap (λ k. ltb k m) (zero-add n)
 
+-- where a test begins
+begin_same : (limit : ℕ) (f : Frame) (around : List Frame) (kind : Kind) → begins_more kind ≡ false
+    → begin limit f around kind ≡ operand_move limit (operand_step OperandWanted kind) OperandWanted (OnLeft None) [] [] f around kind
+begin_same limit f around (kinds.Negates n) h = cc
+begin_same limit f around kinds.Open h = cc
+begin_same limit f around (kinds.Chooses c) h = cc
+begin_same limit f around kind h = refl
+
+begin_test : (limit : ℕ) (f : Frame) (around : List Frame) (kind : Kind) (r : Answered) → begins_more kind ≡ false
+    → IsMove (operand_move limit (operand_step OperandWanted kind) OperandWanted (OnLeft None) [] [] f around kind) r → IsMove (begin limit f around kind) r
+begin_test limit f around kind r h is = moved _ _ r (begin_same limit f around kind h) is
+
+pub begin_inside : (outer : Open) (i : Inside) (kind : Kind) (r : Answered) → begins_more kind ≡ false
+    → (i.side ≡ sides.OnLeft None) × (i.waiting.items ≡ []) × (i.calls.items ≡ []) × (i.outer ≡ outer)
+    → IsMove (step_in OperandWanted i kind) r → IsMove (begin most_open (frame_of outer.frame) (around_of outer.around.items) kind) r
+begin_inside outer i kind r h same is =
+    let move : Side → List Waiting → List Call → Open → Move = λ side ws cs o. operand_move most_open (operand_step OperandWanted kind) OperandWanted side ws cs (frame_of o.frame) (around_of o.around.items) kind in
+    let side = subst (λ s. IsMove (move (side_of s) (waiting_of i.waiting.items) (calls_of i.calls.items) i.outer) r) same.0 is in
+    let waiting = subst (λ ws. IsMove (move (OnLeft None) (waiting_of ws) (calls_of i.calls.items) i.outer) r) same.1 side in
+    let calls = subst (λ cs. IsMove (move (OnLeft None) [] (calls_of cs) i.outer) r) same.2 waiting in
+    begin_test most_open (frame_of outer.frame) (around_of outer.around.items) kind r h (subst (λ o. IsMove (move (OnLeft None) [] [] o) r) same.3 calls)
+
 -- behind an operand that is whole
-read_same : (limit : ℕ) (o : WrittenOperand) (side : Side) (ws : List Waiting) (cs : List Call) (f : Frame) (around : List Frame) (kind : Kind) → goes_on kind ≡ false
-    → operand_move limit (operand_step (OperandRead o) kind) (OperandRead o) side ws cs f around kind ≡ operand_end side ws cs o f around kind
-read_same limit o side ws cs f around kinds.Hash h = cc
-read_same limit o side ws cs f around (kinds.OpenRanges at next) h = cc
-read_same limit o side ws cs f around (kinds.Mask at) h = cc
-read_same limit o side ws cs f around kind h = refl
-
-pub read_other : (limit : ℕ) (o : WrittenOperand) (side : Side) (ws : List Waiting) (cs : List Call) (f : Frame) (around : List Frame) (kind : Kind) (r : Answered) → goes_on kind ≡ false
-    → IsMove (operand_end side ws cs o f around kind) r → IsMove (operand_move limit (operand_step (OperandRead o) kind) (OperandRead o) side ws cs f around kind) r
-read_other limit o side ws cs f around kind r h is = moved _ _ r (read_same limit o side ws cs f around kind h) is
-
 end_hash : (side : Side) (ws : List Waiting) (cs : List Call) (o : WrittenOperand) (f : Frame) (around : List Frame) → operand_end side ws cs o f around kinds.Hash ≡ Stop Unexpected
 end_hash side ws (call ∷ cs) o f around = refl
 end_hash (OnLeft None) ws [] o f around = refl
@@ -60,14 +76,20 @@ end_mask (OnLeft None) ws [] o f around at = refl
 end_mask (OnLeft (Some c)) ws [] o f around at = refl
 end_mask (OnRight c l operator b) ws [] o f around at = refl
 
-pub layers_begun : (limit : ℕ) (o : WrittenOperand) (s : Spot) (side : Side) (ws : List Waiting) (cs : List Call) (f : Frame) (around : List Frame) (r : Answered) → behind_hash o ≡ Some s
-    → IsMove (Go (InOperand s side ws cs f around)) r → IsMove (operand_move limit (operand_step (OperandRead o) kinds.Hash) (OperandRead o) side ws cs f around kinds.Hash) r
-layers_begun limit o s side ws cs f around r e is = moved _ _ r (ap (λ n. operand_move limit n (OperandRead o) side ws cs f around kinds.Hash) e) is
+begins : (o : WrittenOperand) (w : Word) → Some w ≡ word_alone o → behind_hash o ≡ Some (LayersWanted w)
+begins o w e = ap (λ n. option_map (λ v. LayersWanted v) n) (sym e)
 
-pub no_layers : (limit : ℕ) (o : WrittenOperand) (side : Side) (ws : List Waiting) (cs : List Call) (f : Frame) (around : List Frame) (r : Answered) → behind_hash o ≡ None
+begins_none : (o : WrittenOperand) → None ≡ word_alone o → behind_hash o ≡ None
+begins_none o e = ap (λ n. option_map (λ v. LayersWanted v) n) (sym e)
+
+pub layers_begun : (limit : ℕ) (o : WrittenOperand) (w : Word) (side : Side) (ws : List Waiting) (cs : List Call) (f : Frame) (around : List Frame) (r : Answered) → Some w ≡ word_alone o
+    → IsMove (Go (InOperand (LayersWanted w) side ws cs f around)) r → IsMove (operand_move limit (operand_step (OperandRead o) kinds.Hash) (OperandRead o) side ws cs f around kinds.Hash) r
+layers_begun limit o w side ws cs f around r e is = moved _ _ r (ap (λ n. operand_move limit n (OperandRead o) side ws cs f around kinds.Hash) (begins o w e)) is
+
+pub no_layers : (limit : ℕ) (o : WrittenOperand) (side : Side) (ws : List Waiting) (cs : List Call) (f : Frame) (around : List Frame) (r : Answered) → None ≡ word_alone o
     → IsMove (Stop Unexpected) r → IsMove (operand_move limit (operand_step (OperandRead o) kinds.Hash) (OperandRead o) side ws cs f around kinds.Hash) r
 no_layers limit o side ws cs f around r e is =
-    moved _ _ r (ap (λ n. operand_move limit n (OperandRead o) side ws cs f around kinds.Hash) e ∙ end_hash side ws cs o f around) is
+    moved _ _ r (ap (λ n. operand_move limit n (OperandRead o) side ws cs f around kinds.Hash) (begins_none o e) ∙ end_hash side ws cs o f around) is
 
 pub slice_begun : (limit : ℕ) (o : WrittenOperand) (at next : ℕ) (side : Side) (ws : List Waiting) (cs : List Call) (f : Frame) (around : List Frame) (r : Answered) → takes_slice o ≡ true
     → IsMove (Go (InOperand (InRanges o at [] next RangeWanted) side ws cs f around)) r
@@ -90,37 +112,25 @@ pub no_mask : (limit : ℕ) (o : WrittenOperand) (at : ℕ) (side : Side) (ws : 
 no_mask limit o at side ws cs f around r e is = rw e (moved _ _ r (end_mask side ws cs o f around at) is)
 
 -- within an operand
-pub layers_wanted : (limit : ℕ) (n : Option Spot) (w : Word) (side : Side) (ws : List Waiting) (cs : List Call) (f : Frame) (around : List Frame) (kind : Kind) (r : Answered)
-    → IsMove (further n side ws cs f around) r → IsMove (operand_move limit n (LayersWanted w) side ws cs f around kind) r
-layers_wanted limit None w side ws cs f around kind r is = is
-layers_wanted limit (Some s) w side ws cs f around kind r is = is
-
-pub in_layers : (limit : ℕ) (n : Option Spot) (w : Word) (done : List LayerRange) (at : ℕ) (spot : LayerSpot) (side : Side) (ws : List Waiting) (cs : List Call) (f : Frame) (around : List Frame) (kind : Kind) (r : Answered)
-    → IsMove (further n side ws cs f around) r → IsMove (operand_move limit n (InLayers w done at spot) side ws cs f around kind) r
-in_layers limit None w done at spot side ws cs f around kind r is = is
-in_layers limit (Some s) w done at spot side ws cs f around kind r is = is
-
-pub in_ranges : (limit : ℕ) (n : Option Spot) (o : WrittenOperand) (b : ℕ) (done : List SliceRange) (at : ℕ) (spot : RangeSpot) (side : Side) (ws : List Waiting) (cs : List Call) (f : Frame) (around : List Frame) (kind : Kind) (r : Answered)
-    → IsMove (further n side ws cs f around) r → IsMove (operand_move limit n (InRanges o b done at spot) side ws cs f around kind) r
-in_ranges limit None o b done at spot side ws cs f around kind r is = is
-in_ranges limit (Some s) o b done at spot side ws cs f around kind r is = is
-
-pub mask_wanted : (limit : ℕ) (n : Option Spot) (o : WrittenOperand) (at : ℕ) (side : Side) (ws : List Waiting) (cs : List Call) (f : Frame) (around : List Frame) (kind : Kind) (r : Answered)
-    → IsMove (further n side ws cs f around) r → IsMove (operand_move limit n (MaskWanted o at) side ws cs f around kind) r
-mask_wanted limit None o at side ws cs f around kind r is = is
-mask_wanted limit (Some s) o at side ws cs f around kind r is = is
+pub within : (limit : ℕ) (n : Option Spot) (part : Part) (side : Side) (ws : List Waiting) (cs : List Call) (f : Frame) (around : List Frame) (kind : Kind) (r : Answered)
+    → IsMove (further n side ws cs f around) r → IsMove (operand_move limit n (part_of part) side ws cs f around kind) r
+within limit (Some s) part side ws cs f around kind r is = is
+within limit None (parts.LayersWanted w) side ws cs f around kind r is = is
+within limit None (parts.InLayers w done at spot) side ws cs f around kind r is = is
+within limit None (parts.InRanges slice at spot) side ws cs f around kind r is = is
+within limit None (parts.MaskWanted o at) side ws cs f around kind r is = is
 
 pub spot_error : (n : Option Spot) (m : Move) (e : Refusal) → IsSpot n (Err e) → IsMove m (Err e)
 spot_error n m (Fault r) h = absurd h
 spot_error n m NoMemory h = tt
 
 -- behind an operator
-pub takes_open : (c : Choice) (o : WrittenOperand) (operator : Operator) (at : ℕ) (f : Frame) (around : List Frame) (r : Answered) → is_open operator ≡ true
-    → IsMove (Go (InOperand OperandWanted (OnRight (Some c) o operator at) [] [] f around)) r → IsMove (left_end (Some c) o f around (kinds.Compares operator at)) r
+pub takes_open : (c : Option Choice) (o : WrittenOperand) (operator : Operator) (at : ℕ) (f : Frame) (around : List Frame) (r : Answered) → takes_operator c operator ≡ true
+    → IsMove (Go (InOperand OperandWanted (OnRight c o operator at) [] [] f around)) r → IsMove (left_end c o f around (kinds.Compares operator at)) r
 takes_open c o operator at f around r e is = rw e is
 
-pub takes_none : (c : Choice) (o : WrittenOperand) (operator : Operator) (at : ℕ) (f : Frame) (around : List Frame) (r : Answered) → is_open operator ≡ false
-    → IsMove (Stop Unexpected) r → IsMove (left_end (Some c) o f around (kinds.Compares operator at)) r
+pub takes_none : (c : Option Choice) (o : WrittenOperand) (operator : Operator) (at : ℕ) (f : Frame) (around : List Frame) (r : Answered) → takes_operator c operator ≡ false
+    → IsMove (Stop Unexpected) r → IsMove (left_end c o f around (kinds.Compares operator at)) r
 takes_none c o operator at f around r e is = rw e is
 
 -- behind a left operand
@@ -174,25 +184,10 @@ further_some n s side ws cs f around e = ap (λ x. further x side ws cs f around
 pub further_none : (n : Option Spot) (side : Side) (ws : List Waiting) (cs : List Call) (f : Frame) (around : List Frame) (r : Answered) → n ≡ None → IsMove (Stop Unexpected) r → IsMove (further n side ws cs f around) r
 further_none n side ws cs f around r e is = moved _ _ r (ap (λ x. further x side ws cs f around) e) is
 
--- an operand that is no whole one
-read_same_whole : (s : Spot) (o : WrittenOperand) (ws : List Waiting) (cs : List Call) (side : Side) (f : Frame) (around : List Frame) → operand_read s ≡ Some o
-    → whole_operand s ws cs side f around ≡ whole_operand (OperandRead o) ws cs side f around
-read_same_whole OperandWanted o ws cs side f around e = cc
-read_same_whole (OperandRead p) o ws cs side f around e = let same : p ≡ o = cc in ap (λ x. whole_operand (OperandRead x) ws cs side f around) same
-read_same_whole (LayersWanted w) o ws cs side f around e = cc
-read_same_whole (InLayers w done at spot) o ws cs side f around e = cc
-read_same_whole (InRanges p b done at spot) o ws cs side f around e = cc
-read_same_whole (MaskWanted p at) o ws cs side f around e = cc
-
-pub spot_whole : (s : Spot) (o : WrittenOperand) (ws : List Waiting) (cs : List Call) (side : Side) (f : Frame) (around : List Frame) (r : Result Ast Refusal) → operand_read s ≡ Some o
-    → IsWhole (whole_operand (OperandRead o) ws cs side f around) r → IsWhole (whole_operand s ws cs side f around) r
-spot_whole s o ws cs side f around r e is = subst (λ t. IsWhole t r) (sym (read_same_whole s o ws cs side f around e)) is
-
-pub spot_not_whole : (s : Spot) (ws : List Waiting) (cs : List Call) (side : Side) (f : Frame) (around : List Frame) (r : Result Ast Refusal) → operand_read s ≡ None
-    → IsWhole None r → IsWhole (whole_operand s ws cs side f around) r
-spot_not_whole OperandWanted ws cs side f around r e is = is
-spot_not_whole (OperandRead o) ws cs side f around r e is = cc
-spot_not_whole (LayersWanted w) ws cs side f around r e is = is
-spot_not_whole (InLayers w done at spot) ws cs side f around r e is = is
-spot_not_whole (InRanges o b done at spot) ws cs side f around r e is = is
-spot_not_whole (MaskWanted o at) ws cs side f around r e is = is
+-- an operand that has to go on
+pub part_not_whole : (part : Part) (ws : List Waiting) (cs : List Call) (side : Side) (f : Frame) (around : List Frame) (r : Result Ast Refusal)
+    → IsWhole None r → IsWhole (whole_operand (part_of part) ws cs side f around) r
+part_not_whole (parts.LayersWanted w) ws cs side f around r is = is
+part_not_whole (parts.InLayers w done at spot) ws cs side f around r is = is
+part_not_whole (parts.InRanges slice at spot) ws cs side f around r is = is
+part_not_whole (parts.MaskWanted o at) ws cs side f around r is = is

@@ -1,6 +1,7 @@
 -- What the parser answers, in the words of the grammar.
 use Rattle.std.proofs.Common.{◌≡◌, ℕ, zero, suc, ◌+◌, ◌-◌, ◌<◌, ◌≤◌, ◌==◌, Bool, true, false, cond, drop, List, [], ◌∷◌, length, Option, Some, None, Result, Ok, Err, sym, ap, ◌∙◌, refl, subst}
 use Rattle.std.specs.Char.{is_ascii_digit}
+use Rattle.std.specs.Prelude.{IfErr, IfOk}
 use Rattle.flt_syntax.specs.Filters.{IsFault, IsFaultFor, IsFilterText, IsLexicalFault, IsSyntaxFault, IsRefusal, kinds_of, most_bytes, most_open}
 use Rattle.flt_syntax.specs.Grammar.{IsFilter}
 use Rattle.flt_parse.specs.Parser.Reading.{State, Go, Answer, Whole, Bad, ended, start, step, then_go, whole}
@@ -164,3 +165,15 @@ pub of_syntax : (text : List ℕ) (ts : List Token) (e : FilterError) → length
 of_syntax text ts errors.NoMemory short lexed h = tt
 of_syntax text ts (errors.Fault fault) short lexed h =
     syntax_for fault.reason text fault (syntax_reason most_open (kinds_of h.front) (kinds_of h.rest) fault.reason h.first) (short, (ts, lexed, h))
+
+-- the text that these tokens are of
+pub text_read : (text : List ℕ) (ts : List Token) (r : Result Ast FilterError) → length text ≤ 4096 → tokens_of text ≡ Ok ts
+    → IfOk r (λ ast. tokens_read most_open start ts ≡ Whole (written ast)) → IfOk r (λ ast. IsFilterText text (written ast))
+unfolding most_bytes
+text_read text ts (Ok ast) short lexed h = of_filter text ts (written ast) short lexed (filter_read ts (written ast) h)
+text_read text ts (Err e) short lexed h = tt
+
+pub text_refused : (text : List ℕ) (ts : List Token) (r : Result Ast FilterError) → length text ≤ most_bytes → tokens_of text ≡ Ok ts
+    → IfErr r (IsReadError (length text) (tokens_read most_open start ts)) → IfErr r (IsRefusal text)
+text_refused text ts (Ok ast) short lexed h = tt
+text_refused text ts (Err e) short lexed h = of_syntax text ts e short lexed (error_read (length text) ts e h)

@@ -1,12 +1,13 @@
 // Filters joined by signs, negated, and put in parentheses.
-ghost use Rattle.std.specs.Prelude.{◌≡◌, ◌+◌, ◌++◌, ◌∷◌, Some, Err, [], nat_lt, IfOk};
+ghost use Rattle.std.specs.Prelude.{◌≡◌, ◌+◌, Err, nat_lt, IfOk, OnOk};
 ghost use Rattle.flt_syntax.specs.Filters.{most_open};
 ghost use Rattle.flt_syntax.specs.Grammar.{binds as binding};
 ghost use Rattle.flt_parse.specs.Parser.Reading as reading;
-ghost use Rattle.flt_parse.specs.Parser.States.{IsMove, around_of, behind_of, frame_of, left_of, reversed};
+ghost use Rattle.flt_parse.specs.Parser.States.{IsBehind, IsMove, around_of, behind_in, behind_of, frame_of, left_of, reversed};
 ghost use Rattle.flt_syntax.specs.Written.{GroupOf, JoinedOf, written};
 
-use crate::state::{Frame, Left, Open, Refusal, State};
+use crate::lists::{box_one, box_two, push_one, push_two};
+use crate::state::{Behind, Frame, Left, Open, Refusal, State};
 use flt_syntax::{Ast, FilterReason, Join, Kind, Negation};
 use pk_base::{FILTER_DEPTH_LIMIT, NoMemory};
 use std::alloc::Global;
@@ -27,16 +28,13 @@ fn join_left(alloc: Global, left: Left, right: Ast) -> Result<Ast, NoMemory>
     ensures { IfOk result (λ t.
         written t ≡ JoinedOf left.join (written left.filter) (written right)) }
 {
-    match (Box::new(alloc, left.filter), Box::new(alloc, right)) {
-        (Ok(l), Ok(r)) => match left.join {
+    match box_two(alloc, left.filter, right) {
+        Ok((l, r)) => match left.join {
             Join::Or => Ok(Ast::Or(l, r)),
             Join::Xor => Ok(Ast::Xor(l, r)),
             Join::And => Ok(Ast::And(l, r)),
         },
-        (l, r) => {
-            let_go((l, r));
-            Err(NoMemory)
-        }
+        Err(NoMemory) => Err(NoMemory),
     }
 }
 
@@ -62,53 +60,21 @@ pub fn join_all(alloc: Global, lefts: Vec<Left>, filter: Ast) -> Result<Ast, NoM
 
 /// What waits behind a sign: what binds at least as tightly before it is joined.
 #[tactic(auto, using(crate::proofs::Stacks::reversed_push, crate::proofs::Stacks::settle_looser, crate::proofs::Stacks::settle_tighter))]
-pub fn settle(
-    alloc: Global,
-    join: Join,
-    lefts: Vec<Left>,
-    filter: Ast,
-) -> Result<Vec<Left>, NoMemory>
-    ensures { IfOk result (λ v.
-        reversed left_of v.items
-        ≡ reading.settle join (reversed left_of lefts.items) (written filter)) }
+pub fn settle(alloc: Global, join: Join, lefts: &mut Vec<Left>, filter: Ast) -> Result<(), NoMemory>
+    ensures { OnOk result (reversed left_of lefts.new.items
+        ≡ reading.settle join (reversed left_of lefts.old.items) (written filter)) }
 {
-    let mut rest = lefts;
     let mut all = filter;
-    'lefts: while let Some(left) = rest.pop() {
+    'lefts: while let Some(left) = lefts.pop() {
         if binds(left.join) < binds(join) {
-            return with_two(rest, left, Left { filter: all, join });
+            return push_two(lefts, left, Left { filter: all, join });
         }
         all = match join_left(alloc, left, all) {
             Ok(joined) => joined,
-            Err(NoMemory) => {
-                let_go(rest);
-                return Err(NoMemory);
-            }
+            Err(NoMemory) => return Err(NoMemory),
         };
     }
-    with_one(rest, Left { filter: all, join })
-}
-
-/// One more that waits.
-fn with_one(lefts: Vec<Left>, left: Left) -> Result<Vec<Left>, NoMemory>
-    ensures { IfOk result (λ v. v.items ≡ lefts.items ++ left ∷ []) }
-{
-    let mut all = lefts;
-    all.push(left)?;
-    Ok(all)
-}
-
-/// Two more that wait.
-fn with_two(lefts: Vec<Left>, left: Left, next: Left) -> Result<Vec<Left>, NoMemory>
-    ensures { IfOk result (λ v. v.items ≡ (lefts.items ++ left ∷ []) ++ next ∷ []) }
-{
-    match with_one(lefts, left) {
-        Ok(all) => with_one(all, next),
-        Err(NoMemory) => {
-            let_go(next);
-            Err(NoMemory)
-        }
-    }
+    push_one(lefts, Left { filter: all, join })
 }
 
 /// A filter behind its negations.
@@ -120,10 +86,10 @@ pub fn negate(alloc: Global, nots: Vec<Negation>, filter: Ast) -> Result<Ast, No
     let mut rest = nots;
     let mut all = filter;
     'nots: while let Some(negation) = rest.pop() {
-        all = match Box::new(alloc, all) {
+        all = match box_one(alloc, all) {
             Ok(inner) => Ast::Not(negation, inner),
-            Err(error) => {
-                let_go((error, rest));
+            Err(NoMemory) => {
+                let_go(rest);
                 return Err(NoMemory);
             }
         };
@@ -131,111 +97,109 @@ pub fn negate(alloc: Global, nots: Vec<Negation>, filter: Ast) -> Result<Ast, No
     Ok(all)
 }
 
-/// Behind a filter in parentheses, or in none.
-pub fn have(alloc: Global, outer: Open, filter: Ast) -> Result<State, Refusal>
-    ensures { IsMove (reading.Go (behind_of outer (written filter))) result }
+/// What a filter becomes behind its negations, with what waits before it and what is open around it.
+pub fn filled(alloc: Global, outer: Open, filter: Ast) -> Result<Behind, NoMemory>
+    ensures { IfOk result (IsBehind outer (written filter)) }
 {
     let Open { frame, around } = outer;
     let Frame { lefts, nots } = frame;
     match negate(alloc, nots, filter) {
-        Ok(all) => Ok(State::Have(lefts, all, around)),
-        Err(NoMemory) => refused(Refusal::NoMemory, (lefts, around)),
-    }
-}
-
-/// At `)` behind all that it ends.
-#[tactic(auto, using(crate::proofs::Stacks::reversed_push))]
-fn close(alloc: Global, filter: Ast, around: Vec<Frame>) -> Result<State, Refusal>
-    ensures { IsMove (reading.closing (written filter) (around_of around.items)) result }
-{
-    let mut outer = around;
-    match outer.pop() {
-        Some(frame) => close_frame(
-            alloc,
+        Ok(filter) => Ok(Behind {
+            lefts,
             filter,
-            Open {
-                frame,
-                around: outer,
-            },
-        ),
-        None => unexpected((filter, outer)),
+            around,
+        }),
+        Err(NoMemory) => {
+            let_go((lefts, around));
+            Err(NoMemory)
+        }
     }
 }
 
-/// Behind the `)` of what is open.
-fn close_frame(alloc: Global, filter: Ast, outer: Open) -> Result<State, Refusal>
-    ensures { IsMove (reading.Go (behind_of outer (GroupOf (written filter)))) result }
+/// Behind a filter in parentheses, or in none.
+pub fn have(alloc: Global, outer: Open, filter: Ast) -> Result<State, Refusal>
+    ensures { IsMove (reading.Go (behind_of outer (written filter))) result }
 {
-    match Box::new(alloc, filter) {
-        Ok(inner) => have(alloc, outer, Ast::Group(inner)),
-        Err(error) => refused(Refusal::NoMemory, (error, outer)),
+    match filled(alloc, outer, filter) {
+        Ok(behind) => Ok(State::Have(behind)),
+        Err(NoMemory) => Err(Refusal::NoMemory),
     }
 }
 
 /// At a token behind a filter.
-pub fn behind(
-    alloc: Global,
-    lefts: Vec<Left>,
-    filter: Ast,
-    around: Vec<Frame>,
-    kind: &Kind,
-) -> Result<State, Refusal>
-    ensures { IsMove (reading.behind (reversed left_of lefts.items) (written filter)
-        (around_of around.items) kind.now) result }
+pub fn behind(alloc: Global, behind: Behind, kind: &Kind) -> Result<State, Refusal>
+    ensures { IsMove (behind_in behind kind.now) result }
 {
     match kind {
-        Kind::Joins(join) => join_at(alloc, *join, lefts, filter, around),
-        Kind::Close => close_all(alloc, lefts, filter, around),
-        _ => unexpected((lefts, filter, around)),
+        Kind::Joins(join) => join_at(alloc, *join, behind),
+        Kind::Close => close(alloc, behind),
+        _ => {
+            let Behind {
+                lefts,
+                filter,
+                around,
+            } = behind;
+            unexpected((lefts, filter, around))
+        }
     }
 }
 
-fn join_at(
-    alloc: Global,
-    join: Join,
-    lefts: Vec<Left>,
-    filter: Ast,
-    around: Vec<Frame>,
-) -> Result<State, Refusal>
-    ensures { IsMove (reading.behind (reversed left_of lefts.items) (written filter)
-        (around_of around.items) (Kind.Joins join)) result }
+fn join_at(alloc: Global, join: Join, behind: Behind) -> Result<State, Refusal>
+    ensures { IsMove (behind_in behind (Kind.Joins join)) result }
 {
-    match settle(alloc, join, lefts, filter) {
-        Ok(lefts) => {
+    let Behind {
+        mut lefts,
+        filter,
+        around,
+    } = behind;
+    match settle(alloc, join, &mut lefts, filter) {
+        Ok(()) => {
             let frame = Frame {
                 lefts,
                 nots: Vec::new(alloc),
             };
             Ok(State::Want(Open { frame, around }))
         }
-        Err(NoMemory) => refused(Refusal::NoMemory, around),
+        Err(NoMemory) => refused(Refusal::NoMemory, (lefts, around)),
     }
 }
 
-fn close_all(
-    alloc: Global,
-    lefts: Vec<Left>,
-    filter: Ast,
-    around: Vec<Frame>,
-) -> Result<State, Refusal>
-    ensures { IsMove (reading.behind (reversed left_of lefts.items) (written filter)
-        (around_of around.items) Kind.Close) result }
+/// At `)`.
+#[tactic(auto, using(crate::proofs::Stacks::reversed_push))]
+fn close(alloc: Global, behind: Behind) -> Result<State, Refusal>
+    ensures { IsMove (behind_in behind Kind.Close) result }
 {
-    match join_all(alloc, lefts, filter) {
-        Ok(all) => close(alloc, all, around),
-        Err(NoMemory) => refused(Refusal::NoMemory, around),
+    let Behind {
+        lefts,
+        filter,
+        mut around,
+    } = behind;
+    let Some(frame) = around.pop() else {
+        return unexpected((lefts, filter, around));
+    };
+    let outer = Open { frame, around };
+    match group(alloc, lefts, filter) {
+        Ok(group) => have(alloc, outer, group),
+        Err(NoMemory) => refused(Refusal::NoMemory, outer),
     }
+}
+
+/// A filter in parentheses, before which others wait in them.
+fn group(alloc: Global, lefts: Vec<Left>, filter: Ast) -> Result<Ast, NoMemory>
+    ensures { IfOk result (λ t. written t
+        ≡ GroupOf (reading.joined (reversed left_of lefts.items) (written filter))) }
+{
+    let all = join_all(alloc, lefts, filter)?;
+    Ok(Ast::Group(box_one(alloc, all)?))
 }
 
 /// At a token behind a test.
 pub fn behind_test(alloc: Global, outer: Open, test: Ast, kind: &Kind) -> Result<State, Refusal>
     ensures { IsMove (reading.step most_open (behind_of outer (written test)) kind.now) result }
 {
-    let Open { frame, around } = outer;
-    let Frame { lefts, nots } = frame;
-    match negate(alloc, nots, test) {
-        Ok(all) => behind(alloc, lefts, all, around, kind),
-        Err(NoMemory) => refused(Refusal::NoMemory, (lefts, around)),
+    match filled(alloc, outer, test) {
+        Ok(filled) => behind(alloc, filled, kind),
+        Err(NoMemory) => Err(Refusal::NoMemory),
     }
 }
 

@@ -1,10 +1,11 @@
 // Operands joined by signs, and arguments by commas.
-ghost use Rattle.std.specs.Prelude.{◌≡◌, ◌++◌, [], ◌∷◌, IfOk, OnOk};
+ghost use Rattle.std.specs.Prelude.{◌≡◌, IfOk, OnOk};
 ghost use Rattle.flt_parse.specs.Parser.Reading as reading;
 ghost use Rattle.flt_parse.specs.Parser.States.{waiting_of};
 ghost use Rattle.flt_syntax.specs.Written.{operand_of};
 
 use crate::joins::let_go;
+use crate::lists::{box_two, push_one, push_two};
 use crate::state::{Link, Waiting};
 use flt_syntax::{Arithmetic, Operand};
 use pk_base::NoMemory;
@@ -27,15 +28,12 @@ fn link_left(alloc: Global, left: Waiting, right: Operand) -> Result<Operand, No
     ensures { IfOk result (λ o.
         operand_of o ≡ reading.linked left.link (operand_of left.operand) (operand_of right)) }
 {
-    match (Box::new(alloc, left.operand), Box::new(alloc, right)) {
-        (Ok(l), Ok(r)) => match left.link {
+    match box_two(alloc, left.operand, right) {
+        Ok((l, r)) => match left.link {
             Link::Comma => Ok(Operand::Arguments(l, r)),
             Link::Sign(arithmetic, at) => Ok(Operand::Computed(arithmetic, at, l, r)),
         },
-        (l, r) => {
-            let_go((l, r));
-            Err(NoMemory)
-        }
+        Err(NoMemory) => Err(NoMemory),
     }
 }
 
@@ -81,31 +79,4 @@ pub fn wait(
         };
     }
     push_one(waiting, Waiting { operand: all, link })
-}
-
-/// One more that waits.
-fn push_one(waiting: &mut Vec<Waiting>, next: Waiting) -> Result<(), NoMemory>
-    ensures { OnOk result (waiting.new.items ≡ waiting.old.items ++ next ∷ []) }
-{
-    match waiting.push(next) {
-        Ok(()) => Ok(()),
-        Err(error) => {
-            let_go(error);
-            Err(NoMemory)
-        }
-    }
-}
-
-/// Two more that wait.
-fn push_two(waiting: &mut Vec<Waiting>, left: Waiting, next: Waiting) -> Result<(), NoMemory>
-    ensures { OnOk result
-        (waiting.new.items ≡ (waiting.old.items ++ left ∷ []) ++ next ∷ []) }
-{
-    match push_one(waiting, left) {
-        Ok(()) => push_one(waiting, next),
-        Err(NoMemory) => {
-            let_go(next);
-            Err(NoMemory)
-        }
-    }
 }

@@ -3,34 +3,60 @@
 ghost use Rattle.std.specs.Prelude.{◌≡◌, ℕ, List, ◌++◌, [], ◌∷◌, Some, None};
 ghost use Rattle.flt_syntax.specs.Grammar.{takes_mask as may_mask, takes_more as may_take_more, takes_slice as may_slice};
 ghost use Rattle.flt_parse.specs.Parser.Reading as reading;
-ghost use Rattle.flt_parse.specs.Parser.States.{IsRangeMove, IsSpot, layers_moved};
+ghost use Rattle.flt_parse.specs.Parser.States.{IsRangeMove, IsSpot, layers_moved, part_of, range_spot};
 ghost use Rattle.flt_syntax.specs.declared.ast.LayerRange.{LayerRange};
 ghost use Rattle.flt_syntax.specs.declared.word.Word.{Word};
 ghost use Rattle.flt_syntax.specs.Written.{OnLayersOf, SlicedOf, operand_of};
 
-use crate::joins::refused;
-use crate::state::{LayerSpot, RangeSpot, Refusal, Spot};
+use crate::joins::{let_go, refused};
+use crate::lists::{box_one, push_one};
+use crate::state::{LayerSpot, Part, RangeSpot, Refusal, Slice, Spot};
 use flt_syntax::{Function, Kind, LayerRange, Operand, Place, RangePart, SliceRange, Word};
+use pk_base::NoMemory;
 use std::alloc::Global;
 
+/// In an operand that has to go on.
+pub fn part_step(alloc: Global, part: Part, kind: Kind) -> Result<Option<Spot>, Refusal>
+    ensures { IsSpot (reading.operand_step (part_of part) kind) result }
+{
+    match part {
+        Part::MaskWanted(operand, at) => mask_wanted(alloc, operand, at, kind),
+        Part::LayersWanted(word) => {
+            let next = layers_begun(alloc, word, &kind);
+            let_go(kind);
+            Ok(next)
+        }
+        Part::InLayers(word, done, at, spot) => {
+            let next = layers_step(word, done, at, spot, &kind);
+            let_go(kind);
+            next
+        }
+        Part::InRanges(slice, at, spot) => {
+            let next = ranges_step(alloc, slice, at, spot, &kind);
+            let_go(kind);
+            next
+        }
+    }
+}
+
 /// Behind the `#` of a word.
-pub fn layers_begun(alloc: Global, word: Word, kind: &Kind) -> Option<Spot>
+fn layers_begun(alloc: Global, word: Word, kind: &Kind) -> Option<Spot>
     ensures { IsSpot (reading.operand_step (reading.LayersWanted word) kind.now) (Ok result) }
 {
     match kind {
         Kind::LayerNumber(layer) => Some(Spot::Read(Operand::OnLayer(word, *layer))),
-        Kind::OpenLayers(next) => Some(Spot::InLayers(
+        Kind::OpenLayers(next) => Some(Spot::Within(Part::InLayers(
             word,
             Vec::new(alloc),
             *next,
             LayerSpot::LayerWanted,
-        )),
+        ))),
         _ => None,
     }
 }
 
 /// In the brackets of layers.
-pub fn layers_step(
+fn layers_step(
     word: Word,
     done: Vec<LayerRange>,
     at: u32,
@@ -40,7 +66,7 @@ pub fn layers_step(
     ensures { IsSpot (reading.layers_step word done.items at spot kind.now) result }
 {
     match layer_move(at, spot, kind) {
-        LayerMove::On(spot) => Ok(Some(Spot::InLayers(word, done, at, spot))),
+        LayerMove::On(spot) => Ok(Some(Spot::Within(Part::InLayers(word, done, at, spot)))),
         LayerMove::Next(range, next) => next_layers(word, done, range, next),
         LayerMove::End(range) => all_layers(word, done, range),
         LayerMove::Wrong => nothing((word, done)),
@@ -144,9 +170,9 @@ fn next_layers(
         (done.items ++ range ∷ []) next reading.LayerWanted)) result }
 {
     let mut done = done;
-    match done.push(range) {
-        Ok(()) => Ok(Some(Spot::InLayers(word, done, next, LayerSpot::LayerWanted))),
-        Err(error) => refused(Refusal::NoMemory, (error, word, done)),
+    match push_one(&mut done, range) {
+        Ok(()) => Ok(Some(Spot::Within(Part::InLayers(word, done, next, LayerSpot::LayerWanted)))),
+        Err(NoMemory) => refused(Refusal::NoMemory, (word, done)),
     }
 }
 
@@ -156,9 +182,9 @@ fn all_layers(word: Word, done: Vec<LayerRange>, range: LayerRange) -> Result<Op
         result }
 {
     let mut done = done;
-    match done.push(range) {
+    match push_one(&mut done, range) {
         Ok(()) => Ok(Some(Spot::Read(Operand::OnLayers(word, done)))),
-        Err(error) => refused(Refusal::NoMemory, (error, word, done)),
+        Err(NoMemory) => refused(Refusal::NoMemory, (word, done)),
     }
 }
 
@@ -199,7 +225,7 @@ pub fn takes_mask(operand: &Operand) -> bool
 }
 
 /// Behind `&`.
-pub fn mask_wanted(
+fn mask_wanted(
     alloc: Global,
     operand: Operand,
     at: u32,
@@ -209,24 +235,16 @@ pub fn mask_wanted(
         result }
 {
     match kind {
-        Kind::Name(word) => match Box::new(alloc, operand) {
+        Kind::Name(word) => match box_one(alloc, operand) {
             Ok(inner) => Ok(Some(Spot::Read(Operand::Masked(inner, at, word)))),
-            Err(error) => refused(Refusal::NoMemory, (error, word)),
+            Err(NoMemory) => refused(Refusal::NoMemory, word),
         },
         _ => nothing((operand, kind)),
     }
 }
 
-/// The ranges of a slice before the one that is read.
-#[derive(Drop)]
-pub struct Slice {
-    pub operand: Operand,
-    pub bracket: u32,
-    pub done: Vec<SliceRange>,
-}
-
 /// In the brackets of a slice.
-pub fn ranges_step(
+fn ranges_step(
     alloc: Global,
     slice: Slice,
     at: u32,
@@ -258,12 +276,21 @@ fn range_move(spot: RangeSpot, kind: &Kind) -> RangeMove
 {
     match spot {
         RangeSpot::RangeWanted => range_wanted(kind),
-        RangeSpot::DigitsWanted => digits_wanted(kind),
+        RangeSpot::DigitsWanted => match kind {
+            Kind::Number(n) => RangeMove::On(RangeSpot::PlaceRead(Place {
+                from_end: true,
+                offset: *n,
+            })),
+            _ => RangeMove::Wrong,
+        },
         RangeSpot::PlaceRead(place) => place_read(place, kind),
         RangeSpot::ColonRead(place) => colon_read(place, kind),
         RangeSpot::EndWanted(place) => end_wanted(place, kind),
         RangeSpot::EndDigitsWanted(place) => end_digits_wanted(place, kind),
-        RangeSpot::CountWanted => count_wanted(kind),
+        RangeSpot::CountWanted => match kind {
+            Kind::Number(n) => RangeMove::On(RangeSpot::PartRead(RangePart::Front(*n))),
+            _ => RangeMove::Wrong,
+        },
         RangeSpot::PartRead(part) => part_read(part, kind),
     }
 }
@@ -272,18 +299,12 @@ fn range_wanted(kind: &Kind) -> RangeMove
     ensures { IsRangeMove reading.RangeWanted kind.now result }
 {
     match kind {
-        Kind::Number(n) => RangeMove::On(RangeSpot::PlaceRead(forward(*n))),
+        Kind::Number(n) => RangeMove::On(RangeSpot::PlaceRead(Place {
+            from_end: false,
+            offset: *n,
+        })),
         Kind::Minus => RangeMove::On(RangeSpot::DigitsWanted),
         Kind::Colon => RangeMove::On(RangeSpot::CountWanted),
-        _ => RangeMove::Wrong,
-    }
-}
-
-fn digits_wanted(kind: &Kind) -> RangeMove
-    ensures { IsRangeMove reading.DigitsWanted kind.now result }
-{
-    match kind {
-        Kind::Number(n) => RangeMove::On(RangeSpot::PlaceRead(backward(*n))),
         _ => RangeMove::Wrong,
     }
 }
@@ -317,7 +338,10 @@ fn end_wanted(place: Place, kind: &Kind) -> RangeMove
     match kind {
         Kind::Number(n) => RangeMove::On(RangeSpot::PartRead(RangePart::Between(
             place,
-            forward(*n),
+            Place {
+                from_end: false,
+                offset: *n,
+            },
         ))),
         Kind::Minus => RangeMove::On(RangeSpot::EndDigitsWanted(place)),
         _ => RangeMove::Wrong,
@@ -330,17 +354,11 @@ fn end_digits_wanted(place: Place, kind: &Kind) -> RangeMove
     match kind {
         Kind::Number(n) => RangeMove::On(RangeSpot::PartRead(RangePart::Between(
             place,
-            backward(*n),
+            Place {
+                from_end: true,
+                offset: *n,
+            },
         ))),
-        _ => RangeMove::Wrong,
-    }
-}
-
-fn count_wanted(kind: &Kind) -> RangeMove
-    ensures { IsRangeMove reading.CountWanted kind.now result }
-{
-    match kind {
-        Kind::Number(n) => RangeMove::On(RangeSpot::PartRead(RangePart::Front(*n))),
         _ => RangeMove::Wrong,
     }
 }
@@ -357,10 +375,9 @@ fn part_read(part: RangePart, kind: &Kind) -> RangeMove
 
 /// A spot in the same range.
 fn in_range(slice: Slice, at: u32, spot: RangeSpot) -> Result<Option<Spot>, Refusal>
-    ensures { IsSpot (Some (reading.InRanges
-        (operand_of slice.operand) slice.bracket slice.done.items at spot)) result }
+    ensures { IsSpot (Some (range_spot slice at spot)) result }
 {
-    Ok(Some(Spot::InRanges(slice.operand, slice.bracket, slice.done, at, spot)))
+    Ok(Some(Spot::Within(Part::InRanges(slice, at, spot))))
 }
 
 /// Behind the comma after a range.
@@ -369,9 +386,9 @@ fn next_range(slice: Slice, at: u32, part: RangePart, next: u32) -> Result<Optio
         (reading.with_part at slice.done.items part) next reading.RangeWanted)) result }
 {
     let mut slice = slice;
-    match slice.done.push(SliceRange { at, part }) {
+    match push_one(&mut slice.done, SliceRange { at, part }) {
         Ok(()) => in_range(slice, next, RangeSpot::RangeWanted),
-        Err(error) => refused(Refusal::NoMemory, (error, slice)),
+        Err(NoMemory) => refused(Refusal::NoMemory, slice),
     }
 }
 
@@ -387,9 +404,9 @@ fn all_ranges(
         (reading.with_part at slice.done.items part)))) result }
 {
     let mut slice = slice;
-    match slice.done.push(SliceRange { at, part }) {
+    match push_one(&mut slice.done, SliceRange { at, part }) {
         Ok(()) => sliced(alloc, slice),
-        Err(error) => refused(Refusal::NoMemory, (error, slice)),
+        Err(NoMemory) => refused(Refusal::NoMemory, slice),
     }
 }
 
@@ -402,26 +419,8 @@ fn sliced(alloc: Global, slice: Slice) -> Result<Option<Spot>, Refusal>
         bracket,
         done,
     } = slice;
-    match Box::new(alloc, operand) {
+    match box_one(alloc, operand) {
         Ok(inner) => Ok(Some(Spot::Read(Operand::Sliced(inner, bracket, done)))),
-        Err(error) => refused(Refusal::NoMemory, (error, done)),
-    }
-}
-
-fn forward(offset: u32) -> Place
-    ensures { result ≡ reading.forward offset }
-{
-    Place {
-        from_end: false,
-        offset,
-    }
-}
-
-fn backward(offset: u32) -> Place
-    ensures { result ≡ reading.backward offset }
-{
-    Place {
-        from_end: true,
-        offset,
+        Err(NoMemory) => refused(Refusal::NoMemory, done),
     }
 }

@@ -1,15 +1,15 @@
 // A filter's text to its tree.
 ghost use Rattle.std.specs.Prelude.{◌≡◌, IfOk, IfErr, length};
-ghost use Rattle.flt_syntax.specs.Filters.{IsFilterText, IsRefusal, kinds_of, most_bytes, most_open};
-ghost use Rattle.flt_syntax.specs.Grammar.{IsFilter};
+ghost use Rattle.flt_syntax.specs.Filters.{IsFilterText, IsRefusal, most_bytes, most_open};
 ghost use Rattle.flt_parse.specs.Parser.Reading as reading;
-ghost use Rattle.flt_parse.specs.Parser.Answers.{IsParseError, IsReadError, refused as refused_as, tokens_read};
+ghost use Rattle.flt_parse.specs.Parser.Answers.{IsReadError, refused as refused_as, tokens_read};
 ghost use Rattle.flt_parse.specs.Parser.States.{state_of};
 ghost use Rattle.flt_syntax.specs.Written.{written};
 
 use crate::lexer::tokens_in;
-use crate::state::{Frame, Open, Refusal, State};
-use crate::steps::{finish, step};
+use crate::state::{Open, Refusal, State};
+use crate::steps::{no_frame, step};
+use crate::whole::finish;
 use flt_syntax::{Ast, FilterError, FilterFault, FilterReason, Token};
 use pk_base::FILTER_LIMIT;
 use std::alloc::Global;
@@ -18,7 +18,7 @@ use std::collections::VecDeque;
 /// Reads the text of a filter. The answer is its tree, or its first fault: that it has more than 4,096 bytes; else the
 /// first byte that begins no token, or string that doesn't end or has another escape; else the first token that no
 /// filter has there, or that opens the 65th parenthesis, negation or call.
-#[tactic(auto, using(crate::proofs::Parsed::of_lexical, crate::proofs::Parsed::of_syntax, crate::proofs::Parsed::of_length, crate::proofs::Parsed::of_filter), unfolding(flt_syntax::specs::Filters::most_bytes))]
+#[tactic(auto, using(crate::proofs::Parsed::of_lexical, crate::proofs::Parsed::of_length, crate::proofs::Parsed::text_refused), unfolding(flt_syntax::specs::Filters::most_bytes))]
 pub fn parse(alloc: Global, text: &str) -> Result<Ast, FilterError>
     ensures ok { IfOk result (λ ast. IsFilterText text.now (written ast)) }
     ensures err { IfErr result (IsRefusal text.now) }
@@ -30,20 +30,12 @@ pub fn parse(alloc: Global, text: &str) -> Result<Ast, FilterError>
         }));
     }
     match tokens_in(alloc, text) {
-        Ok(tokens) => parse_tokens(alloc, tokens, text.len() as u32),
+        Ok(tokens) => read_tokens(alloc, tokens, text.len() as u32),
         Err(error) => Err(error),
     }
 }
 
 /// Reads the tokens of a text of some length.
-#[tactic(auto, using(crate::proofs::Parsed::filter_read, crate::proofs::Parsed::error_read))]
-fn parse_tokens(alloc: Global, tokens: VecDeque<Token>, end: u32) -> Result<Ast, FilterError>
-    ensures ok { IfOk result (λ ast. IsFilter most_open (kinds_of tokens.items) (written ast)) }
-    ensures err { IfErr result (IsParseError end tokens.items) }
-{
-    read_tokens(alloc, tokens, end)
-}
-
 #[tactic(auto, using(crate::proofs::Parsed::read_on, crate::proofs::Parsed::read_stop, crate::proofs::Parsed::read_whole, crate::proofs::Parsed::read_cut))]
 fn read_tokens(alloc: Global, tokens: VecDeque<Token>, end: u32) -> Result<Ast, FilterError>
     ensures ok { IfOk result (λ ast.
@@ -60,6 +52,7 @@ fn read_tokens(alloc: Global, tokens: VecDeque<Token>, end: u32) -> Result<Ast, 
             Err(refusal) => return Err(refused(refusal, at)),
         };
     }
+    drop(rest);
     match finish(alloc, state) {
         Ok(ast) => Ok(ast),
         Err(refusal) => Err(refused(refusal, end)),
@@ -69,12 +62,8 @@ fn read_tokens(alloc: Global, tokens: VecDeque<Token>, end: u32) -> Result<Ast, 
 fn start(alloc: Global) -> State
     ensures { state_of result ≡ reading.start }
 {
-    let frame = Frame {
-        lefts: Vec::new(alloc),
-        nots: Vec::new(alloc),
-    };
     State::Want(Open {
-        frame,
+        frame: no_frame(alloc),
         around: Vec::new(alloc),
     })
 }

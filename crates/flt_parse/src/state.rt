@@ -4,8 +4,6 @@ use flt_syntax::{
     Arithmetic, Ast, Choice, Element, FilterReason, Function, Join, LayerRange, Literal, Negation,
     Operand, Operator, Place, RangePart, SliceRange, Tail, Word,
 };
-use pk_base::NoMemory;
-use std::alloc::{AllocError, AllocFailed};
 
 /// How far a range of layers is read.
 #[derive(Clone, Copy)]
@@ -38,15 +36,30 @@ pub enum ElementSpot {
     SecondRead(Literal, Literal),
 }
 
-/// How far an operand is read. A list holds the ranges before the one that is read, whose place stands behind it.
+/// The ranges of a slice before the one that is read.
+#[derive(Drop)]
+pub struct Slice {
+    pub operand: Operand,
+    pub bracket: u32,
+    pub done: Vec<SliceRange>,
+}
+
+/// How far an operand is read that has to go on. A list holds the ranges before the one that is read, whose place stands
+/// behind it.
+#[derive(Drop)]
+pub enum Part {
+    LayersWanted(Word),
+    InLayers(Word, Vec<LayerRange>, u32, LayerSpot),
+    InRanges(Slice, u32, RangeSpot),
+    MaskWanted(Operand, u32),
+}
+
+/// How far an operand is read.
 #[derive(Drop)]
 pub enum Spot {
     Wanted,
     Read(Operand),
-    LayersWanted(Word),
-    InLayers(Word, Vec<LayerRange>, u32, LayerSpot),
-    InRanges(Operand, u32, Vec<SliceRange>, u32, RangeSpot),
-    MaskWanted(Operand, u32),
+    Within(Part),
 }
 
 /// How far what follows the left operand is read.
@@ -116,6 +129,22 @@ pub struct Open {
     pub around: Vec<Frame>,
 }
 
+/// A filter behind which more may come, those that wait before it, and what is open around it.
+#[derive(Drop)]
+pub struct Behind {
+    pub lefts: Vec<Left>,
+    pub filter: Ast,
+    pub around: Vec<Frame>,
+}
+
+/// A left operand that is whole, the word before it, and what is open around its test.
+#[derive(Drop)]
+pub struct LeftSide {
+    pub choice: Option<Choice>,
+    pub operand: Operand,
+    pub outer: Open,
+}
+
 /// Where an operand stands: on which side of a test, behind which operands that wait, in which functions whose `)` isn't
 /// read, and what is open around the test.
 #[derive(Drop)]
@@ -131,10 +160,9 @@ pub struct Inside {
 pub enum State {
     /// Where a filter begins.
     Want(Open),
-    /// Behind a filter, before which others wait.
-    Have(Vec<Left>, Ast, Vec<Frame>),
+    Have(Behind),
     InOperand(Spot, Inside),
-    InTail(TailSpot, Option<Choice>, Operand, Open),
+    InTail(TailSpot, LeftSide),
 }
 
 /// Why a token isn't read.
@@ -142,37 +170,4 @@ pub enum State {
 pub enum Refusal {
     Fault(FilterReason),
     NoMemory,
-}
-
-impl From<NoMemory> for Refusal {
-    ghost use Rattle.std.specs.Prelude.{◌≡◌};
-    ghost use Rattle.flt_parse.specs.declared.state.Refusal.TheVariants as refusals;
-
-    ghost from_gives = { λ _ e. e ≡ refusals.NoMemory };
-
-    fn from(_error: NoMemory) -> Refusal {
-        Refusal::NoMemory
-    }
-}
-
-impl From<AllocError> for Refusal {
-    ghost use Rattle.std.specs.Prelude.{◌≡◌};
-    ghost use Rattle.flt_parse.specs.declared.state.Refusal.TheVariants as refusals;
-
-    ghost from_gives = { λ _ e. e ≡ refusals.NoMemory };
-
-    fn from(_error: AllocError) -> Refusal {
-        Refusal::NoMemory
-    }
-}
-
-impl<T: Drop> From<AllocFailed<T>> for Refusal {
-    ghost use Rattle.std.specs.Prelude.{◌≡◌};
-    ghost use Rattle.flt_parse.specs.declared.state.Refusal.TheVariants as refusals;
-
-    ghost from_gives = { λ _ e. e ≡ refusals.NoMemory };
-
-    fn from(_error: AllocFailed<T>) -> Refusal {
-        Refusal::NoMemory
-    }
 }

@@ -4,9 +4,11 @@ ghost use Rattle.flt_parse.specs.Parser.Reading as reading;
 ghost use Rattle.flt_parse.specs.Parser.States.{IsTailMove, tail_spot_of};
 ghost use Rattle.flt_syntax.specs.Written.{InOf};
 
-use crate::joins::refused;
+use crate::joins::{let_go, refused};
+use crate::lists::push_one;
 use crate::state::{ElementSpot, Refusal, TailMove, TailSpot};
 use flt_syntax::{Element, Kind, Literal, Tail};
+use pk_base::NoMemory;
 use std::alloc::Global;
 
 pub fn tail_step(alloc: Global, spot: TailSpot, kind: Kind) -> Result<TailMove, Refusal>
@@ -14,10 +16,31 @@ pub fn tail_step(alloc: Global, spot: TailSpot, kind: Kind) -> Result<TailMove, 
         (reading.tail_done (tail_spot_of spot) kind) result }
 {
     match spot {
-        TailSpot::InWanted => in_wanted(&kind),
-        TailSpot::SetWanted(negated) => set_wanted(alloc, negated, &kind),
-        TailSpot::InSet(negated, done, spot) => set_step(negated, done, spot, kind),
         TailSpot::PatternWanted(at) => pattern_wanted(at, kind),
+        TailSpot::InSet(negated, done, spot) => match spot {
+            ElementSpot::ElementWanted => element_wanted(negated, done, kind),
+            ElementSpot::SecondWanted(first) => second_wanted(negated, done, first, kind),
+            ElementSpot::LiteralRead(first) => {
+                let next = literal_read(negated, done, first, &kind);
+                let_go(kind);
+                next
+            }
+            ElementSpot::SecondRead(first, second) => {
+                let next = second_read(negated, done, first, second, &kind);
+                let_go(kind);
+                next
+            }
+        },
+        TailSpot::InWanted => {
+            let next = in_wanted(&kind);
+            let_go(kind);
+            next
+        }
+        TailSpot::SetWanted(negated) => {
+            let next = set_wanted(alloc, negated, &kind);
+            let_go(kind);
+            next
+        }
     }
 }
 
@@ -58,24 +81,6 @@ fn pattern_wanted(at: u32, kind: Kind) -> Result<TailMove, Refusal>
     }
 }
 
-/// In a set.
-fn set_step(
-    negated: bool,
-    done: Vec<Element>,
-    spot: ElementSpot,
-    kind: Kind,
-) -> Result<TailMove, Refusal>
-    ensures { IsTailMove (reading.tail_step (reading.InSet negated done.items spot) kind)
-        (reading.tail_done (reading.InSet negated done.items spot) kind) result }
-{
-    match spot {
-        ElementSpot::ElementWanted => element_wanted(negated, done, kind),
-        ElementSpot::LiteralRead(first) => literal_read(negated, done, first, &kind),
-        ElementSpot::SecondWanted(first) => second_wanted(negated, done, first, kind),
-        ElementSpot::SecondRead(first, second) => second_read(negated, done, first, second, &kind),
-    }
-}
-
 fn element_wanted(negated: bool, done: Vec<Element>, kind: Kind) -> Result<TailMove, Refusal>
     ensures { IsTailMove (reading.tail_step
         (reading.InSet negated done.items reading.ElementWanted) kind)
@@ -92,7 +97,7 @@ fn element_wanted(negated: bool, done: Vec<Element>, kind: Kind) -> Result<TailM
             done,
             ElementSpot::LiteralRead(Literal::Text(quote)),
         ),
-        _ => wrong(done),
+        _ => wrong((done, kind)),
     }
 }
 
@@ -137,7 +142,7 @@ fn second_wanted(
             done,
             ElementSpot::SecondRead(first, Literal::Text(quote)),
         ),
-        _ => wrong((done, first)),
+        _ => wrong((done, first, kind)),
     }
 }
 
@@ -180,9 +185,9 @@ fn next_element(negated: bool, done: Vec<Element>, element: Element) -> Result<T
         (reading.InSet negated (done.items ++ element ∷ []) reading.ElementWanted)) None result }
 {
     let mut done = done;
-    match done.push(element) {
+    match push_one(&mut done, element) {
         Ok(()) => Ok(TailMove::Further(TailSpot::InSet(negated, done, ElementSpot::ElementWanted))),
-        Err(error) => refused(Refusal::NoMemory, (error, done)),
+        Err(NoMemory) => refused(Refusal::NoMemory, done),
     }
 }
 
@@ -191,8 +196,8 @@ fn all_elements(negated: bool, done: Vec<Element>, element: Element) -> Result<T
     ensures { IsTailMove None (Some (InOf negated (done.items ++ element ∷ []))) result }
 {
     let mut done = done;
-    match done.push(element) {
+    match push_one(&mut done, element) {
         Ok(()) => Ok(TailMove::Done(Tail::In(negated, done))),
-        Err(error) => refused(Refusal::NoMemory, (error, done)),
+        Err(NoMemory) => refused(Refusal::NoMemory, done),
     }
 }

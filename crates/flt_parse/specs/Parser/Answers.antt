@@ -2,7 +2,6 @@
 use Rattle.std.specs.Prelude.{◌≡◌, ℕ, Bool, true, false, List, Option, Some, None}
 use Rattle.flt_syntax.specs.Filters.{IsTokenFault, place_of}
 use Rattle.flt_parse.specs.Parser.Reading as reading
-use Rattle.flt_syntax.specs.Written.{WrittenOperand}
 use Rattle.flt_syntax.specs.declared.fault.FilterError.{FilterError}
 use Rattle.flt_syntax.specs.declared.fault.FilterError.TheVariants as errors
 use Rattle.flt_syntax.specs.declared.fault.FilterReason.TheVariants.{Unexpected}
@@ -18,17 +17,12 @@ abbrev pub further : Option reading.Spot → reading.Side → List reading.Waiti
 further (Some s) side ws calls f around = reading.Go (reading.InOperand s side ws calls f around)
 further None side ws calls f around = reading.Stop Unexpected
 
--- the tokens that go on with an operand that is whole
-abbrev pub goes_on : Kind → Bool
-goes_on kinds.Hash = true
-goes_on (kinds.OpenRanges at next) = true
-goes_on (kinds.Mask at) = true
-goes_on kind = false
-
--- the operand that is whole, as far as it is read
-abbrev pub operand_read : reading.Spot → Option WrittenOperand
-operand_read (reading.OperandRead o) = Some o
-operand_read spot = None
+-- the tokens that begin more than a test without `any` and `all`
+abbrev pub begins_more : Kind → Bool
+begins_more (kinds.Negates n) = true
+begins_more kinds.Open = true
+begins_more (kinds.Chooses c) = true
+begins_more kind = false
 
 -- the tokens read from a state on
 abbrev pub tokens_read : ℕ → reading.State → List Token → reading.Answer Token

@@ -5,8 +5,6 @@ use Rattle.flt_parse.specs.Parser.Answers.{further}
 use Rattle.flt_parse.specs.Parser.Reading as reading
 use Rattle.flt_syntax.specs.Written.{OnLayersOf, SlicedOf, Written, WrittenOperand, WrittenTail, operand_of, tail_of, written}
 use Rattle.flt_syntax.specs.declared.ast.Ast.{Ast}
-use Rattle.flt_syntax.specs.declared.ast.Choice.{Choice}
-use Rattle.flt_syntax.specs.declared.ast.Negation.{Negation}
 use Rattle.flt_syntax.specs.declared.fault.FilterReason.TheVariants.{Unexpected}
 use Rattle.flt_syntax.specs.declared.ast.LayerRange.{LayerRange}
 use Rattle.flt_syntax.specs.declared.ast.SliceRange.{SliceRange}
@@ -14,19 +12,23 @@ use Rattle.flt_parse.specs.declared.operands.LayerMove.{LayerMove}
 use Rattle.flt_parse.specs.declared.operands.LayerMove.TheVariants as layers
 use Rattle.flt_parse.specs.declared.operands.RangeMove.{RangeMove}
 use Rattle.flt_parse.specs.declared.operands.RangeMove.TheVariants as ranges
-use Rattle.flt_parse.specs.declared.operands.Slice.{Slice}
+use Rattle.flt_parse.specs.declared.state.Behind.{Behind}
 use Rattle.flt_parse.specs.declared.state.Call.{Call}
 use Rattle.flt_parse.specs.declared.state.Frame.{Frame}
 use Rattle.flt_parse.specs.declared.state.Inside.{Inside}
 use Rattle.flt_parse.specs.declared.state.Left.{Left}
+use Rattle.flt_parse.specs.declared.state.LeftSide.{LeftSide}
 use Rattle.flt_parse.specs.declared.state.Open.{Open}
+use Rattle.flt_parse.specs.declared.state.Part.{Part}
+use Rattle.flt_parse.specs.declared.state.Part.TheVariants.{LayersWanted, InLayers, InRanges, MaskWanted}
 use Rattle.flt_parse.specs.declared.state.RangeSpot.{RangeSpot}
 use Rattle.flt_parse.specs.declared.state.Refusal.{Refusal}
 use Rattle.flt_parse.specs.declared.state.Refusal.TheVariants.{Fault, NoMemory}
 use Rattle.flt_parse.specs.declared.state.Side.{Side}
 use Rattle.flt_parse.specs.declared.state.Side.TheVariants.{OnLeft, OnRight}
+use Rattle.flt_parse.specs.declared.state.Slice.{Slice}
 use Rattle.flt_parse.specs.declared.state.Spot.{Spot}
-use Rattle.flt_parse.specs.declared.state.Spot.TheVariants.{Wanted, Read, LayersWanted, InLayers, InRanges, MaskWanted}
+use Rattle.flt_parse.specs.declared.state.Spot.TheVariants.{Wanted, Read, Within}
 use Rattle.flt_parse.specs.declared.state.State.{State}
 use Rattle.flt_parse.specs.declared.state.State.TheVariants.{Want, Have, InOperand, InTail}
 use Rattle.flt_parse.specs.declared.state.TailMove.{TailMove}
@@ -65,14 +67,21 @@ abbrev pub side_of : Side → reading.Side
 side_of (OnLeft c) = reading.OnLeft c
 side_of (OnRight c l operator at) = reading.OnRight c (operand_of l) operator at
 
+-- the range of a slice that is read
+abbrev pub range_spot : Slice → ℕ → RangeSpot → reading.Spot
+range_spot slice at spot =
+    reading.InRanges (operand_of slice.operand) slice.bracket slice.done.items at spot
+
+abbrev pub part_of : Part → reading.Spot
+part_of (LayersWanted w) = reading.LayersWanted w
+part_of (InLayers w done at spot) = reading.InLayers w done.items at spot
+part_of (InRanges slice at spot) = range_spot slice at spot
+part_of (MaskWanted o at) = reading.MaskWanted (operand_of o) at
+
 abbrev pub spot_of : Spot → reading.Spot
 spot_of Wanted = reading.OperandWanted
 spot_of (Read o) = reading.OperandRead (operand_of o)
-spot_of (LayersWanted w) = reading.LayersWanted w
-spot_of (InLayers w done at spot) = reading.InLayers w done.items at spot
-spot_of (InRanges o bracket done at spot) =
-    reading.InRanges (operand_of o) bracket done.items at spot
-spot_of (MaskWanted o at) = reading.MaskWanted (operand_of o) at
+spot_of (Within part) = part_of part
 
 abbrev pub tail_spot_of : TailSpot → reading.TailSpot
 tail_spot_of InWanted = reading.InWanted
@@ -88,32 +97,32 @@ want outer = reading.Want (frame_of outer.frame) (around_of outer.around.items)
 abbrev pub behind_of : Open → Written → reading.State
 behind_of outer t = reading.have (frame_of outer.frame) (around_of outer.around.items) t
 
+-- a filter behind which more may come
+abbrev pub have_of : Behind → reading.State
+have_of b = reading.Have (reversed left_of b.lefts.items) (written b.filter)
+    (around_of b.around.items)
+
+-- what waits before a filter, and what is open around it, is the same behind its negations
+abbrev pub IsBehind : Open → Written → Behind → Type 0
+IsBehind outer t b = (b.lefts.items ≡ outer.frame.lefts.items)
+    × (written b.filter ≡ reading.negated (reversed (λ n. n) outer.frame.nots.items) t)
+    × (b.around.items ≡ outer.around.items)
+
 -- an operand
 abbrev pub in_spot : reading.Spot → Inside → reading.State
 in_spot spot i = reading.InOperand spot (side_of i.side) (waiting_of i.waiting.items)
     (calls_of i.calls.items) (frame_of i.outer.frame) (around_of i.outer.around.items)
 
--- an operand that begins on one side of a test
-abbrev pub begun_at : reading.Side → Open → reading.State
-begun_at side outer = reading.InOperand reading.OperandWanted side [] [] (frame_of outer.frame)
-    (around_of outer.around.items)
-
 -- what follows a left operand
-abbrev pub in_tail : reading.TailSpot → Option Choice → WrittenOperand → Open → reading.State
-in_tail spot c o outer =
-    reading.InTail spot c o (frame_of outer.frame) (around_of outer.around.items)
+abbrev pub in_tail : reading.TailSpot → LeftSide → reading.State
+in_tail spot l = reading.InTail spot l.choice (operand_of l.operand) (frame_of l.outer.frame)
+    (around_of l.outer.around.items)
 
 abbrev pub state_of : State → reading.State
 state_of (Want outer) = want outer
-state_of (Have lefts t around) =
-    reading.Have (reversed left_of lefts.items) (written t) (around_of around.items)
+state_of (Have b) = have_of b
 state_of (InOperand spot inside) = in_spot (spot_of spot) inside
-state_of (InTail spot c o outer) = in_tail (tail_spot_of spot) c (operand_of o) outer
-
--- the range of a slice that is read
-abbrev pub range_spot : Slice → ℕ → RangeSpot → reading.Spot
-range_spot slice at spot =
-    reading.InRanges (operand_of slice.operand) slice.bracket slice.done.items at spot
+state_of (InTail spot l) = in_tail (tail_spot_of spot) l
 
 -- where a token in a range leads
 abbrev pub layers_moved : Word → List LayerRange → ℕ → LayerMove → Option reading.Spot
@@ -138,19 +147,12 @@ IsRangeMove spot kind m = (o : WrittenOperand) (bracket : ℕ) (done : List Slic
     → reading.ranges_step o bracket done at spot kind ≡ ranges_moved o bracket done at m
 
 -- the reading's moves at an operand, which goes on or ends, by what is open around it
-abbrev pub go_in : reading.Spot → Inside → reading.Move
-go_in spot i = reading.Go (in_spot spot i)
-
 abbrev pub step_in : reading.Spot → Inside → Kind → reading.Move
 step_in spot i kind = reading.step most_open (in_spot spot i) kind
 
 abbrev pub further_in : Option reading.Spot → Inside → reading.Move
 further_in next i = further next (side_of i.side) (waiting_of i.waiting.items)
     (calls_of i.calls.items) (frame_of i.outer.frame) (around_of i.outer.around.items)
-
-abbrev pub end_in : WrittenOperand → Inside → Kind → reading.Move
-end_in o i kind = reading.operand_end (side_of i.side) (waiting_of i.waiting.items)
-    (calls_of i.calls.items) o (frame_of i.outer.frame) (around_of i.outer.around.items) kind
 
 abbrev pub call_end_in : reading.Call → WrittenOperand → Inside → Kind → reading.Move
 call_end_in call o i kind =
@@ -173,13 +175,19 @@ link_in link o i =
     (reading.wait link (waiting_of i.waiting.items) o) (calls_of i.calls.items)
     (frame_of i.outer.frame) (around_of i.outer.around.items)
 
-abbrev pub left_end_in : Option Choice → WrittenOperand → Open → Kind → reading.Move
-left_end_in c o outer kind =
-    reading.left_end c o (frame_of outer.frame) (around_of outer.around.items) kind
+-- a token behind a filter
+abbrev pub behind_in : Behind → Kind → reading.Move
+behind_in b kind = reading.behind (reversed left_of b.lefts.items) (written b.filter)
+    (around_of b.around.items) kind
 
-abbrev pub not_in_of : Negation → Option Choice → WrittenOperand → Open → reading.Move
-not_in_of n c o outer =
-    reading.not_before_in n c o (frame_of outer.frame) (around_of outer.around.items)
+-- a token behind a left operand
+abbrev pub left_end_in : LeftSide → Kind → reading.Move
+left_end_in l kind = reading.left_end l.choice (operand_of l.operand) (frame_of l.outer.frame)
+    (around_of l.outer.around.items) kind
+
+abbrev pub left_alone_in : LeftSide → Kind → reading.Move
+left_alone_in l kind = reading.left_alone l.choice (operand_of l.operand) (frame_of l.outer.frame)
+    (around_of l.outer.around.items) kind
 
 -- what a step of the parser answers, where memory allows
 abbrev pub IsMove : reading.Move → Result State Refusal → Type 0

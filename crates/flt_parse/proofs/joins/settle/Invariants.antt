@@ -5,7 +5,7 @@ use Rattle.flt_syntax.specs.Written.{written}
 use Rattle.flt_parse.proofs.joins.settle.Given as goal
 
 abbrev pub invariant-lefts : goal.invariant-lefts
-invariant-lefts l = reading.settle l.join (reversed left_of l.fn.lefts.items) (written l.fn.filter) ≡ reading.settle l.join (reversed left_of l.rest.items) (written l.all)
+invariant-lefts l = reading.settle l.join (reversed left_of l.initial.lefts.items) (written l.fn.filter) ≡ reading.settle l.join (reversed left_of l.lefts.items) (written l.all)
 
 abbrev pub decreases-lefts : goal.decreases-lefts
-decreases-lefts l = vec_len l.rest
+decreases-lefts l = vec_len l.lefts
