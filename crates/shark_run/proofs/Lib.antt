@@ -1,5 +1,6 @@
 mod AnswerLemmas
 mod CauseLemmas
 mod CompleteLemmas
+mod HeadlineLemmas
 mod LawLemmas
 mod ToldLemmas

@@ -10,7 +10,7 @@ mod owned;
 mod status;
 mod top;
 
-pub use laws::plans_are_alike;
+pub use laws::{plans_are_alike, the_headline_says_all};
 pub use run_frames::{Compiled, FieldList, Generated, Plan, PlanRules, PlanSource, Text};
 pub use run_words::Refused;
 pub use status::Status;

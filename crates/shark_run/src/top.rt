@@ -14,6 +14,7 @@ ghost use Rattle.shark_run.specs.Statuses.{status_of, refusal_status, IsNoRefusa
 ghost use Rattle.shark_run.specs.FaultTexts.{IsNone, IsSame, Told, ToldWhole};
 ghost use Rattle.shark_run.specs.Outcomes.{IfEnded};
 ghost use Rattle.shark_run.specs.Causes.{IsUnopened, IsUnread};
+ghost use Rattle.shark_run.specs.Headline.{Headline};
 ghost use Rattle.run_output.specs.Way.{IsBroken, IsBrokenOf, IsFullNear, WroteTaken};
 ghost use Rattle.run_passes.specs.SoFar.{IsFullNearOf};
 ghost use Rattle.run_output.specs.Wrote.{WroteAll, WrotePart};
@@ -238,6 +239,10 @@ pub fn run<C: Capture, O: Sink, E: Sink>(
     out: &mut O,
     err: &mut E,
 ) -> Status
+    // The words are refused by the stated rule, or exactly the right lines come out, and damage is reported.
+    ensures headline { Headline (texts words.now) (C.file capture.old) result
+        (O.written out.old) (O.written out.new) (E.written err.old) (E.written err.new) }
+
     // The words are refused for a reason that they give, and then nothing is touched.
     ensures refusing { IsRefusing result → (reason : Refused) × IsRefusal (texts words.now) reason
         × (result ≡ refusal_status reason) }

@@ -1,4 +1,4 @@
-use Rattle.std.proofs.Common.{sym, subst}
+use Rattle.std.proofs.Common.{refl, sym, subst}
 use Rattle.shark_words.specs.Words.{texts}
 use Rattle.run_frames.specs.declared.plan.Plan.{Plan}
 use Rattle.run_words.specs.declared.refused.Refused.{Refused}
@@ -6,6 +6,7 @@ use Rattle.shark_run.specs.FaultTexts.{IsNone, IsSame}
 use Rattle.run_words.specs.Plan.{IsPlan, IsRefusal}
 use Rattle.run_words.proofs.PlanLemmas.{reason_given, refused_not_planned}
 use Rattle.shark_run.proofs.AnswerLemmas.{complete_refused, refused_or_none}
+use Rattle.shark_run.proofs.HeadlineLemmas.{planned, refused_so, starved}
 use Rattle.shark_run.proofs.LawLemmas.{complete_planned}
 use Rattle.shark_run.proofs.ToldLemmas.{told_more, whole_more, told_nothing, whole_nothing}
 use Rattle.shark_run.proofs.top.run.Goals as goal
@@ -49,3 +50,20 @@ pub returns-in-Err-Refused-clause-complete : goal.returns-in-Err-Refused-clause-
 returns-in-Err-Refused-clause-complete g c = λ plan asked.
     complete_refused (texts c.args.words.now) plan c.in-Err-Refused.refused (g.C.Capture.file c.args.capture.now) c.refuse.result _ _ _ asked
     (reason_given _ _ _ c.in-Err-Refused.field-0-is c.in-Err-Refused.ensures.err) c.refuse.ensures.status
+
+pub returns-in-Ok-clause-headline : goal.returns-in-Ok-clause-headline
+returns-in-Ok-clause-headline g c =
+    planned (texts c.args.words.now) c.in-Ok.plan (g.C.Capture.file c.args.capture.now) c.run_plan.result _ _ _ _
+    c.in-Ok.ensures.ok c.run_plan.ensures.no_refusal c.run_plan.ensures.ended c.run_plan.ensures.part
+    (told_more (IsSame c.in-Ok.plan) (IsPlan (texts c.args.words.now)) IsNone (IsRefusal (texts c.args.words.now)) _ _ _ _
+    (λ plan same. subst (λ (p : Plan). IsPlan (texts c.args.words.now) p) (sym same) c.in-Ok.ensures.ok) (λ reason none. absurd none) c.run_plan.ensures.told)
+
+pub returns-in-Err-Refused-clause-headline : goal.returns-in-Err-Refused-clause-headline
+returns-in-Err-Refused-clause-headline g c =
+    refused_so (texts c.args.words.now) c.in-Err-Refused.refused (g.C.Capture.file c.args.capture.now) c.refuse.result _ _ _ _
+    (reason_given _ _ _ c.in-Err-Refused.field-0-is c.in-Err-Refused.ensures.err) c.refuse.ensures.status refl
+    (told_more IsNone (IsPlan (texts c.args.words.now)) (IsSame c.in-Err-Refused.refused) (IsRefusal (texts c.args.words.now)) _ _ _ _
+    (λ plan none. absurd none) (λ reason same. subst (λ (r : Refused). IsRefusal (texts c.args.words.now) r) (sym same) (reason_given _ _ _ c.in-Err-Refused.field-0-is c.in-Err-Refused.ensures.err)) (c.refuse.ensures.told _))
+
+pub returns-in-Err-NoMemory-clause-headline : goal.returns-in-Err-NoMemory-clause-headline
+returns-in-Err-NoMemory-clause-headline g c = starved _ _ _ _ _ _ refl (told_nothing _ _ _ _)
