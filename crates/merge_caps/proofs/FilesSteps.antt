@@ -147,12 +147,13 @@ large_next tell here names place name old within is same read much =
 
 -- why the next file isn't read
 pub cause_is : (c : Cause) (names : List (List ℕ)) (place : ℕ) (name : List ℕ) (old mid new : Seen) → place < length names → name ≡ get_or names place name
-    → old.begun ≤ mid.begun → mid.begun ≤ old.begun + place → mid.missed ≡ old.missed → old.faults ≤ mid.faults
+    → old.begun ≤ mid.begun → mid.begun ≤ old.begun + place → mid.missed ≡ old.missed → mid.faults ≡ old.faults
     → (c ≡ cause.CannotOpen → (new.missed ≡ counted mid.missed) × (new.begun ≡ mid.begun) × (new.refused ≡ true) × (new.asked ≡ name))
     → (c ≡ cause.ReadFault → Rose mid.faults new.faults × (new.begun ≡ counted mid.begun) × (new.missed ≡ mid.missed) × (new.asked ≡ name))
     → (c ≡ cause.TooLarge → IsLargeAt old.tell names place)
+    → (c ≡ cause.NoMemory → (new.missed ≡ mid.missed) × (new.faults ≡ mid.faults))
     → IsCause c names place old new
-cause_is cause.CannotOpen names place name old mid new within is begun few missed faults unopened unread large =
+cause_is cause.CannotOpen names place name old mid new within is begun few missed faults unopened unread large starved =
     let h = unopened refl in
     record {
       name = slice_get_read names (length names) place name refl within is ∙ ap Some (sym h.3);
@@ -160,7 +161,7 @@ cause_is cause.CannotOpen names place name old mid new within is begun few misse
       begun = omega (arith, h.1, few);
       last = h.2;
     }
-cause_is cause.ReadFault names place name old mid new within is begun few missed faults unopened unread large =
+cause_is cause.ReadFault names place name old mid new within is begun few missed faults unopened unread large starved =
     let h = unread refl in
     record {
       name = slice_get_read names (length names) place name refl within is ∙ ap Some (sym h.3);
@@ -169,8 +170,9 @@ cause_is cause.ReadFault names place name old mid new within is begun few missed
       few = omega (arith, h.1, few);
       not_missed = h.2 ∙ missed;
     }
-cause_is cause.TooLarge names place name old mid new within is begun few missed faults unopened unread large = large refl
-cause_is cause.NoMemory names place name old mid new within is begun few missed faults unopened unread large = tt
+cause_is cause.TooLarge names place name old mid new within is begun few missed faults unopened unread large starved = large refl
+cause_is cause.NoMemory names place name old mid new within is begun few missed faults unopened unread large starved =
+    let h = starved refl in (h.0 ∙ missed, h.1 ∙ faults)
 
 -- what is left behind the next file, and behind none
 pub left_next : (tell here : List ℕ → Option (List ℕ)) (names : List (List ℕ)) (place : ℕ) (name : List ℕ) (a b c : Option (List ℕ)) → place < length names

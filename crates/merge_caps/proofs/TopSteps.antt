@@ -1,8 +1,9 @@
 -- From the stages of merging to the whole.
-use Rattle.std.proofs.Common.{◌≡◌, ◌<◌, inl, inr, ℕ, Bool, true, false, List, [], ◌∷◌, ◌++◌, length, get_or, Option, Some, None, Result, Ok, Err, IfSome, IfOk, IfErr, slice_get, refl, sym, ap, ◌∙◌, subst, append-nil}
+use Rattle.std.proofs.Common.{◌≡◌, inl, inr, ℕ, Bool, true, false, List, [], ◌∷◌, ◌++◌, length, get_or, map, Option, Some, None, Result, Ok, Err, IfSome, IfOk, IfErr, IsErrOf, OnOk, slice_get, refl, sym, ap, ◌∙◌, subst, append-nil}
 use Rattle.std.specs.Prelude.{◌||◌}
 use Rattle.std.specs.Io.KnownBytes.{Appends}
-use Rattle.std.proofs.lemmas.Option.{slice_get_read}
+use Rattle.std.specs.Option.{option_map}
+use Rattle.std.proofs.lemmas.Option.{get_or_from_slice_get, slice_get-map}
 use Rattle.std.proofs.KnownBytes.{Appends-nil}
 use Rattle.pk_outside.specs.Outside.{AppendsPart}
 use Rattle.pk_outside.proofs.Parts.{part_none}
@@ -23,7 +24,7 @@ use Rattle.merge_caps.specs.Reading.{ReadSoFar, endings_of, files_of, read_of}
 use Rattle.merge_caps.specs.Statuses.{are_damaged, is_damaged_end, written_status}
 use Rattle.merge_caps.specs.Stopped.{IsCause, IsStopped, Seen}
 use Rattle.merge_caps.specs.Texts.{AreEndings, IsStatusText, IsUnfitAt, Told, ToldRefusal, ToldRefusalWhole, ToldWhole, damage_line, damage_lines}
-use Rattle.merge_caps.specs.Told.{IsStoppedText, IsWrittenText, cause_status, cause_text, unfit_text}
+use Rattle.merge_caps.specs.Told.{IsWrittenText, cause_status, cause_text, unfit_text}
 use Rattle.merge_caps.specs.Words.{Wanted}
 use Rattle.merge_caps.specs.Written.{IsWrittenOf}
 use Rattle.merge_caps.proofs.FilesSteps.{IsReadOf}
@@ -74,7 +75,8 @@ text_by wanted tell asked read None false old new text is count same wrote told 
 
 pub text_told : (wanted : Wanted) (tell : List ℕ → Option (List ℕ)) (asked : List ℕ) (read : ReadSoFar) (written : Result (Option ℕ) SinkFault) (old new : Option (List ℕ))
     (answer : MergeStatus) (text : List ℕ) → IsReadOf tell wanted.names read → length read.endings ≡ length wanted.names
-    → IfOk written (λ unfit. IsWrittenOf wanted.format read.entries unfit old new) → IsWrittenText wanted.names read.endings written answer text
+    → IfOk written (λ unfit. IsWrittenOf wanted.format read.entries unfit old new)
+    → IsWrittenText (damage_lines wanted.names read.endings) (are_damaged read.endings) written answer text
     → IsStatusText wanted tell asked answer text
 text_told wanted tell asked read (Ok unfit) old new answer text is count wrote (inl told) =
     subst (λ (a : MergeStatus). IsStatusText wanted tell asked a text) (sym told.0)
@@ -88,22 +90,43 @@ text_told wanted tell asked read (Err sink.NoMemory) old new answer text is coun
 text_told wanted tell asked read written old new answer text is count wrote (inr told) =
     subst (λ (a : MergeStatus). IsStatusText wanted tell asked a text) (sym told.0) (inl told.1)
 
-asked_name : (names : List (List ℕ)) (place : ℕ) (name asked : List ℕ) → place < length names → name ≡ get_or names place name → slice_get names place ≡ Some asked → name ≡ asked
-asked_name names place name asked within is last = let same : Some name ≡ Some asked = sym (slice_get_read names (length names) place name refl within is) ∙ last in cc same
+-- the text made for a file that doesn't open names it
+unopened_name : (names texts : List (List ℕ)) (place : ℕ) (unopened asked : List ℕ) → texts ≡ map cannot_open_text names
+    → unopened ≡ get_or texts place unopened → slice_get names place ≡ Some asked → unopened ≡ cannot_open_text asked
+unopened_name names texts place unopened asked made is last =
+    is ∙ get_or_from_slice_get texts place (cannot_open_text asked) unopened
+    (ap (λ (ts : List (List ℕ)). slice_get ts place) made ∙ slice_get-map cannot_open_text names place ∙ ap (option_map cannot_open_text) last)
 
-stop_text : (wanted : Wanted) (c : Cause) (place : ℕ) (name : List ℕ) (old new : Seen) (text : List ℕ) → place < length wanted.names → name ≡ get_or wanted.names place name
-    → IsCause c wanted.names place old new → text ≡ cause_text c name → IsStatusText wanted old.tell new.asked (cause_status c) text
-stop_text wanted cause.CannotOpen place name old new text within is why told = told ∙ ap cannot_open_text (asked_name wanted.names place name new.asked within is why.name)
-stop_text wanted cause.ReadFault place name old new text within is why told = told
-stop_text wanted cause.TooLarge place name old new text within is why told = told
-stop_text wanted cause.NoMemory place name old new text within is why told = inl told
+stop_text : (wanted : Wanted) (c : Cause) (texts : List (List ℕ)) (place : ℕ) (unopened : List ℕ) (old new : Seen)
+    → texts ≡ map cannot_open_text wanted.names → unopened ≡ get_or texts place unopened → IsCause c wanted.names place old new
+    → IsStatusText wanted old.tell new.asked (cause_status c) (cause_text c unopened)
+stop_text wanted cause.CannotOpen texts place unopened old new made is why = unopened_name wanted.names texts place unopened new.asked made is why.name
+stop_text wanted cause.ReadFault texts place unopened old new made is why = refl
+stop_text wanted cause.TooLarge texts place unopened old new made is why = refl
+stop_text wanted cause.NoMemory texts place unopened old new made is why = inl refl
 
-pub stop_told : (wanted : Wanted) (stopped : Stopped) (name : List ℕ) (old new : Seen) (answer : MergeStatus) (text : List ℕ) → IsStopped wanted.names stopped old new
-    → name ≡ get_or wanted.names stopped.place name → IsStoppedText stopped.cause name answer text → IsStatusText wanted old.tell new.asked answer text
-stop_told wanted stopped name old new answer text why is (inl told) =
-    subst (λ (a : MergeStatus). IsStatusText wanted old.tell new.asked a text) (sym told.0)
-    (stop_text wanted stopped.cause stopped.place name old new text why.within is why.cause told.1)
-stop_told wanted stopped name old new answer text why is (inr told) = subst (λ (a : MergeStatus). IsStatusText wanted old.tell new.asked a text) (sym told.0) (inl told.1)
+-- the names are those of a slice
+pub stop_told : (wanted : Wanted) (names texts : List (List ℕ)) (stopped : Stopped) (unopened : List ℕ) (old new : Seen) (answer : MergeStatus)
+    → names ≡ wanted.names → texts ≡ map cannot_open_text names → IsStopped names stopped old new → unopened ≡ get_or texts stopped.place unopened
+    → answer ≡ cause_status stopped.cause → IsStatusText wanted old.tell new.asked answer (cause_text stopped.cause unopened)
+stop_told wanted names texts stopped unopened old new answer same made why is ends =
+    let why_here : IsStopped wanted.names stopped old new = subst (λ (ns : List (List ℕ)). IsStopped ns stopped old new) same why in
+    subst (λ (a : MergeStatus). IsStatusText wanted old.tell new.asked a (cause_text stopped.cause unopened)) (sym ends)
+    (stop_text wanted stopped.cause texts stopped.place unopened old new (made ∙ ap (map cannot_open_text) same) is why_here.cause)
+
+-- a fault is never told as want of memory
+pub calm_stop : (c : Cause) (names : List (List ℕ)) (place : ℕ) (old new : Seen) (answer : MergeStatus) → IsCause c names place old new
+    → answer ≡ cause_status c → answer ≡ status.NoMemory → (new.missed ≡ old.missed) × (new.faults ≡ old.faults)
+calm_stop cause.CannotOpen names place old new answer why ends is = let bad : status.CannotOpen ≡ status.NoMemory = sym ends ∙ is in absurd (cc bad)
+calm_stop cause.ReadFault names place old new answer why ends is = let bad : status.ReadFault ≡ status.NoMemory = sym ends ∙ is in absurd (cc bad)
+calm_stop cause.TooLarge names place old new answer why ends is = let bad : status.TooLarge ≡ status.NoMemory = sym ends ∙ is in absurd (cc bad)
+calm_stop cause.NoMemory names place old new answer why ends is = why
+
+pub calm_write : (written : Result (Option ℕ) SinkFault) (answer : MergeStatus) (old new : ℕ) → (IsErrOf written sink.Failed → answer ≡ status.WriteFault)
+    → OnOk written (new ≡ old) → (IsErrOf written sink.NoMemory → new ≡ old) → answer ≡ status.NoMemory → new ≡ old
+calm_write (Ok unfit) answer old new fault whole starved is = whole
+calm_write (Err sink.Failed) answer old new fault whole starved is = let bad : status.WriteFault ≡ status.NoMemory = sym (fault refl) ∙ is in absurd (cc bad)
+calm_write (Err sink.NoMemory) answer old new fault whole starved is = starved refl
 
 -- standard error got the text
 pub told : (wanted : Wanted) (tell : List ℕ → Option (List ℕ)) (asked : List ℕ) (answer : MergeStatus) (text : List ℕ) (old new : Option (List ℕ))
@@ -157,21 +180,17 @@ pub none_refused_whole : (r : Result Wanted WordFault) (a : Option (List ℕ)) �
 none_refused_whole (Ok wanted) a = tt
 none_refused_whole (Err fault) a = refusal_starved_whole fault a
 
--- the same, where the names are those of a slice
-pub stop_told_by : (wanted : Wanted) (names : List (List ℕ)) (stopped : Stopped) (name : List ℕ) (old new : Seen) (answer : MergeStatus) (text : List ℕ) → names ≡ wanted.names
-    → IsStopped names stopped old new → name ≡ get_or names stopped.place name → IsStoppedText stopped.cause name answer text → IsStatusText wanted old.tell new.asked answer text
-stop_told_by wanted names stopped name old new answer text same why is told =
-    stop_told wanted stopped name old new answer text (subst (λ (ns : List (List ℕ)). IsStopped ns stopped old new) same why)
-    (is ∙ ap (λ (ns : List (List ℕ)). get_or ns stopped.place name) same) told
-
+-- the same, where the names are those of a slice, and the lines were put together before
 pub text_told_by : (wanted : Wanted) (tell : List ℕ → Option (List ℕ)) (asked : List ℕ) (read : ReadSoFar) (written : Result (Option ℕ) SinkFault) (old new : Option (List ℕ))
-    (answer : MergeStatus) (text : List ℕ) (names : List (List ℕ)) (endings : List Ending) → names ≡ wanted.names → endings ≡ read.endings
-    → IsReadOf tell names read → length read.endings ≡ length names
-    → IfOk written (λ unfit. IsWrittenOf wanted.format read.entries unfit old new) → IsWrittenText names endings written answer text
+    (answer : MergeStatus) (text : List ℕ) (names : List (List ℕ)) (endings : List Ending) (lines : List ℕ) (damaged : Bool) → names ≡ wanted.names → endings ≡ read.endings
+    → lines ≡ damage_lines names endings → damaged ≡ are_damaged endings → IsReadOf tell names read → length read.endings ≡ length names
+    → IfOk written (λ unfit. IsWrittenOf wanted.format read.entries unfit old new) → IsWrittenText lines damaged written answer text
     → IsStatusText wanted tell asked answer text
-text_told_by wanted tell asked read written old new answer text names endings same_names same_endings is count wrote told =
+text_told_by wanted tell asked read written old new answer text names endings lines damaged same_names same_endings are is_one is count wrote told =
+    let all : lines ≡ damage_lines wanted.names read.endings =
+    are ∙ ap (λ (ns : List (List ℕ)). damage_lines ns endings) same_names ∙ ap (damage_lines wanted.names) same_endings in
     text_told wanted tell asked read written old new answer text
     (subst (λ (ns : List (List ℕ)). IsReadOf tell ns read) same_names is)
     (count ∙ ap length same_names) wrote
-    (subst (λ (ns : List (List ℕ)). IsWrittenText ns read.endings written answer text) same_names
-    (subst (λ (es : List Ending). IsWrittenText names es written answer text) same_endings told))
+    (subst (λ (ls : List ℕ). IsWrittenText ls (are_damaged read.endings) written answer text) all
+    (subst (λ (d : Bool). IsWrittenText lines d written answer text) (is_one ∙ ap are_damaged same_endings) told))

@@ -1,5 +1,5 @@
 -- Where the reading of the files stopped, and why.
-use Rattle.std.specs.Prelude.{◌<◌, ℕ, Bool, List, length, Option}
+use Rattle.std.specs.Prelude.{◌≡◌, ◌<◌, ℕ, Bool, List, length, Option}
 use Rattle.merge_caps.specs.declared.readings.Cause.{Cause}
 use Rattle.merge_caps.specs.declared.readings.Cause.TheVariants as cause
 use Rattle.merge_caps.specs.declared.readings.Stopped.{Stopped}
@@ -22,7 +22,8 @@ IsCause cause.CannotOpen names place old new =
 IsCause cause.ReadFault names place old new =
     IsUnread names place old.faults new.faults old.begun new.begun old.missed new.missed new.asked
 IsCause cause.TooLarge names place old new = IsLargeAt old.tell names place
-IsCause cause.NoMemory names place old new = Unit {0}
+IsCause cause.NoMemory names place old new =
+    (new.missed ≡ old.missed) × (new.faults ≡ old.faults)
 
 -- none before it was too large
 pub record IsStopped (names : List (List ℕ)) (stopped : Stopped) (old new : Seen) : Type 0 where

@@ -6,6 +6,7 @@ ghost use Rattle.pk_outside.specs.Outside.{Rose};
 ghost use Rattle.capture_read.specs.Capture.{capture_of};
 ghost use Rattle.capture_read.specs.Reader.{StandsFor};
 ghost use Rattle.capture_read.specs.Taken.{TookAtMost};
+ghost use Rattle.capture_read.specs.declared.kind.Phase.TheVariants as phase;
 ghost use Rattle.merge_caps.specs.Merged.{placed};
 ghost use Rattle.merge_caps.specs.Reading.{so_far, with_frames, with_reading};
 
@@ -52,6 +53,7 @@ fn read_frames<C: Capture>(
 ) -> Result<Ending, ReadError>
     requires reads { (left : List ℕ) → StandsFor reader.old (Some left) left [] }
     requires at { reader.old.state.at ≡ 0 }
+    requires open { reader.old.phase ≡ phase.Open }
     requires few { readings.old.captured ≤ limit_of_file }
     ensures read { IfOk result (λ ending. IfSome (C.left capture.old) (λ file.
         (so_far readings.new ≡ with_frames (capture_of file).frames (so_far readings.old))
@@ -65,7 +67,10 @@ fn read_frames<C: Capture>(
     ensures refused { C.refused capture.new ≡ C.refused capture.old }
     ensures begun { C.begun capture.new ≡ C.begun capture.old }
     ensures missed { C.missed capture.new ≡ C.missed capture.old }
-    ensures faults_stay { C.faults capture.old ≤ C.faults capture.new }
+    ensures no_fault { OnOk result (C.faults capture.new ≡ C.faults capture.old) }
+    ensures starved { IsErrOf result ReadError.NoMemory
+        → C.faults capture.new ≡ C.faults capture.old }
+    ensures spent { IsErrOf result ReadError.Spent → ⊥ }
 {
     let file = readings.endings.len();
     let mut latest = None;
@@ -99,7 +104,10 @@ pub(crate) fn read_file<C: Capture>(
     ensures refused { C.refused capture.new ≡ C.refused capture.old }
     ensures begun { C.begun capture.new ≡ C.begun capture.old }
     ensures missed { C.missed capture.new ≡ C.missed capture.old }
-    ensures faults_stay { C.faults capture.old ≤ C.faults capture.new }
+    ensures no_fault { OnOk result (C.faults capture.new ≡ C.faults capture.old) }
+    ensures starved { IsErrOf result ReadError.NoMemory
+        → C.faults capture.new ≡ C.faults capture.old }
+    ensures spent { IsErrOf result ReadError.Spent → ⊥ }
 {
     let mut reader = FrameReader::new(alloc);
     let ending = match read_frames(&mut reader, capture, readings) {

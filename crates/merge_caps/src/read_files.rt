@@ -27,6 +27,8 @@ fn begin<C: Capture>(alloc: Global, name: &Text, capture: &mut C) -> Result<(), 
         → C.missed capture.new ≡ counted (C.missed capture.old) }
     ensures refused { IsErrOf result Cause.CannotOpen → C.refused capture.new ≡ true }
     ensures asked_err { IsErrOf result Cause.CannotOpen → C.asked capture.new ≡ name.now }
+    ensures starved { IsErrOf result Cause.NoMemory
+        → C.missed capture.new ≡ C.missed capture.old }
     ensures read { IsErrOf result Cause.ReadFault → ⊥ }
     ensures large { IsErrOf result Cause.TooLarge → ⊥ }
     ensures begun_stay { C.begun capture.old ≤ C.begun capture.new }
@@ -77,8 +79,11 @@ fn read_next<C: Capture>(
         → Rose (C.faults capture.old) (C.faults capture.new)
         × (C.begun capture.new ≡ counted (C.begun capture.old))
         × (C.missed capture.new ≡ C.missed capture.old) × (C.asked capture.new ≡ name.now) }
+    ensures no_fault { OnOk result (C.faults capture.new ≡ C.faults capture.old) }
+    ensures starved { IsErrOf result Cause.NoMemory
+        → (C.missed capture.new ≡ C.missed capture.old)
+        × (C.faults capture.new ≡ C.faults capture.old) }
     ensures begun_stay { C.begun capture.old ≤ C.begun capture.new }
-    ensures faults_stay { C.faults capture.old ≤ C.faults capture.new }
 {
     match begin(alloc, name, capture) {
         Ok(()) => {}
@@ -109,6 +114,8 @@ pub(crate) fn read_files<C: Capture>(
         (AreSmallUpTo (C.file capture.old) names.now (length names.now)) }
     ensures took { IsLeftOfOne (C.file capture.old) names.now
         (C.left capture.old) (C.left capture.new) }
+    ensures no_fault { OnOk result ((C.missed capture.new ≡ C.missed capture.old)
+        × (C.faults capture.new ≡ C.faults capture.old)) }
     ensures stopped { IfErr result (λ stopped. IsStopped names.now stopped
         (record {
           tell = C.file capture.old;

@@ -1,11 +1,12 @@
 // What standard error is told.
-ghost use Rattle.std.specs.Prelude.{◌≡◌, ◌<◌, ◌++◌, ℕ, List, length, IfOk, OnOk, string_bytes};
+ghost use Rattle.std.specs.Prelude.{◌≡◌, ◌∷◌, ◌++◌, ℕ, List, [], None, length, map, IfOk, IsErrOf, IsOk, OnOk, string_bytes};
 ghost use Rattle.std.specs.Io.KnownBytes.{Appends};
 ghost use Rattle.pk_outside.specs.Outside.{AppendsPart, Rose};
 ghost use Rattle.pk_text.specs.Escape.{escaped};
 ghost use Rattle.merge_caps.specs.Statuses.{IsRefused, are_damaged as are_some_damaged, is_damaged_end};
 ghost use Rattle.merge_caps.specs.Texts.{ToldRefusal, ToldRefusalWhole, damage_line, damage_lines, damage_front as front_of_line, damage_back as back_of_line};
-ghost use Rattle.merge_caps.specs.Told.{IsStoppedText, IsWrittenText, cause_status, cause_text, status_by as status_of_write, unfit_in as unfit_of, unfit_text};
+ghost use Rattle.run_texts.specs.FaultTexts.{cannot_open_text as text_of_unopened};
+ghost use Rattle.merge_caps.specs.Told.{IsWrittenText, cause_status, cause_text, status_by as status_of_write, unfit_in as unfit_of, unfit_text};
 
 use crate::readings::Cause;
 use crate::status::{MergeStatus, status_of};
@@ -87,31 +88,31 @@ fn push_lines(
     Ok(())
 }
 
+/// The lines of the damaged files. They are put together before anything is written, so that a write that fails is told
+/// however little memory is left then.
+pub(crate) fn lines_of_damage(
+    alloc: Global,
+    names: &[Text],
+    endings: &[Ending],
+) -> Result<String, NoMemory>
+    requires { length endings.now ≡ length names.now }
+    ensures { IfOk result (λ text. string_bytes text ≡ damage_lines names.now endings.now) }
+{
+    let mut text = String::new(alloc);
+    push_lines(alloc, &mut text, names, endings)?;
+    Ok(text)
+}
+
 // Adds the line of the first frame that doesn't fit.
 fn push_unfit(alloc: Global, text: &mut String, unfit: Option<usize>) -> Result<(), NoMemory>
-    ensures { OnOk result (string_bytes text.new ≡ string_bytes text.old ++ unfit_text unfit) }
+    ensures adds { OnOk result (string_bytes text.new ≡ string_bytes text.old ++ unfit_text unfit) }
+    ensures none { unfit ≡ None → IsOk result }
 {
     if let Some(number) = unfit {
         let line = cannot_write_text(alloc, number as u64)?;
         text.push_str(line.as_str())?;
     }
     Ok(())
-}
-
-fn written_text(
-    alloc: Global,
-    names: &[Text],
-    endings: &[Ending],
-    unfit: Option<usize>,
-) -> Result<String, NoMemory>
-    requires { length endings.now ≡ length names.now }
-    ensures { IfOk result (λ text. string_bytes text
-        ≡ damage_lines names.now endings.now ++ unfit_text unfit) }
-{
-    let mut text = String::new(alloc);
-    push_lines(alloc, &mut text, names, endings)?;
-    push_unfit(alloc, &mut text, unfit)?;
-    Ok(text)
 }
 
 fn unfit_in(written: Result<Option<usize>, SinkFault>) -> Option<usize>
@@ -139,8 +140,8 @@ fn is_damaged(ending: Ending) -> bool
     matches!(ending, Ending::Damaged(_))
 }
 
-// Whether one of the files that end so is damaged.
-fn are_damaged(endings: &[Ending]) -> bool
+/// Whether one of the files that end so is damaged.
+pub(crate) fn are_damaged(endings: &[Ending]) -> bool
     ensures { result ≡ are_some_damaged endings.now }
 {
     endings.iter().any(|ending| is_damaged(*ending))
@@ -157,60 +158,73 @@ fn status_of_cause(cause: Cause) -> MergeStatus
     }
 }
 
-/// Tells of what was written, and answers the status.
+/// Tells of what was written, behind the lines of the damaged files, and answers the status.
 pub(crate) fn tell_written<E: Sink>(
     alloc: Global,
-    names: &[Text],
-    endings: &[Ending],
+    mut lines: String,
+    damaged: bool,
     written: Result<Option<usize>, SinkFault>,
     err: &mut E,
 ) -> MergeStatus
-    requires { length endings.now ≡ length names.now }
-    ensures told { (text : List ℕ) × IsWrittenText names.now endings.now written result text
+    ensures told { (text : List ℕ) × IsWrittenText (string_bytes lines) damaged written result text
         × AppendsPart (E.written err.old) (E.written err.new) text }
     ensures told_whole { ¬ Rose (E.faults err.old) (E.faults err.new)
         → ¬ Rose (E.starved err.old) (E.starved err.new)
-        → (text : List ℕ) × IsWrittenText names.now endings.now written result text
+        → (text : List ℕ) × IsWrittenText (string_bytes lines) damaged written result text
         × Appends (E.written err.old) (E.written err.new) text }
+    ensures fault { IsErrOf written SinkFault.Failed → result ≡ MergeStatus.WriteFault }
 {
-    let text = match written_text(alloc, names, endings, unfit_in(written)) {
-        Ok(text) => text,
-        Err(NoMemory) => return MergeStatus::NoMemory,
-    };
-    tell(err, text.as_bytes());
-    status_by(written, are_damaged(endings))
-}
-
-fn stopped_text(alloc: Global, name: &Text, cause: Cause) -> Result<String, NoMemory>
-    ensures { IfOk result (λ text. string_bytes text ≡ cause_text cause name.now) }
-{
-    match cause {
-        Cause::CannotOpen => cannot_open_text(alloc, name.as_str()),
-        Cause::ReadFault => Ok(String::from_str(alloc, read_fault_text())?),
-        Cause::TooLarge => Ok(String::from_str(alloc, too_large_text())?),
-        Cause::NoMemory => Ok(String::new(alloc)),
+    match push_unfit(alloc, &mut lines, unfit_in(written)) {
+        Ok(()) => {
+            tell(err, lines.as_bytes());
+            status_by(written, damaged)
+        }
+        Err(NoMemory) => MergeStatus::NoMemory,
     }
 }
 
-/// Tells why the file of this name wasn't read, and answers the status.
-pub(crate) fn tell_stopped<E: Sink>(
-    alloc: Global,
-    name: &Text,
-    cause: Cause,
-    err: &mut E,
-) -> MergeStatus
-    ensures told { (text : List ℕ) × IsStoppedText cause name.now result text
-        × AppendsPart (E.written err.old) (E.written err.new) text }
+// Adds what is told of a file of this name, should it not open.
+fn push_unopened(alloc: Global, texts: &mut Vec<Text>, name: &Text) -> Result<(), NoMemory>
+    ensures { OnOk result (texts.new.items ≡ texts.old.items ++ text_of_unopened name.now ∷ []) }
+{
+    let text = cannot_open_text(alloc, name.as_str())?;
+    texts.push(Text::from_string(text))?;
+    Ok(())
+}
+
+/// What is told of each file, should it not open. These texts are put together before the first is begun, so that a file that
+/// doesn't open is told however little memory is left then.
+pub(crate) fn unopened_texts(alloc: Global, names: &[Text]) -> Result<Vec<Text>, NoMemory>
+    ensures { IfOk result (λ texts. texts.items ≡ map text_of_unopened names.now) }
+{
+    let mut texts = Vec::new(alloc);
+    for name in names {
+        push_unopened(alloc, &mut texts, name)?;
+    }
+    Ok(texts)
+}
+
+fn stopped_text(unopened: &Text, cause: Cause) -> &str
+    ensures { result.now ≡ cause_text cause unopened.now }
+{
+    match cause {
+        Cause::CannotOpen => unopened.as_str(),
+        Cause::ReadFault => read_fault_text(),
+        Cause::TooLarge => too_large_text(),
+        Cause::NoMemory => "",
+    }
+}
+
+/// Tells why a file wasn't read, of which the text is given for where it doesn't open, and answers the status.
+pub(crate) fn tell_stopped<E: Sink>(unopened: &Text, cause: Cause, err: &mut E) -> MergeStatus
+    ensures status { result ≡ cause_status cause }
+    ensures told { AppendsPart (E.written err.old) (E.written err.new)
+        (cause_text cause unopened.now) }
     ensures told_whole { ¬ Rose (E.faults err.old) (E.faults err.new)
         → ¬ Rose (E.starved err.old) (E.starved err.new)
-        → (text : List ℕ) × IsStoppedText cause name.now result text
-        × Appends (E.written err.old) (E.written err.new) text }
+        → Appends (E.written err.old) (E.written err.new) (cause_text cause unopened.now) }
 {
-    let text = match stopped_text(alloc, name, cause) {
-        Ok(text) => text,
-        Err(NoMemory) => return MergeStatus::NoMemory,
-    };
-    tell(err, text.as_bytes());
+    tell(err, stopped_text(unopened, cause).as_bytes());
     status_of_cause(cause)
 }
 

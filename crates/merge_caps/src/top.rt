@@ -1,5 +1,5 @@
 // The top call.
-ghost use Rattle.std.specs.Prelude.{◌≡◌, ◌≢◌, ◌<◌, ◌⊎◌, ℕ, Option, length, IfErr, IfOk, IfSome, IsErrOf};
+ghost use Rattle.std.specs.Prelude.{◌≡◌, ◌≢◌, ◌<◌, ◌⊎◌, ℕ, Option, length, IfErr, IfOk, IfSome, IsErrOf, OnOk};
 ghost use Rattle.pk_outside.specs.Outside.{Rose};
 ghost use Rattle.shark_words.specs.Words.{texts};
 ghost use Rattle.merge_caps.specs.Causes.{IsLargeAt, IsUnopened, IsUnread};
@@ -13,7 +13,9 @@ use crate::order::put_in_order;
 use crate::place::Entry;
 use crate::read_files::read_files;
 use crate::status::MergeStatus;
-use crate::told::{tell_refusal, tell_stopped, tell_written};
+use crate::told::{
+    are_damaged, lines_of_damage, tell_refusal, tell_stopped, tell_written, unopened_texts,
+};
 use crate::words::{Wanted, read_words};
 use crate::write::write_file;
 use capture_write::Format;
@@ -34,6 +36,8 @@ fn write_merged<O: Sink>(
     ensures part { (out.new ≡ out.old)
         ⊎ IsPartOf format entries.old.items (O.written out.old) (O.written out.new) }
     ensures fault { IsErrOf result SinkFault.Failed → Rose (O.faults out.old) (O.faults out.new) }
+    ensures no_fault { OnOk result (O.faults out.new ≡ O.faults out.old) }
+    ensures starved { IsErrOf result SinkFault.NoMemory → O.faults out.new ≡ O.faults out.old }
 {
     match put_in_order(entries) {
         Ok(()) => write_file(alloc, format, entries.as_slice(), out),
@@ -75,6 +79,9 @@ fn merge_files<C: Capture, O: Sink, E: Sink>(
         (C.left capture.old) (C.left capture.new) }
     ensures write_fault { result ≡ MergeStatus.WriteFault
         → Rose (O.faults out.old) (O.faults out.new) }
+    ensures starved { result ≡ MergeStatus.NoMemory
+        → (C.missed capture.new ≡ C.missed capture.old)
+        × (C.faults capture.new ≡ C.faults capture.old) × (O.faults out.new ≡ O.faults out.old) }
     ensures told { Told (wanted_by wanted.now) (C.file capture.old) (C.asked capture.new) result
         (E.written err.old) (E.written err.new) }
     ensures told_whole { ¬ Rose (E.faults err.old) (E.faults err.new)
@@ -83,12 +90,23 @@ fn merge_files<C: Capture, O: Sink, E: Sink>(
         (E.written err.old) (E.written err.new) }
 {
     let names = wanted.names.as_slice();
+    let texts = match unopened_texts(alloc, names) {
+        Ok(texts) => texts,
+        Err(NoMemory) => return MergeStatus::NoMemory,
+    };
+    let unopened = texts.as_slice();
     let mut readings = match read_files(alloc, names, capture) {
         Ok(readings) => readings,
-        Err(stopped) => return tell_stopped(alloc, &names[stopped.place], stopped.cause, err),
+        Err(stopped) => return tell_stopped(&unopened[stopped.place], stopped.cause, err),
     };
+    let endings = readings.endings.as_slice();
+    let lines = match lines_of_damage(alloc, names, endings) {
+        Ok(lines) => lines,
+        Err(NoMemory) => return MergeStatus::NoMemory,
+    };
+    let damaged = are_damaged(endings);
     let written = write_merged(alloc, wanted.format, &mut readings.entries, out);
-    tell_written(alloc, names, readings.endings.as_slice(), written, err)
+    tell_written(alloc, lines, damaged, written, err)
 }
 
 /// Merges the capture files that the words of a command line name: reads them in the order of the words, and writes all
@@ -138,6 +156,11 @@ pub fn merge<C: Capture, O: Sink, E: Sink>(
         AreSmallUpTo (C.file capture.old) wanted.names (length wanted.names))) }
     ensures write_fault { result ≡ MergeStatus.WriteFault
         → Rose (O.faults out.old) (O.faults out.new) }
+
+    // A fault is never told as want of memory.
+    ensures starved { result ≡ MergeStatus.NoMemory
+        → (C.missed capture.new ≡ C.missed capture.old)
+        × (C.faults capture.new ≡ C.faults capture.old) × (O.faults out.new ≡ O.faults out.old) }
 
     // No file is read on behind what is looked at, its first 2^28 bytes and one more.
     ensures took { IfOk (wanted_of (texts words.now)) (λ wanted.

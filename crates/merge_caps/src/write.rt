@@ -20,7 +20,8 @@ fn write_frame<O: Sink>(writer: &mut Writer, frame: &Frame, out: &mut O) -> Resu
     ensures part { AppendsPart (O.written out.old) (O.written out.new)
         (piece_if writer.old frame.now) }
     ensures fault { IsErrOf result SinkFault.Failed → Rose (O.faults out.old) (O.faults out.new) }
-    ensures faults_stay { O.faults out.old ≤ O.faults out.new }
+    ensures no_fault { OnOk result (O.faults out.new ≡ O.faults out.old) }
+    ensures starved { IsErrOf result SinkFault.NoMemory → O.faults out.new ≡ O.faults out.old }
 {
     let piece = match writer.add(frame) {
         Ok(Added::Bytes(piece)) => piece,
@@ -47,7 +48,8 @@ fn write_each<O: Sink>(
     ensures part { AppendsPart (O.written out.old) (O.written out.new)
         (written_from writer.old (map frame_of entries.now)) }
     ensures fault { IsErrOf result SinkFault.Failed → Rose (O.faults out.old) (O.faults out.new) }
-    ensures faults_stay { O.faults out.old ≤ O.faults out.new }
+    ensures no_fault { OnOk result (O.faults out.new ≡ O.faults out.old) }
+    ensures starved { IsErrOf result SinkFault.NoMemory → O.faults out.new ≡ O.faults out.old }
 {
     for (index, entry) in entries.iter().enumerate() {
         match write_frame(writer, &entry.frame, out) {
@@ -64,7 +66,8 @@ fn write_end<O: Sink>(writer: Writer, out: &mut O) -> Result<(), SinkFault>
     ensures whole { OnOk result (Appends (O.written out.old) (O.written out.new) (end_at writer)) }
     ensures part { AppendsPart (O.written out.old) (O.written out.new) (end_at writer) }
     ensures fault { IsErrOf result SinkFault.Failed → Rose (O.faults out.old) (O.faults out.new) }
-    ensures faults_stay { O.faults out.old ≤ O.faults out.new }
+    ensures no_fault { OnOk result (O.faults out.new ≡ O.faults out.old) }
+    ensures starved { IsErrOf result SinkFault.NoMemory → O.faults out.new ≡ O.faults out.old }
 {
     match writer.finish() {
         Ok(end) => write_whole(out, end.bytes()),
@@ -86,7 +89,8 @@ pub(crate) fn write_file<O: Sink>(
     ensures part { AppendsPart (O.written out.old) (O.written out.new)
         (file_of format (frames_of entries.now)) }
     ensures fault { IsErrOf result SinkFault.Failed → Rose (O.faults out.old) (O.faults out.new) }
-    ensures faults_stay { O.faults out.old ≤ O.faults out.new }
+    ensures no_fault { OnOk result (O.faults out.new ≡ O.faults out.old) }
+    ensures starved { IsErrOf result SinkFault.NoMemory → O.faults out.new ≡ O.faults out.old }
 {
     let mut writer = Writer::new(alloc, format);
     let unfit = match write_each(&mut writer, entries, out) {

@@ -4,10 +4,8 @@ use Rattle.std.proofs.Math.Bool.{beq}
 use Rattle.std.proofs.lemmas.Bool.{and_parts, eqb-true}
 use Rattle.message_links.specs.declared.notes.Direction.{Direction}
 use Rattle.message_links.specs.declared.notes.QueryKey.{QueryKey}
-use Rattle.message_links.specs.declared.notes.RequestKey.{RequestKey}
 use Rattle.conversations.specs.Conversations.{same_bool}
 use Rattle.message_links.specs.Links.{same_direction, same_query}
-use Rattle.message_links.specs.LinkTables.{same_request}
 
 bool_is : (a b : Bool) → beq a b ≡ same_bool a b
 bool_is true true = refl
@@ -21,17 +19,11 @@ derived_direction a b = beq a.tcp b.tcp && (eqb a.stream b.stream && beq a.side 
 abbrev pub derived_query : QueryKey → QueryKey → Bool
 derived_query a b = beq a.tcp b.tcp && (eqb a.stream b.stream && eqb a.id b.id)
 
-abbrev pub derived_request : RequestKey → RequestKey → Bool
-derived_request a b = derived_direction a.at b.at && eqb a.number b.number
-
 pub direction_eq_is : derived_direction ≡ same_direction
 direction_eq_is = λ i a b. bool_is a.tcp b.tcp i && (eqb a.stream b.stream && bool_is a.side b.side i)
 
 pub query_eq_is : derived_query ≡ same_query
 query_eq_is = λ i a b. bool_is a.tcp b.tcp i && (eqb a.stream b.stream && eqb a.id b.id)
-
-pub request_eq_is : derived_request ≡ same_request
-request_eq_is = λ i a b. (bool_is a.at.tcp b.at.tcp i && (eqb a.at.stream b.at.stream && bool_is a.at.side b.at.side i)) && eqb a.number b.number
 
 -- such directions are one
 same_is : (a b : Bool) → same_bool a b ≡ true → a ≡ b

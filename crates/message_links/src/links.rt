@@ -1,11 +1,11 @@
-ghost use Rattle.std.specs.Prelude.{◌≡◌, All, map, ◌+◌, ◌∷◌, [], List, if◌then◌else◌, IfOk, OnOk};
+ghost use Rattle.std.specs.Prelude.{◌≡◌, All, map, ◌+◌, ◌∷◌, [], ℕ, List, if◌then◌else◌, IfOk, OnOk};
 ghost use Rattle.tcp_messages.specs.Shown.{IsWholeIn};
 ghost use Rattle.message_links.specs.Notes.{Noted, message_note, noted_on};
 ghost use Rattle.message_links.specs.Links.{is_answer, key_of, link_of, links_of, other_side};
-ghost use Rattle.message_links.specs.LinkTables.{LinksStandFor};
+ghost use Rattle.message_links.specs.LinkTables.{LinksStandFor, counted};
 
 use crate::link_tables::{Counts, Queries, Requests, one_more};
-use crate::notes::{Direction, Note, QueryKey, RequestKey};
+use crate::notes::{Direction, Note, QueryKey};
 use crate::segment_notes::notes_of;
 use pk_base::NoMemory;
 use std::alloc::Global;
@@ -17,8 +17,6 @@ pub struct Links {
     alloc: Global,
     pub queries: Queries,
     pub requests: Requests,
-    /// How many requests each direction had.
-    pub counts: Counts,
     /// How many answers each direction had.
     pub answers: Counts,
 }
@@ -31,7 +29,6 @@ impl Links {
             alloc,
             queries: Queries::new(alloc),
             requests: Requests::new(alloc),
-            counts: Counts::new(alloc),
             answers: Counts::new(alloc),
         }
     }
@@ -72,20 +69,20 @@ impl Links {
         let mut number = self.answers.find(at);
         for note in notes {
             links.push(self.find(at, number, *note))?;
-            number = next_number(number, *note)?;
+            number = next_number(number, *note);
         }
         Ok(links)
     }
 
-    fn find(&self, at: Direction, number: u32, note: Note) -> Option<u32>
-        ensures { (ns : List Noted) → LinksStandFor ns self.now
-            → result ≡ link_of ns at number note }
+    fn find(&self, at: Direction, number: usize, note: Note) -> Option<u32>
+        ensures { (ns : List Noted) (exact : ℕ) → LinksStandFor ns self.now
+            → number ≡ counted exact → result ≡ link_of ns at exact note }
     {
         match note {
             Note::Response(id) => self.queries.find(key_of(at, id)),
             Note::Answer => {
                 let at = other_side(at);
-                self.requests.find(RequestKey { at, number })
+                self.requests.find(at, number)
             }
             Note::Query(_) | Note::Request | Note::Other => None,
         }
@@ -107,11 +104,7 @@ impl Links {
     {
         match note {
             Note::Query(id) => self.queries.set(key_of(at, id), frame),
-            Note::Request => {
-                let number = self.counts.find(at);
-                self.requests.set(RequestKey { at, number }, frame)?;
-                self.counts.raise(at)
-            }
+            Note::Request => self.requests.add(at, frame),
             Note::Answer => self.answers.raise(at),
             Note::Response(_) | Note::Other => Ok(()),
         }
@@ -119,12 +112,12 @@ impl Links {
 }
 
 /// How many answers stand before the next message.
-fn next_number(number: u32, note: Note) -> Result<u32, NoMemory>
-    ensures { IfOk result (λ next. next ≡ (if is_answer note then number + 1 else number)) }
+fn next_number(number: usize, note: Note) -> usize
+    ensures { result ≡ (if is_answer note then counted (number + 1) else number) }
 {
     match note {
         Note::Answer => one_more(number),
-        Note::Query(_) | Note::Response(_) | Note::Request | Note::Other => Ok(number),
+        Note::Query(_) | Note::Response(_) | Note::Request | Note::Other => number,
     }
 }
 

@@ -33,13 +33,6 @@ pub struct QueryKey {
     pub id: u16,
 }
 
-/// What a request is found by: its direction, and how many requests of it came before.
-#[derive(Clone, Copy, PartialEq, Eq, Hash)]
-pub struct RequestKey {
-    pub at: Direction,
-    pub number: u32,
-}
-
 /// The direction of a datagram of UDP. Links don't ask for its side.
 pub fn udp_direction(stream: u32) -> Direction
     ensures { result ≡ udp_direction stream }

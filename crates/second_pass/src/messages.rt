@@ -9,7 +9,7 @@ use pk_fields::{FieldId, ids};
 use pk_tree::Layer;
 
 /// The direction of a TCP stream in which a frame's messages go: the stream, and the endpoint that sends.
-#[derive(Clone, Copy, Debug, PartialEq, Eq, Hash)]
+#[derive(Clone, Copy, PartialEq, Eq, Hash)]
 pub(crate) struct Direction {
     pub stream: u64,
     /// The version of the IP header with the address: 4 or 6.
@@ -19,14 +19,14 @@ pub(crate) struct Direction {
 }
 
 /// Which of the messages of HTTP that links ask for.
-#[derive(Clone, Copy, Debug)]
+#[derive(Clone, Copy)]
 pub(crate) enum Kind {
     Request,
     /// A final response, with the frame of its request where its layer names one.
     Response(Option<u64>),
 }
 
-#[derive(Clone, Copy, Debug)]
+#[derive(Clone, Copy)]
 pub(crate) struct Message {
     pub frame: u32,
     /// Which of the frame's layers of HTTP it is, from 1.

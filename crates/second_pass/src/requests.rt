@@ -8,7 +8,7 @@ use indexmap::IndexMap;
 use pk_base::NoMemory;
 use std::alloc::Global;
 
-#[derive(Clone, Copy, Debug)]
+#[derive(Clone, Copy)]
 pub(crate) struct Asked {
     /// The place of its direction among those that sent requests.
     pub place: usize,

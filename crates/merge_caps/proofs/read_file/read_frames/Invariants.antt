@@ -1,5 +1,6 @@
 use Rattle.std.proofs.Common.{◌≡◌, ◌≤◌, ◌+◌, ◌-◌, ℕ, List, length}
 use Rattle.pk_base.specs.Limits.{file_limit}
+use Rattle.capture_read.specs.declared.kind.Phase.TheVariants as phase
 use Rattle.merge_caps.specs.Reading.{so_far}
 use Rattle.merge_caps.proofs.FileSteps.{AreReadTo}
 use Rattle.merge_caps.proofs.read_file.read_frames.Given as goal
@@ -16,7 +17,8 @@ invariant-loop-frame g l = record {
   refused : g.C.Capture.refused l.capture ≡ g.C.Capture.refused l.fn.capture;
   begun : g.C.Capture.begun l.capture ≡ g.C.Capture.begun l.fn.capture;
   missed : g.C.Capture.missed l.capture ≡ g.C.Capture.missed l.fn.capture;
-  faults : g.C.Capture.faults l.fn.capture ≤ g.C.Capture.faults l.capture;
+  faults : g.C.Capture.faults l.capture ≡ g.C.Capture.faults l.fn.capture;
+  unspent : l.reader.phase ≡ phase.Open;
 }
 
 abbrev pub decreases-loop-frame : goal.decreases-loop-frame

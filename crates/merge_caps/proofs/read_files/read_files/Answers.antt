@@ -15,7 +15,7 @@ loop-place-init g c = record {
   begun = omega arith;
   few = omega arith;
   missed = refl;
-  faults = omega arith;
+  faults = refl;
 }
 
 pub returns-in-Err-clause-stopped : goal.returns-in-Err-clause-stopped
@@ -51,7 +51,8 @@ returns-in-Err-clause-stopped g c =
           c.loop-place.invariant.begun c.loop-place.invariant.few c.loop-place.invariant.missed c.loop-place.invariant.faults
           (λ is. c.in-Err.ensures.unopened (ap Err is)) (λ is. c.in-Err.ensures.unread (ap Err is))
           (λ is. large_next (g.C.Capture.file c.args.capture.now) (g.C.Capture.file c.loop-place.capture) c.args.names.now c.loop-place.place c.index-names-place.result (so_far c.loop-place.readings)
-          c.loop-place-test.true c.index-names-place.is (c.loop-place.invariant.file c.index-names-place.result) c.loop-place.invariant.read (c.in-Err.ensures.large (ap Err is)));
+          c.loop-place-test.true c.index-names-place.is (c.loop-place.invariant.file c.index-names-place.result) c.loop-place.invariant.read (c.in-Err.ensures.large (ap Err is)))
+          (λ is. c.in-Err.ensures.starved (ap Err is));
     }
 
 pub returns-in-Err-clause-took : goal.returns-in-Err-clause-took
@@ -76,5 +77,5 @@ loop-place-preserved g c =
       begun = omega (arith, c.loop-place.invariant.begun, c.read_next.ensures.begun_stay);
       few = omega (arith, c.loop-place.invariant.few, c.in-Ok.ensures.begun);
       missed = c.in-Ok.ensures.not_missed ∙ c.loop-place.invariant.missed;
-      faults = omega (arith, c.loop-place.invariant.faults, c.read_next.ensures.faults_stay);
+      faults = c.in-Ok.ensures.no_fault ∙ c.loop-place.invariant.faults;
     }

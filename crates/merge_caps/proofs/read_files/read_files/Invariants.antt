@@ -14,5 +14,5 @@ invariant-loop-place g l = record {
   begun : g.C.Capture.begun l.fn.capture ≤ g.C.Capture.begun l.capture;
   few : g.C.Capture.begun l.capture ≤ g.C.Capture.begun l.fn.capture + l.place;
   missed : g.C.Capture.missed l.capture ≡ g.C.Capture.missed l.fn.capture;
-  faults : g.C.Capture.faults l.fn.capture ≤ g.C.Capture.faults l.capture;
+  faults : g.C.Capture.faults l.capture ≡ g.C.Capture.faults l.fn.capture;
 }

@@ -1,4 +1,4 @@
-use Rattle.std.proofs.Common.{map, arith}
+use Rattle.std.proofs.Common.{◌∙◌, map}
 use Rattle.merge_caps.specs.Merged.{frame_of}
 use Rattle.merge_caps.specs.Written.{unfit_from, written_from}
 use Rattle.merge_caps.proofs.WriteSteps.{unfit_further, wrote_further, wrote_part}
@@ -20,5 +20,5 @@ loop-index-preserved g c =
       unfit = unfit_further c.args.entries.now c.loop-index.index c.index-entries-index.result c.loop-index-test.true c.index-entries-index.is
           c.loop-index.writer c.write_frame.new.writer (g.O.Sink.written c.loop-index.out) (g.O.Sink.written c.write_frame.new.out)
           (unfit_from 1 c.args.writer.now (map frame_of c.args.entries.now)) c.loop-index.invariant.unfit steps;
-      faults = omega (arith, c.loop-index.invariant.faults, c.write_frame.ensures.faults_stay);
+      faults = c.in-Ok-true.ensures.no_fault ∙ c.loop-index.invariant.faults;
     }
