@@ -86,7 +86,7 @@ links_further ns at notes i number next d links more within so_far next_is more_
       exact,
       count_next (is_answer (get_or notes i d)) so_far.0 number next so_far.1 next_is,
       ap (λ (n : ℕ). more ++ links_from ns at exact (drop n notes)) one
-      ∙ links_next ns at notes i so_far.0 d links more within (more_is so_far.0 so_far.1) ∙ so_far.2,
+          ∙ links_next ns at notes i so_far.0 d links more within (more_is so_far.0 so_far.1) ∙ so_far.2,
     )
 
 pub all_dropped : (ns : List Noted) (at : Direction) (number i : ℕ) (notes : List Note) → length notes ≤ i → links_from ns at number (drop i notes) ≡ []
