@@ -1,5 +1,6 @@
 -- The frames of a capture that is written.
 use Rattle.std.proofs.Common.{◌≡◌, ℕ, Bool, true, false, not, ◌&&◌, List, [], ◌∷◌, ◌++◌, Option, None, Some, refl, sym, ap, ◌∙◌, subst, if◌then◌else◌, append_assoc, reverse}
+use Rattle.std.specs.Prelude.{IfOk, Result}
 use Rattle.std.specs.Io.KnownBytes.{Appends}
 use Rattle.std.proofs.KnownBytes.{Appends-nil}
 use Rattle.std.proofs.lemmas.List.{reverse-append}
@@ -67,6 +68,19 @@ packed_unfit true old new frame now is adds after chosen stands = (
   (after chosen stands).0,
   refl,
 )
+
+-- where it is shown
+pub packed_as : {E : Type 0} (result : Result Bool E) (shown : Bool) (format : Format) (frame : Frame) (old new : Kept) (before now : Option (List ℕ)) → shown ≡ true
+    → IfOk result (λ fit. (chosen : List Frame) → Stands old chosen → IsPacked fit true format frame new chosen before now)
+    → IfOk result (λ fit. (chosen : List Frame) → Stands old chosen → IsPacked fit shown format frame new chosen before now)
+packed_as result shown format frame old new before now is packs =
+    subst (λ (b : Bool). IfOk result (λ fit. (chosen : List Frame) → Stands old chosen → IsPacked fit b format frame new chosen before now)) (sym is) packs
+
+pub part_as : (shown : Bool) (format : Format) (frame : Frame) (old : Kept) (before now : Option (List ℕ)) → shown ≡ true
+    → ((chosen : List Frame) → Stands old chosen → AppendsPart before now (fit_packet true format chosen frame))
+    → (chosen : List Frame) → Stands old chosen → AppendsPart before now (fit_packet shown format chosen frame)
+part_as shown format frame old before now is part =
+    subst (λ (b : Bool). (chosen : List Frame) → Stands old chosen → AppendsPart before now (fit_packet b format chosen frame)) (sym is) part
 
 pub packed_none : (shown : Bool) (old : Kept) (frame : Frame) (now : Option (List ℕ)) (chosen : List Frame) → AppendsPart now now (fit_packet shown old.format chosen frame)
 packed_none shown old frame now chosen = part_none now (fit_packet shown old.format chosen frame)

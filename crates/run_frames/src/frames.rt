@@ -4,6 +4,7 @@ ghost use Rattle.std.specs.Io.KnownBytes.{Appends};
 ghost use Rattle.pk_outside.specs.Outside.{Rose, AppendsPart};
 ghost use Rattle.capture_read.specs.declared.frame.Frame.{Frame as FrameValue};
 ghost use Rattle.dissect.specs.Stands.{StandsWithin};
+ghost use Rattle.out_lines.specs.Summary.{summary_of};
 ghost use Rattle.capture_read.specs.FrameList.{IsTime};
 ghost use Rattle.run_frames.specs.Accessors.{compiled_of, is_generated, is_quiet as is_plan_quiet, rules_of, stats_of, two_of, written_of};
 ghost use Rattle.run_frames.specs.Job.{Passes, job_in};
@@ -19,7 +20,7 @@ ghost use Rattle.run_frames.specs.Wanted.{IsEnough, IsToldAs};
 use crate::judge::{Judge, judge_for, verdict_of};
 use crate::later::{Later, add_links};
 use crate::notes::Notes;
-use crate::owned::give_up_tree;
+use crate::owned::{give_up_tree, give_up_writer};
 use crate::packet::write_packet;
 use crate::plan::Plan;
 use crate::tables::has_tables;
@@ -77,15 +78,37 @@ pub fn new_line_maker(alloc: Global, plan: &Plan) -> Result<LineMaker<'_>, NoMem
         → KeepsUp (written_of plan.now) (job_in plan.now passes) [] lines.notes lines.capture) }
 {
     let writer = LineWriter::new(alloc, plan.fields.slice())?;
-    let judge = judge_for(alloc, plan)?;
-    Ok(LineMaker {
-        judge,
-        writer,
-        json: JsonWriter::new(alloc),
-        line: Vec::new(alloc),
-        notes: Notes::new(alloc, plan),
-        capture: Writer::new(alloc, plan.written.unwrap_or(Format::Pcapng)),
-    })
+    match judge_for(alloc, plan) {
+        Ok(judge) => {
+            let notes = Notes::new(alloc, plan);
+            let capture = Writer::new(alloc, plan.written.unwrap_or(Format::Pcapng));
+            Ok(LineMaker {
+                judge,
+                writer,
+                json: JsonWriter::new(alloc),
+                line: Vec::new(alloc),
+                notes,
+                capture,
+            })
+        }
+        Err(error) => {
+            give_up_writer(writer);
+            Err(error)
+        }
+    }
+}
+
+// Makes the line that sums up a frame, in place of another.
+fn put_summary(alloc: Global, tree: &Tree, line: &mut Vec<u8>) -> Result<(), NoMemory>
+    ensures { OnOk result (line.new.items ≡ summary_of tree.now) }
+{
+    match summary_line(alloc, tree) {
+        Ok(made) => {
+            *line = made;
+            Ok(())
+        }
+        Err(error) => Err(error),
+    }
 }
 
 // Puts the line of a tree, of the kind that is asked for.
@@ -103,10 +126,7 @@ fn put_line(
     ensures notes { lines.new.notes ≡ lines.old.notes }
 {
     match plan.kind {
-        LineKind::Text => {
-            lines.line = summary_line(alloc, tree)?;
-            Ok(())
-        }
+        LineKind::Text => put_summary(alloc, tree, &mut lines.line),
         LineKind::Fields => lines.writer.write(&mut lines.line, tree, &plan.style),
         LineKind::Json => lines.json.write(&mut lines.line, tree),
     }

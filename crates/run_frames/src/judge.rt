@@ -57,7 +57,10 @@ pub(crate) fn judge_for(alloc: Global, plan: &Plan) -> Result<Option<Judge<'_>>,
 {
     match &plan.chosen {
         None => Ok(None),
-        Some(compiled) => Ok(Some(Judge::new(alloc, compiled)?)),
+        Some(compiled) => match Judge::new(alloc, compiled) {
+            Ok(judge) => Ok(Some(judge)),
+            Err(error) => Err(error),
+        },
     }
 }
 

@@ -3,8 +3,10 @@
 use crate::frames::LineMaker;
 use crate::judge::Judge;
 use crate::notes::Notes;
+use crate::tables::{Table, Tables};
 use capture_write::Writer;
 use dissect::Dissector;
+use out_lines::LineWriter;
 use pk_tree::Tree;
 
 /// Gives a dissector up.
@@ -12,21 +14,35 @@ pub fn give_up_dissector(_dissector: Dissector) {}
 
 fn give_up_judge(_judge: Option<Judge<'_>>) {}
 
-fn give_up_notes(_notes: Notes) {}
+fn give_up_table(_table: Table) {}
+
+fn give_up_notes(notes: Notes) {
+    let Tables {
+        conv_tcp,
+        conv_ip,
+        phs,
+    } = notes.tables;
+    give_up_table(conv_tcp);
+    give_up_table(conv_ip);
+    give_up_table(phs);
+}
 
 fn give_up_capture(_capture: Writer) {}
+
+pub(crate) fn give_up_writer(_writer: LineWriter) {}
 
 /// Gives a line maker up, part by part.
 pub fn give_up_lines(lines: LineMaker<'_>) {
     let LineMaker {
         judge,
-        writer: _writer,
+        writer,
         json: _json,
         line: _line,
         notes,
         capture,
     } = lines;
     give_up_judge(judge);
+    give_up_writer(writer);
     give_up_notes(notes);
     give_up_capture(capture);
 }

@@ -1,5 +1,5 @@
 // The frames of a capture that is written.
-ghost use Rattle.std.specs.Prelude.{◌≡◌, ◌≤◌, List, IfOk, IsErrOf, OnOk};
+ghost use Rattle.std.specs.Prelude.{◌≡◌, ◌≤◌, true, List, IfOk, IsErrOf, OnOk};
 ghost use Rattle.std.specs.Io.KnownBytes.{Appends};
 ghost use Rattle.capture_read.specs.declared.frame.Frame.{Frame as FrameValue};
 ghost use Rattle.capture_write.specs.Kept.{Stands, end_at};
@@ -15,7 +15,7 @@ use pk_outside::{Sink, SinkFault, write_whole};
 use pk_tree::Tree;
 
 /// Writes a frame whose tree satisfies the filter, where it fits, and answers whether it does. A frame that isn't written fits.
-#[tactic(auto, using(crate::proofs::PacketLemmas::packed_left, crate::proofs::PacketLemmas::packed_added, crate::proofs::PacketLemmas::packed_part, crate::proofs::PacketLemmas::packed_unfit, crate::proofs::PacketLemmas::packed_none))]
+#[tactic(auto, using(crate::proofs::PacketLemmas::packed_left, crate::proofs::PacketLemmas::packed_none))]
 pub(crate) fn write_packet<O: Sink>(
     frame: &Frame,
     tree: &Tree,
@@ -34,10 +34,24 @@ pub(crate) fn write_packet<O: Sink>(
     ensures faults_stay { O.faults out.old ≤ O.faults out.new }
 {
     match lets(judge, tree) {
-        Ok(true) => {}
-        Ok(false) => return Ok(true),
-        Err(NoMemory) => return Err(SinkFault::NoMemory),
+        Ok(true) => write_added(frame, writer, out),
+        Ok(false) => Ok(true),
+        Err(NoMemory) => Err(SinkFault::NoMemory),
     }
+}
+
+// Writes a frame, where it fits, and answers whether it does.
+#[tactic(auto, using(crate::proofs::PacketLemmas::packed_added, crate::proofs::PacketLemmas::packed_part, crate::proofs::PacketLemmas::packed_unfit, crate::proofs::PacketLemmas::packed_none))]
+fn write_added<O: Sink>(frame: &Frame, writer: &mut Writer, out: &mut O) -> Result<bool, SinkFault>
+    ensures packed { IfOk result (λ fit. (chosen : List FrameValue) → Stands writer.old chosen
+        → IsPacked fit true writer.old.format frame.now writer.new
+        chosen (O.written out.old) (O.written out.new)) }
+    ensures part { (chosen : List FrameValue) → Stands writer.old chosen
+        → AppendsPart (O.written out.old) (O.written out.new)
+        (fit_packet true writer.old.format chosen frame.now) }
+    ensures fault { IsErrOf result SinkFault.Failed → Rose (O.faults out.old) (O.faults out.new) }
+    ensures faults_stay { O.faults out.old ≤ O.faults out.new }
+{
     let packet = match writer.add(frame) {
         Ok(Added::Bytes(packet)) => packet,
         Ok(Added::Unfit) => return Ok(false),

@@ -83,9 +83,9 @@ fn is_table(report: Report, kind: StatKind) -> bool
 /// What is noted for tables, those of each kind by themselves.
 #[derive(Drop)]
 pub struct Tables {
-    conv_tcp: Table,
-    conv_ip: Table,
-    phs: Table,
+    pub(crate) conv_tcp: Table,
+    pub(crate) conv_ip: Table,
+    pub(crate) phs: Table,
 }
 
 impl Tables {

@@ -1,5 +1,6 @@
 mod Commands
 mod Examples
+mod FoundLemmas
 mod RuleLemmas
 mod SlotLemmas
 mod Spelling

@@ -1,5 +1,5 @@
 // Options that are looked up among the uses of words.
-ghost use Rattle.std.specs.Prelude.{◌≡◌, IfOk, option_and_then, option_to_list};
+ghost use Rattle.std.specs.Prelude.{◌≡◌, ◌++◌, IfOk, OnOk, option_and_then, option_to_list};
 ghost use Rattle.std.specs.Option.{option_copied};
 ghost use Rattle.shark_words.specs.Asked.{clash_word as clash_word_in, is_clashing as is_clashing_beside, is_sought, is_unused as is_unused_for, keyed, style_of as style_of_values, value_in as value_in_use, value_of as value_given, values_of as values_given, word_in as word_in_use, word_of as first_word};
 ghost use Rattle.shark_words.specs.Keys.{character_of, header_of, occurrence_of, quote_of};
@@ -61,19 +61,47 @@ pub(crate) fn values_of(
     Ok(values)
 }
 
+// Adds what was found, where something was.
+fn push_found<T: Drop>(all: &mut Vec<T>, found: Option<T>) -> Result<(), NoMemory>
+    ensures { OnOk result (all.new.items ≡ all.old.items ++ option_to_list found) }
+{
+    match found {
+        Some(one) => Ok(all.push(one)?),
+        None => Ok(()),
+    }
+}
+
+// The rule of a use, where it is one of `-d`.
+#[tactic(auto, using(crate::proofs::FoundLemmas::rule_found))]
+fn rule_in(used: &Use) -> Option<PortRule>
+    ensures { option_to_list result ≡ rules_in (value_in_use DecodeLetter used.now) }
+{
+    match value_in(used, Letter::Decode) {
+        Some(value) => read_rule(value.bytes()),
+        None => None,
+    }
+}
+
 /// The rules for ports, in the order of the words.
 pub(crate) fn rules_of(alloc: Global, uses: &[Use]) -> Result<Vec<PortRule>, NoMemory>
     ensures { IfOk result (λ rules. rules.items ≡ rules_in (values_given DecodeLetter uses.now)) }
 {
     let mut rules = Vec::new(alloc);
     for used in uses {
-        if let Some(value) = value_in(used, Letter::Decode) {
-            if let Some(rule) = read_rule(value.bytes()) {
-                rules.push(rule)?;
-            }
-        }
+        push_found(&mut rules, rule_in(used))?;
     }
     Ok(rules)
+}
+
+// The report of a use, where it is one of `-z`.
+#[tactic(auto, using(crate::proofs::FoundLemmas::report_found))]
+fn report_in(used: &Use) -> Option<Report>
+    ensures { option_to_list result ≡ reports_in (value_in_use ReportLetter used.now) }
+{
+    match value_in(used, Letter::Report) {
+        Some(value) => read_report(value.bytes()),
+        None => None,
+    }
 }
 
 /// The reports, in the order of the words.
@@ -83,11 +111,7 @@ pub(crate) fn reports_of(alloc: Global, uses: &[Use]) -> Result<Vec<Report>, NoM
 {
     let mut reports = Vec::new(alloc);
     for used in uses {
-        if let Some(value) = value_in(used, Letter::Report) {
-            if let Some(report) = read_report(value.bytes()) {
-                reports.push(report)?;
-            }
-        }
+        push_found(&mut reports, report_in(used))?;
     }
     Ok(reports)
 }

@@ -150,7 +150,6 @@ fn together_fault(behind: u64, uses: &[Use], kind: LineKind) -> Option<WordFault
 /// or a cluster of letters: `-r`, `-Y`, `-T`, `-e`, `-E`, `-c`, `-d`, `-z`, `-w` and `-F`, whose value is what is left of
 /// the word, or the next word where nothing is left, and `-2` and `-q`, which have none. Words are numbered from 1, and the
 /// first fault in their order is told.
-#[tactic(auto, using(crate::proofs::Utf8Lemmas::answered_are_utf8))]
 pub fn read_words(alloc: Global, words: &[String]) -> Result<Options, WordsError>
     ensures computed { Gives result (options_of (texts words.now)) }
     ensures found { (source : IsSource) → (all : List Spelled) → texts words.now ≡ spelled_words all
@@ -212,6 +211,9 @@ fn refused<T: Drop>(error: WordsError, _read: T) -> Result<Options, WordsError>
     Err(error)
 }
 
+// Gives up what was read.
+fn let_go<T: Drop>(_read: T) {}
+
 fn filter_and_names(alloc: Global, uses: &[Use]) -> Result<(Option<Octets>, NameList), NoMemory>
     ensures filter { IfOk result (λ both. both.0 ≡ filter_shown (value_given FilterLetter uses.now)) }
     ensures names { IfOk result (λ both. both.1 ≡ values_given NameLetter uses.now) }
@@ -219,7 +221,10 @@ fn filter_and_names(alloc: Global, uses: &[Use]) -> Result<(Option<Octets>, Name
     let filter = shown_filter(value_of(uses, Letter::Filter))?;
     match values_of(alloc, uses, Letter::Name) {
         Ok(names) => Ok((filter, NameList::from_vec(names))),
-        Err(error) => Err(error),
+        Err(error) => {
+            let_go(filter);
+            Err(error)
+        }
     }
 }
 

@@ -1,5 +1,5 @@
 // The uses of options in the words.
-ghost use Rattle.std.specs.Prelude.{◌≡◌, ◌<◌, ◌+◌, ◌-◌, ◌^◌, ◌++◌, ◌∷◌, ℕ, List, Option, IfOk};
+ghost use Rattle.std.specs.Prelude.{◌≡◌, ◌<◌, ◌+◌, ◌-◌, ◌^◌, ◌++◌, ◌∷◌, ℕ, List, [], Option, IfOk, OnOk};
 ghost use Rattle.shark_words.specs.Words.{texts};
 ghost use Rattle.shark_words.specs.declared.letter.Letter.{Letter as IsLetter};
 ghost use Rattle.shark_words.specs.declared.uses.Use.{Use as IsUse};
@@ -189,6 +189,17 @@ fn take_word(
     }
 }
 
+// Adds the use of an option whose value was to come behind all words.
+#[tactic(auto, unfolding(crate::specs::Uses::uses_from))]
+fn take_end(uses: &mut Vec<Use>, waiting: Option<Letter>, words: u64) -> Result<(), NoMemory>
+    ensures { OnOk result (uses.old.items ++ uses_from words waiting [] ≡ uses.new.items) }
+{
+    match waiting {
+        Some(letter) => Ok(uses.push(Use::without_value(words, letter))?),
+        None => Ok(()),
+    }
+}
+
 /// What the words are used for, in their order.
 #[tactic(auto, unfolding(crate::specs::Uses::uses_from))]
 pub(crate) fn uses_of(alloc: Global, words: &[String]) -> Result<Vec<Use>, NoMemory>
@@ -199,8 +210,8 @@ pub(crate) fn uses_of(alloc: Global, words: &[String]) -> Result<Vec<Use>, NoMem
     for (before, word) in words.iter().enumerate() {
         waiting = take_word(alloc, &mut uses, before as u64, waiting, word.as_bytes())?;
     }
-    if let Some(letter) = waiting {
-        uses.push(Use::without_value(words.len() as u64, letter))?;
+    match take_end(&mut uses, waiting, words.len() as u64) {
+        Ok(()) => Ok(uses),
+        Err(error) => Err(error),
     }
-    Ok(uses)
 }

@@ -6,7 +6,7 @@ use Rattle.run_frames.specs.Job.{job_in}
 use Rattle.run_frames.proofs.NoteLemmas.{keeps_nothing}
 use Rattle.run_frames.proofs.frames.new_line_maker.Goals as goal
 
-pub returns-clause-keeps : goal.returns-clause-keeps
-returns-clause-keeps c = λ passes.
-    keeps_nothing (written_of c.args.plan.now) (job_in c.args.plan.now passes) c.new-4.result c.new-5.result (c.new-4.ensures.notes passes)
-    (c.new-5.ensures.nothing ∙ ap (λ (format : Format). nothing_kept format) c.unwrap_or.ensures) c.new-5.ensures.stands
+pub returns-in-Ok-clause-keeps : goal.returns-in-Ok-clause-keeps
+returns-in-Ok-clause-keeps c = λ passes.
+    keeps_nothing (written_of c.args.plan.now) (job_in c.args.plan.now passes) c.new-notes.result c.new-capture.result (c.new-notes.ensures.notes passes)
+    (c.new-capture.ensures.nothing ∙ ap (λ (format : Format). nothing_kept format) c.unwrap_or.ensures) c.new-capture.ensures.stands

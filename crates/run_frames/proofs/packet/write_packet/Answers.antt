@@ -1,19 +1,14 @@
 use Rattle.std.proofs.Common.{sym, ◌∙◌}
 use Rattle.run_frames.specs.Satisfied.{satisfies}
-use Rattle.run_frames.proofs.PacketLemmas.{packed_added, packed_part}
+use Rattle.run_frames.proofs.PacketLemmas.{packed_as, part_as}
 use Rattle.run_frames.proofs.packet.write_packet.Goals as goal
 
-pub returns-in-Ok-clause-packed : goal.returns-in-Ok-clause-packed
-returns-in-Ok-clause-packed g c =
-    packed_added (satisfies c.args.judge.now c.args.tree.now) c.args.writer.now c.add.new.self c.args.frame.now c.in-Ok-Bytes.packet (g.O.Sink.written c.args.out.now) (g.O.Sink.written c.write_whole.new.sink)
-    (sym c.in-Ok-true.ensures.truth ∙ c.in-Ok-true.field-0-test) (rw c.in-Ok-Bytes.field-0-is at c.in-Ok-Bytes.ensures.adds) (rw c.in-Ok-Bytes.field-0-is at c.in-Ok-Bytes.ensures.stands) (rw c.bytes.ensures at c.in-Ok.ensures.whole)
+pub returns-in-Ok-true-clause-packed : goal.returns-in-Ok-true-clause-packed
+returns-in-Ok-true-clause-packed g c =
+    packed_as c.write_added.result (satisfies c.args.judge.now c.args.tree.now) c.args.writer.now.format c.args.frame.now c.args.writer.now c.write_added.new.writer
+    (g.O.Sink.written c.args.out.now) (g.O.Sink.written c.write_added.new.out) (sym c.in-Ok-true.ensures.truth ∙ c.in-Ok-true.field-0-test) c.write_added.ensures.packed
 
-pub returns-in-Ok-clause-part : goal.returns-in-Ok-clause-part
-returns-in-Ok-clause-part g c =
-    packed_part (satisfies c.args.judge.now c.args.tree.now) c.args.writer.now c.add.new.self c.args.frame.now c.in-Ok-Bytes.packet (g.O.Sink.written c.args.out.now) (g.O.Sink.written c.write_whole.new.sink)
-    (sym c.in-Ok-true.ensures.truth ∙ c.in-Ok-true.field-0-test) (rw c.in-Ok-Bytes.field-0-is at c.in-Ok-Bytes.ensures.adds) (rw c.in-Ok-Bytes.field-0-is at c.in-Ok-Bytes.ensures.stands) (rw c.bytes.ensures at c.write_whole.ensures.part)
-
-pub returns-clause-part : goal.returns-clause-part
-returns-clause-part g c =
-    packed_part (satisfies c.args.judge.now c.args.tree.now) c.args.writer.now c.add.new.self c.args.frame.now c.in-Ok-Bytes.packet (g.O.Sink.written c.args.out.now) (g.O.Sink.written c.write_whole.new.sink)
-    (sym c.in-Ok-true.ensures.truth ∙ c.in-Ok-true.field-0-test) (rw c.in-Ok-Bytes.field-0-is at c.in-Ok-Bytes.ensures.adds) (rw c.in-Ok-Bytes.field-0-is at c.in-Ok-Bytes.ensures.stands) (rw c.bytes.ensures at c.write_whole.ensures.part)
+pub returns-in-Ok-true-clause-part : goal.returns-in-Ok-true-clause-part
+returns-in-Ok-true-clause-part g c =
+    part_as (satisfies c.args.judge.now c.args.tree.now) c.args.writer.now.format c.args.frame.now c.args.writer.now
+    (g.O.Sink.written c.args.out.now) (g.O.Sink.written c.write_added.new.out) (sym c.in-Ok-true.ensures.truth ∙ c.in-Ok-true.field-0-test) c.write_added.ensures.part
