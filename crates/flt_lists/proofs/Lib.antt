@@ -1,5 +1,6 @@
 pub mod ClassLemmas
 pub mod KeyLemmas
+pub mod ListLemmas
 pub mod OrderLemmas
 pub mod PairLemmas
 pub mod SearchLemmas

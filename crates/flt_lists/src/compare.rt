@@ -116,9 +116,12 @@ fn are_of_one_class(left: &[Value], right: &[Value]) -> bool
 fn are_of_class(kind: ValueKind, values: &[Value]) -> bool
     ensures { result ≡ are_of_class kind values.now }
 {
-    values
-        .iter()
-        .all(|value| same_class(kind, kind_of_value(value)))
+    for value in values {
+        if !same_class(kind, kind_of_value(value)) {
+            return false;
+        }
+    }
+    true
 }
 
 fn pairs_relate(
@@ -140,8 +143,12 @@ fn any_relates(relation: Relation, left: &[Value], right: &[Value], prefix: Opti
     ensures { result ≡ list_any (λ v.
         list_any (λ w. are_related relation v w prefix) right.now) left.now }
 {
-    left.iter()
-        .any(|value| any_is_related(relation, value, right, prefix))
+    for value in left {
+        if any_is_related(relation, value, right, prefix) {
+            return true;
+        }
+    }
+    false
 }
 
 fn all_relate(relation: Relation, left: &[Value], right: &[Value], prefix: Option<u8>) -> bool
@@ -154,15 +161,21 @@ fn all_relate(relation: Relation, left: &[Value], right: &[Value], prefix: Optio
 fn any_is_related(relation: Relation, left: &Value, right: &[Value], prefix: Option<u8>) -> bool
     ensures { result ≡ list_any (λ w. are_related relation left.now w prefix) right.now }
 {
-    right
-        .iter()
-        .any(|value| related(relation, left, value, prefix))
+    for value in right {
+        if related(relation, left, value, prefix) {
+            return true;
+        }
+    }
+    false
 }
 
 fn all_are_related(relation: Relation, left: &Value, right: &[Value], prefix: Option<u8>) -> bool
     ensures { result ≡ list_all (λ w. are_related relation left.now w prefix) right.now }
 {
-    right
-        .iter()
-        .all(|value| related(relation, left, value, prefix))
+    for value in right {
+        if !related(relation, left, value, prefix) {
+            return false;
+        }
+    }
+    true
 }

@@ -1,5 +1,5 @@
 // The lists of values that slices, masks and functions give.
-ghost use Rattle.std.specs.Prelude.{◌≡◌, [], ◌∷◌, IfOk};
+ghost use Rattle.std.specs.Prelude.{◌≡◌, [], ◌∷◌, ◌++◌, IfOk, OnOk};
 ghost use Rattle.std.specs.List.{filter_map};
 ghost use Rattle.std.specs.Option.{option_to_list};
 ghost use Rattle.flt_lists.specs.Called.{values_called};
@@ -20,9 +20,8 @@ pub fn slices(alloc: Global, values: &[Value], ranges: &[RangePart]) -> Result<V
 {
     let mut slices = Vec::new(alloc);
     for value in values {
-        if let Some(bytes) = slice(alloc, value, ranges)? {
-            slices.push(bytes)?;
-        }
+        let bytes = slice(alloc, value, ranges)?;
+        add(&mut slices, bytes)?;
     }
     Ok(slices)
 }
@@ -34,9 +33,7 @@ pub fn masked_values(alloc: Global, values: &[Value], mask: u64) -> Result<Vec<V
 {
     let mut answers = Vec::new(alloc);
     for value in values {
-        if let Some(bits) = masked(mask, value) {
-            answers.push(bits)?;
-        }
+        add(&mut answers, masked(mask, value))?;
     }
     Ok(answers)
 }
@@ -75,11 +72,20 @@ fn each_called(alloc: Global, function: Function, values: &[Value]) -> Result<Ve
 {
     let mut answers = Vec::new(alloc);
     for value in values {
-        if let Some(answer) = call(alloc, function, value)? {
-            answers.push(answer)?;
-        }
+        let answer = call(alloc, function, value)?;
+        add(&mut answers, answer)?;
     }
     Ok(answers)
+}
+
+/// Adds a value to a list, if there is one.
+pub(crate) fn add(values: &mut Vec<Value>, value: Option<Value>) -> Result<(), NoMemory>
+    ensures { OnOk result (values.new.items ≡ values.old.items ++ option_to_list value) }
+{
+    if let Some(value) = value {
+        values.push(value)?;
+    }
+    Ok(())
 }
 
 /// A list of one value.

@@ -4,6 +4,7 @@ ghost use Rattle.std.specs.List.{filter_map, zip};
 ghost use Rattle.flt_lists.specs.Pairs.{values_calculated};
 ghost use Rattle.flt_values.specs.Arithmetic.{calculated};
 
+use crate::lists::add;
 use flt_syntax::Arithmetic;
 use flt_values::calculate;
 use pk_base::NoMemory;
@@ -42,9 +43,7 @@ fn with_each_right(
 {
     let mut answers = Vec::new(alloc);
     for value in right {
-        if let Some(answer) = calculate(operation, left, value) {
-            answers.push(answer)?;
-        }
+        add(&mut answers, calculate(operation, left, value))?;
     }
     Ok(answers)
 }
@@ -60,9 +59,7 @@ fn with_each_left(
 {
     let mut answers = Vec::new(alloc);
     for value in left {
-        if let Some(answer) = calculate(operation, value, right) {
-            answers.push(answer)?;
-        }
+        add(&mut answers, calculate(operation, value, right))?;
     }
     Ok(answers)
 }
@@ -80,9 +77,7 @@ fn in_step(
 {
     let mut answers = Vec::new(alloc);
     for (first, second) in left.iter().zip(right) {
-        if let Some(answer) = calculate(operation, first, second) {
-            answers.push(answer)?;
-        }
+        add(&mut answers, calculate(operation, first, second))?;
     }
     Ok(answers)
 }

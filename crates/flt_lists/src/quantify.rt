@@ -36,7 +36,12 @@ fn any_is_so(question: &Question<'_>, values: &[Value]) -> bool
 fn all_are_so(question: &Question<'_>, values: &[Value]) -> bool
     ensures { result ≡ list_all (λ v. is_so question.now v) values.now }
 {
-    values.iter().all(|value| is_so(question, value))
+    for value in values {
+        if !is_so(question, value) {
+            return false;
+        }
+    }
+    true
 }
 
 /// Whether a pattern matches in the bytes of any or all of the values. The search stays as it was.

@@ -34,7 +34,12 @@ pub fn is_so(question: &Question<'_>, value: &Value) -> bool
 fn is_among(members: &[Member], value: &Value) -> bool
     ensures { result ≡ is_among members.now value.now }
 {
-    members.iter().any(|member| is_member(value, member))
+    for member in members {
+        if is_member(value, member) {
+            return true;
+        }
+    }
+    false
 }
 
 /// Whether a value equals an element of a set, or lies in a range.

@@ -26,7 +26,12 @@ fn tie_with(key: &Key<'_>, values: &[Value], prefix: Option<u8>) -> bool
     ensures { result ≡ list_all (λ v.
         is_eq (key_cmp (key_value prefix v) (key_shown key.now))) values.now }
 {
-    values.iter().all(|value| ties(key, value, prefix))
+    for value in values {
+        if !ties(key, value, prefix) {
+            return false;
+        }
+    }
+    true
 }
 
 fn ties(key: &Key<'_>, value: &Value, prefix: Option<u8>) -> bool

@@ -103,7 +103,12 @@ fn is_protocol(field: FieldId) -> bool
 fn any_is_asked(proto: FieldId, layers: &Layers, all: &[Layer]) -> bool
     ensures { result ≡ list_any (λ layer. is_asked proto layers.now layer) all.now }
 {
-    all.iter().any(|layer| is_asked(proto, layers, layer))
+    for layer in all {
+        if is_asked(proto, layers, layer) {
+            return true;
+        }
+    }
+    false
 }
 
 fn any_in_layers(
@@ -115,7 +120,12 @@ fn any_in_layers(
 ) -> bool
     ensures { result ≡ any_in_layers (λ v. is_so question.now v) field proto layers.now all.now }
 {
-    all.iter().any(|layer| any_in_layer(question, field, proto, layers, layer))
+    for layer in all {
+        if any_in_layer(question, field, proto, layers, layer) {
+            return true;
+        }
+    }
+    false
 }
 
 fn all_in_layers(
@@ -127,7 +137,12 @@ fn all_in_layers(
 ) -> bool
     ensures { result ≡ all_in_layers (λ v. is_so question.now v) field proto layers.now all.now }
 {
-    all.iter().all(|layer| all_in_layer(question, field, proto, layers, layer))
+    for layer in all {
+        if !all_in_layer(question, field, proto, layers, layer) {
+            return false;
+        }
+    }
+    true
 }
 
 fn any_in_layer(
@@ -157,17 +172,23 @@ fn all_in_layer(
 fn any_item(question: &Question<'_>, field: FieldId, items: &[Item]) -> bool
     ensures { result ≡ any_item (λ v. is_so question.now v) field items.now }
 {
-    items
-        .iter()
-        .any(|item| item.field == field && is_so(question, &item.value))
+    for item in items {
+        if item.field == field && is_so(question, &item.value) {
+            return true;
+        }
+    }
+    false
 }
 
 fn all_items(question: &Question<'_>, field: FieldId, items: &[Item]) -> bool
     ensures { result ≡ all_items (λ v. is_so question.now v) field items.now }
 {
-    items
-        .iter()
-        .all(|item| item.field != field || is_so(question, &item.value))
+    for item in items {
+        if item.field == field && !is_so(question, &item.value) {
+            return false;
+        }
+    }
+    true
 }
 
 /// Whether a layer is one of the protocol's that are chosen.

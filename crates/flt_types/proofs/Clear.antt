@@ -206,7 +206,7 @@ right_clear relation at kind o (terms.Constant c) h = constant_clear relation at
 right_clear relation at kind o t h = operand_clear relation at kind o (literal_of o) t h.0 h.1 h.2
 
 -- a set
-member_clear : (kind : ValueKind) (e : Element) (m : Member) → IsMember kind e m → IsClear (element_faults kind e)
+pub member_clear : (kind : ValueKind) (e : Element) (m : Member) → IsMember kind e m → IsClear (element_faults kind e)
 member_clear kind (elements.One l) (members.One c) h = reading_clear (place_of_literal l) (literal_read true kind l) c h
 member_clear kind (elements.Between l m) (members.Between c d) h =
     clear_both (reading_faults (place_of_literal l) (end_read kind l)) (reading_faults (place_of_literal m) (end_read kind m))

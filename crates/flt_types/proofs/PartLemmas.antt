@@ -1,17 +1,16 @@
 -- The parts of an operand, one after the other.
-use Rattle.std.proofs.Common.{◌≡◌, ◌<◌, ℕ, true, List, [], ◌∷◌, ◌++◌, Some, None, ap, sym, refl, subst, ◌∙◌}
+use Rattle.std.proofs.Common.{◌≡◌, ◌<◌, ℕ, true, List, [], ◌∷◌, ◌++◌, Some, None, ap, sym, refl, subst, ◌∙◌, Bor}
 use Rattle.std.proofs.lemmas.List.Elements.{All-pop, All-push}
 use Rattle.std.specs.List.{All}
 use Rattle.flt_syntax.specs.Written.{WrittenOperand, ComputedOf, ArgumentsOf, operand_of}
 use Rattle.flt_syntax.specs.declared.ast.Arithmetic.{Arithmetic}
+use Rattle.flt_syntax.specs.declared.ast.Operand.{Operand}
 use Rattle.flt_syntax.specs.declared.fault.FilterError.{FilterError}
 use Rattle.flt_syntax.specs.declared.fault.FilterReason.TheVariants.{TypeMismatch}
 use Rattle.flt_types.specs.Faults.{IsAnswer, given, kind_written, number_faults, operand_faults}
-use Rattle.flt_types.specs.Operands.{joined, parts_right, with_right}
+use Rattle.flt_types.specs.Operands.{joined, parts_right, with_left}
 use Rattle.flt_types.specs.Standing.{by_itself, sign_for}
 use Rattle.flt_types.specs.Terms.{IsTerm, kind_of}
-use Rattle.flt_types.specs.declared.operands.Right.{Right}
-use Rattle.flt_types.specs.declared.operands.Right.TheVariants.{Computes, Argument}
 use Rattle.flt_types.specs.declared.standing.Side.{Side}
 use Rattle.flt_types.specs.declared.standing.Standing.{Standing}
 use Rattle.flt_types.specs.declared.standing.Standing.TheVariants.{Free}
@@ -59,33 +58,37 @@ pub next_argument : (side : Side) (s : Standing) (o r : WrittenOperand) (left : 
 next_argument side s o r left e is h = answer_right (operand_faults side s o) (operand_faults (by_itself side) (Free None) r) e (term_clear side s o left is) h
 
 -- the fault of the first parts is that of all
-fault_with : (side : Side) (s : Standing) (r : Right) (o : WrittenOperand) (e : FilterError) → IsAnswer (operand_faults side s o) e → IsAnswer (operand_faults side s (with_right r o)) e
-fault_with side s (Computes a at r) o e h = left_part side s a at o (operand_of r.now) e h
-fault_with side s (Argument r) o e h = answer_left (operand_faults side s o) (operand_faults (by_itself side) (Free None) (operand_of r.now)) e h
+fault_with : (side : Side) (s : Standing) (join o : WrittenOperand) (e : FilterError) → IsAnswer (operand_faults side s o) e → IsAnswer (operand_faults side s (with_left join o)) e
+fault_with side s (ComputedOf a at l r) o e h = left_part side s a at o r e h
+fault_with side s (ArgumentsOf l r) o e h = answer_left (operand_faults side s o) (operand_faults (by_itself side) (Free None) r) e h
+fault_with side s join o e h = h
 
-fault_of_first : (side : Side) (s : Standing) (rs : List Right) (o : WrittenOperand) (e : FilterError) → IsAnswer (operand_faults side s o) e → IsAnswer (operand_faults side s (joined rs o)) e
+fault_of_first : (side : Side) (s : Standing) (js : List (Bor Operand)) (o : WrittenOperand) (e : FilterError) → IsAnswer (operand_faults side s o) e
+    → IsAnswer (operand_faults side s (joined js o)) e
 fault_of_first side s [] o e h = h
-fault_of_first side s (r ∷ rs) o e h = fault_with side s r (joined rs o) e (fault_of_first side s rs o e h)
+fault_of_first side s (j ∷ js) o e h = fault_with side s (operand_of j.now) (joined js o) e (fault_of_first side s js o e h)
 
-pub fault_of_parts : (side : Side) (s : Standing) (rs : List Right) (o whole : WrittenOperand) (e : FilterError) → joined rs o ≡ whole → IsAnswer (operand_faults side s o) e
+pub fault_of_parts : (side : Side) (s : Standing) (js : List (Bor Operand)) (o whole : WrittenOperand) (e : FilterError) → joined js o ≡ whole → IsAnswer (operand_faults side s o) e
     → IsAnswer (operand_faults side s whole) e
-fault_of_parts side s rs o whole e is h = subst (λ x. IsAnswer (operand_faults side s x) e) is (fault_of_first side s rs o e h)
+fault_of_parts side s js o whole e is h = subst (λ x. IsAnswer (operand_faults side s x) e) is (fault_of_first side s js o e h)
 
--- a part more or less to the right
-joined_push : (rs : List Right) (r : Right) (o : WrittenOperand) → joined (rs ++ r ∷ []) o ≡ joined rs (with_right r o)
-joined_push [] r o = refl
-joined_push (x ∷ rs) r o = ap (with_right x) (joined_push rs r o)
+-- an operand more or less
+joined_push : (js : List (Bor Operand)) (j : Bor Operand) (o : WrittenOperand) → joined (js ++ j ∷ []) o ≡ joined js (with_left (operand_of j.now) o)
+joined_push [] j o = refl
+joined_push (x ∷ js) j o = ap (with_left (operand_of x.now)) (joined_push js j o)
 
-pub joined_more : (rs new : List Right) (r : Right) (o part whole : WrittenOperand) → joined rs o ≡ whole → o ≡ with_right r part → new ≡ rs ++ r ∷ [] → joined new part ≡ whole
-joined_more rs new r o part whole is with more = rw more (joined_push rs r part ∙ ap (joined rs) (sym with) ∙ is)
+pub joined_more : (js new : List (Bor Operand)) (j : Bor Operand) (part whole : WrittenOperand) → joined js (operand_of j.now) ≡ whole →
+    with_left (operand_of j.now) part ≡ operand_of j.now → new ≡ js ++ j ∷ [] → joined new part ≡ whole
+joined_more js new j part whole is with more = rw more (joined_push js j part ∙ ap (joined js) with ∙ is)
 
-pub joined_less : (rs old : List Right) (r : Right) (o whole : WrittenOperand) → joined old o ≡ whole → old ≡ rs ++ r ∷ [] → joined rs (with_right r o) ≡ whole
-joined_less rs old r o whole is last = sym (joined_push rs r o) ∙ ap (λ x. joined x o) (sym last) ∙ is
+pub joined_less : (js old : List (Bor Operand)) (j : Bor Operand) (o whole : WrittenOperand) → joined old o ≡ whole → old ≡ js ++ j ∷ [] → joined js (with_left (operand_of j.now) o) ≡ whole
+joined_less js old j o whole is last = sym (joined_push js j o) ∙ ap (λ x. joined x o) (sym last) ∙ is
 
-pub within_push : (most : ℕ) (rs new : List Right) (r : Right) → All (λ (x : Right). parts_right x < most) rs → parts_right r < most →
-    new ≡ rs ++ r ∷ [] → All (λ (x : Right). parts_right x < most) new
-within_push most rs new r all one more = subst (All (λ (x : Right). parts_right x < most)) (sym more) (All-push (λ (x : Right). parts_right x < most) rs r all one)
+abbrev AreWithin : ℕ → List (Bor Operand) → Type 0
+AreWithin most js = All (λ (j : Bor Operand). parts_right (operand_of j.now) < most) js
 
-pub within_pop : (most : ℕ) (rs old : List Right) (r : Right) → All (λ (x : Right). parts_right x < most) old → old ≡ rs ++ r ∷ [] →
-    All (λ (x : Right). parts_right x < most) rs
-within_pop most rs old r all last = (All-pop (λ (x : Right). parts_right x < most) old rs (Some r) last all).0
+pub within_push : (most : ℕ) (js new : List (Bor Operand)) (j : Bor Operand) → AreWithin most js → parts_right (operand_of j.now) < most → new ≡ js ++ j ∷ [] → AreWithin most new
+within_push most js new j all one more = subst (AreWithin most) (sym more) (All-push (λ (x : Bor Operand). parts_right (operand_of x.now) < most) js j all one)
+
+pub within_pop : (most : ℕ) (js old : List (Bor Operand)) (j : Bor Operand) → AreWithin most old → old ≡ js ++ j ∷ [] → AreWithin most js
+within_pop most js old j all last = (All-pop (λ (x : Bor Operand). parts_right (operand_of x.now) < most) old js (Some j) last all).0

@@ -1,9 +1,9 @@
--- Operands that signs or commas join, taken apart: the first part, and what stands to the right of each sign or comma, the
--- last one first.
+-- Operands that signs or commas join, taken apart: the first part, and the operands that signs or commas join to it, the
+-- largest one first.
 use Rattle.std.specs.Prelude.{ℕ, ◌+◌, Bool, true, false, List, [], ◌∷◌}
+use Rattle.std.proofs.Common.{Bor}
 use Rattle.flt_syntax.specs.Written.{WrittenOperand, SlicedOf, MaskedOf, CalledOf, ComputedOf, ArgumentsOf, operand_of}
-use Rattle.flt_types.specs.declared.operands.Right.{Right}
-use Rattle.flt_types.specs.declared.operands.Right.TheVariants.{Computes, Argument}
+use Rattle.flt_syntax.specs.declared.ast.Operand.{Operand}
 
 -- whether no sign or comma joins an operand's parts
 abbrev pub is_part : WrittenOperand → Bool
@@ -27,15 +27,18 @@ parts (ComputedOf a at l r) = parts l + parts r + 1
 parts (ArgumentsOf l r) = parts l + parts r + 1
 parts o = 0
 
-abbrev pub parts_right : Right → ℕ
-parts_right (Computes a at o) = parts (operand_of o.now)
-parts_right (Argument o) = parts (operand_of o.now)
+-- of these what stands to the right of the outermost sign or comma
+abbrev pub parts_right : WrittenOperand → ℕ
+parts_right (ComputedOf a at l r) = parts r
+parts_right (ArgumentsOf l r) = parts r
+parts_right o = 0
 
--- an operand with what stands to the right of it
-abbrev pub with_right : Right → WrittenOperand → WrittenOperand
-with_right (Computes a at r) o = ComputedOf a at o (operand_of r.now)
-with_right (Argument r) o = ArgumentsOf o (operand_of r.now)
+-- an operand with another one to the left of its outermost sign or comma
+abbrev pub with_left : WrittenOperand → WrittenOperand → WrittenOperand
+with_left (ComputedOf a at l r) left = ComputedOf a at left r
+with_left (ArgumentsOf l r) left = ArgumentsOf left r
+with_left o left = left
 
-abbrev pub joined : List Right → WrittenOperand → WrittenOperand
+abbrev pub joined : List (Bor Operand) → WrittenOperand → WrittenOperand
 joined [] o = o
-joined (r ∷ rs) o = with_right r (joined rs o)
+joined (j ∷ js) o = with_left (operand_of j.now) (joined js o)

@@ -55,21 +55,6 @@ pub(crate) fn test(
         (IsAnswer (faults (TestOf choice (operand_of operand.now) (tail_of tail.now)))) }
 {
     let left = term(alloc, LEFT, operand)?;
-    test_of(alloc, choice, left, tail)
-}
-
-/// A test of a term.
-fn test_of(
-    alloc: Global,
-    choice: Option<Choice>,
-    left: Term,
-    tail: &Tail,
-) -> Result<Typed, FilterError>
-    ensures ok { (o : WrittenOperand) → IsTerm First o left
-        → IfOk result (HasType (TestOf choice o (tail_of tail.now))) }
-    ensures err { (o : WrittenOperand) → IsTerm First o left
-        → IfErr result (IsAnswer (faults (TestOf choice o (tail_of tail.now)))) }
-{
     match tail {
         Tail::Compare(operator, at, right) => {
             compare(alloc, choice, left, *operator, *at, right)

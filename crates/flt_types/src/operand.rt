@@ -5,7 +5,7 @@ ghost use Rattle.flt_syntax.specs.declared.fault.FilterReason.TheVariants.{OutOf
 ghost use Rattle.flt_syntax.specs.Written.{WrittenOperand, operand_of, NamedOf, OnLayerOf, OnLayersOf, SlicedOf, MaskedOf, CalledOf, ComputedOf, ArgumentsOf};
 ghost use Rattle.flt_types.specs.Faults.{IsAnswer, operand_faults, call_faults, layers_faults, mask_faults, number_faults, slice_faults, given, kind_written, unless, nameless, word_faults, misplaced as misplaced_at};
 ghost use Rattle.flt_types.specs.Layers.{is_layer};
-ghost use Rattle.flt_types.specs.Operands.{is_around, is_part, with_right};
+ghost use Rattle.flt_types.specs.Operands.{is_around, is_part, with_left};
 ghost use Rattle.flt_types.specs.Standing.{argument, in_slice, within};
 ghost use Rattle.flt_types.specs.Terms.{IsTerm, IsMask, are_numbers as are_numbers_in, kind_of as kind_of_term, takes_term};
 ghost use Rattle.flt_types.specs.declared.standing.Side.{Side as TestSide};
@@ -17,8 +17,8 @@ ghost use Rattle.pk_fields.specs.Fields.{field_named};
 use crate::faults::{fault, require};
 use crate::layers::{layers_in, single_layer};
 use crate::literals::constant;
-use crate::operands::{Parts, Right, parts_of};
-use crate::owned::{both_boxed, let_go, refused};
+use crate::operands::{Parts, parts_of};
+use crate::owned::{both_boxed, boxed, let_go, refused};
 use crate::ranges::parts_for;
 use crate::standing::{Position, Side, Standing};
 use crate::typed::Term;
@@ -62,18 +62,18 @@ pub(crate) fn term(
     ensures err { IfErr result
         (IsAnswer (operand_faults position.side position.standing (operand_of operand.now))) }
 {
-    let Parts { first, mut rights } = parts_of(alloc, operand)?;
+    let Parts { first, mut joins } = parts_of(alloc, operand)?;
     let mut term = match part(alloc, position, first) {
         Ok(term) => term,
-        Err(error) => return refused(error, rights),
+        Err(error) => return refused(error, joins),
     };
-    'rights: while let Some(right) = rights.pop() {
-        term = match with(alloc, position, term, &right) {
+    'joins: while let Some(join) = joins.pop() {
+        term = match with(alloc, position, term, join) {
             Ok(term) => term,
-            Err(error) => return refused(error, rights),
+            Err(error) => return refused(error, joins),
         };
     }
-    let_go(rights);
+    let_go(joins);
     Ok(term)
 }
 
@@ -130,24 +130,21 @@ fn around(alloc: Global, position: Position, operand: &Operand) -> Result<Term, 
     }
 }
 
-/// A term with what stands to the right of its operand.
+/// A term with what an operand has to the right of its outermost sign or comma, if there is one.
 #[cycle(terms)]
-fn with(
-    alloc: Global,
-    position: Position,
-    left: Term,
-    right: &Right<'_>,
-) -> Result<Term, FilterError>
+fn with(alloc: Global, position: Position, left: Term, join: &Operand) -> Result<Term, FilterError>
     ensures ok { (o : WrittenOperand) → IsTerm position.standing o left
-        → IfOk result (IsTerm position.standing (with_right right.now o)) }
+        → IfOk result (IsTerm position.standing (with_left (operand_of join.now) o)) }
     ensures err { (o : WrittenOperand) → IsTerm position.standing o left → IfErr result
-        (IsAnswer (operand_faults position.side position.standing (with_right right.now o))) }
+        (IsAnswer (operand_faults position.side position.standing
+        (with_left (operand_of join.now) o))) }
 {
-    match right {
-        Right::Computes(operation, at, operand) => {
-            compute(alloc, position, left, *operation, *at, operand)
+    match join {
+        Operand::Computed(operation, at, _, right) => {
+            compute(alloc, position, left, *operation, *at, right)
         }
-        Right::Argument(operand) => add_argument(alloc, position, left, operand),
+        Operand::Arguments(_, right) => add_argument(alloc, position, left, right),
+        _ => Ok(left),
     }
 }
 
@@ -309,7 +306,10 @@ fn slice(alloc: Global, inner: Term, at: u32, ranges: &[SliceRange]) -> Result<T
         ++ given (kind_written (in_slice s) o) (slice_faults at ranges.now))) }
 {
     match parts_for(alloc, kind_of(&inner), at, ranges) {
-        Ok(parts) => Ok(Term::Slice(Box::new(alloc, inner)?, parts)),
+        Ok(parts) => match boxed(alloc, inner) {
+            Ok(inner) => Ok(Term::Slice(inner, parts)),
+            Err(NoMemory) => refused(FilterError::NoMemory, parts),
+        },
         Err(error) => refused(error, inner),
     }
 }
@@ -325,7 +325,10 @@ fn mask(alloc: Global, inner: Term, at: u32, word: &Word) -> Result<Term, Filter
         ++ given (kind_written (within at s) o) (mask_faults at word.now))) }
 {
     match mask_number(kind_of(&inner), at, word) {
-        Ok(number) => Ok(Term::Mask(Box::new(alloc, inner)?, number)),
+        Ok(number) => match boxed(alloc, inner) {
+            Ok(inner) => Ok(Term::Mask(inner, number)),
+            Err(NoMemory) => Err(FilterError::NoMemory),
+        },
         Err(error) => refused(error, inner),
     }
 }
@@ -359,7 +362,10 @@ fn call(alloc: Global, inner: Term, at: u32, function: Function) -> Result<Term,
         (call_faults function at (argument function at o s) o))) }
 {
     match require(takes(function, &inner), at, FilterReason::TypeMismatch) {
-        Ok(()) => Ok(Term::Called(function, Box::new(alloc, inner)?)),
+        Ok(()) => match boxed(alloc, inner) {
+            Ok(inner) => Ok(Term::Called(function, inner)),
+            Err(NoMemory) => Err(FilterError::NoMemory),
+        },
         Err(error) => refused(error, inner),
     }
 }

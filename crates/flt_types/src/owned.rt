@@ -15,6 +15,13 @@ pub(crate) fn refused<A, T: Drop>(error: FilterError, _read: T) -> Result<A, Fil
     Err(error)
 }
 
+/// A value in a box.
+pub(crate) fn boxed<T: Drop>(alloc: Global, value: T) -> Result<Box<T>, NoMemory>
+    ensures { IfOk result (λ inside. inside.value ≡ value) }
+{
+    Ok(Box::new(alloc, value)?)
+}
+
 /// Two values, each in a box.
 pub(crate) fn both_boxed<T: Drop>(
     alloc: Global,
@@ -24,7 +31,7 @@ pub(crate) fn both_boxed<T: Drop>(
     ensures first { IfOk result (λ both. both.0.value ≡ left) }
     ensures second { IfOk result (λ both. both.1.value ≡ right) }
 {
-    match (Box::new(alloc, left), Box::new(alloc, right)) {
+    match (boxed(alloc, left), boxed(alloc, right)) {
         (Ok(left), Ok(right)) => Ok((left, right)),
         (left, right) => {
             let_go((left, right));

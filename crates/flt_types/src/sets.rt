@@ -22,7 +22,10 @@ pub(crate) fn members(
 {
     let mut members = Vec::with_capacity(alloc, elements.len())?;
     for element in elements {
-        members.push(member(alloc, kind, element)?)?;
+        match member(alloc, kind, element) {
+            Ok(member) => members.push(member)?,
+            Err(error) => return refused(error, members),
+        }
     }
     Ok(members)
 }

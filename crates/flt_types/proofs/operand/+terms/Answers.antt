@@ -2,7 +2,7 @@ use Rattle.std.proofs.Common.{Some, ap, subst}
 use Rattle.std.proofs.lemmas.Result.{err_from_is_err_and}
 use Rattle.flt_syntax.specs.Written.{WrittenOperand, operand_of}
 use Rattle.flt_types.specs.Faults.{IsAnswer, number_faults, operand_faults}
-use Rattle.flt_types.specs.Operands.{parts, with_right}
+use Rattle.flt_types.specs.Operands.{parts, with_left}
 use Rattle.flt_types.specs.Standing.{argument, taken, taken_by}
 use Rattle.flt_types.specs.Terms.{IsTerm, kind_of}
 use Rattle.flt_types.specs.declared.standing.Standing.TheVariants.{Free}
@@ -41,24 +41,24 @@ part-returns-in-OnLayers-clause-ok t c = rw (c.in-OnLayers.is, ← c.deref.ensur
 
 pub term-returns-in-Err-with-clause-err : goal.term-returns-in-Err-with-clause-err
 term-returns-in-Err-with-clause-err t c =
-    let part = c.rights.invariant.part in
-    let right = c.in-Some.right in
+    let part = c.joins.invariant.part in
+    let join = c.in-Some.join in
     rw c.refused-in-Err-with.ensures
-    (fault_of_parts c.args.position.side c.args.position.standing c.pop.new.self.items (with_right right part.0) (operand_of c.args.operand.now) c.in-Err-with.error
-    (joined_less c.pop.new.self.items c.rights.rights.items right part.0 (operand_of c.args.operand.now) part.2 c.in-Some.ensures.items)
+    (fault_of_parts c.args.position.side c.args.position.standing c.pop.new.self.items (with_left (operand_of join.now) part.0) (operand_of c.args.operand.now) c.in-Err-with.error
+    (joined_less c.pop.new.self.items c.joins.joins.items join part.0 (operand_of c.args.operand.now) part.2 c.in-Some.ensures.items)
     (c.in-Err-with.ensures.err part.0 part.1))
 
-pub term-rights-preserved : goal.term-rights-preserved
-term-rights-preserved t c =
-    let part = c.rights.invariant.part in
-    let right = c.in-Some.right in
+pub term-joins-preserved : goal.term-joins-preserved
+term-joins-preserved t c =
+    let part = c.joins.invariant.part in
+    let join = c.in-Some.join in
     record {
       part = (
-        with_right right part.0,
+        with_left (operand_of join.now) part.0,
         c.in-Ok-with.ensures.ok part.0 part.1,
-        joined_less c.pop.new.self.items c.rights.rights.items right part.0 (operand_of c.args.operand.now) part.2 c.in-Some.ensures.items,
+        joined_less c.pop.new.self.items c.joins.joins.items join part.0 (operand_of c.args.operand.now) part.2 c.in-Some.ensures.items,
       );
-      within = within_pop (parts (operand_of c.args.operand.now)) c.pop.new.self.items c.rights.rights.items right c.rights.invariant.within c.in-Some.ensures.items;
+      within = within_pop (parts (operand_of c.args.operand.now)) c.pop.new.self.items c.joins.joins.items join c.joins.invariant.within c.in-Some.ensures.items;
     }
 
 pub compute-returns-in-Err-clause-err : goal.compute-returns-in-Err-clause-err

@@ -15,7 +15,7 @@ abbrev pub decreases-around : goal.decreases-around
 decreases-around l = 6 * parts (operand_of l.operand.now)
 
 abbrev pub decreases-with : goal.decreases-with
-decreases-with l = 6 * parts_right l.right.now + 5
+decreases-with l = 6 * parts_right (operand_of l.join.now) + 5
 
 abbrev pub decreases-compute : goal.decreases-compute
 decreases-compute l = 6 * parts (operand_of l.operand.now) + 4
@@ -26,11 +26,11 @@ decreases-second_number l = 6 * parts (operand_of l.operand.now) + 3
 abbrev pub decreases-add_argument : goal.decreases-add_argument
 decreases-add_argument l = 6 * parts (operand_of l.operand.now) + 4
 
-abbrev pub invariant-term-rights : goal.invariant-term-rights
-invariant-term-rights l = record {
-  part : (o : WrittenOperand) × IsTerm l.position.standing o l.term × (joined l.rights.items o ≡ operand_of l.fn.operand);
-  within : All (λ r. parts_right r < parts (operand_of l.fn.operand)) l.rights.items;
+abbrev pub invariant-term-joins : goal.invariant-term-joins
+invariant-term-joins l = record {
+  part : (o : WrittenOperand) × IsTerm l.position.standing o l.term × (joined l.joins.items o ≡ operand_of l.fn.operand);
+  within : All (λ j. parts_right (operand_of j.now) < parts (operand_of l.fn.operand)) l.joins.items;
 }
 
-abbrev pub decreases-term-rights : goal.decreases-term-rights
-decreases-term-rights l = vec_len l.rights
+abbrev pub decreases-term-joins : goal.decreases-term-joins
+decreases-term-joins l = vec_len l.joins

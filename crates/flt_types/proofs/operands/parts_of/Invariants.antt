@@ -6,7 +6,10 @@ use Rattle.flt_types.proofs.operands.parts_of.Given as goal
 
 abbrev pub invariant-signs : goal.invariant-signs
 invariant-signs l = record {
-  whole : joined l.rights.items (operand_of l.first) ≡ operand_of l.fn.operand;
+  whole : joined l.joins.items (operand_of l.first) ≡ operand_of l.fn.operand;
   first : parts (operand_of l.first) ≤ parts (operand_of l.fn.operand);
-  within : All (λ r. parts_right r < parts (operand_of l.fn.operand)) l.rights.items;
+  within : All (λ j. parts_right (operand_of j.now) < parts (operand_of l.fn.operand)) l.joins.items;
 }
+
+abbrev pub decreases-signs : goal.decreases-signs
+decreases-signs l = parts (operand_of l.first)

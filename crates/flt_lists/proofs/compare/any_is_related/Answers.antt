@@ -1,0 +1,9 @@
+use Rattle.std.proofs.Common.{sym, ◌∙◌}
+use Rattle.flt_values.specs.Relations.{related}
+use Rattle.flt_lists.proofs.ListLemmas.{more_failed}
+use Rattle.flt_lists.proofs.compare.any_is_related.Goals as goal
+
+pub loop-value-preserved : goal.loop-value-preserved
+loop-value-preserved c =
+    more_failed (λ w. related c.args.relation c.args.left.now w c.args.prefix) c.args.right.now c.loop-value.value-index c.value-item.result _ c.loop-value-test.true c.value-item.is
+    (sym c.related.ensures ∙ c.if-related.false) c.loop-value.invariant

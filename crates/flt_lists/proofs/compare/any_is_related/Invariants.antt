@@ -1,0 +1,7 @@
+use Rattle.std.proofs.Common.{◌≡◌, drop}
+use Rattle.std.specs.List.{list_any}
+use Rattle.flt_values.specs.Relations.{related}
+use Rattle.flt_lists.proofs.compare.any_is_related.Given as goal
+
+abbrev pub invariant-loop-value : goal.invariant-loop-value
+invariant-loop-value l = list_any (λ w. related l.relation l.left w l.prefix) (drop l.value-index l.right) ≡ list_any (λ w. related l.relation l.left w l.prefix) l.right
