@@ -75,6 +75,10 @@ held_got tree [] r d h is = cc
 held_got tree (s ∷ all) zero d h is = let same : Some (held_in tree s) ≡ Some (Some h) = is in cc
 held_got tree (s ∷ all) (suc r) d h is = held_got tree all r d h is
 
+-- the same of the slot that stands there
+pub held_there : (tree : TreeShown) (all : List Slot) (r : ℕ) (s : Slot) (h : Held) → s ≡ get_or all r s → IsHeld tree all r h → held_in tree s ≡ Some h
+held_there tree all r s h at is = ap (held_in tree) at ∙ held_got tree all r s h is
+
 -- a read of an unset register, and of one that is set
 pub read_unset : (tree : TreeShown) (at : ℕ) (old flag : Flag) (all new : List Slot) (r : ℕ) (slot now : Slot) (vs : List Value) → slice_get all r ≡ Some slot → held_in tree slot ≡ None →
     new ≡ slice_set all r now → held_in tree now ≡ Some (plain vs) → flag_in tree flag ≡ is_some_value vs → Goes (state_in tree (at + 1) flag new) ≡ reads (state_in tree at old all) r vs

@@ -1,5 +1,5 @@
 // What tests ask of registers.
-ghost use Rattle.std.specs.Prelude.{◌≡◌, ◌<◌, [], ◌∷◌, Some, IfOk, Bool as Truth, List, ℕ, length, slice_get};
+ghost use Rattle.std.specs.Prelude.{◌≡◌, ◌<◌, [], ◌∷◌, None, Some, IfOk, Bool as Truth, List, ℕ, length, slice_get};
 ghost use Rattle.flt_lists.specs.Passes.{compares, passes};
 ghost use Rattle.flt_lists.specs.Questions.{is_matched, is_so};
 ghost use Rattle.flt_vm.specs.Held.{Held, kept_truth, one_truth};
@@ -42,7 +42,7 @@ fn asks_slot(
         → truth ≡ passes choice (λ v. is_so question.now v) held.values) }
 {
     match slot {
-        Slot::Field(field, layers) => Ok(asks_field(choice, question, *field, layers, tree)?),
+        Slot::Field(field, layers) => asks_field(choice, question, *field, layers, tree),
         slot => {
             let values = listed_in(alloc, slot, tree)?;
             Ok(passes(choice, question, values.slice()))
@@ -83,15 +83,28 @@ fn compare_slots(
         → truth ≡ compares relation choice a.values b.values b.prefix) }
 {
     match right {
-        Slot::Single(constant) => Ok(compare_constant(
-            alloc, relation, choice, left, constant, tree,
-        )?),
+        Slot::Single(constant) => compare_constant(alloc, relation, choice, left, constant, tree),
         right => {
-            let left = listed_in(alloc, left, tree)?;
             let right = listed_in(alloc, right, tree)?;
-            Ok(compares(alloc, relation, choice, left.slice(), right.slice(), None)?)
+            compare_list(alloc, relation, choice, left, right.slice(), tree)
         }
     }
+}
+
+/// The same of a slot and a list.
+fn compare_list(
+    alloc: Global,
+    relation: Relation,
+    choice: Choice,
+    left: &Slot<'_>,
+    right: &[Value],
+    tree: &Tree,
+) -> Result<bool, NoMemory>
+    ensures { IfOk result (λ truth. (held : Held) → held_in tree.now left.now ≡ Some held
+        → truth ≡ compares relation choice held.values right.now None) }
+{
+    let left = listed_in(alloc, left, tree)?;
+    compares(alloc, relation, choice, left.slice(), right, None)
 }
 
 /// Whether any or all of a slot's values stand in a relation to a constant.
@@ -107,7 +120,7 @@ pub(crate) fn compare_constant(
         → truth ≡ compares relation choice held.values (constant.now.value ∷ []) constant.now.prefix) }
 {
     let question = Question::IsRelated(relation, &constant.value, constant.prefix);
-    Ok(asks_slot(alloc, choice, &question, left, tree)?)
+    asks_slot(alloc, choice, &question, left, tree)
 }
 
 /// Whether a pattern, of those that there are, matches in any or all of a register's values.

@@ -1,15 +1,16 @@
 // The machine over many trees.
-ghost use Rattle.std.specs.Prelude.{◌≡◌, ◌≤◌, IfOk, Bool as Truth, ℕ, Some, length};
+ghost use Rattle.std.specs.Prelude.{◌≡◌, ◌≤◌, ◌++◌, [], ◌∷◌, IfOk, OnOk, Bool as Truth, ℕ, Some, length};
 ghost use Rattle.flt_vm.specs.Machine.{Runs, start};
 ghost use Rattle.flt_vm.specs.Programs.{FitsFilter, Ready, RunsOn, patterns_of};
+ghost use Rattle.flt_vm.specs.Sources.{sources_of};
 ghost use Rattle.flt_vm.specs.Verdicts.{verdict_of};
 ghost use Rattle.flt_types.specs.declared.typed.Typed.{Typed as TypedValue};
 
 use crate::patterns::patterns_in;
 use crate::program::Program;
 use crate::run::{Verdict, run_code};
-use crate::slots::{Slot, unset};
-use flt_pattern::Search;
+use crate::slots::{Slot, let_go, unset};
+use flt_pattern::{Pattern, Search};
 use flt_types::{Filter, Typed};
 use pk_base::NoMemory;
 use pk_tree::Tree;
@@ -123,9 +124,29 @@ fn searches_for<'f>(alloc: Global, filter: &'f Typed) -> Result<Vec<Search<'f>>,
     ensures { IfOk result (λ searches. searches.items ≡ patterns_of filter.now) }
 {
     let patterns = patterns_in(alloc, filter)?;
+    let searches = searches_of(alloc, &patterns);
+    let_go(patterns);
+    searches
+}
+
+/// A search for each of some patterns.
+fn searches_of<'f>(alloc: Global, patterns: &[&'f Pattern]) -> Result<Vec<Search<'f>>, NoMemory>
+    ensures { IfOk result (λ searches. searches.items ≡ sources_of patterns.now) }
+{
     let mut searches = Vec::new(alloc);
-    for pattern in &patterns {
-        searches.push(pattern.search(alloc)?)?;
+    for pattern in patterns {
+        push_search(alloc, &mut searches, pattern)?;
     }
     Ok(searches)
+}
+
+fn push_search<'f>(
+    alloc: Global,
+    searches: &mut Vec<Search<'f>>,
+    pattern: &'f Pattern,
+) -> Result<(), NoMemory>
+    ensures { OnOk result (searches.new.items ≡ searches.old.items ++ pattern.now ∷ []) }
+{
+    let search = pattern.search(alloc)?;
+    Ok(searches.push(search)?)
 }

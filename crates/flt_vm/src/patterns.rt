@@ -15,12 +15,24 @@ pub fn patterns_in<'f>(alloc: Global, filter: &'f Typed) -> Result<Vec<&'f Patte
     ensures { IfOk result (λ patterns. sources_of patterns.items ≡ patterns_of filter.now) }
 {
     let mut patterns = Vec::new(alloc);
-    let mut left = Vec::new(alloc);
-    left.push(filter)?;
-    'parts: while let Some(part) = left.pop() {
-        take_part(&mut patterns, &mut left, part)?;
-    }
+    add_patterns(alloc, &mut patterns, filter)?;
     Ok(patterns)
+}
+
+fn add_patterns<'f>(
+    alloc: Global,
+    patterns: &mut Vec<&'f Pattern>,
+    filter: &'f Typed,
+) -> Result<(), NoMemory>
+    ensures { OnOk result (sources_of patterns.new.items
+        ≡ sources_of patterns.old.items ++ patterns_of filter.now) }
+{
+    let mut left = Vec::new(alloc);
+    push_part(&mut left, filter)?;
+    'parts: while let Some(part) = left.pop() {
+        take_part(patterns, &mut left, part)?;
+    }
+    Ok(())
 }
 
 /// The pattern of a part, or the parts that it is made of.

@@ -15,7 +15,7 @@ use pk_tree::Tree;
 use std::alloc::Global;
 
 /// What a run answers: the flag at its end, and how many steps it has.
-#[derive(Clone, Copy, Debug, PartialEq, Eq)]
+#[derive(Clone, Copy)]
 pub struct Verdict {
     pub holds: bool,
     pub steps: u32,

@@ -1,7 +1,8 @@
 // What the registers and the flag hold while a program runs.
-ghost use Rattle.std.specs.Prelude.{◌≡◌, ◌<◌, Some, IfOk, length, replicate, map, None};
+ghost use Rattle.std.specs.Prelude.{◌≡◌, ◌<◌, [], ◌∷◌, Some, IfOk, length, replicate, map, None, slice_set};
 ghost use Rattle.flt_vm.specs.Held.{Held};
 ghost use Rattle.flt_vm.specs.Slots.{IsHeld, flag_in, held_in, listed_values};
+ghost use Rattle.pk_tree.specs.FieldValues.{values_of};
 ghost use Rattle.pk_tree.specs.Trees.{TreeShown};
 
 use flt_lists::{is_there, only};
@@ -82,11 +83,35 @@ pub(crate) fn listed_in<'s>(
 {
     match slot {
         Slot::Unset => Ok(Gathered::Own(Vec::new(alloc))),
-        Slot::Field(field, layers) => Ok(Gathered::Own(tree.values(*field, layers)?)),
-        Slot::Single(constant) => Ok(Gathered::Own(only(alloc, constant.value.clone()?)?)),
-        Slot::Truth(truth) => Ok(Gathered::Own(only(alloc, Value::Bool(*truth))?)),
+        Slot::Field(field, layers) => of_field(*field, layers, tree),
+        Slot::Single(constant) => of_one(alloc, constant.value.clone()?),
+        Slot::Truth(truth) => of_one(alloc, Value::Bool(*truth)),
         Slot::Values(values) => Ok(Gathered::Lent(values.as_slice())),
     }
+}
+
+/// The values of a field or protocol.
+fn of_field<'s>(field: FieldId, layers: &Layers, tree: &Tree) -> Result<Gathered<'s>, NoMemory>
+    ensures { IfOk result (λ all. listed_values all ≡ values_of tree.now field layers.now) }
+{
+    let values = tree.values(field, layers)?;
+    Ok(Gathered::Own(values))
+}
+
+/// One value.
+fn of_one<'s>(alloc: Global, value: Value) -> Result<Gathered<'s>, NoMemory>
+    ensures { IfOk result (λ all. listed_values all ≡ value ∷ []) }
+{
+    let values = only(alloc, value)?;
+    Ok(Gathered::Own(values))
+}
+
+/// Sets a register.
+pub(crate) fn put<'p>(slots: &mut [Slot<'p>], register: usize, slot: Slot<'p>)
+    requires { register < length slots.old }
+    ensures { slots.new ≡ slice_set slots.old register slot.entry }
+{
+    slots[register] = slot;
 }
 
 /// Unsets all registers.
@@ -100,3 +125,6 @@ pub(crate) fn unset(slots: &mut [Slot<'_>])
         slots[register] = Slot::Unset;
     }
 }
+
+/// Gives a value up, so that its destructor is written out once and not wherever a function returns.
+pub(crate) fn let_go<T: Drop>(_value: T) {}

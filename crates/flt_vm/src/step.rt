@@ -22,7 +22,7 @@ ghost use Rattle.flt_vm.specs.declared.slots.Slot.TheVariants.{Values};
 
 use crate::asks::{asks, compare, finds, kept};
 use crate::instr::Instr;
-use crate::slots::{Flag, Slot, known, listed};
+use crate::slots::{Flag, Slot, known, listed, listed_in};
 use flt_lists::{
     Question, calculated_values, called_values, is_some_value as some_value, masked_values, only,
     slices,
@@ -449,7 +449,7 @@ fn sliced(
         → values.items ≡ filter_map (λ value. sliced_by value ranges.now) held.values) }
 {
     let values = listed(alloc, slots, register, tree)?;
-    Ok(slices(alloc, values.slice(), ranges)?)
+    slices(alloc, values.slice(), ranges)
 }
 
 /// The masked values of a register.
@@ -465,7 +465,7 @@ fn masked(
         → values.items ≡ filter_map (λ value. masked_by mask value) held.values) }
 {
     let values = listed(alloc, slots, register, tree)?;
-    Ok(masked_values(alloc, values.slice(), mask)?)
+    masked_values(alloc, values.slice(), mask)
 }
 
 /// What a function gives of a register's values.
@@ -481,7 +481,7 @@ fn called(
         → values.items ≡ values_called function held.values) }
 {
     let values = listed(alloc, slots, register, tree)?;
-    Ok(called_values(alloc, function, values.slice())?)
+    called_values(alloc, function, values.slice())
 }
 
 /// How many values a field or protocol has, as the one value of a list.
@@ -514,12 +514,25 @@ fn computed(
         → values.items ≡ values_calculated operation a.values b.values) }
 {
     let left = listed(alloc, slots, left, tree)?;
-    let right = listed(alloc, slots, right, tree)?;
-    Ok(calculated_values(alloc, operation, left.slice(), right.slice())?)
+    computed_with(alloc, operation, left.slice(), &slots[right], tree)
+}
+
+/// The same of a list of numbers and those of a slot.
+fn computed_with(
+    alloc: Global,
+    operation: Arithmetic,
+    left: &[Value],
+    right: &Slot<'_>,
+    tree: &Tree,
+) -> Result<Vec<Value>, NoMemory>
+    ensures { IfOk result (λ values. (held : Held) → held_in tree.now right.now ≡ Some held
+        → values.items ≡ values_calculated operation left.now held.values) }
+{
+    let right = listed_in(alloc, right, tree)?;
+    calculated_values(alloc, operation, left, right.slice())
 }
 
 /// The least or the greatest number of two registers, if there is one.
-#[tactic(auto, using(crate::proofs::ExtremeLists::extreme_both))]
 fn chosen(
     alloc: Global,
     slots: &[Slot<'_>],
@@ -534,12 +547,52 @@ fn chosen(
         → IsHeld tree.now slots.now right b
         → values.items ≡ option_to_list (extreme_among extreme (a.values ++ b.values))) }
 {
-    let left = listed(alloc, slots, left, tree)?;
-    let right = listed(alloc, slots, right, tree)?;
-    let mut both = extreme_in(alloc, extreme, left.slice())?;
-    let mut behind = extreme_in(alloc, extreme, right.slice())?;
-    both.append(&mut behind)?;
-    Ok(extreme_in(alloc, extreme, &both)?)
+    let both = extremes(alloc, extreme, &slots[left], &slots[right], tree)?;
+    extreme_in(alloc, extreme, &both)
+}
+
+/// The least or the greatest number of each of two slots, if there is one.
+fn extremes(
+    alloc: Global,
+    extreme: Extreme,
+    left: &Slot<'_>,
+    right: &Slot<'_>,
+    tree: &Tree,
+) -> Result<Vec<Value>, NoMemory>
+    ensures { IfOk result (λ values. (a b : Held) → held_in tree.now left.now ≡ Some a
+        → held_in tree.now right.now ≡ Some b
+        → values.items ≡ option_to_list (extreme_among extreme a.values)
+        ++ option_to_list (extreme_among extreme b.values)) }
+{
+    let mut both = Vec::new(alloc);
+    push_extreme(alloc, &mut both, extreme, left, tree)?;
+    push_extreme(alloc, &mut both, extreme, right, tree)?;
+    Ok(both)
+}
+
+/// Adds the least or the greatest number of a slot to a list, if there is one.
+fn push_extreme(
+    alloc: Global,
+    both: &mut Vec<Value>,
+    extreme: Extreme,
+    slot: &Slot<'_>,
+    tree: &Tree,
+) -> Result<(), NoMemory>
+    ensures { OnOk result ((held : Held) → held_in tree.now slot.now ≡ Some held
+        → both.new.items ≡ both.old.items ++ option_to_list (extreme_among extreme held.values)) }
+{
+    let values = listed_in(alloc, slot, tree)?;
+    push_some(both, extreme_of(extreme, values.slice()))
+}
+
+/// Adds a value to a list, if there is one.
+fn push_some(values: &mut Vec<Value>, value: Option<Value>) -> Result<(), NoMemory>
+    ensures { OnOk result (values.new.items ≡ values.old.items ++ option_to_list value) }
+{
+    match value {
+        Some(value) => Ok(values.push(value)?),
+        None => Ok(()),
+    }
 }
 
 /// The least or the greatest number among values, if there is one.
@@ -547,7 +600,7 @@ fn extreme_in(alloc: Global, extreme: Extreme, values: &[Value]) -> Result<Vec<V
     ensures { IfOk result (λ all. all.items ≡ option_to_list (extreme_among extreme values.now)) }
 {
     match extreme_of(extreme, values) {
-        Some(value) => Ok(only(alloc, value)?),
+        Some(value) => only(alloc, value),
         None => Ok(Vec::new(alloc)),
     }
 }

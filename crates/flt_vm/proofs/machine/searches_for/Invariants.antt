@@ -1,7 +1,0 @@
-use Rattle.std.proofs.Common.{◌≡◌, ◌++◌, drop}
-use Rattle.flt_vm.specs.Programs.{patterns_of}
-use Rattle.flt_vm.specs.Sources.{sources_of}
-use Rattle.flt_vm.proofs.machine.searches_for.Given as goal
-
-abbrev pub invariant-loop-pattern : goal.invariant-loop-pattern
-invariant-loop-pattern l = l.searches.items ++ sources_of (drop l.pattern-index l.pattern-items) ≡ patterns_of l.filter
