@@ -6,6 +6,7 @@ use crate::frame_rows::{
     ADDRESSES, Capture, ETHERNET, QUERY, RAW, REQUEST, Row, THERE, TO_DNS, TUNNEL, Told,
     applications, carried, conversations, fragments, frames, times,
 };
+use crate::owned::{give_up_dissector, give_up_tree};
 use capture_read::Frame;
 use dissect::{App, DecodeAs, Dissector, PortRule, PortRules};
 use pk_base::{NoMemory, Octets};
@@ -156,7 +157,9 @@ fn take_frame(
 {
     assert!(rt; frame.bytes.bytes().len() <= 1_000);
     let tree = dissector.take(frame)?;
-    check_tree(rt, alloc, dissector, &tree, capture, row)
+    let checked = check_tree(rt, alloc, dissector, &tree, capture, row);
+    give_up_tree(tree);
+    checked
 }
 
 fn take_row(
@@ -197,7 +200,9 @@ fn take_rows(
 
 fn check_capture(rt: &impl Abort, alloc: Global, capture: &Capture) -> Result<(), Fail> {
     let mut dissector = Dissector::new(alloc, no_rules(alloc));
-    take_rows(rt, alloc, &mut dissector, capture)
+    let taken = take_rows(rt, alloc, &mut dissector, capture);
+    give_up_dissector(dissector);
+    taken
 }
 
 fn check_captures(rt: &impl Abort, alloc: Global, captures: &[Capture]) -> Result<(), Fail> {
@@ -294,7 +299,9 @@ fn tree_of(rt: &impl Abort, alloc: Global, frame: &Frame, wanted: FieldSet) -> R
 {
     assert!(rt; frame.bytes.bytes().len() <= 1_000);
     let mut dissector = Dissector::new(alloc, no_rules(alloc));
-    Ok(dissector.take_kept(frame, wanted)?)
+    let tree = dissector.take_kept(frame, wanted);
+    give_up_dissector(dissector);
+    Ok(tree?)
 }
 
 fn one_tree(
@@ -330,7 +337,9 @@ fn check_deep(
     told: &str,
 ) -> Result<(), Fail> {
     let tree = one_tree(rt, alloc, link, 1_000, bytes, FieldSet::all())?;
-    check_last(rt, alloc, &tree, shows, told)
+    let checked = check_last(rt, alloc, &tree, shows, told);
+    give_up_tree(tree);
+    checked
 }
 
 fn check_last(
@@ -430,5 +439,7 @@ fn a_tree_of_some_fields_has_their_items_and_all_layers(rt: HostRuntime) -> Resu
     let alloc = rt.alloc();
     let bytes = joined(alloc, ARP_FRAME)?;
     let tree = one_tree(&rt, alloc, ETHERNET, 42, bytes, some_fields())?;
-    check_some(&rt, alloc, &tree)
+    let checked = check_some(&rt, alloc, &tree);
+    give_up_tree(tree);
+    checked
 }

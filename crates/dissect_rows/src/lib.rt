@@ -10,4 +10,6 @@ mod message_rows;
 #[cfg(test)]
 mod message_tests;
 #[cfg(test)]
+mod owned;
+#[cfg(test)]
 mod segment_tests;

@@ -3,6 +3,7 @@ ghost use Rattle.std.specs.Prelude.{◌≡◌, ◌+◌, ◌*◌, ◌≤◌, ◌<
 
 use crate::frame_tests::no_rules;
 use crate::message_rows::{LONG, Sent, TO_WEB, Talk, names, requests, responses};
+use crate::owned::{give_up_dissector, give_up_tree};
 use crate::segment_tests::{packet, segment};
 use capture_read::Frame;
 use dissect::Dissector;
@@ -115,7 +116,9 @@ fn take_frame(
 {
     assert!(rt; frame.bytes.bytes().len() <= 200);
     let tree = dissector.take(frame)?;
-    check_told(rt, alloc, &tree, shows, told)
+    let checked = check_told(rt, alloc, &tree, shows, told);
+    give_up_tree(tree);
+    checked
 }
 
 /// Takes a segment, and compares what its frame shows.
@@ -187,7 +190,9 @@ fn take_talk(
 
 fn check_talk(rt: &impl Abort, alloc: Global, talk: &Talk) -> Result<(), Fail> {
     let mut dissector = Dissector::new(alloc, no_rules(alloc));
-    take_talk(rt, alloc, &mut dissector, talk)
+    let taken = take_talk(rt, alloc, &mut dissector, talk);
+    give_up_dissector(dissector);
+    taken
 }
 
 fn check_talks(rt: &impl Abort, alloc: Global, talks: &[Talk]) -> Result<(), Fail> {
@@ -269,7 +274,9 @@ fn take_message(
 
 fn check_message(rt: &impl Abort, alloc: Global, message: &[u8], whole: &str) -> Result<(), Fail> {
     let mut dissector = Dissector::new(alloc, no_rules(alloc));
-    take_message(rt, alloc, &mut dissector, message, whole)
+    let taken = take_message(rt, alloc, &mut dissector, message, whole);
+    give_up_dissector(dissector);
+    taken
 }
 
 #[test]

@@ -2,6 +2,7 @@
 ghost use Rattle.std.specs.Prelude.{◌≡◌, ◌+◌, ◌*◌, ◌≤◌, ◌<◌, true, None, IfOk, OnOk};
 
 use crate::frame_tests::{no_rules, push_value};
+use crate::owned::{give_up_dissector, give_up_tree};
 use capture_read::Frame;
 use dissect::Dissector;
 use pk_base::{NoMemory, Octets};
@@ -352,7 +353,9 @@ fn take_frame(
 {
     assert!(rt; frame.bytes.bytes().len() <= 200);
     let tree = dissector.take_kept(frame, asked_fields(sent.asked))?;
-    check_told(rt, alloc, &tree, shows, sent.told)
+    let checked = check_told(rt, alloc, &tree, shows, sent.told);
+    give_up_tree(tree);
+    checked
 }
 
 fn take_sent(
@@ -397,7 +400,9 @@ fn take_talk(
 
 fn check_talk(rt: &impl Abort, alloc: Global, talk: &Talk) -> Result<(), Fail> {
     let mut dissector = Dissector::new(alloc, no_rules(alloc));
-    take_talk(rt, alloc, &mut dissector, talk)
+    let taken = take_talk(rt, alloc, &mut dissector, talk);
+    give_up_dissector(dissector);
+    taken
 }
 
 fn check_talks(rt: &impl Abort, alloc: Global, talks: &[Talk]) -> Result<(), Fail> {
@@ -467,8 +472,10 @@ fn take_asked(
 {
     assert!(rt; frame.bytes.bytes().len() <= 200);
     let tree = dissector.take_wanted(frame)?;
+    let checked = check_items(rt, alloc, &tree, told);
+    give_up_tree(tree);
     assert_eq!(rt; dissector.streams().count(), streams);
-    check_items(rt, alloc, &tree, told)
+    checked
 }
 
 fn check_asked(
@@ -483,7 +490,9 @@ fn check_asked(
     requires time { frame.now.time ≡ None }
 {
     let mut dissector = Dissector::for_fields(alloc, no_rules(alloc), one_field(field));
-    take_asked(rt, alloc, &mut dissector, frame, told, streams)
+    let taken = take_asked(rt, alloc, &mut dissector, frame, told, streams);
+    give_up_dissector(dissector);
+    taken
 }
 
 fn check_all_asked(

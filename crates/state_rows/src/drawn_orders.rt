@@ -1,5 +1,5 @@
 // Segments in orders that a generator draws.
-use crate::sent::{Head, Sent, client, server};
+use crate::sent::{Head, Sent, client, give_up, server};
 use pk_base::NoMemory;
 use rand_core::utils::NextWord;
 use rand_pcg::Lcg64Xsh32;
@@ -49,19 +49,19 @@ fn draw(left: &mut Vec<u32>, generator: &mut Lcg64Xsh32) -> Option<u32> {
 }
 
 fn send(sent: &mut Sent, alloc: Global, seq: u32, syn: bool, bytes: &[u8]) -> Result<(), NoMemory> {
-    sent.send(head(seq, syn).segment(alloc, bytes)?)?;
+    let segment = head(seq, syn).segment(alloc, bytes)?;
+    sent.send(segment)?;
     Ok(())
 }
 
-/// Sends a SYN, and behind it the segments that are left in an order that the generator draws.
-fn send_all(
+/// Sends the segments that are left, in an order that the generator draws.
+fn send_left(
     sent: &mut Sent,
     alloc: Global,
     syn: u32,
     left: &mut Vec<u32>,
     generator: &mut Lcg64Xsh32,
 ) -> Result<(), NoMemory> {
-    send(sent, alloc, syn, true, b"")?;
     for _ in 0..2 * SEGMENTS {
         let Some(place) = draw(left, generator) else {
             return Ok(());
@@ -73,6 +73,19 @@ fn send_all(
 }
 
 /// Whether a SYN and the segments that are left give these bytes as a front.
+fn give_front(
+    sent: &mut Sent,
+    alloc: Global,
+    syn: u32,
+    left: &mut Vec<u32>,
+    generator: &mut Lcg64Xsh32,
+    bytes: &[u8],
+) -> Result<bool, NoMemory> {
+    send(sent, alloc, syn, true, b"")?;
+    send_left(sent, alloc, syn, left, generator)?;
+    Ok(sent.streams.count() > 0 && sent.streams.front(0, 0) == bytes)
+}
+
 fn front_is(
     alloc: Global,
     syn: u32,
@@ -81,8 +94,9 @@ fn front_is(
     bytes: &[u8],
 ) -> Result<bool, NoMemory> {
     let mut sent = Sent::new(alloc);
-    send_all(&mut sent, alloc, syn, left, generator)?;
-    Ok(sent.streams.count() > 0 && sent.streams.front(0, 0) == bytes)
+    let gives = give_front(&mut sent, alloc, syn, left, generator, bytes);
+    give_up(sent);
+    gives
 }
 
 /// Whether forty segments behind a SYN, each twice, in an order that the generator draws, give these bytes.
@@ -96,14 +110,18 @@ fn order_agrees(
     front_is(alloc, syn, &mut left, generator, bytes)
 }
 
-/// Whether so many drawn orders all give the bytes in order.
-pub(crate) fn orders_agree(alloc: Global, syn: u32, orders: u32) -> Result<bool, NoMemory> {
-    let bytes = all_bytes(alloc)?;
+fn all_agree(alloc: Global, syn: u32, orders: u32, bytes: &[u8]) -> Result<bool, NoMemory> {
     let mut generator = Lcg64Xsh32::new(7, 54);
     for _ in 0..orders {
-        if !order_agrees(alloc, syn, &mut generator, bytes.as_slice())? {
+        if !order_agrees(alloc, syn, &mut generator, bytes)? {
             return Ok(false);
         }
     }
     Ok(true)
+}
+
+/// Whether so many drawn orders all give the bytes in order.
+pub(crate) fn orders_agree(alloc: Global, syn: u32, orders: u32) -> Result<bool, NoMemory> {
+    let bytes = all_bytes(alloc)?;
+    all_agree(alloc, syn, orders, bytes.as_slice())
 }

@@ -221,24 +221,30 @@ pub(crate) const AT_8191_SHORT: Part = Part {
     ..AT_8191
 };
 
-/// Whether each fragment makes of those before it what its sequence says.
-fn is_answered(alloc: Global, sequence: &Sequence) -> Result<bool, NoMemory> {
-    let mut joins = Joins::new(alloc);
+fn are_taken(
+    joins: &mut Joins,
+    alloc: Global,
+    taken: &[(FragmentHead, Part, Expected)],
+) -> Result<bool, NoMemory> {
     let mut frame: u32 = 0;
-    for (head, part, expected) in sequence.taken {
+    for (head, part, expected) in taken {
         frame = frame.saturating_add(1);
-        if !is_taken(
-            &mut joins,
-            alloc,
-            frame,
-            &head_of(head, part),
-            part,
-            expected,
-        )? {
+        if !is_taken(joins, alloc, frame, &head_of(head, part), part, expected)? {
             return Ok(false);
         }
     }
     Ok(true)
+}
+
+/// Gives fragments up, whose destructor is written out at each place where they are dropped.
+fn give_up(_joins: Joins) {}
+
+/// Whether each fragment makes of those before it what its sequence says.
+fn is_answered(alloc: Global, sequence: &Sequence) -> Result<bool, NoMemory> {
+    let mut joins = Joins::new(alloc);
+    let answered = are_taken(&mut joins, alloc, sequence.taken);
+    give_up(joins);
+    answered
 }
 
 fn head_of(head: &FragmentHead, part: &Part) -> FragmentHead
@@ -263,7 +269,20 @@ fn is_taken(
 ) -> Result<bool, NoMemory>
     requires { head.now.whole ≡ true }
 {
-    let joined = joins.take(head, frame, &Octets::copy(alloc, part.bytes)?)?;
+    let bytes = Octets::copy(alloc, part.bytes)?;
+    makes(joins, frame, head, &bytes, expected)
+}
+
+fn makes(
+    joins: &mut Joins,
+    frame: u32,
+    head: &FragmentHead,
+    bytes: &Octets,
+    expected: &Expected,
+) -> Result<bool, NoMemory>
+    requires { head.now.whole ≡ true }
+{
+    let joined = joins.take(head, frame, bytes)?;
     Ok(is_expected(&joined, expected))
 }
 
@@ -286,8 +305,7 @@ pub(crate) fn are_answered(
     sequences: &[Sequence],
 ) -> Result<(), NoMemory> {
     for sequence in sequences {
-        let is_answered = is_answered(alloc, sequence)?;
-        assert!(rt; is_answered, "{}", sequence.shows);
+        assert!(rt; is_answered(alloc, sequence)?, "{}", sequence.shows);
     }
     Ok(())
 }

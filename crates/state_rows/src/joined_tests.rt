@@ -12,6 +12,9 @@ const RUNS: [(u64, &[u8], u32); 5] = [
     (10, b"k", 1),
 ];
 
+/// Gives ranges up, whose destructor is written out at each place where they are dropped.
+fn give_up(_joined: JoinedRanges) {}
+
 fn put(
     joined: &mut JoinedRanges,
     alloc: Global,
@@ -52,15 +55,29 @@ fn comes_from(
     Ok(joined.origins(from, free)?.slice() == frames)
 }
 
+fn stand_together(joined: &JoinedRanges) -> Result<bool, NoMemory> {
+    let in_order = joined.start() == 0
+        && joined.first_free(8) == 11
+        && has_front(joined, 6, b"abcDef");
+    Ok(in_order && comes_from(joined, 0, 6, &[4, 7, 9])?)
+}
+
+/// Whether bytes that reach over the gap join what is behind it.
+fn are_joined(joined: &mut JoinedRanges, alloc: Global) -> Result<bool, NoMemory> {
+    put(joined, alloc, 5, b"FGHIJKLM", 3)?;
+    Ok(has_front(joined, 13, b"abcDefGHijkLM"))
+}
+
+fn hold_together(joined: &mut JoinedRanges, alloc: Global) -> Result<bool, NoMemory> {
+    Ok(stand_together(joined)? && are_joined(joined, alloc)?)
+}
+
 #[test]
 fn bytes_in_order_stand_together(rt: HostRuntime) -> Result<(), NoMemory> {
     let mut joined = joined(rt.alloc())?;
-    assert!(rt;
-        joined.start() == 0 && joined.first_free(8) == 11 && has_front(&joined, 6, b"abcDef")
-    );
-    assert!(rt; comes_from(&joined, 0, 6, &[4, 7, 9])?);
-    put(&mut joined, rt.alloc(), 5, b"FGHIJKLM", 3)?;
-    assert!(rt; has_front(&joined, 13, b"abcDefGHijkLM"));
+    let hold = hold_together(&mut joined, rt.alloc());
+    give_up(joined);
+    assert!(rt; hold?);
     Ok(())
 }
 
@@ -72,10 +89,20 @@ fn begins_anew(joined: &mut JoinedRanges) -> Result<bool, NoMemory> {
     Ok(joined.begin(8)?.bytes() == b"abcDef".as_slice())
 }
 
+fn keeps_frames(joined: &JoinedRanges) -> Result<bool, NoMemory> {
+    Ok(comes_from(joined, 1, 6, &[4, 7, 9])? && comes_from(joined, 8, 11, &[1, 2])?)
+}
+
+fn begins_and_keeps(joined: &mut JoinedRanges) -> Result<bool, NoMemory> {
+    let is_anew = begins_anew(joined)? && has_front(joined, 11, b"ijk");
+    Ok(is_anew && keeps_frames(joined)?)
+}
+
 #[test]
 fn bytes_in_order_begin_anew_behind_a_gap(rt: HostRuntime) -> Result<(), NoMemory> {
     let mut joined = joined(rt.alloc())?;
-    assert!(rt; begins_anew(&mut joined)? && has_front(&joined, 11, b"ijk"));
-    assert!(rt; comes_from(&joined, 1, 6, &[4, 7, 9])? && comes_from(&joined, 8, 11, &[1, 2])?);
+    let begins = begins_and_keeps(&mut joined);
+    give_up(joined);
+    assert!(rt; begins?);
     Ok(())
 }

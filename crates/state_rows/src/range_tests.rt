@@ -141,13 +141,19 @@ fn put(
     ranges.insert(start, &bytes, frame)
 }
 
-fn held(alloc: Global, row: &Row) -> Result<Ranges, NoMemory> {
-    let mut ranges = Ranges::new(alloc);
-    for (start, bytes, frame) in row.runs {
-        put(&mut ranges, alloc, *start, bytes, *frame)?;
+fn put_all(
+    ranges: &mut Ranges,
+    alloc: Global,
+    runs: &[(u64, &[u8], u32)],
+) -> Result<(), NoMemory> {
+    for (start, bytes, frame) in runs {
+        put(ranges, alloc, *start, bytes, *frame)?;
     }
-    Ok(ranges)
+    Ok(())
 }
+
+/// Gives ranges up, whose destructor is written out at each place where they are dropped.
+fn give_up(_ranges: Ranges) {}
 
 fn is_copied(ranges: &Ranges, from: u64, to: u64, bytes: &[u8]) -> Result<bool, NoMemory> {
     if ranges.first_free(from) < to {
@@ -190,18 +196,28 @@ fn are_next(ranges: &Ranges, row: &Row) -> bool {
     true
 }
 
-fn holds(alloc: Global, row: &Row) -> Result<bool, NoMemory> {
-    let ranges = held(alloc, row)?;
-    if ranges.front() != row.front || !are_next(&ranges, row) {
+fn are_held(ranges: &Ranges, row: &Row) -> Result<bool, NoMemory> {
+    if ranges.front() != row.front || !are_next(ranges, row) {
         return Ok(false);
     }
-    Ok(are_copied(&ranges, row)? && come_from(&ranges, row)?)
+    Ok(are_copied(ranges, row)? && come_from(ranges, row)?)
+}
+
+fn are_put_and_held(ranges: &mut Ranges, alloc: Global, row: &Row) -> Result<bool, NoMemory> {
+    put_all(ranges, alloc, row.runs)?;
+    are_held(ranges, row)
+}
+
+fn holds(alloc: Global, row: &Row) -> Result<bool, NoMemory> {
+    let mut ranges = Ranges::new(alloc);
+    let holds = are_put_and_held(&mut ranges, alloc, row);
+    give_up(ranges);
+    holds
 }
 
 fn all_hold(rt: &impl Abort, alloc: Global, rows: &[Row]) -> Result<(), NoMemory> {
     for row in rows {
-        let holds = holds(alloc, row)?;
-        assert!(rt; holds, "up to {}", row.front);
+        assert!(rt; holds(alloc, row)?, "up to {}", row.front);
     }
     Ok(())
 }
@@ -236,13 +252,12 @@ fn bytes_around_held_ones_join_them(rt: HostRuntime) -> Result<(), NoMemory> {
     all_hold(&rt, rt.alloc(), &COVERED)
 }
 
-/// A hundred bytes, the last first, each with its position's number.
-fn falling(alloc: Global) -> Result<Ranges, NoMemory> {
-    let mut ranges = Ranges::new(alloc);
+/// Puts a hundred bytes in, the last first, each with its position's number.
+fn put_falling(ranges: &mut Ranges, alloc: Global) -> Result<(), NoMemory> {
     for place in (0..100u8).rev() {
-        put_one(&mut ranges, alloc, place)?;
+        put_one(ranges, alloc, place)?;
     }
-    Ok(ranges)
+    Ok(())
 }
 
 fn put_one(ranges: &mut Ranges, alloc: Global, place: u8) -> Result<(), NoMemory> {
@@ -269,9 +284,16 @@ fn ascends(ranges: &Ranges) -> Result<bool, NoMemory> {
     Ok(counts_up(ranges.copy(0, 100)?.bytes()))
 }
 
+fn falls_and_ascends(ranges: &mut Ranges, alloc: Global) -> Result<bool, NoMemory> {
+    put_falling(ranges, alloc)?;
+    ascends(ranges)
+}
+
 #[test]
 fn bytes_in_falling_order_are_read_in_order(rt: HostRuntime) -> Result<(), NoMemory> {
-    let ranges = falling(rt.alloc())?;
-    assert!(rt; ascends(&ranges)?);
+    let mut ranges = Ranges::new(rt.alloc());
+    let ascends = falls_and_ascends(&mut ranges, rt.alloc());
+    give_up(ranges);
+    assert!(rt; ascends?);
     Ok(())
 }

@@ -2,7 +2,7 @@ ghost use Rattle.std.specs.Prelude.{◌<◌};
 ghost use Rattle.tcp_streams.specs.Standing.{stream_count};
 
 // Segments one after the other, and what each is to the streams, in words.
-use crate::sent::{Head, Sent, client, endpoint, server};
+use crate::sent::{Head, Sent, client, endpoint, give_up, server};
 use pk_base::{Lost, NoMemory, Stretch};
 use pk_tree::Endpoint;
 use std::alloc::Global;
@@ -123,7 +123,8 @@ fn is_taken(sent: &mut Sent, alloc: Global, line: &str) -> Result<bool, NoMemory
     let Some((head, bytes)) = head(words) else {
         return Ok(false);
     };
-    let taken = sent.send(head.segment(alloc, bytes_of(bytes))?)?;
+    let segment = head.segment(alloc, bytes_of(bytes))?;
+    let taken = sent.send(segment)?;
     Ok(is_told(expected, &taken))
 }
 
@@ -218,7 +219,13 @@ fn end_so(streams: &Streams, ends: &[((u32, u8), &str)]) -> Result<bool, NoMemor
 /// Whether each segment is what it is told to be, and the directions end as they should.
 fn holds(alloc: Global, sequence: &Sequence) -> Result<bool, NoMemory> {
     let mut sent = Sent::new(alloc);
-    Ok(are_taken(&mut sent, alloc, sequence.lines)? && end_so(&sent.streams, sequence.ends)?)
+    let holds = sent_holds(&mut sent, alloc, sequence);
+    give_up(sent);
+    holds
+}
+
+fn sent_holds(sent: &mut Sent, alloc: Global, sequence: &Sequence) -> Result<bool, NoMemory> {
+    Ok(are_taken(sent, alloc, sequence.lines)? && end_so(&sent.streams, sequence.ends)?)
 }
 
 pub(crate) fn all_hold(
@@ -227,8 +234,7 @@ pub(crate) fn all_hold(
     sequences: &[Sequence],
 ) -> Result<(), NoMemory> {
     for sequence in sequences {
-        let holds = holds(alloc, sequence)?;
-        assert!(rt; holds, "{}", sequence.shows);
+        assert!(rt; holds(alloc, sequence)?, "{}", sequence.shows);
     }
     Ok(())
 }
@@ -252,13 +258,18 @@ fn come_from(streams: &Streams, row: &Origins) -> Result<bool, NoMemory> {
 
 fn is_held(alloc: Global, row: &Origins) -> Result<bool, NoMemory> {
     let mut sent = Sent::new(alloc);
-    Ok(are_taken(&mut sent, alloc, row.lines)? && come_from(&sent.streams, row)? == row.held)
+    let holds = sent_held(&mut sent, alloc, row);
+    give_up(sent);
+    holds
+}
+
+fn sent_held(sent: &mut Sent, alloc: Global, row: &Origins) -> Result<bool, NoMemory> {
+    Ok(are_taken(sent, alloc, row.lines)? && come_from(&sent.streams, row)? == row.held)
 }
 
 pub(crate) fn all_held(rt: &impl Abort, alloc: Global, rows: &[Origins]) -> Result<(), NoMemory> {
     for row in rows {
-        let holds = is_held(alloc, row)?;
-        assert!(rt; holds, "{} to {}", row.from, row.to);
+        assert!(rt; is_held(alloc, row)?, "{} to {}", row.from, row.to);
     }
     Ok(())
 }

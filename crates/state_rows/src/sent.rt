@@ -33,6 +33,9 @@ impl Sent {
     }
 }
 
+/// Gives streams up, whose destructor is written out at each place where they are dropped.
+pub(crate) fn give_up(_sent: Sent) {}
+
 pub(crate) fn endpoint(address: u32, port: u16) -> Endpoint {
     Endpoint {
         address: Address::Four(address),
