@@ -1,6 +1,5 @@
 -- The code of a filter, by that of its parts.
-use Rattle.std.proofs.Common.{◌≡◌, ◌<◌, ◌≤◌, ℕ, ◌+◌, ◌-◌, Bool as Truth, Bor, Some, List, [], ◌∷◌, ◌++◌, append_assoc, ap, arith, insert, length, length-append, refl, slice_get, subst, sym, ◌∙◌}
-use Rattle.std.proofs.lemmas.List.{append-nil}
+use Rattle.std.proofs.Common.{◌≡◌, ◌<◌, ◌≤◌, ℕ, ◌+◌, ◌-◌, Bool as Truth, true, false, Bor, Some, List, [], ◌∷◌, ◌++◌, append_assoc, ap, arith, insert, length, length-append, refl, slice_get, subst, sym, ◌∙◌}
 use Rattle.std.proofs.lemmas.Option.{slice_get-map}
 use Rattle.std.specs.Option.{option_map}
 use Rattle.std.specs.Prelude.{OnOk, Result, Ok, Err}
@@ -20,7 +19,6 @@ use Rattle.flt_types.specs.declared.typed.Term.{Term}
 use Rattle.flt_types.specs.declared.typed.Typed.{Typed}
 use Rattle.flt_types.specs.declared.typed.Typed.TheVariants.{Either', Differ', Both', Not', Exists, AnyBit, Compare, Among, Matches}
 use Rattle.flt_values.specs.declared.arithmetic.Extreme.TheVariants.{Least}
-use Rattle.flt_values.specs.declared.relation.Relation.{Relation}
 use Rattle.flt_vm.specs.Programs.{patterns_of}
 use Rattle.flt_vm.specs.declared.instr.Instr.{Instr}
 use Rattle.flt_vm.specs.declared.instr.Instr.TheVariants as instr
@@ -159,32 +157,33 @@ differ_put result os new ps filter kept other p q left right r before saved midd
 pub code_as : (os : List Owner) (ps : List (List ℕ)) (filter same : Typed) (code : List Instr) → filter ≡ same → IsCode os ps same code → IsCode os ps filter code
 code_as os ps filter same code is c = subst (λ t. IsCode os ps t code) (sym is) c
 
-pub patterns_none : (old qs : List (List ℕ)) (filter same : Typed) → filter ≡ same → patterns_of same ≡ [] → qs ≡ old → qs ≡ old ++ patterns_of filter
-patterns_none old qs filter same is none by = by ∙ sym (append-nil old) ∙ ap (λ xs. old ++ xs) (sym (ap patterns_of is ∙ none))
-
 -- the code of a filter that is no chain
-pub not_code : (os : List Owner) (ps : List (List ℕ)) (filter inner other : Typed) (p : Box (Unit {0})) (before middle after : List Instr) → filter ≡ Not' p inner → other ≡ inner →
+not_code : (os : List Owner) (ps : List (List ℕ)) (filter inner other : Typed) (p : Box (Unit {0})) (before middle after : List Instr) → filter ≡ Not' p inner → other ≡ inner →
     Adds (IsCode os ps other) before middle → after ≡ middle ++ instr.Not ∷ [] → Adds (IsCode os ps filter) before after
 not_code os ps filter inner other p before middle after is same added put =
     subst (λ t. Adds (IsCode os ps t) before after) (sym is)
     (added.0 ++ instr.Not ∷ [], (added.0, subst (λ t. IsCode os ps t added.0) same added.1, refl), adds_on before middle after added.0 (instr.Not ∷ []) added.2 put)
 
-pub exists_code : (os : List Owner) (ps : List (List ℕ)) (filter : Typed) (term other : Term) (r : ℕ) (before after : List Instr) → filter ≡ Exists term → other ≡ term →
-    Adds (LoadsTerm os other r) before after → Adds (IsCode os ps filter) before after
-exists_code os ps filter term other r before after is same added =
-    subst (λ t. Adds (IsCode os ps t) before after) (sym is) (added.0, (r, subst (λ t. LoadsTerm os t r added.0) same added.1), added.2)
+pub not_put : {A E : Type 0} (result : Result A E) (os : List Owner) (ps : List (List ℕ)) (filter inner other : Typed) (p : Box (Unit {0})) (before middle after : List Instr) → filter ≡ Not' p inner → other ≡ inner →
+    Adds (IsCode os ps other) before middle → OnOk result (after ≡ middle ++ instr.Not ∷ []) → OnOk result (Adds (IsCode os ps filter) before after)
+not_put result os ps filter inner other p before middle after is same added put =
+    on_ok (after ≡ middle ++ instr.Not ∷ []) (Adds (IsCode os ps filter) before after) result (not_code os ps filter inner other p before middle after is same added) put
+
+pub exists_code : (os : List Owner) (ps : List (List ℕ)) (filter : Typed) (term : Term) (r : ℕ) (before after : List Instr) → filter ≡ Exists term → Adds (LoadsTerm os term r) before after →
+    Adds (IsCode os ps filter) before after
+exists_code os ps filter term r before after is added = subst (λ t. Adds (IsCode os ps t) before after) (sym is) (added.0, (r, added.1), added.2)
 
 -- a term's code, and an instruction behind it that asks of its register
-pub then_added : (os : List Owner) (term : Term) (next : ℕ → Instr) (r : ℕ) (before middle after : List Instr) → Adds (LoadsTerm os term r) before middle → after ≡ middle ++ next r ∷ [] →
+then_added : (os : List Owner) (term : Term) (next : ℕ → Instr) (r : ℕ) (before middle after : List Instr) → Adds (LoadsTerm os term r) before middle → after ≡ middle ++ next r ∷ [] →
     Adds (Then (LoadsTerm os term) next) before after
 then_added os term next r before middle after added put =
     (added.0 ++ next r ∷ [], (r, added.0, added.1, refl), adds_on before middle after added.0 (next r ∷ []) added.2 put)
 
-pub bits_code : (os : List Owner) (ps : List (List ℕ)) (filter : Typed) (term other : Term) (r : ℕ) (before middle after : List Instr) → filter ≡ AnyBit term → other ≡ term →
-    Adds (LoadsTerm os other r) before middle → after ≡ middle ++ instr.NonZero r ∷ [] → Adds (IsCode os ps filter) before after
-bits_code os ps filter term other r before middle after is same added put =
-    subst (λ t. Adds (IsCode os ps t) before after) (sym is)
-    (subst (λ t. Adds (Then (LoadsTerm os t) (λ x. instr.NonZero x)) before after) same (then_added os other (λ x. instr.NonZero x) r before middle after added put))
+pub bits_put : {A E : Type 0} (result : Result A E) (os : List Owner) (ps : List (List ℕ)) (filter : Typed) (term : Term) (r : ℕ) (before middle after : List Instr) → filter ≡ AnyBit term →
+    Adds (LoadsTerm os term r) before middle → OnOk result (after ≡ middle ++ instr.NonZero r ∷ []) → OnOk result (Adds (IsCode os ps filter) before after)
+bits_put result os ps filter term r before middle after is added put =
+    on_ok (after ≡ middle ++ instr.NonZero r ∷ []) (Adds (IsCode os ps filter) before after) result
+    (λ pushed. subst (λ t. Adds (IsCode os ps t) before after) (sym is) (then_added os term (λ x. instr.NonZero x) r before middle after added pushed)) put
 
 joins_added : (os new : List Owner) (left right : Term) (next : ℕ → ℕ → Instr) (l r : ℕ) (before middle further after : List Instr) → Adds (LoadsTerm os left l) before middle → Grows os new →
     Adds (LoadsTerm new right r) middle further → after ≡ further ++ next l r ∷ [] → Adds (Joins (LoadsTerm new left) (LoadsTerm new right) next) before after
@@ -194,19 +193,30 @@ joins_added os new left right next l r before middle further after first g secon
   adds_on before middle after first.0 (second.0 ++ next l r ∷ []) first.2 (adds_on middle further after second.0 (next l r ∷ []) second.2 put),
 )
 
-pub compare_code : (os : List Owner) (ps : List (List ℕ)) (filter : Typed) (relation : Relation) (choice : Choice) (left right one two : Term) (before after : List Instr) →
-    filter ≡ Compare relation choice left right → one ≡ left → two ≡ right → Adds (Joins (LoadsTerm os one) (LoadsTerm os two) (λ l r. instr.Test choice relation l r)) before after →
-    Adds (IsCode os ps filter) before after
-compare_code os ps filter relation choice left right one two before after is same other added =
-    subst (λ t. Adds (IsCode os ps t) before after) (sym is)
-    (subst (λ t. Adds (Joins (LoadsTerm os t) (LoadsTerm os right) (λ l r. instr.Test choice relation l r)) before after) same
-    (subst (λ t. Adds (Joins (LoadsTerm os one) (LoadsTerm os t) (λ l r. instr.Test choice relation l r)) before after) other added))
+pub code_put : {A E : Type 0} (result : Result A E) (os : List Owner) (ps : List (List ℕ)) (filter same : Typed) (before after : List Instr) → filter ≡ same → OnOk result (Adds (IsCode os ps same) before after) →
+    OnOk result (Adds (IsCode os ps filter) before after)
+code_put result os ps filter same before after is put = subst (λ t. OnOk result (Adds (IsCode os ps t) before after)) (sym is) put
 
 -- a test of a set, where a NOT may stand behind it
-pub among_added : (os : List Owner) (term : Term) (choice : Choice) (r : ℕ) (members : List Member) (negated : Truth) (before middle after : List Instr) → Adds (LoadsTerm os term r) before middle →
+among_added : (os : List Owner) (term : Term) (choice : Choice) (r : ℕ) (members : List Member) (negated : Truth) (before middle after : List Instr) → Adds (LoadsTerm os term r) before middle →
     after ≡ middle ++ instr.In choice r members ∷ turned negated → Adds (IsAmong os term choice members negated) before after
 among_added os term choice r members negated before middle after added put =
     (added.0 ++ instr.In choice r members ∷ turned negated, (r, added.0, added.1, refl), adds_on before middle after added.0 (instr.In choice r members ∷ turned negated) added.2 put)
+
+pub among_plain : (os : List Owner) (term : Term) (choice : Choice) (r : ℕ) (members copied : List Member) (negated : Truth) (before middle after : List Instr) → negated ≡ false → copied ≡ members →
+    Adds (LoadsTerm os term r) before middle → after ≡ middle ++ instr.In choice r copied ∷ [] → Adds (IsAmong os term choice members negated) before after
+among_plain os term choice r members copied negated before middle after plain same added put =
+    among_added os term choice r members negated before middle after added
+    (put ∙ ap (λ ms. middle ++ instr.In choice r ms ∷ []) same ∙ ap (λ b. middle ++ instr.In choice r members ∷ turned b) (sym plain))
+
+pub among_turned : {A E : Type 0} (result : Result A E) (os : List Owner) (term : Term) (choice : Choice) (r : ℕ) (members copied : List Member) (negated : Truth) (before middle tested after : List Instr) → negated ≡ true →
+    copied ≡ members → Adds (LoadsTerm os term r) before middle → tested ≡ middle ++ instr.In choice r copied ∷ [] → OnOk result (after ≡ tested ++ instr.Not ∷ []) →
+    OnOk result (Adds (IsAmong os term choice members negated) before after)
+among_turned result os term choice r members copied negated before middle tested after turns same added test put =
+    on_ok (after ≡ tested ++ instr.Not ∷ []) (Adds (IsAmong os term choice members negated) before after) result
+    (λ pushed. among_added os term choice r members negated before middle after added
+    (adds_on middle tested after (instr.In choice r members ∷ []) (instr.Not ∷ []) (test ∙ ap (λ ms. middle ++ instr.In choice r ms ∷ []) same) pushed
+    ∙ ap (λ b. middle ++ instr.In choice r members ∷ turned b) (sym turns))) put
 
 matches_added : (os : List Owner) (ps : List (List ℕ)) (term : Term) (pattern : List ℕ) (choice : Choice) (n r : ℕ) (before middle after : List Instr) → IsPatternAt ps n pattern →
     Adds (LoadsTerm os term r) before middle → after ≡ middle ++ instr.Match choice r n ∷ [] → Adds (IsMatch os ps term choice pattern) before after

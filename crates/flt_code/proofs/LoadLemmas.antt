@@ -1,7 +1,8 @@
 -- The code of a term, by that of its parts.
 use Rattle.std.proofs.Common.{◌≡◌, ◌<◌, ◌≤◌, ℕ, Bool as Truth, true, false, Some, List, [], ◌∷◌, ◌++◌, append_assoc, ap, arith, refl, subst, sym, ◌∙◌}
 use Rattle.std.specs.Global.{Box, Vec}
-use Rattle.flt_code.specs.Code.{Adds, Chooses, CountsField, Joins, Loads, LoadsCall, LoadsExtreme, LoadsRight, Makes, Sets, Then, is_several}
+use Rattle.std.specs.Prelude.{IfOk, Result, Ok, Err}
+use Rattle.flt_code.specs.Code.{Adds, Chooses, Joins, Loads, LoadsCall, LoadsExtreme, LoadsRight, Makes, Sets, Then, is_several}
 use Rattle.flt_code.specs.Owners.{Grows, IsOwned, Owner, OfTerm, OfExtreme}
 use Rattle.flt_code.specs.Spines.{Stands, left_of_term}
 use Rattle.flt_code.proofs.Growth.{get_more, loads_grow}
@@ -10,16 +11,12 @@ use Rattle.flt_mean.specs.Terms.{terms_in}
 use Rattle.flt_syntax.specs.declared.ast.Arithmetic.{Arithmetic}
 use Rattle.flt_syntax.specs.declared.ast.Function.{Function}
 use Rattle.flt_syntax.specs.declared.ast.RangePart.{RangePart}
-use Rattle.flt_syntax.specs.declared.ast.Function.TheVariants.{Count}
-use Rattle.flt_types.specs.Terms.{is_field}
 use Rattle.flt_types.specs.declared.typed.Term.{Term}
 use Rattle.flt_types.specs.declared.typed.Term.TheVariants as terms
 use Rattle.flt_values.specs.declared.arithmetic.Extreme.{Extreme}
-use Rattle.flt_values.specs.declared.arithmetic.Extreme.TheVariants.{Least}
 use Rattle.flt_vm.specs.declared.instr.Instr.{Instr}
 use Rattle.flt_vm.specs.declared.instr.Instr.TheVariants as instr
 use Rattle.flt_values.specs.declared.literal.Constant.{Constant}
-use Rattle.pk_tree.specs.declared.chosen.Layers.{Layers}
 use Rattle.std.proofs.Common.{Bor}
 
 pub some_same : {A : Type 0} (x y : A) → Some x ≡ Some y → x ≡ y
@@ -48,6 +45,11 @@ term_within whole ns part s = part_size left_of_term terms_in smaller_term whole
 pub makes : (os new : List Owner) (e : Extreme) (o : Owner) (inner term : Term) (next : ℕ → Instr) (r q : ℕ) (front code : List Instr) → inner ≡ term → Loads os e inner q front → Grows os new →
     IsOwned new r o → code ≡ front ++ next q ∷ [] → Makes new o r (Loads new e term) next code
 makes os new e o inner term next r q front code same l g own joined = (own, (q, front, loads_on os new e term q front g (subst (λ t. Loads os e t q front) same l), joined))
+
+-- what follows where a call succeeds
+pub if_ok : {A E : Type 0} (P Q : A → Type 0) (r : Result A E) → ((x : A) → P x → Q x) → IfOk r P → IfOk r Q
+if_ok P Q (Ok x) f p = f x p
+if_ok P Q (Err e) f p = tt
 
 -- pieces of code, one behind the other
 pub adds_on : (before middle after a b : List Instr) → middle ≡ before ++ a → after ≡ middle ++ b → after ≡ before ++ (a ++ b)
@@ -108,17 +110,10 @@ arguments_right os e term other p q left right l r m before middle after is same
 pub adds_as : (os : List Owner) (e : Extreme) (term same : Term) (r : ℕ) (before after : List Instr) → term ≡ same → Adds (Loads os e same r) before after → Adds (Loads os e term r) before after
 adds_as os e term same r before after is added = subst (λ t. Adds (Loads os e t r) before after) (sym is) added
 
-pub constant_part : (os : List Owner) (e : Extreme) (term : Term) (c other : Constant) (r : ℕ) (before after : List Instr) → term ≡ terms.Constant c → other ≡ c →
-    Sets os (OfTerm term) r (instr.Const r other) before after → Adds (Loads os e term r) before after
-constant_part os e term c other r before after is same set =
-    adds_as os e term (terms.Constant c) r before after is
-    (instr.Const r c ∷ [], (subst (λ t. IsOwned os r (OfTerm t)) is set.0, refl), set.1 ∙ ap (λ x. before ++ instr.Const r x ∷ []) same)
-
-pub field_part : (os : List Owner) (e : Extreme) (term : Term) (field : ℕ) (layers other : Layers) (r : ℕ) (before after : List Instr) → term ≡ terms.Field field layers → other ≡ layers →
-    Sets os (OfTerm term) r (instr.Read r field other) before after → Adds (Loads os e term r) before after
-field_part os e term field layers other r before after is same set =
-    adds_as os e term (terms.Field field layers) r before after is
-    (instr.Read r field layers ∷ [], (subst (λ t. IsOwned os r (OfTerm t)) is set.0, refl), set.1 ∙ ap (λ x. before ++ instr.Read r field x ∷ []) same)
+pub constant_part : (os : List Owner) (e : Extreme) (term : Term) (c : Constant) (r : ℕ) (before after : List Instr) → term ≡ terms.Constant c → Sets os (OfTerm term) r (instr.Const r c) before after →
+    Adds (Loads os e term r) before after
+constant_part os e term c r before after is set =
+    adds_as os e term (terms.Constant c) r before after is (instr.Const r c ∷ [], (subst (λ t. IsOwned os r (OfTerm t)) is set.0, refl), set.1)
 
 pub slice_part : (os : List Owner) (e : Extreme) (term part other : Term) (p : Box (Unit {0})) (ranges : Vec RangePart) (shown : List RangePart) (r : ℕ) (before after : List Instr) →
     term ≡ terms.Slice' p part ranges → other ≡ part → shown ≡ ranges.items → Adds (Makes os (OfTerm term) r (Loads os e other) (λ q. instr.Slice r q shown)) before after → Adds (Loads os e term r) before after
@@ -127,13 +122,6 @@ slice_part os e term part other p ranges shown r before after is same copied add
     (subst (λ t. Adds (Makes os (OfTerm t) r (Loads os e part) (λ q. instr.Slice r q ranges.items)) before after) is
     (subst (λ t. Adds (Makes os (OfTerm term) r (Loads os e t) (λ q. instr.Slice r q ranges.items)) before after) same
     (subst (λ xs. Adds (Makes os (OfTerm term) r (Loads os e other) (λ q. instr.Slice r q xs)) before after) copied added)))
-
-pub mask_part : (os : List Owner) (e : Extreme) (term part other : Term) (p : Box (Unit {0})) (mask r : ℕ) (before after : List Instr) →
-    term ≡ terms.Mask' p part mask → other ≡ part → Adds (Makes os (OfTerm term) r (Loads os e other) (λ q. instr.Mask r q mask)) before after → Adds (Loads os e term r) before after
-mask_part os e term part other p mask r before after is same added =
-    adds_as os e term (terms.Mask' p part mask) r before after is
-    (subst (λ t. Adds (Makes os (OfTerm t) r (Loads os e part) (λ q. instr.Mask r q mask)) before after) is
-    (subst (λ t. Adds (Makes os (OfTerm term) r (Loads os e t) (λ q. instr.Mask r q mask)) before after) same added))
 
 pub called_part : (os : List Owner) (e : Extreme) (term part other : Term) (p : Box (Unit {0})) (function : Function) (r : ℕ) (before after : List Instr) →
     term ≡ terms.Called' function p part → other ≡ part → Adds (LoadsCall os function (OfTerm term) other (λ x. Loads os x other) r) before after → Adds (Loads os e term r) before after
@@ -149,30 +137,6 @@ chooses_true false A B is a = cc
 pub chooses_false : (b : Truth) (A B : Type 0) → b ≡ false → B → Chooses b A B
 chooses_false true A B is b = cc
 chooses_false false A B is b = b
-
-pub no_field : (term : Term) → ((field : ℕ) (layers : Layers) → term ≡ terms.Field field layers → ⊥) → is_field term ≡ false
-no_field (terms.Field field layers) not = absurd (not field layers refl)
-no_field (terms.Constant c) not = refl
-no_field (terms.Slice' p term ranges) not = refl
-no_field (terms.Mask' p term mask) not = refl
-no_field (terms.Called' f p term) not = refl
-no_field (terms.Computed' a p left q right) not = refl
-no_field (terms.Arguments' p left q right) not = refl
-
-pub counts_field : (os : List Owner) (o : Owner) (term : Term) (field : ℕ) (layers : Layers) (r : ℕ) (code : List Instr) (Inner : Extreme → ℕ → List Instr → Type 0) → term ≡ terms.Field field layers →
-    IsOwned os r o → code ≡ instr.Count r field layers ∷ [] → LoadsCall os Count o term Inner r code
-counts_field os o term field layers r code Inner is own joined =
-    chooses_true (is_field term) (CountsField os o term r code) (Makes os o r (Inner Least) (λ q. instr.Call r Count q) code) (ap is_field is) (field, layers, is, own, joined)
-
-pub field_counted : (os : List Owner) (o : Owner) (term : Term) (field : ℕ) (layers other : Layers) (r : ℕ) (before after : List Instr) (Inner : Extreme → ℕ → List Instr → Type 0) → term ≡ terms.Field field layers →
-    other ≡ layers → Sets os o r (instr.Count r field other) before after → Adds (LoadsCall os Count o term Inner r) before after
-field_counted os o term field layers other r before after Inner is same set =
-    (instr.Count r field layers ∷ [], counts_field os o term field layers r (instr.Count r field layers ∷ []) Inner is set.0 refl, set.1 ∙ ap (λ x. before ++ instr.Count r field x ∷ []) same)
-
-pub values_counted : (os : List Owner) (o : Owner) (term : Term) (r : ℕ) (before after : List Instr) (Inner : Extreme → ℕ → List Instr → Type 0) → is_field term ≡ false →
-    Adds (Makes os o r (Inner Least) (λ q. instr.Call r Count q)) before after → Adds (LoadsCall os Count o term Inner r) before after
-values_counted os o term r before after Inner other added =
-    (added.0, chooses_false (is_field term) (CountsField os o term r added.0) (Makes os o r (Inner Least) (λ q. instr.Call r Count q) added.0) other added.1, added.2)
 
 pub extreme_several : (os : List Owner) (e : Extreme) (o : Owner) (term : Term) (Inner : ℕ → List Instr → Type 0) (r : ℕ) (before after : List Instr) → is_several term ≡ true → Adds (Inner r) before after →
     Adds (LoadsExtreme os e o term Inner r) before after

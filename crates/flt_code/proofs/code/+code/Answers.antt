@@ -1,10 +1,11 @@
 use Rattle.std.proofs.Common.{arith}
 use Rattle.flt_code.specs.Owners.{owners_of}
 use Rattle.flt_code.specs.Spines.{left_of, sources_of}
-use Rattle.flt_code.proofs.CodeLemmas.{both_put, code_right, differ_put, either_put, part_within, patterns_next}
+use Rattle.flt_code.proofs.CodeLemmas.{bits_put, both_put, code_put, code_right, differ_put, either_put, exists_code, not_put, part_within, patterns_next}
 use Rattle.flt_code.proofs.OwnerLemmas.{grows_on}
 use Rattle.flt_code.proofs.SpineLemmas.{stands_pop}
 use Rattle.flt_code.proofs.code.+code.Goals as goal
+use Rattle.flt_types.specs.declared.typed.Typed.TheVariants.{Compare, Matches}
 
 pub code_for-code_alone-requires : goal.code_for-code_alone-requires
 code_for-code_alone-requires t c =
@@ -53,3 +54,28 @@ code_joined-returns-in_ok-code_for-in-Differ-clause-code t c =
     differ_put c.emit-in-Differ.result (owners_of c.own.new.owners.items) (owners_of c.code_for-in-Differ.new.owners.items) (sources_of c.code_for-in-Differ.new.patterns.items) c.args.filter.now
     c.deref-in-Differ.result.now c.deref-in-Differ-2.result.now _ _ c.in-Differ.part.value c.in-Differ.right.value own.register c.args.code.now.items c.emit.new.code.items c.code_for-in-Differ.new.code.items
     c.emit-in-Differ.new.code.items c.in-Differ.is c.deref-in-Differ.ensures own.ensures.owned right.ensures.owners c.deref-in-Differ-2.ensures c.in_ok-emit-in-Differ.ensures right.ensures.code c.emit-in-Differ.ensures
+
+pub code_alone-returns-in_ok-code_for-in-Not-clause-code : goal.code_alone-returns-in_ok-code_for-in-Not-clause-code
+code_alone-returns-in_ok-code_for-in-Not-clause-code t c =
+    not_put c.emit.result (owners_of c.code_for.new.owners.items) (sources_of c.code_for.new.patterns.items) c.args.filter.now c.in-Not.inner.value c.deref.result.now _ c.args.code.now.items c.code_for.new.code.items
+    c.emit.new.code.items c.in-Not.is c.deref.ensures c.in_ok-code_for-in-Not.ensures.code c.emit.ensures
+
+pub code_alone-returns-in_ok-load-in-Exists-clause-code : goal.code_alone-returns-in_ok-load-in-Exists-clause-code
+code_alone-returns-in_ok-load-in-Exists-clause-code t c =
+    exists_code (owners_of c.load.new.owners.items) (sources_of c.args.patterns.now.items) c.args.filter.now c.in-Exists.term c.in_ok-load-in-Exists.field-0 c.args.code.now.items c.load.new.code.items c.in-Exists.is
+    c.in_ok-load-in-Exists.ensures.code
+
+pub code_alone-returns-in_ok-register-in-AnyBit-clause-code : goal.code_alone-returns-in_ok-register-in-AnyBit-clause-code
+code_alone-returns-in_ok-register-in-AnyBit-clause-code t c =
+    bits_put c.emit-in-AnyBit.result (owners_of c.load-in-AnyBit.new.owners.items) (sources_of c.args.patterns.now.items) c.args.filter.now c.in-AnyBit.term c.in_ok-register-in-AnyBit.register c.args.code.now.items
+    c.load-in-AnyBit.new.code.items c.emit-in-AnyBit.new.code.items c.in-AnyBit.is c.in_ok-register-in-AnyBit.ensures.code c.emit-in-AnyBit.ensures
+
+pub code_alone-returns-in-Compare-clause-code : goal.code_alone-returns-in-Compare-clause-code
+code_alone-returns-in-Compare-clause-code t c =
+    code_put c.comparison.result (owners_of c.comparison.new.owners.items) (sources_of c.args.patterns.now.items) c.args.filter.now
+    (Compare c.in-Compare.relation c.in-Compare.choice c.in-Compare.left c.in-Compare.right) c.args.code.now.items c.comparison.new.code.items c.in-Compare.is c.comparison.ensures.code
+
+pub code_alone-returns-in-Matches-clause-code : goal.code_alone-returns-in-Matches-clause-code
+code_alone-returns-in-Matches-clause-code t c =
+    code_put c.search.result (owners_of c.search.new.owners.items) (sources_of c.search.new.patterns.items) c.args.filter.now (Matches c.in-Matches.choice c.in-Matches.term c.in-Matches.pattern) c.args.code.now.items
+    c.search.new.code.items c.in-Matches.is c.search.ensures.code
