@@ -1,8 +1,10 @@
 -- Of listings: jumps lead near, and patterns are found by their number.
-use Rattle.std.proofs.Common.{◌≡◌, ℕ, ◌<◌, ◌^◌, Bor, List, [], None, Some, ap, arith, length, unwrap_or, ◌∙◌}
+use Rattle.std.proofs.Common.{◌≡◌, ℕ, ◌+◌, ◌<◌, ◌^◌, Bor, List, [], ◌∷◌, ◌++◌, None, Some, append_assoc, ap, arith, drop, get_or, length, sym, unwrap_or, ◌∙◌}
 use Rattle.std.proofs.lemmas.Option.{slice_get-map}
 use Rattle.std.specs.Option.{option_map}
-use Rattle.std.specs.List.{slice_get}
+use Rattle.std.specs.List.{flat_map, slice_get}
+use Rattle.std.proofs.lemmas.List.{at_drop_more}
+use Rattle.std.proofs.lemmas.List.Concat.{flat_map-cons}
 use Rattle.flt_code.specs.Listing.{IsNear, pattern_at}
 use Rattle.flt_pattern.specs.declared.pattern.Pattern.{Pattern}
 use Rattle.flt_vm.specs.Programs.{Code, Fits, IsProgram}
@@ -38,3 +40,16 @@ source_found patterns n p is = ap (λ o. unwrap_or o []) (slice_get-map (λ (q :
 
 pub source_missing : (patterns : List (Bor Pattern)) (n : ℕ) → slice_get patterns n ≡ None → pattern_at (sources_of patterns) n ≡ []
 source_missing patterns n is = ap (λ o. unwrap_or o []) (slice_get-map (λ (q : Bor Pattern). q.now) patterns n ∙ ap (option_map (λ (q : Bor Pattern). q.now)) is)
+
+-- one more element shown
+pub shown_next : {A : Type 0} (f : A → List ℕ) (xs : List A) (i : ℕ) (d x : A) (line new whole : List ℕ) → i < length xs → get_or xs i d ≡ x → line ++ flat_map f (drop i xs) ≡ whole → new ≡ line ++ f x →
+    new ++ flat_map f (drop (i + 1) xs) ≡ whole
+shown_next f xs i d x line new whole less is before put =
+    ap (λ ys. ys ++ flat_map f (drop (i + 1) xs)) put ∙ append_assoc line (f x) (flat_map f (drop (i + 1) xs)) ∙ ap (λ ys. line ++ ys) (sym (flat_map-cons f x (drop (i + 1) xs)))
+    ∙ ap (λ y. line ++ flat_map f (y ∷ drop (i + 1) xs)) (sym is) ∙ sym (at_drop_more (λ ys. line ++ flat_map f ys) xs i d less) ∙ before
+
+-- one behind a sign
+pub further_next : {A : Type 0} (sign : List ℕ) (f : A → List ℕ) (xs : List A) (i : ℕ) (d x : A) (line mid new whole : List ℕ) → i < length xs → get_or xs i d ≡ x →
+    line ++ flat_map (λ y. sign ++ f y) (drop i xs) ≡ whole → mid ≡ line ++ sign → new ≡ mid ++ f x → new ++ flat_map (λ y. sign ++ f y) (drop (i + 1) xs) ≡ whole
+further_next sign f xs i d x line mid new whole less is before first second =
+    shown_next (λ y. sign ++ f y) xs i d x line new whole less is before (second ∙ ap (λ ys. ys ++ f x) first ∙ append_assoc line sign (f x))

@@ -9,6 +9,10 @@ push left whole (m ∷ ns) n next stands is = (stands.0, stands.1, stands.2, pus
 pub stands_push : {A : Type 0} (left : A → Option A) (whole : A) (ns new : List (Bor A)) (n : Bor A) (next : A) → Stands left whole ns n.now → left n.now ≡ Some next → new ≡ ns ++ n ∷ [] → Stands left whole new next
 stands_push left whole ns new n next stands is more = subst (λ x. Stands left whole x next) (sym more) (push left whole ns n next stands is)
 
+-- a whole stands below nothing
+pub stands_alone : {A : Type 0} (left : A → Option A) (whole : A) (ns : List (Bor A)) → ns ≡ [] → Stands left whole ns whole
+stands_alone left whole ns none = subst (λ x. Stands left whole x whole) (sym none) refl
+
 -- what stands above a part
 pub record Above {A : Type 0} (left : A → Option A) (whole : A) (ns : List (Bor A)) (n : Bor A) (part : A) : Type 0 where
   pub stands : Stands left whole ns n.now

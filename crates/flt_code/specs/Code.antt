@@ -4,13 +4,16 @@ use Rattle.flt_code.specs.Owners.{Owner, OfTerm, OfExtreme, OfPart, IsOwned}
 use Rattle.flt_syntax.specs.declared.ast.Function.{Function}
 use Rattle.flt_syntax.specs.declared.ast.Function.TheVariants.{Count, Min, Max}
 use Rattle.flt_types.specs.Terms.{is_field}
+use Rattle.flt_syntax.specs.declared.ast.Choice.{Choice}
 use Rattle.pk_tree.specs.declared.chosen.Layers.{Layers}
+use Rattle.flt_types.specs.declared.typed.Member.{Member}
 use Rattle.flt_types.specs.declared.typed.Term.{Term}
 use Rattle.flt_types.specs.declared.typed.Term.TheVariants as terms
 use Rattle.flt_types.specs.declared.typed.Typed.{Typed}
 use Rattle.flt_types.specs.declared.typed.Typed.TheVariants.{Either', Differ', Both', Not', Exists, AnyBit, Compare, Among, Matches}
 use Rattle.flt_values.specs.declared.arithmetic.Extreme.{Extreme}
 use Rattle.flt_values.specs.declared.arithmetic.Extreme.TheVariants.{Least, Greatest}
+use Rattle.flt_vm.specs.Programs.{patterns_of}
 use Rattle.flt_vm.specs.declared.instr.Instr.{Instr}
 use Rattle.flt_vm.specs.declared.instr.Instr.TheVariants as instr
 
@@ -24,6 +27,14 @@ abbrev pub Joins : (ℕ → List Instr → Type 0) → (ℕ → List Instr → T
     → List Instr → Type 0
 Joins Left Right next code =
     (p q : ℕ) × (a b : List Instr) × Left p a × Right q b × (code ≡ a ++ (b ++ next p q ∷ []))
+
+-- a piece of code behind what stood before
+abbrev pub Adds : (List Instr → Type 0) → List Instr → List Instr → Type 0
+Adds IsPiece before after = (piece : List Instr) × IsPiece piece × (after ≡ before ++ piece)
+
+-- one instruction behind what stood before, for the register of an owner
+abbrev pub Sets : List Owner → Owner → ℕ → Instr → List Instr → List Instr → Type 0
+Sets owners owner r next before after = IsOwned owners r owner × (after ≡ before ++ next ∷ [])
 
 -- one thing or another
 abbrev pub Chooses : Truth → Type 0 → Type 0 → Type 0
@@ -87,6 +98,16 @@ Loads owners extreme (terms.Arguments' p left q right) r code =
     × Joins (Loads owners extreme left) (Loads owners extreme right)
     (λ l m. instr.Choose r extreme l m) code
 
+-- what stands behind the code of a term's left part, which sets a register
+abbrev pub LoadsRight : List Owner → Extreme → Term → ℕ → ℕ → List Instr → Type 0
+LoadsRight owners extreme (terms.Computed' a p left q right) l r code =
+    Makes owners (OfTerm (terms.Computed' a p left q right)) r (Loads owners extreme right)
+    (λ m. instr.Compute r a l m) code
+LoadsRight owners extreme (terms.Arguments' p left q right) l r code =
+    Makes owners (OfExtreme extreme (terms.Arguments' p left q right)) r
+    (Loads owners extreme right) (λ m. instr.Choose r extreme l m) code
+LoadsRight owners extreme term l r code = Unit {0}
+
 -- a term where it is no argument
 abbrev pub LoadsTerm : List Owner → Term → ℕ → List Instr → Type 0
 LoadsTerm owners term r code = Loads owners Least term r code
@@ -98,6 +119,16 @@ turned false = []
 -- the pattern of a number
 abbrev pub IsPatternAt : List (List ℕ) → ℕ → List ℕ → Type 0
 IsPatternAt patterns n pattern = slice_get patterns n ≡ Some pattern
+
+-- a test of a set, and NOT behind it where it is negated
+abbrev pub IsAmong : List Owner → Term → Choice → List Member → Truth → List Instr → Type 0
+IsAmong owners term choice members negated code = (r : ℕ) × (a : List Instr)
+    × LoadsTerm owners term r a × (code ≡ a ++ instr.In choice r members ∷ turned negated)
+
+-- a search for a pattern
+abbrev pub IsMatch : List Owner → List (List ℕ) → Term → Choice → List ℕ → List Instr → Type 0
+IsMatch owners patterns term choice pattern code = (n : ℕ) × IsPatternAt patterns n pattern
+    × Then (LoadsTerm owners term) (λ r. instr.Match choice r n) code
 
 -- the code sets the flag to the truth of a filter
 abbrev pub IsCode : List Owner → List (List ℕ) → Typed → List Instr → Type 0
@@ -125,3 +156,19 @@ IsCode owners patterns (Among negated choice term members) code =
 IsCode owners patterns (Matches choice term pattern) code =
     (n : ℕ) × IsPatternAt patterns n pattern
     × Then (LoadsTerm owners term) (λ r. instr.Match choice r n) code
+
+-- what stands behind the code of a filter's left side
+abbrev pub CodeRight : List Owner → List (List ℕ) → Typed → List Instr → Type 0
+CodeRight owners patterns (Either' p left q right) code =
+    (b : List Instr) × IsCode owners patterns right b × (code ≡ instr.JumpTrue (length b) ∷ b)
+CodeRight owners patterns (Both' p left q right) code =
+    (b : List Instr) × IsCode owners patterns right b × (code ≡ instr.JumpFalse (length b) ∷ b)
+CodeRight owners patterns (Differ' p left q right) code =
+    (r : ℕ) × (b : List Instr) × IsOwned owners r (OfPart left)
+    × IsCode owners patterns right b × (code ≡ instr.Save r ∷ (b ++ instr.Differ r ∷ []))
+CodeRight owners patterns filter code = Unit {0}
+
+-- the code of a filter, and the end of its run behind it
+abbrev pub IsWhole : List Owner → Typed → List Instr → Type 0
+IsWhole owners filter code = (front : List Instr) × IsCode owners (patterns_of filter) filter front
+    × (code ≡ front ++ instr.Return ∷ [])

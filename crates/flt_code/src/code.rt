@@ -1,18 +1,17 @@
 // The code that sets the flag to the truth of a filter.
-ghost use Rattle.std.specs.Prelude.{◌≡◌, ◌++◌, [], ◌∷◌, IfOk, IsTrue, List, ℕ, OnOk, Some};
-ghost use Rattle.flt_code.specs.Code.{IsCode, IsPatternAt, Joins, LoadsTerm, Then, turned as turned_by};
+ghost use Rattle.std.specs.Prelude.{◌≡◌, ◌++◌, [], ◌∷◌, IsTrue, OnOk, Some};
+ghost use Rattle.flt_code.specs.Code.{Adds, CodeRight, IsAmong, IsCode, IsMatch, Joins, LoadsTerm};
 ghost use Rattle.flt_code.specs.Owners.{Grows, owners_of};
 ghost use Rattle.flt_code.specs.Spines.{left_of, patterns_right, sources_of};
 ghost use Rattle.flt_mean.specs.Chains.{is_single};
 ghost use Rattle.flt_types.specs.declared.typed.Typed.{Typed as TypedValue};
 ghost use Rattle.flt_vm.specs.Programs.{patterns_of};
-ghost use Rattle.flt_vm.specs.declared.instr.Instr.{Instr as InstrValue};
 ghost use Rattle.flt_vm.specs.declared.instr.Instr.TheVariants as instr;
 
-use crate::joins::{both, differing, either, then, then_both, turned};
+use crate::emits::{emit, emit_at};
 use crate::load::load;
-use crate::owners::{Owner, own_part};
-use crate::spines::{Parts, parts_of};
+use crate::owners::{Owner, own};
+use crate::spines::filter_below;
 use flt_pattern::Pattern;
 use flt_syntax::Choice;
 use flt_types::{Member, Term, Typed};
@@ -21,97 +20,110 @@ use flt_vm::{Instr, copied_members};
 use pk_base::NoMemory;
 use std::alloc::Global;
 
-/// The code for a filter. The filters that signs join are made one after the other, so that no call nests as deep as they
-/// do.
+/// Appends the code for a filter. The filters that signs join are made one after the other, so that no call nests as deep as
+/// they do.
 #[cycle(code)]
 pub(crate) fn code_for<'f>(
     alloc: Global,
     filter: &'f Typed,
     owners: &mut Vec<Owner<'f>>,
     patterns: &mut Vec<&'f Pattern>,
-) -> Result<Vec<Instr>, NoMemory>
-    ensures code { IfOk result (λ code.
-        IsCode (owners_of owners.new.items) (sources_of patterns.new.items) filter.now code.items) }
+    code: &mut Vec<Instr>,
+) -> Result<(), NoMemory>
+    ensures code { OnOk result
+        (Adds (IsCode (owners_of owners.new.items) (sources_of patterns.new.items) filter.now)
+        code.old.items code.new.items) }
     ensures owners { OnOk result (Grows (owners_of owners.old.items) (owners_of owners.new.items)) }
     ensures patterns { OnOk result (sources_of patterns.new.items
         ≡ sources_of patterns.old.items ++ patterns_of filter.now) }
 {
-    let Parts { first, mut above } = parts_of(alloc, filter)?;
-    let mut code = code_alone(alloc, first, owners, patterns)?;
+    let mut above = Vec::new(alloc);
+    let first = filter_below(filter, &mut above)?;
+    code_alone(alloc, first, owners, patterns, code)?;
     'above: while let Some(next) = above.pop() {
-        code = code_joined(alloc, code, next, owners, patterns)?;
+        code_joined(alloc, next, owners, patterns, code)?;
     }
-    Ok(code)
+    Ok(())
 }
 
-/// The code for a filter whose left side has its code.
+/// Appends what stands behind the code of a filter's left side.
 #[cycle(code)]
 fn code_joined<'f>(
     alloc: Global,
-    left: Vec<Instr>,
     filter: &'f Typed,
     owners: &mut Vec<Owner<'f>>,
     patterns: &mut Vec<&'f Pattern>,
-) -> Result<Vec<Instr>, NoMemory>
-    requires { (part : TypedValue) × (left_of filter.now ≡ Some part)
-        × IsCode (owners_of owners.old.items) (sources_of patterns.old.items) part left.items }
-    ensures code { IfOk result (λ code.
-        IsCode (owners_of owners.new.items) (sources_of patterns.new.items) filter.now code.items) }
+    code: &mut Vec<Instr>,
+) -> Result<(), NoMemory>
+    requires { (part : TypedValue) × (left_of filter.now ≡ Some part) }
+    ensures code { OnOk result
+        (Adds (CodeRight (owners_of owners.new.items) (sources_of patterns.new.items) filter.now)
+        code.old.items code.new.items) }
     ensures owners { OnOk result (Grows (owners_of owners.old.items) (owners_of owners.new.items)) }
     ensures patterns { OnOk result (sources_of patterns.new.items
         ≡ sources_of patterns.old.items ++ patterns_right filter.now) }
 {
     match filter {
         Typed::Either(_, right) => {
-            let right = code_for(alloc, right, owners, patterns)?;
-            Ok(either(left, right)?)
+            let start = code.len();
+            code_for(alloc, right, owners, patterns, code)?;
+            let passed = code.len() - start;
+            emit_at(code, start, Instr::JumpTrue(passed))
         }
         Typed::Both(_, right) => {
-            let right = code_for(alloc, right, owners, patterns)?;
-            Ok(both(left, right)?)
+            let start = code.len();
+            code_for(alloc, right, owners, patterns, code)?;
+            let passed = code.len() - start;
+            emit_at(code, start, Instr::JumpFalse(passed))
         }
         Typed::Differ(part, right) => {
-            let register = own_part(owners, part)?;
-            let right = code_for(alloc, right, owners, patterns)?;
-            Ok(differing(left, register, right)?)
+            let register = own(owners, Owner::OfPart(part))?;
+            emit(code, Instr::Save(register))?;
+            code_for(alloc, right, owners, patterns, code)?;
+            emit(code, Instr::Differ(register))
         }
         _ => unreachable!(),
     }
 }
 
-/// The code for a filter that is no chain of signs.
+/// Appends the code for a filter that is no chain of signs.
 #[cycle(code)]
 fn code_alone<'f>(
     alloc: Global,
     filter: &'f Typed,
     owners: &mut Vec<Owner<'f>>,
     patterns: &mut Vec<&'f Pattern>,
-) -> Result<Vec<Instr>, NoMemory>
+    code: &mut Vec<Instr>,
+) -> Result<(), NoMemory>
     requires { IsTrue (is_single filter.now) }
-    ensures code { IfOk result (λ code.
-        IsCode (owners_of owners.new.items) (sources_of patterns.new.items) filter.now code.items) }
+    ensures code { OnOk result
+        (Adds (IsCode (owners_of owners.new.items) (sources_of patterns.new.items) filter.now)
+        code.old.items code.new.items) }
     ensures owners { OnOk result (Grows (owners_of owners.old.items) (owners_of owners.new.items)) }
     ensures patterns { OnOk result (sources_of patterns.new.items
         ≡ sources_of patterns.old.items ++ patterns_of filter.now) }
 {
     match filter {
         Typed::Not(inner) => {
-            let inner = code_for(alloc, inner, owners, patterns)?;
-            Ok(then(inner, Instr::Not)?)
+            code_for(alloc, inner, owners, patterns, code)?;
+            emit(code, Instr::Not)
         }
-        Typed::Exists(term) => Ok(load(alloc, Extreme::Least, term, owners)?.code),
+        Typed::Exists(term) => {
+            load(alloc, Extreme::Least, term, owners, code)?;
+            Ok(())
+        }
         Typed::AnyBit(term) => {
-            let loaded = load(alloc, Extreme::Least, term, owners)?;
-            Ok(then(loaded.code, Instr::NonZero(loaded.register))?)
+            let register = load(alloc, Extreme::Least, term, owners, code)?;
+            emit(code, Instr::NonZero(register))
         }
         Typed::Compare(relation, choice, left, right) => {
-            Ok(comparison(alloc, *relation, *choice, left, right, owners)?)
+            comparison(alloc, *relation, *choice, left, right, owners, code)
         }
         Typed::Among(negated, choice, term, members) => {
-            Ok(membership(alloc, *negated, *choice, term, members, owners)?)
+            membership(alloc, *negated, *choice, term, members, owners, code)
         }
         Typed::Matches(choice, term, pattern) => {
-            Ok(search(alloc, *choice, term, pattern, owners, patterns)?)
+            search(alloc, *choice, term, pattern, owners, patterns, code)
         }
         Typed::Either(_, _) | Typed::Differ(_, _) | Typed::Both(_, _) => unreachable!(),
     }
@@ -125,17 +137,16 @@ fn comparison<'f>(
     left: &'f Term,
     right: &'f Term,
     owners: &mut Vec<Owner<'f>>,
-) -> Result<Vec<Instr>, NoMemory>
-    ensures code { IfOk result (λ code.
-        Joins (LoadsTerm (owners_of owners.new.items) left.now)
+    code: &mut Vec<Instr>,
+) -> Result<(), NoMemory>
+    ensures code { OnOk result (Adds (Joins (LoadsTerm (owners_of owners.new.items) left.now)
         (LoadsTerm (owners_of owners.new.items) right.now)
-        (λ l r. instr.Test choice relation l r) code.items) }
+        (λ l r. instr.Test choice relation l r)) code.old.items code.new.items) }
     ensures owners { OnOk result (Grows (owners_of owners.old.items) (owners_of owners.new.items)) }
 {
-    let left = load(alloc, Extreme::Least, left, owners)?;
-    let right = load(alloc, Extreme::Least, right, owners)?;
-    let test = Instr::Test(choice, relation, left.register, right.register);
-    Ok(then_both(left.code, right.code, test)?)
+    let left = load(alloc, Extreme::Least, left, owners, code)?;
+    let right = load(alloc, Extreme::Least, right, owners, code)?;
+    emit(code, Instr::Test(choice, relation, left, right))
 }
 
 /// A test of a set, and NOT behind `not in`.
@@ -146,15 +157,22 @@ fn membership<'f>(
     term: &'f Term,
     members: &[Member],
     owners: &mut Vec<Owner<'f>>,
-) -> Result<Vec<Instr>, NoMemory>
-    ensures code { IfOk result (λ code. (r : ℕ) × (a : List InstrValue)
-        × LoadsTerm (owners_of owners.new.items) term.now r a
-        × (code.items ≡ a ++ instr.In choice r members.now ∷ turned_by negated)) }
+    code: &mut Vec<Instr>,
+) -> Result<(), NoMemory>
+    ensures code { OnOk result
+        (Adds (IsAmong (owners_of owners.new.items) term.now choice members.now negated)
+        code.old.items code.new.items) }
     ensures owners { OnOk result (Grows (owners_of owners.old.items) (owners_of owners.new.items)) }
 {
-    let loaded = load(alloc, Extreme::Least, term, owners)?;
-    let test = Instr::In(choice, loaded.register, copied_members(alloc, members)?);
-    Ok(turned(loaded.code, test, negated)?)
+    let register = load(alloc, Extreme::Least, term, owners, code)?;
+    emit(
+        code,
+        Instr::In(choice, register, copied_members(alloc, members)?),
+    )?;
+    if negated {
+        return emit(code, Instr::Not);
+    }
+    Ok(())
 }
 
 /// A search for a pattern, which is named by its number.
@@ -165,17 +183,17 @@ fn search<'f>(
     pattern: &'f Pattern,
     owners: &mut Vec<Owner<'f>>,
     patterns: &mut Vec<&'f Pattern>,
-) -> Result<Vec<Instr>, NoMemory>
-    ensures code { IfOk result (λ code. (n : ℕ)
-        × IsPatternAt (sources_of patterns.new.items) n pattern.now
-        × Then (LoadsTerm (owners_of owners.new.items) term.now)
-        (λ r. instr.Match choice r n) code.items) }
+    code: &mut Vec<Instr>,
+) -> Result<(), NoMemory>
+    ensures code { OnOk result
+        (Adds (IsMatch (owners_of owners.new.items) (sources_of patterns.new.items)
+        term.now choice pattern.now) code.old.items code.new.items) }
     ensures owners { OnOk result (Grows (owners_of owners.old.items) (owners_of owners.new.items)) }
     ensures patterns { OnOk result (sources_of patterns.new.items
         ≡ sources_of patterns.old.items ++ pattern.now ∷ []) }
 {
-    let loaded = load(alloc, Extreme::Least, term, owners)?;
+    let register = load(alloc, Extreme::Least, term, owners, code)?;
     let number = patterns.len();
     patterns.push(pattern)?;
-    Ok(then(loaded.code, Instr::Match(choice, loaded.register, number))?)
+    emit(code, Instr::Match(choice, register, number))
 }

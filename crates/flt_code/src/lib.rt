@@ -3,7 +3,7 @@
 
 mod code;
 mod compiler;
-mod joins;
+mod emits;
 mod laws;
 mod lines;
 mod literals;

@@ -1,6 +1,7 @@
 // The texts of fields, ranges and literals in a listing.
 ghost use Rattle.std.specs.Prelude.{◌≡◌, ◌++◌, codes, OnOk};
 ghost use Rattle.std.specs.List.{flat_map, join_by};
+ghost use Rattle.pk_text.specs.Ip6.{ip6_shown};
 ghost use Rattle.flt_code.specs.Literals.{bytes_shown, constant_shown, field_shown, layer_range_shown, layers_shown, member_shown, members_shown, place_shown, prefix_shown, quoted_byte, range_shown, ranges_shown, string_shown, value_shown};
 
 use flt_syntax::{Place, RangePart};
@@ -203,10 +204,17 @@ fn put_value(alloc: Global, line: &mut Vec<u8>, quoted: bool, value: &Value) -> 
         Value::Text(bytes) => put_string(line, bytes.bytes()),
         Value::Ether(address) => put_ether(line, address),
         Value::Ip4(address) => put_ip4(line, *address),
-        Value::Ip6(address) => line.put_text(ip6_text(alloc, *address)?.as_str()),
+        Value::Ip6(address) => put_ip6(alloc, line, *address),
         Value::Time(time) => put_time(line, *time),
         Value::Proto(bytes) => put_bytes(line, quoted, bytes.bytes()),
     }
+}
+
+fn put_ip6(alloc: Global, line: &mut Vec<u8>, address: u128) -> Result<(), NoMemory>
+    ensures { OnOk result (line.new.items ≡ line.old.items ++ ip6_shown address) }
+{
+    let text = ip6_text(alloc, address)?;
+    line.put_text(text.as_str())
 }
 
 fn put_bytes(line: &mut Vec<u8>, quoted: bool, bytes: &[u8]) -> Result<(), NoMemory>

@@ -1,137 +1,192 @@
 // The code that sets a register to the values of a term.
 ghost use Rattle.std.specs.Prelude.{◌≡◌, IfOk, IsTrue, OnOk, Some};
-ghost use Rattle.flt_code.specs.Code.{Loads, LoadsCall, LoadsExtreme, Makes, is_several as is_several_term};
-ghost use Rattle.flt_code.specs.Owners.{Grows, OfTerm, owners_of};
+ghost use Rattle.flt_code.specs.Code.{Adds, Loads, LoadsCall, LoadsExtreme, LoadsRight, Makes, Sets, is_several as is_several_term};
+ghost use Rattle.flt_code.specs.Owners.{Grows, IsOwned, OfTerm, owners_of};
 ghost use Rattle.flt_code.specs.Spines.{left_of_term};
 ghost use Rattle.flt_mean.specs.Terms.{is_part};
-ghost use Rattle.flt_types.specs.declared.typed.Term.{Term as TermValue};
 ghost use Rattle.flt_syntax.specs.declared.ast.Function.TheVariants.{Count};
+ghost use Rattle.flt_types.specs.declared.typed.Term.{Term as TermValue};
+ghost use Rattle.flt_types.specs.declared.typed.Term.TheVariants.{Field};
 ghost use Rattle.flt_values.specs.declared.arithmetic.Extreme.TheVariants.{Least};
 ghost use Rattle.flt_vm.specs.declared.instr.Instr.TheVariants as instr;
 
-use crate::joins::{alone, then, then_both};
-use crate::owners::{Owner, own_extreme, own_term, register_for};
-use crate::spines::{Terms, terms_of};
-use flt_syntax::Function;
+use crate::emits::emit;
+use crate::owners::{Owner, own, register_for};
+use crate::spines::term_below;
+use flt_syntax::{Function, RangePart};
 use flt_types::Term;
-use flt_values::Extreme;
+use flt_values::{Constant, Extreme};
 use flt_vm::{Instr, copied_layers, copied_ranges};
 use pk_base::NoMemory;
+use pk_fields::FieldId;
+use pk_tree::Layers;
 use std::alloc::Global;
 
-/// Code, and the register that it sets.
-#[derive(Drop)]
-pub(crate) struct Loaded {
-    pub(crate) register: usize,
-    pub(crate) code: Vec<Instr>,
-}
-
-/// The code for a term. Of several arguments it makes the extreme that is asked for. What signs and commas join is made
-/// one after the other, so that no call nests as deep as they do.
+/// Appends the code for a term, and gives the register that it sets. Of several arguments it makes the extreme that is asked
+/// for. What signs and commas join is made one after the other, so that no call nests as deep as they do.
 #[cycle(load)]
 pub(crate) fn load<'f>(
     alloc: Global,
     extreme: Extreme,
     term: &'f Term,
     owners: &mut Vec<Owner<'f>>,
-) -> Result<Loaded, NoMemory>
-    ensures code { IfOk result (λ l.
-        Loads (owners_of owners.new.items) extreme term.now l.register l.code.items) }
+    code: &mut Vec<Instr>,
+) -> Result<usize, NoMemory>
+    ensures code { IfOk result (λ r. Adds (Loads (owners_of owners.new.items) extreme term.now r)
+        code.old.items code.new.items) }
     ensures grows { OnOk result (Grows (owners_of owners.old.items) (owners_of owners.new.items)) }
 {
-    let Terms { first, mut above } = terms_of(alloc, term)?;
-    let mut loaded = load_part(alloc, extreme, first, owners)?;
+    let mut above = Vec::new(alloc);
+    let first = term_below(term, &mut above)?;
+    let mut register = load_part(alloc, extreme, first, owners, code)?;
     'above: while let Some(next) = above.pop() {
-        loaded = load_joined(alloc, extreme, loaded, next, owners)?;
+        register = load_joined(alloc, extreme, register, next, owners, code)?;
     }
-    Ok(loaded)
+    Ok(register)
 }
 
-/// The code for a term whose left part is loaded.
+/// Appends what stands behind the code of a term's left part.
 #[cycle(load)]
 fn load_joined<'f>(
     alloc: Global,
     extreme: Extreme,
-    left: Loaded,
+    left: usize,
     term: &'f Term,
     owners: &mut Vec<Owner<'f>>,
-) -> Result<Loaded, NoMemory>
-    requires { (part : TermValue) × (left_of_term term.now ≡ Some part)
-        × Loads (owners_of owners.old.items) extreme part left.register left.code.items }
-    ensures code { IfOk result (λ l.
-        Loads (owners_of owners.new.items) extreme term.now l.register l.code.items) }
+    code: &mut Vec<Instr>,
+) -> Result<usize, NoMemory>
+    requires { (part : TermValue) × (left_of_term term.now ≡ Some part) }
+    ensures code { IfOk result (λ r.
+        Adds (LoadsRight (owners_of owners.new.items) extreme term.now left r)
+        code.old.items code.new.items) }
     ensures grows { OnOk result (Grows (owners_of owners.old.items) (owners_of owners.new.items)) }
 {
     match term {
         Term::Computed(operation, _, right) => {
-            let right = load(alloc, extreme, right, owners)?;
-            let register = own_term(owners, term)?;
-            let next = Instr::Compute(register, *operation, left.register, right.register);
-            let code = then_both(left.code, right.code, next)?;
-            Ok(Loaded { register, code })
+            let (right, register) = load_inner(alloc, extreme, right, term, owners, code)?;
+            emit(code, Instr::Compute(register, *operation, left, right))?;
+            Ok(register)
         }
         Term::Arguments(_, right) => {
-            let right = load(alloc, extreme, right, owners)?;
-            let register = own_extreme(owners, extreme, term)?;
-            let next = Instr::Choose(register, extreme, left.register, right.register);
-            let code = then_both(left.code, right.code, next)?;
-            Ok(Loaded { register, code })
+            let right = load(alloc, extreme, right, owners, code)?;
+            let register = own(owners, Owner::OfExtreme(extreme, term))?;
+            emit(code, Instr::Choose(register, extreme, left, right))?;
+            Ok(register)
         }
         _ => unreachable!(),
     }
 }
 
-/// The code for a term whose parts no sign or comma joins.
+/// Appends the code for a term whose parts no sign or comma joins.
 #[cycle(load)]
 fn load_part<'f>(
     alloc: Global,
     extreme: Extreme,
     term: &'f Term,
     owners: &mut Vec<Owner<'f>>,
-) -> Result<Loaded, NoMemory>
+    code: &mut Vec<Instr>,
+) -> Result<usize, NoMemory>
     requires { IsTrue (is_part term.now) }
-    ensures code { IfOk result (λ l.
-        Loads (owners_of owners.new.items) extreme term.now l.register l.code.items) }
+    ensures code { IfOk result (λ r. Adds (Loads (owners_of owners.new.items) extreme term.now r)
+        code.old.items code.new.items) }
     ensures grows { OnOk result (Grows (owners_of owners.old.items) (owners_of owners.new.items)) }
 {
     match term {
-        Term::Constant(constant) => {
-            let register = own_term(owners, term)?;
-            let code = alone(alloc, Instr::Const(register, constant.clone()?))?;
-            Ok(Loaded { register, code })
-        }
-        Term::Field(field, layers) => {
-            let register = register_for(owners, term, *field, layers)?;
-            let read = Instr::Read(register, *field, copied_layers(alloc, layers)?);
-            Ok(Loaded {
-                register,
-                code: alone(alloc, read)?,
-            })
-        }
-        Term::Slice(inner, ranges) => {
-            let inner = load(alloc, extreme, inner, owners)?;
-            let register = own_term(owners, term)?;
-            let next = Instr::Slice(register, inner.register, copied_ranges(alloc, ranges)?);
-            Ok(Loaded {
-                register,
-                code: then(inner.code, next)?,
-            })
-        }
-        Term::Mask(inner, mask) => {
-            let inner = load(alloc, extreme, inner, owners)?;
-            let register = own_term(owners, term)?;
-            let next = Instr::Mask(register, inner.register, *mask);
-            Ok(Loaded {
-                register,
-                code: then(inner.code, next)?,
-            })
-        }
-        Term::Called(function, inner) => Ok(load_call(alloc, *function, inner, term, owners)?),
+        Term::Constant(constant) => load_constant(constant, term, owners, code),
+        Term::Field(field, layers) => load_field(alloc, *field, layers, term, owners, code),
+        Term::Slice(inner, ranges) => load_slice(alloc, extreme, inner, ranges, term, owners, code),
+        Term::Mask(inner, mask) => load_mask(alloc, extreme, inner, *mask, term, owners, code),
+        Term::Called(function, inner) => load_call(alloc, *function, inner, term, owners, code),
         Term::Computed(_, _, _) | Term::Arguments(_, _) => unreachable!(),
     }
 }
 
-/// The code for what a function gives of a term.
+/// Appends the code for a literal.
+fn load_constant<'f>(
+    constant: &Constant,
+    term: &'f Term,
+    owners: &mut Vec<Owner<'f>>,
+    code: &mut Vec<Instr>,
+) -> Result<usize, NoMemory>
+    ensures code { IfOk result (λ r. Sets (owners_of owners.new.items) (OfTerm term.now) r
+        (instr.Const r constant.now) code.old.items code.new.items) }
+    ensures grows { OnOk result (Grows (owners_of owners.old.items) (owners_of owners.new.items)) }
+{
+    let register = own(owners, Owner::OfTerm(term))?;
+    emit(code, Instr::Const(register, constant.clone()?))?;
+    Ok(register)
+}
+
+/// Appends the code for a field.
+fn load_field<'f>(
+    alloc: Global,
+    field: FieldId,
+    layers: &Layers,
+    term: &'f Term,
+    owners: &mut Vec<Owner<'f>>,
+    code: &mut Vec<Instr>,
+) -> Result<usize, NoMemory>
+    requires { term.now ≡ Field field layers.now }
+    ensures code { IfOk result (λ r. Sets (owners_of owners.new.items) (OfTerm term.now) r
+        (instr.Read r field layers.now) code.old.items code.new.items) }
+    ensures grows { OnOk result (Grows (owners_of owners.old.items) (owners_of owners.new.items)) }
+{
+    let register = register_for(owners, term, field, layers)?;
+    emit(
+        code,
+        Instr::Read(register, field, copied_layers(alloc, layers)?),
+    )?;
+    Ok(register)
+}
+
+/// Appends the code for the slices of a term.
+#[cycle(load)]
+fn load_slice<'f>(
+    alloc: Global,
+    extreme: Extreme,
+    inner: &'f Term,
+    ranges: &[RangePart],
+    term: &'f Term,
+    owners: &mut Vec<Owner<'f>>,
+    code: &mut Vec<Instr>,
+) -> Result<usize, NoMemory>
+    ensures code { IfOk result (λ r. Adds
+        (Makes (owners_of owners.new.items) (OfTerm term.now) r
+        (Loads (owners_of owners.new.items) extreme inner.now) (λ q. instr.Slice r q ranges.now))
+        code.old.items code.new.items) }
+    ensures grows { OnOk result (Grows (owners_of owners.old.items) (owners_of owners.new.items)) }
+{
+    let (inner, register) = load_inner(alloc, extreme, inner, term, owners, code)?;
+    emit(
+        code,
+        Instr::Slice(register, inner, copied_ranges(alloc, ranges)?),
+    )?;
+    Ok(register)
+}
+
+/// Appends the code for the masked numbers of a term.
+#[cycle(load)]
+fn load_mask<'f>(
+    alloc: Global,
+    extreme: Extreme,
+    inner: &'f Term,
+    mask: u64,
+    term: &'f Term,
+    owners: &mut Vec<Owner<'f>>,
+    code: &mut Vec<Instr>,
+) -> Result<usize, NoMemory>
+    ensures code { IfOk result (λ r. Adds
+        (Makes (owners_of owners.new.items) (OfTerm term.now) r
+        (Loads (owners_of owners.new.items) extreme inner.now) (λ q. instr.Mask r q mask))
+        code.old.items code.new.items) }
+    ensures grows { OnOk result (Grows (owners_of owners.old.items) (owners_of owners.new.items)) }
+{
+    let (inner, register) = load_inner(alloc, extreme, inner, term, owners, code)?;
+    emit(code, Instr::Mask(register, inner, mask))?;
+    Ok(register)
+}
+
+/// Appends the code for what a function gives of a term.
 #[cycle(load)]
 fn load_call<'f>(
     alloc: Global,
@@ -139,49 +194,67 @@ fn load_call<'f>(
     inner: &'f Term,
     term: &'f Term,
     owners: &mut Vec<Owner<'f>>,
-) -> Result<Loaded, NoMemory>
-    ensures code { IfOk result (λ l.
-        LoadsCall (owners_of owners.new.items) function (OfTerm term.now) inner.now
-        (λ e. Loads (owners_of owners.new.items) e inner.now) l.register l.code.items) }
+    code: &mut Vec<Instr>,
+) -> Result<usize, NoMemory>
+    ensures code { IfOk result (λ r. Adds
+        (LoadsCall (owners_of owners.new.items) function (OfTerm term.now) inner.now
+        (λ e. Loads (owners_of owners.new.items) e inner.now) r)
+        code.old.items code.new.items) }
     ensures grows { OnOk result (Grows (owners_of owners.old.items) (owners_of owners.new.items)) }
 {
     match function {
-        Function::Count => Ok(load_count(alloc, inner, term, owners)?),
-        Function::Min => Ok(load_extreme(alloc, Extreme::Least, inner, term, owners)?),
-        Function::Max => Ok(load_extreme(alloc, Extreme::Greatest, inner, term, owners)?),
+        Function::Count => load_count(alloc, inner, term, owners, code),
+        Function::Min => load_extreme(alloc, Extreme::Least, inner, term, owners, code),
+        Function::Max => load_extreme(alloc, Extreme::Greatest, inner, term, owners, code),
         Function::Len | Function::Upper | Function::Lower => {
-            Ok(load_each(alloc, function, inner, term, owners)?)
+            load_each(alloc, function, inner, term, owners, code)
         }
     }
 }
 
-/// The code for `count`.
+/// Appends the code for `count`.
 #[cycle(load)]
 fn load_count<'f>(
     alloc: Global,
     inner: &'f Term,
     term: &'f Term,
     owners: &mut Vec<Owner<'f>>,
-) -> Result<Loaded, NoMemory>
-    ensures code { IfOk result (λ l.
-        LoadsCall (owners_of owners.new.items) Count (OfTerm term.now) inner.now
-        (λ e. Loads (owners_of owners.new.items) e inner.now) l.register l.code.items) }
+    code: &mut Vec<Instr>,
+) -> Result<usize, NoMemory>
+    ensures code { IfOk result (λ r. Adds
+        (LoadsCall (owners_of owners.new.items) Count (OfTerm term.now) inner.now
+        (λ e. Loads (owners_of owners.new.items) e inner.now) r)
+        code.old.items code.new.items) }
     ensures grows { OnOk result (Grows (owners_of owners.old.items) (owners_of owners.new.items)) }
 {
     match inner {
-        Term::Field(field, layers) => {
-            let register = own_term(owners, term)?;
-            let count = Instr::Count(register, *field, copied_layers(alloc, layers)?);
-            Ok(Loaded {
-                register,
-                code: alone(alloc, count)?,
-            })
-        }
-        inner => Ok(load_each(alloc, Function::Count, inner, term, owners)?),
+        Term::Field(field, layers) => count_field(alloc, *field, layers, term, owners, code),
+        inner => load_each(alloc, Function::Count, inner, term, owners, code),
     }
 }
 
-/// The code for `min` and `max`. Several arguments make what is asked for by themselves.
+/// Appends the code for how many values a field has.
+fn count_field<'f>(
+    alloc: Global,
+    field: FieldId,
+    layers: &Layers,
+    term: &'f Term,
+    owners: &mut Vec<Owner<'f>>,
+    code: &mut Vec<Instr>,
+) -> Result<usize, NoMemory>
+    ensures code { IfOk result (λ r. Sets (owners_of owners.new.items) (OfTerm term.now) r
+        (instr.Count r field layers.now) code.old.items code.new.items) }
+    ensures grows { OnOk result (Grows (owners_of owners.old.items) (owners_of owners.new.items)) }
+{
+    let register = own(owners, Owner::OfTerm(term))?;
+    emit(
+        code,
+        Instr::Count(register, field, copied_layers(alloc, layers)?),
+    )?;
+    Ok(register)
+}
+
+/// Appends the code for `min` and `max`. Several arguments make what is asked for by themselves.
 #[cycle(load)]
 fn load_extreme<'f>(
     alloc: Global,
@@ -189,20 +262,20 @@ fn load_extreme<'f>(
     inner: &'f Term,
     term: &'f Term,
     owners: &mut Vec<Owner<'f>>,
-) -> Result<Loaded, NoMemory>
-    ensures code { IfOk result (λ l.
-        LoadsExtreme (owners_of owners.new.items) extreme (OfTerm term.now) inner.now
-        (Loads (owners_of owners.new.items) extreme inner.now) l.register l.code.items) }
+    code: &mut Vec<Instr>,
+) -> Result<usize, NoMemory>
+    ensures code { IfOk result (λ r. Adds
+        (LoadsExtreme (owners_of owners.new.items) extreme (OfTerm term.now) inner.now
+        (Loads (owners_of owners.new.items) extreme inner.now) r)
+        code.old.items code.new.items) }
     ensures grows { OnOk result (Grows (owners_of owners.old.items) (owners_of owners.new.items)) }
 {
-    let arguments = load(alloc, extreme, inner, owners)?;
     if is_several(inner) {
-        return Ok(arguments);
+        return load(alloc, extreme, inner, owners, code);
     }
-    let register = own_term(owners, term)?;
-    let next = Instr::Choose(register, extreme, arguments.register, arguments.register);
-    let code = then(arguments.code, next)?;
-    Ok(Loaded { register, code })
+    let (arguments, register) = load_inner(alloc, extreme, inner, term, owners, code)?;
+    emit(code, Instr::Choose(register, extreme, arguments, arguments))?;
+    Ok(register)
 }
 
 /// Whether a term is several arguments.
@@ -212,7 +285,7 @@ fn is_several(term: &Term) -> bool
     matches!(term, Term::Arguments(_, _))
 }
 
-/// The code for what a function gives of each value.
+/// Appends the code for what a function gives of each value.
 #[cycle(load)]
 fn load_each<'f>(
     alloc: Global,
@@ -220,15 +293,37 @@ fn load_each<'f>(
     inner: &'f Term,
     term: &'f Term,
     owners: &mut Vec<Owner<'f>>,
-) -> Result<Loaded, NoMemory>
-    ensures code { IfOk result (λ l.
-        Makes (owners_of owners.new.items) (OfTerm term.now) l.register
-        (Loads (owners_of owners.new.items) Least inner.now)
-        (λ q. instr.Call l.register function q) l.code.items) }
+    code: &mut Vec<Instr>,
+) -> Result<usize, NoMemory>
+    ensures code { IfOk result (λ r. Adds
+        (Makes (owners_of owners.new.items) (OfTerm term.now) r
+        (Loads (owners_of owners.new.items) Least inner.now) (λ q. instr.Call r function q))
+        code.old.items code.new.items) }
     ensures grows { OnOk result (Grows (owners_of owners.old.items) (owners_of owners.new.items)) }
 {
-    let inner = load(alloc, Extreme::Least, inner, owners)?;
-    let register = own_term(owners, term)?;
-    let code = then(inner.code, Instr::Call(register, function, inner.register))?;
-    Ok(Loaded { register, code })
+    let (inner, register) = load_inner(alloc, Extreme::Least, inner, term, owners, code)?;
+    emit(code, Instr::Call(register, function, inner))?;
+    Ok(register)
+}
+
+/// Appends the code for the term that another is made of. Gives the register that it sets, and one for the other.
+#[cycle(load)]
+fn load_inner<'f>(
+    alloc: Global,
+    extreme: Extreme,
+    inner: &'f Term,
+    term: &'f Term,
+    owners: &mut Vec<Owner<'f>>,
+    code: &mut Vec<Instr>,
+) -> Result<(usize, usize), NoMemory>
+    ensures code { IfOk result (λ both. Adds
+        (Loads (owners_of owners.new.items) extreme inner.now both.0)
+        code.old.items code.new.items) }
+    ensures owned { IfOk result (λ both.
+        IsOwned (owners_of owners.new.items) both.1 (OfTerm term.now)) }
+    ensures grows { OnOk result (Grows (owners_of owners.old.items) (owners_of owners.new.items)) }
+{
+    let inner = load(alloc, extreme, inner, owners, code)?;
+    let register = own(owners, Owner::OfTerm(term))?;
+    Ok((inner, register))
 }

@@ -1,6 +1,6 @@
 // Whose the registers are.
 ghost use Rattle.std.specs.Prelude.{◌≡◌, IfOk, IsTrue, OnOk};
-ghost use Rattle.flt_code.specs.Owners.{Grows, IsOwned, OfExtreme, OfPart, OfTerm, owner_of, owners_of};
+ghost use Rattle.flt_code.specs.Owners.{Grows, IsOwned, OfTerm, owner_of, owners_of};
 ghost use Rattle.flt_types.specs.declared.typed.Term.TheVariants.{Field};
 
 use flt_types::{Term, Typed};
@@ -20,41 +20,14 @@ pub(crate) enum Owner<'f> {
     OfPart(&'f Typed),
 }
 
-/// A register for the values of a term.
+/// A register for an owner.
 #[tactic(auto, using(crate::proofs::OwnerLemmas::owned_last, crate::proofs::OwnerLemmas::owners_grow))]
-pub(crate) fn own_term<'f>(owners: &mut Vec<Owner<'f>>, term: &'f Term) -> Result<usize, NoMemory>
-    ensures owned { IfOk result (λ r. IsOwned (owners_of owners.new.items) r (OfTerm term.now)) }
+pub(crate) fn own<'f>(owners: &mut Vec<Owner<'f>>, owner: Owner<'f>) -> Result<usize, NoMemory>
+    ensures owned { IfOk result (λ r. IsOwned (owners_of owners.new.items) r (owner_of owner.entry)) }
     ensures grows { OnOk result (Grows (owners_of owners.old.items) (owners_of owners.new.items)) }
 {
     let register = owners.len();
-    owners.push(Owner::OfTerm(term))?;
-    Ok(register)
-}
-
-/// A register for the least or the greatest number of a term.
-#[tactic(auto, using(crate::proofs::OwnerLemmas::owned_last, crate::proofs::OwnerLemmas::owners_grow))]
-pub(crate) fn own_extreme<'f>(
-    owners: &mut Vec<Owner<'f>>,
-    extreme: Extreme,
-    term: &'f Term,
-) -> Result<usize, NoMemory>
-    ensures owned { IfOk result (λ r.
-        IsOwned (owners_of owners.new.items) r (OfExtreme extreme term.now)) }
-    ensures grows { OnOk result (Grows (owners_of owners.old.items) (owners_of owners.new.items)) }
-{
-    let register = owners.len();
-    owners.push(Owner::OfExtreme(extreme, term))?;
-    Ok(register)
-}
-
-/// A register for the truth of a part of the filter.
-#[tactic(auto, using(crate::proofs::OwnerLemmas::owned_last, crate::proofs::OwnerLemmas::owners_grow))]
-pub(crate) fn own_part<'f>(owners: &mut Vec<Owner<'f>>, part: &'f Typed) -> Result<usize, NoMemory>
-    ensures owned { IfOk result (λ r. IsOwned (owners_of owners.new.items) r (OfPart part.now)) }
-    ensures grows { OnOk result (Grows (owners_of owners.old.items) (owners_of owners.new.items)) }
-{
-    let register = owners.len();
-    owners.push(Owner::OfPart(part))?;
+    owners.push(owner)?;
     Ok(register)
 }
 
@@ -74,7 +47,7 @@ pub(crate) fn register_for<'f>(
             return Ok(register);
         }
     }
-    Ok(own_term(owners, term)?)
+    own(owners, Owner::OfTerm(term))
 }
 
 /// Whether a register is the field's, in the same layers. Chosen layers aren't compared.

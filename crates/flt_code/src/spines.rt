@@ -1,34 +1,23 @@
 // Chains of signs, taken apart.
-ghost use Rattle.std.specs.Prelude.{IfOk, IsTrue};
+ghost use Rattle.std.specs.Prelude.{◌≡◌, [], IfOk, IsTrue};
 ghost use Rattle.flt_code.specs.Spines.{Stands, left_of, left_of_term};
 ghost use Rattle.flt_mean.specs.Chains.{is_single};
 ghost use Rattle.flt_mean.specs.Terms.{is_part};
 
 use flt_types::{Term, Typed};
 use pk_base::NoMemory;
-use std::alloc::Global;
 
-/// The first part of a chain, and what stands from the whole down to it, the whole first.
-#[derive(Drop)]
-pub(crate) struct Terms<'f> {
-    pub(crate) first: &'f Term,
-    pub(crate) above: Vec<&'f Term>,
-}
-
-/// The same of a filter.
-#[derive(Drop)]
-pub(crate) struct Parts<'f> {
-    pub(crate) first: &'f Typed,
-    pub(crate) above: Vec<&'f Typed>,
-}
-
-/// Takes the signs and commas of a term apart. Takes no memory where there is none.
-pub(crate) fn terms_of<'f>(alloc: Global, term: &'f Term) -> Result<Terms<'f>, NoMemory>
-    ensures stands { IfOk result (λ t.
-        Stands left_of_term term.now t.above.items t.first.now) }
-    ensures part { IfOk result (λ t. IsTrue (is_part t.first.now)) }
+/// The first part of what signs and commas join to a term, and what stands from the whole down to it, the whole first. Takes
+/// no memory where there is none.
+pub(crate) fn term_below<'f>(
+    term: &'f Term,
+    above: &mut Vec<&'f Term>,
+) -> Result<&'f Term, NoMemory>
+    requires { above.old.items ≡ [] }
+    ensures stands { IfOk result (λ first.
+        Stands left_of_term term.now above.new.items first.now) }
+    ensures part { IfOk result (λ first. IsTrue (is_part first.now)) }
 {
-    let mut above = Vec::new(alloc);
     let mut first = term;
     'signs: loop {
         match first {
@@ -39,15 +28,18 @@ pub(crate) fn terms_of<'f>(alloc: Global, term: &'f Term) -> Result<Terms<'f>, N
             _ => break,
         }
     }
-    Ok(Terms { first, above })
+    Ok(first)
 }
 
-/// Takes the signs of a filter apart. Takes no memory where there is none.
-pub(crate) fn parts_of<'f>(alloc: Global, filter: &'f Typed) -> Result<Parts<'f>, NoMemory>
-    ensures stands { IfOk result (λ t. Stands left_of filter.now t.above.items t.first.now) }
-    ensures single { IfOk result (λ t. IsTrue (is_single t.first.now)) }
+/// The same of a filter.
+pub(crate) fn filter_below<'f>(
+    filter: &'f Typed,
+    above: &mut Vec<&'f Typed>,
+) -> Result<&'f Typed, NoMemory>
+    requires { above.old.items ≡ [] }
+    ensures stands { IfOk result (λ first. Stands left_of filter.now above.new.items first.now) }
+    ensures single { IfOk result (λ first. IsTrue (is_single first.now)) }
 {
-    let mut above = Vec::new(alloc);
     let mut first = filter;
     'signs: loop {
         match first {
@@ -58,5 +50,5 @@ pub(crate) fn parts_of<'f>(alloc: Global, filter: &'f Typed) -> Result<Parts<'f>
             _ => break,
         }
     }
-    Ok(Parts { first, above })
+    Ok(first)
 }

@@ -1,5 +1,5 @@
 use Rattle.std.proofs.Common.{◌≡◌, ◌+◌, ◌*◌, ◌++◌, vec_len}
-use Rattle.flt_code.specs.Code.{IsCode}
+use Rattle.flt_code.specs.Code.{Adds, IsCode}
 use Rattle.flt_code.specs.Owners.{Grows, owners_of}
 use Rattle.flt_code.specs.Spines.{Stands, left_of, sources_of}
 use Rattle.flt_mean.specs.Chains.{parts}
@@ -18,7 +18,7 @@ decreases-code_alone l = 2 * parts l.filter.now
 
 abbrev pub invariant-code_for-above : goal.invariant-code_for-above
 invariant-code_for-above l = record {
-  chain : (part : Typed) × Stands left_of l.fn.filter l.above.items part × IsCode (owners_of l.owners.items) (sources_of l.patterns.items) part l.code.items
+  chain : (part : Typed) × Stands left_of l.fn.filter l.above.items part × Adds (IsCode (owners_of l.owners.items) (sources_of l.patterns.items) part) l.fn.code.items l.code.items
       × (sources_of l.patterns.items ≡ sources_of l.fn.patterns.items ++ patterns_of part);
   grows : Grows (owners_of l.fn.owners.items) (owners_of l.owners.items);
 }

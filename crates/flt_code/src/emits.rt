@@ -1,0 +1,22 @@
+// Code, as it grows.
+ghost use Rattle.std.specs.Prelude.{◌≡◌, ◌++◌, ◌≤◌, [], ◌∷◌, insert, OnOk, vec_len};
+
+use flt_vm::Instr;
+use pk_base::NoMemory;
+
+/// One more instruction.
+pub(crate) fn emit(code: &mut Vec<Instr>, instr: Instr) -> Result<(), NoMemory>
+    ensures { OnOk result (code.new.items ≡ code.old.items ++ instr ∷ []) }
+{
+    code.push(instr)?;
+    Ok(())
+}
+
+/// An instruction before those from a place on.
+pub(crate) fn emit_at(code: &mut Vec<Instr>, at: usize, instr: Instr) -> Result<(), NoMemory>
+    requires { at ≤ vec_len code.old }
+    ensures { OnOk result (code.new.items ≡ insert code.old.items at instr) }
+{
+    code.insert(at, instr)?;
+    Ok(())
+}
