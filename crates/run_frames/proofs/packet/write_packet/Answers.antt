@@ -1,5 +1,6 @@
 use Rattle.std.proofs.Common.{sym, ◌∙◌}
 use Rattle.run_frames.specs.Satisfied.{satisfies}
+use Rattle.run_frames.proofs.CalmLemmas.{calm_counted}
 use Rattle.run_frames.proofs.PacketLemmas.{packed_added, packed_part}
 use Rattle.run_frames.proofs.packet.write_packet.Goals as goal
 
@@ -17,3 +18,6 @@ pub returns-clause-part : goal.returns-clause-part
 returns-clause-part g c =
     packed_part (satisfies c.args.judge.now c.args.tree.now) c.args.writer.now c.add.new.self c.args.frame.now c.in-Ok-Bytes.packet (g.O.Sink.written c.args.out.now) (g.O.Sink.written c.write_whole.new.sink)
     (sym c.in-Ok-true.ensures.truth ∙ c.in-Ok-true.field-0-test) (rw c.in-Ok-Bytes.field-0-is at c.in-Ok-Bytes.ensures.adds) (rw c.in-Ok-Bytes.field-0-is at c.in-Ok-Bytes.ensures.stands) (rw c.bytes.ensures at c.write_whole.ensures.part)
+
+pub returns-clause-calm : goal.returns-clause-calm
+returns-clause-calm g c = calm_counted c.in-Err-write_whole.fault _ _ _ _ c.in-Err-write_whole.ensures.counts
