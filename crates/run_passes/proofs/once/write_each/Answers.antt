@@ -1,14 +1,17 @@
 use Rattle.std.proofs.Common.{◌∙◌, ap, sym, subst, ℕ, List, [], ◌∷◌, suc, Err, refl, arith}
 use Rattle.port_rules.specs.declared.rules.DecodeAs.{DecodeAs}
 use Rattle.pk_base.specs.Limits.{file_limit}
+use Rattle.capture_read.specs.declared.ending.Ending.TheVariants.{Whole}
 use Rattle.capture_read.proofs.TakenLemmas.{took_none}
-use Rattle.run_passes.proofs.FaultLemmas.{caused_write, cut_off, read_further, rose_before, write_caused}
+use Rattle.run_passes.proofs.FaultLemmas.{caused_write, cut_off, never_spent, read_further, rose_before, write_caused}
 use Rattle.run_passes.proofs.Together.{few_taken, has_taken, takeable, together_after}
+use Rattle.run_frames.specs.declared.frames.RunFault.TheVariants.{WriteFault}
+use Rattle.run_frames.proofs.CalmLemmas.{calm_err, calm_ok}
 use Rattle.run_frames.proofs.TotalsLemmas.{few_after, few_begun}
-use Rattle.run_passes.proofs.WayLemmas.{way_begun, way_further, way_stopped, way_full, read_full, full_near, way_ended, read_ended, ended_near, way_unread, way_unfit, read_unfit, unfit_near, broken_part, broken_near, way_took, serves_once}
+use Rattle.run_passes.proofs.WayLemmas.{way_begun, way_further, way_stopped, way_full, read_full, full_near, way_ended, read_ended, ended_near, end_near, end_unfit, way_unread, way_unfit, read_unfit, broken_part, broken_near, way_took, serves_once}
 use Rattle.run_frames.specs.Job.{One}
 use Rattle.run_frames.specs.Wanted.{IsEnough}
-use Rattle.run_passes.proofs.once.write_rest.Goals as goal
+use Rattle.run_passes.proofs.once.write_each.Goals as goal
 
 pub loop-alloc-init : goal.loop-alloc-init
 loop-alloc-init g c =
@@ -28,8 +31,8 @@ loop-alloc-init g c =
       writer = c.requires.lines;
       few = few_begun c.args.dissector.now.taken c.args.lines.now.notes.totals c.requires.totals;
       on = record { asked = refl; begun = refl; missed = refl };
-      read_faults = omega arith;
-      write_faults = omega arith;
+      fresh = c.requires.fresh;
+      calm = record { reads = refl; writes = refl };
     }
 
 pub returns-then-is_full-clause-ended : goal.returns-then-is_full-clause-ended
@@ -42,7 +45,8 @@ returns-then-is_full-clause-read g c =
 
 pub returns-then-is_full-clause-full : goal.returns-then-is_full-clause-full
 returns-then-is_full-clause-full g c =
-    full_near c.args.plan.now c.loop-alloc.most (g.C.Capture.left c.args.capture.now) c.loop-alloc.reader (g.C.Capture.left c.loop-alloc.capture) c.loop-alloc.dissector c.loop-alloc.lines.notes c.loop-alloc.lines.capture (g.O.Sink.written c.args.out.now) (g.O.Sink.written c.loop-alloc.out) (c.is_full.ensures.full c.if-is_full.true) c.loop-alloc.invariant.way
+    end_near c.args.plan.now (g.C.Capture.left c.args.capture.now) (g.C.Capture.left c.loop-alloc.capture) Whole
+    (full_near c.args.plan.now c.loop-alloc.most (g.C.Capture.left c.args.capture.now) c.loop-alloc.reader (g.C.Capture.left c.loop-alloc.capture) c.loop-alloc.dissector c.loop-alloc.lines.notes c.loop-alloc.lines.capture (g.O.Sink.written c.args.out.now) (g.O.Sink.written c.loop-alloc.out) (c.is_full.ensures.full c.if-is_full.true) c.loop-alloc.invariant.way)
 
 pub returns-then-is_full-clause-part : goal.returns-then-is_full-clause-part
 returns-then-is_full-clause-part g c =
@@ -58,7 +62,8 @@ returns-in-Ok-End-clause-read g c =
 
 pub returns-in-Ok-End-clause-full : goal.returns-in-Ok-End-clause-full
 returns-in-Ok-End-clause-full g c =
-    ended_near c.args.plan.now c.loop-alloc.most (g.C.Capture.left c.args.capture.now) c.loop-alloc.reader c.next_frame.new.self (g.C.Capture.left c.loop-alloc.capture) (g.C.Capture.left c.next_frame.new.capture) c.loop-alloc.dissector c.loop-alloc.lines.notes c.loop-alloc.lines.capture (g.O.Sink.written c.args.out.now) (g.O.Sink.written c.loop-alloc.out) c.in-Ok-End.ending (c.is_full.ensures.more c.if-is_full.false) c.loop-alloc.invariant.way (rw c.in-Ok-End.field-0-is at c.in-Ok-End.ensures.answers)
+    end_near c.args.plan.now (g.C.Capture.left c.args.capture.now) (g.C.Capture.left c.next_frame.new.capture) c.in-Ok-End.ending
+    (ended_near c.args.plan.now c.loop-alloc.most (g.C.Capture.left c.args.capture.now) c.loop-alloc.reader c.next_frame.new.self (g.C.Capture.left c.loop-alloc.capture) (g.C.Capture.left c.next_frame.new.capture) c.loop-alloc.dissector c.loop-alloc.lines.notes c.loop-alloc.lines.capture (g.O.Sink.written c.args.out.now) (g.O.Sink.written c.loop-alloc.out) c.in-Ok-End.ending (c.is_full.ensures.more c.if-is_full.false) c.loop-alloc.invariant.way (rw c.in-Ok-End.field-0-is at c.in-Ok-End.ensures.answers))
 
 pub returns-in-Ok-End-clause-part : goal.returns-in-Ok-End-clause-part
 returns-in-Ok-End-clause-part g c =
@@ -134,8 +139,11 @@ loop-alloc-preserved g c =
         begun = c.next_frame.ensures.begun ∙ c.loop-alloc.invariant.on.begun;
         missed = c.next_frame.ensures.missed ∙ c.loop-alloc.invariant.on.missed;
       };
-      read_faults = omega (arith, c.loop-alloc.invariant.read_faults, c.next_frame.ensures.faults_stay);
-      write_faults = omega (arith, c.loop-alloc.invariant.write_faults, c.write_frame.ensures.faults_stay);
+      fresh = rw c.in-Ok-Frame.field-0-is at c.in-Ok-Frame.ensures.kept;
+      calm = record {
+        reads = c.in-Ok-Frame.ensures.no_fault ∙ c.loop-alloc.invariant.calm.reads;
+        writes = calm_ok _ _ _ _ c.in-Ok-true.ensures.calm ∙ c.loop-alloc.invariant.calm.writes;
+      };
     }
 
 pub loop-alloc-preserved-in-Ok-true : goal.loop-alloc-preserved-in-Ok-true
@@ -155,8 +163,11 @@ loop-alloc-preserved-in-Ok-true g c =
         begun = c.next_frame.ensures.begun ∙ c.loop-alloc.invariant.on.begun;
         missed = c.next_frame.ensures.missed ∙ c.loop-alloc.invariant.on.missed;
       };
-      read_faults = omega (arith, c.loop-alloc.invariant.read_faults, c.next_frame.ensures.faults_stay);
-      write_faults = omega (arith, c.loop-alloc.invariant.write_faults, c.write_frame.ensures.faults_stay);
+      fresh = rw c.in-Ok-Frame.field-0-is at c.in-Ok-Frame.ensures.kept;
+      calm = record {
+        reads = c.in-Ok-Frame.ensures.no_fault ∙ c.loop-alloc.invariant.calm.reads;
+        writes = calm_ok _ _ _ _ c.in-Ok-true.ensures.calm ∙ c.loop-alloc.invariant.calm.writes;
+      };
     }
 
 pub returns-in-Ok-false-clause-ended : goal.returns-in-Ok-false-clause-ended
@@ -181,7 +192,7 @@ returns-in-Ok-End-clause-taken g c = has_taken c.loop-alloc.reader.state c.loop-
 
 pub returns-in-Ok-false-clause-full : goal.returns-in-Ok-false-clause-full
 returns-in-Ok-false-clause-full g c =
-    unfit_near c.args.plan.now c.loop-alloc.most (g.C.Capture.left c.args.capture.now) c.loop-alloc.reader c.next_frame.new.self (g.C.Capture.left c.loop-alloc.capture) (g.C.Capture.left c.next_frame.new.capture) c.loop-alloc.dissector c.loop-alloc.lines.notes c.loop-alloc.lines.capture (g.O.Sink.written c.args.out.now) (g.O.Sink.written c.loop-alloc.out) c.in-Ok-Frame.frame (c.is_full.ensures.more c.if-is_full.false) c.loop-alloc.invariant.way (rw c.in-Ok-Frame.field-0-is at c.in-Ok-Frame.ensures.answers)
+    end_unfit c.args.plan.now c.loop-alloc.most (g.C.Capture.left c.args.capture.now) c.loop-alloc.reader c.next_frame.new.self (g.C.Capture.left c.loop-alloc.capture) (g.C.Capture.left c.next_frame.new.capture) c.loop-alloc.dissector c.loop-alloc.lines.notes c.write_frame.new.lines.notes c.loop-alloc.lines.capture c.write_frame.new.lines.capture (g.O.Sink.written c.args.out.now) (g.O.Sink.written c.loop-alloc.out) (g.O.Sink.written c.write_frame.new.out) c.in-Ok-Frame.frame (c.is_full.ensures.more c.if-is_full.false) c.loop-alloc.invariant.way (rw c.in-Ok-Frame.field-0-is at c.in-Ok-Frame.ensures.answers) (λ past. (rw c.in-Ok-false.field-0-test at c.in-Ok-false.ensures.after) One past (serves_once c.args.plan.now c.requires.alone))
 
 pub returns-in-Ok-false-clause-part : goal.returns-in-Ok-false-clause-part
 returns-in-Ok-false-clause-part g c =
@@ -217,13 +228,49 @@ returns-in-Ok-false-clause-stays g c =
     c.loop-alloc.invariant.on c.next_frame.ensures.asked c.next_frame.ensures.begun c.next_frame.ensures.missed
 
 pub returns-in-Err-ReadFault-clause-caused : goal.returns-in-Err-ReadFault-clause-caused
-returns-in-Err-ReadFault-clause-caused g c =
-    rose_before (g.C.Capture.faults c.args.capture.now) (g.C.Capture.faults c.loop-alloc.capture) (g.C.Capture.faults c.next_frame.new.capture) c.loop-alloc.invariant.read_faults (c.in-Err-ReadFault.ensures.fault (ap Err c.in-Err-ReadFault.field-0-is))
+returns-in-Err-ReadFault-clause-caused g c = (
+  rose_before (g.C.Capture.faults c.args.capture.now) (g.C.Capture.faults c.loop-alloc.capture) (g.C.Capture.faults c.next_frame.new.capture) c.loop-alloc.invariant.calm.reads (c.in-Err-ReadFault.ensures.fault (ap Err c.in-Err-ReadFault.field-0-is)),
+  c.loop-alloc.invariant.calm.writes,
+)
 
 pub returns-in-Err-clause-caused : goal.returns-in-Err-clause-caused
 returns-in-Err-clause-caused g c =
-    caused_write (g.C.Capture.faults c.args.capture.now) (g.C.Capture.faults c.next_frame.new.capture) (g.O.Sink.faults c.args.out.now) (g.O.Sink.faults c.write_frame.new.out) c.in-Err.fault
-    (write_caused (g.O.Sink.faults c.args.out.now) (g.O.Sink.faults c.loop-alloc.out) (g.O.Sink.faults c.write_frame.new.out) c.in-Err.fault c.loop-alloc.invariant.write_faults (λ is. c.in-Err.ensures.read (ap Err is)) (λ is. c.in-Err.ensures.fault (ap Err is)))
+    caused_write (g.C.Capture.faults c.args.capture.now) (g.C.Capture.faults c.next_frame.new.capture) (g.O.Sink.faults c.args.out.now) (g.O.Sink.faults c.write_frame.new.out) c.in-Err.fault (c.in-Ok-Frame.ensures.no_fault ∙ c.loop-alloc.invariant.calm.reads)
+    (write_caused (g.O.Sink.faults c.args.out.now) (g.O.Sink.faults c.loop-alloc.out) (g.O.Sink.faults c.write_frame.new.out) c.in-Err.fault c.loop-alloc.invariant.calm.writes (λ is. c.in-Err.ensures.read (ap Err is)) (λ is. c.in-Err.ensures.fault (ap Err is)) (calm_err c.in-Err.fault WriteFault (g.O.Sink.faults c.loop-alloc.out) (g.O.Sink.faults c.write_frame.new.out) c.in-Err.ensures.calm))
+
+pub returns-in-Err-NoMemory-clause-caused : goal.returns-in-Err-NoMemory-clause-caused
+returns-in-Err-NoMemory-clause-caused g c = record {
+  reads = c.in-Err-NoMemory.ensures.starved (ap Err c.in-Err-NoMemory.field-0-is) ∙ c.loop-alloc.invariant.calm.reads;
+  writes = c.loop-alloc.invariant.calm.writes;
+}
+
+pub returns-in-Ok-End-clause-calm : goal.returns-in-Ok-End-clause-calm
+returns-in-Ok-End-clause-calm g c = record {
+  reads = c.in-Ok-End.ensures.no_fault ∙ c.loop-alloc.invariant.calm.reads;
+  writes = c.loop-alloc.invariant.calm.writes;
+}
+
+pub returns-in-Ok-false-clause-calm : goal.returns-in-Ok-false-clause-calm
+returns-in-Ok-false-clause-calm g c = record {
+  reads = c.in-Ok-Frame.ensures.no_fault ∙ c.loop-alloc.invariant.calm.reads;
+  writes = calm_ok _ _ _ _ c.in-Ok-false.ensures.calm ∙ c.loop-alloc.invariant.calm.writes;
+}
 
 pub returns-in-Ok-false-clause-enough : goal.returns-in-Ok-false-clause-enough
 returns-in-Ok-false-clause-enough g c = subst (λ (fields : List ℕ). IsEnough fields c.args.plan.now) (sym c.write_frame.ensures.kept) c.loop-alloc.invariant.wanted
+
+pub returns-in-Err-Spent-clause-part : goal.returns-in-Err-Spent-clause-part
+returns-in-Err-Spent-clause-part g c =
+    way_stopped c.args.plan.now c.loop-alloc.most (g.C.Capture.left c.args.capture.now) c.loop-alloc.reader (g.C.Capture.left c.loop-alloc.capture) c.loop-alloc.dissector c.loop-alloc.lines.notes c.loop-alloc.lines.capture (g.O.Sink.written c.args.out.now) (g.O.Sink.written c.loop-alloc.out) c.loop-alloc.invariant.way
+
+pub returns-in-Err-Spent-clause-took : goal.returns-in-Err-Spent-clause-took
+returns-in-Err-Spent-clause-took g c =
+    way_took c.args.plan.now c.loop-alloc.most (g.C.Capture.left c.args.capture.now) c.loop-alloc.reader (g.C.Capture.left c.loop-alloc.capture) (g.C.Capture.left c.next_frame.new.capture) c.loop-alloc.dissector c.loop-alloc.lines.notes c.loop-alloc.lines.capture (g.O.Sink.written c.args.out.now) (g.O.Sink.written c.loop-alloc.out) c.loop-alloc.invariant.way c.next_frame.ensures.took
+
+pub returns-in-Err-Spent-clause-stays : goal.returns-in-Err-Spent-clause-stays
+returns-in-Err-Spent-clause-stays g c =
+    read_further (g.C.Capture.asked c.args.capture.now) (g.C.Capture.asked c.loop-alloc.capture) (g.C.Capture.asked c.next_frame.new.capture) (g.C.Capture.begun c.args.capture.now) (g.C.Capture.begun c.loop-alloc.capture) (g.C.Capture.begun c.next_frame.new.capture) (g.C.Capture.missed c.args.capture.now) (g.C.Capture.missed c.loop-alloc.capture) (g.C.Capture.missed c.next_frame.new.capture)
+    c.loop-alloc.invariant.on c.next_frame.ensures.asked c.next_frame.ensures.begun c.next_frame.ensures.missed
+
+pub returns-in-Err-Spent-clause-caused : goal.returns-in-Err-Spent-clause-caused
+returns-in-Err-Spent-clause-caused g c = absurd (never_spent _ c.loop-alloc.invariant.fresh (c.in-Err-Spent.ensures.spent.0 (ap Err c.in-Err-Spent.field-0-is)))

@@ -1,15 +1,16 @@
-use Rattle.std.proofs.Common.{◌≡◌, ◌≤◌, ◌-◌, suc, List}
+use Rattle.std.proofs.Common.{◌≡◌, ◌-◌, suc, List}
 use Rattle.capture_read.specs.declared.frame.Frame.{Frame}
+use Rattle.capture_read.specs.declared.kind.Phase.TheVariants.{Open}
 use Rattle.dissect.specs.Stands.{StandsWithin}
 use Rattle.run_frames.specs.Accessors.{compiled_of, rules_of}
 use Rattle.pk_base.specs.Limits.{file_limit}
 use Rattle.capture_read.specs.Taken.{TookAtMost}
 use Rattle.run_frames.specs.Notes.{AreFewNotes}
-use Rattle.run_passes.specs.Passed.{IsReadOn}
+use Rattle.run_passes.specs.Passed.{IsCalm, IsReadOn}
 use Rattle.run_passes.proofs.Together.{AreTogether}
 use Rattle.run_passes.proofs.WayLemmas.{AreOnTheWay}
 use Rattle.run_frames.specs.Wanted.{IsEnough}
-use Rattle.run_passes.proofs.once.write_rest.Given as goal
+use Rattle.run_passes.proofs.once.write_each.Given as goal
 
 abbrev pub invariant-loop-alloc : goal.invariant-loop-alloc
 invariant-loop-alloc g l = record {
@@ -23,8 +24,8 @@ invariant-loop-alloc g l = record {
   writer : l.lines.writer ≡ l.plan.fields;
   few : AreFewNotes l.dissector.taken l.lines.notes;
   on : IsReadOn (g.C.Capture.asked l.fn.capture) (g.C.Capture.asked l.capture) (g.C.Capture.begun l.fn.capture) (g.C.Capture.begun l.capture) (g.C.Capture.missed l.fn.capture) (g.C.Capture.missed l.capture);
-  read_faults : g.C.Capture.faults l.fn.capture ≤ g.C.Capture.faults l.capture;
-  write_faults : g.O.Sink.faults l.fn.out ≤ g.O.Sink.faults l.out;
+  fresh : l.reader.phase ≡ Open;
+  calm : IsCalm (g.C.Capture.faults l.fn.capture) (g.C.Capture.faults l.capture) (g.O.Sink.faults l.fn.out) (g.O.Sink.faults l.out);
 }
 
 abbrev pub decreases-loop-alloc : goal.decreases-loop-alloc
