@@ -1,3 +1,4 @@
+pub mod CalmLemmas
 pub mod NoteLemmas
 pub mod PacketLemmas
 mod SummaryLemmas

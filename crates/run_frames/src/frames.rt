@@ -204,6 +204,7 @@ fn write_tree<O: Sink>(
     ensures part { AppendsPart (O.written out.old) (O.written out.new) (shown plan.now tree.now) }
     ensures noted { OnOk result (HasNoted plan.now tree.now lines.old.notes lines.new.notes) }
     ensures fault { IsErrOf result SinkFault.Failed → Rose (O.faults out.old) (O.faults out.new) }
+    ensures calm { ¬ IsErrOf result SinkFault.Failed → O.faults out.new ≡ O.faults out.old }
     ensures faults_stay { O.faults out.old ≤ O.faults out.new }
     ensures judge { lines.new.judge ≡ lines.old.judge }
     ensures writer { lines.new.writer ≡ lines.old.writer }
@@ -280,6 +281,7 @@ fn write_told<O: Sink>(
     ensures judge { lines.new.judge ≡ lines.old.judge }
     ensures writer { lines.new.writer ≡ lines.old.writer }
     ensures fault { IsErrOf result SinkFault.Failed → Rose (O.faults out.old) (O.faults out.new) }
+    ensures calm { ¬ IsErrOf result SinkFault.Failed → O.faults out.new ≡ O.faults out.old }
     ensures faults_stay { O.faults out.old ≤ O.faults out.new }
 {
     match plan.written {
@@ -294,6 +296,7 @@ fn write_told<O: Sink>(
 // How a run ends where its output can't be written.
 fn run_fault(fault: SinkFault) -> RunFault
     ensures failed { result ≡ RunFault.WriteFault → fault ≡ SinkFault.Failed }
+    ensures fails { fault ≡ SinkFault.Failed → result ≡ RunFault.WriteFault }
     ensures read { result ≢ RunFault.ReadFault }
 {
     match fault {
@@ -345,6 +348,7 @@ pub fn write_frame<O: Sink>(
     ensures read { IsErrOf result RunFault.ReadFault → ⊥ }
     ensures fault { IsErrOf result RunFault.WriteFault
         → Rose (O.faults out.old) (O.faults out.new) }
+    ensures calm { ¬ IsErrOf result RunFault.WriteFault → O.faults out.new ≡ O.faults out.old }
     ensures faults_stay { O.faults out.old ≤ O.faults out.new }
 {
     let tree = match take_frame(plan, frame, later, dissector) {

@@ -31,6 +31,7 @@ pub(crate) fn write_packet<O: Sink>(
         (fit_packet (satisfies judge.old tree.now) writer.old.format chosen frame.now) }
     ensures judge { judge.new ≡ judge.old }
     ensures fault { IsErrOf result SinkFault.Failed → Rose (O.faults out.old) (O.faults out.new) }
+    ensures calm { ¬ IsErrOf result SinkFault.Failed → O.faults out.new ≡ O.faults out.old }
     ensures faults_stay { O.faults out.old ≤ O.faults out.new }
 {
     match lets(judge, tree) {
@@ -50,6 +51,7 @@ fn write_added<O: Sink>(frame: &Frame, writer: &mut Writer, out: &mut O) -> Resu
         → AppendsPart (O.written out.old) (O.written out.new)
         (fit_packet true writer.old.format chosen frame.now) }
     ensures fault { IsErrOf result SinkFault.Failed → Rose (O.faults out.old) (O.faults out.new) }
+    ensures calm { ¬ IsErrOf result SinkFault.Failed → O.faults out.new ≡ O.faults out.old }
     ensures faults_stay { O.faults out.old ≤ O.faults out.new }
 {
     let packet = match writer.add(frame) {
@@ -68,6 +70,7 @@ pub fn write_end<O: Sink>(writer: Writer, out: &mut O) -> Result<(), SinkFault>
     ensures whole { OnOk result (Appends (O.written out.old) (O.written out.new) (end_at writer)) }
     ensures part { AppendsPart (O.written out.old) (O.written out.new) (end_at writer) }
     ensures fault { IsErrOf result SinkFault.Failed → Rose (O.faults out.old) (O.faults out.new) }
+    ensures calm { ¬ IsErrOf result SinkFault.Failed → O.faults out.new ≡ O.faults out.old }
     ensures faults_stay { O.faults out.old ≤ O.faults out.new }
 {
     match writer.finish() {

@@ -1,15 +1,18 @@
 -- What a fault that ends a run leaves written.
-use Rattle.std.proofs.Common.{◌≡◌, ◌<◌, ◌≤◌, ℕ, Bool, true, List, [], length, Option, None, Some, inl, refl, sym, subst}
-use Rattle.std.specs.Prelude.{IfErr, IfSome, Result, Ok, Err}
+use Rattle.std.proofs.Common.{◌≡◌, ◌<◌, ◌∙◌, ℕ, Bool, true, List, [], length, Option, None, Some, inl, refl, sym, subst}
+use Rattle.std.specs.Prelude.{IfErr, IfSome, OnOk, Result, Ok, Err}
 use Rattle.std.specs.Io.KnownBytes.{Appends}
 use Rattle.pk_outside.specs.Outside.{AppendsPart}
 use Rattle.run_frames.specs.declared.frames.RunFault.{RunFault}
 use Rattle.run_frames.specs.declared.frames.RunFault.TheVariants.{ReadFault, WriteFault, NoMemory}
 use Rattle.run_frames.specs.declared.plan.Plan.{Plan}
 use Rattle.run_frames.specs.declared.run_ending.RunEnding.{RunEnding}
+use Rattle.run_frames.specs.declared.run_ending.RunEnding.TheVariants.{Read, Unfit}
 use Rattle.run_frames.specs.Accessors.{two_of}
 use Rattle.run_frames.specs.Job.{IfOnce}
-use Rattle.run_passes.specs.Passed.{AreCutOff, AreFewer, IsCaused, IsReadCaused, IsWriteCaused}
+use Rattle.run_passes.specs.Passed.{AreCutOff, AreEndNear, AreFewer, AreFullNear, IsCalm, IsCaused, IsReadCaused, IsWriteCaused}
+use Rattle.run_passes.specs.Reading.{frames_read}
+use Rattle.run_passes.specs.SoFar.{IsNearAfter}
 use Rattle.run_passes.proofs.FaultLemmas.{rose_before}
 use Rattle.run_output.specs.Lines.{opening}
 use Rattle.run_output.specs.Way.{IsBodyCutOff, IsBrokenFrom, IsCutOff}
@@ -69,14 +72,26 @@ pub cut_off_behind : (answer : Result RunEnding RunFault) (plan : Plan) (told le
 cut_off_behind (Ok ending) plan told left old now new opened broken = tt
 cut_off_behind (Err fault) plan told left old now new opened broken = fault_behind plan told left old now new fault opened broken
 
--- a write before stays counted
-fault_after : (reads_old reads_new old now new : ℕ) (fault : RunFault) → old ≤ now → IsCaused reads_old reads_new now new fault
+-- before that no write failed
+fault_after : (reads_old reads_new old now new : ℕ) (fault : RunFault) → now ≡ old → IsCaused reads_old reads_new now new fault
     → IsCaused reads_old reads_new old new fault
-fault_after reads_old reads_new old now new ReadFault stays is = is
-fault_after reads_old reads_new old now new WriteFault stays is = rose_before old now new stays is
-fault_after reads_old reads_new old now new NoMemory stays is = tt
+fault_after reads_old reads_new old now new ReadFault same is = (is.0, is.1 ∙ same)
+fault_after reads_old reads_new old now new WriteFault same is = (rose_before old now new same is.0, is.1)
+fault_after reads_old reads_new old now new NoMemory same is = record { reads = is.reads; writes = is.writes ∙ same }
 
-pub caused_behind : (answer : Result RunEnding RunFault) (reads_old reads_new old now new : ℕ) → old ≤ now
+pub caused_behind : (answer : Result RunEnding RunFault) (reads_old reads_new old now new : ℕ) → now ≡ old
     → IfErr answer (IsCaused reads_old reads_new now new) → IfErr answer (IsCaused reads_old reads_new old new)
-caused_behind (Ok ending) reads_old reads_new old now new stays caused = tt
-caused_behind (Err fault) reads_old reads_new old now new stays caused = fault_after reads_old reads_new old now new fault stays caused
+caused_behind (Ok ending) reads_old reads_new old now new same caused = tt
+caused_behind (Err fault) reads_old reads_new old now new same caused = fault_after reads_old reads_new old now new fault same caused
+
+pub calm_behind : (answer : Result RunEnding RunFault) (reads_old reads_new old now new : ℕ) → now ≡ old
+    → OnOk answer (IsCalm reads_old reads_new now new) → OnOk answer (IsCalm reads_old reads_new old new)
+calm_behind (Ok ending) reads_old reads_new old now new same calm = record { reads = calm.reads; writes = calm.writes ∙ same }
+calm_behind (Err fault) reads_old reads_new old now new same calm = tt
+
+-- where the frames are read twice, nothing is told of how near the bytes taken end
+pub near_twice : (plan : Plan) (told left : Option (List ℕ)) (ending : RunEnding) → two_of plan ≡ true → AreFullNear plan told left
+    → AreEndNear plan told left ending
+near_twice plan told left (Read ending) two full = (full, tt)
+near_twice plan told left (Unfit number) two full =
+    (full, told_twice (two_of plan) told (λ file. IsNearAfter file (length (frames_read plan file).frames) left) two)

@@ -12,7 +12,7 @@ use Rattle.run_frames.specs.declared.frames.RunFault.{RunFault}
 use Rattle.run_frames.specs.declared.frames.RunFault.TheVariants.{ReadFault, WriteFault, NoMemory}
 use Rattle.run_passes.specs.Passed.{AreUnread}
 use Rattle.run_passes.specs.Reading.{frames_read}
-use Rattle.run_passes.specs.SoFar.{IsBrokenBehind, IsFullNearOf, WroteTakenBehind}
+use Rattle.run_passes.specs.SoFar.{IsBrokenBehind, IsFullNearOf, IsNextNearOf, WroteTakenBehind}
 use Rattle.run_frames.specs.Source.{IfNamed}
 
 -- where a read fails, the opening and those lines were written
@@ -46,6 +46,10 @@ IsBroken plan file left old new = IfNamed (source_of plan) (IsBrokenOf plan file
 -- taken of one for a generated capture
 abbrev pub IsFullNear : Plan → List ℕ → Option (List ℕ) → Type 0
 IsFullNear plan file left = IfNamed (source_of plan) (IsFullNearOf plan file left)
+
+-- where a file is read, and once, the bytes taken of it end near the first frame that isn't read any more
+abbrev pub IsNextNear : Plan → List ℕ → Option (List ℕ) → Type 0
+IsNextNear plan file left = IfNamed (source_of plan) (IsNextNearOf plan file left)
 
 -- where a fault ends a run over a file that the capture tells: what was written behind the opening
 abbrev pub IsBodyCutOff : Plan → (told left old new : Option (List ℕ)) → RunFault → Type 0

@@ -86,6 +86,7 @@ pub(crate) fn write_stats<O: Sink>(
         → AreNotes (job_in plan.now passes) past notes.now
         → AppendsPart (O.written out.old) (O.written out.new) (stats_lines (job_in plan.now passes) past) }
     ensures fault { IsErrOf result SinkFault.Failed → Rose (O.faults out.old) (O.faults out.new) }
+    ensures calm { ¬ IsErrOf result SinkFault.Failed → O.faults out.new ≡ O.faults out.old }
     ensures faults_stay { O.faults out.old ≤ O.faults out.new }
 {
     let text = match stats(alloc, plan, notes) {

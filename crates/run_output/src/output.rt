@@ -3,7 +3,6 @@ ghost use Rattle.std.specs.Prelude.{◌≡◌, ◌<◌, ◌≤◌, ◌-◌, ℕ,
 ghost use Rattle.std.specs.Io.KnownBytes.{Appends};
 ghost use Rattle.pk_base.specs.Limits.{file_limit as limit_of_file};
 ghost use Rattle.pk_outside.specs.Outside.{Rose, AppendsPart};
-ghost use Rattle.capture_read.specs.Reader.{StandsFor};
 ghost use Rattle.capture_read.specs.Taken.{TookAtMost};
 ghost use Rattle.capture_read.specs.declared.frame.Frame.{Frame as FrameValue};
 ghost use Rattle.dissect.specs.Stands.{StandsWithin};
@@ -12,7 +11,7 @@ ghost use Rattle.run_frames.specs.Job.{Passes, job_in, once};
 ghost use Rattle.run_passes.specs.Ended.{CanClose, HasTaken};
 ghost use Rattle.run_frames.specs.Steps.{KeepsUp};
 ghost use Rattle.run_output.specs.Lines.{closing, opening};
-ghost use Rattle.run_passes.specs.Passed.{AreFullNear, IsCaused, IsReadOn, IsWriteCaused};
+ghost use Rattle.run_passes.specs.Passed.{AreEndNear, IsCalm, IsCaused, IsReadOn, IsWriteCaused};
 ghost use Rattle.run_frames.specs.Notes.{AreNotes};
 ghost use Rattle.run_frames.specs.Totals.{nothing_counted};
 ghost use Rattle.run_frames.specs.Wanted.{IsEnough};
@@ -23,7 +22,6 @@ use crate::filter_stats::write_stats;
 use crate::reports::write_reports;
 use crate::self_run::write_counts;
 use crate::two_passes::write_twice;
-use capture_read::FrameReader;
 use capture_write::Writer;
 use dissect::Dissector;
 use out_lines::header_line;
@@ -33,7 +31,7 @@ use run_frames::{
     LineMaker, Notes, Plan, RunEnding, RunFault, give_up_dissector, give_up_lines, needed_fields,
     new_dissector, new_line_maker, write_end,
 };
-use run_passes::{give_up_reader, write_rest};
+use run_passes::write_rest;
 use shark_words::LineKind;
 use std::alloc::Global;
 use std::mem;
@@ -59,6 +57,7 @@ fn write_behind_lines<O: Sink>(
         → AppendsPart (O.written out.old) (O.written out.new)
         (closing (job_in plan.now passes) past) }
     ensures fault { IsErrOf result SinkFault.Failed → Rose (O.faults out.old) (O.faults out.new) }
+    ensures calm { ¬ IsErrOf result SinkFault.Failed → O.faults out.new ≡ O.faults out.old }
     ensures faults_stay { O.faults out.old ≤ O.faults out.new }
 {
     match write_reports(alloc, plan, dissector, notes, plan.reports.slice(), out) {
@@ -97,6 +96,7 @@ pub(crate) fn write_closing<O: Sink>(
         → AppendsPart (O.written out.old) (O.written out.new)
         (closing (job_in plan.now passes) past) }
     ensures fault { IsErrOf result SinkFault.Failed → Rose (O.faults out.old) (O.faults out.new) }
+    ensures calm { ¬ IsErrOf result SinkFault.Failed → O.faults out.new ≡ O.faults out.old }
     ensures faults_stay { O.faults out.old ≤ O.faults out.new }
 {
     match plan.written {
@@ -118,7 +118,6 @@ pub(crate) fn write_closing<O: Sink>(
 fn write_body<C: Capture, O: Sink>(
     alloc: Global,
     plan: &Plan,
-    reader: &mut FrameReader,
     dissector: &mut Dissector,
     lines: &mut LineMaker<'_>,
     capture: &mut C,
@@ -131,16 +130,13 @@ fn write_body<C: Capture, O: Sink>(
     requires alone { two_of plan.now ≡ false }
     requires totals { lines.old.notes.totals ≡ nothing_counted }
     requires keeps { KeepsUp (written_of plan.now) (once plan.now) [] lines.old.notes lines.old.capture }
-    requires reads { (left : List ℕ) → StandsFor reader.old (Some left) left [] }
-    requires number { reader.old.state.number ≡ 1 }
-    requires at { reader.old.state.at ≡ 0 }
     requires stands { StandsWithin [] dissector.old }
     requires taken { dissector.old.taken ≡ 0 }
     requires captured { dissector.old.captured ≡ 0 }
 
     ensures ended { IfOk result (HaveBody plan.now
         (C.left capture.old) (O.written out.old) (O.written out.new)) }
-    ensures full { OnOk result (AreFullNear plan.now (C.left capture.old) (C.left capture.new)) }
+    ensures full { IfOk result (AreEndNear plan.now (C.left capture.old) (C.left capture.new)) }
     ensures part { HaveSomeBody plan.now
         (C.left capture.old) (O.written out.old) (O.written out.new) }
     ensures broken { IfErr result (IsBodyCutOff plan.now (C.left capture.old) (C.left capture.new)
@@ -148,10 +144,12 @@ fn write_body<C: Capture, O: Sink>(
     ensures took { TookAtMost (suc limit_of_file) (C.left capture.old) (C.left capture.new) }
     ensures caused { IfErr result (IsCaused (C.faults capture.old) (C.faults capture.new)
         (O.faults out.old) (O.faults out.new)) }
+    ensures calm { OnOk result (IsCalm (C.faults capture.old) (C.faults capture.new)
+        (O.faults out.old) (O.faults out.new)) }
     ensures stays { IsReadOn (C.asked capture.old) (C.asked capture.new)
         (C.begun capture.old) (C.begun capture.new) (C.missed capture.old) (C.missed capture.new) }
 {
-    let ending = match write_rest(alloc, plan, reader, dissector, lines, capture, out) {
+    let ending = match write_rest(alloc, plan, dissector, lines, capture, out) {
         Ok(ending) => ending,
         Err(fault) => return Err(fault),
     };
@@ -173,13 +171,15 @@ fn write_once<C: Capture, O: Sink>(
     requires { two_of plan.now ≡ false }
     ensures ended { IfOk result (HaveBody plan.now
         (C.left capture.old) (O.written out.old) (O.written out.new)) }
-    ensures full { OnOk result (AreFullNear plan.now (C.left capture.old) (C.left capture.new)) }
+    ensures full { IfOk result (AreEndNear plan.now (C.left capture.old) (C.left capture.new)) }
     ensures part { HaveSomeBody plan.now
         (C.left capture.old) (O.written out.old) (O.written out.new) }
     ensures broken { IfErr result (IsBodyCutOff plan.now (C.left capture.old) (C.left capture.new)
         (O.written out.old) (O.written out.new)) }
     ensures took { TookAtMost (suc limit_of_file) (C.left capture.old) (C.left capture.new) }
     ensures caused { IfErr result (IsCaused (C.faults capture.old) (C.faults capture.new)
+        (O.faults out.old) (O.faults out.new)) }
+    ensures calm { OnOk result (IsCalm (C.faults capture.old) (C.faults capture.new)
         (O.faults out.old) (O.faults out.new)) }
     ensures stays { IsReadOn (C.asked capture.old) (C.asked capture.new)
         (C.begun capture.old) (C.begun capture.new) (C.missed capture.old) (C.missed capture.new) }
@@ -195,17 +195,7 @@ fn write_once<C: Capture, O: Sink>(
             return Err(RunFault::NoMemory);
         }
     };
-    let mut reader = FrameReader::new(alloc);
-    let ended = write_body(
-        alloc,
-        plan,
-        &mut reader,
-        &mut dissector,
-        &mut lines,
-        capture,
-        out,
-    );
-    give_up_reader(reader);
+    let ended = write_body(alloc, plan, &mut dissector, &mut lines, capture, out);
     give_up_dissector(dissector);
     give_up_lines(lines);
     ended
@@ -220,13 +210,15 @@ fn write_frames<C: Capture, O: Sink>(
 ) -> Result<RunEnding, RunFault>
     ensures ended { IfOk result (HaveBody plan.now
         (C.left capture.old) (O.written out.old) (O.written out.new)) }
-    ensures full { OnOk result (AreFullNear plan.now (C.left capture.old) (C.left capture.new)) }
+    ensures full { IfOk result (AreEndNear plan.now (C.left capture.old) (C.left capture.new)) }
     ensures part { HaveSomeBody plan.now
         (C.left capture.old) (O.written out.old) (O.written out.new) }
     ensures broken { IfErr result (IsBodyCutOff plan.now (C.left capture.old) (C.left capture.new)
         (O.written out.old) (O.written out.new)) }
     ensures took { TookAtMost (suc limit_of_file) (C.left capture.old) (C.left capture.new) }
     ensures caused { IfErr result (IsCaused (C.faults capture.old) (C.faults capture.new)
+        (O.faults out.old) (O.faults out.new)) }
+    ensures calm { OnOk result (IsCalm (C.faults capture.old) (C.faults capture.new)
         (O.faults out.old) (O.faults out.new)) }
     ensures stays { IsReadOn (C.asked capture.old) (C.asked capture.new)
         (C.begun capture.old) (C.begun capture.new) (C.missed capture.old) (C.missed capture.new) }
@@ -260,6 +252,7 @@ fn write_opening<O: Sink>(alloc: Global, plan: &Plan, out: &mut O) -> Result<(),
     ensures part { AppendsPart (O.written out.old) (O.written out.new) (opening plan.now) }
     ensures some { IsErrOf result RunFault.WriteFault → 0 < length (opening plan.now) }
     ensures caused { IfErr result (IsWriteCaused (O.faults out.old) (O.faults out.new)) }
+    ensures calm { OnOk result (O.faults out.new ≡ O.faults out.old) }
     ensures faults_stay { O.faults out.old ≤ O.faults out.new }
 {
     let line = match opening_line(alloc, plan) {
@@ -286,12 +279,14 @@ pub fn write_output<C: Capture, O: Sink>(
 ) -> Result<RunEnding, RunFault>
     ensures ended { IfOk result (HaveAll plan.now
         (C.left capture.old) (O.written out.old) (O.written out.new)) }
-    ensures full { OnOk result (AreFullNear plan.now (C.left capture.old) (C.left capture.new)) }
+    ensures full { IfOk result (AreEndNear plan.now (C.left capture.old) (C.left capture.new)) }
     ensures part { HavePart plan.now (C.left capture.old) (O.written out.old) (O.written out.new) }
     ensures broken { IfErr result (IsCutOff plan.now (C.left capture.old) (C.left capture.new)
         (O.written out.old) (O.written out.new)) }
     ensures took { TookAtMost (suc limit_of_file) (C.left capture.old) (C.left capture.new) }
     ensures caused { IfErr result (IsCaused (C.faults capture.old) (C.faults capture.new)
+        (O.faults out.old) (O.faults out.new)) }
+    ensures calm { OnOk result (IsCalm (C.faults capture.old) (C.faults capture.new)
         (O.faults out.old) (O.faults out.new)) }
     ensures stays { IsReadOn (C.asked capture.old) (C.asked capture.new)
         (C.begun capture.old) (C.begun capture.new) (C.missed capture.old) (C.missed capture.new) }

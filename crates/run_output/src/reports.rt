@@ -41,6 +41,7 @@ pub(crate) fn write_lines<O: Sink>(text: &[u8], out: &mut O) -> Result<(), SinkF
     ensures whole { OnOk result (Appends (O.written out.old) (O.written out.new) text.now) }
     ensures part { AppendsPart (O.written out.old) (O.written out.new) text.now }
     ensures fault { IsErrOf result SinkFault.Failed → Rose (O.faults out.old) (O.faults out.new) }
+    ensures calm { ¬ IsErrOf result SinkFault.Failed → O.faults out.new ≡ O.faults out.old }
     ensures faults_stay { O.faults out.old ≤ O.faults out.new }
 {
     let mut rest = text;
@@ -132,6 +133,7 @@ fn write_report<O: Sink>(
         → AppendsPart (O.written out.old) (O.written out.new)
         (report_text (job_in plan.now passes) past asked) }
     ensures fault { IsErrOf result SinkFault.Failed → Rose (O.faults out.old) (O.faults out.new) }
+    ensures calm { ¬ IsErrOf result SinkFault.Failed → O.faults out.new ≡ O.faults out.old }
     ensures faults_stay { O.faults out.old ≤ O.faults out.new }
 {
     let text = match report(alloc, plan, dissector, notes, asked) {
@@ -165,6 +167,7 @@ pub(crate) fn write_reports<O: Sink>(
         → AppendsPart (O.written out.old) (O.written out.new)
         (reports_text (job_in plan.now passes) past reports.now) }
     ensures fault { IsErrOf result SinkFault.Failed → Rose (O.faults out.old) (O.faults out.new) }
+    ensures calm { ¬ IsErrOf result SinkFault.Failed → O.faults out.new ≡ O.faults out.old }
     ensures faults_stay { O.faults out.old ≤ O.faults out.new }
 {
     for asked in reports {

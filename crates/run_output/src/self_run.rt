@@ -90,6 +90,7 @@ pub(crate) fn write_counts<O: Sink>(
         → AppendsPart (O.written out.old) (O.written out.new)
         (line_counted (job_in plan.now passes) past) }
     ensures fault { IsErrOf result SinkFault.Failed → Rose (O.faults out.old) (O.faults out.new) }
+    ensures calm { ¬ IsErrOf result SinkFault.Failed → O.faults out.new ≡ O.faults out.old }
     ensures faults_stay { O.faults out.old ≤ O.faults out.new }
 {
     let line = match counted_line(alloc, plan, dissector, notes) {

@@ -6,7 +6,7 @@ ghost use Rattle.dissect.specs.Stands.{StandsWithin};
 ghost use Rattle.run_frames.specs.Accessors.{compiled_of, rules_of, two_of, written_of};
 ghost use Rattle.run_frames.specs.Job.{Passes, job_in};
 ghost use Rattle.run_frames.specs.Later.{ServesKept};
-ghost use Rattle.run_passes.specs.Passed.{AreFullNear, IsCaused, IsReadOn, IsWriteCaused};
+ghost use Rattle.run_passes.specs.Passed.{AreEndNear, IsCalm, IsCaused, IsReadOn, IsWriteCaused};
 ghost use Rattle.run_passes.specs.Reading.{read_of};
 ghost use Rattle.run_frames.specs.Steps.{KeepsUp};
 ghost use Rattle.run_passes.specs.Takeable.{AreTakeable};
@@ -57,6 +57,7 @@ fn write_kept_body<O: Sink>(
         → HaveSomeKeptBody plan.now passes kept.now.frames kept.now.ending
         (O.written out.old) (O.written out.new) }
     ensures caused { IfErr result (IsWriteCaused (O.faults out.old) (O.faults out.new)) }
+    ensures calm { OnOk result (O.faults out.new ≡ O.faults out.old) }
     ensures faults_stay { O.faults out.old ≤ O.faults out.new }
 {
     let ending = match write_kept(alloc, plan, kept, later, dissector, lines, out) {
@@ -91,6 +92,7 @@ fn write_known<O: Sink>(
         → HaveSomeKeptBody plan.now passes kept.now.frames kept.now.ending
         (O.written out.old) (O.written out.new) }
     ensures caused { IfErr result (IsWriteCaused (O.faults out.old) (O.faults out.new)) }
+    ensures calm { OnOk result (O.faults out.new ≡ O.faults out.old) }
 {
     let mut lines = match new_line_maker(alloc, plan) {
         Ok(lines) => lines,
@@ -131,6 +133,7 @@ fn write_again<O: Sink>(
         (read_of plan.now (record { frames = kept.now.frames; ending = kept.now.ending }))
         (O.written out.old) (O.written out.new) }
     ensures caused { IfErr result (IsWriteCaused (O.faults out.old) (O.faults out.new)) }
+    ensures calm { OnOk result (O.faults out.new ≡ O.faults out.old) }
 {
     let wanted = needed_fields(plan);
     let later = match later_of(alloc, plan, wanted, kept.frames.slice()) {
@@ -156,13 +159,15 @@ pub(crate) fn write_twice<C: Capture, O: Sink>(
     requires { two_of plan.now ≡ true }
     ensures ended { IfOk result (HaveBody plan.now
         (C.left capture.old) (O.written out.old) (O.written out.new)) }
-    ensures full { OnOk result (AreFullNear plan.now (C.left capture.old) (C.left capture.new)) }
+    ensures full { IfOk result (AreEndNear plan.now (C.left capture.old) (C.left capture.new)) }
     ensures part { HaveSomeBody plan.now
         (C.left capture.old) (O.written out.old) (O.written out.new) }
     ensures broken { IfErr result (IsBodyCutOff plan.now (C.left capture.old) (C.left capture.new)
         (O.written out.old) (O.written out.new)) }
     ensures took { TookAtMost (suc limit_of_file) (C.left capture.old) (C.left capture.new) }
     ensures caused { IfErr result (IsCaused (C.faults capture.old) (C.faults capture.new)
+        (O.faults out.old) (O.faults out.new)) }
+    ensures calm { OnOk result (IsCalm (C.faults capture.old) (C.faults capture.new)
         (O.faults out.old) (O.faults out.new)) }
     ensures stays { IsReadOn (C.asked capture.old) (C.asked capture.new)
         (C.begun capture.old) (C.begun capture.new) (C.missed capture.old) (C.missed capture.new) }

@@ -32,9 +32,10 @@ use Rattle.run_frames.specs.declared.run_ending.RunEnding.TheVariants.{Read, Unf
 use Rattle.run_frames.specs.declared.notes.Notes.{Notes}
 use Rattle.run_passes.specs.Ended.{CanClose, HasRead}
 use Rattle.run_frames.specs.Fitting.{FramesRead, before, fitting, is_unfit, is_unfit_by, job_of, over}
-use Rattle.run_frames.specs.Job.{Job, One, Passes, job_in, once, passes_by}
+use Rattle.run_frames.specs.Job.{IfOnce, Job, One, Passes, job_in, once, passes_by}
 use Rattle.run_frames.specs.Steps.{IsAfterFrame, KeepsUp, fit_piece}
-use Rattle.run_passes.specs.SoFar.{IsBrokenBehind, IsFewer, IsFullNearOf, IsNearAfter, WroteTakenBehind, pieces_so_far}
+use Rattle.run_passes.specs.SoFar.{IsBrokenBehind, IsFewer, IsFullNearOf, IsNearAfter, IsNextNearOf, WroteTakenBehind, pieces_so_far}
+use Rattle.run_passes.specs.Passed.{AreEndNear, AreFullNear}
 use Rattle.run_passes.specs.WrotePieces.{WrotePieces, WroteSomePieces}
 use Rattle.run_passes.proofs.FrontLemmas.{limited_frame}
 
@@ -65,6 +66,10 @@ ending_read (frame ∷ past) read = ending_read past (before frame read)
 pub passes_read : (past : List Frame) (read : FramesRead) → (with_read past read).passes ≡ read.passes
 passes_read [] read = refl
 passes_read (frame ∷ past) read = passes_read past (before frame read)
+
+pub count_read : (past : List Frame) (read : FramesRead) → length (with_read past read).frames ≡ length past + length read.frames
+count_read [] read = omega arith
+count_read (frame ∷ past) read = omega (arith, count_read past (before frame read))
 
 -- all frames of the past could be written
 abbrev pub AreFit : Job → List Frame → Type 0
@@ -419,12 +424,41 @@ near_by : (file : List ℕ) (past : List Frame) (left : Option (List ℕ)) (coun
 near_by file past None count few near = tt
 near_by file past (Some left) count few near = λ front late. omega (arith, few, near front late)
 
-pub unfit_near : (plan : Plan) (most : Option ℕ) (told : Option (List ℕ)) (r after : ReaderShown) (left left_after : Option (List ℕ)) (d : DissectorShown) (t : Notes) (k : Kept) (old now : Option (List ℕ)) (frame : Frame)
+unfit_near : (plan : Plan) (most : Option ℕ) (told : Option (List ℕ)) (r after : ReaderShown) (left left_after : Option (List ℕ)) (d : DissectorShown) (t : Notes) (k : Kept) (old now : Option (List ℕ)) (frame : Frame)
     → most ≢ Some 0 → AreOnTheWay plan most told r left d t k old now → Answers (next.Frame frame) r after left left_after
     → IfSome told (λ file. IsFullNearOf plan file left_after)
 unfit_near plan most None r after left left_after d t k old now frame some way answers = tt
 unfit_near plan most (Some file) r after left left_after d t k old now frame some way answers = λ count asked many.
     near_by file way.past left_after count (few_before most count (length way.past) some (sym asked ∙ way.asked)) (answers file way.past way.stands).2
+
+-- where the reading ends
+pub end_near : (plan : Plan) (told left : Option (List ℕ)) (ending : Ending) → AreFullNear plan told left → AreEndNear plan told left (Read ending)
+end_near plan told left ending full = (full, tt)
+
+if_once : (two : Bool) (P : Type 0) → P → IfOnce two P
+if_once false P holds = holds
+if_once true P holds = tt
+
+unfit_is_near : (plan : Plan) (most : Option ℕ) (told : Option (List ℕ)) (r after : ReaderShown) (left left_after : Option (List ℕ)) (d : DissectorShown) (t counts : Notes) (k kept : Kept) (old now later : Option (List ℕ)) (frame : Frame)
+    → most ≢ Some 0 → AreOnTheWay plan most told r left d t k old now → Answers (next.Frame frame) r after left left_after
+    → ((past : List Frame) → StandsWithin past d → KeepsUp (written_of plan) (once plan) past t k → IsAfterFrame false (once plan) past frame counts kept now later)
+    → IfSome told (λ file. IsNextNearOf plan file left_after)
+unfit_is_near plan most None r after left left_after d t counts k kept old now later frame some way answers wrote = tt
+unfit_is_near plan most (Some file) r after left left_after d t counts k kept old now later frame some way answers wrote =
+    let answer = answers file way.past way.stands in
+    let read = unfit_over plan most file way.past frame answer.1.0 some way.alone way.asked answer.1.1 way.fit (wrote way.past way.dissects way.keeps).0 in
+    let count : length (frames_read plan file).frames ≡ length way.past + 0 =
+    ap (λ (all : FramesRead). length all.frames) read ∙ count_read way.past (over (once plan) (Unfit frame.number)) in
+    if_once (two_of plan) (IsNearAfter file (length (frames_read plan file).frames) left_after) (near_by file way.past left_after (length (frames_read plan file).frames) (omega (arith, count)) answer.2)
+
+pub end_unfit : (plan : Plan) (most : Option ℕ) (told : Option (List ℕ)) (r after : ReaderShown) (left left_after : Option (List ℕ)) (d : DissectorShown) (t counts : Notes) (k kept : Kept) (old now later : Option (List ℕ)) (frame : Frame)
+    → most ≢ Some 0 → AreOnTheWay plan most told r left d t k old now → Answers (next.Frame frame) r after left left_after
+    → ((past : List Frame) → StandsWithin past d → KeepsUp (written_of plan) (once plan) past t k → IsAfterFrame false (once plan) past frame counts kept now later)
+    → AreEndNear plan told left_after (Unfit frame.number)
+end_unfit plan most told r after left left_after d t counts k kept old now later frame some way answers wrote = (
+  unfit_near plan most told r after left left_after d t k old now frame some way answers,
+  unfit_is_near plan most told r after left left_after d t counts k kept old now later frame some way answers wrote,
+)
 
 -- a write failed, or there was no memory for a frame's tree or line
 pub fit_pieces : (job : Job) (past : List Frame) (frame : Frame) (frames : List Frame) (ending : Ending)

@@ -18,7 +18,7 @@ use Rattle.run_frames.specs.Job.{Passes, job_in}
 use Rattle.run_frames.specs.Pieces.{pieces}
 use Rattle.run_passes.specs.Ended.{HasRead}
 use Rattle.run_passes.specs.Reading.{frames_read, limited}
-use Rattle.run_passes.specs.SoFar.{HoldsFewer, IsBrokenBehind, IsFullNearOf, WroteTakenBehind}
+use Rattle.run_passes.specs.SoFar.{HoldsFewer, IsBrokenBehind, IfUnfit, IsFullNearOf, IsNextNearOf, WroteTakenBehind}
 use Rattle.run_passes.specs.WrotePieces.{WrotePieces, WroteSomePieces}
 
 -- no other file was asked for, begun or missed meanwhile
@@ -27,22 +27,27 @@ pub record IsReadOn (asked_old asked_new : List ℕ) (begun_old begun_new missed
   pub begun : begun_new ≡ begun_old
   pub missed : missed_new ≡ missed_old
 
--- what a fault comes from: a read or a write that failed
+-- no failed read and no failed write was counted
+pub record IsCalm (reads_old reads_new writes_old writes_new : ℕ) : Type 0 where
+  pub reads : reads_new ≡ reads_old
+  pub writes : writes_new ≡ writes_old
+
+-- what a fault comes from: a read or a write that failed, and nothing of the other kind; where there is no memory, nothing failed
 abbrev pub IsCaused : (reads_old reads_new writes_old writes_new : ℕ) → RunFault → Type 0
-IsCaused reads_old reads_new writes_old writes_new ReadFault = Rose reads_old reads_new
-IsCaused reads_old reads_new writes_old writes_new WriteFault = Rose writes_old writes_new
-IsCaused reads_old reads_new writes_old writes_new NoMemory = Unit {0}
+IsCaused reads_old reads_new writes_old writes_new ReadFault = Rose reads_old reads_new × (writes_new ≡ writes_old)
+IsCaused reads_old reads_new writes_old writes_new WriteFault = Rose writes_old writes_new × (reads_new ≡ reads_old)
+IsCaused reads_old reads_new writes_old writes_new NoMemory = IsCalm reads_old reads_new writes_old writes_new
 
 -- the same where nothing is written, and where nothing is read
 abbrev pub IsReadCaused : (old new : ℕ) → RunFault → Type 0
 IsReadCaused old new ReadFault = Rose old new
 IsReadCaused old new WriteFault = ⊥
-IsReadCaused old new NoMemory = Unit {0}
+IsReadCaused old new NoMemory = new ≡ old
 
 abbrev pub IsWriteCaused : (old new : ℕ) → RunFault → Type 0
 IsWriteCaused old new ReadFault = ⊥
 IsWriteCaused old new WriteFault = Rose old new
-IsWriteCaused old new NoMemory = Unit {0}
+IsWriteCaused old new NoMemory = new ≡ old
 
 -- these are the frames that are read, and how they end
 abbrev pub AreKept : Plan → Option (List ℕ) → List Frame → Ending → Type 0
@@ -64,6 +69,10 @@ AreRead plan told d notes kept = IfSome told (λ file. HasRead plan file d notes
 -- where as many frames are there as are asked for, the bytes taken end near the last of them
 abbrev pub AreFullNear : Plan → (told left : Option (List ℕ)) → Type 0
 AreFullNear plan told left = IfSome told (λ file. IsFullNearOf plan file left)
+
+-- the same, and where a frame doesn't fit they end near it
+abbrev pub AreEndNear : Plan → (told left : Option (List ℕ)) → RunEnding → Type 0
+AreEndNear plan told left ending = AreFullNear plan told left × IfUnfit ending (IfSome told (λ file. IsNextNearOf plan file left))
 
 -- where a read fails, what was written of the frames in the bytes taken
 abbrev pub AreUnread : Plan → (told left old new : Option (List ℕ)) → Type 0

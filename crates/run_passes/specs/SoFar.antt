@@ -6,8 +6,11 @@ use Rattle.capture_read.specs.Capture.{capture_of}
 use Rattle.capture_read.specs.declared.frame.Frame.{Frame}
 use Rattle.run_frames.specs.declared.plan.Plan.{Plan}
 use Rattle.run_frames.specs.Accessors.{most_of, two_of}
-use Rattle.run_frames.specs.Job.{once}
+use Rattle.run_frames.specs.Job.{IfOnce, once}
 use Rattle.run_frames.specs.Pieces.{piece, pieces, pieces_of}
+use Rattle.run_frames.specs.declared.run_ending.RunEnding.{RunEnding}
+use Rattle.run_frames.specs.declared.run_ending.RunEnding.TheVariants.{Read, Unfit}
+use Rattle.run_passes.specs.Reading.{frames_read}
 
 -- fewer frames than are asked for
 abbrev pub IsFewer : Option ℕ → ℕ → Type 0
@@ -58,3 +61,12 @@ IsNearAfter file count (Some left) = (front : ℕ) → front + 2 ^ 16 + length l
 -- where a file has as many frames as are asked for at most, the bytes taken of it end near the last of them
 abbrev pub IsFullNearOf : Plan → List ℕ → Option (List ℕ) → Type 0
 IsFullNearOf plan file left = (count : ℕ) → most_of plan ≡ Some (suc count) → suc count ≤ length (capture_of file).frames → IsNearAfter file count left
+
+-- where the frames are read once, the bytes taken of the file end near the first frame that isn't read any more
+abbrev pub IsNextNearOf : Plan → List ℕ → Option (List ℕ) → Type 0
+IsNextNearOf plan file left = IfOnce (two_of plan) (IsNearAfter file (length (frames_read plan file).frames) left)
+
+-- P, where the frames end at one that doesn't fit
+abbrev pub IfUnfit : RunEnding → Type 0 → Type 0
+IfUnfit (Read ending) P = Unit {0}
+IfUnfit (Unfit number) P = P

@@ -6,5 +6,5 @@ mod owned;
 mod twice;
 
 pub use once::write_rest;
-pub use owned::{give_up_kept, give_up_later, give_up_reader};
+pub use owned::{give_up_kept, give_up_later};
 pub use twice::{KeptFrames, keep_frames, later_of, write_kept};

@@ -4,15 +4,17 @@ ghost use Rattle.std.specs.Option.{option_map};
 ghost use Rattle.pk_base.specs.Limits.{file_limit as limit_of_file};
 ghost use Rattle.capture_read.specs.Reader.{StandsFor};
 ghost use Rattle.capture_read.specs.Taken.{TookAtMost};
+ghost use Rattle.capture_read.specs.declared.kind.Phase.TheVariants as phase;
 ghost use Rattle.dissect.specs.Stands.{StandsWithin};
 ghost use Rattle.run_frames.specs.Accessors.{compiled_of, rules_of, two_of, written_of};
 ghost use Rattle.run_frames.specs.Job.{once};
 ghost use Rattle.run_passes.specs.Ended.{HasTaken};
 ghost use Rattle.run_frames.specs.Steps.{KeepsUp};
-ghost use Rattle.run_passes.specs.Passed.{AreCutOff, AreFullNear, AreRead, HaveBegun, HavePassed, IsCaused, IsReadOn};
+ghost use Rattle.run_passes.specs.Passed.{AreCutOff, AreEndNear, AreRead, HaveBegun, HavePassed, IsCalm, IsCaused, IsReadOn};
 ghost use Rattle.run_frames.specs.Totals.{nothing_counted};
 ghost use Rattle.run_frames.specs.Wanted.{IsEnough};
 
+use crate::owned::give_up_reader;
 use capture_read::{Ending, FrameReader, NextFrame, ReadError};
 use dissect::Dissector;
 use pk_outside::{Capture, Sink};
@@ -38,9 +40,8 @@ pub(crate) fn one_less(most: Option<u32>) -> Option<u32>
     }
 }
 
-/// Reads the begun file frame by frame and writes the line of each before it reads on, up to the last that is asked for, and answers
-/// how the reading ends.
-pub fn write_rest<C: Capture, O: Sink>(
+// Goes over the frames that a reader answers, and writes the line of each before it reads on.
+fn write_each<C: Capture, O: Sink>(
     alloc: Global,
     plan: &Plan,
     reader: &mut FrameReader,
@@ -57,27 +58,26 @@ pub fn write_rest<C: Capture, O: Sink>(
     requires totals { lines.old.notes.totals ≡ nothing_counted }
     requires keeps { KeepsUp (written_of plan.now) (once plan.now) [] lines.old.notes lines.old.capture }
     requires reads { (left : List ℕ) → StandsFor reader.old (Some left) left [] }
+    requires fresh { reader.old.phase ≡ phase.Open }
     requires number { reader.old.state.number ≡ 1 }
     requires at { reader.old.state.at ≡ 0 }
     requires stands { StandsWithin [] dissector.old }
     requires taken { dissector.old.taken ≡ 0 }
     requires captured { dissector.old.captured ≡ 0 }
-
-    // What was written, and how far the file was read then.
     ensures ended { IfOk result (HavePassed plan.now
         (C.left capture.old) (O.written out.old) (O.written out.new)) }
     ensures read { OnOk result (AreRead plan.now (C.left capture.old)
         dissector.new lines.new.notes lines.new.capture) }
     ensures enough { OnOk result (IsEnough dissector.new.wanted plan.now) }
     ensures taken { OnOk result (HasTaken dissector.new) }
-    ensures full { OnOk result (AreFullNear plan.now (C.left capture.old) (C.left capture.new)) }
+    ensures full { IfOk result (AreEndNear plan.now (C.left capture.old) (C.left capture.new)) }
     ensures part { HaveBegun plan.now (C.left capture.old) (O.written out.old) (O.written out.new) }
     ensures broken { IfErr result (AreCutOff plan.now (C.left capture.old) (C.left capture.new)
         (O.written out.old) (O.written out.new)) }
     ensures took { TookAtMost (suc limit_of_file) (C.left capture.old) (C.left capture.new) }
-
-    // The causes of errors, and what stays of the capture.
     ensures caused { IfErr result (IsCaused (C.faults capture.old) (C.faults capture.new)
+        (O.faults out.old) (O.faults out.new)) }
+    ensures calm { OnOk result (IsCalm (C.faults capture.old) (C.faults capture.new)
         (O.faults out.old) (O.faults out.new)) }
     ensures faults_stay { O.faults out.old ≤ O.faults out.new }
     ensures stays { IsReadOn (C.asked capture.old) (C.asked capture.new)
@@ -92,8 +92,9 @@ pub fn write_rest<C: Capture, O: Sink>(
             Ok(NextFrame::Frame(frame)) => frame,
             Ok(NextFrame::End(ending)) => return Ok(RunEnding::Read(ending)),
             Err(ReadError::ReadFault) => return Err(RunFault::ReadFault),
-            // The first error ends the run, so that this one is never `Spent`.
-            Err(ReadError::NoMemory | ReadError::Spent) => return Err(RunFault::NoMemory),
+            Err(ReadError::NoMemory) => return Err(RunFault::NoMemory),
+            // The first error ends the run, so that this one is never met.
+            Err(ReadError::Spent) => return Err(RunFault::NoMemory),
         };
         match write_frame(alloc, plan, &frame, &Later::Unread, dissector, lines, out) {
             Ok(true) => {}
@@ -102,4 +103,53 @@ pub fn write_rest<C: Capture, O: Sink>(
         }
         most = one_less(most);
     }
+}
+
+/// Reads the begun file frame by frame and writes the line of each before it reads on, up to the last that is asked for, and answers
+/// how the reading ends.
+pub fn write_rest<C: Capture, O: Sink>(
+    alloc: Global,
+    plan: &Plan,
+    dissector: &mut Dissector,
+    lines: &mut LineMaker<'_>,
+    capture: &mut C,
+    out: &mut O,
+) -> Result<RunEnding, RunFault>
+    requires enough { IsEnough dissector.old.wanted plan.now }
+    requires rules { dissector.old.decode.rules ≡ rules_of plan.now }
+    requires judge { lines.old.judge ≡ compiled_of plan.now }
+    requires lines { lines.old.writer ≡ plan.now.fields }
+    requires alone { two_of plan.now ≡ false }
+    requires totals { lines.old.notes.totals ≡ nothing_counted }
+    requires keeps { KeepsUp (written_of plan.now) (once plan.now) [] lines.old.notes lines.old.capture }
+    requires stands { StandsWithin [] dissector.old }
+    requires taken { dissector.old.taken ≡ 0 }
+    requires captured { dissector.old.captured ≡ 0 }
+
+    // What was written, and how far the file was read then.
+    ensures ended { IfOk result (HavePassed plan.now
+        (C.left capture.old) (O.written out.old) (O.written out.new)) }
+    ensures read { OnOk result (AreRead plan.now (C.left capture.old)
+        dissector.new lines.new.notes lines.new.capture) }
+    ensures enough { OnOk result (IsEnough dissector.new.wanted plan.now) }
+    ensures taken { OnOk result (HasTaken dissector.new) }
+    ensures full { IfOk result (AreEndNear plan.now (C.left capture.old) (C.left capture.new)) }
+    ensures part { HaveBegun plan.now (C.left capture.old) (O.written out.old) (O.written out.new) }
+    ensures broken { IfErr result (AreCutOff plan.now (C.left capture.old) (C.left capture.new)
+        (O.written out.old) (O.written out.new)) }
+    ensures took { TookAtMost (suc limit_of_file) (C.left capture.old) (C.left capture.new) }
+
+    // The causes of errors, and what stays of the capture.
+    ensures caused { IfErr result (IsCaused (C.faults capture.old) (C.faults capture.new)
+        (O.faults out.old) (O.faults out.new)) }
+    ensures calm { OnOk result (IsCalm (C.faults capture.old) (C.faults capture.new)
+        (O.faults out.old) (O.faults out.new)) }
+    ensures faults_stay { O.faults out.old ≤ O.faults out.new }
+    ensures stays { IsReadOn (C.asked capture.old) (C.asked capture.new)
+        (C.begun capture.old) (C.begun capture.new) (C.missed capture.old) (C.missed capture.new) }
+{
+    let mut reader = FrameReader::new(alloc);
+    let ended = write_each(alloc, plan, &mut reader, dissector, lines, capture, out);
+    give_up_reader(reader);
+    ended
 }

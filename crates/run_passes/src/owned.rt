@@ -15,4 +15,4 @@ pub fn give_up_later(_later: Later) {}
 pub(crate) fn give_up_links(_links: Links) {}
 
 /// Gives a reader up.
-pub fn give_up_reader(_reader: FrameReader) {}
+pub(crate) fn give_up_reader(_reader: FrameReader) {}

@@ -4,6 +4,7 @@ ghost use Rattle.std.specs.Prelude.{◌≡◌, true, ◌≤◌, ◌<◌, ℕ, su
 ghost use Rattle.pk_base.specs.Limits.{file_limit as limit_of_file};
 ghost use Rattle.capture_read.specs.Reader.{StandsFor};
 ghost use Rattle.capture_read.specs.Taken.{TookAtMost};
+ghost use Rattle.capture_read.specs.declared.kind.Phase.TheVariants as phase;
 ghost use Rattle.dissect.specs.Followed.{asks_streams};
 ghost use Rattle.dissect.specs.Stands.{StandsWithin};
 ghost use Rattle.second_pass.specs.Laws.{kept_noted};
@@ -42,6 +43,7 @@ fn keep_rest<C: Capture>(
 ) -> Result<Ending, RunFault>
     requires none { frames.old.items ≡ [] }
     requires reads { (left : List ℕ) → StandsFor reader.old (Some left) left [] }
+    requires fresh { reader.old.phase ≡ phase.Open }
     requires number { reader.old.state.number ≡ 1 }
     requires at { reader.old.state.at ≡ 0 }
     ensures read { IfOk result (AreKept plan.now (C.left capture.old) frames.new.items) }
@@ -50,6 +52,7 @@ fn keep_rest<C: Capture>(
     ensures broken { IfErr result (AreFewer plan.now (C.left capture.old) (C.left capture.new)) }
     ensures took { TookAtMost (suc limit_of_file) (C.left capture.old) (C.left capture.new) }
     ensures caused { IfErr result (IsReadCaused (C.faults capture.old) (C.faults capture.new)) }
+    ensures calm { OnOk result (C.faults capture.new ≡ C.faults capture.old) }
     ensures stays { IsReadOn (C.asked capture.old) (C.asked capture.new)
         (C.begun capture.old) (C.begun capture.new) (C.missed capture.old) (C.missed capture.new) }
 {
@@ -62,8 +65,9 @@ fn keep_rest<C: Capture>(
             Ok(NextFrame::Frame(frame)) => frame,
             Ok(NextFrame::End(ending)) => return Ok(ending),
             Err(ReadError::ReadFault) => return Err(RunFault::ReadFault),
-            // The first error ends the run, so that this one is never `Spent`.
-            Err(ReadError::NoMemory | ReadError::Spent) => return Err(RunFault::NoMemory),
+            Err(ReadError::NoMemory) => return Err(RunFault::NoMemory),
+            // The first error ends the run, so that this one is never met.
+            Err(ReadError::Spent) => return Err(RunFault::NoMemory),
         };
         match frames.push(frame) {
             Ok(()) => {}
@@ -93,6 +97,7 @@ pub fn keep_frames<C: Capture>(
     ensures broken { IfErr result (AreFewer plan.now (C.left capture.old) (C.left capture.new)) }
     ensures took { TookAtMost (suc limit_of_file) (C.left capture.old) (C.left capture.new) }
     ensures caused { IfErr result (IsReadCaused (C.faults capture.old) (C.faults capture.new)) }
+    ensures calm { OnOk result (C.faults capture.new ≡ C.faults capture.old) }
     ensures stays { IsReadOn (C.asked capture.old) (C.asked capture.new)
         (C.begun capture.old) (C.begun capture.new) (C.missed capture.old) (C.missed capture.new) }
 {
@@ -202,6 +207,7 @@ pub fn write_kept<O: Sink>(
         → HaveBegunKept plan.now passes kept.now.frames kept.now.ending
         (O.written out.old) (O.written out.new) }
     ensures caused { IfErr result (IsWriteCaused (O.faults out.old) (O.faults out.new)) }
+    ensures calm { OnOk result (O.faults out.new ≡ O.faults out.old) }
     ensures faults_stay { O.faults out.old ≤ O.faults out.new }
 {
     let mut left = kept.frames.slice();

@@ -1,4 +1,5 @@
 mod AnswerLemmas
+mod CalmLemmas
 mod CauseLemmas
 mod CompleteLemmas
 mod HeadlineLemmas

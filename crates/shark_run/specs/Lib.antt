@@ -1,4 +1,5 @@
 pub mod Answers
+pub mod Calm
 pub mod Causes
 pub mod FaultLines
 pub mod FaultTexts

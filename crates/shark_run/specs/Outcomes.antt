@@ -20,3 +20,11 @@ IfEnded outcome.CannotOpen P = Unit {0}
 IfEnded outcome.ReadFault P = Unit {0}
 IfEnded outcome.WriteFault P = Unit {0}
 IfEnded outcome.NoMemory P = Unit {0}
+
+-- the output was written to its end
+abbrev pub HasEnded : Outcome → Type 0
+HasEnded (outcome.Ended ending) = Unit {0}
+HasEnded outcome.CannotOpen = ⊥
+HasEnded outcome.ReadFault = ⊥
+HasEnded outcome.WriteFault = ⊥
+HasEnded outcome.NoMemory = ⊥

@@ -1,14 +1,17 @@
 // What standard error is told.
-ghost use Rattle.std.specs.Prelude.{◌≡◌, IfOk, string_bytes};
+ghost use Rattle.std.specs.Prelude.{◌≡◌, IfOk, OnErr, string_bytes};
 ghost use Rattle.std.specs.Io.KnownBytes.{Appends};
 ghost use Rattle.pk_outside.specs.Outside.{Rose, AppendsPart};
+ghost use Rattle.run_frames.specs.declared.plan.Plan.{Plan};
 ghost use Rattle.shark_run.specs.FaultLines.{line_bytes};
 ghost use Rattle.shark_run.specs.FaultTexts.{reason_text as text_of_reason, word_reason_text as text_of_word_reason};
 ghost use Rattle.shark_run.specs.FaultTexts.{filter_reason_text as text_of_filter_reason};
 ghost use Rattle.shark_run.specs.FaultTexts.{ending_text as text_of_ending, run_ending_text as text_of_run_ending, outcome_text as text_of_outcome};
 ghost use Rattle.shark_run.specs.FaultTexts.{refusal_text as text_of_refusal};
+ghost use Rattle.shark_run.specs.Outcomes.{HasEnded};
 
 use crate::outcome::Outcome;
+use crate::owned::let_go;
 use capture_read::Ending;
 use flt_syntax::FilterReason;
 use pk_base::{NoMemory, Reason};
@@ -126,24 +129,46 @@ fn run_ending_text(alloc: Global, ending: RunEnding) -> Result<FaultLine, NoMemo
     }
 }
 
-/// What is told of carrying out a plan.
+/// What is told where a plan's capture file can't be opened. It is made before the file is begun, so that no memory is asked for
+/// behind that fault.
+#[tactic(auto, unfolding(crate::specs::FaultTexts::outcome_text))]
+pub(crate) fn unopened_text(alloc: Global, plan: &Plan) -> Result<FaultLine, NoMemory>
+    ensures { IfOk result (λ line. line_bytes line ≡ text_of_outcome plan.now Outcome.CannotOpen) }
+{
+    let name = escape_text(alloc, plan.source.name().as_bytes())?;
+    let text = format!(in alloc; "shark: cannot open {name}\n")?;
+    Ok(FaultLine::Made(text))
+}
+
+/// What is told of carrying out a plan, whose file can't be opened by this text.
 #[tactic(auto, unfolding(crate::specs::FaultTexts::outcome_text))]
 pub(crate) fn outcome_text(
     alloc: Global,
-    plan: &Plan,
     outcome: Outcome,
+    unopened: FaultLine,
 ) -> Result<FaultLine, NoMemory>
-    ensures { IfOk result (λ line. line_bytes line ≡ text_of_outcome plan.now outcome) }
+    ensures text { IfOk result (λ line. (plan : Plan)
+        → line_bytes unopened ≡ text_of_outcome plan Outcome.CannotOpen
+        → line_bytes line ≡ text_of_outcome plan outcome) }
+    ensures starved { OnErr result (HasEnded outcome) }
 {
     match outcome {
-        Outcome::Ended(ending) => run_ending_text(alloc, ending),
-        Outcome::CannotOpen => {
-            let name = escape_text(alloc, plan.source.name().as_bytes())?;
-            let text = format!(in alloc; "shark: cannot open {name}\n")?;
-            Ok(FaultLine::Made(text))
+        Outcome::Ended(ending) => {
+            let_go(unopened);
+            match run_ending_text(alloc, ending) {
+                Ok(line) => Ok(line),
+                Err(error) => Err(error),
+            }
         }
-        Outcome::ReadFault => Ok(FaultLine::Fixed("shark: read fault\n")),
-        Outcome::WriteFault | Outcome::NoMemory => Ok(FaultLine::Fixed("")),
+        Outcome::CannotOpen => Ok(unopened),
+        Outcome::ReadFault => {
+            let_go(unopened);
+            Ok(FaultLine::Fixed("shark: read fault\n"))
+        }
+        Outcome::WriteFault | Outcome::NoMemory => {
+            let_go(unopened);
+            Ok(FaultLine::Fixed(""))
+        }
     }
 }
 

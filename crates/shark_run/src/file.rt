@@ -26,6 +26,8 @@ pub(crate) fn begin_file<C: Capture>(
     ensures left { OnOk result (C.left capture.new ≡ C.file capture.old name.now) }
     ensures begun { OnOk result (C.begun capture.new ≡ counted (C.begun capture.old)) }
     ensures not_missed { OnOk result (C.missed capture.new ≡ C.missed capture.old) }
+    ensures starved { IsErrOf result FileFault.NoMemory
+        → C.missed capture.new ≡ C.missed capture.old }
     ensures asked { OnOk result (C.asked capture.new ≡ name.now) }
     ensures faults { C.faults capture.new ≡ C.faults capture.old }
     ensures not_begun { OnErr result (C.begun capture.new ≡ C.begun capture.old) }

@@ -1,5 +1,5 @@
 // The top call.
-ghost use Rattle.std.specs.Prelude.{◌≡◌, ◌≤◌, ◌+◌, ◌⊎◌, ℕ, List, Option, IfSome};
+ghost use Rattle.std.specs.Prelude.{◌≡◌, ◌≢◌, ◌≤◌, ◌+◌, ◌⊎◌, ℕ, List, Option, IfSome};
 ghost use Rattle.make_capture.specs.Made.{made};
 ghost use Rattle.pk_outside.specs.Outside.{Rose};
 ghost use Rattle.shark_words.specs.Words.{texts};
@@ -13,13 +13,14 @@ ghost use Rattle.run_passes.specs.Taken.{Took};
 ghost use Rattle.shark_run.specs.Statuses.{status_of, refusal_status, IsNoRefusal, IsRefusing, WhenEnded};
 ghost use Rattle.shark_run.specs.FaultTexts.{IsNone, IsSame, Told, ToldWhole};
 ghost use Rattle.shark_run.specs.Outcomes.{IfEnded};
+ghost use Rattle.shark_run.specs.Calm.{HasFaults, TellsFaults};
 ghost use Rattle.shark_run.specs.Causes.{IsUnopened, IsUnread};
 ghost use Rattle.shark_run.specs.Headline.{Headline};
-ghost use Rattle.run_output.specs.Way.{IsBroken, IsBrokenOf, IsFullNear, WroteTaken};
-ghost use Rattle.run_passes.specs.SoFar.{IsFullNearOf};
+ghost use Rattle.run_output.specs.Way.{IsBroken, IsBrokenOf, IsFullNear, IsNextNear, WroteTaken};
+ghost use Rattle.run_passes.specs.SoFar.{IfUnfit, IsFullNearOf, IsNextNearOf};
 ghost use Rattle.run_output.specs.Wrote.{WroteAll, WrotePart};
 
-use crate::fault_text::{outcome_text, refusal_text, tell};
+use crate::fault_text::{outcome_text, refusal_text, tell, unopened_text};
 use crate::file::{FileFault, begin_file, begin_generated};
 use crate::outcome::Outcome;
 use crate::status::{Status, status_of_refusal};
@@ -51,6 +52,8 @@ fn carry_out_named<C: Capture, O: Sink>(
         → IsUnread (C.faults capture.old) (C.faults capture.new)
         (C.begun capture.old) (C.begun capture.new) (C.missed capture.old) (C.missed capture.new) (C.asked capture.new) name.now }
     ensures write_fault { result ≡ Outcome.WriteFault → Rose (O.faults out.old) (O.faults out.new) }
+    ensures calm { HasFaults result (C.missed capture.old) (C.missed capture.new)
+        (C.faults capture.old) (C.faults capture.new) (O.faults out.old) (O.faults out.new) }
     ensures taken { Took (C.file capture.old name.now)
         (C.begun capture.old) (C.begun capture.new) (C.left capture.old) (C.left capture.new) }
     ensures begun_once { C.begun capture.new ≤ C.begun capture.old + 1 }
@@ -62,6 +65,9 @@ fn carry_out_named<C: Capture, O: Sink>(
         IsBrokenOf plan.now file (C.left capture.new) (O.written out.old) (O.written out.new)) }
     ensures full { IfEnded result (λ _. IfSome (C.file capture.old name.now) (λ file.
         IsFullNearOf plan.now file (C.left capture.new))) }
+    ensures unfit { IfEnded result (λ ending. IfUnfit ending
+        (IfSome (C.file capture.old name.now) (λ file.
+        IsNextNearOf plan.now file (C.left capture.new)))) }
 {
     match begin_file(alloc, name, capture) {
         Ok(()) => {}
@@ -91,6 +97,7 @@ fn carry_out_generated<O: Sink>(
     ensures opened { result ≡ Outcome.CannotOpen → ⊥ }
     ensures read { result ≡ Outcome.ReadFault → ⊥ }
     ensures write_fault { result ≡ Outcome.WriteFault → Rose (O.faults out.old) (O.faults out.new) }
+    ensures calm { result ≢ Outcome.WriteFault → O.faults out.new ≡ O.faults out.old }
 {
     let mut capture = match begin_generated(alloc, generated) {
         Ok(capture) => capture,
@@ -124,6 +131,8 @@ fn carry_out<C: Capture, O: Sink>(
         → IsUnread (C.faults capture.old) (C.faults capture.new)
         (C.begun capture.old) (C.begun capture.new) (C.missed capture.old) (C.missed capture.new) (C.asked capture.new) (name_of plan.now) }
     ensures write_fault { result ≡ Outcome.WriteFault → Rose (O.faults out.old) (O.faults out.new) }
+    ensures calm { HasFaults result (C.missed capture.old) (C.missed capture.new)
+        (C.faults capture.old) (C.faults capture.new) (O.faults out.old) (O.faults out.new) }
     ensures taken { Took (file_of plan.now (C.file capture.old))
         (C.begun capture.old) (C.begun capture.new) (C.left capture.old) (C.left capture.new) }
     ensures begun_once { C.begun capture.new ≤ C.begun capture.old + 1 }
@@ -135,6 +144,9 @@ fn carry_out<C: Capture, O: Sink>(
         IsBroken plan.now file (C.left capture.new) (O.written out.old) (O.written out.new)) }
     ensures full { IfEnded result (λ _. IfSome (file_of plan.now (C.file capture.old)) (λ file.
         IsFullNear plan.now file (C.left capture.new))) }
+    ensures unfit { IfEnded result (λ ending. IfUnfit ending
+        (IfSome (file_of plan.now (C.file capture.old)) (λ file.
+        IsNextNear plan.now file (C.left capture.new)))) }
 {
     match &plan.source {
         PlanSource::Named(name) => carry_out_named(alloc, plan, name, capture, out),
@@ -168,6 +180,10 @@ pub fn run_plan<C: Capture, O: Sink, E: Sink>(
         (C.begun capture.old) (C.begun capture.new) (C.missed capture.old) (C.missed capture.new) (C.asked capture.new) (name_of plan.now) }
     ensures write_fault { result ≡ Status.WriteFault → Rose (O.faults out.old) (O.faults out.new) }
 
+    // Each fault is told, and none as another or as want of memory.
+    ensures calm { TellsFaults result (C.missed capture.old) (C.missed capture.new)
+        (C.faults capture.old) (C.faults capture.new) (O.faults out.old) (O.faults out.new) }
+
     // Nothing is read behind the first byte that is too many.
     ensures taken { Took (file_of plan.now (C.file capture.old))
         (C.begun capture.old) (C.begun capture.new) (C.left capture.old) (C.left capture.new) }
@@ -182,6 +198,9 @@ pub fn run_plan<C: Capture, O: Sink, E: Sink>(
         IsBroken plan.now file (C.left capture.new) (O.written out.old) (O.written out.new)) }
     ensures full { WhenEnded result (IfSome (file_of plan.now (C.file capture.old)) (λ file.
         IsFullNear plan.now file (C.left capture.new))) }
+    ensures unfit { result ≡ Status.CannotWrite
+        → IfSome (file_of plan.now (C.file capture.old)) (λ file.
+        IsNextNear plan.now file (C.left capture.new)) }
 
     // Where no fault rose, the run comes to an end or finds no memory.
     ensures complete { IfSome (file_of plan.now (C.file capture.old)) (λ file.
@@ -198,8 +217,12 @@ pub fn run_plan<C: Capture, O: Sink, E: Sink>(
         → ToldWhole (IsSame plan.now) IsNone (C.file capture.old) result
         (E.written err.old) (E.written err.new) }
 {
+    let unopened = match unopened_text(alloc, plan) {
+        Ok(text) => text,
+        Err(NoMemory) => return Status::NoMemory,
+    };
     let outcome = carry_out(alloc, plan, capture, out);
-    match outcome_text(alloc, plan, outcome) {
+    match outcome_text(alloc, outcome, unopened) {
         Ok(line) => {
             tell(err, line.bytes());
             outcome.status()
@@ -273,6 +296,10 @@ pub fn run<C: Capture, O: Sink, E: Sink>(
     ensures write_fault { result ≡ Status.WriteFault → (plan : Plan) × IsPlan (texts words.now) plan
         × Rose (O.faults out.old) (O.faults out.new) }
 
+    // Each fault is told, and none as another or as want of memory.
+    ensures calm { TellsFaults result (C.missed capture.old) (C.missed capture.new)
+        (C.faults capture.old) (C.faults capture.new) (O.faults out.old) (O.faults out.new) }
+
     // Nothing is read behind the first byte that is too many.
     ensures taken { (capture.new ≡ capture.old) ⊎ ((plan : Plan) × IsPlan (texts words.now) plan
         × Took (file_of plan (C.file capture.old)) (C.begun capture.old) (C.begun capture.new)
@@ -289,6 +316,9 @@ pub fn run<C: Capture, O: Sink, E: Sink>(
     ensures full { WhenEnded result ((plan : Plan) × IsPlan (texts words.now) plan
         × IfSome (file_of plan (C.file capture.old)) (λ file.
         IsFullNear plan file (C.left capture.new))) }
+    ensures unfit { result ≡ Status.CannotWrite → (plan : Plan) × IsPlan (texts words.now) plan
+        × IfSome (file_of plan (C.file capture.old)) (λ file.
+        IsNextNear plan file (C.left capture.new)) }
 
     // Where no fault rose, the run of words that ask for a plan comes to an end or finds no memory.
     ensures complete { (plan : Plan) → IsPlan (texts words.now) plan

@@ -2,7 +2,7 @@ use Rattle.std.proofs.Common.{Err, ap, refl, suc}
 use Rattle.pk_base.specs.Limits.{file_limit}
 use Rattle.capture_read.proofs.TakenLemmas.{took_none}
 use Rattle.run_passes.proofs.FaultLemmas.{caused_write}
-use Rattle.run_output.proofs.CutLemmas.{caused_behind, cut_off_behind, opening_cut_off}
+use Rattle.run_output.proofs.CutLemmas.{calm_behind, caused_behind, cut_off_behind, opening_cut_off}
 use Rattle.run_output.proofs.OpeningLemmas.{all_ended_behind, part_behind, part_opened}
 use Rattle.run_output.proofs.output.write_output.Goals as goal
 
@@ -24,7 +24,11 @@ returns-in-Ok-clause-broken g c =
 
 pub returns-in-Ok-clause-caused : goal.returns-in-Ok-clause-caused
 returns-in-Ok-clause-caused g c =
-    caused_behind c.write_frames.result (g.C.Capture.faults c.args.capture.now) (g.C.Capture.faults c.write_frames.new.capture) (g.O.Sink.faults c.args.out.now) (g.O.Sink.faults c.write_opening.new.out) (g.O.Sink.faults c.write_frames.new.out) c.write_opening.ensures.faults_stay c.write_frames.ensures.caused
+    caused_behind c.write_frames.result (g.C.Capture.faults c.args.capture.now) (g.C.Capture.faults c.write_frames.new.capture) (g.O.Sink.faults c.args.out.now) (g.O.Sink.faults c.write_opening.new.out) (g.O.Sink.faults c.write_frames.new.out) c.in-Ok.ensures.calm c.write_frames.ensures.caused
+
+pub returns-in-Ok-clause-calm : goal.returns-in-Ok-clause-calm
+returns-in-Ok-clause-calm g c =
+    calm_behind c.write_frames.result (g.C.Capture.faults c.args.capture.now) (g.C.Capture.faults c.write_frames.new.capture) (g.O.Sink.faults c.args.out.now) (g.O.Sink.faults c.write_opening.new.out) (g.O.Sink.faults c.write_frames.new.out) c.in-Ok.ensures.calm c.write_frames.ensures.calm
 
 pub returns-in-Err-clause-broken : goal.returns-in-Err-clause-broken
 returns-in-Err-clause-broken g c =
@@ -33,7 +37,7 @@ returns-in-Err-clause-broken g c =
 
 pub returns-in-Err-clause-caused : goal.returns-in-Err-clause-caused
 returns-in-Err-clause-caused g c =
-    caused_write (g.C.Capture.faults c.args.capture.now) (g.C.Capture.faults c.args.capture.now) (g.O.Sink.faults c.args.out.now) (g.O.Sink.faults c.write_opening.new.out) c.in-Err.fault c.in-Err.ensures.caused
+    caused_write (g.C.Capture.faults c.args.capture.now) (g.C.Capture.faults c.args.capture.now) (g.O.Sink.faults c.args.out.now) (g.O.Sink.faults c.write_opening.new.out) c.in-Err.fault refl c.in-Err.ensures.caused
 
 pub returns-in-Err-clause-took : goal.returns-in-Err-clause-took
 returns-in-Err-clause-took g c = took_none (suc file_limit) (g.C.Capture.left c.args.capture.now) (g.C.Capture.left c.args.capture.now) refl

@@ -1,4 +1,5 @@
-use Rattle.std.proofs.Common.{arith}
+use Rattle.std.proofs.Common.{◌∙◌}
+use Rattle.run_frames.proofs.CalmLemmas.{calm_ok}
 use Rattle.run_frames.specs.Job.{job_in}
 use Rattle.run_output.proofs.ReportLemmas.{is_asked, report_part, report_whole}
 use Rattle.run_output.proofs.reports.write_reports.Goals as goal
@@ -17,8 +18,11 @@ loop-asked-preserved g c = record {
       report_whole (job_in c.args.plan.now passes) past c.args.reports.now c.loop-asked.asked-index _ so_far.0
       (g.O.Sink.written c.args.out.now) (g.O.Sink.written c.loop-asked.out) (g.O.Sink.written c.write_report.new.out)
       c.loop-asked-test.true so_far.1 so_far.2 (c.in-Ok.ensures.whole passes past stands noted);
-  faults = omega (arith, c.loop-asked.invariant.faults, c.write_report.ensures.faults_stay);
+  calm = calm_ok _ _ _ _ c.in-Ok.ensures.calm ∙ c.loop-asked.invariant.calm;
 }
 
 pub write_report-requires-clause-there : goal.write_report-requires-clause-there
 write_report-requires-clause-there g c = is_asked c.args.plan.now c.args.reports.now c.loop-asked.asked-index _ c.requires.there c.loop-asked-test.true
+
+pub returns-in-Err-clause-calm : goal.returns-in-Err-clause-calm
+returns-in-Err-clause-calm g c = λ other. c.in-Err.ensures.calm other ∙ c.loop-asked.invariant.calm

@@ -1,4 +1,5 @@
-use Rattle.std.proofs.Common.{[], Err, ap, reverse}
+use Rattle.std.proofs.Common.{[], Err, ap, ◌∙◌, reverse}
+use Rattle.run_frames.proofs.CalmLemmas.{calm_ok, calm_starved}
 use Rattle.run_passes.proofs.FaultLemmas.{rose_before}
 use Rattle.run_frames.specs.Fitting.{fitting}
 use Rattle.run_frames.specs.Job.{job_in}
@@ -36,4 +37,10 @@ returns-in-Err-NoMemory-clause-part g c = λ passes serves.
 
 pub returns-in-Err-Failed-clause-caused : goal.returns-in-Err-Failed-clause-caused
 returns-in-Err-Failed-clause-caused g c =
-    rose_before (g.O.Sink.faults c.args.out.now) (g.O.Sink.faults c.write_kept.new.out) (g.O.Sink.faults c.write_closing.new.out) c.write_kept.ensures.faults_stay (c.in-Err-Failed.ensures.fault (ap Err c.in-Err-Failed.field-0-is))
+    rose_before (g.O.Sink.faults c.args.out.now) (g.O.Sink.faults c.write_kept.new.out) (g.O.Sink.faults c.write_closing.new.out) c.in-Ok.ensures.calm (c.in-Err-Failed.ensures.fault (ap Err c.in-Err-Failed.field-0-is))
+
+pub returns-in-Err-NoMemory-clause-caused : goal.returns-in-Err-NoMemory-clause-caused
+returns-in-Err-NoMemory-clause-caused g c = calm_starved _ _ _ c.in-Err-NoMemory.field-0-is c.in-Err-NoMemory.ensures.calm ∙ c.in-Ok.ensures.calm
+
+pub returns-in-Ok-write_closing-clause-calm : goal.returns-in-Ok-write_closing-clause-calm
+returns-in-Ok-write_closing-clause-calm g c = calm_ok _ _ _ _ c.in-Ok-write_closing.ensures.calm ∙ c.in-Ok.ensures.calm

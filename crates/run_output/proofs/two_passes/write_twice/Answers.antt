@@ -1,7 +1,8 @@
+use Rattle.std.proofs.Common.{refl}
 use Rattle.run_passes.proofs.FaultLemmas.{caused_read, caused_write}
 use Rattle.run_output.proofs.ClosingLemmas.{none_body}
 use Rattle.run_output.proofs.BodyLemmas.{twice_some, twice_wrote}
-use Rattle.run_output.proofs.CutLemmas.{again_cut_off, twice_cut_off}
+use Rattle.run_output.proofs.CutLemmas.{again_cut_off, near_twice, twice_cut_off}
 use Rattle.run_output.proofs.two_passes.write_twice.Goals as goal
 
 pub returns-in-Err-clause-part : goal.returns-in-Err-clause-part
@@ -13,7 +14,7 @@ returns-in-Err-clause-broken g c =
 
 pub returns-in-Err-clause-caused : goal.returns-in-Err-clause-caused
 returns-in-Err-clause-caused g c =
-    caused_read (g.C.Capture.faults c.args.capture.now) (g.C.Capture.faults c.keep_frames.new.capture) (g.O.Sink.faults c.args.out.now) (g.O.Sink.faults c.args.out.now) c.in-Err.fault c.in-Err.ensures.caused
+    caused_read (g.C.Capture.faults c.args.capture.now) (g.C.Capture.faults c.keep_frames.new.capture) (g.O.Sink.faults c.args.out.now) (g.O.Sink.faults c.args.out.now) c.in-Err.fault refl c.in-Err.ensures.caused
 
 pub returns-in-Ok-ended-clause-ended : goal.returns-in-Ok-ended-clause-ended
 returns-in-Ok-ended-clause-ended g c =
@@ -36,4 +37,11 @@ returns-in-Err-ended-clause-broken g c =
 
 pub returns-in-Err-ended-clause-caused : goal.returns-in-Err-ended-clause-caused
 returns-in-Err-ended-clause-caused g c =
-    caused_write (g.C.Capture.faults c.args.capture.now) (g.C.Capture.faults c.keep_frames.new.capture) (g.O.Sink.faults c.args.out.now) (g.O.Sink.faults c.write_again-ended.new.out) c.in-Err-ended.fault c.in-Err-ended.ensures.caused
+    caused_write (g.C.Capture.faults c.args.capture.now) (g.C.Capture.faults c.keep_frames.new.capture) (g.O.Sink.faults c.args.out.now) (g.O.Sink.faults c.write_again-ended.new.out) c.in-Err-ended.fault c.in-Ok.ensures.calm c.in-Err-ended.ensures.caused
+
+pub returns-in-Ok-ended-clause-full : goal.returns-in-Ok-ended-clause-full
+returns-in-Ok-ended-clause-full g c =
+    near_twice c.args.plan.now (g.C.Capture.left c.args.capture.now) (g.C.Capture.left c.keep_frames.new.capture) c.in-Ok-ended.ending c.requires c.in-Ok.ensures.full
+
+pub returns-in-Ok-ended-clause-calm : goal.returns-in-Ok-ended-clause-calm
+returns-in-Ok-ended-clause-calm g c = record { reads = c.in-Ok.ensures.calm; writes = c.in-Ok-ended.ensures.calm }

@@ -1,7 +1,7 @@
 use Rattle.std.proofs.Common.{◌∙◌, ap, suc, Err, refl, arith}
 use Rattle.pk_base.specs.Limits.{file_limit}
 use Rattle.capture_read.proofs.TakenLemmas.{took_none}
-use Rattle.run_passes.proofs.FaultLemmas.{read_further, rose_before}
+use Rattle.run_passes.proofs.FaultLemmas.{never_spent, read_further, rose_before}
 use Rattle.run_passes.proofs.KeepLemmas.{counts_begun, counts_more, keep_begun, keep_ended, keep_ended_near, keep_full, keep_full_near, keep_further, keep_took, keep_unread, takeable_more, takeable_none}
 use Rattle.run_passes.proofs.twice.keep_rest.Goals as goal
 
@@ -12,7 +12,8 @@ loop-most-init g c = record {
   takeable = takeable_none c.args.frames.now.items c.requires.none;
   took = took_none (suc file_limit) (g.C.Capture.left c.args.capture.now) (g.C.Capture.left c.args.capture.now) refl;
   on = record { asked = refl; begun = refl; missed = refl };
-  read_faults = omega arith;
+  fresh = c.requires.fresh;
+  calm = refl;
 }
 
 pub returns-then-is_full-clause-read : goal.returns-then-is_full-clause-read
@@ -68,7 +69,8 @@ loop-most-preserved g c = record {
     begun = c.next_frame.ensures.begun ∙ c.loop-most.invariant.on.begun;
     missed = c.next_frame.ensures.missed ∙ c.loop-most.invariant.on.missed;
   };
-  read_faults = omega (arith, c.loop-most.invariant.read_faults, c.next_frame.ensures.faults_stay);
+  fresh = rw c.in-Ok-Frame.field-0-is at c.in-Ok-Frame.ensures.kept;
+  calm = c.in-Ok-Frame.ensures.no_fault ∙ c.loop-most.invariant.calm;
 }
 
 pub returns-in-Ok-End-clause-stays : goal.returns-in-Ok-End-clause-stays
@@ -93,4 +95,25 @@ returns-in-Err-clause-stays g c =
 
 pub returns-in-Err-ReadFault-clause-caused : goal.returns-in-Err-ReadFault-clause-caused
 returns-in-Err-ReadFault-clause-caused g c =
-    rose_before (g.C.Capture.faults c.args.capture.now) (g.C.Capture.faults c.loop-most.capture) (g.C.Capture.faults c.next_frame.new.capture) c.loop-most.invariant.read_faults (c.in-Err-ReadFault.ensures.fault (ap Err c.in-Err-ReadFault.field-0-is))
+    rose_before (g.C.Capture.faults c.args.capture.now) (g.C.Capture.faults c.loop-most.capture) (g.C.Capture.faults c.next_frame.new.capture) c.loop-most.invariant.calm (c.in-Err-ReadFault.ensures.fault (ap Err c.in-Err-ReadFault.field-0-is))
+
+pub returns-in-Err-NoMemory-clause-caused : goal.returns-in-Err-NoMemory-clause-caused
+returns-in-Err-NoMemory-clause-caused g c = c.in-Err-NoMemory.ensures.starved (ap Err c.in-Err-NoMemory.field-0-is) ∙ c.loop-most.invariant.calm
+
+pub returns-in-Err-clause-caused : goal.returns-in-Err-clause-caused
+returns-in-Err-clause-caused g c = c.in-Ok-Frame.ensures.no_fault ∙ c.loop-most.invariant.calm
+
+pub returns-in-Ok-End-clause-calm : goal.returns-in-Ok-End-clause-calm
+returns-in-Ok-End-clause-calm g c = c.in-Ok-End.ensures.no_fault ∙ c.loop-most.invariant.calm
+
+pub returns-in-Err-Spent-clause-took : goal.returns-in-Err-Spent-clause-took
+returns-in-Err-Spent-clause-took g c =
+    keep_took c.args.plan.now c.loop-most.most (g.C.Capture.left c.args.capture.now) c.loop-most.reader (g.C.Capture.left c.loop-most.capture) (g.C.Capture.left c.next_frame.new.capture) c.loop-most.frames.items c.loop-most.invariant.way c.next_frame.ensures.took
+
+pub returns-in-Err-Spent-clause-stays : goal.returns-in-Err-Spent-clause-stays
+returns-in-Err-Spent-clause-stays g c =
+    read_further (g.C.Capture.asked c.args.capture.now) (g.C.Capture.asked c.loop-most.capture) (g.C.Capture.asked c.next_frame.new.capture) (g.C.Capture.begun c.args.capture.now) (g.C.Capture.begun c.loop-most.capture) (g.C.Capture.begun c.next_frame.new.capture) (g.C.Capture.missed c.args.capture.now) (g.C.Capture.missed c.loop-most.capture) (g.C.Capture.missed c.next_frame.new.capture)
+    c.loop-most.invariant.on c.next_frame.ensures.asked c.next_frame.ensures.begun c.next_frame.ensures.missed
+
+pub returns-in-Err-Spent-clause-caused : goal.returns-in-Err-Spent-clause-caused
+returns-in-Err-Spent-clause-caused g c = absurd (never_spent _ c.loop-most.invariant.fresh (c.in-Err-Spent.ensures.spent.0 (ap Err c.in-Err-Spent.field-0-is)))

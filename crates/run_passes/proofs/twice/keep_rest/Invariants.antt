@@ -1,5 +1,6 @@
-use Rattle.std.proofs.Common.{◌≤◌, ◌-◌, suc}
+use Rattle.std.proofs.Common.{◌≡◌, ◌-◌, suc}
 use Rattle.capture_read.specs.Taken.{TookAtMost}
+use Rattle.capture_read.specs.declared.kind.Phase.TheVariants.{Open}
 use Rattle.pk_base.specs.Limits.{file_limit}
 use Rattle.run_passes.specs.Passed.{IsReadOn}
 use Rattle.run_passes.specs.Takeable.{AreTakeable}
@@ -13,7 +14,8 @@ invariant-loop-most g l = record {
   takeable : AreTakeable 0 0 l.frames.items;
   took : TookAtMost (suc file_limit) (g.C.Capture.left l.fn.capture) (g.C.Capture.left l.capture);
   on : IsReadOn (g.C.Capture.asked l.fn.capture) (g.C.Capture.asked l.capture) (g.C.Capture.begun l.fn.capture) (g.C.Capture.begun l.capture) (g.C.Capture.missed l.fn.capture) (g.C.Capture.missed l.capture);
-  read_faults : g.C.Capture.faults l.fn.capture ≤ g.C.Capture.faults l.capture;
+  fresh : l.reader.phase ≡ Open;
+  calm : g.C.Capture.faults l.capture ≡ g.C.Capture.faults l.fn.capture;
 }
 
 abbrev pub decreases-loop-most : goal.decreases-loop-most

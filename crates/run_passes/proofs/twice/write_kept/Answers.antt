@@ -5,6 +5,8 @@ use Rattle.run_frames.specs.Fitting.{fitting}
 use Rattle.run_frames.specs.Job.{job_in}
 use Rattle.run_frames.specs.Pieces.{pieces}
 use Rattle.run_frames.specs.Wanted.{IsEnough}
+use Rattle.run_frames.specs.declared.frames.RunFault.TheVariants.{WriteFault}
+use Rattle.run_frames.proofs.CalmLemmas.{calm_err, calm_ok}
 use Rattle.run_frames.proofs.TotalsLemmas.{few_after, few_begun}
 use Rattle.run_passes.proofs.FaultLemmas.{write_caused}
 use Rattle.run_passes.proofs.TwiceLemmas.{all_joined, few_kept, first_takeable, left_first, left_more, serves_still, takeable_after, takeable_begun, through_begun, through_broken, through_closes, through_ended, through_further, through_unfit, through_unfit_closes}
@@ -24,7 +26,7 @@ loop-left-init g c = record {
   judge = c.requires.judge;
   writer = c.requires.lines;
   few = few_begun c.args.dissector.now.taken c.args.lines.now.notes.totals c.requires.totals;
-  write_faults = omega arith;
+  calm = refl;
 }
 
 pub write_frame-requires-clause-few : goal.write_frame-requires-clause-few
@@ -104,7 +106,7 @@ loop-left-preserved g c =
       judge = c.write_frame.ensures.judge ∙ c.loop-left.invariant.judge;
       writer = c.write_frame.ensures.writer ∙ c.loop-left.invariant.writer;
       few = few_after c.loop-left.dissector.taken c.write_frame.new.dissector.taken c.write_frame.new.lines.notes.totals c.in-Ok-true.ensures.taken (c.write_frame.ensures.few c.loop-left.dissector.taken c.loop-left.invariant.few);
-      write_faults = omega (arith, c.loop-left.invariant.write_faults, c.write_frame.ensures.faults_stay);
+      calm = calm_ok _ _ _ _ c.in-Ok-true.ensures.calm ∙ c.loop-left.invariant.calm;
     }
 
 pub returns-clause-ended : goal.returns-clause-ended
@@ -125,4 +127,7 @@ returns-clause-part g c = λ passes serves.
 
 pub returns-in-Err-clause-caused : goal.returns-in-Err-clause-caused
 returns-in-Err-clause-caused g c =
-    write_caused (g.O.Sink.faults c.args.out.now) (g.O.Sink.faults c.loop-left.out) (g.O.Sink.faults c.write_frame.new.out) c.in-Err.fault c.loop-left.invariant.write_faults (λ is. c.in-Err.ensures.read (ap Err is)) (λ is. c.in-Err.ensures.fault (ap Err is))
+    write_caused (g.O.Sink.faults c.args.out.now) (g.O.Sink.faults c.loop-left.out) (g.O.Sink.faults c.write_frame.new.out) c.in-Err.fault c.loop-left.invariant.calm (λ is. c.in-Err.ensures.read (ap Err is)) (λ is. c.in-Err.ensures.fault (ap Err is)) (calm_err c.in-Err.fault WriteFault (g.O.Sink.faults c.loop-left.out) (g.O.Sink.faults c.write_frame.new.out) c.in-Err.ensures.calm)
+
+pub returns-in-Ok-false-clause-calm : goal.returns-in-Ok-false-clause-calm
+returns-in-Ok-false-clause-calm g c = calm_ok _ _ _ _ c.in-Ok-false.ensures.calm ∙ c.loop-left.invariant.calm

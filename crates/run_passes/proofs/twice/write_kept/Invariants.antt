@@ -25,7 +25,7 @@ invariant-loop-left g l = record {
   judge : l.lines.judge ≡ compiled_of l.plan;
   writer : l.lines.writer ≡ l.plan.fields;
   few : AreFewNotes l.dissector.taken l.lines.notes;
-  write_faults : g.O.Sink.faults l.fn.out ≤ g.O.Sink.faults l.out;
+  calm : g.O.Sink.faults l.out ≡ g.O.Sink.faults l.fn.out;
 }
 
 abbrev pub decreases-loop-left : goal.decreases-loop-left

@@ -7,6 +7,7 @@ use Rattle.run_words.specs.Plan.{IsPlan, IsRefusal}
 use Rattle.run_words.proofs.PlanLemmas.{reason_given, refused_not_planned}
 use Rattle.shark_run.proofs.AnswerLemmas.{complete_refused, refused_or_none}
 use Rattle.shark_run.proofs.HeadlineLemmas.{planned, refused_so, starved}
+use Rattle.shark_run.proofs.CalmLemmas.{tells_still}
 use Rattle.shark_run.proofs.LawLemmas.{complete_planned}
 use Rattle.shark_run.proofs.ToldLemmas.{told_more, whole_more, told_nothing, whole_nothing}
 use Rattle.shark_run.proofs.top.run.Goals as goal
@@ -67,3 +68,9 @@ returns-in-Err-Refused-clause-headline g c =
 
 pub returns-in-Err-NoMemory-clause-headline : goal.returns-in-Err-NoMemory-clause-headline
 returns-in-Err-NoMemory-clause-headline g c = starved _ _ _ _ _ _ refl (told_nothing _ _ _ _)
+
+pub returns-in-Err-Refused-clause-calm : goal.returns-in-Err-Refused-clause-calm
+returns-in-Err-Refused-clause-calm g c = tells_still _ _ _ _
+
+pub returns-in-Err-NoMemory-clause-calm : goal.returns-in-Err-NoMemory-clause-calm
+returns-in-Err-NoMemory-clause-calm g c = tells_still _ _ _ _
