@@ -141,11 +141,7 @@ fn put(
     ranges.insert(start, &bytes, frame)
 }
 
-fn put_all(
-    ranges: &mut Ranges,
-    alloc: Global,
-    runs: &[(u64, &[u8], u32)],
-) -> Result<(), NoMemory> {
+fn put_all(ranges: &mut Ranges, alloc: Global, runs: &[(u64, &[u8], u32)]) -> Result<(), NoMemory> {
     for (start, bytes, frame) in runs {
         put(ranges, alloc, *start, bytes, *frame)?;
     }
