@@ -14,10 +14,10 @@ use Rattle.flt_code.proofs.OwnerLemmas.{get_last}
 use Rattle.flt_mean.specs.Chains.{parts}
 use Rattle.flt_pattern.specs.declared.pattern.Pattern.{Pattern}
 use Rattle.flt_syntax.specs.declared.ast.Choice.{Choice}
-use Rattle.flt_types.specs.declared.typed.Member.{Member}
-use Rattle.flt_types.specs.declared.typed.Term.{Term}
-use Rattle.flt_types.specs.declared.typed.Typed.{Typed}
-use Rattle.flt_types.specs.declared.typed.Typed.TheVariants.{Either', Differ', Both', Not', Exists, AnyBit, Compare, Among, Matches}
+use Rattle.flt_typed.specs.declared.typed.Member.{Member}
+use Rattle.flt_typed.specs.declared.typed.Term.{Term}
+use Rattle.flt_typed.specs.declared.typed.Typed.{Typed}
+use Rattle.flt_typed.specs.declared.typed.Typed.TheVariants.{Either', Differ', Both', Not', Exists, AnyBit, Compare, Among, Matches}
 use Rattle.flt_values.specs.declared.arithmetic.Extreme.TheVariants.{Least}
 use Rattle.flt_vm.specs.Programs.{patterns_of}
 use Rattle.flt_vm.specs.declared.instr.Instr.{Instr}

@@ -14,9 +14,9 @@ use Rattle.flt_code.proofs.TypesAllow.{types_allow}
 use Rattle.flt_mean.specs.Meaning.{meaning}
 use Rattle.flt_syntax.specs.Grammar.{IsGrouped}
 use Rattle.flt_syntax.specs.Written.{Written}
-use Rattle.flt_types.specs.Texts.{IsFilter}
-use Rattle.flt_types.specs.Typing.{HasType}
-use Rattle.flt_types.specs.declared.typed.Typed.{Typed}
+use Rattle.flt_typed.specs.Texts.{IsFilter}
+use Rattle.flt_typed.specs.Typing.{HasType}
+use Rattle.flt_typed.specs.declared.typed.Typed.{Typed}
 use Rattle.flt_vm.specs.Machine.{Runs, start}
 use Rattle.flt_vm.specs.Programs.{Code, FitsFilter, IsProgram, patterns_of}
 use Rattle.flt_vm.specs.declared.instr.Instr.{Instr}

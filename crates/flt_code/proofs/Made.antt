@@ -8,10 +8,10 @@ use Rattle.flt_code.proofs.LoadLemmas.{loads_on, makes, owned_on}
 use Rattle.flt_code.proofs.OwnerLemmas.{get_last, grows_on}
 use Rattle.flt_syntax.specs.declared.ast.Function.{Function}
 use Rattle.flt_syntax.specs.declared.ast.Function.TheVariants.{Len, Count, Upper, Lower, Min, Max}
-use Rattle.flt_types.specs.declared.typed.Term.{Term}
-use Rattle.flt_types.specs.declared.typed.Term.TheVariants as terms
-use Rattle.flt_types.specs.declared.typed.Typed.{Typed}
-use Rattle.flt_types.specs.declared.typed.Typed.TheVariants.{Either', Differ', Both', Not', Exists, AnyBit, Compare, Among, Matches}
+use Rattle.flt_typed.specs.declared.typed.Term.{Term}
+use Rattle.flt_typed.specs.declared.typed.Term.TheVariants as terms
+use Rattle.flt_typed.specs.declared.typed.Typed.{Typed}
+use Rattle.flt_typed.specs.declared.typed.Typed.TheVariants.{Either', Differ', Both', Not', Exists, AnyBit, Compare, Among, Matches}
 use Rattle.flt_values.specs.declared.arithmetic.Extreme.{Extreme}
 use Rattle.flt_values.specs.declared.arithmetic.Extreme.TheVariants.{Least, Greatest}
 use Rattle.flt_vm.specs.Programs.{patterns_of}

@@ -15,11 +15,11 @@ use Rattle.flt_mean.specs.Values.{values_of_term}
 use Rattle.flt_syntax.specs.declared.ast.Choice.{Choice}
 use Rattle.flt_syntax.specs.declared.ast.Function.{Function}
 use Rattle.flt_syntax.specs.declared.ast.Function.TheVariants.{Len, Count, Upper, Lower, Min, Max}
-use Rattle.flt_types.specs.Terms.{is_field}
-use Rattle.flt_types.specs.declared.typed.Term.{Term}
-use Rattle.flt_types.specs.declared.typed.Term.TheVariants as terms
-use Rattle.flt_types.specs.declared.typed.Typed.{Typed}
-use Rattle.flt_types.specs.declared.typed.Typed.TheVariants.{Either', Differ', Both', Not', Exists, AnyBit, Compare, Among, Matches}
+use Rattle.flt_typed.specs.Terms.{is_field}
+use Rattle.flt_typed.specs.declared.typed.Term.{Term}
+use Rattle.flt_typed.specs.declared.typed.Term.TheVariants as terms
+use Rattle.flt_typed.specs.declared.typed.Typed.{Typed}
+use Rattle.flt_typed.specs.declared.typed.Typed.TheVariants.{Either', Differ', Both', Not', Exists, AnyBit, Compare, Among, Matches}
 use Rattle.flt_values.specs.Arithmetic.{extreme_of}
 use Rattle.flt_values.specs.Calls.{is_nonzero, masked}
 use Rattle.flt_values.specs.Slices.{sliced}
@@ -34,7 +34,7 @@ use Rattle.pk_tree.specs.FieldValues.{values_of}
 use Rattle.pk_tree.specs.Trees.{TreeShown}
 use Rattle.flt_syntax.specs.declared.ast.Arithmetic.{Arithmetic}
 use Rattle.flt_syntax.specs.declared.ast.RangePart.{RangePart}
-use Rattle.flt_types.specs.declared.typed.Member.{Member}
+use Rattle.flt_typed.specs.declared.typed.Member.{Member}
 use Rattle.flt_values.specs.declared.literal.Constant.{Constant}
 use Rattle.flt_values.specs.declared.relation.Relation.{Relation}
 use Rattle.pk_tree.specs.declared.chosen.Layers.{Layers}

@@ -17,18 +17,18 @@ use Rattle.flt_syntax.specs.declared.ast.Literal.{Literal}
 use Rattle.flt_syntax.specs.declared.ast.Function.{Function}
 use Rattle.flt_syntax.specs.declared.ast.Function.TheVariants.{Len, Count, Upper, Lower, Min, Max}
 use Rattle.flt_syntax.specs.declared.token.Join.TheVariants as joins
-use Rattle.flt_types.specs.Literals.{literal_read}
-use Rattle.flt_types.specs.Standing.{argument, in_slice, within}
-use Rattle.flt_types.specs.Terms.{IsTerm, are_numbers, kind_of, takes_term}
-use Rattle.flt_types.specs.Typing.{AreMembers, HasType, IsAlone, IsMember, IsRight, IsTest}
-use Rattle.flt_types.specs.declared.standing.Standing.{Standing}
-use Rattle.flt_types.specs.declared.standing.Standing.TheVariants.{First, Free}
-use Rattle.flt_types.specs.declared.typed.Member.{Member}
-use Rattle.flt_types.specs.declared.typed.Member.TheVariants as members
-use Rattle.flt_types.specs.declared.typed.Term.{Term}
-use Rattle.flt_types.specs.declared.typed.Term.TheVariants as terms
-use Rattle.flt_types.specs.declared.typed.Typed.{Typed}
-use Rattle.flt_types.specs.declared.typed.Typed.TheVariants.{Either', Differ', Both', Not', Exists, AnyBit, Compare, Among, Matches}
+use Rattle.flt_typed.specs.Literals.{literal_read}
+use Rattle.flt_typed.specs.Standing.{argument, in_slice, within}
+use Rattle.flt_typed.specs.Terms.{IsTerm, are_numbers, kind_of, takes_term}
+use Rattle.flt_typed.specs.Typing.{AreMembers, HasType, IsAlone, IsMember, IsRight, IsTest}
+use Rattle.flt_typed.specs.declared.standing.Standing.{Standing}
+use Rattle.flt_typed.specs.declared.standing.Standing.TheVariants.{First, Free}
+use Rattle.flt_typed.specs.declared.typed.Member.{Member}
+use Rattle.flt_typed.specs.declared.typed.Member.TheVariants as members
+use Rattle.flt_typed.specs.declared.typed.Term.{Term}
+use Rattle.flt_typed.specs.declared.typed.Term.TheVariants as terms
+use Rattle.flt_typed.specs.declared.typed.Typed.{Typed}
+use Rattle.flt_typed.specs.declared.typed.Typed.TheVariants.{Either', Differ', Both', Not', Exists, AnyBit, Compare, Among, Matches}
 use Rattle.flt_values.specs.Kinds.{admits_prefix, class_eq, class_of, is_masked, is_measured, is_number, is_searched, is_sliced, is_truth, kind_of_right, kind_of_value, same_class, takes, takes_call}
 use Rattle.flt_values.specs.declared.arithmetic.Extreme.{Extreme}
 use Rattle.flt_values.specs.declared.arithmetic.Extreme.TheVariants.{Least, Greatest}

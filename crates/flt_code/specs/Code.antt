@@ -3,14 +3,14 @@ use Rattle.std.specs.Prelude.{◌≡◌, ℕ, Bool as Truth, true, false, List, 
 use Rattle.flt_code.specs.Owners.{Owner, OfTerm, OfExtreme, OfPart, IsOwned}
 use Rattle.flt_syntax.specs.declared.ast.Function.{Function}
 use Rattle.flt_syntax.specs.declared.ast.Function.TheVariants.{Count, Min, Max}
-use Rattle.flt_types.specs.Terms.{is_field}
+use Rattle.flt_typed.specs.Terms.{is_field}
 use Rattle.flt_syntax.specs.declared.ast.Choice.{Choice}
 use Rattle.pk_tree.specs.declared.chosen.Layers.{Layers}
-use Rattle.flt_types.specs.declared.typed.Member.{Member}
-use Rattle.flt_types.specs.declared.typed.Term.{Term}
-use Rattle.flt_types.specs.declared.typed.Term.TheVariants as terms
-use Rattle.flt_types.specs.declared.typed.Typed.{Typed}
-use Rattle.flt_types.specs.declared.typed.Typed.TheVariants.{Either', Differ', Both', Not', Exists, AnyBit, Compare, Among, Matches}
+use Rattle.flt_typed.specs.declared.typed.Member.{Member}
+use Rattle.flt_typed.specs.declared.typed.Term.{Term}
+use Rattle.flt_typed.specs.declared.typed.Term.TheVariants as terms
+use Rattle.flt_typed.specs.declared.typed.Typed.{Typed}
+use Rattle.flt_typed.specs.declared.typed.Typed.TheVariants.{Either', Differ', Both', Not', Exists, AnyBit, Compare, Among, Matches}
 use Rattle.flt_values.specs.declared.arithmetic.Extreme.{Extreme}
 use Rattle.flt_values.specs.declared.arithmetic.Extreme.TheVariants.{Least, Greatest}
 use Rattle.flt_vm.specs.Programs.{patterns_of}

@@ -1,7 +1,7 @@
 -- What a filter is compiled to.
 use Rattle.std.specs.Prelude.{◌≡◌, ℕ, ◌≤◌, Bool as Truth, length}
 use Rattle.flt_mean.specs.Meaning.{meaning}
-use Rattle.flt_types.specs.declared.typed.Typed.{Typed}
+use Rattle.flt_typed.specs.declared.typed.Typed.{Typed}
 use Rattle.flt_vm.specs.Programs.{Code, RunsOn}
 use Rattle.pk_tree.specs.Trees.{IsTree, TreeShown}
 

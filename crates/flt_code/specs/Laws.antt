@@ -3,9 +3,9 @@ use Rattle.std.specs.Prelude.{ℕ, List}
 use Rattle.flt_code.specs.Decides.{Agrees, Decides}
 use Rattle.flt_syntax.specs.Grammar.{IsGrouped}
 use Rattle.flt_syntax.specs.Written.{Written}
-use Rattle.flt_types.specs.Texts.{IsTypedText}
-use Rattle.flt_types.specs.Typing.{HasType}
-use Rattle.flt_types.specs.declared.typed.Typed.{Typed}
+use Rattle.flt_typed.specs.Texts.{IsTypedText}
+use Rattle.flt_typed.specs.Typing.{HasType}
+use Rattle.flt_typed.specs.declared.typed.Typed.{Typed}
 use Rattle.flt_vm.specs.Programs.{Code}
 
 -- a program that decides the filter, and in no tree ends with anything but its truth

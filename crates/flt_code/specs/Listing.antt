@@ -7,7 +7,7 @@ use Rattle.flt_syntax.specs.declared.ast.Choice.{Choice}
 use Rattle.flt_syntax.specs.declared.ast.Choice.TheVariants as choices
 use Rattle.flt_syntax.specs.declared.ast.Function.{Function}
 use Rattle.flt_syntax.specs.declared.ast.Function.TheVariants as functions
-use Rattle.flt_types.specs.declared.typed.Typed.{Typed}
+use Rattle.flt_typed.specs.declared.typed.Typed.{Typed}
 use Rattle.flt_values.specs.declared.arithmetic.Extreme.{Extreme}
 use Rattle.flt_values.specs.declared.arithmetic.Extreme.TheVariants.{Least, Greatest}
 use Rattle.flt_values.specs.declared.relation.Relation.{Relation}

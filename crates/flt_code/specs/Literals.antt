@@ -4,8 +4,8 @@ use Rattle.std.specs.List.{flat_map, join_by}
 use Rattle.flt_syntax.specs.declared.ast.Place.{Place}
 use Rattle.flt_syntax.specs.declared.ast.RangePart.{RangePart}
 use Rattle.flt_syntax.specs.declared.ast.RangePart.TheVariants as parts
-use Rattle.flt_types.specs.declared.typed.Member.{Member}
-use Rattle.flt_types.specs.declared.typed.Member.TheVariants as members
+use Rattle.flt_typed.specs.declared.typed.Member.{Member}
+use Rattle.flt_typed.specs.declared.typed.Member.TheVariants as members
 use Rattle.flt_values.specs.declared.literal.Constant.{Constant}
 use Rattle.pk_fields.specs.Fields.{row_of}
 use Rattle.pk_text.specs.Digits.{hex_shown}

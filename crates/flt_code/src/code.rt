@@ -4,7 +4,7 @@ ghost use Rattle.flt_code.specs.Code.{Adds, CodeRight, IsAmong, IsCode, IsMatch,
 ghost use Rattle.flt_code.specs.Owners.{Grows, owners_of};
 ghost use Rattle.flt_code.specs.Spines.{left_of, patterns_right, sources_of};
 ghost use Rattle.flt_mean.specs.Chains.{is_single};
-ghost use Rattle.flt_types.specs.declared.typed.Typed.{Typed as TypedValue};
+ghost use Rattle.flt_typed.specs.declared.typed.Typed.{Typed as TypedValue};
 ghost use Rattle.flt_vm.specs.Programs.{patterns_of};
 ghost use Rattle.flt_vm.specs.declared.instr.Instr.TheVariants as instr;
 
@@ -14,7 +14,7 @@ use crate::owners::{Owner, own};
 use crate::spines::filter_below;
 use flt_pattern::Pattern;
 use flt_syntax::Choice;
-use flt_types::{Member, Term, Typed};
+use flt_typed::{Member, Term, Typed};
 use flt_values::{Extreme, Relation};
 use flt_vm::{Instr, copied_members};
 use pk_base::NoMemory;

@@ -8,7 +8,7 @@ ghost use Rattle.flt_vm.specs.Programs.{FitsFilter};
 use crate::code::code_for;
 use crate::emits::emit;
 use crate::owners::Owner;
-use flt_types::{Filter, Typed};
+use flt_typed::{Filter, Typed};
 use flt_vm::{Instr, Program};
 use pk_base::NoMemory;
 use std::alloc::Global;

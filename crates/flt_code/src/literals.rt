@@ -5,7 +5,7 @@ ghost use Rattle.pk_text.specs.Ip6.{ip6_shown};
 ghost use Rattle.flt_code.specs.Literals.{bytes_shown, constant_shown, field_shown, layer_range_shown, layers_shown, member_shown, members_shown, place_shown, prefix_shown, quoted_byte, range_shown, ranges_shown, string_shown, value_shown};
 
 use flt_syntax::{Place, RangePart};
-use flt_types::Member;
+use flt_typed::Member;
 use flt_values::Constant;
 use pk_base::NoMemory;
 use pk_fields::{FieldId, name};

@@ -1,9 +1,9 @@
 // Whose the registers are.
 ghost use Rattle.std.specs.Prelude.{◌≡◌, IfOk, IsTrue, OnOk};
 ghost use Rattle.flt_code.specs.Owners.{Grows, IsOwned, OfTerm, owner_of, owners_of};
-ghost use Rattle.flt_types.specs.declared.typed.Term.TheVariants.{Field};
+ghost use Rattle.flt_typed.specs.declared.typed.Term.TheVariants.{Field};
 
-use flt_types::{Term, Typed};
+use flt_typed::{Term, Typed};
 use flt_values::Extreme;
 use pk_base::NoMemory;
 use pk_fields::FieldId;

@@ -4,7 +4,7 @@ ghost use Rattle.flt_code.specs.Spines.{Stands, left_of, left_of_term};
 ghost use Rattle.flt_mean.specs.Chains.{is_single};
 ghost use Rattle.flt_mean.specs.Terms.{is_part};
 
-use flt_types::{Term, Typed};
+use flt_typed::{Term, Typed};
 use pk_base::NoMemory;
 
 /// The first part of what signs and commas join to a term, and what stands from the whole down to it, the whole first. Takes

@@ -5,8 +5,8 @@ use Rattle.std.specs.Option.{option_map_or}
 use Rattle.flt_lists.specs.declared.question.Question.{Question}
 use Rattle.flt_lists.specs.declared.question.Question.TheVariants.{IsRelated, IsAmong, IsNonzero, IsThere}
 use Rattle.flt_pattern.specs.Patterns.{matches}
-use Rattle.flt_types.specs.declared.typed.Member.{Member}
-use Rattle.flt_types.specs.declared.typed.Member.TheVariants as members
+use Rattle.flt_typed.specs.declared.typed.Member.{Member}
+use Rattle.flt_typed.specs.declared.typed.Member.TheVariants as members
 use Rattle.flt_values.specs.Calls.{is_nonzero}
 use Rattle.flt_values.specs.Relations.{octets_of, related, lies_between}
 use Rattle.flt_values.specs.declared.relation.Relation.TheVariants.{Equal}

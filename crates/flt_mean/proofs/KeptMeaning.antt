@@ -1,10 +1,10 @@
 -- A tree with the items of the fields that a filter asks for is to it as the whole tree.
 use Rattle.std.proofs.Common.{◌≡◌, ◌==◌, ◌||◌, ℕ, Bool as Truth, true, false, List, refl, eq-eqb}
-use Rattle.flt_types.specs.Asked.{HasFilter, asks, asks_term}
-use Rattle.flt_types.specs.declared.typed.Term.{Term}
-use Rattle.flt_types.specs.declared.typed.Term.TheVariants as terms
-use Rattle.flt_types.specs.declared.typed.Typed.{Typed}
-use Rattle.flt_types.specs.declared.typed.Typed.TheVariants.{Either', Differ', Both', Not', Exists, AnyBit, Compare, Among, Matches}
+use Rattle.flt_typed.specs.Asked.{HasFilter, asks, asks_term}
+use Rattle.flt_typed.specs.declared.typed.Term.{Term}
+use Rattle.flt_typed.specs.declared.typed.Term.TheVariants as terms
+use Rattle.flt_typed.specs.declared.typed.Typed.{Typed}
+use Rattle.flt_typed.specs.declared.typed.Typed.TheVariants.{Either', Differ', Both', Not', Exists, AnyBit, Compare, Among, Matches}
 use Rattle.flt_mean.specs.Laws.{KeptMeaning}
 use Rattle.flt_mean.specs.Meaning.{meaning}
 use Rattle.flt_mean.specs.Values.{values_of_term}

@@ -4,8 +4,8 @@ use Rattle.flt_mean.specs.Meaning.{exactly_one, meaning}
 use Rattle.flt_mean.specs.declared.chain.Right.{Right}
 use Rattle.flt_syntax.specs.declared.token.Join.{Join}
 use Rattle.flt_syntax.specs.declared.token.Join.TheVariants as joins
-use Rattle.flt_types.specs.declared.typed.Typed.{Typed}
-use Rattle.flt_types.specs.declared.typed.Typed.TheVariants.{Either', Differ', Both', Not'}
+use Rattle.flt_typed.specs.declared.typed.Typed.{Typed}
+use Rattle.flt_typed.specs.declared.typed.Typed.TheVariants.{Either', Differ', Both', Not'}
 use Rattle.pk_tree.specs.Trees.{TreeShown}
 
 -- whether a filter's outermost part is no sign

@@ -4,8 +4,8 @@ use Rattle.std.specs.List.{list_any}
 use Rattle.flt_lists.specs.Passes.{compares, is_some_value, passes}
 use Rattle.flt_lists.specs.Questions.{is_among, is_matched}
 use Rattle.flt_mean.specs.Values.{values_of_term, prefix_of_term}
-use Rattle.flt_types.specs.declared.typed.Typed.{Typed}
-use Rattle.flt_types.specs.declared.typed.Typed.TheVariants.{Either', Differ', Both', Not', Exists, AnyBit, Compare, Among, Matches}
+use Rattle.flt_typed.specs.declared.typed.Typed.{Typed}
+use Rattle.flt_typed.specs.declared.typed.Typed.TheVariants.{Either', Differ', Both', Not', Exists, AnyBit, Compare, Among, Matches}
 use Rattle.flt_values.specs.Calls.{is_nonzero}
 use Rattle.pk_tree.specs.Trees.{TreeShown}
 

@@ -5,8 +5,8 @@ use Rattle.flt_lists.specs.Pairs.{values_calculated}
 use Rattle.flt_mean.specs.Values.{values_of_term}
 use Rattle.flt_mean.specs.declared.terms.Behind.{Behind}
 use Rattle.flt_mean.specs.declared.terms.Behind.TheVariants.{Computes, Argument}
-use Rattle.flt_types.specs.declared.typed.Term.{Term}
-use Rattle.flt_types.specs.declared.typed.Term.TheVariants as terms
+use Rattle.flt_typed.specs.declared.typed.Term.{Term}
+use Rattle.flt_typed.specs.declared.typed.Term.TheVariants as terms
 use Rattle.pk_tree.specs.Trees.{TreeShown}
 use Rattle.pk_tree.specs.declared.value.Value.{Value}
 

@@ -3,8 +3,8 @@ use Rattle.std.specs.Prelude.{ℕ, List, [], ◌∷◌, ◌++◌, Option, None}
 use Rattle.std.specs.List.{filter_map}
 use Rattle.flt_lists.specs.Called.{values_called}
 use Rattle.flt_lists.specs.Pairs.{values_calculated}
-use Rattle.flt_types.specs.declared.typed.Term.{Term}
-use Rattle.flt_types.specs.declared.typed.Term.TheVariants as terms
+use Rattle.flt_typed.specs.declared.typed.Term.{Term}
+use Rattle.flt_typed.specs.declared.typed.Term.TheVariants as terms
 use Rattle.flt_values.specs.Calls.{masked}
 use Rattle.flt_values.specs.Slices.{sliced}
 use Rattle.pk_tree.specs.FieldValues.{values_of}

@@ -6,7 +6,7 @@ ghost use Rattle.flt_mean.specs.Meaning.{meaning};
 ghost use Rattle.pk_tree.specs.Trees.{TreeShown};
 
 use flt_syntax::Join;
-use flt_types::Typed;
+use flt_typed::Typed;
 use pk_base::NoMemory;
 use std::alloc::Global;
 

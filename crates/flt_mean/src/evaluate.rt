@@ -11,7 +11,7 @@ use crate::values::values_of_term;
 use flt_lists::{Question, asks_field, compares, is_some_value, is_there, matched, passes};
 use flt_pattern::Pattern;
 use flt_syntax::{Choice, Join};
-use flt_types::{Filter, Member, Term, Typed};
+use flt_typed::{Filter, Member, Term, Typed};
 use flt_values::Relation;
 use pk_base::NoMemory;
 use pk_tree::Tree;

@@ -6,7 +6,7 @@ ghost use Rattle.flt_mean.specs.Values.{values_of_term};
 ghost use Rattle.pk_tree.specs.Trees.{TreeShown};
 
 use flt_syntax::Arithmetic;
-use flt_types::Term;
+use flt_typed::Term;
 use pk_base::NoMemory;
 use std::alloc::Global;
 

@@ -5,7 +5,7 @@ ghost use Rattle.flt_mean.specs.Values.{values_of_term};
 
 use crate::terms::{Behind, Terms, terms_of};
 use flt_lists::{calculated_values, called_values, masked_values, only, slices};
-use flt_types::Term;
+use flt_typed::Term;
 use pk_base::NoMemory;
 use pk_tree::{Tree, Value};
 use std::alloc::Global;

@@ -7,18 +7,18 @@ use Rattle.flt_syntax.specs.declared.ast.Element.TheVariants as elements
 use Rattle.flt_syntax.specs.declared.token.Join.TheVariants as joins
 use Rattle.flt_syntax.specs.declared.word.Word.{Word}
 use Rattle.flt_parse.proofs.Faults.{one_filter}
-use Rattle.flt_types.specs.Literals.{end_read, literal_of, literal_read, side_read}
-use Rattle.flt_types.specs.Standing.{argument, in_slice, within}
-use Rattle.flt_types.specs.Terms.{IsMask, IsNumber, IsTerm, kind_of, number_kind}
-use Rattle.flt_types.specs.Typing.{AreMembers, HasType, IsAlone, IsMember, IsRight, IsTest}
-use Rattle.flt_types.specs.declared.standing.Standing.{Standing}
-use Rattle.flt_types.specs.declared.standing.Standing.TheVariants.{First, Free}
-use Rattle.flt_types.specs.declared.typed.Member.{Member}
-use Rattle.flt_types.specs.declared.typed.Member.TheVariants as members
-use Rattle.flt_types.specs.declared.typed.Term.{Term}
-use Rattle.flt_types.specs.declared.typed.Term.TheVariants as terms
-use Rattle.flt_types.specs.declared.typed.Typed.{Typed}
-use Rattle.flt_types.specs.declared.typed.Typed.TheVariants.{Either', Differ', Both', Not', Exists, AnyBit, Compare, Among, Matches}
+use Rattle.flt_typed.specs.Literals.{end_read, literal_of, literal_read, side_read}
+use Rattle.flt_typed.specs.Standing.{argument, in_slice, within}
+use Rattle.flt_typed.specs.Terms.{IsMask, IsNumber, IsTerm, kind_of, number_kind}
+use Rattle.flt_typed.specs.Typing.{AreMembers, HasType, IsAlone, IsMember, IsRight, IsTest}
+use Rattle.flt_typed.specs.declared.standing.Standing.{Standing}
+use Rattle.flt_typed.specs.declared.standing.Standing.TheVariants.{First, Free}
+use Rattle.flt_typed.specs.declared.typed.Member.{Member}
+use Rattle.flt_typed.specs.declared.typed.Member.TheVariants as members
+use Rattle.flt_typed.specs.declared.typed.Term.{Term}
+use Rattle.flt_typed.specs.declared.typed.Term.TheVariants as terms
+use Rattle.flt_typed.specs.declared.typed.Typed.{Typed}
+use Rattle.flt_typed.specs.declared.typed.Typed.TheVariants.{Either', Differ', Both', Not', Exists, AnyBit, Compare, Among, Matches}
 use Rattle.flt_types.specs.Faults.{kind_written}
 use Rattle.flt_types.proofs.Clear.{term_kind}
 use Rattle.flt_values.specs.Literals.{word_read}

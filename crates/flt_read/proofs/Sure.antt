@@ -15,20 +15,22 @@ use Rattle.flt_syntax.specs.declared.word.Word.{Word}
 use Rattle.flt_parse.proofs.Every.{filter_or_fault}
 use Rattle.flt_pattern.specs.Patterns.{IsNoPattern, IsPattern}
 use Rattle.flt_pattern.proofs.Decided.{pattern_or_none}
+use Rattle.flt_typed.specs.Layers.{is_layer, is_layers}
 use Rattle.flt_types.specs.Faults.{Found, At, PatternAt, IsClear, IsFirst, alone_faults, call_faults, class_faults, element_faults, elements_faults, faults, given, kind_written, layers_faults, mask_faults, misplaced, nameless, number_faults, operand_faults, ranges_faults, reading_faults, right_faults, slice_faults, tail_faults, takes_written, unless, word_faults}
-use Rattle.flt_types.specs.Layers.{is_layer, is_layers}
 use Rattle.flt_read.specs.Laws.{TypedOrRefused}
-use Rattle.flt_types.specs.Literals.{end_read, literal_of, literal_read, place_of_literal, side_read}
-use Rattle.flt_types.specs.Ranges.{is_range}
-use Rattle.flt_types.specs.Standing.{argument, by_itself, in_slice, sign_for, taken, taken_by, within}
-use Rattle.flt_types.specs.Terms.{number_kind}
-use Rattle.flt_types.specs.declared.standing.Side.{Side}
-use Rattle.flt_types.specs.declared.standing.Side.TheVariants as sides
-use Rattle.flt_types.specs.declared.standing.Standing.{Standing}
-use Rattle.flt_types.specs.declared.standing.Standing.TheVariants.{First, Free, Within, Sliced}
-use Rattle.flt_types.specs.Texts.{IsTypeFault, IsTypedText}
-use Rattle.flt_types.specs.Typing.{relation_of}
-use Rattle.flt_types.specs.declared.typed.Typed.{Typed}
+use Rattle.flt_typed.specs.Literals.{end_read, literal_of, literal_read, place_of_literal, side_read}
+use Rattle.flt_typed.specs.Ranges.{is_range}
+use Rattle.flt_typed.specs.Standing.{argument, in_slice, within}
+use Rattle.flt_typed.specs.Terms.{number_kind}
+use Rattle.flt_typed.specs.declared.standing.Standing.{Standing}
+use Rattle.flt_typed.specs.declared.standing.Standing.TheVariants.{First, Free, Within, Sliced}
+use Rattle.flt_typed.specs.Texts.{IsTypedText}
+use Rattle.flt_typed.specs.Typing.{relation_of}
+use Rattle.flt_typed.specs.declared.typed.Typed.{Typed}
+use Rattle.flt_types.specs.Blame.{by_itself, sign_for, taken, taken_by}
+use Rattle.flt_types.specs.declared.position.Side.{Side}
+use Rattle.flt_types.specs.declared.position.Side.TheVariants as sides
+use Rattle.flt_types.specs.TextFaults.{IsTypeFault}
 use Rattle.flt_types.proofs.HaveTypes.{clear_typed}
 use Rattle.flt_values.specs.Kinds.{is_masked, is_number, is_searched, is_sliced, same_class, takes}
 use Rattle.flt_values.specs.Literals.{word_read}

@@ -4,8 +4,9 @@ use Rattle.flt_mean.specs.Meaning.{meaning}
 use Rattle.flt_syntax.specs.declared.fault.FilterError.TheVariants.{Fault}
 use Rattle.flt_syntax.specs.declared.fault.FilterFault.{FilterFault}
 use Rattle.flt_syntax.specs.declared.fault.FilterReason.TheVariants.{PatternSize}
-use Rattle.flt_types.specs.Texts.{IsFilterFault, IsTypedText}
-use Rattle.flt_types.specs.declared.typed.Typed.{Typed}
+use Rattle.flt_typed.specs.Texts.{IsTypedText}
+use Rattle.flt_typed.specs.declared.typed.Typed.{Typed}
+use Rattle.flt_types.specs.TextFaults.{IsFilterFault}
 use Rattle.pk_tree.specs.Trees.{TreeShown}
 
 -- a text is a filter, or has a first fault that isn't the size of a pattern

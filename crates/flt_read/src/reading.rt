@@ -1,9 +1,11 @@
 ghost use Rattle.std.specs.Prelude.{IfOk, IfErr};
-ghost use Rattle.flt_types.specs.Texts.{IsFilterFault, IsTypedText};
+ghost use Rattle.flt_typed.specs.Texts.{IsTypedText};
+ghost use Rattle.flt_types.specs.TextFaults.{IsFilterFault};
 
 use flt_parse::parse;
 use flt_syntax::FilterError;
-use flt_types::{Filter, check};
+use flt_typed::Filter;
+use flt_types::check;
 use std::alloc::Global;
 
 /// Reads the text of a filter. The error is the text's first fault, F1 to F10, with its place.

@@ -18,23 +18,24 @@ use Rattle.flt_syntax.specs.declared.fault.FilterError.{FilterError}
 use Rattle.flt_syntax.specs.declared.fault.FilterReason.TheVariants.{TypeMismatch, OutOfRange}
 use Rattle.flt_syntax.specs.declared.token.Join.TheVariants as joins
 use Rattle.flt_syntax.specs.declared.word.Word.{Word}
+use Rattle.flt_typed.specs.Layers.{is_layer, is_layers}
+use Rattle.flt_typed.specs.Literals.{end_read, literal_of, literal_read, place_of_literal, side_read, word_or_name}
+use Rattle.flt_typed.specs.Ranges.{is_range}
+use Rattle.flt_typed.specs.Standing.{argument, in_slice, within}
+use Rattle.flt_typed.specs.Terms.{IsNumber, IsTerm, are_numbers, is_field, kind_of, number_kind, takes_term}
+use Rattle.flt_typed.specs.Typing.{AreMembers, HasType, IsAlone, IsMember, IsRight, IsTest, relation_of}
+use Rattle.flt_typed.specs.declared.standing.Standing.{Standing}
+use Rattle.flt_typed.specs.declared.standing.Standing.TheVariants.{First, Free, Sliced}
+use Rattle.flt_typed.specs.declared.typed.Member.{Member}
+use Rattle.flt_typed.specs.declared.typed.Member.TheVariants as members
+use Rattle.flt_typed.specs.declared.typed.Term.{Term}
+use Rattle.flt_typed.specs.declared.typed.Term.TheVariants as terms
+use Rattle.flt_typed.specs.declared.typed.Typed.{Typed}
+use Rattle.flt_typed.specs.declared.typed.Typed.TheVariants.{Either', Differ', Both', Not', Exists, AnyBit, Compare, Among, Matches}
 use Rattle.flt_types.specs.Faults.{Found, PatternAt, IsAnswer, IsClear, are_numbers_written, call_faults, class_faults, element_faults, elements_faults, faults, first_sign, given, is_name, is_number_written, kind_of_word, kind_written, layers_faults, mask_faults, number_faults, operand_faults, ranges_faults, reading_faults, right_faults, slice_faults, tail_faults, takes_written, unless, word_faults}
-use Rattle.flt_types.specs.Layers.{is_layer, is_layers}
-use Rattle.flt_types.specs.Literals.{end_read, literal_of, literal_read, place_of_literal, side_read, word_or_name}
-use Rattle.flt_types.specs.Ranges.{is_range}
-use Rattle.flt_types.specs.Standing.{argument, by_itself, in_slice, sign_for, taken, taken_by, within}
-use Rattle.flt_types.specs.Terms.{IsNumber, IsTerm, are_numbers, is_field, kind_of, number_kind, takes_term}
-use Rattle.flt_types.specs.Typing.{AreMembers, HasType, IsAlone, IsMember, IsRight, IsTest, relation_of}
-use Rattle.flt_types.specs.declared.standing.Side.{Side}
-use Rattle.flt_types.specs.declared.standing.Side.TheVariants as sides
-use Rattle.flt_types.specs.declared.standing.Standing.{Standing}
-use Rattle.flt_types.specs.declared.standing.Standing.TheVariants.{First, Free, Sliced}
-use Rattle.flt_types.specs.declared.typed.Member.{Member}
-use Rattle.flt_types.specs.declared.typed.Member.TheVariants as members
-use Rattle.flt_types.specs.declared.typed.Term.{Term}
-use Rattle.flt_types.specs.declared.typed.Term.TheVariants as terms
-use Rattle.flt_types.specs.declared.typed.Typed.{Typed}
-use Rattle.flt_types.specs.declared.typed.Typed.TheVariants.{Either', Differ', Both', Not', Exists, AnyBit, Compare, Among, Matches}
+use Rattle.flt_types.specs.Blame.{by_itself, sign_for, taken, taken_by}
+use Rattle.flt_types.specs.declared.position.Side.{Side}
+use Rattle.flt_types.specs.declared.position.Side.TheVariants as sides
 use Rattle.flt_types.proofs.Answers.{answer_right, clear_both, clear_unless, given_answer, given_clear}
 use Rattle.flt_values.proofs.MaskLemmas.{mask_has}
 use Rattle.flt_values.specs.Kinds.{is_masked, is_number, is_searched, is_sliced, kind_of_call, kind_of_value, same_class, takes}

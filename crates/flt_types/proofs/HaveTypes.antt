@@ -22,24 +22,25 @@ use Rattle.flt_syntax.specs.declared.token.Join.TheVariants as joins
 use Rattle.flt_syntax.specs.declared.token.Kind.TheVariants as kinds
 use Rattle.flt_syntax.specs.declared.word.Word.{Word}
 use Rattle.flt_syntax.proofs.Few.{spelled_few}
+use Rattle.flt_typed.specs.Layers.{is_layer, is_layers, layers_of, one_layer}
+use Rattle.flt_typed.specs.Literals.{end_read, literal_of, literal_read, place_of_literal, side_read}
+use Rattle.flt_typed.specs.Ranges.{is_range}
+use Rattle.flt_typed.specs.Standing.{argument, in_slice, within}
+use Rattle.flt_typed.specs.Terms.{IsMask, IsTerm, kind_of, number_kind}
+use Rattle.flt_typed.specs.Typing.{AreMembers, HasType, IsAlone, IsMember, IsRight, IsTest, choice_of, chosen, relation_of}
+use Rattle.flt_typed.specs.declared.standing.Standing.{Standing}
+use Rattle.flt_typed.specs.declared.standing.Standing.TheVariants.{First, Free, Within, Sliced}
+use Rattle.flt_typed.specs.declared.typed.Member.{Member}
+use Rattle.flt_typed.specs.declared.typed.Member.TheVariants as members
+use Rattle.flt_typed.specs.declared.typed.Term.{Term}
+use Rattle.flt_typed.specs.declared.typed.Term.TheVariants as terms
+use Rattle.flt_typed.specs.declared.typed.Typed.{Typed}
+use Rattle.flt_typed.specs.declared.typed.Typed.TheVariants.{Either', Differ', Both', Not', Exists, AnyBit, Compare, Among, Matches}
 use Rattle.flt_types.specs.Faults.{Found, At, PatternAt, IsClear, alone_faults, call_faults, class_faults, element_faults, elements_faults, faults, given, kind_written, layers_faults, mask_faults, nameless, number_faults, operand_faults, ranges_faults, reading_faults, right_faults, slice_faults, tail_faults, takes_written, unless, word_faults}
-use Rattle.flt_types.specs.Layers.{is_layer, is_layers, layers_of, one_layer}
 use Rattle.flt_types.specs.Laws.{ClearIsTyped}
-use Rattle.flt_types.specs.Literals.{end_read, literal_of, literal_read, place_of_literal, side_read}
-use Rattle.flt_types.specs.Ranges.{is_range}
-use Rattle.flt_types.specs.Standing.{argument, by_itself, in_slice, sign_for, taken, taken_by, within}
-use Rattle.flt_types.specs.Terms.{IsMask, IsTerm, kind_of, number_kind}
-use Rattle.flt_types.specs.Typing.{AreMembers, HasType, IsAlone, IsMember, IsRight, IsTest, choice_of, chosen, relation_of}
-use Rattle.flt_types.specs.declared.standing.Side.{Side}
-use Rattle.flt_types.specs.declared.standing.Side.TheVariants as sides
-use Rattle.flt_types.specs.declared.standing.Standing.{Standing}
-use Rattle.flt_types.specs.declared.standing.Standing.TheVariants.{First, Free, Within, Sliced}
-use Rattle.flt_types.specs.declared.typed.Member.{Member}
-use Rattle.flt_types.specs.declared.typed.Member.TheVariants as members
-use Rattle.flt_types.specs.declared.typed.Term.{Term}
-use Rattle.flt_types.specs.declared.typed.Term.TheVariants as terms
-use Rattle.flt_types.specs.declared.typed.Typed.{Typed}
-use Rattle.flt_types.specs.declared.typed.Typed.TheVariants.{Either', Differ', Both', Not', Exists, AnyBit, Compare, Among, Matches}
+use Rattle.flt_types.specs.Blame.{by_itself, sign_for, taken, taken_by}
+use Rattle.flt_types.specs.declared.position.Side.{Side}
+use Rattle.flt_types.specs.declared.position.Side.TheVariants as sides
 use Rattle.flt_types.proofs.Clear.{right_term, same_takes, term_kind}
 use Rattle.flt_types.proofs.Few.{IsFew, few_elements, few_left, few_ranges, few_rest, few_right}
 use Rattle.flt_values.specs.Kinds.{is_masked, is_number, is_searched, is_sliced, same_class, takes}

@@ -5,12 +5,12 @@ use Rattle.flt_syntax.specs.declared.ast.Ast.{Ast}
 use Rattle.flt_syntax.specs.declared.ast.Negation.{Negation}
 use Rattle.flt_syntax.specs.declared.fault.FilterError.{FilterError}
 use Rattle.flt_syntax.specs.declared.token.Join.{Join}
+use Rattle.flt_typed.specs.Typing.{HasType}
+use Rattle.flt_typed.specs.declared.typed.Typed.{Typed}
 use Rattle.flt_types.specs.Faults.{IsAnswer, faults}
 use Rattle.flt_types.specs.Parts.{Fills, Plugs, tests_in, waiting}
-use Rattle.flt_types.specs.Typing.{HasType}
 use Rattle.flt_types.specs.declared.parts.Open.{Open}
 use Rattle.flt_types.specs.declared.parts.Open.TheVariants.{Group, Not, Before, Behind}
-use Rattle.flt_types.specs.declared.typed.Typed.{Typed}
 use Rattle.flt_types.proofs.Answers.{answer_left}
 use Rattle.flt_types.proofs.Clear.{joined_behind}
 

@@ -7,14 +7,14 @@ use Rattle.flt_syntax.specs.declared.ast.Arithmetic.{Arithmetic}
 use Rattle.flt_syntax.specs.declared.ast.Operand.{Operand}
 use Rattle.flt_syntax.specs.declared.fault.FilterError.{FilterError}
 use Rattle.flt_syntax.specs.declared.fault.FilterReason.TheVariants.{TypeMismatch}
+use Rattle.flt_typed.specs.Terms.{IsTerm, kind_of}
+use Rattle.flt_typed.specs.declared.standing.Standing.{Standing}
+use Rattle.flt_typed.specs.declared.standing.Standing.TheVariants.{Free}
+use Rattle.flt_typed.specs.declared.typed.Term.{Term}
 use Rattle.flt_types.specs.Faults.{IsAnswer, given, kind_written, number_faults, operand_faults}
 use Rattle.flt_types.specs.Operands.{joined, parts_right, with_left}
-use Rattle.flt_types.specs.Standing.{by_itself, sign_for}
-use Rattle.flt_types.specs.Terms.{IsTerm, kind_of}
-use Rattle.flt_types.specs.declared.standing.Side.{Side}
-use Rattle.flt_types.specs.declared.standing.Standing.{Standing}
-use Rattle.flt_types.specs.declared.standing.Standing.TheVariants.{Free}
-use Rattle.flt_types.specs.declared.typed.Term.{Term}
+use Rattle.flt_types.specs.Blame.{by_itself, sign_for}
+use Rattle.flt_types.specs.declared.position.Side.{Side}
 use Rattle.flt_types.proofs.Answers.{answer_left, answer_right, clear_unless}
 use Rattle.flt_types.proofs.Clear.{behind, behind_clear, term_clear}
 use Rattle.flt_values.specs.Kinds.{is_number}

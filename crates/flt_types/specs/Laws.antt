@@ -2,9 +2,9 @@
 use Rattle.std.specs.Prelude.{ℕ, List}
 use Rattle.flt_syntax.specs.Filters.{IsFilterText}
 use Rattle.flt_syntax.specs.Written.{Written}
+use Rattle.flt_typed.specs.Typing.{HasType}
+use Rattle.flt_typed.specs.declared.typed.Typed.{Typed}
 use Rattle.flt_types.specs.Faults.{IsClear, faults}
-use Rattle.flt_types.specs.Typing.{HasType}
-use Rattle.flt_types.specs.declared.typed.Typed.{Typed}
 
 -- a tree with a type has no fault
 abbrev pub TypedIsClear : Type 0

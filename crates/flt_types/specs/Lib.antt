@@ -1,12 +1,6 @@
-pub mod Asked
+pub mod Blame
 pub mod Faults
 pub mod Laws
-pub mod Layers
-pub mod Literals
-pub mod Parts
 pub mod Operands
-pub mod Ranges
-pub mod Standing
-pub mod Terms
-pub mod Texts
-pub mod Typing
+pub mod Parts
+pub mod TextFaults

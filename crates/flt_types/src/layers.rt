@@ -3,8 +3,8 @@ ghost use Rattle.std.specs.Prelude.{◌≡◌, [], ◌∷◌, map, IfOk, IfErr, 
 ghost use Rattle.std.specs.List.{list_all};
 ghost use Rattle.flt_syntax.specs.declared.fault.FilterReason.TheVariants.{OutOfRange};
 ghost use Rattle.pk_tree.specs.declared.chosen.Layers.TheVariants.{These};
+ghost use Rattle.flt_typed.specs.Layers.{is_layer, is_layers, last_of as last_layer_of, layers_of as layers_written, one_layer};
 ghost use Rattle.flt_types.specs.Faults.{IsAnswer, layers_faults, unless};
-ghost use Rattle.flt_types.specs.Layers.{is_layer, is_layers, last_of as last_layer_of, layers_of as layers_written, one_layer};
 
 use crate::faults::{fault, require};
 use flt_syntax::{FilterError, FilterReason, Layer, LayerRange};

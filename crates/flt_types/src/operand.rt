@@ -3,14 +3,14 @@ ghost use Rattle.std.specs.Prelude.{◌≡◌, ◌++◌, Some, None, IfOk, IfErr
 ghost use Rattle.flt_syntax.specs.declared.ast.Arithmetic.{Arithmetic as Operation};
 ghost use Rattle.flt_syntax.specs.declared.fault.FilterReason.TheVariants.{OutOfRange};
 ghost use Rattle.flt_syntax.specs.Written.{WrittenOperand, operand_of, NamedOf, OnLayerOf, OnLayersOf, SlicedOf, MaskedOf, CalledOf, ComputedOf, ArgumentsOf};
+ghost use Rattle.flt_typed.specs.Layers.{is_layer};
+ghost use Rattle.flt_typed.specs.Standing.{argument, in_slice, within};
+ghost use Rattle.flt_typed.specs.Terms.{IsTerm, IsMask, are_numbers as are_numbers_in, kind_of as kind_of_term, takes_term};
+ghost use Rattle.flt_typed.specs.declared.standing.Standing.{Standing as Place};
+ghost use Rattle.flt_typed.specs.declared.standing.Standing.TheVariants.{Free, Sliced};
 ghost use Rattle.flt_types.specs.Faults.{IsAnswer, operand_faults, call_faults, layers_faults, mask_faults, number_faults, slice_faults, given, kind_written, unless, nameless, word_faults, misplaced as misplaced_at};
-ghost use Rattle.flt_types.specs.Layers.{is_layer};
 ghost use Rattle.flt_types.specs.Operands.{is_around, is_part, with_left};
-ghost use Rattle.flt_types.specs.Standing.{argument, in_slice, within};
-ghost use Rattle.flt_types.specs.Terms.{IsTerm, IsMask, are_numbers as are_numbers_in, kind_of as kind_of_term, takes_term};
-ghost use Rattle.flt_types.specs.declared.standing.Side.{Side as TestSide};
-ghost use Rattle.flt_types.specs.declared.standing.Standing.{Standing as Place};
-ghost use Rattle.flt_types.specs.declared.standing.Standing.TheVariants.{Free, Sliced};
+ghost use Rattle.flt_types.specs.declared.position.Side.{Side as TestSide};
 ghost use Rattle.flt_values.specs.Kinds.{is_masked as is_masked_kind, is_number as is_number_kind};
 ghost use Rattle.pk_fields.specs.Fields.{field_named};
 
@@ -19,35 +19,18 @@ use crate::layers::{layers_in, single_layer};
 use crate::literals::constant;
 use crate::operands::{Parts, parts_of};
 use crate::owned::{both_boxed, boxed, let_go, refused};
+use crate::position::{Position, Side};
 use crate::ranges::parts_for;
-use crate::standing::{Position, Side, Standing};
-use crate::typed::Term;
 use flt_syntax::{
     Arithmetic, FilterError, FilterReason, Function, Layer, LayerRange, Operand, SliceRange, Word,
 };
-use flt_values::{is_number, kind_of_call, kind_of_value, read_within, read_word, takes_call};
+use flt_typed::{NUMBER, Standing, Term, kind_of};
+use flt_values::{is_number, read_within, read_word, takes_call};
 use pk_base::NoMemory;
-use pk_fields::{FieldId, ValueKind, by_name, kind};
+use pk_fields::{FieldId, ValueKind, by_name};
 use pk_text::Wide;
 use pk_tree::Layers;
 use std::alloc::Global;
-
-/// What arithmetic gives, and the kind by which its numbers are read.
-const NUMBER: ValueKind = ValueKind::Uint(64);
-
-/// The kind of a term's values.
-pub fn kind_of(term: &Term) -> ValueKind
-    ensures { result ≡ kind_of_term term.now }
-{
-    match term {
-        Term::Constant(constant) => kind_of_value(&constant.value),
-        Term::Field(field, _) => kind(*field),
-        Term::Slice(_, _) => ValueKind::Bytes,
-        Term::Mask(inner, _) => kind_of(inner),
-        Term::Called(function, _) => kind_of_call(*function),
-        Term::Computed(_, _, _) | Term::Arguments(_, _) => NUMBER,
-    }
-}
 
 /// The term that an operand is, by where it stands. Its parts are typed one after the other, so that no call nests as deep
 /// as signs and commas do.

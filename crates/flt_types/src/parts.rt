@@ -2,12 +2,12 @@
 ghost use Rattle.std.specs.Prelude.{◌≡◌, ◌+◌, ◌≤◌, ◌<◌, IfOk, IfSome, IfNone, IsTrue};
 ghost use Rattle.flt_syntax.specs.Written.{Written, JoinedOf, NotOf, written};
 ghost use Rattle.flt_syntax.specs.declared.ast.Negation.{Negation};
+ghost use Rattle.flt_typed.specs.Typing.{HasType};
 ghost use Rattle.flt_types.specs.Parts.{Closes, Fills, Plugs, is_test, signs, still, tests, tests_in, waiting};
-ghost use Rattle.flt_types.specs.Typing.{HasType};
 
 use crate::owned::both_boxed;
-use crate::typed::Typed;
 use flt_syntax::{Ast, Join};
+use flt_typed::Typed;
 use pk_base::NoMemory;
 use std::alloc::Global;
 

@@ -1,13 +1,13 @@
 // The sets of `in`.
 ghost use Rattle.std.specs.Prelude.{IfOk, IfErr};
 ghost use Rattle.flt_syntax.specs.declared.ast.Element.TheVariants.{Between};
+ghost use Rattle.flt_typed.specs.Typing.{AreMembers, IsMember};
 ghost use Rattle.flt_types.specs.Faults.{IsAnswer, element_faults, elements_faults};
-ghost use Rattle.flt_types.specs.Typing.{AreMembers, IsMember};
 
 use crate::literals::{element, range_end};
 use crate::owned::refused;
-use crate::typed::Member;
 use flt_syntax::{Element, FilterError, Literal};
+use flt_typed::Member;
 use pk_fields::ValueKind;
 use std::alloc::Global;
 

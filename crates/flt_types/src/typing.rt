@@ -2,15 +2,14 @@
 ghost use Rattle.std.specs.Prelude.{IfOk, IfErr, IsTrue, ℕ, List};
 ghost use Rattle.flt_syntax.specs.Filters.{IsFilterText};
 ghost use Rattle.flt_syntax.specs.Written.{written};
+ghost use Rattle.flt_typed.specs.Typing.{HasType};
 ghost use Rattle.flt_types.specs.Parts.{is_test};
 ghost use Rattle.flt_types.specs.Faults.{IsAnswer, IsClear, faults};
-ghost use Rattle.flt_types.specs.Typing.{HasType};
 
 use crate::conditions::{alone, test};
-use crate::filter::Filter;
 use crate::parts::{Closed, close, first_test};
-use crate::typed::Typed;
 use flt_syntax::{Ast, FilterError};
+use flt_typed::{Filter, Typed};
 use std::alloc::Global;
 
 /// Gives the syntax tree of a filter's text its types. The error is the tree's first fault: F4 to F7 or F10, with its
@@ -23,7 +22,7 @@ pub fn check(alloc: Global, ast: Ast) -> Result<Filter, FilterError>
     ensures err { IfErr result (IsAnswer (faults (written ast))) }
 {
     let root = typed(alloc, &ast)?;
-    Ok(Filter { root })
+    Ok(Filter::new(root))
 }
 
 /// The filter that a tree is. Its tests are typed one after the other, and what is open around them is kept in a list, so

@@ -1,6 +1,6 @@
 -- A run, step by step.
 use Rattle.std.proofs.Common.{◌≡◌, ℕ, zero, suc, ◌+◌, ◌<◌, Bool as Truth, false, true, List, [], ◌∷◌, map, length, replicate, get_or, slice_get, Some, None, ap, sym, refl, ◌∙◌, subst, arith}
-use Rattle.flt_types.specs.declared.typed.Typed.{Typed}
+use Rattle.flt_typed.specs.declared.typed.Typed.{Typed}
 use Rattle.flt_vm.specs.Machine.{Job, LeadsOn, Move, Goes, Ends, Missing, Runs, State, act, start, step}
 use Rattle.flt_vm.specs.Programs.{Code, FitsFilter, Ready, RunsOn, patterns_of}
 use Rattle.flt_vm.specs.Slots.{Does, LeadsTo, held_in, is_return, state_in}

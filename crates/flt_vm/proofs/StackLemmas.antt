@@ -1,7 +1,7 @@
 -- Parts still to be looked at, one more or one less.
 use Rattle.std.proofs.Common.{◌≡◌, ◌+◌, Bor, List, [], ◌∷◌, ◌++◌, append_assoc, ap, sym, refl, ◌∙◌, arith}
 use Rattle.std.proofs.lemmas.List.{append-nil}
-use Rattle.flt_types.specs.declared.typed.Typed.{Typed}
+use Rattle.flt_typed.specs.declared.typed.Typed.{Typed}
 use Rattle.flt_vm.specs.Programs.{patterns_of}
 use Rattle.flt_vm.specs.Stacks.{patterns_left, size_left, size_of}
 

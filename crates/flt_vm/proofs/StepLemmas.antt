@@ -11,7 +11,7 @@ use Rattle.flt_syntax.specs.declared.ast.Arithmetic.{Arithmetic}
 use Rattle.flt_syntax.specs.declared.ast.Choice.{Choice}
 use Rattle.flt_syntax.specs.declared.ast.Function.{Function}
 use Rattle.flt_syntax.specs.declared.ast.RangePart.{RangePart}
-use Rattle.flt_types.specs.declared.typed.Member.{Member}
+use Rattle.flt_typed.specs.declared.typed.Member.{Member}
 use Rattle.flt_values.specs.Arithmetic.{extreme_of}
 use Rattle.flt_values.specs.Calls.{is_nonzero, masked}
 use Rattle.flt_values.specs.Slices.{sliced}

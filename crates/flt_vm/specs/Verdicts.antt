@@ -1,7 +1,7 @@
 -- What a program answers of a tree, as a function; and the fields whose values it asks for.
 use Rattle.std.specs.Prelude.{◌≡◌, ◌==◌, ◌||◌, ℕ, zero, suc, ◌+◌, ◌≤◌, Bool as Truth, true, false, List, [], ◌∷◌, length, Option, Some, None, option_map}
 use Rattle.std.specs.List.{slice_get}
-use Rattle.flt_types.specs.declared.typed.Typed.{Typed}
+use Rattle.flt_typed.specs.declared.typed.Typed.{Typed}
 use Rattle.flt_vm.specs.Machine.{Job, Move, Goes, Ends, Missing, Runs, State, start, step}
 use Rattle.flt_vm.specs.Programs.{Code, job_of}
 use Rattle.flt_vm.specs.declared.instr.Instr.{Instr}

@@ -1,10 +1,10 @@
 // Copies of what instructions own. They share their bytes with the filter.
 ghost use Rattle.std.specs.Prelude.{◌≡◌, ◌++◌, [], ◌∷◌, IfOk, OnOk};
-ghost use Rattle.flt_types.specs.declared.typed.Member.TheVariants.{Between, One};
+ghost use Rattle.flt_typed.specs.declared.typed.Member.TheVariants.{Between, One};
 
 use crate::instr::{MemberList, RangeList};
 use flt_syntax::RangePart;
-use flt_types::Member;
+use flt_typed::Member;
 use flt_values::Constant;
 use pk_base::NoMemory;
 use pk_tree::{LayerRanges, Layers};

@@ -1,7 +1,7 @@
 // The instructions of the machine.
 
 use flt_syntax::{Arithmetic, Choice, Function, RangePart};
-use flt_types::Member;
+use flt_typed::Member;
 use flt_values::{Constant, Extreme, Relation};
 use pk_fields::FieldId;
 use pk_tree::Layers;
@@ -46,7 +46,7 @@ pub struct MemberList {
 
 impl Model for MemberList {
     ghost use Rattle.std.specs.Prelude.{List};
-    ghost use Rattle.flt_types.specs.declared.typed.Member.{Member};
+    ghost use Rattle.flt_typed.specs.declared.typed.Member.{Member};
 
     ghost Value = { List Member };
 

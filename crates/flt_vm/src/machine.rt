@@ -4,14 +4,14 @@ ghost use Rattle.flt_vm.specs.Machine.{Runs, start};
 ghost use Rattle.flt_vm.specs.Programs.{FitsFilter, Ready, RunsOn, patterns_of};
 ghost use Rattle.flt_vm.specs.Sources.{sources_of};
 ghost use Rattle.flt_vm.specs.Verdicts.{verdict_of};
-ghost use Rattle.flt_types.specs.declared.typed.Typed.{Typed as TypedValue};
+ghost use Rattle.flt_typed.specs.declared.typed.Typed.{Typed as TypedValue};
 
 use crate::patterns::patterns_in;
 use crate::program::Program;
 use crate::run::{Verdict, run_code};
 use crate::slots::{Slot, let_go, unset};
 use flt_pattern::{Pattern, Search};
-use flt_types::{Filter, Typed};
+use flt_typed::{Filter, Typed};
 use pk_base::NoMemory;
 use pk_tree::Tree;
 use std::alloc::Global;

@@ -29,7 +29,7 @@ use flt_lists::{
 };
 use flt_pattern::Search;
 use flt_syntax::{Arithmetic, Choice, Function, RangePart};
-use flt_types::Member;
+use flt_typed::Member;
 use flt_values::{Extreme, Relation, extreme_of};
 use pk_base::NoMemory;
 use pk_fields::FieldId;

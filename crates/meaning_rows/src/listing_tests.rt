@@ -2,7 +2,7 @@
 
 use flt_code::{compile, listing};
 use flt_read::read_filter;
-use flt_types::Filter;
+use flt_typed::Filter;
 use pk_base::NoMemory;
 use std::alloc::Global;
 use std::process::Abort;

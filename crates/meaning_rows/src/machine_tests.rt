@@ -5,7 +5,7 @@ ghost use Rattle.flt_vm.specs.Programs.{Fits, IsProgram};
 use crate::packets::{nothing, packet};
 use flt_read::read_filter;
 use flt_syntax::{Arithmetic, Choice, Function, Place, RangePart};
-use flt_types::{Filter, Member};
+use flt_typed::{Filter, Member};
 use flt_values::{Constant, Extreme, Relation};
 use flt_vm::{Instr, Machine, MemberList, Program, RangeList};
 use pk_base::{NoMemory, Octets};

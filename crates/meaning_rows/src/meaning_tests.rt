@@ -4,7 +4,7 @@ use crate::packets::packet;
 use flt_code::compile;
 use flt_mean::holds;
 use flt_read::read_filter;
-use flt_types::Filter;
+use flt_typed::Filter;
 use flt_vm::{Verdict, run_program};
 use pk_base::NoMemory;
 use pk_tree::Tree;

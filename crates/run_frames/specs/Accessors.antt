@@ -1,7 +1,7 @@
 -- What a plan asks for. Only these words look into it.
 use Rattle.std.specs.Prelude.{◌==◌, ℕ, Bool, not, ◌||◌, List, length, Option, option_map}
 use Rattle.capture_write.specs.declared.format.Format.{Format}
-use Rattle.flt_types.specs.declared.typed.Typed.{Typed}
+use Rattle.flt_typed.specs.declared.typed.Typed.{Typed}
 use Rattle.out_lines.specs.declared.style.Style.{Style}
 use Rattle.port_rules.specs.declared.rules.PortRule.{PortRule}
 use Rattle.shark_words.specs.declared.options.LineKind.{LineKind}

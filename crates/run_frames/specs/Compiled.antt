@@ -1,6 +1,6 @@
 -- A filter with its program.
 use Rattle.std.specs.Prelude.{◌≡◌}
-use Rattle.flt_types.specs.declared.typed.Typed.{Typed}
+use Rattle.flt_typed.specs.declared.typed.Typed.{Typed}
 use Rattle.flt_vm.specs.Programs.{Code, FitsFilter, Ready, patterns_of}
 
 -- what is asked of a tree, and the program that decides it

@@ -8,7 +8,7 @@ use Rattle.dissect.specs.Followed.{asks_streams, HasSameValues}
 use Rattle.cap_stats.specs.Laws.{IsKeptFor, fields_of as table_fields}
 use Rattle.cap_stats.specs.declared.kind.StatKind.{StatKind}
 use Rattle.capture_write.specs.declared.format.Format.{Format}
-use Rattle.flt_types.specs.Asked.{HasFilter}
+use Rattle.flt_typed.specs.Asked.{HasFilter}
 use Rattle.flt_vm.specs.Verdicts.{HasCode}
 use Rattle.second_pass.specs.Laws.{link_fields}
 use Rattle.shark_words.specs.declared.options.LineKind.{LineKind}

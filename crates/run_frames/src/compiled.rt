@@ -2,7 +2,7 @@
 ghost use Rattle.std.specs.Prelude.{◌≡◌};
 ghost use Rattle.flt_vm.specs.Programs.{FitsFilter};
 
-use flt_types::Filter;
+use flt_typed::Filter;
 use flt_vm::Program;
 use std::marker::Model;
 
@@ -15,7 +15,7 @@ pub struct Compiled {
 
 impl Model for Compiled {
     ghost use Rattle.std.specs.Coded.{codes};
-    ghost use Rattle.flt_types.specs.contracts.typed.Typed as typed;
+    ghost use Rattle.flt_typed.specs.contracts.typed.Typed as typed;
     ghost use Rattle.flt_vm.specs.Programs.{FitsFilter};
     ghost use Rattle.run_frames.specs.Compiled.{CompiledShown};
 

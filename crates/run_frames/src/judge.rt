@@ -21,7 +21,7 @@ pub struct Judge<'p> {
 // Contracts see a judge as the filter with its program.
 impl<'p> Model for Judge<'p> {
     ghost use Rattle.std.specs.Coded.{codes};
-    ghost use Rattle.flt_types.specs.contracts.typed.Typed as typed;
+    ghost use Rattle.flt_typed.specs.contracts.typed.Typed as typed;
     ghost use Rattle.run_frames.specs.Compiled.{CompiledShown, IsReadyFor};
 
     ghost Value = { CompiledShown };

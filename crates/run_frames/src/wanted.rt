@@ -12,7 +12,7 @@ use crate::compiled::Compiled;
 use crate::plan::Plan;
 use crate::tables::asks;
 use cap_stats::StatKind;
-use flt_types::add_fields;
+use flt_typed::add_fields;
 use pk_fields::{FieldId, FieldSet, ids};
 use shark_words::LineKind;
 

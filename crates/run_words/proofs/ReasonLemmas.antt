@@ -2,7 +2,7 @@
 use Rattle.std.proofs.Common.{◌≡◌, ⊎_elim, ℕ, List, Option, None, Some, Ok, Err, IsTrue, sym, ◌∙◌, ap, subst}
 use Rattle.flt_syntax.specs.declared.fault.FilterFault.{FilterFault}
 use Rattle.flt_syntax.specs.declared.fault.FilterError.TheVariants.{Fault}
-use Rattle.flt_types.specs.Texts.{IsFilterFault}
+use Rattle.flt_types.specs.TextFaults.{IsFilterFault}
 use Rattle.flt_read.proofs.Unique.{one_fault_but_size}
 use Rattle.shark_words.specs.declared.options.Options.{Options}
 use Rattle.shark_words.specs.Options.{options_of}

@@ -2,7 +2,7 @@
 use Rattle.std.proofs.Common.{◌≡◌, ℕ, List, length, Option, None, Some, option_map, refl, sym, ◌∙◌, ap}
 use Rattle.pk_tree.specs.Trees.{TreeShown}
 use Rattle.flt_code.specs.Decides.{Agrees}
-use Rattle.flt_types.specs.declared.typed.Typed.{Typed}
+use Rattle.flt_typed.specs.declared.typed.Typed.{Typed}
 use Rattle.flt_read.proofs.OneMeaning.{one_meaning}
 use Rattle.flt_mean.specs.Meaning.{meaning}
 use Rattle.flt_vm.proofs.VerdictLemmas.{computed_run}

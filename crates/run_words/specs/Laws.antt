@@ -1,7 +1,7 @@
 -- What holds of every list of words.
 use Rattle.std.specs.Prelude.{◌≡◌, ◌⊎◌, ℕ, List, Some}
 use Rattle.flt_mean.specs.Meaning.{meaning}
-use Rattle.flt_types.specs.declared.typed.Typed.{Typed}
+use Rattle.flt_typed.specs.declared.typed.Typed.{Typed}
 use Rattle.pk_tree.specs.Trees.{TreeShown}
 use Rattle.run_frames.specs.declared.plan.Plan.{Plan}
 use Rattle.run_frames.specs.Accessors.{filter_of}

@@ -11,7 +11,7 @@ use dissect::{DecodeAs, Dissector};
 use flt_code::compile;
 use flt_mean::holds;
 use flt_read::read_filter;
-use flt_types::Filter;
+use flt_typed::Filter;
 use flt_vm::{Program, run_program};
 use std::alloc::Global;
 use std::process::Abort;

@@ -5,7 +5,7 @@ use Rattle.flt_code.proofs.CodeLemmas.{bits_put, both_put, code_put, code_right,
 use Rattle.flt_code.proofs.OwnerLemmas.{grows_on}
 use Rattle.flt_code.proofs.SpineLemmas.{stands_pop}
 use Rattle.flt_code.proofs.code.+code.Goals as goal
-use Rattle.flt_types.specs.declared.typed.Typed.TheVariants.{Compare, Matches}
+use Rattle.flt_typed.specs.declared.typed.Typed.TheVariants.{Compare, Matches}
 
 pub code_for-code_alone-requires : goal.code_for-code_alone-requires
 code_for-code_alone-requires t c =

@@ -1,6 +1,6 @@
 use Rattle.std.proofs.Common.{◌≡◌, ◌++◌, codes, drop}
 use Rattle.std.specs.List.{flat_map}
-use Rattle.flt_types.specs.declared.typed.Member.{Member}
+use Rattle.flt_typed.specs.declared.typed.Member.{Member}
 use Rattle.flt_code.specs.Literals.{member_shown}
 use Rattle.flt_code.proofs.literals.put_further_members.Given as goal
 

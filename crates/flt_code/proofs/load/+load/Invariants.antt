@@ -3,7 +3,7 @@ use Rattle.flt_code.specs.Code.{Adds, Loads}
 use Rattle.flt_code.specs.Owners.{Grows, owners_of}
 use Rattle.flt_code.specs.Spines.{Stands, left_of_term}
 use Rattle.flt_mean.specs.Terms.{terms_in}
-use Rattle.flt_types.specs.declared.typed.Term.{Term}
+use Rattle.flt_typed.specs.declared.typed.Term.{Term}
 use Rattle.flt_code.proofs.load.+load.Given as goal
 
 abbrev pub decreases-load : goal.decreases-load

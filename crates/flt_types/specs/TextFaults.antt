@@ -1,4 +1,4 @@
--- A filter's text, its typed filter, and its first fault.
+-- The first fault of a text that is no filter.
 use Rattle.std.specs.Prelude.{◌⊎◌, ℕ, List}
 use Rattle.flt_syntax.specs.Filters.{IsFilterText, IsFirstFault}
 use Rattle.flt_syntax.specs.Written.{Written}
@@ -6,16 +6,6 @@ use Rattle.flt_syntax.specs.declared.fault.FilterError.{FilterError}
 use Rattle.flt_syntax.specs.declared.fault.FilterError.TheVariants.{Fault, NoMemory}
 use Rattle.flt_syntax.specs.declared.fault.FilterFault.{FilterFault}
 use Rattle.flt_types.specs.Faults.{IsFirst, faults}
-use Rattle.flt_types.specs.Typing.{HasType}
-use Rattle.flt_types.specs.declared.typed.Typed.{Typed}
-
--- the text is this filter
-abbrev pub IsTypedText : List ℕ → Typed → Type 0
-IsTypedText text filter = (tree : Written) × IsFilterText text tree × HasType tree filter
-
--- some text's filter
-abbrev pub IsFilter : Typed → Type 0
-IsFilter filter = (text : List ℕ) × IsTypedText text filter
 
 -- the first fault of the types of a text that has a tree
 abbrev pub IsTypeFault : List ℕ → FilterFault → Type 0

@@ -5,13 +5,13 @@ use Rattle.flt_syntax.specs.Written.{WrittenOperand, NamedOf, OnLayerOf, OnLayer
 use Rattle.flt_syntax.specs.declared.ast.Function.{Function}
 use Rattle.flt_syntax.specs.declared.ast.Function.TheVariants.{Count, Min, Max}
 use Rattle.flt_syntax.specs.declared.word.Word.{Word}
-use Rattle.flt_types.specs.Layers.{is_layer, is_layers, layers_of, one_layer}
-use Rattle.flt_types.specs.Ranges.{is_range}
-use Rattle.flt_types.specs.Standing.{argument, in_slice, within}
-use Rattle.flt_types.specs.declared.standing.Standing.{Standing}
-use Rattle.flt_types.specs.declared.standing.Standing.TheVariants.{Free}
-use Rattle.flt_types.specs.declared.typed.Term.{Term}
-use Rattle.flt_types.specs.declared.typed.Term.TheVariants as terms
+use Rattle.flt_typed.specs.Layers.{is_layer, is_layers, layers_of, one_layer}
+use Rattle.flt_typed.specs.Ranges.{is_range}
+use Rattle.flt_typed.specs.Standing.{argument, in_slice, within}
+use Rattle.flt_typed.specs.declared.standing.Standing.{Standing}
+use Rattle.flt_typed.specs.declared.standing.Standing.TheVariants.{Free}
+use Rattle.flt_typed.specs.declared.typed.Term.{Term}
+use Rattle.flt_typed.specs.declared.typed.Term.TheVariants as terms
 use Rattle.flt_values.specs.Kinds.{is_masked, is_number, is_sliced, kind_of_call, kind_of_value, takes_call}
 use Rattle.flt_values.specs.Literals.{word_read}
 use Rattle.flt_values.specs.declared.literal.Constant.{Constant}

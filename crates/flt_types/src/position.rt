@@ -1,24 +1,12 @@
-// Where an operand stands, which decides what a word that names no field is there, and what is blamed for a string.
+// Where an operand stands, with its side of the test, which decides what is blamed for a string.
 ghost use Rattle.std.specs.Prelude.{◌≡◌};
 ghost use Rattle.flt_syntax.specs.Written.{operand_of};
-ghost use Rattle.flt_types.specs.Standing.{argument as argument_of, blamed as blamed_at, by_itself as by_itself_of, in_slice as in_slice_of, sign_for as sign_asking, taken as taken_at, taken_by as taken_by_function, within as within_at};
-ghost use Rattle.flt_types.specs.declared.standing.Standing.TheVariants.{Free};
+ghost use Rattle.flt_typed.specs.Standing.{argument as argument_of, in_slice as in_slice_of, within as within_at};
+ghost use Rattle.flt_typed.specs.declared.standing.Standing.TheVariants.{Free};
+ghost use Rattle.flt_types.specs.Blame.{blamed as blamed_at, by_itself as by_itself_of, sign_for as sign_asking, taken as taken_at, taken_by as taken_by_function};
 
 use flt_syntax::{Function, Operand};
-
-/// Where an operand stands, for a word that names no field. What a tree's types are is said by it.
-#[derive(Clone, Copy)]
-pub enum Standing {
-    /// First in a left operand, or in the first argument of `min` or `max`: a word has to name a field.
-    First,
-    /// On the right side, behind a sign, or as a later argument: a word may be a number. The place of the sign before
-    /// it, if there is one.
-    Free(Option<u32>),
-    /// Where a literal may stand, in a mask or a function that takes none; its place.
-    Within(u32),
-    /// Where a literal may stand, in a slice, whose word has to name a field.
-    Sliced,
-}
+use flt_typed::Standing;
 
 /// The side of a test on which an operand stands, for a string, which is neither a field nor a number. What a tree's
 /// faults are is said by it.
@@ -48,40 +36,6 @@ pub(crate) const RIGHT: Position = Position {
     side: Side::Right(None),
     standing: Standing::Free(None),
 };
-
-impl Standing {
-    /// In a slice.
-    fn in_slice(self) -> Standing
-        ensures { result ≡ in_slice_of self }
-    {
-        match self {
-            Standing::First => Standing::First,
-            _ => Standing::Sliced,
-        }
-    }
-
-    /// In a mask or a function at a place, which takes no literal.
-    fn within(self, at: u32) -> Standing
-        ensures { result ≡ within_at at self }
-    {
-        match self {
-            Standing::First => Standing::First,
-            _ => Standing::Within(at),
-        }
-    }
-
-    /// As the argument of a function at a place. Arithmetic may begin with a number where a literal may stand.
-    fn argument(self, function: Function, at: u32, operand: &Operand) -> Standing
-        ensures { result ≡ argument_of function at (operand_of operand.now) self }
-    {
-        match (function, self, operand) {
-            (Function::Min | Function::Max, _, _) => Standing::First,
-            (_, Standing::First, _) => Standing::First,
-            (_, _, Operand::Computed(_, _, _, _)) => Standing::Free(None),
-            _ => Standing::Within(at),
-        }
-    }
-}
 
 impl Side {
     /// As a part of arithmetic, or as an argument of `min` or `max`.

@@ -1,6 +1,6 @@
 // The fields that a filter asks for.
 ghost use Rattle.std.specs.Prelude.{◌≡◌, ◌||◌, ℕ};
-ghost use Rattle.flt_types.specs.Asked.{HasFilter, asks, asks_term};
+ghost use Rattle.flt_typed.specs.Asked.{HasFilter, asks, asks_term};
 ghost use Rattle.pk_fields.specs.FieldSets.{is_in};
 
 use crate::filter::Filter;

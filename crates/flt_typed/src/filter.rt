@@ -1,5 +1,5 @@
 ghost use Rattle.std.specs.Prelude.{◌≡◌};
-ghost use Rattle.flt_types.specs.Texts.{IsFilter};
+ghost use Rattle.flt_typed.specs.Texts.{IsFilter};
 
 use crate::typed::Typed;
 use std::marker::Model;
@@ -7,14 +7,14 @@ use std::marker::Model;
 /// A filter: the typed filter of some text.
 #[derive(Drop)]
 pub struct Filter {
-    pub(crate) root: Typed,
+    root: Typed,
 }
 
 impl Model for Filter {
     ghost use Rattle.std.specs.Coded.{codes};
-    ghost use Rattle.flt_types.specs.Texts.{IsFilter};
-    ghost use Rattle.flt_types.specs.contracts.typed.Typed as typed;
-    ghost use Rattle.flt_types.specs.declared.typed.Typed.{Typed};
+    ghost use Rattle.flt_typed.specs.Texts.{IsFilter};
+    ghost use Rattle.flt_typed.specs.contracts.typed.Typed as typed;
+    ghost use Rattle.flt_typed.specs.declared.typed.Typed.{Typed};
 
     ghost Value = { Typed };
 
@@ -26,6 +26,14 @@ impl Model for Filter {
 }
 
 impl Filter {
+    /// A typed filter, which has to be some text's.
+    pub fn new(root: Typed) -> Filter
+        requires { IsFilter root }
+        ensures { result ≡ root }
+    {
+        Filter { root }
+    }
+
     /// What it asks of a tree.
     pub fn root(&self) -> &Typed
         ensures value { result.now ≡ self.now }
