@@ -18,7 +18,7 @@ use Rattle.stream_messages.specs.declared.cursor.Next.{Next}
 use Rattle.stream_messages.specs.declared.cursor.Next.TheVariants.{Never, Awaited, Begun}
 use Rattle.stream_messages.specs.Tellings.{first_of, then_of}
 use Rattle.stream_messages.specs.Messages.{Asked, messages, of_front, AgreeBelow, answered}
-use Rattle.stream_messages.specs.Cursors.{resumed_part, part_begun, IsKnown, GoesOn, next_at, next_behind, mark_behind, begun, goes, from_cursor, KnowsNext, IsBehind, IsSoundNext, IsSound, CursorLaws, IsNext, IsRest, IsPartRest, IsPartCut, IsCutFrom}
+use Rattle.stream_messages.specs.Cursors.{resumed_part, part_begun, IsKnown, GoesOn, answers_before, CountsFor, next_at, next_behind, mark_behind, begun, goes, from_cursor, KnowsNext, IsBehind, IsSoundNext, IsSound, CursorLaws, IsNext, IsRest, IsPartRest, IsPartCut, IsCutFrom}
 use Rattle.stream_messages.proofs.FirstLemmas.{first_nothing}
 use Rattle.stream_messages.proofs.MessageLemmas.{same_front}
 
@@ -44,15 +44,16 @@ sound_now app asked at front Awaited known = tt
 sound_now app asked at front (Begun started) known = (known.0, known.1)
 
 pub behind_sound : (app : App) (asked : Asked) (count start : ℕ) (c : Cursor) (front more : List ℕ) → IsBehind app asked count start c front → IsSound app c (front ++ more)
-behind_sound app asked count start c front more is = sound_next app (asked (start + next_at c.mark) c.mark.answers) (next_at c.mark) front more c.next is.known
+behind_sound app asked count start c front more is =
+    sound_next app (asked (start + next_at c.mark) (answered count (of_front app asked count start front))) (next_at c.mark) front more c.next is.known
 
-begins : (app : App) (asked : Asked) (count start : ℕ) → IsBehind app asked count start (begun count) []
+begins : (app : App) (asked : Asked) (number count start : ℕ) → CountsFor number count → IsBehind app asked count start (begun number) []
 unfolding messages
-begins app asked count start =
+begins app asked number count start counts =
     let same : start ≡ start + (0 + 0) = omega arith in
     record {
       behind = λ later more agree. ap (λ (p : ℕ). messages app later count p 0 more) same;
-      counts = refl;
+      counts = counts;
       known = omega arith;
     }
 
@@ -71,9 +72,10 @@ behind_same app asked later count start c front agree is =
     record {
       behind = λ newer more also.
           is.behind newer more (λ at n low. also at n low ∙ agree at n low)
-          ∙ ap (λ (ms : List Placed). ms ++ from_cursor app newer start c (front ++ more)) (sym same);
-      counts = is.counts ∙ ap (answered count) (sym same);
-      known = known_same app asked later start c.mark.answers (next_at c.mark) front c.next agree is.known;
+          ∙ ap (λ (ms : List Placed). ms ++ from_cursor app newer start (answered count ms) c (front ++ more)) (sym same);
+      counts = subst (CountsFor (answers_before c)) (ap (answered count) (sym same)) is.counts;
+      known = subst (λ (n : ℕ). KnowsNext app (later (start + next_at c.mark) n) (next_at c.mark) front c.next) (ap (answered count) (sym same))
+          (known_same app asked later start (answered count (of_front app asked count start front)) (next_at c.mark) front c.next agree is.known);
     }
 
 next_longer : (app : App) (at : ℕ) (front more : List ℕ) (next : Next) → IsSoundNext app at front next → IsSoundNext app at (front ++ more) next

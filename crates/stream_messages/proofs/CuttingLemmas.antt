@@ -19,15 +19,15 @@ use Rattle.stream_messages.specs.declared.cutting.Cut.TheVariants.{Whole, Rest}
 use Rattle.stream_messages.specs.declared.cutting.Shown.{Shown}
 use Rattle.stream_messages.specs.Tellings.{first_of, end_of, then_of, passed, answers}
 use Rattle.stream_messages.specs.Messages.{Asked, follow, messages, of_front, end_at, above, AgreeBelow, answered}
-use Rattle.stream_messages.specs.Cursors.{next_at, next_behind, mark_behind, cursor_behind, goes, from_cursor, KnowsNext, IsBehind, IsSoundNext, IsSound, AsksBetween, IsCut, IsWhole, IsAskedOf, IsNext, IsRest, IsCutFrom, IsLook}
+use Rattle.stream_messages.specs.Cursors.{answers_before, counted, CountsFor, next_at, next_behind, mark_behind, cursor_behind, goes, from_cursor, KnowsNext, IsBehind, IsSoundNext, IsSound, AsksBetween, IsCut, IsWhole, IsAskedOf, IsNext, IsRest, IsCutFrom, IsLook}
 use Rattle.stream_messages.proofs.FirstLemmas.{first_some, first_within, first_stays, first_shrinks}
 use Rattle.stream_messages.proofs.MessageLemmas.{all_below, steps, none_left, no_messages}
 use Rattle.stream_messages.proofs.StretchLemmas.{above-append, answered-append}
 use Rattle.stream_messages.proofs.CursorLemmas.{behind_same, sound_now}
 
 -- what a cursor says by its mark and whether a message may come
-abbrev from_mark : App → Asked → ℕ → Bool → Mark → List ℕ → List Placed
-from_mark app asked start may mark front = if may then of_front app asked mark.answers (start + next_at mark) (drop (next_at mark) front) else []
+abbrev from_mark : App → Asked → ℕ → ℕ → Bool → Mark → List ℕ → List Placed
+from_mark app asked start number may mark front = if may then of_front app asked number (start + next_at mark) (drop (next_at mark) front) else []
 
 -- bytes that have a message of their own have a byte
 pub there_are : (app : App) (asked : Bool) (at : ℕ) (front : List ℕ) (told : Told) → first_of app asked (drop at front) ≡ Some told → at + end_of told ≤ length front
@@ -49,32 +49,39 @@ place_none at len e = elim (cases_lt at len) [
 -- ---- the messages so far
 
 pub record IsCutting (app : App) (asked : Asked) (count start : ℕ) (old front : List ℕ) (c : Cursor) (ms : List Placed) : Type 0 where
+  -- the answers up to the cursor
+  pub number : ℕ
+  pub number_is : number ≡ answered count (of_front app asked count start old ++ ms)
   pub rest_is : (later : Asked) (more : List ℕ) → AgreeBelow (start + length front) asked later
-      → of_front app later count start (front ++ more) ≡ (of_front app asked count start old ++ ms) ++ from_cursor app later start c (front ++ more)
-  pub counts : c.mark.answers ≡ answered count (of_front app asked count start old ++ ms)
-  pub known : KnowsNext app (asked (start + next_at c.mark) c.mark.answers) (next_at c.mark) old c.next
+      → of_front app later count start (front ++ more) ≡ (of_front app asked count start old ++ ms) ++ from_cursor app later start number c (front ++ more)
+  pub counts : CountsFor (answers_before c) number
+  pub known : KnowsNext app (asked (start + next_at c.mark) number) (next_at c.mark) old c.next
   pub new : above (start + length old) ms ≡ ms
-  pub quiet : from_cursor app asked start c old ≡ []
+  pub quiet : from_cursor app asked start number c old ≡ []
 
 nothing_more : (xs ys : List Placed) → xs ≡ xs ++ ys → ys ≡ []
 nothing_more xs ys e = append_cancel_left xs ys [] (sym e ∙ sym (append-nil xs))
 
-behind_quiet : (app : App) (asked : Asked) (count start : ℕ) (c : Cursor) (front : List ℕ) → IsBehind app asked count start c front → from_cursor app asked start c front ≡ []
+behind_quiet : (app : App) (asked : Asked) (count start : ℕ) (c : Cursor) (front : List ℕ) → IsBehind app asked count start c front
+    → from_cursor app asked start (answered count (of_front app asked count start front)) c front ≡ []
 behind_quiet app asked count start c front is =
-    let same : of_front app asked count start (front ++ []) ≡ of_front app asked count start front ++ from_cursor app asked start c (front ++ []) = is.behind asked [] (λ at n low. refl) in
-    nothing_more (of_front app asked count start front) (from_cursor app asked start c front)
-    (subst (λ (bytes : List ℕ). of_front app asked count start bytes ≡ of_front app asked count start front ++ from_cursor app asked start c bytes) (append-nil front) same)
+    let number : ℕ = answered count (of_front app asked count start front) in
+    let same : of_front app asked count start (front ++ []) ≡ of_front app asked count start front ++ from_cursor app asked start number c (front ++ []) = is.behind asked [] (λ at n low. refl) in
+    nothing_more (of_front app asked count start front) (from_cursor app asked start number c front)
+    (subst (λ (bytes : List ℕ). of_front app asked count start bytes ≡ of_front app asked count start front ++ from_cursor app asked start number c bytes) (append-nil front) same)
 
 pub cutting_first : (app : App) (asked later : Asked) (count start : ℕ) (old new front : List ℕ) (c : Cursor) → front ≡ old ++ new → AgreeBelow (start + length old) asked later
     → IsBehind app asked count start c old → IsCutting app later count start old front c []
 cutting_first app asked later count start old new front c is agree behind =
     subst (λ (all : List ℕ). IsCutting app later count start old all c []) (sym is) (record {
+      number = answered count base;
+      number_is = ap (answered count) (sym (append-nil base));
       rest_is = λ newer more also.
           ap (of_front app newer count start) (append_assoc old new more)
           ∙ here.behind newer (new ++ more) (λ at n low. also at n (omega (arith, low, length-append old new)))
-          ∙ ap (λ (ms : List Placed). ms ++ from_cursor app newer start c (old ++ (new ++ more))) (sym (append-nil base))
-          ∙ ap (λ (all : List ℕ). (base ++ []) ++ from_cursor app newer start c all) (sym (append_assoc old new more));
-      counts = here.counts ∙ ap (answered count) (sym (append-nil base));
+          ∙ ap (λ (ms : List Placed). ms ++ from_cursor app newer start (answered count base) c (old ++ (new ++ more))) (sym (append-nil base))
+          ∙ ap (λ (all : List ℕ). (base ++ []) ++ from_cursor app newer start (answered count base) c all) (sym (append_assoc old new more));
+      counts = here.counts;
       known = here.known;
       new = refl;
       quiet = behind_quiet app later count start c old here;
@@ -88,14 +95,14 @@ cutting_first app asked later count start old new front c is agree behind =
 
 -- what is found is asked of the right request
 pub asks_right : (app : App) (asked : Asked) (count start : ℕ) (old new front : List ℕ) (c : Cursor) (ms : List Placed) (heads : List Bool) → front ≡ old ++ new
-    → AsksBetween (start + length old) (start + length front) heads asked → IsCutting app asked count start old front c ms
-    → IsAskedOf app (asked (start + next_at c.mark) c.mark.answers) heads c.mark.answers c.next (drop (next_at c.mark) front)
+    → AsksBetween (start + length old) (start + length front) heads asked → (cutting : IsCutting app asked count start old front c ms)
+    → IsAskedOf app (asked (start + next_at c.mark) cutting.number) heads cutting.number c.next (drop (next_at c.mark) front)
 asks_right app asked count start old new front c ms heads is asks cutting = by c.next cutting.known
   where
-    by : (next : Next) → KnowsNext app (asked (start + next_at c.mark) c.mark.answers) (next_at c.mark) old next
-        → IsAskedOf app (asked (start + next_at c.mark) c.mark.answers) heads c.mark.answers next (drop (next_at c.mark) front)
+    by : (next : Next) → KnowsNext app (asked (start + next_at c.mark) cutting.number) (next_at c.mark) old next
+        → IsAskedOf app (asked (start + next_at c.mark) cutting.number) heads cutting.number next (drop (next_at c.mark) front)
     by Never known = tt
-    by Awaited known = λ some. asks (start + next_at c.mark) c.mark.answers (omega (arith, known)) (omega (arith, some, length-drop (next_at c.mark) front))
+    by Awaited known = λ some. asks (start + next_at c.mark) cutting.number (omega (arith, known)) (omega (arith, some, length-drop (next_at c.mark) front))
     by (Begun started) known = known.2
 
 -- a message that is found ends in the new bytes
@@ -116,24 +123,28 @@ ends_late app asked answers start at old new told quiet e = elim (cases_lt (leng
     some_none m ms e = absurd (cc)
 
 -- behind a message
-follows : (app : App) (asked : Asked) (start : ℕ) (mark : Mark) (told : Told) (next : Then) (bytes : List ℕ)
-    → follow next (messages app asked (mark.answers + answers told) ((start + next_at mark) + (end_of told + passed next)) 0 (drop (end_of told + passed next) (drop (next_at mark) bytes)))
-    ≡ (if goes (next_behind next) then of_front app asked (mark.answers + answers told) (start + ((next_at mark + end_of told) + passed next)) (drop ((next_at mark + end_of told) + passed next) bytes) else [])
-follows app asked start mark told Opaque bytes = refl
-follows app asked start mark told (Follows n) bytes =
+follows : (app : App) (asked : Asked) (start number : ℕ) (mark : Mark) (told : Told) (next : Then) (bytes : List ℕ)
+    → follow next (messages app asked (number + answers told) ((start + next_at mark) + (end_of told + passed next)) 0 (drop (end_of told + passed next) (drop (next_at mark) bytes)))
+    ≡ (if goes (next_behind next) then of_front app asked (number + answers told) (start + ((next_at mark + end_of told) + passed next)) (drop ((next_at mark + end_of told) + passed next) bytes) else [])
+follows app asked start number mark told Opaque bytes = refl
+follows app asked start number mark told (Follows n) bytes =
     let place : (start + next_at mark) + (end_of told + n) ≡ start + ((next_at mark + end_of told) + n) = omega arith in
     let size : next_at mark + (end_of told + n) ≡ (next_at mark + end_of told) + n = omega arith in
-    ap (λ (p : ℕ). messages app asked (mark.answers + answers told) p 0 (drop (end_of told + n) (drop (next_at mark) bytes))) place
-    ∙ ap (messages app asked (mark.answers + answers told) (start + ((next_at mark + end_of told) + n)) 0) (drop-drop (end_of told + n) (next_at mark) bytes ∙ ap (λ (k : ℕ). drop k bytes) size)
+    ap (λ (p : ℕ). messages app asked (number + answers told) p 0 (drop (end_of told + n) (drop (next_at mark) bytes))) place
+    ∙ ap (messages app asked (number + answers told) (start + ((next_at mark + end_of told) + n)) 0) (drop-drop (end_of told + n) (next_at mark) bytes ∙ ap (λ (k : ℕ). drop k bytes) size)
 
 -- the message that comes next, and those behind it
-one_more : (app : App) (asked : Asked) (start : ℕ) (c : Cursor) (told : Told) (bytes : List ℕ) → goes c.next ≡ true
-    → first_of app (asked (start + next_at c.mark) c.mark.answers) (drop (next_at c.mark) bytes) ≡ Some told
-    → from_cursor app asked start c bytes ≡ record { at = start + next_at c.mark; told = told } ∷ from_cursor app asked start (cursor_behind c.mark told) bytes
-one_more app asked start c told bytes may e =
+one_more : (app : App) (asked : Asked) (start number : ℕ) (c : Cursor) (told : Told) (bytes : List ℕ) → goes c.next ≡ true
+    → first_of app (asked (start + next_at c.mark) number) (drop (next_at c.mark) bytes) ≡ Some told
+    → from_cursor app asked start number c bytes ≡ record { at = start + next_at c.mark; told = told } ∷ from_cursor app asked start (number + answers told) (cursor_behind c.mark told) bytes
+one_more app asked start number c told bytes may e =
     cond-true _ _ _ may
-    ∙ steps app asked c.mark.answers (start + next_at c.mark) (drop (next_at c.mark) bytes) told e
-    ∙ ap (λ (ms : List Placed). record { at = start + next_at c.mark; told = told } ∷ ms) (follows app asked start c.mark told (then_of told) bytes)
+    ∙ steps app asked number (start + next_at c.mark) (drop (next_at c.mark) bytes) told e
+    ∙ ap (λ (ms : List Placed). record { at = start + next_at c.mark; told = told } ∷ ms) (follows app asked start number c.mark told (then_of told) bytes)
+
+-- a count that is raised stands for the raised number
+count_more : (count number more : ℕ) → CountsFor count number → CountsFor (counted (count + more)) (number + more)
+count_more count number more is = omega (arith, is)
 
 pushed : (base ms : List Placed) (m : Placed) (rest : List Placed) → (base ++ ms) ++ m ∷ rest ≡ (base ++ (ms ++ m ∷ [])) ++ rest
 pushed base ms m rest =
@@ -147,9 +158,9 @@ if_none : (t : Bool) (xs : List Placed) → xs ≡ [] → (if t then xs else [])
 if_none true xs e = e
 if_none false xs e = refl
 
-quiet_past : (app : App) (asked : Asked) (start : ℕ) (c : Cursor) (front : List ℕ) → length front ≤ next_at c.mark → from_cursor app asked start c front ≡ []
-quiet_past app asked start c front past =
-    if_none (goes c.next) _ (ap (of_front app asked c.mark.answers (start + next_at c.mark)) (drop_all (next_at c.mark) front past) ∙ no_messages app asked c.mark.answers (start + next_at c.mark))
+quiet_past : (app : App) (asked : Asked) (start number : ℕ) (c : Cursor) (front : List ℕ) → length front ≤ next_at c.mark → from_cursor app asked start number c front ≡ []
+quiet_past app asked start number c front past =
+    if_none (goes c.next) _ (ap (of_front app asked number (start + next_at c.mark)) (drop_all (next_at c.mark) front past) ∙ no_messages app asked number (start + next_at c.mark))
 
 found_longer : (app : App) (asked later : Asked) (start answers at : ℕ) (front more : List ℕ) (told : Told) → AgreeBelow (start + length front) asked later
     → first_of app (asked (start + at) answers) (drop at front) ≡ Some told → first_of app (later (start + at) answers) (drop at (front ++ more)) ≡ Some told
@@ -162,41 +173,46 @@ found_longer app asked later start answers at front more told agree e =
     ∙ first_stays app (asked (start + at) answers) (drop at front) more told e
 
 cutting_step : (app : App) (asked : Asked) (count start : ℕ) (old new front : List ℕ) (c : Cursor) (ms : List Placed) (told : Told) → front ≡ old ++ new
-    → IsCutting app asked count start old front c ms → goes c.next ≡ true
-    → first_of app (asked (start + next_at c.mark) c.mark.answers) (drop (next_at c.mark) front) ≡ Some told
+    → (cutting : IsCutting app asked count start old front c ms) → goes c.next ≡ true
+    → first_of app (asked (start + next_at c.mark) cutting.number) (drop (next_at c.mark) front) ≡ Some told
     → IsCutting app asked count start old front (cursor_behind c.mark told) (ms ++ record { at = start + next_at c.mark; told = told } ∷ [])
 cutting_step app asked count start old new front c ms told is cutting may e = record {
-  rest_is = λ later more agree.
-      cutting.rest_is later more agree
-      ∙ ap (λ (xs : List Placed). (base ++ ms) ++ xs) (one_more app later start c told (front ++ more) may (found_longer app asked later start c.mark.answers (next_at c.mark) front more told agree e))
-      ∙ pushed base ms m (from_cursor app later start (cursor_behind c.mark told) (front ++ more));
-  counts =
-      ap (λ (n : ℕ). n + answers told) cutting.counts
+  number = number + answers told;
+  number_is =
+      ap (λ (n : ℕ). n + answers told) cutting.number_is
       ∙ sym (answered-append count (base ++ ms) (m ∷ []))
       ∙ ap (answered count) (append_assoc base ms (m ∷ []));
+  rest_is = λ later more agree.
+      cutting.rest_is later more agree
+      ∙ ap (λ (xs : List Placed). (base ++ ms) ++ xs) (one_more app later start number c told (front ++ more) may (found_longer app asked later start number (next_at c.mark) front more told agree e))
+      ∙ pushed base ms m (from_cursor app later start (number + answers told) (cursor_behind c.mark told) (front ++ more));
+  counts = count_more (answers_before c) number (answers told) cutting.counts;
   known = knows_behind app _ _ old (then_of told) (omega (arith, late));
   new =
       above-append (start + length old) ms (m ∷ [])
       ∙ ap (λ (xs : List Placed). xs ++ above (start + length old) (m ∷ [])) cutting.new
       ∙ ap (λ (xs : List Placed). ms ++ xs) (cond-true _ _ _ (lt-ltb (start + length old) (end_at m) (omega (arith, late))));
-  quiet = quiet_past app asked start (cursor_behind c.mark told) old (omega (arith, late));
+  quiet = quiet_past app asked start (number + answers told) (cursor_behind c.mark told) old (omega (arith, late));
 }
   where
+    number : ℕ
+    number = cutting.number
+
     base : List Placed
     base = of_front app asked count start old
 
     m : Placed
     m = record { at = start + next_at c.mark; told = told }
 
-    was : of_front app asked c.mark.answers (start + next_at c.mark) (drop (next_at c.mark) old) ≡ []
+    was : of_front app asked number (start + next_at c.mark) (drop (next_at c.mark) old) ≡ []
     was = sym (cond-true _ _ _ may) ∙ cutting.quiet
 
     late : length old < next_at c.mark + end_of told
-    late = ends_late app asked c.mark.answers start (next_at c.mark) old new told was
-        (subst (λ (all : List ℕ). first_of app (asked (start + next_at c.mark) c.mark.answers) (drop (next_at c.mark) all) ≡ Some told) is e)
+    late = ends_late app asked number start (next_at c.mark) old new told was
+        (subst (λ (all : List ℕ). first_of app (asked (start + next_at c.mark) number) (drop (next_at c.mark) all) ≡ Some told) is e)
 
 pub cutting_more : (app : App) (asked : Asked) (count start : ℕ) (old new front : List ℕ) (c : Cursor) (ms : List Placed) (m : Placed) (behind : Cursor) → front ≡ old ++ new
-    → IsCutting app asked count start old front c ms → goes c.next ≡ true → IsNext app (asked (start + next_at c.mark) c.mark.answers) start front c.mark m behind
+    → (cutting : IsCutting app asked count start old front c ms) → goes c.next ≡ true → IsNext app (asked (start + next_at c.mark) cutting.number) start front c.mark m behind
     → IsCutting app asked count start old front behind (ms ++ m ∷ [])
 cutting_more app asked count start old new front c ms m behind is cutting may next =
     let placed : record { at = start + next_at c.mark; told = m.told } ≡ m = λ i. record { at = sym next.at i; told = m.told } in
@@ -208,15 +224,16 @@ cutting_more app asked count start old new front c ms m behind is cutting may ne
 
 -- ---- nothing more
 
-rest_quiet : (app : App) (asked : Asked) (start : ℕ) (front : List ℕ) (c new : Cursor) → IsRest app (asked (start + next_at c.mark) c.mark.answers) front c new → from_cursor app asked start c front ≡ []
-rest_quiet app asked start front c new rest = by (goes c.next) refl
+rest_quiet : (app : App) (asked : Asked) (start number : ℕ) (front : List ℕ) (c new : Cursor) → IsRest app (asked (start + next_at c.mark) number) front c new
+    → from_cursor app asked start number c front ≡ []
+rest_quiet app asked start number front c new rest = by (goes c.next) refl
   where
-    by : (t : Bool) → goes c.next ≡ t → (if t then of_front app asked c.mark.answers (start + next_at c.mark) (drop (next_at c.mark) front) else []) ≡ []
-    by true may = none_left app asked c.mark.answers (start + next_at c.mark) (drop (next_at c.mark) front) (rest.none may)
+    by : (t : Bool) → goes c.next ≡ t → (if t then of_front app asked number (start + next_at c.mark) (drop (next_at c.mark) front) else []) ≡ []
+    by true may = none_left app asked number (start + next_at c.mark) (drop (next_at c.mark) front) (rest.none may)
     by false may = refl
 
 pub cutting_last : (app : App) (asked : Asked) (count start : ℕ) (old front : List ℕ) (c : Cursor) (ms : List Placed) (shown : Shown)
-    → IsCutting app asked count start old front c ms → IsRest app (asked (start + next_at c.mark) c.mark.answers) front c shown.cursor → shown.messages ≡ ms
+    → (cutting : IsCutting app asked count start old front c ms) → IsRest app (asked (start + next_at c.mark) cutting.number) front c shown.cursor → shown.messages ≡ ms
     → IsCut app asked count start old front shown
 cutting_last app asked count start old front c ms shown cutting rest is = record {
   messages = is ∙ sym (
@@ -228,10 +245,14 @@ cutting_last app asked count start old front c ms shown cutting rest is = record
   cursor = record {
     behind = λ later more agree.
         cutting.rest_is later more agree
-        ∙ ap (λ (xs : List Placed). xs ++ from_cursor app later start c (front ++ more)) (sym all)
-        ∙ ap (λ (xs : List Placed). of_front app asked count start front ++ xs) (sym (ap (λ (k : Mark). from_mark app later start (goes shown.cursor.next) k (front ++ more)) rest.mark ∙ ap (λ (t : Bool). from_mark app later start t c.mark (front ++ more)) rest.goes_is));
-    counts = ap (λ (k : Mark). k.answers) rest.mark ∙ cutting.counts ∙ ap (answered count) (sym all);
-    known = subst (λ (k : Mark). KnowsNext app (asked (start + next_at k) k.answers) (next_at k) front shown.cursor.next) (sym rest.mark) rest.known;
+        ∙ ap (λ (xs : List Placed). xs ++ from_cursor app later start cutting.number c (front ++ more)) (sym all)
+        ∙ ap (λ (xs : List Placed). of_front app asked count start front ++ xs) (
+        sym (ap (λ (k : Mark). from_mark app later start cutting.number (goes shown.cursor.next) k (front ++ more)) rest.mark ∙ ap (λ (t : Bool). from_mark app later start cutting.number t c.mark (front ++ more)) rest.goes_is)
+        ∙ ap (λ (n : ℕ). from_cursor app later start n shown.cursor (front ++ more)) number_is
+        );
+    counts = subst (CountsFor (answers_before shown.cursor)) number_is (ap (λ (k : Mark). counted k.answers) rest.mark ∙ cutting.counts);
+    known = subst (λ (n : ℕ). KnowsNext app (asked (start + next_at shown.cursor.mark) n) (next_at shown.cursor.mark) front shown.cursor.next) number_is
+        (subst (λ (k : Mark). KnowsNext app (asked (start + next_at k) cutting.number) (next_at k) front shown.cursor.next) (sym rest.mark) rest.known);
   };
 }
   where
@@ -242,8 +263,11 @@ cutting_last app asked count start old front c ms shown cutting rest is = record
     all =
         ap (of_front app asked count start) (sym (append-nil front))
         ∙ cutting.rest_is asked [] (λ at n low. refl)
-        ∙ ap (λ (xs : List Placed). (base ++ ms) ++ xs) (ap (from_cursor app asked start c) (append-nil front) ∙ rest_quiet app asked start front c shown.cursor rest)
+        ∙ ap (λ (xs : List Placed). (base ++ ms) ++ xs) (ap (from_cursor app asked start cutting.number c) (append-nil front) ∙ rest_quiet app asked start cutting.number front c shown.cursor rest)
         ∙ append-nil (base ++ ms)
+
+    number_is : cutting.number ≡ answered count (of_front app asked count start front)
+    number_is = cutting.number_is ∙ ap (answered count) (sym all)
 
 -- ---- whatever the cursor
 
@@ -304,7 +328,7 @@ pub loop_asked : (app : App) (start : ℕ) (front : List ℕ) (heads : List Bool
     → IsLook app start front heads c cut
     → (asked : Bool) × IsCutFrom app asked start front c cut
 loop_asked app start front heads c cut sound each =
-    let some = some_asked app heads c.mark.answers (next_at c.mark) front c.next sound in (some.0, each some.0 some.1)
+    let some = some_asked app heads (answers_before c) (next_at c.mark) front c.next sound in (some.0, each some.0 (answers_before c) refl some.1)
 
 pub loop_more : (app : App) (start : ℕ) (front : List ℕ) (heads : List Bool) (first c : Cursor) (ms : List Placed) (m : Placed) (behind : Cursor)
     → IsLoop app start front heads first c ms
@@ -315,7 +339,7 @@ loop_more app start front heads first c ms m behind loop each =
     record {
       cutting = λ asked later count old new is agree asks from.
           let cutting : IsCutting app later count start old front c ms = loop.cutting asked later count old new is agree asks from in
-          let here = each (later (start + next_at c.mark) c.mark.answers) (asks_right app later count start old new front c ms heads is asks cutting) in
+          let here = each (later (start + next_at c.mark) cutting.number) cutting.number cutting.counts (asks_right app later count start old new front c ms heads is asks cutting) in
           cutting_more app later count start old new front c ms m behind is cutting here.0 here.1;
       whole = All-push (IsWhole app start front) ms m loop.whole (next_whole app some.0 start front c.mark m behind some.1.1);
       sound = next_sound app some.0 start front c.mark m behind some.1.1;
@@ -342,4 +366,4 @@ pub loop_cut : (app : App) (start : ℕ) (front : List ℕ) (heads : List Bool) 
 loop_cut app start front heads first c ms shown loop each same asked later count old new is agree asks from =
     let cutting : IsCutting app later count start old front c ms = loop.cutting asked later count old new is agree asks from in
     cutting_last app later count start old front c ms shown cutting
-    (each (later (start + next_at c.mark) c.mark.answers) (asks_right app later count start old new front c ms heads is asks cutting)) same
+    (each (later (start + next_at c.mark) cutting.number) cutting.number cutting.counts (asks_right app later count start old new front c ms heads is asks cutting)) same

@@ -10,20 +10,20 @@ use Rattle.stream_messages.specs.declared.placed.Placed.{Placed}
 use Rattle.stream_messages.specs.declared.cursor.Cursor.{Cursor}
 use Rattle.stream_messages.specs.declared.cutting.Shown.{Shown}
 use Rattle.stream_messages.specs.Messages.{Asked, of_front, AgreeBelow, answered, of_stretches, AllFrom}
-use Rattle.stream_messages.specs.Cursors.{begun, answers_before, IsBehind, IsBehindAll, AsksBetween, AsksFrom, IsCut, IsWhole, IsWholeInOne}
+use Rattle.stream_messages.specs.Cursors.{begun, answers_before, counted, CountsFor, IsBehind, IsBehindAll, AsksBetween, AsksFrom, IsCut, IsWhole, IsWholeInOne}
 use Rattle.stream_messages.proofs.MessageLemmas.{all_above}
 use Rattle.stream_messages.proofs.StretchLemmas.{of_stretches-append, answered-append}
 use Rattle.stream_messages.proofs.CursorLemmas.{laws_of_cursors}
 
 -- stretches that were cut, with what they showed and the cursor behind them
 pub record IsPassed (app : App) (heads : List Bool) (first c : Cursor) (ss : List Stretch) (ms : List Placed) : Type 0 where
-  pub messages : (asked : Asked) (from : ℕ) → AsksFrom from heads asked → AllFrom from ss → ms ≡ of_stretches app asked (answers_before first) ss
-  pub counts : (asked : Asked) (from : ℕ) → AsksFrom from heads asked → AllFrom from ss
-      → answers_before c ≡ answered (answers_before first) (of_stretches app asked (answers_before first) ss)
-  pub cursor : (asked : Asked) (from : ℕ) → AsksFrom from heads asked → AllFrom from ss → IsBehindAll app asked (answers_before first) first ss c
+  pub messages : (asked : Asked) (number from : ℕ) → CountsFor (answers_before first) number → AsksFrom from heads asked → AllFrom from ss → ms ≡ of_stretches app asked number ss
+  pub counts : (asked : Asked) (number from : ℕ) → CountsFor (answers_before first) number → AsksFrom from heads asked → AllFrom from ss
+      → CountsFor (answers_before c) (answered number (of_stretches app asked number ss))
+  pub cursor : (asked : Asked) (number from : ℕ) → CountsFor (answers_before first) number → AsksFrom from heads asked → AllFrom from ss → IsBehindAll app asked number first ss c
 
 pub passed_first : (app : App) (heads : List Bool) (c : Cursor) → IsPassed app heads c c [] []
-passed_first app heads c = record { messages = λ asked from asks all. refl; counts = λ asked from asks all. refl; cursor = λ asked from asks all. refl }
+passed_first app heads c = record { messages = λ asked number from counts asks all. refl; counts = λ asked number from counts asks all. counts; cursor = λ asked number from counts asks all. refl }
 
 -- a stretch that is cut by itself
 pub record IsOne (app : App) (asked : Asked) (count : ℕ) (s : Stretch) (shown : Shown) : Type 0 where
@@ -35,11 +35,11 @@ CutsAll app heads start c front shown =
     (asked later : Asked) (count : ℕ) (old new : List ℕ) → front ≡ old ++ new → AgreeBelow (start + length old) asked later
     → AsksBetween (start + length old) (start + length front) heads later → IsBehind app asked count start c old → IsCut app later count start old front shown
 
-pub one_cut : (app : App) (heads : List Bool) (count : ℕ) (s : Stretch) (shown : Shown) → CutsAll app heads s.start (begun count) s.bytes shown
+pub one_cut : (app : App) (heads : List Bool) (number count : ℕ) (s : Stretch) (shown : Shown) → CutsAll app heads s.start (begun number) s.bytes shown → CountsFor number count
     → (asked : Asked) (from : ℕ) → AsksFrom from heads asked → from ≤ s.start → IsOne app asked count s shown
-one_cut app heads count s shown cuts asked from asks low =
+one_cut app heads number count s shown cuts counts asked from asks low =
     let cut : IsCut app asked count s.start [] s.bytes shown =
-    cuts asked asked count [] s.bytes refl (λ at n below. refl) (λ at n above below. asks at n (omega (arith, low, above))) (laws_of_cursors.begins app asked count s.start) in
+    cuts asked asked count [] s.bytes refl (λ at n below. refl) (λ at n above below. asks at n (omega (arith, low, above))) (laws_of_cursors.begins app asked number count s.start counts) in
     record {
       messages = cut.messages ∙ all_above app asked (s.start + 0) count s.start 0 s.bytes (omega arith);
       cursor = cut.cursor;
@@ -62,75 +62,76 @@ behind_push app asked count first new (t ∷ next ∷ ss) s is =
 pub passed_more : (app : App) (heads : List Bool) (first c : Cursor) (ss : List Stretch) (ms : List Placed) (s : Stretch) (shown : Shown) → IsPassed app heads first c ss ms
     → CutsAll app heads s.start (begun (answers_before c)) s.bytes shown → IsPassed app heads first shown.cursor (ss ++ s ∷ []) (ms ++ shown.messages)
 passed_more app heads first c ss ms s shown passed cuts = record {
-  messages = λ asked from asks all.
+  messages = λ asked number from counts asks all.
       let split = from_before from ss s all in
-      let one = at_count asked from asks all in
-      let here : shown.messages ≡ of_stretches app asked (counted asked) (s ∷ []) = one.messages ∙ sym (append-nil (of_front app asked (counted asked) s.start s.bytes)) in
-      ap (λ (xs : List Placed). xs ++ shown.messages) (passed.messages asked from asks split.0)
-      ∙ ap (λ (xs : List Placed). of_stretches app asked (answers_before first) ss ++ xs) here
-      ∙ sym (of_stretches-append app asked (answers_before first) ss (s ∷ []));
-  counts = λ asked from asks all.
-      (at_count asked from asks all).cursor.counts
-      ∙ sym (
-      ap (answered (answers_before first)) (
-      of_stretches-append app asked (answers_before first) ss (s ∷ [])
-      ∙ ap (λ (xs : List Placed). of_stretches app asked (answers_before first) ss ++ xs) (append-nil (of_front app asked (counted asked) s.start s.bytes))
+      let one = at_count asked number from counts asks all in
+      let here : shown.messages ≡ of_stretches app asked (before asked number) (s ∷ []) = one.messages ∙ sym (append-nil (of_front app asked (before asked number) s.start s.bytes)) in
+      ap (λ (xs : List Placed). xs ++ shown.messages) (passed.messages asked number from counts asks split.0)
+      ∙ ap (λ (xs : List Placed). of_stretches app asked number ss ++ xs) here
+      ∙ sym (of_stretches-append app asked number ss (s ∷ []));
+  counts = λ asked number from counts asks all.
+      subst (CountsFor (answers_before shown.cursor)) (
+      sym (
+      ap (answered number) (
+      of_stretches-append app asked number ss (s ∷ [])
+      ∙ ap (λ (xs : List Placed). of_stretches app asked number ss ++ xs) (append-nil (of_front app asked (before asked number) s.start s.bytes))
       )
-      ∙ answered-append (answers_before first) (of_stretches app asked (answers_before first) ss) (of_front app asked (counted asked) s.start s.bytes)
-      );
-  cursor = λ asked from asks all. behind_push app asked (answers_before first) first shown.cursor ss s (at_count asked from asks all).cursor;
+      ∙ answered-append number (of_stretches app asked number ss) (of_front app asked (before asked number) s.start s.bytes)
+      )
+      ) (at_count asked number from counts asks all).cursor.counts;
+  cursor = λ asked number from counts asks all. behind_push app asked number first shown.cursor ss s (at_count asked number from counts asks all).cursor;
 }
   where
-    counted : Asked → ℕ
-    counted asked = answered (answers_before first) (of_stretches app asked (answers_before first) ss)
+    before : Asked → ℕ → ℕ
+    before asked number = answered number (of_stretches app asked number ss)
 
-    at_count : (asked : Asked) (from : ℕ) → AsksFrom from heads asked → AllFrom from (ss ++ s ∷ []) → IsOne app asked (counted asked) s shown
-    at_count asked from asks all =
+    at_count : (asked : Asked) (number from : ℕ) → CountsFor (answers_before first) number → AsksFrom from heads asked → AllFrom from (ss ++ s ∷ [])
+        → IsOne app asked (before asked number) s shown
+    at_count asked number from counts asks all =
         let split = from_before from ss s all in
-        subst (λ (n : ℕ). IsOne app asked n s shown) (passed.counts asked from asks split.0) (one_cut app heads (answers_before c) s shown cuts asked from asks split.1)
+        one_cut app heads (answers_before c) (before asked number) s shown cuts (passed.counts asked number from counts asks split.0) asked from asks split.1
 
 -- ---- the stretch behind them
 
 -- the answers behind stretches that were cut
-counts_behind : (app : App) (asked : Asked) (count : ℕ) (first new : Cursor) (ss : List Stretch) → answers_before first ≡ count → IsBehindAll app asked count first ss new
-    → answers_before new ≡ answered count (of_stretches app asked count ss)
-counts_behind app asked count first new [] is same = ap answers_before same ∙ is
-counts_behind app asked count first new (s ∷ []) is behind = behind.counts ∙ ap (answered count) (sym (append-nil (of_front app asked count s.start s.bytes)))
-counts_behind app asked count first new (s ∷ next ∷ ss) is behind =
-    let ms : List Placed = of_front app asked count s.start s.bytes in
-    counts_from app asked (answered count ms) first new next ss behind
-    ∙ sym (answered-append count ms (of_stretches app asked (answered count ms) (next ∷ ss)))
+counts_behind : (app : App) (asked : Asked) (count : ℕ) (first new : Cursor) (ss : List Stretch) → CountsFor (answers_before first) count → IsBehindAll app asked count first ss new
+    → CountsFor (answers_before new) (answered count (of_stretches app asked count ss))
+counts_behind app asked count first new [] counts same = ap (λ (c : Cursor). counted (answers_before c)) same ∙ counts
+counts_behind app asked count first new (s ∷ ss) counts behind = counts_from app asked count first new s ss behind
   where
     counts_from : (app : App) (asked : Asked) (count : ℕ) (first new : Cursor) (s : Stretch) (ss : List Stretch) → IsBehindAll app asked count first (s ∷ ss) new
-        → answers_before new ≡ answered count (of_stretches app asked count (s ∷ ss))
-    counts_from app asked count first new s [] behind = behind.counts ∙ ap (answered count) (sym (append-nil (of_front app asked count s.start s.bytes)))
+        → CountsFor (answers_before new) (answered count (of_stretches app asked count (s ∷ ss)))
+    counts_from app asked count first new s [] behind =
+        subst (CountsFor (answers_before new)) (ap (answered count) (sym (append-nil (of_front app asked count s.start s.bytes)))) behind.counts
     counts_from app asked count first new s (next ∷ ss) behind =
         let ms : List Placed = of_front app asked count s.start s.bytes in
-        counts_from app asked (answered count ms) first new next ss behind
-        ∙ sym (answered-append count ms (of_stretches app asked (answered count ms) (next ∷ ss)))
+        subst (CountsFor (answers_before new)) (sym (answered-append count ms (of_stretches app asked (answered count ms) (next ∷ ss))))
+        (counts_from app asked (answered count ms) first new next ss behind)
 
 abbrev pub CutsStretches : App → List Bool → Cursor → List Stretch → Shown → Type 0
-CutsStretches app heads first ss shown = (asked : Asked) (from : ℕ) → AsksFrom from heads asked → AllFrom from ss → shown.messages ≡ of_stretches app asked (answers_before first) ss
+CutsStretches app heads first ss shown = (asked : Asked) (number from : ℕ) → CountsFor (answers_before first) number → AsksFrom from heads asked → AllFrom from ss
+    → shown.messages ≡ of_stretches app asked number ss
 
 abbrev pub BehindStretches : App → List Bool → Cursor → List Stretch → Shown → Type 0
-BehindStretches app heads first ss shown = (asked : Asked) (from : ℕ) → AsksFrom from heads asked → AllFrom from ss → IsBehindAll app asked (answers_before first) first ss shown.cursor
+BehindStretches app heads first ss shown = (asked : Asked) (number from : ℕ) → CountsFor (answers_before first) number → AsksFrom from heads asked → AllFrom from ss
+    → IsBehindAll app asked number first ss shown.cursor
 
 pub passed_by : (app : App) (heads : List Bool) (first : Cursor) (ss : List Stretch) (shown : Shown) → CutsStretches app heads first ss shown → BehindStretches app heads first ss shown
     → IsPassed app heads first shown.cursor ss shown.messages
 passed_by app heads first ss shown cuts behind = record {
   messages = cuts;
-  counts = λ asked from asks all. counts_behind app asked (answers_before first) first shown.cursor ss refl (behind asked from asks all);
+  counts = λ asked number from counts asks all. counts_behind app asked number first shown.cursor ss counts (behind asked number from counts asks all);
   cursor = behind;
 }
 
 pub newest_behind : (app : App) (heads : List Bool) (first : Cursor) (ss : List Stretch) (before : Shown) (s : Stretch) (shown : Shown) → CutsStretches app heads first ss before
-    → BehindStretches app heads first ss before → CutsAll app heads s.start (begun (answers_before before.cursor)) s.bytes shown → (asked : Asked) (from : ℕ) → AsksFrom from heads asked → AllFrom from (ss ++ s ∷ [])
-    → IsBehind app asked (answered (answers_before first) (of_stretches app asked (answers_before first) ss)) s.start shown.cursor s.bytes
-newest_behind app heads first ss before s shown cuts behind all asked from asks laid =
+    → BehindStretches app heads first ss before → CutsAll app heads s.start (begun (answers_before before.cursor)) s.bytes shown
+    → (asked : Asked) (number from : ℕ) → CountsFor (answers_before first) number → AsksFrom from heads asked → AllFrom from (ss ++ s ∷ [])
+    → IsBehind app asked (answered number (of_stretches app asked number ss)) s.start shown.cursor s.bytes
+newest_behind app heads first ss before s shown cuts behind all asked number from counts asks laid =
     let split = from_before from ss s laid in
-    let count : answers_before before.cursor ≡ answered (answers_before first) (of_stretches app asked (answers_before first) ss) =
-    counts_behind app asked (answers_before first) first before.cursor ss refl (behind asked from asks split.0) in
-    subst (λ (n : ℕ). IsBehind app asked n s.start shown.cursor s.bytes) count (one_cut app heads (answers_before before.cursor) s shown all asked from asks split.1).cursor
+    (one_cut app heads (answers_before before.cursor) (answered number (of_stretches app asked number ss)) s shown all
+    (counts_behind app asked number first before.cursor ss counts (behind asked number from counts asks split.0)) asked from asks split.1).cursor
 
 -- ---- messages that lie in one of stretches
 

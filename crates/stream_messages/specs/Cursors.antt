@@ -1,5 +1,5 @@
 -- A cursor behind the last whole message of a stretch: what the messages behind it are, and what is known of the next one.
-use Rattle.std.specs.Prelude.{◌≡◌, ◌<◌, ◌≤◌, ℕ, ◌+◌, ◌-◌, if◌then◌else◌, Bool, true, false, List, [], ◌∷◌, ◌++◌, length, drop, get_or, slice_get, Option, Some, None}
+use Rattle.std.specs.Prelude.{◌≡◌, ◌<◌, ◌≤◌, ℕ, ◌+◌, ◌-◌, ◌^◌, min, if◌then◌else◌, Bool, true, false, List, [], ◌∷◌, ◌++◌, length, drop, get_or, slice_get, Option, Some, None}
 use Rattle.std.specs.Option.{option_map}
 use Rattle.pk_base.specs.declared.stretch.Stretch.{Stretch}
 use Rattle.http_frame.specs.declared.shape.Then.{Then}
@@ -65,12 +65,20 @@ abbrev pub next_behind : Then → Next
 next_behind (Follows count) = Awaited
 next_behind Opaque = Never
 
+-- a number as it is counted: at its last value a count stands still
+abbrev pub counted : ℕ → ℕ
+counted number = min number (2 ^ 64 - 1)
+
+-- a count stands for a number: one that has reached its last value for each from there on
+abbrev pub CountsFor : ℕ → ℕ → Type 0
+CountsFor count number = counted count ≡ counted number
+
 -- behind the message that begins there
 abbrev pub mark_behind : Mark → Told → Mark
 mark_behind mark told = record {
   end = next_at mark + end_of told;
   skip = passed (then_of told);
-  answers = mark.answers + answers told;
+  answers = counted (mark.answers + answers told);
 }
 
 abbrev pub cursor_behind : Mark → Told → Cursor
@@ -89,10 +97,10 @@ goes Never = false
 goes Awaited = true
 goes (Begun started) = true
 
--- the messages behind a cursor of a stretch that begins at a position
-abbrev pub from_cursor : App → Asked → ℕ → Cursor → List ℕ → List Placed
-from_cursor app asked start c front =
-    if goes c.next then of_front app asked c.mark.answers (start + next_at c.mark)
+-- the messages behind a cursor of a stretch that begins at a position, behind so many answers
+abbrev pub from_cursor : App → Asked → ℕ → ℕ → Cursor → List ℕ → List Placed
+from_cursor app asked start number c front =
+    if goes c.next then of_front app asked number (start + next_at c.mark)
     (drop (next_at c.mark) front) else []
 
 -- either no byte of the next message is there, or what is known of it says it
@@ -106,9 +114,11 @@ pub record IsBehind (app : App) (asked : Asked) (count start : ℕ) (c : Cursor)
     (front : List ℕ) : Type 0 where
   pub behind : (later : Asked) (more : List ℕ) → AgreeBelow (start + length front) asked later
       → of_front app later count start (front ++ more)
-      ≡ of_front app asked count start front ++ from_cursor app later start c (front ++ more)
-  pub counts : answers_before c ≡ answered count (of_front app asked count start front)
-  pub known : KnowsNext app (asked (start + next_at c.mark) c.mark.answers)
+      ≡ of_front app asked count start front ++ from_cursor app later start
+      (answered count (of_front app asked count start front)) c (front ++ more)
+  pub counts : CountsFor (answers_before c) (answered count (of_front app asked count start front))
+  pub known : KnowsNext app
+      (asked (start + next_at c.mark) (answered count (of_front app asked count start front)))
       (next_at c.mark) front c.next
 
 -- what a cursor knows of a message that has begun is right
@@ -160,8 +170,8 @@ with_last ss start front = ss ++ record { start = start; bytes = front } ∷ []
 -- how a cursor is kept: it begins at a stretch, serves whatever is asked further on, and what it knows is right, also of more
 -- bytes
 pub record CursorLaws : Type 0 where
-  pub begins : (app : App) (asked : Asked) (count start : ℕ)
-      → IsBehind app asked count start (begun count) []
+  pub begins : (app : App) (asked : Asked) (number count start : ℕ) → CountsFor number count
+      → IsBehind app asked count start (begun number) []
   pub same : (app : App) (asked later : Asked) (count start : ℕ) (c : Cursor) (front : List ℕ)
       → AgreeBelow (start + length front) asked later
       → IsBehind app asked count start c front → IsBehind app later count start c front
@@ -201,8 +211,9 @@ IsCutFrom app asked start front old (Rest new) = IsRest app asked front old new
 -- one look for a message is right for the request that it is asked of
 abbrev pub IsLook : App → ℕ → List ℕ → List Bool → Cursor → Cut → Type 0
 IsLook app start front heads old cut =
-    (asked : Bool) → IsAskedOf app asked heads old.mark.answers old.next
-    (drop (next_at old.mark) front) → IsCutFrom app asked start front old cut
+    (asked : Bool) (number : ℕ) → CountsFor (answers_before old) number
+    → IsAskedOf app asked heads number old.next (drop (next_at old.mark) front)
+    → IsCutFrom app asked start front old cut
 
 -- the same of a message that has begun
 pub record IsPartRest (app : App) (asked : Bool) (front : List ℕ) (mark : Mark)

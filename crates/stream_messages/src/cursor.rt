@@ -1,4 +1,4 @@
-ghost use Rattle.std.specs.Prelude.{◌≡◌, ◌+◌, ◌^◌, ◌<◌, if◌then◌else◌, nat_lt, Some, None, IfOk};
+ghost use Rattle.std.specs.Prelude.{◌≡◌, ◌+◌, ◌^◌, ◌<◌, if◌then◌else◌, nat_lt, Some, None};
 ghost use Rattle.stream_messages.specs.Tellings.{end_of, passed};
 ghost use Rattle.stream_messages.specs.Cursors.{answers_before, begun, mark_behind, next_at, next_behind};
 ghost use Rattle.stream_messages.specs.declared.cursor.Mark.{Mark as MarkValue};
@@ -6,7 +6,6 @@ ghost use Rattle.stream_messages.specs.declared.cursor.Mark.{Mark as MarkValue};
 use crate::part::Part;
 use crate::told::Told;
 use http_frame::Then;
-use pk_base::NoMemory;
 
 /// Behind the last whole message of a stretch of a stream's bytes, with what is known of the next one.
 #[derive(Drop)]
@@ -22,7 +21,7 @@ pub(crate) struct Mark {
     pub end: usize,
     /// The bytes behind it that belong to no message.
     pub skip: u64,
-    /// The requests that were answered up to there, in earlier stretches too.
+    /// The requests that were answered up to there, in earlier stretches too. At its last value the count stands still.
     pub answers: usize,
 }
 
@@ -88,17 +87,17 @@ impl Mark {
     }
 }
 
-/// Behind a message that begins at a place, and so many answers. No stream has more answers than can be counted.
-pub(crate) fn mark_behind(place: usize, answers: usize, told: &Told) -> Result<Mark, NoMemory>
+/// Behind a message that begins at a place, and so many answers.
+pub(crate) fn mark_behind(place: usize, answers: usize, told: &Told) -> Mark
     requires { place + end_of told.now < 2 ^ 64 }
-    ensures { IfOk result (λ mark. (old : MarkValue) → next_at old ≡ place → old.answers ≡ answers
-        → mark ≡ mark_behind old told.now) }
+    ensures { (old : MarkValue) → next_at old ≡ place → old.answers ≡ answers
+        → result ≡ mark_behind old told.now }
 {
-    Ok(Mark {
+    Mark {
         end: place + told.end(),
         skip: passed(told.then()),
-        answers: answers.checked_add(told.answers()).ok_or(NoMemory)?,
-    })
+        answers: answers.saturating_add(told.answers()),
+    }
 }
 
 /// The bytes to be passed over.

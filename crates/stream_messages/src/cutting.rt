@@ -1,6 +1,6 @@
 ghost use Rattle.std.specs.Prelude.{◌≡◌, ◌+◌, ◌++◌, ◌^◌, ◌<◌, ◌≤◌, ℕ, Bool, false, true, List, All, length, drop, get_or, IfOk, IfSome, IfNone};
 ghost use Rattle.stream_messages.specs.Messages.{Asked, AgreeBelow};
-ghost use Rattle.stream_messages.specs.Cursors.{AsksBetween, IsAskedOf, IsBehind, IsCut, IsKnown, IsLook, IsPartCut, IsSound, IsSoundNext, IsWhole, goes, next_at};
+ghost use Rattle.stream_messages.specs.Cursors.{AsksBetween, CountsFor, IsAskedOf, IsBehind, IsCut, IsKnown, IsLook, IsPartCut, IsSound, IsSoundNext, IsWhole, goes, next_at};
 ghost use Rattle.stream_messages.specs.declared.told.App.{App as AppValue};
 
 use crate::cursor::{Cursor, Mark, Next, Started, mark_behind, next_behind};
@@ -95,7 +95,9 @@ fn cut_one(
 fn started(app: App, heads: &[bool], answers: usize, next: Next) -> Option<Started>
     ensures none { IfNone result (goes next ≡ false) }
     ensures some { IfSome result (λ started. goes next ≡ true) }
-    ensures asked { IfSome result (λ started. (asked : Bool) (bytes : List ℕ) → 0 < length bytes → IsAskedOf app asked heads.now answers next bytes → started.asked ≡ asked) }
+    ensures asked { IfSome result (λ started. (asked : Bool) (number : ℕ) (bytes : List ℕ) → 0 < length bytes
+        → CountsFor answers number → IsAskedOf app asked heads.now number next bytes
+        → started.asked ≡ asked) }
     ensures known { IfSome result (λ started. (at : ℕ) (front : List ℕ) → IsSoundNext app at front next → IsKnown app started.asked started.part (drop at front)) }
 {
     match next {
@@ -109,11 +111,11 @@ fn started(app: App, heads: &[bool], answers: usize, next: Next) -> Option<Start
     }
 }
 
-/// Whether a request is known that is HEAD.
-fn is_head(heads: &[bool], number: usize) -> bool
-    ensures { result ≡ get_or heads.now number false }
+/// Whether the request behind so many others is known, and is HEAD. As no list is so long as the last count, that one tells none.
+fn is_head(heads: &[bool], answers: usize) -> bool
+    ensures { (number : ℕ) → CountsFor answers number → result ≡ get_or heads.now number false }
 {
-    number < heads.len() && heads[number]
+    answers < heads.len() && heads[answers]
 }
 
 /// Goes on with a message that begins at a place.
@@ -138,7 +140,7 @@ fn cut_part(
         })),
         Going::Message(told) => {
             let cursor = Cursor {
-                mark: mark_behind(place, mark.answers, &told)?,
+                mark: mark_behind(place, mark.answers, &told),
                 next: next_behind(told.then()),
             };
             let at = start + place as u64;

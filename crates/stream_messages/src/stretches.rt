@@ -1,6 +1,6 @@
 ghost use Rattle.std.specs.Prelude.{◌≡◌, ◌+◌, ◌^◌, ◌<◌, ℕ, All, length, IfOk};
 ghost use Rattle.stream_messages.specs.Messages.{Asked, AllFrom, answered, of_stretches};
-ghost use Rattle.stream_messages.specs.Cursors.{AsksFrom, IsBehind, IsBehindAll, IsSound, IsWholeInOne, answers_before, with_last};
+ghost use Rattle.stream_messages.specs.Cursors.{AsksFrom, CountsFor, IsBehind, IsBehindAll, IsSound, IsWholeInOne, answers_before, with_last};
 
 use crate::cursor::Cursor;
 use crate::cutting::{Shown, cut_messages};
@@ -19,12 +19,14 @@ pub fn cut_stretches(
     heads: &[bool],
 ) -> Result<Shown, NoMemory>
     requires { All (λ s. s.start + length s.bytes < 2 ^ 64) stretches.now }
-    ensures messages { IfOk result (λ shown. (asked : Asked) (from : ℕ)
+    ensures messages { IfOk result (λ shown. (asked : Asked) (number from : ℕ)
+        → CountsFor (answers_before cursor) number
         → AsksFrom from heads.now asked → AllFrom from stretches.now
-        → shown.messages ≡ of_stretches app asked (answers_before cursor) stretches.now) }
-    ensures cursor { IfOk result (λ shown. (asked : Asked) (from : ℕ)
+        → shown.messages ≡ of_stretches app asked number stretches.now) }
+    ensures cursor { IfOk result (λ shown. (asked : Asked) (number from : ℕ)
+        → CountsFor (answers_before cursor) number
         → AsksFrom from heads.now asked → AllFrom from stretches.now
-        → IsBehindAll app asked (answers_before cursor) cursor stretches.now shown.cursor) }
+        → IsBehindAll app asked number cursor stretches.now shown.cursor) }
     ensures whole { IfOk result (λ shown. All (IsWholeInOne app stretches.now) shown.messages) }
 {
     let mut messages = PlacedList::new(alloc);
@@ -56,10 +58,15 @@ pub fn cut_newest(
 ) -> Result<Shown, NoMemory>
     requires passed { All (λ s. s.start + length s.bytes < 2 ^ 64) passed.now }
     requires room { start + length front.now < 2 ^ 64 }
-    ensures messages { IfOk result (λ shown. (asked : Asked) (from : ℕ) → AsksFrom from heads.now asked → AllFrom from (with_last passed.now start front.now)
-        → shown.messages ≡ of_stretches app asked (answers_before cursor) (with_last passed.now start front.now)) }
-    ensures cursor { IfOk result (λ shown. (asked : Asked) (from : ℕ) → AsksFrom from heads.now asked → AllFrom from (with_last passed.now start front.now)
-        → IsBehind app asked (answered (answers_before cursor) (of_stretches app asked (answers_before cursor) passed.now)) start shown.cursor front.now) }
+    ensures messages { IfOk result (λ shown. (asked : Asked) (number from : ℕ)
+        → CountsFor (answers_before cursor) number
+        → AsksFrom from heads.now asked → AllFrom from (with_last passed.now start front.now)
+        → shown.messages ≡ of_stretches app asked number (with_last passed.now start front.now)) }
+    ensures cursor { IfOk result (λ shown. (asked : Asked) (number from : ℕ)
+        → CountsFor (answers_before cursor) number
+        → AsksFrom from heads.now asked → AllFrom from (with_last passed.now start front.now)
+        → IsBehind app asked (answered number (of_stretches app asked number passed.now))
+        start shown.cursor front.now) }
     ensures whole { IfOk result (λ shown. All (IsWholeInOne app (with_last passed.now start front.now)) shown.messages) }
     ensures sound { IfOk result (λ shown. IsSound app shown.cursor front.now) }
 {

@@ -14,7 +14,7 @@ use Rattle.stream_messages.specs.declared.placed.Placed.{Placed}
 use Rattle.stream_messages.specs.declared.cursor.Cursor.{Cursor}
 use Rattle.stream_messages.specs.declared.cutting.Shown.{Shown}
 use Rattle.stream_messages.specs.Messages.{Asked, AllBefore, AllFrom, above, answered, of_front, of_stretches}
-use Rattle.stream_messages.specs.Cursors.{AsksFrom, IsBehind, IsCut, IsWhole, IsWholeInOne, answers_before, with_last}
+use Rattle.stream_messages.specs.Cursors.{AsksFrom, CountsFor, IsBehind, IsCut, IsWhole, IsWholeInOne, answers_before, with_last}
 use Rattle.stream_messages.proofs.PassingLemmas.{CutsAll, whole_in}
 use Rattle.tcp_streams.proofs.PartLemmas.{last_there}
 use Rattle.stream_messages.proofs.StretchLemmas.{laws_of_new, of_stretches-append, answered-append}
@@ -152,40 +152,48 @@ own_passed w s gap gaps way is =
     }
 
 -- the answers before the last stretch, and in it
-counted : (app : App) (asked : Asked) (w : WayState) (cursor : Cursor) → IsBehindWay app asked w cursor → answered 0 (of_stretches app asked 0 (stretches w)) ≡ answers_before cursor
-counted app asked w cursor behind =
+counts_all : (app : App) (asked : Asked) (w : WayState) (cursor : Cursor) → IsBehindWay app asked w cursor → CountsFor (answers_before cursor) (answered 0 (of_stretches app asked 0 (stretches w)))
+counts_all app asked w cursor behind =
     let old : Stretch = record { start = w.start; bytes = w.front } in
     let count : ℕ = answered 0 (of_stretches app asked 0 w.earlier) in
+    let is : answered 0 (of_stretches app asked 0 (stretches w)) ≡ answered count (of_front app asked count w.start w.front) =
     ap (answered 0) (of_stretches-append app asked 0 w.earlier (old ∷ []))
     ∙ answered-append 0 (of_stretches app asked 0 w.earlier) (of_stretches app asked count (old ∷ []))
-    ∙ ap (answered count) (append-nil (of_front app asked count w.start w.front))
-    ∙ sym behind.counts
+    ∙ ap (answered count) (append-nil (of_front app asked count w.start w.front)) in
+    subst (CountsFor (answers_before cursor)) (sym is) behind.counts
+
+abbrev pub CutsNewest : App → List Bool → List Stretch → ℕ → List ℕ → Cursor → Shown → Type 0
+CutsNewest app heads passed start front cursor shown =
+    (asked : Asked) (number from : ℕ) → CountsFor (answers_before cursor) number → AsksFrom from heads asked → AllFrom from (with_last passed start front)
+    → shown.messages ≡ of_stretches app asked number (with_last passed start front)
+
+abbrev pub BehindNewest : App → List Bool → List Stretch → ℕ → List ℕ → Cursor → Shown → Type 0
+BehindNewest app heads passed start front cursor shown =
+    (asked : Asked) (number from : ℕ) → CountsFor (answers_before cursor) number → AsksFrom from heads asked → AllFrom from (with_last passed start front)
+    → IsBehind app asked (answered number (of_stretches app asked number passed)) start shown.cursor front
 
 pub cut_behind : (app : App) (heads : List Bool) (asked : Asked) (w v : WayState) (passed : List Stretch) (cursor : Cursor) (shown : Shown) → IsWay w → IsNewest w v passed
-    → ((asked : Asked) (from : ℕ) → AsksFrom from heads asked → AllFrom from (with_last passed v.start v.front) → shown.messages ≡ of_stretches app asked (answers_before cursor) (with_last passed v.start v.front))
-    → ((asked : Asked) (from : ℕ) → AsksFrom from heads asked → AllFrom from (with_last passed v.start v.front)
-    → IsBehind app asked (answered (answers_before cursor) (of_stretches app asked (answers_before cursor) passed)) v.start shown.cursor v.front)
+    → CutsNewest app heads passed v.start v.front cursor shown → BehindNewest app heads passed v.start v.front cursor shown
     → AsksFrom (end_of w) heads asked → IsBehindWay app asked w cursor → CutsWay app asked (end_of w) v shown
 cut_behind app heads asked w v passed cursor shown way newest messages_are cursor_is asks behind =
     let old : Stretch = record { start = w.start; bytes = w.front } in
     let last : Stretch = record { start = v.start; bytes = v.front } in
-    let count : answered 0 (of_stretches app asked 0 (stretches w)) ≡ answers_before cursor = counted app asked w cursor behind in
+    let count : ℕ = answered 0 (of_stretches app asked 0 (stretches w)) in
+    let counts : CountsFor (answers_before cursor) count = counts_all app asked w cursor behind in
     let split : v.earlier ≡ stretches w ++ passed = newest.earlier ∙ sym (append_assoc w.earlier (old ∷ []) passed) in
     let before : AllBefore (end_of w) (stretches w) =
     before_push (end_of w) w.earlier old (all_before (end_of w) 0 w.earlier w.start (omega arith) way.apart) (omega arith) in
     record {
       messages =
-          messages_are asked (end_of w) asks newest.from
-          ∙ ap (λ (n : ℕ). of_stretches app asked n (with_last passed v.start v.front)) (sym count)
+          messages_are asked count (end_of w) counts asks newest.from
           ∙ sym (laws_of_new.begun app asked 0 (end_of w) (stretches w) (with_last passed v.start v.front) before newest.from)
           ∙ ap (λ (xs : List Stretch). above (end_of w) (of_stretches app asked 0 xs)) (sym (append_assoc (stretches w) passed (last ∷ [])))
           ∙ ap (λ (xs : List Stretch). above (end_of w) (of_stretches app asked 0 (xs ++ last ∷ []))) (sym split);
       cursor = subst (λ (n : ℕ). IsBehind app asked n v.start shown.cursor v.front) (sym (
           ap (λ (xs : List Stretch). answered 0 (of_stretches app asked 0 xs)) split
           ∙ ap (answered 0) (of_stretches-append app asked 0 (stretches w) passed)
-          ∙ answered-append 0 (of_stretches app asked 0 (stretches w)) (of_stretches app asked (answered 0 (of_stretches app asked 0 (stretches w))) passed)
-          ∙ ap (λ (n : ℕ). answered n (of_stretches app asked n passed)) count
-          )) (cursor_is asked (end_of w) asks newest.from);
+          ∙ answered-append 0 (of_stretches app asked 0 (stretches w)) (of_stretches app asked count passed)
+          )) (cursor_is asked count (end_of w) counts asks newest.from);
     }
 
 -- ---- by the lent stretches
@@ -229,14 +237,6 @@ grown_case app heads asked w v s start front lost cursor shown starts is none cu
     subst (λ (b : List ℕ). CutsAll app heads v.start cursor b shown) is (subst (λ (n : ℕ). CutsAll app heads n cursor front shown) starts cuts) in
     let own : CutsAll app heads (own_step w s).start cursor (own_step w s).front shown = subst (λ (u : WayState). CutsAll app heads u.start cursor u.front shown) step here in
     cut_grown app heads asked w (own_step w s) cursor shown way (own_grown w s way (sym lost_is ∙ nil_by lost none)) own asks behind
-
-abbrev pub CutsNewest : App → List Bool → List Stretch → ℕ → List ℕ → Cursor → Shown → Type 0
-CutsNewest app heads passed start front cursor shown = (asked : Asked) (from : ℕ) → AsksFrom from heads asked → AllFrom from (with_last passed start front)
-    → shown.messages ≡ of_stretches app asked (answers_before cursor) (with_last passed start front)
-
-abbrev pub BehindNewest : App → List Bool → List Stretch → ℕ → List ℕ → Cursor → Shown → Type 0
-BehindNewest app heads passed start front cursor shown = (asked : Asked) (from : ℕ) → AsksFrom from heads asked → AllFrom from (with_last passed start front)
-    → IsBehind app asked (answered (answers_before cursor) (of_stretches app asked (answers_before cursor) passed)) start shown.cursor front
 
 record BothNewest (app : App) (heads : List Bool) (passed : List Stretch) (start : ℕ) (front : List ℕ) (cursor : Cursor) (shown : Shown) : Type 0 where
   cuts : CutsNewest app heads passed start front cursor shown

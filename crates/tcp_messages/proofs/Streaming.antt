@@ -135,7 +135,7 @@ app_is app_of app s ls old new r of_ends is reads opening =
 
 begun_reads : (app : App) (reader : Reader) (side : Bool) → IsBegun reader → ReadsWay app [] side nothing reader
 begun_reads app reader side is = record {
-  cursor = subst (λ (c : Cursor). IsBehind app (asked_in side []) 0 0 c []) (sym is.cursor) (laws_of_cursors.begins app (asked_in side []) 0 0);
+  cursor = subst (λ (c : Cursor). IsBehind app (asked_in side []) 0 0 c []) (sym is.cursor) (laws_of_cursors.begins app (asked_in side []) 0 0 0 refl);
   heads = is.heads;
 }
 

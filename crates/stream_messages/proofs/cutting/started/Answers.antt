@@ -6,10 +6,10 @@ use Rattle.stream_messages.proofs.CursorLemmas.{begun_known}
 use Rattle.stream_messages.proofs.cutting.started.Goals as goal
 
 pub returns-in-Awaited-clause-asked : goal.returns-in-Awaited-clause-asked
-returns-in-Awaited-clause-asked c asked bytes some is =
-    let head : 0 < length bytes → asked ≡ get_or c.args.heads.now c.args.answers false =
-    subst (λ (next : Next). IsAskedOf c.args.app asked c.args.heads.now c.args.answers next bytes) c.in-Awaited.is is in
-    c.is_head-asked.ensures ∙ sym (head some)
+returns-in-Awaited-clause-asked c asked number bytes some counts is =
+    let head : 0 < length bytes → asked ≡ get_or c.args.heads.now number false =
+    subst (λ (next : Next). IsAskedOf c.args.app asked c.args.heads.now number next bytes) c.in-Awaited.is is in
+    c.is_head-asked.ensures number counts ∙ sym (head some)
 
 pub returns-in-Awaited-clause-known : goal.returns-in-Awaited-clause-known
 returns-in-Awaited-clause-known c at front sound =

@@ -7,11 +7,11 @@ use Rattle.stream_messages.proofs.PassingLemmas.{CutsAll, passed_by, passed_more
 use Rattle.stream_messages.proofs.stretches.cut_newest.Goals as goal
 
 pub returns-clause-messages : goal.returns-clause-messages
-returns-clause-messages c asked from asks all =
+returns-clause-messages c asked number from counts asks all =
     let last : Stretch = record { start = c.args.start; bytes = c.args.front.now } in
     c.in_ok-append.ensures
     ∙ (passed_more c.args.app c.args.heads.now c.args.cursor c.in_ok-before.before.cursor c.args.passed.now c.in_ok-before.before.messages last c.in_ok-last.last
-    (passed_by c.args.app c.args.heads.now c.args.cursor c.args.passed.now c.in_ok-before.before c.in_ok-before.ensures.messages c.in_ok-before.ensures.cursor) (subst (λ (d : Cursor). CutsAll c.args.app c.args.heads.now c.args.start d c.args.front.now c.in_ok-last.last) c.anew.ensures c.in_ok-last.ensures.cut)).messages asked from asks all
+    (passed_by c.args.app c.args.heads.now c.args.cursor c.args.passed.now c.in_ok-before.before c.in_ok-before.ensures.messages c.in_ok-before.ensures.cursor) (subst (λ (d : Cursor). CutsAll c.args.app c.args.heads.now c.args.start d c.args.front.now c.in_ok-last.last) c.anew.ensures c.in_ok-last.ensures.cut)).messages asked number from counts asks all
 
 pub returns-clause-cursor : goal.returns-clause-cursor
 returns-clause-cursor c =
