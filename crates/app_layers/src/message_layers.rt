@@ -16,9 +16,6 @@ use pk_tree::{TreeBuilder, Value};
 use stream_messages::{App as StreamApp, Told};
 use tcp_messages::{Met, ShownMessage, Source};
 
-/// The messages that a tree has room for. No frame shows so many: each has bytes of its own, and no capture has so many bytes.
-const MOST_MESSAGES: usize = 1 << 28;
-
 /// Shows what a segment carries: the messages that its frame shows, or its bytes as data where its stream has no application.
 #[tactic(auto, unfolding(crate::specs::MessageLayers::carried_over))]
 pub fn add_carried(
@@ -95,12 +92,10 @@ pub(crate) fn put_messages(
     requires inside { IsInside tree.old.buffers span }
     requires layers { length tree.old.layers < 2 ^ 31 }
     requires buffers { length tree.old.buffers < 2 ^ 31 }
+    requires few { length messages.now ≤ 2 ^ 25 }
     requires whole { All (IsWholeIn (bytes_of tree.old.buffers span)) messages.now }
     ensures tree { OnOk result (tree.new ≡ messages_over cut span tree.old messages.now) }
 {
-    if messages.len() > MOST_MESSAGES {
-        return Err(NoMemory);
-    }
     for message in messages {
         put_message(message, cut, span, tree)?;
     }

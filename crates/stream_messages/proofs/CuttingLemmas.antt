@@ -1,6 +1,6 @@
 -- The messages that are cut one behind the other, and the cursor behind them.
 use Rattle.std.proofs.Common.{◌≡◌, ℕ, ◌+◌, ◌-◌, ◌<◌, ◌≤◌, inl, inr, Bool, true, false, List, [], ◌∷◌, ◌++◌, length, drop, get_or, refl, sym, ap, subst, ◌∙◌, arith, append_assoc, length-append, length-drop, Some, None}
-use Rattle.std.specs.Prelude.{if◌then◌else◌, nat_lt, All}
+use Rattle.std.specs.Prelude.{◌⊎◌, if◌then◌else◌, nat_lt, All}
 use Rattle.std.proofs.lemmas.Bool.{cond-true, lt-ltb, ltb-true, cases_lt}
 use Rattle.std.proofs.lemmas.List.Elements.{All-push}
 use Rattle.std.proofs.lemmas.Option.{cond_some, none-some}
@@ -19,7 +19,7 @@ use Rattle.stream_messages.specs.declared.cutting.Cut.TheVariants.{Whole, Rest}
 use Rattle.stream_messages.specs.declared.cutting.Shown.{Shown}
 use Rattle.stream_messages.specs.Tellings.{first_of, end_of, then_of, passed, answers}
 use Rattle.stream_messages.specs.Messages.{Asked, follow, messages, of_front, end_at, above, AgreeBelow, answered}
-use Rattle.stream_messages.specs.Cursors.{answers_before, counted, CountsFor, next_at, next_behind, mark_behind, cursor_behind, goes, from_cursor, KnowsNext, IsBehind, IsSoundNext, IsSound, AsksBetween, IsCut, IsWhole, IsAskedOf, IsNext, IsRest, IsCutFrom, IsLook}
+use Rattle.stream_messages.specs.Cursors.{answers_before, counted, CountsFor, next_at, next_behind, mark_behind, cursor_behind, goes, from_cursor, KnowsNext, IsBehind, IsSoundNext, IsSound, IsQuietNext, IsQuiet, AddsFew, AsksBetween, IsCut, IsWhole, IsAskedOf, IsNext, IsRest, IsCutFrom, IsLook}
 use Rattle.stream_messages.proofs.FirstLemmas.{first_some, first_within, first_stays, first_shrinks}
 use Rattle.stream_messages.proofs.MessageLemmas.{all_below, steps, none_left, no_messages}
 use Rattle.stream_messages.proofs.StretchLemmas.{above-append, answered-append}
@@ -308,27 +308,80 @@ pub rest_sound : (app : App) (asked : Bool) (front : List ℕ) (old new : Cursor
 rest_sound app asked front old new rest =
     subst (λ (k : Mark). IsSoundNext app (next_at k) front new.next) (sym rest.mark) (sound_now app asked (next_at old.mark) front new.next rest.known)
 
+-- ---- each has a new byte
+
+-- a message that wasn't whole before ends in the new bytes
+late_of : (app : App) (asked : Bool) (at : ℕ) (old new : List ℕ) (told : Told) → first_of app asked (drop at old) ≡ None → first_of app asked (drop at (old ++ new)) ≡ Some told
+    → length old < at + end_of told
+late_of app asked at old new told none e = elim (cases_lt (length old) (at + end_of told)) [
+  | inl late ↦ late
+  | inr early ↦
+      let within : at ≤ length old = omega (arith, early) in
+      let there : first_of app asked (drop at old ++ new) ≡ Some told = ap (first_of app asked) (sym (drop-append-le at old new within)) ∙ e in
+      let was : first_of app asked (drop at old) ≡ Some told = first_shrinks app asked (drop at old) new told there (omega (arith, early, length-drop at old)) in
+      absurd (none-some told (sym none ∙ was))
+]
+
+quiet_late : (app : App) (asked : Bool) (heads : List Bool) (count at : ℕ) (old new front : List ℕ) (next : Next) (told : Told) → front ≡ old ++ new → goes next ≡ true
+    → IsQuietNext app at old next → IsAskedOf app asked heads count next (drop at front) → first_of app asked (drop at front) ≡ Some told → length old < at + end_of told
+quiet_late app asked heads count at old new front Never told is may quiet asks e = absurd (cc)
+quiet_late app asked heads count at old new front Awaited told is may quiet asks e = omega (arith, quiet, first_some app asked (drop at front) told e)
+quiet_late app asked heads count at old new front (Begun started) told is may quiet asks e =
+    late_of app asked at old new told (subst (λ (a : Bool). first_of app a (drop at old) ≡ None) asks quiet) (ap (λ (all : List ℕ). first_of app asked (drop at all)) (sym is) ∙ e)
+
+-- nothing was cut yet, or each message has a byte of its own past those before
+abbrev pub IsFew : List ℕ → List ℕ → Cursor → Cursor → List Placed → Type 0
+IsFew old front first c ms = ((c ≡ first) × (ms ≡ [])) ⊎ ((length old + length ms ≤ c.mark.end) × (c.mark.end ≤ length front))
+
+few_more : (app : App) (asked : Bool) (heads : List Bool) (start : ℕ) (old new front : List ℕ) (first c : Cursor) (ms : List Placed) (m : Placed) (behind : Cursor) → front ≡ old ++ new
+    → IsQuiet app first old → IsAskedOf app asked heads (answers_before c) c.next (drop (next_at c.mark) front) → goes c.next ≡ true → IsNext app asked start front c.mark m behind
+    → IsFew old front first c ms → IsFew old front first behind (ms ++ m ∷ [])
+few_more app asked heads start old new front first c ms m behind is quiet asks may next (inl (same, none)) =
+    let late : length old < next_at c.mark + end_of m.told =
+    quiet_late app asked heads (answers_before c) (next_at c.mark) old new front c.next m.told is may (subst (λ (d : Cursor). IsQuiet app d old) (sym same) quiet) asks next.first in
+    let there : next_at c.mark + end_of m.told ≤ length front = there_are app asked (next_at c.mark) front m.told next.first in
+    let end : behind.mark.end ≡ next_at c.mark + end_of m.told = ap (λ (d : Cursor). d.mark.end) next.cursor in
+    let size : length (ms ++ m ∷ []) ≡ 1 = ap (λ (xs : List Placed). length (xs ++ m ∷ [])) none in
+    inr (omega (arith, late, end, size), omega (arith, there, end))
+few_more app asked heads start old new front first c ms m behind is quiet asks may next (inr (far, within)) =
+    let some : 0 < end_of m.told = first_some app asked (drop (next_at c.mark) front) m.told next.first in
+    let there : next_at c.mark + end_of m.told ≤ length front = there_are app asked (next_at c.mark) front m.told next.first in
+    let end : behind.mark.end ≡ next_at c.mark + end_of m.told = ap (λ (d : Cursor). d.mark.end) next.cursor in
+    let size : length (ms ++ m ∷ []) ≡ length ms + 1 = length-append ms (m ∷ []) in
+    inr (omega (arith, far, some, end, size), omega (arith, there, end))
+
+-- and none is left
+rest_left : (app : App) (asked : Bool) (front : List ℕ) (old new : Cursor) → IsRest app asked front old new → IsQuiet app new front
+rest_left app asked front old new rest = subst (λ (k : Mark). IsQuietNext app (next_at k) front new.next) (sym rest.mark) (by new.next rest.goes_is rest.known)
+  where
+    by : (next : Next) → goes next ≡ goes old.next → KnowsNext app asked (next_at old.mark) front next → IsQuietNext app (next_at old.mark) front next
+    by Never goes_is known = tt
+    by Awaited goes_is known = known
+    by (Begun started) goes_is known = subst (λ (a : Bool). first_of app a (drop (next_at old.mark) front) ≡ None) (sym known.2) (rest.none (sym goes_is))
+
 -- ---- all messages
 
 pub record IsLoop (app : App) (start : ℕ) (front : List ℕ) (heads : List Bool) (first c : Cursor) (ms : List Placed) : Type 0 where
   pub cutting : (asked later : Asked) (count : ℕ) (old new : List ℕ) → front ≡ old ++ new → AgreeBelow (start + length old) asked later
       → AsksBetween (start + length old) (start + length front) heads later → IsBehind app asked count start first old → IsCutting app later count start old front c ms
   pub whole : All (IsWhole app start front) ms
+  pub few : (old new : List ℕ) → front ≡ old ++ new → IsQuiet app first old → IsFew old front first c ms
   pub sound : IsSound app c front
 
 pub loop_first : (app : App) (start : ℕ) (front : List ℕ) (heads : List Bool) (c : Cursor) → IsSound app c front → IsLoop app start front heads c c []
 loop_first app start front heads c sound = record {
   cutting = λ asked later count old new is agree asks behind. cutting_first app asked later count start old new front c is agree behind;
   whole = λ k m inside. absurd (omega (arith, inside));
+  few = λ old new is quiet. inl (refl, refl);
   sound = sound;
 }
 
 -- the bit of one look, where the look is right for each
 pub loop_asked : (app : App) (start : ℕ) (front : List ℕ) (heads : List Bool) (c : Cursor) (cut : Cut) → IsSound app c front
     → IsLook app start front heads c cut
-    → (asked : Bool) × IsCutFrom app asked start front c cut
+    → (asked : Bool) × IsAskedOf app asked heads (answers_before c) c.next (drop (next_at c.mark) front) × IsCutFrom app asked start front c cut
 loop_asked app start front heads c cut sound each =
-    let some = some_asked app heads (answers_before c) (next_at c.mark) front c.next sound in (some.0, each some.0 (answers_before c) refl some.1)
+    let some = some_asked app heads (answers_before c) (next_at c.mark) front c.next sound in (some.0, some.1, each some.0 (answers_before c) refl some.1)
 
 pub loop_more : (app : App) (start : ℕ) (front : List ℕ) (heads : List Bool) (first c : Cursor) (ms : List Placed) (m : Placed) (behind : Cursor)
     → IsLoop app start front heads first c ms
@@ -341,8 +394,9 @@ loop_more app start front heads first c ms m behind loop each =
           let cutting : IsCutting app later count start old front c ms = loop.cutting asked later count old new is agree asks from in
           let here = each (later (start + next_at c.mark) cutting.number) cutting.number cutting.counts (asks_right app later count start old new front c ms heads is asks cutting) in
           cutting_more app later count start old new front c ms m behind is cutting here.0 here.1;
-      whole = All-push (IsWhole app start front) ms m loop.whole (next_whole app some.0 start front c.mark m behind some.1.1);
-      sound = next_sound app some.0 start front c.mark m behind some.1.1;
+      whole = All-push (IsWhole app start front) ms m loop.whole (next_whole app some.0 start front c.mark m behind some.2.1);
+      few = λ old new is quiet. few_more app some.0 heads start old new front first c ms m behind is quiet some.1 some.2.0 some.2.1 (loop.few old new is quiet);
+      sound = next_sound app some.0 start front c.mark m behind some.2.1;
     }
 
 pub loop_nearer : (app : App) (start : ℕ) (front : List ℕ) (heads : List Bool) (c : Cursor) (m : Placed) (behind : Cursor) → IsSound app c front
@@ -350,13 +404,32 @@ pub loop_nearer : (app : App) (start : ℕ) (front : List ℕ) (heads : List Boo
     → length front - behind.mark.end < length front - c.mark.end
 loop_nearer app start front heads c m behind sound each =
     let some = loop_asked app start front heads c (Whole m behind) sound each in
-    next_nearer app some.0 start front c.mark m behind some.1.1
+    next_nearer app some.0 start front c.mark m behind some.2.1
 
 pub loop_sound : (app : App) (start : ℕ) (front : List ℕ) (heads : List Bool) (c new : Cursor) → IsSound app c front
     → IsLook app start front heads c (Rest new)
     → IsSound app new front
 loop_sound app start front heads c new sound each =
-    let some = loop_asked app start front heads c (Rest new) sound each in rest_sound app some.0 front c new some.1
+    let some = loop_asked app start front heads c (Rest new) sound each in rest_sound app some.0 front c new some.2
+
+pub loop_quiet : (app : App) (start : ℕ) (front : List ℕ) (heads : List Bool) (c new : Cursor) → IsSound app c front
+    → IsLook app start front heads c (Rest new)
+    → IsQuiet app new front
+loop_quiet app start front heads c new sound each =
+    let some = loop_asked app start front heads c (Rest new) sound each in rest_left app some.0 front c new some.2
+
+pub loop_few : (app : App) (start : ℕ) (front : List ℕ) (heads : List Bool) (first c : Cursor) (ms shown : List Placed) → IsLoop app start front heads first c ms → shown ≡ ms → AddsFew app first front shown
+loop_few app start front heads first c ms shown loop same old new is quiet = by (loop.few old new is quiet)
+  where
+    size : length front ≡ length old + length new
+    size = ap length is ∙ length-append old new
+
+    count : length shown ≡ length ms
+    count = ap length same
+
+    by : IsFew old front first c ms → length shown ≤ length new
+    by (inl (begins, none)) = let nothing : length ms ≡ 0 = ap length none in omega (arith, nothing, count)
+    by (inr (far, within)) = omega (arith, far, within, size, count)
 
 pub loop_cut : (app : App) (start : ℕ) (front : List ℕ) (heads : List Bool) (first c : Cursor) (ms : List Placed) (shown : Shown)
     → IsLoop app start front heads first c ms

@@ -1,5 +1,5 @@
 -- The messages of stretches, one behind the other.
-use Rattle.std.proofs.Common.{◌≡◌, ℕ, zero, suc, ◌+◌, ◌≤◌, Bool, List, [], ◌∷◌, ◌++◌, length, slice_get, Some, refl, sym, ap, subst, ◌∙◌, arith}
+use Rattle.std.proofs.Common.{◌≡◌, ℕ, zero, suc, ◌+◌, ◌≤◌, Bool, List, [], ◌∷◌, ◌++◌, length, slice_get, Some, refl, sym, ap, subst, ◌∙◌, arith, length-append}
 use Rattle.std.specs.Prelude.{All}
 use Rattle.std.proofs.lemmas.List.Elements.{All-append, All-weaker}
 use Rattle.std.proofs.lemmas.Option.{none-some}
@@ -10,7 +10,7 @@ use Rattle.stream_messages.specs.declared.placed.Placed.{Placed}
 use Rattle.stream_messages.specs.declared.cursor.Cursor.{Cursor}
 use Rattle.stream_messages.specs.declared.cutting.Shown.{Shown}
 use Rattle.stream_messages.specs.Messages.{Asked, of_front, AgreeBelow, answered, of_stretches, AllFrom}
-use Rattle.stream_messages.specs.Cursors.{begun, answers_before, counted, CountsFor, IsBehind, IsBehindAll, AsksBetween, AsksFrom, IsCut, IsWhole, IsWholeInOne}
+use Rattle.stream_messages.specs.Cursors.{begun, answers_before, counted, CountsFor, IsBehind, IsBehindAll, AsksBetween, AsksFrom, IsCut, IsWhole, IsWholeInOne, IsQuiet, AddsFew, bytes_in}
 use Rattle.stream_messages.proofs.MessageLemmas.{all_above}
 use Rattle.stream_messages.proofs.StretchLemmas.{of_stretches-append, answered-append}
 use Rattle.stream_messages.proofs.CursorLemmas.{laws_of_cursors}
@@ -132,6 +132,19 @@ newest_behind app heads first ss before s shown cuts behind all asked number fro
     let split = from_before from ss s laid in
     (one_cut app heads (answers_before before.cursor) (answered number (of_stretches app asked number ss)) s shown all
     (counts_behind app asked number first before.cursor ss counts (behind asked number from counts asks split.0)) asked from asks split.1).cursor
+
+-- ---- each has a byte of its own
+
+bytes_push : (ss : List Stretch) (s : Stretch) → bytes_in (ss ++ s ∷ []) ≡ bytes_in ss + length s.bytes
+bytes_push [] s = omega arith
+bytes_push (t ∷ ss) s = omega (arith, bytes_push ss s)
+
+-- a stretch that is cut from its first byte on
+pub few_begun : (app : App) (number : ℕ) (c : Cursor) (front : List ℕ) (ms : List Placed) → c ≡ begun number → AddsFew app c front ms → length ms ≤ length front
+few_begun app number c front ms is few = few [] front refl (subst (λ (d : Cursor). IsQuiet app d []) (sym is) (omega arith))
+
+pub few_push : (ss : List Stretch) (s : Stretch) (ms more : List Placed) → length ms ≤ bytes_in ss → length more ≤ length s.bytes → length (ms ++ more) ≤ bytes_in (ss ++ s ∷ [])
+few_push ss s ms more few here = omega (arith, few, here, length-append ms more, bytes_push ss s)
 
 -- ---- messages that lie in one of stretches
 

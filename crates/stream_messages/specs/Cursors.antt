@@ -130,6 +130,25 @@ IsSoundNext app at front (Begun started) = (at < length front) × IsKnown app st
 abbrev pub IsSound : App → Cursor → List ℕ → Type 0
 IsSound app c front = IsSoundNext app (next_at c.mark) front c.next
 
+-- no whole message is left behind a cursor in the bytes of its stretch
+abbrev pub IsQuietNext : App → ℕ → List ℕ → Next → Type 0
+IsQuietNext app at front Never = Unit {0}
+IsQuietNext app at front Awaited = length front ≤ at
+IsQuietNext app at front (Begun started) = first_of app started.asked (drop at front) ≡ None
+
+abbrev pub IsQuiet : App → Cursor → List ℕ → Type 0
+IsQuiet app c front = IsQuietNext app (next_at c.mark) front c.next
+
+-- each new message has a new byte, where none was left in the bytes before
+abbrev pub AddsFew : App → Cursor → List ℕ → List Placed → Type 0
+AddsFew app c front ms =
+    (old new : List ℕ) → front ≡ old ++ new → IsQuiet app c old → length ms ≤ length new
+
+-- how many bytes stretches have
+abbrev pub bytes_in : List Stretch → ℕ
+bytes_in [] = 0
+bytes_in (s ∷ ss) = length s.bytes + bytes_in ss
+
 -- the responses that begin between two positions are to HEAD where the request that they answer is
 abbrev pub AsksBetween : ℕ → ℕ → List Bool → Asked → Type 0
 AsksBetween from to heads asked = (at count : ℕ) → from ≤ at → at < to

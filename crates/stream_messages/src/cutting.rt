@@ -1,6 +1,6 @@
 ghost use Rattle.std.specs.Prelude.{◌≡◌, ◌+◌, ◌++◌, ◌^◌, ◌<◌, ◌≤◌, ℕ, Bool, false, true, List, All, length, drop, get_or, IfOk, IfSome, IfNone};
 ghost use Rattle.stream_messages.specs.Messages.{Asked, AgreeBelow};
-ghost use Rattle.stream_messages.specs.Cursors.{AsksBetween, CountsFor, IsAskedOf, IsBehind, IsCut, IsKnown, IsLook, IsPartCut, IsSound, IsSoundNext, IsWhole, goes, next_at};
+ghost use Rattle.stream_messages.specs.Cursors.{AddsFew, AsksBetween, CountsFor, IsAskedOf, IsBehind, IsCut, IsKnown, IsLook, IsPartCut, IsQuiet, IsSound, IsSoundNext, IsWhole, goes, next_at};
 ghost use Rattle.stream_messages.specs.declared.told.App.{App as AppValue};
 
 use crate::cursor::{Cursor, Mark, Next, Started, mark_behind, next_behind};
@@ -47,7 +47,9 @@ pub fn cut_messages(
         → IsBehind app asked count start cursor old
         → IsCut app later count start old front.now shown) }
     ensures whole { IfOk result (λ shown. All (IsWhole app start front.now) shown.messages) }
+    ensures few { IfOk result (λ shown. AddsFew app cursor front.now shown.messages) }
     ensures sound { IfOk result (λ shown. IsSound app shown.cursor front.now) }
+    ensures quiet { IfOk result (λ shown. IsQuiet app shown.cursor front.now) }
 {
     let mut messages = Vec::new(alloc);
     let mut cursor = cursor;

@@ -1,6 +1,6 @@
-ghost use Rattle.std.specs.Prelude.{◌≡◌, ◌+◌, ◌^◌, ◌<◌, ℕ, All, length, IfOk};
+ghost use Rattle.std.specs.Prelude.{◌≡◌, ◌+◌, ◌^◌, ◌<◌, ◌≤◌, ℕ, All, length, IfOk};
 ghost use Rattle.stream_messages.specs.Messages.{Asked, AllFrom, answered, of_stretches};
-ghost use Rattle.stream_messages.specs.Cursors.{AsksFrom, CountsFor, IsBehind, IsBehindAll, IsSound, IsWholeInOne, answers_before, with_last};
+ghost use Rattle.stream_messages.specs.Cursors.{AsksFrom, CountsFor, IsBehind, IsBehindAll, IsQuiet, IsSound, IsWholeInOne, answers_before, bytes_in, with_last};
 
 use crate::cursor::Cursor;
 use crate::cutting::{Shown, cut_messages};
@@ -28,6 +28,7 @@ pub fn cut_stretches(
         → AsksFrom from heads.now asked → AllFrom from stretches.now
         → IsBehindAll app asked number cursor stretches.now shown.cursor) }
     ensures whole { IfOk result (λ shown. All (IsWholeInOne app stretches.now) shown.messages) }
+    ensures few { IfOk result (λ shown. length shown.messages ≤ bytes_in stretches.now) }
 {
     let mut messages = PlacedList::new(alloc);
     let mut cursor = cursor;
@@ -68,7 +69,10 @@ pub fn cut_newest(
         → IsBehind app asked (answered number (of_stretches app asked number passed.now))
         start shown.cursor front.now) }
     ensures whole { IfOk result (λ shown. All (IsWholeInOne app (with_last passed.now start front.now)) shown.messages) }
+    ensures few { IfOk result (λ shown. length shown.messages
+        ≤ bytes_in passed.now + length front.now) }
     ensures sound { IfOk result (λ shown. IsSound app shown.cursor front.now) }
+    ensures quiet { IfOk result (λ shown. IsQuiet app shown.cursor front.now) }
 {
     let before = cut_stretches(alloc, app, passed, cursor, heads)?;
     let last = cut_messages(alloc, app, start, front, before.cursor.anew(), heads)?;

@@ -1,5 +1,5 @@
 -- What is kept is right for the bytes that the streams have, whatever was taken.
-use Rattle.std.proofs.Common.{◌≡◌, ℕ, ◌+◌, ◌<◌, Bool, true, false, not, eqb, List, [], ◌∷◌, length, Option, None, Some, unwrap_or, slice_get, slice_set, refl, sym, ap, subst, ◌∙◌, inl, inr, arith, length-append}
+use Rattle.std.proofs.Common.{◌≡◌, ℕ, ◌+◌, ◌^◌, ◌<◌, ◌≤◌, Bool, true, false, not, eqb, List, [], ◌∷◌, length, Option, None, Some, unwrap_or, slice_get, slice_set, refl, sym, ap, subst, ◌∙◌, inl, inr, arith, length-append}
 use Rattle.std.specs.Prelude.{◌⊎◌, All}
 use Rattle.std.proofs.lemmas.Bool.{cond-true, cond-false}
 use Rattle.std.proofs.lemmas.Bool.Decides.{eqb_tells}
@@ -16,11 +16,11 @@ use Rattle.tcp_streams.specs.Standing.{AreReady, AreStepped, AreSteppedAt, strea
 use Rattle.stream_messages.specs.declared.told.App.{App}
 use Rattle.stream_messages.specs.declared.placed.Placed.{Placed}
 use Rattle.stream_messages.specs.declared.cursor.Cursor.{Cursor}
-use Rattle.stream_messages.specs.Cursors.{IsSound, IsWholeInOne, begun}
+use Rattle.stream_messages.specs.Cursors.{IsQuiet, IsSound, IsWholeInOne, begun}
 use Rattle.stream_messages.proofs.CursorLemmas.{sound_longer}
 use Rattle.tcp_messages.specs.declared.readers.Reader.{Reader}
 use Rattle.tcp_messages.specs.declared.readers.Readers.{Readers}
-use Rattle.tcp_messages.specs.Readers.{AreSound, IsBegun, reader_of}
+use Rattle.tcp_messages.specs.Readers.{AreSound, IsBegun, IsRight, reader_of}
 use Rattle.tcp_messages.specs.Reading.{IsNew, IsOpenedAt, IsReadAt, IsReadFrom, IsReadOn, IsSomeWhole, side_of}
 use Rattle.tcp_messages.proofs.Passing.{own_grown}
 use Rattle.tcp_messages.proofs.Streaming.{get_push, get_set, get_there}
@@ -89,19 +89,25 @@ pub other_front : (w : WayState) (s : Segment) → (other_step w s).front ≡ w.
 unfolding other_step
 other_front w s = refl
 
--- with the readers of a new stream
-begun_sound : (app : App) (reader : Reader) (front : List ℕ) → IsBegun reader → IsSound app reader.cursor front
-begun_sound app reader front is = subst (λ (c : Cursor). IsSound app c front) (sym is.cursor) tt
-
--- each cursor is right for the bytes that its direction had, or begins
+-- each cursor is right for the bytes that its direction had
 abbrev pub IsSoundWith : List Stream → ℕ → Readers → Type 0
-IsSoundWith streams number r = (one : Bool) → IsSound r.app (reader_of r one).cursor (way_kept (slice_get streams number) one).front
+IsSoundWith streams number r = (one : Bool) → IsRight r.app (reader_of r one).cursor (way_kept (slice_get streams number) one).front
+
+get_past : (xs : List Stream) → slice_get xs (length xs) ≡ None
+get_past [] = refl
+get_past (x ∷ xs) = get_past xs
+
+-- so are the readers of a new stream, which had none
+begun_right : (streams : List Stream) (number : ℕ) (r : Readers) → number ≡ length streams → ((side : Bool) → IsBegun (reader_of r side)) → IsSoundWith streams number r
+begun_right streams number r is begins one =
+    let none : slice_get streams number ≡ None = ap (slice_get streams) is ∙ get_past streams in
+    subst (λ (o : Option Stream). IsRight r.app (reader_of r one).cursor (way_kept o one).front) (sym none)
+    (subst (λ (c : Cursor). IsRight r.app c []) (sym (begins one).cursor) (record { sound = tt; quiet = omega arith }))
 
 pub record AreOpened (s : Segment) (taken : Taken) (side : Bool) (old new : List Stream) (mid : List (Option Readers)) : Type 0 where
   pub step : IsStep s taken side old new
   pub count : length mid ≡ length new
-  -- a stream that was there, or that is new
-  pub each : (number : ℕ) (r : Readers) → slice_get mid number ≡ Some (Some r) → IsSoundWith old number r ⊎ ((side : Bool) → IsBegun (reader_of r side))
+  pub each : (number : ℕ) (r : Readers) → slice_get mid number ≡ Some (Some r) → IsSoundWith old number r
 
 pub are_opened : (app : Option App) (s : Segment) (taken : Taken) (side : Bool) (old : Streams) (new : List Stream) (readers mid : List (Option Readers)) → AreSound old readers
     → IsStep s taken side (streams_of old) new → IsOpenedAt app taken.stream readers mid → AreOpened s taken side (streams_of old) new mid
@@ -119,14 +125,14 @@ are_opened app s taken side old new readers mid sound step opened = elim (eqb_te
       record {
         step = step;
         count = ap length same ∙ sound.count ∙ sym (step.stays (λ is. other.1 (is ∙ sym sound.count)));
-        each = λ number r there. inl (sound.each number r (ap (λ (xs : List (Option Readers)). slice_get xs number) (sym same) ∙ there));
+        each = λ number r there. sound.each number r (ap (λ (xs : List (Option Readers)). slice_get xs number) (sym same) ∙ there);
       }
 ]
   where
     by : (x : Option Readers) → IsNew app x → (number : ℕ) (r : Readers) → (slice_get readers number ≡ Some (Some r)) ⊎ ((number ≡ length readers) × (x ≡ Some r))
-        → IsSoundWith (streams_of old) number r ⊎ ((side : Bool) → IsBegun (reader_of r side))
-    by x new number r (inl there) = inl (sound.each number r there)
-    by x new number r (inr last) = inr (begun app r (subst (IsNew app) last.1 new))
+        → IsSoundWith (streams_of old) number r
+    by x new number r (inl there) = sound.each number r there
+    by x new number r (inr last) = begun_right (streams_of old) number r (last.0 ∙ sound.count) (begun app r (subst (IsNew app) last.1 new))
       where
         begun : (app : Option App) (r : Readers) → IsNew app (Some r) → (side : Bool) → IsBegun (reader_of r side)
         begun None r new = absurd (none-some r (sym new))
@@ -135,27 +141,17 @@ are_opened app s taken side old new readers mid sound step opened = elim (eqb_te
 -- before a segment is read
 pub own_sound : (s : Segment) (taken : Taken) (side : Bool) (old : Streams) (new : List Stream) (mid : List (Option Readers)) (r : Readers) → AreReady old → AreOpened s taken side (streams_of old) new mid
     → slice_get mid taken.stream ≡ Some (Some r) → taken.lost ≡ [] → IsSound r.app (reader_of r side).cursor (way_kept (slice_get new taken.stream) side).front
-own_sound s taken side old new mid r ready are there none = by (are.each taken.stream r there)
-  where
-    w : WayState
-    w = way_kept (slice_get (streams_of old) taken.stream) side
-
-    by : IsSoundWith (streams_of old) taken.stream r ⊎ ((side : Bool) → IsBegun (reader_of r side)) → IsSound r.app (reader_of r side).cursor (way_kept (slice_get new taken.stream) side).front
-    by (inr begun) = begun_sound r.app (reader_of r side) (way_kept (slice_get new taken.stream) side).front (begun side)
-    by (inl sound) =
-        let grown = own_grown w s (ready.ways taken.stream side) (sym are.step.lost ∙ none) in
-        subst (λ (v : WayState). IsSound r.app (reader_of r side).cursor v.front) (sym are.step.own)
-        (subst (λ (b : List ℕ). IsSound r.app (reader_of r side).cursor b) (sym grown.front) (sound_longer r.app (reader_of r side).cursor w.front grown.more (sound side)))
+own_sound s taken side old new mid r ready are there none =
+    let w : WayState = way_kept (slice_get (streams_of old) taken.stream) side in
+    let grown = own_grown w s (ready.ways taken.stream side) (sym are.step.lost ∙ none) in
+    subst (λ (v : WayState). IsSound r.app (reader_of r side).cursor v.front) (sym are.step.own)
+    (subst (λ (b : List ℕ). IsSound r.app (reader_of r side).cursor b) (sym grown.front) (sound_longer r.app (reader_of r side).cursor w.front grown.more (are.each taken.stream r there side).sound))
 
 -- other readers
 kept_sound : (s : Segment) (taken : Taken) (side : Bool) (old new : List Stream) (mid : List (Option Readers)) (number : ℕ) (r : Readers) (one : Bool) → AreOpened s taken side old new mid
     → slice_get mid number ≡ Some (Some r) → (way_kept (slice_get new number) one).front ≡ (way_kept (slice_get old number) one).front
-    → IsSound r.app (reader_of r one).cursor (way_kept (slice_get new number) one).front
-kept_sound s taken side old new mid number r one are there same = by (are.each number r there)
-  where
-    by : IsSoundWith old number r ⊎ ((side : Bool) → IsBegun (reader_of r side)) → IsSound r.app (reader_of r one).cursor (way_kept (slice_get new number) one).front
-    by (inr begun) = begun_sound r.app (reader_of r one) (way_kept (slice_get new number) one).front (begun one)
-    by (inl sound) = subst (IsSound r.app (reader_of r one).cursor) (sym same) (sound one)
+    → IsRight r.app (reader_of r one).cursor (way_kept (slice_get new number) one).front
+kept_sound s taken side old new mid number r one are there same = subst (IsRight r.app (reader_of r one).cursor) (sym same) (are.each number r there one)
 
 same_or : (b one : Bool) → (one ≡ b) ⊎ (one ≡ not b)
 same_or true true = inl refl
@@ -165,27 +161,27 @@ same_or false true = inr refl
 
 both_sound : (s : Segment) (taken : Taken) (side : Bool) (old new : List Stream) (mid : List (Option Readers)) (messages : List Placed) (x y : Readers) → AreOpened s taken side old new mid
     → slice_get mid taken.stream ≡ Some (Some x) → IsReadOn (way_kept (slice_get new taken.stream) side) taken x y messages → (one : Bool)
-    → IsSound y.app (reader_of y one).cursor (way_kept (slice_get new taken.stream) one).front
+    → IsRight y.app (reader_of y one).cursor (way_kept (slice_get new taken.stream) one).front
 both_sound s taken side old new mid messages x y are there on one = by (same_or side one)
   where
     is : side_of taken ≡ side
     is = are.step.side_is
 
-    by : (one ≡ side) ⊎ (one ≡ not side) → IsSound y.app (reader_of y one).cursor (way_kept (slice_get new taken.stream) one).front
+    by : (one ≡ side) ⊎ (one ≡ not side) → IsRight y.app (reader_of y one).cursor (way_kept (slice_get new taken.stream) one).front
     by (inl e) =
-        let here : IsSound x.app (reader_of y side).cursor (way_kept (slice_get new taken.stream) side).front =
-        subst (λ (b : Bool). IsSound x.app (reader_of y b).cursor (way_kept (slice_get new taken.stream) side).front) is on.own.sound in
-        subst (λ (o : Bool). IsSound y.app (reader_of y o).cursor (way_kept (slice_get new taken.stream) o).front) (sym e)
-        (subst (λ (a : App). IsSound a (reader_of y side).cursor (way_kept (slice_get new taken.stream) side).front) (sym on.app) here)
+        let here : IsRight x.app (reader_of y side).cursor (way_kept (slice_get new taken.stream) side).front =
+        subst (λ (b : Bool). IsRight x.app (reader_of y b).cursor (way_kept (slice_get new taken.stream) side).front) is on.own.right in
+        subst (λ (o : Bool). IsRight y.app (reader_of y o).cursor (way_kept (slice_get new taken.stream) o).front) (sym e)
+        (subst (λ (a : App). IsRight a (reader_of y side).cursor (way_kept (slice_get new taken.stream) side).front) (sym on.app) here)
     by (inr e) =
         let kept : reader_of y (not side) ≡ reader_of x (not side) = subst (λ (b : Bool). reader_of y (not b) ≡ reader_of x (not b)) is on.other in
         let front : (way_kept (slice_get new taken.stream) (not side)).front ≡ (way_kept (slice_get old taken.stream) (not side)).front =
         ap (λ (w : WayState). w.front) are.step.other ∙ other_front (way_kept (slice_get old taken.stream) (not side)) s in
-        let was : IsSound x.app (reader_of x (not side)).cursor (way_kept (slice_get new taken.stream) (not side)).front =
+        let was : IsRight x.app (reader_of x (not side)).cursor (way_kept (slice_get new taken.stream) (not side)).front =
         kept_sound s taken side old new mid taken.stream x (not side) are there front in
-        subst (λ (o : Bool). IsSound y.app (reader_of y o).cursor (way_kept (slice_get new taken.stream) o).front) (sym e)
-        (subst (λ (a : App). IsSound a (reader_of y (not side)).cursor (way_kept (slice_get new taken.stream) (not side)).front) (sym on.app)
-        (subst (λ (r : Reader). IsSound x.app r.cursor (way_kept (slice_get new taken.stream) (not side)).front) (sym kept) was))
+        subst (λ (o : Bool). IsRight y.app (reader_of y o).cursor (way_kept (slice_get new taken.stream) o).front) (sym e)
+        (subst (λ (a : App). IsRight a (reader_of y (not side)).cursor (way_kept (slice_get new taken.stream) (not side)).front) (sym on.app)
+        (subst (λ (r : Reader). IsRight x.app r.cursor (way_kept (slice_get new taken.stream) (not side)).front) (sym kept) was))
 
 -- behind a segment that was read
 record IsKept (new : List Stream) (left : List (Option Readers)) : Type 0 where
@@ -256,3 +252,20 @@ pub read_at_none : (v : WayState) (taken : Taken) (mid left : List (Option Reade
 read_at_none v taken mid left messages there kept none r at =
     let same : None ≡ r = ap (λ (o : Option (Option Readers)). unwrap_or o r) (sym there ∙ at) in
     subst (IsReadFrom v taken mid left messages) same (kept, none)
+
+-- and few
+pub read_few : (s : Segment) (taken : Taken) (side : Bool) (old : Streams) (new : List Stream) (mid left : List (Option Readers)) (messages : List Placed) → AreReady old → side_of taken ≡ side
+    → AreOpened s taken side (streams_of old) new mid → IsReadAt (way_kept (slice_get new taken.stream) side) taken mid left messages → length messages ≤ 2 ^ 25
+read_few s taken side old new mid left messages ready side_is are read = by at.0 at.1 (read at.0 at.1)
+  where
+    at : (r : Option Readers) × (slice_get mid taken.stream ≡ Some r)
+    at = get_there mid taken.stream (omega (arith, are.step.within, are.count))
+
+    w : WayState
+    w = way_kept (slice_get (streams_of old) taken.stream) side
+
+    by : (r : Option Readers) → slice_get mid taken.stream ≡ Some r → IsReadFrom (way_kept (slice_get new taken.stream) side) taken mid left messages r → length messages ≤ 2 ^ 25
+    by None there from = let none : length messages ≡ 0 = ap length from.1 in omega (arith, none)
+    by (Some x) there from =
+        from.2.own.few w s (ready.ways taken.stream side) are.step.own are.step.lost
+        (subst (λ (b : Bool). IsQuiet x.app (reader_of x b).cursor w.front) (sym side_is) (are.each taken.stream x there side).quiet)

@@ -1,5 +1,5 @@
 -- The messages that a segment brings to its direction, and the cursor behind them.
-use Rattle.std.proofs.Common.{◌≡◌, ℕ, zero, suc, ◌+◌, ◌-◌, ◌^◌, ◌<◌, ◌≤◌, Bool, List, [], ◌∷◌, ◌++◌, length, drop, slice_get, Some, Result, Ok, Err, IfOk, refl, sym, ap, subst, ◌∙◌, arith, append_assoc, append-nil, length-append}
+use Rattle.std.proofs.Common.{◌≡◌, ℕ, zero, suc, ◌+◌, ◌-◌, ◌^◌, ◌<◌, ◌≤◌, Bool, true, List, [], ◌∷◌, ◌++◌, length, drop, slice_get, Some, Result, Ok, Err, IfOk, refl, sym, ap, subst, ◌∙◌, arith, append_assoc, append-nil, length-append}
 use Rattle.std.specs.Prelude.{All}
 use Rattle.std.proofs.lemmas.List.Elements.{All-cons, All-nil, All-drop, All-weaker}
 use Rattle.pk_base.specs.declared.lost.Lost.{Lost}
@@ -9,16 +9,17 @@ use Rattle.tcp_streams.specs.declared.segment.Segment.{Segment}
 use Rattle.tcp_streams.specs.Gaps.{first_free, start_past, left_behind}
 use Rattle.tcp_streams.specs.Ways.{WayState, stretches, end_of, lost_in, start_for, front_for, held_after, own_step, IsWay, AreApart}
 use Rattle.tcp_streams.proofs.Places.{length-bytes_at, apart_past}
+use Rattle.tcp_streams.proofs.WayLemmas.{step_room}
 use Rattle.stream_messages.specs.declared.told.App.{App}
 use Rattle.stream_messages.specs.declared.placed.Placed.{Placed}
 use Rattle.stream_messages.specs.declared.cursor.Cursor.{Cursor}
 use Rattle.stream_messages.specs.declared.cutting.Shown.{Shown}
 use Rattle.stream_messages.specs.Messages.{Asked, AllBefore, AllFrom, above, answered, of_front, of_stretches}
-use Rattle.stream_messages.specs.Cursors.{AsksFrom, CountsFor, IsBehind, IsCut, IsWhole, IsWholeInOne, answers_before, with_last}
+use Rattle.stream_messages.specs.Cursors.{AddsFew, AsksFrom, CountsFor, IsBehind, IsCut, IsQuiet, IsSound, IsWhole, IsWholeInOne, answers_before, bytes_in, with_last}
 use Rattle.stream_messages.proofs.PassingLemmas.{CutsAll, whole_in}
 use Rattle.tcp_streams.proofs.PartLemmas.{last_there}
 use Rattle.stream_messages.proofs.StretchLemmas.{laws_of_new, of_stretches-append, answered-append}
-use Rattle.tcp_messages.specs.Readers.{CutsWay, IsBehindWay}
+use Rattle.tcp_messages.specs.Readers.{CutsWay, IsBehindWay, IsRight}
 use Rattle.tcp_messages.proofs.Growing.{BeginAt, all_from, apart_order, begins_at, grows_on}
 
 pub ok_both : {T E : Type 0} (r : Result T E) (P Q : T → Type 0) → IfOk r P → IfOk r Q → IfOk r (λ x. P x × Q x)
@@ -92,6 +93,11 @@ cut_grown app heads asked w v cursor shown way grown cuts asks behind =
 pub record IsNewest (w v : WayState) (passed : List Stretch) : Type 0 where
   pub earlier : v.earlier ≡ w.earlier ++ record { start = w.start; bytes = w.front } ∷ passed
   pub from : AllFrom (end_of w) (with_last passed v.start v.front)
+  pub apart : AreApart (end_of w) passed v.start
+
+apart_lower : (lower low : ℕ) (xs : List Stretch) (next : ℕ) → lower ≤ low → AreApart low xs next → AreApart lower xs next
+apart_lower lower low [] next less apart = omega (arith, less, apart)
+apart_lower lower low (x ∷ xs) next less apart = (omega (arith, less, apart.0), apart.1)
 
 -- as many as gaps
 left_length : (held : Held) (start : ℕ) (gaps : List Lost) → length (left_behind held start gaps) ≡ length gaps
@@ -131,6 +137,8 @@ own_newest w s gap gaps way is =
           ap (λ (xs : List Lost). w.earlier ++ left_behind w.held w.start xs) is
           ∙ ap (λ (b : List ℕ). w.earlier ++ record { start = w.start; bytes = b } ∷ left_behind w.held gap.to gaps) left;
       from = all_from (end_of w) (w.start + length (bytes_at w.held w.start (gap.from - w.start)) + 1) (left_behind w.held gap.to gaps) last (omega (arith, far, size))
+          (subst (AreApart (w.start + length (bytes_at w.held w.start (gap.from - w.start)) + 1) (left_behind w.held gap.to gaps)) (sym start) apart.1);
+      apart = apart_lower (end_of w) (w.start + length (bytes_at w.held w.start (gap.from - w.start)) + 1) (left_behind w.held gap.to gaps) (start_for w) (omega (arith, far, size))
           (subst (AreApart (w.start + length (bytes_at w.held w.start (gap.from - w.start)) + 1) (left_behind w.held gap.to gaps)) (sym start) apart.1);
     }
 
@@ -256,3 +264,36 @@ newest_case app heads asked w v s passed start front (gap ∷ gaps) cursor shown
     (subst (λ (n : ℕ). BothNewest app heads has.passed n front cursor shown) starts
     (subst (λ (xs : List Stretch). BothNewest app heads xs start front cursor shown) here (record { cuts = cuts; behind = behind_is })))) in
     cut_behind app heads asked w (own_step w s) has.passed cursor shown way has.is both.cuts both.behind asks behind
+
+-- ---- each message has a byte of its own
+
+pub right_by : (app : App) (v : WayState) (front : List ℕ) (c : Cursor) → front ≡ v.front → IsSound app c front → IsQuiet app c front → IsRight app c v.front
+right_by app v front c is sound quiet = subst (IsRight app c) is (record { sound = sound; quiet = quiet })
+
+pub grown_few : (app : App) (w v : WayState) (s : Segment) (front : List ℕ) (lost : List Lost) (cursor : Cursor) (ms : List Placed) → front ≡ v.front → length lost ≡ 0
+    → AddsFew app cursor front ms → IsWay w → v ≡ own_step w s → lost ≡ lost_in w → IsQuiet app cursor w.front → length ms ≤ 2 ^ 25
+grown_few app w v s front lost cursor ms is none adds way step lost_is quiet =
+    let grown = own_grown w s way (sym lost_is ∙ nil_by lost none) in
+    let here : front ≡ w.front ++ grown.more = is ∙ ap (λ (u : WayState). u.front) step ∙ grown.front in
+    let few : length ms ≤ length grown.more = adds w.front grown.more here quiet in
+    let room : (own_step w s).start + length (own_step w s).front ≤ (w.start + length w.front) + 2 ^ 25 = step_room true w s way in
+    let start : (own_step w s).start ≡ w.start = grown.start in
+    let size : length (own_step w s).front ≡ length w.front + length grown.more = ap length grown.front ∙ length-append w.front grown.more in
+    omega (arith, few, room, start, size)
+
+bytes_apart : (low : ℕ) (xs : List Stretch) (next : ℕ) → AreApart low xs next → low + bytes_in xs ≤ next
+bytes_apart low [] next apart = omega (arith, apart)
+bytes_apart low (x ∷ xs) next apart = omega (arith, apart.0, bytes_apart (x.start + length x.bytes + 1) xs next apart.1)
+
+pub newest_few : (app : App) (w v : WayState) (s : Segment) (passed : List Stretch) (front : List ℕ) (lost : List Lost) (ms : List Placed)
+    → passed ≡ drop (length v.earlier - (length lost - 1)) v.earlier → front ≡ v.front → (length lost ≡ 0 → ⊥) → length ms ≤ bytes_in passed + length front
+    → IsWay w → v ≡ own_step w s → lost ≡ lost_in w → length ms ≤ 2 ^ 25
+newest_few app w v s passed front [] ms passed_is is some few way step lost_is = absurd (some refl)
+newest_few app w v s passed front (gap ∷ gaps) ms passed_is is some few way step lost_is =
+    let has = own_passed w s gap gaps way (sym lost_is) in
+    let here : bytes_in passed ≡ bytes_in has.passed =
+    ap bytes_in (passed_is ∙ ap (λ (u : WayState). drop (length u.earlier - (length (gap ∷ gaps) - 1)) u.earlier) step ∙ has.last) in
+    let size : length front ≡ length (own_step w s).front = ap length (is ∙ ap (λ (u : WayState). u.front) step) in
+    let apart : (w.start + length w.front) + bytes_in has.passed ≤ (own_step w s).start = bytes_apart (end_of w) has.passed (own_step w s).start has.is.apart in
+    let room : (own_step w s).start + length (own_step w s).front ≤ (w.start + length w.front) + 2 ^ 25 = step_room true w s way in
+    omega (arith, few, here, size, apart, room)

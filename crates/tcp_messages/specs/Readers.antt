@@ -14,7 +14,7 @@ use Rattle.stream_messages.specs.declared.cutting.Shown.{Shown}
 use Rattle.stream_messages.specs.declared.told.App.{App}
 use Rattle.stream_messages.specs.declared.told.Told.{Told}
 use Rattle.stream_messages.specs.Messages.{Asked, above, answered, of_stretches}
-use Rattle.stream_messages.specs.Cursors.{IsBehind, IsSound, IsSoundNext, begun, next_at}
+use Rattle.stream_messages.specs.Cursors.{IsBehind, IsQuiet, IsQuietNext, IsSound, IsSoundNext, begun, next_at}
 use Rattle.stream_messages.specs.Sides.{Noted, asked_in, heads_in, noted, shown_in}
 use Rattle.tcp_messages.specs.declared.readers.Reader.{Reader}
 use Rattle.tcp_messages.specs.declared.readers.Readers.{Readers}
@@ -66,12 +66,17 @@ pub record ReadsStreams (app_of : Segment → Option App) (ls : List Label) (rea
 
 -- ---- whatever was taken
 
+-- what a cursor knows is right for a direction's bytes, and no whole message is left behind it
+pub record IsRight (app : App) (c : Cursor) (front : List ℕ) : Type 0 where
+  pub sound : IsSound app c front
+  pub quiet : IsQuiet app c front
+
 -- each cursor is right for the bytes that its direction has
 pub record AreSound (streams : Streams) (readers : List (Option Readers)) : Type 0 where
   pub fresh : streams.kept.spent ≡ false
   pub count : length readers ≡ stream_count streams
   pub each : (number : ℕ) (r : Readers) → slice_get readers number ≡ Some (Some r) → (one : Bool)
-      → IsSound r.app (reader_of r one).cursor (way_kept (slice_get (streams_of streams) number) one).front
+      → IsRight r.app (reader_of r one).cursor (way_kept (slice_get (streams_of streams) number) one).front
 
 -- what is known of the next message has one proof at most
 pub sound_prop : Coded Told → (app : App) (c : Cursor) (front : List ℕ) → IsProp (IsSound app c front)
@@ -81,3 +86,12 @@ sound_prop told app c front = by c.next
     by Never = Unit-prop
     by Awaited = Unit-prop
     by (Begun started) = ×_prop le_prop (Π_prop (λ more. Coded-set (coded_option told) _ _))
+
+-- so has what is left
+pub quiet_prop : Coded Told → (app : App) (c : Cursor) (front : List ℕ) → IsProp (IsQuiet app c front)
+quiet_prop told app c front = by c.next
+  where
+    by : (next : Next) → IsProp (IsQuietNext app (next_at c.mark) front next)
+    by Never = Unit-prop
+    by Awaited = le_prop
+    by (Begun started) = Coded-set (coded_option told) _ _

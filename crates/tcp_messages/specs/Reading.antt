@@ -1,5 +1,5 @@
 -- What reading a segment does to what is kept of its stream.
-use Rattle.std.specs.Prelude.{◌≡◌, ◌==◌, ℕ, Bool, not, All, List, [], ◌∷◌, ◌++◌, length, Option, None, Some, slice_get, slice_set}
+use Rattle.std.specs.Prelude.{◌≡◌, ◌==◌, ◌≤◌, ◌^◌, ℕ, Bool, not, All, List, [], ◌∷◌, ◌++◌, length, Option, None, Some, slice_get, slice_set}
 use Rattle.pk_base.specs.declared.lost.Lost.{Lost}
 use Rattle.pk_base.specs.declared.stretch.Stretch.{Stretch}
 use Rattle.tcp_streams.specs.declared.segment.Segment.{Segment}
@@ -8,22 +8,29 @@ use Rattle.tcp_streams.specs.Labels.{Label, opened}
 use Rattle.tcp_streams.specs.Stands.{AllBelow}
 use Rattle.tcp_streams.specs.Ways.{WayState, end_of, lost_in, own_step, stretches, IsWay}
 use Rattle.stream_messages.specs.declared.placed.Placed.{Placed}
+use Rattle.stream_messages.specs.declared.cursor.Cursor.{Cursor}
 use Rattle.stream_messages.specs.declared.told.App.{App}
 use Rattle.stream_messages.specs.Messages.{Asked}
-use Rattle.stream_messages.specs.Cursors.{AsksFrom, IsSound, IsWholeInOne}
+use Rattle.stream_messages.specs.Cursors.{AsksFrom, IsQuiet, IsWholeInOne}
 use Rattle.stream_messages.specs.Sides.{heads_in}
 use Rattle.tcp_messages.specs.declared.readers.Reader.{Reader}
 use Rattle.tcp_messages.specs.declared.readers.Readers.{Readers}
-use Rattle.tcp_messages.specs.Readers.{CutsWay, IsBegun, IsBehindWay, reader_of}
+use Rattle.tcp_messages.specs.Readers.{CutsWay, IsBegun, IsBehindWay, IsRight, reader_of}
 
 -- a message that lies in one of stretches, whatever its application
 abbrev pub IsSomeWhole : List Stretch → Placed → Type 0
 IsSomeWhole ss m = (app : App) × IsWholeInOne app ss m
 
+-- a segment moves a front end by two windows at most, and each message that it brings has a byte of its own there
+abbrev pub AreFew : App → WayState → List Lost → Cursor → List Placed → Type 0
+AreFew app v lost c messages = (w : WayState) (s : Segment) → IsWay w → v ≡ own_step w s → lost ≡ lost_in w
+    → IsQuiet app c w.front → length messages ≤ 2 ^ 25
+
 -- a direction's reader with a segment that was read: the direction has these stretches with it
 pub record IsRead (app : App) (heads : List Bool) (v : WayState) (lost : List Lost) (old new : Reader) (messages : List Placed) : Type 0 where
-  pub sound : IsSound app new.cursor v.front
+  pub right : IsRight app new.cursor v.front
   pub whole : All (IsWholeInOne app (stretches v)) messages
+  pub few : AreFew app v lost old.cursor messages
   pub heads_are : new.heads.items ≡ old.heads.items ++ heads_in messages
   pub cut : (asked : Asked) (w : WayState) (s : Segment) → IsWay w → v ≡ own_step w s → lost ≡ lost_in w → AsksFrom (end_of w) heads asked → IsBehindWay app asked w old.cursor
       → CutsWay app asked (end_of w) (own_step w s) (record { messages = messages; cursor = new.cursor })

@@ -4,7 +4,8 @@ ghost use Rattle.tcp_streams.specs.Ways.{WayState, end_of, lost_in, own_step, st
 ghost use Rattle.tcp_streams.specs.Standing.{AreReady, stream_count, way_in};
 ghost use Rattle.stream_messages.specs.Messages.{Asked};
 ghost use Rattle.stream_messages.specs.Cursors.{AsksFrom, IsSound, IsWholeInOne};
-ghost use Rattle.tcp_messages.specs.Readers.{CutsWay, IsBehindWay};
+ghost use Rattle.tcp_messages.specs.Readers.{CutsWay, IsBehindWay, IsRight};
+ghost use Rattle.tcp_messages.specs.Reading.{AreFew};
 
 use pk_base::{NoMemory, Stretch};
 use std::alloc::Global;
@@ -26,7 +27,8 @@ pub(crate) fn cut_brought(
     requires stream { taken.now.stream < stream_count streams.now }
     requires side { taken.now.side < 2 }
     requires sound { taken.now.lost ≡ [] → IsSound app cursor (way_in streams.now taken.now.stream taken.now.side).front }
-    ensures sound { IfOk result (λ shown. IsSound app shown.cursor (way_in streams.now taken.now.stream taken.now.side).front) }
+    ensures right { IfOk result (λ shown. IsRight app shown.cursor (way_in streams.now taken.now.stream taken.now.side).front) }
+    ensures few { IfOk result (λ shown. AreFew app (way_in streams.now taken.now.stream taken.now.side) taken.now.lost cursor shown.messages) }
     ensures whole { IfOk result (λ shown. All (IsWholeInOne app (stretches (way_in streams.now taken.now.stream taken.now.side))) shown.messages) }
     ensures cut { IfOk result (λ shown. (asked : Asked) (w : WayState) (s : SegmentValue) → IsWay w → way_in streams.now taken.now.stream taken.now.side ≡ own_step w s
         → taken.now.lost ≡ lost_in w → AsksFrom (end_of w) heads.now asked → IsBehindWay app asked w cursor → CutsWay app asked (end_of w) (own_step w s) shown) }

@@ -1,7 +1,7 @@
 ghost use Rattle.std.specs.Prelude.{◌≡◌, false};
 ghost use Rattle.std.proofs.Props.{props};
 ghost use Rattle.stream_messages.specs.contracts.told.Told as told_row;
-ghost use Rattle.tcp_messages.specs.Readers.{AreSound, sound_prop};
+ghost use Rattle.tcp_messages.specs.Readers.{AreSound, quiet_prop, sound_prop};
 
 use crate::readers::Readers;
 use tcp_streams::Streams;
@@ -14,5 +14,5 @@ pub(crate) struct Kept {
     pub readers: Vec<Option<Readers>>,
     /// Whether a segment found no memory: then nothing more is known.
     pub spent: bool,
-    ghost sound: { spent ≡ false → AreSound streams readers.items } by { Prim.hlevel (sound_prop told_row.the_row.coded, props) },
+    ghost sound: { spent ≡ false → AreSound streams readers.items } by { Prim.hlevel (sound_prop told_row.the_row.coded, quiet_prop told_row.the_row.coded, props) },
 }

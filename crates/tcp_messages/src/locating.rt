@@ -1,4 +1,4 @@
-ghost use Rattle.std.specs.Prelude.{◌≡◌, ◌-◌, ◌^◌, ◌<◌, List, drop, All, map, pos, ◌-ℤ◌, ◌≤◌, IfOk, IfSome};
+ghost use Rattle.std.specs.Prelude.{◌≡◌, ◌-◌, ◌^◌, ◌<◌, List, drop, length, All, map, pos, ◌-ℤ◌, ◌≤◌, IfOk, IfSome};
 ghost use Rattle.range_bytes.specs.Held.{IsFreeFrom, frames_at};
 ghost use Rattle.tcp_streams.specs.declared.segment.Segment.{Segment as SegmentValue};
 ghost use Rattle.tcp_streams.specs.Parts.{LiesInOne};
@@ -35,6 +35,7 @@ pub(crate) fn locate_all(
     requires side { taken.now.side < 2 }
     requires whole { All (IsSomeWhole (stretches (way_in streams.now taken.now.stream taken.now.side))) messages }
     ensures whole { IfOk result (λ shown. All (IsWholeIn s.now.payload) shown) }
+    ensures count { IfOk result (λ shown. length shown ≤ length messages) }
     ensures located { IfOk result (λ shown. (past : List SegmentValue) → StandsFor past streams.now
         → shown ≡ map (located (way_for past taken.now.stream taken.now.side).held s.now taken.now.position) messages) }
 {

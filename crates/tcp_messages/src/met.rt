@@ -1,4 +1,4 @@
-ghost use Rattle.std.specs.Prelude.{◌≡◌};
+ghost use Rattle.std.specs.Prelude.{◌≡◌, ◌≤◌, ◌^◌, length};
 
 use pk_base::{Numbers, Octets};
 use std::marker::Model;
@@ -9,10 +9,11 @@ use tcp_streams::Taken;
 #[derive(Drop)]
 pub struct Met {
     pub taken: Taken,
-    /// The messages that its frame shows, in order.
+    /// The messages that its frame shows, in order. Each has a byte of its own among those by which it moves the front end.
     pub messages: ShownList,
     /// The frames that brought the gathered ones among them: ascending, each once.
     pub frames: Numbers,
+    ghost few: { length messages ≤ 2 ^ 25 },
 }
 
 /// A message, and where its bytes are.

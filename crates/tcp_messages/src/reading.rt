@@ -1,4 +1,4 @@
-ghost use Rattle.std.specs.Prelude.{◌≡◌, ◌==◌, ◌<◌, [], ◌∷◌, Option, List, All, length, slice_get, Some, IfOk, OnOk};
+ghost use Rattle.std.specs.Prelude.{◌≡◌, ◌==◌, ◌<◌, ◌≤◌, ◌^◌, [], ◌∷◌, Option, List, All, length, slice_get, Some, IfOk, OnOk};
 ghost use Rattle.stream_messages.specs.Cursors.{IsSound};
 ghost use Rattle.tcp_streams.specs.declared.segment.Segment.{Segment as SegmentValue};
 ghost use Rattle.tcp_streams.specs.declared.streams.Streams.{Streams as StreamsValue};
@@ -31,6 +31,7 @@ pub(crate) fn read_next(
     requires sound { (old : StreamsValue) × (s : SegmentValue) × AreReady old × AreSound old readers.old.items × AreStepped s taken.now (streams_of old) (streams_of streams.now) }
     ensures sound { OnOk result (AreSound streams.now readers.new.items) }
     ensures whole { IfOk result (λ messages. All (IsSomeWhole (stretches (way_in streams.now taken.now.stream taken.now.side))) messages) }
+    ensures few { IfOk result (λ messages. length messages ≤ 2 ^ 25) }
     ensures read { IfOk result (λ messages. (app_of : SegmentValue → Option AppValue) (past : List SegmentValue) (s : SegmentValue) → IsOfEnds app_of → app ≡ app_of s
         → StandsFor (s ∷ past) streams.now → taken.now ≡ taken_after past s → AreListed (labels past) readers.old.items → ReadsStreams app_of (labels past) readers.old.items → messages ≡ messages_after app past s) }
     ensures stands { OnOk result ((app_of : SegmentValue → Option AppValue) (past : List SegmentValue) (s : SegmentValue) → IsOfEnds app_of → app ≡ app_of s

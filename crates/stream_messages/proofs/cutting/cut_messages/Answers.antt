@@ -2,7 +2,7 @@ use Rattle.std.proofs.Common.{subst, sym, List}
 use Rattle.std.specs.Prelude.{All}
 use Rattle.stream_messages.specs.declared.placed.Placed.{Placed}
 use Rattle.stream_messages.specs.Cursors.{IsLook, IsWhole}
-use Rattle.stream_messages.proofs.CuttingLemmas.{IsLoop, loop_first, loop_more, loop_nearer, loop_sound, loop_cut}
+use Rattle.stream_messages.proofs.CuttingLemmas.{IsLoop, loop_first, loop_more, loop_nearer, loop_sound, loop_quiet, loop_few, loop_cut}
 use Rattle.stream_messages.proofs.cutting.cut_messages.Goals as goal
 
 pub loop-messages-init : goal.loop-messages-init
@@ -34,4 +34,14 @@ returns-in-Rest-clause-whole c =
 pub returns-in-Rest-clause-sound : goal.returns-in-Rest-clause-sound
 returns-in-Rest-clause-sound c =
     loop_sound c.args.app c.args.start c.args.front.now c.args.heads.now c.loop-messages.cursor c.in-Rest.cursor c.loop-messages.invariant.sound
+    (subst (IsLook c.args.app c.args.start c.args.front.now c.args.heads.now c.loop-messages.cursor) c.in-Rest.is c.in_ok-message.ensures)
+
+pub returns-in-Rest-clause-few : goal.returns-in-Rest-clause-few
+returns-in-Rest-clause-few c =
+    loop_few c.args.app c.args.start c.args.front.now c.args.heads.now c.args.cursor c.loop-messages.cursor c.loop-messages.messages.items c.from_vec-messages.result c.loop-messages.invariant
+    c.from_vec-messages.ensures
+
+pub returns-in-Rest-clause-quiet : goal.returns-in-Rest-clause-quiet
+returns-in-Rest-clause-quiet c =
+    loop_quiet c.args.app c.args.start c.args.front.now c.args.heads.now c.loop-messages.cursor c.in-Rest.cursor c.loop-messages.invariant.sound
     (subst (IsLook c.args.app c.args.start c.args.front.now c.args.heads.now c.loop-messages.cursor) c.in-Rest.is c.in_ok-message.ensures)

@@ -1,9 +1,9 @@
-use Rattle.std.proofs.Common.{sym, subst, ◌∙◌}
+use Rattle.std.proofs.Common.{◌≡◌, ◌+◌, ◌≤◌, length, length-append, sym, ap, subst, ◌∙◌, arith}
 use Rattle.std.specs.Prelude.{All}
 use Rattle.pk_base.specs.declared.stretch.Stretch.{Stretch}
 use Rattle.stream_messages.specs.declared.cursor.Cursor.{Cursor}
-use Rattle.stream_messages.specs.Cursors.{IsWholeInOne, with_last}
-use Rattle.stream_messages.proofs.PassingLemmas.{CutsAll, passed_by, passed_more, newest_behind, whole_with}
+use Rattle.stream_messages.specs.Cursors.{IsWholeInOne, answers_before, with_last}
+use Rattle.stream_messages.proofs.PassingLemmas.{CutsAll, few_begun, passed_by, passed_more, newest_behind, whole_with}
 use Rattle.stream_messages.proofs.stretches.cut_newest.Goals as goal
 
 pub returns-clause-messages : goal.returns-clause-messages
@@ -22,3 +22,11 @@ pub returns-clause-whole : goal.returns-clause-whole
 returns-clause-whole c =
     subst (All (IsWholeInOne c.args.app (with_last c.args.passed.now c.args.start c.args.front.now))) (sym c.in_ok-append.ensures)
     (whole_with c.args.app c.args.passed.now (record { start = c.args.start; bytes = c.args.front.now }) c.in_ok-before.before.messages c.in_ok-last.last.messages c.in_ok-before.ensures.whole c.in_ok-last.ensures.whole)
+
+pub returns-clause-few : goal.returns-clause-few
+returns-clause-few c =
+    let last : length c.in_ok-last.last.messages ≤ length c.args.front.now =
+    few_begun c.args.app (answers_before c.in_ok-before.before.cursor) c.anew.result c.args.front.now c.in_ok-last.last.messages c.anew.ensures c.in_ok-last.ensures.few in
+    let size : length c.append.new.self ≡ length c.in_ok-before.before.messages + length c.in_ok-last.last.messages =
+    ap length c.in_ok-append.ensures ∙ length-append c.in_ok-before.before.messages c.in_ok-last.last.messages in
+    omega (arith, c.in_ok-before.ensures.few, last, size)

@@ -1,4 +1,4 @@
-use Rattle.std.proofs.Common.{◌≡◌, ◌∷◌, ◌++◌, Option, map, sym, ap, subst, ◌∙◌, arith}
+use Rattle.std.proofs.Common.{◌≡◌, suc, ◌+◌, [], ◌∷◌, ◌++◌, length, length-append, Option, map, sym, ap, subst, ◌∙◌, arith}
 use Rattle.std.specs.Prelude.{All}
 use Rattle.std.specs.Option.{option_to_list}
 use Rattle.std.proofs.lemmas.List.Elements.{All-nil, All-drop, All-push}
@@ -16,6 +16,10 @@ loop-message-init c =
     record {
       located_so = λ past stands. λ i. c.new-shown.ensures.items i ++ map (located (way_for past c.args.taken.now.stream c.args.taken.now.side).held c.args.s.now c.args.taken.now.position) (all i);
       whole = subst (All (IsWholeIn c.args.s.now.payload)) (sym c.new-shown.ensures.items) (All-nil (IsWholeIn c.args.s.now.payload));
+      count =
+          let none : length c.new-shown.result.items ≡ 0 = ap length c.new-shown.ensures.items in
+          let same : length c.from-rest.result.items ≡ length c.args.messages = ap length all in
+          omega (arith, none, same);
       run = tt;
       left = subst (All (IsSomeWhole (stretches (way_in c.args.streams.now c.args.taken.now.stream c.args.taken.now.side)))) (sym all) c.requires.whole;
     }
@@ -35,6 +39,10 @@ loop-message-preserved c =
           c.loop-message.rest.items c.pop_front.new.self.items _ items (c.in_ok-source.ensures.located past stands) (c.loop-message.invariant.located_so past stands);
       whole = subst (All (IsWholeIn c.args.s.now.payload)) (sym c.in_ok-push.ensures.items)
           (All-push (IsWholeIn c.args.s.now.payload) c.loop-message.shown.items _ c.loop-message.invariant.whole c.in_ok-source.ensures.whole);
+      count =
+          let more : length c.push.new.self.items ≡ length c.loop-message.shown.items + 1 = ap length c.in_ok-push.ensures.items ∙ length-append c.loop-message.shown.items (_ ∷ []) in
+          let less : length c.loop-message.rest.items ≡ suc (length c.pop_front.new.self.items) = ap length items in
+          omega (arith, more, less, c.loop-message.invariant.count);
       run = c.run_at-run.ensures.run;
       left = All-drop (IsSomeWhole (stretches (way_in c.args.streams.now c.args.taken.now.stream c.args.taken.now.side))) 1 (c.in-Some.message ∷ c.pop_front.new.self.items)
           (subst (All (IsSomeWhole (stretches (way_in c.args.streams.now c.args.taken.now.stream c.args.taken.now.side)))) items c.loop-message.invariant.left);

@@ -1,4 +1,4 @@
-use Rattle.std.proofs.Common.{◌≡◌, ◌++◌, List, length, map}
+use Rattle.std.proofs.Common.{◌≡◌, ◌+◌, ◌++◌, List, length, map}
 use Rattle.std.specs.Prelude.{All, IfSome}
 use Rattle.range_bytes.specs.Held.{IsFreeFrom}
 use Rattle.tcp_streams.specs.declared.segment.Segment.{Segment}
@@ -15,6 +15,7 @@ invariant-loop-message l =
           → l.shown.items ++ map (located (way_for past l.taken.stream l.taken.side).held l.s l.taken.position) l.rest.items
           ≡ map (located (way_for past l.taken.stream l.taken.side).held l.s l.taken.position) l.fn.messages;
       whole : All (IsWholeIn l.s.payload) l.shown.items;
+      count : length l.shown.items + length l.rest.items ≡ length l.fn.messages;
       run : IfSome l.held (λ run. IsFreeFrom (way_in l.streams l.taken.stream l.taken.side).held run.from run.to);
       left : All (IsSomeWhole (stretches (way_in l.streams l.taken.stream l.taken.side))) l.rest.items;
     }

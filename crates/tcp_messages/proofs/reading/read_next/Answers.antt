@@ -1,8 +1,8 @@
-use Rattle.std.proofs.Common.{arith}
+use Rattle.std.proofs.Common.{refl, arith}
 use Rattle.std.proofs.lemmas.Result.{IfOk-weaker}
 use Rattle.tcp_streams.specs.Standing.{streams_of, way_in}
 use Rattle.tcp_messages.specs.Reading.{side_of}
-use Rattle.tcp_messages.proofs.Keeping.{are_opened, own_sound, read_sound, read_whole, step_by}
+use Rattle.tcp_messages.proofs.Keeping.{are_opened, own_sound, read_few, read_sound, read_whole, step_by}
 use Rattle.tcp_messages.proofs.Nexts.{next_reads}
 use Rattle.tcp_messages.proofs.reading.read_next.Goals as goal
 
@@ -55,3 +55,11 @@ returns-clause-stands c =
     (λ messages read app_of past s of_ends same stands is listed reads.
     (next_reads app_of c.args.app past s c.args.taken.now c.args.streams.now c.args.readers.now.items c.open.new.readers.items c.read_stream.new.readers.items messages of_ends same stands is listed reads step.within
     (omega (arith, step.within, are.count)) c.in_ok-open.ensures read).1) c.read_stream.ensures
+
+pub returns-clause-few : goal.returns-clause-few
+returns-clause-few c =
+    let step = step_by c.requires.sound.1 c.args.taken.now (streams_of c.requires.sound.0) (streams_of c.args.streams.now) c.requires.sound.4 in
+    let are = are_opened c.args.app c.requires.sound.1 c.args.taken.now (side_of c.args.taken.now) c.requires.sound.0 (streams_of c.args.streams.now) c.args.readers.now.items c.open.new.readers.items c.requires.sound.3 step c.in_ok-open.ensures in
+    IfOk-weaker c.read_stream.result _ _
+    (λ messages read. read_few c.requires.sound.1 c.args.taken.now (side_of c.args.taken.now) c.requires.sound.0 (streams_of c.args.streams.now) c.open.new.readers.items c.read_stream.new.readers.items messages
+    c.requires.sound.2 refl are read) c.read_stream.ensures
