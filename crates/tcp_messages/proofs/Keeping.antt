@@ -16,7 +16,7 @@ use Rattle.tcp_streams.specs.Standing.{AreReady, AreStepped, AreSteppedAt, strea
 use Rattle.stream_messages.specs.declared.told.App.{App}
 use Rattle.stream_messages.specs.declared.placed.Placed.{Placed}
 use Rattle.stream_messages.specs.declared.cursor.Cursor.{Cursor}
-use Rattle.stream_messages.specs.Cursors.{IsQuiet, IsSound, IsWholeInOne, begun}
+use Rattle.stream_messages.specs.Cursors.{IsQuiet, IsSound, IsWholeInOne}
 use Rattle.stream_messages.proofs.CursorLemmas.{sound_longer}
 use Rattle.tcp_messages.specs.declared.readers.Reader.{Reader}
 use Rattle.tcp_messages.specs.declared.readers.Readers.{Readers}
