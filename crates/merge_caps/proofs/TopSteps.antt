@@ -183,14 +183,12 @@ none_refused_whole (Err fault) a = refusal_starved_whole fault a
 -- the same, where the names are those of a slice, and the lines were put together before
 pub text_told_by : (wanted : Wanted) (tell : List ℕ → Option (List ℕ)) (asked : List ℕ) (read : ReadSoFar) (written : Result (Option ℕ) SinkFault) (old new : Option (List ℕ))
     (answer : MergeStatus) (text : List ℕ) (names : List (List ℕ)) (endings : List Ending) (lines : List ℕ) (damaged : Bool) → names ≡ wanted.names → endings ≡ read.endings
-    → lines ≡ damage_lines names endings → damaged ≡ are_damaged endings → IsReadOf tell names read → length read.endings ≡ length names
+    → lines ≡ damage_lines names endings → damaged ≡ are_damaged endings → IsReadOf tell wanted.names read → length read.endings ≡ length wanted.names
     → IfOk written (λ unfit. IsWrittenOf wanted.format read.entries unfit old new) → IsWrittenText lines damaged written answer text
     → IsStatusText wanted tell asked answer text
 text_told_by wanted tell asked read written old new answer text names endings lines damaged same_names same_endings are is_one is count wrote told =
     let all : lines ≡ damage_lines wanted.names read.endings =
     are ∙ ap (λ (ns : List (List ℕ)). damage_lines ns endings) same_names ∙ ap (damage_lines wanted.names) same_endings in
-    text_told wanted tell asked read written old new answer text
-    (subst (λ (ns : List (List ℕ)). IsReadOf tell ns read) same_names is)
-    (count ∙ ap length same_names) wrote
+    text_told wanted tell asked read written old new answer text is count wrote
     (subst (λ (ls : List ℕ). IsWrittenText ls (are_damaged read.endings) written answer text) all
     (subst (λ (d : Bool). IsWrittenText lines d written answer text) (is_one ∙ ap are_damaged same_endings) told))

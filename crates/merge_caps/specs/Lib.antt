@@ -2,6 +2,7 @@ pub mod Causes
 pub mod Laws
 pub mod Merged
 pub mod Reading
+pub mod Stages
 pub mod Statuses
 pub mod Stopped
 pub mod Texts

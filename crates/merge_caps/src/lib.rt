@@ -3,6 +3,7 @@
 
 mod laws;
 mod order;
+mod owned;
 mod place;
 mod read_file;
 mod read_files;

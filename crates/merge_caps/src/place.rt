@@ -1,7 +1,7 @@
 use capture_read::Frame;
 
 /// Where a frame stands among those of all files. Places are ordered by the time, then the file, then the number.
-#[derive(Clone, Copy, Debug, PartialEq, Eq, PartialOrd, Ord)]
+#[derive(Clone, Copy, PartialEq, Eq, PartialOrd, Ord)]
 pub(crate) struct Place {
     /// The frame's time, or else the latest before it in its file: none where there is none, which comes first.
     pub(crate) time: Option<i128>,

@@ -10,6 +10,7 @@ ghost use Rattle.capture_read.specs.declared.kind.Phase.TheVariants as phase;
 ghost use Rattle.merge_caps.specs.Merged.{placed};
 ghost use Rattle.merge_caps.specs.Reading.{so_far, with_frames, with_reading};
 
+use crate::owned::let_go;
 use crate::place::{Entry, Place};
 use crate::readings::Readings;
 use capture_read::{Ending, Frame, FrameReader, NextFrame, ReadError};
@@ -77,7 +78,10 @@ fn read_frames<C: Capture>(
     loop {
         match reader.next_frame(capture) {
             Ok(NextFrame::Frame(frame)) => {
-                latest = take_frame(readings, file, latest, frame)?;
+                latest = match take_frame(readings, file, latest, frame) {
+                    Ok(time) => time,
+                    Err(NoMemory) => return Err(ReadError::NoMemory),
+                };
             }
             Ok(NextFrame::End(ending)) => return Ok(ending),
             Err(error) => return Err(error),
@@ -110,12 +114,13 @@ pub(crate) fn read_file<C: Capture>(
     ensures spent { IsErrOf result ReadError.Spent → ⊥ }
 {
     let mut reader = FrameReader::new(alloc);
-    let ending = match read_frames(&mut reader, capture, readings) {
-        Ok(ending) => ending,
-        Err(error) => return Err(error),
-    };
-    match readings.endings.push(ending) {
-        Ok(()) => Ok(ending),
-        Err(_) => Err(ReadError::NoMemory),
+    let ended = read_frames(&mut reader, capture, readings);
+    let_go(reader);
+    match ended {
+        Ok(ending) => match readings.endings.push(ending) {
+            Ok(()) => Ok(ending),
+            Err(_) => Err(ReadError::NoMemory),
+        },
+        Err(error) => Err(error),
     }
 }

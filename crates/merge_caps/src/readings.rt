@@ -13,7 +13,7 @@ pub(crate) struct Readings {
 }
 
 /// Why a file isn't read.
-#[derive(Clone, Copy, Debug, PartialEq, Eq)]
+#[derive(Clone, Copy)]
 pub(crate) enum Cause {
     CannotOpen,
     ReadFault,
@@ -23,7 +23,7 @@ pub(crate) enum Cause {
 }
 
 /// At which of the files the reading stopped, and why.
-#[derive(Clone, Copy, Debug, PartialEq, Eq)]
+#[derive(Clone, Copy)]
 pub(crate) struct Stopped {
     pub(crate) place: usize,
     pub(crate) cause: Cause,

@@ -8,6 +8,7 @@ ghost use Rattle.merge_caps.specs.Texts.{ToldRefusal, ToldRefusalWhole, damage_l
 ghost use Rattle.run_texts.specs.FaultTexts.{cannot_open_text as text_of_unopened};
 ghost use Rattle.merge_caps.specs.Told.{IsWrittenText, cause_status, cause_text, status_by as status_of_write, unfit_in as unfit_of, unfit_text};
 
+use crate::owned::let_go;
 use crate::readings::Cause;
 use crate::status::{MergeStatus, status_of};
 use capture_read::{Damage, Ending};
@@ -21,11 +22,12 @@ use run_texts::{
 use shark_words::WordFault;
 use std::alloc::Global;
 
-// The line of a damaged file up to the place of the damage; the name is given as it is told.
+// The line of a damaged file up to the place of the damage.
 #[tactic(auto, unfolding(crate::specs::Texts::damage_front))]
-fn damage_front(alloc: Global, name: &str) -> Result<String, NoMemory>
-    ensures { IfOk result (λ text. string_bytes text ≡ front_of_line name.now) }
+fn damage_front(alloc: Global, name: &Text) -> Result<String, NoMemory>
+    ensures { IfOk result (λ text. string_bytes text ≡ front_of_line (escaped name.now)) }
 {
+    let name = escape_text(alloc, name.as_str().as_bytes())?;
     Ok(format!(in alloc; "shark: {name} damaged at byte ")?)
 }
 
@@ -39,36 +41,45 @@ fn damage_back(alloc: Global, damage: Damage) -> Result<String, NoMemory>
     Ok(format!(in alloc; "{at}: {reason}\n")?)
 }
 
-// The line of a damaged file.
-fn damage_text(alloc: Global, name: &Text, damage: Damage) -> Result<String, NoMemory>
-    ensures { IfOk result (λ text. string_bytes text
-        ≡ front_of_line (escaped name.now) ++ back_of_line damage) }
+fn push_front(alloc: Global, text: &mut String, name: &Text) -> Result<(), NoMemory>
+    ensures { OnOk result (string_bytes text.new
+        ≡ string_bytes text.old ++ front_of_line (escaped name.now)) }
 {
-    let name = escape_text(alloc, name.as_str().as_bytes())?;
-    let mut text = damage_front(alloc, name.as_str())?;
-    text.push_str(damage_back(alloc, damage)?.as_str())?;
-    Ok(text)
+    let front = damage_front(alloc, name)?;
+    Ok(text.push_str(front.as_str())?)
 }
 
-// The line of a file that ends so, where it is damaged.
-#[tactic(auto, unfolding(crate::specs::Texts::damage_line))]
-fn line_text(alloc: Global, name: &Text, ending: Ending) -> Result<String, NoMemory>
-    ensures { IfOk result (λ text. string_bytes text ≡ damage_line name.now ending) }
+fn push_back(alloc: Global, text: &mut String, damage: Damage) -> Result<(), NoMemory>
+    ensures { OnOk result (string_bytes text.new ≡ string_bytes text.old ++ back_of_line damage) }
 {
-    match ending {
-        Ending::Damaged(damage) => damage_text(alloc, name, damage),
-        Ending::Whole | Ending::TooLarge => Ok(String::new(alloc)),
-    }
+    let back = damage_back(alloc, damage)?;
+    Ok(text.push_str(back.as_str())?)
+}
+
+// Adds the line of a damaged file.
+fn push_damage(
+    alloc: Global,
+    text: &mut String,
+    name: &Text,
+    damage: Damage,
+) -> Result<(), NoMemory>
+    ensures { OnOk result (string_bytes text.new ≡ string_bytes text.old
+        ++ (front_of_line (escaped name.now) ++ back_of_line damage)) }
+{
+    push_front(alloc, text, name)?;
+    push_back(alloc, text, damage)
 }
 
 // Adds the line of a file that ends so, where it is damaged.
+#[tactic(auto, unfolding(crate::specs::Texts::damage_line))]
 fn push_line(alloc: Global, text: &mut String, name: &Text, ending: Ending) -> Result<(), NoMemory>
     ensures { OnOk result (string_bytes text.new
         ≡ string_bytes text.old ++ damage_line name.now ending) }
 {
-    let line = line_text(alloc, name, ending)?;
-    text.push_str(line.as_str())?;
-    Ok(())
+    match ending {
+        Ending::Damaged(damage) => push_damage(alloc, text, name, damage),
+        Ending::Whole | Ending::TooLarge => Ok(()),
+    }
 }
 
 // Adds the lines of the damaged files.
@@ -99,8 +110,13 @@ pub(crate) fn lines_of_damage(
     ensures { IfOk result (λ text. string_bytes text ≡ damage_lines names.now endings.now) }
 {
     let mut text = String::new(alloc);
-    push_lines(alloc, &mut text, names, endings)?;
-    Ok(text)
+    match push_lines(alloc, &mut text, names, endings) {
+        Ok(()) => Ok(text),
+        Err(error) => {
+            let_go(text);
+            Err(error)
+        }
+    }
 }
 
 // Adds the line of the first frame that doesn't fit.

@@ -1,17 +1,20 @@
 // The top call.
-ghost use Rattle.std.specs.Prelude.{◌≡◌, ◌≢◌, ◌<◌, ◌⊎◌, ℕ, Option, length, IfErr, IfOk, IfSome, IsErrOf, OnOk};
+ghost use Rattle.std.specs.Prelude.{◌≡◌, ◌≢◌, ◌<◌, ◌⊎◌, ℕ, List, Option, length, IfErr, IfOk, IfSome, IsErrOf, OnOk};
 ghost use Rattle.pk_outside.specs.Outside.{Rose};
 ghost use Rattle.shark_words.specs.Words.{texts};
 ghost use Rattle.merge_caps.specs.Causes.{IsLargeAt, IsUnopened, IsUnread};
-ghost use Rattle.merge_caps.specs.Reading.{AreSmallUpTo, IsLeftOfOne, files_of};
+ghost use Rattle.merge_caps.specs.Reading.{AreSmallUpTo, IsLeftOfOne, files_of, read_of, so_far};
+ghost use Rattle.merge_caps.specs.Stages.{IsWrittenFrom};
 ghost use Rattle.merge_caps.specs.Statuses.{IsNoFault, IsRefused, IsWritten, WhenRead, WhenUnread, WhenWritten, WrotePart};
 ghost use Rattle.merge_caps.specs.Texts.{Told, ToldRefusal, ToldRefusalWhole, ToldWhole};
 ghost use Rattle.merge_caps.specs.Words.{wanted as wanted_by, wanted_of};
 ghost use Rattle.merge_caps.specs.Written.{IsPartOf, IsWrittenOf};
 
 use crate::order::put_in_order;
+use crate::owned::let_go;
 use crate::place::Entry;
 use crate::read_files::read_files;
+use crate::readings::Readings;
 use crate::status::MergeStatus;
 use crate::told::{
     are_damaged, lines_of_damage, tell_refusal, tell_stopped, tell_written, unopened_texts,
@@ -42,6 +45,48 @@ fn write_merged<O: Sink>(
     match put_in_order(entries) {
         Ok(()) => write_file(alloc, format, entries.as_slice(), out),
         Err(NoMemory) => Err(SinkFault::NoMemory),
+    }
+}
+
+// Writes the frames that were read, and tells how it ended.
+fn write_readings<O: Sink, E: Sink>(
+    alloc: Global,
+    wanted: &Wanted,
+    readings: &mut Readings,
+    out: &mut O,
+    err: &mut E,
+) -> MergeStatus
+    requires { length readings.old.endings.items ≡ length wanted.now.names.items }
+    ensures all_read { WhenUnread result ⊥ }
+    ensures written { WhenWritten result (IsWrittenFrom wanted.now.format (so_far readings.old)
+        result (O.written out.old) (O.written out.new)) }
+    ensures part { (out.new ≡ out.old)
+        ⊎ IsPartOf wanted.now.format readings.old.entries.items
+        (O.written out.old) (O.written out.new) }
+    ensures write_fault { result ≡ MergeStatus.WriteFault
+        → Rose (O.faults out.old) (O.faults out.new) }
+    ensures starved { result ≡ MergeStatus.NoMemory → O.faults out.new ≡ O.faults out.old }
+    ensures told { (tell : List ℕ → Option (List ℕ)) (asked : List ℕ)
+        → IfSome (files_of tell wanted.now.names.items) (λ files.
+        so_far readings.old ≡ read_of files)
+        → Told (wanted_by wanted.now) tell asked result (E.written err.old) (E.written err.new) }
+    ensures told_whole { (tell : List ℕ → Option (List ℕ)) (asked : List ℕ)
+        → IfSome (files_of tell wanted.now.names.items) (λ files.
+        so_far readings.old ≡ read_of files)
+        → ¬ Rose (E.faults err.old) (E.faults err.new)
+        → ¬ Rose (E.starved err.old) (E.starved err.new)
+        → ToldWhole (wanted_by wanted.now) tell asked result
+        (E.written err.old) (E.written err.new) }
+{
+    let names = wanted.names.as_slice();
+    let endings = readings.endings.as_slice();
+    match lines_of_damage(alloc, names, endings) {
+        Ok(lines) => {
+            let damaged = are_damaged(endings);
+            let written = write_merged(alloc, wanted.format, &mut readings.entries, out);
+            tell_written(alloc, lines, damaged, written, err)
+        }
+        Err(NoMemory) => MergeStatus::NoMemory,
     }
 }
 
@@ -95,18 +140,19 @@ fn merge_files<C: Capture, O: Sink, E: Sink>(
         Err(NoMemory) => return MergeStatus::NoMemory,
     };
     let unopened = texts.as_slice();
-    let mut readings = match read_files(alloc, names, capture) {
-        Ok(readings) => readings,
-        Err(stopped) => return tell_stopped(&unopened[stopped.place], stopped.cause, err),
-    };
-    let endings = readings.endings.as_slice();
-    let lines = match lines_of_damage(alloc, names, endings) {
-        Ok(lines) => lines,
-        Err(NoMemory) => return MergeStatus::NoMemory,
-    };
-    let damaged = are_damaged(endings);
-    let written = write_merged(alloc, wanted.format, &mut readings.entries, out);
-    tell_written(alloc, lines, damaged, written, err)
+    match read_files(alloc, names, capture) {
+        Ok(mut readings) => {
+            let status = write_readings(alloc, wanted, &mut readings, out, err);
+            let_go(readings);
+            let_go(texts);
+            status
+        }
+        Err(stopped) => {
+            let status = tell_stopped(&unopened[stopped.place], stopped.cause, err);
+            let_go(texts);
+            status
+        }
+    }
 }
 
 /// Merges the capture files that the words of a command line name: reads them in the order of the words, and writes all

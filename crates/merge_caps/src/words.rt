@@ -95,8 +95,10 @@ fn take_name(alloc: Global, word: u64, heard: &mut Heard, name: &str) -> Result<
     if name.is_empty() {
         return Err(word_fault(word, WordReason::BadValue));
     }
-    heard.names.push(Text::copy(alloc, name)?)?;
-    Ok(())
+    match Text::copy(alloc, name) {
+        Ok(name) => Ok(heard.names.push(name)?),
+        Err(NoMemory) => Err(WordsError::NoMemory),
+    }
 }
 
 // Takes a word that isn't a value.

@@ -6,6 +6,7 @@ ghost use Rattle.capture_write.specs.Kept.{end_at};
 ghost use Rattle.merge_caps.specs.Merged.{frame_of, frames_of};
 ghost use Rattle.merge_caps.specs.Written.{Steps, file_of, first_unfit, piece_if, unfit_from, written_from};
 
+use crate::owned::let_go;
 use crate::place::Entry;
 use capture_read::Frame;
 use capture_write::{Added, Format, Writer};
@@ -23,14 +24,17 @@ fn write_frame<O: Sink>(writer: &mut Writer, frame: &Frame, out: &mut O) -> Resu
     ensures no_fault { OnOk result (O.faults out.new ≡ O.faults out.old) }
     ensures starved { IsErrOf result SinkFault.NoMemory → O.faults out.new ≡ O.faults out.old }
 {
-    let piece = match writer.add(frame) {
-        Ok(Added::Bytes(piece)) => piece,
-        Ok(Added::Unfit) => return Ok(false),
-        Err(NoMemory) => return Err(SinkFault::NoMemory),
-    };
-    match write_whole(out, piece.bytes()) {
-        Ok(()) => Ok(true),
-        Err(fault) => Err(fault),
+    match writer.add(frame) {
+        Ok(Added::Bytes(piece)) => {
+            let written = write_whole(out, piece.bytes());
+            let_go(piece);
+            match written {
+                Ok(()) => Ok(true),
+                Err(fault) => Err(fault),
+            }
+        }
+        Ok(Added::Unfit) => Ok(false),
+        Err(NoMemory) => Err(SinkFault::NoMemory),
     }
 }
 
@@ -70,7 +74,11 @@ fn write_end<O: Sink>(writer: Writer, out: &mut O) -> Result<(), SinkFault>
     ensures starved { IsErrOf result SinkFault.NoMemory → O.faults out.new ≡ O.faults out.old }
 {
     match writer.finish() {
-        Ok(end) => write_whole(out, end.bytes()),
+        Ok(end) => {
+            let written = write_whole(out, end.bytes());
+            let_go(end);
+            written
+        }
         Err(NoMemory) => Err(SinkFault::NoMemory),
     }
 }
@@ -93,12 +101,14 @@ pub(crate) fn write_file<O: Sink>(
     ensures starved { IsErrOf result SinkFault.NoMemory → O.faults out.new ≡ O.faults out.old }
 {
     let mut writer = Writer::new(alloc, format);
-    let unfit = match write_each(&mut writer, entries, out) {
-        Ok(unfit) => unfit,
-        Err(fault) => return Err(fault),
-    };
-    match write_end(writer, out) {
-        Ok(()) => Ok(unfit),
-        Err(fault) => Err(fault),
+    match write_each(&mut writer, entries, out) {
+        Ok(unfit) => match write_end(writer, out) {
+            Ok(()) => Ok(unfit),
+            Err(fault) => Err(fault),
+        },
+        Err(fault) => {
+            let_go(writer);
+            Err(fault)
+        }
     }
 }

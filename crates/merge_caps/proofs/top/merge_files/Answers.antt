@@ -1,59 +1,71 @@
-use Rattle.std.proofs.Common.{◌∙◌, string_bytes}
-use Rattle.merge_caps.specs.Reading.{so_far}
+use Rattle.std.proofs.Common.{◌∙◌, inl, refl}
+use Rattle.merge_caps.specs.Reading.{files_of, so_far}
 use Rattle.merge_caps.specs.Told.{cause_text}
 use Rattle.merge_caps.specs.Words.{wanted}
-use Rattle.merge_caps.proofs.TopSteps.{starved, starved_whole, stop_told, text_told_by, told, told_whole}
+use Rattle.merge_caps.proofs.StageSteps.{is_read, part_of_files, read_always, read_never, stop_facts, unread_always, unread_when, written_of_files, written_when}
+use Rattle.merge_caps.proofs.TopSteps.{starved, starved_whole, stop_told, told, told_whole}
 use Rattle.merge_caps.proofs.top.merge_files.Goals as goal
 
-pub returns-in-Err-clause-told : goal.returns-in-Err-clause-told
-returns-in-Err-clause-told g c = starved (wanted c.args.wanted.now) _ _ _
+pub returns-in-Err : goal.returns-in-Err
+returns-in-Err g c = record {
+  not_refused = λ is. absurd (cc is);
+  written = tt;
+  part = inl refl;
+  nothing = tt;
+  unopened = λ is. absurd (cc is);
+  unread = λ is. absurd (cc is);
+  large = λ is. absurd (cc is);
+  small = tt;
+  took = inl refl;
+  write_fault = λ is. absurd (cc is);
+  starved = λ is. (refl, refl, refl);
+  told = starved (wanted c.args.wanted.now) _ _ _;
+  told_whole = λ calm fed. starved_whole (wanted c.args.wanted.now) _ _ _;
+}
 
-pub returns-in-Err-clause-told_whole : goal.returns-in-Err-clause-told_whole
-returns-in-Err-clause-told_whole g c = λ calm fed. starved_whole (wanted c.args.wanted.now) _ _ _
+pub returns-in-Err-read_files : goal.returns-in-Err-read_files
+returns-in-Err-read_files g c =
+    let facts = stop_facts _ c.in-Err-read_files.stopped c.tell_stopped-status.result _ _ (rw c.as_slice-names.ensures.value at c.in-Err-read_files.ensures.stopped) c.tell_stopped-status.ensures.status in
+    let text = stop_told (wanted c.args.wanted.now) c.as_slice-names.result.now c.as_slice-unopened.result.now c.in-Err-read_files.stopped c.index-unopened-stopped.result _ _ c.tell_stopped-status.result
+    c.as_slice-names.ensures.value (c.as_slice-unopened.ensures.value ∙ c.in-Ok.ensures) c.in-Err-read_files.ensures.stopped c.index-unopened-stopped.is c.tell_stopped-status.ensures.status in
+    record {
+      not_refused = facts.not_refused;
+      written = written_when c.tell_stopped-status.result _ _ (λ bad. absurd bad) facts.not_written;
+      part = inl (refl {a = c.args.out.now});
+      nothing = unread_always c.tell_stopped-status.result _ refl;
+      unopened = facts.unopened;
+      unread = facts.unread;
+      large = facts.large;
+      small = read_never c.tell_stopped-status.result _ facts.not_read;
+      took = rw c.as_slice-names.ensures.value at c.read_files.ensures.took;
+      write_fault = λ is. absurd (facts.no_write is);
+      starved = λ is. ((facts.starved is).0, (facts.starved is).1, refl);
+      told = told (wanted c.args.wanted.now) (g.C.Capture.file c.args.capture.now) (g.C.Capture.asked c.read_files.new.capture) c.tell_stopped-status.result
+          (cause_text c.in-Err-read_files.stopped.cause c.index-unopened-stopped.result)
+          (g.E.Sink.written c.args.err.now) (g.E.Sink.written c.tell_stopped-status.new.err) text c.tell_stopped-status.ensures.told;
+      told_whole = λ calm fed.
+          told_whole (wanted c.args.wanted.now) (g.C.Capture.file c.args.capture.now) (g.C.Capture.asked c.read_files.new.capture) c.tell_stopped-status.result
+          (cause_text c.in-Err-read_files.stopped.cause c.index-unopened-stopped.result)
+          (g.E.Sink.written c.args.err.now) (g.E.Sink.written c.tell_stopped-status.new.err) text (c.tell_stopped-status.ensures.told_whole calm fed);
+    }
 
-pub returns-in-Err-read_files-clause-told : goal.returns-in-Err-read_files-clause-told
-returns-in-Err-read_files-clause-told g c =
-    told (wanted c.args.wanted.now) (g.C.Capture.file c.args.capture.now) (g.C.Capture.asked c.read_files.new.capture) c.tell_stopped.result
-    (cause_text c.in-Err-read_files.stopped.cause c.index-unopened-stopped.result)
-    (g.E.Sink.written c.args.err.now) (g.E.Sink.written c.tell_stopped.new.err)
-    (stop_told (wanted c.args.wanted.now) c.as_slice-names.result.now c.as_slice-unopened.result.now c.in-Err-read_files.stopped c.index-unopened-stopped.result _ _ c.tell_stopped.result
-    c.as_slice-names.ensures.value (c.as_slice-unopened.ensures.value ∙ c.in-Ok.ensures) c.in-Err-read_files.ensures.stopped c.index-unopened-stopped.is c.tell_stopped.ensures.status)
-    c.tell_stopped.ensures.told
-
-pub returns-in-Err-read_files-clause-told_whole : goal.returns-in-Err-read_files-clause-told_whole
-returns-in-Err-read_files-clause-told_whole g c = λ calm fed.
-    told_whole (wanted c.args.wanted.now) (g.C.Capture.file c.args.capture.now) (g.C.Capture.asked c.read_files.new.capture) c.tell_stopped.result
-    (cause_text c.in-Err-read_files.stopped.cause c.index-unopened-stopped.result)
-    (g.E.Sink.written c.args.err.now) (g.E.Sink.written c.tell_stopped.new.err)
-    (stop_told (wanted c.args.wanted.now) c.as_slice-names.result.now c.as_slice-unopened.result.now c.in-Err-read_files.stopped c.index-unopened-stopped.result _ _ c.tell_stopped.result
-    c.as_slice-names.ensures.value (c.as_slice-unopened.ensures.value ∙ c.in-Ok.ensures) c.in-Err-read_files.ensures.stopped c.index-unopened-stopped.is c.tell_stopped.ensures.status)
-    (c.tell_stopped.ensures.told_whole calm fed)
-
-pub returns-in-Err-lines_of_damage-clause-told : goal.returns-in-Err-lines_of_damage-clause-told
-returns-in-Err-lines_of_damage-clause-told g c = starved (wanted c.args.wanted.now) _ _ _
-
-pub returns-in-Err-lines_of_damage-clause-told_whole : goal.returns-in-Err-lines_of_damage-clause-told_whole
-returns-in-Err-lines_of_damage-clause-told_whole g c = λ calm fed. starved_whole (wanted c.args.wanted.now) _ _ _
-
-pub returns-clause-told : goal.returns-clause-told
-returns-clause-told g c =
-    let t = c.tell_written.ensures.told in
-    told (wanted c.args.wanted.now) (g.C.Capture.file c.args.capture.now) (g.C.Capture.asked c.read_files.new.capture) c.tell_written.result t.0
-    (g.E.Sink.written c.args.err.now) (g.E.Sink.written c.tell_written.new.err)
-    (text_told_by (wanted c.args.wanted.now) (g.C.Capture.file c.args.capture.now) (g.C.Capture.asked c.read_files.new.capture) (so_far c.in-Ok-read_files.readings) c.write_merged-written.result
-    (g.O.Sink.written c.args.out.now) (g.O.Sink.written c.write_merged-written.new.out) c.tell_written.result t.0 c.as_slice-names.result.now c.as_slice-endings.result.now
-    (string_bytes c.in-Ok-lines_of_damage.lines) c.are_damaged-damaged.result c.as_slice-names.ensures.value c.as_slice-endings.ensures.value
-    c.in-Ok-lines_of_damage.ensures c.are_damaged-damaged.ensures c.in-Ok-read_files.ensures.read c.in-Ok-read_files.ensures.ends c.write_merged-written.ensures.written t.1) t.2
-
-pub returns-clause-told_whole : goal.returns-clause-told_whole
-returns-clause-told_whole g c = λ calm fed.
-    let t = c.tell_written.ensures.told_whole calm fed in
-    told_whole (wanted c.args.wanted.now) (g.C.Capture.file c.args.capture.now) (g.C.Capture.asked c.read_files.new.capture) c.tell_written.result t.0
-    (g.E.Sink.written c.args.err.now) (g.E.Sink.written c.tell_written.new.err)
-    (text_told_by (wanted c.args.wanted.now) (g.C.Capture.file c.args.capture.now) (g.C.Capture.asked c.read_files.new.capture) (so_far c.in-Ok-read_files.readings) c.write_merged-written.result
-    (g.O.Sink.written c.args.out.now) (g.O.Sink.written c.write_merged-written.new.out) c.tell_written.result t.0 c.as_slice-names.result.now c.as_slice-endings.result.now
-    (string_bytes c.in-Ok-lines_of_damage.lines) c.are_damaged-damaged.result c.as_slice-names.ensures.value c.as_slice-endings.ensures.value
-    c.in-Ok-lines_of_damage.ensures c.are_damaged-damaged.ensures c.in-Ok-read_files.ensures.read c.in-Ok-read_files.ensures.ends c.write_merged-written.ensures.written t.1) t.2
-
-pub returns-clause-took : goal.returns-clause-took
-returns-clause-took g c = rw c.as_slice-names.ensures.value at c.read_files.ensures.took
+pub returns-in-Ok-read_files : goal.returns-in-Ok-read_files
+returns-in-Ok-read_files g c =
+    let is = rw c.as_slice-names.ensures.value at c.in-Ok-read_files.ensures.read in
+    let w = c.write_readings-status.ensures in
+    let calm = c.in-Ok-read_files.ensures.no_fault in
+    record {
+      not_refused = λ same. is_read c.write_readings-status.result _ w.all_read same;
+      written = written_of_files c.args.wanted.now.format (files_of (g.C.Capture.file c.args.capture.now) c.args.wanted.now.names.items) (so_far c.in-Ok-read_files.readings) c.write_readings-status.result _ _ is w.written;
+      part = part_of_files _ c.args.wanted.now.format (files_of (g.C.Capture.file c.args.capture.now) c.args.wanted.now.names.items) (so_far c.in-Ok-read_files.readings) _ _ is w.part;
+      nothing = unread_when c.write_readings-status.result _ _ (λ bad. absurd bad) w.all_read;
+      unopened = λ same. absurd (is_read c.write_readings-status.result _ w.all_read same);
+      unread = λ same. absurd (is_read c.write_readings-status.result _ w.all_read same);
+      large = λ same. absurd (is_read c.write_readings-status.result _ w.all_read same);
+      small = read_always c.write_readings-status.result _ (rw c.as_slice-names.ensures.value at c.in-Ok-read_files.ensures.small);
+      took = rw c.as_slice-names.ensures.value at c.read_files.ensures.took;
+      write_fault = w.write_fault;
+      starved = λ same. (calm.0, calm.1, w.starved same);
+      told = w.told (g.C.Capture.file c.args.capture.now) (g.C.Capture.asked c.read_files.new.capture) is;
+      told_whole = w.told_whole (g.C.Capture.file c.args.capture.now) (g.C.Capture.asked c.read_files.new.capture) is;
+    }
