@@ -13,7 +13,7 @@ ghost use Rattle.capture_read.specs.FrameList.{IsTime};
 ghost use Rattle.head_layers.specs.Times.{AreTimes};
 ghost use Rattle.dissect.specs.Trees.{tree_at, events_of, kept_walk};
 
-use crate::state::State;
+use crate::state::{State, give_up_state};
 use capture_read::Frame;
 use conversations::Conversations;
 use head_layers::{Times, begin_tree, captured};
@@ -293,6 +293,11 @@ fn asks_any(wanted: &FieldSet, protocol: FieldId) -> bool
     ensures { result ≡ false → asks_any field_count protocol wanted.now ≡ false }
 {
     wanted.has_any_of(protocol)
+}
+
+/// Gives a dissector up.
+pub fn give_up_dissector(dissector: Dissector) {
+    give_up_state(dissector.state);
 }
 
 fn number_of(frame: &Frame) -> u32

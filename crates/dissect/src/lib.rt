@@ -12,6 +12,6 @@ mod state;
 mod todo;
 mod walk;
 
-pub use dissector::{Dissector, TakeFault};
+pub use dissector::{Dissector, TakeFault, give_up_dissector};
 pub use port_rules::{App, DecodeAs, PortRule, PortRules};
 pub use tcp_messages::messages_once;
