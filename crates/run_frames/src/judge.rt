@@ -1,7 +1,7 @@
 // Which frames are shown.
 ghost use Rattle.std.specs.Prelude.{◌≡◌, IfOk};
 ghost use Rattle.run_frames.specs.Accessors.{compiled_of};
-ghost use Rattle.run_frames.specs.Satisfied.{judged, satisfies};
+ghost use Rattle.run_frames.specs.Satisfied.{judged};
 
 use crate::compiled::Compiled;
 use crate::plan::Plan;
@@ -33,32 +33,14 @@ impl<'p> Model for Judge<'p> {
     ghost invariant = { λ j. IsReadyFor j.compiled.now j.machine };
 }
 
-impl<'p> Judge<'p> {
-    fn new(alloc: Global, compiled: &'p Compiled) -> Result<Judge<'p>, NoMemory>
-        ensures { IfOk result (λ judge. judge ≡ compiled.now) }
-    {
-        let machine = Machine::new(alloc, compiled.program(), compiled.filter())?;
-        Ok(Judge { compiled, machine })
-    }
-
-    /// What the run of the program on a tree answers.
-    #[tactic(auto, unfolding(crate::specs::Satisfied::judged))]
-    fn answer(&mut self, tree: &Tree) -> Result<Verdict, NoMemory>
-        ensures verdict { IfOk result (λ verdict. verdict ≡ judged (Some self.old) tree.now) }
-        ensures same { self.new ≡ self.old }
-    {
-        self.machine.run(tree)
-    }
-}
-
 /// The judge of a plan, where it has a filter.
 pub(crate) fn judge_for(alloc: Global, plan: &Plan) -> Result<Option<Judge<'_>>, NoMemory>
     ensures { IfOk result (λ judge. judge ≡ compiled_of plan.now) }
 {
     match &plan.chosen {
         None => Ok(None),
-        Some(compiled) => match Judge::new(alloc, compiled) {
-            Ok(judge) => Ok(Some(judge)),
+        Some(compiled) => match Machine::new(alloc, compiled.program(), compiled.filter()) {
+            Ok(machine) => Ok(Some(Judge { compiled, machine })),
             Err(error) => Err(error),
         },
     }
@@ -75,15 +57,6 @@ pub(crate) fn verdict_of(judge: &mut Option<Judge<'_>>, tree: &Tree) -> Result<V
             holds: true,
             steps: 0,
         }),
-        Some(judge) => judge.answer(tree),
+        Some(judge) => judge.machine.run(tree),
     }
-}
-
-/// Whether a tree is let through.
-pub(crate) fn lets(judge: &mut Option<Judge<'_>>, tree: &Tree) -> Result<bool, NoMemory>
-    ensures truth { IfOk result (λ truth. truth ≡ satisfies judge.old tree.now) }
-    ensures same { judge.new ≡ judge.old }
-{
-    let verdict = verdict_of(judge, tree)?;
-    Ok(verdict.holds)
 }

@@ -20,12 +20,13 @@ mod totals;
 mod wanted;
 
 pub use compiled::Compiled;
+pub use dissect::give_up_dissector;
 pub use frames::{LineMaker, RunFault, new_dissector, new_line_maker, write_frame};
 pub use generated::Generated;
 pub use judge::Judge;
 pub use later::Later;
 pub use notes::Notes;
-pub use owned::{give_up_dissector, give_up_lines, give_up_tree};
+pub use owned::{give_up_lines, give_up_tree};
 pub use packet::write_end;
 pub use plan::{FieldList, Plan};
 pub use rules::{PlanRules, copy_rules};

@@ -5,12 +5,8 @@ use crate::judge::Judge;
 use crate::notes::Notes;
 use crate::tables::{Table, Tables};
 use capture_write::Writer;
-use dissect::Dissector;
 use out_lines::LineWriter;
 use pk_tree::Tree;
-
-/// Gives a dissector up.
-pub fn give_up_dissector(_dissector: Dissector) {}
 
 fn give_up_judge(_judge: Option<Judge<'_>>) {}
 

@@ -7,7 +7,7 @@ ghost use Rattle.pk_outside.specs.Outside.{AppendsPart, Rose};
 ghost use Rattle.run_frames.specs.Satisfied.{satisfies};
 ghost use Rattle.run_frames.specs.Steps.{IsPacked, fit_packet};
 
-use crate::judge::{Judge, lets};
+use crate::judge::{Judge, verdict_of};
 use capture_read::Frame;
 use capture_write::{Added, Writer};
 use pk_base::NoMemory;
@@ -34,9 +34,14 @@ pub(crate) fn write_packet<O: Sink>(
     ensures calm { ¬ IsErrOf result SinkFault.Failed → O.faults out.new ≡ O.faults out.old }
     ensures faults_stay { O.faults out.old ≤ O.faults out.new }
 {
-    match lets(judge, tree) {
-        Ok(true) => write_added(frame, writer, out),
-        Ok(false) => Ok(true),
+    match verdict_of(judge, tree) {
+        Ok(verdict) => {
+            if verdict.holds {
+                write_added(frame, writer, out)
+            } else {
+                Ok(true)
+            }
+        }
         Err(NoMemory) => Err(SinkFault::NoMemory),
     }
 }
