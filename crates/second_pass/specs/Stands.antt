@@ -1,5 +1,5 @@
 -- Which noted frames links stand for; these are listed with the newest first.
-use Rattle.std.specs.Prelude.{◌≡◌, ℕ, Bool, false, List, Option, None, Some}
+use Rattle.std.specs.Prelude.{◌≡◌, ◌≤◌, ◌-◌, ◌^◌, ℕ, Bool, false, List, length, min, Option, None, Some, option_and_then}
 use Rattle.std.specs.BTreeMap as tree
 use Rattle.std.specs.List.{slice_get}
 use Rattle.std.specs.Option.{option_map, unwrap_or}
@@ -27,7 +27,11 @@ first_in firsts frame = tree.get nat_cmp firsts.all frame
 abbrev pub answer_in : Answers → ℕ × ℕ → Option ℕ
 answer_in answers query = index.get same_query answers.all query
 
--- how many messages a direction had, and its request of a frame and number, as they are kept
+-- a number as it is counted: at its last value a count stands still
+abbrev pub counted : ℕ → ℕ
+counted number = min number (2 ^ 64 - 1)
+
+-- how many messages a direction had, as they are counted
 abbrev pub count_in : Counts → Direction → ℕ
 count_in counts at = unwrap_or (index.get same_direction counts.all at) 0
 
@@ -35,23 +39,39 @@ count_in counts at = unwrap_or (index.get same_direction counts.all at) 0
 abbrev pub direction_at : Counts → ℕ → Option Direction
 direction_at counts place = option_map (λ entry. entry.0) (slice_get counts.all.entries place)
 
+-- the place of the request of a frame and number, and the request, as they are kept
+abbrev pub place_in : Requests → ℕ × ℕ → Option ℕ
+place_in requests key = index.get same_query requests.places key
+
 abbrev pub asked_in : Requests → ℕ × ℕ → Option Asked
-asked_in requests key = index.get same_query requests.all key
+asked_in requests key = option_and_then (slice_get requests.asked.items) (place_in requests key)
 
 -- a request as it is kept: by the place of its direction
-abbrev pub IsFound : Counts → Option Asked → Option (Direction × ℕ) → Type 0
-IsFound counts None None = Unit
-IsFound counts None (Some request) = ⊥
-IsFound counts (Some asked) None = ⊥
-IsFound counts (Some asked) (Some request) =
-    (direction_at counts asked.place ≡ Some request.0) × (asked.nth ≡ request.1)
+pub record IsKeptAs (counts : Counts) (asked : List Asked) (place : ℕ) (request : Direction × ℕ) : Type 0 where
+  pub one : Asked
+  pub there : slice_get asked place ≡ Some one
+  pub at : direction_at counts one.place ≡ Some request.0
+  pub nth : one.nth ≡ request.1
 
--- the messages of HTTP, with the newest first
+abbrev pub IsFound : Counts → List Asked → Option ℕ → Option (Direction × ℕ) → Type 0
+IsFound counts asked None None = Unit
+IsFound counts asked None (Some request) = ⊥
+IsFound counts asked (Some place) None = ⊥
+IsFound counts asked (Some place) (Some request) = IsKeptAs counts asked place request
+
+-- the same as it is looked up
+abbrev pub request_in : Exchanges → ℕ × ℕ → Option (Direction × ℕ)
+request_in exchanges key =
+    option_and_then (λ asked. option_map (λ at. (at, asked.nth)) (direction_at exchanges.requests_sent asked.place))
+    (asked_in exchanges.requests key)
+
+-- the messages of HTTP, with the newest first; no direction had more requests than there are
 pub record HasMessages (ms : List Message) (exchanges : Exchanges) : Type 0 where
-  pub requests_sent : (at : Direction) → count_in exchanges.requests_sent at ≡ requests_sent ms at
-  pub responses_sent : (at : Direction) → count_in exchanges.responses_sent at ≡ responses_sent ms at
+  pub most : (at : Direction) → requests_sent ms at ≤ length exchanges.requests.asked.items
+  pub requests_sent : (at : Direction) → count_in exchanges.requests_sent at ≡ counted (requests_sent ms at)
+  pub responses_sent : (at : Direction) → count_in exchanges.responses_sent at ≡ counted (responses_sent ms at)
   pub requests : (key : ℕ × ℕ)
-      → IsFound exchanges.requests_sent (asked_in exchanges.requests key) (request_of ms key)
+      → IsFound exchanges.requests_sent exchanges.requests.asked.items (place_in exchanges.requests key) (request_of ms key)
   pub replies : (request : ℕ × ℕ) → answer_in exchanges.replies request ≡ reply_to ms request
 
 pub record HasLinks (past : List Noted) (links : Links) : Type 0 where

@@ -2,14 +2,14 @@
 ghost use Rattle.std.specs.Prelude.{◌≡◌, ◌+◌, ℕ, if◌then◌else◌, Some, IfOk, OnOk};
 ghost use Rattle.second_pass.specs.declared.messages.Direction.{Direction as DirectionValue};
 ghost use Rattle.second_pass.specs.Messages.{same_direction};
-ghost use Rattle.second_pass.specs.Stands.{count_in, direction_at};
+ghost use Rattle.second_pass.specs.Stands.{count_in, counted, direction_at};
 
 use crate::messages::Direction;
 use indexmap::IndexMap;
 use pk_base::NoMemory;
 use std::alloc::Global;
 
-/// A number for each direction, from 0.
+/// A count for each direction, from 0. At its last value a count stands still.
 #[derive(Drop)]
 pub(crate) struct Counts {
     pub all: IndexMap<Direction, u64>,
@@ -41,22 +41,21 @@ impl Counts {
     /// Counts one more, and answers the direction's place, which stays its own.
     pub fn raise(&mut self, at: Direction) -> Result<usize, NoMemory>
         ensures counts { OnOk result ((other : DirectionValue) → count_in self.new other
-            ≡ (if same_direction at other then count_in self.old other + 1
+            ≡ (if same_direction at other then counted (count_in self.old other + 1)
             else count_in self.old other)) }
         ensures place { IfOk result (λ place. direction_at self.new place ≡ Some at) }
         ensures stay { OnOk result ((place : ℕ) (other : DirectionValue)
             → direction_at self.old place ≡ Some other
             → direction_at self.new place ≡ Some other) }
     {
-        let count = one_more(self.find(at))?;
+        let count = one_more(self.find(at));
         let (place, _) = self.all.insert_full(at, count)?;
         Ok(place)
     }
 }
 
-/// A number and one. One that doesn't fit 64 bits, for which no file is large enough, is want of memory.
-fn one_more(number: u64) -> Result<u64, NoMemory>
-    ensures { IfOk result (λ next. next ≡ number + 1) }
+fn one_more(number: u64) -> u64
+    ensures { result ≡ counted (number + 1) }
 {
-    number.checked_add(1).ok_or(NoMemory)
+    number.saturating_add(1)
 }

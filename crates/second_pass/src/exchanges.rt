@@ -1,10 +1,10 @@
 // Which requests of HTTP were answered, and by which frames.
-ghost use Rattle.std.specs.Prelude.{◌≡◌, List, [], ◌∷◌, Option, OnOk};
+ghost use Rattle.std.specs.Prelude.{◌≡◌, ℕ, List, [], ◌∷◌, Option, OnOk};
 ghost use Rattle.second_pass.specs.declared.messages.Kind.TheVariants as kinds;
 ghost use Rattle.second_pass.specs.declared.messages.Message.{Message as MessageValue};
 ghost use Rattle.second_pass.specs.Messages.{direction_in, frame_on, is_other as is_other_direction, layers_on, message_of, same_direction, with_message};
 ghost use Rattle.second_pass.specs.Replies.{answered, by_other, reply_to, request_of};
-ghost use Rattle.second_pass.specs.Stands.{HasMessages};
+ghost use Rattle.second_pass.specs.Stands.{HasMessages, counted, request_in};
 
 use crate::answers::Answers;
 use crate::counts::Counts;
@@ -117,10 +117,18 @@ impl Exchanges {
         by_other(frame, at, request)
     }
 
-    /// A frame's request that is the n-th of its direction, from 0: the direction, and the number of its layer.
+    /// A frame's request that is the n-th of its direction, from 0: the direction, and the number of its layer. The number is told by
+    /// a count. As there are never so many requests as the last count, that one tells none.
+    #[tactic(auto, using(crate::proofs::MessageLemmas::request_found))]
     fn request_of(&self, frame: u64, number: u64) -> Option<(Direction, u32)>
-        ensures { (ms : List MessageValue) → HasMessages ms self.now
-            → result ≡ request_of ms (frame, number) }
+        ensures { (ms : List MessageValue) (exact : ℕ) → HasMessages ms self.now
+            → number ≡ counted exact → result ≡ request_of ms (frame, exact) }
+    {
+        self.request_in(frame, number)
+    }
+
+    fn request_in(&self, frame: u64, number: u64) -> Option<(Direction, u32)>
+        ensures { result ≡ request_in self.now (frame, number) }
     {
         let asked = self.requests.find(frame, number)?;
         let at = self.requests_sent.at(asked.place)?;

@@ -1,11 +1,11 @@
 use Rattle.std.proofs.Common.{refl}
-use Rattle.std.proofs.lemmas.Result.{on_ok_weaker}
-use Rattle.second_pass.proofs.MessageLemmas.{request_noted}
+use Rattle.second_pass.specs.declared.requests.Asked.{Asked}
+use Rattle.second_pass.proofs.MessageLemmas.{both_ok, request_noted}
 use Rattle.second_pass.proofs.exchanges.Exchanges.note_request.Goals as goal
 
 pub returns : goal.returns
 returns c =
-    on_ok_weaker c.note.result (λ asked ms has.
-    request_noted ms c.args.message c.find-number.result c.in_ok-place.place c.args.self.now
+    both_ok c.note.result c.note.ensures.asked c.note.ensures.places (λ asked places ms has.
+    request_noted ms c.args.message c.find-number.result (record { place = c.in_ok-place.place; nth = c.args.message.nth }) c.args.self.now
     (record { requests_sent = c.raise.new.self; responses_sent = c.args.self.now.responses_sent; requests = c.note.new.self; replies = c.args.self.now.replies })
-    c.requires c.find-number.ensures c.in_ok-place.ensures.place c.in_ok-place.ensures.stay asked c.in_ok-place.ensures.counts refl refl has) c.note.ensures
+    c.requires c.find-number.ensures refl c.in_ok-place.ensures.place c.in_ok-place.ensures.stay asked places c.in_ok-place.ensures.counts refl refl has)
