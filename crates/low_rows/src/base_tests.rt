@@ -1,7 +1,6 @@
 // Bytes, bits and lists that every crate shares.
 use pk_base::{Lost, LostList, NoMemory, Numbers, Octets, Stretch, Stretches, be_bits};
 use std::alloc::{AllocError, Global};
-use std::test::Fail;
 
 /// The first bytes of an IPv4 header (RFC 791, 3.1): version 4, five words, total length 60, don't fragment.
 const HEADER: [u8; 8] = [0x45, 0x00, 0x00, 0x3c, 0x1c, 0x46, 0x40, 0x00];
@@ -27,7 +26,7 @@ fn keeps_lost(alloc: Global) -> Result<bool, AllocError> {
 }
 
 #[test]
-fn lost_positions_are_kept_in_order(rt: HostRuntime) -> Result<(), Fail> {
+fn lost_positions_are_kept_in_order(rt: HostRuntime) -> Result<(), AllocError> {
     assert!(rt; keeps_lost(rt.alloc())?);
     Ok(())
 }
@@ -38,7 +37,7 @@ fn keeps_numbers(alloc: Global) -> Result<bool, AllocError> {
 }
 
 #[test]
-fn numbers_are_kept_in_order(rt: HostRuntime) -> Result<(), Fail> {
+fn numbers_are_kept_in_order(rt: HostRuntime) -> Result<(), AllocError> {
     assert!(rt; keeps_numbers(rt.alloc())?);
     Ok(())
 }
@@ -82,7 +81,7 @@ fn are_shared(alloc: Global) -> Result<bool, NoMemory> {
 }
 
 #[test]
-fn bytes_are_kept_cut_and_shared(rt: HostRuntime) -> Result<(), Fail> {
+fn bytes_are_kept_cut_and_shared(rt: HostRuntime) -> Result<(), NoMemory> {
     assert!(rt; begin_empty() && are_shared(rt.alloc())?);
     Ok(())
 }
@@ -113,7 +112,7 @@ fn are_in_order(list: &[Stretch]) -> bool {
 }
 
 #[test]
-fn stretches_are_kept_in_order(rt: HostRuntime) -> Result<(), Fail> {
+fn stretches_are_kept_in_order(rt: HostRuntime) -> Result<(), NoMemory> {
     let list = two_stretches(rt.alloc())?;
     assert!(rt; are_in_order(list.slice()));
     Ok(())

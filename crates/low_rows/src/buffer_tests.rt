@@ -2,7 +2,6 @@
 use pk_base::{NoMemory, Octets, Span};
 use pk_buffer::Buffers;
 use std::alloc::Global;
-use std::test::Fail;
 
 fn add(buffers: &mut Buffers, alloc: Global, bytes: &[u8]) -> Result<u32, NoMemory> {
     let bytes = Octets::copy(alloc, bytes)?;
@@ -43,7 +42,7 @@ fn are_read(buffers: &mut Buffers, alloc: Global) -> Result<bool, NoMemory> {
 }
 
 #[test]
-fn spans_are_read_in_the_buffer_that_they_name(rt: HostRuntime) -> Result<(), Fail> {
+fn spans_are_read_in_the_buffer_that_they_name(rt: HostRuntime) -> Result<(), NoMemory> {
     let mut buffers = Buffers::new(rt.alloc());
     assert!(rt; are_read(&mut buffers, rt.alloc())?);
     Ok(())

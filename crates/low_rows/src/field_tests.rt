@@ -1,6 +1,5 @@
 // The names, kinds, protocols and bits of fields, and sets of fields.
 use pk_fields::{BitPlace, FieldId, FieldSet, ValueKind, bits, by_name, ids, kind, name, proto};
-use std::process::Abort;
 
 const NAMES: [(&str, FieldId); 4] = [
     ("frame", ids::FRAME),
@@ -9,18 +8,18 @@ const NAMES: [(&str, FieldId); 4] = [
     ("_ws.malformed", ids::WS_MALFORMED),
 ];
 
-fn are_named(rt: &impl Abort, rows: &[(&str, FieldId)]) {
+fn are_named(rows: &[(&str, FieldId)]) -> bool {
     for (text, field) in rows {
-        assert!(rt;
-            by_name(text) == Some(*field) && name(*field) == *text,
-            "{text}"
-        );
+        if by_name(text) != Some(*field) || name(*field) != *text {
+            return false;
+        }
     }
+    true
 }
 
 #[test]
 fn names_lead_to_their_fields_and_back(rt: HostRuntime) {
-    are_named(&rt, &NAMES);
+    assert!(rt; are_named(&NAMES));
 }
 
 const NO_NAMES: [&str; 7] = [
@@ -33,15 +32,18 @@ const NO_NAMES: [&str; 7] = [
     "frame_number",
 ];
 
-fn are_no_names(rt: &impl Abort, texts: &[&str]) {
+fn are_no_names(texts: &[&str]) -> bool {
     for text in texts {
-        assert!(rt; by_name(text).is_none(), "{text}");
+        if by_name(text).is_some() {
+            return false;
+        }
     }
+    true
 }
 
 #[test]
 fn other_texts_are_no_names(rt: HostRuntime) {
-    are_no_names(&rt, &NO_NAMES);
+    assert!(rt; are_no_names(&NO_NAMES));
 }
 
 const KINDS: [(FieldId, ValueKind); 9] = [
@@ -56,15 +58,18 @@ const KINDS: [(FieldId, ValueKind); 9] = [
     (ids::TCP, ValueKind::Proto),
 ];
 
-fn are_of_kinds(rt: &impl Abort, rows: &[(FieldId, ValueKind)]) {
+fn are_of_kinds(rows: &[(FieldId, ValueKind)]) -> bool {
     for (field, wanted) in rows {
-        assert!(rt; kind(*field) == *wanted, "{}", name(*field));
+        if kind(*field) != *wanted {
+            return false;
+        }
     }
+    true
 }
 
 #[test]
 fn each_kind_has_a_field(rt: HostRuntime) {
-    are_of_kinds(&rt, &KINDS);
+    assert!(rt; are_of_kinds(&KINDS));
 }
 
 #[test]
@@ -94,15 +99,18 @@ fn parts_of(place: Option<BitPlace>) -> Option<(u8, u8, u8)> {
     Some((place.first, place.width, place.scale))
 }
 
-fn have_bits(rt: &impl Abort, rows: &[(FieldId, Option<(u8, u8, u8)>)]) {
+fn have_bits(rows: &[(FieldId, Option<(u8, u8, u8)>)]) -> bool {
     for (field, wanted) in rows {
-        assert!(rt; parts_of(bits(*field)) == *wanted, "{}", name(*field));
+        if parts_of(bits(*field)) != *wanted {
+            return false;
+        }
     }
+    true
 }
 
 #[test]
 fn bits_are_those_of_the_headers(rt: HostRuntime) {
-    have_bits(&rt, &BITS);
+    assert!(rt; have_bits(&BITS));
 }
 
 const IN_SET: [(FieldId, bool); 8] = [
@@ -124,15 +132,14 @@ fn two_fields() -> FieldSet {
 }
 
 /// Whether the set has just those fields of the rows, of which a set of all fields has each.
-fn are_held(rt: &impl Abort, set: &FieldSet, rows: &[(FieldId, bool)]) {
+fn are_held(set: &FieldSet, rows: &[(FieldId, bool)]) -> bool {
     let all = FieldSet::all();
     for (field, wanted) in rows {
-        assert!(rt;
-            set.contains(*field) == *wanted && all.contains(*field),
-            "{}",
-            name(*field)
-        );
+        if set.contains(*field) != *wanted || !all.contains(*field) {
+            return false;
+        }
     }
+    true
 }
 
 /// Whether the set has two fields with their protocols, and `frame`, which stands in each set.
@@ -143,6 +150,6 @@ fn has_five(set: &FieldSet) -> bool {
 #[test]
 fn a_set_holds_what_was_added_and_its_protocols(rt: HostRuntime) {
     let set = two_fields();
-    are_held(&rt, &set, &IN_SET);
-    assert!(rt; has_five(&set) && set.has_any_of(ids::TCP) && !set.has_any_of(ids::UDP));
+    assert!(rt; are_held(&set, &IN_SET) && has_five(&set));
+    assert!(rt; set.has_any_of(ids::TCP) && !set.has_any_of(ids::UDP));
 }

@@ -3,14 +3,14 @@ use pk_outside::{
     Capture, Failed, FileCapture, MemoryCapture, MemorySink, NamedFile, Sink, StdSink, SureCapture,
     SureSink, write_whole,
 };
-use std::alloc::Global;
+use std::alloc::{AllocError, Global};
 use std::fs;
 use std::test::Fail;
 
 const ROOM: usize = 64;
 
 // Adds what one read gives, or a mark where it fails.
-fn push_read<C: Capture>(capture: &mut C, trace: &mut Vec<u8>) -> Result<(), Fail> {
+fn push_read<C: Capture>(capture: &mut C, trace: &mut Vec<u8>) -> Result<(), AllocError> {
     let mut room = [0; ROOM];
     match capture.read(&mut room) {
         Ok(count) => trace.extend_from_slice(&room[..count])?,
@@ -20,7 +20,7 @@ fn push_read<C: Capture>(capture: &mut C, trace: &mut Vec<u8>) -> Result<(), Fai
 }
 
 // What eight reads give, with a mark for each that fails.
-fn trace<C: Capture>(alloc: Global, capture: &mut C) -> Result<Vec<u8>, Fail> {
+fn trace<C: Capture>(alloc: Global, capture: &mut C) -> Result<Vec<u8>, AllocError> {
     let mut trace = Vec::new(alloc);
     for _ in 0..8 {
         push_read(capture, &mut trace)?;
@@ -28,7 +28,7 @@ fn trace<C: Capture>(alloc: Global, capture: &mut C) -> Result<Vec<u8>, Fail> {
     Ok(trace)
 }
 
-fn gives<C: Capture>(alloc: Global, capture: &mut C, want: &[u8]) -> Result<bool, Fail> {
+fn gives<C: Capture>(alloc: Global, capture: &mut C, want: &[u8]) -> Result<bool, AllocError> {
     Ok(trace(alloc, capture)?.as_slice() == want)
 }
 
@@ -37,25 +37,32 @@ fn takes<S: Sink>(sink: &mut S, piece: &[u8]) -> bool {
     write_whole(sink, piece).is_ok()
 }
 
-fn begin<C: Capture>(alloc: Global, capture: &mut C, name: &str) -> Result<bool, Fail> {
+fn begin<C: Capture>(alloc: Global, capture: &mut C, name: &str) -> Result<bool, AllocError> {
     let name = String::from_str(alloc, name)?;
     Ok(capture.begin(name).is_ok())
 }
 
-fn named(alloc: Global, name: &str, bytes: &[u8]) -> Result<NamedFile, Fail> {
-    let bytes = Vec::from_slice(alloc, bytes)?;
-    let name = String::from_str(alloc, name)?;
-    Ok(NamedFile::new(name, bytes))
+// Gives up the bytes of a file that has no name.
+fn refused(_bytes: Vec<u8>, error: AllocError) -> Result<NamedFile, AllocError> {
+    Err(error)
 }
 
-fn push_named(alloc: Global, files: &mut Vec<NamedFile>, bytes: &[u8]) -> Result<(), Fail> {
+fn named(alloc: Global, name: &str, bytes: &[u8]) -> Result<NamedFile, AllocError> {
+    let bytes = Vec::from_slice(alloc, bytes)?;
+    match String::from_str(alloc, name) {
+        Ok(name) => Ok(NamedFile::new(name, bytes)),
+        Err(error) => refused(bytes, error),
+    }
+}
+
+fn push_named(alloc: Global, files: &mut Vec<NamedFile>, bytes: &[u8]) -> Result<(), AllocError> {
     let file = named(alloc, "f", bytes)?;
     files.push(file)?;
     Ok(())
 }
 
 // Two files of one name.
-fn two_names(alloc: Global) -> Result<Vec<NamedFile>, Fail> {
+fn two_names(alloc: Global) -> Result<Vec<NamedFile>, AllocError> {
     let mut files = Vec::new(alloc);
     push_named(alloc, &mut files, b"abcde")?;
     push_named(alloc, &mut files, b"later")?;
@@ -63,7 +70,7 @@ fn two_names(alloc: Global) -> Result<Vec<NamedFile>, Fail> {
 }
 
 // Two files of one name, of which reads give two bytes at a time, and the third call fails.
-fn two_files(alloc: Global) -> Result<MemoryCapture, Fail> {
+fn two_files(alloc: Global) -> Result<MemoryCapture, AllocError> {
     let files = two_names(alloc)?;
     let failing = Vec::from_slice(alloc, &[3])?;
     Ok(MemoryCapture::new(files, failing, 2))
@@ -75,33 +82,33 @@ fn begins_and_gives<C: Capture>(
     capture: &mut C,
     name: &str,
     want: &[u8],
-) -> Result<bool, Fail> {
+) -> Result<bool, AllocError> {
     Ok(begin(alloc, capture, name)? && gives(alloc, capture, want)?)
 }
 
 // Whether the first of two files is read past the call that fails, and a third name begins none.
-fn counts_calls<C: Capture>(alloc: Global, capture: &mut C) -> Result<bool, Fail> {
+fn counts_calls<C: Capture>(alloc: Global, capture: &mut C) -> Result<bool, AllocError> {
     Ok(begins_and_gives(alloc, capture, "f", b"ab!cde")? && !begin(alloc, capture, "g")?)
 }
 
-fn counts_calls_of_two(alloc: Global) -> Result<bool, Fail> {
+fn counts_calls_of_two(alloc: Global) -> Result<bool, AllocError> {
     let mut capture = two_files(alloc)?;
     counts_calls(alloc, &mut capture)
 }
 
 #[test]
-fn calls_are_counted_together_and_the_named_ones_fail(rt: HostRuntime) -> Result<(), Fail> {
+fn calls_are_counted_together_and_the_named_ones_fail(rt: HostRuntime) -> Result<(), AllocError> {
     assert!(rt; counts_calls_of_two(rt.alloc())?);
     Ok(())
 }
 
-fn is_sure(alloc: Global) -> Result<bool, Fail> {
+fn is_sure(alloc: Global) -> Result<bool, AllocError> {
     let mut capture = SureCapture::new(Vec::from_slice(alloc, b"abcde")?);
     begins_and_gives(alloc, &mut capture, "g", b"abcde")
 }
 
 #[test]
-fn a_sure_capture_begins_with_any_name(rt: HostRuntime) -> Result<(), Fail> {
+fn a_sure_capture_begins_with_any_name(rt: HostRuntime) -> Result<(), AllocError> {
     assert!(rt; is_sure(rt.alloc())?);
     Ok(())
 }
@@ -114,13 +121,13 @@ fn takes_two_of_three<S: Sink>(sink: &mut S) -> bool {
     first && !second && third
 }
 
-fn keeps_two_of_three(alloc: Global) -> Result<bool, Fail> {
+fn keeps_two_of_three(alloc: Global) -> Result<bool, AllocError> {
     let mut sink = MemorySink::new(alloc, Vec::from_slice(alloc, &[2])?);
     Ok(takes_two_of_three(&mut sink) && sink.bytes() == b"firstthird".as_slice())
 }
 
 #[test]
-fn a_piece_is_one_write(rt: HostRuntime) -> Result<(), Fail> {
+fn a_piece_is_one_write(rt: HostRuntime) -> Result<(), AllocError> {
     assert!(rt; keeps_two_of_three(rt.alloc())?);
     Ok(())
 }
@@ -138,7 +145,7 @@ fn a_sure_sink_takes_all(rt: HostRuntime) {
     assert!(rt; keeps);
 }
 
-fn reads(rt: &HostRuntime, name: &str, want: &[u8]) -> Result<bool, Fail> {
+fn reads(rt: &HostRuntime, name: &str, want: &[u8]) -> Result<bool, AllocError> {
     let mut files = FileCapture::new(rt);
     begins_and_gives(rt.alloc(), &mut files, name, want)
 }
@@ -156,18 +163,20 @@ fn a_file_is_read_to_its_end(rt: HostRuntime) -> Result<(), Fail> {
 }
 
 // Whether no file begins, and behind it a directory, of which each read fails.
-fn misses_then_fails<C: Capture>(alloc: Global, capture: &mut C) -> Result<bool, Fail> {
+fn misses_then_fails<C: Capture>(alloc: Global, capture: &mut C) -> Result<bool, AllocError> {
     let is_missed = !begin(alloc, capture, "/no/such/file")?;
     Ok(is_missed && begins_and_gives(alloc, capture, "/", b"!!!!!!!!")?)
 }
 
-fn files_fail(rt: &HostRuntime) -> Result<bool, Fail> {
+fn files_fail(rt: &HostRuntime) -> Result<bool, AllocError> {
     let mut files = FileCapture::new(rt);
     misses_then_fails(rt.alloc(), &mut files)
 }
 
 #[test]
-fn a_missing_file_is_missed_and_a_directory_does_not_read(rt: HostRuntime) -> Result<(), Fail> {
+fn a_missing_file_is_missed_and_a_directory_does_not_read(
+    rt: HostRuntime,
+) -> Result<(), AllocError> {
     assert!(rt; files_fail(&rt)?);
     Ok(())
 }
@@ -180,7 +189,7 @@ fn a_full_device_fails(rt: HostRuntime) -> Result<(), Fail> {
 }
 
 #[test]
-fn a_good_stream_takes_all(rt: HostRuntime) -> Result<(), Fail> {
+fn a_good_stream_takes_all(rt: HostRuntime) -> Result<(), AllocError> {
     let mut out = StdSink::new(rt.stdout());
     assert!(rt; takes(&mut out, b"a good stream\n"));
     Ok(())
