@@ -1,5 +1,4 @@
 pub mod CountLemmas
-pub mod FieldLemmas
 pub mod KeptNotes
 pub mod KeptTables
 pub mod KeyLemmas

@@ -1,3 +1,4 @@
+mod AddedLemmas
 pub mod FieldSetLemmas
 pub mod HalfLemmas
 pub mod Names

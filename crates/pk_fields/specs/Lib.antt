@@ -1,3 +1,4 @@
+pub mod AddedFields
 pub mod FieldSets
 pub mod Fields
 pub mod Halves

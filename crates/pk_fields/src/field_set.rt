@@ -1,6 +1,7 @@
 ghost use Rattle.std.specs.Prelude.{◌≡◌, ◌==◌, ◌||◌, ◌<◌, ◌*◌, ◌^◌, ℕ, true, false, length, count_ones};
-ghost use Rattle.std.specs.List.{sum_by};
+ghost use Rattle.std.specs.List.{AllByRecursion as Each, sum_by};
 ghost use Rattle.pk_fields.specs.Fields.{row_of};
+ghost use Rattle.pk_fields.specs.AddedFields.{adds};
 ghost use Rattle.pk_fields.specs.FieldSets.{is_in, least_fields, every_field};
 
 use crate::field_id::FieldId;
@@ -81,6 +82,17 @@ impl FieldSet {
         let home = proto(field);
         set_bit(&mut self.words, home);
         set_bit(&mut self.words, field);
+    }
+
+    /// Adds fields and their protocols, and nothing else.
+    pub fn add_all(&mut self, fields: &[FieldId])
+        ensures added { (f : ℕ) → is_in self.new f ≡ (adds fields.now f || is_in self.old f) }
+        ensures fields { Each (λ field. is_in self.new field ≡ true) fields.now }
+        ensures kept { (f : ℕ) → is_in self.old f ≡ true → is_in self.new f ≡ true }
+    {
+        for field in fields {
+            self.add(*field);
+        }
     }
 }
 

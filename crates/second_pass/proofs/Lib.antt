@@ -1,4 +1,3 @@
-pub mod FieldLemmas
 pub mod KeptLayers
 pub mod KeptLinks
 pub mod KeptMessages

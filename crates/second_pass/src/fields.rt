@@ -1,6 +1,7 @@
 // The fields of links.
-ghost use Rattle.std.specs.Prelude.{◌≡◌, ℕ, true};
+ghost use Rattle.std.specs.Prelude.{◌≡◌, ◌||◌, ℕ, true};
 ghost use Rattle.std.specs.List.{AllByRecursion as Each};
+ghost use Rattle.pk_fields.specs.AddedFields.{adds};
 ghost use Rattle.pk_fields.specs.FieldSets.{is_in};
 ghost use Rattle.second_pass.specs.Laws.{link_fields};
 
@@ -29,31 +30,12 @@ const LINK_FIELDS: [FieldId; 19] = [
     ids::IPV6_SRC,
 ];
 
-/// Adds to a set the fields that links are read from, and those that show them. Trees with the items of such a set's fields
-/// alone get the links that the whole trees get.
+/// Adds to a set the fields that links are read from, and those that show them, with their protocols, and nothing else.
+/// Trees with the items of such a set's fields alone get the links that the whole trees get.
 pub fn add_fields(set: &mut FieldSet)
+    ensures added { (f : ℕ) → is_in set.new f ≡ (adds link_fields f || is_in set.old f) }
     ensures fields { Each (λ field. is_in set.new field ≡ true) link_fields }
     ensures kept { (field : ℕ) → is_in set.old field ≡ true → is_in set.new field ≡ true }
 {
-    add_all(set, &LINK_FIELDS)
-}
-
-fn add_all(set: &mut FieldSet, fields: &[FieldId])
-    ensures fields { Each (λ field. is_in set.new field ≡ true) fields.now }
-    ensures kept { (field : ℕ) → is_in set.old field ≡ true → is_in set.new field ≡ true }
-{
-    match fields {
-        [] => {}
-        [first, others @ ..] => {
-            add_all(set, others);
-            add(set, *first);
-        }
-    }
-}
-
-fn add(set: &mut FieldSet, field: FieldId)
-    ensures there { is_in set.new field ≡ true }
-    ensures kept { (f : ℕ) → is_in set.old f ≡ true → is_in set.new f ≡ true }
-{
-    set.add(field);
+    set.add_all(&LINK_FIELDS)
 }
