@@ -1,6 +1,7 @@
 """What bench/gate.sh prints. It looks five times a second at the processes of rt: a process counts for the crate that it was called
-for, with those that it started itself. What a process did behind the last look isn't seen: the last line tells how much of all that
-ran it saw, beside which rt itself, LLVM, the tests and the programs run. Interrupted, it prints what it saw until then."""
+for, with those that it started itself. A crate of rows that is a program counts as tests. What a process did behind the last look isn't
+seen: the last line tells how much of all that ran it saw, beside which rt itself, LLVM, the tests and the programs run. Interrupted, it
+prints what it saw until then."""
 import os
 import re
 import resource
@@ -26,6 +27,11 @@ def below():
             if colon:
                 found[name.split()[0]] = deps.split()
     return found
+
+
+def is_rows(crate):
+    """Returns whether a crate is a program that reads rows of tests."""
+    return crate.endswith("_rows") and os.path.exists(f"crates/{crate}/src/main.rt")
 
 
 def read(path):
@@ -62,8 +68,9 @@ def proofs():
             is_edit = os.path.basename(os.readlink(f"/proc/{pid}/cwd")).startswith("rt-edit-")
         except OSError:
             continue
-        part = "edits" if is_edit else "tests" if "--test" in words else "library"
-        yield (pid, stats[pid][19]), words[words.index("--crate-name") + 1], part, used
+        crate = words[words.index("--crate-name") + 1]
+        part = "edits" if is_edit else "tests" if "--test" in words or is_rows(crate) else "library"
+        yield (pid, stats[pid][19]), crate, part, used
 
 
 class Watch(threading.Thread):
@@ -152,7 +159,7 @@ def reckoned(deps, sums, lanes, is_gate):
     """Returns the seconds that so many processors would take by the clock, one proof on each, in rt's order: first what the longest chain of
     proofs waits for, and edits where nothing else can run. Without is_gate it is the libraries of the programs alone, as ./build proves them."""
     tasks, behind = {}, {}
-    needed = {it for it in deps if os.path.exists(f"crates/{it}/src/main.rt")}
+    needed = {it for it in deps if os.path.exists(f"crates/{it}/src/main.rt") and not is_rows(it)}
     for crate in reversed(deps):
         if crate in needed:
             needed.update(deps[crate])
