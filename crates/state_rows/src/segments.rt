@@ -1,89 +1,41 @@
+//! Segments of TCP, in frames from 1 on. A row is a title and lines, one after the other:
+//!
+//! | Line | What it says |
+//! |---|---|
+//! | `client 10 - syn ab -> 0 0 0 - 0 0 2` | sender, sequence number, acknowledgment number where ACK is set, whether SYN is, bytes. Behind the arrow: stream, side, sequence number, acknowledgment number, position, front end before and after, and lost positions (`2-5`) |
+//! | `client 10 - - ab -> shows ..` | the messages that the frame shows (or `nothing`): kind, position, length, and `@` with the place in the segment, or the frames that brought it. Behind `by` stand the frames of all these |
+//! | `bytes of 0 1 -> 0 ab 5 fgh` | of a stream and side: the stretches, each behind its start |
+//! | `bytes of 0 0 1 3 -> 2,3` | of a stream, a side, and positions from one up to another: the frames that brought them, or `not held` |
 ghost use Rattle.std.specs.Prelude.{◌<◌};
 ghost use Rattle.tcp_streams.specs.Standing.{stream_count};
 
-// Segments one after the other, and what each is to the streams, in words.
-use crate::sent::{Head, Sent, client, endpoint, give_up, server};
+use crate::sent::{Head, Sent, ends_of, give_up};
+use crate::streams::behind_message;
+use crate::words::{
+    are_bytes, are_frames, behind, first_of, is_first, is_number, is_pair, octets_of,
+};
 use pk_base::{Lost, NoMemory, Stretch};
-use pk_tree::Endpoint;
 use std::alloc::Global;
-use std::process::Abort;
+use stream_messages::App;
+use tcp_messages::{Met, ShownMessage, Source};
 use tcp_streams::{Streams, Taken};
 
-pub(crate) struct Sequence {
-    pub(crate) shows: &'static str,
-    /// A line for each segment. Before the colon: sender, sequence number, acknowledgment number where ACK is set, `syn`
-    /// where SYN is, bytes. Behind it: stream, side, sequence number, acknowledgment number, position, front end before
-    /// and after, and the lost positions. What isn't there is `-`.
-    pub(crate) lines: &'static [&'static str],
-    /// Streams and sides that have bytes in the end, and their stretches, each with its start.
-    pub(crate) ends: &'static [((u32, u8), &'static str)],
-}
-
-fn ends_of(sender: &str) -> Option<(Endpoint, Endpoint)> {
-    match sender {
-        "client" => Some((client(), server())),
-        "server" => Some((server(), client())),
-        "other" => Some((endpoint(0x0a00_0003, 4000), server())),
-        "to-other" => Some((server(), endpoint(0x0a00_0003, 4000))),
-        "itself" => Some((client(), client())),
-        _ => None,
-    }
-}
-
-fn bytes_of(word: &str) -> &[u8] {
-    if word == "-" { b"" } else { word.as_bytes() }
-}
-
-/// The first word, and what follows it.
-fn first_of(words: &str) -> (&str, &str) {
-    words.split_once(' ').unwrap_or((words, ""))
-}
-
 /// A segment without its bytes, and these.
-fn head(words: &str) -> Option<(Head, &str)> {
+fn head_of(words: &str) -> Option<(Head, &str)> {
     let (sender, words) = first_of(words);
     let (seq, words) = first_of(words);
     let (ack, words) = first_of(words);
     let (syn, bytes) = first_of(words);
-    let (from, to) = ends_of(sender)?;
     let head = Head {
-        from,
-        to,
+        ends: ends_of(sender)?,
         seq: seq.parse().ok()?,
         ack: ack.parse().ok(),
-        syn: syn == "syn",
+        syn: is_first(syn, "syn", "-")?,
     };
+    if head.ack.is_none() && ack != "-" {
+        return None;
+    }
     Some((head, bytes))
-}
-
-/// Whether a word is a number, or `-` where there is none.
-fn is_number(word: &str, number: Option<i128>) -> bool {
-    match number {
-        Some(number) => word.parse() == Ok(number),
-        None => word == "-",
-    }
-}
-
-/// What follows these numbers, if words begin with them.
-fn behind<'a>(words: &'a str, numbers: &[Option<i128>]) -> Option<&'a str> {
-    let mut rest = words;
-    for number in numbers {
-        let (word, others) = first_of(rest);
-        if !is_number(word, *number) {
-            return None;
-        }
-        rest = others;
-    }
-    Some(rest)
-}
-
-fn is_gap(word: &str, gap: &Lost) -> bool {
-    match word.split_once('-') {
-        Some((from, to)) => {
-            is_number(from, Some(i128::from(gap.from))) && is_number(to, Some(i128::from(gap.to)))
-        }
-        None => false,
-    }
 }
 
 /// Whether words name just these gaps.
@@ -91,7 +43,7 @@ fn are_gaps(words: &str, gaps: &[Lost]) -> bool {
     let mut rest = words;
     for gap in gaps {
         let (word, others) = first_of(rest);
-        if !is_gap(word, gap) {
+        if !is_pair(word, '-', gap.from, gap.to) {
             return false;
         }
         rest = others;
@@ -99,7 +51,7 @@ fn are_gaps(words: &str, gaps: &[Lost]) -> bool {
     rest.is_empty()
 }
 
-fn is_told(words: &str, taken: &Taken) -> bool {
+fn is_taken(words: &str, taken: &Taken) -> bool {
     let numbers = [
         Some(i128::from(taken.stream)),
         Some(i128::from(taken.side)),
@@ -115,27 +67,62 @@ fn is_told(words: &str, taken: &Taken) -> bool {
     }
 }
 
-/// Sends the segment of a line. Whether it is what it is told to be.
-fn is_taken(sent: &mut Sent, alloc: Global, line: &str) -> Result<bool, NoMemory> {
-    let Some((words, expected)) = line.split_once(": ") else {
-        return Ok(false);
-    };
-    let Some((head, bytes)) = head(words) else {
-        return Ok(false);
-    };
-    let segment = head.segment(alloc, bytes_of(bytes))?;
-    let taken = sent.send(segment)?;
-    Ok(is_told(expected, &taken))
-}
-
-/// Whether each segment is what it is told to be.
-fn are_taken(sent: &mut Sent, alloc: Global, lines: &[&str]) -> Result<bool, NoMemory> {
-    for line in lines {
-        if !is_taken(sent, alloc, line)? {
-            return Ok(false);
+/// Whether a word tells where the bytes of a message are, which are so many.
+fn is_source(word: &str, source: &Source, len: usize) -> bool {
+    match source {
+        Source::Segment(place) => match word.strip_prefix('@') {
+            Some(word) => is_number(word, Some(i128::from(*place as u64))),
+            None => false,
+        },
+        Source::Gathered(gathered) => {
+            gathered.bytes.bytes().len() == len && are_frames(word, gathered.frames.slice())
         }
     }
-    Ok(true)
+}
+
+/// What follows these messages, if words begin with them.
+fn behind_shown<'a>(words: &'a str, messages: &[ShownMessage]) -> Option<&'a str> {
+    let mut rest = words;
+    for shown in messages {
+        let (source, others) = first_of(behind_message(rest, &shown.message)?);
+        if !is_source(source, &shown.source, shown.message.told.end()) {
+            return None;
+        }
+        rest = others;
+    }
+    Some(rest)
+}
+
+fn is_shown(words: &str, met: &Met) -> bool {
+    match (
+        behind_shown(words, met.messages.slice()),
+        met.frames.slice(),
+    ) {
+        (Some(rest), []) => rest.is_empty(),
+        (Some(rest), frames) => match rest.strip_prefix("by ") {
+            Some(word) => are_frames(word, frames),
+            None => false,
+        },
+        (None, _) => false,
+    }
+}
+
+/// Whether words tell what a segment is to its stream, where it shows nothing, or what it shows.
+fn is_met(words: &str, met: &Met) -> bool {
+    match (words.strip_prefix("shows "), met.messages.slice()) {
+        (Some(words), []) => words == "nothing" && met.frames.slice().is_empty(),
+        (Some(words), _) => is_shown(words, met),
+        (None, messages) => messages.is_empty() && is_taken(words, &met.taken),
+    }
+}
+
+fn is_sent(sent: &mut Sent, alloc: Global, words: &str, told: &str) -> Result<bool, NoMemory> {
+    let Some((head, bytes)) = head_of(words) else {
+        return Ok(false);
+    };
+    let segment = head.segment(octets_of(alloc, bytes)?);
+    let met = sent.send(segment)?;
+    Ok(is_met(told, &met))
 }
 
 /// Whether a direction hands out a stretch and its second half as parts, and nothing past its end.
@@ -154,30 +141,25 @@ fn is_part(streams: &Streams, stream: u32, side: u8, stretch: &Stretch) -> bool
         && streams.part(stream, side, middle, end) == second
 }
 
-/// Whether a direction hands out these stretches as parts.
-fn are_parts(streams: &Streams, stream: u32, side: u8, stretches: &[Stretch]) -> bool
+/// Whether words tell just these stretches, each with its start, and a direction hands them out as parts.
+fn are_stretches(
+    streams: &Streams,
+    stream: u32,
+    side: u8,
+    stretches: &[Stretch],
+    words: &str,
+) -> bool
     requires stream { stream < stream_count streams.now }
     requires side { side < 2 }
 {
-    for stretch in stretches {
-        if !is_part(streams, stream, side, stretch) {
-            return false;
-        }
-    }
-    true
-}
-
-fn is_stretch(start: &str, bytes: &str, stretch: &Stretch) -> bool {
-    is_number(start, Some(i128::from(stretch.start))) && stretch.bytes.bytes() == bytes_of(bytes)
-}
-
-/// Whether words tell just these stretches, each with its start.
-fn are_stretches(words: &str, stretches: &[Stretch]) -> bool {
     let mut rest = words;
     for stretch in stretches {
         let (start, others) = first_of(rest);
         let (bytes, others) = first_of(others);
-        if !is_stretch(start, bytes, stretch) {
+        if !is_number(start, Some(i128::from(stretch.start)))
+            || !are_bytes(stretch.bytes.bytes(), bytes)
+            || !is_part(streams, stream, side, stretch)
+        {
             return false;
         }
         rest = others;
@@ -194,82 +176,76 @@ fn is_last(front: &[u8], stretches: &[Stretch]) -> bool {
 }
 
 /// Whether a direction has these stretches, the last of which is its front.
-fn ends_so(streams: &Streams, stream: u32, side: u8, words: &str) -> Result<bool, NoMemory> {
-    if stream >= streams.count() || side > 1 {
-        return Ok(false);
-    }
+fn ends_so(streams: &Streams, stream: u32, side: u8, words: &str) -> Result<bool, NoMemory>
+    requires stream { stream < stream_count streams.now }
+    requires side { side < 2 }
+{
     let stretches = streams.stretches(stream, side)?;
     let stretches = stretches.slice();
     Ok(
-        are_stretches(words, stretches)
-            && are_parts(streams, stream, side, stretches)
+        are_stretches(streams, stream, side, stretches, words)
             && is_last(streams.front(stream, side), stretches),
     )
 }
 
-fn end_so(streams: &Streams, ends: &[((u32, u8), &str)]) -> Result<bool, NoMemory> {
-    for ((stream, side), words) in ends {
-        if !ends_so(streams, *stream, *side, words)? {
+/// Whether bytes of a direction come from these frames.
+fn come_from(
+    streams: &Streams,
+    stream: u32,
+    side: u8,
+    range: &str,
+    frames: &str,
+) -> Result<bool, NoMemory>
+    requires stream { stream < stream_count streams.now }
+    requires side { side < 2 }
+{
+    let (from, to) = first_of(range);
+    let (Ok(from), Ok(to)) = (from.parse(), to.parse()) else {
+        return Ok(false);
+    };
+    if !streams.holds(stream, side, from, to) {
+        return Ok(frames == "not held");
+    }
+    Ok(are_frames(frames, streams.origins(stream, side, from, to)?.slice()))
+}
+
+fn is_kept(streams: &Streams, words: &str, told: &str) -> Result<bool, NoMemory> {
+    let (stream, words) = first_of(words);
+    let (side, range) = first_of(words);
+    let (Ok(stream), Ok(side)) = (stream.parse(), side.parse()) else {
+        return Ok(false);
+    };
+    if stream >= streams.count() || side > 1 {
+        return Ok(false);
+    }
+    if range.is_empty() {
+        ends_so(streams, stream, side, told)
+    } else {
+        come_from(streams, stream, side, range, told)
+    }
+}
+
+fn line_holds(sent: &mut Sent, alloc: Global, line: &str) -> Result<bool, NoMemory> {
+    let (words, told) = line.split_once(" -> ").unwrap_or((line, ""));
+    match words.strip_prefix("bytes of ") {
+        Some(words) => is_kept(sent.streams.streams(), words, told),
+        None => is_sent(sent, alloc, words, told),
+    }
+}
+
+fn lines_hold(sent: &mut Sent, alloc: Global, lines: &str) -> Result<bool, NoMemory> {
+    for line in lines.lines() {
+        if !line_holds(sent, alloc, line)? {
             return Ok(false);
         }
     }
     Ok(true)
 }
 
-/// Whether each segment is what it is told to be, and the directions end as they should.
-fn holds(alloc: Global, sequence: &Sequence) -> Result<bool, NoMemory> {
-    let mut sent = Sent::new(alloc);
-    let holds = sent_holds(&mut sent, alloc, sequence);
+pub(crate) fn hold(alloc: Global, app: Option<App>, row: &str) -> Result<bool, NoMemory> {
+    let (_, lines) = row.split_once('\n').unwrap_or((row, "?"));
+    let mut sent = Sent::new(alloc, app);
+    let hold = lines_hold(&mut sent, alloc, lines);
     give_up(sent);
-    holds
-}
-
-fn sent_holds(sent: &mut Sent, alloc: Global, sequence: &Sequence) -> Result<bool, NoMemory> {
-    Ok(are_taken(sent, alloc, sequence.lines)? && end_so(&sent.streams, sequence.ends)?)
-}
-
-pub(crate) fn all_hold(
-    rt: &impl Abort,
-    alloc: Global,
-    sequences: &[Sequence],
-) -> Result<(), NoMemory> {
-    for sequence in sequences {
-        assert!(rt; holds(alloc, sequence)?, "{}", sequence.shows);
-    }
-    Ok(())
-}
-
-/// Lines of segments, positions of stream 0, side 0, from one up to another, and frames: whether the bytes are held and
-/// come from these.
-pub(crate) struct Origins {
-    pub(crate) lines: &'static [&'static str],
-    pub(crate) from: u64,
-    pub(crate) to: u64,
-    pub(crate) frames: &'static [u32],
-    pub(crate) held: bool,
-}
-
-fn come_from(streams: &Streams, row: &Origins) -> Result<bool, NoMemory> {
-    if streams.count() == 0 || !streams.holds(0, 0, row.from, row.to) {
-        return Ok(false);
-    }
-    Ok(streams.origins(0, 0, row.from, row.to)?.slice() == row.frames)
-}
-
-fn is_held(alloc: Global, row: &Origins) -> Result<bool, NoMemory> {
-    let mut sent = Sent::new(alloc);
-    let holds = sent_held(&mut sent, alloc, row);
-    give_up(sent);
-    holds
-}
-
-fn sent_held(sent: &mut Sent, alloc: Global, row: &Origins) -> Result<bool, NoMemory> {
-    Ok(are_taken(sent, alloc, row.lines)? && come_from(&sent.streams, row)? == row.held)
-}
-
-pub(crate) fn all_held(rt: &impl Abort, alloc: Global, rows: &[Origins]) -> Result<(), NoMemory> {
-    for row in rows {
-        assert!(rt; is_held(alloc, row)?, "{} to {}", row.from, row.to);
-    }
-    Ok(())
+    hold
 }

@@ -1,77 +1,89 @@
 ghost use Rattle.std.specs.Prelude.{◌≤◌};
 ghost use Rattle.tcp_streams.specs.Standing.{taken_so_far};
+ghost use Rattle.tcp_messages.specs.Standing.{streams_in};
 
 use pk_base::{NoMemory, Octets};
 use pk_tree::{Address, Endpoint};
 use std::alloc::Global;
-use tcp_streams::{Segment, Streams, Taken};
+use stream_messages::App;
+use tcp_messages::{MessageStreams, Met};
+use tcp_streams::Segment;
 
-/// Streams, and how many frames were sent to them.
+/// Streams of an application, and how many frames were sent to them.
 #[derive(Drop)]
 pub(crate) struct Sent {
-    pub(crate) streams: Streams,
+    pub(crate) streams: MessageStreams,
+    app: Option<App>,
     frames: u32,
-    ghost few: { taken_so_far streams ≤ frames },
+    ghost few: { taken_so_far (streams_in streams) ≤ frames },
 }
 
 impl Sent {
-    pub(crate) fn new(alloc: Global) -> Sent {
+    pub(crate) fn new(alloc: Global, app: Option<App>) -> Sent {
         Sent {
-            streams: Streams::new(alloc),
+            streams: MessageStreams::new(alloc),
+            app,
             frames: 0,
         }
     }
 
     /// Sends a segment in the next frame; frames are numbered from 1.
-    pub(crate) fn send(&mut self, mut segment: Segment) -> Result<Taken, NoMemory> {
+    pub(crate) fn send(&mut self, mut segment: Segment) -> Result<Met, NoMemory> {
         let Some(frames) = self.frames.checked_add(1) else {
             return Err(NoMemory);
         };
         segment.frame = frames;
         self.frames = frames;
-        self.streams.take(&segment)
+        self.streams.take(&segment, self.app)
     }
 }
 
 /// Gives streams up, whose destructor is written out at each place where they are dropped.
 pub(crate) fn give_up(_sent: Sent) {}
 
-pub(crate) fn endpoint(address: u32, port: u16) -> Endpoint {
+fn endpoint(address: u32, port: u16) -> Endpoint {
     Endpoint {
         address: Address::Four(address),
         port,
     }
 }
 
-pub(crate) fn client() -> Endpoint {
-    endpoint(0x0a00_0001, 4000)
-}
-
-pub(crate) fn server() -> Endpoint {
-    endpoint(0x0a00_0002, 9999)
+/// The two ends of a segment by its sender.
+pub(crate) fn ends_of(sender: &str) -> Option<(Endpoint, Endpoint)> {
+    let client = endpoint(0x0a00_0001, 4000);
+    let server = endpoint(0x0a00_0002, 80);
+    let other = endpoint(0x0a00_0003, 4000);
+    match sender {
+        "client" => Some((client, server)),
+        "server" => Some((server, client)),
+        "other" => Some((other, server)),
+        "to-other" => Some((server, other)),
+        "itself" => Some((client, client)),
+        _ => None,
+    }
 }
 
 /// What a segment's header says, without its bytes.
 #[derive(Clone, Copy)]
 pub(crate) struct Head {
-    pub(crate) from: Endpoint,
-    pub(crate) to: Endpoint,
+    pub(crate) ends: (Endpoint, Endpoint),
     pub(crate) seq: u32,
     pub(crate) ack: Option<u32>,
     pub(crate) syn: bool,
 }
 
 impl Head {
-    pub(crate) fn segment(&self, alloc: Global, bytes: &[u8]) -> Result<Segment, NoMemory> {
-        Ok(Segment {
+    pub(crate) fn segment(&self, payload: Octets) -> Segment {
+        let (from, to) = self.ends;
+        Segment {
             frame: 0,
-            from: self.from,
-            to: self.to,
+            from,
+            to,
             seq: self.seq,
             ack: self.ack.unwrap_or(0),
             syn: self.syn,
             acked: self.ack.is_some(),
-            payload: Octets::copy(alloc, bytes)?,
-        })
+            payload,
+        }
     }
 }
