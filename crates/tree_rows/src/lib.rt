@@ -1,10 +1,12 @@
-//! Trees as text, for the tables of tests: a line for each layer, `name start+length: field=value ..`.
+//! Trees as text, for the tables of tests, printed and read: a line for each layer, `name start+length: field=value ..`.
 #![tactic(auto)]
 
 mod items;
+mod made;
 
 use crate::items::push_item;
 pub use crate::items::{Places, value_text};
+pub use crate::made::{Unread, read_tree};
 use pk_base::Span;
 use pk_fields::name;
 use pk_tree::Layer;
