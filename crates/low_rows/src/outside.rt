@@ -1,15 +1,14 @@
-// What no contract says: that calls succeed, that a piece is one write, and what the system does.
+//! What no contract says: that calls succeed, that a piece is one write, and what the system does.
 use pk_outside::{
     Capture, Failed, FileCapture, MemoryCapture, MemorySink, NamedFile, Sink, StdSink, SureCapture,
     SureSink, write_whole,
 };
 use std::alloc::{AllocError, Global};
 use std::fs;
-use std::test::Fail;
 
 const ROOM: usize = 64;
 
-// Adds what one read gives, or a mark where it fails.
+/// Adds what one read gives, or a mark where it fails.
 fn push_read<C: Capture>(capture: &mut C, trace: &mut Vec<u8>) -> Result<(), AllocError> {
     let mut room = [0; ROOM];
     match capture.read(&mut room) {
@@ -19,7 +18,7 @@ fn push_read<C: Capture>(capture: &mut C, trace: &mut Vec<u8>) -> Result<(), All
     Ok(())
 }
 
-// What eight reads give, with a mark for each that fails.
+/// What eight reads give, with a mark for each that fails.
 fn trace<C: Capture>(alloc: Global, capture: &mut C) -> Result<Vec<u8>, AllocError> {
     let mut trace = Vec::new(alloc);
     for _ in 0..8 {
@@ -32,7 +31,7 @@ fn gives<C: Capture>(alloc: Global, capture: &mut C, want: &[u8]) -> Result<bool
     Ok(trace(alloc, capture)?.as_slice() == want)
 }
 
-// Whether the sink takes the whole piece.
+/// Whether the sink takes the whole piece.
 fn takes<S: Sink>(sink: &mut S, piece: &[u8]) -> bool {
     write_whole(sink, piece).is_ok()
 }
@@ -42,7 +41,7 @@ fn begin<C: Capture>(alloc: Global, capture: &mut C, name: &str) -> Result<bool,
     Ok(capture.begin(name).is_ok())
 }
 
-// Gives up the bytes of a file that has no name.
+/// Gives up the bytes of a file that has no name.
 fn refused(_bytes: Vec<u8>, error: AllocError) -> Result<NamedFile, AllocError> {
     Err(error)
 }
@@ -61,7 +60,7 @@ fn push_named(alloc: Global, files: &mut Vec<NamedFile>, bytes: &[u8]) -> Result
     Ok(())
 }
 
-// Two files of one name.
+/// Two files of one name.
 fn two_names(alloc: Global) -> Result<Vec<NamedFile>, AllocError> {
     let mut files = Vec::new(alloc);
     push_named(alloc, &mut files, b"abcde")?;
@@ -69,14 +68,14 @@ fn two_names(alloc: Global) -> Result<Vec<NamedFile>, AllocError> {
     Ok(files)
 }
 
-// Two files of one name, of which reads give two bytes at a time, and the third call fails.
+/// Two files of one name, of which reads give two bytes at a time, and the third call fails.
 fn two_files(alloc: Global) -> Result<MemoryCapture, AllocError> {
     let files = two_names(alloc)?;
     let failing = Vec::from_slice(alloc, &[3])?;
     Ok(MemoryCapture::new(files, failing, 2))
 }
 
-// Whether the capture begins with the name and gives these bytes.
+/// Whether the capture begins with the name and gives these bytes.
 fn begins_and_gives<C: Capture>(
     alloc: Global,
     capture: &mut C,
@@ -86,20 +85,14 @@ fn begins_and_gives<C: Capture>(
     Ok(begin(alloc, capture, name)? && gives(alloc, capture, want)?)
 }
 
-// Whether the first of two files is read past the call that fails, and a third name begins none.
-fn counts_calls<C: Capture>(alloc: Global, capture: &mut C) -> Result<bool, AllocError> {
+/// Whether the first of two files is read past the call that fails, and a third name begins none.
+fn counts<C: Capture>(alloc: Global, capture: &mut C) -> Result<bool, AllocError> {
     Ok(begins_and_gives(alloc, capture, "f", b"ab!cde")? && !begin(alloc, capture, "g")?)
 }
 
-fn counts_calls_of_two(alloc: Global) -> Result<bool, AllocError> {
+fn counts_calls(alloc: Global) -> Result<bool, AllocError> {
     let mut capture = two_files(alloc)?;
-    counts_calls(alloc, &mut capture)
-}
-
-#[test]
-fn calls_are_counted_together_and_the_named_ones_fail(rt: HostRuntime) -> Result<(), AllocError> {
-    assert!(rt; counts_calls_of_two(rt.alloc())?);
-    Ok(())
+    counts(alloc, &mut capture)
 }
 
 fn is_sure(alloc: Global) -> Result<bool, AllocError> {
@@ -107,13 +100,7 @@ fn is_sure(alloc: Global) -> Result<bool, AllocError> {
     begins_and_gives(alloc, &mut capture, "g", b"abcde")
 }
 
-#[test]
-fn a_sure_capture_begins_with_any_name(rt: HostRuntime) -> Result<(), AllocError> {
-    assert!(rt; is_sure(rt.alloc())?);
-    Ok(())
-}
-
-// Whether the sink takes the first and the third of three pieces.
+/// Whether the sink takes the first and the third of three pieces.
 fn takes_two_of_three<S: Sink>(sink: &mut S) -> bool {
     let first = takes(sink, b"first");
     let second = takes(sink, b"second");
@@ -126,23 +113,14 @@ fn keeps_two_of_three(alloc: Global) -> Result<bool, AllocError> {
     Ok(takes_two_of_three(&mut sink) && sink.bytes() == b"firstthird".as_slice())
 }
 
-#[test]
-fn a_piece_is_one_write(rt: HostRuntime) -> Result<(), AllocError> {
-    assert!(rt; keeps_two_of_three(rt.alloc())?);
-    Ok(())
-}
-
-fn keeps_both(sink: &mut SureSink) -> bool {
+fn takes_both(sink: &mut SureSink) -> bool {
     let first = takes(sink, b"first");
     let second = takes(sink, b"second");
     first && second && sink.bytes() == b"firstsecond".as_slice()
 }
 
-#[test]
-fn a_sure_sink_takes_all(rt: HostRuntime) {
-    let mut sink = SureSink::new(rt.alloc());
-    let keeps = keeps_both(&mut sink);
-    assert!(rt; keeps);
+fn keeps_both(alloc: Global) -> bool {
+    takes_both(&mut SureSink::new(alloc))
 }
 
 fn reads(rt: &HostRuntime, name: &str, want: &[u8]) -> Result<bool, AllocError> {
@@ -150,19 +128,16 @@ fn reads(rt: &HostRuntime, name: &str, want: &[u8]) -> Result<bool, AllocError> 
     begins_and_gives(rt.alloc(), &mut files, name, want)
 }
 
-// Whether the file is read to its end, which lies behind the room of one read.
-fn is_read_whole(rt: &HostRuntime, name: &str) -> Result<bool, Fail> {
-    let whole = fs::read(rt, name)?;
+/// Whether a file is read to its end, which lies behind the room of one read.
+fn is_read_whole(rt: &HostRuntime) -> Result<bool, AllocError> {
+    let name = "/proc/version";
+    let Ok(whole) = fs::read(rt, name) else {
+        return Ok(false);
+    };
     Ok(whole.len() > ROOM && reads(rt, name, whole.as_slice())?)
 }
 
-#[test]
-fn a_file_is_read_to_its_end(rt: HostRuntime) -> Result<(), Fail> {
-    assert!(rt; is_read_whole(&rt, "/proc/version")?);
-    Ok(())
-}
-
-// Whether no file begins, and behind it a directory, of which each read fails.
+/// Whether no file begins, and behind it a directory, of which each read fails.
 fn misses_then_fails<C: Capture>(alloc: Global, capture: &mut C) -> Result<bool, AllocError> {
     let is_missed = !begin(alloc, capture, "/no/such/file")?;
     Ok(is_missed && begins_and_gives(alloc, capture, "/", b"!!!!!!!!")?)
@@ -173,24 +148,31 @@ fn files_fail(rt: &HostRuntime) -> Result<bool, AllocError> {
     misses_then_fails(rt.alloc(), &mut files)
 }
 
-#[test]
-fn a_missing_file_is_missed_and_a_directory_does_not_read(
-    rt: HostRuntime,
-) -> Result<(), AllocError> {
-    assert!(rt; files_fail(&rt)?);
-    Ok(())
+/// Whether a full device takes nothing.
+fn is_full(rt: &HostRuntime) -> bool {
+    match fs::create(rt, "/dev/full") {
+        Ok(device) => !takes(&mut StdSink::new(device), b"bytes"),
+        Err(_) => false,
+    }
 }
 
-#[test]
-fn a_full_device_fails(rt: HostRuntime) -> Result<(), Fail> {
-    let mut full = StdSink::new(fs::create(&rt, "/dev/full")?);
-    assert!(rt; !takes(&mut full, b"bytes"));
-    Ok(())
+/// Whether the standard output takes a line, which is seen there.
+fn takes_all(rt: &HostRuntime) -> bool {
+    takes(&mut StdSink::new(rt.stdout()), b"a good stream\n")
 }
 
-#[test]
-fn a_good_stream_takes_all(rt: HostRuntime) -> Result<(), AllocError> {
-    let mut out = StdSink::new(rt.stdout());
-    assert!(rt; takes(&mut out, b"a good stream\n"));
-    Ok(())
+/// Whether a case of this name holds.
+pub(crate) fn holds(rt: &HostRuntime, name: &str) -> Result<bool, AllocError> {
+    let alloc = rt.alloc();
+    match name {
+        "calls are counted together, and the named ones fail" => counts_calls(alloc),
+        "a sure capture begins with any name" => is_sure(alloc),
+        "a piece is one write" => keeps_two_of_three(alloc),
+        "a sure sink takes all" => Ok(keeps_both(alloc)),
+        "a file is read to its end" => is_read_whole(rt),
+        "a missing file is missed, and a directory doesn't read" => files_fail(rt),
+        "a full device fails" => Ok(is_full(rt)),
+        "a good stream takes all" => Ok(takes_all(rt)),
+        _ => Ok(false),
+    }
 }
