@@ -213,7 +213,9 @@ fn line_holds(stretch: &mut Stretch, alloc: Global, line: &str) -> Result<bool, 
 
 /// Begins a stretch anew behind a thousand lost bytes.
 fn lose(stretch: &mut Stretch, alloc: Global) -> Result<bool, NoMemory> {
-    let len = u32::try_from(stretch.bytes.len()).map_err(|_| NoMemory)?;
+    let Ok(len) = u32::try_from(stretch.bytes.len()) else {
+        return Err(NoMemory);
+    };
     let start = stretch.start.wrapping_add(len).wrapping_add(1000);
     stretch.bytes = Vec::new(alloc);
     stretch.start = start;

@@ -83,8 +83,9 @@ pub(crate) fn are_bytes(bytes: &[u8], text: &str) -> bool {
     }
     let mut signs = text.chars();
     for byte in bytes {
-        if signs.next().and_then(byte_of) != Some(*byte) {
-            return false;
+        match signs.next() {
+            Some(sign) if byte_of(sign) == Some(*byte) => {}
+            _ => return false,
         }
     }
     signs.next().is_none()
