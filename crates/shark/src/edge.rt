@@ -1,8 +1,10 @@
 // What the program answers by itself, before its run.
+ghost use Rattle.std.specs.Prelude.{◌≡◌, true, false};
+ghost use Rattle.shark_run.specs.declared.status.Status.TheVariants.{BadWords, NoMemory};
+
 use crate::help::write_help;
 use pk_outside::{Sink, SinkFault, write_whole};
 use shark_run::Status;
-use std::io::ErrorKind;
 
 const VERSION: &str = "shark 0.4.0\n";
 
@@ -22,9 +24,12 @@ pub(crate) fn answer<O: Sink>(words: &[String], out: &mut O) -> Option<Status> {
     })
 }
 
-/// The status where the system gives no words, which is told unless memory is wanting.
-pub(crate) fn without_words<E: Sink>(kind: ErrorKind, err: &mut E) -> Status {
-    if kind == ErrorKind::OutOfMemory {
+/// The status where the system gives no words, for want of memory or since they aren't UTF-8; the latter is told.
+pub(crate) fn without_words<E: Sink>(starved: bool, err: &mut E) -> Status
+    ensures starved { starved ≡ true → (result ≡ NoMemory) × (err.new ≡ err.old) }
+    ensures refused { starved ≡ false → result ≡ BadWords }
+{
+    if starved {
         return Status::NoMemory;
     }
     let _ = write_whole(err, NOT_UTF8.as_bytes());

@@ -3,15 +3,13 @@
 
 mod edge;
 mod help;
-#[cfg(test)]
-mod tests;
 
 use edge::{answer, without_words};
 use pk_outside::{FileCapture, Sink, StdSink, SureSink};
 use run_texts::end_run;
 use shark_run::{Status, run};
 use std::env;
-use std::io::{self, BufWriter, IsTerminal};
+use std::io::{self, BufWriter, ErrorKind, IsTerminal};
 use std::process::ExitCode;
 
 /// The words behind the program's name.
@@ -53,7 +51,10 @@ fn status_over<O: Sink, E: Sink>(
 fn main(rt: HostRuntime) -> ExitCode {
     let number = match words(&rt) {
         Ok(words) => number_of(&rt, words.as_slice()),
-        Err(error) => { without_words(error.kind(), &mut StdSink::new(rt.stderr())).exit_number() }
+        Err(error) => {
+            let starved = error.kind() == ErrorKind::OutOfMemory;
+            without_words(starved, &mut StdSink::new(rt.stderr())).exit_number()
+        }
     };
     ExitCode::from(number)
 }
