@@ -1,1 +1,1 @@
-pub mod NoRules
+pub mod Rules
