@@ -1,8 +1,9 @@
-// Runs of plans that no words were read for: the program that a plan holds decides which frames are shown.
+//! Runs of plans that no words were read for: the program that a plan holds decides which frames are shown. A row is a filter, ` -> `, and
+//! the number of the frame that its program lets through of the capture ARP, or `none`.
 ghost use Rattle.port_rules.specs.Rules.{AreRules};
 
-use crate::pcap_rows::{HEADER, PADDING, REQUEST, REQUEST_HEAD};
-use crate::runs::bytes_of;
+use crate::files::file_of;
+use crate::runs::READING;
 use flt_code::compile;
 use flt_read::read_filter;
 use out_lines::Style;
@@ -12,26 +13,7 @@ use pk_outside::{SureCapture, SureSink};
 use port_rules::PortRules;
 use shark_run::{Compiled, FieldList, Plan, PlanRules, PlanSource, Status, Text, run_plan};
 use shark_words::{LineKind, ReportList};
-use std::alloc::{AllocError, Global};
-use std::test::Fail;
-
-/// A filter, and the numbers of the frames that its program lets through of a file with one ARP request.
-#[derive(Clone, Copy)]
-struct PlanRow {
-    filter: &'static str,
-    out: &'static str,
-}
-
-static PLANS: [PlanRow; 2] = [
-    PlanRow {
-        filter: "arp.opcode == 1",
-        out: "1\n",
-    },
-    PlanRow {
-        filter: "arp.opcode == 2",
-        out: "",
-    },
-];
+use std::alloc::Global;
 
 /// A filter with its program.
 fn compiled(alloc: Global, text: &str) -> Result<Compiled, NoMemory> {
@@ -46,7 +28,7 @@ fn compiled(alloc: Global, text: &str) -> Result<Compiled, NoMemory> {
 
 /// The rules that stand for no option.
 #[tactic(auto, using(crate::proofs::NoRules::no_rules))]
-pub(crate) fn no_rules(alloc: Global) -> PortRules
+fn no_rules(alloc: Global) -> PortRules
     ensures { AreRules result }
 {
     PortRules::from_vec(Vec::new(alloc))
@@ -70,28 +52,27 @@ fn numbers(alloc: Global, chosen: Compiled) -> Result<Plan, NoMemory> {
     })
 }
 
-/// Whether a plan's run over a file writes what its row says.
-fn writes(alloc: Global, row: &PlanRow, file: Vec<u8>) -> Result<bool, AllocError> {
-    let plan = match compiled(alloc, row.filter) {
-        Ok(chosen) => numbers(alloc, chosen),
-        Err(NoMemory) => Err(NoMemory),
-    };
-    let Ok(plan) = plan else {
-        return Err(AllocError);
-    };
+fn writes(alloc: Global, plan: &Plan, file: Vec<u8>, told: &str) -> bool {
     let mut capture = SureCapture::new(file);
     let mut out = SureSink::new(alloc);
     let mut err = SureSink::new(alloc);
-    let status = run_plan(alloc, &plan, &mut capture, &mut out, &mut err);
-    Ok(status == Status::Done && out.bytes() == row.out.as_bytes() && err.bytes().is_empty())
+    let status = run_plan(alloc, plan, &mut capture, &mut out, &mut err);
+    let lines = match told {
+        "none" => out.bytes().is_empty(),
+        _ => out.bytes().strip_suffix(b"\n") == Some(told.as_bytes()),
+    };
+    lines && status == Status::Done && err.bytes().is_empty()
 }
 
-#[test]
-fn the_program_of_a_plan_decides(rt: HostRuntime) -> Result<(), Fail> {
-    let alloc = rt.alloc();
-    for row in &PLANS {
-        let file = bytes_of(alloc, &[HEADER, REQUEST_HEAD, REQUEST, PADDING])?;
-        assert!(rt; writes(alloc, row, file)?, "{}", row.filter);
-    }
-    Ok(())
+fn plan_of(alloc: Global, filter: &str) -> Result<Plan, NoMemory> {
+    let chosen = compiled(alloc, filter)?;
+    numbers(alloc, chosen)
+}
+
+/// Whether a plan's run writes what its row says.
+pub(crate) fn plan_holds(alloc: Global, names: &str, row: &str) -> Result<bool, NoMemory> {
+    let (filter, told) = row.rsplit_once(" -> ").unwrap_or(("", ""));
+    let plan = plan_of(alloc, filter)?;
+    let file = file_of(alloc, names, "capture ARP", READING)?;
+    Ok(writes(alloc, &plan, file, told))
 }
