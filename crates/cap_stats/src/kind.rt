@@ -1,5 +1,5 @@
 /// What a table of statistics counts.
-#[derive(Clone, Copy, Debug, PartialEq, Eq)]
+#[derive(Clone, Copy)]
 pub enum StatKind {
     /// The frames and bytes of each TCP stream, in both directions.
     ConvTcp,

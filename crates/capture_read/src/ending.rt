@@ -4,7 +4,7 @@ ghost use Rattle.capture_read.specs.Ending.{end_of_bytes, unfinished, damage_at}
 use pk_base::Reason;
 
 /// Where and why a capture file can't be read further.
-#[derive(Clone, Copy, Debug, PartialEq, Eq)]
+#[derive(Clone, Copy)]
 pub struct Damage {
     /// The place of the first byte of the header, record or block at fault.
     pub at: u64,
@@ -12,7 +12,7 @@ pub struct Damage {
 }
 
 /// How the reading of a capture file ends.
-#[derive(Clone, Copy, Debug, PartialEq, Eq)]
+#[derive(Clone, Copy)]
 pub enum Ending {
     /// No byte is left.
     Whole,

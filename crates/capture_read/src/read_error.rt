@@ -2,7 +2,7 @@ use pk_base::NoMemory;
 use std::alloc::AllocError;
 
 /// Why a reader has no answer. It then answers `Spent` from now on.
-#[derive(Clone, Copy, Debug, PartialEq, Eq)]
+#[derive(Clone, Copy)]
 pub enum ReadError {
     /// A read of the capture failed.
     ReadFault,

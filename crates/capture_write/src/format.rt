@@ -1,5 +1,5 @@
 /// A format of capture files.
-#[derive(Clone, Copy, Debug, PartialEq, Eq)]
+#[derive(Clone, Copy, PartialEq, Eq)]
 pub enum Format {
     /// A pcap file, whose times count nanoseconds below the second.
     Pcap,

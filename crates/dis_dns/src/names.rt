@@ -13,7 +13,7 @@ pub(crate) const POINTER: usize = 192;
 const NAME_TURNS: usize = 256;
 
 /// How a name ends.
-#[derive(Clone, Copy, Debug, PartialEq, Eq)]
+#[derive(Clone, Copy)]
 pub(crate) enum NameEnd {
     /// It is one, and ends before this place.
     Name(usize),

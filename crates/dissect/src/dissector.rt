@@ -29,7 +29,7 @@ use tcp_messages::MessageStreams;
 use tcp_streams::Streams;
 
 /// Why a frame has no tree.
-#[derive(Clone, Copy, Debug, PartialEq, Eq)]
+#[derive(Clone, Copy)]
 pub enum TakeFault {
     NoMemory,
     /// The dissector answered an error before.

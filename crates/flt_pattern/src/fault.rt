@@ -7,7 +7,7 @@ ghost use Rattle.flt_pattern.specs.Patterns.{HasCause, options, sure_length};
 use regex::Error;
 
 /// Why a text isn't taken as a pattern.
-#[derive(Clone, Copy, PartialEq, Eq, Debug)]
+#[derive(Clone, Copy, Debug)]
 pub enum PatternFault {
     /// It is no UTF-8, or no pattern by `regex`'s grammar, or nested deeper than 250.
     NoPattern,

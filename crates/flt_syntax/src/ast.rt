@@ -15,7 +15,7 @@ pub enum Negation {
 }
 
 /// The word before a test that says over which pairs of values it asks.
-#[derive(Clone, Copy, PartialEq, Eq)]
+#[derive(Clone, Copy)]
 pub enum Choice {
     /// `any`
     Any,
@@ -24,7 +24,7 @@ pub enum Choice {
 }
 
 /// What stands between two operands.
-#[derive(Clone, Copy, PartialEq, Eq)]
+#[derive(Clone, Copy)]
 pub enum Operator {
     /// `==`, `eq`
     Equal,
@@ -50,7 +50,7 @@ pub enum Operator {
     Contains,
 }
 
-#[derive(Clone, Copy, PartialEq, Eq)]
+#[derive(Clone, Copy)]
 pub enum Function {
     /// `len`
     Len,
@@ -67,7 +67,7 @@ pub enum Function {
 }
 
 /// What is computed of two numbers.
-#[derive(Clone, Copy, PartialEq, Eq)]
+#[derive(Clone, Copy)]
 pub enum Arithmetic {
     /// `+`
     Sum,
@@ -93,14 +93,14 @@ pub struct LayerRange {
 }
 
 /// A place in a value's bytes: counted from 0, or from the end, where 1 is the last byte and 0 is written `-0`.
-#[derive(Clone, Copy, Debug, PartialEq, Eq)]
+#[derive(Clone, Copy)]
 pub struct Place {
     pub from_end: bool,
     pub offset: u32,
 }
 
 /// The bytes of a value that a range takes.
-#[derive(Clone, Copy, Debug, PartialEq, Eq)]
+#[derive(Clone, Copy)]
 pub enum RangePart {
     /// `i`: one byte.
     One(Place),
@@ -115,7 +115,7 @@ pub enum RangePart {
 }
 
 /// A range of a slice: the place of its first token, and what it takes.
-#[derive(Clone, Copy, PartialEq, Eq)]
+#[derive(Clone, Copy)]
 pub struct SliceRange {
     pub at: u32,
     pub part: RangePart,

@@ -2,7 +2,7 @@ use pk_base::NoMemory;
 use std::alloc::{AllocError, AllocFailed};
 
 /// Why a text is no filter, F1 to F10 in this order.
-#[derive(Clone, Copy, Debug, PartialEq, Eq)]
+#[derive(Clone, Copy, PartialEq, Eq)]
 pub enum FilterReason {
     /// A byte that begins no token.
     BadChar,
@@ -27,14 +27,14 @@ pub enum FilterReason {
 }
 
 /// The first fault of a text: the place of a byte, counted from 0, and the reason.
-#[derive(Clone, Copy, Debug, PartialEq, Eq)]
+#[derive(Clone, Copy)]
 pub struct FilterFault {
     pub at: u32,
     pub reason: FilterReason,
 }
 
 /// A text that isn't read.
-#[derive(Clone, Copy, Debug)]
+#[derive(Clone, Copy)]
 pub enum FilterError {
     Fault(FilterFault),
     NoMemory,

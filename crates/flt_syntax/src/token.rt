@@ -78,7 +78,7 @@ pub struct Token {
 }
 
 /// What the text is read as from a place on, which the token before decides.
-#[derive(Clone, Copy, PartialEq, Eq)]
+#[derive(Clone, Copy)]
 pub enum Mode {
     Plain,
     /// Directly behind `#`.

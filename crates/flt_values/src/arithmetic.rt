@@ -6,7 +6,7 @@ use flt_syntax::Arithmetic;
 use pk_tree::Value;
 
 /// Which of some numbers is asked for.
-#[derive(Clone, Copy, Debug, PartialEq, Eq)]
+#[derive(Clone, Copy)]
 pub enum Extreme {
     Least,
     Greatest,

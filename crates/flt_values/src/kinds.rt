@@ -7,7 +7,7 @@ use pk_fields::ValueKind;
 use pk_tree::Value;
 
 /// What values can be compared with each other.
-#[derive(Clone, Copy, Debug, PartialEq, Eq)]
+#[derive(Clone, Copy)]
 pub enum Class {
     Number,
     Truth,

@@ -147,7 +147,7 @@ fn is_false_word(text: &str) -> bool
 }
 
 /// The addresses that may have a prefix length.
-#[derive(Clone, Copy, Debug, PartialEq, Eq)]
+#[derive(Clone, Copy)]
 enum Family {
     Ip4,
     Ip6,

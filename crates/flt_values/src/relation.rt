@@ -5,7 +5,7 @@ use crate::kinds::{is_measured, is_truth};
 use pk_fields::ValueKind;
 
 /// How a pair of single values is compared.
-#[derive(Clone, Copy, Debug, PartialEq, Eq)]
+#[derive(Clone, Copy)]
 pub enum Relation {
     Equal,
     Unequal,

@@ -55,11 +55,11 @@ three_on job tree at old told truth all one two first second third there here be
 -- a field is read, a constant set, and a register compared with the constant
 pub joined : (job : Job) (tree : TreeShown) (at : ℕ) (old told : Flag) (all one two : List Slot) (r field : ℕ) (layers : Layers) (q : ℕ) (c : Constant) (slot : Slot) (choice : Choice) (relation : Relation) (p : ℕ) (truth : Truth) →
     slice_get job.code at ≡ Some (instr.Read r field layers) → slice_get job.code (at + 1) ≡ Some (instr.Const q c) → slice_get job.code (at + 2) ≡ Some (instr.Test choice relation p q) → job.tree ≡ tree →
-    Goes (state_in tree (at + 1) told one) ≡ reads (state_in tree at old all) r (values_of tree field layers) → held_in tree slot ≡ Some (constant_held c) → two ≡ slice_set one q slot → q < length one →
+    Goes (state_in tree (at + 1) told one) ≡ reads (state_in tree at old all) r (values_of tree field layers) → two ≡ slice_set one q slot → held_in tree slot ≡ Some (constant_held c) → q < length one →
     ((h : Held) → IsHeld tree two p h → truth ≡ compares relation choice h.values (c.value ∷ []) c.prefix) → LeadsTo job (state_in tree at old all) (state_in tree (at + 3) (Known truth) two) 3
-joined job tree at old told all one two r field layers q c slot choice relation p truth there here behind same read holds by less is =
+joined job tree at old told all one two r field layers q c slot choice relation p truth there here behind same read by holds less is =
     three_on job tree at old told (Known truth) all one two (instr.Read r field layers) (instr.Const q c) (instr.Test choice relation p q) there here behind
     (read_does tree old told all one r field layers at read job same)
-    (λ n. const_does tree told one two q c slot holds by job n)
+    (λ n. const_does tree told one two q c slot by holds job n)
     (λ n. test_does tree two choice relation p q truth
     (λ g h left right. is g left ∙ ap (λ (x : Held). compares relation choice g.values x.values x.prefix) (held_now tree one two q slot (constant_held c) h less by holds right)) job n told)

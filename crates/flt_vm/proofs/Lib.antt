@@ -1,4 +1,5 @@
 pub mod ExtremeLists
+pub mod GivenLemmas
 pub mod JoinLemmas
 pub mod RunLemmas
 pub mod StackLemmas

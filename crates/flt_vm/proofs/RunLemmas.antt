@@ -1,9 +1,10 @@
 -- A run, step by step.
-use Rattle.std.proofs.Common.{◌≡◌, ℕ, zero, suc, ◌+◌, ◌<◌, Bool as Truth, false, true, List, [], ◌∷◌, map, length, replicate, get_or, slice_get, Some, None, ap, sym, refl, ◌∙◌, subst, arith}
+use Rattle.std.proofs.Common.{◌≡◌, ℕ, zero, suc, ◌+◌, ◌<◌, Bool as Truth, false, true, List, [], ◌∷◌, map, length, replicate, get_or, slice_get, Option, IfSome, Some, None, ap, sym, refl, ◌∙◌, subst, arith}
 use Rattle.flt_typed.specs.declared.typed.Typed.{Typed}
 use Rattle.flt_vm.specs.Machine.{Job, LeadsOn, Move, Goes, Ends, Missing, Runs, State, act, start, step}
+use Rattle.flt_vm.specs.Possible.{CanRun, HasRun}
 use Rattle.flt_vm.specs.Programs.{Code, FitsFilter, Ready, RunsOn, patterns_of}
-use Rattle.flt_vm.specs.Slots.{Does, LeadsTo, held_in, is_return, state_in}
+use Rattle.flt_vm.specs.Slots.{Does, IsThere, LeadsTo, held_in, is_return, state_in}
 use Rattle.flt_vm.specs.declared.instr.Instr.{Instr}
 use Rattle.flt_vm.specs.declared.instr.Instr.TheVariants as instr
 use Rattle.flt_vm.specs.declared.slots.Flag.TheVariants.{Known}
@@ -53,6 +54,21 @@ run_ends job first now holds steps n way does more total flag run =
     let last = last_step job now holds w.0 flag does w.1 in
     (omega (arith, more, w.2, last.0), last.1)
 
+-- a step of a run is there
+leads_there : (move : Move) (n : ℕ) (flag : Truth) (Rest : State → Type 0) → LeadsOn move n flag Rest → IsThere move
+leads_there (Goes s) n flag Rest on = tt
+leads_there (Ends f) n flag Rest on = tt
+leads_there Missing n flag Rest on = absurd on
+
+runs_there : (job : Job) (s : State) (steps : ℕ) (flag : Truth) → Runs job steps s flag → IsThere (step job s)
+runs_there job s zero flag run = absurd run
+runs_there job s (suc n) flag run = leads_there (step job s) n flag (λ next. Runs job n next flag) run
+
+pub way_there : (job : Job) (first now : State) (steps : ℕ) → HasRun job first → LeadsTo job first now steps → IsThere (step job now)
+way_there job first now steps run way =
+    let w = way run.0 run.1 run.2 in
+    runs_there job now w.0 run.1 w.1
+
 -- the step at a place is that of the instruction there
 pub step_at : (job : Job) (s : State) (i : Instr) (move : Move) → slice_get job.code s.at ≡ Some i → Does (act job s (Some i)) move → Does (step job s) move
 step_at job s i move is does = subst (λ x. Does (act job s x) move) (sym is) does
@@ -63,6 +79,18 @@ unfolding act
 return_ends job s instr.Return holds is same = ap Ends same
 return_ends job s i holds is same = cc
 
+pub some_at : {X : Type 0} (o : Option X) (x : X) (P : X → Type 0) → o ≡ Some x → IfSome o P → P x
+some_at o x P is all = subst (λ p. IfSome p P) is all
+
+-- either it is looked for what an instruction takes, or it is known
+pub by_looks : (looks : Truth) (G : Type 0) → (looks ≡ true → G) → (looks ≡ false → G) → G
+by_looks true G look know = look refl
+by_looks false G look know = know refl
+
+-- and it is there where that one is
+pub there_at : (job : Job) (s : State) (i : Instr) → slice_get job.code s.at ≡ Some i → IsThere (step job s) → IsThere (act job s (Some i))
+there_at job s i is there = subst (λ x. IsThere (act job s x)) is there
+
 -- a run from unset registers, by what the slots stand for
 pub from_start : (code same_code : List Instr) (patterns same_patterns : List (List ℕ)) (tree : TreeShown) (all : List Slot) (count total : ℕ) (flag : Truth) →
     same_code ≡ code → same_patterns ≡ patterns → map (held_in tree) all ≡ replicate count None →
@@ -72,6 +100,18 @@ from_start code same_code patterns same_patterns tree all count total flag by_co
     let one = subst (λ cs. Runs (record { code = cs; patterns = patterns; tree = tree }) total (start count) flag) (sym by_code) run in
     let two = subst (λ ps. Runs (record { code = same_code; patterns = ps; tree = tree }) total (start count) flag) (sym by_patterns) one in
     subst (λ rs. Runs (record { code = same_code; patterns = same_patterns; tree = tree }) total (record { at = 0; flag = false; registers = rs }) flag) (sym unset) two
+
+pub runs_from_start : (code same_code : List Instr) (patterns same_patterns : List (List ℕ)) (tree : TreeShown) (all : List Slot) (count : ℕ) →
+    same_code ≡ code → same_patterns ≡ patterns → map (held_in tree) all ≡ replicate count None →
+    HasRun (record { code = code; patterns = patterns; tree = tree }) (start count) →
+    HasRun (record { code = same_code; patterns = same_patterns; tree = tree }) (state_in tree 0 (Known false) all)
+runs_from_start code same_code patterns same_patterns tree all count by_code by_patterns unset run =
+    (run.0, run.1, from_start code same_code patterns same_patterns tree all count run.0 run.1 by_code by_patterns unset run.2)
+
+-- a machine with a program that fits its filter has a run on each tree
+pub can_run : (program : Code) (filter : Typed) (tree : TreeShown) (machine : Ready) → machine ≡ record { code = program; patterns = patterns_of filter } → FitsFilter program filter → IsTree tree → CanRun machine tree
+unfolding FitsFilter
+can_run program filter tree machine is fits tree_is = subst (λ (m : Ready). CanRun m tree) (sym is) (fits tree tree_is)
 
 -- a program that fits its filter has a run, so what is so of each run is so of that one
 pub answered : (program : Code) (filter : Typed) (tree : TreeShown) (machine : Ready) (steps : ℕ) (holds : Truth) → machine ≡ record { code = program; patterns = patterns_of filter } →

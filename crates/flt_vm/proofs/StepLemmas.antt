@@ -1,5 +1,5 @@
 -- What a step does, seen through the slots.
-use Rattle.std.proofs.Common.{◌≡◌, ℕ, ◌+◌, ◌<◌, Bool as Truth, true, false, zero, suc, List, [], ◌∷◌, ◌++◌, map, length, Option, Some, None, option_map, get_or, slice_get, slice_set, option_to_list, filter_map, ap, sym, refl, ◌∙◌, subst}
+use Rattle.std.proofs.Common.{◌≡◌, ℕ, ◌+◌, ◌<◌, Bool as Truth, true, false, zero, suc, List, [], ◌∷◌, ◌++◌, map, length, Option, Some, None, Result, Ok, Err, IfOk, IsOkAnd, OnOk, not, option_map, get_or, slice_get, slice_set, option_to_list, filter_map, ap, sym, refl, ◌∙◌, subst}
 use Rattle.std.proofs.lemmas.List.{get_or-set_same, map-set}
 use Rattle.std.specs.List.{list_any}
 use Rattle.std.proofs.lemmas.Option.{slice_get-get_or, slice_get-map}
@@ -18,10 +18,10 @@ use Rattle.flt_values.specs.Slices.{sliced}
 use Rattle.flt_values.specs.declared.arithmetic.Extreme.{Extreme}
 use Rattle.flt_values.specs.declared.relation.Relation.{Relation}
 use Rattle.flt_vm.specs.Held.{Held, can_be_among, can_call, can_compare, can_compute, can_mask, can_search, can_slice, constant_held, kept_truth, plain, truth_held}
-use Rattle.flt_vm.specs.Machine.{Job, Move, Goes, State, act, differs, kept, only_if, with_held, given, sets, fills, reads, tells}
+use Rattle.flt_vm.specs.Machine.{Job, Move, Goes, State, act, differs, kept, only_if, with_held, given, sets, fills, reads, jumps, tells}
 use Rattle.flt_vm.specs.declared.instr.Instr.{Instr}
 use Rattle.flt_vm.specs.declared.instr.Instr.TheVariants as instr
-use Rattle.flt_vm.specs.Slots.{Does, IsHeld, flag_in, held_in, is_unset, state_in}
+use Rattle.flt_vm.specs.Slots.{Does, IsHeld, flag_in, held_in, is_unset, place_behind, state_in}
 use Rattle.flt_vm.specs.declared.slots.Flag.{Flag}
 use Rattle.flt_vm.specs.declared.slots.Flag.TheVariants.{Known}
 use Rattle.flt_vm.specs.declared.slots.Slot.{Slot}
@@ -75,6 +75,11 @@ held_got tree [] r d h is = cc
 held_got tree (s ∷ all) zero d h is = let same : Some (held_in tree s) ≡ Some (Some h) = is in cc
 held_got tree (s ∷ all) (suc r) d h is = held_got tree all r d h is
 
+pub got_there : {A : Type 0} (xs : List A) (i : ℕ) (d x : A) → slice_get xs i ≡ Some x → get_or xs i d ≡ x
+got_there [] i d x is = cc
+got_there (y ∷ xs) zero d x is = cc
+got_there (y ∷ xs) (suc i) d x is = got_there xs i d x is
+
 -- the same of the slot that stands there
 pub held_there : (tree : TreeShown) (all : List Slot) (r : ℕ) (s : Slot) (h : Held) → s ≡ get_or all r s → IsHeld tree all r h → held_in tree s ≡ Some h
 held_there tree all r s h at is = ap (held_in tree) at ∙ held_got tree all r s h is
@@ -101,7 +106,7 @@ held_unset tree (slots.Single c) is = cc
 held_unset tree (slots.Truth truth) is = cc
 held_unset tree (slots.Values vs) is = cc
 
-held_set : (tree : TreeShown) (slot : Slot) → is_unset slot ≡ false → (held : Held) × (held_in tree slot ≡ Some held)
+pub held_set : (tree : TreeShown) (slot : Slot) → is_unset slot ≡ false → (held : Held) × (held_in tree slot ≡ Some held)
 held_set tree slots.Unset is = cc
 held_set tree (slots.Field field layers) is = (_, refl)
 held_set tree (slots.Single c) is = (_, refl)
@@ -126,6 +131,12 @@ reads_set tree old flag all new r d e vs less set by told at =
     read_set tree at old flag all new r (get_or all r d) h.0 vs there h.1 by
     (told h.0 (ap (held_in tree) (ap (λ xs. get_or xs r e) by ∙ is) ∙ h.1))
 
+-- what is set to a value, or told, that was made
+pub set_ok : {T E A F : Type 0} (r : Result T E) (made : Result A F) (P Q : A → Type 0) (G : Type 0) → OnOk r (IsOkAnd made Q) → IfOk made P → ((a : A) → P a → Q a → G) → OnOk r G
+set_ok (Ok u) (Ok a) P Q G set are go = go a are set
+set_ok (Ok u) (Err f) P Q G set are go = absurd set
+set_ok (Err e) made P Q G set are go = set
+
 -- an instruction by another name
 pub does_same : (job : Job) (s : State) (i j : Instr) (move : Move) → i ≡ j → Does (act job s (Some j)) move → Does (act job s (Some i)) move
 does_same job s i j move is does = subst (λ x. Does (act job s (Some x)) move) (sym is) does
@@ -136,10 +147,10 @@ pub read_does : (tree : TreeShown) (old flag : Flag) (all new : List Slot) (r fi
 unfolding act
 read_does tree old flag all new r field layers at is job same = is ∙ ap (λ t. reads (state_in tree at old all) r (values_of t field layers)) (sym same)
 
-pub const_does : (tree : TreeShown) (flag : Flag) (all new : List Slot) (r : ℕ) (c : Constant) (slot : Slot) → held_in tree slot ≡ Some (constant_held c) → new ≡ slice_set all r slot → (job : Job) (at : ℕ) →
+pub const_does : (tree : TreeShown) (flag : Flag) (all new : List Slot) (r : ℕ) (c : Constant) (slot : Slot) → new ≡ slice_set all r slot → held_in tree slot ≡ Some (constant_held c) → (job : Job) (at : ℕ) →
     Does (act job (state_in tree at flag all) (Some (instr.Const r c))) (Goes (state_in tree (at + 1) flag new))
 unfolding act
-const_does tree flag all new r c slot holds by job at = set_goes tree at flag all new r slot (constant_held c) holds by
+const_does tree flag all new r c slot by holds job at = set_goes tree at flag all new r slot (constant_held c) holds by
 
 pub save_does : (tree : TreeShown) (flag : Flag) (all new : List Slot) (r : ℕ) (slot : Slot) → held_in tree slot ≡ Some (truth_held (flag_in tree flag)) → new ≡ slice_set all r slot → (job : Job) (at : ℕ) →
     Does (act job (state_in tree at flag all) (Some (instr.Save r))) (Goes (state_in tree (at + 1) flag new))
@@ -253,12 +264,42 @@ match_does tree all choice r n patterns truth is job same at flag =
     (λ pattern there. does_only (can_search h) (tells s (passes choice (λ v. is_matched pattern v) h.values)) end
     (told tree all at flag truth (passes choice (λ v. is_matched pattern v) h.values) (is h pattern set (ap (λ x. slice_get x n) (sym same) ∙ there)))))
 
-pub differ_does : (tree : TreeShown) (all : List Slot) (r : ℕ) (flag : Flag) (truth answer : Truth) → ((h : Held) (other : Truth) → IsHeld tree all r h → kept_truth h ≡ Some other → truth ≡ other) →
-    answer ≡ differs truth (flag_in tree flag) → (job : Job) (at : ℕ) → Does (act job (state_in tree at flag all) (Some (instr.Differ r))) (Goes (state_in tree (at + 1) (Known answer) all))
+pub differ_does : (tree : TreeShown) (all : List Slot) (r : ℕ) (flag : Flag) (answer : Truth) →
+    ((h : Held) (other : Truth) → IsHeld tree all r h → kept_truth h ≡ Some other → answer ≡ differs other (flag_in tree flag)) → (job : Job) (at : ℕ) → Does (act job (state_in tree at flag all) (Some (instr.Differ r))) (Goes (state_in tree (at + 1) (Known answer) all))
 unfolding act
-differ_does tree all r flag truth answer is by job at =
+differ_does tree all r flag answer is job at =
     let end = Goes (state_in tree (at + 1) (Known answer) all) in
     let s = state_in tree at flag all in
     does_held (slice_get (map (held_in tree) all) r) (λ h. given (kept_truth h) (λ t. tells s (differs t s.flag))) end
     (λ h set. does_given (kept_truth h) (λ t. tells s (differs t s.flag)) end
-    (λ t keeps. told tree all at flag answer (differs t (flag_in tree flag)) (by ∙ ap (λ x. differs x (flag_in tree flag)) (is h t set keeps))))
+    (λ t keeps. told tree all at flag answer (differs t (flag_in tree flag)) (is h t set keeps)))
+
+pub turn_does : (tree : TreeShown) (all : List Slot) (flag : Flag) (truth : Truth) → truth ≡ not (flag_in tree flag) → (job : Job) (at : ℕ) →
+    Does (act job (state_in tree at flag all) (Some instr.Not)) (Goes (state_in tree (at + 1) (Known truth) all))
+unfolding act
+turn_does tree all flag truth is job at = told tree all at flag truth (not (flag_in tree flag)) is
+
+-- the same by a flag that is the truth
+pub by_flag : (tree : TreeShown) (move : Move) (at : ℕ) (flag : Flag) (truth : Truth) (all : List Slot) → flag ≡ Known truth → Does move (Goes (state_in tree at (Known truth) all)) → Does move (Goes (state_in tree at flag all))
+by_flag tree move at flag truth all is does = subst (λ f. Does move (Goes (state_in tree at f all))) (sym is) does
+
+-- jumps: over so many instructions, or to the next one
+jump_goes : (tree : TreeShown) (at : ℕ) (all : List Slot) (old new : Flag) (passes : Truth) (n : ℕ) → flag_in tree new ≡ flag_in tree old →
+    Does (jumps (state_in tree at old all) passes n) (Goes (state_in tree (place_behind at passes n) new all))
+jump_goes tree at all old new true n same = ap (λ t. Goes (record { at = at + 1 + n; flag = t; registers = map (held_in tree) all })) same
+jump_goes tree at all old new false n same = ap (λ t. Goes (record { at = at + 1; flag = t; registers = map (held_in tree) all })) same
+
+jump_to : (tree : TreeShown) (all : List Slot) (old new : Flag) (passes : Truth) (at place n : ℕ) → place ≡ place_behind at passes n → flag_in tree new ≡ flag_in tree old →
+    Does (jumps (state_in tree at old all) passes n) (Goes (state_in tree place new all))
+jump_to tree all old new passes at place n is same =
+    subst (λ p. Does (jumps (state_in tree at old all) passes n) (Goes (state_in tree p new all))) (sym is) (jump_goes tree at all old new passes n same)
+
+pub false_does : (tree : TreeShown) (all : List Slot) (old new : Flag) (at place n : ℕ) → place ≡ place_behind at (not (flag_in tree old)) n → flag_in tree new ≡ flag_in tree old → (job : Job) →
+    Does (act job (state_in tree at old all) (Some (instr.JumpFalse n))) (Goes (state_in tree place new all))
+unfolding act
+false_does tree all old new at place n is same job = jump_to tree all old new (not (flag_in tree old)) at place n is same
+
+pub true_does : (tree : TreeShown) (all : List Slot) (old new : Flag) (at place n : ℕ) → place ≡ place_behind at (flag_in tree old) n → flag_in tree new ≡ flag_in tree old → (job : Job) →
+    Does (act job (state_in tree at old all) (Some (instr.JumpTrue n))) (Goes (state_in tree place new all))
+unfolding act
+true_does tree all old new at place n is same job = jump_to tree all old new (flag_in tree old) at place n is same

@@ -1,5 +1,7 @@
+pub mod Given
 pub mod Held
 pub mod Machine
+pub mod Possible
 pub mod Programs
 pub mod Slots
 pub mod Sources

@@ -1,19 +1,19 @@
 // Three instructions that are taken at once.
-ghost use Rattle.std.specs.Prelude.{◌≡◌, ◌+◌, ◌<◌, IfOk, Some, length, slice_get};
+ghost use Rattle.std.specs.Prelude.{◌≡◌, ◌+◌, ◌<◌, ◌≤◌, IfOk, Some, ℕ, length, slice_get};
 ghost use Rattle.flt_vm.specs.Machine.{Job};
-ghost use Rattle.flt_vm.specs.Programs.{Fits, IsProgram};
-ghost use Rattle.flt_vm.specs.Slots.{LeadsTo, state_in};
+ghost use Rattle.flt_vm.specs.Programs.{IsProgram};
+ghost use Rattle.flt_vm.specs.Slots.{HasRegisters, LeadsTo, state_in};
 
 use crate::asks::compare_constant;
 use crate::instr::Instr;
-use crate::slots::{Flag, Slot};
+use crate::slots::{Flag, Slot, put};
 use crate::step::read;
 use pk_base::NoMemory;
 use pk_tree::Tree;
 use std::alloc::Global;
 
-/// Takes READ, CONST and TEST at once where they stand at a place, and the test compares with the constant. Answers how
-/// many steps it took: three, or none.
+/// Takes READ, CONST and TEST at once where they stand at a place before others, and the test compares what was read with
+/// the constant. Answers how many steps it took: three, or none.
 pub(crate) fn test_at<'p>(
     alloc: Global,
     code: &'p [Instr],
@@ -30,43 +30,40 @@ pub(crate) fn test_at<'p>(
     ensures inside { IfOk result (λ taken. at + taken < length code.now) }
     ensures count { length slots.new ≡ length slots.old }
 {
-    if code.len() - at < 3 {
+    // RETURN stands behind them.
+    if code.len() - at <= 3 {
         return Ok(0);
     }
-    Ok(test_among(
+    test_among(
         alloc,
         &code[at],
         &code[at + 1],
         &code[at + 2],
-        at,
-        code.len(),
         slots,
         flag,
         tree,
-    )?)
+    )
 }
 
-/// The same of the instruction at a place of so many, and the two behind it.
+/// The same of an instruction and the two behind it.
 fn test_among<'p>(
     alloc: Global,
     first: &'p Instr,
     second: &'p Instr,
     third: &'p Instr,
-    at: usize,
-    size: usize,
     slots: &mut [Slot<'p>],
     flag: &mut Flag<'p>,
     tree: &Tree,
 ) -> Result<u32, NoMemory>
-    requires first { Fits (length slots.old) size at first.now }
-    requires second { Fits (length slots.old) size (at + 1) second.now }
-    requires third { Fits (length slots.old) size (at + 2) third.now }
-    requires inside { at + 2 < size }
-    ensures leads { IfOk result (λ taken. (job : Job) → slice_get job.code at ≡ Some first.now
-        → slice_get job.code (at + 1) ≡ Some second.now → slice_get job.code (at + 2) ≡ Some third.now
-        → job.tree ≡ tree.now → LeadsTo job (state_in tree.now at flag.old slots.old)
+    requires first { HasRegisters (length slots.old) first.now }
+    requires second { HasRegisters (length slots.old) second.now }
+    requires third { HasRegisters (length slots.old) third.now }
+    ensures leads { IfOk result (λ taken. (job : Job) (at : ℕ)
+        → slice_get job.code at ≡ Some first.now → slice_get job.code (at + 1) ≡ Some second.now
+        → slice_get job.code (at + 2) ≡ Some third.now → job.tree ≡ tree.now
+        → LeadsTo job (state_in tree.now at flag.old slots.old)
         (state_in tree.now (at + taken) flag.new slots.new) taken) }
-    ensures inside { IfOk result (λ taken. at + taken < size) }
+    ensures few { IfOk result (λ taken. taken ≤ 3) }
     ensures count { length slots.new ≡ length slots.old }
 {
     match (first, second, third) {
@@ -74,9 +71,9 @@ fn test_among<'p>(
             Instr::Read(register, field, layers),
             Instr::Const(other, constant),
             Instr::Test(choice, relation, left, right),
-        ) if *right == *other => {
+        ) if *left == *register && *right == *other => {
             read(slots, flag, *register, *field, layers, tree);
-            slots[*other] = Slot::Single(constant);
+            put(slots, *other, Slot::Single(constant));
             let left = &slots[*left];
             let truth = compare_constant(alloc, *relation, *choice, left, constant, tree)?;
             *flag = Flag::Known(truth);

@@ -4,6 +4,7 @@
 mod asks;
 mod copies;
 mod fields;
+mod given;
 mod instr;
 mod joined;
 mod laws;

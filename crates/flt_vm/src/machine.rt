@@ -1,6 +1,7 @@
 // The machine over many trees.
-ghost use Rattle.std.specs.Prelude.{◌≡◌, ◌≤◌, ◌++◌, [], ◌∷◌, IfOk, OnOk, Bool as Truth, ℕ, Some, length};
+ghost use Rattle.std.specs.Prelude.{◌≡◌, ◌≤◌, ◌++◌, [], ◌∷◌, false, IfOk, IfSome, IsSome, OnOk, Bool as Truth, ℕ, Some, length};
 ghost use Rattle.flt_vm.specs.Machine.{Runs, start};
+ghost use Rattle.flt_vm.specs.Possible.{CanRun, IsAnswer};
 ghost use Rattle.flt_vm.specs.Programs.{FitsFilter, Ready, RunsOn, patterns_of};
 ghost use Rattle.flt_vm.specs.Sources.{sources_of};
 ghost use Rattle.flt_vm.specs.Verdicts.{verdict_of};
@@ -59,8 +60,9 @@ impl<'p> Machine<'p> {
         })
     }
 
-    /// Runs the program on a tree.
+    /// Runs the program on a tree, on which it has a run: a program that fits its filter has one on each.
     pub fn run(&mut self, tree: &Tree) -> Result<Verdict, NoMemory>
+        requires { CanRun self.old tree.now }
         ensures verdict { IfOk result (λ v. (steps : ℕ) (flag : Truth)
             → Runs (record {
               code = self.old.code.items;
@@ -77,6 +79,33 @@ impl<'p> Machine<'p> {
     {
         // What is true of each tree.
         let _layers = tree.layers();
+        match self.answer(tree, false)? {
+            Some(verdict) => Ok(verdict),
+            None => unreachable!(),
+        }
+    }
+
+    /// Runs the program on a tree, where it isn't known that it has a run. It answers nothing where an instruction doesn't find
+    /// what it takes: a register that is set, a truth that is kept, a pattern.
+    pub fn try_run(&mut self, tree: &Tree) -> Result<Option<Verdict>, NoMemory>
+        ensures verdict { IfOk result (λ answer. IfSome answer (λ v. IsAnswer self.old tree.now v)) }
+        ensures few { IfOk result (λ answer.
+            IfSome answer (λ v. v.steps ≤ length self.old.code.items)) }
+        ensures same { self.new ≡ self.old }
+    {
+        self.answer(tree, true)
+    }
+
+    /// What the program answers of a tree. Where it isn't known that it has a run, each instruction is looked at.
+    fn answer(&mut self, tree: &Tree, looks: bool) -> Result<Option<Verdict>, NoMemory>
+        requires { looks ≡ false → CanRun self.old tree.now }
+        ensures verdict { IfOk result (λ answer. IfSome answer (λ v. IsAnswer self.old tree.now v)) }
+        ensures few { IfOk result (λ answer.
+            IfSome answer (λ v. v.steps ≤ length self.old.code.items)) }
+        ensures some { IfOk result (λ answer. IfSome answer (λ v. 1 ≤ v.steps)) }
+        ensures answers { looks ≡ false → IfOk result (λ answer. IsSome answer) }
+        ensures same { self.new ≡ self.old }
+    {
         let slots = self.slots.as_mut_slice();
         unset(slots);
         run_code(
@@ -85,6 +114,7 @@ impl<'p> Machine<'p> {
             slots,
             &mut self.searches,
             tree,
+            looks,
         )
     }
 }

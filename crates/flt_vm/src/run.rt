@@ -1,10 +1,11 @@
 // A run of the machine.
-ghost use Rattle.std.specs.Prelude.{◌≡◌, ◌<◌, ◌≤◌, IfOk, Bool as Truth, false, ℕ, length};
-ghost use Rattle.flt_vm.specs.Machine.{Runs};
+ghost use Rattle.std.specs.Prelude.{◌≡◌, ◌<◌, ◌≤◌, IfOk, IfSome, IsSome, Bool as Truth, false, ℕ, length};
+ghost use Rattle.flt_vm.specs.Possible.{HasRun, IsVerdict};
 ghost use Rattle.flt_vm.specs.Programs.{IsProgram};
 ghost use Rattle.flt_vm.specs.Slots.{state_in};
 ghost use Rattle.flt_vm.specs.declared.slots.Flag.TheVariants.{Known};
 
+use crate::given::is_given;
 use crate::instr::Instr;
 use crate::joined::test_at;
 use crate::slots::{Flag, Slot, known};
@@ -21,21 +22,26 @@ pub struct Verdict {
     pub steps: u32,
 }
 
-/// Runs instructions from the first up to RETURN.
+/// Runs instructions from the first up to RETURN. Where it is asked to look whether each instruction finds what it takes, the
+/// run ends at one that doesn't, with no answer.
 pub(crate) fn run_code<'p>(
     alloc: Global,
     code: &'p [Instr],
     slots: &mut [Slot<'p>],
     searches: &mut [Search<'p>],
     tree: &Tree,
-) -> Result<Verdict, NoMemory>
+    looks: bool,
+) -> Result<Option<Verdict>, NoMemory>
     requires program { IsProgram (record { registers = length slots.old; items = code.now }) }
-    ensures verdict { IfOk result (λ v. (total : ℕ) (flag : Truth)
-        → Runs (record { code = code.now; patterns = searches.old; tree = tree.now }) total
-        (state_in tree.now 0 (Known false) slots.old) flag
-        → (v.steps ≡ total) × (v.holds ≡ flag)) }
-    ensures few { IfOk result (λ v. v.steps ≤ length code.now) }
-    ensures some { IfOk result (λ v. 1 ≤ v.steps) }
+    requires run { looks ≡ false
+        → HasRun (record { code = code.now; patterns = searches.old; tree = tree.now })
+        (state_in tree.now 0 (Known false) slots.old) }
+    ensures verdict { IfOk result (λ answer. IfSome answer (λ v.
+        IsVerdict (record { code = code.now; patterns = searches.old; tree = tree.now })
+        (state_in tree.now 0 (Known false) slots.old) v)) }
+    ensures few { IfOk result (λ answer. IfSome answer (λ v. v.steps ≤ length code.now)) }
+    ensures some { IfOk result (λ answer. IfSome answer (λ v. 1 ≤ v.steps)) }
+    ensures answers { looks ≡ false → IfOk result (λ answer. IsSome answer) }
     ensures count { length slots.new ≡ length slots.old }
     ensures searches { searches.new ≡ searches.old }
 {
@@ -48,10 +54,13 @@ pub(crate) fn run_code<'p>(
         steps += taken;
         let instr = &code[at];
         if is_return(instr) {
-            return Ok(Verdict {
+            return Ok(Some(Verdict {
                 holds: known(&flag, tree),
                 steps: steps + 1,
-            });
+            }));
+        }
+        if !is_given(alloc, looks, instr, slots, searches.len(), tree)? {
+            return Ok(None);
         }
         at = step(
             alloc,

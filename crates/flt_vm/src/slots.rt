@@ -1,7 +1,7 @@
 // What the registers and the flag hold while a program runs.
-ghost use Rattle.std.specs.Prelude.{◌≡◌, ◌<◌, [], ◌∷◌, Some, IfOk, length, replicate, map, None, slice_set};
+ghost use Rattle.std.specs.Prelude.{◌≡◌, ◌<◌, [], ◌∷◌, false, Some, IfOk, length, replicate, map, None, slice_set};
 ghost use Rattle.flt_vm.specs.Held.{Held};
-ghost use Rattle.flt_vm.specs.Slots.{IsHeld, flag_in, held_in, listed_values};
+ghost use Rattle.flt_vm.specs.Slots.{flag_in, held_in, is_unset, listed_values};
 ghost use Rattle.pk_tree.specs.FieldValues.{values_of};
 ghost use Rattle.pk_tree.specs.Trees.{TreeShown};
 
@@ -58,31 +58,18 @@ impl<'s> Gathered<'s> {
     }
 }
 
-/// The values that a register holds.
-pub(crate) fn listed<'s>(
-    alloc: Global,
-    slots: &'s [Slot<'_>],
-    register: usize,
-    tree: &Tree,
-) -> Result<Gathered<'s>, NoMemory>
-    requires { register < length slots.now }
-    ensures { IfOk result (λ all. (held : Held) → IsHeld tree.now slots.now register held
-        → listed_values all ≡ held.values) }
-{
-    listed_in(alloc, &slots[register], tree)
-}
-
-/// The same of a slot.
+/// The values that a slot holds.
 pub(crate) fn listed_in<'s>(
     alloc: Global,
     slot: &'s Slot<'_>,
     tree: &Tree,
 ) -> Result<Gathered<'s>, NoMemory>
+    requires { is_unset slot.now ≡ false }
     ensures { IfOk result (λ all. (held : Held) → held_in tree.now slot.now ≡ Some held
         → listed_values all ≡ held.values) }
 {
     match slot {
-        Slot::Unset => Ok(Gathered::Own(Vec::new(alloc))),
+        Slot::Unset => unreachable!(),
         Slot::Field(field, layers) => of_field(*field, layers, tree),
         Slot::Single(constant) => of_one(alloc, constant.value.clone()?),
         Slot::Truth(truth) => of_one(alloc, Value::Bool(*truth)),

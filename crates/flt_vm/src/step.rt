@@ -1,5 +1,5 @@
 // One step of the machine.
-ghost use Rattle.std.specs.Prelude.{◌≡◌, ◌<◌, ◌^◌, ◌+◌, ◌++◌, [], ◌∷◌, false, IfOk, OnOk, Some, ℕ, length, slice_set};
+ghost use Rattle.std.specs.Prelude.{◌≡◌, ◌<◌, ◌^◌, ◌+◌, ◌++◌, [], ◌∷◌, Bool as Truth, false, true, IfOk, IsOkAnd, OnOk, Some, ℕ, length, slice_set};
 ghost use Rattle.std.specs.List.{filter_map};
 ghost use Rattle.std.specs.Option.{option_to_list};
 ghost use Rattle.flt_lists.specs.Called.{values_called};
@@ -8,29 +8,26 @@ ghost use Rattle.flt_values.specs.Arithmetic.{extreme_of as extreme_among};
 ghost use Rattle.flt_values.specs.Calls.{masked as masked_by};
 ghost use Rattle.flt_values.specs.Slices.{sliced as sliced_by};
 ghost use Rattle.flt_vm.specs.Held.{Held};
-ghost use Rattle.flt_vm.specs.declared.instr.Instr.TheVariants as instr;
-ghost use Rattle.flt_vm.specs.declared.slots.Flag.{Flag};
 ghost use Rattle.flt_lists.specs.Passes.{is_some_value};
 ghost use Rattle.pk_tree.specs.FieldValues.{values_of};
 ghost use Rattle.pk_tree.specs.Trees.{TreeShown};
 ghost use Rattle.pk_tree.specs.declared.value.Value.TheVariants.{Uint};
 ghost use Rattle.flt_vm.specs.Machine.{Goes, Job, act, differs as differ, reads};
 ghost use Rattle.flt_vm.specs.Programs.{Fits};
-ghost use Rattle.flt_vm.specs.Slots.{Does, IsHeld, flag_in, held_in, is_return, is_unset, place_behind, state_in};
+ghost use Rattle.flt_vm.specs.Slots.{Does, HasRegisters, IsGiven, IsSet, acts, flag_in, held_in, is_return, is_unset, place_behind, state_in, truth_in};
 ghost use Rattle.flt_vm.specs.declared.slots.Flag.TheVariants.{Known};
 ghost use Rattle.flt_vm.specs.declared.slots.Slot.TheVariants.{Values};
 
 use crate::asks::{asks, compare, finds, kept};
 use crate::instr::Instr;
-use crate::slots::{Flag, Slot, known, listed, listed_in};
+use crate::slots::{Flag, Slot, known, listed_in, put};
 use flt_lists::{
     Question, calculated_values, called_values, is_some_value as some_value, masked_values, only,
     slices,
 };
 use flt_pattern::Search;
 use flt_syntax::{Arithmetic, Choice, Function, RangePart};
-use flt_typed::Member;
-use flt_values::{Extreme, Relation, extreme_of};
+use flt_values::{Extreme, extreme_of};
 use pk_base::NoMemory;
 use pk_fields::FieldId;
 use pk_tree::{Layers, Tree, Value};
@@ -44,7 +41,6 @@ pub(crate) fn is_return(instr: &Instr) -> bool
 }
 
 /// What an instruction but RETURN, at a place of so many, does to the registers and the flag, and where it leads.
-#[tactic(auto, unfolding(crate::specs::Machine::act))]
 pub(crate) fn step<'p>(
     alloc: Global,
     instr: &'p Instr,
@@ -58,6 +54,7 @@ pub(crate) fn step<'p>(
     requires fits { Fits (length slots.old) size at instr.now }
     requires small { size < 2 ^ 32 }
     requires on { is_return instr.now ≡ false }
+    requires given { IsGiven tree.now searches.old slots.old instr.now }
     ensures moves { IfOk result (λ place. (job : Job) → job.tree ≡ tree.now
         → job.patterns ≡ searches.old
         → Does (act job (state_in tree.now at flag.old slots.old) (Some instr.now))
@@ -67,71 +64,6 @@ pub(crate) fn step<'p>(
     ensures searches { searches.new ≡ searches.old }
 {
     match instr {
-        Instr::Read(register, field, layers) => {
-            read(slots, flag, *register, *field, layers, tree);
-            Ok(at + 1)
-        }
-        Instr::Const(register, constant) => {
-            slots[*register] = Slot::Single(constant);
-            Ok(at + 1)
-        }
-        Instr::Slice(register, source, ranges) => {
-            slice(alloc, slots, flag, *register, *source, ranges.slice(), tree)?;
-            Ok(at + 1)
-        }
-        Instr::Mask(register, source, bits) => {
-            mask(alloc, slots, *register, *source, *bits, tree)?;
-            Ok(at + 1)
-        }
-        Instr::Call(register, function, source) => {
-            call(alloc, slots, *register, *function, *source, tree)?;
-            Ok(at + 1)
-        }
-        Instr::Count(register, field, layers) => {
-            count(alloc, slots, *register, *field, layers, tree)?;
-            Ok(at + 1)
-        }
-        Instr::Compute(register, operation, left, right) => {
-            compute(alloc, slots, *register, *operation, *left, *right, tree)?;
-            Ok(at + 1)
-        }
-        Instr::Choose(register, extreme, left, right) => {
-            choose(alloc, slots, *register, *extreme, *left, *right, tree)?;
-            Ok(at + 1)
-        }
-        Instr::Save(register) => {
-            slots[*register] = Slot::Truth(known(flag, tree));
-            Ok(at + 1)
-        }
-        Instr::Test(choice, relation, left, right) => {
-            let truth = test(alloc, slots, *choice, *relation, *left, *right, tree)?;
-            *flag = Flag::Known(truth);
-            Ok(at + 1)
-        }
-        Instr::In(choice, register, members) => {
-            let truth = is_in(alloc, slots, *choice, *register, members.slice(), tree)?;
-            *flag = Flag::Known(truth);
-            Ok(at + 1)
-        }
-        Instr::Match(choice, register, pattern) => {
-            let truth = finds(alloc, *choice, searches, *pattern, slots, *register, tree)?;
-            *flag = Flag::Known(truth);
-            Ok(at + 1)
-        }
-        Instr::NonZero(register) => {
-            let truth = has_bit(alloc, slots, *register, tree)?;
-            *flag = Flag::Known(truth);
-            Ok(at + 1)
-        }
-        Instr::Not => {
-            *flag = Flag::Known(!known(flag, tree));
-            Ok(at + 1)
-        }
-        Instr::Differ(register) => {
-            let truth = differs_from(alloc, slots, *register, flag, tree)?;
-            *flag = Flag::Known(truth);
-            Ok(at + 1)
-        }
         Instr::JumpFalse(passed) => {
             let truth = known(flag, tree);
             *flag = Flag::Known(truth);
@@ -142,233 +74,11 @@ pub(crate) fn step<'p>(
             *flag = Flag::Known(truth);
             Ok(place_behind(at, truth, *passed))
         }
-        Instr::Return => unreachable!(),
+        instr => {
+            act(alloc, instr, slots, flag, searches, tree)?;
+            Ok(at + 1)
+        }
     }
-}
-
-/// Sets a register to the slices of another's values.
-fn slice<'p>(
-    alloc: Global,
-    slots: &mut [Slot<'p>],
-    flag: &mut Flag<'p>,
-    register: usize,
-    source: usize,
-    ranges: &[RangePart],
-    tree: &Tree,
-) -> Result<(), NoMemory>
-    requires register { register < length slots.old }
-    requires source { source < length slots.old }
-    ensures does { OnOk result ((job : Job) (at : ℕ)
-        → Does (act job (state_in tree.now at flag.old slots.old)
-        (Some (instr.Slice register source ranges.now)))
-        (Goes (state_in tree.now (at + 1) flag.new slots.new))) }
-    ensures count { length slots.new ≡ length slots.old }
-{
-    let values = sliced(alloc, slots, source, ranges, tree)?;
-    fill(slots, flag, register, values);
-    Ok(())
-}
-
-/// Sets a register to the masked values of another.
-fn mask<'p>(
-    alloc: Global,
-    slots: &mut [Slot<'p>],
-    register: usize,
-    source: usize,
-    bits: u64,
-    tree: &Tree,
-) -> Result<(), NoMemory>
-    requires register { register < length slots.old }
-    requires source { source < length slots.old }
-    ensures does { OnOk result ((job : Job) (at : ℕ) (flag : Flag)
-        → Does (act job (state_in tree.now at flag slots.old)
-        (Some (instr.Mask register source bits)))
-        (Goes (state_in tree.now (at + 1) flag slots.new))) }
-    ensures count { length slots.new ≡ length slots.old }
-{
-    let values = masked(alloc, slots, source, bits, tree)?;
-    slots[register] = Slot::Values(values);
-    Ok(())
-}
-
-/// Sets a register to what a function gives of another's values.
-fn call<'p>(
-    alloc: Global,
-    slots: &mut [Slot<'p>],
-    register: usize,
-    function: Function,
-    source: usize,
-    tree: &Tree,
-) -> Result<(), NoMemory>
-    requires register { register < length slots.old }
-    requires source { source < length slots.old }
-    ensures does { OnOk result ((job : Job) (at : ℕ) (flag : Flag)
-        → Does (act job (state_in tree.now at flag slots.old)
-        (Some (instr.Call register function source)))
-        (Goes (state_in tree.now (at + 1) flag slots.new))) }
-    ensures count { length slots.new ≡ length slots.old }
-{
-    let values = called(alloc, slots, source, function, tree)?;
-    slots[register] = Slot::Values(values);
-    Ok(())
-}
-
-/// Sets a register to the number of a field's values.
-fn count<'p>(
-    alloc: Global,
-    slots: &mut [Slot<'p>],
-    register: usize,
-    field: FieldId,
-    layers: &Layers,
-    tree: &Tree,
-) -> Result<(), NoMemory>
-    requires register { register < length slots.old }
-    ensures does { OnOk result ((job : Job) (at : ℕ) (flag : Flag) → job.tree ≡ tree.now
-        → Does (act job (state_in tree.now at flag slots.old)
-        (Some (instr.Count register field layers.now)))
-        (Goes (state_in tree.now (at + 1) flag slots.new))) }
-    ensures count { length slots.new ≡ length slots.old }
-{
-    let values = counted(alloc, field, layers, tree)?;
-    slots[register] = Slot::Values(values);
-    Ok(())
-}
-
-/// Sets a register to sums, differences or products of two others' numbers.
-fn compute<'p>(
-    alloc: Global,
-    slots: &mut [Slot<'p>],
-    register: usize,
-    operation: Arithmetic,
-    left: usize,
-    right: usize,
-    tree: &Tree,
-) -> Result<(), NoMemory>
-    requires register { register < length slots.old }
-    requires left { left < length slots.old }
-    requires right { right < length slots.old }
-    ensures does { OnOk result ((job : Job) (at : ℕ) (flag : Flag)
-        → Does (act job (state_in tree.now at flag slots.old)
-        (Some (instr.Compute register operation left right)))
-        (Goes (state_in tree.now (at + 1) flag slots.new))) }
-    ensures count { length slots.new ≡ length slots.old }
-{
-    let values = computed(alloc, slots, operation, left, right, tree)?;
-    slots[register] = Slot::Values(values);
-    Ok(())
-}
-
-/// Sets a register to the least or the greatest number of two others.
-fn choose<'p>(
-    alloc: Global,
-    slots: &mut [Slot<'p>],
-    register: usize,
-    extreme: Extreme,
-    left: usize,
-    right: usize,
-    tree: &Tree,
-) -> Result<(), NoMemory>
-    requires register { register < length slots.old }
-    requires left { left < length slots.old }
-    requires right { right < length slots.old }
-    ensures does { OnOk result ((job : Job) (at : ℕ) (flag : Flag)
-        → Does (act job (state_in tree.now at flag slots.old)
-        (Some (instr.Choose register extreme left right)))
-        (Goes (state_in tree.now (at + 1) flag slots.new))) }
-    ensures count { length slots.new ≡ length slots.old }
-{
-    let values = chosen(alloc, slots, extreme, left, right, tree)?;
-    slots[register] = Slot::Values(values);
-    Ok(())
-}
-
-/// Whether any or all pairs of two registers' values stand in a relation.
-fn test(
-    alloc: Global,
-    slots: &[Slot<'_>],
-    choice: Choice,
-    relation: Relation,
-    left: usize,
-    right: usize,
-    tree: &Tree,
-) -> Result<bool, NoMemory>
-    requires left { left < length slots.now }
-    requires right { right < length slots.now }
-    ensures { IfOk result (λ truth. (job : Job) (at : ℕ) (flag : Flag)
-        → Does (act job (state_in tree.now at flag slots.now)
-        (Some (instr.Test choice relation left right)))
-        (Goes (state_in tree.now (at + 1) (Known truth) slots.now))) }
-{
-    let truth = compare(alloc, relation, choice, slots, left, right, tree)?;
-    Ok(truth)
-}
-
-/// Whether any or all of a register's values are in a set.
-fn is_in(
-    alloc: Global,
-    slots: &[Slot<'_>],
-    choice: Choice,
-    register: usize,
-    members: &[Member],
-    tree: &Tree,
-) -> Result<bool, NoMemory>
-    requires register { register < length slots.now }
-    ensures { IfOk result (λ truth. (job : Job) (at : ℕ) (flag : Flag)
-        → Does (act job (state_in tree.now at flag slots.now)
-        (Some (instr.In choice register members.now)))
-        (Goes (state_in tree.now (at + 1) (Known truth) slots.now))) }
-{
-    let truth = asks(
-        alloc,
-        choice,
-        &Question::IsAmong(members),
-        slots,
-        register,
-        tree,
-    )?;
-    Ok(truth)
-}
-
-/// Whether a register has a number other than 0.
-fn has_bit(
-    alloc: Global,
-    slots: &[Slot<'_>],
-    register: usize,
-    tree: &Tree,
-) -> Result<bool, NoMemory>
-    requires register { register < length slots.now }
-    ensures { IfOk result (λ truth. (job : Job) (at : ℕ) (flag : Flag)
-        → Does (act job (state_in tree.now at flag slots.now)
-        (Some (instr.NonZero register)))
-        (Goes (state_in tree.now (at + 1) (Known truth) slots.now))) }
-{
-    let truth = asks(
-        alloc,
-        Choice::Any,
-        &Question::IsNonzero,
-        slots,
-        register,
-        tree,
-    )?;
-    Ok(truth)
-}
-
-/// Whether the flag differs from the truth that a register keeps.
-fn differs_from(
-    alloc: Global,
-    slots: &[Slot<'_>],
-    register: usize,
-    flag: &Flag<'_>,
-    tree: &Tree,
-) -> Result<bool, NoMemory>
-    requires register { register < length slots.now }
-    ensures { IfOk result (λ truth. (job : Job) (at : ℕ)
-        → Does (act job (state_in tree.now at flag.now slots.now)
-        (Some (instr.Differ register)))
-        (Goes (state_in tree.now (at + 1) (Known truth) slots.now))) }
-{
-    let truth = kept(alloc, slots, register, tree)?;
-    Ok(differ(truth, known(flag, tree)))
 }
 
 /// The place behind an instruction, and behind as many more as are passed over.
@@ -377,6 +87,162 @@ fn place_behind(at: usize, passes: bool, count: usize) -> usize
     ensures { result ≡ place_behind at passes count }
 {
     if passes { at + 1 + count } else { at + 1 }
+}
+
+/// What an instruction that leads to the next one does to the registers and the flag.
+#[tactic(auto, unfolding(crate::specs::Machine::act))]
+fn act<'p>(
+    alloc: Global,
+    instr: &'p Instr,
+    slots: &mut [Slot<'p>],
+    flag: &mut Flag<'p>,
+    searches: &mut [Search<'p>],
+    tree: &Tree,
+) -> Result<(), NoMemory>
+    requires fits { HasRegisters (length slots.old) instr.now }
+    requires on { acts instr.now ≡ true }
+    requires given { IsGiven tree.now searches.old slots.old instr.now }
+    ensures does { OnOk result ((job : Job) (at : ℕ) → job.tree ≡ tree.now
+        → job.patterns ≡ searches.old
+        → Does (act job (state_in tree.now at flag.old slots.old) (Some instr.now))
+        (Goes (state_in tree.now (at + 1) flag.new slots.new))) }
+    ensures on { acts instr.now ≡ true }
+    ensures count { length slots.new ≡ length slots.old }
+    ensures searches { searches.new ≡ searches.old }
+{
+    match instr {
+        Instr::Read(register, field, layers) => {
+            read(slots, flag, *register, *field, layers, tree);
+            Ok(())
+        }
+        Instr::Const(register, constant) => {
+            put(slots, *register, Slot::Single(constant));
+            Ok(())
+        }
+        Instr::Slice(register, source, ranges) => {
+            let values = sliced(alloc, &slots[*source], ranges.slice(), tree);
+            fill(slots, flag, *register, values)
+        }
+        Instr::Mask(register, source, bits) => {
+            let values = masked(alloc, &slots[*source], *bits, tree);
+            set(slots, *register, values)
+        }
+        Instr::Call(register, function, source) => {
+            let values = called(alloc, &slots[*source], *function, tree);
+            set(slots, *register, values)
+        }
+        Instr::Count(register, field, layers) => {
+            let values = counted(alloc, *field, layers, tree);
+            set(slots, *register, values)
+        }
+        Instr::Compute(register, operation, left, right) => {
+            let values = computed(alloc, *operation, &slots[*left], &slots[*right], tree);
+            set(slots, *register, values)
+        }
+        Instr::Choose(register, extreme, left, right) => {
+            let values = chosen(alloc, *extreme, &slots[*left], &slots[*right], tree);
+            set(slots, *register, values)
+        }
+        Instr::Save(register) => {
+            put(slots, *register, Slot::Truth(known(flag, tree)));
+            Ok(())
+        }
+        Instr::Test(choice, relation, left, right) => {
+            let truth = compare(
+                alloc,
+                *relation,
+                *choice,
+                &slots[*left],
+                &slots[*right],
+                tree,
+            );
+            tell(flag, truth)
+        }
+        Instr::In(choice, register, members) => {
+            let question = Question::IsAmong(members.slice());
+            tell(
+                flag,
+                asks(alloc, *choice, &question, &slots[*register], tree),
+            )
+        }
+        Instr::Match(choice, register, pattern) => {
+            let search = &mut searches[*pattern];
+            tell(flag, finds(alloc, *choice, search, &slots[*register], tree))
+        }
+        Instr::NonZero(register) => {
+            let question = Question::IsNonzero;
+            tell(
+                flag,
+                asks(alloc, Choice::Any, &question, &slots[*register], tree),
+            )
+        }
+        Instr::Not => {
+            *flag = Flag::Known(!known(flag, tree));
+            Ok(())
+        }
+        Instr::Differ(register) => {
+            let truth = differs_from(alloc, &slots[*register], flag, tree);
+            tell(flag, truth)
+        }
+        Instr::JumpFalse(_) | Instr::JumpTrue(_) | Instr::Return => unreachable!(),
+    }
+}
+
+/// Sets a register to values, where there are some to set it to.
+fn set(
+    slots: &mut [Slot<'_>],
+    register: usize,
+    values: Result<Vec<Value>, NoMemory>,
+) -> Result<(), NoMemory>
+    requires { register < length slots.old }
+    ensures set { OnOk result
+        (IsOkAnd values (λ v. slots.new ≡ slice_set slots.old register (Values v))) }
+    ensures count { length slots.new ≡ length slots.old }
+{
+    slots[register] = Slot::Values(values?);
+    Ok(())
+}
+
+/// The same, and the flag tells whether there is a value.
+fn fill(
+    slots: &mut [Slot<'_>],
+    flag: &mut Flag<'_>,
+    register: usize,
+    values: Result<Vec<Value>, NoMemory>,
+) -> Result<(), NoMemory>
+    requires { register < length slots.old }
+    ensures set { OnOk result (IsOkAnd values (λ v.
+        (slots.new ≡ slice_set slots.old register (Values v))
+        × (flag.new ≡ Known (is_some_value v.items)))) }
+    ensures count { length slots.new ≡ length slots.old }
+{
+    let values = values?;
+    *flag = Flag::Known(some_value(&values));
+    slots[register] = Slot::Values(values);
+    Ok(())
+}
+
+/// Keeps a truth as the flag, where there is one.
+fn tell(flag: &mut Flag<'_>, truth: Result<bool, NoMemory>) -> Result<(), NoMemory>
+    ensures { OnOk result (IsOkAnd truth (λ t. flag.new ≡ Known t)) }
+{
+    *flag = Flag::Known(truth?);
+    Ok(())
+}
+
+/// Whether the flag differs from the truth that a slot keeps.
+fn differs_from(
+    alloc: Global,
+    slot: &Slot<'_>,
+    flag: &Flag<'_>,
+    tree: &Tree,
+) -> Result<bool, NoMemory>
+    requires { (kept : Truth) × (truth_in tree.now slot.now ≡ Some kept) }
+    ensures { IfOk result (λ truth. (kept : Truth) → truth_in tree.now slot.now ≡ Some kept
+        → truth ≡ differ kept (flag_in tree.now flag.now)) }
+{
+    let truth = kept(alloc, slot, tree)?;
+    Ok(differ(truth, known(flag, tree)))
 }
 
 /// Whether two truths differ.
@@ -399,6 +265,7 @@ pub(crate) fn read<'p>(
     ensures read { (at : ℕ) → Goes (state_in tree.now (at + 1) flag.new slots.new)
         ≡ reads (state_in tree.now at flag.old slots.old) register
         (values_of tree.now field layers.now) }
+    ensures set { IsSet slots.new register }
     ensures count { length slots.new ≡ length slots.old }
 {
     if is_unset(&slots[register]) {
@@ -407,80 +274,63 @@ pub(crate) fn read<'p>(
     *flag = flag_for(&slots[register]);
 }
 
-fn is_unset(slot: &Slot<'_>) -> bool
+pub(crate) fn is_unset(slot: &Slot<'_>) -> bool
     ensures { result ≡ is_unset slot.now }
 {
     matches!(slot, Slot::Unset)
 }
 
-/// Whether a register has a value.
+/// Whether a register that is set has a value.
 fn flag_for<'p>(slot: &Slot<'p>) -> Flag<'p>
+    requires { is_unset slot.now ≡ false }
     ensures { (tree : TreeShown) (held : Held) → held_in tree slot.now ≡ Some held
         → flag_in tree result ≡ is_some_value held.values }
 {
     match slot {
-        Slot::Unset => Flag::Known(false),
+        Slot::Unset => unreachable!(),
         Slot::Field(field, layers) => Flag::IsThere(*field, layers),
         Slot::Single(_) | Slot::Truth(_) => Flag::Known(true),
         Slot::Values(values) => Flag::Known(some_value(values)),
     }
 }
 
-/// Sets a register to values. The flag tells whether there is one.
-fn fill<'p>(slots: &mut [Slot<'p>], flag: &mut Flag<'p>, register: usize, values: Vec<Value>)
-    requires { register < length slots.old }
-    ensures slots { slots.new ≡ slice_set slots.old register (Values values) }
-    ensures flag { flag.new ≡ Known (is_some_value values.items) }
-{
-    *flag = Flag::Known(some_value(&values));
-    slots[register] = Slot::Values(values);
-}
-
-/// The slices of a register's values.
+/// The slices of a slot's values.
 fn sliced(
     alloc: Global,
-    slots: &[Slot<'_>],
-    register: usize,
+    slot: &Slot<'_>,
     ranges: &[RangePart],
     tree: &Tree,
 ) -> Result<Vec<Value>, NoMemory>
-    requires { register < length slots.now }
-    ensures { IfOk result (λ values. (held : Held) → IsHeld tree.now slots.now register held
+    requires { is_unset slot.now ≡ false }
+    ensures { IfOk result (λ values. (held : Held) → held_in tree.now slot.now ≡ Some held
         → values.items ≡ filter_map (λ value. sliced_by value ranges.now) held.values) }
 {
-    let values = listed(alloc, slots, register, tree)?;
+    let values = listed_in(alloc, slot, tree)?;
     slices(alloc, values.slice(), ranges)
 }
 
-/// The masked values of a register.
-fn masked(
-    alloc: Global,
-    slots: &[Slot<'_>],
-    register: usize,
-    mask: u64,
-    tree: &Tree,
-) -> Result<Vec<Value>, NoMemory>
-    requires { register < length slots.now }
-    ensures { IfOk result (λ values. (held : Held) → IsHeld tree.now slots.now register held
+/// The masked values of a slot.
+fn masked(alloc: Global, slot: &Slot<'_>, mask: u64, tree: &Tree) -> Result<Vec<Value>, NoMemory>
+    requires { is_unset slot.now ≡ false }
+    ensures { IfOk result (λ values. (held : Held) → held_in tree.now slot.now ≡ Some held
         → values.items ≡ filter_map (λ value. masked_by mask value) held.values) }
 {
-    let values = listed(alloc, slots, register, tree)?;
+    let values = listed_in(alloc, slot, tree)?;
     masked_values(alloc, values.slice(), mask)
 }
 
-/// What a function gives of a register's values.
+/// What a function gives of a slot's values.
 fn called(
     alloc: Global,
-    slots: &[Slot<'_>],
-    register: usize,
+    slot: &Slot<'_>,
     function: Function,
     tree: &Tree,
 ) -> Result<Vec<Value>, NoMemory>
-    requires { register < length slots.now }
-    ensures { IfOk result (λ values. (held : Held) → IsHeld tree.now slots.now register held
+    requires { is_unset slot.now ≡ false }
+    ensures { IfOk result (λ values. (held : Held) → held_in tree.now slot.now ≡ Some held
         → values.items ≡ values_called function held.values) }
 {
-    let values = listed(alloc, slots, register, tree)?;
+    let values = listed_in(alloc, slot, tree)?;
     called_values(alloc, function, values.slice())
 }
 
@@ -494,27 +344,33 @@ fn counted(
     ensures { IfOk result (λ values.
         values.items ≡ Uint (length (values_of tree.now field layers.now)) ∷ []) }
 {
-    let values = tree.values(field, layers)?;
-    Ok(only(alloc, Value::Uint(values.len() as u64))?)
+    let count = count_of(field, layers, tree)?;
+    only(alloc, Value::Uint(count))
 }
 
-/// The sums, differences or products of two registers' numbers.
+fn count_of(field: FieldId, layers: &Layers, tree: &Tree) -> Result<u64, NoMemory>
+    ensures { IfOk result (λ count. count ≡ length (values_of tree.now field layers.now)) }
+{
+    let values = tree.values(field, layers)?;
+    Ok(values.len() as u64)
+}
+
+/// The sums, differences or products of two slots' numbers.
 fn computed(
     alloc: Global,
-    slots: &[Slot<'_>],
     operation: Arithmetic,
-    left: usize,
-    right: usize,
+    left: &Slot<'_>,
+    right: &Slot<'_>,
     tree: &Tree,
 ) -> Result<Vec<Value>, NoMemory>
-    requires left { left < length slots.now }
-    requires right { right < length slots.now }
-    ensures { IfOk result (λ values. (a b : Held) → IsHeld tree.now slots.now left a
-        → IsHeld tree.now slots.now right b
+    requires left { is_unset left.now ≡ false }
+    requires right { is_unset right.now ≡ false }
+    ensures { IfOk result (λ values. (a b : Held) → held_in tree.now left.now ≡ Some a
+        → held_in tree.now right.now ≡ Some b
         → values.items ≡ values_calculated operation a.values b.values) }
 {
-    let left = listed(alloc, slots, left, tree)?;
-    computed_with(alloc, operation, left.slice(), &slots[right], tree)
+    let left = listed_in(alloc, left, tree)?;
+    computed_with(alloc, operation, left.slice(), right, tree)
 }
 
 /// The same of a list of numbers and those of a slot.
@@ -525,6 +381,7 @@ fn computed_with(
     right: &Slot<'_>,
     tree: &Tree,
 ) -> Result<Vec<Value>, NoMemory>
+    requires { is_unset right.now ≡ false }
     ensures { IfOk result (λ values. (held : Held) → held_in tree.now right.now ≡ Some held
         → values.items ≡ values_calculated operation left.now held.values) }
 {
@@ -532,22 +389,21 @@ fn computed_with(
     calculated_values(alloc, operation, left, right.slice())
 }
 
-/// The least or the greatest number of two registers, if there is one.
+/// The least or the greatest number of two slots, if there is one.
 fn chosen(
     alloc: Global,
-    slots: &[Slot<'_>],
     extreme: Extreme,
-    left: usize,
-    right: usize,
+    left: &Slot<'_>,
+    right: &Slot<'_>,
     tree: &Tree,
 ) -> Result<Vec<Value>, NoMemory>
-    requires left { left < length slots.now }
-    requires right { right < length slots.now }
-    ensures { IfOk result (λ values. (a b : Held) → IsHeld tree.now slots.now left a
-        → IsHeld tree.now slots.now right b
+    requires left { is_unset left.now ≡ false }
+    requires right { is_unset right.now ≡ false }
+    ensures { IfOk result (λ values. (a b : Held) → held_in tree.now left.now ≡ Some a
+        → held_in tree.now right.now ≡ Some b
         → values.items ≡ option_to_list (extreme_among extreme (a.values ++ b.values))) }
 {
-    let both = extremes(alloc, extreme, &slots[left], &slots[right], tree)?;
+    let both = extremes(alloc, extreme, left, right, tree)?;
     extreme_in(alloc, extreme, &both)
 }
 
@@ -559,6 +415,8 @@ fn extremes(
     right: &Slot<'_>,
     tree: &Tree,
 ) -> Result<Vec<Value>, NoMemory>
+    requires left { is_unset left.now ≡ false }
+    requires right { is_unset right.now ≡ false }
     ensures { IfOk result (λ values. (a b : Held) → held_in tree.now left.now ≡ Some a
         → held_in tree.now right.now ≡ Some b
         → values.items ≡ option_to_list (extreme_among extreme a.values)
@@ -578,6 +436,7 @@ fn push_extreme(
     slot: &Slot<'_>,
     tree: &Tree,
 ) -> Result<(), NoMemory>
+    requires { is_unset slot.now ≡ false }
     ensures { OnOk result ((held : Held) → held_in tree.now slot.now ≡ Some held
         → both.new.items ≡ both.old.items ++ option_to_list (extreme_among extreme held.values)) }
 {

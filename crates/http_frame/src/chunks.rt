@@ -9,7 +9,7 @@ use crate::limits::{body_limit, line_limit, trailer_limit};
 use crate::lines::{Line, crlf_behind, line_of, size_in, text_from};
 
 /// The place that the reading of a list of chunks has come to.
-#[derive(Clone, Copy, Debug, PartialEq, Eq)]
+#[derive(Clone, Copy)]
 pub(crate) struct Place {
     /// By the message's first byte.
     pub at: usize,
@@ -24,7 +24,7 @@ pub(crate) struct Place {
 }
 
 /// What stands at a place in a list of chunks.
-#[derive(Clone, Copy, Debug, PartialEq, Eq)]
+#[derive(Clone, Copy)]
 pub(crate) enum Turn {
     /// A chunk: the bytes of its size line, and its own.
     Chunk(usize, usize),

@@ -3,7 +3,7 @@ ghost use Rattle.http_frame.specs.Ends.{seek_on};
 ghost use Rattle.http_frame.specs.Searches.{IsSearch};
 
 /// What the bytes of a head that were looked at end in.
-#[derive(Clone, Copy, Debug, PartialEq, Eq)]
+#[derive(Clone, Copy)]
 pub(crate) enum Seek {
     /// Line ends alone.
     Before,
@@ -16,7 +16,7 @@ pub(crate) enum Seek {
 }
 
 /// What was found of a head's end.
-#[derive(Clone, Copy, Debug, PartialEq, Eq)]
+#[derive(Clone, Copy)]
 pub(crate) enum Search {
     /// It ends in front of this place.
     Ends(usize),

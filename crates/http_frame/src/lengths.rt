@@ -11,7 +11,7 @@ use httparse::spans::{HeaderSpan, Span};
 use pk_base::are_digits;
 
 /// What the fields named Content-Length of a head say together.
-#[derive(Clone, Copy, Debug, PartialEq, Eq)]
+#[derive(Clone, Copy)]
 pub(crate) enum Lengths {
     /// There is none.
     Absent,

@@ -8,7 +8,7 @@ use crate::heads::tail;
 use crate::lengths::number_of;
 
 /// The line at a place.
-#[derive(Clone, Copy, Debug, PartialEq, Eq)]
+#[derive(Clone, Copy)]
 pub(crate) enum Line {
     /// It has so many bytes and CR LF.
     Whole(usize),

@@ -13,7 +13,7 @@ use httparse::spans::{EMPTY_HEADER_SPAN, HeaderSpan};
 use pk_base::HTTP_FIELD_LIMIT;
 
 /// What a head says of the body behind it.
-#[derive(Clone, Copy, Debug, PartialEq, Eq)]
+#[derive(Clone, Copy)]
 pub(crate) enum Plan {
     /// There is none.
     Bare,
@@ -28,7 +28,7 @@ pub(crate) enum Plan {
 }
 
 /// What is known of a message once its head is read.
-#[derive(Clone, Copy, Debug, PartialEq, Eq)]
+#[derive(Clone, Copy)]
 pub(crate) struct Start {
     /// It is a request.
     pub request: bool,
@@ -41,7 +41,7 @@ pub(crate) struct Start {
 }
 
 /// A head and what it says of the body.
-#[derive(Clone, Copy, Debug, PartialEq, Eq)]
+#[derive(Clone, Copy)]
 pub(crate) struct Planned {
     pub start: Start,
     pub plan: Plan,

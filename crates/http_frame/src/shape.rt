@@ -35,7 +35,7 @@ pub enum Body {
 }
 
 /// What follows a message.
-#[derive(Clone, Copy, Debug, PartialEq, Eq)]
+#[derive(Clone, Copy)]
 pub enum Then {
     /// So many bytes that belong to no message, and then the next one.
     Follows(u64),
@@ -44,7 +44,7 @@ pub enum Then {
 }
 
 /// The bytes of one chunk.
-#[derive(Clone, Copy, Debug, PartialEq, Eq)]
+#[derive(Clone, Copy)]
 pub struct Piece {
     pub start: usize,
     pub len: usize,

@@ -22,7 +22,7 @@ pub struct Datagram {
 }
 
 /// How a fragment goes against those before it. The variants stand in the order in which they are looked for.
-#[derive(Clone, Copy, Debug, PartialEq, Eq)]
+#[derive(Clone, Copy)]
 pub enum ConflictKind {
     /// It ends past 65,535.
     TooLong,

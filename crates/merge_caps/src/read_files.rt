@@ -47,7 +47,7 @@ fn begin<C: Capture>(alloc: Global, name: &Text, capture: &mut C) -> Result<(), 
 fn is_large(ending: Ending, captured: usize) -> bool
     ensures { result ≡ is_large_after ending captured }
 {
-    ending == Ending::TooLarge || captured > file_limit()
+    matches!(ending, Ending::TooLarge) || captured > file_limit()
 }
 
 // Reads the file of a name to its end.

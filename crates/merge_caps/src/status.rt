@@ -2,7 +2,7 @@ ghost use Rattle.std.specs.Prelude.{◌≡◌};
 ghost use Rattle.merge_caps.specs.Statuses.{exit_number, written_status};
 
 /// How merging ended. The program ends with the number of this variant, 0 for `Done`.
-#[derive(Clone, Copy, Debug, PartialEq, Eq)]
+#[derive(Clone, Copy, Debug)]
 pub enum MergeStatus {
     /// All files were read, and all their frames written.
     Done,

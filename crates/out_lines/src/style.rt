@@ -1,5 +1,5 @@
 /// Which of a field's values a column shows.
-#[derive(Clone, Copy, Debug, PartialEq, Eq)]
+#[derive(Clone, Copy, PartialEq, Eq)]
 pub enum Occurrence {
     First,
     Last,
@@ -7,7 +7,7 @@ pub enum Occurrence {
 }
 
 /// What a column stands in.
-#[derive(Clone, Copy, Debug, PartialEq, Eq)]
+#[derive(Clone, Copy, PartialEq, Eq)]
 pub enum Quote {
     Double,
     Single,
@@ -15,7 +15,7 @@ pub enum Quote {
 }
 
 /// How the lines of fields are written.
-#[derive(Clone, Copy, Debug, PartialEq, Eq)]
+#[derive(Clone, Copy, PartialEq, Eq)]
 pub struct Style {
     /// Whether the line of the fields' names stands first.
     pub header: bool,

@@ -21,7 +21,7 @@ const MAJOR_AT: usize = 4;
 const LINK_AT: usize = 20;
 
 /// What a pcap file's header says of its records.
-#[derive(Clone, Copy, Debug, PartialEq, Eq)]
+#[derive(Clone, Copy)]
 pub struct PcapHead {
     /// Whether the file's numbers are little-endian.
     pub little: bool,
@@ -32,7 +32,7 @@ pub struct PcapHead {
 }
 
 /// What the first bytes of a pcap file are.
-#[derive(Clone, Copy, Debug, PartialEq, Eq)]
+#[derive(Clone, Copy)]
 pub enum HeadStep {
     /// So many bytes are needed, and fewer are held.
     Need(usize),

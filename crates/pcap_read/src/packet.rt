@@ -19,7 +19,7 @@ const NANOSECONDS_PER_SECOND: u64 = 1_000_000_000;
 const NANOSECONDS_PER_MICROSECOND: u64 = 1_000;
 
 /// What stands at a place where a record of a pcap file begins.
-#[derive(Clone, Copy, Debug, PartialEq, Eq)]
+#[derive(Clone, Copy)]
 pub enum ItemStep {
     /// So many bytes are needed, and fewer are held.
     Need(usize),

@@ -1,7 +1,7 @@
 use pk_base::{Found, Reason};
 
 /// What stands at a place where a block of a pcapng file begins.
-#[derive(Clone, Copy, Debug, PartialEq, Eq)]
+#[derive(Clone, Copy)]
 pub enum BlockStep {
     /// So many bytes are needed, and fewer are held.
     Need(usize),

@@ -1,5 +1,5 @@
 /// Why a capture file can't be read further. The variants stand in the order of their codes, B1 to B10.
-#[derive(Clone, Copy, Debug, PartialEq, Eq)]
+#[derive(Clone, Copy, Debug)]
 pub enum Reason {
     /// B1: fewer than four bytes in the file, or a pcap header that is cut.
     ShortHeader,
@@ -24,7 +24,7 @@ pub enum Reason {
 }
 
 /// A frame found in a capture file's bytes, by places counted from the first byte of the record or block that holds it.
-#[derive(Clone, Copy, Debug, PartialEq, Eq)]
+#[derive(Clone, Copy)]
 pub struct Found {
     /// When the frame was taken, in nanoseconds since 1970 in UTC, where the file says it.
     pub time: Option<i128>,

@@ -1,7 +1,7 @@
 use std::alloc::{AllocError, AllocFailed};
 
 /// There was no memory for the answer.
-#[derive(Clone, Copy, Debug, PartialEq, Eq)]
+#[derive(Clone, Copy, Debug)]
 pub struct NoMemory;
 
 impl From<AllocError> for NoMemory {

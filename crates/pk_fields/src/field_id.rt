@@ -4,7 +4,7 @@ ghost use Rattle.pk_fields.specs.Fields.{IsField};
 use std::marker::Model;
 
 /// A field or a protocol: its place in the table.
-#[derive(Clone, Copy, Debug, PartialEq, Eq)]
+#[derive(Clone, Copy, PartialEq, Eq)]
 pub struct FieldId(pub u16);
 
 impl Model for FieldId {

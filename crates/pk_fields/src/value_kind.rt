@@ -1,5 +1,5 @@
 /// What the values of a field are.
-#[derive(Clone, Copy, Debug, PartialEq, Eq)]
+#[derive(Clone, Copy, PartialEq, Eq)]
 pub enum ValueKind {
     /// A number below two to this width, which is 1 to 64.
     Uint(u8),
@@ -20,7 +20,7 @@ pub enum ValueKind {
 }
 
 /// The bits of a number in its item's own bytes, the most significant bit of a byte first.
-#[derive(Clone, Copy, Debug, PartialEq, Eq)]
+#[derive(Clone, Copy)]
 pub struct BitPlace {
     /// The first bit, 0 to 7.
     pub first: u8,

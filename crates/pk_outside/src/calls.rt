@@ -4,7 +4,7 @@ ghost use Rattle.pk_outside.specs.InMemory.{is_to_fail};
 ghost use Rattle.pk_outside.specs.Outside.{counted};
 
 /// How many calls there were, and the numbers, counted from 1, of those that are to fail.
-#[derive(Debug, Drop)]
+#[derive(Drop)]
 pub(crate) struct Calls {
     pub(crate) failing: Vec<u64>,
     pub(crate) made: u64,

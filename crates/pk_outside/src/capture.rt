@@ -3,7 +3,7 @@ ghost use Rattle.std.specs.Prelude.{◌≡◌, ◌<◌, ◌≤◌, ℕ, List, Bo
 ghost use Rattle.pk_outside.specs.Outside.{counted, Moves};
 
 /// A file could not be begun, or a read of it failed. The capture's counts say which.
-#[derive(Clone, Copy, Debug, PartialEq, Eq)]
+#[derive(Clone, Copy, Debug)]
 pub struct Failed;
 
 /// Files by their names, of which one at a time is read from its start to its end.

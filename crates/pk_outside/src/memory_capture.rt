@@ -33,7 +33,7 @@ impl NamedFile {
 }
 
 /// Where the next read begins: in which file, and behind how many of its bytes.
-#[derive(Clone, Copy, Debug, PartialEq, Eq)]
+#[derive(Clone, Copy)]
 pub(crate) struct Place {
     file: usize,
     at: usize,

@@ -4,7 +4,7 @@ ghost use Rattle.std.specs.Io.KnownBytes.{Appends, Keeps};
 ghost use Rattle.pk_outside.specs.Outside.{AppendsPart, Rose, CountsFault};
 
 /// Why a sink took nothing of a piece.
-#[derive(Clone, Copy, Debug, PartialEq, Eq)]
+#[derive(Clone, Copy, Debug)]
 pub enum SinkFault {
     /// The sink refused.
     Failed,

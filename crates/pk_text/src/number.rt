@@ -13,7 +13,7 @@ use std::alloc::Global;
 const TEXT_LEN: usize = 20;
 
 /// A number that a text writes, as far as it fits 64 bits.
-#[derive(Clone, Copy, PartialEq, Eq)]
+#[derive(Clone, Copy)]
 pub enum Wide {
     /// A number below 2^64.
     Fits(u64),

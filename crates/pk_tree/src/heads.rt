@@ -1,7 +1,7 @@
 use pk_base::Span;
 
 /// An address of the network layer.
-#[derive(Clone, Copy, PartialEq, Eq)]
+#[derive(Clone, Copy)]
 pub enum Address {
     Four(u32),
     Six(u128),
@@ -24,7 +24,7 @@ pub enum Mode {
 }
 
 /// Which header comes next.
-#[derive(Clone, Copy, PartialEq, Eq)]
+#[derive(Clone, Copy)]
 pub enum Next {
     Ip4,
     Ip6,
@@ -46,7 +46,7 @@ pub enum Next {
 }
 
 /// What follows a layer, with the bytes that it has.
-#[derive(Clone, Copy, PartialEq, Eq)]
+#[derive(Clone, Copy)]
 pub enum After {
     Next(Next, Span),
     /// What an IP header carries.
@@ -61,7 +61,7 @@ pub enum After {
 }
 
 /// What a fragment's headers say of its place in a datagram (RFC 791, 3.2; RFC 8200, 4.5).
-#[derive(Clone, Copy, PartialEq, Eq)]
+#[derive(Clone, Copy)]
 pub struct FragmentHead {
     /// Whether it is an IPv6 fragment.
     pub six: bool,
@@ -79,7 +79,7 @@ pub struct FragmentHead {
 }
 
 /// What the IP header says of the packet that the later headers belong to.
-#[derive(Clone, Copy, PartialEq, Eq)]
+#[derive(Clone, Copy)]
 pub struct PacketHead {
     pub source: Address,
     pub target: Address,
@@ -88,14 +88,14 @@ pub struct PacketHead {
 }
 
 /// The ports of a UDP header.
-#[derive(Clone, Copy, PartialEq, Eq)]
+#[derive(Clone, Copy)]
 pub struct PortsHead {
     pub source: u16,
     pub target: u16,
 }
 
 /// What a TCP header says of a segment's place in its stream (RFC 9293, 3.1).
-#[derive(Clone, Copy, PartialEq, Eq)]
+#[derive(Clone, Copy)]
 pub struct TcpHead {
     pub source: u16,
     pub target: u16,

@@ -3,7 +3,7 @@ ghost use Rattle.std.specs.Prelude.{◌≡◌};
 use std::marker::Model;
 
 /// What a port's payload is read as.
-#[derive(Clone, Copy, Debug, PartialEq, Eq)]
+#[derive(Clone, Copy)]
 pub enum App {
     Http,
     Dns,
@@ -15,7 +15,7 @@ pub enum App {
 }
 
 /// The application of a port, in place of the usual one.
-#[derive(Clone, Copy, Debug, PartialEq, Eq)]
+#[derive(Clone, Copy)]
 pub struct PortRule {
     /// Whether it is a port of TCP, else of UDP.
     pub tcp: bool,

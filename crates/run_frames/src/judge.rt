@@ -1,5 +1,5 @@
 // Which frames are shown.
-ghost use Rattle.std.specs.Prelude.{◌≡◌, IfOk};
+ghost use Rattle.std.specs.Prelude.{◌≡◌, Some, IfOk};
 ghost use Rattle.run_frames.specs.Accessors.{compiled_of};
 ghost use Rattle.run_frames.specs.Satisfied.{judged};
 
@@ -33,6 +33,19 @@ impl<'p> Model for Judge<'p> {
     ghost invariant = { λ j. IsReadyFor j.compiled.now j.machine };
 }
 
+impl Judge<'_> {
+    /// What the run of the program on a tree answers.
+    #[tactic(auto, unfolding(crate::specs::Satisfied::judged))]
+    fn answer(&mut self, tree: &Tree) -> Result<Verdict, NoMemory>
+        ensures verdict { IfOk result (λ verdict. verdict ≡ judged (Some self.old) tree.now) }
+        ensures same { self.new ≡ self.old }
+    {
+        // What is true of each tree.
+        let _layers = tree.layers();
+        self.machine.run(tree)
+    }
+}
+
 /// The judge of a plan, where it has a filter.
 pub(crate) fn judge_for(alloc: Global, plan: &Plan) -> Result<Option<Judge<'_>>, NoMemory>
     ensures { IfOk result (λ judge. judge ≡ compiled_of plan.now) }
@@ -57,6 +70,6 @@ pub(crate) fn verdict_of(judge: &mut Option<Judge<'_>>, tree: &Tree) -> Result<V
             holds: true,
             steps: 0,
         }),
-        Some(judge) => judge.machine.run(tree),
+        Some(judge) => judge.answer(tree),
     }
 }

@@ -2,7 +2,7 @@ use pk_base::NoMemory;
 use std::alloc::{AllocError, AllocFailed};
 
 /// Why words are refused, in the order of the names A1 to A9.
-#[derive(Clone, Copy, Debug, PartialEq, Eq)]
+#[derive(Clone, Copy, PartialEq, Eq)]
 pub enum WordReason {
     /// A1: a letter or a long option isn't known.
     UnknownOption,
@@ -25,14 +25,14 @@ pub enum WordReason {
 }
 
 /// A reason to refuse words, and the word that shows it, numbered from 1.
-#[derive(Clone, Copy, Debug, PartialEq, Eq)]
+#[derive(Clone, Copy, PartialEq, Eq)]
 pub struct WordFault {
     pub word: u64,
     pub reason: WordReason,
 }
 
 /// Why there are no options.
-#[derive(Clone, Copy, Debug, PartialEq, Eq)]
+#[derive(Clone, Copy)]
 pub enum WordsError {
     Fault(WordFault),
     NoMemory,

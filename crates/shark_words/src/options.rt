@@ -17,7 +17,7 @@ pub enum Source {
 }
 
 /// What kind of line a frame has.
-#[derive(Clone, Copy, PartialEq, Eq)]
+#[derive(Clone, Copy)]
 pub enum LineKind {
     /// A summary.
     Text,
@@ -56,7 +56,7 @@ impl NameList {
 }
 
 /// What stands behind the lines.
-#[derive(Clone, Copy, PartialEq, Eq)]
+#[derive(Clone, Copy)]
 pub enum Report {
     /// The bytes of the TCP stream of this number, those of each direction by themselves.
     Follow(u32),

@@ -15,7 +15,7 @@ pub struct Cursor {
 }
 
 /// Behind a whole message.
-#[derive(Clone, Copy, Debug, PartialEq, Eq)]
+#[derive(Clone, Copy)]
 pub(crate) struct Mark {
     /// The place behind its last byte, from the stretch's first byte on.
     pub end: usize,

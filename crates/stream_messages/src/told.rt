@@ -4,7 +4,7 @@ ghost use Rattle.stream_messages.specs.Tellings.{answers, end_of, then_of};
 use http_frame::{Shape, Then};
 
 /// What the messages of a stream belong to.
-#[derive(Clone, Copy, Debug, PartialEq, Eq)]
+#[derive(Clone, Copy)]
 pub enum App {
     /// DNS over TCP (RFC 1035, 4.2.2).
     Dns,
