@@ -1,4 +1,5 @@
 pub mod CountLemmas
+pub mod FewLemmas
 pub mod KeptNotes
 pub mod KeptTables
 pub mod KeyLemmas

@@ -1,4 +1,5 @@
 pub mod Counts
+pub mod Few
 pub mod Keys
 pub mod Laws
 pub mod Stands

@@ -1,9 +1,9 @@
 // Frames and bytes, and how one more frame changes them.
-ghost use Rattle.std.specs.Prelude.{◌≡◌, ◌+◌, IfOk};
+ghost use Rattle.std.specs.Prelude.{◌≡◌, ◌<◌, ◌^◌, IfSome};
+ghost use Rattle.cap_stats.specs.Few.{HasRoom, HasTalkRoom};
 ghost use Rattle.cap_stats.specs.Steps.{tally_with, tally_after, talk_with, first_talk, talk_after};
 
 use crate::party::{Flight, Party, is_same};
-use pk_base::NoMemory;
 
 /// Frames, and the sum of their lengths.
 #[derive(Clone, Copy)]
@@ -23,43 +23,41 @@ pub(crate) struct Talk {
     pub back: Tally,
 }
 
-/// A tally with one more frame. One that doesn't fit 64 bits, for which no file is large enough, is want of memory.
-fn tally_with(tally: Tally, bytes: u64) -> Result<Tally, NoMemory>
-    ensures { IfOk result (λ new. new ≡ tally_with tally bytes) }
+/// A tally with one more frame.
+fn tally_with(tally: Tally, bytes: u64) -> Tally
+    requires room { HasRoom tally }
+    requires short { bytes < 2 ^ 32 }
+    ensures { result ≡ tally_with tally bytes }
 {
-    let frames = plus(tally.frames, 1)?;
-    let bytes = plus(tally.bytes, bytes)?;
-    Ok(Tally { frames, bytes })
-}
-
-fn plus(one: u64, other: u64) -> Result<u64, NoMemory>
-    ensures { IfOk result (λ sum. sum ≡ one + other) }
-{
-    match one.checked_add(other) {
-        Some(sum) => Ok(sum),
-        None => Err(NoMemory),
+    Tally {
+        frames: tally.frames + 1,
+        bytes: tally.bytes + bytes,
     }
 }
 
 /// A tally, if there is one, with one more frame.
-pub(crate) fn tally_after(tally: Option<Tally>, bytes: u64) -> Result<Tally, NoMemory>
-    ensures { IfOk result (λ new. new ≡ tally_after tally bytes) }
+pub(crate) fn tally_after(tally: Option<Tally>, bytes: u64) -> Tally
+    requires room { IfSome tally HasRoom }
+    requires short { bytes < 2 ^ 32 }
+    ensures { result ≡ tally_after tally bytes }
 {
     match tally {
-        None => Ok(Tally { frames: 1, bytes }),
+        None => Tally { frames: 1, bytes },
         Some(tally) => tally_with(tally, bytes),
     }
 }
 
-fn talk_with(talk: Talk, flight: &Flight) -> Result<Talk, NoMemory>
-    ensures { IfOk result (λ new. new ≡ talk_with talk flight.now) }
+fn talk_with(talk: Talk, flight: &Flight) -> Talk
+    requires room { HasTalkRoom talk }
+    requires short { flight.now.bytes < 2 ^ 32 }
+    ensures { result ≡ talk_with talk flight.now }
 {
     if is_same(&flight.from, &talk.from) {
-        let there = tally_with(talk.there, flight.bytes)?;
-        Ok(Talk { there, ..talk })
+        let there = tally_with(talk.there, flight.bytes);
+        Talk { there, ..talk }
     } else {
-        let back = tally_with(talk.back, flight.bytes)?;
-        Ok(Talk { back, ..talk })
+        let back = tally_with(talk.back, flight.bytes);
+        Talk { back, ..talk }
     }
 }
 
@@ -81,11 +79,13 @@ fn first_talk(flight: &Flight) -> Talk
 }
 
 /// A conversation, if there is one, with one more flight.
-pub(crate) fn talk_after(talk: Option<Talk>, flight: &Flight) -> Result<Talk, NoMemory>
-    ensures { IfOk result (λ new. new ≡ talk_after talk flight.now) }
+pub(crate) fn talk_after(talk: Option<Talk>, flight: &Flight) -> Talk
+    requires room { IfSome talk HasTalkRoom }
+    requires short { flight.now.bytes < 2 ^ 32 }
+    ensures { result ≡ talk_after talk flight.now }
 {
     match talk {
-        None => Ok(first_talk(flight)),
+        None => first_talk(flight),
         Some(talk) => talk_with(talk, flight),
     }
 }

@@ -1,10 +1,11 @@
 // Pairs of IPv4 addresses, in the order of their first packets.
-ghost use Rattle.std.specs.Prelude.{◌≡◌, ℕ, List, [], ◌∷◌, ◌++◌, IfOk, OnOk};
+ghost use Rattle.std.specs.Prelude.{◌≡◌, ◌<◌, ◌^◌, ℕ, List, [], ◌∷◌, ◌++◌, IfOk, IfSome, OnOk};
 ghost use Rattle.std.specs.List.{flat_map};
 ghost use Rattle.std.specs.Option.{option_copied};
 ghost use Rattle.indexmap.specs.IndexMap.{get, keys};
 ghost use Rattle.cap_stats.specs.Keys.{same_pair};
 ghost use Rattle.cap_stats.specs.declared.party.Flight.{Flight as FlightValue};
+ghost use Rattle.cap_stats.specs.Few.{HasTalkRoom};
 ghost use Rattle.cap_stats.specs.Stands.{HasPairs};
 ghost use Rattle.cap_stats.specs.Tables.{pairs_table, pair_line};
 
@@ -33,10 +34,12 @@ impl Pairs {
 
     /// Notes a packet between two addresses.
     pub fn add(&mut self, pair: (u32, u32), flight: &Flight) -> Result<(), NoMemory>
+        requires room { IfSome (get same_pair self.old.all pair) HasTalkRoom }
+        requires short { flight.now.bytes < 2 ^ 32 }
         ensures { OnOk result ((notes : List ((ℕ × ℕ) × FlightValue)) → HasPairs notes self.old
             → HasPairs ((pair, flight.now) ∷ notes) self.new) }
     {
-        let talk = talk_after(self.all.get(&pair).copied(), flight)?;
+        let talk = talk_after(self.all.get(&pair).copied(), flight);
         self.all.insert(pair, talk)?;
         Ok(())
     }

@@ -1,14 +1,16 @@
 // Paths of protocols, by their texts.
-ghost use Rattle.std.specs.Prelude.{◌≡◌, ◌==◌, ℕ, Option, None, true, false, List, [], ◌∷◌, ◌++◌, length, map, codes, if◌then◌else◌, take, IfOk, OnOk};
+ghost use Rattle.std.specs.Prelude.{◌≡◌, ◌==◌, ◌-◌, ◌^◌, ◌<◌, ℕ, Option, None, true, false, List, [], ◌∷◌, ◌++◌, length, map, codes, decimal, if◌then◌else◌, take, IfOk, IfSome, OnOk};
 ghost use Rattle.std.specs.BTreeMap.{get_by_text, keys};
 ghost use Rattle.std.specs.List.{flat_map};
 ghost use Rattle.std.specs.String.{string_bytes};
 ghost use Rattle.std.specs.Option.{option_copied};
 ghost use Rattle.pk_fields.specs.Fields.{row_of};
 ghost use Rattle.pk_tree.specs.declared.layer.Layer.{Layer};
+ghost use Rattle.pk_tree.specs.Trees.{TreeShown};
+ghost use Rattle.cap_stats.specs.Few.{AreFew, HasRoom};
 ghost use Rattle.cap_stats.specs.Stands.{HasPaths};
-ghost use Rattle.cap_stats.specs.Tables.{paths_table, path_line};
-ghost use Rattle.cap_stats.specs.Told.{paths_in, paths_to};
+ghost use Rattle.cap_stats.specs.Tables.{paths_of, paths_table, path_line};
+ghost use Rattle.cap_stats.specs.Told.{length_of as bytes_of, paths_in, paths_to};
 
 use crate::counts::{Tally, tally_after};
 use crate::lines::begin_table;
@@ -43,6 +45,9 @@ impl Paths {
 
     /// Notes the paths that a tree's layers show.
     pub fn add(&mut self, layers: &[Layer]) -> Result<(), NoMemory>
+        requires few { (past : List TreeShown) × HasPaths (paths_of past) self.old
+            × AreFew (2 ^ 32 - 1) past }
+        requires short { bytes_of layers.now < 2 ^ 32 }
         ensures { OnOk result ((notes : List (List ℕ × ℕ)) → HasPaths notes self.old
             → HasPaths (paths_in layers.now ++ notes) self.new) }
     {
@@ -51,6 +56,9 @@ impl Paths {
     }
 
     fn add_shown(&mut self, shown: &[Layer], bytes: u64) -> Result<(), NoMemory>
+        requires known { (notes : List (List ℕ × ℕ)) × HasPaths notes self.old }
+        requires room { (path : List ℕ) → IfSome (get_by_text self.old.all path) HasRoom }
+        requires short { bytes < 2 ^ 32 }
         ensures { OnOk result ((notes : List (List ℕ × ℕ)) → HasPaths notes self.old
             → HasPaths (paths_to bytes (map (λ (layer : Layer). layer.proto) shown.now)
             (length shown.now) ++ notes) self.new) }
@@ -65,32 +73,36 @@ impl Paths {
 
     /// Notes a frame of a path.
     fn add_path(&mut self, path: &str, bytes: u64) -> Result<(), NoMemory>
+        requires room { IfSome (get_by_text self.old.all path.now) HasRoom }
+        requires short { bytes < 2 ^ 32 }
         ensures { OnOk result ((notes : List (List ℕ × ℕ)) → HasPaths notes self.old
             → HasPaths ((path.now, bytes) ∷ notes) self.new) }
     {
-        if self.raise(path, bytes)? {
+        if self.raise(path, bytes) {
             return Ok(());
         }
+        let first = tally_after(None, bytes);
         let key = String::from_str(self.alloc, path)?;
-        self.all.insert(key, tally_after(None, bytes)?)?;
+        self.all.insert(key, first)?;
         Ok(())
     }
 
     /// Notes a frame of a path that is there, and answers whether it is.
-    fn raise(&mut self, path: &str, bytes: u64) -> Result<bool, NoMemory>
-        ensures raised { IfOk result (λ raised. raised ≡ true → (notes : List (List ℕ × ℕ))
-            → HasPaths notes self.old → HasPaths ((path.now, bytes) ∷ notes) self.new) }
-        ensures absent { IfOk result (λ raised. raised ≡ false
-            → get_by_text self.new.all path.now ≡ None) }
-        ensures kept { IfOk result (λ raised. raised ≡ false → (notes : List (List ℕ × ℕ))
-            → HasPaths notes self.old → HasPaths notes self.new) }
+    fn raise(&mut self, path: &str, bytes: u64) -> bool
+        requires room { IfSome (get_by_text self.old.all path.now) HasRoom }
+        requires short { bytes < 2 ^ 32 }
+        ensures raised { result ≡ true → (notes : List (List ℕ × ℕ))
+            → HasPaths notes self.old → HasPaths ((path.now, bytes) ∷ notes) self.new }
+        ensures absent { result ≡ false → get_by_text self.new.all path.now ≡ None }
+        ensures kept { result ≡ false → (notes : List (List ℕ × ℕ))
+            → HasPaths notes self.old → HasPaths notes self.new }
     {
         match self.all.get_mut(path) {
             Some(tally) => {
-                *tally = tally_after(Some(*tally), bytes)?;
-                Ok(true)
+                *tally = tally_after(Some(*tally), bytes);
+                true
             }
-            None => Ok(false),
+            None => false,
         }
     }
 
@@ -155,12 +167,26 @@ fn put_path(text: &mut Vec<u8>, path: &str, tally: Option<&Tally>) -> Result<(),
         None => Ok(()),
         Some(tally) => {
             text.put_text(path)?;
-            text.put_text(" frames ")?;
-            put_number(text, tally.frames)?;
-            text.put_text(" bytes ")?;
-            put_number(text, tally.bytes)?;
-            text.push(b'\n')?;
-            Ok(())
+            put_frames(text, tally.frames)?;
+            put_bytes(text, tally.bytes)
         }
     }
+}
+
+fn put_frames(text: &mut Vec<u8>, frames: u64) -> Result<(), NoMemory>
+    ensures { OnOk result (text.new.items
+        ≡ text.old.items ++ (codes " frames " ++ decimal frames)) }
+{
+    text.put_text(" frames ")?;
+    put_number(text, frames)
+}
+
+fn put_bytes(text: &mut Vec<u8>, bytes: u64) -> Result<(), NoMemory>
+    ensures { OnOk result (text.new.items
+        ≡ text.old.items ++ (codes " bytes " ++ (decimal bytes ++ 10 ∷ []))) }
+{
+    text.put_text(" bytes ")?;
+    put_number(text, bytes)?;
+    text.push(b'\n')?;
+    Ok(())
 }

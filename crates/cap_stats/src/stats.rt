@@ -1,9 +1,10 @@
-ghost use Rattle.std.specs.Prelude.{◌≡◌, ◌||◌, ℕ, true, List, [], ◌∷◌, IsErr, IfOk, OnOk, is_err};
+ghost use Rattle.std.specs.Prelude.{◌≡◌, ◌||◌, ◌-◌, ◌^◌, ◌<◌, ℕ, suc, true, List, [], ◌∷◌, IsErr, IfOk, OnOk, is_err};
 ghost use Rattle.cap_stats.specs.declared.party.Flight.{Flight as FlightValue};
 ghost use Rattle.pk_tree.specs.Trees.{TreeShown};
+ghost use Rattle.cap_stats.specs.Few.{AreFew, HasFew};
 ghost use Rattle.cap_stats.specs.Stands.{Stands, HasNotes, HasStreams, HasPairs, is_spent, kind_of};
-ghost use Rattle.cap_stats.specs.Tables.{table_of, with_note};
-ghost use Rattle.cap_stats.specs.Told.{stream_in as segment_of, packet_in as packet_of};
+ghost use Rattle.cap_stats.specs.Tables.{packets_of, segments_of, table_of, with_note};
+ghost use Rattle.cap_stats.specs.Told.{length_of, stream_in as segment_of, packet_in as packet_of};
 
 use crate::kind::StatKind;
 use crate::pairs::Pairs;
@@ -28,10 +29,11 @@ pub struct Stats {
 
 impl Stats {
     /// No tree was noted. Takes no memory.
-    #[tactic(auto, unfolding(crate::specs::Stands::Stands))]
+    #[tactic(auto, unfolding(crate::specs::Stands::Stands), using(crate::proofs::FewLemmas::few_none))]
     pub fn new(alloc: Global, kind: StatKind) -> Stats
         ensures stands { Stands [] result }
         ensures kind { kind_of result ≡ kind }
+        ensures few { HasFew 0 result }
     {
         Stats {
             alloc,
@@ -43,15 +45,17 @@ impl Stats {
         }
     }
 
-    /// Notes a tree. Where there is no memory for it, the statistics are given up: nothing more is noted, and there is no
-    /// table.
+    /// Notes a tree, of at most 2^32 - 1, as many as frames have numbers: so each sum fits 64 bits. Where there is no memory for
+    /// it, the statistics are given up: nothing more is noted, and there is no table.
     #[tactic(auto, unfolding(crate::specs::Stands::Stands))]
     pub fn note(&mut self, tree: &Tree) -> Result<(), NoMemory>
+        requires { HasFew (2 ^ 32 - 1) self.old }
         ensures stands { OnOk result ((past : List TreeShown) → Stands past self.old
             → Stands (tree.now ∷ past) self.new) }
         ensures spent { is_spent self.new ≡ is_spent self.old || is_err result }
         ensures refused { is_spent self.old ≡ true → IsErr result }
         ensures kind { kind_of self.new ≡ kind_of self.old }
+        ensures few { (most : ℕ) → HasFew most self.old → HasFew (suc most) self.new }
     {
         if self.spent {
             return Err(NoMemory);
@@ -61,17 +65,22 @@ impl Stats {
         noted
     }
 
+    #[tactic(auto, using(crate::proofs::FewLemmas::short_length))]
     fn add(&mut self, tree: &Tree) -> Result<(), NoMemory>
+        requires { (past : List TreeShown) × HasNotes (kind_of self.old) past self.old
+            × AreFew (2 ^ 32 - 1) past }
         ensures notes { OnOk result ((past : List TreeShown)
             → HasNotes (kind_of self.old) past self.old
             → HasNotes (kind_of self.old) (tree.now ∷ past) self.new) }
         ensures spent { is_spent self.new ≡ is_spent self.old }
         ensures kind { kind_of self.new ≡ kind_of self.old }
+        ensures short { length_of tree.now.layers < 2 ^ 32 }
     {
+        let layers = tree.layers();
         match self.kind {
-            StatKind::ConvTcp => add_stream(&mut self.streams, tree.layers()),
-            StatKind::ConvIp => add_pair(&mut self.pairs, tree.layers()),
-            StatKind::Phs => self.paths.add(tree.layers()),
+            StatKind::ConvTcp => add_stream(&mut self.streams, layers),
+            StatKind::ConvIp => add_pair(&mut self.pairs, layers),
+            StatKind::Phs => self.paths.add(layers),
         }
     }
 
@@ -95,6 +104,9 @@ impl Stats {
 
 /// Notes the segment that layers show, if any.
 fn add_stream(streams: &mut Streams, layers: &[Layer]) -> Result<(), NoMemory>
+    requires few { (past : List TreeShown) × HasStreams (segments_of past) streams.old
+        × AreFew (2 ^ 32 - 1) past }
+    requires short { length_of layers.now < 2 ^ 32 }
     ensures { OnOk result ((notes : List (ℕ × FlightValue)) → HasStreams notes streams.old
         → HasStreams (with_note (segment_of layers.now) notes) streams.new) }
 {
@@ -106,6 +118,9 @@ fn add_stream(streams: &mut Streams, layers: &[Layer]) -> Result<(), NoMemory>
 
 /// Notes the packet that layers show, if any.
 fn add_pair(pairs: &mut Pairs, layers: &[Layer]) -> Result<(), NoMemory>
+    requires few { (past : List TreeShown) × HasPairs (packets_of past) pairs.old
+        × AreFew (2 ^ 32 - 1) past }
+    requires short { length_of layers.now < 2 ^ 32 }
     ensures { OnOk result ((notes : List ((ℕ × ℕ) × FlightValue)) → HasPairs notes pairs.old
         → HasPairs (with_note (packet_of layers.now) notes) pairs.new) }
 {

@@ -1,10 +1,11 @@
 // TCP streams, by their numbers.
-ghost use Rattle.std.specs.Prelude.{◌≡◌, ℕ, List, [], ◌∷◌, ◌++◌, IfOk, OnOk};
+ghost use Rattle.std.specs.Prelude.{◌≡◌, ◌<◌, ◌^◌, ℕ, List, [], ◌∷◌, ◌++◌, IfOk, IfSome, OnOk};
 ghost use Rattle.std.specs.BTreeMap.{get, keys};
 ghost use Rattle.std.specs.List.{flat_map};
 ghost use Rattle.std.specs.Option.{option_copied};
 ghost use Rattle.std.specs.Ordering.{nat_cmp};
 ghost use Rattle.cap_stats.specs.declared.party.Flight.{Flight as FlightValue};
+ghost use Rattle.cap_stats.specs.Few.{HasTalkRoom};
 ghost use Rattle.cap_stats.specs.Stands.{HasStreams};
 ghost use Rattle.cap_stats.specs.Tables.{streams_table, stream_line};
 
@@ -34,10 +35,12 @@ impl Streams {
 
     /// Notes a segment of a stream.
     pub fn add(&mut self, number: u64, flight: &Flight) -> Result<(), NoMemory>
+        requires room { IfSome (get nat_cmp self.old.all number) HasTalkRoom }
+        requires short { flight.now.bytes < 2 ^ 32 }
         ensures { OnOk result ((notes : List (ℕ × FlightValue)) → HasStreams notes self.old
             → HasStreams ((number, flight.now) ∷ notes) self.new) }
     {
-        let talk = talk_after(self.all.get(&number).copied(), flight)?;
+        let talk = talk_after(self.all.get(&number).copied(), flight);
         self.all.insert(number, talk)?;
         Ok(())
     }

@@ -25,7 +25,7 @@ dns 0+5: dns.qry.name=Host.test";
 /// Whether a machine has this truth of a tree in so many steps.
 fn answers(machine: &mut Machine<'_>, tree: &Tree, want: &str) -> Option<bool> {
     let (truth, steps) = want.split_once(' ')?;
-    let verdict = machine.run(tree).ok()?;
+    let verdict = machine.try_run(tree).ok()??;
     Some(truth.parse() == Ok(verdict.holds) && steps.parse() == Ok(verdict.steps))
 }
 

@@ -1,6 +1,8 @@
 -- What is noted of one frame more.
-use Rattle.std.proofs.Common.{◌≡◌, ◌+◌, ℕ, Bool, true, false, List, ◌∷◌, arith, sym, ap, ◌∙◌, subst, if◌then◌else◌, [], Option, None, Some}
+use Rattle.std.proofs.Common.{◌≡◌, ◌≤◌, ◌+◌, ℕ, suc, Bool, true, false, List, ◌∷◌, arith, sym, ap, ◌∙◌, subst, if◌then◌else◌, [], Option, None, Some}
+use Rattle.cap_stats.proofs.FewLemmas.{few_more as stats_few}
 use Rattle.cap_stats.proofs.KeptNotes.{stands_alike}
+use Rattle.cap_stats.specs.Few.{HasFew}
 use Rattle.cap_stats.specs.Stands.{Stands, kind_of}
 use Rattle.cap_stats.specs.declared.kind.StatKind.{StatKind}
 use Rattle.cap_stats.specs.declared.kind.StatKind.TheVariants.{ConvTcp, ConvIp, Phs}
@@ -14,14 +16,14 @@ use Rattle.run_frames.specs.declared.tables.Table.{Table}
 use Rattle.run_frames.specs.declared.tables.Tables.{Tables}
 use Rattle.run_frames.specs.declared.totals.Totals.{Totals}
 use Rattle.run_frames.specs.Accessors.{compiled_of, is_generated, stats_of}
-use Rattle.run_frames.specs.Totals.{steps_told, counts_by, counts_with, with_tree}
+use Rattle.run_frames.specs.Totals.{steps_told, counts_by, counts_with, nothing_counted, with_tree}
 use Rattle.run_frames.specs.Job.{Job}
-use Rattle.run_frames.specs.Notes.{AreNotes, AreOneMore, HasNoted}
+use Rattle.run_frames.specs.Notes.{AreFewNotes, AreNotes, AreOneMore, HasNoted}
 use Rattle.run_frames.specs.Satisfied.{judged}
-use Rattle.run_frames.specs.Tables.{AreTables, IsTable, asks_table, asks_tables, trees_let, trees_with}
+use Rattle.run_frames.specs.Tables.{AreFewTables, AreTables, IsTable, asks_table, asks_tables, trees_let, trees_with}
 use Rattle.run_frames.specs.Trees.{lets, tree_of}
 use Rattle.run_frames.specs.Wanted.{IsNotedAs, IsToldAs}
-use Rattle.run_frames.proofs.TotalsLemmas.{few_suc}
+use Rattle.run_frames.proofs.TotalsLemmas.{few_begun, few_more}
 use Rattle.run_frames.proofs.WantedLemmas.{no_table}
 use Rattle.std.specs.Prelude.{Result, Ok, Err, OnOk}
 use Rattle.std.specs.Option.{unwrap_or}
@@ -66,8 +68,31 @@ noted_nothing plan tree notes is untold untabled = record {
   tables = λ trees are. not_tabled plan tree trees notes.tables untabled are;
 }
 
+-- so many, where there were fewer
+pub stats_few_suc : (most : ℕ) (stats : Stats) → HasFew most stats → HasFew (suc most) stats
+stats_few_suc most stats few = stats_few most (suc most) stats (omega arith) few
+
+pub tables_few : (most more : ℕ) (tables : Tables) → most ≤ more → AreFewTables most tables → AreFewTables more tables
+tables_few most more tables larger few = record {
+  conv_tcp = stats_few most more tables.conv_tcp.stats larger few.conv_tcp;
+  conv_ip = stats_few most more tables.conv_ip.stats larger few.conv_ip;
+  phs = stats_few most more tables.phs.stats larger few.phs;
+}
+
+pub notes_few : (most more : ℕ) (notes : Notes) → most ≤ more → AreFewNotes most notes → AreFewNotes more notes
+notes_few most more notes larger few = record {
+  totals = few_more most more notes.totals larger few.totals;
+  tables = tables_few most more notes.tables larger few.tables;
+}
+
+pub notes_few_after : (before after : ℕ) (notes : Notes) → after ≡ before + 1 → AreFewNotes (suc before) notes → AreFewNotes after notes
+notes_few_after before after notes is few = notes_few (suc before) after notes (omega (arith, is)) few
+
+pub notes_few_begun : (totals : Totals) (tables : Tables) → totals ≡ nothing_counted → AreFewTables 0 tables → AreFewNotes 0 (record { totals = totals; tables = tables })
+notes_few_begun totals tables is few = record { totals = few_begun 0 totals is; tables = few }
+
 pub one_more_same : (notes : Notes) → AreOneMore notes notes
-one_more_same notes = record { few = λ most few. few_suc most notes.totals few }
+one_more_same notes = record { few = λ most few. notes_few most (suc most) notes (omega arith) few }
 
 -- a tree that the filter doesn't let through, and one that it does
 tables_left : (plan : Plan) (tree : TreeShown) (trees : List TreeShown) (tables : Tables) (verdict : Verdict) → verdict.holds ≡ false

@@ -5,7 +5,7 @@ use Rattle.pk_tree.specs.Trees.{TreeShown}
 use Rattle.run_frames.specs.declared.notes.Notes.{Notes}
 use Rattle.run_frames.specs.declared.plan.Plan.{Plan}
 use Rattle.run_frames.specs.Job.{Job}
-use Rattle.run_frames.specs.Tables.{AreTables, trees_let, trees_with}
+use Rattle.run_frames.specs.Tables.{AreFewTables, AreTables, trees_let, trees_with}
 use Rattle.run_frames.specs.Totals.{AreFew, counts_of, counts_with}
 
 -- the notes of frames, the newest first
@@ -14,8 +14,9 @@ pub record AreNotes (job : Job) (past : List Frame) (notes : Notes) : Type 0 whe
   pub tables : AreTables job.plan (trees_let job past) notes.tables
 
 -- so many frames were noted at most
-abbrev pub AreFewNotes : ℕ → Notes → Type 0
-AreFewNotes most notes = AreFew most notes.totals
+pub record AreFewNotes (most : ℕ) (notes : Notes) : Type 0 where
+  pub totals : AreFew most notes.totals
+  pub tables : AreFewTables most notes.tables
 
 -- one frame more at most
 pub record AreOneMore (old new : Notes) : Type 0 where

@@ -1,6 +1,7 @@
 -- The tables of statistics, over the trees that the filter lets through. Lists of frames and of trees have the newest first.
-use Rattle.std.specs.Prelude.{◌≡◌, Bool, true, false, ◌||◌, if◌then◌else◌, List, [], ◌∷◌}
+use Rattle.std.specs.Prelude.{◌≡◌, ℕ, Bool, true, false, ◌||◌, if◌then◌else◌, List, [], ◌∷◌}
 use Rattle.std.specs.List.{list_any}
+use Rattle.cap_stats.specs.Few.{HasFew}
 use Rattle.cap_stats.specs.Stands.{Stands, kind_of}
 use Rattle.cap_stats.specs.declared.kind.StatKind.{StatKind}
 use Rattle.cap_stats.specs.declared.kind.StatKind.TheVariants.{ConvTcp, ConvIp, Phs}
@@ -52,3 +53,9 @@ pub record AreTables (plan : Plan) (trees : List TreeShown) (tables : Tables) : 
   pub conv_tcp : IsTable plan ConvTcp trees tables.conv_tcp
   pub conv_ip : IsTable plan ConvIp trees tables.conv_ip
   pub phs : IsTable plan Phs trees tables.phs
+
+-- for each kind so many trees were noted at most
+pub record AreFewTables (most : ℕ) (tables : Tables) : Type 0 where
+  pub conv_tcp : HasFew most tables.conv_tcp.stats
+  pub conv_ip : HasFew most tables.conv_ip.stats
+  pub phs : HasFew most tables.phs.stats

@@ -74,6 +74,7 @@ pub fn new_line_maker(alloc: Global, plan: &Plan) -> Result<LineMaker<'_>, NoMem
     ensures judge { IfOk result (λ lines. lines.judge ≡ compiled_of plan.now) }
     ensures writer { IfOk result (λ lines. lines.writer ≡ plan.now.fields) }
     ensures totals { IfOk result (λ lines. lines.notes.totals ≡ nothing_counted) }
+    ensures few { IfOk result (λ lines. AreFewNotes 0 lines.notes) }
     ensures keeps { IfOk result (λ lines. (passes : Passes)
         → KeepsUp (written_of plan.now) (job_in plan.now passes) [] lines.notes lines.capture) }
 {

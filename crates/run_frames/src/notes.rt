@@ -22,9 +22,11 @@ pub struct Notes {
 }
 
 impl Notes {
+    #[tactic(auto, using(crate::proofs::NoteLemmas::notes_few_begun))]
     pub(crate) fn new(alloc: Global, plan: &Plan) -> Notes
         ensures totals { result.totals ≡ nothing_counted }
         ensures notes { (passes : Passes) → AreNotes (job_in plan.now passes) [] result }
+        ensures few { AreFewNotes 0 result }
     {
         Notes {
             totals: Totals::none(),

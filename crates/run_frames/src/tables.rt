@@ -1,9 +1,10 @@
 // The tables of statistics behind the lines: what is noted for them of each frame that the filter lets through.
-ghost use Rattle.std.specs.Prelude.{◌≡◌, true, List, [], ◌∷◌, IfOk, OnOk};
+ghost use Rattle.std.specs.Prelude.{◌≡◌, ◌^◌, ℕ, suc, true, List, [], ◌∷◌, IfOk, OnOk};
+ghost use Rattle.cap_stats.specs.Few.{HasFew};
 ghost use Rattle.cap_stats.specs.Tables.{table_of};
 ghost use Rattle.cap_stats.specs.declared.kind.StatKind.{StatKind as KindValue};
 ghost use Rattle.pk_tree.specs.Trees.{TreeShown};
-ghost use Rattle.run_frames.specs.Tables.{AreTables, IsTable, asks_table, asks_tables, is_table_of};
+ghost use Rattle.run_frames.specs.Tables.{AreFewTables, AreTables, IsTable, asks_table, asks_tables, is_table_of};
 ghost use Rattle.run_frames.specs.declared.plan.Plan.{Plan as PlanValue};
 
 use crate::plan::Plan;
@@ -22,7 +23,8 @@ pub(crate) struct Table {
 
 impl Table {
     fn new(alloc: Global, plan: &Plan, kind: StatKind) -> Table
-        ensures { IsTable plan.now kind [] result }
+        ensures table { IsTable plan.now kind [] result }
+        ensures few { HasFew 0 result.stats }
     {
         Table {
             asked: asks(plan, kind),
@@ -31,9 +33,12 @@ impl Table {
     }
 
     /// Notes a tree.
+    #[tactic(auto, using(crate::proofs::NoteLemmas::stats_few_suc))]
     fn note(&mut self, tree: &Tree) -> Result<(), NoMemory>
-        ensures { OnOk result ((plan : PlanValue) (kind : KindValue) (trees : List TreeShown)
+        requires { HasFew (2 ^ 28) self.old.stats }
+        ensures noted { OnOk result ((plan : PlanValue) (kind : KindValue) (trees : List TreeShown)
             → IsTable plan kind trees self.old → IsTable plan kind (tree.now ∷ trees) self.new) }
+        ensures few { (most : ℕ) → HasFew most self.old.stats → HasFew (suc most) self.new.stats }
     {
         if !self.asked {
             return Ok(());
@@ -90,7 +95,8 @@ pub struct Tables {
 
 impl Tables {
     pub(crate) fn new(alloc: Global, plan: &Plan) -> Tables
-        ensures { AreTables plan.now [] result }
+        ensures tables { AreTables plan.now [] result }
+        ensures few { AreFewTables 0 result }
     {
         Tables {
             conv_tcp: Table::new(alloc, plan, StatKind::ConvTcp),
@@ -101,8 +107,10 @@ impl Tables {
 
     /// Notes a tree that the filter lets through.
     pub(crate) fn note(&mut self, tree: &Tree) -> Result<(), NoMemory>
-        ensures { OnOk result ((plan : PlanValue) (trees : List TreeShown)
+        requires { AreFewTables (2 ^ 28) self.old }
+        ensures noted { OnOk result ((plan : PlanValue) (trees : List TreeShown)
             → AreTables plan trees self.old → AreTables plan (tree.now ∷ trees) self.new) }
+        ensures few { (most : ℕ) → AreFewTables most self.old → AreFewTables (suc most) self.new }
     {
         self.conv_tcp.note(tree)?;
         self.conv_ip.note(tree)?;

@@ -12,8 +12,7 @@ ghost use Rattle.run_passes.specs.Ended.{CanClose, HasTaken};
 ghost use Rattle.run_frames.specs.Steps.{KeepsUp};
 ghost use Rattle.run_output.specs.Lines.{closing, opening};
 ghost use Rattle.run_passes.specs.Passed.{AreEndNear, IsCalm, IsCaused, IsReadOn, IsWriteCaused};
-ghost use Rattle.run_frames.specs.Notes.{AreNotes};
-ghost use Rattle.run_frames.specs.Totals.{nothing_counted};
+ghost use Rattle.run_frames.specs.Notes.{AreFewNotes, AreNotes};
 ghost use Rattle.run_frames.specs.Wanted.{IsEnough};
 ghost use Rattle.run_output.specs.Way.{IsBodyCutOff, IsCutOff};
 ghost use Rattle.run_output.specs.Wrote.{HaveAll, HaveBody, HavePart, HaveSomeBody};
@@ -128,7 +127,7 @@ fn write_body<C: Capture, O: Sink>(
     requires judge { lines.old.judge ≡ compiled_of plan.now }
     requires lines { lines.old.writer ≡ plan.now.fields }
     requires alone { two_of plan.now ≡ false }
-    requires totals { lines.old.notes.totals ≡ nothing_counted }
+    requires few { AreFewNotes 0 lines.old.notes }
     requires keeps { KeepsUp (written_of plan.now) (once plan.now) [] lines.old.notes lines.old.capture }
     requires stands { StandsWithin [] dissector.old }
     requires taken { dissector.old.taken ≡ 0 }

@@ -6,11 +6,11 @@ ghost use Rattle.dissect.specs.Stands.{StandsWithin};
 ghost use Rattle.run_frames.specs.Accessors.{compiled_of, rules_of, two_of, written_of};
 ghost use Rattle.run_frames.specs.Job.{Passes, job_in};
 ghost use Rattle.run_frames.specs.Later.{ServesKept};
+ghost use Rattle.run_frames.specs.Notes.{AreFewNotes};
 ghost use Rattle.run_passes.specs.Passed.{AreEndNear, IsCalm, IsCaused, IsReadOn, IsWriteCaused};
 ghost use Rattle.run_passes.specs.Reading.{read_of};
 ghost use Rattle.run_frames.specs.Steps.{KeepsUp};
 ghost use Rattle.run_passes.specs.Takeable.{AreTakeable};
-ghost use Rattle.run_frames.specs.Totals.{nothing_counted};
 ghost use Rattle.run_frames.specs.Wanted.{IsEnough};
 ghost use Rattle.run_output.specs.Way.{IsBodyCutOff};
 ghost use Rattle.run_output.specs.Wrote.{HaveBody, HaveKeptBody, HaveSomeBody, HaveSomeKeptBody, WroteBody, WroteSomeBody};
@@ -41,7 +41,7 @@ fn write_kept_body<O: Sink>(
     requires rules { dissector.old.decode.rules ≡ rules_of plan.now }
     requires judge { lines.old.judge ≡ compiled_of plan.now }
     requires lines { lines.old.writer ≡ plan.now.fields }
-    requires totals { lines.old.notes.totals ≡ nothing_counted }
+    requires few { AreFewNotes 0 lines.old.notes }
     requires keeps { (passes : Passes)
         → KeepsUp (written_of plan.now) (job_in plan.now passes) [] lines.old.notes lines.old.capture }
     requires stands { StandsWithin [] dissector.old }

@@ -10,7 +10,7 @@ use Rattle.capture_read.specs.FrameList.{IsTime}
 use Rattle.run_frames.specs.declared.notes.Notes.{Notes}
 use Rattle.run_frames.specs.Notes.{AreFewNotes}
 use Rattle.run_passes.specs.Ended.{HasTaken}
-use Rattle.run_frames.proofs.TotalsLemmas.{few_more}
+use Rattle.run_frames.proofs.NoteLemmas.{notes_few}
 
 pub record AreTogether (r : Reader) (d : DissectorShown) : Type 0 where
   pub number : r.number ≡ d.taken + 1
@@ -24,7 +24,7 @@ below_limit n few = few
 
 -- what was counted of the frames taken
 pub few_taken : (r : Reader) (d : DissectorShown) (t : Notes) → AreTogether r d → AreFewNotes d.taken t → AreFewNotes (2 ^ 28) t
-few_taken r d t are few = few_more d.taken (2 ^ 28) t.totals (omega (arith, are.taken, below_limit r.at are.limit)) few
+few_taken r d t are few = notes_few d.taken (2 ^ 28) t (omega (arith, are.taken, below_limit r.at are.limit)) few
 
 -- the dissector has taken frames
 pub has_taken : (r : Reader) (d : DissectorShown) → AreTogether r d → (stands : (past : List Frame) × StandsWithin past d) → HasTaken d

@@ -37,7 +37,7 @@ use Rattle.run_frames.specs.Steps.{IsAfterFrame, KeepsUp, fit_piece}
 use Rattle.run_passes.specs.Takeable.{AreTakeable}
 use Rattle.run_passes.proofs.KeepLemmas.{frames_past}
 use Rattle.run_frames.proofs.PacketLemmas.{reverse_more}
-use Rattle.run_frames.proofs.TotalsLemmas.{few_more}
+use Rattle.run_frames.proofs.NoteLemmas.{notes_few}
 use Rattle.run_frames.specs.Wanted.{IsEnough}
 use Rattle.run_frames.proofs.WantedLemmas.{links_streams}
 use Rattle.run_passes.proofs.WayLemmas.{AreFit, can_close, can_end, ending_read, fit_pieces, fitting_past, pieces_read, reverse_past, with_read}
@@ -204,4 +204,4 @@ unfolding file_limit
 below_limit n few = few
 
 pub few_kept : (taken : ℕ) (t : Notes) → taken ≤ file_limit → AreFewNotes taken t → AreFewNotes (2 ^ 28) t
-few_kept taken t limit few = few_more taken (2 ^ 28) t.totals (below_limit taken limit) few
+few_kept taken t limit few = notes_few taken (2 ^ 28) t (below_limit taken limit) few

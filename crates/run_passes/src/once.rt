@@ -11,7 +11,7 @@ ghost use Rattle.run_frames.specs.Job.{once};
 ghost use Rattle.run_passes.specs.Ended.{HasTaken};
 ghost use Rattle.run_frames.specs.Steps.{KeepsUp};
 ghost use Rattle.run_passes.specs.Passed.{AreCutOff, AreEndNear, AreRead, HaveBegun, HavePassed, IsCalm, IsCaused, IsReadOn};
-ghost use Rattle.run_frames.specs.Totals.{nothing_counted};
+ghost use Rattle.run_frames.specs.Notes.{AreFewNotes};
 ghost use Rattle.run_frames.specs.Wanted.{IsEnough};
 
 use crate::owned::give_up_reader;
@@ -55,7 +55,7 @@ fn write_each<C: Capture, O: Sink>(
     requires judge { lines.old.judge ≡ compiled_of plan.now }
     requires lines { lines.old.writer ≡ plan.now.fields }
     requires alone { two_of plan.now ≡ false }
-    requires totals { lines.old.notes.totals ≡ nothing_counted }
+    requires few { AreFewNotes 0 lines.old.notes }
     requires keeps { KeepsUp (written_of plan.now) (once plan.now) [] lines.old.notes lines.old.capture }
     requires reads { (left : List ℕ) → StandsFor reader.old (Some left) left [] }
     requires fresh { reader.old.phase ≡ phase.Open }
@@ -120,7 +120,7 @@ pub fn write_rest<C: Capture, O: Sink>(
     requires judge { lines.old.judge ≡ compiled_of plan.now }
     requires lines { lines.old.writer ≡ plan.now.fields }
     requires alone { two_of plan.now ≡ false }
-    requires totals { lines.old.notes.totals ≡ nothing_counted }
+    requires few { AreFewNotes 0 lines.old.notes }
     requires keeps { KeepsUp (written_of plan.now) (once plan.now) [] lines.old.notes lines.old.capture }
     requires stands { StandsWithin [] dissector.old }
     requires taken { dissector.old.taken ≡ 0 }

@@ -16,7 +16,7 @@ ghost use Rattle.run_frames.specs.Later.{ServesKept};
 ghost use Rattle.run_passes.specs.Passed.{AreFewer, AreFullNear, AreKept, HaveBegunKept, HavePassedKept, IsReadCaused, IsReadOn, IsWriteCaused, kept_read};
 ghost use Rattle.run_frames.specs.Steps.{KeepsUp};
 ghost use Rattle.run_passes.specs.Takeable.{AreTakeable};
-ghost use Rattle.run_frames.specs.Totals.{nothing_counted};
+ghost use Rattle.run_frames.specs.Notes.{AreFewNotes};
 ghost use Rattle.run_frames.specs.Wanted.{IsEnough};
 
 use crate::once::{is_full, one_less};
@@ -184,7 +184,7 @@ pub fn write_kept<O: Sink>(
     requires rules { dissector.old.decode.rules ≡ rules_of plan.now }
     requires judge { lines.old.judge ≡ compiled_of plan.now }
     requires lines { lines.old.writer ≡ plan.now.fields }
-    requires totals { lines.old.notes.totals ≡ nothing_counted }
+    requires few { AreFewNotes 0 lines.old.notes }
     requires keeps { (passes : Passes)
         → KeepsUp (written_of plan.now) (job_in plan.now passes) [] lines.old.notes lines.old.capture }
     requires stands { StandsWithin [] dissector.old }

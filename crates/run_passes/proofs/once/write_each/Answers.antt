@@ -7,7 +7,7 @@ use Rattle.run_passes.proofs.FaultLemmas.{caused_write, cut_off, never_spent, re
 use Rattle.run_passes.proofs.Together.{few_taken, has_taken, takeable, together_after}
 use Rattle.run_frames.specs.declared.frames.RunFault.TheVariants.{WriteFault}
 use Rattle.run_frames.proofs.CalmLemmas.{calm_err, calm_ok}
-use Rattle.run_frames.proofs.TotalsLemmas.{few_after, few_begun}
+use Rattle.run_frames.proofs.NoteLemmas.{notes_few, notes_few_after}
 use Rattle.run_passes.proofs.WayLemmas.{way_begun, way_further, way_stopped, way_full, read_full, full_near, way_ended, read_ended, ended_near, end_near, end_unfit, way_unread, way_unfit, read_unfit, broken_part, broken_near, way_took, serves_once}
 use Rattle.run_frames.specs.Job.{One}
 use Rattle.run_frames.specs.Wanted.{IsEnough}
@@ -29,7 +29,7 @@ loop-alloc-init g c =
       stands = ([], c.requires.stands);
       judge = c.requires.judge;
       writer = c.requires.lines;
-      few = few_begun c.args.dissector.now.taken c.args.lines.now.notes.totals c.requires.totals;
+      few = notes_few 0 c.args.dissector.now.taken c.args.lines.now.notes (omega arith) c.requires.few;
       on = record { asked = refl; begun = refl; missed = refl };
       fresh = c.requires.fresh;
       calm = record { reads = refl; writes = refl };
@@ -133,7 +133,7 @@ loop-alloc-preserved g c =
       stands = (c.in-Ok-Frame.frame ∷ c.loop-alloc.invariant.stands.0, c.in-Ok-true.ensures.stands c.loop-alloc.invariant.stands.0 c.loop-alloc.invariant.stands.1);
       judge = c.write_frame.ensures.judge ∙ c.loop-alloc.invariant.judge;
       writer = c.write_frame.ensures.writer ∙ c.loop-alloc.invariant.writer;
-      few = few_after c.loop-alloc.dissector.taken c.write_frame.new.dissector.taken c.write_frame.new.lines.notes.totals c.in-Ok-true.ensures.taken (c.write_frame.ensures.few c.loop-alloc.dissector.taken c.loop-alloc.invariant.few);
+      few = notes_few_after c.loop-alloc.dissector.taken c.write_frame.new.dissector.taken c.write_frame.new.lines.notes c.in-Ok-true.ensures.taken (c.write_frame.ensures.few c.loop-alloc.dissector.taken c.loop-alloc.invariant.few);
       on = record {
         asked = c.next_frame.ensures.asked ∙ c.loop-alloc.invariant.on.asked;
         begun = c.next_frame.ensures.begun ∙ c.loop-alloc.invariant.on.begun;
@@ -157,7 +157,7 @@ loop-alloc-preserved-in-Ok-true g c =
       stands = (c.in-Ok-Frame.frame ∷ c.loop-alloc.invariant.stands.0, c.in-Ok-true.ensures.stands c.loop-alloc.invariant.stands.0 c.loop-alloc.invariant.stands.1);
       judge = c.write_frame.ensures.judge ∙ c.loop-alloc.invariant.judge;
       writer = c.write_frame.ensures.writer ∙ c.loop-alloc.invariant.writer;
-      few = few_after c.loop-alloc.dissector.taken c.write_frame.new.dissector.taken c.write_frame.new.lines.notes.totals c.in-Ok-true.ensures.taken (c.write_frame.ensures.few c.loop-alloc.dissector.taken c.loop-alloc.invariant.few);
+      few = notes_few_after c.loop-alloc.dissector.taken c.write_frame.new.dissector.taken c.write_frame.new.lines.notes c.in-Ok-true.ensures.taken (c.write_frame.ensures.few c.loop-alloc.dissector.taken c.loop-alloc.invariant.few);
       on = record {
         asked = c.next_frame.ensures.asked ∙ c.loop-alloc.invariant.on.asked;
         begun = c.next_frame.ensures.begun ∙ c.loop-alloc.invariant.on.begun;

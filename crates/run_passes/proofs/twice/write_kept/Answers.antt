@@ -7,7 +7,7 @@ use Rattle.run_frames.specs.Pieces.{pieces}
 use Rattle.run_frames.specs.Wanted.{IsEnough}
 use Rattle.run_frames.specs.declared.frames.RunFault.TheVariants.{WriteFault}
 use Rattle.run_frames.proofs.CalmLemmas.{calm_err, calm_ok}
-use Rattle.run_frames.proofs.TotalsLemmas.{few_after, few_begun}
+use Rattle.run_frames.proofs.NoteLemmas.{notes_few, notes_few_after}
 use Rattle.run_passes.proofs.FaultLemmas.{write_caused}
 use Rattle.run_passes.proofs.TwiceLemmas.{all_joined, few_kept, first_takeable, left_first, left_more, serves_still, takeable_after, takeable_begun, through_begun, through_broken, through_closes, through_ended, through_further, through_unfit, through_unfit_closes}
 use Rattle.run_passes.proofs.twice.write_kept.Goals as goal
@@ -25,7 +25,7 @@ loop-left-init g c = record {
   rules = c.requires.rules;
   judge = c.requires.judge;
   writer = c.requires.lines;
-  few = few_begun c.args.dissector.now.taken c.args.lines.now.notes.totals c.requires.totals;
+  few = notes_few 0 c.args.dissector.now.taken c.args.lines.now.notes (omega arith) c.requires.few;
   calm = refl;
 }
 
@@ -105,7 +105,7 @@ loop-left-preserved g c =
       rules = ap (λ (decode : DecodeAs). decode.rules) c.write_frame.ensures.rules ∙ c.loop-left.invariant.rules;
       judge = c.write_frame.ensures.judge ∙ c.loop-left.invariant.judge;
       writer = c.write_frame.ensures.writer ∙ c.loop-left.invariant.writer;
-      few = few_after c.loop-left.dissector.taken c.write_frame.new.dissector.taken c.write_frame.new.lines.notes.totals c.in-Ok-true.ensures.taken (c.write_frame.ensures.few c.loop-left.dissector.taken c.loop-left.invariant.few);
+      few = notes_few_after c.loop-left.dissector.taken c.write_frame.new.dissector.taken c.write_frame.new.lines.notes c.in-Ok-true.ensures.taken (c.write_frame.ensures.few c.loop-left.dissector.taken c.loop-left.invariant.few);
       calm = calm_ok _ _ _ _ c.in-Ok-true.ensures.calm ∙ c.loop-left.invariant.calm;
     }
 

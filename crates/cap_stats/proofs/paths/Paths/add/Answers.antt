@@ -1,8 +1,16 @@
 use Rattle.std.proofs.Common.{◌++◌, ℕ, List, subst}
 use Rattle.std.proofs.lemmas.Result.{on_ok_weaker}
 use Rattle.cap_stats.specs.Stands.{HasPaths}
+use Rattle.cap_stats.specs.Tables.{paths_of}
+use Rattle.cap_stats.proofs.FewLemmas.{path_room}
 use Rattle.cap_stats.proofs.PathLemmas.{paths_shown}
 use Rattle.cap_stats.proofs.paths.Paths.add.Goals as goal
+
+pub add_shown-requires-clause-known : goal.add_shown-requires-clause-known
+add_shown-requires-clause-known c = (paths_of c.requires.few.0, c.requires.few.1)
+
+pub add_shown-requires-clause-room : goal.add_shown-requires-clause-room
+add_shown-requires-clause-room c = λ path. path_room c.args.self.now c.requires.few.0 path c.requires.few.1 c.requires.few.2
 
 pub returns : goal.returns
 returns c =
