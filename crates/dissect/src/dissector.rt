@@ -37,7 +37,6 @@ pub enum TakeFault {
 }
 
 /// Reads the frames of a capture in order. After an error it is spent.
-#[derive(Drop)]
 pub struct Dissector {
     alloc: Global,
     decode: DecodeAs,
@@ -68,6 +67,22 @@ impl Model for Dissector {
     ghost view = { λ d. record { decode = d.decode; wanted = d.wanted; spent = d.spent; taken = d.taken; captured = d.captured; times = d.times; state = d.state } };
 
     ghost invariant = { λ d. IsKept (record { decode = d.decode; wanted = d.wanted; spent = d.spent; taken = d.taken; captured = d.captured; times = d.times; state = d.state }) };
+}
+
+// The destructor is written out here, and not wherever a dissector is dropped.
+impl Drop for Dissector {
+    fn drop(self) {
+        let Dissector {
+            alloc: _,
+            decode: _decode,
+            wanted: _,
+            spent: _,
+            taken: _,
+            captured: _,
+            times: _,
+            state: _state,
+        } = self;
+    }
 }
 
 impl Dissector {

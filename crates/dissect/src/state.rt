@@ -4,7 +4,6 @@ use message_links::Links;
 use tcp_messages::MessageStreams;
 
 /// What is kept of earlier frames' packets.
-#[derive(Drop)]
 pub(crate) struct State {
     /// The fragments of datagrams that aren't whole yet.
     pub joins: Joins,
@@ -19,16 +18,28 @@ pub(crate) struct State {
     pub found: Vec<Option<u32>>,
 }
 
+// Part by part, each in a function of its own.
+impl Drop for State {
+    fn drop(self) {
+        let State {
+            joins,
+            udp,
+            follows: _,
+            streams,
+            links,
+            found: _found,
+        } = self;
+        give_up_joins(joins);
+        give_up_conversations(udp);
+        give_up_streams(streams);
+        give_up_links(links);
+    }
+}
+
 fn give_up_joins(_joins: Joins) {}
+
+fn give_up_conversations(_udp: Conversations) {}
 
 fn give_up_streams(_streams: MessageStreams) {}
 
 fn give_up_links(_links: Links) {}
-
-/// Gives up what is kept, part by part: a destructor is written out at each place where a value is dropped, and one of all parts
-/// is long.
-pub(crate) fn give_up_state(state: State) {
-    give_up_joins(state.joins);
-    give_up_streams(state.streams);
-    give_up_links(state.links);
-}

@@ -20,7 +20,6 @@ use std::marker::Model;
 
 /// A program that is run on one tree after the other. It keeps the registers' memory, and what its searches for patterns
 /// found out.
-#[derive(Drop)]
 pub struct Machine<'p> {
     program: &'p Program,
     slots: Vec<Slot<'p>>,
@@ -38,6 +37,18 @@ impl<'p> Model for Machine<'p> {
     ghost view = { λ m. record { code = m.program.now; patterns = m.searches.items } };
 
     ghost invariant = { λ m. length m.slots.items ≡ m.program.now.registers };
+}
+
+// The destructor is written out here, and not wherever a machine is dropped.
+impl Drop for Machine<'_> {
+    fn drop(self) {
+        let Machine {
+            program: _,
+            slots: _slots,
+            searches: _searches,
+            alloc: _,
+        } = self;
+    }
 }
 
 impl<'p> Machine<'p> {

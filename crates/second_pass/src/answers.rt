@@ -15,9 +15,14 @@ use std::alloc::Global;
 
 /// By the frame and the id of a query, the first later frame that answered it. For requests, by their number among a frame's
 /// layers in place of the id.
-#[derive(Drop)]
 pub(crate) struct Answers {
     pub all: IndexMap<(u64, u64), u32>,
+}
+
+impl Drop for Answers {
+    fn drop(self) {
+        let Answers { all: _all } = self;
+    }
 }
 
 impl Answers {

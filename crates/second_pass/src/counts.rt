@@ -10,9 +10,14 @@ use pk_base::NoMemory;
 use std::alloc::Global;
 
 /// A count for each direction, from 0. At its last value a count stands still.
-#[derive(Drop)]
 pub(crate) struct Counts {
     pub all: IndexMap<Direction, u64>,
+}
+
+impl Drop for Counts {
+    fn drop(self) {
+        let Counts { all: _all } = self;
+    }
 }
 
 impl Counts {

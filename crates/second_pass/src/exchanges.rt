@@ -14,12 +14,22 @@ use pk_base::NoMemory;
 use pk_tree::Layer;
 use std::alloc::Global;
 
-#[derive(Drop)]
 pub(crate) struct Exchanges {
     pub requests_sent: Counts,
     pub responses_sent: Counts,
     pub requests: Requests,
     pub replies: Answers,
+}
+
+impl Drop for Exchanges {
+    fn drop(self) {
+        let Exchanges {
+            requests_sent: _requests_sent,
+            responses_sent: _responses_sent,
+            requests: _requests,
+            replies: _replies,
+        } = self;
+    }
 }
 
 impl Exchanges {

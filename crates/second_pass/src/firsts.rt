@@ -12,9 +12,14 @@ use std::alloc::Global;
 use std::collections::BTreeMap;
 
 /// By the number of a frame, the first later frame that named it.
-#[derive(Drop)]
 pub(crate) struct Firsts {
     pub all: BTreeMap<u64, u32>,
+}
+
+impl Drop for Firsts {
+    fn drop(self) {
+        let Firsts { all: _all } = self;
+    }
 }
 
 impl Firsts {

@@ -19,7 +19,6 @@ use pk_tree::{Layer, Tree, Value};
 use std::alloc::Global;
 
 /// The links between frames that were noted: tens of bytes for each link and each request of HTTP, and none for other frames.
-#[derive(Drop)]
 pub struct Links {
     /// Whether there was no memory for a frame.
     spent: bool,
@@ -28,6 +27,20 @@ pub struct Links {
     segments: Firsts,
     answers: Answers,
     exchanges: Exchanges,
+}
+
+// The destructor is written out here, and not wherever links are dropped; those of the tables likewise.
+impl Drop for Links {
+    fn drop(self) {
+        let Links {
+            spent: _,
+            fragments: _fragments,
+            fragments6: _fragments6,
+            segments: _segments,
+            answers: _answers,
+            exchanges: _exchanges,
+        } = self;
+    }
 }
 
 impl Links {

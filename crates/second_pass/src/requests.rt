@@ -17,10 +17,18 @@ pub(crate) struct Asked {
 }
 
 /// The requests in their order. They are found by their frame, and the number of requests that their direction had before.
-#[derive(Drop)]
 pub(crate) struct Requests {
     pub asked: Vec<Asked>,
     pub places: IndexMap<(u64, u64), usize>,
+}
+
+impl Drop for Requests {
+    fn drop(self) {
+        let Requests {
+            asked: _asked,
+            places: _places,
+        } = self;
+    }
 }
 
 impl Requests {
