@@ -16,7 +16,6 @@ use pk_tree::{Layer, Tree};
 use std::alloc::Global;
 
 /// Statistics of one kind over trees. They keep some bytes for each stream, pair or path, and none for a tree.
-#[derive(Drop)]
 pub struct Stats {
     alloc: Global,
     kind: StatKind,
@@ -25,6 +24,19 @@ pub struct Stats {
     streams: Streams,
     pairs: Pairs,
     paths: Paths,
+}
+
+impl Drop for Stats {
+    fn drop(self) {
+        let Stats {
+            alloc: _,
+            kind: _,
+            spent: _,
+            streams: _streams,
+            pairs: _pairs,
+            paths: _paths,
+        } = self;
+    }
 }
 
 impl Stats {

@@ -20,10 +20,18 @@ use std::marker::Model;
 /// or block at hand and what was read ahead, at most 65,536 bytes more, and never the file.
 ///
 /// A frame's bytes share the block of memory that they were read into.
-#[derive(Drop)]
 pub struct FrameReader {
     position: Position,
     phase: Phase,
+}
+
+impl Drop for FrameReader {
+    fn drop(self) {
+        let FrameReader {
+            position: _position,
+            phase: _phase,
+        } = self;
+    }
 }
 
 impl Model for FrameReader {

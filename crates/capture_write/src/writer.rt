@@ -22,12 +22,22 @@ const ETHERNET: u16 = 1;
 
 /// A capture file that is written frame by frame: the bytes that `add` answers one after the other, and then those of
 /// `finish`. Contracts see what is kept of the frames so far.
-#[derive(Drop)]
 pub struct Writer {
     alloc: Global,
     format: Format,
     order: Option<bool>,
     links: Links,
+}
+
+impl Drop for Writer {
+    fn drop(self) {
+        let Writer {
+            alloc: _,
+            format: _format,
+            order: _order,
+            links: _links,
+        } = self;
+    }
 }
 
 impl Model for Writer {

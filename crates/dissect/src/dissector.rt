@@ -13,7 +13,7 @@ ghost use Rattle.capture_read.specs.FrameList.{IsTime};
 ghost use Rattle.head_layers.specs.Times.{AreTimes};
 ghost use Rattle.dissect.specs.Trees.{tree_at, events_of, kept_walk};
 
-use crate::state::{State, give_up_state};
+use crate::state::State;
 use capture_read::Frame;
 use conversations::Conversations;
 use head_layers::{Times, begin_tree, captured};
@@ -311,9 +311,7 @@ fn asks_any(wanted: &FieldSet, protocol: FieldId) -> bool
 }
 
 /// Gives a dissector up.
-pub fn give_up_dissector(dissector: Dissector) {
-    give_up_state(dissector.state);
-}
+pub fn give_up_dissector(_dissector: Dissector) {}
 
 fn number_of(frame: &Frame) -> u32
     ensures number { result ≡ frame.now.number }

@@ -18,7 +18,6 @@ use std::collections::BTreeMap;
 use std::marker::Model;
 
 /// The fragments of one datagram that isn't whole yet.
-#[derive(Drop)]
 pub(crate) struct Parts {
     alloc: Global,
     /// In the order in which they were taken.
@@ -30,6 +29,19 @@ pub(crate) struct Parts {
     last: u64,
     /// By offsets, the bytes of the first IPv6 fragment with bytes there.
     firsts: BTreeMap<u32, Octets>,
+}
+
+impl Drop for Parts {
+    fn drop(self) {
+        let Parts {
+            alloc: _,
+            counted: _counted,
+            held: _held,
+            end: _,
+            last: _,
+            firsts: _firsts,
+        } = self;
+    }
 }
 
 impl Model for Parts {

@@ -12,13 +12,23 @@ use std::alloc::Global;
 use tcp_messages::ShownMessage;
 
 /// The messages of earlier frames, by what later ones ask for.
-#[derive(Drop)]
 pub struct Links {
     alloc: Global,
     pub queries: Queries,
     pub requests: Requests,
     /// How many answers each direction had.
     pub answers: Counts,
+}
+
+impl Drop for Links {
+    fn drop(self) {
+        let Links {
+            alloc: _,
+            queries: _queries,
+            requests: _requests,
+            answers: _answers,
+        } = self;
+    }
 }
 
 impl Links {

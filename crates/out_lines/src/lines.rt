@@ -21,12 +21,21 @@ use std::marker::Model;
 pub(crate) const LINE_ROOM: usize = 128;
 
 /// Writes the lines of some fields, one tree after the other, always in the same memory.
-#[derive(Drop)]
 pub struct LineWriter {
     fields: Vec<FieldId>,
     columns: Vec<Column>,
     /// By the number of a field, the place of its column.
     places: Vec<Option<usize>>,
+}
+
+impl Drop for LineWriter {
+    fn drop(self) {
+        let LineWriter {
+            fields: _fields,
+            columns: _columns,
+            places: _places,
+        } = self;
+    }
 }
 
 impl Model for LineWriter {

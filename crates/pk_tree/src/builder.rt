@@ -23,12 +23,22 @@ const FEW_ITEMS: usize = 8;
 const FEW_LAYERS: usize = 8;
 
 /// A tree that is being built. Items are added to the last layer.
-#[derive(Drop)]
 pub struct TreeBuilder {
     layers: Vec<Layer>,
     buffers: Buffers,
     wanted: FieldSet,
     alloc: Global,
+}
+
+impl Drop for TreeBuilder {
+    fn drop(self) {
+        let TreeBuilder {
+            layers: _layers,
+            buffers: _buffers,
+            wanted: _,
+            alloc: _,
+        } = self;
+    }
 }
 
 impl Model for TreeBuilder {
@@ -328,7 +338,13 @@ impl TreeBuilder {
         ensures tree { result ≡ self }
         ensures fits { IsTree result }
     {
-        Tree::from_parts(self.layers, self.buffers, self.wanted, self.alloc)
+        let TreeBuilder {
+            layers,
+            buffers,
+            wanted,
+            alloc,
+        } = self;
+        Tree::from_parts(layers, buffers, wanted, alloc)
     }
 
     #[inline(always)]

@@ -18,13 +18,23 @@ use std::alloc::Global;
 use std::marker::Model;
 
 /// A dissected frame: its layers, and the buffers that hold their bytes, the frame's own first.
-#[derive(Drop)]
 pub struct Tree {
     layers: Vec<Layer>,
     buffers: Buffers,
     /// The fields whose items were kept.
     wanted: FieldSet,
     alloc: Global,
+}
+
+impl Drop for Tree {
+    fn drop(self) {
+        let Tree {
+            layers: _layers,
+            buffers: _buffers,
+            wanted: _,
+            alloc: _,
+        } = self;
+    }
 }
 
 impl Model for Tree {

@@ -14,12 +14,21 @@ use std::mem;
 
 /// Bytes by their positions, each with the number of the frame that brought it. The byte that came first at a position
 /// stays. Those from a start on stand in order, as far as they go, and are held once.
-#[derive(Drop)]
 pub struct JoinedRanges {
     alloc: Global,
     row: InOrder,
     /// What is held elsewhere.
     rest: Waiting,
+}
+
+impl Drop for JoinedRanges {
+    fn drop(self) {
+        let JoinedRanges {
+            alloc: _,
+            row: _row,
+            rest: _rest,
+        } = self;
+    }
 }
 
 impl Model for JoinedRanges {

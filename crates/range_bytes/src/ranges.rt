@@ -11,12 +11,21 @@ use std::marker::Model;
 
 /// Bytes by their positions, each with the number of the frame that brought it. The byte that came first at a position
 /// stays.
-#[derive(Drop)]
 pub struct Ranges {
     alloc: Global,
     pieces: Pieces,
     /// The least position that isn't held.
     front: u64,
+}
+
+impl Drop for Ranges {
+    fn drop(self) {
+        let Ranges {
+            alloc: _,
+            pieces: _pieces,
+            front: _,
+        } = self;
+    }
 }
 
 impl Model for Ranges {

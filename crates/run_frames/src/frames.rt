@@ -58,7 +58,6 @@ pub fn new_dissector(alloc: Global, plan: &Plan, wanted: FieldSet) -> Result<Dis
 }
 
 /// A line, with what decides whether it is shown, what writes it, what was noted so far, and what writes a capture.
-#[derive(Drop)]
 pub struct LineMaker<'p> {
     pub judge: Option<Judge<'p>>,
     pub writer: LineWriter,
@@ -66,6 +65,19 @@ pub struct LineMaker<'p> {
     pub(crate) line: Vec<u8>,
     pub notes: Notes,
     pub capture: Writer,
+}
+
+impl Drop for LineMaker<'_> {
+    fn drop(self) {
+        let LineMaker {
+            judge: _judge,
+            writer: _writer,
+            json: _json,
+            line: _line,
+            notes: _notes,
+            capture: _capture,
+        } = self;
+    }
 }
 
 /// A line maker of a plan, of which nothing was written.

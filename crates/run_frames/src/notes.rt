@@ -15,10 +15,18 @@ use pk_tree::Tree;
 use std::alloc::Global;
 
 /// What is noted of the frames that were taken, for what stands behind their lines.
-#[derive(Drop)]
 pub struct Notes {
     pub totals: Totals,
     pub tables: Tables,
+}
+
+impl Drop for Notes {
+    fn drop(self) {
+        let Notes {
+            totals: _,
+            tables: _tables,
+        } = self;
+    }
 }
 
 impl Notes {

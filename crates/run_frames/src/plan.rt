@@ -38,7 +38,6 @@ impl FieldList {
 }
 
 /// What a run is asked for.
-#[derive(Drop)]
 pub struct Plan {
     /// Where the frames come from.
     pub source: PlanSource,
@@ -64,4 +63,23 @@ pub struct Plan {
     pub quiet: bool,
     /// The format of the capture that is written in place of all lines, where one is.
     pub written: Option<Format>,
+}
+
+impl Drop for Plan {
+    fn drop(self) {
+        let Plan {
+            source: _source,
+            chosen: _chosen,
+            stats: _,
+            two: _,
+            fields: _fields,
+            most: _,
+            decode: _decode,
+            reports: _reports,
+            kind: _kind,
+            style: _style,
+            quiet: _,
+            written: _written,
+        } = self;
+    }
 }

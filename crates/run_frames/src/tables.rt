@@ -15,10 +15,18 @@ use shark_words::Report;
 use std::alloc::Global;
 
 /// What is noted for the tables of a kind, where one is asked for.
-#[derive(Drop)]
 pub(crate) struct Table {
     asked: bool,
     stats: Stats,
+}
+
+impl Drop for Table {
+    fn drop(self) {
+        let Table {
+            asked: _,
+            stats: _stats,
+        } = self;
+    }
 }
 
 impl Table {
@@ -86,11 +94,20 @@ fn is_table(report: Report, kind: StatKind) -> bool
 }
 
 /// What is noted for tables, those of each kind by themselves.
-#[derive(Drop)]
 pub struct Tables {
     pub(crate) conv_tcp: Table,
     pub(crate) conv_ip: Table,
     pub(crate) phs: Table,
+}
+
+impl Drop for Tables {
+    fn drop(self) {
+        let Tables {
+            conv_tcp: _conv_tcp,
+            conv_ip: _conv_ip,
+            phs: _phs,
+        } = self;
+    }
 }
 
 impl Tables {

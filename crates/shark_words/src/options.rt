@@ -94,7 +94,6 @@ impl ReportList {
 }
 
 /// What the words ask for.
-#[derive(Drop)]
 pub struct Options {
     pub source: Source,
     /// The display filter; none without `-Y`, and for a text of separators alone.
@@ -117,4 +116,23 @@ pub struct Options {
     pub stats: bool,
     /// The format of the capture file that is written in place of all lines, where one is.
     pub written: Option<Format>,
+}
+
+impl Drop for Options {
+    fn drop(self) {
+        let Options {
+            source: _source,
+            filter: _filter,
+            two: _,
+            kind: _kind,
+            names: _names,
+            style: _style,
+            most: _,
+            quiet: _,
+            decode: _decode,
+            reports: _reports,
+            stats: _,
+            written: _written,
+        } = self;
+    }
 }

@@ -17,10 +17,18 @@ use stream_messages::App;
 use tcp_streams::{Segment, Streams};
 
 /// TCP streams, and the messages that their segments bring.
-#[derive(Drop)]
 pub struct MessageStreams {
     alloc: Global,
     pub(crate) kept: Kept,
+}
+
+impl Drop for MessageStreams {
+    fn drop(self) {
+        let MessageStreams {
+            alloc: _,
+            kept: _kept,
+        } = self;
+    }
 }
 
 impl MessageStreams {

@@ -17,11 +17,20 @@ pub(crate) struct Reader {
 }
 
 /// What is kept of both directions of a stream.
-#[derive(Drop)]
 pub(crate) struct Readers {
     pub app: App,
     pub zero: Reader,
     pub one: Reader,
+}
+
+impl Drop for Readers {
+    fn drop(self) {
+        let Readers {
+            app: _app,
+            zero: _zero,
+            one: _one,
+        } = self;
+    }
 }
 
 impl Reader {

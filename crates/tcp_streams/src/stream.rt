@@ -12,11 +12,20 @@ use pk_tree::Endpoint;
 use std::alloc::Global;
 
 /// A stream: who opened it, and the direction of either side.
-#[derive(Drop)]
 pub(crate) struct Stream {
     pub first: Endpoint,
     pub zero: Way,
     pub one: Way,
+}
+
+impl Drop for Stream {
+    fn drop(self) {
+        let Stream {
+            first: _first,
+            zero: _zero,
+            one: _one,
+        } = self;
+    }
 }
 
 impl Stream {

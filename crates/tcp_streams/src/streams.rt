@@ -18,10 +18,18 @@ use pk_base::NoMemory;
 use std::alloc::Global;
 
 /// The streams of the segments so far.
-#[derive(Drop)]
 pub struct Streams {
     alloc: Global,
     pub(crate) kept: Kept,
+}
+
+impl Drop for Streams {
+    fn drop(self) {
+        let Streams {
+            alloc: _,
+            kept: _kept,
+        } = self;
+    }
 }
 
 impl Streams {

@@ -9,7 +9,6 @@ use range_bytes::JoinedRanges;
 use std::alloc::Global;
 
 /// One direction of a stream.
-#[derive(Drop)]
 pub(crate) struct Way {
     pub alloc: Global,
     /// The number of the byte at position 0, once a segment has set it.
@@ -21,6 +20,18 @@ pub(crate) struct Way {
     /// Up to where the other side has acknowledged.
     pub acked: u64,
     ghost apart: { AreApart 0 earlier.items held.start } by { apart_prop 0 earlier.items held.start },
+}
+
+impl Drop for Way {
+    fn drop(self) {
+        let Way {
+            alloc: _,
+            origin: _,
+            held: _held,
+            earlier: _earlier,
+            acked: _,
+        } = self;
+    }
 }
 
 /// How a segment entered its direction.
