@@ -19,8 +19,7 @@
 //! `«3×ab»` anywhere in a row stands for `ababab`.
 use crate::files::{file_of, named, number_of, push_pieces};
 use pk_outside::{MemoryCapture, MemorySink, NamedFile, SureSink};
-use shark_rows::sure_run;
-use shark_run::{Status, run};
+use shark_run::{Status, run, sure_run};
 use std::alloc::{AllocError, Global};
 
 /// How a run's file is made and read.

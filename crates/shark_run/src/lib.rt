@@ -8,10 +8,12 @@ mod laws;
 mod outcome;
 mod owned;
 mod status;
+mod sure;
 mod top;
 
 pub use laws::{plans_are_alike, the_headline_says_all};
 pub use run_frames::{Compiled, FieldList, Generated, Plan, PlanRules, PlanSource, Text};
 pub use run_words::Refused;
 pub use status::Status;
+pub use sure::sure_run;
 pub use top::{run, run_plan};

@@ -10,8 +10,9 @@ ghost use Rattle.shark_run.specs.Statuses.{status_of, refusal_status};
 ghost use Rattle.shark_run.specs.Statuses.{IsNoFault, IsRefusing, WhenEnded};
 ghost use Rattle.run_output.specs.Wrote.{WroteAll, WrotePart};
 
+use crate::status::Status;
+use crate::top::run;
 use pk_outside::{SureCapture, SureSink};
-use shark_run::{Status, run};
 use std::alloc::Global;
 
 /// A run over a capture file in memory, or over a generated capture, where nothing outside fails: the words are refused for their reason,
