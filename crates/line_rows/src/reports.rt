@@ -2,6 +2,9 @@
 //!
 //! A row is what it shows, and the trees of frames 1, 2, .., each behind a line `--`. Links are wanted as the frame, the layer's place, and what
 //! the link adds to the layer's line, behind a line `links`.
+ghost use Rattle.std.specs.Prelude.{ℕ, suc, OnOk};
+ghost use Rattle.cap_stats.specs.Few.{HasFew};
+
 use crate::lines::{is_text, tree_of};
 use cap_stats::{StatKind, Stats};
 use pk_fields::{FieldSet, by_name, ids};
@@ -99,11 +102,34 @@ fn kind_of(name: &str) -> Option<StatKind> {
     }
 }
 
-fn has_table(alloc: Global, stats: &mut Stats, trees: &str, wanted: &str) -> Result<bool, Unread> {
+fn note(alloc: Global, stats: &mut Stats, layers: &str) -> Result<(), Unread>
+    requires { HasFew 100 stats.old }
+    ensures { OnOk result ((most : ℕ) → HasFew most stats.old → HasFew (suc most) stats.new) }
+{
+    let tree = tree_of(alloc, layers)?;
+    stats.note(&tree)?;
+    Ok(())
+}
+
+/// Notes trees, a hundred at most.
+fn note_all(alloc: Global, stats: &mut Stats, trees: &str) -> Result<(), Unread>
+    requires { HasFew 0 stats.old }
+{
+    let mut count: usize = 0;
     for layers in trees.split("\n--\n").skip(1) {
-        let tree = tree_of(alloc, layers)?;
-        stats.note(&tree)?;
+        if count == 100 {
+            return Err(Unread::Line);
+        }
+        note(alloc, stats, layers)?;
+        count += 1;
     }
+    Ok(())
+}
+
+fn has_table(alloc: Global, stats: &mut Stats, trees: &str, wanted: &str) -> Result<bool, Unread>
+    requires { HasFew 0 stats.old }
+{
+    note_all(alloc, stats, trees)?;
     let table = stats.table()?;
     Ok(is_text(&table, wanted))
 }
