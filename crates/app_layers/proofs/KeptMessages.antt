@@ -25,8 +25,8 @@ use Rattle.tcp_messages.specs.declared.met.Source.TheVariants as sources
 use Rattle.tcp_messages.specs.Shown.{frames_told as gathered_from}
 use Rattle.app_layers.specs.DataLayer.{data_over}
 use Rattle.app_layers.specs.MessageLayers.{added_span, with_segments, told_over, sourced_over, message_over, messages_over, carried_over}
-use Rattle.head_layers.specs.Payloads.{with_number}
-use Rattle.head_layers.proofs.KeptHeads.{tree_as, kept_if}
+use Rattle.app_layers.specs.Payloads.{with_number}
+use Rattle.app_layers.proofs.KeptHeads.{tree_as, kept_if}
 
 plain_kept : (wanted : List ℕ) (span : Span) (steps : List Step) (t u : TreeShown) → IsKeptTree wanted t u → IsKeptTree wanted (plain_read t span steps) (plain_read u span steps)
 plain_kept wanted span steps t u k = layer_kept wanted t u HTTP span steps PlainMode false k

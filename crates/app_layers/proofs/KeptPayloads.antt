@@ -5,7 +5,7 @@ use Rattle.pk_tree.specs.declared.heads.Mode.TheVariants.{Plain as PlainMode}
 use Rattle.pk_tree.specs.Trees.{TreeShown, IsKept as IsKeptTree, kept_tree}
 use Rattle.pk_tree.proofs.KeptTrees.{layer_kept}
 use Rattle.app_layers.specs.DataLayer.{data_over}
-use Rattle.head_layers.proofs.KeptHeads.{tree_as, kept_if}
+use Rattle.app_layers.proofs.KeptHeads.{tree_as, kept_if}
 use Rattle.pk_tree.specs.declared.heads.After.{After}
 use Rattle.pk_tree.specs.declared.heads.After.TheVariants as afters
 use Rattle.port_rules.specs.declared.rules.App.{App}

@@ -1,9 +1,14 @@
+pub mod Behind
 mod DataLemmas
+mod FramePassed
+mod HeadLemmas
 mod HttpUnasked
+pub mod KeptHeads
 pub mod KeptMessages
 pub mod KeptPayloads
 pub mod MessageBuffers
 mod MessageLemmas
 pub mod MessagesAside
 pub mod StreamApps
+pub mod ToldHeads
 pub mod WantedMessages

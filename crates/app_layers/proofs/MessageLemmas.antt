@@ -20,7 +20,7 @@ use Rattle.tcp_messages.specs.declared.met.Source.TheVariants as sources
 use Rattle.tcp_messages.specs.Shown.{IsMessage, IsWholeIn, bytes_from}
 use Rattle.tcp_messages.proofs.MessageBytes.{told_ends, segment_fits}
 use Rattle.app_layers.specs.MessageLayers.{added_span, message_over, messages_over, sourced_over, told_over, with_segments}
-use Rattle.head_layers.specs.Payloads.{with_number}
+use Rattle.app_layers.specs.Payloads.{with_number}
 use Rattle.app_layers.proofs.MessageBuffers.{GrowsBy, grows_none, grows_one, grows_on, http_grows, layer_same}
 
 -- ---- the bytes of a message

@@ -36,7 +36,7 @@ use Rattle.tcp_messages.specs.Shown.{frames_told as gathered_from}
 use Rattle.app_layers.specs.DataLayer.{data_over}
 use Rattle.app_layers.specs.Aside.{IsAside, LacksOnly}
 use Rattle.app_layers.specs.MessageLayers.{added_span, carried_over, message_over, messages_over, sourced_over, told_over, with_segments}
-use Rattle.head_layers.specs.Payloads.{with_number}
+use Rattle.app_layers.specs.Payloads.{with_number}
 use Rattle.app_layers.proofs.HttpUnasked.{http_unasked}
 
 pub record AsksNoMessages (wanted : List ℕ) : Type 0 where

@@ -24,8 +24,8 @@ use Rattle.tcp_messages.specs.declared.met.Source.TheVariants as sources
 use Rattle.tcp_messages.specs.Shown.{frames_told as gathered_from}
 use Rattle.app_layers.specs.DataLayer.{data_layout, data_over}
 use Rattle.app_layers.specs.MessageLayers.{added_span, carried_over, message_over, messages_over, sourced_over, told_over, with_segments}
-use Rattle.head_layers.specs.Payloads.{with_number}
-use Rattle.head_layers.proofs.ToldHeads.{if_wanted, item_wanted, number_wanted}
+use Rattle.app_layers.specs.Payloads.{with_number}
+use Rattle.app_layers.proofs.ToldHeads.{if_wanted, item_wanted, number_wanted}
 
 fault_wanted : (t : TreeShown) (span : Span) (fault : Option ℕ) → (with_fault t span fault).wanted ≡ t.wanted
 unfolding with_layer

@@ -1,4 +1,9 @@
 pub mod Applications
 pub mod Aside
 pub mod DataLayer
+pub mod Fragments
+pub mod FrameLayer
+pub mod Heads
 pub mod MessageLayers
+pub mod Payloads
+pub mod Times

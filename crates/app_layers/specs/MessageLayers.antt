@@ -24,7 +24,7 @@ use Rattle.port_rules.specs.declared.rules.App.TheVariants.{Http, Dns, Dhcp, Ntp
 use Rattle.port_rules.specs.declared.rules.PortRule.{PortRule}
 use Rattle.port_rules.specs.Applications.{tcp_app}
 use Rattle.app_layers.specs.DataLayer.{data_over}
-use Rattle.head_layers.specs.Payloads.{with_number}
+use Rattle.app_layers.specs.Payloads.{with_number}
 
 -- those that have messages in streams
 abbrev pub in_streams : Option App → Option StreamApp

@@ -5,7 +5,7 @@ ghost use Rattle.pk_tree.specs.Layouts.{within};
 ghost use Rattle.pk_tree.specs.Trees.{last_proto, with_buffer};
 ghost use Rattle.tcp_messages.specs.Shown.{IsMessage, IsWholeIn, frames_told as gathered_from};
 ghost use Rattle.app_layers.specs.MessageLayers.{added_span, carried_over, message_over, messages_over, told_over, with_segments};
-ghost use Rattle.head_layers.specs.Payloads.{LastIs};
+ghost use Rattle.app_layers.specs.Payloads.{LastIs};
 
 use crate::data_layer::add_data;
 use dis_dns::read_dns;

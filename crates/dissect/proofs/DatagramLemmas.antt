@@ -19,14 +19,14 @@ use Rattle.conversations.specs.Conversations.{number_in, udp_ends, with_ends}
 use Rattle.dissect.specs.Conversations.{udp_opened, udp_stream}
 use Rattle.dissect.specs.Events.{Event}
 use Rattle.dissect.specs.Fragments.{fragments_of}
-use Rattle.head_layers.specs.FrameLayer.{is_cut}
+use Rattle.app_layers.specs.FrameLayer.{is_cut}
 use Rattle.message_links.specs.Links.{links_of}
 use Rattle.dissect.specs.Links.{newest_links}
 use Rattle.message_links.specs.LinkTables.{LinksStandFor}
 use Rattle.app_layers.specs.MessageLayers.{app_of_segment}
 use Rattle.message_links.specs.Notes.{Noted, datagram_notes, noted_on, udp_direction}
 use Rattle.dissect.specs.Notes.{noted}
-use Rattle.head_layers.specs.Payloads.{datagram_told}
+use Rattle.app_layers.specs.Payloads.{datagram_told}
 use Rattle.dissect.specs.Segments.{segments_of}
 use Rattle.dissect.specs.Stands.{StandsAt, IsLinked, IsMet}
 use Rattle.dissect.specs.Walks.{datagram_met}

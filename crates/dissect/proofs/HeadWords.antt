@@ -8,8 +8,8 @@ use Rattle.pk_tree.specs.declared.heads.Next.TheVariants as nexts
 use Rattle.pk_tree.specs.Trees.{TreeShown}
 use Rattle.port_rules.specs.declared.rules.PortRule.{PortRule}
 use Rattle.capture_read.specs.declared.frame.Frame.{Frame}
-use Rattle.head_layers.specs.FrameLayer.{is_cut}
-use Rattle.head_layers.specs.Heads.{head_after, head_read, is_rest}
+use Rattle.app_layers.specs.FrameLayer.{is_cut}
+use Rattle.app_layers.specs.Heads.{head_after, head_read, is_rest}
 use Rattle.dissect.specs.declared.todo.Head.{Head}
 use Rattle.dissect.specs.Events.{Event}
 use Rattle.dissect.specs.Walks.{Walk, followed, head_by, mode_after, rest_met}

@@ -22,18 +22,18 @@ use Rattle.ip_join.specs.declared.joined.Joined.{Joined}
 use Rattle.ip_join.specs.declared.joined.Joined.TheVariants.{Pending, Whole, Conflict}
 use Rattle.port_rules.specs.declared.rules.PortRule.{PortRule}
 use Rattle.capture_read.specs.declared.frame.Frame.{Frame}
-use Rattle.head_layers.specs.declared.times.Times.{Times}
+use Rattle.app_layers.specs.declared.times.Times.{Times}
 use Rattle.dissect.specs.declared.todo.Head.{Head}
 use Rattle.dissect.specs.declared.todo.Todo.{Todo}
 use Rattle.dissect.specs.declared.todo.Todo.TheVariants as todos
 use Rattle.app_layers.specs.Applications.{payload_over}
 use Rattle.dissect.specs.Events.{Event, NewFrame}
-use Rattle.head_layers.specs.Fragments.{conflict_told, error_field, joined_told}
+use Rattle.app_layers.specs.Fragments.{conflict_told, error_field, joined_told}
 use Rattle.dissect.specs.Fragments.{joined_todo}
-use Rattle.head_layers.specs.FrameLayer.{frame_span, is_cut}
-use Rattle.head_layers.specs.Payloads.{datagram_told}
+use Rattle.app_layers.specs.FrameLayer.{frame_span, is_cut}
+use Rattle.app_layers.specs.Payloads.{datagram_told}
 use Rattle.dissect.specs.Trees.{kept_walk, walk_of}
-use Rattle.head_layers.proofs.KeptHeads.{kept_if, frame_kept, joined_kept, payload_kept, segment_kept}
+use Rattle.app_layers.proofs.KeptHeads.{kept_if, frame_kept, joined_kept, payload_kept, segment_kept}
 use Rattle.app_layers.proofs.KeptMessages.{carried_kept}
 use Rattle.app_layers.proofs.KeptPayloads.{data_kept, message_kept}
 use Rattle.dissect.specs.Walks.{Walk, going, stop, rest_met, joined_met, fragment_by, fragment_met, datagram_met, segment_met, followed, layer_met, message_met, mode_behind, head_by, head_met, step_on, step, rest_on, chain, layers_left, link_met, all_met, no_packet}

@@ -21,13 +21,13 @@ use Rattle.dissect.specs.declared.todo.Todo.TheVariants as todos
 use Rattle.dissect.specs.Events.{Event}
 use Rattle.dissect.specs.Followed.{asks_messages, asks_streams}
 use Rattle.app_layers.specs.Aside.{LacksOnly}
-use Rattle.head_layers.specs.FrameLayer.{is_cut}
+use Rattle.app_layers.specs.FrameLayer.{is_cut}
 use Rattle.app_layers.specs.MessageLayers.{carried_over, stream_app}
-use Rattle.head_layers.specs.Payloads.{with_lost, carried_told, segment_told}
+use Rattle.app_layers.specs.Payloads.{with_lost, carried_told, segment_told}
 use Rattle.dissect.specs.Segments.{segment_from, segments_of}
 use Rattle.dissect.specs.Stands.{StandsAt, IsWalked}
 use Rattle.dissect.specs.Walks.{segment_met}
-use Rattle.head_layers.proofs.ToldHeads.{carried_wanted, lost_unasked, place_unasked, told_wanted}
+use Rattle.app_layers.proofs.ToldHeads.{carried_wanted, lost_unasked, place_unasked, told_wanted}
 use Rattle.app_layers.proofs.WantedMessages.{carried_over_wanted}
 use Rattle.dissect.proofs.Joining.{stands-segment}
 use Rattle.app_layers.proofs.MessagesAside.{AsksNoMessages, carried_lacks}

@@ -11,12 +11,12 @@ use Rattle.pk_tree.specs.declared.heads.PacketHead.{PacketHead}
 use Rattle.pk_tree.specs.Trees.{TreeShown}
 use Rattle.port_rules.specs.declared.rules.PortRule.{PortRule}
 use Rattle.capture_read.specs.declared.frame.Frame.{Frame}
-use Rattle.head_layers.specs.declared.times.Times.{Times}
+use Rattle.app_layers.specs.declared.times.Times.{Times}
 use Rattle.dissect.specs.declared.todo.Head.{Head}
 use Rattle.dissect.specs.declared.todo.Todo.{Todo}
 use Rattle.dissect.specs.declared.todo.Todo.TheVariants as todos
 use Rattle.dissect.specs.Events.{Event, NewFrame}
-use Rattle.head_layers.specs.FrameLayer.{frame_tree}
+use Rattle.app_layers.specs.FrameLayer.{frame_tree}
 use Rattle.dissect.specs.Trees.{walk_of}
 use Rattle.dissect.specs.Walks.{Walk, all_met, chain, datagram_met, followed, head_by, layers_left, link_met, rest_on, segment_met, step, step_on, stop}
 

@@ -17,14 +17,14 @@ use Rattle.capture_read.specs.declared.frame.Frame.{Frame}
 use Rattle.dissect.specs.declared.state.State.{State}
 use Rattle.dissect.specs.declared.todo.Todo.TheVariants as todos
 use Rattle.dissect.specs.Events.{Event}
-use Rattle.head_layers.specs.FrameLayer.{is_cut}
+use Rattle.app_layers.specs.FrameLayer.{is_cut}
 use Rattle.app_layers.specs.MessageLayers.{app_of_segment, carried_over}
 use Rattle.message_links.specs.Links.{links_of}
 use Rattle.dissect.specs.Links.{newest_links}
 use Rattle.message_links.specs.LinkTables.{LinksStandFor}
 use Rattle.message_links.specs.Notes.{Noted, message_note, noted_on, tcp_direction}
 use Rattle.dissect.specs.Notes.{noted, segment_notes}
-use Rattle.head_layers.specs.Payloads.{segment_told}
+use Rattle.app_layers.specs.Payloads.{segment_told}
 use Rattle.dissect.specs.Segments.{segment_from, segments_of}
 use Rattle.dissect.specs.Stands.{StandsAt, IsLinked, IsWalked}
 use Rattle.dissect.specs.Walks.{segment_met}

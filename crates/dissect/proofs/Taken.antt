@@ -9,13 +9,13 @@ use Rattle.port_rules.specs.declared.rules.DecodeAs.{DecodeAs}
 use Rattle.port_rules.specs.declared.rules.PortRule.{PortRule}
 use Rattle.capture_read.specs.declared.frame.Frame.{Frame}
 use Rattle.dissect.specs.declared.state.State.{State}
-use Rattle.head_layers.specs.declared.times.Times.{Times}
+use Rattle.app_layers.specs.declared.times.Times.{Times}
 use Rattle.dissect.specs.Events.{Event}
 use Rattle.dissect.specs.Followed.{asks_streams, HasSameValues}
 use Rattle.dissect.specs.Stands.{DissectorShown, StandsAt, IsRead, IsAfter}
 use Rattle.message_links.specs.Linked.{linked}
 use Rattle.dissect.specs.Links.{newest_links}
-use Rattle.head_layers.specs.Times.{with_time}
+use Rattle.app_layers.specs.Times.{with_time}
 use Rattle.dissect.specs.Trees.{bare_tree, events_of, kept_walk, times_of, tree_at}
 use Rattle.dissect.proofs.Kept.{walk_kept}
 use Rattle.message_links.proofs.LinkedLemmas.{links_kept, unasked_links}

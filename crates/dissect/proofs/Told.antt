@@ -21,7 +21,7 @@ use Rattle.dissect.specs.declared.todo.Todo.TheVariants as todos
 use Rattle.dissect.specs.Followed.{asks_streams}
 use Rattle.app_layers.specs.Aside.{LacksOnly}
 use Rattle.dissect.specs.Events.{Event}
-use Rattle.head_layers.specs.Fragments.{joined_told}
+use Rattle.app_layers.specs.Fragments.{joined_told}
 use Rattle.dissect.specs.Fragments.{joined_todo}
 use Rattle.dissect.specs.Stands.{StandsAt, IsMet, IsToldAs, IsWalked}
 use Rattle.dissect.specs.Walks.{Walk, followed, going, joined_met, link_met, stop}

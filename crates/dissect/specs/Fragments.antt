@@ -9,7 +9,7 @@ use Rattle.pk_tree.specs.Trees.{TreeShown}
 use Rattle.dis_ip.specs.Protocols.{carried_by}
 use Rattle.ip_join.specs.declared.fragment.Fragment.{Fragment}
 use Rattle.ip_join.specs.declared.joined.Datagram.{Datagram}
-use Rattle.head_layers.specs.Fragments.{joined_span}
+use Rattle.app_layers.specs.Fragments.{joined_span}
 use Rattle.dissect.specs.declared.todo.Todo.{Todo}
 use Rattle.dissect.specs.declared.todo.Todo.TheVariants as todos
 use Rattle.dissect.specs.Events.{Event, NewFrame, Piece, Udp, Tcp}

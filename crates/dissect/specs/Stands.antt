@@ -11,7 +11,7 @@ use Rattle.tcp_messages.specs.Standing.{ReadsFor, streams_in}
 use Rattle.message_links.specs.declared.notes.Direction.{Direction}
 use Rattle.message_links.specs.declared.notes.Note.{Note}
 use Rattle.dissect.specs.declared.state.State.{State}
-use Rattle.head_layers.specs.declared.times.Times.{Times}
+use Rattle.app_layers.specs.declared.times.Times.{Times}
 use Rattle.dissect.specs.declared.todo.Todo.{Todo}
 use Rattle.dissect.specs.declared.todo.Todo.TheVariants as todos
 use Rattle.dissect.specs.Conversations.{udp_opened}
@@ -27,7 +27,7 @@ use Rattle.app_layers.specs.MessageLayers.{app_of_segment}
 use Rattle.message_links.specs.Notes.{Noted, noted_on}
 use Rattle.dissect.specs.Notes.{noted}
 use Rattle.dissect.specs.Segments.{segments_of}
-use Rattle.head_layers.specs.Times.{AreTimes}
+use Rattle.app_layers.specs.Times.{AreTimes}
 use Rattle.dissect.specs.Trees.{times_of, events_of}
 use Rattle.dissect.specs.Walks.{Walk}
 

@@ -4,12 +4,12 @@ use Rattle.pk_fields.specs.FieldSets.{every_field}
 use Rattle.pk_tree.specs.Trees.{TreeShown}
 use Rattle.port_rules.specs.declared.rules.PortRule.{PortRule}
 use Rattle.capture_read.specs.declared.frame.Frame.{Frame}
-use Rattle.head_layers.specs.declared.times.Times.{Times}
+use Rattle.app_layers.specs.declared.times.Times.{Times}
 use Rattle.dissect.specs.Events.{Event, NewFrame}
-use Rattle.head_layers.specs.FrameLayer.{frame_tree, kept_frame}
+use Rattle.app_layers.specs.FrameLayer.{frame_tree, kept_frame}
 use Rattle.dissect.specs.Links.{newest_links}
 use Rattle.message_links.specs.Linked.{linked}
-use Rattle.head_layers.specs.Times.{no_times, with_time}
+use Rattle.app_layers.specs.Times.{no_times, with_time}
 use Rattle.dissect.specs.Walks.{Walk, link_met, all_met}
 
 -- how far a frame is read behind its first header, given the rules for ports, and the times and events before it

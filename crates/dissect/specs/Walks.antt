@@ -49,10 +49,10 @@ use Rattle.dissect.specs.Conversations.{udp_stream}
 use Rattle.app_layers.specs.DataLayer.{data_over}
 use Rattle.dissect.specs.Events.{Event, Piece, Udp, Tcp}
 use Rattle.dissect.specs.Fragments.{fragment_from, fragments_of, joined_todo}
-use Rattle.head_layers.specs.Fragments.{conflict_told, joined_told}
-use Rattle.head_layers.specs.FrameLayer.{frame_span, is_cut}
+use Rattle.app_layers.specs.Fragments.{conflict_told, joined_told}
+use Rattle.app_layers.specs.FrameLayer.{frame_span, is_cut}
 use Rattle.app_layers.specs.MessageLayers.{app_of_segment, carried_over}
-use Rattle.head_layers.specs.Payloads.{datagram_told, segment_told}
+use Rattle.app_layers.specs.Payloads.{datagram_told, segment_told}
 use Rattle.dissect.specs.Segments.{segment_from, segments_of}
 
 -- how far a frame is read: the tree so far, all events up to here, the newest first, and what is to be read next

@@ -2,7 +2,7 @@ ghost use Rattle.std.specs.Prelude.{◌≡◌, ◌+◌, ◌<◌, ◌≤◌, ◌^
 ghost use Rattle.pk_buffer.specs.Buffers.{IsInside};
 ghost use Rattle.pk_fields.specs.Ids.{UDP};
 ghost use Rattle.dissect.specs.Events.{Event};
-ghost use Rattle.head_layers.specs.Payloads.{LastIs};
+ghost use Rattle.app_layers.specs.Payloads.{LastIs};
 ghost use Rattle.dissect.specs.Stands.{StandsAt, IsMet, IsReady, AddsAtMost, AddsOneThenEnds};
 ghost use Rattle.dissect.specs.Walks.{IsTodoInside, datagram_met};
 
@@ -11,7 +11,7 @@ use crate::todo::Todo;
 use app_layers::add_message;
 use capture_read::Frame;
 use conversations::udp_ends;
-use head_layers::{is_cut, tell_datagram};
+use app_layers::{is_cut, tell_datagram};
 use pk_base::{NoMemory, Span};
 use pk_tree::{PacketHead, PortsHead, TreeBuilder};
 use port_rules::{PortRule, udp_app};

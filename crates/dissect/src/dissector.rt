@@ -10,13 +10,13 @@ ghost use Rattle.dissect.specs.Followed.{asks_any, asks_messages, asks_streams, 
 ghost use Rattle.dissect.specs.Segments.{segments_of};
 ghost use Rattle.dissect.specs.Stands.{Stands, StandsWithin, StandsAt, IsAfter, IsRead, HasRoomForOne, AddsAtMost};
 ghost use Rattle.capture_read.specs.FrameList.{IsTime};
-ghost use Rattle.head_layers.specs.Times.{AreTimes};
+ghost use Rattle.app_layers.specs.Times.{AreTimes};
 ghost use Rattle.dissect.specs.Trees.{tree_at, events_of, kept_walk};
 
 use crate::state::State;
 use capture_read::Frame;
 use conversations::Conversations;
-use head_layers::{Times, begin_tree, captured};
+use app_layers::{Times, begin_tree, captured};
 use ip_join::Joins;
 use message_links::{Links, link_messages};
 use pk_base::NoMemory;
@@ -53,11 +53,11 @@ impl Model for Dissector {
     ghost use Rattle.std.specs.Coded.{code_by, coded×, coded_ℕ, coded_bool};
     ghost use Rattle.port_rules.specs.contracts.rules.DecodeAs as decode_row;
     ghost use Rattle.dissect.specs.contracts.state.State as state_row;
-    ghost use Rattle.head_layers.specs.contracts.times.Times as times_row;
+    ghost use Rattle.app_layers.specs.contracts.times.Times as times_row;
     ghost use Rattle.pk_fields.specs.contracts.field_set.FieldSet as set_row;
     ghost use Rattle.port_rules.specs.declared.rules.DecodeAs.{DecodeAs as DecodeAsValue};
     ghost use Rattle.dissect.specs.declared.state.State.{State as StateValue};
-    ghost use Rattle.head_layers.specs.declared.times.Times.{Times as TimesValue};
+    ghost use Rattle.app_layers.specs.declared.times.Times.{Times as TimesValue};
     ghost use Rattle.dissect.specs.Stands.{DissectorShown, IsKept};
 
     ghost Value = { DissectorShown };

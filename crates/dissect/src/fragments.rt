@@ -1,8 +1,8 @@
 ghost use Rattle.std.specs.Prelude.{◌≡◌, ℕ, ◌+◌, ◌<◌, ◌≤◌, ◌^◌, List, length, IfOk, OnOk};
 ghost use Rattle.pk_tree.specs.Following.{LeadsInside};
 ghost use Rattle.dis_ip.specs.Fragments.{part_proto};
-ghost use Rattle.head_layers.specs.Fragments.{joined_told};
-ghost use Rattle.head_layers.specs.Payloads.{LastIs};
+ghost use Rattle.app_layers.specs.Fragments.{joined_told};
+ghost use Rattle.app_layers.specs.Payloads.{LastIs};
 ghost use Rattle.dissect.specs.declared.state.State.{State as StateValue};
 ghost use Rattle.dissect.specs.Fragments.{joined_packet, joined_todo, todo_by};
 ghost use Rattle.dissect.specs.Stands.{AddsOneThenEnds};
@@ -10,7 +10,7 @@ ghost use Rattle.dissect.specs.Walks.{IsTodoInside};
 
 use crate::todo::{Head, Todo};
 use dis_ip::carried_by;
-use head_layers::tell_joined;
+use app_layers::tell_joined;
 use ip_join::Datagram;
 use pk_base::NoMemory;
 use pk_tree::{After, FragmentHead, Mode, PacketHead, TreeBuilder};

@@ -1,6 +1,6 @@
 ghost use Rattle.std.specs.Prelude.{◌≡◌, ◌<◌, ◌^◌, List, length, IfOk};
 ghost use Rattle.pk_buffer.specs.Buffers.{IsInside};
-ghost use Rattle.head_layers.specs.Heads.{is_rest};
+ghost use Rattle.app_layers.specs.Heads.{is_rest};
 ghost use Rattle.dissect.specs.Events.{Event};
 ghost use Rattle.dissect.specs.Stands.{StandsAt, IsWalked, IsReady, AddsAtMost, AddsFew, AddsOneThenEnds};
 ghost use Rattle.dissect.specs.Walks.{IsTodoInside, head_met, mode_after, mode_behind};
@@ -8,7 +8,7 @@ ghost use Rattle.dissect.specs.Walks.{IsTodoInside, head_met, mode_after, mode_b
 use crate::state::State;
 use crate::todo::{Head, Todo};
 use capture_read::Frame;
-use head_layers::{is_cut, read_head};
+use app_layers::{is_cut, read_head};
 use pk_base::NoMemory;
 use pk_tree::{After, Mode, Next, TreeBuilder};
 use port_rules::PortRule;

@@ -4,7 +4,7 @@ ghost use Rattle.dis_ip.specs.Fragments.{part_proto};
 ghost use Rattle.ip_join.specs.Datagrams.{IsShort};
 ghost use Rattle.port_rules.specs.declared.rules.PortRule.{PortRule};
 ghost use Rattle.dissect.specs.Events.{Event};
-ghost use Rattle.head_layers.specs.Payloads.{LastIs};
+ghost use Rattle.app_layers.specs.Payloads.{LastIs};
 ghost use Rattle.dissect.specs.Stands.{StandsAt, IsWalked, IsReady, AddsAtMost, AddsOneThenEnds};
 ghost use Rattle.dissect.specs.Walks.{IsTodoInside, joined_met, piece_met, fragment_met};
 
@@ -12,7 +12,7 @@ use crate::fragments::begin_datagram;
 use crate::state::State;
 use crate::todo::Todo;
 use capture_read::Frame;
-use head_layers::tell_conflict;
+use app_layers::tell_conflict;
 use ip_join::Joined;
 use pk_base::{NoMemory, Octets, Span};
 use pk_tree::{FragmentHead, PacketHead, TreeBuilder};

@@ -4,7 +4,7 @@ ghost use Rattle.pk_tree.specs.Following.{LeadsInside};
 ghost use Rattle.port_rules.specs.declared.rules.PortRule.{PortRule as PortRuleValue};
 ghost use Rattle.dissect.specs.declared.state.State.{State as StateValue};
 ghost use Rattle.dissect.specs.Events.{Event, NewFrame};
-ghost use Rattle.head_layers.specs.Payloads.{ComesBehind};
+ghost use Rattle.app_layers.specs.Payloads.{ComesBehind};
 ghost use Rattle.dissect.specs.Stands.{StandsAt, IsWalked, HasRoom, HasRoomForOne, HasSpace, IsReady, AddsAtMost, AddsFew, AddsOneThenEnds};
 ghost use Rattle.dissect.specs.Walks.{IsTodoInside, rest_met, followed, chain, going, link_met, all_met, no_packet};
 
@@ -13,7 +13,7 @@ use crate::todo::{Head, Todo};
 use app_layers::add_data;
 use capture_read::Frame;
 use dis_link::read_link;
-use head_layers::{captured, frame_span, is_cut};
+use app_layers::{captured, frame_span, is_cut};
 use pk_base::{LAYER_LIMIT, NoMemory, Span};
 use pk_tree::{Address, After, Mode, PacketHead, TreeBuilder};
 use port_rules::PortRule;

@@ -1,7 +1,7 @@
 use Rattle.std.proofs.Common.{◌+◌, List, length, subst, sym, ap, ◌∙◌, true≢false, arith}
 use Rattle.port_rules.specs.declared.rules.PortRule.{PortRule}
 use Rattle.dissect.specs.Stands.{DissectorShown}
-use Rattle.head_layers.specs.Times.{with_time}
+use Rattle.app_layers.specs.Times.{with_time}
 use Rattle.dissect.specs.Trees.{tree_at}
 use Rattle.dissect.proofs.Taken.{Reads, ReadsBy, tree-taken, values-taken, values-read, after-taken}
 use Rattle.dissect.proofs.dissector.Dissector.take_asked.Goals as goal

@@ -1,4 +1,4 @@
-use Rattle.head_layers.specs.FrameLayer.{is_cut}
+use Rattle.app_layers.specs.FrameLayer.{is_cut}
 use Rattle.dissect.proofs.Passing.{passed-walked}
 use Rattle.dissect.proofs.state.State.segment.Goals as goal
 

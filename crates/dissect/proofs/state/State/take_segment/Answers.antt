@@ -3,8 +3,8 @@ use Rattle.stream_messages.specs.declared.told.App.{App as StreamApp}
 use Rattle.tcp_streams.specs.Standing.{StandsFor}
 use Rattle.tcp_messages.specs.Shown.{shown_after}
 use Rattle.tcp_messages.specs.Standing.{ReadsFor}
-use Rattle.head_layers.specs.FrameLayer.{is_cut}
-use Rattle.head_layers.specs.Payloads.{segment_told}
+use Rattle.app_layers.specs.FrameLayer.{is_cut}
+use Rattle.app_layers.specs.Payloads.{segment_told}
 use Rattle.app_layers.specs.MessageLayers.{app_of_segment, carried_over}
 use Rattle.message_links.specs.Links.{links_of}
 use Rattle.message_links.specs.LinkTables.{LinksStandFor}

@@ -5,7 +5,7 @@ ghost use Rattle.pk_fields.specs.Ids.{UDP, TCP};
 ghost use Rattle.pk_tree.specs.Trees.{last_proto};
 ghost use Rattle.pk_tree.specs.Values.{HasSize, is_read};
 ghost use Rattle.tcp_streams.specs.Labels.{PassesNear};
-ghost use Rattle.head_layers.specs.Payloads.{LastIs, with_payload, with_ack, with_lost, datagram_told, place_told, carried_told, segment_told};
+ghost use Rattle.app_layers.specs.Payloads.{LastIs, with_payload, with_ack, with_lost, datagram_told, place_told, carried_told, segment_told};
 
 use pk_base::{NoMemory, Span};
 use pk_fields::{FieldId, ids};

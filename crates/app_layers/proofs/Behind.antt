@@ -38,7 +38,7 @@ use Rattle.dis_ip.specs.Packets.{in_packet}
 use Rattle.dis_ip.specs.Protocols.{carried_by, ends_chain, next_of_protocol}
 use Rattle.dis_ports.specs.Tcp.{tcp_after, tcp_carries}
 use Rattle.dis_ports.specs.Udp.{udp_after, udp_carries}
-use Rattle.head_layers.specs.Payloads.{ComesBehind}
+use Rattle.app_layers.specs.Payloads.{ComesBehind}
 
 behind_if : (layers : List Layer) (b : Bool) (x y : After) → ComesBehind x layers → ComesBehind y layers → ComesBehind (if b then x else y) layers
 behind_if layers true x y one other = one

@@ -2,9 +2,9 @@ ghost use Rattle.std.specs.Prelude.{◌≡◌, ◌<◌, ◌≤◌, ◌^◌, ◌�
 ghost use Rattle.pk_fields.specs.Ids.{FRAME, FRAME_NUMBER, FRAME_LEN, FRAME_CAP_LEN};
 ghost use Rattle.pk_tree.specs.declared.heads.Mode.TheVariants.{Plain};
 ghost use Rattle.pk_tree.specs.Layouts.{StepFits, StepsFit, layer_read};
-ghost use Rattle.head_layers.specs.FrameLayer.{is_cut, frame_span, frame_layout, asks_measure, kept_frame};
+ghost use Rattle.app_layers.specs.FrameLayer.{is_cut, frame_span, frame_layout, asks_measure, kept_frame};
 ghost use Rattle.capture_read.specs.FrameList.{IsTime};
-ghost use Rattle.head_layers.specs.Times.{AreTimes};
+ghost use Rattle.app_layers.specs.Times.{AreTimes};
 
 use crate::times::{Times, since};
 use capture_read::Frame;

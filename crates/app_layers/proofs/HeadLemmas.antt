@@ -13,8 +13,8 @@ use Rattle.pk_tree.specs.declared.layer.Layer.{Layer}
 use Rattle.pk_tree.specs.Trees.{TreeShown, last_proto}
 use Rattle.dis_ip.specs.Extensions.{extension_after}
 use Rattle.dis_ip.specs.Fragments.{LastIsPart}
-use Rattle.head_layers.specs.Heads.{extension_read, head_after, head_read}
-use Rattle.head_layers.specs.Payloads.{ComesBehind}
+use Rattle.app_layers.specs.Heads.{extension_read, head_after, head_read}
+use Rattle.app_layers.specs.Payloads.{ComesBehind}
 
 pub plain_ok : (layers : List Layer) (next : After) (r : Result After NoMemory) → ComesBehind next layers
     → IfOk r (λ after. after ≡ next) → IfOk r (λ after. ComesBehind after layers)

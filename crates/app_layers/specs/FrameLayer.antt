@@ -10,8 +10,8 @@ use Rattle.pk_tree.specs.declared.value.Value.TheVariants.{Uint, Time}
 use Rattle.pk_tree.specs.Layouts.{layer_read}
 use Rattle.pk_tree.specs.Trees.{TreeShown}
 use Rattle.capture_read.specs.declared.frame.Frame.{Frame}
-use Rattle.head_layers.specs.declared.times.Times.{Times}
-use Rattle.head_layers.specs.Times.{since}
+use Rattle.app_layers.specs.declared.times.Times.{Times}
+use Rattle.app_layers.specs.Times.{since}
 
 -- whether fewer bytes were captured than the frame had
 abbrev pub is_cut : Frame → Bool

@@ -14,8 +14,8 @@ use Rattle.pk_tree.specs.Trees.{TreeShown}
 use Rattle.pk_tree.proofs.KeptLemmas.{Unasked, none_asked}
 use Rattle.pk_tree.proofs.UnaskedLemmas.{front_alone}
 use Rattle.capture_read.specs.declared.frame.Frame.{Frame}
-use Rattle.head_layers.specs.declared.times.Times.{Times}
-use Rattle.head_layers.specs.FrameLayer.{asks_measure, frame_span, frame_layout, is_cut, kept_frame, time_steps}
+use Rattle.app_layers.specs.declared.times.Times.{Times}
+use Rattle.app_layers.specs.FrameLayer.{asks_measure, frame_span, frame_layout, is_cut, kept_frame, time_steps}
 
 -- the layer's steps but the number, by the frame's time
 measures_at : Times → Frame → Option ℤ → List Step

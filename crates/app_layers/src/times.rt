@@ -1,6 +1,6 @@
 ghost use Rattle.std.specs.Prelude.{◌≡◌, IfSome};
 ghost use Rattle.capture_read.specs.FrameList.{IsTime};
-ghost use Rattle.head_layers.specs.Times.{AreTimes, no_times, with_time, since};
+ghost use Rattle.app_layers.specs.Times.{AreTimes, no_times, with_time, since};
 
 /// The times of the frames so far, in nanoseconds since 1970 in UTC.
 #[derive(Clone, Copy)]

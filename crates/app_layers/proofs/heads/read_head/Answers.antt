@@ -11,9 +11,9 @@ use Rattle.dis_icmp.specs.Icmp6.{icmp6_after}
 use Rattle.dis_more.specs.Igmp.{igmp_after}
 use Rattle.dis_ports.specs.Udp.{udp_after}
 use Rattle.dis_ports.specs.Tcp.{tcp_after}
-use Rattle.head_layers.proofs.Behind.{vlan_behind, icmp_behind, icmp6_behind, igmp_behind, ip4_behind, ip6_behind, extension_behind, udp_behind, tcp_behind}
-use Rattle.head_layers.proofs.HeadLemmas.{extension_layer, extension_next, part_ok, plain_ok, whole_ok}
-use Rattle.head_layers.proofs.heads.read_head.Goals as goal
+use Rattle.app_layers.proofs.Behind.{vlan_behind, icmp_behind, icmp6_behind, igmp_behind, ip4_behind, ip6_behind, extension_behind, udp_behind, tcp_behind}
+use Rattle.app_layers.proofs.HeadLemmas.{extension_layer, extension_next, part_ok, plain_ok, whole_ok}
+use Rattle.app_layers.proofs.heads.read_head.Goals as goal
 
 pub returns-in-Arp-clause-behind : goal.returns-in-Arp-clause-behind
 returns-in-Arp-clause-behind c = plain_ok c.read_arp.new.b.layers _ c.read_arp.result tt c.read_arp.ensures.after

@@ -1,8 +1,8 @@
 ghost use Rattle.std.specs.Prelude.{◌≡◌, ◌+◌, ◌<◌, ◌≤◌, ◌^◌, length, IfOk, OnOk};
 ghost use Rattle.pk_buffer.specs.Buffers.{IsInside, bytes_of};
 ghost use Rattle.pk_tree.specs.Following.{LeadsInside};
-ghost use Rattle.head_layers.specs.Heads.{head_after, head_read};
-ghost use Rattle.head_layers.specs.Payloads.{ComesBehind};
+ghost use Rattle.app_layers.specs.Heads.{head_after, head_read};
+ghost use Rattle.app_layers.specs.Payloads.{ComesBehind};
 
 use dis_icmp::{read_icmp, read_icmp6};
 use dis_ip::{read_extension, read_ip4, read_ip6};

@@ -2,7 +2,7 @@
 use Rattle.std.specs.Prelude.{ℤ, ◌-ℤ◌, Option, Some, None, IfSome}
 use Rattle.std.specs.Option.{unwrap_or}
 use Rattle.capture_read.specs.FrameList.{IsTime}
-use Rattle.head_layers.specs.declared.times.Times.{Times}
+use Rattle.app_layers.specs.declared.times.Times.{Times}
 
 -- both times that are kept are such times
 pub record AreTimes (times : Times) : Type 0 where

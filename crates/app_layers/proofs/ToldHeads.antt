@@ -8,7 +8,7 @@ use Rattle.pk_tree.specs.declared.value.Value.TheVariants.{Uint}
 use Rattle.pk_tree.specs.Trees.{TreeShown, with_item, with_last, with_item_at, read_of, made_of}
 use Rattle.tcp_streams.specs.declared.segment.Taken.{Taken}
 use Rattle.tcp_streams.specs.Gaps.{lost_bytes}
-use Rattle.head_layers.specs.Payloads.{with_number, with_ack, with_lost, carried_told, place_told, segment_told}
+use Rattle.app_layers.specs.Payloads.{with_number, with_ack, with_lost, carried_told, place_told, segment_told}
 
 pub if_wanted : (test : Bool) (t u v : TreeShown) → u.wanted ≡ t.wanted → v.wanted ≡ t.wanted → (if test then u else v).wanted ≡ t.wanted
 if_wanted true t u v one other = one

@@ -9,10 +9,10 @@ use Rattle.ip_join.specs.declared.joined.Datagram.{Datagram}
 use Rattle.tcp_streams.specs.declared.segment.Taken.{Taken}
 use Rattle.tcp_streams.specs.Gaps.{lost_bytes}
 use Rattle.capture_read.specs.declared.frame.Frame.{Frame}
-use Rattle.head_layers.specs.declared.times.Times.{Times}
-use Rattle.head_layers.specs.Fragments.{number_told, frame_field, length_field, frames_told, joined_told}
-use Rattle.head_layers.specs.FrameLayer.{kept_frame, frame_tree}
-use Rattle.head_layers.specs.Payloads.{with_number, with_ack, with_payload, with_lost, place_told, segment_told}
+use Rattle.app_layers.specs.declared.times.Times.{Times}
+use Rattle.app_layers.specs.Fragments.{number_told, frame_field, length_field, frames_told, joined_told}
+use Rattle.app_layers.specs.FrameLayer.{kept_frame, frame_tree}
+use Rattle.app_layers.specs.Payloads.{with_number, with_ack, with_payload, with_lost, place_told, segment_told}
 
 -- it is enough to look at the very tree of those that are kept, whose buffers are the whole tree's
 pub tree_as : (wanted : List ℕ) (X : TreeShown → TreeShown) (t u : TreeShown) → IsKeptTree wanted t u → (IsKeptTree wanted t (kept_tree wanted t) → IsKeptTree wanted (X t) (X (kept_tree wanted t))) → IsKeptTree wanted (X t) (X u)

@@ -1,8 +1,8 @@
 ghost use Rattle.std.specs.Prelude.{◌≡◌, ℕ, ◌+◌, ◌<◌, ◌≤◌, ◌^◌, [], ◌∷◌, ◌++◌, length, IfOk, OnOk};
 ghost use Rattle.pk_tree.specs.Trees.{last_proto};
 ghost use Rattle.dis_ip.specs.Fragments.{part_proto};
-ghost use Rattle.head_layers.specs.Fragments.{error_number, frame_field, length_field, number_told, conflict_told, frames_told, joined_told};
-ghost use Rattle.head_layers.specs.Payloads.{LastIs};
+ghost use Rattle.app_layers.specs.Fragments.{error_number, frame_field, length_field, number_told, conflict_told, frames_told, joined_told};
+ghost use Rattle.app_layers.specs.Payloads.{LastIs};
 
 use ip_join::ConflictKind;
 use pk_base::{NoMemory, Numbers, Octets, Span};

@@ -1,7 +1,7 @@
 use Rattle.std.proofs.Common.{◌≡◌, length, drop}
 use Rattle.pk_tree.specs.Trees.{last_proto}
-use Rattle.head_layers.specs.Fragments.{frames_told}
-use Rattle.head_layers.proofs.fragments.tell_frames.Given as goal
+use Rattle.app_layers.specs.Fragments.{frames_told}
+use Rattle.app_layers.proofs.fragments.tell_frames.Given as goal
 
 -- what is left of the frames leads where all of them do
 abbrev pub invariant-loop-frame : goal.invariant-loop-frame

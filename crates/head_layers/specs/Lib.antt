@@ -1,5 +1,0 @@
-pub mod Fragments
-pub mod FrameLayer
-pub mod Heads
-pub mod Payloads
-pub mod Times
