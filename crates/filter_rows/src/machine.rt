@@ -10,7 +10,7 @@ use flt_code::compile;
 use flt_read::read_filter;
 use flt_syntax::Choice;
 use flt_typed::Filter;
-use flt_values::{Constant, Relation};
+use flt_typed::{Constant, Relation};
 use flt_vm::{Instr, Machine, Program};
 use pk_fields::by_name;
 use pk_tree::{Layers, Tree, Value};

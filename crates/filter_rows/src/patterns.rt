@@ -4,7 +4,7 @@
 //! pattern, ` -> `, and its fault. Bytes that are no text stand behind `bytes:`. `long pattern`: the same with the pattern written as parts.
 
 use crate::written::text_of;
-use flt_pattern::{Pattern, PatternFault, Search};
+use flt_typed::{Pattern, PatternFault, Search};
 use std::alloc::Global;
 
 fn bytes_of(alloc: Global, text: &str) -> Option<Vec<u8>> {

@@ -12,13 +12,13 @@ use Rattle.flt_code.proofs.LoadLemmas.{adds_on, loads_on, owned_on, some_same}
 use Rattle.flt_code.proofs.SpineLemmas.{part_size}
 use Rattle.flt_code.proofs.OwnerLemmas.{get_last}
 use Rattle.flt_mean.specs.Chains.{parts}
-use Rattle.flt_pattern.specs.declared.pattern.Pattern.{Pattern}
+use Rattle.flt_typed.specs.declared.pattern.Pattern.{Pattern}
 use Rattle.flt_syntax.specs.declared.ast.Choice.{Choice}
 use Rattle.flt_typed.specs.declared.typed.Member.{Member}
 use Rattle.flt_typed.specs.declared.typed.Term.{Term}
 use Rattle.flt_typed.specs.declared.typed.Typed.{Typed}
 use Rattle.flt_typed.specs.declared.typed.Typed.TheVariants.{Either', Differ', Both', Not', Exists, AnyBit, Compare, Among, Matches}
-use Rattle.flt_values.specs.declared.arithmetic.Extreme.TheVariants.{Least}
+use Rattle.flt_typed.specs.declared.arithmetic.Extreme.TheVariants.{Least}
 use Rattle.flt_vm.specs.Programs.{patterns_of}
 use Rattle.flt_vm.specs.declared.instr.Instr.{Instr}
 use Rattle.flt_vm.specs.declared.instr.Instr.TheVariants as instr

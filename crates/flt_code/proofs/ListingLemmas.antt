@@ -6,7 +6,7 @@ use Rattle.std.specs.List.{flat_map, slice_get}
 use Rattle.std.proofs.lemmas.List.{at_drop_more}
 use Rattle.std.proofs.lemmas.List.Concat.{flat_map-cons}
 use Rattle.flt_code.specs.Listing.{IsNear, pattern_at}
-use Rattle.flt_pattern.specs.declared.pattern.Pattern.{Pattern}
+use Rattle.flt_typed.specs.declared.pattern.Pattern.{Pattern}
 use Rattle.flt_vm.specs.Programs.{Code, Fits, IsProgram}
 use Rattle.flt_vm.specs.Sources.{sources_of}
 use Rattle.flt_vm.specs.declared.instr.Instr.{Instr}

@@ -20,11 +20,11 @@ use Rattle.flt_typed.specs.declared.typed.Term.{Term}
 use Rattle.flt_typed.specs.declared.typed.Term.TheVariants as terms
 use Rattle.flt_typed.specs.declared.typed.Typed.{Typed}
 use Rattle.flt_typed.specs.declared.typed.Typed.TheVariants.{Either', Differ', Both', Not', Exists, AnyBit, Compare, Among, Matches}
-use Rattle.flt_values.specs.Arithmetic.{extreme_of}
-use Rattle.flt_values.specs.Calls.{is_nonzero, masked}
-use Rattle.flt_values.specs.Slices.{sliced}
-use Rattle.flt_values.specs.declared.arithmetic.Extreme.{Extreme}
-use Rattle.flt_values.specs.declared.arithmetic.Extreme.TheVariants.{Least, Greatest}
+use Rattle.flt_typed.specs.Arithmetic.{extreme_of}
+use Rattle.flt_typed.specs.Calls.{is_nonzero, masked}
+use Rattle.flt_typed.specs.Slices.{sliced}
+use Rattle.flt_typed.specs.declared.arithmetic.Extreme.{Extreme}
+use Rattle.flt_typed.specs.declared.arithmetic.Extreme.TheVariants.{Least, Greatest}
 use Rattle.flt_vm.proofs.ExtremeLists.{extreme_front, extreme_twice}
 use Rattle.flt_vm.specs.Held.{Held, can_be_among, can_call, can_compare, can_compute, can_mask, can_search, can_slice, plain, truth_held}
 use Rattle.flt_vm.specs.Machine.{Job, Move, Goes, Ends, Missing, State, LeadsOn, Runs, act, differs, jumps, only_if, sets, fills, start, step, tells as told}
@@ -35,8 +35,8 @@ use Rattle.pk_tree.specs.Trees.{TreeShown}
 use Rattle.flt_syntax.specs.declared.ast.Arithmetic.{Arithmetic}
 use Rattle.flt_syntax.specs.declared.ast.RangePart.{RangePart}
 use Rattle.flt_typed.specs.declared.typed.Member.{Member}
-use Rattle.flt_values.specs.declared.literal.Constant.{Constant}
-use Rattle.flt_values.specs.declared.relation.Relation.{Relation}
+use Rattle.flt_typed.specs.declared.literal.Constant.{Constant}
+use Rattle.flt_typed.specs.declared.relation.Relation.{Relation}
 use Rattle.pk_tree.specs.declared.chosen.Layers.{Layers}
 use Rattle.pk_tree.specs.declared.value.Value.TheVariants.{Uint}
 

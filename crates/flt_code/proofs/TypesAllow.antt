@@ -17,7 +17,7 @@ use Rattle.flt_syntax.specs.declared.ast.Literal.{Literal}
 use Rattle.flt_syntax.specs.declared.ast.Function.{Function}
 use Rattle.flt_syntax.specs.declared.ast.Function.TheVariants.{Len, Count, Upper, Lower, Min, Max}
 use Rattle.flt_syntax.specs.declared.token.Join.TheVariants as joins
-use Rattle.flt_typed.specs.Literals.{literal_read}
+use Rattle.flt_typed.specs.Constants.{literal_read}
 use Rattle.flt_typed.specs.Standing.{argument, in_slice, within}
 use Rattle.flt_typed.specs.Terms.{IsTerm, are_numbers, kind_of, takes_term}
 use Rattle.flt_typed.specs.Typing.{AreMembers, HasType, IsAlone, IsMember, IsRight, IsTest}
@@ -29,15 +29,15 @@ use Rattle.flt_typed.specs.declared.typed.Term.{Term}
 use Rattle.flt_typed.specs.declared.typed.Term.TheVariants as terms
 use Rattle.flt_typed.specs.declared.typed.Typed.{Typed}
 use Rattle.flt_typed.specs.declared.typed.Typed.TheVariants.{Either', Differ', Both', Not', Exists, AnyBit, Compare, Among, Matches}
-use Rattle.flt_values.specs.Kinds.{admits_prefix, class_eq, class_of, is_masked, is_measured, is_number, is_searched, is_sliced, is_truth, kind_of_right, kind_of_value, same_class, takes, takes_call}
-use Rattle.flt_values.specs.declared.arithmetic.Extreme.{Extreme}
-use Rattle.flt_values.specs.declared.arithmetic.Extreme.TheVariants.{Least, Greatest}
-use Rattle.flt_values.specs.declared.kinds.Class.{Class}
-use Rattle.flt_values.specs.declared.kinds.Class.TheVariants as classes
-use Rattle.flt_values.specs.declared.literal.Constant.{Constant}
-use Rattle.flt_values.specs.declared.literal.Reading.TheVariants as readings
-use Rattle.flt_values.specs.declared.relation.Relation.{Relation}
-use Rattle.flt_values.specs.declared.relation.Relation.TheVariants as relations
+use Rattle.flt_typed.specs.Kinds.{admits_prefix, class_eq, class_of, is_masked, is_measured, is_number, is_searched, is_sliced, is_truth, kind_of_right, kind_of_value, same_class, takes, takes_call}
+use Rattle.flt_typed.specs.declared.arithmetic.Extreme.{Extreme}
+use Rattle.flt_typed.specs.declared.arithmetic.Extreme.TheVariants.{Least, Greatest}
+use Rattle.flt_typed.specs.declared.kinds.Class.{Class}
+use Rattle.flt_typed.specs.declared.kinds.Class.TheVariants as classes
+use Rattle.flt_typed.specs.declared.literal.Constant.{Constant}
+use Rattle.flt_typed.specs.declared.literal.Reading.TheVariants as readings
+use Rattle.flt_typed.specs.declared.relation.Relation.{Relation}
+use Rattle.flt_typed.specs.declared.relation.Relation.TheVariants as relations
 use Rattle.flt_vm.specs.Held.{are_all, can_be, can_compare, can_compute, can_end, can_relate}
 use Rattle.pk_fields.specs.declared.value_kind.ValueKind.{ValueKind}
 use Rattle.pk_fields.specs.declared.value_kind.ValueKind.TheVariants as kinds

@@ -11,13 +11,13 @@ use Rattle.flt_syntax.specs.declared.ast.Function.TheVariants.{Len, Count, Upper
 use Rattle.flt_typed.specs.Terms.{kind_of}
 use Rattle.flt_typed.specs.declared.typed.Term.{Term}
 use Rattle.flt_typed.specs.declared.typed.Term.TheVariants as terms
-use Rattle.flt_values.specs.Arithmetic.{calculated, extreme_number, extreme_of, result_of}
-use Rattle.flt_values.specs.Calls.{called, lowered, masked, uppered}
-use Rattle.flt_values.specs.Kinds.{is_masked, is_number, kind_of_value}
-use Rattle.flt_values.specs.Relations.{octets_of}
-use Rattle.flt_values.specs.Slices.{sliced, bytes_of_value, taken_by}
-use Rattle.flt_values.specs.declared.arithmetic.Extreme.{Extreme}
-use Rattle.flt_values.specs.declared.arithmetic.Extreme.TheVariants.{Least, Greatest}
+use Rattle.flt_typed.specs.Arithmetic.{calculated, extreme_number, extreme_of, result_of}
+use Rattle.flt_typed.specs.Calls.{called, lowered, masked, uppered}
+use Rattle.flt_typed.specs.Kinds.{is_masked, is_number, kind_of_value}
+use Rattle.flt_typed.specs.Relations.{octets_of}
+use Rattle.flt_typed.specs.Slices.{sliced, bytes_of_value, taken_by}
+use Rattle.flt_typed.specs.declared.arithmetic.Extreme.{Extreme}
+use Rattle.flt_typed.specs.declared.arithmetic.Extreme.TheVariants.{Least, Greatest}
 use Rattle.flt_vm.specs.Held.{are_all, can_compute, plain}
 use Rattle.pk_fields.specs.Fields.{row_of}
 use Rattle.pk_fields.specs.declared.value_kind.ValueKind.{ValueKind}

@@ -8,10 +8,10 @@ use Rattle.flt_syntax.specs.declared.ast.Choice.TheVariants as choices
 use Rattle.flt_syntax.specs.declared.ast.Function.{Function}
 use Rattle.flt_syntax.specs.declared.ast.Function.TheVariants as functions
 use Rattle.flt_typed.specs.declared.typed.Typed.{Typed}
-use Rattle.flt_values.specs.declared.arithmetic.Extreme.{Extreme}
-use Rattle.flt_values.specs.declared.arithmetic.Extreme.TheVariants.{Least, Greatest}
-use Rattle.flt_values.specs.declared.relation.Relation.{Relation}
-use Rattle.flt_values.specs.declared.relation.Relation.TheVariants as relations
+use Rattle.flt_typed.specs.declared.arithmetic.Extreme.{Extreme}
+use Rattle.flt_typed.specs.declared.arithmetic.Extreme.TheVariants.{Least, Greatest}
+use Rattle.flt_typed.specs.declared.relation.Relation.{Relation}
+use Rattle.flt_typed.specs.declared.relation.Relation.TheVariants as relations
 use Rattle.flt_vm.specs.Programs.{Code, patterns_of}
 use Rattle.flt_vm.specs.declared.instr.Instr.{Instr}
 use Rattle.flt_vm.specs.declared.instr.Instr.TheVariants as instr

@@ -6,8 +6,8 @@ use Rattle.flt_mean.specs.Meaning.{meaning}
 use Rattle.flt_mean.specs.Values.{prefix_of_term, values_of_term}
 use Rattle.flt_typed.specs.declared.typed.Term.{Term}
 use Rattle.flt_typed.specs.declared.typed.Typed.{Typed}
-use Rattle.flt_values.specs.Arithmetic.{extreme_of}
-use Rattle.flt_values.specs.declared.arithmetic.Extreme.{Extreme}
+use Rattle.flt_typed.specs.Arithmetic.{extreme_of}
+use Rattle.flt_typed.specs.declared.arithmetic.Extreme.{Extreme}
 use Rattle.flt_vm.specs.Held.{Held, plain, truth_held}
 use Rattle.pk_tree.specs.Trees.{TreeShown}
 

@@ -6,7 +6,7 @@ ghost use Rattle.flt_code.specs.Literals.{bytes_shown, constant_shown, field_sho
 
 use flt_syntax::{Place, RangePart};
 use flt_typed::Member;
-use flt_values::Constant;
+use flt_typed::Constant;
 use pk_base::NoMemory;
 use pk_fields::{FieldId, name};
 use pk_text::{TextSink, ip6_text, put_escaped, put_ether, put_hex, put_ip4, put_number, put_time};

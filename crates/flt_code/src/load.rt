@@ -7,7 +7,7 @@ ghost use Rattle.flt_mean.specs.Terms.{is_part};
 ghost use Rattle.flt_syntax.specs.declared.ast.Function.TheVariants.{Count};
 ghost use Rattle.flt_typed.specs.declared.typed.Term.{Term as TermValue};
 ghost use Rattle.flt_typed.specs.declared.typed.Term.TheVariants.{Field};
-ghost use Rattle.flt_values.specs.declared.arithmetic.Extreme.TheVariants.{Least};
+ghost use Rattle.flt_typed.specs.declared.arithmetic.Extreme.TheVariants.{Least};
 ghost use Rattle.flt_vm.specs.declared.instr.Instr.TheVariants as instr;
 
 use crate::emits::emit;
@@ -15,7 +15,7 @@ use crate::owners::{Owner, own, register_for};
 use crate::spines::term_below;
 use flt_syntax::{Function, RangePart};
 use flt_typed::Term;
-use flt_values::{Constant, Extreme};
+use flt_typed::{Constant, Extreme};
 use flt_vm::{Instr, copied_layers, copied_ranges};
 use pk_base::NoMemory;
 use pk_fields::FieldId;

@@ -4,7 +4,7 @@ ghost use Rattle.flt_code.specs.Owners.{Grows, IsOwned, OfTerm, owner_of, owners
 ghost use Rattle.flt_typed.specs.declared.typed.Term.TheVariants.{Field};
 
 use flt_typed::{Term, Typed};
-use flt_values::Extreme;
+use flt_typed::Extreme;
 use pk_base::NoMemory;
 use pk_fields::FieldId;
 use pk_tree::Layers;

@@ -11,12 +11,12 @@ use Rattle.flt_lists.specs.Keys.{KeyShown, are_of_class, are_of_one_class, chose
 use Rattle.flt_lists.specs.Passes.{compares, passes}
 use Rattle.flt_syntax.specs.declared.ast.Choice.{Choice}
 use Rattle.flt_syntax.specs.declared.ast.Choice.TheVariants.{Any, All}
-use Rattle.flt_values.specs.Kinds.{class_eq, class_of, kind_of_value, same_class}
-use Rattle.flt_values.specs.Relations.{by_order, holds_in, number_of_truth, order_by_leading, related}
-use Rattle.flt_values.specs.declared.kinds.Class.{Class}
-use Rattle.flt_values.specs.declared.kinds.Class.TheVariants as classes
-use Rattle.flt_values.specs.declared.relation.Relation.{Relation}
-use Rattle.flt_values.specs.declared.relation.Relation.TheVariants.{Equal, Unequal, Greater, Less, AtLeast, AtMost, Contains}
+use Rattle.flt_typed.specs.Kinds.{class_eq, class_of, kind_of_value, same_class}
+use Rattle.flt_typed.specs.Relations.{by_order, holds_in, number_of_truth, order_by_leading, related}
+use Rattle.flt_typed.specs.declared.kinds.Class.{Class}
+use Rattle.flt_typed.specs.declared.kinds.Class.TheVariants as classes
+use Rattle.flt_typed.specs.declared.relation.Relation.{Relation}
+use Rattle.flt_typed.specs.declared.relation.Relation.TheVariants.{Equal, Unequal, Greater, Less, AtLeast, AtMost, Contains}
 use Rattle.pk_fields.specs.declared.value_kind.ValueKind.{ValueKind}
 use Rattle.pk_tree.specs.declared.value.Value.{Value}
 use Rattle.pk_tree.specs.declared.value.Value.TheVariants as values

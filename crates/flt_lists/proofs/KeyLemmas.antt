@@ -16,10 +16,10 @@ use Rattle.flt_lists.specs.Keys.{KeyShown, decisive, end_of, furthest, is_order,
 use Rattle.flt_lists.specs.declared.keys.Key.{Key}
 use Rattle.flt_syntax.specs.declared.ast.Choice.{Choice}
 use Rattle.flt_syntax.specs.declared.ast.Choice.TheVariants.{Any, All}
-use Rattle.flt_values.specs.Relations.{holds_in}
-use Rattle.flt_values.specs.declared.arithmetic.Extreme.{Extreme}
-use Rattle.flt_values.specs.declared.relation.Relation.{Relation}
-use Rattle.flt_values.specs.declared.relation.Relation.TheVariants.{Equal, Unequal}
+use Rattle.flt_typed.specs.Relations.{holds_in}
+use Rattle.flt_typed.specs.declared.arithmetic.Extreme.{Extreme}
+use Rattle.flt_typed.specs.declared.relation.Relation.{Relation}
+use Rattle.flt_typed.specs.declared.relation.Relation.TheVariants.{Equal, Unequal}
 use Rattle.pk_tree.specs.declared.value.Value.{Value}
 
 pub key_total : IsTotalOrder key_cmp

@@ -10,11 +10,11 @@ use Rattle.std.specs.declared.cmp.Ordering.{Ordering}
 use Rattle.std.specs.declared.cmp.Ordering.TheVariants as orders
 use Rattle.flt_syntax.specs.declared.ast.Choice.{Choice}
 use Rattle.flt_syntax.specs.declared.ast.Choice.TheVariants.{Any, All}
-use Rattle.flt_values.specs.declared.relation.Relation.{Relation}
-use Rattle.flt_values.specs.declared.relation.Relation.TheVariants.{Equal, Unequal, Greater, Less, AtLeast, AtMost, Contains}
-use Rattle.flt_values.specs.declared.arithmetic.Extreme.{Extreme}
-use Rattle.flt_values.specs.declared.arithmetic.Extreme.TheVariants.{Least, Greatest}
-use Rattle.flt_values.specs.Relations.{holds_in}
+use Rattle.flt_typed.specs.declared.relation.Relation.{Relation}
+use Rattle.flt_typed.specs.declared.relation.Relation.TheVariants.{Equal, Unequal, Greater, Less, AtLeast, AtMost, Contains}
+use Rattle.flt_typed.specs.declared.arithmetic.Extreme.{Extreme}
+use Rattle.flt_typed.specs.declared.arithmetic.Extreme.TheVariants.{Least, Greatest}
+use Rattle.flt_typed.specs.Relations.{holds_in}
 use Rattle.flt_lists.specs.Keys.{decisive, favoured, further, furthest, is_order, opposite, pairs_hold}
 
 -- truths

@@ -1,7 +1,7 @@
 -- The pairs of two lists, by how many values they have.
 use Rattle.std.proofs.Common.{◌≡◌, ◌≢◌, ◌⊎◌, inl, inr, List, [], ◌∷◌, length, get_or, refl, arith}
 use Rattle.std.specs.List.{filter_map, zip}
-use Rattle.flt_values.specs.Arithmetic.{calculated}
+use Rattle.flt_typed.specs.Arithmetic.{calculated}
 use Rattle.flt_lists.specs.Pairs.{values_calculated}
 use Rattle.flt_syntax.specs.declared.ast.Arithmetic.{Arithmetic}
 use Rattle.pk_tree.specs.declared.value.Value.{Value}

@@ -4,9 +4,9 @@ use Rattle.std.specs.List.{filter_map}
 use Rattle.std.specs.Option.{option_to_list}
 use Rattle.flt_syntax.specs.declared.ast.Function.{Function}
 use Rattle.flt_syntax.specs.declared.ast.Function.TheVariants.{Count, Min, Max}
-use Rattle.flt_values.specs.Arithmetic.{extreme_of}
-use Rattle.flt_values.specs.Calls.{called}
-use Rattle.flt_values.specs.declared.arithmetic.Extreme.TheVariants.{Least, Greatest}
+use Rattle.flt_typed.specs.Arithmetic.{extreme_of}
+use Rattle.flt_typed.specs.Calls.{called}
+use Rattle.flt_typed.specs.declared.arithmetic.Extreme.TheVariants.{Least, Greatest}
 use Rattle.pk_tree.specs.declared.value.Value.{Value}
 use Rattle.pk_tree.specs.declared.value.Value.TheVariants as values
 

@@ -7,12 +7,12 @@ use Rattle.std.specs.declared.cmp.Ordering.{Ordering}
 use Rattle.flt_lists.specs.declared.keys.Key.{Key}
 use Rattle.flt_syntax.specs.declared.ast.Choice.{Choice}
 use Rattle.flt_syntax.specs.declared.ast.Choice.TheVariants.{Any, All}
-use Rattle.flt_values.specs.Kinds.{kind_of_value, same_class}
-use Rattle.flt_values.specs.Relations.{holds_in, leading_amount, moment_of, octets_of}
-use Rattle.flt_values.specs.declared.arithmetic.Extreme.{Extreme}
-use Rattle.flt_values.specs.declared.arithmetic.Extreme.TheVariants.{Least, Greatest}
-use Rattle.flt_values.specs.declared.relation.Relation.{Relation}
-use Rattle.flt_values.specs.declared.relation.Relation.TheVariants.{Greater, Less, AtLeast, AtMost}
+use Rattle.flt_typed.specs.Kinds.{kind_of_value, same_class}
+use Rattle.flt_typed.specs.Relations.{holds_in, leading_amount, moment_of, octets_of}
+use Rattle.flt_typed.specs.declared.arithmetic.Extreme.{Extreme}
+use Rattle.flt_typed.specs.declared.arithmetic.Extreme.TheVariants.{Least, Greatest}
+use Rattle.flt_typed.specs.declared.relation.Relation.{Relation}
+use Rattle.flt_typed.specs.declared.relation.Relation.TheVariants.{Greater, Less, AtLeast, AtMost}
 use Rattle.pk_fields.specs.declared.value_kind.ValueKind.{ValueKind}
 use Rattle.pk_tree.specs.declared.value.Value.{Value}
 

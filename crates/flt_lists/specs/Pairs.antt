@@ -1,7 +1,7 @@
 -- Sums, differences and products of two lists of numbers.
 use Rattle.std.specs.Prelude.{List, [], ◌∷◌}
 use Rattle.std.specs.List.{filter_map, zip}
-use Rattle.flt_values.specs.Arithmetic.{calculated}
+use Rattle.flt_typed.specs.Arithmetic.{calculated}
 use Rattle.flt_syntax.specs.declared.ast.Arithmetic.{Arithmetic}
 use Rattle.pk_tree.specs.declared.value.Value.{Value}
 

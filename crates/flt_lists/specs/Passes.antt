@@ -3,8 +3,8 @@ use Rattle.std.specs.Prelude.{ℕ, ◌&&◌, Bool as Truth, true, false, List, [
 use Rattle.std.specs.List.{list_any, list_all}
 use Rattle.flt_syntax.specs.declared.ast.Choice.{Choice}
 use Rattle.flt_syntax.specs.declared.ast.Choice.TheVariants.{Any, All}
-use Rattle.flt_values.specs.Relations.{related}
-use Rattle.flt_values.specs.declared.relation.Relation.{Relation}
+use Rattle.flt_typed.specs.Relations.{related}
+use Rattle.flt_typed.specs.declared.relation.Relation.{Relation}
 use Rattle.pk_tree.specs.declared.value.Value.{Value}
 
 abbrev pub is_some_value : List Value → Truth

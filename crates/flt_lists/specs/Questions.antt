@@ -4,12 +4,12 @@ use Rattle.std.specs.List.{list_any}
 use Rattle.std.specs.Option.{option_map_or}
 use Rattle.flt_lists.specs.declared.question.Question.{Question}
 use Rattle.flt_lists.specs.declared.question.Question.TheVariants.{IsRelated, IsAmong, IsNonzero, IsThere}
-use Rattle.flt_pattern.specs.Patterns.{matches}
+use Rattle.flt_typed.specs.Patterns.{matches}
 use Rattle.flt_typed.specs.declared.typed.Member.{Member}
 use Rattle.flt_typed.specs.declared.typed.Member.TheVariants as members
-use Rattle.flt_values.specs.Calls.{is_nonzero}
-use Rattle.flt_values.specs.Relations.{octets_of, related, lies_between}
-use Rattle.flt_values.specs.declared.relation.Relation.TheVariants.{Equal}
+use Rattle.flt_typed.specs.Calls.{is_nonzero}
+use Rattle.flt_typed.specs.Relations.{octets_of, related, lies_between}
+use Rattle.flt_typed.specs.declared.relation.Relation.TheVariants.{Equal}
 use Rattle.pk_tree.specs.declared.value.Value.{Value}
 
 -- whether a value equals an element of a set, or lies in a range

@@ -4,7 +4,7 @@ ghost use Rattle.flt_lists.specs.Keys.{decisive, end_of, favoured, further as fu
 
 use crate::keys::{Key, key_of};
 use flt_syntax::Choice;
-use flt_values::{Extreme, Relation, holds_in};
+use flt_typed::{Extreme, Relation, holds_in};
 use pk_tree::Value;
 
 /// Whether any or all pairs of keys stand in an order.

@@ -3,12 +3,12 @@ ghost use Rattle.std.specs.Prelude.{◌≡◌, [], ◌∷◌, ◌++◌, IfOk, On
 ghost use Rattle.std.specs.List.{filter_map};
 ghost use Rattle.std.specs.Option.{option_to_list};
 ghost use Rattle.flt_lists.specs.Called.{values_called};
-ghost use Rattle.flt_values.specs.Arithmetic.{extreme_of as extreme_among};
-ghost use Rattle.flt_values.specs.Calls.{called, masked};
-ghost use Rattle.flt_values.specs.Slices.{sliced};
+ghost use Rattle.flt_typed.specs.Arithmetic.{extreme_of as extreme_among};
+ghost use Rattle.flt_typed.specs.Calls.{called, masked};
+ghost use Rattle.flt_typed.specs.Slices.{sliced};
 
 use flt_syntax::{Function, RangePart};
-use flt_values::{Extreme, call, extreme_of, masked, slice};
+use flt_typed::{Extreme, call, extreme_of, masked, slice};
 use pk_base::NoMemory;
 use pk_tree::Value;
 use std::alloc::Global;

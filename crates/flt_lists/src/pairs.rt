@@ -2,11 +2,11 @@
 ghost use Rattle.std.specs.Prelude.{◌≡◌, IfOk};
 ghost use Rattle.std.specs.List.{filter_map, zip};
 ghost use Rattle.flt_lists.specs.Pairs.{values_calculated};
-ghost use Rattle.flt_values.specs.Arithmetic.{calculated};
+ghost use Rattle.flt_typed.specs.Arithmetic.{calculated};
 
 use crate::lists::add;
 use flt_syntax::Arithmetic;
-use flt_values::calculate;
+use flt_typed::calculate;
 use pk_base::NoMemory;
 use pk_tree::Value;
 use std::alloc::Global;

@@ -5,7 +5,7 @@ ghost use Rattle.std.specs.List.Sorted.{IsSorted};
 ghost use Rattle.std.specs.Ordering.{is_eq};
 ghost use Rattle.flt_lists.specs.Keys.{key_cmp, key_of as key_value, key_shown, keys_of, order_of_keys, pairs_hold};
 ghost use Rattle.flt_syntax.specs.declared.ast.Choice.TheVariants.{Any, All};
-ghost use Rattle.flt_values.specs.declared.relation.Relation.TheVariants.{Equal};
+ghost use Rattle.flt_typed.specs.declared.relation.Relation.TheVariants.{Equal};
 
 use crate::keys::{Key, is_kept, key_of, sorted_keys};
 use pk_base::NoMemory;

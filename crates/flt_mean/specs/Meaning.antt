@@ -6,7 +6,7 @@ use Rattle.flt_lists.specs.Questions.{is_among, is_matched}
 use Rattle.flt_mean.specs.Values.{values_of_term, prefix_of_term}
 use Rattle.flt_typed.specs.declared.typed.Typed.{Typed}
 use Rattle.flt_typed.specs.declared.typed.Typed.TheVariants.{Either', Differ', Both', Not', Exists, AnyBit, Compare, Among, Matches}
-use Rattle.flt_values.specs.Calls.{is_nonzero}
+use Rattle.flt_typed.specs.Calls.{is_nonzero}
 use Rattle.pk_tree.specs.Trees.{TreeShown}
 
 abbrev pub opposite : Truth → Truth → Truth

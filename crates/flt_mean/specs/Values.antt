@@ -5,8 +5,8 @@ use Rattle.flt_lists.specs.Called.{values_called}
 use Rattle.flt_lists.specs.Pairs.{values_calculated}
 use Rattle.flt_typed.specs.declared.typed.Term.{Term}
 use Rattle.flt_typed.specs.declared.typed.Term.TheVariants as terms
-use Rattle.flt_values.specs.Calls.{masked}
-use Rattle.flt_values.specs.Slices.{sliced}
+use Rattle.flt_typed.specs.Calls.{masked}
+use Rattle.flt_typed.specs.Slices.{sliced}
 use Rattle.pk_tree.specs.FieldValues.{values_of}
 use Rattle.pk_tree.specs.Trees.{TreeShown}
 use Rattle.pk_tree.specs.declared.value.Value.{Value}

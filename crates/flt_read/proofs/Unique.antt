@@ -5,8 +5,8 @@ use Rattle.flt_syntax.specs.declared.fault.FilterFault.{FilterFault}
 use Rattle.flt_syntax.specs.declared.fault.FilterReason.{FilterReason}
 use Rattle.flt_syntax.specs.declared.fault.FilterReason.TheVariants.{BadPattern, PatternSize}
 use Rattle.flt_parse.proofs.Faults.{never_both, one_fault, one_filter}
-use Rattle.flt_pattern.specs.Patterns.{IsPattern}
-use Rattle.flt_pattern.proofs.Never.{never_pattern}
+use Rattle.flt_typed.specs.Patterns.{IsPattern}
+use Rattle.flt_typed.proofs.Never.{never_pattern}
 use Rattle.flt_types.specs.Faults.{Found, At, PatternAt, IsClear, IsFirst, IsPatternFault, faults}
 use Rattle.flt_read.specs.Laws.{OneFault, TypedOrFault}
 use Rattle.flt_types.proofs.Clear.{type_clear}

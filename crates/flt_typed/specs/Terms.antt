@@ -12,10 +12,10 @@ use Rattle.flt_typed.specs.declared.standing.Standing.{Standing}
 use Rattle.flt_typed.specs.declared.standing.Standing.TheVariants.{Free}
 use Rattle.flt_typed.specs.declared.typed.Term.{Term}
 use Rattle.flt_typed.specs.declared.typed.Term.TheVariants as terms
-use Rattle.flt_values.specs.Kinds.{is_masked, is_number, is_sliced, kind_of_call, kind_of_value, takes_call}
-use Rattle.flt_values.specs.Literals.{word_read}
-use Rattle.flt_values.specs.declared.literal.Constant.{Constant}
-use Rattle.flt_values.specs.declared.literal.Reading.TheVariants.{Reads}
+use Rattle.flt_typed.specs.Kinds.{is_masked, is_number, is_sliced, kind_of_call, kind_of_value, takes_call}
+use Rattle.flt_typed.specs.Literals.{word_read}
+use Rattle.flt_typed.specs.declared.literal.Constant.{Constant}
+use Rattle.flt_typed.specs.declared.literal.Reading.TheVariants.{Reads}
 use Rattle.pk_fields.specs.Fields.{field_named, row_of}
 use Rattle.pk_fields.specs.declared.value_kind.ValueKind.{ValueKind}
 use Rattle.pk_fields.specs.declared.value_kind.ValueKind.TheVariants as kinds

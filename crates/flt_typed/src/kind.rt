@@ -3,7 +3,7 @@ ghost use Rattle.std.specs.Prelude.{◌≡◌};
 ghost use Rattle.flt_typed.specs.Terms.{kind_of as kind_of_term};
 
 use crate::typed::Term;
-use flt_values::{kind_of_call, kind_of_value};
+use crate::{kind_of_call, kind_of_value};
 use pk_fields::{ValueKind, kind};
 
 /// What arithmetic gives, and the kind by which its numbers are read.

@@ -1,8 +1,8 @@
 // Filters with their types: each name as its field, each literal as a value, each pattern compiled.
 
-use flt_pattern::Pattern;
+use crate::Pattern;
 use flt_syntax::{Arithmetic, Choice, Function, RangePart};
-use flt_values::{Constant, Relation};
+use crate::{Constant, Relation};
 use pk_fields::FieldId;
 use pk_tree::Layers;
 

@@ -23,7 +23,7 @@ use Rattle.flt_syntax.specs.declared.token.Kind.TheVariants as kinds
 use Rattle.flt_syntax.specs.declared.word.Word.{Word}
 use Rattle.flt_syntax.proofs.Few.{spelled_few}
 use Rattle.flt_typed.specs.Layers.{is_layer, is_layers, layers_of, one_layer}
-use Rattle.flt_typed.specs.Literals.{end_read, literal_of, literal_read, place_of_literal, side_read}
+use Rattle.flt_typed.specs.Constants.{end_read, literal_of, literal_read, place_of_literal, side_read}
 use Rattle.flt_typed.specs.Ranges.{is_range}
 use Rattle.flt_typed.specs.Standing.{argument, in_slice, within}
 use Rattle.flt_typed.specs.Terms.{IsMask, IsTerm, kind_of, number_kind}
@@ -43,13 +43,13 @@ use Rattle.flt_types.specs.declared.position.Side.{Side}
 use Rattle.flt_types.specs.declared.position.Side.TheVariants as sides
 use Rattle.flt_types.proofs.Clear.{right_term, same_takes, term_kind}
 use Rattle.flt_types.proofs.Few.{IsFew, few_elements, few_left, few_ranges, few_rest, few_right}
-use Rattle.flt_values.specs.Kinds.{is_masked, is_number, is_searched, is_sliced, same_class, takes}
-use Rattle.flt_values.specs.Literals.{word_read}
-use Rattle.flt_values.proofs.MaskLemmas.{mask_has}
-use Rattle.flt_values.specs.declared.literal.Constant.{Constant}
-use Rattle.flt_values.specs.declared.literal.Reading.{Reading}
-use Rattle.flt_values.specs.declared.literal.Reading.TheVariants.{Reads, Beyond, Unread}
-use Rattle.flt_values.specs.declared.relation.Relation.{Relation}
+use Rattle.flt_typed.specs.Kinds.{is_masked, is_number, is_searched, is_sliced, same_class, takes}
+use Rattle.flt_typed.specs.Literals.{word_read}
+use Rattle.flt_typed.proofs.MaskLemmas.{mask_has}
+use Rattle.flt_typed.specs.declared.literal.Constant.{Constant}
+use Rattle.flt_typed.specs.declared.literal.Reading.{Reading}
+use Rattle.flt_typed.specs.declared.literal.Reading.TheVariants.{Reads, Beyond, Unread}
+use Rattle.flt_typed.specs.declared.relation.Relation.{Relation}
 use Rattle.pk_fields.specs.Fields.{field_named}
 use Rattle.pk_fields.specs.declared.value_kind.ValueKind.{ValueKind}
 use Rattle.pk_tree.specs.declared.chosen.Layers.TheVariants.{All, These}

@@ -17,7 +17,7 @@ use Rattle.flt_types.specs.Blame.{by_itself, sign_for}
 use Rattle.flt_types.specs.declared.position.Side.{Side}
 use Rattle.flt_types.proofs.Answers.{answer_left, answer_right, clear_unless}
 use Rattle.flt_types.proofs.Clear.{behind, behind_clear, term_clear}
-use Rattle.flt_values.specs.Kinds.{is_number}
+use Rattle.flt_typed.specs.Kinds.{is_number}
 
 -- arithmetic: the left side's own faults, then its sign's; the right side's own, then its sign's
 pub left_part : (side : Side) (s : Standing) (a : Arithmetic) (at : ℕ) (o r : WrittenOperand) (e : FilterError) → IsAnswer (operand_faults side s o) e

@@ -16,9 +16,9 @@ use Rattle.flt_syntax.specs.declared.fault.FilterError.TheVariants.{Fault, NoMem
 use Rattle.flt_syntax.specs.declared.fault.FilterReason.{FilterReason}
 use Rattle.flt_syntax.specs.declared.fault.FilterReason.TheVariants.{UnknownField, TypeMismatch, OutOfRange, BadPattern, PatternSize}
 use Rattle.flt_syntax.specs.declared.word.Word.{Word}
-use Rattle.flt_pattern.specs.Patterns.{IsPattern, IsNoPattern, MayBeLarge}
+use Rattle.flt_typed.specs.Patterns.{IsPattern, IsNoPattern, MayBeLarge}
 use Rattle.flt_typed.specs.Layers.{is_layer, is_layers}
-use Rattle.flt_typed.specs.Literals.{end_read, literal_of, literal_read, place_of_literal, side_read}
+use Rattle.flt_typed.specs.Constants.{end_read, literal_of, literal_read, place_of_literal, side_read}
 use Rattle.flt_typed.specs.Ranges.{is_range}
 use Rattle.flt_typed.specs.Standing.{argument, in_slice, within}
 use Rattle.flt_typed.specs.Terms.{number_kind}
@@ -28,11 +28,11 @@ use Rattle.flt_typed.specs.declared.standing.Standing.TheVariants.{First, Free, 
 use Rattle.flt_types.specs.Blame.{blamed, by_itself, sign_for, taken, taken_by}
 use Rattle.flt_types.specs.declared.position.Side.{Side}
 use Rattle.flt_types.specs.declared.position.Side.TheVariants as sides
-use Rattle.flt_values.specs.Kinds.{is_masked, is_number, is_searched, is_sliced, kind_of_call, same_class, takes, takes_call}
-use Rattle.flt_values.specs.Literals.{word_read}
-use Rattle.flt_values.specs.declared.literal.Reading.{Reading}
-use Rattle.flt_values.specs.declared.literal.Reading.TheVariants.{Reads, Beyond, Unread}
-use Rattle.flt_values.specs.declared.relation.Relation.{Relation}
+use Rattle.flt_typed.specs.Kinds.{is_masked, is_number, is_searched, is_sliced, kind_of_call, same_class, takes, takes_call}
+use Rattle.flt_typed.specs.Literals.{word_read}
+use Rattle.flt_typed.specs.declared.literal.Reading.{Reading}
+use Rattle.flt_typed.specs.declared.literal.Reading.TheVariants.{Reads, Beyond, Unread}
+use Rattle.flt_typed.specs.declared.relation.Relation.{Relation}
 use Rattle.pk_fields.specs.Fields.{field_named, row_of}
 use Rattle.pk_fields.specs.declared.value_kind.ValueKind.{ValueKind}
 use Rattle.pk_fields.specs.declared.value_kind.ValueKind.TheVariants as kinds

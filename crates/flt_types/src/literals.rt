@@ -1,13 +1,13 @@
 // Literals, where a test's right side or a set has them.
 ghost use Rattle.std.specs.Prelude.{◌≡◌, true, IfOk, IfErr};
 ghost use Rattle.flt_syntax.specs.declared.ast.Literal.TheVariants.{Bare, Text};
-ghost use Rattle.flt_typed.specs.Literals.{literal_read, side_read, end_read as read_as_end, place_of_literal};
+ghost use Rattle.flt_typed.specs.Constants.{literal_read, side_read, end_read as read_as_end, place_of_literal};
 ghost use Rattle.flt_types.specs.Faults.{IsAnswer, reading_faults};
-ghost use Rattle.flt_values.specs.declared.literal.Reading.TheVariants.{Reads};
+ghost use Rattle.flt_typed.specs.declared.literal.Reading.TheVariants.{Reads};
 
 use crate::faults::fault;
 use flt_syntax::{FilterError, FilterReason, Literal, Quote, Word};
-use flt_values::{
+use flt_typed::{
     Constant, Reading, Relation, admits_prefix, is_truth, kind_of_right, read_quote, read_word,
 };
 use pk_base::NoMemory;

@@ -11,7 +11,7 @@ ghost use Rattle.flt_typed.specs.declared.standing.Standing.TheVariants.{Free, S
 ghost use Rattle.flt_types.specs.Faults.{IsAnswer, operand_faults, call_faults, layers_faults, mask_faults, number_faults, slice_faults, given, kind_written, unless, nameless, word_faults, misplaced as misplaced_at};
 ghost use Rattle.flt_types.specs.Operands.{is_around, is_part, with_left};
 ghost use Rattle.flt_types.specs.declared.position.Side.{Side as TestSide};
-ghost use Rattle.flt_values.specs.Kinds.{is_masked as is_masked_kind, is_number as is_number_kind};
+ghost use Rattle.flt_typed.specs.Kinds.{is_masked as is_masked_kind, is_number as is_number_kind};
 ghost use Rattle.pk_fields.specs.Fields.{field_named};
 
 use crate::faults::{fault, require};
@@ -25,7 +25,7 @@ use flt_syntax::{
     Arithmetic, FilterError, FilterReason, Function, Layer, LayerRange, Operand, SliceRange, Word,
 };
 use flt_typed::{NUMBER, Standing, Term, kind_of};
-use flt_values::{is_number, read_within, read_word, takes_call};
+use flt_typed::{is_number, read_within, read_word, takes_call};
 use pk_base::NoMemory;
 use pk_fields::{FieldId, ValueKind, by_name};
 use pk_text::Wide;
@@ -317,7 +317,7 @@ fn mask(alloc: Global, inner: Term, at: u32, word: &Word) -> Result<Term, Filter
 }
 
 /// The number of a mask's word, for an operand of a kind.
-#[tactic(auto, unfolding(flt_values::specs::Literals::word_read))]
+#[tactic(auto, unfolding(flt_typed::specs::Literals::word_read))]
 fn mask_number(kind: ValueKind, at: u32, word: &Word) -> Result<u64, FilterError>
     ensures masked { OnOk result (IsTrue (is_masked_kind kind)) }
     ensures ok { IfOk result (IsMask kind word.now.text) }

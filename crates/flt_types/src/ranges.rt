@@ -3,11 +3,11 @@ ghost use Rattle.std.specs.Prelude.{◌≡◌, map, IfOk, IfErr, OnOk, IsTrue};
 ghost use Rattle.std.specs.List.{list_all};
 ghost use Rattle.flt_typed.specs.Ranges.{in_order as are_in_order, is_range as is_range_part};
 ghost use Rattle.flt_types.specs.Faults.{IsAnswer, ranges_faults, slice_faults};
-ghost use Rattle.flt_values.specs.Kinds.{is_sliced as is_sliced_kind};
+ghost use Rattle.flt_typed.specs.Kinds.{is_sliced as is_sliced_kind};
 
 use crate::faults::{fault, require};
 use flt_syntax::{FilterError, FilterReason, Place, RangePart, SliceRange};
-use flt_values::is_sliced;
+use flt_typed::is_sliced;
 use pk_base::NoMemory;
 use pk_fields::ValueKind;
 use std::alloc::Global;

@@ -1,8 +1,8 @@
 -- The least or the greatest number of two lists.
 use Rattle.std.proofs.Common.{◌≡◌, ℕ, List, [], ◌∷◌, ◌++◌, Option, Some, None, option_map, option_to_list, ap, sym, refl, ◌∙◌, arith}
-use Rattle.flt_values.specs.Arithmetic.{extreme_number, extreme_of, nearer, nearer_of, number_in}
-use Rattle.flt_values.specs.declared.arithmetic.Extreme.{Extreme}
-use Rattle.flt_values.specs.declared.arithmetic.Extreme.TheVariants.{Least, Greatest}
+use Rattle.flt_typed.specs.Arithmetic.{extreme_number, extreme_of, nearer, nearer_of, number_in}
+use Rattle.flt_typed.specs.declared.arithmetic.Extreme.{Extreme}
+use Rattle.flt_typed.specs.declared.arithmetic.Extreme.TheVariants.{Least, Greatest}
 use Rattle.pk_tree.specs.declared.value.Value.{Value}
 use Rattle.pk_tree.specs.declared.value.Value.TheVariants.{Uint}
 

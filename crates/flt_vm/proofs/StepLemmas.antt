@@ -12,11 +12,11 @@ use Rattle.flt_syntax.specs.declared.ast.Choice.{Choice}
 use Rattle.flt_syntax.specs.declared.ast.Function.{Function}
 use Rattle.flt_syntax.specs.declared.ast.RangePart.{RangePart}
 use Rattle.flt_typed.specs.declared.typed.Member.{Member}
-use Rattle.flt_values.specs.Arithmetic.{extreme_of}
-use Rattle.flt_values.specs.Calls.{is_nonzero, masked}
-use Rattle.flt_values.specs.Slices.{sliced}
-use Rattle.flt_values.specs.declared.arithmetic.Extreme.{Extreme}
-use Rattle.flt_values.specs.declared.relation.Relation.{Relation}
+use Rattle.flt_typed.specs.Arithmetic.{extreme_of}
+use Rattle.flt_typed.specs.Calls.{is_nonzero, masked}
+use Rattle.flt_typed.specs.Slices.{sliced}
+use Rattle.flt_typed.specs.declared.arithmetic.Extreme.{Extreme}
+use Rattle.flt_typed.specs.declared.relation.Relation.{Relation}
 use Rattle.flt_vm.specs.Held.{Held, can_be_among, can_call, can_compare, can_compute, can_mask, can_search, can_slice, constant_held, kept_truth, plain, truth_held}
 use Rattle.flt_vm.specs.Machine.{Job, Move, Goes, State, act, differs, kept, only_if, with_held, given, sets, fills, reads, jumps, tells}
 use Rattle.flt_vm.specs.declared.instr.Instr.{Instr}
@@ -26,7 +26,7 @@ use Rattle.flt_vm.specs.declared.slots.Flag.{Flag}
 use Rattle.flt_vm.specs.declared.slots.Flag.TheVariants.{Known}
 use Rattle.flt_vm.specs.declared.slots.Slot.{Slot}
 use Rattle.flt_vm.specs.declared.slots.Slot.TheVariants as slots
-use Rattle.flt_values.specs.declared.literal.Constant.{Constant}
+use Rattle.flt_typed.specs.declared.literal.Constant.{Constant}
 use Rattle.pk_tree.specs.FieldValues.{values_of}
 use Rattle.pk_tree.specs.Trees.{TreeShown}
 use Rattle.pk_tree.specs.declared.chosen.Layers.{Layers}

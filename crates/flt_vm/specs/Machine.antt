@@ -7,9 +7,9 @@ use Rattle.flt_lists.specs.Called.{values_called}
 use Rattle.flt_lists.specs.Pairs.{values_calculated}
 use Rattle.flt_lists.specs.Passes.{compares, is_some_value, passes}
 use Rattle.flt_lists.specs.Questions.{is_among, is_matched}
-use Rattle.flt_values.specs.Arithmetic.{extreme_of}
-use Rattle.flt_values.specs.Calls.{is_nonzero, masked}
-use Rattle.flt_values.specs.Slices.{sliced}
+use Rattle.flt_typed.specs.Arithmetic.{extreme_of}
+use Rattle.flt_typed.specs.Calls.{is_nonzero, masked}
+use Rattle.flt_typed.specs.Slices.{sliced}
 use Rattle.flt_vm.specs.Held.{Held, can_be_among, can_call, can_compare, can_compute, can_mask, can_search, can_slice, constant_held, kept_truth, plain, truth_held}
 use Rattle.flt_vm.specs.declared.instr.Instr.{Instr}
 use Rattle.flt_vm.specs.declared.instr.Instr.TheVariants as instr

@@ -7,9 +7,9 @@ ghost use Rattle.flt_vm.specs.Slots.{held_in, is_unset, truth_in};
 
 use crate::slots::{Slot, listed_in};
 use flt_lists::{Question, asks_field, compares, matched, passes};
-use flt_pattern::Search;
+use flt_typed::Search;
 use flt_syntax::Choice;
-use flt_values::{Constant, Relation};
+use flt_typed::{Constant, Relation};
 use pk_base::NoMemory;
 use pk_tree::{Tree, Value};
 use std::alloc::Global;

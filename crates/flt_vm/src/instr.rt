@@ -2,7 +2,7 @@
 
 use flt_syntax::{Arithmetic, Choice, Function, RangePart};
 use flt_typed::Member;
-use flt_values::{Constant, Extreme, Relation};
+use flt_typed::{Constant, Extreme, Relation};
 use pk_fields::FieldId;
 use pk_tree::Layers;
 use std::marker::Model;

@@ -11,7 +11,7 @@ use crate::patterns::patterns_in;
 use crate::program::Program;
 use crate::run::{Verdict, run_code};
 use crate::slots::{Slot, let_go, unset};
-use flt_pattern::{Pattern, Search};
+use flt_typed::{Pattern, Search};
 use flt_typed::{Filter, Typed};
 use pk_base::NoMemory;
 use pk_tree::Tree;

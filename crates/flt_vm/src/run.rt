@@ -10,7 +10,7 @@ use crate::instr::Instr;
 use crate::joined::test_at;
 use crate::slots::{Flag, Slot, known};
 use crate::step::{is_return, step};
-use flt_pattern::Search;
+use flt_typed::Search;
 use pk_base::NoMemory;
 use pk_tree::Tree;
 use std::alloc::Global;

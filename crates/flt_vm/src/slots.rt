@@ -6,7 +6,7 @@ ghost use Rattle.pk_tree.specs.FieldValues.{values_of};
 ghost use Rattle.pk_tree.specs.Trees.{TreeShown};
 
 use flt_lists::{is_there, only};
-use flt_values::Constant;
+use flt_typed::Constant;
 use pk_base::NoMemory;
 use pk_fields::FieldId;
 use pk_tree::{Layers, Tree, Value};

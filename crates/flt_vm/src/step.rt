@@ -4,9 +4,9 @@ ghost use Rattle.std.specs.List.{filter_map};
 ghost use Rattle.std.specs.Option.{option_to_list};
 ghost use Rattle.flt_lists.specs.Called.{values_called};
 ghost use Rattle.flt_lists.specs.Pairs.{values_calculated};
-ghost use Rattle.flt_values.specs.Arithmetic.{extreme_of as extreme_among};
-ghost use Rattle.flt_values.specs.Calls.{masked as masked_by};
-ghost use Rattle.flt_values.specs.Slices.{sliced as sliced_by};
+ghost use Rattle.flt_typed.specs.Arithmetic.{extreme_of as extreme_among};
+ghost use Rattle.flt_typed.specs.Calls.{masked as masked_by};
+ghost use Rattle.flt_typed.specs.Slices.{sliced as sliced_by};
 ghost use Rattle.flt_vm.specs.Held.{Held};
 ghost use Rattle.flt_lists.specs.Passes.{is_some_value};
 ghost use Rattle.pk_tree.specs.FieldValues.{values_of};
@@ -25,9 +25,9 @@ use flt_lists::{
     Question, calculated_values, called_values, is_some_value as some_value, masked_values, only,
     slices,
 };
-use flt_pattern::Search;
+use flt_typed::Search;
 use flt_syntax::{Arithmetic, Choice, Function, RangePart};
-use flt_values::{Extreme, extreme_of};
+use flt_typed::{Extreme, extreme_of};
 use pk_base::NoMemory;
 use pk_fields::FieldId;
 use pk_tree::{Layers, Tree, Value};

@@ -1,5 +1,5 @@
 use Rattle.std.proofs.Common.{sym, ◌∙◌}
-use Rattle.flt_values.specs.Relations.{related}
+use Rattle.flt_typed.specs.Relations.{related}
 use Rattle.flt_lists.proofs.ListLemmas.{more_failed}
 use Rattle.flt_lists.proofs.compare.any_is_related.Goals as goal
 

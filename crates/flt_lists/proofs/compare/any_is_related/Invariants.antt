@@ -1,6 +1,6 @@
 use Rattle.std.proofs.Common.{◌≡◌, drop}
 use Rattle.std.specs.List.{list_any}
-use Rattle.flt_values.specs.Relations.{related}
+use Rattle.flt_typed.specs.Relations.{related}
 use Rattle.flt_lists.proofs.compare.any_is_related.Given as goal
 
 abbrev pub invariant-loop-value : goal.invariant-loop-value

@@ -1,6 +1,6 @@
 use Rattle.std.proofs.Common.{sym, ◌∙◌}
 use Rattle.std.specs.List.{list_any}
-use Rattle.flt_values.specs.Relations.{related}
+use Rattle.flt_typed.specs.Relations.{related}
 use Rattle.flt_lists.proofs.ListLemmas.{more_failed}
 use Rattle.flt_lists.proofs.compare.any_relates.Goals as goal
 

@@ -1,5 +1,5 @@
 use Rattle.std.proofs.Common.{ap, sym, ◌∙◌}
-use Rattle.flt_values.specs.Kinds.{kind_of_value, same_class}
+use Rattle.flt_typed.specs.Kinds.{kind_of_value, same_class}
 use Rattle.flt_lists.proofs.ListLemmas.{more_passed}
 use Rattle.flt_lists.proofs.compare.are_of_class.Goals as goal
 

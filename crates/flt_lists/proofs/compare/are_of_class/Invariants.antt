@@ -1,6 +1,6 @@
 use Rattle.std.proofs.Common.{◌≡◌, drop}
 use Rattle.std.specs.List.{list_all}
-use Rattle.flt_values.specs.Kinds.{kind_of_value, same_class}
+use Rattle.flt_typed.specs.Kinds.{kind_of_value, same_class}
 use Rattle.flt_lists.proofs.compare.are_of_class.Given as goal
 
 abbrev pub invariant-loop-value : goal.invariant-loop-value

@@ -1,6 +1,6 @@
 use Rattle.std.proofs.Common.{◌++◌, option_to_list, ap, ◌∙◌}
 use Rattle.flt_lists.proofs.ListLemmas.{more_filtered}
-use Rattle.flt_values.specs.Calls.{called}
+use Rattle.flt_typed.specs.Calls.{called}
 use Rattle.flt_lists.proofs.lists.each_called.Goals as goal
 
 pub loop-value-preserved : goal.loop-value-preserved

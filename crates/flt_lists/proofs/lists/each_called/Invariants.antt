@@ -1,6 +1,6 @@
 use Rattle.std.proofs.Common.{◌≡◌, ◌++◌, drop}
 use Rattle.std.specs.List.{filter_map}
-use Rattle.flt_values.specs.Calls.{called}
+use Rattle.flt_typed.specs.Calls.{called}
 use Rattle.flt_lists.proofs.lists.each_called.Given as goal
 
 abbrev pub invariant-loop-value : goal.invariant-loop-value

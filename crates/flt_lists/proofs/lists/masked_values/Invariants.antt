@@ -1,6 +1,6 @@
 use Rattle.std.proofs.Common.{◌≡◌, ◌++◌, drop}
 use Rattle.std.specs.List.{filter_map}
-use Rattle.flt_values.specs.Calls.{masked}
+use Rattle.flt_typed.specs.Calls.{masked}
 use Rattle.flt_lists.proofs.lists.masked_values.Given as goal
 
 abbrev pub invariant-loop-value : goal.invariant-loop-value

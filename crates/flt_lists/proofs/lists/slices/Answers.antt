@@ -1,6 +1,6 @@
 use Rattle.std.proofs.Common.{◌++◌, option_to_list, ap, ◌∙◌}
 use Rattle.flt_lists.proofs.ListLemmas.{more_filtered}
-use Rattle.flt_values.specs.Slices.{sliced}
+use Rattle.flt_typed.specs.Slices.{sliced}
 use Rattle.flt_lists.proofs.lists.slices.Goals as goal
 
 pub loop-value-preserved : goal.loop-value-preserved

@@ -1,6 +1,6 @@
 use Rattle.std.proofs.Common.{◌≡◌, ◌++◌, drop}
 use Rattle.std.specs.List.{filter_map}
-use Rattle.flt_values.specs.Slices.{sliced}
+use Rattle.flt_typed.specs.Slices.{sliced}
 use Rattle.flt_lists.proofs.lists.slices.Given as goal
 
 abbrev pub invariant-loop-value : goal.invariant-loop-value

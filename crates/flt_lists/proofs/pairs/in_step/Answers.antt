@@ -4,7 +4,7 @@ use Rattle.std.specs.Iterator.Adapters.{zip_first, zip_second}
 use Rattle.std.specs.List.{filter_map}
 use Rattle.std.specs.Slice.Iter.{iter_rest}
 use Rattle.flt_lists.proofs.PairLemmas.{zip_ends}
-use Rattle.flt_values.specs.Arithmetic.{calculated}
+use Rattle.flt_typed.specs.Arithmetic.{calculated}
 use Rattle.flt_lists.proofs.pairs.in_step.Goals as goal
 
 pub returns : goal.returns

@@ -2,7 +2,7 @@ use Rattle.std.proofs.Common.{◌≡◌, ◌++◌}
 use Rattle.std.specs.Slice.Iter.{iter_rest}
 use Rattle.std.specs.Iterator.Adapters.{zip_first, zip_second}
 use Rattle.std.specs.List.{filter_map, zip}
-use Rattle.flt_values.specs.Arithmetic.{calculated}
+use Rattle.flt_typed.specs.Arithmetic.{calculated}
 use Rattle.flt_lists.proofs.pairs.in_step.Given as goal
 
 abbrev pub invariant-loop-first : goal.invariant-loop-first

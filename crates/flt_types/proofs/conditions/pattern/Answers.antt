@@ -1,5 +1,5 @@
 use Rattle.std.proofs.Common.{subst}
-use Rattle.flt_pattern.specs.Patterns.{HasCause}
+use Rattle.flt_typed.specs.Patterns.{HasCause}
 use Rattle.flt_types.proofs.conditions.pattern.Goals as goal
 
 pub returns-in-Err-clause-err : goal.returns-in-Err-clause-err

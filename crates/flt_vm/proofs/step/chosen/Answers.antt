@@ -1,6 +1,6 @@
 use Rattle.std.proofs.Common.{ap, option_to_list, ◌∙◌}
 use Rattle.std.proofs.lemmas.Result.{IfOk-weaker}
-use Rattle.flt_values.specs.Arithmetic.{extreme_of}
+use Rattle.flt_typed.specs.Arithmetic.{extreme_of}
 use Rattle.flt_vm.proofs.ExtremeLists.{extreme_both}
 use Rattle.flt_vm.proofs.step.chosen.Goals as goal
 

@@ -1,4 +1,0 @@
-pub mod Compiled
-pub mod Decided
-pub mod Never
-pub mod Refused

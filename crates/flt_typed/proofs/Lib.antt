@@ -1,0 +1,9 @@
+pub mod Compiled
+pub mod ContainsLemmas
+pub mod Decided
+pub mod ExtremeLemmas
+pub mod LiteralLemmas
+pub mod MaskLemmas
+pub mod Never
+pub mod Refused
+pub mod SliceLemmas

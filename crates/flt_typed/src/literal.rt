@@ -1,0 +1,241 @@
+// What the literals of filters write.
+ghost use Rattle.std.specs.Prelude.{◌≡◌, ◌^◌, nat_lt, IfOk};
+ghost use Rattle.pk_text.specs.Number.{number_of};
+ghost use Rattle.flt_typed.specs.Literals.{true_words, false_words, is_one_of, number_read, number_within, truth_of, prefix_of, leading_read, value_read, bits_of, address_of, address_read, ether_value, word_read, quote_read};
+
+use pk_base::{NoMemory, Octets, are_digits};
+use pk_fields::ValueKind;
+use pk_text::{Wide, read_bytes, read_ether, read_ip4, read_ip6, read_number, read_time};
+use pk_tree::Value;
+use std::alloc::{AllocError, Global};
+
+const TRUE_WORDS: [&str; 4] = ["true", "True", "TRUE", "1"];
+
+const FALSE_WORDS: [&str; 4] = ["false", "False", "FALSE", "0"];
+
+/// A literal's value.
+#[derive(Drop)]
+pub struct Constant {
+    pub value: Value,
+    /// The leading bits of an address that are compared, where it has a prefix length: at most 32 or 128.
+    pub prefix: Option<u8>,
+    /// It is written as a string.
+    pub quoted: bool,
+}
+
+impl Clone for Constant {
+    ghost use Rattle.std.specs.Prelude.{◌≡◌};
+
+    ghost is_clone = { λ constant copy. copy ≡ constant };
+
+    fn clone(&self) -> Result<Constant, AllocError> {
+        Ok(Constant {
+            value: self.value.clone()?,
+            prefix: self.prefix,
+            quoted: self.quoted,
+        })
+    }
+}
+
+/// What a literal writes as one of a kind.
+#[derive(Drop)]
+pub enum Reading {
+    Reads(Constant),
+    /// What is out of its range: a number beyond its width, or a prefix length beyond the address.
+    Beyond,
+    /// Nothing: its kind doesn't read it.
+    Unread,
+}
+
+/// Reads a word as a literal of a kind. `prefixed` says that a prefix length may stand behind an address; where none
+/// may, an address with one isn't read.
+#[tactic(auto, unfolding(crate::specs::Literals::word_read))]
+pub fn read_word(
+    alloc: Global,
+    kind: ValueKind,
+    prefixed: bool,
+    text: &str,
+) -> Result<Reading, NoMemory>
+    ensures { IfOk result (λ reading. reading ≡ word_read prefixed kind text.now) }
+{
+    match kind {
+        ValueKind::Uint(width) => Ok(number_read(read_within(width, text))),
+        ValueKind::Bool => Ok(value_read(read_truth(text).map(|truth| Value::Bool(truth)))),
+        ValueKind::Bytes => {
+            let bytes = read_bytes(alloc, text)?;
+            Ok(value_read(bytes.map(|bytes| Value::Bytes(bytes))))
+        }
+        ValueKind::Text => Ok(Reading::Unread),
+        ValueKind::Ether => Ok(value_read(ether_value(text))),
+        ValueKind::Ip4 => Ok(read_address(Family::Ip4, prefixed, text)),
+        ValueKind::Ip6 => Ok(read_address(Family::Ip6, prefixed, text)),
+        ValueKind::Time => Ok(value_read(read_time(text).map(|time| Value::Time(time)))),
+        ValueKind::Proto => {
+            let bytes = read_bytes(alloc, text)?;
+            Ok(value_read(bytes.map(|bytes| Value::Proto(bytes))))
+        }
+    }
+}
+
+fn value_read(value: Option<Value>) -> Reading
+    ensures { result ≡ value_read value }
+{
+    match value {
+        Some(value) => Reading::Reads(Constant {
+            value,
+            prefix: None,
+            quoted: false,
+        }),
+        None => Reading::Unread,
+    }
+}
+
+fn number_read(number: Option<Wide>) -> Reading
+    ensures { result ≡ number_read number }
+{
+    match number {
+        None => Reading::Unread,
+        Some(Wide::Beyond) => Reading::Beyond,
+        Some(Wide::Fits(n)) => value_read(Some(Value::Uint(n))),
+    }
+}
+
+/// Reads a word as a number, as far as a width has room for it. There is none where the word writes no number.
+pub fn read_within(width: u8, text: &str) -> Option<Wide>
+    ensures { result ≡ number_within width (number_of text.now) }
+{
+    match read_number(text) {
+        Some(Wide::Fits(n)) if !fits_width(n, width) => Some(Wide::Beyond),
+        number => number,
+    }
+}
+
+#[tactic(auto, using(crate::proofs::LiteralLemmas::wide_fits))]
+fn fits_width(n: u64, width: u8) -> bool
+    ensures { result ≡ nat_lt n (2 ^ width) }
+{
+    match 1_u64.checked_shl(u32::from(width)) {
+        Some(bound) => n < bound,
+        None => true,
+    }
+}
+
+/// True or false.
+#[tactic(auto, unfolding(crate::specs::Literals::truth_of))]
+fn read_truth(text: &str) -> Option<bool>
+    ensures { result ≡ truth_of text.now }
+{
+    if is_true_word(text) {
+        Some(true)
+    } else if is_false_word(text) {
+        Some(false)
+    } else {
+        None
+    }
+}
+
+fn is_true_word(text: &str) -> bool
+    ensures { result ≡ is_one_of true_words text.now }
+{
+    TRUE_WORDS.iter().any(|word| text == *word)
+}
+
+fn is_false_word(text: &str) -> bool
+    ensures { result ≡ is_one_of false_words text.now }
+{
+    FALSE_WORDS.iter().any(|word| text == *word)
+}
+
+/// The addresses that may have a prefix length.
+#[derive(Clone, Copy)]
+enum Family {
+    Ip4,
+    Ip6,
+}
+
+impl Family {
+    /// The bits of an address.
+    fn bits(self) -> u8
+        ensures { result ≡ bits_of self }
+    {
+        match self {
+            Family::Ip4 => 32,
+            Family::Ip6 => 128,
+        }
+    }
+
+    fn read(self, text: &str) -> Option<Value>
+        ensures { result ≡ address_of self text.now }
+    {
+        match self {
+            Family::Ip4 => read_ip4(text).map(|address| Value::Ip4(address)),
+            Family::Ip6 => read_ip6(text).map(|address| Value::Ip6(address)),
+        }
+    }
+}
+
+fn read_address(family: Family, prefixed: bool, text: &str) -> Reading
+    ensures { result ≡ address_read family prefixed text.now }
+{
+    match text.split_once('/') {
+        None => value_read(family.read(text)),
+        Some((address, prefix)) if prefixed => {
+            leading_read(family.bits(), family.read(address), read_prefix(prefix))
+        }
+        Some(_) => Reading::Unread,
+    }
+}
+
+fn ether_value(text: &str) -> Option<Value>
+    ensures { result ≡ ether_value text.now }
+{
+    let address = read_ether(text)?;
+    Some(Value::Ether(address))
+}
+
+/// The number behind the `/` of a prefix: decimal digits without a leading zero.
+#[tactic(auto, unfolding(crate::specs::Literals::prefix_of))]
+fn read_prefix(digits: &str) -> Option<Wide>
+    ensures { result ≡ prefix_of digits.now }
+{
+    if are_digits(digits.as_bytes()) {
+        read_number(digits)
+    } else {
+        None
+    }
+}
+
+/// An address, and a prefix length of at most so many bits.
+fn leading_read(most: u8, address: Option<Value>, prefix: Option<Wide>) -> Reading
+    ensures { result ≡ leading_read most address prefix }
+{
+    let (Some(value), Some(prefix)) = (address, prefix) else {
+        return Reading::Unread;
+    };
+    match prefix {
+        Wide::Fits(n) if n <= u64::from(most) => Reading::Reads(Constant {
+            value,
+            prefix: Some(n as u8),
+            quoted: false,
+        }),
+        _ => Reading::Beyond,
+    }
+}
+
+/// Reads a string as a literal of a kind. Its bytes are shared.
+pub fn read_quote(kind: ValueKind, bytes: &Octets) -> Result<Reading, NoMemory>
+    ensures { IfOk result (λ reading. reading ≡ quote_read kind bytes.now) }
+{
+    let bytes = bytes.clone()?;
+    let value = match kind {
+        ValueKind::Bytes => Value::Bytes(bytes),
+        ValueKind::Text => Value::Text(bytes),
+        ValueKind::Proto => Value::Proto(bytes),
+        _ => return Ok(Reading::Unread),
+    };
+    Ok(Reading::Reads(Constant {
+        value,
+        prefix: None,
+        quoted: true,
+    }))
+}

@@ -1,5 +1,0 @@
-pub mod ContainsLemmas
-pub mod ExtremeLemmas
-pub mod LiteralLemmas
-pub mod MaskLemmas
-pub mod SliceLemmas

@@ -1,7 +1,0 @@
-use Rattle.std.proofs.Common.{◌≡◌, drop}
-use Rattle.flt_values.specs.Slices.{taken_by}
-use Rattle.flt_values.proofs.SliceLemmas.{behind}
-use Rattle.flt_values.proofs.slices.take_copied.Given as goal
-
-abbrev pub invariant-loop-range : goal.invariant-loop-range
-invariant-loop-range l = taken_by l.bytes l.ranges ≡ behind l.taken.items (taken_by l.bytes (drop l.range-index l.ranges))
