@@ -1,4 +1,4 @@
-use Rattle.std.specs.Prelude.{◌≤◌, ◌×◌}
+use Rattle.std.specs.Prelude.{◌≤◌}
 use Rattle.cap_stats.specs.Few.{HasFew}
 use Rattle.line_rows.proofs.reports.note_all.Given as goal
 
