@@ -101,8 +101,14 @@ fn line_holds(held: &mut Held, alloc: Global, line: &str) -> Result<bool, NoMemo
         "front" => Ok(held.ranges.front() == from && words.is_empty()),
         "row" => Ok(is_row(&held.joined, from, second, third)),
         "next" => Ok(are_next(held, from, words)),
-        "copy" => is_copied(&held.ranges, from, second.parse().unwrap_or(0), third),
-        "frames" => come_from(held, from, second.parse().unwrap_or(0), third),
+        // An end that can't be read lies behind all that is held.
+        "copy" => is_copied(
+            &held.ranges,
+            from,
+            second.parse().unwrap_or(u64::MAX),
+            third,
+        ),
+        "frames" => come_from(held, from, second.parse().unwrap_or(u64::MAX), third),
         _ => Ok(false),
     }
 }

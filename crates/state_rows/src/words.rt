@@ -101,7 +101,8 @@ fn push_signs(bytes: &mut Vec<u8>, text: &str) -> Result<(), NoMemory> {
 
 fn push_many(bytes: &mut Vec<u8>, text: &str) -> Result<(), NoMemory> {
     let (part, count) = text.split_once('*').ok_or(NoMemory)?;
-    for _ in 0..count.parse().unwrap_or(0u32) {
+    let count: u32 = count.parse().ok().ok_or(NoMemory)?;
+    for _ in 0..count {
         push_signs(bytes, part)?;
     }
     Ok(())
