@@ -3,6 +3,7 @@ ghost use Rattle.shark_words.specs.Words.{texts};
 ghost use Rattle.run_frames.specs.declared.plan.Plan.{Plan};
 ghost use Rattle.run_words.specs.declared.refused.Refused.{Refused};
 ghost use Rattle.shark_run.specs.Answers.{IsAnswered};
+ghost use Rattle.shark_run.specs.Headline.{IsAnswer};
 ghost use Rattle.run_words.specs.Plan.{IsPlan, IsRefusal};
 ghost use Rattle.run_words.specs.Sure.{IsSure};
 ghost use Rattle.run_passes.specs.Reading.{file_of, frames_read};
@@ -18,6 +19,9 @@ use std::alloc::Global;
 /// A run over a capture file in memory, or over a generated capture, where nothing outside fails: the words are refused for their reason,
 /// or the run ends as the file does. No other answer exists but want of memory.
 pub fn sure_run(alloc: Global, words: &[String], file: Vec<u8>, out: &mut SureSink) -> Status
+    // What the headline says of the words, the file and the output.
+    ensures answer { IsAnswer (texts words.now) (λ _. Some file.items) result (Some out.old.taken) (Some out.new.taken) }
+
     // The words are refused for a reason that they give, and then nothing is written.
     ensures refusing { IsRefusing result → (reason : Refused) × IsRefusal (texts words.now) reason
         × (result ≡ refusal_status reason) }
