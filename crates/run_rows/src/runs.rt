@@ -148,12 +148,15 @@ fn comes_surely(alloc: Global, row: &str, words: &[String]) -> Result<bool, Allo
     Ok(u64::from(status.exit_number()) == told && are_lines(out.bytes(), row, "> "))
 }
 
-/// Whether a row of a table with this check holds.
-pub(crate) fn holds(alloc: Global, check: &str, row: &str) -> Result<bool, AllocError> {
-    let words = words_of(alloc, row)?;
-    match check {
-        "run" => comes_each(alloc, row, words.as_slice()),
-        "sure" => comes_surely(alloc, row, words.as_slice()),
+/// Whether a row of the table of this name holds.
+pub(crate) fn holds(alloc: Global, table: &str, row: &str) -> bool {
+    let Ok(words) = words_of(alloc, row) else {
+        return false;
+    };
+    let comes = match table.split_once(": ") {
+        Some(("run", _)) => comes_each(alloc, row, words.as_slice()),
+        Some(("sure", _)) => comes_surely(alloc, row, words.as_slice()),
         _ => Ok(false),
-    }
+    };
+    comes == Ok(true)
 }
