@@ -7,5 +7,6 @@ pub mod NextFrame
 pub mod Offsets
 pub mod Pieces
 pub mod Reader
+pub mod Reads
 pub mod State
 pub mod Taken

@@ -1,9 +1,9 @@
 // Reading on until enough bytes are held.
-ghost use Rattle.std.specs.Prelude.{◌≡◌, ◌+◌, ◌<◌, ◌≤◌, ◌++◌, ◌^◌, ◌-◌, suc, List, ℕ, length, false, IfOk, IsErrOf, IsTrue, OnOk};
+ghost use Rattle.std.specs.Prelude.{◌≡◌, ◌+◌, ◌<◌, ◌≤◌, ◌++◌, ◌^◌, ◌-◌, suc, List, ℕ, length, false, IfErr, IfOk, IsErrOf, IsTrue, OnOk};
 ghost use Rattle.std.specs.Io.KnownBytes.{Consumes, IsAtEnd};
-ghost use Rattle.pk_outside.specs.Outside.{Rose, counted};
 ghost use Rattle.capture_read.specs.Answers.{open_count};
 ghost use Rattle.capture_read.specs.Fill.{IsFilled, IsFilledTo, IsUnfilled};
+ghost use Rattle.capture_read.specs.Reads.{CountsFault, StaysBegun};
 ghost use Rattle.capture_read.specs.Taken.{TookAtMost};
 ghost use Rattle.capture_read.specs.declared.kind.Seen.TheVariants as behind;
 
@@ -48,18 +48,12 @@ fn read_more<C: Capture>(
         × Consumes (C.left capture.old) (C.left capture.new) got) }
     ensures unread { IsErrOf result ReadError.ReadFault → C.left capture.new ≡ C.left capture.old }
     ensures took { TookAtMost (length piece.old) (C.left capture.old) (C.left capture.new) }
-    ensures file { (n : List ℕ) → C.file capture.new n ≡ C.file capture.old n }
-    ensures asked { C.asked capture.new ≡ C.asked capture.old }
-    ensures refused { C.refused capture.new ≡ C.refused capture.old }
-    ensures begun { C.begun capture.new ≡ C.begun capture.old }
-    ensures missed { C.missed capture.new ≡ C.missed capture.old }
+    ensures stays { StaysBegun (C.file capture.old) (C.file capture.new)
+        (C.asked capture.old) (C.asked capture.new) (C.refused capture.old) (C.refused capture.new)
+        (C.begun capture.old) (C.begun capture.new) (C.missed capture.old) (C.missed capture.new) }
     ensures no_fault { OnOk result (C.faults capture.new ≡ C.faults capture.old) }
-    ensures fault { IsErrOf result ReadError.ReadFault
-        → C.faults capture.new ≡ counted (C.faults capture.old) }
-    ensures starved { IsErrOf result ReadError.NoMemory
-        → C.faults capture.new ≡ C.faults capture.old }
-    ensures faults_stay { C.faults capture.old ≤ C.faults capture.new }
-    ensures spent { IsErrOf result ReadError.Spent → ⊥ }
+    ensures faulted { IfErr result (λ error.
+        CountsFault error (C.faults capture.old) (C.faults capture.new)) }
 {
     match capture.read(piece) {
         Ok(count) => {
@@ -79,17 +73,12 @@ fn read_beyond<C: Capture>(capture: &mut C, piece: &mut [u8]) -> Result<Seen, Re
         × (length beyond ≤ 1) × (open_count seen ≡ 0)) }
     ensures unread { IsErrOf result ReadError.ReadFault → C.left capture.new ≡ C.left capture.old }
     ensures took { TookAtMost 1 (C.left capture.old) (C.left capture.new) }
-    ensures file { (n : List ℕ) → C.file capture.new n ≡ C.file capture.old n }
-    ensures asked { C.asked capture.new ≡ C.asked capture.old }
-    ensures refused { C.refused capture.new ≡ C.refused capture.old }
-    ensures begun { C.begun capture.new ≡ C.begun capture.old }
-    ensures missed { C.missed capture.new ≡ C.missed capture.old }
-    ensures fault { IsErrOf result ReadError.ReadFault
-        → C.faults capture.new ≡ counted (C.faults capture.old) }
+    ensures stays { StaysBegun (C.file capture.old) (C.file capture.new)
+        (C.asked capture.old) (C.asked capture.new) (C.refused capture.old) (C.refused capture.new)
+        (C.begun capture.old) (C.begun capture.new) (C.missed capture.old) (C.missed capture.new) }
     ensures no_fault { OnOk result (C.faults capture.new ≡ C.faults capture.old) }
-    ensures fed { IsErrOf result ReadError.NoMemory → ⊥ }
-    ensures faults_stay { C.faults capture.old ≤ C.faults capture.new }
-    ensures spent { IsErrOf result ReadError.Spent → ⊥ }
+    ensures faulted { IfErr result (λ error.
+        CountsFault error (C.faults capture.old) (C.faults capture.new)) }
 {
     match capture.read(piece) {
         Ok(0) => Ok(Seen::Ended),
@@ -116,18 +105,12 @@ fn read_next<C: Capture>(
     ensures unread { IsErrOf result ReadError.ReadFault → C.left capture.new ≡ C.left capture.old }
     ensures took { TookAtMost (suc most - length bytes.old.items)
         (C.left capture.old) (C.left capture.new) }
-    ensures file { (n : List ℕ) → C.file capture.new n ≡ C.file capture.old n }
-    ensures asked { C.asked capture.new ≡ C.asked capture.old }
-    ensures refused { C.refused capture.new ≡ C.refused capture.old }
-    ensures begun { C.begun capture.new ≡ C.begun capture.old }
-    ensures missed { C.missed capture.new ≡ C.missed capture.old }
+    ensures stays { StaysBegun (C.file capture.old) (C.file capture.new)
+        (C.asked capture.old) (C.asked capture.new) (C.refused capture.old) (C.refused capture.new)
+        (C.begun capture.old) (C.begun capture.new) (C.missed capture.old) (C.missed capture.new) }
     ensures no_fault { OnOk result (C.faults capture.new ≡ C.faults capture.old) }
-    ensures fault { IsErrOf result ReadError.ReadFault
-        → C.faults capture.new ≡ counted (C.faults capture.old) }
-    ensures starved { IsErrOf result ReadError.NoMemory
-        → C.faults capture.new ≡ C.faults capture.old }
-    ensures faults_stay { C.faults capture.old ≤ C.faults capture.new }
-    ensures spent { IsErrOf result ReadError.Spent → ⊥ }
+    ensures faulted { IfErr result (λ error.
+        CountsFault error (C.faults capture.old) (C.faults capture.new)) }
 {
     let room = piece.len().min(most - bytes.len());
     if room == 0 {
@@ -169,18 +152,12 @@ pub fn fill<C: Capture>(
         → IsUnfilled held.now need most (C.left capture.old) (C.left capture.new) }
     ensures took { TookAtMost (suc most - length held.now)
         (C.left capture.old) (C.left capture.new) }
-    ensures file { (n : List ℕ) → C.file capture.new n ≡ C.file capture.old n }
-    ensures asked { C.asked capture.new ≡ C.asked capture.old }
-    ensures refused { C.refused capture.new ≡ C.refused capture.old }
-    ensures begun { C.begun capture.new ≡ C.begun capture.old }
-    ensures missed { C.missed capture.new ≡ C.missed capture.old }
-    ensures fault { IsErrOf result ReadError.ReadFault
-        → Rose (C.faults capture.old) (C.faults capture.new) }
+    ensures stays { StaysBegun (C.file capture.old) (C.file capture.new)
+        (C.asked capture.old) (C.asked capture.new) (C.refused capture.old) (C.refused capture.new)
+        (C.begun capture.old) (C.begun capture.new) (C.missed capture.old) (C.missed capture.new) }
     ensures no_fault { OnOk result (C.faults capture.new ≡ C.faults capture.old) }
-    ensures starved { IsErrOf result ReadError.NoMemory
-        → C.faults capture.new ≡ C.faults capture.old }
-    ensures faults_stay { C.faults capture.old ≤ C.faults capture.new }
-    ensures spent { IsErrOf result ReadError.Spent → ⊥ }
+    ensures faulted { IfErr result (λ error.
+        CountsFault error (C.faults capture.old) (C.faults capture.new)) }
 {
     let mut bytes = held.to_vec(alloc)?;
     while bytes.len() < need {

@@ -1,11 +1,11 @@
 // How far a capture file is read.
-ghost use Rattle.std.specs.Prelude.{◌≡◌, ◌+◌, ◌≤◌, ◌<◌, ◌^◌, ℕ, List, [], Some, false, true, length, IfOk, IsErrOf, OnOk};
+ghost use Rattle.std.specs.Prelude.{◌≡◌, ◌+◌, ◌≤◌, ◌<◌, ◌^◌, ℕ, List, [], Some, false, true, length, IfErr, IfOk, IsErrOf, OnOk};
 ghost use Rattle.pcapng_read.specs.declared.step.BlockStep.TheVariants as step;
 ghost use Rattle.pk_base.specs.Limits.{file_limit as limit_of_file};
-ghost use Rattle.pk_outside.specs.Outside.{Rose};
 ghost use Rattle.capture_read.specs.Answers.{CountsNext, CountsSight, CountsTurn, FailsAt, Finds, Sees, TakesFew, Turns};
 ghost use Rattle.capture_read.specs.Capture.{frame_of};
 ghost use Rattle.capture_read.specs.Reader.{Stands, cut_here, step_here};
+ghost use Rattle.capture_read.specs.Reads.{CountsFault, StaysBegun};
 ghost use Rattle.capture_read.specs.declared.kind.Seen.TheVariants as seen;
 
 use crate::ending::{Ending, damage_at, end_of_bytes, unfinished};
@@ -139,19 +139,13 @@ impl Position {
         ensures limit { self.new.at ≤ limit_of_file }
         ensures fails { IsErrOf result ReadError.ReadFault
             → FailsAt self.old (C.left capture.old) (C.left capture.new) }
-        ensures fault { IsErrOf result ReadError.ReadFault
-            → Rose (C.faults capture.old) (C.faults capture.new) }
-        ensures no_fault { OnOk result (C.faults capture.new ≡ C.faults capture.old) }
-        ensures starved { IsErrOf result ReadError.NoMemory
-            → C.faults capture.new ≡ C.faults capture.old }
         ensures took { TakesFew self.old (C.left capture.old) (C.left capture.new) }
-        ensures spent { IsErrOf result ReadError.Spent → ⊥ }
-        ensures file { (n : List ℕ) → C.file capture.new n ≡ C.file capture.old n }
-        ensures asked { C.asked capture.new ≡ C.asked capture.old }
-        ensures refused { C.refused capture.new ≡ C.refused capture.old }
-        ensures begun { C.begun capture.new ≡ C.begun capture.old }
-        ensures missed { C.missed capture.new ≡ C.missed capture.old }
-        ensures faults_stay { C.faults capture.old ≤ C.faults capture.new }
+        ensures stays { StaysBegun (C.file capture.old) (C.file capture.new)
+            (C.asked capture.old) (C.asked capture.new) (C.refused capture.old) (C.refused capture.new)
+            (C.begun capture.old) (C.begun capture.new) (C.missed capture.old) (C.missed capture.new) }
+        ensures no_fault { OnOk result (C.faults capture.new ≡ C.faults capture.old) }
+        ensures faulted { IfErr result (λ error.
+            CountsFault error (C.faults capture.old) (C.faults capture.new)) }
     {
         let most = file_limit() - self.at;
         make_room(self.alloc, &mut self.room)?;
@@ -215,19 +209,13 @@ impl Position {
         ensures limit { self.new.at ≤ limit_of_file }
         ensures fails { IsErrOf result ReadError.ReadFault
             → FailsAt self.old (C.left capture.old) (C.left capture.new) }
-        ensures fault { IsErrOf result ReadError.ReadFault
-            → Rose (C.faults capture.old) (C.faults capture.new) }
-        ensures no_fault { OnOk result (C.faults capture.new ≡ C.faults capture.old) }
-        ensures starved { IsErrOf result ReadError.NoMemory
-            → C.faults capture.new ≡ C.faults capture.old }
         ensures took { TakesFew self.old (C.left capture.old) (C.left capture.new) }
-        ensures spent { IsErrOf result ReadError.Spent → ⊥ }
-        ensures file { (n : List ℕ) → C.file capture.new n ≡ C.file capture.old n }
-        ensures asked { C.asked capture.new ≡ C.asked capture.old }
-        ensures refused { C.refused capture.new ≡ C.refused capture.old }
-        ensures begun { C.begun capture.new ≡ C.begun capture.old }
-        ensures missed { C.missed capture.new ≡ C.missed capture.old }
-        ensures faults_stay { C.faults capture.old ≤ C.faults capture.new }
+        ensures stays { StaysBegun (C.file capture.old) (C.file capture.new)
+            (C.asked capture.old) (C.asked capture.new) (C.refused capture.old) (C.refused capture.new)
+            (C.begun capture.old) (C.begun capture.new) (C.missed capture.old) (C.missed capture.new) }
+        ensures no_fault { OnOk result (C.faults capture.new ≡ C.faults capture.old) }
+        ensures faulted { IfErr result (λ error.
+            CountsFault error (C.faults capture.old) (C.faults capture.new)) }
     {
         match self.look_on()? {
             Sight::Told(told) => Ok(told),
@@ -243,19 +231,13 @@ impl Position {
         ensures limit { self.new.at ≤ limit_of_file }
         ensures fails { IsErrOf result ReadError.ReadFault
             → FailsAt self.old (C.left capture.old) (C.left capture.new) }
-        ensures fault { IsErrOf result ReadError.ReadFault
-            → Rose (C.faults capture.old) (C.faults capture.new) }
-        ensures no_fault { OnOk result (C.faults capture.new ≡ C.faults capture.old) }
-        ensures starved { IsErrOf result ReadError.NoMemory
-            → C.faults capture.new ≡ C.faults capture.old }
         ensures took { TakesFew self.old (C.left capture.old) (C.left capture.new) }
-        ensures spent { IsErrOf result ReadError.Spent → ⊥ }
-        ensures file { (n : List ℕ) → C.file capture.new n ≡ C.file capture.old n }
-        ensures asked { C.asked capture.new ≡ C.asked capture.old }
-        ensures refused { C.refused capture.new ≡ C.refused capture.old }
-        ensures begun { C.begun capture.new ≡ C.begun capture.old }
-        ensures missed { C.missed capture.new ≡ C.missed capture.old }
-        ensures faults_stay { C.faults capture.old ≤ C.faults capture.new }
+        ensures stays { StaysBegun (C.file capture.old) (C.file capture.new)
+            (C.asked capture.old) (C.asked capture.new) (C.refused capture.old) (C.refused capture.new)
+            (C.begun capture.old) (C.begun capture.new) (C.missed capture.old) (C.missed capture.new) }
+        ensures no_fault { OnOk result (C.faults capture.new ≡ C.faults capture.old) }
+        ensures faulted { IfErr result (λ error.
+            CountsFault error (C.faults capture.old) (C.faults capture.new)) }
     {
         loop {
             match self.turn(capture) {

@@ -18,8 +18,16 @@ pub fn frames(alloc: Global, bytes: &[u8]) -> Result<(FrameList, Ending), NoMemo
     ensures times { IfOk result (λ r. AreTimesSmall r.0) }
 {
     let mut held = HeldFrames::new(alloc, Octets::copy(alloc, telling_bytes(bytes))?);
+    take_frames(alloc, &mut held)
+}
+
+/// The frames that are still to come, and how the file ends.
+fn take_frames(alloc: Global, held: &mut HeldFrames) -> Result<(FrameList, Ending), NoMemory>
+    ensures frames { IfOk result (λ r. r.0 ≡ held.old.frames) }
+    ensures ending { IfOk result (λ r. r.1 ≡ held.old.ending) }
+{
     let mut list = Vec::new(alloc);
-    let ending = add_frames(&mut held, &mut list)?;
+    let ending = add_frames(held, &mut list)?;
     Ok((FrameList::from_vec(list), ending))
 }
 

@@ -1,9 +1,39 @@
 ghost use Rattle.std.specs.Prelude.{◌≡◌, ◌++◌, OnOk};
-ghost use Rattle.capture_write.specs.Numbers.{bytes_in};
+ghost use Rattle.std.specs.List.{flat_map};
+ghost use Rattle.capture_write.specs.Numbers.{bytes_in, number_bytes};
 
 use pk_base::NoMemory;
 
-pub fn push_u16(bytes: &mut Vec<u8>, little: bool, number: u16) -> Result<(), NoMemory>
+/// A number of so many bytes.
+#[derive(Clone, Copy)]
+pub enum Number {
+    Two(u16),
+    Four(u32),
+    Eight(u64),
+}
+
+/// Writes numbers one behind the other.
+pub fn push_numbers(bytes: &mut Vec<u8>, little: bool, numbers: &[Number]) -> Result<(), NoMemory>
+    ensures { OnOk result (bytes.new.items
+        ≡ bytes.old.items ++ flat_map (number_bytes little) numbers.now) }
+{
+    for number in numbers {
+        push_number(bytes, little, *number)?;
+    }
+    Ok(())
+}
+
+fn push_number(bytes: &mut Vec<u8>, little: bool, number: Number) -> Result<(), NoMemory>
+    ensures { OnOk result (bytes.new.items ≡ bytes.old.items ++ number_bytes little number) }
+{
+    match number {
+        Number::Two(number) => push_u16(bytes, little, number),
+        Number::Four(number) => push_u32(bytes, little, number),
+        Number::Eight(number) => push_u64(bytes, little, number),
+    }
+}
+
+fn push_u16(bytes: &mut Vec<u8>, little: bool, number: u16) -> Result<(), NoMemory>
     ensures { OnOk result (bytes.new.items ≡ bytes.old.items ++ bytes_in little 2 number) }
 {
     if little {
@@ -25,7 +55,7 @@ pub fn push_u32(bytes: &mut Vec<u8>, little: bool, number: u32) -> Result<(), No
     Ok(())
 }
 
-pub fn push_u64(bytes: &mut Vec<u8>, little: bool, number: u64) -> Result<(), NoMemory>
+fn push_u64(bytes: &mut Vec<u8>, little: bool, number: u64) -> Result<(), NoMemory>
     ensures { OnOk result (bytes.new.items ≡ bytes.old.items ++ bytes_in little 8 number) }
 {
     if little {

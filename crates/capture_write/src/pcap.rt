@@ -3,7 +3,7 @@ ghost use Rattle.capture_write.specs.Frames.{nanoseconds_of};
 ghost use Rattle.capture_write.specs.Pcap.{pcap_header, pcap_record};
 
 use crate::fitting::nanoseconds;
-use crate::numbers::{push_u16, push_u32};
+use crate::numbers::{Number, push_numbers};
 use capture_read::Frame;
 use pk_base::{CAPTURED_LIMIT, NoMemory};
 
@@ -20,13 +20,16 @@ const NANOSECONDS_PER_SECOND: u128 = 1_000_000_000;
 pub fn push_header(bytes: &mut Vec<u8>, little: bool, link: u16) -> Result<(), NoMemory>
     ensures { OnOk result (bytes.new.items ≡ bytes.old.items ++ pcap_header little link) }
 {
-    push_u32(bytes, little, NANOSECOND_MAGIC)?;
-    push_u16(bytes, little, MAJOR_VERSION)?;
-    push_u16(bytes, little, MINOR_VERSION)?;
-    push_u32(bytes, little, 0)?;
-    push_u32(bytes, little, 0)?;
-    push_u32(bytes, little, CAPTURED_LIMIT)?;
-    push_u32(bytes, little, u32::from(link))
+    let numbers = [
+        Number::Four(NANOSECOND_MAGIC),
+        Number::Two(MAJOR_VERSION),
+        Number::Two(MINOR_VERSION),
+        Number::Four(0),
+        Number::Four(0),
+        Number::Four(CAPTURED_LIMIT),
+        Number::Four(u32::from(link)),
+    ];
+    push_numbers(bytes, little, &numbers)
 }
 
 /// Writes the record of a frame.
@@ -37,10 +40,12 @@ pub fn push_record(bytes: &mut Vec<u8>, little: bool, frame: &Frame) -> Result<(
 {
     let time = nanoseconds(frame.time);
     let captured = frame.bytes.bytes();
-    push_u32(bytes, little, (time / NANOSECONDS_PER_SECOND) as u32)?;
-    push_u32(bytes, little, (time % NANOSECONDS_PER_SECOND) as u32)?;
-    push_u32(bytes, little, captured.len() as u32)?;
-    push_u32(bytes, little, frame.original)?;
-    bytes.extend_from_slice(captured)?;
-    Ok(())
+    let numbers = [
+        Number::Four((time / NANOSECONDS_PER_SECOND) as u32),
+        Number::Four((time % NANOSECONDS_PER_SECOND) as u32),
+        Number::Four(captured.len() as u32),
+        Number::Four(frame.original),
+    ];
+    push_numbers(bytes, little, &numbers)?;
+    Ok(bytes.extend_from_slice(captured)?)
 }

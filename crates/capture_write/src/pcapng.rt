@@ -6,7 +6,7 @@ ghost use Rattle.pcapng_read.specs.Blocks.{enhanced_packet_type, simple_packet_t
 ghost use Rattle.pcapng_read.specs.Options.{padded};
 
 use crate::fitting::nanoseconds;
-use crate::numbers::{push_u16, push_u32, push_u64};
+use crate::numbers::{Number, push_numbers, push_u32};
 use capture_read::Frame;
 use pk_base::NoMemory;
 
@@ -52,30 +52,39 @@ const END_CODE: u16 = 0;
 pub fn push_section(bytes: &mut Vec<u8>, little: bool) -> Result<(), NoMemory>
     ensures { OnOk result (bytes.new.items ≡ bytes.old.items ++ section_block little) }
 {
-    push_u32(bytes, little, SECTION)?;
-    push_u32(bytes, little, SECTION_SIZE)?;
-    push_u32(bytes, little, BYTE_ORDER_MAGIC)?;
-    push_u16(bytes, little, MAJOR_VERSION)?;
-    push_u16(bytes, little, MINOR_VERSION)?;
-    push_u64(bytes, little, UNKNOWN_LENGTH)?;
-    push_u32(bytes, little, SECTION_SIZE)
+    let numbers = [
+        Number::Four(SECTION),
+        Number::Four(SECTION_SIZE),
+        Number::Four(BYTE_ORDER_MAGIC),
+        Number::Two(MAJOR_VERSION),
+        Number::Two(MINOR_VERSION),
+        Number::Eight(UNKNOWN_LENGTH),
+        Number::Four(SECTION_SIZE),
+    ];
+    push_numbers(bytes, little, &numbers)
 }
 
 /// Writes the block of a link type's interface.
 pub fn push_interface(bytes: &mut Vec<u8>, little: bool, link: u16) -> Result<(), NoMemory>
     ensures { OnOk result (bytes.new.items ≡ bytes.old.items ++ interface_block little link) }
 {
-    push_u32(bytes, little, INTERFACE)?;
-    push_u32(bytes, little, INTERFACE_SIZE)?;
-    push_u16(bytes, little, link)?;
-    push_u16(bytes, little, 0)?;
-    push_u32(bytes, little, 0)?;
-    push_u16(bytes, little, RESOLUTION_CODE)?;
-    push_u16(bytes, little, RESOLUTION_LENGTH)?;
+    let front = [
+        Number::Four(INTERFACE),
+        Number::Four(INTERFACE_SIZE),
+        Number::Two(link),
+        Number::Two(0),
+        Number::Four(0),
+        Number::Two(RESOLUTION_CODE),
+        Number::Two(RESOLUTION_LENGTH),
+    ];
+    let end = [
+        Number::Two(END_CODE),
+        Number::Two(0),
+        Number::Four(INTERFACE_SIZE),
+    ];
+    push_numbers(bytes, little, &front)?;
     bytes.extend_from_slice(&NANOSECOND_RESOLUTION)?;
-    push_u16(bytes, little, END_CODE)?;
-    push_u16(bytes, little, 0)?;
-    push_u32(bytes, little, INTERFACE_SIZE)
+    push_numbers(bytes, little, &end)
 }
 
 /// Writes the block of a frame with a time, which is of the interface with this number.
@@ -93,13 +102,16 @@ pub fn push_enhanced(
     let time = nanoseconds(frame.time);
     let captured = frame.bytes.bytes();
     let size = ENHANCED_SIZE + padded(captured.len()) as u32;
-    push_u32(bytes, little, ENHANCED_PACKET)?;
-    push_u32(bytes, little, size)?;
-    push_u32(bytes, little, place)?;
-    push_u32(bytes, little, (time / (1 << 32)) as u32)?;
-    push_u32(bytes, little, (time % (1 << 32)) as u32)?;
-    push_u32(bytes, little, captured.len() as u32)?;
-    push_u32(bytes, little, frame.original)?;
+    let numbers = [
+        Number::Four(ENHANCED_PACKET),
+        Number::Four(size),
+        Number::Four(place),
+        Number::Four((time / (1 << 32)) as u32),
+        Number::Four((time % (1 << 32)) as u32),
+        Number::Four(captured.len() as u32),
+        Number::Four(frame.original),
+    ];
+    push_numbers(bytes, little, &numbers)?;
     push_padded(bytes, captured)?;
     push_u32(bytes, little, size)
 }
@@ -112,9 +124,12 @@ pub fn push_simple(bytes: &mut Vec<u8>, little: bool, frame: &Frame) -> Result<(
 {
     let captured = frame.bytes.bytes();
     let size = SIMPLE_SIZE + padded(captured.len()) as u32;
-    push_u32(bytes, little, SIMPLE_PACKET)?;
-    push_u32(bytes, little, size)?;
-    push_u32(bytes, little, frame.original)?;
+    let numbers = [
+        Number::Four(SIMPLE_PACKET),
+        Number::Four(size),
+        Number::Four(frame.original),
+    ];
+    push_numbers(bytes, little, &numbers)?;
     push_padded(bytes, captured)?;
     push_u32(bytes, little, size)
 }
@@ -136,6 +151,5 @@ fn push_padded(bytes: &mut Vec<u8>, captured: &[u8]) -> Result<(), NoMemory>
     let zeros: [u8; 3] = [0, 0, 0];
     let count = padded(captured.len()) - captured.len();
     bytes.extend_from_slice(captured)?;
-    bytes.extend_from_slice(&zeros[..count])?;
-    Ok(())
+    Ok(bytes.extend_from_slice(&zeros[..count])?)
 }

@@ -1,7 +1,7 @@
-ghost use Rattle.std.specs.Prelude.{◌≡◌, ◌++◌, List, [], IfOk, OnOk, OnErr};
+ghost use Rattle.std.specs.Prelude.{◌≡◌, ◌++◌, true, List, [], IfOk, OnOk, OnErr};
 ghost use Rattle.capture_read.specs.declared.frame.Frame.{Frame as FrameValue};
 ghost use Rattle.capture_write.specs.Frames.{IsFrame};
-ghost use Rattle.capture_write.specs.Kept.{nothing_kept, end_at, end_by, Adds, Stands, StandsAfter};
+ghost use Rattle.capture_write.specs.Kept.{nothing_kept, end_at, end_by, fits_by, order_by, packet_of, start_by, Adds, Stands, StandsAfter};
 ghost use Rattle.capture_write.specs.ReadBack.{ReadsBack};
 
 use crate::added::Added;
@@ -88,10 +88,7 @@ impl Writer {
         if !fits(self.format, little, &self.links, frame) {
             return Ok(Added::Unfit);
         }
-        let mut bytes = Vec::with_capacity(self.alloc, PIECE_ROOM + frame.bytes.bytes().len())?;
-        push_first(&mut bytes, self.format, self.order, frame)?;
-        push_packet(&mut bytes, self.format, little, &self.links, frame)?;
-        let octets = Octets::from_vec(bytes)?;
+        let octets = piece_of(self.alloc, self.format, self.order, &self.links, frame)?;
         self.links.add(link)?;
         self.order = Some(little);
         Ok(Added::Bytes(octets))
@@ -114,6 +111,26 @@ impl Writer {
         push_end(&mut bytes, self.format, self.order)?;
         Octets::from_vec(bytes)
     }
+}
+
+/// The bytes of a frame that fits behind those that brought these link types.
+fn piece_of(
+    alloc: Global,
+    format: Format,
+    order: Option<bool>,
+    links: &Links,
+    frame: &Frame,
+) -> Result<Octets, NoMemory>
+    requires { fits_by format (order_by order frame.now) links.now frame.now ≡ true }
+    ensures { IfOk result (λ octets. octets
+        ≡ start_by format order frame.now
+        ++ packet_of format (order_by order frame.now) links.now frame.now) }
+{
+    let little = order_by(order, frame);
+    let mut bytes = Vec::with_capacity(alloc, PIECE_ROOM + frame.bytes.bytes().len())?;
+    push_first(&mut bytes, format, order, frame)?;
+    push_packet(&mut bytes, format, little, links, frame)?;
+    Octets::from_vec(bytes)
 }
 
 /// Writes the file without frames where there was none.

@@ -18,16 +18,30 @@ pub struct Fronts {
 /// The report of a TCP stream. Its first line has the stream's number. For side 0 and then for side 1 a line in
 /// hexadecimal follows for each stretch, and before each but the first a line that tells how many bytes were lost. A side
 /// without bytes has one line without digits. Where there is no stream, the first line says so and is the only one.
-#[tactic(auto, unfolding(crate::specs::Follow::follow_of))]
 pub fn follow_text(alloc: Global, stream: u32, fronts: Option<Fronts>) -> Result<Vec<u8>, NoMemory>
     requires { IfSome fronts AreFollowed }
     ensures { IfOk result (λ text. text.items ≡ follow_of stream fronts) }
 {
+    report_of(alloc, stream, &fronts)
+}
+
+fn report_of(alloc: Global, stream: u32, fronts: &Option<Fronts>) -> Result<Vec<u8>, NoMemory>
+    requires { IfSome fronts.now AreFollowed }
+    ensures { IfOk result (λ text. text.items ≡ follow_of stream fronts.now) }
+{
     let mut text = Vec::with_capacity(alloc, LINE_ROOM)?;
-    put_text(&mut text, "follow tcp ")?;
-    put_number(&mut text, u64::from(stream))?;
-    put_fronts(&mut text, &fronts)?;
+    put_report(&mut text, stream, fronts)?;
     Ok(text)
+}
+
+#[tactic(auto, unfolding(crate::specs::Follow::follow_of))]
+fn put_report(text: &mut Vec<u8>, stream: u32, fronts: &Option<Fronts>) -> Result<(), NoMemory>
+    requires { IfSome fronts.now AreFollowed }
+    ensures { OnOk result (text.new.items ≡ text.old.items ++ follow_of stream fronts.now) }
+{
+    put_text(text, "follow tcp ")?;
+    put_number(text, u64::from(stream))?;
+    put_fronts(text, fronts)
 }
 
 fn put_fronts(text: &mut Vec<u8>, fronts: &Option<Fronts>) -> Result<(), NoMemory>

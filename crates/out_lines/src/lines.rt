@@ -54,11 +54,8 @@ impl LineWriter {
     pub fn new(alloc: Global, fields: &[FieldId]) -> Result<LineWriter, NoMemory>
         ensures { IfOk result (λ writer. writer ≡ fields.now) }
     {
-        let mut all = Vec::with_capacity(alloc, fields.len())?;
-        all.extend_from_slice(fields)?;
-        let mut columns = Vec::with_capacity(alloc, fields.len())?;
-        let mut places = Vec::new(alloc);
-        plan_columns(alloc, fields, &mut columns, &mut places)?;
+        let all = copy_of(alloc, fields)?;
+        let (columns, places) = planned(alloc, fields)?;
         Ok(LineWriter {
             fields: all,
             columns,
@@ -77,6 +74,25 @@ impl LineWriter {
     }
 }
 
+/// Fields, in memory of their own.
+fn copy_of(alloc: Global, fields: &[FieldId]) -> Result<Vec<FieldId>, NoMemory>
+    ensures { IfOk result (λ all. all.items ≡ fields.now) }
+{
+    let mut all = Vec::with_capacity(alloc, fields.len())?;
+    all.extend_from_slice(fields)?;
+    Ok(all)
+}
+
+/// The columns of fields, and by the number of a field the place of its column.
+fn planned(alloc: Global, fields: &[FieldId]) -> Result<(Vec<Column>, Vec<Option<usize>>), NoMemory>
+    ensures { IfOk result (λ plan. ArePlanned fields.now (length plan.0.items) plan.1.items) }
+{
+    let mut columns = Vec::with_capacity(alloc, fields.len())?;
+    let mut places = Vec::new(alloc);
+    plan_columns(alloc, fields, &mut columns, &mut places)?;
+    Ok((columns, places))
+}
+
 /// The line of a tree: the fields' columns, joined by the separator, and a line feed. A column has the field's values
 /// that the style chooses, joined by the aggregator, and stands in quotes, where the style has some; a quote inside is
 /// doubled. A column without values is empty.
@@ -89,6 +105,17 @@ pub fn field_line(
     ensures { IfOk result (λ line. line.items ≡ field_line_of fields.now tree.now style.now) }
 {
     let mut writer = LineWriter::new(alloc, fields)?;
+    line_by(alloc, &mut writer, tree, style)
+}
+
+fn line_by(
+    alloc: Global,
+    writer: &mut LineWriter,
+    tree: &Tree,
+    style: &Style,
+) -> Result<Vec<u8>, NoMemory>
+    ensures { IfOk result (λ line. line.items ≡ field_line_of writer.old tree.now style.now) }
+{
     let mut line = Vec::with_capacity(alloc, LINE_ROOM)?;
     writer.write(&mut line, tree, style)?;
     Ok(line)
@@ -259,10 +286,17 @@ fn put_doubled(line: &mut Vec<u8>, text: &[u8], quote: u8) -> Result<(), NoMemor
     ensures { OnOk result (line.new.items ≡ line.old.items ++ flat_map (doubled quote) text.now) }
 {
     for byte in text {
-        if *byte == quote {
-            line.push(quote)?;
-        }
-        line.push(*byte)?;
+        put_byte(line, *byte, quote)?;
     }
+    Ok(())
+}
+
+fn put_byte(line: &mut Vec<u8>, byte: u8, quote: u8) -> Result<(), NoMemory>
+    ensures { OnOk result (line.new.items ≡ line.old.items ++ doubled quote byte) }
+{
+    if byte == quote {
+        line.push(quote)?;
+    }
+    line.push(byte)?;
     Ok(())
 }

@@ -22,18 +22,25 @@ const NONE: &str = "-";
 /// The line that sums up a frame, with a line feed: its number, its time from the first frame's, source, target, the last
 /// protocol, and its length. The addresses are those of the first IP header, where it has them, else the first ones of
 /// Ethernet; `-` stands for what the frame doesn't have.
-#[tactic(auto, unfolding(crate::specs::Summary::summary_of))]
 pub fn summary_line(alloc: Global, tree: &Tree) -> Result<Vec<u8>, NoMemory>
     ensures { IfOk result (λ line. line.items ≡ summary_of tree.now) }
 {
     let mut line = Vec::with_capacity(alloc, LINE_ROOM)?;
-    put_times(alloc, &mut line, tree)?;
-    put_addresses(alloc, &mut line, tree)?;
-    put_protocol(&mut line, tree)?;
-    line.push(b' ')?;
-    put_length(alloc, &mut line, tree)?;
-    line.push(b'\n')?;
+    put_summary(alloc, &mut line, tree)?;
     Ok(line)
+}
+
+#[tactic(auto, unfolding(crate::specs::Summary::summary_of))]
+fn put_summary(alloc: Global, line: &mut Vec<u8>, tree: &Tree) -> Result<(), NoMemory>
+    ensures { OnOk result (line.new.items ≡ line.old.items ++ summary_of tree.now) }
+{
+    put_times(alloc, line, tree)?;
+    put_addresses(alloc, line, tree)?;
+    put_protocol(line, tree)?;
+    line.push(b' ')?;
+    put_length(alloc, line, tree)?;
+    line.push(b'\n')?;
+    Ok(())
 }
 
 #[tactic(auto, unfolding(pk_fields::specs::Fields::row_of, pk_fields::specs::Table::rows))]

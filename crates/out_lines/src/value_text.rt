@@ -1,6 +1,7 @@
 // The text of a value, appended to a line. Only that of an IPv6 address takes memory of its own.
 ghost use Rattle.std.specs.Prelude.{◌≡◌, ◌++◌, codes, decimal, if◌then◌else◌, OnOk};
 ghost use Rattle.pk_text.specs.Digits.{hex_shown};
+ghost use Rattle.pk_text.specs.Ip6.{ip6_shown};
 ghost use Rattle.out_lines.specs.ValueText.{shown_value};
 
 use pk_base::NoMemory;
@@ -26,7 +27,7 @@ pub fn put_value(
         Value::Text(bytes) => put_escaped(line, bytes.bytes()),
         Value::Ether(address) => put_ether(line, address),
         Value::Ip4(address) => put_ip4(line, *address),
-        Value::Ip6(address) => put_text(line, ip6_text(alloc, *address)?.as_str()),
+        Value::Ip6(address) => put_ip6(alloc, line, *address),
         Value::Time(time) => put_time(line, *time),
         Value::Proto(_) => put_text(line, name(field)),
     }
@@ -47,6 +48,13 @@ pub fn put_number(line: &mut Vec<u8>, number: u64) -> Result<(), NoMemory>
     ensures { OnOk result (line.new.items ≡ line.old.items ++ decimal number) }
 {
     pk_text::put_number(line, number)
+}
+
+fn put_ip6(alloc: Global, line: &mut Vec<u8>, address: u128) -> Result<(), NoMemory>
+    ensures { OnOk result (line.new.items ≡ line.old.items ++ ip6_shown address) }
+{
+    let text = ip6_text(alloc, address)?;
+    put_text(line, text.as_str())
 }
 
 fn put_truth(line: &mut Vec<u8>, truth: bool) -> Result<(), NoMemory>

@@ -9,11 +9,11 @@ loop-capture-preserved g c = record {
   few = omega (arith, c.in_ok-seen.ensures.read.few, c.loop-capture-test.true);
   read = read_on c.args.held.now _ c.loop-capture.bytes.items c.args.most (g.C.Capture.left c.args.capture.now) (g.C.Capture.left c.loop-capture.capture) (g.C.Capture.left c.read_next.new.capture)
       c.loop-capture.invariant.read c.in_ok-seen.ensures.read (c.is_open.ensures c.if-not-is_open.false);
-  file = λ n. c.read_next.ensures.file n ∙ c.loop-capture.invariant.file n;
-  asked = c.read_next.ensures.asked ∙ c.loop-capture.invariant.asked;
-  refused = c.read_next.ensures.refused ∙ c.loop-capture.invariant.refused;
-  begun = c.read_next.ensures.begun ∙ c.loop-capture.invariant.begun;
-  missed = c.read_next.ensures.missed ∙ c.loop-capture.invariant.missed;
+  file = λ n. c.read_next.ensures.stays.file n ∙ c.loop-capture.invariant.file n;
+  asked = c.read_next.ensures.stays.asked ∙ c.loop-capture.invariant.asked;
+  refused = c.read_next.ensures.stays.refused ∙ c.loop-capture.invariant.refused;
+  begun = c.read_next.ensures.stays.begun ∙ c.loop-capture.invariant.begun;
+  missed = c.read_next.ensures.stays.missed ∙ c.loop-capture.invariant.missed;
   faults = c.in_ok-seen.ensures.no_fault ∙ c.loop-capture.invariant.faults;
 }
 
