@@ -145,9 +145,17 @@ fn read_step(tree: &mut TreeBuilder, span: Span, step: &Step) -> Result<Reach, N
         Step::Whole(field, at, len) => read_part(tree, span, *field, *at, *len),
         Step::Derived(field, value, at, len) => derive_part(tree, span, *field, value, *at, *len),
         Step::Made(field, value) => make(tree, *field, value),
-        Step::Check(holds) => Ok(if *holds { Reach::All } else { Reach::Failed }),
-        Step::Room(room) => Ok(if *room { Reach::All } else { Reach::Short }),
+        Step::Check(holds) => Ok(all_or(*holds, Reach::Failed)),
+        Step::Room(room) => Ok(all_or(*room, Reach::Short)),
     }
+}
+
+/// How far a step without an item is read: all of it if its condition holds.
+pub(crate) fn all_or(holds: bool, other: Reach) -> Reach
+    ensures value { result ≡ (if holds then Reach.All else other) }
+    ensures nothing { items_after result [] ≡ [] }
+{
+    if holds { Reach::All } else { other }
 }
 
 #[tactic(auto, unfolding(crate::specs::Layouts::with_items))]

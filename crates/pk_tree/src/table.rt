@@ -11,7 +11,7 @@ ghost use Rattle.pk_tree.specs.Values.{IsProtocol};
 
 use crate::builder::TreeBuilder;
 use crate::heads::Mode;
-use crate::layout::{Reach, Step, close_layer, read_part, read_some, read_steps};
+use crate::layout::{Reach, Step, all_or, close_layer, read_part, read_some, read_steps};
 use pk_base::{NoMemory, Span};
 use pk_fields::{FieldId, field_of, size};
 
@@ -188,16 +188,8 @@ fn read_slot(
             let len = size_at(sizes, number);
             read_part(tree, span, field_of(field), usize::from(at), len)
         }
-        Slot::Check(number) => Ok(if condition(holds, number) {
-            Reach::All
-        } else {
-            Reach::Failed
-        }),
-        Slot::Room(number) => Ok(if condition(holds, number) {
-            Reach::All
-        } else {
-            Reach::Short
-        }),
+        Slot::Check(number) => Ok(all_or(condition(holds, number), Reach::Failed)),
+        Slot::Room(number) => Ok(all_or(condition(holds, number), Reach::Short)),
     }
 }
 

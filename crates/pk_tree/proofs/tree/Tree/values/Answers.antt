@@ -1,5 +1,6 @@
 use Rattle.std.proofs.Common.{◌≡◌, ◌<◌, length, [], drop, arith, append-nil}
 use Rattle.std.proofs.lemmas.List.{drop_all}
+use Rattle.pk_tree.specs.FieldValues.{values_of}
 use Rattle.pk_tree.proofs.FieldLemmas.{layers_kind}
 use Rattle.pk_tree.proofs.LayersFit.{fits_at}
 use Rattle.pk_tree.proofs.tree.Tree.values.Goals as goal
@@ -15,3 +16,9 @@ returns-clause-kind c =
     let rest : drop c.loop-layer.layer-index c.deref-layer-items.result.now ≡ [] = drop_all c.loop-layer.layer-index c.deref-layer-items.result.now c.loop-layer-test.false in
     let all = rw (rest, append-nil c.loop-layer.values.items, c.deref-layer-items.ensures.value) at c.loop-layer.invariant in
     rw all (layers_kind c.self.inside.buffers c.args.field c.args.layers.now [] c.self.inside.layers.items c.self.invariant.layers)
+
+pub returns-clause-values : goal.returns-clause-values
+unfolding values_of
+returns-clause-values c =
+    let rest : drop c.loop-layer.layer-index c.deref-layer-items.result.now ≡ [] = drop_all c.loop-layer.layer-index c.deref-layer-items.result.now c.loop-layer-test.false in
+    rw (← c.self.view_is) (rw (rest, append-nil c.loop-layer.values.items, c.deref-layer-items.ensures.value) at c.loop-layer.invariant)
