@@ -1,6 +1,7 @@
 // What `-E` sets.
 ghost use Rattle.std.specs.Prelude.{◌≡◌};
 ghost use Rattle.std.specs.Option.{option_copied};
+ghost use Rattle.std.specs.Str.{bytes_eq};
 ghost use Rattle.shark_words.specs.Keys.{begins as begins_with, behind_key, behind_name, character_of, header_of, is_choice as is_choice_of, is_setting as is_setting_text, key_name, key_of as key_of_text, occurrence_of, quote_of};
 
 use out_lines::{Occurrence, Quote};
@@ -39,6 +40,13 @@ impl Key {
     {
         strip_name(self.name(), text)
     }
+}
+
+/// Whether a text is this one.
+pub(crate) fn is_text(text: &[u8], wanted: &[u8]) -> bool
+    ensures { result ≡ bytes_eq text.now wanted.now }
+{
+    text == wanted
 }
 
 /// What stands behind a name in a text that begins with it.

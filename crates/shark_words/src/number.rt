@@ -1,7 +1,9 @@
 // Numbers in values.
-ghost use Rattle.std.specs.Prelude.{◌≡◌, ◌<◌, length, IfSome};
+ghost use Rattle.std.specs.Prelude.{◌≡◌, ◌<◌, ◌≤◌, length, IfSome, option_and_then};
+ghost use Rattle.shark_words.specs.Keys.{behind_name};
 ghost use Rattle.shark_words.specs.Numbers.{at_most as at_most_of, comma_in as comma_place, decimal_of, up_to as up_to_most};
 
+use crate::key::strip_name;
 use pk_text::{Wide, read_digits};
 
 /// A number in decimal digits without a leading zero, `0` itself aside.
@@ -18,22 +20,38 @@ pub(crate) fn read_decimal(text: &[u8]) -> Option<u64>
     }
 }
 
-/// A number that is no greater than another.
-pub(crate) fn at_most(most: u64, number: u64) -> Option<u64>
+fn at_most(most: u64, number: u64) -> Option<u64>
     ensures { result ≡ at_most_of most number }
 {
     if number <= most { Some(number) } else { None }
 }
 
-/// A number from 1 on that is no greater than another.
-pub(crate) fn up_to(most: u64, number: u64) -> Option<u64>
+/// The number behind a name, where it is no greater than another.
+pub(crate) fn number_behind(name: &[u8], most: u64, text: &[u8]) -> Option<u64>
+    ensures number { result ≡ option_and_then (at_most_of most)
+        (option_and_then decimal_of (behind_name name.now text.now)) }
+    ensures inside { IfSome result (λ number. number ≤ most) }
+{
+    let digits = strip_name(name, text)?;
+    at_most(most, read_decimal(digits)?)
+}
+
+// A number from 1 on that is no greater than another.
+fn up_to(most: u32, number: u64) -> Option<u32>
     ensures { result ≡ up_to_most most number }
 {
-    if number > 0 && number <= most {
-        Some(number)
+    if number > 0 && number <= u64::from(most) {
+        Some(number as u32)
     } else {
         None
     }
+}
+
+/// A number from 1 on that is no greater than another, in decimal digits without a leading zero.
+pub(crate) fn read_up_to(most: u32, text: &[u8]) -> Option<u32>
+    ensures { result ≡ option_and_then (up_to_most most) (decimal_of text.now) }
+{
+    up_to(most, read_decimal(text)?)
 }
 
 /// The place of the first comma.

@@ -2,8 +2,8 @@
 ghost use Rattle.std.specs.Prelude.{◌≡◌};
 ghost use Rattle.shark_words.specs.Ports.{app_named, app_of, carried as carried_by, port_in as port_in_text, port_of, port_over, rule_by as rule_by_name, rule_of, transport_name};
 
-use crate::key::strip_name;
-use crate::number::{at_most, comma_in, read_decimal};
+use crate::key::is_text;
+use crate::number::{comma_in, number_behind};
 use port_rules::{App, PortRule};
 
 /// A port of one transport.
@@ -29,8 +29,7 @@ fn transport_name(tcp: bool) -> &'static [u8]
 fn read_port_over(tcp: bool, text: &[u8]) -> Option<Port>
     ensures { result ≡ port_over tcp text.now }
 {
-    let digits = strip_name(transport_name(tcp), text)?;
-    let number = at_most(u64::from(u16::MAX), read_decimal(digits)?)?;
+    let number = number_behind(transport_name(tcp), u64::from(u16::MAX), text)?;
     Some(Port {
         tcp,
         number: number as u16,
@@ -42,7 +41,11 @@ fn read_port_over(tcp: bool, text: &[u8]) -> Option<Port>
 fn read_port(text: &[u8]) -> Option<Port>
     ensures { result ≡ port_of text.now }
 {
-    read_port_over(true, text).or_else(|| read_port_over(false, text))
+    let port = read_port_over(true, text);
+    if port.is_some() {
+        return port;
+    }
+    read_port_over(false, text)
 }
 
 /// The port that a text begins with, whatever stands behind its first comma.
@@ -59,13 +62,13 @@ pub(crate) fn port_in(text: &[u8]) -> Option<Port>
 fn app_of_name(text: &[u8]) -> Option<App>
     ensures { result ≡ app_named text.now }
 {
-    if text == b"http".as_slice() {
+    if is_text(text, b"http") {
         Some(App::Http)
-    } else if text == b"dns".as_slice() {
+    } else if is_text(text, b"dns") {
         Some(App::Dns)
-    } else if text == b"dhcp".as_slice() {
+    } else if is_text(text, b"dhcp") {
         Some(App::Dhcp)
-    } else if text == b"data".as_slice() {
+    } else if is_text(text, b"data") {
         Some(App::Plain)
     } else {
         None

@@ -139,9 +139,15 @@ fn clash_fault(uses: &[Use]) -> Option<WordFault>
 fn together_fault(behind: u64, uses: &[Use], kind: LineKind) -> Option<WordFault>
     ensures { result ≡ together_fault_of behind uses.now kind }
 {
-    fields_fault(behind, uses, kind)
-        .or_else(|| unused_fault(uses, kind))
-        .or_else(|| clash_fault(uses))
+    let fault = fields_fault(behind, uses, kind);
+    if fault.is_some() {
+        return fault;
+    }
+    let fault = unused_fault(uses, kind);
+    if fault.is_some() {
+        return fault;
+    }
+    clash_fault(uses)
 }
 
 /// Reads the options that the words of a command line give, or refuses them.

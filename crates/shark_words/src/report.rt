@@ -1,9 +1,10 @@
 // What `-z` asks for.
-ghost use Rattle.std.specs.Prelude.{◌≡◌};
+ghost use Rattle.std.specs.Prelude.{◌≡◌, option_map};
+ghost use Rattle.shark_words.specs.declared.options.Report.TheVariants.{Follow};
 ghost use Rattle.shark_words.specs.Reports.{report_of, stream_of, table_of};
 
-use crate::key::strip_name;
-use crate::number::{at_most, read_decimal};
+use crate::key::is_text;
+use crate::number::number_behind;
 use crate::options::Report;
 use cap_stats::StatKind;
 
@@ -13,23 +14,22 @@ const FOLLOW: &[u8] = b"follow,tcp,raw,";
 fn read_table(text: &[u8]) -> Option<StatKind>
     ensures { result ≡ table_of text.now }
 {
-    if text == b"conv,tcp".as_slice() {
+    if is_text(text, b"conv,tcp") {
         Some(StatKind::ConvTcp)
-    } else if text == b"conv,ip".as_slice() {
+    } else if is_text(text, b"conv,ip") {
         Some(StatKind::ConvIp)
-    } else if text == b"io,phs".as_slice() {
+    } else if is_text(text, b"io,phs") {
         Some(StatKind::Phs)
     } else {
         None
     }
 }
 
-fn read_stream(text: &[u8]) -> Option<u32>
-    ensures { result ≡ stream_of text.now }
+fn read_stream(text: &[u8]) -> Option<Report>
+    ensures { result ≡ option_map Follow (stream_of text.now) }
 {
-    let digits = strip_name(FOLLOW, text)?;
-    let number = at_most(u64::from(u32::MAX), read_decimal(digits)?)?;
-    Some(number as u32)
+    let number = number_behind(FOLLOW, u64::from(u32::MAX), text)?;
+    Some(Report::Follow(number as u32))
 }
 
 /// The report that a text asks for.
@@ -37,6 +37,8 @@ fn read_stream(text: &[u8]) -> Option<u32>
 pub(crate) fn read_report(text: &[u8]) -> Option<Report>
     ensures { result ≡ report_of text.now }
 {
-    let table = read_table(text).map(Report::Table);
-    table.or_else(|| read_stream(text).map(Report::Follow))
+    match read_table(text) {
+        Some(table) => Some(Report::Table(table)),
+        None => read_stream(text),
+    }
 }

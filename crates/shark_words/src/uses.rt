@@ -1,5 +1,5 @@
 // The uses of options in the words.
-ghost use Rattle.std.specs.Prelude.{◌≡◌, ◌<◌, ◌+◌, ◌-◌, ◌^◌, ◌++◌, ◌∷◌, ℕ, List, [], Option, IfOk, OnOk};
+ghost use Rattle.std.specs.Prelude.{◌≡◌, ◌<◌, ◌+◌, ◌-◌, ◌^◌, ◌++◌, ◌∷◌, ℕ, List, [], None, Option, IfOk, OnOk};
 ghost use Rattle.shark_words.specs.Words.{texts};
 ghost use Rattle.shark_words.specs.declared.letter.Letter.{Letter as IsLetter};
 ghost use Rattle.shark_words.specs.declared.uses.Use.{Use as IsUse};
@@ -76,6 +76,15 @@ fn is_cluster(letters: &[u8]) -> bool
     true
 }
 
+// Adds a use behind which no option waits for its value.
+fn take_use(uses: &mut Vec<Use>, used: Use) -> Result<Option<Letter>, NoMemory>
+    ensures none { IfOk result (λ waiting. waiting ≡ None) }
+    ensures used { OnOk result (uses.new.items ≡ uses.old.items ++ used ∷ []) }
+{
+    uses.push(used)?;
+    Ok(None)
+}
+
 // Adds the use of an option whose value is what is left of its word. Answers the option where nothing is left.
 fn take_value(
     alloc: Global,
@@ -92,8 +101,7 @@ fn take_value(
         return Ok(Some(letter));
     }
     let text = Octets::copy(alloc, rest)?;
-    uses.push(Use::with_value(number, letter, number, text))?;
-    Ok(None)
+    take_use(uses, Use::with_value(number, letter, number, text))
 }
 
 // Adds the uses of a cluster's letters. Answers the option whose value the next word is.
@@ -133,14 +141,12 @@ fn take_dashed(
         uses.old.items ++ letters_at number letters.now behind ≡ uses.new.items ++ behind waiting) }
 {
     if letters == FILTER_STATS {
-        uses.push(Use::without_value(number, Letter::FilterStats))?;
-        return Ok(None);
+        return take_use(uses, Use::without_value(number, Letter::FilterStats));
     }
     if is_cluster(letters) {
         return take_letters(alloc, uses, number, letters);
     }
-    uses.push(Use::Unknown(number))?;
-    Ok(None)
+    take_use(uses, Use::Unknown(number))
 }
 
 // Adds the uses of a word that is no option's value. Answers the option whose value the next word is.
@@ -154,8 +160,7 @@ fn take_option(
         uses.old.items ++ uses_at number word.now behind ≡ uses.new.items ++ behind waiting) }
 {
     let [b'-', _, ..] = word else {
-        uses.push(Use::Stray(number))?;
-        return Ok(None);
+        return take_use(uses, Use::Stray(number));
     };
     let letters = &word[1..];
     if letters == SELF_RUN {
@@ -182,8 +187,7 @@ fn take_word(
     match waiting {
         Some(letter) => {
             let text = Octets::copy(alloc, word)?;
-            uses.push(Use::with_value(before, letter, number, text))?;
-            Ok(None)
+            take_use(uses, Use::with_value(before, letter, number, text))
         }
         None => take_option(alloc, uses, number, word),
     }

@@ -1,33 +1,24 @@
 // What an option's value may be.
-ghost use Rattle.std.specs.Prelude.{◌≡◌, option_and_then};
-ghost use Rattle.shark_words.specs.Numbers.{decimal_of, up_to as up_to_most};
-ghost use Rattle.shark_words.specs.Values.{count_of, format_of as format_of_text, generated_by, is_blank as is_blank_text, is_value as is_value_of, kind_of as kind_of_text, most_generated};
+ghost use Rattle.std.specs.Prelude.{◌≡◌};
+ghost use Rattle.shark_words.specs.Values.{count_of, format_of as format_of_text, generated_by, is_blank as is_blank_text, is_value as is_value_of, kind_of as kind_of_text};
 
-use crate::key::is_setting;
+use crate::key::{is_setting, is_text};
 use crate::letter::Letter;
-use crate::number::{comma_in, read_decimal, up_to};
+use crate::number::{comma_in, read_decimal, read_up_to};
 use crate::options::{LineKind, Source};
 use crate::port::read_rule;
 use crate::report::read_report;
 use capture_write::Format;
 
 /// A capture is generated with so many frames at most.
-const MOST_GENERATED: u64 = 200_000;
+const MOST_GENERATED: u32 = 200_000;
 
 /// A number from 1 to 4,294,967,295 in decimal digits without a leading zero.
 #[tactic(auto, unfolding(crate::specs::Values::count_of))]
 pub(crate) fn read_count(text: &[u8]) -> Option<u32>
     ensures { result ≡ count_of text.now }
 {
-    let count = up_to(u64::from(u32::MAX), read_decimal(text)?)?;
-    u32::try_from(count).ok()
-}
-
-fn read_frames(text: &[u8]) -> Option<u32>
-    ensures { result ≡ option_and_then (up_to_most most_generated) (decimal_of text.now) }
-{
-    let frames = up_to(MOST_GENERATED, read_decimal(text)?)?;
-    u32::try_from(frames).ok()
+    read_up_to(u32::MAX, text)
 }
 
 /// A generated capture: its number, a comma, and how many frames it has.
@@ -37,18 +28,18 @@ pub(crate) fn read_generated(text: &[u8]) -> Option<Source>
 {
     let comma = comma_in(text)?;
     let number = read_decimal(&text[..comma])?;
-    let frames = read_frames(&text[comma + 1..])?;
+    let frames = read_up_to(MOST_GENERATED, &text[comma + 1..])?;
     Some(Source::Generated(number, frames))
 }
 
 pub(crate) fn read_kind(text: &[u8]) -> Option<LineKind>
     ensures { result ≡ kind_of_text text.now }
 {
-    if text == b"text".as_slice() {
+    if is_text(text, b"text") {
         Some(LineKind::Text)
-    } else if text == b"fields".as_slice() {
+    } else if is_text(text, b"fields") {
         Some(LineKind::Fields)
-    } else if text == b"json".as_slice() {
+    } else if is_text(text, b"json") {
         Some(LineKind::Json)
     } else {
         None
@@ -59,9 +50,9 @@ pub(crate) fn read_kind(text: &[u8]) -> Option<LineKind>
 pub fn read_format(text: &[u8]) -> Option<Format>
     ensures { result ≡ format_of_text text.now }
 {
-    if text == b"pcap".as_slice() {
+    if is_text(text, b"pcap") {
         Some(Format::Pcap)
-    } else if text == b"pcapng".as_slice() {
+    } else if is_text(text, b"pcapng") {
         Some(Format::Pcapng)
     } else {
         None
@@ -81,7 +72,7 @@ pub(crate) fn is_value(letter: Letter, text: &[u8]) -> bool
         Letter::Two | Letter::Quiet | Letter::FilterStats => false,
         Letter::Decode => read_rule(text).is_some(),
         Letter::Report => read_report(text).is_some(),
-        Letter::Output => text == b"-".as_slice(),
+        Letter::Output => is_text(text, b"-"),
         Letter::Format => read_format(text).is_some(),
         Letter::SelfRun => read_generated(text).is_some(),
     }

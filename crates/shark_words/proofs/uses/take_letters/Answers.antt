@@ -1,4 +1,4 @@
-use Rattle.std.proofs.Common.{◌≡◌, ◌<◌, ◌+◌, ◌++◌, ℕ, true, false, List, [], ◌∷◌, length, Option, Some, Result, Ok, Err, get_or, drop, refl, sym, ◌∙◌, ap, add-one, append_assoc, drop-cons, length-drop, arith}
+use Rattle.std.proofs.Common.{◌≡◌, ◌<◌, ◌+◌, ◌++◌, ℕ, true, false, List, [], ◌∷◌, length, Option, None, Some, Result, Ok, Err, get_or, drop, refl, sym, ◌∙◌, ap, add-one, append_assoc, drop-cons, length-drop, arith}
 use Rattle.std.specs.Prelude.{IfOk}
 use Rattle.std.proofs.lemmas.List.{drop_all, take_all}
 use Rattle.shark_words.specs.declared.letter.Letter.{Letter}
@@ -45,10 +45,28 @@ next_letter number letters at letter used old now new inside is none plain pushe
     ∙ sym (append_assoc now (used ∷ []) rest)
     ∙ ap (λ (uses : List Use). uses ++ rest) (sym pushed)
 
+-- one byte more that is no letter
+no_letter : (number b : ℕ) (rest : List ℕ) (behind : Option Letter → List Use) → None ≡ letter_of b → cluster_uses number (b ∷ rest) behind ≡ cluster_uses number rest behind
+no_letter number b rest behind is = rw (← is) refl
+
+pass_over : (number : ℕ) (letters : List ℕ) (at : ℕ) (old now : List Use) → at < length letters → None ≡ letter_of (get_or letters at 0)
+    → ((behind : Option Letter → List Use) → old ++ cluster_uses number letters behind ≡ now ++ cluster_uses number (drop at letters) behind)
+    → (behind : Option Letter → List Use) → old ++ cluster_uses number letters behind ≡ now ++ cluster_uses number (drop (at + 1) letters) behind
+pass_over number letters at old now inside none so = λ behind.
+    let front : drop at letters ≡ get_or letters at 0 ∷ drop (at + 1) letters = rw (add-one at) (drop-cons letters at 0 inside) in
+    so behind
+    ∙ ap (λ (left : List ℕ). now ++ cluster_uses number left behind) front
+    ∙ ap (λ (uses : List Use). now ++ uses) (no_letter number (get_or letters at 0) (drop (at + 1) letters) behind none)
+
 pub loop-at-preserved : goal.loop-at-preserved
 loop-at-preserved c =
     next_letter c.args.number c.args.letters.now c.loop-at.at c.in-Some.letter c.without_value.result c.args.uses.now.items c.loop-at.uses.items c.push.new.self.items
     c.loop-at-test.true (sym c.in-Some.is ∙ c.of_byte.ensures) (sym c.if-has_value.false ∙ c.has_value.ensures) c.without_value.ensures c.in_ok-push.ensures.items c.loop-at.invariant
+
+pub loop-at-preserved-in_default : goal.loop-at-preserved-in_default
+loop-at-preserved-in_default c =
+    pass_over c.args.number c.args.letters.now c.loop-at.at c.args.uses.now.items c.loop-at.uses.items c.loop-at-test.true
+    (sym c.in_default.is ∙ c.of_byte.ensures) c.loop-at.invariant
 
 pub returns-then-has_value : goal.returns-then-has_value
 returns-then-has_value c =
