@@ -8,10 +8,9 @@ ghost use Rattle.dissect.specs.Walks.{IsTodoInside, datagram_met};
 
 use crate::state::State;
 use crate::todo::Todo;
-use app_layers::add_message;
+use app_layers::{add_message, is_cut, tell_datagram};
 use capture_read::Frame;
 use conversations::udp_ends;
-use app_layers::{is_cut, tell_datagram};
 use pk_base::{NoMemory, Span};
 use pk_tree::{PacketHead, PortsHead, TreeBuilder};
 use port_rules::{PortRule, udp_app};

@@ -14,9 +14,9 @@ ghost use Rattle.app_layers.specs.Times.{AreTimes};
 ghost use Rattle.dissect.specs.Trees.{tree_at, events_of, kept_walk};
 
 use crate::state::State;
+use app_layers::{Times, begin_tree, captured};
 use capture_read::Frame;
 use conversations::Conversations;
-use app_layers::{Times, begin_tree, captured};
 use ip_join::Joins;
 use message_links::{Links, link_messages};
 use pk_base::NoMemory;

@@ -9,8 +9,8 @@ ghost use Rattle.dissect.specs.Stands.{AddsOneThenEnds};
 ghost use Rattle.dissect.specs.Walks.{IsTodoInside};
 
 use crate::todo::{Head, Todo};
-use dis_ip::carried_by;
 use app_layers::tell_joined;
+use dis_ip::carried_by;
 use ip_join::Datagram;
 use pk_base::NoMemory;
 use pk_tree::{After, FragmentHead, Mode, PacketHead, TreeBuilder};

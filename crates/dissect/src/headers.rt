@@ -7,8 +7,8 @@ ghost use Rattle.dissect.specs.Walks.{IsTodoInside, head_met, mode_after, mode_b
 
 use crate::state::State;
 use crate::todo::{Head, Todo};
-use capture_read::Frame;
 use app_layers::{is_cut, read_head};
+use capture_read::Frame;
 use pk_base::NoMemory;
 use pk_tree::{After, Mode, Next, TreeBuilder};
 use port_rules::PortRule;

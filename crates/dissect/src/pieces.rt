@@ -11,8 +11,8 @@ ghost use Rattle.dissect.specs.Walks.{IsTodoInside, joined_met, piece_met, fragm
 use crate::fragments::begin_datagram;
 use crate::state::State;
 use crate::todo::Todo;
-use capture_read::Frame;
 use app_layers::tell_conflict;
+use capture_read::Frame;
 use ip_join::Joined;
 use pk_base::{NoMemory, Octets, Span};
 use pk_tree::{FragmentHead, PacketHead, TreeBuilder};

@@ -14,9 +14,8 @@ ghost use Rattle.dissect.specs.Walks.{IsTodoInside, segment_met};
 
 use crate::state::State;
 use crate::todo::Todo;
-use app_layers::{add_carried, add_passed, stream_app};
+use app_layers::{add_carried, add_passed, is_cut, stream_app, tell_carried, tell_segment};
 use capture_read::Frame;
-use app_layers::{is_cut, tell_carried, tell_segment};
 use pk_base::{NoMemory, Octets, Span};
 use pk_tree::{Endpoint, PacketHead, TcpHead, TreeBuilder};
 use port_rules::PortRule;

@@ -10,10 +10,9 @@ ghost use Rattle.dissect.specs.Walks.{IsTodoInside, rest_met, followed, chain, g
 
 use crate::state::State;
 use crate::todo::{Head, Todo};
-use app_layers::add_data;
+use app_layers::{add_data, captured, frame_span, is_cut};
 use capture_read::Frame;
 use dis_link::read_link;
-use app_layers::{captured, frame_span, is_cut};
 use pk_base::{LAYER_LIMIT, NoMemory, Span};
 use pk_tree::{Address, After, Mode, PacketHead, TreeBuilder};
 use port_rules::PortRule;

@@ -5,10 +5,8 @@ ghost use Rattle.flt_code.specs.Literals.{constant_shown, field_shown, members_s
 ghost use Rattle.flt_vm.specs.Sources.{sources_of};
 
 use crate::literals::{put_constant, put_field, put_members, put_ranges, put_string};
-use flt_typed::Pattern;
 use flt_syntax::{Arithmetic, Choice, Function, RangePart};
-use flt_typed::{Filter, Member};
-use flt_typed::{Constant, Extreme, Relation};
+use flt_typed::{Constant, Extreme, Filter, Member, Pattern, Relation};
 use flt_vm::{Instr, Program, patterns_in};
 use pk_base::NoMemory;
 use pk_fields::FieldId;

@@ -5,8 +5,7 @@ ghost use Rattle.pk_text.specs.Ip6.{ip6_shown};
 ghost use Rattle.flt_code.specs.Literals.{bytes_shown, constant_shown, field_shown, layer_range_shown, layers_shown, member_shown, members_shown, place_shown, prefix_shown, quoted_byte, range_shown, ranges_shown, string_shown, value_shown};
 
 use flt_syntax::{Place, RangePart};
-use flt_typed::Member;
-use flt_typed::Constant;
+use flt_typed::{Constant, Member};
 use pk_base::NoMemory;
 use pk_fields::{FieldId, name};
 use pk_text::{TextSink, ip6_text, put_escaped, put_ether, put_hex, put_ip4, put_number, put_time};

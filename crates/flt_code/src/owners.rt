@@ -3,8 +3,7 @@ ghost use Rattle.std.specs.Prelude.{◌≡◌, IfOk, IsTrue, OnOk};
 ghost use Rattle.flt_code.specs.Owners.{Grows, IsOwned, OfTerm, owner_of, owners_of};
 ghost use Rattle.flt_typed.specs.declared.typed.Term.TheVariants.{Field};
 
-use flt_typed::{Term, Typed};
-use flt_typed::Extreme;
+use flt_typed::{Extreme, Term, Typed};
 use pk_base::NoMemory;
 use pk_fields::FieldId;
 use pk_tree::Layers;

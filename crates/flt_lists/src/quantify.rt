@@ -5,9 +5,8 @@ ghost use Rattle.flt_lists.specs.Passes.{is_some_value, passes};
 ghost use Rattle.flt_lists.specs.Questions.{is_matched, is_so};
 
 use crate::question::{Question, is_so};
-use flt_typed::Search;
 use flt_syntax::Choice;
-use flt_typed::octets_of;
+use flt_typed::{Search, octets_of};
 use pk_tree::Value;
 
 /// Whether any or all of the values answer a question; of no values neither is true.

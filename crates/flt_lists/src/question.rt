@@ -2,8 +2,7 @@
 ghost use Rattle.std.specs.Prelude.{◌≡◌};
 ghost use Rattle.flt_lists.specs.Questions.{is_among, is_member, is_so};
 
-use flt_typed::Member;
-use flt_typed::{Relation, is_nonzero, lies_between, related};
+use flt_typed::{Member, Relation, is_nonzero, lies_between, related};
 use pk_tree::Value;
 
 /// What is asked of a single value.

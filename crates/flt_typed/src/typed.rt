@@ -1,8 +1,7 @@
 // Filters with their types: each name as its field, each literal as a value, each pattern compiled.
 
-use crate::Pattern;
+use crate::{Constant, Pattern, Relation};
 use flt_syntax::{Arithmetic, Choice, Function, RangePart};
-use crate::{Constant, Relation};
 use pk_fields::FieldId;
 use pk_tree::Layers;
 

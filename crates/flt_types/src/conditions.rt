@@ -17,10 +17,10 @@ use crate::operands::first_sign;
 use crate::owned::refused;
 use crate::position::{LEFT, RIGHT};
 use crate::sets::members;
-use flt_typed::{Pattern, PatternFault};
 use flt_syntax::{Choice, Element, FilterError, FilterReason, Operand, Operator, Quote, Tail};
-use flt_typed::{Term, Typed, kind_of};
-use flt_typed::{Relation, is_searched, same_class, takes};
+use flt_typed::{
+    Pattern, PatternFault, Relation, Term, Typed, is_searched, kind_of, same_class, takes,
+};
 use pk_fields::{ValueKind, by_name};
 use std::alloc::Global;
 

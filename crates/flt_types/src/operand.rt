@@ -24,8 +24,7 @@ use crate::ranges::parts_for;
 use flt_syntax::{
     Arithmetic, FilterError, FilterReason, Function, Layer, LayerRange, Operand, SliceRange, Word,
 };
-use flt_typed::{NUMBER, Standing, Term, kind_of};
-use flt_typed::{is_number, read_within, read_word, takes_call};
+use flt_typed::{NUMBER, Standing, Term, is_number, kind_of, read_within, read_word, takes_call};
 use pk_base::NoMemory;
 use pk_fields::{FieldId, ValueKind, by_name};
 use pk_text::Wide;

@@ -7,9 +7,8 @@ ghost use Rattle.flt_vm.specs.Slots.{held_in, is_unset, truth_in};
 
 use crate::slots::{Slot, listed_in};
 use flt_lists::{Question, asks_field, compares, matched, passes};
-use flt_typed::Search;
 use flt_syntax::Choice;
-use flt_typed::{Constant, Relation};
+use flt_typed::{Constant, Relation, Search};
 use pk_base::NoMemory;
 use pk_tree::{Tree, Value};
 use std::alloc::Global;

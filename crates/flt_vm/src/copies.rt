@@ -4,8 +4,7 @@ ghost use Rattle.flt_typed.specs.declared.typed.Member.TheVariants.{Between, One
 
 use crate::instr::{MemberList, RangeList};
 use flt_syntax::RangePart;
-use flt_typed::Member;
-use flt_typed::Constant;
+use flt_typed::{Constant, Member};
 use pk_base::NoMemory;
 use pk_tree::{LayerRanges, Layers};
 use std::alloc::Global;

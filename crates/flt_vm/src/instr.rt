@@ -1,8 +1,7 @@
 // The instructions of the machine.
 
 use flt_syntax::{Arithmetic, Choice, Function, RangePart};
-use flt_typed::Member;
-use flt_typed::{Constant, Extreme, Relation};
+use flt_typed::{Constant, Extreme, Member, Relation};
 use pk_fields::FieldId;
 use pk_tree::Layers;
 use std::marker::Model;

@@ -4,8 +4,7 @@ ghost use Rattle.flt_vm.specs.Programs.{patterns_of};
 ghost use Rattle.flt_vm.specs.Sources.{sources_of};
 ghost use Rattle.flt_vm.specs.Stacks.{patterns_left, size_left, size_of};
 
-use flt_typed::Pattern;
-use flt_typed::Typed;
+use flt_typed::{Pattern, Typed};
 use pk_base::NoMemory;
 use std::alloc::Global;
 

@@ -25,9 +25,8 @@ use flt_lists::{
     Question, calculated_values, called_values, is_some_value as some_value, masked_values, only,
     slices,
 };
-use flt_typed::Search;
 use flt_syntax::{Arithmetic, Choice, Function, RangePart};
-use flt_typed::{Extreme, extreme_of};
+use flt_typed::{Extreme, Search, extreme_of};
 use pk_base::NoMemory;
 use pk_fields::FieldId;
 use pk_tree::{Layers, Tree, Value};
