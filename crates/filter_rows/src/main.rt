@@ -1,14 +1,10 @@
-//! What filters' texts, patterns and values are, what filters mean of trees, and how their programs are listed and run: reads tables of
-//! rows, and prints the rows that don't hold, and how many rows each table has.
+//! What filters mean of trees, and how their programs are listed and run: reads tables of rows, and prints the rows that don't hold, and
+//! how many rows each table has.
 #![tactic(auto)]
 
 mod alone;
 mod asked;
-mod literals;
 mod machine;
-mod patterns;
-mod shape;
-mod written;
 
 use std::alloc::Global;
 use std::io::{self, Read};
@@ -16,14 +12,6 @@ use std::io::{self, Read};
 /// Whether a row of the table of this name holds.
 fn holds(alloc: Global, check: &str, row: &str) -> bool {
     let answer = match check {
-        "filter" => written::is_answered(alloc, row),
-        "long filter" => written::is_long_answered(alloc, row),
-        "literal" => literals::is_read(alloc, false, row),
-        "literal with prefix length" => literals::is_read(alloc, true, row),
-        "kind" => literals::is_kind(row),
-        "relation" => literals::is_relation(row),
-        "pattern" => patterns::is_pattern(alloc, row),
-        "long pattern" => patterns::is_long_pattern(alloc, row),
         "asked of the packet" => asked::is_asked(alloc, asked::PACKET, row),
         "asked of values" => asked::is_asked(alloc, asked::VALUES, row),
         "asked of lists" => asked::is_asked(alloc, asked::LISTS, row),
