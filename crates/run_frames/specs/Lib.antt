@@ -1,6 +1,7 @@
 pub mod Accessors
 pub mod Chosen
 pub mod Compiled
+pub mod Ended
 pub mod Fitting
 pub mod Generated
 pub mod Job

@@ -17,7 +17,6 @@ mod source;
 mod tables;
 mod text;
 mod totals;
-mod wanted;
 
 pub use compiled::Compiled;
 pub use dissect::give_up_dissector;
@@ -32,7 +31,6 @@ pub use plan::{FieldList, Plan};
 pub use rules::{PlanRules, copy_rules};
 pub use run_ending::RunEnding;
 pub use source::PlanSource;
-pub use tables::Tables;
+pub use tables::{Tables, asks_table};
 pub use text::Text;
 pub use totals::Totals;
-pub use wanted::needed_fields;

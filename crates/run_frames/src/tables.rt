@@ -35,7 +35,7 @@ impl Table {
         ensures few { HasFew 0 result.stats }
     {
         Table {
-            asked: asks(plan, kind),
+            asked: asks_table(plan, kind),
             stats: Stats::new(alloc, kind),
         }
     }
@@ -68,7 +68,7 @@ impl Table {
 }
 
 /// Whether a table of a kind is asked for.
-pub(crate) fn asks(plan: &Plan, kind: StatKind) -> bool
+pub fn asks_table(plan: &Plan, kind: StatKind) -> bool
     ensures { result ≡ asks_table plan.now kind }
 {
     plan.reports
@@ -81,7 +81,9 @@ pub(crate) fn asks(plan: &Plan, kind: StatKind) -> bool
 pub(crate) fn has_tables(plan: &Plan) -> bool
     ensures { result ≡ asks_tables plan.now }
 {
-    asks(plan, StatKind::ConvTcp) || asks(plan, StatKind::ConvIp) || asks(plan, StatKind::Phs)
+    asks_table(plan, StatKind::ConvTcp)
+        || asks_table(plan, StatKind::ConvIp)
+        || asks_table(plan, StatKind::Phs)
 }
 
 fn is_table(report: Report, kind: StatKind) -> bool

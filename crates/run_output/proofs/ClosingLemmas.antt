@@ -1,39 +1,30 @@
 -- What is written behind the frames' lines.
-use Rattle.std.proofs.Common.{◌≡◌, ◌+◌, ℕ, Bool, true, false, List, [], ◌∷◌, ◌++◌, length, Option, None, Some, inl, inr, refl, sym, ap, ◌∙◌, subst, reverse}
-use Rattle.std.specs.Prelude.{IfSome, if◌then◌else◌}
+use Rattle.std.proofs.Common.{◌≡◌, ◌+◌, ℕ, Bool, true, false, List, [], ◌∷◌, ◌++◌, length, Option, None, Some, refl, sym, ap, ◌∙◌, subst}
+use Rattle.std.specs.Prelude.{if◌then◌else◌}
 use Rattle.std.specs.Io.KnownBytes.{Appends}
 use Rattle.std.proofs.KnownBytes.{Appends-trans}
 use Rattle.pk_outside.specs.Outside.{AppendsPart}
-use Rattle.pk_outside.proofs.Parts.{part_after, part_more, part_none}
+use Rattle.pk_outside.proofs.Parts.{part_after, part_more}
 use Rattle.capture_write.specs.Kept.{Kept, end_at, kept_of}
 use Rattle.capture_write.specs.declared.format.Format.{Format}
-use Rattle.run_frames.specs.declared.run_ending.RunEnding.{RunEnding}
 use Rattle.capture_read.specs.declared.frame.Frame.{Frame}
 use Rattle.dissect.specs.Stands.{DissectorShown, StandsWithin}
-use Rattle.run_frames.specs.declared.plan.Plan.{Plan}
-use Rattle.run_frames.specs.Fitting.{job_of}
-use Rattle.run_frames.specs.Job.{Job, Passes, job_in}
+use Rattle.run_frames.specs.Job.{Job}
 use Rattle.run_frames.specs.declared.notes.Notes.{Notes}
 use Rattle.run_frames.specs.declared.totals.Totals.{Totals}
 use Rattle.run_frames.specs.Accessors.{compiled_of, is_generated, reports_of, stats_of, written_of}
 use Rattle.run_frames.specs.Chosen.{IsWriting, chosen_of}
-use Rattle.run_passes.specs.Ended.{CanClose, HasRead}
+use Rattle.run_frames.specs.Ended.{CanClose}
 use Rattle.run_output.specs.FilterStats.{stats_lines, steps_over}
 use Rattle.run_frames.specs.Totals.{steps_told, counts_of, counts_with, nothing_counted, with_tree}
 use Rattle.run_frames.specs.Satisfied.{judged}
 use Rattle.run_output.specs.Lines.{closing, closing_by, counted_line}
-use Rattle.run_frames.specs.Pieces.{pieces}
-use Rattle.run_passes.specs.Reading.{frames_read}
 use Rattle.run_output.specs.Reports.{reports_text}
 use Rattle.pk_fields.specs.Ids.{DNS, HTTP}
 use Rattle.run_output.specs.SelfRun.{counts_text, layer_count, self_run_line, shown_count, tcp_count, udp_count, totals_of}
 use Rattle.run_frames.specs.Notes.{AreNotes}
 use Rattle.run_frames.specs.Trees.{lets_frame, tree_of, trees_of}
-use Rattle.run_passes.specs.SoFar.{IsBrokenBehind}
-use Rattle.run_output.specs.Way.{IsBrokenFrom}
 use Rattle.run_frames.proofs.PacketLemmas.{kept_is}
-use Rattle.run_output.specs.Wrote.{WroteBody, WroteSomeBody, body_of}
-use Rattle.run_passes.specs.WrotePieces.{WrotePieces, WroteSomePieces}
 
 -- the line over frames tells their totals
 pub line_counted : (job : Job) (past : List Frame) (totals : Totals) (tcp udp : ℕ) (line : List ℕ)
@@ -142,53 +133,3 @@ closed_capture format job d t k now new is wrote past can = subst (λ (bytes : L
 pub closed_capture_part : (format : Format) (job : Job) (d : DissectorShown) (t : Notes) (k : Kept) (now new : Option (List ℕ)) → written_of job.plan ≡ Some format
     → AppendsPart now new (end_at k) → (past : List Frame) → CanClose (written_of job.plan) job past d t k → AppendsPart now new (closing job past)
 closed_capture_part format job d t k now new is part past can = subst (AppendsPart now new) (end_is format job past d t k is can) part
-
--- behind the frames' lines all was written
-pub closed_whole : (plan : Plan) (told : Option (List ℕ)) (ending : RunEnding) (d : DissectorShown) (t : Notes) (k : Kept) (old now new : Option (List ℕ))
-    → IfSome told (λ file. WrotePieces plan (frames_read plan file) old now × (ending ≡ (frames_read plan file).ending))
-    → IfSome told (λ file. HasRead plan file d t k)
-    → ((passes : Passes) (past : List Frame) → CanClose (written_of plan) (job_in plan passes) past d t k → Appends now new (closing (job_in plan passes) past))
-    → IfSome told (λ file. WroteBody plan (frames_read plan file) old new × (ending ≡ (frames_read plan file).ending))
-closed_whole plan None ending d t k old now new wrote read closed = tt
-closed_whole plan (Some file) ending d t k old now new wrote read closed = (
-  Appends-trans old now new (pieces (job_of plan (frames_read plan file)) [] (frames_read plan file).frames) (closing (job_of plan (frames_read plan file)) (reverse (frames_read plan file).frames)) wrote.0
-      (closed (frames_read plan file).passes (reverse (frames_read plan file).frames) read),
-  wrote.1,
-)
-
--- a front of it was
-pub closed_part : (plan : Plan) (told : Option (List ℕ)) (ending : RunEnding) (d : DissectorShown) (t : Notes) (k : Kept) (old now new : Option (List ℕ))
-    → IfSome told (λ file. WrotePieces plan (frames_read plan file) old now × (ending ≡ (frames_read plan file).ending))
-    → IfSome told (λ file. HasRead plan file d t k)
-    → ((passes : Passes) (past : List Frame) → CanClose (written_of plan) (job_in plan passes) past d t k → AppendsPart now new (closing (job_in plan passes) past))
-    → IfSome told (λ file. WroteSomeBody plan (frames_read plan file) old new)
-closed_part plan None ending d t k old now new wrote read closed = tt
-closed_part plan (Some file) ending d t k old now new wrote read closed =
-    part_after old now new (pieces (job_of plan (frames_read plan file)) [] (frames_read plan file).frames) (closing (job_of plan (frames_read plan file)) (reverse (frames_read plan file).frames)) wrote.0
-    (closed (frames_read plan file).passes (reverse (frames_read plan file).frames) read)
-
-pub closed_near : (plan : Plan) (told : Option (List ℕ)) (ending : RunEnding) (d : DissectorShown) (t : Notes) (k : Kept) (left old now new : Option (List ℕ))
-    → IfSome told (λ file. WrotePieces plan (frames_read plan file) old now × (ending ≡ (frames_read plan file).ending))
-    → IfSome told (λ file. HasRead plan file d t k)
-    → ((passes : Passes) (past : List Frame) → CanClose (written_of plan) (job_in plan passes) past d t k → AppendsPart now new (closing (job_in plan passes) past))
-    → IfSome told (λ file. IsBrokenFrom [] plan file left old new)
-closed_near plan None ending d t k left old now new wrote read closed = tt
-closed_near plan (Some file) ending d t k left old now new wrote read closed =
-    let part = closed (frames_read plan file).passes (reverse (frames_read plan file).frames) read in
-    inr (part.0, part.1, part.2, Appends-trans old now new (pieces (job_of plan (frames_read plan file)) [] (frames_read plan file).frames) part.0 wrote.0 part.3)
-
--- nothing was written
-pub none_body : (plan : Plan) (told old : Option (List ℕ)) → IfSome told (λ file. WroteSomeBody plan (frames_read plan file) old old)
-none_body plan None old = tt
-none_body plan (Some file) old = part_none old (body_of plan (frames_read plan file))
-
--- before that, a write of a frame's line failed, or there was no memory for it
-pub some_body : (plan : Plan) (told old new : Option (List ℕ)) → IfSome told (λ file. WroteSomePieces plan (frames_read plan file) old new)
-    → IfSome told (λ file. WroteSomeBody plan (frames_read plan file) old new)
-some_body plan None old new part = tt
-some_body plan (Some file) old new part = part_more old new (pieces (job_of plan (frames_read plan file)) [] (frames_read plan file).frames) (closing (job_of plan (frames_read plan file)) (reverse (frames_read plan file).frames)) part
-
-pub near_body : (plan : Plan) (told left old new : Option (List ℕ)) → IfSome told (λ file. IsBrokenBehind [] plan file left old new)
-    → IfSome told (λ file. IsBrokenFrom [] plan file left old new)
-near_body plan None left old new broken = tt
-near_body plan (Some file) left old new broken = inl broken

@@ -1,8 +1,7 @@
-mod BodyLemmas
 mod ClosingLemmas
-mod CutLemmas
+mod EnoughLemmas
 mod FollowLemmas
 mod JsonLemmas
-mod OpeningLemmas
 mod ReportLemmas
 pub mod StatsLemmas
+mod SummaryLemmas

@@ -4,5 +4,3 @@ pub mod Lines
 pub mod ReportLaws
 pub mod Reports
 pub mod SelfRun
-pub mod Way
-pub mod Wrote

@@ -1,14 +1,17 @@
-//! The whole output over the frames of a begun file: what stands before their lines, the lines or the capture, in one pass or two, and
-//! the reports, statistics and counts behind them.
+//! What stands before and behind the lines of frames: the header line; the reports, the statistics of a filter and the line of what was
+//! counted, or the end of a capture; and the fields that all of the output asks for.
 #![tactic(auto)]
 
+mod closing;
 mod filter_stats;
 mod laws;
-mod output;
+mod opening;
 mod owned;
 mod reports;
 mod self_run;
-mod two_passes;
+mod wanted;
 
+pub use closing::write_closing;
 pub use laws::{follows_stand_alone, messages_are_told_once};
-pub use output::write_output;
+pub use opening::opening_line;
+pub use wanted::needed_fields;

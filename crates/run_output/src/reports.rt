@@ -12,7 +12,7 @@ ghost use Rattle.tcp_streams.specs.declared.segment.Segment.{Segment as SegmentV
 ghost use Rattle.run_frames.specs.Accessors.{reports_of};
 ghost use Rattle.run_frames.specs.Job.{Passes, job_in};
 ghost use Rattle.run_frames.specs.Notes.{AreNotes};
-ghost use Rattle.run_passes.specs.Ended.{HasTaken};
+ghost use Rattle.run_frames.specs.Ended.{HasTaken};
 ghost use Rattle.run_output.specs.Reports.{IsAsked, fronts_in, report_text, reports_text};
 
 use dissect::Dissector;

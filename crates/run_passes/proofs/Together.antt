@@ -9,7 +9,7 @@ use Rattle.dissect.specs.Stands.{DissectorShown, StandsWithin}
 use Rattle.capture_read.specs.FrameList.{IsTime}
 use Rattle.run_frames.specs.declared.notes.Notes.{Notes}
 use Rattle.run_frames.specs.Notes.{AreFewNotes}
-use Rattle.run_passes.specs.Ended.{HasTaken}
+use Rattle.run_frames.specs.Ended.{HasTaken}
 use Rattle.run_frames.proofs.NoteLemmas.{notes_few}
 
 pub record AreTogether (r : Reader) (d : DissectorShown) : Type 0 where

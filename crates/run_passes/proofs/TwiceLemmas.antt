@@ -26,7 +26,7 @@ use Rattle.run_frames.specs.declared.plan.Plan.{Plan}
 use Rattle.run_frames.specs.declared.run_ending.RunEnding.{RunEnding}
 use Rattle.run_frames.specs.declared.run_ending.RunEnding.TheVariants.{Read, Unfit}
 use Rattle.run_frames.specs.Accessors.{rules_of, two_of, written_of}
-use Rattle.run_passes.specs.Ended.{CanClose}
+use Rattle.run_frames.specs.Ended.{CanClose}
 use Rattle.run_frames.specs.Fitting.{FramesRead, before, fitting, is_unfit, over}
 use Rattle.run_frames.specs.Job.{Job, Passes, noted_of, passes_by}
 use Rattle.run_frames.specs.Later.{ServesKept}

@@ -30,7 +30,8 @@ use Rattle.run_frames.specs.Accessors.{rules_of, two_of, written_of}
 use Rattle.run_frames.specs.declared.run_ending.RunEnding.{RunEnding}
 use Rattle.run_frames.specs.declared.run_ending.RunEnding.TheVariants.{Read, Unfit}
 use Rattle.run_frames.specs.declared.notes.Notes.{Notes}
-use Rattle.run_passes.specs.Ended.{CanClose, HasRead}
+use Rattle.run_frames.specs.Ended.{CanClose}
+use Rattle.run_passes.specs.Ended.{HasRead}
 use Rattle.run_frames.specs.Fitting.{FramesRead, before, fitting, is_unfit, is_unfit_by, job_of, over}
 use Rattle.run_frames.specs.Job.{IfOnce, Job, One, Passes, job_in, once, passes_by}
 use Rattle.run_frames.specs.Steps.{IsAfterFrame, KeepsUp, fit_piece}

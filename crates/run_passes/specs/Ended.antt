@@ -1,30 +1,15 @@
--- What is known once all frames were read that are asked for.
-use Rattle.std.specs.Prelude.{◌≤◌, ℕ, List, reverse, Option, Some, None}
-use Rattle.capture_read.specs.declared.frame.Frame.{Frame}
+-- What is known once the frames of a file were read that are asked for.
+use Rattle.std.specs.Prelude.{ℕ, List, reverse}
 use Rattle.capture_write.specs.Kept.{Kept}
-use Rattle.capture_write.specs.declared.format.Format.{Format}
-use Rattle.dissect.specs.Stands.{DissectorShown, StandsWithin}
+use Rattle.dissect.specs.Stands.{DissectorShown}
 use Rattle.run_frames.specs.declared.plan.Plan.{Plan}
 use Rattle.run_frames.specs.declared.notes.Notes.{Notes}
 use Rattle.run_frames.specs.Accessors.{written_of}
-use Rattle.run_frames.specs.Chosen.{IsWriting}
+use Rattle.run_frames.specs.Ended.{CanClose}
 use Rattle.run_frames.specs.Fitting.{job_of}
-use Rattle.run_frames.specs.Job.{Job}
 use Rattle.run_passes.specs.Reading.{frames_read}
-use Rattle.run_frames.specs.Notes.{AreNotes}
-use Rattle.pk_base.specs.Limits.{file_limit}
 
--- a dissector has taken frames, and not more than a file has bytes
-abbrev pub HasTaken : DissectorShown → Type 0
-HasTaken d = (past : List Frame) × StandsWithin past d × (d.taken ≤ file_limit)
-
--- what stands behind the lines can be made: of a dissector that has taken these frames and of their notes, or of a writer that has
--- written those chosen of them
-abbrev pub CanClose : Option Format → Job → List Frame → DissectorShown → Notes → Kept → Type 0
-CanClose None job past d notes kept = StandsWithin past d × AreNotes job past notes
-CanClose (Some format) job past d notes kept = IsWriting (Some format) job kept past
-
--- the same of the frames that were read
+-- what stands behind the lines can be made of the frames that were read
 abbrev pub HasRead : Plan → List ℕ → DissectorShown → Notes → Kept → Type 0
 HasRead plan file d notes kept =
     CanClose (written_of plan) (job_of plan (frames_read plan file)) (reverse (frames_read plan file).frames) d notes kept

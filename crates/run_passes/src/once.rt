@@ -8,7 +8,7 @@ ghost use Rattle.capture_read.specs.declared.kind.Phase.TheVariants as phase;
 ghost use Rattle.dissect.specs.Stands.{StandsWithin};
 ghost use Rattle.run_frames.specs.Accessors.{compiled_of, rules_of, two_of, written_of};
 ghost use Rattle.run_frames.specs.Job.{once};
-ghost use Rattle.run_passes.specs.Ended.{HasTaken};
+ghost use Rattle.run_frames.specs.Ended.{HasTaken};
 ghost use Rattle.run_frames.specs.Steps.{KeepsUp};
 ghost use Rattle.run_passes.specs.Passed.{AreCutOff, AreEndNear, AreRead, HaveBegun, HavePassed, IsCalm, IsCaused, IsReadOn};
 ghost use Rattle.run_frames.specs.Notes.{AreFewNotes};

@@ -10,7 +10,7 @@ ghost use Rattle.dissect.specs.Stands.{StandsWithin};
 ghost use Rattle.second_pass.specs.Laws.{kept_noted};
 ghost use Rattle.second_pass.specs.Stands.{Stands as Noted};
 ghost use Rattle.run_frames.specs.Accessors.{compiled_of, rules_of, two_of, written_of};
-ghost use Rattle.run_passes.specs.Ended.{CanClose, HasTaken};
+ghost use Rattle.run_frames.specs.Ended.{CanClose, HasTaken};
 ghost use Rattle.run_frames.specs.Job.{Passes, job_in, noted_of, passes_by};
 ghost use Rattle.run_frames.specs.Later.{ServesKept};
 ghost use Rattle.run_passes.specs.Passed.{AreFewer, AreFullNear, AreKept, HaveBegunKept, HavePassedKept, IsReadCaused, IsReadOn, IsWriteCaused, kept_read};

@@ -9,7 +9,7 @@ use Rattle.run_frames.specs.Generated.{GeneratedShown}
 use Rattle.run_frames.specs.declared.plan.Plan.{Plan}
 use Rattle.run_frames.specs.declared.source.PlanSource.{PlanSource}
 use Rattle.run_frames.specs.declared.source.PlanSource.TheVariants as source
-use Rattle.run_output.specs.Way.{IsNextNear}
+use Rattle.shark_run.specs.Way.{IsNextNear}
 use Rattle.run_passes.specs.Reading.{file_by, file_of}
 use Rattle.run_passes.specs.SoFar.{IfUnfit, IsNextNearOf}
 use Rattle.shark_run.specs.Calm.{HasFaults, TellsFaults}

@@ -7,7 +7,7 @@ use Rattle.run_passes.specs.Reading.{file_of, frames_read}
 use Rattle.run_words.specs.declared.refused.Refused.{Refused}
 use Rattle.run_words.specs.declared.refused.Refused.TheVariants as refused
 use Rattle.run_words.specs.Plan.{IsPlan, IsRefusal}
-use Rattle.run_output.specs.Wrote.{WroteAll, WrotePart}
+use Rattle.shark_run.specs.Wrote.{WroteAll, WrotePart}
 use Rattle.shark_run.specs.declared.status.Status.{Status}
 use Rattle.shark_run.specs.declared.status.Status.TheVariants as status
 use Rattle.shark_run.specs.FaultTexts.{Told}

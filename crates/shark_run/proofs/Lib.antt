@@ -1,7 +1,11 @@
 mod AnswerLemmas
+mod BodyLemmas
 mod CalmLemmas
 mod CauseLemmas
+mod ClosedLemmas
 mod CompleteLemmas
+mod CutLemmas
 mod HeadlineLemmas
 mod LawLemmas
+mod OpeningLemmas
 mod ToldLemmas

@@ -7,3 +7,5 @@ pub mod Headline
 pub mod Laws
 pub mod Outcomes
 pub mod Statuses
+pub mod Way
+pub mod Wrote

@@ -6,10 +6,12 @@ mod fault_text;
 mod file;
 mod laws;
 mod outcome;
+mod output;
 mod owned;
 mod status;
 mod sure;
 mod top;
+mod two_passes;
 
 pub use laws::{plans_are_alike, the_headline_says_all};
 pub use run_frames::{Compiled, FieldList, Generated, Plan, PlanRules, PlanSource, Text};

@@ -9,7 +9,7 @@ ghost use Rattle.run_words.specs.Sure.{IsSure};
 ghost use Rattle.run_passes.specs.Reading.{file_of, frames_read};
 ghost use Rattle.shark_run.specs.Statuses.{status_of, refusal_status};
 ghost use Rattle.shark_run.specs.Statuses.{IsNoFault, IsRefusing, WhenEnded};
-ghost use Rattle.run_output.specs.Wrote.{WroteAll, WrotePart};
+ghost use Rattle.shark_run.specs.Wrote.{WroteAll, WrotePart};
 
 use crate::status::Status;
 use crate::top::run;

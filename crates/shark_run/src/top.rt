@@ -16,18 +16,18 @@ ghost use Rattle.shark_run.specs.Outcomes.{IfEnded};
 ghost use Rattle.shark_run.specs.Calm.{HasFaults, TellsFaults};
 ghost use Rattle.shark_run.specs.Causes.{IsUnopened, IsUnread};
 ghost use Rattle.shark_run.specs.Headline.{Headline};
-ghost use Rattle.run_output.specs.Way.{IsBroken, IsBrokenOf, IsFullNear, IsNextNear, WroteTaken};
+ghost use Rattle.shark_run.specs.Way.{IsBroken, IsBrokenOf, IsFullNear, IsNextNear, WroteTaken};
 ghost use Rattle.run_passes.specs.SoFar.{IfUnfit, IsFullNearOf, IsNextNearOf};
-ghost use Rattle.run_output.specs.Wrote.{WroteAll, WrotePart};
+ghost use Rattle.shark_run.specs.Wrote.{WroteAll, WrotePart};
 
 use crate::fault_text::{outcome_text, refusal_text, tell, unopened_text};
 use crate::file::{FileFault, begin_file, begin_generated};
 use crate::outcome::Outcome;
+use crate::output::write_output;
 use crate::status::{Status, status_of_refusal};
 use pk_base::NoMemory;
 use pk_outside::{Capture, Sink};
 use run_frames::{Generated, Plan, PlanSource, RunFault, Text};
-use run_output::write_output;
 use run_words::{PlanError, Refused, read_plan};
 use std::alloc::Global;
 

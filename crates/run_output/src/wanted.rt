@@ -1,0 +1,166 @@
+// The fields that a plan asks for.
+ghost use Rattle.std.specs.Prelude.{◌≡◌, ℕ, true};
+ghost use Rattle.cap_stats.specs.Laws.{fields_of as table_fields};
+ghost use Rattle.pk_fields.specs.FieldSets.{is_in};
+ghost use Rattle.second_pass.specs.Laws.{link_fields};
+ghost use Rattle.run_frames.specs.Accessors.{needs_streams as are_streams_needed, two_of};
+ghost use Rattle.run_frames.specs.Tables.{asks_table};
+ghost use Rattle.run_frames.specs.Wanted.{HasAsked, HasFields, HasPlan, HasTables, IsEnough, shows_whole, summary_fields, sums_up as are_summed_up};
+ghost use Rattle.dissect.specs.Followed.{asks_streams};
+
+use cap_stats::StatKind;
+use flt_typed::add_fields;
+use pk_fields::{FieldId, FieldSet, ids};
+use run_frames::{Compiled, Plan, asks_table};
+use shark_words::LineKind;
+
+/// The fields that the output is made from: all for lines of JSON, else those of the filter, of the lines and of the tables, what
+/// tells of streams where the names of all protocols are shown or something is asked for behind the lines, and the fields of links
+/// where the frames are read twice.
+#[tactic(auto, using(crate::proofs::EnoughLemmas::enough_all, crate::proofs::EnoughLemmas::enough_followed, crate::proofs::EnoughLemmas::enough_none, crate::proofs::EnoughLemmas::enough_plain))]
+pub fn needed_fields(plan: &Plan) -> FieldSet
+    ensures { IsEnough result plan.now }
+{
+    if shows_trees(plan) {
+        return FieldSet::all();
+    }
+    if plan.two || needs_streams(plan) || sums_up(plan) {
+        return followed_fields(plan);
+    }
+    if plan.quiet && !plan.stats && plan.written.is_none() {
+        return FieldSet::none();
+    }
+    wanted_fields(plan)
+}
+
+// Whether whole trees are shown.
+fn shows_trees(plan: &Plan) -> bool
+    ensures { result ≡ shows_whole plan.now }
+{
+    if plan.written.is_some() || plan.source.is_generated() || plan.quiet {
+        return false;
+    }
+    match plan.kind {
+        LineKind::Json => true,
+        LineKind::Text | LineKind::Fields => false,
+    }
+}
+
+// Whether frames are summed up.
+fn sums_up(plan: &Plan) -> bool
+    ensures { result ≡ are_summed_up plan.now }
+{
+    if plan.written.is_some() || plan.source.is_generated() || plan.quiet {
+        return false;
+    }
+    match plan.kind {
+        LineKind::Text => true,
+        LineKind::Json | LineKind::Fields => false,
+    }
+}
+
+// Whether something behind the lines may be told by streams of TCP.
+fn needs_streams(plan: &Plan) -> bool
+    ensures { result ≡ are_streams_needed plan.now }
+{
+    plan.source.is_generated() || !plan.reports.slice().is_empty()
+}
+
+/// The fields of a plan and of its tables, one of the streams of TCP, and those of links where the frames are read twice.
+fn followed_fields(plan: &Plan) -> FieldSet
+    ensures plan { HasPlan result plan.now }
+    ensures tables { HasTables result plan.now }
+    ensures streams { asks_streams result ≡ true }
+    ensures links { two_of plan.now ≡ true → HasFields result link_fields }
+{
+    let mut wanted = wanted_fields(plan);
+    add_tables(plan, &mut wanted);
+    add_links(plan, &mut wanted);
+    wanted.add(ids::TCP_STREAM);
+    wanted
+}
+
+fn add_tables(plan: &Plan, wanted: &mut FieldSet)
+    ensures tables { HasTables wanted.new plan.now }
+    ensures kept { (f : ℕ) → is_in wanted.old f ≡ true → is_in wanted.new f ≡ true }
+{
+    add_table(plan, StatKind::ConvTcp, wanted);
+    add_table(plan, StatKind::ConvIp, wanted);
+    add_table(plan, StatKind::Phs, wanted);
+}
+
+// The fields of the table of a kind, where it is asked for.
+fn add_table(plan: &Plan, kind: StatKind, wanted: &mut FieldSet)
+    ensures fields { asks_table plan.now kind ≡ true → HasFields wanted.new (table_fields kind) }
+    ensures kept { (f : ℕ) → is_in wanted.old f ≡ true → is_in wanted.new f ≡ true }
+{
+    if asks_table(plan, kind) {
+        cap_stats::add_fields(kind, wanted);
+    }
+}
+
+// The fields of links, where the frames are read twice.
+fn add_links(plan: &Plan, wanted: &mut FieldSet)
+    ensures fields { two_of plan.now ≡ true → HasFields wanted.new link_fields }
+    ensures kept { (f : ℕ) → is_in wanted.old f ≡ true → is_in wanted.new f ≡ true }
+{
+    if plan.two {
+        second_pass::add_fields(wanted);
+    }
+}
+
+/// The fields of a plan's filter and its program, of its columns, and of the lines that sum up frames.
+fn wanted_fields(plan: &Plan) -> FieldSet
+    ensures { HasPlan result plan.now }
+{
+    let mut wanted = FieldSet::none();
+    add_filter(&plan.chosen, &mut wanted);
+    add_columns(plan.fields.slice(), &mut wanted);
+    add_summary(plan, &mut wanted);
+    wanted
+}
+
+// The fields of the lines that sum up frames, where these are written.
+fn add_summary(plan: &Plan, wanted: &mut FieldSet)
+    ensures summary { are_summed_up plan.now ≡ true → HasFields wanted.new summary_fields }
+    ensures kept { (f : ℕ) → is_in wanted.old f ≡ true → is_in wanted.new f ≡ true }
+{
+    if sums_up(plan) {
+        add_columns(
+            &[
+                ids::FRAME_NUMBER,
+                ids::FRAME_TIME_RELATIVE,
+                ids::FRAME_LEN,
+                ids::ETH_SRC,
+                ids::ETH_DST,
+                ids::IP_SRC,
+                ids::IP_DST,
+                ids::IPV6_SRC,
+                ids::IPV6_DST,
+            ],
+            wanted,
+        );
+    }
+}
+
+// The fields of a filter and of its program.
+fn add_filter(chosen: &Option<Compiled>, wanted: &mut FieldSet)
+    ensures { HasAsked wanted.new chosen.now }
+{
+    match chosen {
+        Some(compiled) => {
+            add_fields(compiled.filter(), wanted);
+            compiled.program().add_fields(wanted);
+        }
+        None => {}
+    }
+}
+
+fn add_columns(fields: &[FieldId], wanted: &mut FieldSet)
+    ensures all { HasFields wanted.new fields.now }
+    ensures kept { (f : ℕ) → is_in wanted.old f ≡ true → is_in wanted.new f ≡ true }
+{
+    for field in fields {
+        wanted.add(*field);
+    }
+}
