@@ -3,14 +3,15 @@
 //! `run`: a filter, ` -> `, and the truth and the steps of its program, for the packet and behind a comma for the other tree. `run by hand`: what a
 //! program shows, the same answers, and its instructions, a line each. A jump passes over so many, and `EQUAL` asks whether any pair is equal.
 ghost use Rattle.std.specs.Prelude.{◌≡◌, ◌<◌, ◌^◌, IsTrue};
-ghost use Rattle.flt_vm.specs.Programs.{Fits, IsProgram};
+ghost use Rattle.flt_program.specs.Programs.{Fits, IsProgram};
 
 use crate::asked::tree_of;
 use flt_code::compile;
 use flt_read::read_filter;
 use flt_syntax::Choice;
 use flt_typed::{Constant, Filter, Relation};
-use flt_vm::{Instr, Machine, Program};
+use flt_program::{Instr, Program};
+use flt_vm::Machine;
 use pk_fields::by_name;
 use pk_tree::{Layers, Tree, Value};
 use std::alloc::Global;

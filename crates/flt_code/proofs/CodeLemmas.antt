@@ -19,9 +19,9 @@ use Rattle.flt_typed.specs.declared.typed.Term.{Term}
 use Rattle.flt_typed.specs.declared.typed.Typed.{Typed}
 use Rattle.flt_typed.specs.declared.typed.Typed.TheVariants.{Either', Differ', Both', Not', Exists, AnyBit, Compare, Among, Matches}
 use Rattle.flt_typed.specs.declared.arithmetic.Extreme.TheVariants.{Least}
-use Rattle.flt_vm.specs.Programs.{patterns_of}
-use Rattle.flt_vm.specs.declared.instr.Instr.{Instr}
-use Rattle.flt_vm.specs.declared.instr.Instr.TheVariants as instr
+use Rattle.flt_program.specs.Programs.{patterns_of}
+use Rattle.flt_program.specs.declared.instr.Instr.{Instr}
+use Rattle.flt_program.specs.declared.instr.Instr.TheVariants as instr
 
 pub code_on : (os new : List Owner) (ps qs more : List (List ℕ)) (filter : Typed) (code : List Instr) → Grows os new → qs ≡ ps ++ more → IsCode os ps filter code → IsCode new qs filter code
 code_on os new ps qs more filter code g is c =

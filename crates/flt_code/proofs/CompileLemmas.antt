@@ -18,9 +18,10 @@ use Rattle.flt_typed.specs.Texts.{IsFilter}
 use Rattle.flt_typed.specs.Typing.{HasType}
 use Rattle.flt_typed.specs.declared.typed.Typed.{Typed}
 use Rattle.flt_vm.specs.Machine.{Runs, start}
-use Rattle.flt_vm.specs.Programs.{Code, FitsFilter, IsProgram, patterns_of}
-use Rattle.flt_vm.specs.declared.instr.Instr.{Instr}
-use Rattle.flt_vm.specs.declared.instr.Instr.TheVariants as instr
+use Rattle.flt_program.specs.Programs.{Code, IsProgram, patterns_of}
+use Rattle.flt_vm.specs.Programs.{FitsFilter}
+use Rattle.flt_program.specs.declared.instr.Instr.{Instr}
+use Rattle.flt_program.specs.declared.instr.Instr.TheVariants as instr
 use Rattle.pk_tree.specs.Trees.{IsTree, TreeShown}
 
 -- that a run of a filter's program ends with its truth, within so many steps

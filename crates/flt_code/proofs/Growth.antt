@@ -11,8 +11,8 @@ use Rattle.flt_typed.specs.declared.typed.Typed.{Typed}
 use Rattle.flt_typed.specs.declared.typed.Typed.TheVariants.{Either', Differ', Both', Not', Exists, AnyBit, Compare, Among, Matches}
 use Rattle.flt_typed.specs.declared.arithmetic.Extreme.{Extreme}
 use Rattle.flt_typed.specs.declared.arithmetic.Extreme.TheVariants.{Least, Greatest}
-use Rattle.flt_vm.specs.declared.instr.Instr.{Instr}
-use Rattle.flt_vm.specs.declared.instr.Instr.TheVariants as instr
+use Rattle.flt_program.specs.declared.instr.Instr.{Instr}
+use Rattle.flt_program.specs.declared.instr.Instr.TheVariants as instr
 
 pub get_more : {A : Type 0} (xs more : List A) (i : ℕ) (x : A) → slice_get xs i ≡ Some x → slice_get (xs ++ more) i ≡ Some x
 get_more [] more i x is = cc

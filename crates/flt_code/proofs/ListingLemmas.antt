@@ -7,10 +7,10 @@ use Rattle.std.proofs.lemmas.List.{at_drop_more}
 use Rattle.std.proofs.lemmas.List.Concat.{flat_map-cons}
 use Rattle.flt_code.specs.Listing.{IsNear, pattern_at}
 use Rattle.flt_typed.specs.declared.pattern.Pattern.{Pattern}
-use Rattle.flt_vm.specs.Programs.{Code, Fits, IsProgram}
-use Rattle.flt_vm.specs.Sources.{sources_of}
-use Rattle.flt_vm.specs.declared.instr.Instr.{Instr}
-use Rattle.flt_vm.specs.declared.instr.Instr.TheVariants as instr
+use Rattle.flt_program.specs.Programs.{Code, Fits, IsProgram}
+use Rattle.flt_program.specs.Sources.{sources_of}
+use Rattle.flt_program.specs.declared.instr.Instr.{Instr}
+use Rattle.flt_program.specs.declared.instr.Instr.TheVariants as instr
 
 near : (count size at : ℕ) (i : Instr) → size < 2 ^ 32 → Fits count size at i → IsNear at i
 near count size at (instr.Read r field layers) small fits = tt

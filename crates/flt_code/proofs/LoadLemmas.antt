@@ -14,8 +14,8 @@ use Rattle.flt_syntax.specs.declared.ast.RangePart.{RangePart}
 use Rattle.flt_typed.specs.declared.typed.Term.{Term}
 use Rattle.flt_typed.specs.declared.typed.Term.TheVariants as terms
 use Rattle.flt_typed.specs.declared.arithmetic.Extreme.{Extreme}
-use Rattle.flt_vm.specs.declared.instr.Instr.{Instr}
-use Rattle.flt_vm.specs.declared.instr.Instr.TheVariants as instr
+use Rattle.flt_program.specs.declared.instr.Instr.{Instr}
+use Rattle.flt_program.specs.declared.instr.Instr.TheVariants as instr
 use Rattle.flt_typed.specs.declared.literal.Constant.{Constant}
 use Rattle.std.proofs.Common.{Bor}
 

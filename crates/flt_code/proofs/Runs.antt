@@ -28,8 +28,8 @@ use Rattle.flt_typed.specs.declared.arithmetic.Extreme.TheVariants.{Least, Great
 use Rattle.flt_vm.proofs.ExtremeLists.{extreme_front, extreme_twice}
 use Rattle.flt_vm.specs.Held.{Held, can_be_among, can_call, can_compare, can_compute, can_mask, can_search, can_slice, plain, truth_held}
 use Rattle.flt_vm.specs.Machine.{Job, Move, Goes, Ends, Missing, State, LeadsOn, Runs, act, differs, jumps, only_if, sets, fills, start, step, tells as told}
-use Rattle.flt_vm.specs.declared.instr.Instr.{Instr}
-use Rattle.flt_vm.specs.declared.instr.Instr.TheVariants as instr
+use Rattle.flt_program.specs.declared.instr.Instr.{Instr}
+use Rattle.flt_program.specs.declared.instr.Instr.TheVariants as instr
 use Rattle.pk_tree.specs.FieldValues.{values_of}
 use Rattle.pk_tree.specs.Trees.{TreeShown}
 use Rattle.flt_syntax.specs.declared.ast.Arithmetic.{Arithmetic}

@@ -2,7 +2,8 @@
 use Rattle.std.specs.Prelude.{◌≡◌, ℕ, ◌≤◌, Bool as Truth, length}
 use Rattle.flt_mean.specs.Meaning.{meaning}
 use Rattle.flt_typed.specs.declared.typed.Typed.{Typed}
-use Rattle.flt_vm.specs.Programs.{Code, RunsOn}
+use Rattle.flt_program.specs.Programs.{Code}
+use Rattle.flt_vm.specs.Programs.{RunsOn}
 use Rattle.pk_tree.specs.Trees.{IsTree, TreeShown}
 
 -- in every tree the program's run exists, has no more steps than the program has instructions, and ends with the truth of

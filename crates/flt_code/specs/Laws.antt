@@ -6,7 +6,7 @@ use Rattle.flt_syntax.specs.Written.{Written}
 use Rattle.flt_typed.specs.Texts.{IsTypedText}
 use Rattle.flt_typed.specs.Typing.{HasType}
 use Rattle.flt_typed.specs.declared.typed.Typed.{Typed}
-use Rattle.flt_vm.specs.Programs.{Code}
+use Rattle.flt_program.specs.Programs.{Code}
 
 -- a program that decides the filter, and in no tree ends with anything but its truth
 abbrev pub HasProgram : Typed → Type 0

@@ -12,9 +12,9 @@ use Rattle.flt_typed.specs.declared.arithmetic.Extreme.{Extreme}
 use Rattle.flt_typed.specs.declared.arithmetic.Extreme.TheVariants.{Least, Greatest}
 use Rattle.flt_typed.specs.declared.relation.Relation.{Relation}
 use Rattle.flt_typed.specs.declared.relation.Relation.TheVariants as relations
-use Rattle.flt_vm.specs.Programs.{Code, patterns_of}
-use Rattle.flt_vm.specs.declared.instr.Instr.{Instr}
-use Rattle.flt_vm.specs.declared.instr.Instr.TheVariants as instr
+use Rattle.flt_program.specs.Programs.{Code, patterns_of}
+use Rattle.flt_program.specs.declared.instr.Instr.{Instr}
+use Rattle.flt_program.specs.declared.instr.Instr.TheVariants as instr
 
 -- a register
 abbrev pub register_shown : ℕ → List ℕ

@@ -6,8 +6,8 @@ use Rattle.flt_typed.specs.declared.typed.Term.{Term}
 use Rattle.flt_typed.specs.declared.typed.Term.TheVariants as terms
 use Rattle.flt_typed.specs.declared.typed.Typed.{Typed}
 use Rattle.flt_typed.specs.declared.typed.Typed.TheVariants.{Either', Differ', Both'}
-use Rattle.flt_vm.specs.Programs.{patterns_of}
-pub use Rattle.flt_vm.specs.Sources.{sources_of}
+use Rattle.flt_program.specs.Programs.{patterns_of}
+pub use Rattle.flt_program.specs.Sources.{sources_of}
 
 abbrev pub left_of_term : Term → Option Term
 left_of_term (terms.Computed' a p left q right) = Some left

@@ -5,8 +5,8 @@ ghost use Rattle.flt_code.specs.Owners.{Grows, owners_of};
 ghost use Rattle.flt_code.specs.Spines.{left_of, patterns_right, sources_of};
 ghost use Rattle.flt_mean.specs.Chains.{is_single};
 ghost use Rattle.flt_typed.specs.declared.typed.Typed.{Typed as TypedValue};
-ghost use Rattle.flt_vm.specs.Programs.{patterns_of};
-ghost use Rattle.flt_vm.specs.declared.instr.Instr.TheVariants as instr;
+ghost use Rattle.flt_program.specs.Programs.{patterns_of};
+ghost use Rattle.flt_program.specs.declared.instr.Instr.TheVariants as instr;
 
 use crate::emits::{emit, emit_at};
 use crate::load::load;
@@ -14,7 +14,7 @@ use crate::owners::{Owner, own};
 use crate::spines::filter_below;
 use flt_syntax::Choice;
 use flt_typed::{Extreme, Member, Pattern, Relation, Term, Typed};
-use flt_vm::{Instr, copied_members};
+use flt_program::{Instr, copied_members};
 use pk_base::NoMemory;
 use std::alloc::Global;
 

@@ -9,7 +9,7 @@ use crate::code::code_for;
 use crate::emits::emit;
 use crate::owners::Owner;
 use flt_typed::{Filter, Typed};
-use flt_vm::{Instr, Program};
+use flt_program::{Instr, Program};
 use pk_base::NoMemory;
 use std::alloc::Global;
 

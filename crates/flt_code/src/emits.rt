@@ -1,7 +1,7 @@
 // Code, as it grows.
 ghost use Rattle.std.specs.Prelude.{◌≡◌, ◌++◌, ◌≤◌, [], ◌∷◌, insert, OnOk, vec_len};
 
-use flt_vm::Instr;
+use flt_program::Instr;
 use pk_base::NoMemory;
 
 /// One more instruction.

@@ -2,12 +2,12 @@
 ghost use Rattle.std.specs.Prelude.{◌≡◌, ◌++◌, ◌<◌, ◌^◌, ◌+◌, [], ◌∷◌, codes, decimal, IfOk, OnOk};
 ghost use Rattle.flt_code.specs.Listing.{IsNear, choice_shown, extreme_shown, function_shown, instr_shown, line_shown, listing_of, operation_shown, pattern_at, register_shown, relation_shown, spaced};
 ghost use Rattle.flt_code.specs.Literals.{constant_shown, field_shown, members_shown, ranges_shown, string_shown};
-ghost use Rattle.flt_vm.specs.Sources.{sources_of};
+ghost use Rattle.flt_program.specs.Sources.{sources_of};
 
 use crate::literals::{put_constant, put_field, put_members, put_ranges, put_string};
 use flt_syntax::{Arithmetic, Choice, Function, RangePart};
 use flt_typed::{Constant, Extreme, Filter, Member, Pattern, Relation};
-use flt_vm::{Instr, Program, patterns_in};
+use flt_program::{Instr, Program, patterns_in};
 use pk_base::NoMemory;
 use pk_fields::FieldId;
 use pk_text::{TextSink, put_number};

@@ -8,14 +8,14 @@ ghost use Rattle.flt_syntax.specs.declared.ast.Function.TheVariants.{Count};
 ghost use Rattle.flt_typed.specs.declared.typed.Term.{Term as TermValue};
 ghost use Rattle.flt_typed.specs.declared.typed.Term.TheVariants.{Field};
 ghost use Rattle.flt_typed.specs.declared.arithmetic.Extreme.TheVariants.{Least};
-ghost use Rattle.flt_vm.specs.declared.instr.Instr.TheVariants as instr;
+ghost use Rattle.flt_program.specs.declared.instr.Instr.TheVariants as instr;
 
 use crate::emits::emit;
 use crate::owners::{Owner, own, register_for};
 use crate::spines::term_below;
 use flt_syntax::{Function, RangePart};
 use flt_typed::{Constant, Extreme, Term};
-use flt_vm::{Instr, copied_layers, copied_ranges};
+use flt_program::{Instr, copied_layers, copied_ranges};
 use pk_base::NoMemory;
 use pk_fields::FieldId;
 use pk_tree::Layers;

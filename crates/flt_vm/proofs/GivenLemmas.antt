@@ -5,11 +5,11 @@ use Rattle.flt_vm.proofs.StepLemmas.{held_there}
 use Rattle.flt_vm.specs.Given.{Finds, takes_of}
 use Rattle.flt_vm.specs.Held.{Held, kept_truth}
 use Rattle.flt_vm.specs.Machine.{Job, Move, act, given, with_held}
-use Rattle.flt_vm.specs.Programs.{Fits}
+use Rattle.flt_program.specs.Programs.{Fits}
 use Rattle.flt_vm.specs.Slots.{HasRegisters, IsGiven, IsHeld, IsKept, IsSet, IsThere, acts, held_in, is_unset, state_in, truth_in, truth_of}
 use Rattle.flt_vm.specs.declared.given.Takes.{Takes}
-use Rattle.flt_vm.specs.declared.instr.Instr.{Instr}
-use Rattle.flt_vm.specs.declared.instr.Instr.TheVariants as instr
+use Rattle.flt_program.specs.declared.instr.Instr.{Instr}
+use Rattle.flt_program.specs.declared.instr.Instr.TheVariants as instr
 use Rattle.flt_vm.specs.declared.slots.Flag.{Flag}
 use Rattle.flt_vm.specs.declared.slots.Slot.{Slot}
 use Rattle.flt_vm.specs.declared.slots.Slot.TheVariants as slots

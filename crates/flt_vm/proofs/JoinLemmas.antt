@@ -9,8 +9,8 @@ use Rattle.flt_vm.proofs.StepLemmas.{const_does, held_at, read_does, test_does}
 use Rattle.flt_vm.specs.Held.{Held, constant_held}
 use Rattle.flt_vm.specs.Machine.{Job, Goes, act, reads}
 use Rattle.flt_vm.specs.Slots.{Does, IsHeld, LeadsTo, held_in, state_in}
-use Rattle.flt_vm.specs.declared.instr.Instr.{Instr}
-use Rattle.flt_vm.specs.declared.instr.Instr.TheVariants as instr
+use Rattle.flt_program.specs.declared.instr.Instr.{Instr}
+use Rattle.flt_program.specs.declared.instr.Instr.TheVariants as instr
 use Rattle.flt_vm.specs.declared.slots.Flag.{Flag}
 use Rattle.flt_vm.specs.declared.slots.Flag.TheVariants.{Known}
 use Rattle.flt_vm.specs.declared.slots.Slot.{Slot}

@@ -2,6 +2,5 @@ pub mod ExtremeLists
 pub mod GivenLemmas
 pub mod JoinLemmas
 pub mod RunLemmas
-pub mod StackLemmas
 pub mod StepLemmas
 pub mod VerdictLemmas

@@ -3,10 +3,11 @@ use Rattle.std.proofs.Common.{◌≡◌, ℕ, zero, suc, ◌+◌, ◌<◌, Bool 
 use Rattle.flt_typed.specs.declared.typed.Typed.{Typed}
 use Rattle.flt_vm.specs.Machine.{Job, LeadsOn, Move, Goes, Ends, Missing, Runs, State, act, start, step}
 use Rattle.flt_vm.specs.Possible.{CanRun, HasRun}
-use Rattle.flt_vm.specs.Programs.{Code, FitsFilter, Ready, RunsOn, patterns_of}
+use Rattle.flt_program.specs.Programs.{Code, patterns_of}
+use Rattle.flt_vm.specs.Programs.{FitsFilter, Ready, RunsOn}
 use Rattle.flt_vm.specs.Slots.{Does, IsThere, LeadsTo, held_in, is_return, state_in}
-use Rattle.flt_vm.specs.declared.instr.Instr.{Instr}
-use Rattle.flt_vm.specs.declared.instr.Instr.TheVariants as instr
+use Rattle.flt_program.specs.declared.instr.Instr.{Instr}
+use Rattle.flt_program.specs.declared.instr.Instr.TheVariants as instr
 use Rattle.flt_vm.specs.declared.slots.Flag.TheVariants.{Known}
 use Rattle.flt_vm.specs.declared.slots.Slot.{Slot}
 use Rattle.flt_vm.specs.declared.slots.Slot.TheVariants as slots

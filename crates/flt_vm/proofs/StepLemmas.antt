@@ -19,8 +19,8 @@ use Rattle.flt_typed.specs.declared.arithmetic.Extreme.{Extreme}
 use Rattle.flt_typed.specs.declared.relation.Relation.{Relation}
 use Rattle.flt_vm.specs.Held.{Held, can_be_among, can_call, can_compare, can_compute, can_mask, can_search, can_slice, constant_held, kept_truth, plain, truth_held}
 use Rattle.flt_vm.specs.Machine.{Job, Move, Goes, State, act, differs, kept, only_if, with_held, given, sets, fills, reads, jumps, tells}
-use Rattle.flt_vm.specs.declared.instr.Instr.{Instr}
-use Rattle.flt_vm.specs.declared.instr.Instr.TheVariants as instr
+use Rattle.flt_program.specs.declared.instr.Instr.{Instr}
+use Rattle.flt_program.specs.declared.instr.Instr.TheVariants as instr
 use Rattle.flt_vm.specs.Slots.{Does, IsHeld, flag_in, held_in, is_unset, place_behind, state_in}
 use Rattle.flt_vm.specs.declared.slots.Flag.{Flag}
 use Rattle.flt_vm.specs.declared.slots.Flag.TheVariants.{Known}

@@ -1,18 +1,16 @@
 -- What a program answers, as a function: it is what its runs end with, and trees are alike to it that have the same values
 -- of its fields.
-use Rattle.std.proofs.Common.{◌≡◌, ℕ, zero, suc, ◌+◌, ◌≤◌, ◌<◌, Bool as Truth, List, [], ◌∷◌, length, get_or, ⊎_elim, drop, false, ◌||◌, Option, Some, None, Ok, Err, Result, IfOk, true, option_map, slice_get, ap, sym, refl, ◌∙◌, subst, arith}
-use Rattle.std.proofs.lemmas.Bool.{cases_lt}
-use Rattle.std.proofs.lemmas.List.{at_drop_more}
-use Rattle.std.proofs.lemmas.Option.{get_or_from_slice_get}
+use Rattle.std.proofs.Common.{◌≡◌, ℕ, zero, suc, ◌+◌, ◌≤◌, Bool as Truth, List, [], ◌∷◌, length, Option, Some, None, Ok, Err, Result, IfOk, option_map, slice_get, ap, sym, refl, ◌∙◌, subst, arith}
 use Rattle.flt_typed.specs.declared.typed.Typed.{Typed}
 use Rattle.flt_vm.specs.Machine.{Job, LeadsOn, Move, Goes, Ends, Missing, Runs, State, act, fills, kept, sets, start, step}
 use Rattle.flt_vm.specs.Held.{plain}
-use Rattle.flt_vm.specs.Programs.{Code, FitsFilter, Ready, RunsOn, job_of, patterns_of}
-use Rattle.flt_vm.specs.Verdicts.{ComputedIsRun, HasCode, HasField, HaveSame, RunsAreComputed, VerdictsAlike, a_step_more, asks_by, asks_in, ended, run_of, verdict_of}
-use Rattle.flt_vm.specs.declared.instr.Instr.{Instr}
-use Rattle.flt_vm.specs.declared.instr.Instr.TheVariants as instr
+use Rattle.flt_program.specs.Programs.{Code, patterns_of}
+use Rattle.flt_vm.specs.Programs.{FitsFilter, Ready, RunsOn, job_of}
+use Rattle.flt_program.specs.Asked.{HasCode, HasField}
+use Rattle.flt_vm.specs.Verdicts.{ComputedIsRun, HaveSame, RunsAreComputed, VerdictsAlike, a_step_more, ended, run_of, verdict_of}
+use Rattle.flt_program.specs.declared.instr.Instr.{Instr}
+use Rattle.flt_program.specs.declared.instr.Instr.TheVariants as instr
 use Rattle.flt_vm.specs.declared.run.Verdict.{Verdict}
-use Rattle.pk_fields.specs.FieldSets.{is_in}
 use Rattle.pk_tree.specs.Trees.{IsTree, TreeShown}
 use Rattle.pk_tree.specs.declared.value.Value.{Value}
 use Rattle.pk_tree.specs.declared.value.Value.TheVariants as values
@@ -126,36 +124,3 @@ machine_computed machine filter tree verdict good by fits each few =
 pub ok_both : {X Y : Type 0} (r : Result X Y) (P Q R : X → Type 0) → ((x : X) → P x → Q x → R x) → IfOk r P → IfOk r Q → IfOk r R
 ok_both (Ok x) P Q R go p q = go x p q
 ok_both (Err e) P Q R go p q = tt
-
--- a set that has each field of another
-abbrev HasMore : List ℕ → List ℕ → Type 0
-HasMore old new = (f : ℕ) → is_in old f ≡ true → is_in new f ≡ true
-
-has_more : (old new : List ℕ) (i : Instr) → HasMore old new → HasField old i → HasField new i
-has_more old new (instr.Read r field layers) more has = more field has
-has_more old new (instr.Count r field layers) more has = more field has
-has_more old new i more has = tt
-
--- the fields of one instruction more
-pub fields_more : (old new : List ℕ) (all : List Instr) (n : ℕ) (now : Instr) → HasMore old new → HasField new now → now ≡ get_or all n now →
-    ((k : ℕ) (i : Instr) → k < n → slice_get all k ≡ Some i → HasField old i) → (k : ℕ) (i : Instr) → k < n + 1 → slice_get all k ≡ Some i → HasField new i
-fields_more old new all n now more has is each k i within found =
-    ⊎_elim (λ less. has_more old new i more (each k i less found))
-    (λ past. let here : n ≡ k = omega (arith, within, past) in
-    let same : now ≡ i = is ∙ ap (λ m. get_or all m now) here ∙ get_or_from_slice_get all k i now found in
-    subst (HasField new) same has) (cases_lt k n)
-
--- a part of a join comes to the front
-to_front : (a b c : Truth) → (a || (b || c)) ≡ ((b || a) || c)
-to_front true true c = refl
-to_front true false c = refl
-to_front false true c = refl
-to_front false false c = refl
-
--- the field of one instruction more was added
-pub added_more : (old new : List ℕ) (all : List Instr) (n : ℕ) (now : Instr) (f : ℕ) (told : Truth) → n < length all → now ≡ get_or all n now → is_in new f ≡ (asks_by now f || is_in old f) →
-    (asks_in (drop n all) f || is_in old f) ≡ told → (asks_in (drop (n + 1) all) f || is_in new f) ≡ told
-added_more old new all n now f told within is by so_far =
-    let left = drop (n + 1) all in
-    ap (λ x. asks_in left f || x) by ∙ to_front (asks_in left f) (asks_by now f) (is_in old f)
-    ∙ sym (at_drop_more (λ xs. asks_in xs f || is_in old f) all n now within ∙ ap (λ x. asks_in (x ∷ left) f || is_in old f) (sym is)) ∙ so_far

@@ -3,8 +3,8 @@ use Rattle.std.specs.Prelude.{◌<◌, ℕ, List, length}
 use Rattle.flt_vm.specs.Slots.{IsKept, IsSet}
 use Rattle.flt_vm.specs.declared.given.Takes.{Takes}
 use Rattle.flt_vm.specs.declared.given.Takes.TheVariants as takes
-use Rattle.flt_vm.specs.declared.instr.Instr.{Instr}
-use Rattle.flt_vm.specs.declared.instr.Instr.TheVariants as instr
+use Rattle.flt_program.specs.declared.instr.Instr.{Instr}
+use Rattle.flt_program.specs.declared.instr.Instr.TheVariants as instr
 use Rattle.flt_vm.specs.declared.slots.Slot.{Slot}
 use Rattle.pk_tree.specs.Trees.{TreeShown}
 

@@ -4,6 +4,4 @@ pub mod Machine
 pub mod Possible
 pub mod Programs
 pub mod Slots
-pub mod Sources
-pub mod Stacks
 pub mod Verdicts

@@ -3,8 +3,8 @@ use Rattle.std.specs.Prelude.{◌≡◌, ◌<◌, ℕ, Bool as Truth, true, fals
 use Rattle.flt_lists.specs.Passes.{is_some_value}
 use Rattle.flt_vm.specs.Held.{Held, constant_held, kept_truth, plain, truth_held}
 use Rattle.flt_vm.specs.Machine.{Job, Move, Goes, Ends, Missing, Runs, State}
-use Rattle.flt_vm.specs.declared.instr.Instr.{Instr}
-use Rattle.flt_vm.specs.declared.instr.Instr.TheVariants as instr
+use Rattle.flt_program.specs.declared.instr.Instr.{Instr}
+use Rattle.flt_program.specs.declared.instr.Instr.TheVariants as instr
 use Rattle.flt_vm.specs.declared.slots.Flag.{Flag}
 use Rattle.flt_vm.specs.declared.slots.Flag.TheVariants as flags
 use Rattle.flt_vm.specs.declared.slots.Gathered.{Gathered}

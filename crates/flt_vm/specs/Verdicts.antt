@@ -1,13 +1,10 @@
--- What a program answers of a tree, as a function; and the fields whose values it asks for.
-use Rattle.std.specs.Prelude.{◌≡◌, ◌==◌, ◌||◌, ℕ, zero, suc, ◌+◌, ◌≤◌, Bool as Truth, true, false, List, [], ◌∷◌, length, Option, Some, None, option_map}
-use Rattle.std.specs.List.{slice_get}
+-- What a program answers of a tree, as a function.
+use Rattle.std.specs.Prelude.{◌≡◌, ℕ, zero, suc, ◌+◌, ◌≤◌, Bool as Truth, true, List, length, Option, Some, None, option_map}
 use Rattle.flt_typed.specs.declared.typed.Typed.{Typed}
 use Rattle.flt_vm.specs.Machine.{Job, Move, Goes, Ends, Missing, Runs, State, start, step}
-use Rattle.flt_vm.specs.Programs.{Code, job_of}
-use Rattle.flt_vm.specs.declared.instr.Instr.{Instr}
-use Rattle.flt_vm.specs.declared.instr.Instr.TheVariants as instr
+use Rattle.flt_program.specs.Programs.{Code}
+use Rattle.flt_vm.specs.Programs.{job_of}
 use Rattle.flt_vm.specs.declared.run.Verdict.{Verdict}
-use Rattle.pk_fields.specs.Fields.{row_of}
 use Rattle.pk_fields.specs.FieldSets.{is_in}
 use Rattle.pk_tree.specs.FieldValues.{values_of}
 use Rattle.pk_tree.specs.Trees.{TreeShown}
@@ -32,27 +29,6 @@ run_of job (suc most) s = ended (step job s) (λ next. run_of job most next)
 unfoldable pub verdict_of : Code → Typed → TreeShown → Option Verdict
 verdict_of code filter tree =
     run_of (job_of code filter tree) (length code.items) (start code.registers)
-
--- a set of fields has the one that an instruction asks for
-abbrev pub HasField : List ℕ → Instr → Type 0
-HasField set (instr.Read r field layers) = is_in set field ≡ true
-HasField set (instr.Count r field layers) = is_in set field ≡ true
-HasField set i = Unit {0}
-
--- and each that a program asks for
-unfoldable pub HasCode : List ℕ → Code → Type 0
-HasCode set code = (at : ℕ) (i : Instr) → slice_get code.items at ≡ Some i → HasField set i
-
--- the field that an instruction asks for, and the protocol in whose layers it stands
-abbrev pub asks_by : Instr → ℕ → Truth
-asks_by (instr.Read r field layers) f = f == field || f == (row_of field).proto
-asks_by (instr.Count r field layers) f = f == field || f == (row_of field).proto
-asks_by i f = false
-
--- those of instructions
-abbrev pub asks_in : List Instr → ℕ → Truth
-asks_in [] f = false
-asks_in (i ∷ items) f = asks_by i f || asks_in items f
 
 -- two trees have the same values of the fields of a set
 abbrev pub HaveSame : List ℕ → TreeShown → TreeShown → Type 0

@@ -4,7 +4,7 @@ ghost use Rattle.flt_vm.specs.Given.{takes_of};
 ghost use Rattle.flt_vm.specs.Slots.{IsGiven, IsKept, IsSet};
 
 use crate::asks::listed_truth;
-use crate::instr::Instr;
+use flt_program::Instr;
 use crate::slots::Slot;
 use crate::step::is_unset;
 use pk_base::NoMemory;

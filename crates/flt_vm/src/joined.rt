@@ -1,11 +1,11 @@
 // Three instructions that are taken at once.
 ghost use Rattle.std.specs.Prelude.{◌≡◌, ◌+◌, ◌<◌, ◌≤◌, IfOk, Some, ℕ, length, slice_get};
 ghost use Rattle.flt_vm.specs.Machine.{Job};
-ghost use Rattle.flt_vm.specs.Programs.{IsProgram};
+ghost use Rattle.flt_program.specs.Programs.{IsProgram};
 ghost use Rattle.flt_vm.specs.Slots.{HasRegisters, LeadsTo, state_in};
 
 use crate::asks::compare_constant;
-use crate::instr::Instr;
+use flt_program::Instr;
 use crate::slots::{Flag, Slot, put};
 use crate::step::read;
 use pk_base::NoMemory;

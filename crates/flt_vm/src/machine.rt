@@ -2,13 +2,13 @@
 ghost use Rattle.std.specs.Prelude.{◌≡◌, ◌≤◌, ◌++◌, [], ◌∷◌, false, IfOk, IfSome, IsSome, OnOk, Bool as Truth, ℕ, Some, length};
 ghost use Rattle.flt_vm.specs.Machine.{Runs, start};
 ghost use Rattle.flt_vm.specs.Possible.{CanRun, IsAnswer};
-ghost use Rattle.flt_vm.specs.Programs.{FitsFilter, Ready, RunsOn, patterns_of};
-ghost use Rattle.flt_vm.specs.Sources.{sources_of};
+ghost use Rattle.flt_program.specs.Programs.{patterns_of};
+ghost use Rattle.flt_vm.specs.Programs.{FitsFilter, Ready, RunsOn};
+ghost use Rattle.flt_program.specs.Sources.{sources_of};
 ghost use Rattle.flt_vm.specs.Verdicts.{verdict_of};
 ghost use Rattle.flt_typed.specs.declared.typed.Typed.{Typed as TypedValue};
 
-use crate::patterns::patterns_in;
-use crate::program::Program;
+use flt_program::{Program, patterns_in};
 use crate::run::{Verdict, run_code};
 use crate::slots::{Slot, let_go, unset};
 use flt_typed::{Filter, Pattern, Search, Typed};

@@ -1,12 +1,12 @@
 // A run of the machine.
 ghost use Rattle.std.specs.Prelude.{◌≡◌, ◌<◌, ◌≤◌, IfOk, IfSome, IsSome, Bool as Truth, false, ℕ, length};
 ghost use Rattle.flt_vm.specs.Possible.{HasRun, IsVerdict};
-ghost use Rattle.flt_vm.specs.Programs.{IsProgram};
+ghost use Rattle.flt_program.specs.Programs.{IsProgram};
 ghost use Rattle.flt_vm.specs.Slots.{state_in};
 ghost use Rattle.flt_vm.specs.declared.slots.Flag.TheVariants.{Known};
 
 use crate::given::is_given;
-use crate::instr::Instr;
+use flt_program::Instr;
 use crate::joined::test_at;
 use crate::slots::{Flag, Slot, known};
 use crate::step::{is_return, step};

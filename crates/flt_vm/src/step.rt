@@ -13,13 +13,13 @@ ghost use Rattle.pk_tree.specs.FieldValues.{values_of};
 ghost use Rattle.pk_tree.specs.Trees.{TreeShown};
 ghost use Rattle.pk_tree.specs.declared.value.Value.TheVariants.{Uint};
 ghost use Rattle.flt_vm.specs.Machine.{Goes, Job, act, differs as differ, reads};
-ghost use Rattle.flt_vm.specs.Programs.{Fits};
+ghost use Rattle.flt_program.specs.Programs.{Fits};
 ghost use Rattle.flt_vm.specs.Slots.{Does, HasRegisters, IsGiven, IsSet, acts, flag_in, held_in, is_return, is_unset, place_behind, state_in, truth_in};
 ghost use Rattle.flt_vm.specs.declared.slots.Flag.TheVariants.{Known};
 ghost use Rattle.flt_vm.specs.declared.slots.Slot.TheVariants.{Values};
 
 use crate::asks::{asks, compare, finds, kept};
-use crate::instr::Instr;
+use flt_program::Instr;
 use crate::slots::{Flag, Slot, known, listed_in, put};
 use flt_lists::{
     Question, calculated_values, called_values, is_some_value as some_value, masked_values, only,

@@ -1,7 +1,8 @@
 -- A filter with its program.
 use Rattle.std.specs.Prelude.{◌≡◌}
 use Rattle.flt_typed.specs.declared.typed.Typed.{Typed}
-use Rattle.flt_vm.specs.Programs.{Code, FitsFilter, Ready, patterns_of}
+use Rattle.flt_program.specs.Programs.{Code, patterns_of}
+use Rattle.flt_vm.specs.Programs.{FitsFilter, Ready}
 
 -- what is asked of a tree, and the program that decides it
 pub record CompiledShown : Type 0 where

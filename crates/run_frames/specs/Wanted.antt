@@ -9,7 +9,7 @@ use Rattle.cap_stats.specs.Laws.{IsKeptFor, fields_of as table_fields}
 use Rattle.cap_stats.specs.declared.kind.StatKind.{StatKind}
 use Rattle.capture_write.specs.declared.format.Format.{Format}
 use Rattle.flt_typed.specs.Asked.{HasFilter}
-use Rattle.flt_vm.specs.Verdicts.{HasCode}
+use Rattle.flt_program.specs.Asked.{HasCode}
 use Rattle.second_pass.specs.Laws.{link_fields}
 use Rattle.shark_words.specs.declared.options.LineKind.{LineKind}
 use Rattle.shark_words.specs.declared.options.LineKind.TheVariants.{Text, Fields, Json}

@@ -3,7 +3,7 @@ ghost use Rattle.std.specs.Prelude.{◌≡◌};
 ghost use Rattle.flt_vm.specs.Programs.{FitsFilter};
 
 use flt_typed::Filter;
-use flt_vm::Program;
+use flt_program::Program;
 use std::marker::Model;
 
 /// A filter, and a program that fits it and decides in its place which trees are let through.

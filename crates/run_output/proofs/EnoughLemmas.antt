@@ -22,10 +22,11 @@ use Rattle.out_lines.specs.Summary.{summary_of}
 use Rattle.flt_mean.proofs.KeptMeaning.{meaning_alike}
 use Rattle.flt_mean.specs.Meaning.{meaning}
 use Rattle.flt_vm.proofs.VerdictLemmas.{verdicts_alike}
-use Rattle.flt_vm.specs.Programs.{Code}
-use Rattle.flt_vm.specs.Verdicts.{HasCode, HasField, verdict_of}
-use Rattle.flt_vm.specs.declared.instr.Instr.{Instr}
-use Rattle.flt_vm.specs.declared.instr.Instr.TheVariants as instr
+use Rattle.flt_program.specs.Programs.{Code}
+use Rattle.flt_program.specs.Asked.{HasCode, HasField}
+use Rattle.flt_vm.specs.Verdicts.{verdict_of}
+use Rattle.flt_program.specs.declared.instr.Instr.{Instr}
+use Rattle.flt_program.specs.declared.instr.Instr.TheVariants as instr
 use Rattle.flt_vm.specs.declared.run.Verdict.{Verdict}
 use Rattle.run_frames.specs.declared.plan.Plan.{Plan}
 use Rattle.run_frames.specs.declared.totals.Totals.{Totals}

@@ -1,7 +1,7 @@
 use Rattle.std.proofs.Common.{◌≡◌, ◌<◌, ℕ, Some, length}
 use Rattle.std.specs.List.{slice_get}
-use Rattle.flt_vm.specs.Programs.{Fits}
-use Rattle.flt_vm.specs.declared.instr.Instr.{Instr}
+use Rattle.flt_program.specs.Programs.{Fits}
+use Rattle.flt_program.specs.declared.instr.Instr.{Instr}
 use Rattle.filter_rows.proofs.machine.is_program.Given as goal
 
 abbrev pub invariant-loop-at : goal.invariant-loop-at

@@ -4,7 +4,7 @@ use Rattle.flt_code.specs.Owners.{Grows, owners_of}
 use Rattle.flt_code.specs.Spines.{Stands, left_of, sources_of}
 use Rattle.flt_mean.specs.Chains.{parts}
 use Rattle.flt_typed.specs.declared.typed.Typed.{Typed}
-use Rattle.flt_vm.specs.Programs.{patterns_of}
+use Rattle.flt_program.specs.Programs.{patterns_of}
 use Rattle.flt_code.proofs.code.+code.Given as goal
 
 abbrev pub decreases-code_for : goal.decreases-code_for

@@ -1,7 +1,7 @@
 use Rattle.flt_code.specs.Owners.{owners_of}
 use Rattle.flt_code.proofs.CodeLemmas.{joins_put}
 use Rattle.flt_code.proofs.code.comparison.Goals as goal
-use Rattle.flt_vm.specs.declared.instr.Instr.TheVariants as instr
+use Rattle.flt_program.specs.declared.instr.Instr.TheVariants as instr
 
 pub returns-clause-code : goal.returns-clause-code
 returns-clause-code c =

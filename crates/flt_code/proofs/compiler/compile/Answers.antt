@@ -4,7 +4,7 @@ use Rattle.flt_code.specs.Owners.{owners_of}
 use Rattle.flt_code.proofs.CodeLemmas.{code_as}
 use Rattle.flt_code.proofs.CompileLemmas.{compiled, compiled_agrees, compiled_fits, decided_fits}
 use Rattle.flt_code.proofs.compiler.compile.Goals as goal
-use Rattle.flt_vm.specs.Programs.{patterns_of}
+use Rattle.flt_program.specs.Programs.{patterns_of}
 
 pub new-requires : goal.new-requires
 new-requires c =

@@ -1,6 +1,6 @@
 use Rattle.std.proofs.Common.{◌≡◌, ◌++◌, drop}
 use Rattle.flt_code.specs.Listing.{lines_from}
-use Rattle.flt_vm.specs.Sources.{sources_of}
+use Rattle.flt_program.specs.Sources.{sources_of}
 use Rattle.flt_code.proofs.lines.listing.Given as goal
 
 abbrev pub invariant-loop-at : goal.invariant-loop-at

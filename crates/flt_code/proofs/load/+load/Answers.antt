@@ -7,7 +7,7 @@ use Rattle.flt_code.proofs.OwnerLemmas.{grows_on}
 use Rattle.flt_code.proofs.SpineLemmas.{stands_pop}
 use Rattle.flt_code.proofs.load.+load.Goals as goal
 use Rattle.flt_typed.specs.declared.arithmetic.Extreme.TheVariants.{Least}
-use Rattle.flt_vm.specs.declared.instr.Instr.TheVariants as instr
+use Rattle.flt_program.specs.declared.instr.Instr.TheVariants as instr
 
 pub load-load_part-requires : goal.load-load_part-requires
 load-load_part-requires t c =

@@ -3,7 +3,7 @@ use Rattle.flt_vm.proofs.GivenLemmas.{put_stays}
 use Rattle.flt_vm.proofs.JoinLemmas.{joined, stays}
 use Rattle.flt_vm.proofs.StepLemmas.{held_got}
 use Rattle.flt_vm.specs.Slots.{HasRegisters, IsSet}
-use Rattle.flt_vm.specs.declared.instr.Instr.TheVariants as instr
+use Rattle.flt_program.specs.declared.instr.Instr.TheVariants as instr
 use Rattle.flt_vm.proofs.joined.test_among.Goals as goal
 
 pub compare_constant-requires : goal.compare_constant-requires

@@ -1,5 +1,5 @@
 use Rattle.std.proofs.Common.{◌≡◌, ◌++◌, drop}
-use Rattle.flt_vm.specs.Sources.{sources_of}
+use Rattle.flt_program.specs.Sources.{sources_of}
 use Rattle.flt_vm.proofs.machine.searches_of.Given as goal
 
 abbrev pub invariant-loop-pattern : goal.invariant-loop-pattern

@@ -3,7 +3,7 @@ use Rattle.std.proofs.lemmas.Option.{slice_get_read}
 use Rattle.flt_vm.proofs.GivenLemmas.{is_given}
 use Rattle.flt_vm.proofs.RunLemmas.{leads_both, return_ends, run_ends, run_on, step_at, by_looks, there_at, way_there}
 use Rattle.flt_vm.specs.Machine.{Job, Goes, Ends}
-use Rattle.flt_vm.specs.Programs.{Fits}
+use Rattle.flt_program.specs.Programs.{Fits}
 use Rattle.flt_vm.specs.Slots.{IsGiven, state_in}
 use Rattle.flt_vm.specs.declared.slots.Flag.TheVariants.{Known}
 use Rattle.flt_vm.proofs.run.run_code.Goals as goal

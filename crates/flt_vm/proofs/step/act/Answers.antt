@@ -3,7 +3,7 @@ use Rattle.flt_lists.specs.Passes.{passes}
 use Rattle.flt_lists.specs.Questions.{is_matched}
 use Rattle.flt_vm.specs.Held.{truth_held}
 use Rattle.flt_vm.specs.Slots.{flag_in, truth_of}
-use Rattle.flt_vm.specs.declared.instr.Instr.TheVariants as instr
+use Rattle.flt_program.specs.declared.instr.Instr.TheVariants as instr
 use Rattle.flt_vm.specs.declared.slots.Slot.TheVariants as slots
 use Rattle.flt_vm.proofs.StepLemmas.{by_flag, call_does, choose_does, compute_does, const_does, count_does, differ_does, does_same, got_there, held_got, held_there, in_does, mask_does, match_does, nonzero_does, read_does, save_does, set_ok, slice_does, test_does, turn_does}
 use Rattle.flt_vm.proofs.step.act.Goals as goal

@@ -3,7 +3,7 @@ use Rattle.std.proofs.lemmas.Option.{IfSome_then}
 use Rattle.std.proofs.lemmas.Result.{IfOk-weaker}
 use Rattle.flt_vm.proofs.RunLemmas.{from_start, runs_from_start}
 use Rattle.flt_vm.specs.Programs.{Ready}
-use Rattle.flt_vm.specs.declared.instr.Instr.{Instr}
+use Rattle.flt_program.specs.declared.instr.Instr.{Instr}
 use Rattle.flt_vm.proofs.machine.Machine.answer.Goals as goal
 
 pub run_code-requires-clause-run : goal.run_code-requires-clause-run

@@ -1,7 +1,8 @@
 use Rattle.std.proofs.Common.{subst, sym}
 use Rattle.flt_vm.specs.Machine.{Runs, start}
 use Rattle.flt_vm.specs.Possible.{CanRun}
-use Rattle.flt_vm.specs.Programs.{Code, FitsFilter, Ready, patterns_of}
+use Rattle.flt_program.specs.Programs.{Code, patterns_of}
+use Rattle.flt_vm.specs.Programs.{FitsFilter, Ready}
 use Rattle.pk_tree.specs.Trees.{IsTree, TreeShown}
 use Rattle.run_frames.specs.Compiled.{CompiledShown, IsReadyFor}
 use Rattle.run_frames.proofs.judge.Judge.answer.Goals as goal

@@ -1,9 +1,9 @@
 use Rattle.std.proofs.Common.{◌≡◌, ◌||◌, List, Some, ap, slice_get, subst, sym, ◌∙◌}
-use Rattle.flt_vm.specs.Programs.{Code}
-use Rattle.flt_vm.specs.Verdicts.{HasCode, asks_in}
-use Rattle.flt_vm.specs.declared.instr.Instr.{Instr}
+use Rattle.flt_program.specs.Programs.{Code}
+use Rattle.flt_program.specs.Asked.{HasCode, asks_in}
+use Rattle.flt_program.specs.declared.instr.Instr.{Instr}
 use Rattle.pk_fields.specs.FieldSets.{is_in}
-use Rattle.flt_vm.proofs.program.Program.add_fields.Goals as goal
+use Rattle.flt_program.proofs.program.Program.add_fields.Goals as goal
 
 pub returns-clause-fields : goal.returns-clause-fields
 unfolding HasCode

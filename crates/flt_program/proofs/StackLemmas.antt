@@ -2,8 +2,8 @@
 use Rattle.std.proofs.Common.{◌≡◌, ◌+◌, Bor, List, [], ◌∷◌, ◌++◌, append_assoc, ap, sym, refl, ◌∙◌, arith}
 use Rattle.std.proofs.lemmas.List.{append-nil}
 use Rattle.flt_typed.specs.declared.typed.Typed.{Typed}
-use Rattle.flt_vm.specs.Programs.{patterns_of}
-use Rattle.flt_vm.specs.Stacks.{patterns_left, size_left, size_of}
+use Rattle.flt_program.specs.Programs.{patterns_of}
+use Rattle.flt_program.specs.Stacks.{patterns_left, size_left, size_of}
 
 patterns_one : (parts : List (Bor Typed)) (x : Bor Typed) → patterns_left (parts ++ x ∷ []) ≡ patterns_of x.now ++ patterns_left parts
 patterns_one [] x = sym (append-nil (patterns_of x.now))

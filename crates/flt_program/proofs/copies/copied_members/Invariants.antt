@@ -1,5 +1,5 @@
 use Rattle.std.proofs.Common.{◌≡◌, ◌++◌, drop}
-use Rattle.flt_vm.proofs.copies.copied_members.Given as goal
+use Rattle.flt_program.proofs.copies.copied_members.Given as goal
 
 abbrev pub invariant-loop-member : goal.invariant-loop-member
 invariant-loop-member l = l.all.items ++ drop l.member-index l.members ≡ l.members

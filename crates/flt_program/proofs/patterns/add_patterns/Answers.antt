@@ -1,7 +1,7 @@
 use Rattle.std.proofs.Common.{◌++◌, ap, arith, sym, ◌∙◌}
-use Rattle.flt_vm.proofs.StackLemmas.{patterns_push, size_push}
-use Rattle.flt_vm.specs.Sources.{sources_of}
-use Rattle.flt_vm.proofs.patterns.add_patterns.Goals as goal
+use Rattle.flt_program.proofs.StackLemmas.{patterns_push, size_push}
+use Rattle.flt_program.specs.Sources.{sources_of}
+use Rattle.flt_program.proofs.patterns.add_patterns.Goals as goal
 
 pub parts-smaller : goal.parts-smaller
 parts-smaller c =

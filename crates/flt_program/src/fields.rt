@@ -1,7 +1,7 @@
 // The fields whose values a program asks for.
 ghost use Rattle.std.specs.Prelude.{◌≡◌, ◌||◌, ℕ, Some, true, slice_get};
-ghost use Rattle.flt_vm.specs.Verdicts.{HasField, asks_by, asks_in};
-ghost use Rattle.flt_vm.specs.declared.instr.Instr.{Instr as InstrValue};
+ghost use Rattle.flt_program.specs.Asked.{HasField, asks_by, asks_in};
+ghost use Rattle.flt_program.specs.declared.instr.Instr.{Instr as InstrValue};
 ghost use Rattle.pk_fields.specs.FieldSets.{is_in};
 
 use crate::instr::Instr;

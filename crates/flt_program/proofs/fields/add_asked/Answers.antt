@@ -1,7 +1,7 @@
 use Rattle.std.proofs.Common.{◌<◌, arith, length}
 use Rattle.std.proofs.lemmas.Option.{slice_get_within}
-use Rattle.flt_vm.proofs.VerdictLemmas.{added_more, fields_more}
-use Rattle.flt_vm.proofs.fields.add_asked.Goals as goal
+use Rattle.flt_program.proofs.AskedLemmas.{added_more, fields_more}
+use Rattle.flt_program.proofs.fields.add_asked.Goals as goal
 
 pub loop-instr-preserved : goal.loop-instr-preserved
 loop-instr-preserved c = record {

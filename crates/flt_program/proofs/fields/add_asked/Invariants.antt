@@ -1,7 +1,7 @@
 use Rattle.std.proofs.Common.{◌≡◌, ◌||◌, ◌<◌, ℕ, Some, true, drop, slice_get}
-use Rattle.flt_vm.specs.Verdicts.{HasField, asks_in}
-use Rattle.flt_vm.specs.declared.instr.Instr.{Instr}
-use Rattle.flt_vm.proofs.fields.add_asked.Given as goal
+use Rattle.flt_program.specs.Asked.{HasField, asks_in}
+use Rattle.flt_program.specs.declared.instr.Instr.{Instr}
+use Rattle.flt_program.proofs.fields.add_asked.Given as goal
 use Rattle.pk_fields.specs.FieldSets.{is_in}
 
 abbrev pub invariant-loop-instr : goal.invariant-loop-instr

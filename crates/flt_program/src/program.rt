@@ -1,7 +1,7 @@
 // Programs.
 ghost use Rattle.std.specs.Prelude.{◌≡◌, ◌||◌, ℕ, true, length};
-ghost use Rattle.flt_vm.specs.Programs.{IsProgram};
-ghost use Rattle.flt_vm.specs.Verdicts.{HasCode, asks_in};
+ghost use Rattle.flt_program.specs.Programs.{IsProgram};
+ghost use Rattle.flt_program.specs.Asked.{HasCode, asks_in};
 ghost use Rattle.pk_fields.specs.FieldSets.{is_in};
 
 use crate::fields::add_asked;
@@ -18,7 +18,7 @@ pub struct Program {
 
 // Contracts see a program as its instructions and the number of its registers.
 impl Model for Program {
-    ghost use Rattle.flt_vm.specs.Programs.{Code, IsProgram};
+    ghost use Rattle.flt_program.specs.Programs.{Code, IsProgram};
 
     ghost Value = { Code };
 

@@ -1,8 +1,8 @@
 // The patterns of a filter.
 ghost use Rattle.std.specs.Prelude.{◌≡◌, ◌<◌, ◌+◌, ◌++◌, [], ◌∷◌, IfOk, OnOk};
-ghost use Rattle.flt_vm.specs.Programs.{patterns_of};
-ghost use Rattle.flt_vm.specs.Sources.{sources_of};
-ghost use Rattle.flt_vm.specs.Stacks.{patterns_left, size_left, size_of};
+ghost use Rattle.flt_program.specs.Programs.{patterns_of};
+ghost use Rattle.flt_program.specs.Sources.{sources_of};
+ghost use Rattle.flt_program.specs.Stacks.{patterns_left, size_left, size_of};
 
 use flt_typed::{Pattern, Typed};
 use pk_base::NoMemory;

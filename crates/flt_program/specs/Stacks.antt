@@ -3,7 +3,7 @@ use Rattle.std.specs.Prelude.{ℕ, ◌+◌, List, [], ◌∷◌, ◌++◌}
 use Rattle.std.proofs.Common.{Bor}
 use Rattle.flt_typed.specs.declared.typed.Typed.{Typed}
 use Rattle.flt_typed.specs.declared.typed.Typed.TheVariants.{Either', Differ', Both', Not'}
-use Rattle.flt_vm.specs.Programs.{patterns_of}
+use Rattle.flt_program.specs.Programs.{patterns_of}
 
 -- their patterns
 abbrev pub patterns_left : List (Bor Typed) → List (List ℕ)

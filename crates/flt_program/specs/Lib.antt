@@ -1,0 +1,4 @@
+pub mod Asked
+pub mod Programs
+pub mod Sources
+pub mod Stacks
