@@ -27,7 +27,7 @@ use Rattle.dis_link.specs.Null.{null_after}
 use Rattle.dis_link.specs.Vlan.{vlan_after}
 use Rattle.dis_icmp.specs.Icmp.{icmp_after}
 use Rattle.dis_icmp.specs.Icmp6.{icmp6_after}
-use Rattle.dis_more.specs.Igmp.{igmp_after}
+use Rattle.dis_icmp.specs.Igmp.{igmp_after}
 use Rattle.dis_ip.specs.Extensions.{extension_after}
 use Rattle.dis_ip.specs.FragmentHeader.{fragment_after, fragment_part}
 use Rattle.dis_ip.specs.Fragments.{part_after, is_fragment, LastIsPart}

@@ -8,9 +8,9 @@ use Rattle.pk_tree.specs.declared.heads.After.TheVariants as afters
 use Rattle.pk_tree.specs.declared.heads.Mode.TheVariants.{Plain as PlainMode}
 use Rattle.pk_tree.specs.Layouts.{layer_read}
 use Rattle.pk_tree.specs.Trees.{TreeShown}
-use Rattle.dis_dhcp.specs.Dhcp.{dhcp_layout}
+use Rattle.dis_hosts.specs.Dhcp.{dhcp_layout}
+use Rattle.dis_hosts.specs.Ntp.{ntp_layout, ntp_after}
 use Rattle.dis_dns.specs.Dns.{dns_layout, mdns_layout}
-use Rattle.dis_more.specs.Ntp.{ntp_layout, ntp_after}
 use Rattle.port_rules.specs.declared.rules.App.{App}
 use Rattle.port_rules.specs.declared.rules.App.TheVariants.{Http, Dns, Dhcp, Ntp, Mdns, Plain}
 use Rattle.app_layers.specs.DataLayer.{data_over}

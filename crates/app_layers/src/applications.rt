@@ -5,9 +5,8 @@ ghost use Rattle.app_layers.specs.Applications.{data_behind, payload_over};
 ghost use Rattle.app_layers.specs.MessageLayers.{in_streams, stream_app};
 
 use crate::data_layer::add_data;
-use dis_dhcp::read_dhcp;
 use dis_dns::{read_dns, read_mdns};
-use dis_more::read_ntp;
+use dis_hosts::{read_dhcp, read_ntp};
 use pk_base::{NoMemory, Span};
 use pk_tree::{After, TreeBuilder};
 use port_rules::{App, PortRule, tcp_app};

@@ -4,11 +4,9 @@ ghost use Rattle.pk_tree.specs.Following.{LeadsInside};
 ghost use Rattle.app_layers.specs.Heads.{head_after, head_read};
 ghost use Rattle.app_layers.specs.Payloads.{ComesBehind};
 
-use dis_icmp::{read_icmp, read_icmp6};
+use dis_icmp::{read_icmp, read_icmp6, read_igmp, read_neigh};
 use dis_ip::{read_extension, read_ip4, read_ip6};
 use dis_link::{read_arp, read_vlan};
-use dis_more::read_igmp;
-use dis_neigh::read_neigh;
 use dis_ports::{read_tcp, read_udp};
 use pk_base::{NoMemory, Span};
 use pk_tree::{After, Mode, Next, PacketHead, TreeBuilder};

@@ -1,1 +1,3 @@
+pub mod OptionBound
+pub mod NeighLemmas
 pub mod Whole

@@ -1,2 +1,5 @@
 pub mod Icmp
 pub mod Icmp6
+pub mod Igmp
+pub mod Neigh
+pub mod NeighOptions

@@ -22,12 +22,12 @@ use Rattle.dis_link.specs.Link.{link_of, link_read, link_after}
 use Rattle.dis_link.specs.Vlan.{vlan_layout, vlan_span, vlan_after}
 use Rattle.dis_icmp.specs.Icmp.{icmp_layout, icmp_after}
 use Rattle.dis_icmp.specs.Icmp6.{icmp6_layout, icmp6_after}
+use Rattle.dis_icmp.specs.Igmp.{igmp_layout, igmp_after}
+use Rattle.dis_icmp.specs.Neigh.{neigh_layout}
 use Rattle.dis_ip.specs.Extensions.{extension_proto, extension_layout, extension_after}
 use Rattle.dis_ip.specs.Ip4.{ip4_span, ip4_layout, ip4_after}
 use Rattle.dis_ip.specs.Ip6.{ip6_span, ip6_layout, ip6_after}
 use Rattle.dis_ports.specs.Tcp.{tcp_layout, tcp_after}
-use Rattle.dis_neigh.specs.Neigh.{neigh_layout}
-use Rattle.dis_more.specs.Igmp.{igmp_layout, igmp_after}
 use Rattle.dis_ports.specs.Udp.{udp_span, udp_layout, udp_after}
 use Rattle.ip_join.specs.declared.joined.Joined.{Joined}
 use Rattle.ip_join.specs.declared.joined.Joined.TheVariants.{Pending, Whole, Conflict}

@@ -6,14 +6,12 @@ ghost use Rattle.pk_tree.specs.Following.{LeadsInside};
 
 use crate::afters::push_after;
 use crate::givens::Given;
-use dis_dhcp::read_dhcp;
 use dis_dns::{read_dns, read_mdns};
+use dis_hosts::{read_dhcp, read_ntp};
 use dis_http::read_http;
-use dis_icmp::{read_icmp, read_icmp6};
+use dis_icmp::{read_icmp, read_icmp6, read_igmp, read_neigh};
 use dis_ip::{read_extension, read_ip4, read_ip6};
 use dis_link::{read_arp, read_link, read_vlan};
-use dis_more::{read_igmp, read_ntp};
-use dis_neigh::read_neigh;
 use dis_ports::{read_tcp, read_udp};
 use http_frame::{Framed, Shape, next_message};
 use pk_base::{NoMemory, Octets, Span};

@@ -8,7 +8,7 @@ use Rattle.dis_ip.specs.Ip6.{ip6_after}
 use Rattle.dis_link.specs.Vlan.{vlan_after}
 use Rattle.dis_icmp.specs.Icmp.{icmp_after}
 use Rattle.dis_icmp.specs.Icmp6.{icmp6_after}
-use Rattle.dis_more.specs.Igmp.{igmp_after}
+use Rattle.dis_icmp.specs.Igmp.{igmp_after}
 use Rattle.dis_ports.specs.Udp.{udp_after}
 use Rattle.dis_ports.specs.Tcp.{tcp_after}
 use Rattle.app_layers.proofs.Behind.{vlan_behind, icmp_behind, icmp6_behind, igmp_behind, ip4_behind, ip6_behind, extension_behind, udp_behind, tcp_behind}

@@ -1,3 +1,0 @@
-pub mod OptionBound
-pub mod DhcpLemmas
-pub mod WholeOptions

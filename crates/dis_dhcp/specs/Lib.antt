@@ -1,2 +1,0 @@
-pub mod Dhcp
-pub mod DhcpOptions

@@ -1,0 +1,4 @@
+pub mod OptionBound
+pub mod DhcpLemmas
+pub mod Whole
+pub mod WholeOptions

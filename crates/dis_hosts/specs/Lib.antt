@@ -1,0 +1,3 @@
+pub mod Dhcp
+pub mod DhcpOptions
+pub mod Ntp

@@ -1,2 +1,0 @@
-pub mod OptionBound
-pub mod NeighLemmas

@@ -1,2 +1,0 @@
-pub mod Neigh
-pub mod NeighOptions
