@@ -11,11 +11,11 @@ use Rattle.port_rules.specs.declared.rules.App.{App}
 use Rattle.port_rules.specs.declared.rules.PortRule.{PortRule}
 use Rattle.port_rules.specs.Applications.{udp_app}
 use Rattle.capture_read.specs.declared.frame.Frame.{Frame}
-use Rattle.conversations.specs.declared.conversations.Ends.{Ends}
+use Rattle.message_links.specs.declared.conversations.Ends.{Ends}
 use Rattle.dissect.specs.declared.state.State.{State}
 use Rattle.dissect.specs.declared.todo.Todo.TheVariants as todos
 use Rattle.app_layers.specs.Applications.{payload_over}
-use Rattle.conversations.specs.Conversations.{number_in, udp_ends, with_ends}
+use Rattle.message_links.specs.Conversations.{number_in, udp_ends, with_ends}
 use Rattle.dissect.specs.Conversations.{udp_opened, udp_stream}
 use Rattle.dissect.specs.Events.{Event}
 use Rattle.dissect.specs.Fragments.{fragments_of}

@@ -2,8 +2,8 @@
 use Rattle.std.specs.Prelude.{ℕ, List, [], ◌∷◌}
 use Rattle.pk_tree.specs.declared.heads.PacketHead.{PacketHead}
 use Rattle.pk_tree.specs.declared.heads.PortsHead.{PortsHead}
-use Rattle.conversations.specs.declared.conversations.Ends.{Ends}
-use Rattle.conversations.specs.Conversations.{number_in, udp_ends, with_ends}
+use Rattle.message_links.specs.declared.conversations.Ends.{Ends}
+use Rattle.message_links.specs.Conversations.{number_in, udp_ends, with_ends}
 use Rattle.dissect.specs.Events.{Event, NewFrame, Piece, Udp, Tcp}
 
 -- the conversations over UDP, in the order of their first packets; events have the newest first

@@ -10,7 +10,7 @@ use crate::state::State;
 use crate::todo::Todo;
 use app_layers::{add_message, is_cut, tell_datagram};
 use capture_read::Frame;
-use conversations::udp_ends;
+use message_links::udp_ends;
 use pk_base::{NoMemory, Span};
 use pk_tree::{PacketHead, PortsHead, TreeBuilder};
 use port_rules::{PortRule, udp_app};

@@ -1,6 +1,5 @@
-use conversations::Conversations;
 use ip_join::Joins;
-use message_links::Links;
+use message_links::{Conversations, Links};
 use tcp_messages::MessageStreams;
 
 /// What is kept of earlier frames' packets.

@@ -1,3 +1,4 @@
+pub mod Conversations
 pub mod Linked
 pub mod LinkTables
 pub mod Links

@@ -1,8 +1,8 @@
 use Rattle.std.proofs.Common.{◌∙◌, ℕ, Bool, List, ap}
 use Rattle.pk_buffer.specs.Buffers.{bytes_of}
-use Rattle.conversations.specs.declared.conversations.Ends.{Ends}
+use Rattle.message_links.specs.declared.conversations.Ends.{Ends}
 use Rattle.app_layers.specs.Applications.{payload_over}
-use Rattle.conversations.specs.Conversations.{number_in, with_ends}
+use Rattle.message_links.specs.Conversations.{number_in, with_ends}
 use Rattle.dissect.proofs.DatagramLemmas.{datagram-met}
 use Rattle.dissect.proofs.state.State.datagram.Goals as goal
 

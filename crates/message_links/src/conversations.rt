@@ -1,6 +1,6 @@
 ghost use Rattle.std.specs.Prelude.{◌≡◌, ◌⊎◌, ◌↔◌, ◌+◌, ◌<◌, ◌≤◌, ◌^◌, [], length, IfOk, OnOk, OnErr};
-ghost use Rattle.conversations.specs.declared.conversations.End.{End as EndValue};
-ghost use Rattle.conversations.specs.Conversations.{end_of, comes_first, ends_between, udp_ends, with_ends, number_in};
+ghost use Rattle.message_links.specs.declared.conversations.End.{End as EndValue};
+ghost use Rattle.message_links.specs.Conversations.{end_of, comes_first, ends_between, udp_ends, with_ends, number_in};
 
 use indexmap::IndexSet;
 use pk_base::NoMemory;
@@ -32,7 +32,7 @@ pub struct Conversations {
 
 impl Model for Conversations {
     ghost use Rattle.std.specs.Prelude.{List};
-    ghost use Rattle.conversations.specs.declared.conversations.Ends.{Ends as EndsValue};
+    ghost use Rattle.message_links.specs.declared.conversations.Ends.{Ends as EndsValue};
 
     ghost Value = { List EndsValue };
 

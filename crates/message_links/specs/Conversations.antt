@@ -5,8 +5,8 @@ use Rattle.pk_tree.specs.declared.heads.Address.{Address}
 use Rattle.pk_tree.specs.declared.heads.Address.TheVariants.{Four, Six}
 use Rattle.pk_tree.specs.declared.heads.PacketHead.{PacketHead}
 use Rattle.pk_tree.specs.declared.heads.PortsHead.{PortsHead}
-use Rattle.conversations.specs.declared.conversations.End.{End}
-use Rattle.conversations.specs.declared.conversations.Ends.{Ends}
+use Rattle.message_links.specs.declared.conversations.End.{End}
+use Rattle.message_links.specs.declared.conversations.Ends.{Ends}
 
 -- an end of a conversation: an address and a port
 abbrev pub end_of : Address → ℕ → End
