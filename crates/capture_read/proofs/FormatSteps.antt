@@ -1,7 +1,7 @@
 -- One step through a file of each format.
 use Rattle.std.proofs.Common.{◌≡◌, ℕ, ◌-◌, Bool, List, length, drop, length-drop}
-use Rattle.pcap_read.specs.declared.header.PcapHead.{PcapHead}
-use Rattle.pcapng_read.specs.Sections.{Scope}
+use Rattle.capture_formats.specs.declared.header.PcapHead.{PcapHead}
+use Rattle.capture_formats.specs.Sections.{Scope}
 use Rattle.capture_read.specs.Pieces.{record_at, head_behind, where_left, IsPieceWithin}
 use Rattle.capture_read.specs.State.{scoped_block, scope_behind, reading_from, Reads, IsBegun, UnlessPassed, WhenRead}
 use Rattle.capture_read.specs.declared.format.Format.{Format}

@@ -1,9 +1,9 @@
 -- The frames of a capture file are few, and numbered in order.
 use Rattle.std.proofs.Common.{◌≡◌, ◌≤◌, ℕ, zero, suc, ◌-◌, ◌^◌, Bool, List, [], ◌∷◌, length, drop, refl, arith, length-take, length-drop}
 use Rattle.pk_base.specs.Limits.{file_limit}
-use Rattle.pcap_read.specs.Pcap.{pcap_head}
-use Rattle.pcap_read.specs.declared.header.PcapHead.{PcapHead}
-use Rattle.pcap_read.specs.declared.header.HeadStep.TheVariants as head
+use Rattle.capture_formats.specs.Pcap.{pcap_head}
+use Rattle.capture_formats.specs.declared.header.PcapHead.{PcapHead}
+use Rattle.capture_formats.specs.declared.header.HeadStep.TheVariants as head
 use Rattle.capture_read.specs.declared.ending.Ending.{Ending}
 use Rattle.capture_read.specs.declared.frame.Frame.{Frame}
 use Rattle.pk_base.proofs.Choices.{by_case}

@@ -2,15 +2,15 @@
 use Rattle.std.proofs.Common.{◌≡◌, ℕ, suc, ◌+◌, Bool, true, false, List, [], ◌∷◌, length, drop, Option, Some, None, refl, sym, ap, ◌∙◌, arith, if◌then◌else◌}
 use Rattle.pk_base.specs.declared.found.Found.{Found}
 use Rattle.pk_base.specs.declared.found.Reason.TheVariants.{ShortHeader, RecordCut, BlockCut}
-use Rattle.pcap_read.specs.Pcap.{pcap_head, pcap_item}
-use Rattle.pcap_read.specs.declared.header.PcapHead.{PcapHead}
-use Rattle.pcap_read.specs.declared.header.HeadStep.TheVariants as head
-use Rattle.pcap_read.specs.declared.packet.ItemStep.TheVariants as item
-use Rattle.pcapng_read.specs.Blocks.{block_at as read_block_at}
-use Rattle.pcapng_read.specs.Sections.{Scope, block_in, scope_after, scope_of, step_of}
-use Rattle.pcapng_read.specs.declared.step.BlockStep.{BlockStep}
-use Rattle.pcapng_read.specs.declared.step.BlockStep.TheVariants as step
-use Rattle.pcapng_read.proofs.Within.{block_at-within}
+use Rattle.capture_formats.specs.Pcap.{pcap_head, pcap_item}
+use Rattle.capture_formats.specs.declared.header.PcapHead.{PcapHead}
+use Rattle.capture_formats.specs.declared.header.HeadStep.TheVariants as head
+use Rattle.capture_formats.specs.declared.packet.ItemStep.TheVariants as item
+use Rattle.capture_formats.specs.Blocks.{block_at as read_block_at}
+use Rattle.capture_formats.specs.Sections.{Scope, block_in, scope_after, scope_of, step_of}
+use Rattle.capture_formats.specs.declared.step.BlockStep.{BlockStep}
+use Rattle.capture_formats.specs.declared.step.BlockStep.TheVariants as step
+use Rattle.capture_formats.proofs.BlocksWithin.{block_at-within}
 use Rattle.capture_read.specs.Capture.{Reading, after_head, after_piece, ended, frame_of, is_pcapng, pieces, with_frame}
 use Rattle.capture_read.specs.Ending.{damage_at, end_of_bytes, unfinished}
 use Rattle.capture_read.specs.Pieces.{block_at, blocks_behind, record_at, head_behind, of_record, of_block}

@@ -1,15 +1,15 @@
 -- What the code keeps of the blocks of a pcapng file tells what the definition finds by looking back.
 use Rattle.std.proofs.Common.{◌≡◌, ℕ, Bool, true, List, [], refl, subst}
 use Rattle.pk_base.specs.declared.found.Found.{Found}
-use Rattle.pcapng_read.specs.Sections.{Scope, scope_of, scope_after, step_of}
-use Rattle.pcapng_read.specs.declared.block.Block.{Block}
-use Rattle.pcapng_read.specs.declared.block.Block.TheVariants as block
-use Rattle.pcapng_read.specs.declared.block.BlockRead.{BlockRead}
-use Rattle.pcapng_read.specs.declared.block.BlockRead.TheVariants as read
-use Rattle.pcapng_read.specs.declared.step.BlockStep.{BlockStep}
-use Rattle.pcapng_read.specs.declared.step.BlockStep.TheVariants as step
-use Rattle.pcapng_read.specs.Sections.{block_of}
-use Rattle.pcapng_read.proofs.Known.{scope_of-after}
+use Rattle.capture_formats.specs.Sections.{Scope, scope_of, scope_after, step_of}
+use Rattle.capture_formats.specs.declared.block.Block.{Block}
+use Rattle.capture_formats.specs.declared.block.Block.TheVariants as block
+use Rattle.capture_formats.specs.declared.block.BlockRead.{BlockRead}
+use Rattle.capture_formats.specs.declared.block.BlockRead.TheVariants as read
+use Rattle.capture_formats.specs.declared.step.BlockStep.{BlockStep}
+use Rattle.capture_formats.specs.declared.step.BlockStep.TheVariants as step
+use Rattle.capture_formats.specs.Sections.{block_of}
+use Rattle.capture_formats.proofs.Known.{scope_of-after}
 use Rattle.capture_read.specs.Capture.{pieces, capture_of, held_part, is_large, is_pcapng}
 use Rattle.capture_read.specs.Pieces.{block_at, blocks_behind}
 use Rattle.capture_read.specs.State.{scoped_block, scope_behind}

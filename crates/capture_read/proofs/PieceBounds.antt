@@ -1,17 +1,17 @@
 -- The records and blocks of a capture file are within its bytes.
 use Rattle.std.proofs.Common.{ℕ, Bool, List, length, arith}
-use Rattle.pcap_read.specs.Pcap.{pcap_item, IsItemWithin}
-use Rattle.pcap_read.specs.declared.header.PcapHead.{PcapHead}
-use Rattle.pcap_read.specs.declared.packet.ItemStep.{ItemStep}
-use Rattle.pcap_read.specs.declared.packet.ItemStep.TheVariants as item
-use Rattle.pcap_read.proofs.Within.{pcap_item-within}
-use Rattle.pcapng_read.specs.Blocks.{IsReadWithin}
-use Rattle.pcapng_read.specs.Sections.{block_of, order_of, interfaces_of, step_of}
-use Rattle.pcapng_read.specs.declared.block.Block.{Block}
-use Rattle.pcapng_read.specs.declared.block.Block.TheVariants as block
-use Rattle.pcapng_read.specs.declared.block.BlockRead.{BlockRead}
-use Rattle.pcapng_read.specs.declared.block.BlockRead.TheVariants as read
-use Rattle.pcapng_read.proofs.Within.{block_at-within}
+use Rattle.capture_formats.specs.Pcap.{pcap_item, IsItemWithin}
+use Rattle.capture_formats.specs.declared.header.PcapHead.{PcapHead}
+use Rattle.capture_formats.specs.declared.packet.ItemStep.{ItemStep}
+use Rattle.capture_formats.specs.declared.packet.ItemStep.TheVariants as item
+use Rattle.capture_formats.proofs.RecordsWithin.{pcap_item-within}
+use Rattle.capture_formats.specs.Blocks.{IsReadWithin}
+use Rattle.capture_formats.specs.Sections.{block_of, order_of, interfaces_of, step_of}
+use Rattle.capture_formats.specs.declared.block.Block.{Block}
+use Rattle.capture_formats.specs.declared.block.Block.TheVariants as block
+use Rattle.capture_formats.specs.declared.block.BlockRead.{BlockRead}
+use Rattle.capture_formats.specs.declared.block.BlockRead.TheVariants as read
+use Rattle.capture_formats.proofs.BlocksWithin.{block_at-within}
 use Rattle.capture_read.specs.Pieces.{of_record, of_block, record_at, block_at, IsPieceWithin}
 
 of_record-within : (large : Bool) (at : ℕ) (step : ItemStep) (held : ℕ) → IsItemWithin step held → IsPieceWithin (of_record large at step) held

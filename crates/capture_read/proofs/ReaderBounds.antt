@@ -3,9 +3,9 @@ use Rattle.std.proofs.Common.{◌≡◌, ◌≤◌, ◌+◌, ◌^◌, ℕ, List,
 use Rattle.std.specs.Prelude.{IfOk, IsErrOf, OnOk, OnErr}
 use Rattle.pk_base.specs.Limits.{file_limit}
 use Rattle.pk_base.specs.declared.memory.NoMemory.{NoMemory}
-use Rattle.pcapng_read.specs.Sections.{Scope, IsStepWithin}
-use Rattle.pcapng_read.specs.declared.step.BlockStep.{BlockStep}
-use Rattle.pcapng_read.specs.declared.step.BlockStep.TheVariants as step
+use Rattle.capture_formats.specs.Sections.{Scope, IsStepWithin}
+use Rattle.capture_formats.specs.declared.step.BlockStep.{BlockStep}
+use Rattle.capture_formats.specs.declared.step.BlockStep.TheVariants as step
 use Rattle.capture_read.specs.Offsets.{AreInterfaces, IsStepTimely}
 use Rattle.capture_read.specs.Reader.{Reader, IsKept, scope_then, step_here}
 use Rattle.capture_read.specs.declared.kind.Kind.{Kind}

@@ -5,9 +5,9 @@ use Rattle.std.proofs.Math.Seq.{take-append-add}
 use Rattle.pk_base.specs.Limits.{file_limit}
 use Rattle.pk_base.proofs.Choices.{is_less, isn't_less, less}
 use Rattle.pk_base.proofs.SameFront.{IsSameFront}
-use Rattle.pcapng_read.specs.Sections.{Scope, IsStepWithin}
-use Rattle.pcapng_read.specs.declared.step.BlockStep.{BlockStep}
-use Rattle.pcapng_read.specs.declared.step.BlockStep.TheVariants as step
+use Rattle.capture_formats.specs.Sections.{Scope, IsStepWithin}
+use Rattle.capture_formats.specs.declared.step.BlockStep.{BlockStep}
+use Rattle.capture_formats.specs.declared.step.BlockStep.TheVariants as step
 use Rattle.capture_read.specs.Capture.{Reading, capture_of, is_large, with_frame}
 use Rattle.capture_read.specs.Reader.{Reader, IsOver, IsPlaced, HasFew, cut_here, kind_then, reading_here, scope_then, step_here, with_past}
 use Rattle.capture_read.specs.declared.ending.Ending.{Ending}

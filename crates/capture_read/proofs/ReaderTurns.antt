@@ -7,9 +7,9 @@ use Rattle.pk_base.specs.declared.found.Found.{Found}
 use Rattle.pk_base.specs.declared.found.Reason.{Reason}
 use Rattle.pk_base.proofs.Choices.{is_less, isn't_less, less, not_less}
 use Rattle.pk_base.proofs.SameFront.{IsSameFront, part_same}
-use Rattle.pcapng_read.specs.Sections.{Scope, IsStepWithin, WhenUntaken, scope_of}
-use Rattle.pcapng_read.specs.declared.step.BlockStep.{BlockStep}
-use Rattle.pcapng_read.specs.declared.step.BlockStep.TheVariants as step
+use Rattle.capture_formats.specs.Sections.{Scope, IsStepWithin, WhenUntaken, scope_of}
+use Rattle.capture_formats.specs.declared.step.BlockStep.{BlockStep}
+use Rattle.capture_formats.specs.declared.step.BlockStep.TheVariants as step
 use Rattle.capture_read.specs.Answers.{IsFrontOf, IsNear, HoldsExactly, Finds, GoesOn, FailsAt, Sees, TakesFew}
 use Rattle.capture_read.specs.Capture.{capture_of, ended, frame_of, is_large, reading_of, with_frame}
 use Rattle.capture_read.specs.Ending.{damage_at}

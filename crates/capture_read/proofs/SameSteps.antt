@@ -3,22 +3,22 @@ use Rattle.std.proofs.Common.{◌≡◌, ◌<◌, ◌≤◌, ℕ, Bool, true, fa
 use lib.Pointwise.{pointwise}
 use Rattle.pk_base.proofs.Choices.{by_case, both_same, isn't_less, is_less}
 use Rattle.pk_base.proofs.SameFront.{IsSameFront, front_same}
-use Rattle.pcap_read.specs.Pcap.{pcap_head, pcap_item, IsHeadWithin, IsItemWithin}
-use Rattle.pcap_read.specs.declared.header.HeadStep.{HeadStep}
-use Rattle.pcap_read.specs.declared.header.HeadStep.TheVariants as head
-use Rattle.pcap_read.specs.declared.packet.ItemStep.{ItemStep}
-use Rattle.pcap_read.specs.declared.packet.ItemStep.TheVariants as item
-use Rattle.pcap_read.proofs.SameRecords.{IsItemDecided, IsHeadDecided, item_same, head_same, decided_four, pcap_head-few, pcap_head-within}
-use Rattle.pcap_read.proofs.Within.{pcap_item-within}
-use Rattle.pcapng_read.specs.Blocks.{IsReadWithin}
-use Rattle.pcapng_read.specs.Sections.{Scope, block_in, scope_after, step_of, IsStepWithin}
-use Rattle.pcapng_read.specs.declared.block.Block.TheVariants as block
-use Rattle.pcapng_read.specs.declared.block.BlockRead.{BlockRead}
-use Rattle.pcapng_read.specs.declared.block.BlockRead.TheVariants as read
-use Rattle.pcapng_read.specs.declared.step.BlockStep.{BlockStep}
-use Rattle.pcapng_read.specs.declared.step.BlockStep.TheVariants as step
-use Rattle.pcapng_read.proofs.SameBlocks.{IsReadDecided, block_same, decided_some}
-use Rattle.pcapng_read.proofs.Within.{block_at-within}
+use Rattle.capture_formats.specs.Pcap.{pcap_head, pcap_item, IsHeadWithin, IsItemWithin}
+use Rattle.capture_formats.specs.declared.header.HeadStep.{HeadStep}
+use Rattle.capture_formats.specs.declared.header.HeadStep.TheVariants as head
+use Rattle.capture_formats.specs.declared.packet.ItemStep.{ItemStep}
+use Rattle.capture_formats.specs.declared.packet.ItemStep.TheVariants as item
+use Rattle.capture_formats.proofs.SameRecords.{IsItemDecided, IsHeadDecided, item_same, head_same, decided_four, pcap_head-few, pcap_head-within}
+use Rattle.capture_formats.proofs.RecordsWithin.{pcap_item-within}
+use Rattle.capture_formats.specs.Blocks.{IsReadWithin}
+use Rattle.capture_formats.specs.Sections.{Scope, block_in, scope_after, step_of, IsStepWithin}
+use Rattle.capture_formats.specs.declared.block.Block.TheVariants as block
+use Rattle.capture_formats.specs.declared.block.BlockRead.{BlockRead}
+use Rattle.capture_formats.specs.declared.block.BlockRead.TheVariants as read
+use Rattle.capture_formats.specs.declared.step.BlockStep.{BlockStep}
+use Rattle.capture_formats.specs.declared.step.BlockStep.TheVariants as step
+use Rattle.capture_formats.proofs.SameBlocks.{IsReadDecided, block_same, decided_some}
+use Rattle.capture_formats.proofs.BlocksWithin.{block_at-within}
 use Rattle.capture_read.specs.Capture.{is_pcapng}
 use Rattle.capture_read.specs.Reader.{step_here, step_of_head, step_of_item, kind_of_head, kind_then, scope_then, told_kind}
 use Rattle.capture_read.specs.declared.kind.Kind.{Kind}

@@ -7,28 +7,28 @@ use Rattle.std.proofs.lemmas.Int.{ints}
 use Rattle.pk_base.specs.declared.found.Found.{Found}
 use Rattle.pk_base.specs.Endian.{number_at}
 use Rattle.pk_base.specs.Limits.{captured_limit}
-use Rattle.pcap_read.specs.declared.header.HeadStep.{HeadStep}
-use Rattle.pcap_read.specs.declared.header.HeadStep.TheVariants as head
-use Rattle.pcap_read.specs.Pcap.{pcap_head, pcap_item, nanoseconds as record_nanoseconds}
-use Rattle.pcap_read.specs.declared.header.PcapHead.{PcapHead}
-use Rattle.pcap_read.specs.declared.packet.ItemStep.{ItemStep}
-use Rattle.pcap_read.specs.declared.packet.ItemStep.TheVariants as item
-use Rattle.pcapng_read.specs.Blocks.{block_at as block_read, ordered_block, measured_block, whole_block, interface_by, interface_with, packet_of, fitting, timed_packet, simple_packet, total_length, least_length, told_order, section_type, interface_type, obsolete_packet_type, simple_packet_type, enhanced_packet_type}
-use Rattle.pcapng_read.specs.Interface.{nanoseconds}
-use Rattle.pcapng_read.specs.Options.{option_of, options_of, after_option, settings_of, last_offset, after_all, default, padded, end_code, resolution_code, offset_code}
-use Rattle.pcapng_read.specs.Sections.{Scope, block_in, block_of, blocks_after, order_of, interfaces_of, scope_after, step_of}
-use Rattle.pcapng_read.specs.Ticks.{ticks_per_second}
-use Rattle.pcapng_read.specs.declared.block.Block.{Block}
-use Rattle.pcapng_read.specs.declared.block.Block.TheVariants as block
-use Rattle.pcapng_read.specs.declared.block.BlockRead.{BlockRead}
-use Rattle.pcapng_read.specs.declared.block.BlockRead.TheVariants as read
-use Rattle.pcapng_read.specs.declared.interface.Interface.{Interface}
-use Rattle.pcapng_read.specs.declared.options.OptionStep.{OptionStep}
-use Rattle.pcapng_read.specs.declared.options.OptionStep.TheVariants as option
-use Rattle.pcapng_read.specs.declared.options.Setting.{Setting}
-use Rattle.pcapng_read.specs.declared.options.Setting.TheVariants.{Resolution, Offset, Other}
-use Rattle.pcapng_read.specs.declared.options.Settings.{Settings}
-use Rattle.pcapng_read.proofs.Numbers.{number_at-small}
+use Rattle.capture_formats.specs.declared.header.HeadStep.{HeadStep}
+use Rattle.capture_formats.specs.declared.header.HeadStep.TheVariants as head
+use Rattle.capture_formats.specs.Pcap.{pcap_head, pcap_item, nanoseconds as record_nanoseconds}
+use Rattle.capture_formats.specs.declared.header.PcapHead.{PcapHead}
+use Rattle.capture_formats.specs.declared.packet.ItemStep.{ItemStep}
+use Rattle.capture_formats.specs.declared.packet.ItemStep.TheVariants as item
+use Rattle.capture_formats.specs.Blocks.{block_at as block_read, ordered_block, measured_block, whole_block, interface_by, interface_with, packet_of, fitting, timed_packet, simple_packet, total_length, least_length, told_order, section_type, interface_type, obsolete_packet_type, simple_packet_type, enhanced_packet_type}
+use Rattle.capture_formats.specs.Interface.{nanoseconds}
+use Rattle.capture_formats.specs.Options.{option_of, options_of, after_option, settings_of, last_offset, after_all, default, padded, end_code, resolution_code, offset_code}
+use Rattle.capture_formats.specs.Sections.{Scope, block_in, block_of, blocks_after, order_of, interfaces_of, scope_after, step_of}
+use Rattle.capture_formats.specs.Ticks.{ticks_per_second}
+use Rattle.capture_formats.specs.declared.block.Block.{Block}
+use Rattle.capture_formats.specs.declared.block.Block.TheVariants as block
+use Rattle.capture_formats.specs.declared.block.BlockRead.{BlockRead}
+use Rattle.capture_formats.specs.declared.block.BlockRead.TheVariants as read
+use Rattle.capture_formats.specs.declared.interface.Interface.{Interface}
+use Rattle.capture_formats.specs.declared.options.OptionStep.{OptionStep}
+use Rattle.capture_formats.specs.declared.options.OptionStep.TheVariants as option
+use Rattle.capture_formats.specs.declared.options.Setting.{Setting}
+use Rattle.capture_formats.specs.declared.options.Setting.TheVariants.{Resolution, Offset, Other}
+use Rattle.capture_formats.specs.declared.options.Settings.{Settings}
+use Rattle.capture_formats.proofs.Numbers.{number_at-small}
 use Rattle.pk_base.proofs.Choices.{by_case}
 use Rattle.capture_read.specs.FrameList.{IsTime}
 use Rattle.capture_read.specs.Offsets.{IsOffset, AreInterfaces, IsStepTimely}

@@ -4,9 +4,9 @@ use Rattle.std.specs.List.{starts_with}
 use Rattle.pk_base.specs.Limits.{file_limit}
 use Rattle.pk_base.specs.declared.found.Found.{Found}
 use Rattle.pk_base.specs.declared.found.Reason.TheVariants.{ShortHeader}
-use Rattle.pcap_read.specs.Pcap.{pcap_head}
-use Rattle.pcap_read.specs.declared.header.HeadStep.{HeadStep}
-use Rattle.pcap_read.specs.declared.header.HeadStep.TheVariants as head
+use Rattle.capture_formats.specs.Pcap.{pcap_head}
+use Rattle.capture_formats.specs.declared.header.HeadStep.{HeadStep}
+use Rattle.capture_formats.specs.declared.header.HeadStep.TheVariants as head
 use Rattle.capture_read.specs.declared.frame.Frame.{Frame}
 use Rattle.capture_read.specs.declared.ending.Ending.{Ending}
 use Rattle.capture_read.specs.declared.piece.Piece.{Piece}

@@ -1,10 +1,10 @@
 -- The interfaces of a section have offsets of 64 bits: draft-ietf-opsawg-pcapng, section 4.2 (if_tsoffset). So the times of
 -- frames are small.
 use Rattle.std.specs.Prelude.{◌^◌, ℤ, pos, neg_ℤ, ◌<ℤ◌, ◌≤ℤ◌, List, [], ◌∷◌, IfSome}
-use Rattle.pcapng_read.specs.declared.step.BlockStep.{BlockStep}
-use Rattle.pcapng_read.specs.declared.step.BlockStep.TheVariants as step
+use Rattle.capture_formats.specs.declared.step.BlockStep.{BlockStep}
+use Rattle.capture_formats.specs.declared.step.BlockStep.TheVariants as step
 use Rattle.capture_read.specs.FrameList.{IsTime}
-use Rattle.pcapng_read.specs.declared.interface.Interface.{Interface}
+use Rattle.capture_formats.specs.declared.interface.Interface.{Interface}
 
 -- seconds of 64 bits
 abbrev pub IsOffset : ℤ → Type 0

@@ -1,14 +1,14 @@
 -- What stands at a place of a capture file where a record or block may begin, and what is known behind it.
 use Rattle.std.specs.Prelude.{◌<◌, ◌≤◌, ℕ, ◌+◌, Bool, List, [], ◌∷◌}
 use Rattle.pk_base.specs.declared.found.Reason.TheVariants.{RecordCut, BlockCut}
-use Rattle.pcap_read.specs.Pcap.{pcap_item}
-use Rattle.pcap_read.specs.declared.header.PcapHead.{PcapHead}
-use Rattle.pcap_read.specs.declared.packet.ItemStep.{ItemStep}
-use Rattle.pcap_read.specs.declared.packet.ItemStep.TheVariants as item
-use Rattle.pcapng_read.specs.Sections.{block_of, blocks_after, step_of}
-use Rattle.pcapng_read.specs.declared.block.Block.{Block}
-use Rattle.pcapng_read.specs.declared.step.BlockStep.{BlockStep}
-use Rattle.pcapng_read.specs.declared.step.BlockStep.TheVariants as step
+use Rattle.capture_formats.specs.Pcap.{pcap_item}
+use Rattle.capture_formats.specs.declared.header.PcapHead.{PcapHead}
+use Rattle.capture_formats.specs.declared.packet.ItemStep.{ItemStep}
+use Rattle.capture_formats.specs.declared.packet.ItemStep.TheVariants as item
+use Rattle.capture_formats.specs.Sections.{block_of, blocks_after, step_of}
+use Rattle.capture_formats.specs.declared.block.Block.{Block}
+use Rattle.capture_formats.specs.declared.step.BlockStep.{BlockStep}
+use Rattle.capture_formats.specs.declared.step.BlockStep.TheVariants as step
 use Rattle.capture_read.specs.Ending.{end_of_bytes, unfinished, damage_at}
 use Rattle.capture_read.specs.declared.piece.Piece.{Piece}
 use Rattle.capture_read.specs.declared.piece.Piece.TheVariants.{End, Packet, Passed}

@@ -3,14 +3,14 @@
 use Rattle.std.specs.Prelude.{◌≡◌, ◌≢◌, ◌<◌, ◌≤◌, ℕ, suc, ◌+◌, ◌-◌, ◌^◌, Bool, if◌then◌else◌, List, [], ◌∷◌, ◌++◌, length, take, Option, Some, None}
 use Rattle.pk_base.specs.Limits.{file_limit}
 use Rattle.pk_base.specs.declared.found.Reason.TheVariants.{ShortHeader, RecordCut, BlockCut}
-use Rattle.pcap_read.specs.Pcap.{pcap_head, pcap_item}
-use Rattle.pcap_read.specs.declared.header.HeadStep.{HeadStep}
-use Rattle.pcap_read.specs.declared.header.HeadStep.TheVariants as head
-use Rattle.pcap_read.specs.declared.packet.ItemStep.{ItemStep}
-use Rattle.pcap_read.specs.declared.packet.ItemStep.TheVariants as item
-use Rattle.pcapng_read.specs.Sections.{Scope, block_in, scope_after, scope_of, step_of}
-use Rattle.pcapng_read.specs.declared.step.BlockStep.{BlockStep}
-use Rattle.pcapng_read.specs.declared.step.BlockStep.TheVariants as step
+use Rattle.capture_formats.specs.Pcap.{pcap_head, pcap_item}
+use Rattle.capture_formats.specs.declared.header.HeadStep.{HeadStep}
+use Rattle.capture_formats.specs.declared.header.HeadStep.TheVariants as head
+use Rattle.capture_formats.specs.declared.packet.ItemStep.{ItemStep}
+use Rattle.capture_formats.specs.declared.packet.ItemStep.TheVariants as item
+use Rattle.capture_formats.specs.Sections.{Scope, block_in, scope_after, scope_of, step_of}
+use Rattle.capture_formats.specs.declared.step.BlockStep.{BlockStep}
+use Rattle.capture_formats.specs.declared.step.BlockStep.TheVariants as step
 use Rattle.capture_read.specs.Capture.{Reading, capture_of, ended, with_frame, is_large, is_pcapng, pieces, reading_of}
 use Rattle.capture_read.specs.Ending.{end_of_bytes, unfinished}
 use Rattle.capture_read.specs.Offsets.{AreInterfaces}

@@ -1,6 +1,6 @@
 -- How far a capture file is read.
 use Rattle.std.specs.Prelude.{◌≡◌, ◌≤◌, ℕ, suc, ◌+◌, Bool, List, length, drop}
-use Rattle.pcapng_read.specs.Sections.{Scope, IsReady, block_in, scope_after, step_of}
+use Rattle.capture_formats.specs.Sections.{Scope, IsReady, block_in, scope_after, step_of}
 use Rattle.capture_read.specs.Capture.{Reading, ended, with_frame, frame_of, held_part, is_large, pieces}
 use Rattle.capture_read.specs.Pieces.{record_at, head_behind, of_block}
 use Rattle.capture_read.specs.declared.format.Format.{Format}

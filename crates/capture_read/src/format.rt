@@ -1,5 +1,5 @@
 use crate::ending::Ending;
-use pcap_read::PcapHead;
+use capture_formats::PcapHead;
 
 /// How the next record or block of a file is read.
 #[derive(Clone, Copy)]

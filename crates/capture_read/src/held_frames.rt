@@ -6,7 +6,7 @@ ghost use Rattle.capture_read.specs.NextFrame.{Gives};
 use crate::format::{Format, Place};
 use crate::next_frame::NextFrame;
 use crate::state::{first_place, take_frame};
-use pcapng_read::Sections;
+use capture_formats::Sections;
 use pk_base::{NoMemory, Octets};
 use std::alloc::Global;
 use std::marker::Model;

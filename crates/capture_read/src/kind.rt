@@ -1,5 +1,5 @@
 use crate::ending::Ending;
-use pcap_read::PcapHead;
+use capture_formats::PcapHead;
 
 /// The format of a file whose header or first block is read.
 #[derive(Clone, Copy)]

@@ -1,13 +1,12 @@
 // What stands at a reader's place.
 ghost use Rattle.std.specs.Prelude.{◌≡◌, ℕ, [], length, None, IfOk, OnOk, OnErr};
-ghost use Rattle.pcapng_read.specs.Sections.{scope_of, IsStepWithin, WhenTaken, WhenUntaken};
+ghost use Rattle.capture_formats.specs.Sections.{scope_of, IsStepWithin, WhenTaken, WhenUntaken};
 ghost use Rattle.capture_read.specs.Offsets.{AreInterfaces, IsStepTimely};
 ghost use Rattle.capture_read.specs.Reader.{IsPlaced, kind_then, scope_then, step_here, step_of_item};
 
 use crate::kind::Kind;
 use crate::state::{PCAP_HEADER_SIZE, begins_pcapng};
-use pcap_read::{HeadStep, ItemStep, head, next_item};
-use pcapng_read::{BlockStep, Sections};
+use capture_formats::{BlockStep, HeadStep, ItemStep, Sections, head, next_item};
 use pk_base::NoMemory;
 
 /// Looks at a file's header, or at the first block of a pcapng file.

@@ -4,7 +4,7 @@ ghost use Rattle.capture_read.specs.State.{reading_from, IsBegun, Reads, UnlessP
 
 use crate::format::Format;
 use crate::piece::{Piece, read_block, read_record};
-use pcapng_read::Sections;
+use capture_formats::Sections;
 use pk_base::{NoMemory, bytes_from};
 
 /// Reads the record or block at a place of the bytes that are looked at.

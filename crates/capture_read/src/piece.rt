@@ -1,11 +1,10 @@
 ghost use Rattle.std.specs.Prelude.{◌≡◌, ◌≢◌, None, length, IfOk, OnErr};
-ghost use Rattle.pcapng_read.specs.Sections.{IsReady};
+ghost use Rattle.capture_formats.specs.Sections.{IsReady};
 ghost use Rattle.capture_read.specs.Pieces.{record_at, where_left, IsPieceWithin};
 ghost use Rattle.capture_read.specs.State.{scoped_block, scope_behind, UnlessPassed, WhenRead};
 
 use crate::ending::{Ending, damage_at, end_of_bytes, unfinished};
-use pcap_read::{ItemStep, PcapHead, next_item};
-use pcapng_read::{BlockStep, Sections};
+use capture_formats::{BlockStep, ItemStep, PcapHead, Sections, next_item};
 use pk_base::{Found, NoMemory, Reason};
 
 /// What stands at a place of a file where a record or block may begin.

@@ -1,6 +1,6 @@
 // How far a capture file is read.
 ghost use Rattle.std.specs.Prelude.{◌≡◌, ◌+◌, ◌≤◌, ◌<◌, ◌^◌, ℕ, List, [], Some, false, true, length, IfErr, IfOk, IsErrOf, OnOk};
-ghost use Rattle.pcapng_read.specs.declared.step.BlockStep.TheVariants as step;
+ghost use Rattle.capture_formats.specs.declared.step.BlockStep.TheVariants as step;
 ghost use Rattle.pk_base.specs.Limits.{file_limit as limit_of_file};
 ghost use Rattle.capture_read.specs.Answers.{CountsNext, CountsSight, CountsTurn, FailsAt, Finds, Sees, TakesFew, Turns};
 ghost use Rattle.capture_read.specs.Capture.{frame_of};
@@ -17,7 +17,7 @@ use crate::look::look;
 use crate::next_frame::NextFrame;
 use crate::read_error::ReadError;
 use crate::state::begins_pcapng;
-use pcapng_read::{BlockStep, Sections};
+use capture_formats::{BlockStep, Sections};
 use pk_base::{Found, NoMemory, Reason, file_limit};
 use pk_outside::Capture;
 use std::alloc::Global;

@@ -1,5 +1,5 @@
 ghost use Rattle.std.specs.Prelude.{◌≡◌, ◌≤◌, ◌+◌, length, drop, [], IfOk, OnErr};
-ghost use Rattle.pcapng_read.specs.Sections.{scope_of};
+ghost use Rattle.capture_formats.specs.Sections.{scope_of};
 ghost use Rattle.capture_read.specs.Capture.{capture_of, frame_of, held_part, is_pcapng};
 ghost use Rattle.capture_read.specs.FrameList.{AreTimesSmall};
 ghost use Rattle.capture_read.specs.NextFrame.{Gives};
@@ -12,8 +12,7 @@ use crate::held_part::{held_bytes, is_large};
 use crate::next_frame::NextFrame;
 use crate::next_piece::next_piece;
 use crate::piece::Piece;
-use pcap_read::{HeadStep, head};
-use pcapng_read::Sections;
+use capture_formats::{HeadStep, Sections, head};
 use pk_base::{Found, NoMemory, Octets, Reason};
 
 pub const PCAP_HEADER_SIZE: usize = 24;

@@ -5,7 +5,7 @@ ghost use Rattle.std.specs.Prelude.{◌≡◌, ◌≢◌, ◌∷◌, [], None, t
 
 use crate::heads::found_text;
 use crate::pieces::bytes_of;
-use pcapng_read::{BlockStep, Sections};
+use capture_formats::{BlockStep, Sections};
 use std::alloc::Global;
 
 fn step_text(alloc: Global, step: &BlockStep) -> Option<String> {

@@ -7,7 +7,7 @@
 //! A frame that was found is `TIME/LINK/ORDER/ORIGINAL@START+LENGTH..END`, by places in its record or block.
 use crate::frames::{order_of, order_text, time_text};
 use crate::pieces::bytes_of;
-use pcap_read::{HeadStep, ItemStep, PcapHead, head, next_item};
+use capture_formats::{HeadStep, ItemStep, PcapHead, head, next_item};
 use pk_base::Found;
 use std::alloc::Global;
 

@@ -5,11 +5,11 @@ use Rattle.std.specs.Prelude.{pos, ◌==◌, nat_lt}
 use Rattle.std.proofs.lemmas.Bool.Decides.{nat_tests}
 use Rattle.std.proofs.lemmas.List.{drop-drop, drop_at}
 use Rattle.pk_base.specs.Endian.{number_in}
-use Rattle.pcapng_read.specs.Blocks.{block_at, measured_block, whole_block, least_length, section_type, interface_type}
-use Rattle.pcapng_read.specs.Options.{options_of, option_of}
-use Rattle.pcapng_read.specs.declared.block.Block.TheVariants as block
-use Rattle.pcapng_read.specs.declared.block.BlockRead.TheVariants.{Whole}
-use Rattle.pcapng_read.specs.declared.interface.Interface.{Interface}
+use Rattle.capture_formats.specs.Blocks.{block_at, measured_block, whole_block, least_length, section_type, interface_type}
+use Rattle.capture_formats.specs.Options.{options_of, option_of}
+use Rattle.capture_formats.specs.declared.block.Block.TheVariants as block
+use Rattle.capture_formats.specs.declared.block.BlockRead.TheVariants.{Whole}
+use Rattle.capture_formats.specs.declared.interface.Interface.{Interface}
 use Rattle.capture_write.specs.Numbers.{bytes_in}
 use Rattle.capture_write.specs.Pcapng.{block_bytes, section_block, interface_block, interface_body}
 use Rattle.capture_write.proofs.NumberLaws.{number_back}

@@ -6,12 +6,12 @@ use Rattle.std.specs.Prelude.{pos, ◌+ℤ◌, ◌*ℤ◌, ◌==◌, nat_lt, rep
 use Rattle.std.proofs.lemmas.Bool.Decides.{nat_tests}
 use Rattle.std.proofs.lemmas.List.{take_at, length-replicate}
 use Rattle.pk_base.specs.declared.found.Found.{Found}
-use Rattle.pcapng_read.specs.Blocks.{block_at, packet_of, fitting, timed_packet, simple_packet, kept_length, enhanced_packet_type, simple_packet_type}
-use Rattle.pcapng_read.specs.Interface.{nanoseconds}
-use Rattle.pcapng_read.specs.Options.{padded}
-use Rattle.pcapng_read.specs.declared.block.Block.TheVariants as block
-use Rattle.pcapng_read.specs.declared.block.BlockRead.TheVariants.{Whole}
-use Rattle.pcapng_read.specs.declared.interface.Interface.{Interface}
+use Rattle.capture_formats.specs.Blocks.{block_at, packet_of, fitting, timed_packet, simple_packet, kept_length, enhanced_packet_type, simple_packet_type}
+use Rattle.capture_formats.specs.Interface.{nanoseconds}
+use Rattle.capture_formats.specs.Options.{padded}
+use Rattle.capture_formats.specs.declared.block.Block.TheVariants as block
+use Rattle.capture_formats.specs.declared.block.BlockRead.TheVariants.{Whole}
+use Rattle.capture_formats.specs.declared.interface.Interface.{Interface}
 use Rattle.capture_read.specs.Capture.{frame_of}
 use Rattle.capture_read.specs.declared.frame.Frame.{Frame}
 use Rattle.capture_write.specs.Frames.{is_time_below, nanoseconds_of, IsFrame, read_back}

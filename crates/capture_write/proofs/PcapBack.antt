@@ -7,10 +7,10 @@ use Rattle.std.proofs.Math.Nat.{mod-eq_of_lt}
 use Rattle.std.proofs.lemmas.Bool.Decides.{nat_tests}
 use Rattle.std.proofs.lemmas.List.{drop-drop, drop_at, take_at}
 use Rattle.pk_base.specs.declared.found.Found.{Found}
-use Rattle.pcap_read.specs.Pcap.{pcap_head, pcap_item, nanoseconds}
-use Rattle.pcap_read.specs.declared.header.PcapHead.{PcapHead}
-use Rattle.pcap_read.specs.declared.header.HeadStep.TheVariants as head
-use Rattle.pcap_read.specs.declared.packet.ItemStep.TheVariants as item
+use Rattle.capture_formats.specs.Pcap.{pcap_head, pcap_item, nanoseconds}
+use Rattle.capture_formats.specs.declared.header.PcapHead.{PcapHead}
+use Rattle.capture_formats.specs.declared.header.HeadStep.TheVariants as head
+use Rattle.capture_formats.specs.declared.packet.ItemStep.TheVariants as item
 use Rattle.pk_base.specs.Limits.{file_limit}
 use Rattle.capture_read.specs.Capture.{capture_of, reading_of, after_head, pieces, with_frame}
 use Rattle.capture_read.specs.Pieces.{record_at, head_behind, of_record}

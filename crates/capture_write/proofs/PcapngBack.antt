@@ -4,12 +4,12 @@ use Rattle.std.specs.Prelude.{slice_get, if◌then◌else◌}
 use Rattle.std.proofs.lemmas.Bool.Decides.{nat_tests}
 use Rattle.std.proofs.lemmas.List.{drop_at}
 use Rattle.pk_base.specs.Limits.{file_limit}
-use Rattle.pcapng_read.specs.Blocks.{block_at}
-use Rattle.pcapng_read.specs.Sections.{Scope, scope_of, block_in, scope_after, step_of}
-use Rattle.pcapng_read.specs.declared.block.Block.TheVariants as block
-use Rattle.pcapng_read.specs.declared.block.BlockRead.{BlockRead}
-use Rattle.pcapng_read.specs.declared.block.BlockRead.TheVariants as read
-use Rattle.pcapng_read.specs.declared.interface.Interface.{Interface}
+use Rattle.capture_formats.specs.Blocks.{block_at}
+use Rattle.capture_formats.specs.Sections.{Scope, scope_of, block_in, scope_after, step_of}
+use Rattle.capture_formats.specs.declared.block.Block.TheVariants as block
+use Rattle.capture_formats.specs.declared.block.BlockRead.{BlockRead}
+use Rattle.capture_formats.specs.declared.block.BlockRead.TheVariants as read
+use Rattle.capture_formats.specs.declared.interface.Interface.{Interface}
 use Rattle.capture_read.specs.Capture.{capture_of, reading_of, pieces, with_frame}
 use Rattle.capture_read.specs.Pieces.{of_block}
 use Rattle.capture_read.specs.State.{scoped_block, scope_behind}

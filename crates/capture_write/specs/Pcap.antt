@@ -8,7 +8,7 @@
 --            | ts_sec | nanoseconds | incl_len | orig_len | the incl_len captured bytes |
 use Rattle.std.specs.Prelude.{◌*◌, ◌/◌, ◌%◌, ◌^◌, ℕ, Bool, true, not, ◌&&◌, ◌==◌, nat_lt, List, [], ◌∷◌, ◌++◌, length}
 use Rattle.pk_base.specs.Limits.{captured_limit}
-use Rattle.pcap_read.specs.Pcap.{nanosecond_magic, major_version}
+use Rattle.capture_formats.specs.Pcap.{nanosecond_magic, major_version}
 use Rattle.capture_read.specs.declared.frame.Frame.{Frame}
 use Rattle.capture_write.specs.Frames.{is_time_below, nanoseconds_of, is_order_kept, order_of, link_of}
 use Rattle.capture_write.specs.Numbers.{bytes_in}

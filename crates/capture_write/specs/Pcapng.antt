@@ -16,8 +16,8 @@
 --   its body, 4.4     | original | the captured bytes
 use Rattle.std.specs.Prelude.{◌≡◌, ◌<◌, ℕ, suc, ◌+◌, ◌-◌, ◌/◌, ◌%◌, ◌^◌, ℤ, Bool, true, false, not, ◌&&◌, ◌==◌, nat_lt, if◌then◌else◌, List, [], ◌∷◌, ◌++◌, length, replicate, Option, Some, None}
 use Rattle.pk_base.specs.Limits.{captured_limit}
-use Rattle.pcapng_read.specs.Blocks.{section_type, interface_type, simple_packet_type, enhanced_packet_type, byte_order_magic}
-use Rattle.pcapng_read.specs.Options.{resolution_code, end_code, padded}
+use Rattle.capture_formats.specs.Blocks.{section_type, interface_type, simple_packet_type, enhanced_packet_type, byte_order_magic}
+use Rattle.capture_formats.specs.Options.{resolution_code, end_code, padded}
 use Rattle.capture_read.specs.declared.frame.Frame.{Frame}
 use Rattle.capture_write.specs.Frames.{is_time_below, nanoseconds_of, is_order_kept, order_of}
 use Rattle.capture_write.specs.Numbers.{bytes_in}

@@ -2,8 +2,8 @@ ghost use Rattle.std.specs.Prelude.{◌≡◌, ◌<◌, ◌≤◌, ◌+◌, ◌^
 ghost use Rattle.pk_base.specs.Limits.{captured_limit};
 ghost use Rattle.capture_write.specs.Frames.{nanoseconds_of};
 ghost use Rattle.capture_write.specs.Pcapng.{section_block, interface_block, block_bytes, enhanced_body, simple_body, padded_bytes};
-ghost use Rattle.pcapng_read.specs.Blocks.{enhanced_packet_type, simple_packet_type};
-ghost use Rattle.pcapng_read.specs.Options.{padded};
+ghost use Rattle.capture_formats.specs.Blocks.{enhanced_packet_type, simple_packet_type};
+ghost use Rattle.capture_formats.specs.Options.{padded};
 
 use crate::fitting::nanoseconds;
 use crate::numbers::{Number, push_numbers, push_u32};

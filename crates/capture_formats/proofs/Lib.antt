@@ -1,0 +1,9 @@
+pub mod BlocksWithin
+pub mod FirstSection
+pub mod Known
+pub mod Numbers
+pub mod OptionList
+pub mod Powers
+pub mod RecordsWithin
+pub mod SameBlocks
+pub mod SameRecords

@@ -1,2 +1,0 @@
-pub mod SameRecords
-pub mod Within
