@@ -3,7 +3,8 @@
 //! `asked of ..`: a filter, ` -> `, and its truth of a tree, by its meaning and by its program; behind a comma also the steps that the program takes,
 //! and of how many instructions it is. `listing`: a filter, and the lines of its program.
 
-use flt_code::{compile, listing};
+use flt_code::compile;
+use flt_listing::listing;
 use flt_mean::holds;
 use flt_read::read_filter;
 use flt_typed::Filter;

@@ -3,7 +3,6 @@ pub mod CodeLemmas
 pub mod CompileLemmas
 pub mod Growth
 pub mod Inside
-pub mod ListingLemmas
 pub mod LoadLemmas
 pub mod Made
 pub mod OwnerLemmas

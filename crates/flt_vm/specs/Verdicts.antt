@@ -2,6 +2,7 @@
 use Rattle.std.specs.Prelude.{◌≡◌, ℕ, zero, suc, ◌+◌, ◌≤◌, Bool as Truth, true, List, length, Option, Some, None, option_map}
 use Rattle.flt_typed.specs.declared.typed.Typed.{Typed}
 use Rattle.flt_vm.specs.Machine.{Job, Move, Goes, Ends, Missing, Runs, State, start, step}
+use Rattle.flt_program.specs.Asked.{HasCode}
 use Rattle.flt_program.specs.Programs.{Code}
 use Rattle.flt_vm.specs.Programs.{job_of}
 use Rattle.flt_vm.specs.declared.run.Verdict.{Verdict}

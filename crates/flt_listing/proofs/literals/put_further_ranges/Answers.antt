@@ -1,8 +1,8 @@
 use Rattle.std.proofs.Common.{◌++◌, codes, refl}
 use Rattle.std.specs.List.{flat_map}
-use Rattle.flt_code.specs.Literals.{range_shown}
-use Rattle.flt_code.proofs.ListingLemmas.{further_next}
-use Rattle.flt_code.proofs.literals.put_further_ranges.Goals as goal
+use Rattle.flt_listing.specs.Literals.{range_shown}
+use Rattle.flt_listing.proofs.ListingLemmas.{further_next}
+use Rattle.flt_listing.proofs.literals.put_further_ranges.Goals as goal
 
 pub loop-range-preserved : goal.loop-range-preserved
 loop-range-preserved c =

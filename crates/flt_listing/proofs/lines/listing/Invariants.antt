@@ -1,7 +1,7 @@
 use Rattle.std.proofs.Common.{◌≡◌, ◌++◌, drop}
-use Rattle.flt_code.specs.Listing.{lines_from}
+use Rattle.flt_listing.specs.Listing.{lines_from}
 use Rattle.flt_program.specs.Sources.{sources_of}
-use Rattle.flt_code.proofs.lines.listing.Given as goal
+use Rattle.flt_listing.proofs.lines.listing.Given as goal
 
 abbrev pub invariant-loop-at : goal.invariant-loop-at
 invariant-loop-at l =

@@ -1,8 +1,8 @@
 use Rattle.std.proofs.Common.{◌++◌, codes, sym}
 use Rattle.std.specs.List.{flat_map}
-use Rattle.flt_code.specs.Literals.{member_shown}
-use Rattle.flt_code.proofs.ListingLemmas.{further_next}
-use Rattle.flt_code.proofs.literals.put_further_members.Goals as goal
+use Rattle.flt_listing.specs.Literals.{member_shown}
+use Rattle.flt_listing.proofs.ListingLemmas.{further_next}
+use Rattle.flt_listing.proofs.literals.put_further_members.Goals as goal
 
 pub loop-member-preserved : goal.loop-member-preserved
 loop-member-preserved c =

@@ -5,7 +5,7 @@ use Rattle.std.specs.Option.{option_map}
 use Rattle.std.specs.List.{flat_map, slice_get}
 use Rattle.std.proofs.lemmas.List.{at_drop_more}
 use Rattle.std.proofs.lemmas.List.Concat.{flat_map-cons}
-use Rattle.flt_code.specs.Listing.{IsNear, pattern_at}
+use Rattle.flt_listing.specs.Listing.{IsNear, pattern_at}
 use Rattle.flt_typed.specs.declared.pattern.Pattern.{Pattern}
 use Rattle.flt_program.specs.Programs.{Code, Fits, IsProgram}
 use Rattle.flt_program.specs.Sources.{sources_of}

@@ -1,8 +1,8 @@
 use Rattle.std.proofs.Common.{ap, length, refl, sym, ◌∙◌}
 use Rattle.std.proofs.lemmas.Option.{slice_get_read}
 use Rattle.std.specs.List.{slice_get}
-use Rattle.flt_code.proofs.ListingLemmas.{near_in_program}
-use Rattle.flt_code.proofs.lines.listing.Goals as goal
+use Rattle.flt_listing.proofs.ListingLemmas.{near_in_program}
+use Rattle.flt_listing.proofs.lines.listing.Goals as goal
 
 pub put_line-requires : goal.put_line-requires
 put_line-requires c =

@@ -1,8 +1,8 @@
 use Rattle.std.proofs.Common.{◌≡◌, ◌++◌, codes, drop}
 use Rattle.std.specs.List.{flat_map}
 use Rattle.pk_tree.specs.declared.chosen.LayerRange.{LayerRange}
-use Rattle.flt_code.specs.Literals.{layer_range_shown}
-use Rattle.flt_code.proofs.literals.put_further_layer_ranges.Given as goal
+use Rattle.flt_listing.specs.Literals.{layer_range_shown}
+use Rattle.flt_listing.proofs.literals.put_further_layer_ranges.Given as goal
 
 abbrev pub invariant-loop-range : goal.invariant-loop-range
 invariant-loop-range l =

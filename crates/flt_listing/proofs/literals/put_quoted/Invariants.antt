@@ -1,7 +1,7 @@
 use Rattle.std.proofs.Common.{◌≡◌, ◌++◌, drop}
 use Rattle.std.specs.List.{flat_map}
-use Rattle.flt_code.specs.Literals.{quoted_byte}
-use Rattle.flt_code.proofs.literals.put_quoted.Given as goal
+use Rattle.flt_listing.specs.Literals.{quoted_byte}
+use Rattle.flt_listing.proofs.literals.put_quoted.Given as goal
 
 abbrev pub invariant-loop-byte : goal.invariant-loop-byte
 invariant-loop-byte l =

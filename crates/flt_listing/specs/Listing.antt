@@ -1,6 +1,6 @@
 -- The listing of a program: a line for each instruction, which is its place from 0, and its words.
 use Rattle.std.specs.Prelude.{ℕ, ◌+◌, ◌<◌, ◌^◌, List, [], ◌∷◌, ◌++◌, codes, decimal, unwrap_or, slice_get}
-use Rattle.flt_code.specs.Literals.{constant_shown, field_shown, members_shown, ranges_shown, string_shown}
+use Rattle.flt_listing.specs.Literals.{constant_shown, field_shown, members_shown, ranges_shown, string_shown}
 use Rattle.flt_syntax.specs.declared.ast.Arithmetic.{Arithmetic}
 use Rattle.flt_syntax.specs.declared.ast.Arithmetic.TheVariants.{Sum, Difference, Product}
 use Rattle.flt_syntax.specs.declared.ast.Choice.{Choice}

@@ -1,8 +1,8 @@
 use Rattle.std.proofs.Common.{◌≡◌, ◌++◌, codes, drop}
 use Rattle.std.specs.List.{flat_map}
 use Rattle.flt_syntax.specs.declared.ast.RangePart.{RangePart}
-use Rattle.flt_code.specs.Literals.{range_shown}
-use Rattle.flt_code.proofs.literals.put_further_ranges.Given as goal
+use Rattle.flt_listing.specs.Literals.{range_shown}
+use Rattle.flt_listing.proofs.literals.put_further_ranges.Given as goal
 
 abbrev pub invariant-loop-range : goal.invariant-loop-range
 invariant-loop-range l =

@@ -1,7 +1,7 @@
 // The listing of a program.
 ghost use Rattle.std.specs.Prelude.{◌≡◌, ◌++◌, ◌<◌, ◌^◌, ◌+◌, [], ◌∷◌, codes, decimal, IfOk, OnOk};
-ghost use Rattle.flt_code.specs.Listing.{IsNear, choice_shown, extreme_shown, function_shown, instr_shown, line_shown, listing_of, operation_shown, pattern_at, register_shown, relation_shown, spaced};
-ghost use Rattle.flt_code.specs.Literals.{constant_shown, field_shown, members_shown, ranges_shown, string_shown};
+ghost use Rattle.flt_listing.specs.Listing.{IsNear, choice_shown, extreme_shown, function_shown, instr_shown, line_shown, listing_of, operation_shown, pattern_at, register_shown, relation_shown, spaced};
+ghost use Rattle.flt_listing.specs.Literals.{constant_shown, field_shown, members_shown, ranges_shown, string_shown};
 ghost use Rattle.flt_program.specs.Sources.{sources_of};
 
 use crate::literals::{put_constant, put_field, put_members, put_ranges, put_string};

@@ -1,8 +1,8 @@
 use Rattle.std.proofs.Common.{◌++◌, refl}
 use Rattle.std.specs.List.{flat_map}
-use Rattle.flt_code.specs.Literals.{quoted_byte}
-use Rattle.flt_code.proofs.ListingLemmas.{shown_next}
-use Rattle.flt_code.proofs.literals.put_quoted.Goals as goal
+use Rattle.flt_listing.specs.Literals.{quoted_byte}
+use Rattle.flt_listing.proofs.ListingLemmas.{shown_next}
+use Rattle.flt_listing.proofs.literals.put_quoted.Goals as goal
 
 pub loop-byte-preserved : goal.loop-byte-preserved
 loop-byte-preserved c =

@@ -1,8 +1,8 @@
 use Rattle.std.proofs.Common.{◌≡◌, ◌++◌, codes, drop}
 use Rattle.std.specs.List.{flat_map}
 use Rattle.flt_typed.specs.declared.typed.Member.{Member}
-use Rattle.flt_code.specs.Literals.{member_shown}
-use Rattle.flt_code.proofs.literals.put_further_members.Given as goal
+use Rattle.flt_listing.specs.Literals.{member_shown}
+use Rattle.flt_listing.proofs.literals.put_further_members.Given as goal
 
 abbrev pub invariant-loop-member : goal.invariant-loop-member
 invariant-loop-member l =
