@@ -4,16 +4,16 @@ use Rattle.std.proofs.Common.{◌≡◌, ◌≢◌, ℕ, ◌-◌, ◌<◌, Bool,
 use Rattle.std.specs.Prelude.{nat_lt, nat_le, ◌==◌}
 use Rattle.pk_base.specs.declared.span.Span.{Span}
 use Rattle.pk_fields.specs.Ids.{UDP, TCP}
-use Rattle.pk_tree.specs.declared.heads.After.{After}
-use Rattle.pk_tree.specs.declared.heads.After.TheVariants as afters
-use Rattle.pk_tree.specs.declared.heads.FragmentHead.{FragmentHead}
-use Rattle.pk_tree.specs.declared.heads.Mode.{Mode}
-use Rattle.pk_tree.specs.declared.heads.Mode.TheVariants.{Plain, Embedded}
-use Rattle.pk_tree.specs.declared.heads.Next.{Next}
-use Rattle.pk_tree.specs.declared.heads.Next.TheVariants as nexts
-use Rattle.pk_tree.specs.declared.heads.PacketHead.{PacketHead}
-use Rattle.pk_tree.specs.declared.heads.PortsHead.{PortsHead}
-use Rattle.pk_tree.specs.declared.heads.TcpHead.{TcpHead}
+use Rattle.pk_base.specs.declared.heads.After.{After}
+use Rattle.pk_base.specs.declared.heads.After.TheVariants as afters
+use Rattle.pk_base.specs.declared.heads.FragmentHead.{FragmentHead}
+use Rattle.pk_base.specs.declared.heads.Mode.{Mode}
+use Rattle.pk_base.specs.declared.heads.Mode.TheVariants.{Plain, Embedded}
+use Rattle.pk_base.specs.declared.heads.Next.{Next}
+use Rattle.pk_base.specs.declared.heads.Next.TheVariants as nexts
+use Rattle.pk_base.specs.declared.heads.PacketHead.{PacketHead}
+use Rattle.pk_base.specs.declared.heads.PortsHead.{PortsHead}
+use Rattle.pk_base.specs.declared.heads.TcpHead.{TcpHead}
 use Rattle.pk_tree.specs.declared.layer.Layer.{Layer}
 use Rattle.pk_tree.specs.declared.layout.Reach.{Reach}
 use Rattle.pk_tree.specs.declared.layout.Reach.TheVariants.{All, Short, Failed}

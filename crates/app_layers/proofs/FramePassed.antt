@@ -4,11 +4,11 @@ use Rattle.std.specs.Prelude.{ℤ}
 use Rattle.std.specs.List.{AllByRecursion as Each}
 use Rattle.pk_fields.specs.FieldSets.{is_in}
 use Rattle.pk_fields.specs.Ids.{FRAME, FRAME_NUMBER, FRAME_TIME_EPOCH, FRAME_TIME_RELATIVE, FRAME_TIME_DELTA, FRAME_LEN, FRAME_CAP_LEN}
-use Rattle.pk_tree.specs.declared.heads.Mode.TheVariants.{Plain}
+use Rattle.pk_base.specs.declared.heads.Mode.TheVariants.{Plain}
 use Rattle.pk_tree.specs.declared.layout.Reach.TheVariants.{All}
 use Rattle.pk_tree.specs.declared.layout.Step.{Step}
 use Rattle.pk_tree.specs.declared.layout.Step.TheVariants.{Made}
-use Rattle.pk_tree.specs.declared.value.Value.TheVariants.{Uint}
+use Rattle.pk_base.specs.declared.value.Value.TheVariants.{Uint}
 use Rattle.pk_tree.specs.Layouts.{step_reach, reach, layer_read}
 use Rattle.pk_tree.specs.Trees.{TreeShown}
 use Rattle.pk_tree.proofs.KeptLemmas.{Unasked, none_asked}

@@ -3,12 +3,12 @@ use Rattle.std.proofs.Common.{◌≡◌, ◌≢◌, ◌⊎◌, ⊎_elim, ℕ, �
 use Rattle.std.specs.Prelude.{IfOk, OnOk, Result, Ok, Err}
 use Rattle.pk_base.specs.declared.memory.NoMemory.{NoMemory}
 use Rattle.pk_base.specs.declared.span.Span.{Span}
-use Rattle.pk_tree.specs.declared.heads.After.{After}
-use Rattle.pk_tree.specs.declared.heads.After.TheVariants as afters
-use Rattle.pk_tree.specs.declared.heads.Mode.{Mode}
-use Rattle.pk_tree.specs.declared.heads.Next.{Next}
-use Rattle.pk_tree.specs.declared.heads.Next.TheVariants as nexts
-use Rattle.pk_tree.specs.declared.heads.PacketHead.{PacketHead}
+use Rattle.pk_base.specs.declared.heads.After.{After}
+use Rattle.pk_base.specs.declared.heads.After.TheVariants as afters
+use Rattle.pk_base.specs.declared.heads.Mode.{Mode}
+use Rattle.pk_base.specs.declared.heads.Next.{Next}
+use Rattle.pk_base.specs.declared.heads.Next.TheVariants as nexts
+use Rattle.pk_base.specs.declared.heads.PacketHead.{PacketHead}
 use Rattle.pk_tree.specs.declared.layer.Layer.{Layer}
 use Rattle.pk_tree.specs.Trees.{TreeShown, last_proto}
 use Rattle.dis_ip.specs.Extensions.{extension_after}

@@ -1,13 +1,13 @@
 -- Reading the payload of a datagram with some fields is reading all of it and keeping those.
 use Rattle.std.proofs.Common.{◌==◌, ℕ, Bool, false, if◌then◌else◌, List, Option, None, Some}
 use Rattle.pk_base.specs.declared.span.Span.{Span}
-use Rattle.pk_tree.specs.declared.heads.Mode.TheVariants.{Plain as PlainMode}
+use Rattle.pk_base.specs.declared.heads.Mode.TheVariants.{Plain as PlainMode}
 use Rattle.pk_tree.specs.Trees.{TreeShown, IsKept as IsKeptTree, kept_tree}
 use Rattle.pk_tree.proofs.KeptTrees.{layer_kept}
 use Rattle.app_layers.specs.DataLayer.{data_over}
 use Rattle.app_layers.proofs.KeptHeads.{tree_as, kept_if}
-use Rattle.pk_tree.specs.declared.heads.After.{After}
-use Rattle.pk_tree.specs.declared.heads.After.TheVariants as afters
+use Rattle.pk_base.specs.declared.heads.After.{After}
+use Rattle.pk_base.specs.declared.heads.After.TheVariants as afters
 use Rattle.port_rules.specs.declared.rules.App.{App}
 use Rattle.port_rules.specs.declared.rules.App.TheVariants.{Http, Dns, Dhcp, Ntp, Mdns, Plain}
 use Rattle.app_layers.specs.Applications.{data_behind, message_over}

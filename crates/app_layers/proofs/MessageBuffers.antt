@@ -6,8 +6,8 @@ use Rattle.pk_base.specs.declared.span.Span.{Span}
 use Rattle.pk_buffer.specs.Buffers.{IsInside, bytes_of, buffer_of}
 use Rattle.pk_fields.specs.FieldSets.{is_in}
 use Rattle.pk_fields.specs.Ids.{HTTP, HTTP_FILE_DATA}
-use Rattle.pk_tree.specs.declared.heads.Mode.{Mode}
-use Rattle.pk_tree.specs.declared.heads.Mode.TheVariants.{Plain as PlainMode}
+use Rattle.pk_base.specs.declared.heads.Mode.{Mode}
+use Rattle.pk_base.specs.declared.heads.Mode.TheVariants.{Plain as PlainMode}
 use Rattle.pk_tree.specs.declared.item.Item.{Item}
 use Rattle.pk_tree.specs.declared.layout.Step.{Step}
 use Rattle.pk_tree.specs.Layouts.{is_all, reach, reaches_end, fault_of, with_fault, items_read, layer_read}

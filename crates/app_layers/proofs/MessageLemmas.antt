@@ -6,7 +6,7 @@ use Rattle.pk_base.specs.declared.span.Span.{Span}
 use Rattle.pk_buffer.specs.Buffers.{IsInside, bytes_of, buffer_of}
 use Rattle.pk_buffer.proofs.Spans.{length-bytes_of, inside_part, bytes_of-part}
 use Rattle.pk_fields.specs.Ids.{TCP_SEGMENT, DNS}
-use Rattle.pk_tree.specs.declared.heads.Mode.TheVariants.{Plain as PlainMode}
+use Rattle.pk_base.specs.declared.heads.Mode.TheVariants.{Plain as PlainMode}
 use Rattle.pk_tree.specs.Layouts.{within}
 use Rattle.pk_tree.specs.Trees.{TreeShown, with_buffer}
 use Rattle.dis_dns.specs.Dns.{dns_layout}

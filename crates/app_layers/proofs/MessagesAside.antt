@@ -8,14 +8,14 @@ use Rattle.pk_fields.specs.Fields.{row_of}
 use Rattle.pk_fields.specs.FieldSets.{is_in}
 use Rattle.pk_fields.specs.Ids.{DNS, HTTP, HTTP_FILE_DATA, TCP_SEGMENT, WS_MALFORMED, WS_SHORT}
 use Rattle.pk_fields.specs.Table.{rows}
-use Rattle.pk_tree.specs.declared.heads.Mode.{Mode}
-use Rattle.pk_tree.specs.declared.heads.Mode.TheVariants.{Plain as PlainMode}
+use Rattle.pk_base.specs.declared.heads.Mode.{Mode}
+use Rattle.pk_base.specs.declared.heads.Mode.TheVariants.{Plain as PlainMode}
 use Rattle.pk_tree.specs.declared.item.Item.{Item}
 use Rattle.pk_tree.specs.declared.layer.Layer.{Layer}
 use Rattle.pk_tree.specs.declared.layout.Reach.{Reach}
 use Rattle.pk_tree.specs.declared.layout.Reach.TheVariants as reaches
 use Rattle.pk_tree.specs.declared.layout.Step.{Step}
-use Rattle.pk_tree.specs.declared.value.Value.TheVariants.{Uint}
+use Rattle.pk_base.specs.declared.value.Value.TheVariants.{Uint}
 use Rattle.pk_tree.specs.Layouts.{end_of, fault_of, is_all, items_read, layer_read, reach, reaches_end, with_fault, within}
 use Rattle.pk_tree.specs.Trees.{TreeShown, kept, layers_of, made_of, read_of, with_buffer, with_item, with_layer}
 use Rattle.pk_tree.proofs.KeptLemmas.{none_asked, passed}

@@ -4,8 +4,8 @@ use Rattle.std.proofs.Common.{◌≡◌, ◌==◌, [], length, ℕ, Bool, true, 
 use Rattle.pk_base.specs.declared.span.Span.{Span}
 use Rattle.pk_buffer.specs.Buffers.{bytes_of}
 use Rattle.pk_fields.specs.Ids.{DATA, DNS, HTTP, HTTP_FILE_DATA, TCP_SEGMENT}
-use Rattle.pk_tree.specs.declared.heads.Mode.{Mode}
-use Rattle.pk_tree.specs.declared.heads.Mode.TheVariants.{Plain}
+use Rattle.pk_base.specs.declared.heads.Mode.{Mode}
+use Rattle.pk_base.specs.declared.heads.Mode.TheVariants.{Plain}
 use Rattle.pk_tree.specs.declared.layout.Step.{Step}
 use Rattle.pk_tree.specs.Layouts.{is_all, layer_read, reach, with_fault, within}
 use Rattle.pk_tree.specs.Trees.{TreeShown, with_layer, with_item, with_buffer, read_of}

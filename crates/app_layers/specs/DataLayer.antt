@@ -2,10 +2,10 @@
 use Rattle.std.specs.Prelude.{◌==◌, ℕ, false, List, [], ◌∷◌, if◌then◌else◌}
 use Rattle.pk_base.specs.declared.span.Span.{Span}
 use Rattle.pk_fields.specs.Ids.{DATA, DATA_DATA, DATA_LEN}
-use Rattle.pk_tree.specs.declared.heads.Mode.TheVariants.{Plain}
+use Rattle.pk_base.specs.declared.heads.Mode.TheVariants.{Plain}
 use Rattle.pk_tree.specs.declared.layout.Step.{Step}
 use Rattle.pk_tree.specs.declared.layout.Step.TheVariants.{Whole, Made}
-use Rattle.pk_tree.specs.declared.value.Value.TheVariants.{Uint}
+use Rattle.pk_base.specs.declared.value.Value.TheVariants.{Uint}
 use Rattle.pk_tree.specs.Layouts.{layer_read}
 use Rattle.pk_tree.specs.Trees.{TreeShown}
 

@@ -2,7 +2,7 @@
 use Rattle.std.specs.Prelude.{ℕ, Bool, List, [], ◌∷◌, length, if◌then◌else◌}
 use Rattle.pk_base.specs.declared.span.Span.{Span}
 use Rattle.pk_fields.specs.Ids.{IP_FRAGMENT, IP_REASSEMBLED_LENGTH, IP_FRAGMENT_ERROR, IPV6_FRAGMENT, IPV6_REASSEMBLED_LENGTH, IPV6_FRAGMENT_ERROR}
-use Rattle.pk_tree.specs.declared.value.Value.TheVariants.{Uint}
+use Rattle.pk_base.specs.declared.value.Value.TheVariants.{Uint}
 use Rattle.pk_tree.specs.Trees.{TreeShown, with_item, with_buffer, made_of}
 use Rattle.ip_join.specs.declared.joined.ConflictKind.{ConflictKind}
 use Rattle.ip_join.specs.declared.joined.ConflictKind.TheVariants.{TooLong, MultipleTails, Overlap6}

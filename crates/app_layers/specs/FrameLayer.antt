@@ -3,10 +3,10 @@ use Rattle.std.specs.Prelude.{ℕ, Bool, nat_lt, ◌||◌, ℤ, List, [], ◌∷
 use Rattle.pk_base.specs.declared.span.Span.{Span}
 use Rattle.pk_fields.specs.FieldSets.{is_in, every_field}
 use Rattle.pk_fields.specs.Ids.{FRAME, FRAME_NUMBER, FRAME_TIME_EPOCH, FRAME_TIME_RELATIVE, FRAME_TIME_DELTA, FRAME_LEN, FRAME_CAP_LEN}
-use Rattle.pk_tree.specs.declared.heads.Mode.TheVariants.{Plain}
+use Rattle.pk_base.specs.declared.heads.Mode.TheVariants.{Plain}
 use Rattle.pk_tree.specs.declared.layout.Step.{Step}
 use Rattle.pk_tree.specs.declared.layout.Step.TheVariants.{Made}
-use Rattle.pk_tree.specs.declared.value.Value.TheVariants.{Uint, Time}
+use Rattle.pk_base.specs.declared.value.Value.TheVariants.{Uint, Time}
 use Rattle.pk_tree.specs.Layouts.{layer_read}
 use Rattle.pk_tree.specs.Trees.{TreeShown}
 use Rattle.capture_read.specs.declared.frame.Frame.{Frame}

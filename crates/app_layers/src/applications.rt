@@ -7,8 +7,8 @@ ghost use Rattle.app_layers.specs.MessageLayers.{in_streams, stream_app};
 use crate::data_layer::add_data;
 use dis_dns::{read_dns, read_mdns};
 use dis_hosts::{read_dhcp, read_ntp};
-use pk_base::{NoMemory, Span};
-use pk_tree::{After, TreeBuilder};
+use pk_base::{After, NoMemory, Span};
+use pk_tree::TreeBuilder;
 use port_rules::{App, PortRule, tcp_app};
 use stream_messages::App as StreamApp;
 

@@ -2,9 +2,9 @@ ghost use Rattle.std.specs.Prelude.{◌≡◌, ◌+◌, ◌<◌, ◌≤◌, ◌^
 ghost use Rattle.pk_buffer.specs.Buffers.{IsInside};
 ghost use Rattle.app_layers.specs.DataLayer.{data_layout, data_over};
 
-use pk_base::{NoMemory, Span};
+use pk_base::{Mode, NoMemory, Span, Value};
 use pk_fields::ids;
-use pk_tree::{Mode, Reach, Step, TreeBuilder, Value, pass_layer, read_layer};
+use pk_tree::{Reach, Step, TreeBuilder, pass_layer, read_layer};
 
 /// Shows bytes that no protocol reads. There is no layer for no bytes.
 #[tactic(auto, using(crate::proofs::DataLemmas::data_read), unfolding(crate::specs::DataLayer::data_over, pk_tree::specs::Layouts::StepsFit, pk_fields::specs::Fields::row_of, pk_fields::specs::Table::rows))]

@@ -5,9 +5,9 @@ ghost use Rattle.app_layers.specs.Fragments.{error_number, frame_field, length_f
 ghost use Rattle.app_layers.specs.Payloads.{LastIs};
 
 use ip_join::ConflictKind;
-use pk_base::{NoMemory, Numbers, Octets, Span};
+use pk_base::{NoMemory, Numbers, Octets, Span, Value};
 use pk_fields::ids;
-use pk_tree::{TreeBuilder, Value};
+use pk_tree::TreeBuilder;
 
 /// Tells why a fragment can't be joined, in the layer of its header.
 #[tactic(auto, unfolding(crate::specs::Fragments::conflict_told, pk_fields::specs::Fields::row_of, pk_fields::specs::Table::rows))]

@@ -1,6 +1,6 @@
 ghost use Rattle.std.specs.Prelude.{◌≡◌, ◌<◌, ◌≤◌, ◌^◌, ◌∷◌, [], length, Some, None, IfOk, IfSome, OnOk};
 ghost use Rattle.pk_fields.specs.Ids.{FRAME, FRAME_NUMBER, FRAME_LEN, FRAME_CAP_LEN};
-ghost use Rattle.pk_tree.specs.declared.heads.Mode.TheVariants.{Plain};
+ghost use Rattle.pk_base.specs.declared.heads.Mode.TheVariants.{Plain};
 ghost use Rattle.pk_tree.specs.Layouts.{StepFits, StepsFit, layer_read};
 ghost use Rattle.app_layers.specs.FrameLayer.{is_cut, frame_span, frame_layout, asks_measure, kept_frame};
 ghost use Rattle.capture_read.specs.FrameList.{IsTime};
@@ -8,9 +8,9 @@ ghost use Rattle.app_layers.specs.Times.{AreTimes};
 
 use crate::times::{Times, since};
 use capture_read::Frame;
-use pk_base::{NoMemory, Span};
+use pk_base::{Mode, NoMemory, Span, Value};
 use pk_fields::{FieldId, FieldSet, ids};
-use pk_tree::{Mode, Step, TreeBuilder, Value, read_layer};
+use pk_tree::{Step, TreeBuilder, read_layer};
 use std::alloc::Global;
 
 /// Whether fewer bytes were captured than the frame had.

@@ -8,8 +8,8 @@ use dis_icmp::{read_icmp, read_icmp6, read_igmp, read_neigh};
 use dis_ip::{read_extension, read_ip4, read_ip6};
 use dis_link::{read_arp, read_vlan};
 use dis_ports::{read_tcp, read_udp};
-use pk_base::{NoMemory, Span};
-use pk_tree::{After, Mode, Next, PacketHead, TreeBuilder};
+use pk_base::{After, Mode, Next, NoMemory, PacketHead, Span};
+use pk_tree::TreeBuilder;
 
 /// Reads a header by its protocol, and answers what follows it. The rest has no layer, and nothing follows it.
 #[tactic(auto, unfolding(crate::specs::Heads::head_read, crate::specs::Heads::head_after))]

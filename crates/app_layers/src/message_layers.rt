@@ -10,9 +10,9 @@ ghost use Rattle.app_layers.specs.Payloads.{LastIs};
 use crate::data_layer::add_data;
 use dis_dns::read_dns;
 use dis_http::read_http;
-use pk_base::{NoMemory, Octets, Span};
+use pk_base::{NoMemory, Octets, Span, Value};
 use pk_fields::ids;
-use pk_tree::{TreeBuilder, Value};
+use pk_tree::TreeBuilder;
 use stream_messages::{App as StreamApp, Told};
 use tcp_messages::{Met, ShownMessage, Source};
 

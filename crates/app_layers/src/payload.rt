@@ -7,9 +7,9 @@ ghost use Rattle.pk_tree.specs.Values.{HasSize, is_read};
 ghost use Rattle.tcp_streams.specs.Labels.{PassesNear};
 ghost use Rattle.app_layers.specs.Payloads.{LastIs, with_payload, with_ack, with_lost, datagram_told, place_told, carried_told, segment_told};
 
-use pk_base::{NoMemory, Span};
+use pk_base::{NoMemory, Span, Value};
 use pk_fields::{FieldId, ids};
-use pk_tree::{TreeBuilder, Value};
+use pk_tree::TreeBuilder;
 use tcp_streams::Taken;
 
 /// Tells of a datagram, with the number of its conversation, in the layer of its UDP header.

@@ -2,8 +2,8 @@
 use Rattle.std.proofs.Common.{◌≡◌, ◌+◌, ℕ, Bool, true, false, not, cond, List, [], ◌∷◌, length, filter, sum, Option, Some, None, refl, ap, ◌∙◌, arith}
 use Rattle.std.proofs.lemmas.Bool.{eq-eqb}
 use Rattle.std.proofs.lemmas.List.Sums.{sum_by-cons}
-use Rattle.pk_tree.specs.declared.heads.Address.{Address}
-use Rattle.pk_tree.specs.declared.heads.Address.TheVariants.{Four, Six}
+use Rattle.pk_base.specs.declared.heads.Address.{Address}
+use Rattle.pk_base.specs.declared.heads.Address.TheVariants.{Four, Six}
 use Rattle.cap_stats.specs.declared.counts.Tally.{Tally}
 use Rattle.cap_stats.specs.declared.counts.Talk.{Talk}
 use Rattle.cap_stats.specs.declared.party.Flight.{Flight}

@@ -13,11 +13,11 @@ use Rattle.indexmap.specs.IndexMap as index
 use Rattle.pk_fields.specs.Fields.{row_of}
 use Rattle.pk_fields.specs.Ids.{FRAME_LEN, IP_SRC, IP_DST, IPV6_SRC, IPV6_DST, TCP_STREAM, TCP_SRCPORT, TCP_DSTPORT}
 use Rattle.pk_fields.specs.Table.{rows}
-use Rattle.pk_tree.specs.declared.heads.Address.{Address}
+use Rattle.pk_base.specs.declared.heads.Address.{Address}
 use Rattle.pk_tree.specs.declared.item.Item.{Item}
 use Rattle.pk_tree.specs.declared.layer.Layer.{Layer}
-use Rattle.pk_tree.specs.declared.value.Value.{Value}
-use Rattle.pk_tree.specs.declared.value.Value.TheVariants as values
+use Rattle.pk_base.specs.declared.value.Value.{Value}
+use Rattle.pk_base.specs.declared.value.Value.TheVariants as values
 use Rattle.pk_tree.specs.FieldValues.{item_values}
 use Rattle.pk_tree.specs.Trees.{IsTree, ItemFits, LayersFit, TreeShown}
 use Rattle.pk_tree.specs.Values.{IsOfKind}

@@ -1,7 +1,7 @@
 -- How frames are counted: each number is a sum over all that were noted, which are listed with the newest first.
 use Rattle.std.specs.Prelude.{ℕ, ◌==◌, Bool, true, false, not, ◌&&◌, if◌then◌else◌, List, [], ◌∷◌, length, map, filter, sum, Option, Some, None}
-use Rattle.pk_tree.specs.declared.heads.Address.{Address}
-use Rattle.pk_tree.specs.declared.heads.Address.TheVariants.{Four, Six}
+use Rattle.pk_base.specs.declared.heads.Address.{Address}
+use Rattle.pk_base.specs.declared.heads.Address.TheVariants.{Four, Six}
 use Rattle.cap_stats.specs.declared.party.Party.{Party}
 use Rattle.cap_stats.specs.declared.party.Flight.{Flight}
 use Rattle.cap_stats.specs.declared.counts.Tally.{Tally}

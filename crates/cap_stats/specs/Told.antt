@@ -4,11 +4,11 @@ use Rattle.std.specs.List.{find, slice_get, join_by}
 use Rattle.std.specs.Option.{option_map, unwrap_or}
 use Rattle.pk_fields.specs.Fields.{row_of}
 use Rattle.pk_fields.specs.Ids.{FRAME_LEN, IP, IP_SRC, IP_DST, IPV6, IPV6_SRC, IPV6_DST, TCP_STREAM, TCP_SRCPORT, TCP_DSTPORT}
-use Rattle.pk_tree.specs.declared.value.Value.{Value}
-use Rattle.pk_tree.specs.declared.value.Value.TheVariants as values
+use Rattle.pk_base.specs.declared.value.Value.{Value}
+use Rattle.pk_base.specs.declared.value.Value.TheVariants as values
 use Rattle.pk_tree.specs.declared.layer.Layer.{Layer}
-use Rattle.pk_tree.specs.declared.heads.Address.{Address}
-use Rattle.pk_tree.specs.declared.heads.Address.TheVariants.{Four, Six}
+use Rattle.pk_base.specs.declared.heads.Address.{Address}
+use Rattle.pk_base.specs.declared.heads.Address.TheVariants.{Four, Six}
 use Rattle.pk_tree.specs.FieldValues.{item_values}
 use Rattle.cap_stats.specs.declared.party.Party.{Party}
 use Rattle.cap_stats.specs.declared.party.Flight.{Flight}

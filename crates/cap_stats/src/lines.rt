@@ -4,9 +4,8 @@ ghost use Rattle.cap_stats.specs.Tables.{address_text, port_text, party_text, ta
 
 use crate::counts::{Talk, Tally};
 use crate::party::Party;
-use pk_base::NoMemory;
+use pk_base::{Address, NoMemory};
 use pk_text::{TextSink, ip6_text, put_ip4, put_number};
-use pk_tree::Address;
 use std::alloc::Global;
 
 /// A table's first line: its name, and how many lines follow.

@@ -8,7 +8,7 @@ use Rattle.pk_fields.specs.Ids.{DNS, DNS_LENGTH, MDNS}
 use Rattle.pk_fields.specs.declared.value_kind.ValueKind.TheVariants as kinds
 use Rattle.pk_tree.specs.declared.layout.Step.{Step}
 use Rattle.pk_tree.specs.declared.layout.Step.TheVariants.{Row, Part, Whole, Derived, Check, Room}
-use Rattle.pk_tree.specs.declared.value.Value.TheVariants as values
+use Rattle.pk_base.specs.declared.value.Value.TheVariants as values
 use Rattle.pk_tree.specs.Entries.{Entry, ends, repeated}
 use Rattle.pk_tree.specs.Layouts.{StepsFit, belongs}
 use Rattle.pk_tree.specs.Values.{is_read}

@@ -15,7 +15,7 @@
 use Rattle.std.specs.Prelude.{◌==◌, ℕ, ◌+◌, ◌-◌, ◌*◌, min, ◌&&◌, false, if◌then◌else◌, List, [], ◌∷◌, ◌++◌, length, nat_le, slice_index, Option, Some, None}
 use Rattle.pk_tree.specs.declared.layout.Step.{Step}
 use Rattle.pk_tree.specs.declared.layout.Step.TheVariants.{Row, Part, Whole, Derived, Check, Room}
-use Rattle.pk_tree.specs.declared.value.Value.TheVariants as values
+use Rattle.pk_base.specs.declared.value.Value.TheVariants as values
 use Rattle.pk_tree.specs.Entries.{Entry, goes_on, ends, then_on, repeated}
 use Rattle.pk_tree.specs.Layouts.{peeked}
 use Rattle.dis_dns.specs.declared.fields.ClassFields.{ClassFields}

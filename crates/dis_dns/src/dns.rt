@@ -16,9 +16,9 @@ use crate::chains::chain_ends;
 use crate::fields::{DnsFields, dns_fields, mdns_fields};
 use crate::records::{Message, push_question, push_record, word_at};
 use crate::steps::{Steps, Taken, push_rows};
-use pk_base::{NoMemory, Span};
+use pk_base::{Mode, NoMemory, Span};
 use pk_fields::{FieldId, ids};
-use pk_tree::{Mode, Step, TreeBuilder, pass_layer, read_layer};
+use pk_tree::{Step, TreeBuilder, pass_layer, read_layer};
 use std::alloc::Global;
 
 /// The bytes of a header.

@@ -2,13 +2,13 @@ ghost use Rattle.std.specs.Prelude.{◌≡◌, ◌==◌, ◌&&◌, ℕ, true, fa
 ghost use Rattle.pk_fields.specs.Fields.{row_of};
 ghost use Rattle.pk_fields.specs.FieldSets.{is_in};
 ghost use Rattle.pk_tree.specs.Layouts.{fitted, reach_after, step_reach};
-ghost use Rattle.pk_tree.specs.declared.value.Value.TheVariants as values;
+ghost use Rattle.pk_base.specs.declared.value.Value.TheVariants as values;
 ghost use Rattle.pk_tree.specs.declared.layout.Step.TheVariants as steps_of_layers;
 ghost use Rattle.dis_dns.specs.Collected.{IsTaken, is_plain, no_steps, shows, with_step, with_steps};
 
-use pk_base::{NoMemory, Octets};
+use pk_base::{NoMemory, Octets, Value};
 use pk_fields::{FieldId, size};
-use pk_tree::{Reach, Step, TreeBuilder, Value};
+use pk_tree::{Reach, Step, TreeBuilder};
 use std::marker::Model;
 
 /// How many steps a message has room for from the start: a header, a question and some records.

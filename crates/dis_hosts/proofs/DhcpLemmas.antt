@@ -8,7 +8,7 @@ use Rattle.pk_fields.specs.FieldSets.{is_in}
 use Rattle.pk_fields.specs.Fields.{row_of}
 use Rattle.pk_fields.specs.Ids.{DHCP, DHCP_OPTION_TYPE, DHCP_OPTION_LENGTH, DHCP_OPTION_VALUE, DHCP_OPTION_SUBNET_MASK, DHCP_OPTION_ROUTER, DHCP_OPTION_DOMAIN_NAME_SERVER, DHCP_OPTION_HOSTNAME, DHCP_OPTION_REQUESTED_IP_ADDRESS, DHCP_OPTION_IP_ADDRESS_LEASE_TIME, DHCP_OPTION_DHCP, DHCP_OPTION_DHCP_SERVER_ID}
 use Rattle.pk_fields.specs.Table.{rows}
-use Rattle.pk_tree.specs.declared.heads.Mode.{Mode}
+use Rattle.pk_base.specs.declared.heads.Mode.{Mode}
 use Rattle.pk_tree.specs.declared.layout.Reach.TheVariants.{All, Short}
 use Rattle.pk_tree.specs.declared.layout.Step.{Step}
 use Rattle.pk_tree.specs.declared.layout.Step.TheVariants.{Row, Part, Room}

@@ -19,8 +19,8 @@
 use Rattle.std.specs.Prelude.{◌==◌, ℕ, Bool, true, false, not, ◌||◌, List, [], ◌∷◌}
 use Rattle.pk_base.specs.declared.span.Span.{Span}
 use Rattle.pk_fields.specs.Ids.{NTP_FLAGS_LI, NTP_FLAGS_VN, NTP_FLAGS_MODE, NTP_STRATUM, NTP_PPOLL, NTP_PRECISION, NTP_ROOTDELAY, NTP_ROOTDISPERSION, NTP_REFID, NTP_REFTIME, NTP_ORG, NTP_REC, NTP_XMT}
-use Rattle.pk_tree.specs.declared.heads.After.{After}
-use Rattle.pk_tree.specs.declared.heads.Next.TheVariants.{Rest}
+use Rattle.pk_base.specs.declared.heads.After.{After}
+use Rattle.pk_base.specs.declared.heads.Next.TheVariants.{Rest}
 use Rattle.pk_tree.specs.declared.layout.Step.{Step}
 use Rattle.pk_tree.specs.declared.layout.Step.TheVariants.{Row, Part}
 use Rattle.pk_tree.specs.Following.{carried}

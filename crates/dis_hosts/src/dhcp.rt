@@ -9,9 +9,9 @@ ghost use Rattle.dis_hosts.specs.Dhcp.{dhcp_layout, dhcp_rows, magic_cookie, nam
 ghost use Rattle.dis_hosts.specs.DhcpOptions.{AllOptions, dhcp_options, option_fields};
 
 use crate::dhcp_options::{OPTIONS, options_fit, push_options};
-use pk_base::{NoMemory, Span};
+use pk_base::{Mode, NoMemory, Span};
 use pk_fields::ids;
-use pk_tree::{Mode, Reach, Slot, Step, TreeBuilder, pass_layer, peek, read_table};
+use pk_tree::{Reach, Slot, Step, TreeBuilder, pass_layer, peek, read_table};
 use std::alloc::Global;
 
 /// The rows and conditions before the options.

@@ -5,12 +5,12 @@ ghost use Rattle.pk_tree.specs.Following.{LeadsInside};
 ghost use Rattle.pk_tree.specs.Layouts.{layer_read, reach, StepsFit};
 ghost use Rattle.pk_tree.specs.Tables.{steps_of};
 ghost use Rattle.pk_tree.specs.Trees.{last_proto};
-ghost use Rattle.pk_tree.specs.declared.heads.Mode.TheVariants.{Plain};
+ghost use Rattle.pk_base.specs.declared.heads.Mode.TheVariants.{Plain};
 ghost use Rattle.dis_hosts.specs.Ntp.{header_size, is_time, ntp_after, ntp_layout, ntp_rows};
 
-use pk_base::{NoMemory, Span};
+use pk_base::{After, Mode, Next, NoMemory, Span};
 use pk_fields::ids;
-use pk_tree::{After, Mode, Next, Reach, Slot, TreeBuilder, carried, pass_layer, peek, read_table};
+use pk_tree::{Reach, Slot, TreeBuilder, carried, pass_layer, peek, read_table};
 
 /// The bytes of a header that tells the time.
 const HEADER: u32 = 48;

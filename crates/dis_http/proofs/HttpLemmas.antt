@@ -9,7 +9,7 @@ use Rattle.pk_tree.specs.declared.layout.Step.{Step}
 use Rattle.pk_tree.specs.declared.layout.Step.TheVariants.{Part, Made}
 use Rattle.pk_tree.specs.Layouts.{StepsFit, belongs}
 use Rattle.pk_tree.specs.Values.{is_read, IsOfKind}
-use Rattle.pk_tree.specs.declared.value.Value.{Value}
+use Rattle.pk_base.specs.declared.value.Value.{Value}
 use Rattle.pk_tree.specs.Entries.{Entry, ends, repeated}
 use Rattle.pk_tree.proofs.EntryLemmas.{fit_append, fit_then, fit_repeated}
 use Rattle.http_frame.specs.Limits.{field_limit, body_limit}

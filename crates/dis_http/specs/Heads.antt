@@ -13,7 +13,7 @@ use Rattle.http_frame.specs.Lines.{is_text}
 use Rattle.pk_fields.specs.Ids.{HTTP_REQUEST, HTTP_REQUEST_METHOD, HTTP_REQUEST_URI, HTTP_REQUEST_VERSION, HTTP_RESPONSE, HTTP_RESPONSE_VERSION, HTTP_RESPONSE_CODE, HTTP_RESPONSE_PHRASE, HTTP_HEADER_NAME, HTTP_HEADER_VALUE, HTTP_HOST, HTTP_USER_AGENT, HTTP_CONTENT_TYPE, HTTP_CONTENT_LENGTH_HEADER, HTTP_TRANSFER_ENCODING, HTTP_CONTENT_ENCODING, HTTP_SERVER, HTTP_LOCATION, HTTP_CONNECTION, HTTP_COOKIE, HTTP_SET_COOKIE, HTTP_REFERER, HTTP_ACCEPT, HTTP_DATE}
 use Rattle.pk_tree.specs.declared.layout.Step.{Step}
 use Rattle.pk_tree.specs.declared.layout.Step.TheVariants.{Part, Made}
-use Rattle.pk_tree.specs.declared.value.Value.TheVariants.{Uint, Bool, Text}
+use Rattle.pk_base.specs.declared.value.Value.TheVariants.{Uint, Bool, Text}
 use Rattle.pk_tree.specs.Entries.{Entry, goes_on, ends}
 
 -- the byte at a place; past the end it counts as 0

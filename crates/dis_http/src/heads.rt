@@ -8,9 +8,9 @@ ghost use Rattle.pk_tree.specs.Entries.{Adds, repeated};
 ghost use Rattle.http_frame.specs.Limits.{field_limit as field_limit_is};
 ghost use Rattle.dis_http.specs.Heads.{behind_end, byte_at, code_at, field_line, field_rows, further_field, is_other, lead_of, name_at, phrase_len, raw_at, request_line, run_at, start_line, start_place, status_line, target_place, value_field, value_len, version_at, version_place};
 
-use pk_base::{HTTP_FIELD_LIMIT, NoMemory, Octets};
+use pk_base::{HTTP_FIELD_LIMIT, NoMemory, Octets, Value};
 use pk_fields::{FieldId, ids};
-use pk_tree::{Step, Value};
+use pk_tree::Step;
 use std::alloc::Global;
 
 /// The bytes of a version.

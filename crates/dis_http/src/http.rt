@@ -7,9 +7,9 @@ ghost use Rattle.dis_http.specs.Http.{IsShape, body_steps, chunked_read, http_la
 
 use crate::heads::{front, push_fields, push_start, tail};
 use http_frame::{Body, Piece, PieceList, Shape};
-use pk_base::{NoMemory, Octets, Span};
+use pk_base::{Mode, NoMemory, Octets, Span};
 use pk_fields::ids;
-use pk_tree::{Mode, Step, TreeBuilder, read_layer};
+use pk_tree::{Step, TreeBuilder, read_layer};
 use std::alloc::Global;
 
 /// How many steps a message has room for from the start: a start line and some field lines.

@@ -12,9 +12,9 @@
 use Rattle.std.specs.Prelude.{◌==◌, ℕ, Bool, true, false, ◌||◌, if◌then◌else◌, List, [], ◌∷◌}
 use Rattle.pk_base.specs.declared.span.Span.{Span}
 use Rattle.pk_fields.specs.Ids.{ICMP_TYPE, ICMP_CODE, ICMP_CHECKSUM, ICMP_IDENT, ICMP_SEQ, ICMP_REST}
-use Rattle.pk_tree.specs.declared.heads.After.{After}
-use Rattle.pk_tree.specs.declared.heads.Next.{Next}
-use Rattle.pk_tree.specs.declared.heads.Next.TheVariants.{Ip4, Rest}
+use Rattle.pk_base.specs.declared.heads.After.{After}
+use Rattle.pk_base.specs.declared.heads.Next.{Next}
+use Rattle.pk_base.specs.declared.heads.Next.TheVariants.{Ip4, Rest}
 use Rattle.pk_tree.specs.declared.layout.Step.{Step}
 use Rattle.pk_tree.specs.declared.layout.Step.TheVariants.{Row, Part}
 use Rattle.pk_tree.specs.Following.{carried}

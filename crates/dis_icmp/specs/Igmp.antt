@@ -11,8 +11,8 @@
 use Rattle.std.specs.Prelude.{List, [], ◌∷◌}
 use Rattle.pk_base.specs.declared.span.Span.{Span}
 use Rattle.pk_fields.specs.Ids.{IGMP_TYPE, IGMP_MAX_RESP, IGMP_CHECKSUM, IGMP_MADDR}
-use Rattle.pk_tree.specs.declared.heads.After.{After}
-use Rattle.pk_tree.specs.declared.heads.Next.TheVariants.{Rest}
+use Rattle.pk_base.specs.declared.heads.After.{After}
+use Rattle.pk_base.specs.declared.heads.Next.TheVariants.{Rest}
 use Rattle.pk_tree.specs.declared.layout.Step.{Step}
 use Rattle.pk_tree.specs.declared.layout.Step.TheVariants.{Row}
 use Rattle.pk_tree.specs.Following.{carried}

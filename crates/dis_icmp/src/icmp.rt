@@ -7,9 +7,9 @@ ghost use Rattle.pk_tree.specs.Tables.{steps_of};
 ghost use Rattle.pk_tree.specs.Trees.{last_proto};
 ghost use Rattle.dis_icmp.specs.Icmp.{icmp_rows, icmp_layout, icmp_after, is_echo, next_of_message};
 
-use pk_base::{NoMemory, Span};
+use pk_base::{After, Mode, Next, NoMemory, Span};
 use pk_fields::ids;
-use pk_tree::{After, Mode, Next, Reach, Slot, TreeBuilder, carried, pass_layer, peek, read_table};
+use pk_tree::{Reach, Slot, TreeBuilder, carried, pass_layer, peek, read_table};
 
 /// The bytes of a message up to what follows.
 const HEADER: u32 = 8;

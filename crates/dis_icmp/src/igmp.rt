@@ -7,9 +7,9 @@ ghost use Rattle.pk_tree.specs.Tables.{steps_of};
 ghost use Rattle.pk_tree.specs.Trees.{last_proto};
 ghost use Rattle.dis_icmp.specs.Igmp.{igmp_after, igmp_layout};
 
-use pk_base::{NoMemory, Span};
+use pk_base::{After, Mode, Next, NoMemory, Span};
 use pk_fields::ids;
-use pk_tree::{After, Mode, Next, Reach, Slot, TreeBuilder, carried, pass_layer, read_table};
+use pk_tree::{Reach, Slot, TreeBuilder, carried, pass_layer, read_table};
 
 /// The bytes of a message.
 const MESSAGE: u32 = 8;

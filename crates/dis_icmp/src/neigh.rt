@@ -6,9 +6,9 @@ ghost use Rattle.dis_icmp.specs.Neigh.{advertised_neighbour, advertised_router, 
 ghost use Rattle.dis_icmp.specs.NeighOptions.{AllOptions};
 
 use crate::neigh_options::push_options;
-use pk_base::{NoMemory, Span};
+use pk_base::{After, Mode, NoMemory, Span};
 use pk_fields::ids;
-use pk_tree::{After, Mode, Step, TreeBuilder, read_layer};
+use pk_tree::{Step, TreeBuilder, read_layer};
 use std::alloc::Global;
 
 /// How many steps the options have room for from the start. Those of most messages have fewer.

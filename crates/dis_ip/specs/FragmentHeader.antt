@@ -10,11 +10,11 @@
 use Rattle.std.specs.Prelude.{◌==◌, ℕ, ◌*◌, Bool, true, nat_le, if◌then◌else◌, List, [], ◌∷◌}
 use Rattle.pk_base.specs.declared.span.Span.{Span}
 use Rattle.pk_fields.specs.Ids.{IPV6_FRAGHDR_NXT, IPV6_FRAGHDR_OFFSET, IPV6_FRAGHDR_MORE, IPV6_FRAGHDR_IDENT}
-use Rattle.pk_tree.specs.declared.heads.After.{After}
-use Rattle.pk_tree.specs.declared.heads.After.TheVariants.{End}
-use Rattle.pk_tree.specs.declared.heads.FragmentHead.{FragmentHead}
-use Rattle.pk_tree.specs.declared.heads.Mode.{Mode}
-use Rattle.pk_tree.specs.declared.heads.PacketHead.{PacketHead}
+use Rattle.pk_base.specs.declared.heads.After.{After}
+use Rattle.pk_base.specs.declared.heads.After.TheVariants.{End}
+use Rattle.pk_base.specs.declared.heads.FragmentHead.{FragmentHead}
+use Rattle.pk_base.specs.declared.heads.Mode.{Mode}
+use Rattle.pk_base.specs.declared.heads.PacketHead.{PacketHead}
 use Rattle.pk_tree.specs.declared.layout.Step.{Step}
 use Rattle.pk_tree.specs.declared.layout.Step.TheVariants.{Row}
 use Rattle.pk_tree.specs.Layouts.{peeked}

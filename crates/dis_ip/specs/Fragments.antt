@@ -2,12 +2,12 @@
 use Rattle.std.specs.Prelude.{◌≡◌, ◌==◌, ℕ, ◌-◌, Bool, ◌||◌, nat_lt, if◌then◌else◌, List}
 use Rattle.pk_base.specs.declared.span.Span.{Span}
 use Rattle.pk_fields.specs.Ids.{IP, IPV6_FRAGHDR}
-use Rattle.pk_tree.specs.declared.heads.After.{After}
-use Rattle.pk_tree.specs.declared.heads.After.TheVariants as afters
-use Rattle.pk_tree.specs.declared.heads.FragmentHead.{FragmentHead}
-use Rattle.pk_tree.specs.declared.heads.Mode.{Mode}
-use Rattle.pk_tree.specs.declared.heads.Mode.TheVariants.{Plain, Embedded}
-use Rattle.pk_tree.specs.declared.heads.Next.TheVariants.{Rest}
+use Rattle.pk_base.specs.declared.heads.After.{After}
+use Rattle.pk_base.specs.declared.heads.After.TheVariants as afters
+use Rattle.pk_base.specs.declared.heads.FragmentHead.{FragmentHead}
+use Rattle.pk_base.specs.declared.heads.Mode.{Mode}
+use Rattle.pk_base.specs.declared.heads.Mode.TheVariants.{Plain, Embedded}
+use Rattle.pk_base.specs.declared.heads.Next.TheVariants.{Rest}
 use Rattle.pk_tree.specs.declared.layer.Layer.{Layer}
 use Rattle.pk_tree.specs.Following.{carried}
 use Rattle.pk_tree.specs.Layouts.{within}

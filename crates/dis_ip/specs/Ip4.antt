@@ -17,12 +17,12 @@
 use Rattle.std.specs.Prelude.{◌==◌, ℕ, ◌-◌, ◌*◌, Bool, false, ◌||◌, nat_le, if◌then◌else◌, List, [], ◌∷◌, Option, Some, None}
 use Rattle.pk_base.specs.declared.span.Span.{Span}
 use Rattle.pk_fields.specs.Ids.{IP_VERSION, IP_HDR_LEN, IP_DSFIELD, IP_DSFIELD_DSCP, IP_DSFIELD_ECN, IP_LEN, IP_ID, IP_FLAGS_RB, IP_FLAGS_DF, IP_FLAGS_MF, IP_FRAG_OFFSET, IP_TTL, IP_PROTO, IP_CHECKSUM, IP_SRC, IP_ADDR, IP_DST, IP_OPTIONS}
-use Rattle.pk_tree.specs.declared.heads.Address.TheVariants.{Four}
-use Rattle.pk_tree.specs.declared.heads.After.{After}
-use Rattle.pk_tree.specs.declared.heads.After.TheVariants.{End}
-use Rattle.pk_tree.specs.declared.heads.FragmentHead.{FragmentHead}
-use Rattle.pk_tree.specs.declared.heads.Mode.{Mode}
-use Rattle.pk_tree.specs.declared.heads.PacketHead.{PacketHead}
+use Rattle.pk_base.specs.declared.heads.Address.TheVariants.{Four}
+use Rattle.pk_base.specs.declared.heads.After.{After}
+use Rattle.pk_base.specs.declared.heads.After.TheVariants.{End}
+use Rattle.pk_base.specs.declared.heads.FragmentHead.{FragmentHead}
+use Rattle.pk_base.specs.declared.heads.Mode.{Mode}
+use Rattle.pk_base.specs.declared.heads.PacketHead.{PacketHead}
 use Rattle.pk_tree.specs.declared.layout.Step.{Step}
 use Rattle.pk_tree.specs.declared.layout.Step.TheVariants.{Row, Part, Check}
 use Rattle.pk_tree.specs.Layouts.{peeked, reach, is_all}

@@ -8,7 +8,7 @@
 use Rattle.std.specs.Prelude.{ℕ, ◌+◌, ◌-◌, ◌*◌, true, List, [], ◌∷◌}
 use Rattle.pk_base.specs.declared.span.Span.{Span}
 use Rattle.pk_fields.specs.Ids.{IPV6_HOPOPTS_NXT, IPV6_HOPOPTS_LEN, IPV6_HOPOPTS_OPTIONS, IPV6_DSTOPTS_NXT, IPV6_DSTOPTS_LEN, IPV6_DSTOPTS_OPTIONS}
-use Rattle.pk_tree.specs.declared.heads.After.{After}
+use Rattle.pk_base.specs.declared.heads.After.{After}
 use Rattle.pk_tree.specs.declared.layout.Step.{Step}
 use Rattle.pk_tree.specs.declared.layout.Step.TheVariants.{Row, Part}
 use Rattle.pk_tree.specs.Layouts.{peeked}

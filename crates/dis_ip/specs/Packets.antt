@@ -1,9 +1,9 @@
 -- What an IP header of either version says of its packet.
 use Rattle.std.specs.Prelude.{ℕ, Bool, not, nat_le, Option, Some, None}
 use Rattle.pk_base.specs.declared.span.Span.{Span}
-use Rattle.pk_tree.specs.declared.heads.After.{After}
-use Rattle.pk_tree.specs.declared.heads.After.TheVariants as afters
-use Rattle.pk_tree.specs.declared.heads.PacketHead.{PacketHead}
+use Rattle.pk_base.specs.declared.heads.After.{After}
+use Rattle.pk_base.specs.declared.heads.After.TheVariants as afters
+use Rattle.pk_base.specs.declared.heads.PacketHead.{PacketHead}
 use Rattle.pk_tree.specs.Following.{first_of}
 
 -- a packet of so many bytes ends there, where the bytes don't end before; without a length it has all that are left

@@ -1,10 +1,10 @@
 -- What an IPv4 header's protocol number and an IPv6 header's next header number lead to (IANA's "Protocol Numbers").
 use Rattle.std.specs.Prelude.{◌==◌, ℕ, Bool, if◌then◌else◌}
 use Rattle.pk_base.specs.declared.span.Span.{Span}
-use Rattle.pk_tree.specs.declared.heads.After.{After}
-use Rattle.pk_tree.specs.declared.heads.After.TheVariants.{End}
-use Rattle.pk_tree.specs.declared.heads.Next.{Next}
-use Rattle.pk_tree.specs.declared.heads.Next.TheVariants.{Ip4, Ip6, Icmp, Icmp6, Udp, Tcp, HopOpts, Routing, DstOpts, FragHdr, Igmp, Rest}
+use Rattle.pk_base.specs.declared.heads.After.{After}
+use Rattle.pk_base.specs.declared.heads.After.TheVariants.{End}
+use Rattle.pk_base.specs.declared.heads.Next.{Next}
+use Rattle.pk_base.specs.declared.heads.Next.TheVariants.{Ip4, Ip6, Icmp, Icmp6, Udp, Tcp, HopOpts, Routing, DstOpts, FragHdr, Igmp, Rest}
 use Rattle.pk_tree.specs.Following.{carried}
 
 -- numbers that mean a protocol under IPv4 alone: 1 ICMP (RFC 792) and 2 IGMP (RFC 2236)

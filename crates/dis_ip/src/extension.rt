@@ -9,8 +9,8 @@ ghost use Rattle.dis_ip.specs.Extensions.{is_extension, extension_proto, extensi
 use crate::fragment_header::read_fragment_header;
 use crate::options::{read_hop_options, read_target_options};
 use crate::routing::read_routing;
-use pk_base::{NoMemory, Span};
-use pk_tree::{After, Mode, Next, PacketHead, TreeBuilder};
+use pk_base::{After, Mode, Next, NoMemory, PacketHead, Span};
+use pk_tree::TreeBuilder;
 
 /// Reads an extension header of IPv6 (RFC 8200, 4). `packet` is what the IPv6 header says, or, in a joined datagram, the
 /// fragments' addresses with `whole` true.

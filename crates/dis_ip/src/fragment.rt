@@ -6,8 +6,8 @@ ghost use Rattle.pk_tree.specs.declared.layer.Layer.{Layer};
 ghost use Rattle.dis_ip.specs.Fragments.{is_fragment, part_after, part_proto, LastIsPart};
 
 use crate::protocol::carried_by;
-use pk_base::Span;
-use pk_tree::{After, FragmentHead, Mode, Next, behind, carried};
+use pk_base::{After, FragmentHead, Mode, Next, Span};
+use pk_tree::{behind, carried};
 
 /// What follows a header of so many bytes, by its packet's place in a datagram. A fragment comes also without bytes.
 /// An embedded packet's fragments aren't joined: the first is read on, and the others carry data.

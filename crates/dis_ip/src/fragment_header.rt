@@ -10,11 +10,9 @@ ghost use Rattle.dis_ip.specs.FragmentHeader.{fragment_layout, fragment_part, fr
 
 use crate::fragment::part_after;
 use crate::options::next_header;
-use pk_base::{NoMemory, Span};
+use pk_base::{After, FragmentHead, Mode, NoMemory, PacketHead, Span};
 use pk_fields::ids;
-use pk_tree::{
-    After, FragmentHead, Mode, PacketHead, Reach, Slot, TreeBuilder, pass_layer, peek, read_table,
-};
+use pk_tree::{Reach, Slot, TreeBuilder, pass_layer, peek, read_table};
 
 /// The bytes of a header.
 const HEADER: u32 = 8;

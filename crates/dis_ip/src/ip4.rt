@@ -11,12 +11,9 @@ ghost use Rattle.dis_ip.specs.Ip4.{ip4_layout, ip4_header, ip4_total, ip4_condit
 
 use crate::fragment::part_after;
 use crate::packet::{in_packet, is_whole, packet_span};
-use pk_base::{NoMemory, Span};
+use pk_base::{Address, After, FragmentHead, Mode, NoMemory, PacketHead, Span};
 use pk_fields::ids;
-use pk_tree::{
-    Address, After, FragmentHead, Mode, PacketHead, Reach, Slot, TreeBuilder, pass_layer, peek,
-    read_table,
-};
+use pk_tree::{Reach, Slot, TreeBuilder, pass_layer, peek, read_table};
 
 /// The bytes of a header without options, the least that a header has.
 const HEADER: u32 = 20;

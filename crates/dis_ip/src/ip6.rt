@@ -10,11 +10,9 @@ ghost use Rattle.dis_ip.specs.Ip6.{ip6_layout, ip6_version, ip6_is_read, ip6_siz
 
 use crate::packet::{in_packet, is_whole, packet_span};
 use crate::protocol::carried_by;
-use pk_base::{NoMemory, Span, be_bits};
+use pk_base::{Address, After, Mode, NoMemory, PacketHead, Span, be_bits};
 use pk_fields::ids;
-use pk_tree::{
-    Address, After, Mode, PacketHead, Reach, Slot, TreeBuilder, pass_layer, peek, read_table,
-};
+use pk_tree::{Reach, Slot, TreeBuilder, pass_layer, peek, read_table};
 
 /// The bytes of a header.
 const HEADER: u32 = 40;

@@ -9,9 +9,9 @@ ghost use Rattle.dis_ip.specs.Fragments.{LastIsPart};
 ghost use Rattle.dis_ip.specs.Options.{next_header, header_size, hop_options_layout, target_options_layout, sized_after};
 
 use crate::protocol::carried_by;
-use pk_base::{NoMemory, Span};
+use pk_base::{After, Mode, NoMemory, Span};
 use pk_fields::ids;
-use pk_tree::{After, Mode, Reach, Slot, TreeBuilder, pass_layer, peek, read_table};
+use pk_tree::{Reach, Slot, TreeBuilder, pass_layer, peek, read_table};
 
 static HOP_OPTIONS: [Slot; 3] = [
     Slot::Row(ids::IPV6_HOPOPTS_NXT.0, 0),

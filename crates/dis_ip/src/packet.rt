@@ -5,8 +5,8 @@ ghost use Rattle.pk_tree.specs.declared.layer.Layer.{Layer};
 ghost use Rattle.dis_ip.specs.Fragments.{LastIsPart};
 ghost use Rattle.dis_ip.specs.Packets.{packet_span, is_whole, in_packet};
 
-use pk_base::Span;
-use pk_tree::{After, PacketHead, first_of};
+use pk_base::{After, PacketHead, Span};
+use pk_tree::first_of;
 
 /// A packet of so many bytes, as far as they are there. Without a size it has all bytes that are left.
 pub(crate) fn packet_span(span: Span, size: Option<u32>) -> Span

@@ -5,8 +5,8 @@ ghost use Rattle.pk_tree.specs.declared.layer.Layer.{Layer};
 ghost use Rattle.dis_ip.specs.Fragments.{LastIsPart};
 ghost use Rattle.dis_ip.specs.Protocols.{next_under_ip4, next_under_ip6, next_of_protocol, carried_by};
 
-use pk_base::Span;
-use pk_tree::{After, Next, carried};
+use pk_base::{After, Next, Span};
+use pk_tree::carried;
 
 // Protocol numbers (IANA, "Protocol Numbers").
 const HOP_BY_HOP_OPTIONS: u8 = 0;

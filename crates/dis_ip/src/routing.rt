@@ -11,9 +11,9 @@ ghost use Rattle.dis_ip.specs.Routing.{routing_layout};
 
 use crate::options::{header_size, next_header};
 use crate::protocol::carried_by;
-use pk_base::{NoMemory, Span};
+use pk_base::{After, Mode, NoMemory, Span};
 use pk_fields::ids;
-use pk_tree::{After, Mode, Reach, Slot, TreeBuilder, pass_layer, read_table};
+use pk_tree::{Reach, Slot, TreeBuilder, pass_layer, read_table};
 
 static SLOTS: [Slot; 5] = [
     Slot::Row(ids::IPV6_ROUTING_NXT.0, 0),

@@ -1,8 +1,8 @@
 -- The two bytes that say what an Ethernet frame, a VLAN tag or a cooked header carries.
 use Rattle.std.specs.Prelude.{◌==◌, ℕ, ◌+◌, Bool, ◌||◌, nat_le, if◌then◌else◌}
 use Rattle.pk_base.specs.declared.span.Span.{Span}
-use Rattle.pk_tree.specs.declared.heads.Next.{Next}
-use Rattle.pk_tree.specs.declared.heads.Next.TheVariants.{Ip4, Ip6, Arp, Vlan, Rest}
+use Rattle.pk_base.specs.declared.heads.Next.{Next}
+use Rattle.pk_base.specs.declared.heads.Next.TheVariants.{Ip4, Ip6, Arp, Vlan, Rest}
 use Rattle.pk_tree.specs.Following.{first_of}
 
 -- IEEE 802.3, 3.2.6: a number of at most 1,500 is the length of what follows, a larger one its type

@@ -15,7 +15,7 @@
 use Rattle.std.specs.Prelude.{ℕ, min, List, [], ◌∷◌, length, nat_le}
 use Rattle.pk_base.specs.declared.span.Span.{Span}
 use Rattle.pk_fields.specs.Ids.{SLL_PKTTYPE, SLL_HATYPE, SLL_HALEN, SLL_SRC, SLL_ETYPE, SLL2_ETYPE, SLL2_IFINDEX, SLL2_HATYPE, SLL2_PKTTYPE, SLL2_HALEN, SLL2_SRC}
-use Rattle.pk_tree.specs.declared.heads.After.{After}
+use Rattle.pk_base.specs.declared.heads.After.{After}
 use Rattle.pk_tree.specs.declared.layout.Step.{Step}
 use Rattle.pk_tree.specs.declared.layout.Step.TheVariants.{Row, Part, Room}
 use Rattle.pk_tree.specs.Layouts.{peeked}

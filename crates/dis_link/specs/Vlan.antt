@@ -8,7 +8,7 @@
 use Rattle.std.specs.Prelude.{ℕ, List, [], ◌∷◌, if◌then◌else◌}
 use Rattle.pk_base.specs.declared.span.Span.{Span}
 use Rattle.pk_fields.specs.Ids.{VLAN_PRIORITY, VLAN_DEI, VLAN_ID, VLAN_ETYPE, VLAN_LEN}
-use Rattle.pk_tree.specs.declared.heads.After.{After}
+use Rattle.pk_base.specs.declared.heads.After.{After}
 use Rattle.pk_tree.specs.declared.layout.Step.{Step}
 use Rattle.pk_tree.specs.declared.layout.Step.TheVariants.{Row}
 use Rattle.pk_tree.specs.Layouts.{peeked}

@@ -5,9 +5,9 @@ ghost use Rattle.pk_tree.specs.Layouts.{layer_read, StepsFit};
 ghost use Rattle.pk_tree.specs.Tables.{steps_of};
 ghost use Rattle.dis_link.specs.Arp.{arp_layout, is_ip_over_ether, arp_sizes};
 
-use pk_base::{NoMemory, Span};
+use pk_base::{After, Mode, NoMemory, Span};
 use pk_fields::ids;
-use pk_tree::{After, Mode, Reach, Slot, TreeBuilder, pass_layer, peek, read_table};
+use pk_tree::{Reach, Slot, TreeBuilder, pass_layer, peek, read_table};
 
 /// Where the addresses begin.
 const ADDRESSES: usize = 8;

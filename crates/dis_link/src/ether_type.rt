@@ -2,8 +2,8 @@ ghost use Rattle.std.specs.Prelude.{◌≡◌, ℕ, ◌+◌, ◌≤◌, ◌<◌,
 ghost use Rattle.pk_buffer.specs.Buffers.{IsInside};
 ghost use Rattle.dis_link.specs.EtherTypes.{is_length, ended, next_of_type};
 
-use pk_base::Span;
-use pk_tree::{Next, first_of};
+use pk_base::{Next, Span};
+use pk_tree::first_of;
 
 const LENGTH_MOST: u64 = 1_500;
 

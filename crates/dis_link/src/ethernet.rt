@@ -1,7 +1,7 @@
 ghost use Rattle.std.specs.Prelude.{◌≡◌, ◌≢◌, ℕ, List, [], ◌+◌, ◌<◌, ◌≤◌, ◌^◌, length, IfOk, OnOk};
 ghost use Rattle.pk_buffer.specs.Buffers.{IsInside, bytes_of};
 ghost use Rattle.pk_fields.specs.Ids.{ETH};
-ghost use Rattle.pk_tree.specs.declared.heads.Mode.TheVariants.{Plain};
+ghost use Rattle.pk_base.specs.declared.heads.Mode.TheVariants.{Plain};
 ghost use Rattle.pk_tree.specs.Following.{LeadsInside};
 ghost use Rattle.pk_tree.specs.Layouts.{layer_read, reach, StepsFit};
 ghost use Rattle.pk_tree.specs.Tables.{steps_of};
@@ -10,9 +10,9 @@ ghost use Rattle.dis_link.specs.EtherTypes.{is_length};
 ghost use Rattle.dis_link.specs.Ethernet.{eth_layout, eth_span, eth_after, eth_type};
 
 use crate::ether_type::{ended, is_length, next_of_type};
-use pk_base::{NoMemory, Span};
+use pk_base::{After, Mode, NoMemory, Span};
 use pk_fields::ids;
-use pk_tree::{After, Mode, Reach, Slot, TreeBuilder, carried, pass_layer, peek, read_table};
+use pk_tree::{Reach, Slot, TreeBuilder, carried, pass_layer, peek, read_table};
 
 /// The bytes of an Ethernet header.
 const HEADER: u32 = 14;

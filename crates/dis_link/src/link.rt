@@ -7,8 +7,8 @@ ghost use Rattle.dis_link.specs.Link.{link_of, link_read, link_after, next_of_ve
 use crate::ethernet::read_ethernet;
 use crate::linux_cooked::{read_sll, read_sll2};
 use crate::null::read_null;
-use pk_base::{NoMemory, Span};
-use pk_tree::{After, Next, TreeBuilder, carried, peek};
+use pk_base::{After, Next, NoMemory, Span};
+use pk_tree::{TreeBuilder, carried, peek};
 
 /// The link types that are read (the LINKTYPE registry of tcpdump.org).
 const LINKTYPE_NULL: u16 = 0;

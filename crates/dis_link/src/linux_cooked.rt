@@ -1,7 +1,7 @@
 ghost use Rattle.std.specs.Prelude.{◌≡◌, ◌≢◌, ℕ, List, [], ◌∷◌, Bool as Truth, min, nat_le, ◌+◌, ◌<◌, ◌≤◌, ◌^◌, length, IfOk, OnOk};
 ghost use Rattle.pk_buffer.specs.Buffers.{IsInside, bytes_of};
 ghost use Rattle.pk_fields.specs.Ids.{SLL, SLL2};
-ghost use Rattle.pk_tree.specs.declared.heads.Mode.TheVariants.{Plain};
+ghost use Rattle.pk_base.specs.declared.heads.Mode.TheVariants.{Plain};
 ghost use Rattle.pk_tree.specs.Following.{LeadsInside};
 ghost use Rattle.pk_tree.specs.Layouts.{layer_read, peeked, reach, StepsFit};
 ghost use Rattle.pk_tree.specs.Tables.{steps_of};
@@ -9,9 +9,9 @@ ghost use Rattle.pk_tree.specs.Trees.{last_proto};
 ghost use Rattle.dis_link.specs.LinuxCooked.{sll_layout, sll_after, sll2_layout, sll2_after};
 
 use crate::ether_type::next_of_type;
-use pk_base::{NoMemory, Span};
+use pk_base::{After, Mode, NoMemory, Span};
 use pk_fields::ids;
-use pk_tree::{After, Mode, Reach, Slot, TreeBuilder, carried, pass_layer, peek, read_table};
+use pk_tree::{Reach, Slot, TreeBuilder, carried, pass_layer, peek, read_table};
 
 /// The bytes of a header of the first version.
 const HEADER: u32 = 16;

@@ -1,17 +1,15 @@
 ghost use Rattle.std.specs.Prelude.{◌≡◌, ◌≢◌, ℕ, Bool as Truth, List, ◌+◌, ◌<◌, ◌≤◌, ◌^◌, length, IfOk, OnOk};
 ghost use Rattle.pk_buffer.specs.Buffers.{IsInside, bytes_of};
 ghost use Rattle.pk_fields.specs.Ids.{NULL};
-ghost use Rattle.pk_tree.specs.declared.heads.Mode.TheVariants.{Plain};
+ghost use Rattle.pk_base.specs.declared.heads.Mode.TheVariants.{Plain};
 ghost use Rattle.pk_tree.specs.Layouts.{layer_read};
 ghost use Rattle.pk_tree.specs.Trees.{last_proto};
 ghost use Rattle.pk_tree.specs.Following.{LeadsInside};
 ghost use Rattle.dis_link.specs.Null.{family, family as family_of, next_of_family, null_layout, null_after};
 
-use pk_base::{NoMemory, Span, u32_at};
+use pk_base::{After, Mode, Next, NoMemory, Span, Value, u32_at};
 use pk_fields::ids;
-use pk_tree::{
-    After, Mode, Next, Reach, Step, TreeBuilder, Value, carried, pass_layer, read_layer,
-};
+use pk_tree::{Reach, Step, TreeBuilder, carried, pass_layer, read_layer};
 
 /// The bytes of a loopback header.
 const HEADER: u32 = 4;

@@ -9,9 +9,9 @@ ghost use Rattle.dis_link.specs.EtherTypes.{is_length};
 ghost use Rattle.dis_link.specs.Vlan.{vlan_layout, vlan_span, vlan_after, vlan_type};
 
 use crate::ether_type::{ended, is_length, next_of_type};
-use pk_base::{NoMemory, Span};
+use pk_base::{After, Mode, NoMemory, Span};
 use pk_fields::ids;
-use pk_tree::{After, Mode, Reach, Slot, TreeBuilder, carried, pass_layer, peek, read_table};
+use pk_tree::{Reach, Slot, TreeBuilder, carried, pass_layer, peek, read_table};
 
 /// The bytes of a VLAN tag, without the type before it and with the one behind it.
 const HEADER: u32 = 4;

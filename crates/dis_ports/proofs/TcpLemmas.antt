@@ -9,7 +9,7 @@ use Rattle.pk_fields.specs.FieldSets.{is_in}
 use Rattle.pk_fields.specs.Fields.{row_of}
 use Rattle.pk_fields.specs.Ids.{TCP, TCP_OPTION_KIND, TCP_OPTION_LEN, TCP_OPTIONS_MSS_VAL, TCP_OPTIONS_WSCALE_SHIFT, TCP_OPTIONS_SACK_PERM, TCP_OPTIONS_SACK_LE, TCP_OPTIONS_SACK_RE, TCP_OPTIONS_TIMESTAMP_TSVAL, TCP_OPTIONS_TIMESTAMP_TSECR, TCP_OPTIONS_BAD}
 use Rattle.pk_fields.specs.Table.{rows}
-use Rattle.pk_tree.specs.declared.heads.Mode.{Mode}
+use Rattle.pk_base.specs.declared.heads.Mode.{Mode}
 use Rattle.pk_tree.specs.declared.layout.Reach.TheVariants.{All, Short}
 use Rattle.pk_tree.specs.declared.layout.Step.{Step}
 use Rattle.pk_tree.specs.declared.layout.Step.TheVariants.{Row, Part}

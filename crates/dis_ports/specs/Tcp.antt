@@ -19,12 +19,12 @@
 use Rattle.std.specs.Prelude.{◌==◌, ℕ, ◌-◌, ◌*◌, List, [], ◌∷◌, ◌++◌, nat_le, take}
 use Rattle.pk_base.specs.declared.span.Span.{Span}
 use Rattle.pk_fields.specs.Ids.{TCP_SRCPORT, TCP_PORT, TCP_DSTPORT, TCP_SEQ_RAW, TCP_ACK_RAW, TCP_HDR_LEN, TCP_FLAGS, TCP_FLAGS_CWR, TCP_FLAGS_ECE, TCP_FLAGS_URG, TCP_FLAGS_ACK, TCP_FLAGS_PUSH, TCP_FLAGS_RESET, TCP_FLAGS_SYN, TCP_FLAGS_FIN, TCP_WINDOW_SIZE_VALUE, TCP_CHECKSUM, TCP_URGENT_POINTER, TCP_OPTIONS}
-use Rattle.pk_tree.specs.declared.heads.After.{After}
-use Rattle.pk_tree.specs.declared.heads.After.TheVariants as afters
-use Rattle.pk_tree.specs.declared.heads.Mode.{Mode}
-use Rattle.pk_tree.specs.declared.heads.Mode.TheVariants.{Plain, Embedded}
-use Rattle.pk_tree.specs.declared.heads.Next.TheVariants.{Rest}
-use Rattle.pk_tree.specs.declared.heads.TcpHead.{TcpHead}
+use Rattle.pk_base.specs.declared.heads.After.{After}
+use Rattle.pk_base.specs.declared.heads.After.TheVariants as afters
+use Rattle.pk_base.specs.declared.heads.Mode.{Mode}
+use Rattle.pk_base.specs.declared.heads.Mode.TheVariants.{Plain, Embedded}
+use Rattle.pk_base.specs.declared.heads.Next.TheVariants.{Rest}
+use Rattle.pk_base.specs.declared.heads.TcpHead.{TcpHead}
 use Rattle.pk_tree.specs.declared.layout.Reach.{Reach}
 use Rattle.pk_tree.specs.declared.layout.Reach.TheVariants.{All, Short, Failed}
 use Rattle.pk_tree.specs.declared.layout.Step.{Step}

@@ -10,12 +10,12 @@
 use Rattle.std.specs.Prelude.{◌==◌, ℕ, Bool, ◌||◌, if◌then◌else◌, List, [], ◌∷◌, nat_le}
 use Rattle.pk_base.specs.declared.span.Span.{Span}
 use Rattle.pk_fields.specs.Ids.{UDP_SRCPORT, UDP_PORT, UDP_DSTPORT, UDP_LENGTH, UDP_CHECKSUM}
-use Rattle.pk_tree.specs.declared.heads.After.{After}
-use Rattle.pk_tree.specs.declared.heads.After.TheVariants as afters
-use Rattle.pk_tree.specs.declared.heads.Mode.{Mode}
-use Rattle.pk_tree.specs.declared.heads.Mode.TheVariants.{Plain, Embedded}
-use Rattle.pk_tree.specs.declared.heads.Next.TheVariants.{Rest}
-use Rattle.pk_tree.specs.declared.heads.PortsHead.{PortsHead}
+use Rattle.pk_base.specs.declared.heads.After.{After}
+use Rattle.pk_base.specs.declared.heads.After.TheVariants as afters
+use Rattle.pk_base.specs.declared.heads.Mode.{Mode}
+use Rattle.pk_base.specs.declared.heads.Mode.TheVariants.{Plain, Embedded}
+use Rattle.pk_base.specs.declared.heads.Next.TheVariants.{Rest}
+use Rattle.pk_base.specs.declared.heads.PortsHead.{PortsHead}
 use Rattle.pk_tree.specs.declared.layout.Reach.{Reach}
 use Rattle.pk_tree.specs.declared.layout.Reach.TheVariants.{All, Short, Failed}
 use Rattle.pk_tree.specs.declared.layout.Step.{Step}

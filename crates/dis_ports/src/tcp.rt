@@ -11,12 +11,9 @@ ghost use Rattle.dis_ports.specs.Tcp.{header_len, tcp_after, tcp_carries, tcp_he
 ghost use Rattle.dis_ports.specs.TcpOptions.{AllOptions, option_fields, tcp_options};
 
 use crate::tcp_options::{FIXED, push_options};
-use pk_base::{NoMemory, Span};
+use pk_base::{After, Mode, Next, NoMemory, Span, TcpHead};
 use pk_fields::ids;
-use pk_tree::{
-    After, Mode, Next, Reach, Slot, Step, TcpHead, TreeBuilder, behind, carried, pass_layer, peek,
-    read_table,
-};
+use pk_tree::{Reach, Slot, Step, TreeBuilder, behind, carried, pass_layer, peek, read_table};
 use std::alloc::Global;
 
 /// Where the byte of the data offset ends.

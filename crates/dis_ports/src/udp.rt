@@ -7,12 +7,9 @@ ghost use Rattle.pk_tree.specs.Tables.{steps_of};
 ghost use Rattle.pk_tree.specs.Trees.{last_proto};
 ghost use Rattle.dis_ports.specs.Udp.{is_udp_length, udp_after, udp_carries, udp_layout, udp_length, udp_ports, udp_span};
 
-use pk_base::{NoMemory, Span};
+use pk_base::{After, Mode, Next, NoMemory, PortsHead, Span};
 use pk_fields::ids;
-use pk_tree::{
-    After, Mode, Next, PortsHead, Reach, Slot, TreeBuilder, behind, carried, first_of, pass_layer,
-    peek, read_table,
-};
+use pk_tree::{Reach, Slot, TreeBuilder, behind, carried, first_of, pass_layer, peek, read_table};
 
 /// The bytes of a UDP header.
 const HEADER: u32 = 8;

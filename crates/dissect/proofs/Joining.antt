@@ -1,8 +1,8 @@
 -- A fragment or a segment more: what is kept of it.
 use Rattle.std.proofs.Common.{◌≡◌, ℕ, true, List, ◌∷◌, ◌∙◌, sym, subst}
-use Rattle.pk_tree.specs.declared.heads.FragmentHead.{FragmentHead}
-use Rattle.pk_tree.specs.declared.heads.PacketHead.{PacketHead}
-use Rattle.pk_tree.specs.declared.heads.TcpHead.{TcpHead}
+use Rattle.pk_base.specs.declared.heads.FragmentHead.{FragmentHead}
+use Rattle.pk_base.specs.declared.heads.PacketHead.{PacketHead}
+use Rattle.pk_base.specs.declared.heads.TcpHead.{TcpHead}
 use Rattle.ip_join.specs.Stands.{Stands}
 use Rattle.tcp_messages.specs.Standing.{ReadsFor}
 use Rattle.port_rules.specs.declared.rules.PortRule.{PortRule}

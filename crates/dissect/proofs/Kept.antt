@@ -2,16 +2,16 @@
 use Rattle.std.proofs.Common.{◌≡◌, ◌==◌, ℕ, zero, suc, ◌-◌, Bool, true, false, if◌then◌else◌, List, ◌∷◌, length, refl, sym, subst}
 use Rattle.pk_base.specs.declared.span.Span.{Span}
 use Rattle.pk_fields.specs.Ids.{UDP_STREAM, UDP_PAYLOAD}
-use Rattle.pk_tree.specs.declared.heads.After.{After}
-use Rattle.pk_tree.specs.declared.heads.After.TheVariants as afters
-use Rattle.pk_tree.specs.declared.heads.FragmentHead.{FragmentHead}
-use Rattle.pk_tree.specs.declared.heads.Mode.{Mode}
-use Rattle.pk_tree.specs.declared.heads.Mode.TheVariants.{Plain as PlainMode}
-use Rattle.pk_tree.specs.declared.heads.Next.{Next}
-use Rattle.pk_tree.specs.declared.heads.Next.TheVariants as nexts
-use Rattle.pk_tree.specs.declared.heads.PacketHead.{PacketHead}
-use Rattle.pk_tree.specs.declared.heads.PortsHead.{PortsHead}
-use Rattle.pk_tree.specs.declared.heads.TcpHead.{TcpHead}
+use Rattle.pk_base.specs.declared.heads.After.{After}
+use Rattle.pk_base.specs.declared.heads.After.TheVariants as afters
+use Rattle.pk_base.specs.declared.heads.FragmentHead.{FragmentHead}
+use Rattle.pk_base.specs.declared.heads.Mode.{Mode}
+use Rattle.pk_base.specs.declared.heads.Mode.TheVariants.{Plain as PlainMode}
+use Rattle.pk_base.specs.declared.heads.Next.{Next}
+use Rattle.pk_base.specs.declared.heads.Next.TheVariants as nexts
+use Rattle.pk_base.specs.declared.heads.PacketHead.{PacketHead}
+use Rattle.pk_base.specs.declared.heads.PortsHead.{PortsHead}
+use Rattle.pk_base.specs.declared.heads.TcpHead.{TcpHead}
 use Rattle.pk_tree.specs.declared.layout.Step.{Step}
 use Rattle.pk_tree.specs.Trees.{TreeShown, IsKept as IsKeptTree, kept_tree, made_of}
 use Rattle.pk_tree.proofs.KeptTrees.{item_kept, count_kept, layer_kept}

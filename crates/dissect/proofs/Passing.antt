@@ -6,8 +6,8 @@ use Rattle.pk_fields.specs.Fields.{row_of}
 use Rattle.pk_fields.specs.FieldSets.{is_in}
 use Rattle.pk_fields.specs.Ids.{DNS_RESPONSE_TO, HTTP_REQUEST_IN, TCP_STREAM, TCP_SEQ, TCP_ACK, TCP_LOST}
 use Rattle.pk_fields.specs.Table.{rows}
-use Rattle.pk_tree.specs.declared.heads.PacketHead.{PacketHead}
-use Rattle.pk_tree.specs.declared.heads.TcpHead.{TcpHead}
+use Rattle.pk_base.specs.declared.heads.PacketHead.{PacketHead}
+use Rattle.pk_base.specs.declared.heads.TcpHead.{TcpHead}
 use Rattle.pk_tree.specs.Trees.{TreeShown}
 use Rattle.tcp_streams.specs.declared.segment.Taken.{Taken}
 use Rattle.tcp_streams.specs.Gaps.{lost_bytes}

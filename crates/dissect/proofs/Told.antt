@@ -4,10 +4,10 @@ use Rattle.std.specs.Prelude.{IfOk, Result, Ok, Err}
 use Rattle.std.proofs.Common.{◌≡◌, List, length, eq-eqb, Bool, true, false, refl, sym, ap, subst, ◌∙◌, true≢false}
 use Rattle.pk_base.specs.declared.memory.NoMemory.{NoMemory}
 use Rattle.pk_base.specs.declared.span.Span.{Span}
-use Rattle.pk_tree.specs.declared.heads.After.{After}
-use Rattle.pk_tree.specs.declared.heads.FragmentHead.{FragmentHead}
-use Rattle.pk_tree.specs.declared.heads.Mode.{Mode}
-use Rattle.pk_tree.specs.declared.heads.PacketHead.{PacketHead}
+use Rattle.pk_base.specs.declared.heads.After.{After}
+use Rattle.pk_base.specs.declared.heads.FragmentHead.{FragmentHead}
+use Rattle.pk_base.specs.declared.heads.Mode.{Mode}
+use Rattle.pk_base.specs.declared.heads.PacketHead.{PacketHead}
 use Rattle.pk_tree.specs.Trees.{TreeShown}
 use Rattle.ip_join.specs.declared.joined.Datagram.{Datagram}
 use Rattle.ip_join.specs.declared.joined.Joined.{Joined}

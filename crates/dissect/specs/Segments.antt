@@ -1,7 +1,7 @@
 -- Segments of TCP, among all that was met.
 use Rattle.std.specs.Prelude.{ℕ, List, [], ◌∷◌}
-use Rattle.pk_tree.specs.declared.heads.PacketHead.{PacketHead}
-use Rattle.pk_tree.specs.declared.heads.TcpHead.{TcpHead}
+use Rattle.pk_base.specs.declared.heads.PacketHead.{PacketHead}
+use Rattle.pk_base.specs.declared.heads.TcpHead.{TcpHead}
 use Rattle.tcp_streams.specs.declared.segment.Segment.{Segment}
 use Rattle.dissect.specs.Events.{Event, NewFrame, Piece, Udp, Tcp}
 

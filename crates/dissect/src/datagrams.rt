@@ -11,8 +11,8 @@ use crate::todo::Todo;
 use app_layers::{add_message, is_cut, tell_datagram};
 use capture_read::Frame;
 use message_links::udp_ends;
-use pk_base::{NoMemory, Span};
-use pk_tree::{PacketHead, PortsHead, TreeBuilder};
+use pk_base::{NoMemory, PacketHead, PortsHead, Span};
+use pk_tree::TreeBuilder;
 use port_rules::{PortRule, udp_app};
 
 impl State {

@@ -12,8 +12,8 @@ use crate::todo::{Head, Todo};
 use app_layers::tell_joined;
 use dis_ip::carried_by;
 use ip_join::Datagram;
-use pk_base::NoMemory;
-use pk_tree::{After, FragmentHead, Mode, PacketHead, TreeBuilder};
+use pk_base::{After, FragmentHead, Mode, NoMemory, PacketHead};
+use pk_tree::TreeBuilder;
 
 /// Tells of a datagram that is whole with this fragment, and goes on in it.
 pub(crate) fn begin_datagram(

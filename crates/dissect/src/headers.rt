@@ -9,8 +9,8 @@ use crate::state::State;
 use crate::todo::{Head, Todo};
 use app_layers::{is_cut, read_head};
 use capture_read::Frame;
-use pk_base::NoMemory;
-use pk_tree::{After, Mode, Next, TreeBuilder};
+use pk_base::{After, Mode, Next, NoMemory};
+use pk_tree::TreeBuilder;
 use port_rules::PortRule;
 
 impl State {

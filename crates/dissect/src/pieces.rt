@@ -14,8 +14,8 @@ use crate::todo::Todo;
 use app_layers::tell_conflict;
 use capture_read::Frame;
 use ip_join::Joined;
-use pk_base::{NoMemory, Octets, Span};
-use pk_tree::{FragmentHead, PacketHead, TreeBuilder};
+use pk_base::{FragmentHead, NoMemory, Octets, PacketHead, Span};
+use pk_tree::TreeBuilder;
 
 impl State {
     /// Takes a part of a datagram. One that wasn't wholly captured is shown as data.

@@ -1,5 +1,4 @@
-use pk_base::Span;
-use pk_tree::{Mode, Next, PacketHead};
+use pk_base::{Mode, Next, PacketHead, Span};
 
 /// A header that is to be read.
 #[derive(Clone, Copy)]

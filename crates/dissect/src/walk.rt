@@ -13,8 +13,8 @@ use crate::todo::{Head, Todo};
 use app_layers::{add_data, captured, frame_span, is_cut};
 use capture_read::Frame;
 use dis_link::read_link;
-use pk_base::{LAYER_LIMIT, NoMemory, Span};
-use pk_tree::{Address, After, Mode, PacketHead, TreeBuilder};
+use pk_base::{LAYER_LIMIT, Address, After, Mode, NoMemory, PacketHead, Span};
+use pk_tree::TreeBuilder;
 use port_rules::PortRule;
 
 impl State {

@@ -8,8 +8,7 @@ use flt_syntax::{Arithmetic, Choice, Place, RangePart};
 use flt_typed::{
     Extreme, Relation, calculate, extreme_of, masked, order_of, related, slice, span_of,
 };
-use pk_base::NoMemory;
-use pk_tree::Value;
+use pk_base::{NoMemory, Value};
 use std::alloc::Global;
 
 /// Twenty addresses that differ in their last bits.

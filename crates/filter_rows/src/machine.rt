@@ -5,6 +5,7 @@
 ghost use Rattle.std.specs.Prelude.{◌≡◌, ◌<◌, ◌^◌, IsTrue};
 ghost use Rattle.flt_program.specs.Programs.{Fits, IsProgram};
 
+use pk_base::{Layers, Value};
 use crate::asked::tree_of;
 use flt_code::compile;
 use flt_read::read_filter;
@@ -13,7 +14,7 @@ use flt_typed::{Constant, Filter, Relation};
 use flt_program::{Instr, Program};
 use flt_vm::Machine;
 use pk_fields::by_name;
-use pk_tree::{Layers, Tree, Value};
+use pk_tree::Tree;
 use std::alloc::Global;
 
 static PACKET: &str = "\

@@ -20,8 +20,8 @@ use Rattle.pk_text.specs.Octets.{bytes_of}
 use Rattle.pk_text.specs.Time.{time_of}
 use Rattle.pk_text.specs.declared.number.Wide.{Wide}
 use Rattle.pk_text.specs.declared.number.Wide.TheVariants as wides
-use Rattle.pk_tree.specs.declared.value.Value.{Value}
-use Rattle.pk_tree.specs.declared.value.Value.TheVariants as values
+use Rattle.pk_base.specs.declared.value.Value.{Value}
+use Rattle.pk_base.specs.declared.value.Value.TheVariants as values
 
 -- a constant of a kind
 pub record IsGood (prefixed : Truth) (kind : ValueKind) (c : Constant) : Type 0 where

@@ -37,8 +37,8 @@ use Rattle.flt_syntax.specs.declared.ast.RangePart.{RangePart}
 use Rattle.flt_typed.specs.declared.typed.Member.{Member}
 use Rattle.flt_typed.specs.declared.literal.Constant.{Constant}
 use Rattle.flt_typed.specs.declared.relation.Relation.{Relation}
-use Rattle.pk_tree.specs.declared.chosen.Layers.{Layers}
-use Rattle.pk_tree.specs.declared.value.Value.TheVariants.{Uint}
+use Rattle.pk_base.specs.declared.chosen.Layers.{Layers}
+use Rattle.pk_base.specs.declared.value.Value.TheVariants.{Uint}
 
 -- the code stands at a place of what is run
 abbrev pub Holds : Job → ℕ → List Instr → Type 0

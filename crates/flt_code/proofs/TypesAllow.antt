@@ -42,7 +42,7 @@ use Rattle.flt_vm.specs.Held.{are_all, can_be, can_compare, can_compute, can_end
 use Rattle.pk_fields.specs.declared.value_kind.ValueKind.{ValueKind}
 use Rattle.pk_fields.specs.declared.value_kind.ValueKind.TheVariants as kinds
 use Rattle.pk_tree.specs.Trees.{IsTree, TreeShown}
-use Rattle.pk_tree.specs.declared.value.Value.{Value}
+use Rattle.pk_base.specs.declared.value.Value.{Value}
 
 -- the table asks no number for its width
 sliced_wide : (kind : ValueKind) → is_sliced (wide kind) ≡ is_sliced kind

@@ -26,9 +26,9 @@ use Rattle.pk_tree.proofs.FieldLemmas.{layers_kind}
 use Rattle.pk_tree.specs.FieldValues.{chosen_values, values_of}
 use Rattle.pk_tree.specs.Trees.{IsTree, TreeShown}
 use Rattle.pk_tree.specs.Values.{IsOfKind}
-use Rattle.pk_tree.specs.declared.chosen.Layers.{Layers}
-use Rattle.pk_tree.specs.declared.value.Value.{Value}
-use Rattle.pk_tree.specs.declared.value.Value.TheVariants as values
+use Rattle.pk_base.specs.declared.chosen.Layers.{Layers}
+use Rattle.pk_base.specs.declared.value.Value.{Value}
+use Rattle.pk_base.specs.declared.value.Value.TheVariants as values
 
 abbrev pub wide : ValueKind → ValueKind
 wide (kinds.Uint width) = kinds.Uint 64

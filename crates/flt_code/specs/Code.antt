@@ -5,7 +5,7 @@ use Rattle.flt_syntax.specs.declared.ast.Function.{Function}
 use Rattle.flt_syntax.specs.declared.ast.Function.TheVariants.{Count, Min, Max}
 use Rattle.flt_typed.specs.Terms.{is_field}
 use Rattle.flt_syntax.specs.declared.ast.Choice.{Choice}
-use Rattle.pk_tree.specs.declared.chosen.Layers.{Layers}
+use Rattle.pk_base.specs.declared.chosen.Layers.{Layers}
 use Rattle.flt_typed.specs.declared.typed.Member.{Member}
 use Rattle.flt_typed.specs.declared.typed.Term.{Term}
 use Rattle.flt_typed.specs.declared.typed.Term.TheVariants as terms

@@ -16,9 +16,8 @@ use crate::spines::term_below;
 use flt_syntax::{Function, RangePart};
 use flt_typed::{Constant, Extreme, Term};
 use flt_program::{Instr, copied_layers, copied_ranges};
-use pk_base::NoMemory;
+use pk_base::{Layers, NoMemory};
 use pk_fields::FieldId;
-use pk_tree::Layers;
 use std::alloc::Global;
 
 /// Appends the code for a term, and gives the register that it sets. Of several arguments it makes the extreme that is asked

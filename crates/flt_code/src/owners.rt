@@ -4,9 +4,8 @@ ghost use Rattle.flt_code.specs.Owners.{Grows, IsOwned, OfTerm, owner_of, owners
 ghost use Rattle.flt_typed.specs.declared.typed.Term.TheVariants.{Field};
 
 use flt_typed::{Extreme, Term, Typed};
-use pk_base::NoMemory;
+use pk_base::{Layers, NoMemory};
 use pk_fields::FieldId;
-use pk_tree::Layers;
 
 /// Whose a register is.
 #[derive(Clone, Copy)]

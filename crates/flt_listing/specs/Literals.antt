@@ -14,11 +14,11 @@ use Rattle.pk_text.specs.Ether.{ether_shown}
 use Rattle.pk_text.specs.Ip4.{ip4_shown}
 use Rattle.pk_text.specs.Ip6.{ip6_shown}
 use Rattle.pk_text.specs.Time.{time_shown}
-use Rattle.pk_tree.specs.declared.chosen.LayerRange.{LayerRange}
-use Rattle.pk_tree.specs.declared.chosen.Layers.{Layers}
-use Rattle.pk_tree.specs.declared.chosen.Layers.TheVariants.{All, These}
-use Rattle.pk_tree.specs.declared.value.Value.{Value}
-use Rattle.pk_tree.specs.declared.value.Value.TheVariants as values
+use Rattle.pk_base.specs.declared.chosen.LayerRange.{LayerRange}
+use Rattle.pk_base.specs.declared.chosen.Layers.{Layers}
+use Rattle.pk_base.specs.declared.chosen.Layers.TheVariants.{All, These}
+use Rattle.pk_base.specs.declared.value.Value.{Value}
+use Rattle.pk_base.specs.declared.value.Value.TheVariants as values
 
 -- a field's name, and the layers that are chosen; a range of one layer is its number
 abbrev pub last_shown : Option ℕ → List ℕ

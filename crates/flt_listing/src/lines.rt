@@ -8,10 +8,9 @@ use crate::literals::{put_constant, put_field, put_members, put_ranges, put_stri
 use flt_syntax::{Arithmetic, Choice, Function, RangePart};
 use flt_typed::{Constant, Extreme, Filter, Member, Pattern, Relation};
 use flt_program::{Instr, Program, patterns_in};
-use pk_base::NoMemory;
+use pk_base::{Layers, NoMemory};
 use pk_fields::FieldId;
 use pk_text::{TextSink, put_number};
-use pk_tree::Layers;
 use std::alloc::Global;
 
 /// A line for each instruction of a program, which is its place, counted from 0, and its words. The filter is the one that

@@ -6,10 +6,9 @@ ghost use Rattle.flt_listing.specs.Literals.{bytes_shown, constant_shown, field_
 
 use flt_syntax::{Place, RangePart};
 use flt_typed::{Constant, Member};
-use pk_base::NoMemory;
+use pk_base::{LayerRange, Layers, NoMemory, Value};
 use pk_fields::{FieldId, name};
 use pk_text::{TextSink, ip6_text, put_escaped, put_ether, put_hex, put_ip4, put_number, put_time};
-use pk_tree::{LayerRange, Layers, Value};
 use std::alloc::Global;
 
 /// Appends a field's name, and the layers that are chosen.

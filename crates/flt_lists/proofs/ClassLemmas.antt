@@ -18,8 +18,8 @@ use Rattle.flt_typed.specs.declared.kinds.Class.TheVariants as classes
 use Rattle.flt_typed.specs.declared.relation.Relation.{Relation}
 use Rattle.flt_typed.specs.declared.relation.Relation.TheVariants.{Equal, Unequal, Greater, Less, AtLeast, AtMost, Contains}
 use Rattle.pk_fields.specs.declared.value_kind.ValueKind.{ValueKind}
-use Rattle.pk_tree.specs.declared.value.Value.{Value}
-use Rattle.pk_tree.specs.declared.value.Value.TheVariants as values
+use Rattle.pk_base.specs.declared.value.Value.{Value}
+use Rattle.pk_base.specs.declared.value.Value.TheVariants as values
 
 -- the order of two keys of one class
 then_equal : (o : Ordering) → o ≡ ordering_then o orders.Equal

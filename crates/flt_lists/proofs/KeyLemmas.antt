@@ -20,7 +20,7 @@ use Rattle.flt_typed.specs.Relations.{holds_in}
 use Rattle.flt_typed.specs.declared.arithmetic.Extreme.{Extreme}
 use Rattle.flt_typed.specs.declared.relation.Relation.{Relation}
 use Rattle.flt_typed.specs.declared.relation.Relation.TheVariants.{Equal, Unequal}
-use Rattle.pk_tree.specs.declared.value.Value.{Value}
+use Rattle.pk_base.specs.declared.value.Value.{Value}
 
 pub key_total : IsTotalOrder key_cmp
 key_total =

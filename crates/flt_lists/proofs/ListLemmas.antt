@@ -5,7 +5,7 @@ use Rattle.std.specs.List.{cons_option, filter_map, list_all, list_any}
 use Rattle.flt_lists.specs.Keys.{KeyShown, further, furthest, key_cmp, key_of, key_shown, keys_of}
 use Rattle.flt_lists.specs.declared.keys.Key.{Key}
 use Rattle.flt_typed.specs.declared.arithmetic.Extreme.{Extreme}
-use Rattle.pk_tree.specs.declared.value.Value.{Value}
+use Rattle.pk_base.specs.declared.value.Value.{Value}
 
 one_more : {A : Type 0} (o : Option A) (ys : List A) → option_to_list o ++ ys ≡ cons_option o ys
 one_more None ys = refl

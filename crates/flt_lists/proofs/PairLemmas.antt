@@ -4,7 +4,7 @@ use Rattle.std.specs.List.{filter_map, zip}
 use Rattle.flt_typed.specs.Arithmetic.{calculated}
 use Rattle.flt_lists.specs.Pairs.{values_calculated}
 use Rattle.flt_syntax.specs.declared.ast.Arithmetic.{Arithmetic}
-use Rattle.pk_tree.specs.declared.value.Value.{Value}
+use Rattle.pk_base.specs.declared.value.Value.{Value}
 
 pub single_left : (a : Arithmetic) (vs ws : List Value) (d : Value) → length vs ≡ 1 → values_calculated a vs ws ≡ filter_map (λ w. calculated a (get_or vs 0 d) w) ws
 single_left a [] ws d one = absurd (omega (arith, one))

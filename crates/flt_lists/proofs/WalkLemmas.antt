@@ -11,15 +11,15 @@ use Rattle.flt_lists.specs.Walks.{all_in_layers, all_items, any_in_layers, any_i
 use Rattle.pk_buffer.specs.Buffers.{bytes_of}
 use Rattle.pk_fields.specs.Fields.{row_of}
 use Rattle.pk_tree.proofs.FieldLemmas.{no_items}
-use Rattle.pk_tree.specs.Chosen.{is_chosen}
+use Rattle.pk_base.specs.Chosen.{is_chosen}
 use Rattle.pk_tree.specs.FieldValues.{chosen_values, item_values, layer_values, proto_values, values_of}
 use Rattle.pk_tree.specs.Trees.{ItemFits, IsTree, LayersFit, TreeShown}
 use Rattle.pk_tree.specs.Values.{is_proto}
-use Rattle.pk_tree.specs.declared.chosen.Layers.{Layers}
+use Rattle.pk_base.specs.declared.chosen.Layers.{Layers}
 use Rattle.pk_tree.specs.declared.item.Item.{Item}
 use Rattle.pk_tree.specs.declared.layer.Layer.{Layer}
-use Rattle.pk_tree.specs.declared.value.Value.{Value}
-use Rattle.pk_tree.specs.declared.value.Value.TheVariants.{Proto}
+use Rattle.pk_base.specs.declared.value.Value.{Value}
+use Rattle.pk_base.specs.declared.value.Value.TheVariants.{Proto}
 
 -- among items
 any_one : (test : Value → Truth) (item : Item) (rest : List Item) (is : Truth) {more : Truth} → list_any test (map (λ (i : Item). i.value) rest) ≡ more →

@@ -7,8 +7,8 @@ use Rattle.flt_syntax.specs.declared.ast.Function.TheVariants.{Count, Min, Max}
 use Rattle.flt_typed.specs.Arithmetic.{extreme_of}
 use Rattle.flt_typed.specs.Calls.{called}
 use Rattle.flt_typed.specs.declared.arithmetic.Extreme.TheVariants.{Least, Greatest}
-use Rattle.pk_tree.specs.declared.value.Value.{Value}
-use Rattle.pk_tree.specs.declared.value.Value.TheVariants as values
+use Rattle.pk_base.specs.declared.value.Value.{Value}
+use Rattle.pk_base.specs.declared.value.Value.TheVariants as values
 
 -- `count` gives one number, whatever there is to count; `min` and `max` the least or the greatest number, if there is one
 abbrev pub values_called : Function → List Value → List Value

@@ -14,7 +14,7 @@ use Rattle.flt_typed.specs.declared.arithmetic.Extreme.TheVariants.{Least, Great
 use Rattle.flt_typed.specs.declared.relation.Relation.{Relation}
 use Rattle.flt_typed.specs.declared.relation.Relation.TheVariants.{Greater, Less, AtLeast, AtMost}
 use Rattle.pk_fields.specs.declared.value_kind.ValueKind.{ValueKind}
-use Rattle.pk_tree.specs.declared.value.Value.{Value}
+use Rattle.pk_base.specs.declared.value.Value.{Value}
 
 -- what values of one class are ordered by; what a value has not is 0 or empty
 pub record KeyShown : Type 0 where

@@ -3,7 +3,7 @@ use Rattle.std.specs.Prelude.{List, [], ◌∷◌}
 use Rattle.std.specs.List.{filter_map, zip}
 use Rattle.flt_typed.specs.Arithmetic.{calculated}
 use Rattle.flt_syntax.specs.declared.ast.Arithmetic.{Arithmetic}
-use Rattle.pk_tree.specs.declared.value.Value.{Value}
+use Rattle.pk_base.specs.declared.value.Value.{Value}
 
 -- a single value goes with each of the other list; else the first goes with the first and so on, as far as the shorter
 -- list goes

@@ -5,7 +5,7 @@ use Rattle.flt_syntax.specs.declared.ast.Choice.{Choice}
 use Rattle.flt_syntax.specs.declared.ast.Choice.TheVariants.{Any, All}
 use Rattle.flt_typed.specs.Relations.{related}
 use Rattle.flt_typed.specs.declared.relation.Relation.{Relation}
-use Rattle.pk_tree.specs.declared.value.Value.{Value}
+use Rattle.pk_base.specs.declared.value.Value.{Value}
 
 abbrev pub is_some_value : List Value → Truth
 is_some_value [] = false

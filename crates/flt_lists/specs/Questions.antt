@@ -10,7 +10,7 @@ use Rattle.flt_typed.specs.declared.typed.Member.TheVariants as members
 use Rattle.flt_typed.specs.Calls.{is_nonzero}
 use Rattle.flt_typed.specs.Relations.{octets_of, related, lies_between}
 use Rattle.flt_typed.specs.declared.relation.Relation.TheVariants.{Equal}
-use Rattle.pk_tree.specs.declared.value.Value.{Value}
+use Rattle.pk_base.specs.declared.value.Value.{Value}
 
 -- whether a value equals an element of a set, or lies in a range
 abbrev pub is_member : Value → Member → Truth

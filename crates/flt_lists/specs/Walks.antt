@@ -1,11 +1,11 @@
 -- The values of a field that is no protocol, asked where they stand: in the layers of its protocol that are chosen.
 use Rattle.std.specs.Prelude.{ℕ, ◌==◌, ◌&&◌, ◌||◌, Bool as Truth, not, List}
 use Rattle.std.specs.List.{list_any, list_all}
-use Rattle.pk_tree.specs.Chosen.{is_chosen}
-use Rattle.pk_tree.specs.declared.chosen.Layers.{Layers}
+use Rattle.pk_base.specs.Chosen.{is_chosen}
+use Rattle.pk_base.specs.declared.chosen.Layers.{Layers}
 use Rattle.pk_tree.specs.declared.item.Item.{Item}
 use Rattle.pk_tree.specs.declared.layer.Layer.{Layer}
-use Rattle.pk_tree.specs.declared.value.Value.{Value}
+use Rattle.pk_base.specs.declared.value.Value.{Value}
 
 abbrev pub is_asked : ℕ → Layers → Layer → Truth
 is_asked proto chosen layer = (layer.proto == proto) && is_chosen chosen layer.nth

@@ -13,9 +13,8 @@ use crate::quantify::is_some_value;
 use crate::ties::{all_tie, any_ties};
 use flt_syntax::Choice;
 use flt_typed::{Relation, kind_of_value, related, same_class};
-use pk_base::NoMemory;
+use pk_base::{NoMemory, Value};
 use pk_fields::ValueKind;
-use pk_tree::Value;
 use std::alloc::Global;
 
 /// With so few values on one side, each pair is looked at.

@@ -6,8 +6,7 @@ ghost use Rattle.std.specs.Ordering.{is_eq};
 ghost use Rattle.flt_lists.specs.Keys.{KeyShown, key_cmp, key_of as key_value, key_shown, keys_of as key_values, order_of_keys};
 
 use flt_typed::{leading_amount, moment_of, octets_of};
-use pk_base::NoMemory;
-use pk_tree::Value;
+use pk_base::{NoMemory, Value};
 use std::alloc::Global;
 
 /// What values of one class are ordered by: numbers, truths and addresses by their amount, bytes by the first that

@@ -9,8 +9,7 @@ ghost use Rattle.flt_typed.specs.Slices.{sliced};
 
 use flt_syntax::{Function, RangePart};
 use flt_typed::{Extreme, call, extreme_of, masked, slice};
-use pk_base::NoMemory;
-use pk_tree::Value;
+use pk_base::{NoMemory, Value};
 use std::alloc::Global;
 
 /// The slices of those values that have all the bytes. A slice of a single range shares its value's bytes.

@@ -7,8 +7,7 @@ ghost use Rattle.flt_typed.specs.Arithmetic.{calculated};
 use crate::lists::add;
 use flt_syntax::Arithmetic;
 use flt_typed::calculate;
-use pk_base::NoMemory;
-use pk_tree::Value;
+use pk_base::{NoMemory, Value};
 use std::alloc::Global;
 
 /// The sums, differences or products of the pairs of two lists: where one list has one value, of that value with each

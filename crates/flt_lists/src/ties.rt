@@ -8,8 +8,7 @@ ghost use Rattle.flt_syntax.specs.declared.ast.Choice.TheVariants.{Any, All};
 ghost use Rattle.flt_typed.specs.declared.relation.Relation.TheVariants.{Equal};
 
 use crate::keys::{Key, is_kept, key_of, sorted_keys};
-use pk_base::NoMemory;
-use pk_tree::Value;
+use pk_base::{NoMemory, Value};
 use std::alloc::Global;
 
 /// Whether the keys of all pairs tie: then all tie with the first right one.

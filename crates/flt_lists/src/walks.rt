@@ -11,9 +11,9 @@ ghost use Rattle.std.specs.List.{list_any, list_all};
 use crate::quantify::passes;
 use crate::question::{Question, is_so};
 use flt_syntax::Choice;
-use pk_base::NoMemory;
+use pk_base::{Layers, NoMemory};
 use pk_fields::{FieldId, ValueKind, kind, proto};
-use pk_tree::{Item, Layer, Layers, Tree};
+use pk_tree::{Item, Layer, Tree};
 
 /// Whether a tree has a value of a field or protocol in the chosen layers.
 pub fn is_there(field: FieldId, layers: &Layers, tree: &Tree) -> bool

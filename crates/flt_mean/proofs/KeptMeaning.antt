@@ -11,7 +11,7 @@ use Rattle.flt_mean.specs.Values.{values_of_term}
 use Rattle.pk_fields.specs.FieldSets.{is_in}
 use Rattle.pk_fields.specs.Fields.{row_of}
 use Rattle.pk_tree.proofs.KeptValues.{values_same}
-use Rattle.pk_tree.specs.declared.chosen.Layers.{Layers}
+use Rattle.pk_base.specs.declared.chosen.Layers.{Layers}
 use Rattle.pk_tree.specs.FieldValues.{values_of}
 use Rattle.pk_tree.specs.Trees.{TreeShown, kept_tree}
 

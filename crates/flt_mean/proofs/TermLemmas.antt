@@ -5,7 +5,7 @@ use Rattle.std.specs.List.{All}
 use Rattle.flt_mean.specs.Terms.{terms_behind, values_joined, values_with}
 use Rattle.flt_mean.specs.declared.terms.Behind.{Behind}
 use Rattle.pk_tree.specs.Trees.{TreeShown}
-use Rattle.pk_tree.specs.declared.value.Value.{Value}
+use Rattle.pk_base.specs.declared.value.Value.{Value}
 
 values_push : (tree : TreeShown) (bs : List Behind) (b : Behind) (vs : List Value) → values_joined tree (bs ++ b ∷ []) vs ≡ values_joined tree bs (values_with tree b vs)
 values_push tree [] b vs = refl

@@ -8,7 +8,7 @@ use Rattle.flt_mean.specs.declared.terms.Behind.TheVariants.{Computes, Argument}
 use Rattle.flt_typed.specs.declared.typed.Term.{Term}
 use Rattle.flt_typed.specs.declared.typed.Term.TheVariants as terms
 use Rattle.pk_tree.specs.Trees.{TreeShown}
-use Rattle.pk_tree.specs.declared.value.Value.{Value}
+use Rattle.pk_base.specs.declared.value.Value.{Value}
 
 -- whether no sign or comma joins a term's parts
 abbrev pub is_part : Term → Truth

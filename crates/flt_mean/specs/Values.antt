@@ -9,7 +9,7 @@ use Rattle.flt_typed.specs.Calls.{masked}
 use Rattle.flt_typed.specs.Slices.{sliced}
 use Rattle.pk_tree.specs.FieldValues.{values_of}
 use Rattle.pk_tree.specs.Trees.{TreeShown}
-use Rattle.pk_tree.specs.declared.value.Value.{Value}
+use Rattle.pk_base.specs.declared.value.Value.{Value}
 
 -- a constant has itself, a field what it has in the chosen layers; a slice has nothing for a value without all its
 -- bytes (wireshark-filter(4)); arithmetic has what its pairs give, and arguments have all their values

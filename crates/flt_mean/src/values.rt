@@ -6,8 +6,8 @@ ghost use Rattle.flt_mean.specs.Values.{values_of_term};
 use crate::terms::{Behind, Terms, terms_of};
 use flt_lists::{calculated_values, called_values, masked_values, only, slices};
 use flt_typed::Term;
-use pk_base::NoMemory;
-use pk_tree::{Tree, Value};
+use pk_base::{NoMemory, Value};
+use pk_tree::Tree;
 use std::alloc::Global;
 
 /// The values of a term in a tree. They share their bytes with it. What signs and commas join is asked one after the

@@ -5,8 +5,7 @@ ghost use Rattle.flt_typed.specs.declared.typed.Member.TheVariants.{Between, One
 use crate::instr::{MemberList, RangeList};
 use flt_syntax::RangePart;
 use flt_typed::{Constant, Member};
-use pk_base::NoMemory;
-use pk_tree::{LayerRanges, Layers};
+use pk_base::{LayerRanges, Layers, NoMemory};
 use std::alloc::Global;
 
 /// The same layers.

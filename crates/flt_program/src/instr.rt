@@ -1,9 +1,9 @@
 // The instructions of the machine.
 
+use pk_base::Layers;
 use flt_syntax::{Arithmetic, Choice, Function, RangePart};
 use flt_typed::{Constant, Extreme, Member, Relation};
 use pk_fields::FieldId;
-use pk_tree::Layers;
 use std::marker::Model;
 
 /// The ranges of a slice.

@@ -33,7 +33,7 @@ use Rattle.flt_mean.specs.Values.{prefix_of_term, values_of_term}
 use Rattle.pk_fields.specs.Fields.{field_named}
 use Rattle.pk_fields.specs.declared.value_kind.ValueKind.{ValueKind}
 use Rattle.pk_tree.specs.Trees.{TreeShown}
-use Rattle.pk_tree.specs.declared.value.Value.TheVariants as values
+use Rattle.pk_base.specs.declared.value.Value.TheVariants as values
 
 same_some : {A : Type 0} (x : Option A) (a b : A) → x ≡ Some a → x ≡ Some b → a ≡ b
 same_some x a b p q = let both : Some a ≡ Some b = sym p ∙ q in cc

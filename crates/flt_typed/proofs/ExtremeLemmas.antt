@@ -7,8 +7,8 @@ use Rattle.std.specs.List.{All, Contains}
 use Rattle.flt_typed.specs.Arithmetic.{IsExtreme, IsWithin, extreme_number, nearer, nearer_of, number_in}
 use Rattle.flt_typed.specs.declared.arithmetic.Extreme.{Extreme}
 use Rattle.flt_typed.specs.declared.arithmetic.Extreme.TheVariants.{Least, Greatest}
-use Rattle.pk_tree.specs.declared.value.Value.{Value}
-use Rattle.pk_tree.specs.declared.value.Value.TheVariants as values
+use Rattle.pk_base.specs.declared.value.Value.{Value}
+use Rattle.pk_base.specs.declared.value.Value.TheVariants as values
 
 -- three numbers from the left, and from the right
 regroup_numbers : (e : Extreme) (a b c : ℕ) → nearer e a (nearer e b c) ≡ nearer e (nearer e a b) c

@@ -9,7 +9,7 @@ use Rattle.pk_fields.specs.declared.value_kind.ValueKind.TheVariants as kinds
 use Rattle.pk_text.specs.Number.{number_of}
 use Rattle.pk_text.specs.declared.number.Wide.{Wide}
 use Rattle.pk_text.specs.declared.number.Wide.TheVariants as wides
-use Rattle.pk_tree.specs.declared.value.Value.TheVariants as values
+use Rattle.pk_base.specs.declared.value.Value.TheVariants as values
 
 number_has : (number : Option Wide) (c : Constant) → number_read number ≡ Reads c → (m : ℕ) × (c.value ≡ values.Uint m)
 number_has None c h = absurd (cc h)

@@ -5,8 +5,8 @@ use Rattle.std.specs.Option.{option_map}
 use Rattle.flt_syntax.specs.declared.ast.Function.{Function}
 use Rattle.flt_syntax.specs.declared.ast.Function.TheVariants.{Len, Count, Upper, Lower, Min, Max}
 use Rattle.flt_typed.specs.Relations.{octets_of}
-use Rattle.pk_tree.specs.declared.value.Value.{Value}
-use Rattle.pk_tree.specs.declared.value.Value.TheVariants as values
+use Rattle.pk_base.specs.declared.value.Value.{Value}
+use Rattle.pk_base.specs.declared.value.Value.TheVariants as values
 
 -- the bits of a number that a mask has, too
 abbrev pub masked : ℕ → Value → Option Value

@@ -2,7 +2,7 @@
 use Rattle.std.specs.Prelude.{ℕ, Bool, ◌&&◌, nat_le, unwrap_or, None}
 use Rattle.flt_syntax.specs.declared.ast.Layer.{Layer}
 use Rattle.flt_syntax.specs.declared.ast.LayerRange as written
-use Rattle.pk_tree.specs.declared.chosen.LayerRange as chosen
+use Rattle.pk_base.specs.declared.chosen.LayerRange as chosen
 
 -- a range as it is written; a number alone is its own last
 abbrev pub last_of : written.LayerRange → ℕ

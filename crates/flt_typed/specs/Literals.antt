@@ -21,8 +21,8 @@ use Rattle.pk_text.specs.Octets.{bytes_of}
 use Rattle.pk_text.specs.Time.{time_of}
 use Rattle.pk_text.specs.declared.number.Wide.{Wide}
 use Rattle.pk_text.specs.declared.number.Wide.TheVariants as wides
-use Rattle.pk_tree.specs.declared.value.Value.{Value}
-use Rattle.pk_tree.specs.declared.value.Value.TheVariants as values
+use Rattle.pk_base.specs.declared.value.Value.{Value}
+use Rattle.pk_base.specs.declared.value.Value.TheVariants as values
 
 -- a literal that isn't written as a string
 abbrev pub plain : Value → Option ℕ → Constant

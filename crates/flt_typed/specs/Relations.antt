@@ -8,8 +8,8 @@ use Rattle.flt_typed.specs.Contains.{contains}
 use Rattle.flt_typed.specs.Kinds.{kind_of_value, same_class}
 use Rattle.flt_typed.specs.declared.relation.Relation.{Relation}
 use Rattle.flt_typed.specs.declared.relation.Relation.TheVariants.{Equal, Unequal, Greater, Less, AtLeast, AtMost, Contains}
-use Rattle.pk_tree.specs.declared.value.Value.{Value}
-use Rattle.pk_tree.specs.declared.value.Value.TheVariants as values
+use Rattle.pk_base.specs.declared.value.Value.{Value}
+use Rattle.pk_base.specs.declared.value.Value.TheVariants as values
 
 -- the bytes of a value of their class
 abbrev pub octets_of : Value → Option (List ℕ)

@@ -6,8 +6,8 @@ use Rattle.flt_syntax.specs.declared.ast.Place.{Place}
 use Rattle.flt_syntax.specs.declared.ast.RangePart.{RangePart}
 use Rattle.flt_syntax.specs.declared.ast.RangePart.TheVariants as parts
 use Rattle.flt_typed.specs.Relations.{octets_of}
-use Rattle.pk_tree.specs.declared.value.Value.{Value}
-use Rattle.pk_tree.specs.declared.value.Value.TheVariants as values
+use Rattle.pk_base.specs.declared.value.Value.{Value}
+use Rattle.pk_base.specs.declared.value.Value.TheVariants as values
 
 -- where a place is in so many bytes: counted from the front, or from the end, where 1 is the last byte; `-0` is place 0
 abbrev pub place_in : ℕ → Place → Option ℕ

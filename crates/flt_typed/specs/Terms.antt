@@ -19,8 +19,8 @@ use Rattle.flt_typed.specs.declared.literal.Reading.TheVariants.{Reads}
 use Rattle.pk_fields.specs.Fields.{field_named, row_of}
 use Rattle.pk_fields.specs.declared.value_kind.ValueKind.{ValueKind}
 use Rattle.pk_fields.specs.declared.value_kind.ValueKind.TheVariants as kinds
-use Rattle.pk_tree.specs.declared.chosen.Layers.TheVariants.{All, These}
-use Rattle.pk_tree.specs.declared.value.Value.TheVariants as values
+use Rattle.pk_base.specs.declared.chosen.Layers.TheVariants.{All, These}
+use Rattle.pk_base.specs.declared.value.Value.TheVariants as values
 
 -- what arithmetic gives, and the kind by which its numbers are read
 abbrev pub number_kind : ValueKind

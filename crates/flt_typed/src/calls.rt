@@ -4,8 +4,7 @@ ghost use Rattle.flt_typed.specs.Calls.{masked, is_nonzero, len_of, uppered, low
 
 use crate::order::octets_of;
 use flt_syntax::Function;
-use pk_base::{NoMemory, Octets};
-use pk_tree::Value;
+use pk_base::{NoMemory, Octets, Value};
 use std::alloc::Global;
 
 /// The bits of a number that a mask has, too.

@@ -3,10 +3,9 @@ ghost use Rattle.std.specs.Prelude.{◌≡◌, ◌^◌, nat_lt, IfOk};
 ghost use Rattle.pk_text.specs.Number.{number_of};
 ghost use Rattle.flt_typed.specs.Literals.{true_words, false_words, is_one_of, number_read, number_within, truth_of, prefix_of, leading_read, value_read, bits_of, address_of, address_read, ether_value, word_read, quote_read};
 
-use pk_base::{NoMemory, Octets, are_digits};
+use pk_base::{NoMemory, Octets, Value, are_digits};
 use pk_fields::ValueKind;
 use pk_text::{Wide, read_bytes, read_ether, read_ip4, read_ip6, read_number, read_time};
-use pk_tree::Value;
 use std::alloc::{AllocError, Global};
 
 const TRUE_WORDS: [&str; 4] = ["true", "True", "TRUE", "1"];

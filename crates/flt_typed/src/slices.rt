@@ -1,12 +1,11 @@
 // The slices of bytes.
 ghost use Rattle.std.specs.Prelude.{◌≡◌, ◌^◌, ◌<◌, ◌≤◌, IfOk, IfSome};
 ghost use Rattle.std.specs.Option.{option_map};
-ghost use Rattle.pk_tree.specs.declared.value.Value.TheVariants as values;
+ghost use Rattle.pk_base.specs.declared.value.Value.TheVariants as values;
 ghost use Rattle.flt_typed.specs.Slices.{place_in, within, span_of, taken_by, sliced};
 
 use flt_syntax::{Place, RangePart};
-use pk_base::{NoMemory, Octets};
-use pk_tree::Value;
+use pk_base::{NoMemory, Octets, Value};
 use std::alloc::Global;
 
 /// Where a place is in so many bytes; none where it is before the first.

@@ -1,9 +1,9 @@
 // Filters with their types: each name as its field, each literal as a value, each pattern compiled.
 
+use pk_base::Layers;
 use crate::{Constant, Pattern, Relation};
 use flt_syntax::{Arithmetic, Choice, Function, RangePart};
 use pk_fields::FieldId;
-use pk_tree::Layers;
 
 /// What has values in a tree.
 pub enum Term {

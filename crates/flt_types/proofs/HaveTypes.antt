@@ -52,7 +52,7 @@ use Rattle.flt_typed.specs.declared.literal.Reading.TheVariants.{Reads, Beyond, 
 use Rattle.flt_typed.specs.declared.relation.Relation.{Relation}
 use Rattle.pk_fields.specs.Fields.{field_named}
 use Rattle.pk_fields.specs.declared.value_kind.ValueKind.{ValueKind}
-use Rattle.pk_tree.specs.declared.chosen.Layers.TheVariants.{All, These}
+use Rattle.pk_base.specs.declared.chosen.Layers.TheVariants.{All, These}
 
 -- what is where in memory is no matter
 heap : Global

@@ -2,14 +2,13 @@
 ghost use Rattle.std.specs.Prelude.{◌≡◌, [], ◌∷◌, map, IfOk, IfErr, OnOk, IsTrue};
 ghost use Rattle.std.specs.List.{list_all};
 ghost use Rattle.flt_syntax.specs.declared.fault.FilterReason.TheVariants.{OutOfRange};
-ghost use Rattle.pk_tree.specs.declared.chosen.Layers.TheVariants.{These};
+ghost use Rattle.pk_base.specs.declared.chosen.Layers.TheVariants.{These};
 ghost use Rattle.flt_typed.specs.Layers.{is_layer, is_layers, last_of as last_layer_of, layers_of as layers_written, one_layer};
 ghost use Rattle.flt_types.specs.Faults.{IsAnswer, layers_faults, unless};
 
 use crate::faults::{fault, require};
 use flt_syntax::{FilterError, FilterReason, Layer, LayerRange};
-use pk_base::NoMemory;
-use pk_tree::{LayerRanges, Layers};
+use pk_base::{LayerRanges, Layers, NoMemory};
 use std::alloc::Global;
 
 /// The layer of a number, which is counted from 1.
@@ -20,7 +19,7 @@ pub(crate) fn single_layer(alloc: Global, layer: Layer) -> Result<Layers, Filter
 {
     require(1 <= layer.nth, layer.at, FilterReason::OutOfRange)?;
     let mut chosen = Vec::new(alloc);
-    chosen.push(pk_tree::LayerRange {
+    chosen.push(pk_base::LayerRange {
         first: layer.nth,
         last: None,
     })?;
@@ -63,7 +62,7 @@ fn last_of(range: LayerRange) -> u32
     range.last.unwrap_or(range.first)
 }
 
-fn all_layers(alloc: Global, ranges: &[LayerRange]) -> Result<Vec<pk_tree::LayerRange>, NoMemory>
+fn all_layers(alloc: Global, ranges: &[LayerRange]) -> Result<Vec<pk_base::LayerRange>, NoMemory>
     ensures { IfOk result (λ layers. layers.items ≡ map layers_written ranges.now) }
 {
     let mut layers = Vec::with_capacity(alloc, ranges.len())?;
@@ -73,10 +72,10 @@ fn all_layers(alloc: Global, ranges: &[LayerRange]) -> Result<Vec<pk_tree::Layer
     Ok(layers)
 }
 
-fn layers_of(range: LayerRange) -> pk_tree::LayerRange
+fn layers_of(range: LayerRange) -> pk_base::LayerRange
     ensures { result ≡ layers_written range }
 {
-    pk_tree::LayerRange {
+    pk_base::LayerRange {
         first: range.first,
         last: range.last,
     }

@@ -25,10 +25,9 @@ use flt_syntax::{
     Arithmetic, FilterError, FilterReason, Function, Layer, LayerRange, Operand, SliceRange, Word,
 };
 use flt_typed::{NUMBER, Standing, Term, is_number, kind_of, read_within, read_word, takes_call};
-use pk_base::NoMemory;
+use pk_base::{Layers, NoMemory};
 use pk_fields::{FieldId, ValueKind, by_name};
 use pk_text::Wide;
-use pk_tree::Layers;
 use std::alloc::Global;
 
 /// The term that an operand is, by where it stands. Its parts are typed one after the other, so that no call nests as deep

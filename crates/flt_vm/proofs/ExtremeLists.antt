@@ -3,8 +3,8 @@ use Rattle.std.proofs.Common.{◌≡◌, ℕ, List, [], ◌∷◌, ◌++◌, Opt
 use Rattle.flt_typed.specs.Arithmetic.{extreme_number, extreme_of, nearer, nearer_of, number_in}
 use Rattle.flt_typed.specs.declared.arithmetic.Extreme.{Extreme}
 use Rattle.flt_typed.specs.declared.arithmetic.Extreme.TheVariants.{Least, Greatest}
-use Rattle.pk_tree.specs.declared.value.Value.{Value}
-use Rattle.pk_tree.specs.declared.value.Value.TheVariants.{Uint}
+use Rattle.pk_base.specs.declared.value.Value.{Value}
+use Rattle.pk_base.specs.declared.value.Value.TheVariants.{Uint}
 
 regroup_numbers : (e : Extreme) (a b c : ℕ) → nearer e a (nearer e b c) ≡ nearer e (nearer e a b) c
 regroup_numbers Least a b c = omega arith

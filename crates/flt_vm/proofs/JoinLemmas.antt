@@ -16,7 +16,7 @@ use Rattle.flt_vm.specs.declared.slots.Flag.TheVariants.{Known}
 use Rattle.flt_vm.specs.declared.slots.Slot.{Slot}
 use Rattle.pk_tree.specs.FieldValues.{values_of}
 use Rattle.pk_tree.specs.Trees.{TreeShown}
-use Rattle.pk_tree.specs.declared.chosen.Layers.{Layers}
+use Rattle.pk_base.specs.declared.chosen.Layers.{Layers}
 
 -- no step
 pub stays : (job : Job) (tree : TreeShown) (at : ℕ) (flag : Flag) (all : List Slot) → LeadsTo job (state_in tree at flag all) (state_in tree (at + 0) flag all) 0

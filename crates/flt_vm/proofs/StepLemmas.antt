@@ -29,9 +29,9 @@ use Rattle.flt_vm.specs.declared.slots.Slot.TheVariants as slots
 use Rattle.flt_typed.specs.declared.literal.Constant.{Constant}
 use Rattle.pk_tree.specs.FieldValues.{values_of}
 use Rattle.pk_tree.specs.Trees.{TreeShown}
-use Rattle.pk_tree.specs.declared.chosen.Layers.{Layers}
-use Rattle.pk_tree.specs.declared.value.Value.{Value}
-use Rattle.pk_tree.specs.declared.value.Value.TheVariants.{Uint}
+use Rattle.pk_base.specs.declared.chosen.Layers.{Layers}
+use Rattle.pk_base.specs.declared.value.Value.{Value}
+use Rattle.pk_base.specs.declared.value.Value.TheVariants.{Uint}
 
 pub does_held : (register : Option (Option Held)) (go : Held → Move) (move : Move) → ((h : Held) → register ≡ Some (Some h) → Does (go h) move) → Does (with_held register go) move
 does_held None go move d = tt

@@ -12,8 +12,8 @@ use Rattle.flt_program.specs.declared.instr.Instr.{Instr}
 use Rattle.flt_program.specs.declared.instr.Instr.TheVariants as instr
 use Rattle.flt_vm.specs.declared.run.Verdict.{Verdict}
 use Rattle.pk_tree.specs.Trees.{IsTree, TreeShown}
-use Rattle.pk_tree.specs.declared.value.Value.{Value}
-use Rattle.pk_tree.specs.declared.value.Value.TheVariants as values
+use Rattle.pk_base.specs.declared.value.Value.{Value}
+use Rattle.pk_base.specs.declared.value.Value.TheVariants as values
 
 -- a verdict of a flag and a number of steps
 abbrev answer : Truth → ℕ → Option Verdict

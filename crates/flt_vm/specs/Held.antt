@@ -11,8 +11,8 @@ use Rattle.flt_typed.specs.Kinds.{admits_prefix, is_masked, is_number, is_search
 use Rattle.flt_typed.specs.declared.literal.Constant.{Constant}
 use Rattle.flt_typed.specs.declared.relation.Relation.{Relation}
 use Rattle.pk_fields.specs.declared.value_kind.ValueKind.{ValueKind}
-use Rattle.pk_tree.specs.declared.value.Value.{Value}
-use Rattle.pk_tree.specs.declared.value.Value.TheVariants as values
+use Rattle.pk_base.specs.declared.value.Value.{Value}
+use Rattle.pk_base.specs.declared.value.Value.TheVariants as values
 
 -- values, of which a single one may have a prefix length
 pub record Held : Type 0 where

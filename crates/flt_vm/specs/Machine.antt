@@ -15,8 +15,8 @@ use Rattle.flt_program.specs.declared.instr.Instr.{Instr}
 use Rattle.flt_program.specs.declared.instr.Instr.TheVariants as instr
 use Rattle.pk_tree.specs.FieldValues.{values_of}
 use Rattle.pk_tree.specs.Trees.{TreeShown}
-use Rattle.pk_tree.specs.declared.value.Value.{Value}
-use Rattle.pk_tree.specs.declared.value.Value.TheVariants as values
+use Rattle.pk_base.specs.declared.value.Value.{Value}
+use Rattle.pk_base.specs.declared.value.Value.TheVariants as values
 
 pub record State : Type 0 where
   pub at : ℕ

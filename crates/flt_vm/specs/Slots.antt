@@ -13,7 +13,7 @@ use Rattle.flt_vm.specs.declared.slots.Slot.{Slot}
 use Rattle.flt_vm.specs.declared.slots.Slot.TheVariants as slots
 use Rattle.pk_tree.specs.FieldValues.{values_of}
 use Rattle.pk_tree.specs.Trees.{TreeShown}
-use Rattle.pk_tree.specs.declared.value.Value.{Value}
+use Rattle.pk_base.specs.declared.value.Value.{Value}
 
 abbrev pub held_in : TreeShown → Slot → Option Held
 held_in tree slots.Unset = None

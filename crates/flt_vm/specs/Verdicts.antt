@@ -9,7 +9,7 @@ use Rattle.flt_vm.specs.declared.run.Verdict.{Verdict}
 use Rattle.pk_fields.specs.FieldSets.{is_in}
 use Rattle.pk_tree.specs.FieldValues.{values_of}
 use Rattle.pk_tree.specs.Trees.{TreeShown}
-use Rattle.pk_tree.specs.declared.chosen.Layers.{Layers}
+use Rattle.pk_base.specs.declared.chosen.Layers.{Layers}
 
 -- with one step more
 abbrev pub a_step_more : Verdict → Verdict

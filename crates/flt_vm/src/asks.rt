@@ -9,8 +9,8 @@ use crate::slots::{Slot, listed_in};
 use flt_lists::{Question, asks_field, compares, matched, passes};
 use flt_syntax::Choice;
 use flt_typed::{Constant, Relation, Search};
-use pk_base::NoMemory;
-use pk_tree::{Tree, Value};
+use pk_base::{NoMemory, Value};
+use pk_tree::Tree;
 use std::alloc::Global;
 
 /// Whether any or all of a slot's values answer a question. A field is asked where its values stand.

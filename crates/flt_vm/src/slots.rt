@@ -7,9 +7,9 @@ ghost use Rattle.pk_tree.specs.Trees.{TreeShown};
 
 use flt_lists::{is_there, only};
 use flt_typed::Constant;
-use pk_base::NoMemory;
+use pk_base::{Layers, NoMemory, Value};
 use pk_fields::FieldId;
-use pk_tree::{Layers, Tree, Value};
+use pk_tree::Tree;
 use std::alloc::Global;
 
 /// What a register holds: values, or where they are.

@@ -11,7 +11,7 @@ ghost use Rattle.flt_vm.specs.Held.{Held};
 ghost use Rattle.flt_lists.specs.Passes.{is_some_value};
 ghost use Rattle.pk_tree.specs.FieldValues.{values_of};
 ghost use Rattle.pk_tree.specs.Trees.{TreeShown};
-ghost use Rattle.pk_tree.specs.declared.value.Value.TheVariants.{Uint};
+ghost use Rattle.pk_base.specs.declared.value.Value.TheVariants.{Uint};
 ghost use Rattle.flt_vm.specs.Machine.{Goes, Job, act, differs as differ, reads};
 ghost use Rattle.flt_program.specs.Programs.{Fits};
 ghost use Rattle.flt_vm.specs.Slots.{Does, HasRegisters, IsGiven, IsSet, acts, flag_in, held_in, is_return, is_unset, place_behind, state_in, truth_in};
@@ -27,9 +27,9 @@ use flt_lists::{
 };
 use flt_syntax::{Arithmetic, Choice, Function, RangePart};
 use flt_typed::{Extreme, Search, extreme_of};
-use pk_base::NoMemory;
+use pk_base::{Layers, NoMemory, Value};
 use pk_fields::FieldId;
-use pk_tree::{Layers, Tree, Value};
+use pk_tree::Tree;
 use std::alloc::Global;
 
 /// Whether an instruction is RETURN.

@@ -6,9 +6,9 @@ use Rattle.std.specs.Cmp.{unsigned_tied}
 use Rattle.std.specs.declared.cmp.Ordering.{Ordering}
 use Rattle.std.specs.declared.cmp.Ordering.TheVariants.{Less, Equal, Greater}
 use Rattle.std.proofs.lemmas.Bool.{false≢true, and_parts, eqb-true}
-use Rattle.pk_tree.specs.declared.heads.Address.{Address}
-use Rattle.pk_tree.specs.declared.heads.Address.TheVariants.{Four, Six}
-use Rattle.pk_tree.specs.declared.heads.FragmentHead.{FragmentHead}
+use Rattle.pk_base.specs.declared.heads.Address.{Address}
+use Rattle.pk_base.specs.declared.heads.Address.TheVariants.{Four, Six}
+use Rattle.pk_base.specs.declared.heads.FragmentHead.{FragmentHead}
 use Rattle.ip_join.specs.declared.key.Key.{Key}
 use Rattle.ip_join.specs.Keys.{same_address, same_key}
 use Rattle.ip_join.specs.KeyOrder.{number_of, is_six, key_of, key_cmp}

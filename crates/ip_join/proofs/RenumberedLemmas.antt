@@ -5,7 +5,7 @@ use Rattle.std.specs.List.{list_any}
 use Rattle.std.specs.FinMap.{get, empty}
 use Rattle.std.proofs.lemmas.Bool.{cases_Bool}
 use Rattle.std.proofs.lemmas.List.{map-append}
-use Rattle.pk_tree.specs.declared.heads.FragmentHead.{FragmentHead}
+use Rattle.pk_base.specs.declared.heads.FragmentHead.{FragmentHead}
 use Rattle.range_bytes.specs.Held.{Cell, Held, put_run, run_cell, byte_of, bytes_at}
 use Rattle.range_bytes.proofs.Runs.{get-put_run}
 use Rattle.ip_join.specs.declared.joined.ConflictKind.{ConflictKind}

@@ -1,7 +1,7 @@
 -- What a fragment makes of the fragments of its datagram that were taken before it.
 use Rattle.std.specs.Prelude.{◌==◌, ◌&&◌, ◌||◌, not, ◌≤◌, ℕ, Bool, false, List, length, [], ◌∷◌, ◌++◌, map, if◌then◌else◌, Option, None, Some, nat_lt, find, unwrap_or, option_map}
 use Rattle.std.specs.List.{list_any}
-use Rattle.pk_tree.specs.declared.heads.FragmentHead.{FragmentHead}
+use Rattle.pk_base.specs.declared.heads.FragmentHead.{FragmentHead}
 use Rattle.range_bytes.specs.Held.{bytes_at}
 use Rattle.ip_join.specs.declared.joined.ConflictKind.TheVariants.{TooLong, MultipleTails, Overlap6}
 use Rattle.ip_join.specs.declared.joined.ConflictKind.{ConflictKind}

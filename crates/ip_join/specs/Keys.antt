@@ -2,9 +2,9 @@
 -- (RFC 791, 3.2), and IPv6 fragments with the same source, destination and identification (RFC 8200, 4.5).
 use Rattle.std.specs.Prelude.{◌==◌, ◌&&◌, ◌||◌, Bool, false}
 use Rattle.std.specs.Bool.{beq}
-use Rattle.pk_tree.specs.declared.heads.Address.{Address}
-use Rattle.pk_tree.specs.declared.heads.Address.TheVariants.{Four, Six}
-use Rattle.pk_tree.specs.declared.heads.FragmentHead.{FragmentHead}
+use Rattle.pk_base.specs.declared.heads.Address.{Address}
+use Rattle.pk_base.specs.declared.heads.Address.TheVariants.{Four, Six}
+use Rattle.pk_base.specs.declared.heads.FragmentHead.{FragmentHead}
 
 abbrev pub same_address : Address → Address → Bool
 same_address (Four a) (Four b) = a == b

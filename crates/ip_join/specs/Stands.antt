@@ -1,7 +1,7 @@
 -- The fragments taken, the newest first, and the joins that stand for them.
 use Rattle.std.specs.Prelude.{◌≡◌, List, [], ◌∷◌, ◌++◌, if◌then◌else◌, filter, unwrap_or}
 use Rattle.std.specs.BTreeMap as tree
-use Rattle.pk_tree.specs.declared.heads.FragmentHead.{FragmentHead}
+use Rattle.pk_base.specs.declared.heads.FragmentHead.{FragmentHead}
 use Rattle.ip_join.specs.declared.joined.Joined.{Joined}
 use Rattle.ip_join.specs.declared.joined.Joined.TheVariants.{Pending, Whole, Conflict}
 use Rattle.ip_join.specs.declared.joins.Joins.{Joins}

@@ -2,8 +2,7 @@ ghost use Rattle.std.specs.Prelude.{◌≡◌, ◌+◌};
 ghost use Rattle.ip_join.specs.Fragments.{end_of};
 ghost use Rattle.ip_join.specs.Kept.{has_bytes};
 
-use pk_base::Octets;
-use pk_tree::FragmentHead;
+use pk_base::{FragmentHead, Octets};
 
 /// A fragment that was taken: what its headers say, its frame's number, and its bytes.
 #[derive(Drop)]

@@ -13,8 +13,7 @@ use crate::joined::Joined;
 use crate::kept::Kept;
 use crate::key::{Key, key_of};
 use crate::parts::Parts;
-use pk_base::{NoMemory, Octets};
-use pk_tree::FragmentHead;
+use pk_base::{FragmentHead, NoMemory, Octets};
 use std::alloc::Global;
 use std::collections::BTreeMap;
 

@@ -3,8 +3,7 @@ ghost use Rattle.ip_join.specs.Forms.{fragment_of};
 
 use crate::fragment::Fragment;
 use crate::parts::Parts;
-use pk_base::{NoMemory, Octets};
-use pk_tree::FragmentHead;
+use pk_base::{FragmentHead, NoMemory, Octets};
 use std::alloc::Global;
 use std::marker::Model;
 

@@ -10,8 +10,7 @@ ghost use Rattle.ip_join.specs.Kept.{AreFirst, has_bytes, last_end, first_copy};
 
 use crate::fragment::Fragment;
 use crate::joined::{ConflictKind, Datagram};
-use pk_base::{DATAGRAM_LIMIT, NoMemory, Numbers, Octets};
-use pk_tree::FragmentHead;
+use pk_base::{DATAGRAM_LIMIT, FragmentHead, NoMemory, Numbers, Octets};
 use range_bytes::Ranges;
 use std::alloc::Global;
 use std::collections::BTreeMap;

@@ -1,6 +1,5 @@
 //! What follows a header, as a line: `then tcp 20+10`, and what the header says of it.
-use pk_base::Span;
-use pk_tree::{Address, After, FragmentHead, Next, PacketHead, PortsHead, TcpHead, Value};
+use pk_base::{Address, After, FragmentHead, Next, PacketHead, PortsHead, Span, TcpHead, Value};
 use std::alloc::{AllocError, Global};
 use tree_rows::value_text;
 

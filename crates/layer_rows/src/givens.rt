@@ -7,9 +7,8 @@
 //!
 //! The bytes are hexadecimal, with `*` and a number where they repeat, and texts between `'`. Spaces mean nothing.
 use hex::decode;
-use pk_base::NoMemory;
+use pk_base::{Mode, NoMemory};
 use pk_fields::{FieldSet, by_name};
-use pk_tree::Mode;
 use std::alloc::{AllocError, Global};
 
 /// How bytes are read.

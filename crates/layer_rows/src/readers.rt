@@ -14,8 +14,8 @@ use dis_ip::{read_extension, read_ip4, read_ip6};
 use dis_link::{read_arp, read_link, read_vlan};
 use dis_ports::{read_tcp, read_udp};
 use http_frame::{Framed, Shape, next_message};
-use pk_base::{NoMemory, Octets, Span};
-use pk_tree::{Address, After, Mode, Next, PacketHead, Tree, TreeBuilder};
+use pk_base::{Address, After, Mode, Next, NoMemory, Octets, PacketHead, Span};
+use pk_tree::{Tree, TreeBuilder};
 use std::alloc::Global;
 use tree_rows::{Places, layers_text};
 

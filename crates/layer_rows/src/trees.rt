@@ -12,12 +12,9 @@ ghost use Rattle.pk_tree.specs.Trees.{proto_at};
 
 use crate::afters::push_value;
 use crate::givens::{given_of, number};
-use pk_base::{NoMemory, Octets, Span};
+use pk_base::{LayerRange, LayerRanges, Layers, Mode, NoMemory, Octets, Span, Value};
 use pk_fields::{FieldId, FieldSet, by_name, ids};
-use pk_tree::{
-    Items, Layer, LayerList, LayerRange, LayerRanges, Layers, Mode, Reach, Slot, Step, Tree,
-    TreeBuilder, Value, pass_layer, peek, read_layer, read_table,
-};
+use pk_tree::{Items, Layer, LayerList, Reach, Slot, Step, Tree, TreeBuilder, pass_layer, peek, read_layer, read_table};
 use std::alloc::{AllocError, Global};
 use tree_rows::{Places, layers_text};
 

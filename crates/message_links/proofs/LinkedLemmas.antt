@@ -6,7 +6,7 @@ use Rattle.pk_fields.specs.Ids.{DNS, DNS_RESPONSE_TO, HTTP, HTTP_REQUEST_IN}
 use Rattle.pk_fields.proofs.FieldSetLemmas.{in_every}
 use Rattle.pk_tree.specs.declared.item.Item.{Item}
 use Rattle.pk_tree.specs.declared.layer.Layer.{Layer}
-use Rattle.pk_tree.specs.declared.value.Value.TheVariants.{Uint}
+use Rattle.pk_base.specs.declared.value.Value.TheVariants.{Uint}
 use Rattle.pk_tree.specs.Trees.{TreeShown, IsKept, kept, kept_layer, layer_gets, made_of, proto_at}
 use Rattle.pk_tree.proofs.KeptLemmas.{kept-push}
 use Rattle.message_links.specs.declared.linking.Link.{Link}

@@ -3,8 +3,7 @@ ghost use Rattle.message_links.specs.declared.conversations.End.{End as EndValue
 ghost use Rattle.message_links.specs.Conversations.{end_of, comes_first, ends_between, udp_ends, with_ends, number_in};
 
 use indexmap::IndexSet;
-use pk_base::NoMemory;
-use pk_tree::{Address, PacketHead, PortsHead};
+use pk_base::{Address, NoMemory, PacketHead, PortsHead};
 use std::alloc::Global;
 use std::marker::Model;
 

@@ -1,12 +1,12 @@
 ghost use Rattle.std.specs.Prelude.{◌≡◌, ◌<◌, ◌^◌, IfSome, OnOk, length};
 ghost use Rattle.pk_fields.specs.Fields.{row_of};
-ghost use Rattle.pk_tree.specs.declared.value.Value.TheVariants.{Uint};
+ghost use Rattle.pk_base.specs.declared.value.Value.TheVariants.{Uint};
 ghost use Rattle.pk_tree.specs.Values.{IsOfKind};
 ghost use Rattle.message_links.specs.Linked.{layer_link, layer_linked, link_at, linked, linked_at, wanted_link};
 
-use pk_base::NoMemory;
+use pk_base::{NoMemory, Value};
 use pk_fields::{FieldId, FieldSet, ids};
-use pk_tree::{Layer, Tree, Value};
+use pk_tree::{Layer, Tree};
 
 /// A field that links a message to an earlier frame.
 #[derive(Clone, Copy)]

@@ -13,8 +13,8 @@ use Rattle.pk_text.specs.Ether.{ether_shown}
 use Rattle.pk_text.specs.Ip4.{ip4_shown}
 use Rattle.pk_text.specs.Ip6.{ip6_shown, groups_of, groups_shown, groups_written, best_run_from}
 use Rattle.pk_text.specs.Time.{time_shown, whole_seconds, nanoseconds_over}
-use Rattle.pk_tree.specs.declared.value.Value.{Value}
-use Rattle.pk_tree.specs.declared.value.Value.TheVariants as values
+use Rattle.pk_base.specs.declared.value.Value.{Value}
+use Rattle.pk_base.specs.declared.value.Value.TheVariants as values
 use Rattle.out_lines.specs.ValueText.{shown_value}
 use Rattle.out_json.specs.Lines.{is_bare}
 use Rattle.out_json.proofs.Bare.{IsBare, bare_more, bare_append, bare_digits, bare_zeros, bare_join, bare_pair, bare_hex, bare_name}

@@ -6,7 +6,7 @@ use Rattle.pk_base.specs.declared.span.Span.{Span}
 use Rattle.pk_fields.specs.Fields.{row_of}
 use Rattle.pk_tree.specs.declared.item.Item.{Item}
 use Rattle.pk_tree.specs.declared.layer.Layer.{Layer}
-use Rattle.pk_tree.specs.declared.value.Value.{Value}
+use Rattle.pk_base.specs.declared.value.Value.{Value}
 use Rattle.pk_tree.specs.Trees.{TreeShown}
 use Rattle.pk_text.specs.Digits.{hex_shown}
 use Rattle.out_lines.specs.ValueText.{shown_value}

@@ -3,8 +3,8 @@
 use Rattle.std.specs.Prelude.{ℕ, Bool as Truth, true, false, List, [], ◌∷◌, ◌++◌, codes, map}
 use Rattle.pk_base.specs.declared.span.Span.{Span}
 use Rattle.pk_fields.specs.Fields.{row_of}
-use Rattle.pk_tree.specs.declared.value.Value.{Value}
-use Rattle.pk_tree.specs.declared.value.Value.TheVariants as values
+use Rattle.pk_base.specs.declared.value.Value.{Value}
+use Rattle.pk_base.specs.declared.value.Value.TheVariants as values
 use Rattle.pk_tree.specs.declared.item.Place.{Place}
 use Rattle.pk_tree.specs.declared.item.Place.TheVariants as places
 use Rattle.pk_tree.specs.declared.item.Item.{Item}

@@ -10,10 +10,10 @@ ghost use Rattle.serde_json.specs.Written.{compact_text, items_text};
 
 use crate::strings::{put_hex_string, put_name, put_string};
 use out_lines::{put_number, put_text, put_value};
-use pk_base::{NoMemory, Span};
+use pk_base::{NoMemory, Span, Value};
 use pk_buffer::Buffers;
 use pk_fields::FieldId;
-use pk_tree::{Item, Layer, Place, Tree, Value};
+use pk_tree::{Item, Layer, Place, Tree};
 use std::alloc::Global;
 
 /// How many bytes a line has room for from the start.

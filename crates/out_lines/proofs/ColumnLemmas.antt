@@ -2,9 +2,9 @@
 use Rattle.std.proofs.Common.{◌≡◌, ℕ, suc, ◌-◌, true, false, List, [], ◌∷◌, ◌++◌, length, drop, refl, ap, ◌∙◌, arith, append-nil}
 use Rattle.std.specs.List.{flat_map, fold}
 use Rattle.pk_fields.specs.Fields.{row_of}
-use Rattle.pk_tree.specs.declared.value.Value.{Value}
+use Rattle.pk_base.specs.declared.value.Value.{Value}
 use Rattle.pk_tree.specs.declared.layer.Layer.{Layer}
-use Rattle.pk_tree.specs.declared.chosen.Layers.TheVariants.{All as AllLayers}
+use Rattle.pk_base.specs.declared.chosen.Layers.TheVariants.{All as AllLayers}
 use Rattle.pk_tree.specs.FieldValues.{item_values, layer_values, values_of}
 use Rattle.pk_tree.specs.Trees.{TreeShown}
 use Rattle.pk_tree.specs.Values.{is_proto}

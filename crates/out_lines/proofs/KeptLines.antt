@@ -2,9 +2,9 @@
 use Rattle.std.proofs.Common.{◌≡◌, ℕ, true, List, [], ◌∷◌, ◌++◌, refl, ap, ◌∙◌}
 use Rattle.std.specs.List.{AllByRecursion as Each, flat_map}
 use Rattle.pk_fields.specs.FieldSets.{is_in}
-use Rattle.pk_tree.specs.declared.chosen.Layers.{Layers}
-use Rattle.pk_tree.specs.declared.chosen.Layers.TheVariants.{All as AllLayers}
-use Rattle.pk_tree.specs.declared.value.Value.{Value}
+use Rattle.pk_base.specs.declared.chosen.Layers.{Layers}
+use Rattle.pk_base.specs.declared.chosen.Layers.TheVariants.{All as AllLayers}
+use Rattle.pk_base.specs.declared.value.Value.{Value}
 use Rattle.pk_tree.specs.FieldValues.{values_of}
 use Rattle.pk_tree.specs.Trees.{TreeShown, kept_tree}
 use Rattle.pk_tree.proofs.KeptValues.{values_same}

@@ -12,8 +12,8 @@ use Rattle.pk_buffer.specs.Buffers.{bytes_of}
 use Rattle.pk_fields.specs.Fields.{row_of}
 use Rattle.pk_tree.specs.declared.item.Item.{Item}
 use Rattle.pk_tree.specs.declared.layer.Layer.{Layer}
-use Rattle.pk_tree.specs.declared.value.Value.{Value}
-use Rattle.pk_tree.specs.declared.value.Value.TheVariants.{Proto}
+use Rattle.pk_base.specs.declared.value.Value.{Value}
+use Rattle.pk_base.specs.declared.value.Value.TheVariants.{Proto}
 use Rattle.pk_tree.specs.FieldValues.{item_values, layer_values, proto_values}
 use Rattle.pk_tree.specs.Trees.{TreeShown}
 use Rattle.pk_tree.specs.Values.{is_proto}

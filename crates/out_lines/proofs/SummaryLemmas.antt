@@ -2,7 +2,7 @@
 use Rattle.std.proofs.Common.{◌≡◌, ◌<◌, ◌+◌, ℕ, suc, List, [], ◌∷◌, ◌++◌, length, drop, get_or, add-one, drop-cons, Some, None, refl}
 use Rattle.std.specs.List.{flat_map}
 use Rattle.pk_tree.specs.declared.layer.Layer.{Layer}
-use Rattle.pk_tree.specs.declared.value.Value.{Value}
+use Rattle.pk_base.specs.declared.value.Value.{Value}
 use Rattle.out_lines.specs.Summary.{first_value}
 
 first_front : (front back : List Value) (value : Value) → Some value ≡ first_value front → Some value ≡ first_value (front ++ back)

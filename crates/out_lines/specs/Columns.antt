@@ -1,7 +1,7 @@
 -- How a column grows, value by value.
 use Rattle.std.specs.Prelude.{ℕ, Bool, true, false, not, List, [], ◌∷◌, ◌++◌, if◌then◌else◌, Option, Some, None}
 use Rattle.std.specs.List.{fold, slice_index_or}
-use Rattle.pk_tree.specs.declared.value.Value.{Value}
+use Rattle.pk_base.specs.declared.value.Value.{Value}
 use Rattle.out_lines.specs.declared.style.Occurrence.{Occurrence}
 use Rattle.out_lines.specs.declared.style.Occurrence.TheVariants.{First, Last, All}
 use Rattle.out_lines.specs.declared.style.Style.{Style}

@@ -2,8 +2,8 @@
 use Rattle.std.specs.Prelude.{ℕ, ◌==◌, ◌-◌, false, List, [], ◌∷◌, ◌++◌, length, take, drop, if◌then◌else◌}
 use Rattle.std.specs.List.{flat_map, join_by}
 use Rattle.pk_fields.specs.Fields.{row_of}
-use Rattle.pk_tree.specs.declared.value.Value.{Value}
-use Rattle.pk_tree.specs.declared.chosen.Layers.TheVariants.{All as AllLayers}
+use Rattle.pk_base.specs.declared.value.Value.{Value}
+use Rattle.pk_base.specs.declared.chosen.Layers.TheVariants.{All as AllLayers}
 use Rattle.pk_tree.specs.FieldValues.{values_of}
 use Rattle.pk_tree.specs.Trees.{TreeShown}
 use Rattle.out_lines.specs.declared.style.Occurrence.{Occurrence}

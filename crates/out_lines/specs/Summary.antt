@@ -4,9 +4,9 @@ use Rattle.std.specs.List.{find, slice_get}
 use Rattle.std.specs.Option.{option_map, option_or, unwrap_or}
 use Rattle.pk_fields.specs.Fields.{row_of}
 use Rattle.pk_fields.specs.Ids.{FRAME_NUMBER, FRAME_TIME_RELATIVE, FRAME_LEN, ETH_SRC, ETH_DST, IP, IP_SRC, IP_DST, IPV6, IPV6_SRC, IPV6_DST, DATA, WS_SHORT, WS_MALFORMED}
-use Rattle.pk_tree.specs.declared.value.Value.{Value}
+use Rattle.pk_base.specs.declared.value.Value.{Value}
 use Rattle.pk_tree.specs.declared.layer.Layer.{Layer}
-use Rattle.pk_tree.specs.declared.chosen.Layers.TheVariants.{All as AllLayers}
+use Rattle.pk_base.specs.declared.chosen.Layers.TheVariants.{All as AllLayers}
 use Rattle.pk_tree.specs.FieldValues.{values_of, item_values}
 use Rattle.pk_tree.specs.Trees.{TreeShown}
 use Rattle.out_lines.specs.ValueText.{shown_value}

@@ -7,8 +7,8 @@ use Rattle.pk_text.specs.Ether.{ether_shown}
 use Rattle.pk_text.specs.Ip4.{ip4_shown}
 use Rattle.pk_text.specs.Ip6.{ip6_shown}
 use Rattle.pk_text.specs.Time.{time_shown}
-use Rattle.pk_tree.specs.declared.value.Value.{Value}
-use Rattle.pk_tree.specs.declared.value.Value.TheVariants as values
+use Rattle.pk_base.specs.declared.value.Value.{Value}
+use Rattle.pk_base.specs.declared.value.Value.TheVariants as values
 
 -- the text of a field's value; that of a protocol's is the protocol's name
 unfoldable pub shown_value : ℕ → Value → List ℕ

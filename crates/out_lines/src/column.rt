@@ -4,9 +4,8 @@ ghost use Rattle.out_lines.specs.Columns.{is_wanted, front_of, with_text, with_v
 
 use crate::style::{Occurrence, Style};
 use crate::value_text::put_value;
-use pk_base::NoMemory;
+use pk_base::{NoMemory, Value};
 use pk_fields::FieldId;
-use pk_tree::Value;
 use std::alloc::Global;
 use std::marker::Model;
 

@@ -11,9 +11,9 @@ ghost use Rattle.out_lines.specs.Summary.{first_value, first_in_tree, is_ip as i
 
 use crate::lines::LINE_ROOM;
 use crate::value_text::{put_text, put_value};
-use pk_base::NoMemory;
+use pk_base::{NoMemory, Value};
 use pk_fields::{FieldId, ids, name};
-use pk_tree::{Item, Layer, Tree, Value};
+use pk_tree::{Item, Layer, Tree};
 use std::alloc::Global;
 
 /// What stands for a value that the frame doesn't have.

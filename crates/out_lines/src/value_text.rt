@@ -4,10 +4,9 @@ ghost use Rattle.pk_text.specs.Digits.{hex_shown};
 ghost use Rattle.pk_text.specs.Ip6.{ip6_shown};
 ghost use Rattle.out_lines.specs.ValueText.{shown_value};
 
-use pk_base::NoMemory;
+use pk_base::{NoMemory, Value};
 use pk_fields::{FieldId, name};
 use pk_text::{ip6_text, put_escaped, put_ether, put_ip4, put_time};
-use pk_tree::Value;
 use std::alloc::Global;
 
 /// Appends the text of a field's value.

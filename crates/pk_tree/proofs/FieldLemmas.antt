@@ -6,11 +6,11 @@ use Rattle.pk_buffer.specs.Buffers.{bytes_of}
 use Rattle.pk_fields.specs.declared.value_kind.ValueKind.{ValueKind}
 use Rattle.pk_fields.specs.declared.value_kind.ValueKind.TheVariants as kinds
 use Rattle.pk_fields.specs.Fields.{row_of}
-use Rattle.pk_tree.specs.declared.value.Value.TheVariants.{Proto}
+use Rattle.pk_base.specs.declared.value.Value.TheVariants.{Proto}
 use Rattle.pk_tree.specs.declared.item.Item.{Item}
 use Rattle.pk_tree.specs.declared.layer.Layer.{Layer}
-use Rattle.pk_tree.specs.declared.chosen.Layers.{Layers}
-use Rattle.pk_tree.specs.Chosen.{is_chosen}
+use Rattle.pk_base.specs.declared.chosen.Layers.{Layers}
+use Rattle.pk_base.specs.Chosen.{is_chosen}
 use Rattle.pk_tree.specs.FieldValues.{item_values, proto_values, layer_values, chosen_values}
 use Rattle.pk_tree.specs.Trees.{ItemFits, LayersFit}
 use Rattle.pk_tree.specs.Values.{IsOfKind, is_proto}

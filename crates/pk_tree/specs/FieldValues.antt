@@ -3,12 +3,12 @@ use Rattle.std.specs.Prelude.{◌==◌, ℕ, List, [], ◌∷◌, if◌then◌el
 use Rattle.std.specs.List.{flat_map}
 use Rattle.pk_buffer.specs.Buffers.{bytes_of}
 use Rattle.pk_fields.specs.Fields.{row_of}
-use Rattle.pk_tree.specs.declared.value.Value.{Value}
-use Rattle.pk_tree.specs.declared.value.Value.TheVariants as values
+use Rattle.pk_base.specs.declared.value.Value.{Value}
+use Rattle.pk_base.specs.declared.value.Value.TheVariants as values
 use Rattle.pk_tree.specs.declared.item.Item.{Item}
 use Rattle.pk_tree.specs.declared.layer.Layer.{Layer}
-use Rattle.pk_tree.specs.declared.chosen.Layers.{Layers}
-use Rattle.pk_tree.specs.Chosen.{is_chosen}
+use Rattle.pk_base.specs.declared.chosen.Layers.{Layers}
+use Rattle.pk_base.specs.Chosen.{is_chosen}
 use Rattle.pk_tree.specs.Trees.{TreeShown}
 use Rattle.pk_tree.specs.Values.{is_proto}
 

@@ -1,4 +1,3 @@
-pub mod Chosen
 pub mod Entries
 pub mod FieldValues
 pub mod Following

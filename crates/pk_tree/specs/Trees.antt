@@ -5,7 +5,7 @@ use Rattle.pk_base.specs.declared.span.Span.{Span}
 use Rattle.pk_buffer.specs.Buffers.{IsInside, bytes_of}
 use Rattle.pk_fields.specs.Fields.{row_of}
 use Rattle.pk_fields.specs.FieldSets.{is_in, every_field}
-use Rattle.pk_tree.specs.declared.value.Value.{Value}
+use Rattle.pk_base.specs.declared.value.Value.{Value}
 use Rattle.pk_tree.specs.declared.item.Place.{Place}
 use Rattle.pk_tree.specs.declared.item.Place.TheVariants as places
 use Rattle.pk_tree.specs.declared.item.Item.{Item}

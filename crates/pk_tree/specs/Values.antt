@@ -7,8 +7,8 @@ use Rattle.pk_fields.specs.declared.value_kind.ValueKind.TheVariants as kinds
 use Rattle.pk_fields.specs.declared.value_kind.BitPlace.{BitPlace}
 use Rattle.pk_fields.specs.Rows.{FieldRow, is_marked, size_of_place, size_of_row}
 use Rattle.pk_fields.specs.Fields.{row_of}
-use Rattle.pk_tree.specs.declared.value.Value.{Value}
-use Rattle.pk_tree.specs.declared.value.Value.TheVariants as values
+use Rattle.pk_base.specs.declared.value.Value.{Value}
+use Rattle.pk_base.specs.declared.value.Value.TheVariants as values
 
 -- a value of a kind; a number is below two to its width
 abbrev pub IsOfKind : ValueKind → Value → Type 0

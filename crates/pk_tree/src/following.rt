@@ -2,8 +2,7 @@ ghost use Rattle.std.specs.Prelude.{◌≡◌, ℕ, ◌+◌, ◌^◌, ◌<◌, �
 ghost use Rattle.pk_buffer.specs.Buffers.{IsInside};
 ghost use Rattle.pk_tree.specs.Following.{behind, carried, first_of, LeadsInside};
 
-use crate::heads::{After, Next};
-use pk_base::Span;
+use pk_base::{After, Next, Span};
 
 /// The bytes behind a header of so many bytes, as a protocol's, or the end where there are none.
 pub fn carried(next: Next, span: Span, header: u32) -> After

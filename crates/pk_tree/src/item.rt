@@ -1,7 +1,6 @@
 ghost use Rattle.std.specs.Prelude.{◌≡◌, [], ◌∷◌, ◌++◌, IfOk, OnOk, OnErr};
 
-use crate::value::Value;
-use pk_base::{NoMemory, Span};
+use pk_base::{NoMemory, Span, Value};
 use pk_fields::FieldId;
 use std::alloc::Global;
 use std::marker::Model;

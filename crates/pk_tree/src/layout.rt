@@ -6,10 +6,8 @@ ghost use Rattle.pk_tree.specs.Trees.{last_proto, with_item, read_of, derived_of
 ghost use Rattle.pk_tree.specs.Values.{IsProtocol, IsOfKind, HasSize, is_read, size_of};
 
 use crate::builder::TreeBuilder;
-use crate::heads::Mode;
 use crate::item::Place;
-use crate::value::Value;
-use pk_base::{NoMemory, Span, be_bits};
+use pk_base::{Mode, NoMemory, Span, Value, be_bits};
 use pk_fields::{FieldId, ids};
 
 /// One step of a layer's reading. Places are counted from the layer's first byte.

@@ -5,8 +5,7 @@ ghost use Rattle.pk_fields.specs.Fields.{row_of};
 ghost use Rattle.pk_fields.specs.Rows.{IsSound, size_of_place};
 ghost use Rattle.pk_tree.specs.Values.{IsOfKind, is_read, is_whole, HasSize, value_of, value_with, scaled};
 
-use crate::value::Value;
-use pk_base::{NoMemory, Span, be_bits};
+use pk_base::{NoMemory, Span, Value, be_bits};
 use pk_buffer::Buffers;
 use pk_fields::{BitPlace, FieldId, ValueKind, bits, kind};
 

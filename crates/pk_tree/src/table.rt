@@ -10,9 +10,8 @@ ghost use Rattle.pk_tree.specs.Trees.{last_proto};
 ghost use Rattle.pk_tree.specs.Values.{IsProtocol};
 
 use crate::builder::TreeBuilder;
-use crate::heads::Mode;
 use crate::layout::{Reach, Step, all_or, close_layer, read_part, read_some, read_steps};
-use pk_base::{NoMemory, Span};
+use pk_base::{Mode, NoMemory, Span};
 use pk_fields::{FieldId, field_of, size};
 
 /// One step of a layer's reading that stands in a table: a field's number, and places from the layer's first byte.

@@ -7,11 +7,9 @@ ghost use Rattle.pk_tree.specs.FieldValues.{values_of, layer_values, chosen_valu
 ghost use Rattle.pk_tree.specs.Trees.{IsTree, LayerFits, proto_at, with_item_at, made_of};
 ghost use Rattle.pk_tree.specs.Values.{IsOfKind, is_proto};
 
-use crate::chosen::Layers;
 use crate::item::{Item, Place};
 use crate::layer::{Layer, push_at};
-use crate::value::Value;
-use pk_base::NoMemory;
+use pk_base::{Layers, NoMemory, Value};
 use pk_buffer::Buffers;
 use pk_fields::{FieldId, FieldSet, ValueKind, kind, proto};
 use std::alloc::Global;

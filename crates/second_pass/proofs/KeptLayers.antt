@@ -4,7 +4,7 @@ use Rattle.std.proofs.lemmas.Bool.{eqb-true}
 use Rattle.pk_fields.specs.FieldSets.{is_in}
 use Rattle.pk_tree.specs.declared.item.Item.{Item}
 use Rattle.pk_tree.specs.declared.layer.Layer.{Layer}
-use Rattle.pk_tree.specs.declared.value.Value.{Value}
+use Rattle.pk_base.specs.declared.value.Value.{Value}
 use Rattle.pk_tree.specs.FieldValues.{item_values}
 use Rattle.pk_tree.specs.Trees.{kept, kept_layer}
 use Rattle.second_pass.specs.Named.{number_of, truth_of, address4_of, address6_of, first_value, number_in, truth_in, address4_in, address6_in}

@@ -8,7 +8,7 @@ use Rattle.pk_fields.specs.FieldSets.{is_in}
 use Rattle.pk_fields.specs.Ids.{IP, IP_FRAGMENT, IP_REASSEMBLED_IN, IPV6_FRAGHDR, IPV6_FRAGMENT, IPV6_REASSEMBLED_IN, TCP, TCP_SEGMENT, TCP_REASSEMBLED_IN, DNS, DNS_ID, DNS_FLAGS_RESPONSE, DNS_RESPONSE_TO, DNS_RESPONSE_IN, HTTP, HTTP_RESPONSE_IN}
 use Rattle.pk_tree.specs.declared.item.Item.{Item}
 use Rattle.pk_tree.specs.declared.layer.Layer.{Layer}
-use Rattle.pk_tree.specs.declared.value.Value.TheVariants as values
+use Rattle.pk_base.specs.declared.value.Value.TheVariants as values
 use Rattle.pk_tree.specs.Trees.{kept, kept_layer, kept_tree, made_of}
 use Rattle.second_pass.specs.Forward.{link_in, answer_to, is_asking, is_part, request_link, link_of, with_link, linked, forwarded_to}
 use Rattle.second_pass.specs.Laws.{KeptLinks, kept_noted, link_fields}

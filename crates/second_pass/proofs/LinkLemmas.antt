@@ -7,7 +7,7 @@ use Rattle.pk_fields.specs.Fields.{row_of}
 use Rattle.std.specs.List.{list_any, slice_get}
 use Rattle.pk_tree.specs.declared.item.Item.{Item}
 use Rattle.pk_tree.specs.declared.layer.Layer.{Layer}
-use Rattle.pk_tree.specs.declared.value.Value.TheVariants as values
+use Rattle.pk_base.specs.declared.value.Value.TheVariants as values
 use Rattle.pk_tree.specs.Trees.{TreeShown, proto_at, layer_gets, made_of, with_item_at}
 use Rattle.second_pass.specs.Forward.{link_of, is_part, with_link, with_link_at, linked, forwarded_to}
 use Rattle.second_pass.specs.Named.{Noted}

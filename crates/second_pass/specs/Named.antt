@@ -5,8 +5,8 @@ use Rattle.std.specs.Option.{option_map, option_or, unwrap_or}
 use Rattle.pk_fields.specs.Ids.{DNS, DNS_ID, DNS_FLAGS_RESPONSE, DNS_RESPONSE_TO}
 use Rattle.pk_tree.specs.declared.item.Item.{Item}
 use Rattle.pk_tree.specs.declared.layer.Layer.{Layer}
-use Rattle.pk_tree.specs.declared.value.Value.{Value}
-use Rattle.pk_tree.specs.declared.value.Value.TheVariants as values
+use Rattle.pk_base.specs.declared.value.Value.{Value}
+use Rattle.pk_base.specs.declared.value.Value.TheVariants as values
 use Rattle.pk_tree.specs.FieldValues.{item_values}
 use Rattle.pk_tree.specs.Trees.{TreeShown}
 

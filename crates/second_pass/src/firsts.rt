@@ -5,9 +5,9 @@ ghost use Rattle.std.specs.List.{list_any};
 ghost use Rattle.second_pass.specs.Named.{has_number, names_in};
 ghost use Rattle.second_pass.specs.Stands.{first_in};
 
-use pk_base::NoMemory;
+use pk_base::{NoMemory, Value};
 use pk_fields::FieldId;
-use pk_tree::{Item, Layer, Value};
+use pk_tree::{Item, Layer};
 use std::alloc::Global;
 use std::collections::BTreeMap;
 

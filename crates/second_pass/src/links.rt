@@ -13,9 +13,9 @@ use crate::exchanges::Exchanges;
 use crate::firsts::Firsts;
 use crate::messages::{Kind, kind_of};
 use crate::reading::{number_in, truth_in};
-use pk_base::NoMemory;
+use pk_base::{NoMemory, Value};
 use pk_fields::{FieldId, ids};
-use pk_tree::{Layer, Tree, Value};
+use pk_tree::{Layer, Tree};
 use std::alloc::Global;
 
 /// The links between frames that were noted: tens of bytes for each link and each request of HTTP, and none for other frames.

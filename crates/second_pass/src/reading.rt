@@ -4,8 +4,9 @@ ghost use Rattle.std.specs.Option.{option_copied};
 ghost use Rattle.pk_tree.specs.FieldValues.{item_values};
 ghost use Rattle.second_pass.specs.Named.{first_value, number_of, truth_of, address4_of, address6_of, number_in, truth_in, address4_in, address6_in};
 
+use pk_base::Value;
 use pk_fields::FieldId;
-use pk_tree::{Item, Layer, Value};
+use pk_tree::{Item, Layer};
 
 /// A field's first value in a layer, as a number.
 pub(crate) fn number_in(layer: &Layer, field: FieldId) -> Option<u64>

@@ -4,8 +4,7 @@
 //! goes against fragments before it, which are forgotten.
 use crate::words::{are_bytes, are_frames, first_of, is_first, is_number, octets_of};
 use ip_join::{ConflictKind, Datagram, Joined, Joins};
-use pk_base::{NoMemory, Octets};
-use pk_tree::{Address, FragmentHead};
+use pk_base::{Address, FragmentHead, NoMemory, Octets};
 use std::alloc::Global;
 
 fn address_of(six: bool, word: &str) -> Option<Address> {

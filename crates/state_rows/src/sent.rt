@@ -2,8 +2,7 @@ ghost use Rattle.std.specs.Prelude.{◌≤◌};
 ghost use Rattle.tcp_streams.specs.Standing.{taken_so_far};
 ghost use Rattle.tcp_messages.specs.Standing.{streams_in};
 
-use pk_base::{NoMemory, Octets};
-use pk_tree::{Address, Endpoint};
+use pk_base::{Address, Endpoint, NoMemory, Octets};
 use std::alloc::Global;
 use stream_messages::App;
 use tcp_messages::{MessageStreams, Met};

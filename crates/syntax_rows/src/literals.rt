@@ -8,9 +8,8 @@ use flt_typed::{
     Class, Constant, Reading, Relation, admits_prefix, class_of, is_masked, is_measured,
     is_searched, is_sliced, is_truth, kind_of_value, read_quote, read_word, takes,
 };
-use pk_base::Octets;
+use pk_base::{Octets, Value};
 use pk_fields::ValueKind;
-use pk_tree::Value;
 use std::alloc::Global;
 use tree_rows::value_text;
 

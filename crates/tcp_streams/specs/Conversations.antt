@@ -1,8 +1,8 @@
 -- Conversations: the segments between the same two endpoints, whichever of them sends (RFC 9293, 3.3.1).
 use Rattle.std.specs.Prelude.{◌==◌, ℕ, Bool, true, false, not, ◌&&◌, nat_lt, nat_le, if◌then◌else◌, Option}
-use Rattle.pk_tree.specs.declared.heads.Address.{Address}
-use Rattle.pk_tree.specs.declared.heads.Address.TheVariants.{Four, Six}
-use Rattle.pk_tree.specs.declared.heads.Endpoint.{Endpoint}
+use Rattle.pk_base.specs.declared.heads.Address.{Address}
+use Rattle.pk_base.specs.declared.heads.Address.TheVariants.{Four, Six}
+use Rattle.pk_base.specs.declared.heads.Endpoint.{Endpoint}
 use Rattle.indexmap.specs.IndexMap.{get}
 use Rattle.tcp_streams.specs.declared.ends.End.{End}
 use Rattle.tcp_streams.specs.declared.ends.Ends.{Ends}

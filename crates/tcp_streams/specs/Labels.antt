@@ -2,7 +2,7 @@
 -- segment opens a stream. So does a later SYN without ACK whose direction began elsewhere: a new connection between the
 -- same ends (RFC 9293, 3.5; that the number decides it is a rule of this dissector). Side 0 is the opener's.
 use Rattle.std.specs.Prelude.{◌==◌, ℕ, ◌+◌, ◌-◌, ◌%◌, ◌^◌, Bool, true, false, not, ◌&&◌, if◌then◌else◌, List, [], ◌∷◌, Option, None, Some, unwrap_or}
-use Rattle.pk_tree.specs.declared.heads.Endpoint.{Endpoint}
+use Rattle.pk_base.specs.declared.heads.Endpoint.{Endpoint}
 use Rattle.tcp_streams.specs.declared.segment.Segment.{Segment}
 use Rattle.tcp_streams.specs.declared.segment.Taken.{Taken}
 use Rattle.tcp_streams.specs.Numbers.{first_number, ahead, position_ahead, window}

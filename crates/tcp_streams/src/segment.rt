@@ -2,8 +2,7 @@ ghost use Rattle.std.specs.Prelude.{◌≡◌, ◌^◌, ◌<◌};
 ghost use Rattle.tcp_streams.specs.Gaps.{lost_bytes};
 ghost use Rattle.tcp_streams.specs.Labels.{PassesNear};
 
-use pk_base::{LostList, Octets};
-use pk_tree::Endpoint;
+use pk_base::{Endpoint, LostList, Octets};
 
 /// A segment of TCP: its frame's number, its ends, what its header says, and its bytes (RFC 9293, 3.1).
 #[derive(Drop)]

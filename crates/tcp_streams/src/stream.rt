@@ -7,8 +7,7 @@ ghost use Rattle.tcp_streams.specs.Stands.{origin_in};
 use crate::ends::end_of_endpoint;
 use crate::segment::{Segment, Taken};
 use crate::way::Way;
-use pk_base::NoMemory;
-use pk_tree::Endpoint;
+use pk_base::{Endpoint, NoMemory};
 use std::alloc::Global;
 
 /// A stream: who opened it, and the direction of either side.

@@ -1,6 +1,6 @@
-use pk_base::{Octets, Span};
+use pk_base::{Octets, Span, Value};
 use pk_fields::name;
-use pk_tree::{Item, Place, Value};
+use pk_tree::{Item, Place};
 use std::alloc::{AllocError, Global};
 
 /// Of which items the bytes' place is printed too, as `@start+length`, with the buffer's number before it where that isn't 0.

@@ -5,9 +5,9 @@ ghost use Rattle.pk_fields.specs.Fields.{row_of};
 ghost use Rattle.pk_tree.specs.Trees.{last_proto};
 ghost use Rattle.pk_tree.specs.Values.{HasSize, IsOfKind, is_read};
 
-use pk_base::{NoMemory, Octets, Span};
+use pk_base::{NoMemory, Octets, Span, Value};
 use pk_fields::{FieldId, ValueKind, by_name, ids, kind, proto};
-use pk_tree::{Tree, TreeBuilder, Value};
+use pk_tree::{Tree, TreeBuilder};
 use std::alloc::{AllocError, AllocFailed, Global};
 
 /// Why a text makes no tree.

@@ -1,6 +1,6 @@
 use Rattle.std.proofs.Common.{◌≡◌, ◌++◌, codes, drop}
 use Rattle.std.specs.List.{flat_map}
-use Rattle.pk_tree.specs.declared.chosen.LayerRange.{LayerRange}
+use Rattle.pk_base.specs.declared.chosen.LayerRange.{LayerRange}
 use Rattle.flt_listing.specs.Literals.{layer_range_shown}
 use Rattle.flt_listing.proofs.literals.put_further_layer_ranges.Given as goal
 

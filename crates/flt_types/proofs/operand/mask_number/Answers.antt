@@ -7,7 +7,7 @@ use Rattle.pk_fields.specs.declared.value_kind.ValueKind.TheVariants as kinds
 use Rattle.pk_text.specs.Number.{number_of}
 use Rattle.pk_text.specs.declared.number.Wide.{Wide}
 use Rattle.pk_text.specs.declared.number.Wide.TheVariants as wides
-use Rattle.pk_tree.specs.declared.value.Value.TheVariants as values
+use Rattle.pk_base.specs.declared.value.Value.TheVariants as values
 
 mask_read : (kind : ValueKind) (width : ℕ) (text letters : List ℕ) (found : Option Wide) (n : ℕ) → kind ≡ kinds.Uint width → letters ≡ text →
     found ≡ number_within width (number_of letters) → found ≡ Some (wides.Fits n) → IsMask kind text n

@@ -1,4 +1,4 @@
-use pk_base::Span;
+use crate::span::Span;
 
 /// An address of the network layer.
 #[derive(Clone, Copy)]

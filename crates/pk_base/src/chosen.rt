@@ -17,7 +17,7 @@ pub struct LayerRanges {
 
 impl Model for LayerRanges {
     ghost use Rattle.std.specs.Prelude.{List};
-    ghost use Rattle.pk_tree.specs.declared.chosen.LayerRange.{LayerRange};
+    ghost use Rattle.pk_base.specs.declared.chosen.LayerRange.{LayerRange};
 
     ghost Value = { List LayerRange };
 
@@ -46,7 +46,7 @@ pub enum Layers {
 }
 
 impl Layers {
-    ghost use Rattle.pk_tree.specs.Chosen.{is_chosen};
+    ghost use Rattle.pk_base.specs.Chosen.{is_chosen};
 
     /// Whether the layer of a number is among them.
     pub fn contains(&self, nth: u32) -> bool
@@ -59,7 +59,7 @@ impl Layers {
     }
 }
 
-ghost use Rattle.pk_tree.specs.Chosen.{holds, some_holds};
+ghost use Rattle.pk_base.specs.Chosen.{holds, some_holds};
 
 fn any_holds(ranges: &[LayerRange], nth: u32) -> bool
     ensures { result ≡ some_holds ranges.now nth }

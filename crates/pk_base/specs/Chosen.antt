@@ -1,9 +1,9 @@
 -- Which layers of a protocol are chosen.
 use Rattle.std.specs.Prelude.{ℕ, Bool, true, ◌&&◌, List, nat_le, unwrap_or}
 use Rattle.std.specs.List.{list_any}
-use Rattle.pk_tree.specs.declared.chosen.LayerRange.{LayerRange}
-use Rattle.pk_tree.specs.declared.chosen.Layers.{Layers}
-use Rattle.pk_tree.specs.declared.chosen.Layers.TheVariants.{All, These}
+use Rattle.pk_base.specs.declared.chosen.LayerRange.{LayerRange}
+use Rattle.pk_base.specs.declared.chosen.Layers.{Layers}
+use Rattle.pk_base.specs.declared.chosen.Layers.TheVariants.{All, These}
 
 -- both ends are among the range; a first layer alone is also the last
 abbrev pub holds : LayerRange → ℕ → Bool

@@ -1,4 +1,4 @@
-use pk_base::Octets;
+use crate::octets::Octets;
 use std::alloc::AllocError;
 
 /// What an item holds. The variants are those of the fields' kinds.
