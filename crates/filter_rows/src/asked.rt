@@ -7,7 +7,7 @@ use flt_code::compile;
 use flt_listing::listing;
 use flt_mean::holds;
 use flt_read::read_filter;
-use flt_typed::Filter;
+use flt_typing::Filter;
 use flt_vm::run_program;
 use pk_tree::Tree;
 use std::alloc::Global;

@@ -14,8 +14,8 @@ use Rattle.flt_code.proofs.TypesAllow.{types_allow}
 use Rattle.flt_mean.specs.Meaning.{meaning}
 use Rattle.flt_syntax.specs.Grammar.{IsGrouped}
 use Rattle.flt_syntax.specs.Written.{Written}
-use Rattle.flt_typed.specs.Texts.{IsFilter}
-use Rattle.flt_typed.specs.Typing.{HasType}
+use Rattle.flt_typing.specs.Texts.{IsFilter}
+use Rattle.flt_typing.specs.Typing.{HasType}
 use Rattle.flt_typed.specs.declared.typed.Typed.{Typed}
 use Rattle.flt_vm.specs.Machine.{Runs, start}
 use Rattle.flt_program.specs.Programs.{Code, IsProgram, patterns_of}

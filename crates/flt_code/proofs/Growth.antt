@@ -4,7 +4,7 @@ use Rattle.flt_code.specs.Code.{Chooses, CountsField, IsCode, Joins, Loads, Load
 use Rattle.flt_code.specs.Owners.{Owner, OfTerm, OfExtreme, OfPart}
 use Rattle.flt_syntax.specs.declared.ast.Function.{Function}
 use Rattle.flt_syntax.specs.declared.ast.Function.TheVariants.{Len, Count, Upper, Lower, Min, Max}
-use Rattle.flt_typed.specs.Terms.{is_field}
+use Rattle.flt_typing.specs.Terms.{is_field}
 use Rattle.flt_typed.specs.declared.typed.Term.{Term}
 use Rattle.flt_typed.specs.declared.typed.Term.TheVariants as terms
 use Rattle.flt_typed.specs.declared.typed.Typed.{Typed}

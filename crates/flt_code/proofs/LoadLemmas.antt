@@ -16,7 +16,7 @@ use Rattle.flt_typed.specs.declared.typed.Term.TheVariants as terms
 use Rattle.flt_typed.specs.declared.arithmetic.Extreme.{Extreme}
 use Rattle.flt_program.specs.declared.instr.Instr.{Instr}
 use Rattle.flt_program.specs.declared.instr.Instr.TheVariants as instr
-use Rattle.flt_typed.specs.declared.literal.Constant.{Constant}
+use Rattle.flt_typed.specs.declared.constant.Constant.{Constant}
 use Rattle.std.proofs.Common.{Bor}
 
 pub some_same : {A : Type 0} (x y : A) → Some x ≡ Some y → x ≡ y

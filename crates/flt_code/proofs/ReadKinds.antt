@@ -3,12 +3,12 @@ use Rattle.std.proofs.Common.{◌≡◌, ℕ, Bool as Truth, true, false, cond, 
 use Rattle.flt_code.proofs.ValueKinds.{wide}
 use Rattle.flt_syntax.specs.declared.ast.Literal.{Literal}
 use Rattle.flt_syntax.specs.declared.ast.Literal.TheVariants as literals
-use Rattle.flt_typed.specs.Constants.{literal_read}
+use Rattle.flt_typing.specs.Constants.{literal_read}
 use Rattle.flt_typed.specs.Kinds.{kind_of_value}
-use Rattle.flt_typed.specs.Literals.{leading_read, number_read, number_within, prefix_of, quote_read, truth_of, value_read, word_read}
-use Rattle.flt_typed.specs.declared.literal.Constant.{Constant}
-use Rattle.flt_typed.specs.declared.literal.Reading.{Reading}
-use Rattle.flt_typed.specs.declared.literal.Reading.TheVariants as readings
+use Rattle.flt_typing.specs.Literals.{leading_read, number_read, number_within, prefix_of, quote_read, truth_of, value_read, word_read}
+use Rattle.flt_typed.specs.declared.constant.Constant.{Constant}
+use Rattle.flt_typing.specs.declared.literal.Reading.{Reading}
+use Rattle.flt_typing.specs.declared.literal.Reading.TheVariants as readings
 use Rattle.pk_fields.specs.declared.value_kind.ValueKind.{ValueKind}
 use Rattle.pk_fields.specs.declared.value_kind.ValueKind.TheVariants as kinds
 use Rattle.pk_text.specs.Cut.{cut_at}

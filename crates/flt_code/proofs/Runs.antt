@@ -15,7 +15,7 @@ use Rattle.flt_mean.specs.Values.{values_of_term}
 use Rattle.flt_syntax.specs.declared.ast.Choice.{Choice}
 use Rattle.flt_syntax.specs.declared.ast.Function.{Function}
 use Rattle.flt_syntax.specs.declared.ast.Function.TheVariants.{Len, Count, Upper, Lower, Min, Max}
-use Rattle.flt_typed.specs.Terms.{is_field}
+use Rattle.flt_typing.specs.Terms.{is_field}
 use Rattle.flt_typed.specs.declared.typed.Term.{Term}
 use Rattle.flt_typed.specs.declared.typed.Term.TheVariants as terms
 use Rattle.flt_typed.specs.declared.typed.Typed.{Typed}
@@ -35,7 +35,7 @@ use Rattle.pk_tree.specs.Trees.{TreeShown}
 use Rattle.flt_syntax.specs.declared.ast.Arithmetic.{Arithmetic}
 use Rattle.flt_syntax.specs.declared.ast.RangePart.{RangePart}
 use Rattle.flt_typed.specs.declared.typed.Member.{Member}
-use Rattle.flt_typed.specs.declared.literal.Constant.{Constant}
+use Rattle.flt_typed.specs.declared.constant.Constant.{Constant}
 use Rattle.flt_typed.specs.declared.relation.Relation.{Relation}
 use Rattle.pk_base.specs.declared.chosen.Layers.{Layers}
 use Rattle.pk_base.specs.declared.value.Value.TheVariants.{Uint}

@@ -17,12 +17,12 @@ use Rattle.flt_syntax.specs.declared.ast.Literal.{Literal}
 use Rattle.flt_syntax.specs.declared.ast.Function.{Function}
 use Rattle.flt_syntax.specs.declared.ast.Function.TheVariants.{Len, Count, Upper, Lower, Min, Max}
 use Rattle.flt_syntax.specs.declared.token.Join.TheVariants as joins
-use Rattle.flt_typed.specs.Constants.{literal_read}
-use Rattle.flt_typed.specs.Standing.{argument, in_slice, within}
-use Rattle.flt_typed.specs.Terms.{IsTerm, are_numbers, kind_of, takes_term}
-use Rattle.flt_typed.specs.Typing.{AreMembers, HasType, IsAlone, IsMember, IsRight, IsTest}
-use Rattle.flt_typed.specs.declared.standing.Standing.{Standing}
-use Rattle.flt_typed.specs.declared.standing.Standing.TheVariants.{First, Free}
+use Rattle.flt_typing.specs.Constants.{literal_read}
+use Rattle.flt_typing.specs.Standing.{argument, in_slice, within}
+use Rattle.flt_typing.specs.Terms.{IsTerm, are_numbers, kind_of, takes_term}
+use Rattle.flt_typing.specs.Typing.{AreMembers, HasType, IsAlone, IsMember, IsRight, IsTest}
+use Rattle.flt_typing.specs.declared.standing.Standing.{Standing}
+use Rattle.flt_typing.specs.declared.standing.Standing.TheVariants.{First, Free}
 use Rattle.flt_typed.specs.declared.typed.Member.{Member}
 use Rattle.flt_typed.specs.declared.typed.Member.TheVariants as members
 use Rattle.flt_typed.specs.declared.typed.Term.{Term}
@@ -34,8 +34,8 @@ use Rattle.flt_typed.specs.declared.arithmetic.Extreme.{Extreme}
 use Rattle.flt_typed.specs.declared.arithmetic.Extreme.TheVariants.{Least, Greatest}
 use Rattle.flt_typed.specs.declared.kinds.Class.{Class}
 use Rattle.flt_typed.specs.declared.kinds.Class.TheVariants as classes
-use Rattle.flt_typed.specs.declared.literal.Constant.{Constant}
-use Rattle.flt_typed.specs.declared.literal.Reading.TheVariants as readings
+use Rattle.flt_typed.specs.declared.constant.Constant.{Constant}
+use Rattle.flt_typing.specs.declared.literal.Reading.TheVariants as readings
 use Rattle.flt_typed.specs.declared.relation.Relation.{Relation}
 use Rattle.flt_typed.specs.declared.relation.Relation.TheVariants as relations
 use Rattle.flt_vm.specs.Held.{are_all, can_be, can_compare, can_compute, can_end, can_relate}

@@ -8,7 +8,7 @@ use Rattle.flt_lists.specs.Pairs.{values_calculated}
 use Rattle.flt_mean.specs.Values.{prefix_of_term, values_of_term}
 use Rattle.flt_syntax.specs.declared.ast.Arithmetic.{Arithmetic}
 use Rattle.flt_syntax.specs.declared.ast.Function.TheVariants.{Len, Count, Upper, Lower, Min, Max}
-use Rattle.flt_typed.specs.Terms.{kind_of}
+use Rattle.flt_typing.specs.Terms.{kind_of}
 use Rattle.flt_typed.specs.declared.typed.Term.{Term}
 use Rattle.flt_typed.specs.declared.typed.Term.TheVariants as terms
 use Rattle.flt_typed.specs.Arithmetic.{calculated, extreme_number, extreme_of, result_of}

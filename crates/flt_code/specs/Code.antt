@@ -3,7 +3,7 @@ use Rattle.std.specs.Prelude.{◌≡◌, ℕ, Bool as Truth, true, false, List, 
 use Rattle.flt_code.specs.Owners.{Owner, OfTerm, OfExtreme, OfPart, IsOwned}
 use Rattle.flt_syntax.specs.declared.ast.Function.{Function}
 use Rattle.flt_syntax.specs.declared.ast.Function.TheVariants.{Count, Min, Max}
-use Rattle.flt_typed.specs.Terms.{is_field}
+use Rattle.flt_typing.specs.Terms.{is_field}
 use Rattle.flt_syntax.specs.declared.ast.Choice.{Choice}
 use Rattle.pk_base.specs.declared.chosen.Layers.{Layers}
 use Rattle.flt_typed.specs.declared.typed.Member.{Member}

@@ -3,8 +3,8 @@ use Rattle.std.specs.Prelude.{ℕ, List}
 use Rattle.flt_code.specs.Decides.{Agrees, Decides}
 use Rattle.flt_syntax.specs.Grammar.{IsGrouped}
 use Rattle.flt_syntax.specs.Written.{Written}
-use Rattle.flt_typed.specs.Texts.{IsTypedText}
-use Rattle.flt_typed.specs.Typing.{HasType}
+use Rattle.flt_typing.specs.Texts.{IsTypedText}
+use Rattle.flt_typing.specs.Typing.{HasType}
 use Rattle.flt_typed.specs.declared.typed.Typed.{Typed}
 use Rattle.flt_program.specs.Programs.{Code}
 

@@ -6,7 +6,7 @@ use Rattle.flt_syntax.specs.declared.ast.RangePart.{RangePart}
 use Rattle.flt_syntax.specs.declared.ast.RangePart.TheVariants as parts
 use Rattle.flt_typed.specs.declared.typed.Member.{Member}
 use Rattle.flt_typed.specs.declared.typed.Member.TheVariants as members
-use Rattle.flt_typed.specs.declared.literal.Constant.{Constant}
+use Rattle.flt_typed.specs.declared.constant.Constant.{Constant}
 use Rattle.pk_fields.specs.Fields.{row_of}
 use Rattle.pk_text.specs.Digits.{hex_shown}
 use Rattle.pk_text.specs.Escape.{escape_byte}

@@ -7,12 +7,12 @@ use Rattle.flt_syntax.specs.declared.ast.Element.TheVariants as elements
 use Rattle.flt_syntax.specs.declared.token.Join.TheVariants as joins
 use Rattle.flt_syntax.specs.declared.word.Word.{Word}
 use Rattle.flt_parse.proofs.Faults.{one_filter}
-use Rattle.flt_typed.specs.Constants.{end_read, literal_of, literal_read, side_read}
-use Rattle.flt_typed.specs.Standing.{argument, in_slice, within}
-use Rattle.flt_typed.specs.Terms.{IsMask, IsNumber, IsTerm, kind_of, number_kind}
-use Rattle.flt_typed.specs.Typing.{AreMembers, HasType, IsAlone, IsMember, IsRight, IsTest}
-use Rattle.flt_typed.specs.declared.standing.Standing.{Standing}
-use Rattle.flt_typed.specs.declared.standing.Standing.TheVariants.{First, Free}
+use Rattle.flt_typing.specs.Constants.{end_read, literal_of, literal_read, side_read}
+use Rattle.flt_typing.specs.Standing.{argument, in_slice, within}
+use Rattle.flt_typing.specs.Terms.{IsMask, IsNumber, IsTerm, kind_of, number_kind}
+use Rattle.flt_typing.specs.Typing.{AreMembers, HasType, IsAlone, IsMember, IsRight, IsTest}
+use Rattle.flt_typing.specs.declared.standing.Standing.{Standing}
+use Rattle.flt_typing.specs.declared.standing.Standing.TheVariants.{First, Free}
 use Rattle.flt_typed.specs.declared.typed.Member.{Member}
 use Rattle.flt_typed.specs.declared.typed.Member.TheVariants as members
 use Rattle.flt_typed.specs.declared.typed.Term.{Term}
@@ -21,10 +21,10 @@ use Rattle.flt_typed.specs.declared.typed.Typed.{Typed}
 use Rattle.flt_typed.specs.declared.typed.Typed.TheVariants.{Either', Differ', Both', Not', Exists, AnyBit, Compare, Among, Matches}
 use Rattle.flt_types.specs.Faults.{kind_written}
 use Rattle.flt_types.proofs.Clear.{term_kind}
-use Rattle.flt_typed.specs.Literals.{word_read}
-use Rattle.flt_typed.specs.declared.literal.Constant.{Constant}
-use Rattle.flt_typed.specs.declared.literal.Reading.{Reading}
-use Rattle.flt_typed.specs.declared.literal.Reading.TheVariants.{Reads}
+use Rattle.flt_typing.specs.Literals.{word_read}
+use Rattle.flt_typed.specs.declared.constant.Constant.{Constant}
+use Rattle.flt_typing.specs.declared.literal.Reading.{Reading}
+use Rattle.flt_typing.specs.declared.literal.Reading.TheVariants.{Reads}
 use Rattle.flt_typed.specs.declared.relation.Relation.{Relation}
 use Rattle.flt_lists.specs.Passes.{is_some_value}
 use Rattle.flt_read.specs.Laws.{OneMeaning}

@@ -15,17 +15,17 @@ use Rattle.flt_syntax.specs.declared.word.Word.{Word}
 use Rattle.flt_parse.proofs.Every.{filter_or_fault}
 use Rattle.flt_typed.specs.Patterns.{IsNoPattern, IsPattern}
 use Rattle.flt_typed.proofs.Decided.{pattern_or_none}
-use Rattle.flt_typed.specs.Layers.{is_layer, is_layers}
+use Rattle.flt_typing.specs.Layers.{is_layer, is_layers}
 use Rattle.flt_types.specs.Faults.{Found, At, PatternAt, IsClear, IsFirst, alone_faults, call_faults, class_faults, element_faults, elements_faults, faults, given, kind_written, layers_faults, mask_faults, misplaced, nameless, number_faults, operand_faults, ranges_faults, reading_faults, right_faults, slice_faults, tail_faults, takes_written, unless, word_faults}
 use Rattle.flt_read.specs.Laws.{TypedOrRefused}
-use Rattle.flt_typed.specs.Constants.{end_read, literal_of, literal_read, place_of_literal, side_read}
-use Rattle.flt_typed.specs.Ranges.{is_range}
-use Rattle.flt_typed.specs.Standing.{argument, in_slice, within}
-use Rattle.flt_typed.specs.Terms.{number_kind}
-use Rattle.flt_typed.specs.declared.standing.Standing.{Standing}
-use Rattle.flt_typed.specs.declared.standing.Standing.TheVariants.{First, Free, Within, Sliced}
-use Rattle.flt_typed.specs.Texts.{IsTypedText}
-use Rattle.flt_typed.specs.Typing.{relation_of}
+use Rattle.flt_typing.specs.Constants.{end_read, literal_of, literal_read, place_of_literal, side_read}
+use Rattle.flt_typing.specs.Ranges.{is_range}
+use Rattle.flt_typing.specs.Standing.{argument, in_slice, within}
+use Rattle.flt_typing.specs.Terms.{number_kind}
+use Rattle.flt_typing.specs.declared.standing.Standing.{Standing}
+use Rattle.flt_typing.specs.declared.standing.Standing.TheVariants.{First, Free, Within, Sliced}
+use Rattle.flt_typing.specs.Texts.{IsTypedText}
+use Rattle.flt_typing.specs.Typing.{relation_of}
 use Rattle.flt_typed.specs.declared.typed.Typed.{Typed}
 use Rattle.flt_types.specs.Blame.{by_itself, sign_for, taken, taken_by}
 use Rattle.flt_types.specs.declared.position.Side.{Side}
@@ -33,9 +33,9 @@ use Rattle.flt_types.specs.declared.position.Side.TheVariants as sides
 use Rattle.flt_types.specs.TextFaults.{IsTypeFault}
 use Rattle.flt_types.proofs.HaveTypes.{clear_typed}
 use Rattle.flt_typed.specs.Kinds.{is_masked, is_number, is_searched, is_sliced, same_class, takes}
-use Rattle.flt_typed.specs.Literals.{word_read}
-use Rattle.flt_typed.specs.declared.literal.Reading.{Reading}
-use Rattle.flt_typed.specs.declared.literal.Reading.TheVariants.{Reads, Beyond, Unread}
+use Rattle.flt_typing.specs.Literals.{word_read}
+use Rattle.flt_typing.specs.declared.literal.Reading.{Reading}
+use Rattle.flt_typing.specs.declared.literal.Reading.TheVariants.{Reads, Beyond, Unread}
 use Rattle.flt_typed.specs.declared.relation.Relation.{Relation}
 use Rattle.pk_fields.specs.Fields.{field_named}
 use Rattle.pk_fields.specs.declared.value_kind.ValueKind.{ValueKind}

@@ -4,7 +4,7 @@ use Rattle.flt_mean.specs.Meaning.{meaning}
 use Rattle.flt_syntax.specs.declared.fault.FilterError.TheVariants.{Fault}
 use Rattle.flt_syntax.specs.declared.fault.FilterFault.{FilterFault}
 use Rattle.flt_syntax.specs.declared.fault.FilterReason.TheVariants.{PatternSize}
-use Rattle.flt_typed.specs.Texts.{IsTypedText}
+use Rattle.flt_typing.specs.Texts.{IsTypedText}
 use Rattle.flt_typed.specs.declared.typed.Typed.{Typed}
 use Rattle.flt_types.specs.TextFaults.{IsFilterFault}
 use Rattle.pk_tree.specs.Trees.{TreeShown}

@@ -1,10 +1,10 @@
 ghost use Rattle.std.specs.Prelude.{IfOk, IfErr};
-ghost use Rattle.flt_typed.specs.Texts.{IsTypedText};
+ghost use Rattle.flt_typing.specs.Texts.{IsTypedText};
 ghost use Rattle.flt_types.specs.TextFaults.{IsFilterFault};
 
 use flt_parse::parse;
 use flt_syntax::FilterError;
-use flt_typed::Filter;
+use flt_typing::Filter;
 use flt_types::check;
 use std::alloc::Global;
 

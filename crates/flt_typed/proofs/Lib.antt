@@ -2,8 +2,6 @@ pub mod Compiled
 pub mod ContainsLemmas
 pub mod Decided
 pub mod ExtremeLemmas
-pub mod LiteralLemmas
-pub mod MaskLemmas
 pub mod Never
 pub mod Refused
 pub mod SliceLemmas

@@ -2,16 +2,8 @@ pub mod Arithmetic
 pub mod Asked
 pub mod Calls
 pub mod Compiled
-pub mod Constants
 pub mod Contains
 pub mod Kinds
-pub mod Layers
-pub mod Literals
 pub mod Patterns
-pub mod Ranges
 pub mod Relations
 pub mod Slices
-pub mod Standing
-pub mod Terms
-pub mod Texts
-pub mod Typing

@@ -18,14 +18,14 @@ use Rattle.flt_syntax.specs.declared.fault.FilterError.{FilterError}
 use Rattle.flt_syntax.specs.declared.fault.FilterReason.TheVariants.{TypeMismatch, OutOfRange}
 use Rattle.flt_syntax.specs.declared.token.Join.TheVariants as joins
 use Rattle.flt_syntax.specs.declared.word.Word.{Word}
-use Rattle.flt_typed.specs.Layers.{is_layer, is_layers}
-use Rattle.flt_typed.specs.Constants.{end_read, literal_of, literal_read, place_of_literal, side_read, word_or_name}
-use Rattle.flt_typed.specs.Ranges.{is_range}
-use Rattle.flt_typed.specs.Standing.{argument, in_slice, within}
-use Rattle.flt_typed.specs.Terms.{IsNumber, IsTerm, are_numbers, is_field, kind_of, number_kind, takes_term}
-use Rattle.flt_typed.specs.Typing.{AreMembers, HasType, IsAlone, IsMember, IsRight, IsTest, relation_of}
-use Rattle.flt_typed.specs.declared.standing.Standing.{Standing}
-use Rattle.flt_typed.specs.declared.standing.Standing.TheVariants.{First, Free, Sliced}
+use Rattle.flt_typing.specs.Layers.{is_layer, is_layers}
+use Rattle.flt_typing.specs.Constants.{end_read, literal_of, literal_read, place_of_literal, side_read, word_or_name}
+use Rattle.flt_typing.specs.Ranges.{is_range}
+use Rattle.flt_typing.specs.Standing.{argument, in_slice, within}
+use Rattle.flt_typing.specs.Terms.{IsNumber, IsTerm, are_numbers, is_field, kind_of, number_kind, takes_term}
+use Rattle.flt_typing.specs.Typing.{AreMembers, HasType, IsAlone, IsMember, IsRight, IsTest, relation_of}
+use Rattle.flt_typing.specs.declared.standing.Standing.{Standing}
+use Rattle.flt_typing.specs.declared.standing.Standing.TheVariants.{First, Free, Sliced}
 use Rattle.flt_typed.specs.declared.typed.Member.{Member}
 use Rattle.flt_typed.specs.declared.typed.Member.TheVariants as members
 use Rattle.flt_typed.specs.declared.typed.Term.{Term}
@@ -37,12 +37,12 @@ use Rattle.flt_types.specs.Blame.{by_itself, sign_for, taken, taken_by}
 use Rattle.flt_types.specs.declared.position.Side.{Side}
 use Rattle.flt_types.specs.declared.position.Side.TheVariants as sides
 use Rattle.flt_types.proofs.Answers.{answer_right, clear_both, clear_unless, given_answer, given_clear}
-use Rattle.flt_typed.proofs.MaskLemmas.{mask_has}
+use Rattle.flt_typing.proofs.MaskLemmas.{mask_has}
 use Rattle.flt_typed.specs.Kinds.{is_masked, is_number, is_searched, is_sliced, kind_of_call, kind_of_value, same_class, takes}
-use Rattle.flt_typed.specs.Literals.{word_read}
-use Rattle.flt_typed.specs.declared.literal.Constant.{Constant}
-use Rattle.flt_typed.specs.declared.literal.Reading.{Reading}
-use Rattle.flt_typed.specs.declared.literal.Reading.TheVariants.{Reads}
+use Rattle.flt_typing.specs.Literals.{word_read}
+use Rattle.flt_typed.specs.declared.constant.Constant.{Constant}
+use Rattle.flt_typing.specs.declared.literal.Reading.{Reading}
+use Rattle.flt_typing.specs.declared.literal.Reading.TheVariants.{Reads}
 use Rattle.flt_typed.specs.declared.relation.Relation.{Relation}
 use Rattle.pk_fields.specs.Fields.{field_named, row_of}
 use Rattle.pk_fields.specs.declared.value_kind.ValueKind.{ValueKind}

@@ -22,14 +22,14 @@ use Rattle.flt_syntax.specs.declared.token.Join.TheVariants as joins
 use Rattle.flt_syntax.specs.declared.token.Kind.TheVariants as kinds
 use Rattle.flt_syntax.specs.declared.word.Word.{Word}
 use Rattle.flt_syntax.proofs.Few.{spelled_few}
-use Rattle.flt_typed.specs.Layers.{is_layer, is_layers, layers_of, one_layer}
-use Rattle.flt_typed.specs.Constants.{end_read, literal_of, literal_read, place_of_literal, side_read}
-use Rattle.flt_typed.specs.Ranges.{is_range}
-use Rattle.flt_typed.specs.Standing.{argument, in_slice, within}
-use Rattle.flt_typed.specs.Terms.{IsMask, IsTerm, kind_of, number_kind}
-use Rattle.flt_typed.specs.Typing.{AreMembers, HasType, IsAlone, IsMember, IsRight, IsTest, choice_of, chosen, relation_of}
-use Rattle.flt_typed.specs.declared.standing.Standing.{Standing}
-use Rattle.flt_typed.specs.declared.standing.Standing.TheVariants.{First, Free, Within, Sliced}
+use Rattle.flt_typing.specs.Layers.{is_layer, is_layers, layers_of, one_layer}
+use Rattle.flt_typing.specs.Constants.{end_read, literal_of, literal_read, place_of_literal, side_read}
+use Rattle.flt_typing.specs.Ranges.{is_range}
+use Rattle.flt_typing.specs.Standing.{argument, in_slice, within}
+use Rattle.flt_typing.specs.Terms.{IsMask, IsTerm, kind_of, number_kind}
+use Rattle.flt_typing.specs.Typing.{AreMembers, HasType, IsAlone, IsMember, IsRight, IsTest, choice_of, chosen, relation_of}
+use Rattle.flt_typing.specs.declared.standing.Standing.{Standing}
+use Rattle.flt_typing.specs.declared.standing.Standing.TheVariants.{First, Free, Within, Sliced}
 use Rattle.flt_typed.specs.declared.typed.Member.{Member}
 use Rattle.flt_typed.specs.declared.typed.Member.TheVariants as members
 use Rattle.flt_typed.specs.declared.typed.Term.{Term}
@@ -44,11 +44,11 @@ use Rattle.flt_types.specs.declared.position.Side.TheVariants as sides
 use Rattle.flt_types.proofs.Clear.{right_term, same_takes, term_kind}
 use Rattle.flt_types.proofs.Few.{IsFew, few_elements, few_left, few_ranges, few_rest, few_right}
 use Rattle.flt_typed.specs.Kinds.{is_masked, is_number, is_searched, is_sliced, same_class, takes}
-use Rattle.flt_typed.specs.Literals.{word_read}
-use Rattle.flt_typed.proofs.MaskLemmas.{mask_has}
-use Rattle.flt_typed.specs.declared.literal.Constant.{Constant}
-use Rattle.flt_typed.specs.declared.literal.Reading.{Reading}
-use Rattle.flt_typed.specs.declared.literal.Reading.TheVariants.{Reads, Beyond, Unread}
+use Rattle.flt_typing.specs.Literals.{word_read}
+use Rattle.flt_typing.proofs.MaskLemmas.{mask_has}
+use Rattle.flt_typed.specs.declared.constant.Constant.{Constant}
+use Rattle.flt_typing.specs.declared.literal.Reading.{Reading}
+use Rattle.flt_typing.specs.declared.literal.Reading.TheVariants.{Reads, Beyond, Unread}
 use Rattle.flt_typed.specs.declared.relation.Relation.{Relation}
 use Rattle.pk_fields.specs.Fields.{field_named}
 use Rattle.pk_fields.specs.declared.value_kind.ValueKind.{ValueKind}

@@ -3,7 +3,7 @@ use Rattle.std.proofs.Common.{◌≡◌, ◌+◌, ◌<◌, ℕ, List, [], ◌∷
 use Rattle.std.proofs.lemmas.List.{drop_more}
 use Rattle.flt_syntax.specs.declared.ast.Element.{Element}
 use Rattle.flt_syntax.specs.declared.fault.FilterError.{FilterError}
-use Rattle.flt_typed.specs.Typing.{AreMembers, IsMember}
+use Rattle.flt_typing.specs.Typing.{AreMembers, IsMember}
 use Rattle.flt_typed.specs.declared.typed.Member.{Member}
 use Rattle.flt_types.specs.Faults.{IsAnswer, element_faults, elements_faults}
 use Rattle.flt_types.proofs.Answers.{answer_left, answer_right}

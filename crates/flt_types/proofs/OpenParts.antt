@@ -5,7 +5,7 @@ use Rattle.flt_syntax.specs.declared.ast.Ast.{Ast}
 use Rattle.flt_syntax.specs.declared.ast.Negation.{Negation}
 use Rattle.flt_syntax.specs.declared.fault.FilterError.{FilterError}
 use Rattle.flt_syntax.specs.declared.token.Join.{Join}
-use Rattle.flt_typed.specs.Typing.{HasType}
+use Rattle.flt_typing.specs.Typing.{HasType}
 use Rattle.flt_typed.specs.declared.typed.Typed.{Typed}
 use Rattle.flt_types.specs.Faults.{IsAnswer, faults}
 use Rattle.flt_types.specs.Parts.{Fills, Plugs, tests_in, waiting}

@@ -7,9 +7,9 @@ use Rattle.flt_syntax.specs.declared.ast.Arithmetic.{Arithmetic}
 use Rattle.flt_syntax.specs.declared.ast.Operand.{Operand}
 use Rattle.flt_syntax.specs.declared.fault.FilterError.{FilterError}
 use Rattle.flt_syntax.specs.declared.fault.FilterReason.TheVariants.{TypeMismatch}
-use Rattle.flt_typed.specs.Terms.{IsTerm, kind_of}
-use Rattle.flt_typed.specs.declared.standing.Standing.{Standing}
-use Rattle.flt_typed.specs.declared.standing.Standing.TheVariants.{Free}
+use Rattle.flt_typing.specs.Terms.{IsTerm, kind_of}
+use Rattle.flt_typing.specs.declared.standing.Standing.{Standing}
+use Rattle.flt_typing.specs.declared.standing.Standing.TheVariants.{Free}
 use Rattle.flt_typed.specs.declared.typed.Term.{Term}
 use Rattle.flt_types.specs.Faults.{IsAnswer, given, kind_written, number_faults, operand_faults}
 use Rattle.flt_types.specs.Operands.{joined, parts_right, with_left}

@@ -3,8 +3,8 @@ use Rattle.std.specs.Prelude.{ℕ, Some, None}
 use Rattle.flt_syntax.specs.Written.{WrittenOperand, ComputedOf}
 use Rattle.flt_syntax.specs.declared.ast.Function.{Function}
 use Rattle.flt_syntax.specs.declared.ast.Function.TheVariants.{Min, Max}
-use Rattle.flt_typed.specs.declared.standing.Standing.{Standing}
-use Rattle.flt_typed.specs.declared.standing.Standing.TheVariants.{Free}
+use Rattle.flt_typing.specs.declared.standing.Standing.{Standing}
+use Rattle.flt_typing.specs.declared.standing.Standing.TheVariants.{Free}
 use Rattle.flt_types.specs.declared.position.Side.{Side}
 use Rattle.flt_types.specs.declared.position.Side.TheVariants.{Left, Right}
 

@@ -17,21 +17,21 @@ use Rattle.flt_syntax.specs.declared.fault.FilterReason.{FilterReason}
 use Rattle.flt_syntax.specs.declared.fault.FilterReason.TheVariants.{UnknownField, TypeMismatch, OutOfRange, BadPattern, PatternSize}
 use Rattle.flt_syntax.specs.declared.word.Word.{Word}
 use Rattle.flt_typed.specs.Patterns.{IsPattern, IsNoPattern, MayBeLarge}
-use Rattle.flt_typed.specs.Layers.{is_layer, is_layers}
-use Rattle.flt_typed.specs.Constants.{end_read, literal_of, literal_read, place_of_literal, side_read}
-use Rattle.flt_typed.specs.Ranges.{is_range}
-use Rattle.flt_typed.specs.Standing.{argument, in_slice, within}
-use Rattle.flt_typed.specs.Terms.{number_kind}
-use Rattle.flt_typed.specs.Typing.{relation_of}
-use Rattle.flt_typed.specs.declared.standing.Standing.{Standing}
-use Rattle.flt_typed.specs.declared.standing.Standing.TheVariants.{First, Free, Within, Sliced}
+use Rattle.flt_typing.specs.Layers.{is_layer, is_layers}
+use Rattle.flt_typing.specs.Constants.{end_read, literal_of, literal_read, place_of_literal, side_read}
+use Rattle.flt_typing.specs.Ranges.{is_range}
+use Rattle.flt_typing.specs.Standing.{argument, in_slice, within}
+use Rattle.flt_typing.specs.Terms.{number_kind}
+use Rattle.flt_typing.specs.Typing.{relation_of}
+use Rattle.flt_typing.specs.declared.standing.Standing.{Standing}
+use Rattle.flt_typing.specs.declared.standing.Standing.TheVariants.{First, Free, Within, Sliced}
 use Rattle.flt_types.specs.Blame.{blamed, by_itself, sign_for, taken, taken_by}
 use Rattle.flt_types.specs.declared.position.Side.{Side}
 use Rattle.flt_types.specs.declared.position.Side.TheVariants as sides
 use Rattle.flt_typed.specs.Kinds.{is_masked, is_number, is_searched, is_sliced, kind_of_call, same_class, takes, takes_call}
-use Rattle.flt_typed.specs.Literals.{word_read}
-use Rattle.flt_typed.specs.declared.literal.Reading.{Reading}
-use Rattle.flt_typed.specs.declared.literal.Reading.TheVariants.{Reads, Beyond, Unread}
+use Rattle.flt_typing.specs.Literals.{word_read}
+use Rattle.flt_typing.specs.declared.literal.Reading.{Reading}
+use Rattle.flt_typing.specs.declared.literal.Reading.TheVariants.{Reads, Beyond, Unread}
 use Rattle.flt_typed.specs.declared.relation.Relation.{Relation}
 use Rattle.pk_fields.specs.Fields.{field_named, row_of}
 use Rattle.pk_fields.specs.declared.value_kind.ValueKind.{ValueKind}

@@ -2,7 +2,7 @@
 use Rattle.std.specs.Prelude.{ℕ, List}
 use Rattle.flt_syntax.specs.Filters.{IsFilterText}
 use Rattle.flt_syntax.specs.Written.{Written}
-use Rattle.flt_typed.specs.Typing.{HasType}
+use Rattle.flt_typing.specs.Typing.{HasType}
 use Rattle.flt_typed.specs.declared.typed.Typed.{Typed}
 use Rattle.flt_types.specs.Faults.{IsClear, faults}
 

@@ -2,7 +2,7 @@
 use Rattle.std.specs.Prelude.{◌≡◌, ℕ, ◌+◌, Bool, true, false, List, [], ◌∷◌}
 use Rattle.flt_syntax.specs.Written.{Written, JoinedOf, NotOf, GroupOf, AloneOf, TestOf, written}
 use Rattle.flt_syntax.specs.declared.ast.Negation.{Negation}
-use Rattle.flt_typed.specs.Typing.{HasType}
+use Rattle.flt_typing.specs.Typing.{HasType}
 use Rattle.flt_types.specs.declared.parts.Closed.{Closed}
 use Rattle.flt_types.specs.declared.parts.Closed.TheVariants.{Whole, UpTo}
 use Rattle.flt_types.specs.declared.parts.Open.{Open}

@@ -3,12 +3,12 @@ ghost use Rattle.std.specs.Prelude.{◌≡◌, [], ◌∷◌, ◌++◌, ℕ, Lis
 ghost use Rattle.flt_syntax.specs.Written.{WrittenOperand, operand_of, tail_of, CompareOf, InOf, MatchesOf, AloneOf, TestOf};
 ghost use Rattle.flt_syntax.specs.declared.fault.FilterReason.TheVariants.{TypeMismatch};
 ghost use Rattle.flt_typed.specs.Patterns.{HasCause, IsPattern};
-ghost use Rattle.flt_typed.specs.Constants.{literal_of};
-ghost use Rattle.flt_typed.specs.Terms.{IsTerm};
-ghost use Rattle.flt_typed.specs.declared.standing.Standing.TheVariants.{First};
+ghost use Rattle.flt_typing.specs.Constants.{literal_of};
+ghost use Rattle.flt_typing.specs.Terms.{IsTerm};
+ghost use Rattle.flt_typing.specs.declared.standing.Standing.TheVariants.{First};
 ghost use Rattle.flt_types.specs.Faults.{IsAnswer, faults, right_faults, unless, PatternAt};
 ghost use Rattle.flt_typed.specs.Kinds.{is_searched as is_searched_kind, takes as takes_kind};
-ghost use Rattle.flt_typed.specs.Typing.{HasType, IsRight, relation_of as relation_asked, choice_of as own_choice, chosen as choice_between};
+ghost use Rattle.flt_typing.specs.Typing.{HasType, IsRight, relation_of as relation_asked, choice_of as own_choice, chosen as choice_between};
 
 use crate::faults::{fault, require};
 use crate::literals::{right_quote, right_word};
@@ -18,9 +18,8 @@ use crate::owned::refused;
 use crate::position::{LEFT, RIGHT};
 use crate::sets::members;
 use flt_syntax::{Choice, Element, FilterError, FilterReason, Operand, Operator, Quote, Tail};
-use flt_typed::{
-    Pattern, PatternFault, Relation, Term, Typed, is_searched, kind_of, same_class, takes,
-};
+use flt_typed::{Pattern, PatternFault, Relation, Term, Typed, is_searched, same_class, takes};
+use flt_typing::kind_of;
 use pk_fields::{ValueKind, by_name};
 use std::alloc::Global;
 

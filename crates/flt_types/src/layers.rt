@@ -3,7 +3,7 @@ ghost use Rattle.std.specs.Prelude.{◌≡◌, [], ◌∷◌, map, IfOk, IfErr, 
 ghost use Rattle.std.specs.List.{list_all};
 ghost use Rattle.flt_syntax.specs.declared.fault.FilterReason.TheVariants.{OutOfRange};
 ghost use Rattle.pk_base.specs.declared.chosen.Layers.TheVariants.{These};
-ghost use Rattle.flt_typed.specs.Layers.{is_layer, is_layers, last_of as last_layer_of, layers_of as layers_written, one_layer};
+ghost use Rattle.flt_typing.specs.Layers.{is_layer, is_layers, last_of as last_layer_of, layers_of as layers_written, one_layer};
 ghost use Rattle.flt_types.specs.Faults.{IsAnswer, layers_faults, unless};
 
 use crate::faults::{fault, require};

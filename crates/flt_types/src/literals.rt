@@ -1,15 +1,14 @@
 // Literals, where a test's right side or a set has them.
 ghost use Rattle.std.specs.Prelude.{◌≡◌, true, IfOk, IfErr};
 ghost use Rattle.flt_syntax.specs.declared.ast.Literal.TheVariants.{Bare, Text};
-ghost use Rattle.flt_typed.specs.Constants.{literal_read, side_read, end_read as read_as_end, place_of_literal};
+ghost use Rattle.flt_typing.specs.Constants.{literal_read, side_read, end_read as read_as_end, place_of_literal};
 ghost use Rattle.flt_types.specs.Faults.{IsAnswer, reading_faults};
-ghost use Rattle.flt_typed.specs.declared.literal.Reading.TheVariants.{Reads};
+ghost use Rattle.flt_typing.specs.declared.literal.Reading.TheVariants.{Reads};
 
 use crate::faults::fault;
 use flt_syntax::{FilterError, FilterReason, Literal, Quote, Word};
-use flt_typed::{
-    Constant, Reading, Relation, admits_prefix, is_truth, kind_of_right, read_quote, read_word,
-};
+use flt_typed::{Constant, Relation, admits_prefix, is_truth, kind_of_right};
+use flt_typing::{Reading, read_quote, read_word};
 use pk_base::NoMemory;
 use pk_fields::ValueKind;
 use std::alloc::Global;

@@ -3,11 +3,11 @@ ghost use Rattle.std.specs.Prelude.{◌≡◌, ◌++◌, Some, None, IfOk, IfErr
 ghost use Rattle.flt_syntax.specs.declared.ast.Arithmetic.{Arithmetic as Operation};
 ghost use Rattle.flt_syntax.specs.declared.fault.FilterReason.TheVariants.{OutOfRange};
 ghost use Rattle.flt_syntax.specs.Written.{WrittenOperand, operand_of, NamedOf, OnLayerOf, OnLayersOf, SlicedOf, MaskedOf, CalledOf, ComputedOf, ArgumentsOf};
-ghost use Rattle.flt_typed.specs.Layers.{is_layer};
-ghost use Rattle.flt_typed.specs.Standing.{argument, in_slice, within};
-ghost use Rattle.flt_typed.specs.Terms.{IsTerm, IsMask, are_numbers as are_numbers_in, kind_of as kind_of_term, takes_term};
-ghost use Rattle.flt_typed.specs.declared.standing.Standing.{Standing as Place};
-ghost use Rattle.flt_typed.specs.declared.standing.Standing.TheVariants.{Free, Sliced};
+ghost use Rattle.flt_typing.specs.Layers.{is_layer};
+ghost use Rattle.flt_typing.specs.Standing.{argument, in_slice, within};
+ghost use Rattle.flt_typing.specs.Terms.{IsTerm, IsMask, are_numbers as are_numbers_in, kind_of as kind_of_term, takes_term};
+ghost use Rattle.flt_typing.specs.declared.standing.Standing.{Standing as Place};
+ghost use Rattle.flt_typing.specs.declared.standing.Standing.TheVariants.{Free, Sliced};
 ghost use Rattle.flt_types.specs.Faults.{IsAnswer, operand_faults, call_faults, layers_faults, mask_faults, number_faults, slice_faults, given, kind_written, unless, nameless, word_faults, misplaced as misplaced_at};
 ghost use Rattle.flt_types.specs.Operands.{is_around, is_part, with_left};
 ghost use Rattle.flt_types.specs.declared.position.Side.{Side as TestSide};
@@ -24,7 +24,8 @@ use crate::ranges::parts_for;
 use flt_syntax::{
     Arithmetic, FilterError, FilterReason, Function, Layer, LayerRange, Operand, SliceRange, Word,
 };
-use flt_typed::{NUMBER, Standing, Term, is_number, kind_of, read_within, read_word, takes_call};
+use flt_typed::{Term, is_number, takes_call};
+use flt_typing::{NUMBER, Standing, kind_of, read_within, read_word};
 use pk_base::{Layers, NoMemory};
 use pk_fields::{FieldId, ValueKind, by_name};
 use pk_text::Wide;

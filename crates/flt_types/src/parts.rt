@@ -2,7 +2,7 @@
 ghost use Rattle.std.specs.Prelude.{◌≡◌, ◌+◌, ◌≤◌, ◌<◌, IfOk, IfSome, IfNone, IsTrue};
 ghost use Rattle.flt_syntax.specs.Written.{Written, JoinedOf, NotOf, written};
 ghost use Rattle.flt_syntax.specs.declared.ast.Negation.{Negation};
-ghost use Rattle.flt_typed.specs.Typing.{HasType};
+ghost use Rattle.flt_typing.specs.Typing.{HasType};
 ghost use Rattle.flt_types.specs.Parts.{Closes, Fills, Plugs, is_test, signs, still, tests, tests_in, waiting};
 
 use crate::owned::both_boxed;

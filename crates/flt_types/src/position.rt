@@ -1,12 +1,12 @@
 // Where an operand stands, with its side of the test, which decides what is blamed for a string.
 ghost use Rattle.std.specs.Prelude.{◌≡◌};
 ghost use Rattle.flt_syntax.specs.Written.{operand_of};
-ghost use Rattle.flt_typed.specs.Standing.{argument as argument_of, in_slice as in_slice_of, within as within_at};
-ghost use Rattle.flt_typed.specs.declared.standing.Standing.TheVariants.{Free};
+ghost use Rattle.flt_typing.specs.Standing.{argument as argument_of, in_slice as in_slice_of, within as within_at};
+ghost use Rattle.flt_typing.specs.declared.standing.Standing.TheVariants.{Free};
 ghost use Rattle.flt_types.specs.Blame.{blamed as blamed_at, by_itself as by_itself_of, sign_for as sign_asking, taken as taken_at, taken_by as taken_by_function};
 
 use flt_syntax::{Function, Operand};
-use flt_typed::Standing;
+use flt_typing::Standing;
 
 /// The side of a test on which an operand stands, for a string, which is neither a field nor a number. What a tree's
 /// faults are is said by it.

@@ -1,7 +1,7 @@
 // The ranges of a slice.
 ghost use Rattle.std.specs.Prelude.{◌≡◌, map, IfOk, IfErr, OnOk, IsTrue};
 ghost use Rattle.std.specs.List.{list_all};
-ghost use Rattle.flt_typed.specs.Ranges.{in_order as are_in_order, is_range as is_range_part};
+ghost use Rattle.flt_typing.specs.Ranges.{in_order as are_in_order, is_range as is_range_part};
 ghost use Rattle.flt_types.specs.Faults.{IsAnswer, ranges_faults, slice_faults};
 ghost use Rattle.flt_typed.specs.Kinds.{is_sliced as is_sliced_kind};
 

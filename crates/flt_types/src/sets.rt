@@ -1,7 +1,7 @@
 // The sets of `in`.
 ghost use Rattle.std.specs.Prelude.{IfOk, IfErr};
 ghost use Rattle.flt_syntax.specs.declared.ast.Element.TheVariants.{Between};
-ghost use Rattle.flt_typed.specs.Typing.{AreMembers, IsMember};
+ghost use Rattle.flt_typing.specs.Typing.{AreMembers, IsMember};
 ghost use Rattle.flt_types.specs.Faults.{IsAnswer, element_faults, elements_faults};
 
 use crate::literals::{element, range_end};

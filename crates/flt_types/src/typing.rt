@@ -2,14 +2,15 @@
 ghost use Rattle.std.specs.Prelude.{IfOk, IfErr, IsTrue, ℕ, List};
 ghost use Rattle.flt_syntax.specs.Filters.{IsFilterText};
 ghost use Rattle.flt_syntax.specs.Written.{written};
-ghost use Rattle.flt_typed.specs.Typing.{HasType};
+ghost use Rattle.flt_typing.specs.Typing.{HasType};
 ghost use Rattle.flt_types.specs.Parts.{is_test};
 ghost use Rattle.flt_types.specs.Faults.{IsAnswer, IsClear, faults};
 
 use crate::conditions::{alone, test};
 use crate::parts::{Closed, close, first_test};
 use flt_syntax::{Ast, FilterError};
-use flt_typed::{Filter, Typed};
+use flt_typed::Typed;
+use flt_typing::Filter;
 use std::alloc::Global;
 
 /// Gives the syntax tree of a filter's text its types. The error is the tree's first fault: F4 to F7 or F10, with its

@@ -2,7 +2,7 @@
 use Rattle.std.proofs.Common.{◌≡◌, ℕ, ◌+◌, ◌<◌, Bool as Truth, zero, suc, List, [], ◌∷◌, length, Some, slice_get, slice_set, ap, sym, refl, ◌∙◌, subst, arith}
 use Rattle.flt_lists.specs.Passes.{compares}
 use Rattle.flt_syntax.specs.declared.ast.Choice.{Choice}
-use Rattle.flt_typed.specs.declared.literal.Constant.{Constant}
+use Rattle.flt_typed.specs.declared.constant.Constant.{Constant}
 use Rattle.flt_typed.specs.declared.relation.Relation.{Relation}
 use Rattle.flt_vm.proofs.RunLemmas.{begun, run_on, step_at}
 use Rattle.flt_vm.proofs.StepLemmas.{const_does, held_at, read_does, test_does}

@@ -26,7 +26,7 @@ use Rattle.flt_vm.specs.declared.slots.Flag.{Flag}
 use Rattle.flt_vm.specs.declared.slots.Flag.TheVariants.{Known}
 use Rattle.flt_vm.specs.declared.slots.Slot.{Slot}
 use Rattle.flt_vm.specs.declared.slots.Slot.TheVariants as slots
-use Rattle.flt_typed.specs.declared.literal.Constant.{Constant}
+use Rattle.flt_typed.specs.declared.constant.Constant.{Constant}
 use Rattle.pk_tree.specs.FieldValues.{values_of}
 use Rattle.pk_tree.specs.Trees.{TreeShown}
 use Rattle.pk_base.specs.declared.chosen.Layers.{Layers}

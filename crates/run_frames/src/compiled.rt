@@ -2,7 +2,7 @@
 ghost use Rattle.std.specs.Prelude.{◌≡◌};
 ghost use Rattle.flt_vm.specs.Programs.{FitsFilter};
 
-use flt_typed::Filter;
+use flt_typing::Filter;
 use flt_program::Program;
 use std::marker::Model;
 

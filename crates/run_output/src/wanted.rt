@@ -9,7 +9,7 @@ ghost use Rattle.run_frames.specs.Wanted.{HasAsked, HasFields, HasPlan, HasTable
 ghost use Rattle.dissect.specs.Followed.{asks_streams};
 
 use cap_stats::StatKind;
-use flt_typed::add_fields;
+use flt_typing::add_fields;
 use pk_fields::{FieldId, FieldSet, ids};
 use run_frames::{Compiled, Plan, asks_table};
 use shark_words::LineKind;

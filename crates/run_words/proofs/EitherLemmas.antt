@@ -4,7 +4,7 @@ use Rattle.flt_syntax.specs.declared.fault.FilterFault.{FilterFault}
 use Rattle.flt_syntax.specs.declared.fault.FilterError.TheVariants.{Fault}
 use Rattle.flt_syntax.specs.declared.fault.FilterReason.{FilterReason}
 use Rattle.flt_syntax.specs.declared.fault.FilterReason.TheVariants.{PatternSize}
-use Rattle.flt_typed.specs.Texts.{IsTypedText}
+use Rattle.flt_typing.specs.Texts.{IsTypedText}
 use Rattle.flt_typed.specs.declared.typed.Typed.{Typed}
 use Rattle.flt_types.specs.TextFaults.{IsFilterFault}
 use Rattle.flt_read.proofs.Sure.{typed_or_refused}

@@ -3,7 +3,7 @@ use Rattle.std.specs.Prelude.{◌≡◌, ℕ, List, Option, Some, None, Ok, Err}
 use Rattle.flt_syntax.specs.declared.fault.FilterFault.{FilterFault}
 use Rattle.flt_syntax.specs.declared.fault.FilterError.TheVariants.{Fault}
 use Rattle.flt_code.specs.Decides.{Agrees, Decides}
-use Rattle.flt_typed.specs.Texts.{IsTypedText}
+use Rattle.flt_typing.specs.Texts.{IsTypedText}
 use Rattle.flt_types.specs.TextFaults.{IsFilterFault}
 use Rattle.shark_words.specs.declared.options.Options.{Options}
 use Rattle.shark_words.specs.Options.{options_of}

@@ -15,7 +15,7 @@ use crate::refused::{PlanError, Refused};
 use flt_code::compile;
 use flt_read::read_filter;
 use flt_syntax::FilterError;
-use flt_typed::Filter;
+use flt_typing::Filter;
 use pk_base::{NoMemory, Octets};
 use pk_fields::{FieldId, by_name};
 use run_frames::{Compiled, FieldList, Generated, Plan, PlanRules, PlanSource, Text, copy_rules};

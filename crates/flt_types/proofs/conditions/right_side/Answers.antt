@@ -1,7 +1,7 @@
 use Rattle.std.proofs.Common.{ap, sym, ◌∙◌}
 use Rattle.flt_syntax.specs.Written.{operand_of}
 use Rattle.flt_syntax.specs.declared.ast.Literal.TheVariants.{Bare, Text}
-use Rattle.flt_typed.specs.Constants.{literal_of, word_or_name}
+use Rattle.flt_typing.specs.Constants.{literal_of, word_or_name}
 use Rattle.flt_types.proofs.conditions.right_side.Goals as goal
 use Rattle.pk_fields.specs.Fields.{field_named}
 

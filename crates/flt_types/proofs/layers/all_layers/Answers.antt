@@ -1,5 +1,5 @@
 use Rattle.std.proofs.Common.{[], ◌∷◌, ◌++◌, ap, ◌∙◌}
-use Rattle.flt_typed.specs.Layers.{layers_of}
+use Rattle.flt_typing.specs.Layers.{layers_of}
 use Rattle.flt_types.proofs.Lists.{more_mapped}
 use Rattle.flt_types.proofs.layers.all_layers.Goals as goal
 

@@ -1,5 +1,5 @@
 use Rattle.std.proofs.Common.{◌≡◌, ◌++◌, drop, map}
-use Rattle.flt_typed.specs.Layers.{layers_of}
+use Rattle.flt_typing.specs.Layers.{layers_of}
 use Rattle.flt_types.proofs.layers.all_layers.Given as goal
 
 abbrev pub invariant-loop-range : goal.invariant-loop-range

@@ -1,6 +1,6 @@
 use Rattle.std.proofs.Common.{◌≡◌, drop}
 use Rattle.std.specs.List.{list_all}
-use Rattle.flt_typed.specs.Layers.{is_layers}
+use Rattle.flt_typing.specs.Layers.{is_layers}
 use Rattle.flt_types.specs.Faults.{layers_faults}
 use Rattle.flt_types.proofs.layers.check_layers.Given as goal
 

@@ -1,9 +1,9 @@
 use Rattle.std.proofs.Common.{Some, ap, subst}
 use Rattle.std.proofs.lemmas.Result.{err_from_is_err_and}
 use Rattle.flt_syntax.specs.Written.{WrittenOperand, operand_of}
-use Rattle.flt_typed.specs.Standing.{argument}
-use Rattle.flt_typed.specs.Terms.{IsTerm, kind_of}
-use Rattle.flt_typed.specs.declared.standing.Standing.TheVariants.{Free}
+use Rattle.flt_typing.specs.Standing.{argument}
+use Rattle.flt_typing.specs.Terms.{IsTerm, kind_of}
+use Rattle.flt_typing.specs.declared.standing.Standing.TheVariants.{Free}
 use Rattle.flt_types.specs.Faults.{IsAnswer, number_faults, operand_faults}
 use Rattle.flt_types.specs.Operands.{parts, with_left}
 use Rattle.flt_types.specs.Blame.{taken, taken_by}

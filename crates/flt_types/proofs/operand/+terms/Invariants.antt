@@ -1,7 +1,7 @@
 use Rattle.std.proofs.Common.{◌≡◌, ◌<◌, ◌+◌, ◌*◌, vec_len}
 use Rattle.std.specs.List.{All}
 use Rattle.flt_syntax.specs.Written.{WrittenOperand, operand_of}
-use Rattle.flt_typed.specs.Terms.{IsTerm}
+use Rattle.flt_typing.specs.Terms.{IsTerm}
 use Rattle.flt_types.specs.Operands.{joined, parts, parts_right}
 use Rattle.flt_types.proofs.operand.+terms.Given as goal
 

@@ -1,7 +1,7 @@
 use Rattle.std.proofs.Common.{◌≡◌, ℕ, List, Option, Some, None, refl, ap, sym, ◌∙◌}
-use Rattle.flt_typed.specs.Terms.{IsMask}
+use Rattle.flt_typing.specs.Terms.{IsMask}
 use Rattle.flt_types.proofs.operand.mask_number.Goals as goal
-use Rattle.flt_typed.specs.Literals.{number_read, number_within, plain, word_read}
+use Rattle.flt_typing.specs.Literals.{number_read, number_within, plain, word_read}
 use Rattle.pk_fields.specs.declared.value_kind.ValueKind.{ValueKind}
 use Rattle.pk_fields.specs.declared.value_kind.ValueKind.TheVariants as kinds
 use Rattle.pk_text.specs.Number.{number_of}

@@ -1,6 +1,6 @@
 use Rattle.std.proofs.Common.{◌≤◌, vec_len}
 use Rattle.flt_syntax.specs.Written.{Written}
-use Rattle.flt_typed.specs.Typing.{HasType}
+use Rattle.flt_typing.specs.Typing.{HasType}
 use Rattle.flt_types.specs.Parts.{Plugs, waiting}
 use Rattle.flt_types.proofs.parts.close.Given as goal
 

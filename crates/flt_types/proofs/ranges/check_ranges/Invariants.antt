@@ -1,6 +1,6 @@
 use Rattle.std.proofs.Common.{◌≡◌, drop}
 use Rattle.std.specs.List.{list_all}
-use Rattle.flt_typed.specs.Ranges.{is_range}
+use Rattle.flt_typing.specs.Ranges.{is_range}
 use Rattle.flt_types.specs.Faults.{ranges_faults}
 use Rattle.flt_types.proofs.ranges.check_ranges.Given as goal
 

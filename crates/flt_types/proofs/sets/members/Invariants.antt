@@ -1,6 +1,6 @@
 use Rattle.std.proofs.Common.{List, ◌++◌, drop}
 use Rattle.flt_syntax.specs.declared.fault.FilterError.{FilterError}
-use Rattle.flt_typed.specs.Typing.{AreMembers}
+use Rattle.flt_typing.specs.Typing.{AreMembers}
 use Rattle.flt_typed.specs.declared.typed.Member.{Member}
 use Rattle.flt_types.specs.Faults.{IsAnswer, elements_faults}
 use Rattle.flt_types.proofs.sets.members.Given as goal

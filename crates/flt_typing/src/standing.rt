@@ -1,7 +1,7 @@
 // Where an operand stands, which decides what a word that names no field is there.
 ghost use Rattle.std.specs.Prelude.{◌≡◌};
 ghost use Rattle.flt_syntax.specs.Written.{operand_of};
-ghost use Rattle.flt_typed.specs.Standing.{argument as argument_of, in_slice as in_slice_of, within as within_at};
+ghost use Rattle.flt_typing.specs.Standing.{argument as argument_of, in_slice as in_slice_of, within as within_at};
 
 use flt_syntax::{Function, Operand};
 

@@ -1,9 +1,9 @@
 -- A kind with bits is read as a number.
 use Rattle.std.proofs.Common.{◌≡◌, ℕ, true, false, List, Option, None, Some, sym, ap}
 use Rattle.flt_typed.specs.Kinds.{is_masked}
-use Rattle.flt_typed.specs.Literals.{number_read, number_within, plain, word_read}
-use Rattle.flt_typed.specs.declared.literal.Constant.{Constant}
-use Rattle.flt_typed.specs.declared.literal.Reading.TheVariants.{Reads}
+use Rattle.flt_typing.specs.Literals.{number_read, number_within, plain, word_read}
+use Rattle.flt_typed.specs.declared.constant.Constant.{Constant}
+use Rattle.flt_typing.specs.declared.literal.Reading.TheVariants.{Reads}
 use Rattle.pk_fields.specs.declared.value_kind.ValueKind.{ValueKind}
 use Rattle.pk_fields.specs.declared.value_kind.ValueKind.TheVariants as kinds
 use Rattle.pk_text.specs.Number.{number_of}

@@ -1,40 +1,17 @@
 // What the literals of filters write.
 ghost use Rattle.std.specs.Prelude.{◌≡◌, ◌^◌, nat_lt, IfOk};
 ghost use Rattle.pk_text.specs.Number.{number_of};
-ghost use Rattle.flt_typed.specs.Literals.{true_words, false_words, is_one_of, number_read, number_within, truth_of, prefix_of, leading_read, value_read, bits_of, address_of, address_read, ether_value, word_read, quote_read};
+ghost use Rattle.flt_typing.specs.Literals.{true_words, false_words, is_one_of, number_read, number_within, truth_of, prefix_of, leading_read, value_read, bits_of, address_of, address_read, ether_value, word_read, quote_read};
 
+use flt_typed::Constant;
 use pk_base::{NoMemory, Octets, Value, are_digits};
 use pk_fields::ValueKind;
 use pk_text::{Wide, read_bytes, read_ether, read_ip4, read_ip6, read_number, read_time};
-use std::alloc::{AllocError, Global};
+use std::alloc::Global;
 
 const TRUE_WORDS: [&str; 4] = ["true", "True", "TRUE", "1"];
 
 const FALSE_WORDS: [&str; 4] = ["false", "False", "FALSE", "0"];
-
-/// A literal's value.
-#[derive(Drop)]
-pub struct Constant {
-    pub value: Value,
-    /// The leading bits of an address that are compared, where it has a prefix length: at most 32 or 128.
-    pub prefix: Option<u8>,
-    /// It is written as a string.
-    pub quoted: bool,
-}
-
-impl Clone for Constant {
-    ghost use Rattle.std.specs.Prelude.{◌≡◌};
-
-    ghost is_clone = { λ constant copy. copy ≡ constant };
-
-    fn clone(&self) -> Result<Constant, AllocError> {
-        Ok(Constant {
-            value: self.value.clone()?,
-            prefix: self.prefix,
-            quoted: self.quoted,
-        })
-    }
-}
 
 /// What a literal writes as one of a kind.
 #[derive(Drop)]

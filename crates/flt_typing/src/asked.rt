@@ -4,7 +4,7 @@ ghost use Rattle.flt_typed.specs.Asked.{HasFilter, asks, asks_term};
 ghost use Rattle.pk_fields.specs.FieldSets.{is_in};
 
 use crate::filter::Filter;
-use crate::typed::{Term, Typed};
+use flt_typed::{Term, Typed};
 use pk_fields::FieldSet;
 
 /// Adds to a set the fields that a filter asks for, with their protocols. A tree with the items of such a set's fields

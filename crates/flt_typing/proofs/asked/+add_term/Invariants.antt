@@ -1,7 +1,7 @@
 use Rattle.std.proofs.Common.{◌≡◌, ◌||◌, ◌≤◌, ℕ}
 use Rattle.flt_typed.specs.Asked.{asks_term}
 use Rattle.flt_typed.specs.declared.typed.Term.{size-Term}
-use Rattle.flt_typed.proofs.asked.+add_term.Given as goal
+use Rattle.flt_typing.proofs.asked.+add_term.Given as goal
 use Rattle.pk_fields.specs.FieldSets.{is_in}
 
 abbrev pub invariant-signs : goal.invariant-signs

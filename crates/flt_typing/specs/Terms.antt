@@ -5,17 +5,17 @@ use Rattle.flt_syntax.specs.Written.{WrittenOperand, NamedOf, OnLayerOf, OnLayer
 use Rattle.flt_syntax.specs.declared.ast.Function.{Function}
 use Rattle.flt_syntax.specs.declared.ast.Function.TheVariants.{Count, Min, Max}
 use Rattle.flt_syntax.specs.declared.word.Word.{Word}
-use Rattle.flt_typed.specs.Layers.{is_layer, is_layers, layers_of, one_layer}
-use Rattle.flt_typed.specs.Ranges.{is_range}
-use Rattle.flt_typed.specs.Standing.{argument, in_slice, within}
-use Rattle.flt_typed.specs.declared.standing.Standing.{Standing}
-use Rattle.flt_typed.specs.declared.standing.Standing.TheVariants.{Free}
+use Rattle.flt_typing.specs.Layers.{is_layer, is_layers, layers_of, one_layer}
+use Rattle.flt_typing.specs.Ranges.{is_range}
+use Rattle.flt_typing.specs.Standing.{argument, in_slice, within}
+use Rattle.flt_typing.specs.declared.standing.Standing.{Standing}
+use Rattle.flt_typing.specs.declared.standing.Standing.TheVariants.{Free}
 use Rattle.flt_typed.specs.declared.typed.Term.{Term}
 use Rattle.flt_typed.specs.declared.typed.Term.TheVariants as terms
 use Rattle.flt_typed.specs.Kinds.{is_masked, is_number, is_sliced, kind_of_call, kind_of_value, takes_call}
-use Rattle.flt_typed.specs.Literals.{word_read}
-use Rattle.flt_typed.specs.declared.literal.Constant.{Constant}
-use Rattle.flt_typed.specs.declared.literal.Reading.TheVariants.{Reads}
+use Rattle.flt_typing.specs.Literals.{word_read}
+use Rattle.flt_typed.specs.declared.constant.Constant.{Constant}
+use Rattle.flt_typing.specs.declared.literal.Reading.TheVariants.{Reads}
 use Rattle.pk_fields.specs.Fields.{field_named, row_of}
 use Rattle.pk_fields.specs.declared.value_kind.ValueKind.{ValueKind}
 use Rattle.pk_fields.specs.declared.value_kind.ValueKind.TheVariants as kinds

@@ -1,7 +1,7 @@
 ghost use Rattle.std.specs.Prelude.{◌≡◌};
-ghost use Rattle.flt_typed.specs.Texts.{IsFilter};
+ghost use Rattle.flt_typing.specs.Texts.{IsFilter};
 
-use crate::typed::Typed;
+use flt_typed::Typed;
 use std::marker::Model;
 
 /// A filter: the typed filter of some text.
@@ -12,7 +12,7 @@ pub struct Filter {
 
 impl Model for Filter {
     ghost use Rattle.std.specs.Coded.{codes};
-    ghost use Rattle.flt_typed.specs.Texts.{IsFilter};
+    ghost use Rattle.flt_typing.specs.Texts.{IsFilter};
     ghost use Rattle.flt_typed.specs.contracts.typed.Typed as typed;
     ghost use Rattle.flt_typed.specs.declared.typed.Typed.{Typed};
 

@@ -5,11 +5,11 @@ use Rattle.std.specs.Char.{is_ascii_digit}
 use Rattle.std.specs.List.{list_any, list_all}
 use Rattle.std.specs.Option.{option_map}
 use Rattle.std.specs.Str.{bytes_eq}
-use Rattle.flt_typed.specs.declared.literal.Constant.{Constant}
-use Rattle.flt_typed.specs.declared.literal.Family.{Family}
-use Rattle.flt_typed.specs.declared.literal.Family.TheVariants.{Ip4, Ip6}
-use Rattle.flt_typed.specs.declared.literal.Reading.{Reading}
-use Rattle.flt_typed.specs.declared.literal.Reading.TheVariants as readings
+use Rattle.flt_typed.specs.declared.constant.Constant.{Constant}
+use Rattle.flt_typing.specs.declared.literal.Family.{Family}
+use Rattle.flt_typing.specs.declared.literal.Family.TheVariants.{Ip4, Ip6}
+use Rattle.flt_typing.specs.declared.literal.Reading.{Reading}
+use Rattle.flt_typing.specs.declared.literal.Reading.TheVariants as readings
 use Rattle.pk_fields.specs.declared.value_kind.ValueKind.{ValueKind}
 use Rattle.pk_fields.specs.declared.value_kind.ValueKind.TheVariants as kinds
 use Rattle.pk_text.specs.Cut.{cut_at}

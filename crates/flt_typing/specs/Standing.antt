@@ -3,8 +3,8 @@ use Rattle.std.specs.Prelude.{ℕ, None}
 use Rattle.flt_syntax.specs.Written.{WrittenOperand, ComputedOf}
 use Rattle.flt_syntax.specs.declared.ast.Function.{Function}
 use Rattle.flt_syntax.specs.declared.ast.Function.TheVariants.{Min, Max}
-use Rattle.flt_typed.specs.declared.standing.Standing.{Standing}
-use Rattle.flt_typed.specs.declared.standing.Standing.TheVariants.{First, Free, Within, Sliced}
+use Rattle.flt_typing.specs.declared.standing.Standing.{Standing}
+use Rattle.flt_typing.specs.declared.standing.Standing.TheVariants.{First, Free, Within, Sliced}
 
 -- in a slice: its word names a field
 abbrev pub in_slice : Standing → Standing

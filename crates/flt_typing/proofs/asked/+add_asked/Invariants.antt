@@ -1,7 +1,7 @@
 use Rattle.std.proofs.Common.{◌≡◌, ◌||◌, ◌≤◌, ℕ}
 use Rattle.flt_typed.specs.Asked.{asks}
 use Rattle.flt_typed.specs.declared.typed.Typed.{size-Typed}
-use Rattle.flt_typed.proofs.asked.+add_asked.Given as goal
+use Rattle.flt_typing.proofs.asked.+add_asked.Given as goal
 use Rattle.pk_fields.specs.FieldSets.{is_in}
 
 abbrev pub invariant-signs : goal.invariant-signs

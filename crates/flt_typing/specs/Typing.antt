@@ -10,9 +10,9 @@ use Rattle.flt_syntax.specs.declared.ast.Operator.{Operator}
 use Rattle.flt_syntax.specs.declared.ast.Operator.TheVariants as operators
 use Rattle.flt_syntax.specs.declared.token.Join.TheVariants as joins
 use Rattle.flt_typed.specs.Patterns.{IsPattern}
-use Rattle.flt_typed.specs.Constants.{end_read, literal_of, literal_read, side_read}
-use Rattle.flt_typed.specs.Terms.{IsTerm, kind_of}
-use Rattle.flt_typed.specs.declared.standing.Standing.TheVariants.{First, Free}
+use Rattle.flt_typing.specs.Constants.{end_read, literal_of, literal_read, side_read}
+use Rattle.flt_typing.specs.Terms.{IsTerm, kind_of}
+use Rattle.flt_typing.specs.declared.standing.Standing.TheVariants.{First, Free}
 use Rattle.flt_typed.specs.declared.typed.Member.{Member}
 use Rattle.flt_typed.specs.declared.typed.Member.TheVariants as members
 use Rattle.flt_typed.specs.declared.typed.Term.{Term}
@@ -20,7 +20,7 @@ use Rattle.flt_typed.specs.declared.typed.Term.TheVariants as terms
 use Rattle.flt_typed.specs.declared.typed.Typed.{Typed}
 use Rattle.flt_typed.specs.declared.typed.Typed.TheVariants.{Either', Differ', Both', Not', Exists, AnyBit, Compare, Among, Matches}
 use Rattle.flt_typed.specs.Kinds.{is_searched, same_class, takes}
-use Rattle.flt_typed.specs.declared.literal.Reading.TheVariants.{Reads}
+use Rattle.flt_typing.specs.declared.literal.Reading.TheVariants.{Reads}
 use Rattle.flt_typed.specs.declared.relation.Relation.{Relation}
 use Rattle.flt_typed.specs.declared.relation.Relation.TheVariants as relations
 use Rattle.pk_fields.specs.declared.value_kind.ValueKind.{ValueKind}

@@ -5,9 +5,9 @@ use Rattle.flt_syntax.specs.declared.ast.Literal.{Literal}
 use Rattle.flt_syntax.specs.declared.ast.Literal.TheVariants as literals
 use Rattle.flt_syntax.specs.declared.word.Word.{Word}
 use Rattle.flt_typed.specs.Kinds.{admits_prefix, is_truth, kind_of_right}
-use Rattle.flt_typed.specs.Literals.{quote_read, word_read}
-use Rattle.flt_typed.specs.declared.literal.Reading.{Reading}
-use Rattle.flt_typed.specs.declared.literal.Reading.TheVariants as readings
+use Rattle.flt_typing.specs.Literals.{quote_read, word_read}
+use Rattle.flt_typing.specs.declared.literal.Reading.{Reading}
+use Rattle.flt_typing.specs.declared.literal.Reading.TheVariants as readings
 use Rattle.flt_typed.specs.declared.relation.Relation.{Relation}
 use Rattle.pk_fields.specs.Fields.{field_named}
 use Rattle.pk_fields.specs.declared.value_kind.ValueKind.{ValueKind}

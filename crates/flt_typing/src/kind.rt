@@ -1,9 +1,8 @@
 // The kind of what has values in a tree.
 ghost use Rattle.std.specs.Prelude.{◌≡◌};
-ghost use Rattle.flt_typed.specs.Terms.{kind_of as kind_of_term};
+ghost use Rattle.flt_typing.specs.Terms.{kind_of as kind_of_term};
 
-use crate::typed::Term;
-use crate::{kind_of_call, kind_of_value};
+use flt_typed::{Term, kind_of_call, kind_of_value};
 use pk_fields::{ValueKind, kind};
 
 /// What arithmetic gives, and the kind by which its numbers are read.

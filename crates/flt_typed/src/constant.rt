@@ -1,0 +1,26 @@
+use pk_base::Value;
+use std::alloc::AllocError;
+
+/// A literal's value.
+#[derive(Drop)]
+pub struct Constant {
+    pub value: Value,
+    /// The leading bits of an address that are compared, where it has a prefix length: at most 32 or 128.
+    pub prefix: Option<u8>,
+    /// It is written as a string.
+    pub quoted: bool,
+}
+
+impl Clone for Constant {
+    ghost use Rattle.std.specs.Prelude.{◌≡◌};
+
+    ghost is_clone = { λ constant copy. copy ≡ constant };
+
+    fn clone(&self) -> Result<Constant, AllocError> {
+        Ok(Constant {
+            value: self.value.clone()?,
+            prefix: self.prefix,
+            quoted: self.quoted,
+        })
+    }
+}
