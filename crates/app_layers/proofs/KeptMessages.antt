@@ -2,7 +2,7 @@
 use Rattle.std.proofs.Common.{ℕ, Bool, true, false, if◌then◌else◌, List, [], ◌∷◌, length, Option, None, Some}
 use Rattle.std.specs.Prelude.{◌&&◌, nat_lt}
 use Rattle.pk_base.specs.declared.span.Span.{Span}
-use Rattle.pk_buffer.specs.Buffers.{bytes_of}
+use Rattle.pk_tree.specs.Buffers.{bytes_of}
 use Rattle.pk_fields.specs.Ids.{DNS, HTTP, HTTP_FILE_DATA, TCP_SEGMENT}
 use Rattle.pk_base.specs.declared.heads.Mode.TheVariants.{Plain as PlainMode}
 use Rattle.pk_tree.specs.declared.layout.Step.{Step}

@@ -8,8 +8,8 @@ use Rattle.app_layers.specs.DataLayer.{data_over}
 use Rattle.app_layers.proofs.KeptHeads.{tree_as, kept_if}
 use Rattle.pk_base.specs.declared.heads.After.{After}
 use Rattle.pk_base.specs.declared.heads.After.TheVariants as afters
-use Rattle.port_rules.specs.declared.rules.App.{App}
-use Rattle.port_rules.specs.declared.rules.App.TheVariants.{Http, Dns, Dhcp, Ntp, Mdns, Plain}
+use Rattle.pk_fields.specs.declared.rules.App.{App}
+use Rattle.pk_fields.specs.declared.rules.App.TheVariants.{Http, Dns, Dhcp, Ntp, Mdns, Plain}
 use Rattle.app_layers.specs.Applications.{data_behind, message_over}
 
 -- bytes that no protocol reads

@@ -3,7 +3,7 @@ use Rattle.std.proofs.Common.{◌≡◌, ℕ, ◌+◌, ◌<◌, ◌≤◌, Bool,
 use Rattle.std.proofs.lemmas.List.{get_or_append_left}
 use Rattle.std.specs.Prelude.{◌&&◌, nat_lt}
 use Rattle.pk_base.specs.declared.span.Span.{Span}
-use Rattle.pk_buffer.specs.Buffers.{IsInside, bytes_of, buffer_of}
+use Rattle.pk_tree.specs.Buffers.{IsInside, bytes_of, buffer_of}
 use Rattle.pk_fields.specs.FieldSets.{is_in}
 use Rattle.pk_fields.specs.Ids.{HTTP, HTTP_FILE_DATA}
 use Rattle.pk_base.specs.declared.heads.Mode.{Mode}

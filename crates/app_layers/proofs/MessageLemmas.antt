@@ -3,8 +3,8 @@ use Rattle.std.proofs.Common.{◌≡◌, ℕ, ◌+◌, ◌-◌, ◌*◌, ◌^◌
 use Rattle.std.specs.List.{slice_range}
 use Rattle.std.proofs.lemmas.List.{get_or_push, drop_more}
 use Rattle.pk_base.specs.declared.span.Span.{Span}
-use Rattle.pk_buffer.specs.Buffers.{IsInside, bytes_of, buffer_of}
-use Rattle.pk_buffer.proofs.Spans.{length-bytes_of, inside_part, bytes_of-part}
+use Rattle.pk_tree.specs.Buffers.{IsInside, bytes_of, buffer_of}
+use Rattle.pk_tree.proofs.Spans.{length-bytes_of, inside_part, bytes_of-part}
 use Rattle.pk_fields.specs.Ids.{TCP_SEGMENT, DNS}
 use Rattle.pk_base.specs.declared.heads.Mode.TheVariants.{Plain as PlainMode}
 use Rattle.pk_tree.specs.Layouts.{within}

@@ -10,9 +10,9 @@ use Rattle.tcp_streams.specs.declared.segment.Segment.{Segment}
 use Rattle.tcp_streams.specs.Conversations.{comes_first, end_at, end_of_endpoint, ends_between, ends_of, same_bool, same_end, same_ends}
 use Rattle.stream_messages.specs.declared.told.App.{App as StreamApp}
 use Rattle.tcp_messages.specs.Readers.{IsOfEnds}
-use Rattle.port_rules.specs.declared.rules.App.{App}
-use Rattle.port_rules.specs.declared.rules.PortRule.{PortRule}
-use Rattle.port_rules.specs.Applications.{app_between, app_known, tcp_app, usual_tcp}
+use Rattle.pk_fields.specs.declared.rules.App.{App}
+use Rattle.pk_fields.specs.declared.rules.PortRule.{PortRule}
+use Rattle.pk_fields.specs.Applications.{app_between, app_known, tcp_app, usual_tcp}
 use Rattle.app_layers.specs.MessageLayers.{app_of_segment, in_streams, stream_app}
 
 both : (a b : Bool) → (a && b) ≡ true → (a ≡ true) × (b ≡ true)

@@ -2,7 +2,7 @@
 use Rattle.std.specs.Prelude.{◌&&◌, nat_lt}
 use Rattle.std.proofs.Common.{◌≡◌, ◌==◌, [], length, ℕ, Bool, true, false, List, ◌∷◌, Option, Some, None, if◌then◌else◌, refl, ◌∙◌}
 use Rattle.pk_base.specs.declared.span.Span.{Span}
-use Rattle.pk_buffer.specs.Buffers.{bytes_of}
+use Rattle.pk_tree.specs.Buffers.{bytes_of}
 use Rattle.pk_fields.specs.Ids.{DATA, DNS, HTTP, HTTP_FILE_DATA, TCP_SEGMENT}
 use Rattle.pk_base.specs.declared.heads.Mode.{Mode}
 use Rattle.pk_base.specs.declared.heads.Mode.TheVariants.{Plain}

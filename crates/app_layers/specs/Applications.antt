@@ -1,7 +1,7 @@
 -- What the payload of a datagram is read as.
 use Rattle.std.specs.Prelude.{◌==◌, Bool, false, if◌then◌else◌, Option, Some, None}
 use Rattle.pk_base.specs.declared.span.Span.{Span}
-use Rattle.pk_buffer.specs.Buffers.{bytes_of}
+use Rattle.pk_tree.specs.Buffers.{bytes_of}
 use Rattle.pk_fields.specs.Ids.{DNS, DHCP, NTP, MDNS}
 use Rattle.pk_base.specs.declared.heads.After.{After}
 use Rattle.pk_base.specs.declared.heads.After.TheVariants as afters
@@ -11,8 +11,8 @@ use Rattle.pk_tree.specs.Trees.{TreeShown}
 use Rattle.dis_hosts.specs.Dhcp.{dhcp_layout}
 use Rattle.dis_hosts.specs.Ntp.{ntp_layout, ntp_after}
 use Rattle.dis_dns.specs.Dns.{dns_layout, mdns_layout}
-use Rattle.port_rules.specs.declared.rules.App.{App}
-use Rattle.port_rules.specs.declared.rules.App.TheVariants.{Http, Dns, Dhcp, Ntp, Mdns, Plain}
+use Rattle.pk_fields.specs.declared.rules.App.{App}
+use Rattle.pk_fields.specs.declared.rules.App.TheVariants.{Http, Dns, Dhcp, Ntp, Mdns, Plain}
 use Rattle.app_layers.specs.DataLayer.{data_over}
 
 -- the tree with what follows a layer, as data

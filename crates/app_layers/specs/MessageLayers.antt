@@ -2,7 +2,7 @@
 -- the other.
 use Rattle.std.specs.Prelude.{ℕ, Bool, true, List, [], ◌∷◌, length, Option, Some, None}
 use Rattle.pk_base.specs.declared.span.Span.{Span}
-use Rattle.pk_buffer.specs.Buffers.{bytes_of}
+use Rattle.pk_tree.specs.Buffers.{bytes_of}
 use Rattle.pk_fields.specs.Ids.{DNS, TCP_SEGMENT}
 use Rattle.pk_base.specs.declared.heads.Mode.TheVariants.{Plain as PlainMode}
 use Rattle.pk_tree.specs.Layouts.{layer_read, within}
@@ -19,10 +19,10 @@ use Rattle.tcp_messages.specs.declared.met.ShownMessage.{ShownMessage}
 use Rattle.tcp_messages.specs.declared.met.Source.{Source}
 use Rattle.tcp_messages.specs.declared.met.Source.TheVariants as sources
 use Rattle.tcp_messages.specs.Shown.{frames_told as gathered_from}
-use Rattle.port_rules.specs.declared.rules.App.{App}
-use Rattle.port_rules.specs.declared.rules.App.TheVariants.{Http, Dns, Dhcp, Ntp, Mdns, Plain}
-use Rattle.port_rules.specs.declared.rules.PortRule.{PortRule}
-use Rattle.port_rules.specs.Applications.{tcp_app}
+use Rattle.pk_fields.specs.declared.rules.App.{App}
+use Rattle.pk_fields.specs.declared.rules.App.TheVariants.{Http, Dns, Dhcp, Ntp, Mdns, Plain}
+use Rattle.pk_fields.specs.declared.rules.PortRule.{PortRule}
+use Rattle.pk_fields.specs.Applications.{tcp_app}
 use Rattle.app_layers.specs.DataLayer.{data_over}
 use Rattle.app_layers.specs.Payloads.{with_number}
 

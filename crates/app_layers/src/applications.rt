@@ -1,5 +1,5 @@
 ghost use Rattle.std.specs.Prelude.{◌≡◌, ◌+◌, ◌<◌, ◌≤◌, ◌^◌, length, IfOk, OnOk};
-ghost use Rattle.pk_buffer.specs.Buffers.{IsInside};
+ghost use Rattle.pk_tree.specs.Buffers.{IsInside};
 ghost use Rattle.pk_tree.specs.Following.{LeadsInside};
 ghost use Rattle.app_layers.specs.Applications.{data_behind, payload_over};
 ghost use Rattle.app_layers.specs.MessageLayers.{in_streams, stream_app};
@@ -8,8 +8,8 @@ use crate::data_layer::add_data;
 use dis_dns::{read_dns, read_mdns};
 use dis_hosts::{read_dhcp, read_ntp};
 use pk_base::{After, NoMemory, Span};
+use pk_fields::{App, PortRule, tcp_app};
 use pk_tree::TreeBuilder;
-use port_rules::{App, PortRule, tcp_app};
 use stream_messages::App as StreamApp;
 
 /// The application of a stream, by the ports of one of its segments.

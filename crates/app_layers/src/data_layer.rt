@@ -1,5 +1,5 @@
 ghost use Rattle.std.specs.Prelude.{◌≡◌, ◌+◌, ◌<◌, ◌≤◌, ◌^◌, length, IfOk, OnOk};
-ghost use Rattle.pk_buffer.specs.Buffers.{IsInside};
+ghost use Rattle.pk_tree.specs.Buffers.{IsInside};
 ghost use Rattle.app_layers.specs.DataLayer.{data_layout, data_over};
 
 use pk_base::{Mode, NoMemory, Span, Value};

@@ -1,5 +1,5 @@
 ghost use Rattle.std.specs.Prelude.{◌≡◌, ◌+◌, ◌<◌, ◌≤◌, ◌^◌, length, IfOk, OnOk};
-ghost use Rattle.pk_buffer.specs.Buffers.{IsInside, bytes_of};
+ghost use Rattle.pk_tree.specs.Buffers.{IsInside, bytes_of};
 ghost use Rattle.pk_tree.specs.Following.{LeadsInside};
 ghost use Rattle.app_layers.specs.Heads.{head_after, head_read};
 ghost use Rattle.app_layers.specs.Payloads.{ComesBehind};

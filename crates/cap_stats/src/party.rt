@@ -1,7 +1,7 @@
-use pk_base::Address;
 ghost use Rattle.std.specs.Prelude.{◌≡◌};
 ghost use Rattle.cap_stats.specs.Counts.{is_same, is_same_address, is_same_port};
 
+use pk_base::Address;
 
 /// An end of a conversation: an address, and a port where the conversation is one of ports.
 #[derive(Clone, Copy)]

@@ -5,8 +5,8 @@ ghost use Rattle.std.specs.List.{find};
 ghost use Rattle.pk_tree.specs.FieldValues.{item_values};
 ghost use Rattle.cap_stats.specs.Told.{first_value, number_of, four_of, six_of, number_in, four_in, six_in, address_in, length_of, is_ip as is_ip_layer, has_stream as shows_stream, party_at as party_value, segment_of, segment_at, stream_in, has_addresses as shows_addresses, pair_of as pair_value, host as host_value, packet_of, packet_in};
 
-use pk_base::{Address, Value};
 use crate::party::{Flight, Party};
+use pk_base::{Address, Value};
 use pk_fields::{FieldId, ids};
 use pk_tree::{Item, Layer};
 

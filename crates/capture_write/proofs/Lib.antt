@@ -2,8 +2,10 @@ mod BlockBack
 pub mod FitLaws
 pub mod KeptLaws
 pub mod LinkLaws
+pub mod MadeLengths
 pub mod NumberLaws
 mod PacketBack
 mod PcapBack
 mod PcapngBack
+pub mod Sending
 mod Steps

@@ -1,5 +1,5 @@
 ghost use Rattle.std.specs.Prelude.{◌≡◌, List, ◌+◌, ◌<◌, ◌≤◌, ◌^◌, length, drop, IfOk, IfSome, OnOk};
-ghost use Rattle.pk_buffer.specs.Buffers.{IsInside, bytes_of};
+ghost use Rattle.pk_tree.specs.Buffers.{IsInside, bytes_of};
 ghost use Rattle.pk_fields.specs.Ids.{DNS, MDNS};
 ghost use Rattle.pk_tree.specs.Entries.{repeated};
 ghost use Rattle.pk_tree.specs.Layouts.{StepsFit, layer_read};

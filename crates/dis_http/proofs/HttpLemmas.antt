@@ -25,7 +25,7 @@ use Rattle.std.proofs.lemmas.List.{get_or_push, take_more, flat_map_more}
 use Rattle.std.specs.List.{flat_map}
 use Rattle.std.proofs.lemmas.Bool.{cond_both}
 use Rattle.pk_base.specs.declared.span.Span.{Span}
-use Rattle.pk_buffer.specs.Buffers.{IsInside, buffer_of}
+use Rattle.pk_tree.specs.Buffers.{IsInside, buffer_of}
 use Rattle.pk_tree.specs.Trees.{TreeShown}
 
 length_take_most : (n : ℕ) (xs : List ℕ) → length (take n xs) ≤ n

@@ -2,7 +2,7 @@
 use Rattle.std.specs.Prelude.{◌≡◌, ℕ, ◌&&◌, Bool, false, if◌then◌else◌, List, [], ◌∷◌, ◌++◌, length, take, drop, nat_lt, Some}
 use Rattle.std.specs.List.{flat_map}
 use Rattle.pk_base.specs.declared.span.Span.{Span}
-use Rattle.pk_buffer.specs.Buffers.{bytes_of}
+use Rattle.pk_tree.specs.Buffers.{bytes_of}
 use Rattle.pk_fields.specs.Ids.{HTTP, HTTP_FILE_DATA}
 use Rattle.pk_base.specs.declared.heads.Mode.TheVariants.{Plain as InPlain}
 use Rattle.pk_tree.specs.declared.layout.Step.{Step}

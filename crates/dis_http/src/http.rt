@@ -1,5 +1,5 @@
 ghost use Rattle.std.specs.Prelude.{◌≡◌, ◌+◌, ◌<◌, ◌≤◌, ◌^◌, ◌++◌, length, false, IfOk, OnOk};
-ghost use Rattle.pk_buffer.specs.Buffers.{IsInside, bytes_of};
+ghost use Rattle.pk_tree.specs.Buffers.{IsInside, bytes_of};
 ghost use Rattle.pk_fields.specs.Ids.{HTTP};
 ghost use Rattle.pk_tree.specs.Layouts.{StepsFit};
 ghost use Rattle.http_frame.specs.Sizes.{size_of_pieces};
@@ -50,7 +50,7 @@ fn read_plain(span: Span, steps: &[Step], b: &mut TreeBuilder) -> Result<(), NoM
 }
 
 /// Reads a message with chunks, behind their bytes as one more buffer.
-#[tactic(auto, using(pk_buffer::proofs::Spans::inside_more, crate::proofs::HttpLemmas::inside_last, crate::proofs::HttpLemmas::joined_fits), unfolding(pk_fields::specs::Fields::row_of, pk_fields::specs::Table::rows, pk_tree::specs::Trees::with_buffer))]
+#[tactic(auto, using(pk_tree::proofs::Spans::inside_more, crate::proofs::HttpLemmas::inside_last, crate::proofs::HttpLemmas::joined_fits), unfolding(pk_fields::specs::Fields::row_of, pk_fields::specs::Table::rows, pk_tree::specs::Trees::with_buffer))]
 fn read_chunked(
     span: Span,
     steps: &[Step],

@@ -1,5 +1,5 @@
 ghost use Rattle.std.specs.Prelude.{◌≡◌, ◌+◌, ◌<◌, ◌≤◌, ◌^◌, length, IfOk, OnOk};
-ghost use Rattle.pk_buffer.specs.Buffers.{IsInside, bytes_of};
+ghost use Rattle.pk_tree.specs.Buffers.{IsInside, bytes_of};
 ghost use Rattle.pk_fields.specs.Ids.{ND};
 ghost use Rattle.pk_tree.specs.Layouts.{StepsFit, layer_read};
 ghost use Rattle.dis_icmp.specs.Neigh.{advertised_neighbour, advertised_router, neigh_layout, neigh_rows, options_start, redirected};

@@ -1,7 +1,7 @@
 -- The first header of a frame, by the link type of its capture (the LINKTYPE registry of tcpdump.org).
 use Rattle.std.specs.Prelude.{◌==◌, ℕ, Bool, List, if◌then◌else◌}
 use Rattle.pk_base.specs.declared.span.Span.{Span}
-use Rattle.pk_buffer.specs.Buffers.{bytes_of}
+use Rattle.pk_tree.specs.Buffers.{bytes_of}
 use Rattle.pk_fields.specs.Ids.{ETH, NULL, SLL, SLL2}
 use Rattle.pk_base.specs.declared.heads.After.{After}
 use Rattle.pk_base.specs.declared.heads.Mode.TheVariants.{Plain}

@@ -1,7 +1,7 @@
 -- The chain of headers, met one by one.
 use Rattle.std.proofs.Common.{◌≡◌, ℕ, zero, suc, ◌-◌, ◌<◌, List, refl, sym, ◌∙◌, ap, subst, arith}
 use Rattle.pk_tree.specs.Trees.{TreeShown}
-use Rattle.port_rules.specs.declared.rules.PortRule.{PortRule}
+use Rattle.pk_fields.specs.declared.rules.PortRule.{PortRule}
 use Rattle.capture_read.specs.declared.frame.Frame.{Frame}
 use Rattle.dissect.specs.declared.state.State.{State}
 use Rattle.dissect.specs.declared.todo.Head.{Head}

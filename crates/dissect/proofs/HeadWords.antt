@@ -1,12 +1,12 @@
 -- What is met at a header, by the words for its layer and for what follows it.
 use Rattle.std.proofs.Common.{◌≡◌, List, refl, ap, sym, ◌∙◌, true, false, true≢false}
-use Rattle.pk_buffer.specs.Buffers.{bytes_of}
+use Rattle.pk_tree.specs.Buffers.{bytes_of}
 use Rattle.pk_base.specs.declared.heads.After.{After}
 use Rattle.pk_base.specs.declared.heads.Mode.{Mode}
 use Rattle.pk_base.specs.declared.heads.Next.{Next}
 use Rattle.pk_base.specs.declared.heads.Next.TheVariants as nexts
 use Rattle.pk_tree.specs.Trees.{TreeShown}
-use Rattle.port_rules.specs.declared.rules.PortRule.{PortRule}
+use Rattle.pk_fields.specs.declared.rules.PortRule.{PortRule}
 use Rattle.capture_read.specs.declared.frame.Frame.{Frame}
 use Rattle.app_layers.specs.FrameLayer.{is_cut}
 use Rattle.app_layers.specs.Heads.{head_after, head_read, is_rest}

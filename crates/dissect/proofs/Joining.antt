@@ -5,7 +5,7 @@ use Rattle.pk_base.specs.declared.heads.PacketHead.{PacketHead}
 use Rattle.pk_base.specs.declared.heads.TcpHead.{TcpHead}
 use Rattle.ip_join.specs.Stands.{Stands}
 use Rattle.tcp_messages.specs.Standing.{ReadsFor}
-use Rattle.port_rules.specs.declared.rules.PortRule.{PortRule}
+use Rattle.pk_fields.specs.declared.rules.PortRule.{PortRule}
 use Rattle.dissect.specs.declared.state.State.{State}
 use Rattle.dissect.specs.Conversations.{udp_opened}
 use Rattle.dissect.specs.Events.{Event, Piece, Tcp}

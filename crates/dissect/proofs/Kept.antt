@@ -20,7 +20,7 @@ use Rattle.dis_link.proofs.LinkKept.{link_kept}
 use Rattle.ip_join.specs.declared.joined.Datagram.{Datagram}
 use Rattle.ip_join.specs.declared.joined.Joined.{Joined}
 use Rattle.ip_join.specs.declared.joined.Joined.TheVariants.{Pending, Whole, Conflict}
-use Rattle.port_rules.specs.declared.rules.PortRule.{PortRule}
+use Rattle.pk_fields.specs.declared.rules.PortRule.{PortRule}
 use Rattle.capture_read.specs.declared.frame.Frame.{Frame}
 use Rattle.app_layers.specs.declared.times.Times.{Times}
 use Rattle.dissect.specs.declared.todo.Head.{Head}

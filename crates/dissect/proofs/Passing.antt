@@ -1,7 +1,7 @@
 -- A segment that is passed over: what is told of it where nothing of its stream is asked.
 use Rattle.std.proofs.Common.{◌≡◌, [], subst, ℕ, false, List, Option, refl, sym, ◌∙◌, ap, true≢false}
 use Rattle.pk_base.specs.declared.span.Span.{Span}
-use Rattle.pk_buffer.specs.Buffers.{bytes_of}
+use Rattle.pk_tree.specs.Buffers.{bytes_of}
 use Rattle.pk_fields.specs.Fields.{row_of}
 use Rattle.pk_fields.specs.FieldSets.{is_in}
 use Rattle.pk_fields.specs.Ids.{DNS_RESPONSE_TO, HTTP_REQUEST_IN, TCP_STREAM, TCP_SEQ, TCP_ACK, TCP_LOST}
@@ -14,7 +14,7 @@ use Rattle.tcp_streams.specs.Gaps.{lost_bytes}
 use Rattle.tcp_streams.specs.Labels.{taken_after}
 use Rattle.stream_messages.specs.declared.told.App.{App as StreamApp}
 use Rattle.tcp_messages.specs.Shown.{shown_after}
-use Rattle.port_rules.specs.declared.rules.PortRule.{PortRule}
+use Rattle.pk_fields.specs.declared.rules.PortRule.{PortRule}
 use Rattle.capture_read.specs.declared.frame.Frame.{Frame}
 use Rattle.dissect.specs.declared.state.State.{State}
 use Rattle.dissect.specs.declared.todo.Todo.TheVariants as todos

@@ -9,7 +9,7 @@ use Rattle.pk_base.specs.declared.heads.Next.{Next}
 use Rattle.pk_base.specs.declared.heads.Next.TheVariants as nexts
 use Rattle.pk_base.specs.declared.heads.PacketHead.{PacketHead}
 use Rattle.pk_tree.specs.Trees.{TreeShown}
-use Rattle.port_rules.specs.declared.rules.PortRule.{PortRule}
+use Rattle.pk_fields.specs.declared.rules.PortRule.{PortRule}
 use Rattle.capture_read.specs.declared.frame.Frame.{Frame}
 use Rattle.app_layers.specs.declared.times.Times.{Times}
 use Rattle.dissect.specs.declared.todo.Head.{Head}

@@ -2,7 +2,7 @@
 use Rattle.std.proofs.Common.{◌≡◌, ◌==◌, ℕ, Bool, true, false, cond, if◌then◌else◌, List, [], ◌∷◌, ◌++◌, length, refl, sym, ap, ◌∙◌, arith, true≢false}
 use Rattle.std.specs.List.{AllByRecursion as Each, flat_map}
 use Rattle.std.proofs.lemmas.Bool.{eqb-true}
-use Rattle.pk_buffer.specs.Buffers.{IsInside, bytes_of}
+use Rattle.pk_tree.specs.Buffers.{IsInside, bytes_of}
 use Rattle.pk_fields.specs.Fields.{row_of}
 use Rattle.pk_fields.specs.FieldSets.{is_in}
 use Rattle.pk_base.specs.declared.chosen.Layers.{Layers}

@@ -1,7 +1,7 @@
 -- A segment more: what is shown of it, and what is kept.
 use Rattle.std.proofs.Common.{◌≡◌, true, List, ◌∷◌, map, refl, ◌∙◌, ap, subst}
 use Rattle.pk_base.specs.declared.span.Span.{Span}
-use Rattle.pk_buffer.specs.Buffers.{bytes_of}
+use Rattle.pk_tree.specs.Buffers.{bytes_of}
 use Rattle.pk_base.specs.declared.heads.PacketHead.{PacketHead}
 use Rattle.pk_base.specs.declared.heads.TcpHead.{TcpHead}
 use Rattle.pk_tree.specs.Trees.{TreeShown}
@@ -12,7 +12,7 @@ use Rattle.tcp_streams.specs.Standing.{StandsFor}
 use Rattle.tcp_messages.specs.declared.met.ShownMessage.{ShownMessage}
 use Rattle.tcp_messages.specs.Standing.{ReadsFor, streams_in}
 use Rattle.tcp_messages.specs.Shown.{shown_after}
-use Rattle.port_rules.specs.declared.rules.PortRule.{PortRule}
+use Rattle.pk_fields.specs.declared.rules.PortRule.{PortRule}
 use Rattle.capture_read.specs.declared.frame.Frame.{Frame}
 use Rattle.dissect.specs.declared.state.State.{State}
 use Rattle.dissect.specs.declared.todo.Todo.TheVariants as todos

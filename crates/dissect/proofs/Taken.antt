@@ -5,8 +5,8 @@ use Rattle.pk_tree.specs.FieldValues.{values_of}
 use Rattle.pk_tree.specs.Trees.{TreeShown, IsKept as IsKeptTree}
 use Rattle.pk_tree.proofs.KeptTrees.{all_kept}
 use Rattle.pk_tree.proofs.KeptValues.{values_same}
-use Rattle.port_rules.specs.declared.rules.DecodeAs.{DecodeAs}
-use Rattle.port_rules.specs.declared.rules.PortRule.{PortRule}
+use Rattle.pk_fields.specs.declared.rules.DecodeAs.{DecodeAs}
+use Rattle.pk_fields.specs.declared.rules.PortRule.{PortRule}
 use Rattle.capture_read.specs.declared.frame.Frame.{Frame}
 use Rattle.dissect.specs.declared.state.State.{State}
 use Rattle.app_layers.specs.declared.times.Times.{Times}

@@ -1,8 +1,8 @@
 -- The links of the newest frame's messages to those of earlier frames.
 use Rattle.std.specs.Prelude.{ℕ, List, [], ◌∷◌, Option}
 use Rattle.tcp_streams.specs.Labels.{taken_after}
-use Rattle.port_rules.specs.declared.rules.PortRule.{PortRule}
-use Rattle.port_rules.specs.Applications.{udp_app}
+use Rattle.pk_fields.specs.declared.rules.PortRule.{PortRule}
+use Rattle.pk_fields.specs.Applications.{udp_app}
 use Rattle.message_links.specs.Links.{links_of}
 use Rattle.message_links.specs.Notes.{datagram_notes, tcp_direction, udp_direction}
 use Rattle.dissect.specs.Conversations.{udp_stream}

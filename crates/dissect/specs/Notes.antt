@@ -3,8 +3,8 @@ use Rattle.std.specs.Prelude.{List, [], ◌∷◌, map}
 use Rattle.tcp_streams.specs.declared.segment.Segment.{Segment}
 use Rattle.tcp_streams.specs.Labels.{taken_after}
 use Rattle.tcp_messages.specs.Shown.{shown_after}
-use Rattle.port_rules.specs.declared.rules.PortRule.{PortRule}
-use Rattle.port_rules.specs.Applications.{udp_app}
+use Rattle.pk_fields.specs.declared.rules.PortRule.{PortRule}
+use Rattle.pk_fields.specs.Applications.{udp_app}
 use Rattle.app_layers.specs.MessageLayers.{app_of_segment}
 use Rattle.message_links.specs.declared.notes.Note.{Note}
 use Rattle.message_links.specs.Notes.{Noted, datagram_notes, message_note, noted_on, tcp_direction, udp_direction}

@@ -1,7 +1,7 @@
 -- What a dissector keeps, and what it stands for.
 use Rattle.std.specs.Prelude.{◌≡◌, ℕ, ◌+◌, ◌-◌, ◌*◌, ◌<◌, ◌≤◌, ◌^◌, Bool, true, false, List, length}
-use Rattle.port_rules.specs.declared.rules.DecodeAs.{DecodeAs}
-use Rattle.port_rules.specs.declared.rules.PortRule.{PortRule}
+use Rattle.pk_fields.specs.declared.rules.DecodeAs.{DecodeAs}
+use Rattle.pk_fields.specs.declared.rules.PortRule.{PortRule}
 use Rattle.capture_read.specs.declared.frame.Frame.{Frame}
 use Rattle.capture_read.specs.FrameList.{captured_bytes}
 use Rattle.pk_tree.specs.Trees.{TreeShown, IsTree}

@@ -2,7 +2,7 @@
 use Rattle.std.specs.Prelude.{ℕ, List, [], ◌∷◌}
 use Rattle.pk_fields.specs.FieldSets.{every_field}
 use Rattle.pk_tree.specs.Trees.{TreeShown}
-use Rattle.port_rules.specs.declared.rules.PortRule.{PortRule}
+use Rattle.pk_fields.specs.declared.rules.PortRule.{PortRule}
 use Rattle.capture_read.specs.declared.frame.Frame.{Frame}
 use Rattle.app_layers.specs.declared.times.Times.{Times}
 use Rattle.dissect.specs.Events.{Event, NewFrame}

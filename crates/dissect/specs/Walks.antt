@@ -1,7 +1,7 @@
 -- The way through a frame's headers, one behind the other.
 use Rattle.std.specs.Prelude.{◌==◌, ℕ, zero, suc, ◌-◌, ◌<◌, Bool, true, false, List, ◌∷◌, length, if◌then◌else◌, Option}
 use Rattle.pk_base.specs.declared.span.Span.{Span}
-use Rattle.pk_buffer.specs.Buffers.{IsInside, bytes_of}
+use Rattle.pk_tree.specs.Buffers.{IsInside, bytes_of}
 use Rattle.pk_fields.specs.Ids.{ARP, VLAN, IP, IPV6, UDP, TCP, ICMP, ICMPV6, IGMP, ND}
 use Rattle.pk_base.specs.declared.heads.Address.TheVariants.{Four}
 use Rattle.pk_base.specs.declared.heads.After.{After}
@@ -38,8 +38,8 @@ use Rattle.tcp_streams.specs.Labels.{taken_after}
 use Rattle.stream_messages.specs.declared.told.App.{App as StreamApp}
 use Rattle.tcp_messages.specs.declared.met.ShownMessage.{ShownMessage}
 use Rattle.tcp_messages.specs.Shown.{shown_after}
-use Rattle.port_rules.specs.declared.rules.PortRule.{PortRule}
-use Rattle.port_rules.specs.Applications.{udp_app}
+use Rattle.pk_fields.specs.declared.rules.PortRule.{PortRule}
+use Rattle.pk_fields.specs.Applications.{udp_app}
 use Rattle.capture_read.specs.declared.frame.Frame.{Frame}
 use Rattle.dissect.specs.declared.todo.Head.{Head}
 use Rattle.dissect.specs.declared.todo.Todo.{Todo}

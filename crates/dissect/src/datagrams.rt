@@ -1,5 +1,5 @@
 ghost use Rattle.std.specs.Prelude.{◌≡◌, ◌+◌, ◌<◌, ◌≤◌, ◌^◌, List, length, IfOk, OnOk};
-ghost use Rattle.pk_buffer.specs.Buffers.{IsInside};
+ghost use Rattle.pk_tree.specs.Buffers.{IsInside};
 ghost use Rattle.pk_fields.specs.Ids.{UDP};
 ghost use Rattle.dissect.specs.Events.{Event};
 ghost use Rattle.app_layers.specs.Payloads.{LastIs};
@@ -12,8 +12,8 @@ use app_layers::{add_message, is_cut, tell_datagram};
 use capture_read::Frame;
 use message_links::udp_ends;
 use pk_base::{NoMemory, PacketHead, PortsHead, Span};
+use pk_fields::{PortRule, udp_app};
 use pk_tree::TreeBuilder;
-use port_rules::{PortRule, udp_app};
 
 impl State {
     /// Takes a packet of UDP: tells the number of its conversation, and reads what it carries.

@@ -1,7 +1,7 @@
 ghost use Rattle.std.specs.Prelude.{◌≡◌, ◌↔◌, ◌+◌, ◌≤◌, ◌<◌, ◌^◌, ◌||◌, List, [], ◌∷◌, true, false, length, Err, is_err, IfOk, IfSome, OnOk, OnErr};
 ghost use Rattle.capture_read.specs.declared.frame.Frame.{Frame as FrameValue};
 ghost use Rattle.pk_tree.specs.Trees.{IsKept as IsKeptTree};
-ghost use Rattle.port_rules.specs.Rules.{AreRules};
+ghost use Rattle.pk_fields.specs.Rules.{AreRules};
 ghost use Rattle.dissect.specs.Conversations.{udp_opened};
 ghost use Rattle.dissect.specs.Events.{Event};
 ghost use Rattle.tcp_streams.specs.Standing.{StandsFor, taken_so_far};
@@ -19,9 +19,8 @@ use capture_read::Frame;
 use ip_join::Joins;
 use message_links::{Conversations, Links, link_messages};
 use pk_base::NoMemory;
-use pk_fields::{FieldId, FieldSet, ids};
+use pk_fields::{DecodeAs, FieldId, FieldSet, PortRule, ids};
 use pk_tree::Tree;
-use port_rules::{DecodeAs, PortRule};
 use std::alloc::Global;
 use std::marker::Model;
 use tcp_messages::MessageStreams;
@@ -50,11 +49,11 @@ pub struct Dissector {
 impl Model for Dissector {
     ghost use Rattle.std.specs.Prelude.{ℕ, Bool, List, refl};
     ghost use Rattle.std.specs.Coded.{code_by, coded×, coded_ℕ, coded_bool};
-    ghost use Rattle.port_rules.specs.contracts.rules.DecodeAs as decode_row;
+    ghost use Rattle.pk_fields.specs.contracts.rules.DecodeAs as decode_row;
     ghost use Rattle.dissect.specs.contracts.state.State as state_row;
     ghost use Rattle.app_layers.specs.contracts.times.Times as times_row;
     ghost use Rattle.pk_fields.specs.contracts.field_set.FieldSet as set_row;
-    ghost use Rattle.port_rules.specs.declared.rules.DecodeAs.{DecodeAs as DecodeAsValue};
+    ghost use Rattle.pk_fields.specs.declared.rules.DecodeAs.{DecodeAs as DecodeAsValue};
     ghost use Rattle.dissect.specs.declared.state.State.{State as StateValue};
     ghost use Rattle.app_layers.specs.declared.times.Times.{Times as TimesValue};
     ghost use Rattle.dissect.specs.Stands.{DissectorShown, IsKept};

@@ -1,5 +1,5 @@
 ghost use Rattle.std.specs.Prelude.{◌≡◌, ◌<◌, ◌^◌, List, length, IfOk};
-ghost use Rattle.pk_buffer.specs.Buffers.{IsInside};
+ghost use Rattle.pk_tree.specs.Buffers.{IsInside};
 ghost use Rattle.app_layers.specs.Heads.{is_rest};
 ghost use Rattle.dissect.specs.Events.{Event};
 ghost use Rattle.dissect.specs.Stands.{StandsAt, IsWalked, IsReady, AddsAtMost, AddsFew, AddsOneThenEnds};
@@ -10,8 +10,8 @@ use crate::todo::{Head, Todo};
 use app_layers::{is_cut, read_head};
 use capture_read::Frame;
 use pk_base::{After, Mode, Next, NoMemory};
+use pk_fields::PortRule;
 use pk_tree::TreeBuilder;
-use port_rules::PortRule;
 
 impl State {
     /// Reads a header by its protocol. What an ICMP message carries is read as an embedded packet.

@@ -13,5 +13,5 @@ mod todo;
 mod walk;
 
 pub use dissector::{Dissector, TakeFault, give_up_dissector};
-pub use port_rules::{App, DecodeAs, PortRule, PortRules};
+pub use pk_fields::{App, DecodeAs, PortRule, PortRules};
 pub use tcp_messages::messages_once;

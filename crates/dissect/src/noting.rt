@@ -1,5 +1,5 @@
 ghost use Rattle.std.specs.Prelude.{◌≡◌, ◌∷◌, All, List, map, true, OnOk};
-ghost use Rattle.port_rules.specs.declared.rules.PortRule.{PortRule as PortRuleValue};
+ghost use Rattle.pk_fields.specs.declared.rules.PortRule.{PortRule as PortRuleValue};
 ghost use Rattle.tcp_messages.specs.Shown.{IsWholeIn};
 ghost use Rattle.dissect.specs.Events.{Event, NewFrame};
 ghost use Rattle.message_links.specs.Notes.{datagram_notes, message_note, tcp_direction, udp_direction};
@@ -8,7 +8,7 @@ ghost use Rattle.dissect.specs.Stands.{StandsAt, AddsAtMost, IsLinked, IsSameBut
 use crate::state::State;
 use message_links::{Direction, Note, dns_note, tcp_direction, udp_direction};
 use pk_base::NoMemory;
-use port_rules::App;
+use pk_fields::App;
 use tcp_messages::Met;
 
 impl State {

@@ -1,8 +1,8 @@
 ghost use Rattle.std.specs.Prelude.{◌≡◌, ◌+◌, ◌<◌, ◌≤◌, List, length, true, IfOk, OnOk};
-ghost use Rattle.pk_buffer.specs.Buffers.{IsInside};
+ghost use Rattle.pk_tree.specs.Buffers.{IsInside};
 ghost use Rattle.dis_ip.specs.Fragments.{part_proto};
 ghost use Rattle.ip_join.specs.Datagrams.{IsShort};
-ghost use Rattle.port_rules.specs.declared.rules.PortRule.{PortRule};
+ghost use Rattle.pk_fields.specs.declared.rules.PortRule.{PortRule};
 ghost use Rattle.dissect.specs.Events.{Event};
 ghost use Rattle.app_layers.specs.Payloads.{LastIs};
 ghost use Rattle.dissect.specs.Stands.{StandsAt, IsWalked, IsReady, AddsAtMost, AddsOneThenEnds};

@@ -1,5 +1,5 @@
 ghost use Rattle.std.specs.Prelude.{◌≡◌, ◌+◌, ◌<◌, ◌^◌, All, Bool, true, List, [], length, map, IfOk, OnOk};
-ghost use Rattle.pk_buffer.specs.Buffers.{IsInside, bytes_of};
+ghost use Rattle.pk_tree.specs.Buffers.{IsInside, bytes_of};
 ghost use Rattle.pk_fields.specs.Ids.{TCP};
 ghost use Rattle.tcp_streams.specs.Labels.{PassesNear};
 ghost use Rattle.tcp_messages.specs.Shown.{IsWholeIn, frames_told as gathered_from};
@@ -17,8 +17,8 @@ use crate::todo::Todo;
 use app_layers::{add_carried, add_passed, is_cut, stream_app, tell_carried, tell_segment};
 use capture_read::Frame;
 use pk_base::{Endpoint, NoMemory, Octets, PacketHead, Span, TcpHead};
+use pk_fields::PortRule;
 use pk_tree::TreeBuilder;
-use port_rules::PortRule;
 use stream_messages::App as StreamApp;
 use tcp_messages::Met;
 use tcp_streams::Segment;

@@ -1,7 +1,7 @@
 ghost use Rattle.std.specs.Prelude.{◌≡◌, ◌+◌, ◌-◌, ◌<◌, ◌≤◌, ◌^◌, List, [], ◌∷◌, length, IfOk, OnOk};
-ghost use Rattle.pk_buffer.specs.Buffers.{IsInside};
+ghost use Rattle.pk_tree.specs.Buffers.{IsInside};
 ghost use Rattle.pk_tree.specs.Following.{LeadsInside};
-ghost use Rattle.port_rules.specs.declared.rules.PortRule.{PortRule as PortRuleValue};
+ghost use Rattle.pk_fields.specs.declared.rules.PortRule.{PortRule as PortRuleValue};
 ghost use Rattle.dissect.specs.declared.state.State.{State as StateValue};
 ghost use Rattle.dissect.specs.Events.{Event, NewFrame};
 ghost use Rattle.app_layers.specs.Payloads.{ComesBehind};
@@ -13,9 +13,9 @@ use crate::todo::{Head, Todo};
 use app_layers::{add_data, captured, frame_span, is_cut};
 use capture_read::Frame;
 use dis_link::read_link;
-use pk_base::{LAYER_LIMIT, Address, After, Mode, NoMemory, PacketHead, Span};
+use pk_base::{Address, After, LAYER_LIMIT, Mode, NoMemory, PacketHead, Span};
+use pk_fields::PortRule;
 use pk_tree::TreeBuilder;
-use port_rules::PortRule;
 
 impl State {
     /// Shows the rest as data.

@@ -1,8 +1,8 @@
 -- The rules of a command line that names none, or one.
 use Rattle.std.proofs.Common.{◌≡◌, [], ◌∷◌, true, rules}
 use Rattle.std.specs.List.{IsDistinct}
-use Rattle.port_rules.specs.declared.rules.PortRule.{PortRule}
-use Rattle.port_rules.specs.Rules.{AreRules, app_fits}
+use Rattle.pk_fields.specs.declared.rules.PortRule.{PortRule}
+use Rattle.pk_fields.specs.Rules.{AreRules, app_fits}
 
 pub no_rules : AreRules []
 unfolding IsDistinct

@@ -4,7 +4,7 @@
 //! field that the dissector is asked for. Behind it stand the frames, each behind `> `: what is given of it (module `given`), `->`, and
 //! what is told of it (module `told`). Frames are of no more than 1,000 bytes, and at most 90 in a row.
 ghost use Rattle.std.specs.Prelude.{◌≡◌, ◌+◌, ◌*◌, ◌≤◌, ◌<◌, true, IfSome, OnSome};
-ghost use Rattle.port_rules.specs.Rules.{AreRules, app_fits};
+ghost use Rattle.pk_fields.specs.Rules.{AreRules, app_fits};
 ghost use Rattle.capture_read.specs.FrameList.{IsTime};
 
 use crate::given::{fields_named, frame_of, option};

@@ -5,7 +5,9 @@
 
 use flt_lists::compares;
 use flt_syntax::{Arithmetic, Choice, Place, RangePart};
-use flt_typed::{Extreme, Relation, calculate, extreme_of, masked, order_of, related, slice, span_of};
+use flt_typed::{
+    Extreme, Relation, calculate, extreme_of, masked, order_of, related, slice, span_of,
+};
 use pk_base::{NoMemory, Value};
 use std::alloc::Global;
 

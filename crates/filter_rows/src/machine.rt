@@ -5,15 +5,15 @@
 ghost use Rattle.std.specs.Prelude.{◌≡◌, ◌<◌, ◌^◌, IsTrue};
 ghost use Rattle.flt_program.specs.Programs.{Fits, IsProgram};
 
-use pk_base::{Layers, Value};
 use crate::asked::tree_of;
 use flt_code::compile;
+use flt_program::{Instr, Program};
 use flt_read::read_filter;
 use flt_syntax::Choice;
 use flt_typed::{Constant, Relation};
 use flt_typing::Filter;
-use flt_program::{Instr, Program};
 use flt_vm::Machine;
+use pk_base::{Layers, Value};
 use pk_fields::by_name;
 use pk_tree::Tree;
 use std::alloc::Global;

@@ -12,9 +12,9 @@ use crate::emits::{emit, emit_at};
 use crate::load::load;
 use crate::owners::{Owner, own};
 use crate::spines::filter_below;
+use flt_program::{Instr, copied_members};
 use flt_syntax::Choice;
 use flt_typed::{Extreme, Member, Pattern, Relation, Term, Typed};
-use flt_program::{Instr, copied_members};
 use pk_base::NoMemory;
 use std::alloc::Global;
 

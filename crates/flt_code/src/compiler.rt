@@ -8,9 +8,9 @@ ghost use Rattle.flt_vm.specs.Programs.{FitsFilter};
 use crate::code::code_for;
 use crate::emits::emit;
 use crate::owners::Owner;
+use flt_program::{Instr, Program};
 use flt_typed::Typed;
 use flt_typing::Filter;
-use flt_program::{Instr, Program};
 use pk_base::NoMemory;
 use std::alloc::Global;
 

@@ -5,10 +5,10 @@ ghost use Rattle.flt_listing.specs.Literals.{constant_shown, field_shown, member
 ghost use Rattle.flt_program.specs.Sources.{sources_of};
 
 use crate::literals::{put_constant, put_field, put_members, put_ranges, put_string};
+use flt_program::{Instr, Program, patterns_in};
 use flt_syntax::{Arithmetic, Choice, Function, RangePart};
 use flt_typed::{Constant, Extreme, Member, Pattern, Relation};
 use flt_typing::Filter;
-use flt_program::{Instr, Program, patterns_in};
 use pk_base::{Layers, NoMemory};
 use pk_fields::FieldId;
 use pk_text::{TextSink, put_number};

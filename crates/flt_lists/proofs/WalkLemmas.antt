@@ -8,7 +8,7 @@ use Rattle.flt_lists.specs.Passes.{is_some_value}
 use Rattle.flt_lists.specs.Questions.{is_so}
 use Rattle.flt_lists.specs.declared.question.Question.TheVariants.{IsThere}
 use Rattle.flt_lists.specs.Walks.{all_in_layers, all_items, any_in_layers, any_item, is_asked}
-use Rattle.pk_buffer.specs.Buffers.{bytes_of}
+use Rattle.pk_tree.specs.Buffers.{bytes_of}
 use Rattle.pk_fields.specs.Fields.{row_of}
 use Rattle.pk_tree.proofs.FieldLemmas.{no_items}
 use Rattle.pk_base.specs.Chosen.{is_chosen}

@@ -2,10 +2,10 @@
 ghost use Rattle.std.specs.Prelude.{◌≡◌, ◌<◌, true, length};
 ghost use Rattle.flt_lists.specs.Keys.{decisive, end_of, favoured, further as further_key, is_order, key_cmp, key_shown, keys_of, opposite, pairs_hold};
 
-use pk_base::Value;
 use crate::keys::{Key, key_of};
 use flt_syntax::Choice;
 use flt_typed::{Extreme, Relation, holds_in};
+use pk_base::Value;
 
 /// Whether any or all pairs of keys stand in an order.
 pub(crate) fn ends_hold(

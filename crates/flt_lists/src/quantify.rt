@@ -4,10 +4,10 @@ ghost use Rattle.std.specs.List.{list_any, list_all};
 ghost use Rattle.flt_lists.specs.Passes.{is_some_value, passes};
 ghost use Rattle.flt_lists.specs.Questions.{is_matched, is_so};
 
-use pk_base::Value;
 use crate::question::{Question, is_so};
 use flt_syntax::Choice;
 use flt_typed::{Search, octets_of};
+use pk_base::Value;
 
 /// Whether any or all of the values answer a question; of no values neither is true.
 pub fn passes(choice: Choice, question: &Question<'_>, values: &[Value]) -> bool

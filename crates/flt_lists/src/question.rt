@@ -2,8 +2,8 @@
 ghost use Rattle.std.specs.Prelude.{◌≡◌};
 ghost use Rattle.flt_lists.specs.Questions.{is_among, is_member, is_so};
 
-use pk_base::Value;
 use flt_typed::{Member, Relation, is_nonzero, lies_between, related};
+use pk_base::Value;
 
 /// What is asked of a single value.
 #[derive(Clone, Copy)]

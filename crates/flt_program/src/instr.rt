@@ -1,8 +1,8 @@
 // The instructions of the machine.
 
-use pk_base::Layers;
 use flt_syntax::{Arithmetic, Choice, Function, RangePart};
 use flt_typed::{Constant, Extreme, Member, Relation};
+use pk_base::Layers;
 use pk_fields::FieldId;
 use std::marker::Model;
 

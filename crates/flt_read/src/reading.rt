@@ -4,8 +4,8 @@ ghost use Rattle.flt_types.specs.TextFaults.{IsFilterFault};
 
 use flt_parse::parse;
 use flt_syntax::FilterError;
-use flt_typing::Filter;
 use flt_types::check;
+use flt_typing::Filter;
 use std::alloc::Global;
 
 /// Reads the text of a filter. The error is the text's first fault, F1 to F10, with its place.

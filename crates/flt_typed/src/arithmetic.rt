@@ -2,8 +2,8 @@
 ghost use Rattle.std.specs.Prelude.{◌≡◌, IfSome};
 ghost use Rattle.flt_typed.specs.Arithmetic.{IsExtreme, calculated, extreme_number, extreme_of, nearer, nearer_of, number_in, result_of};
 
-use pk_base::Value;
 use flt_syntax::Arithmetic;
+use pk_base::Value;
 
 /// Which of some numbers is asked for.
 #[derive(Clone, Copy)]

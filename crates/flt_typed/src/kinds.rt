@@ -2,8 +2,8 @@
 ghost use Rattle.std.specs.Prelude.{◌≡◌};
 ghost use Rattle.flt_typed.specs.Kinds.{class_of, same_class, kind_of_value, is_truth, is_measured, is_sliced, is_masked, is_number, is_searched, takes_call, kind_of_call};
 
-use pk_base::Value;
 use flt_syntax::Function;
+use pk_base::Value;
 use pk_fields::ValueKind;
 
 /// What values can be compared with each other.

@@ -3,10 +3,10 @@ ghost use Rattle.std.specs.Prelude.{◌≡◌, ◌/◌, ◌^◌, ◌-◌};
 ghost use Rattle.std.specs.Option.{option_map};
 ghost use Rattle.flt_typed.specs.Relations.{octets_of, amount_of, moment_of, leading_amount, order_of, order_by_leading, same_leading, by_order, holds_in, has_inside, related, lies_between};
 
-use pk_base::Value;
 use crate::inside::contains;
 use crate::kinds::{kind_of_value, same_class};
 use crate::relation::Relation;
+use pk_base::Value;
 use std::cmp::Ordering;
 
 /// The bytes of a value of their class: of bytes, texts, Ethernet addresses and protocols. Others have none.

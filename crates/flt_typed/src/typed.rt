@@ -1,8 +1,8 @@
 // Filters with their types: each name as its field, each literal as a value, each pattern compiled.
 
-use pk_base::Layers;
 use crate::{Constant, Pattern, Relation};
 use flt_syntax::{Arithmetic, Choice, Function, RangePart};
+use pk_base::Layers;
 use pk_fields::FieldId;
 
 /// What has values in a tree.

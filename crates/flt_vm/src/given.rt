@@ -4,9 +4,9 @@ ghost use Rattle.flt_vm.specs.Given.{takes_of};
 ghost use Rattle.flt_vm.specs.Slots.{IsGiven, IsKept, IsSet};
 
 use crate::asks::listed_truth;
-use flt_program::Instr;
 use crate::slots::Slot;
 use crate::step::is_unset;
+use flt_program::Instr;
 use pk_base::NoMemory;
 use pk_tree::Tree;
 use std::alloc::Global;

@@ -5,9 +5,9 @@ ghost use Rattle.flt_program.specs.Programs.{IsProgram};
 ghost use Rattle.flt_vm.specs.Slots.{HasRegisters, LeadsTo, state_in};
 
 use crate::asks::compare_constant;
-use flt_program::Instr;
 use crate::slots::{Flag, Slot, put};
 use crate::step::read;
+use flt_program::Instr;
 use pk_base::NoMemory;
 use pk_tree::Tree;
 use std::alloc::Global;

@@ -8,9 +8,9 @@ ghost use Rattle.flt_program.specs.Sources.{sources_of};
 ghost use Rattle.flt_vm.specs.Verdicts.{verdict_of};
 ghost use Rattle.flt_typed.specs.declared.typed.Typed.{Typed as TypedValue};
 
-use flt_program::{Program, patterns_in};
 use crate::run::{Verdict, run_code};
 use crate::slots::{Slot, let_go, unset};
+use flt_program::{Program, patterns_in};
 use flt_typed::{Pattern, Search, Typed};
 use flt_typing::Filter;
 use pk_base::NoMemory;

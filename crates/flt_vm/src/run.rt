@@ -6,10 +6,10 @@ ghost use Rattle.flt_vm.specs.Slots.{state_in};
 ghost use Rattle.flt_vm.specs.declared.slots.Flag.TheVariants.{Known};
 
 use crate::given::is_given;
-use flt_program::Instr;
 use crate::joined::test_at;
 use crate::slots::{Flag, Slot, known};
 use crate::step::{is_return, step};
+use flt_program::Instr;
 use flt_typed::Search;
 use pk_base::NoMemory;
 use pk_tree::Tree;

@@ -19,12 +19,12 @@ ghost use Rattle.flt_vm.specs.declared.slots.Flag.TheVariants.{Known};
 ghost use Rattle.flt_vm.specs.declared.slots.Slot.TheVariants.{Values};
 
 use crate::asks::{asks, compare, finds, kept};
-use flt_program::Instr;
 use crate::slots::{Flag, Slot, known, listed_in, put};
 use flt_lists::{
     Question, calculated_values, called_values, is_some_value as some_value, masked_values, only,
     slices,
 };
+use flt_program::Instr;
 use flt_syntax::{Arithmetic, Choice, Function, RangePart};
 use flt_typed::{Extreme, Search, extreme_of};
 use pk_base::{Layers, NoMemory, Value};

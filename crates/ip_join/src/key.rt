@@ -1,7 +1,7 @@
-use pk_base::{Address, FragmentHead};
 ghost use Rattle.std.specs.Prelude.{◌≡◌};
 ghost use Rattle.ip_join.specs.KeyOrder.{is_six as is_six_value, key_of as key_value, number_of as number_value};
 
+use pk_base::{Address, FragmentHead};
 
 /// What the fragments of one datagram have in common. The greatest fields stand first, so that no room is lost between them.
 #[derive(Clone, Copy, PartialEq, Eq, PartialOrd, Ord)]

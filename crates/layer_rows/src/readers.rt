@@ -1,7 +1,7 @@
 //! The readers by their names, and the layers of bytes as text.
 ghost use Rattle.std.specs.Prelude.{◌≡◌, ◌+◌, ◌<◌, ◌≤◌, length, IfOk, IfSome, OnOk};
 ghost use Rattle.dis_http.specs.Http.{IsShape};
-ghost use Rattle.pk_buffer.specs.Buffers.{IsInside};
+ghost use Rattle.pk_tree.specs.Buffers.{IsInside};
 ghost use Rattle.pk_tree.specs.Following.{LeadsInside};
 
 use crate::afters::push_after;

@@ -4,7 +4,7 @@
 //! number of the packet's last bytes that are read by steps, and `quoted` and `cut` as in rows of headers; in `failing steps` their
 //! condition doesn't hold.
 ghost use Rattle.std.specs.Prelude.{◌≡◌, ℕ, Bool as Truth, List, [], ◌∷◌, ◌++◌, ◌+◌, ◌<◌, ◌≤◌, length, IfOk, OnOk};
-ghost use Rattle.pk_buffer.specs.Buffers.{IsInside};
+ghost use Rattle.pk_tree.specs.Buffers.{IsInside};
 ghost use Rattle.pk_fields.specs.Ids.{DNS, IP};
 ghost use Rattle.pk_tree.specs.Layouts.{StepsFit};
 ghost use Rattle.pk_tree.specs.Tables.{steps_of};
@@ -14,7 +14,10 @@ use crate::afters::push_value;
 use crate::givens::{given_of, number};
 use pk_base::{LayerRange, LayerRanges, Layers, Mode, NoMemory, Octets, Span, Value};
 use pk_fields::{FieldId, FieldSet, by_name, ids};
-use pk_tree::{Items, Layer, LayerList, Reach, Slot, Step, Tree, TreeBuilder, pass_layer, peek, read_layer, read_table};
+use pk_tree::{
+    Items, Layer, LayerList, Reach, Slot, Step, Tree, TreeBuilder, pass_layer, peek, read_layer,
+    read_table,
+};
 use std::alloc::{AllocError, Global};
 use tree_rows::{Places, layers_text};
 

@@ -4,7 +4,7 @@ use crate::words::number_of;
 use cap_stats::StatKind;
 use capture_write::Format;
 use pk_base::Octets;
-use port_rules::{App, PortRule};
+use pk_fields::{App, PortRule};
 use shark_words::{LineKind, Options, Report, Source};
 
 fn is_file(source: &Source, name: &str) -> bool {

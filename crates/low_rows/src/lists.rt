@@ -1,6 +1,6 @@
 //! Lists, bytes and buffers that every crate shares: what was put in is handed out.
 use pk_base::{Lost, LostList, NoMemory, Numbers, Octets, Span, Stretch, Stretches};
-use pk_buffer::Buffers;
+use pk_tree::Buffers;
 use std::alloc::Global;
 
 fn keeps_lost(alloc: Global) -> Result<bool, NoMemory> {

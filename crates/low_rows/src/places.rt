@@ -9,7 +9,7 @@
 //! From 42 the first words are A15C02B7, 7B47F409, BA1D3330, 83D2F293, BFA4784B, CBED606E. The first draws client 2 and 13 bytes of its
 //! request, the third an ARP request of client 51, the sixth the answer to client 32.
 use crate::texts::are_hex;
-use make_capture::make;
+use capture_write::make;
 use pk_base::{NoMemory, be_bits};
 use std::alloc::Global;
 

@@ -1,7 +1,7 @@
 // The line of a dissected frame.
 ghost use Rattle.std.specs.Prelude.{◌≡◌, ◌<◌, ◌++◌, true, false, decimal, length, map, IfOk, OnOk};
 ghost use Rattle.pk_fields.specs.Fields.{row_of};
-ghost use Rattle.pk_buffer.specs.Buffers.{buffer_of};
+ghost use Rattle.pk_tree.specs.Buffers.{buffer_of};
 ghost use Rattle.out_json.specs.Lines.{buffer_json, is_bare, item_json, json_line_of, layer_json, made_json, placed_json, string_text, value_json};
 ghost use Rattle.out_lines.specs.ValueText.{shown_value};
 ghost use Rattle.serde_json.specs.Data.{boolean};
@@ -11,9 +11,8 @@ ghost use Rattle.serde_json.specs.Written.{compact_text, items_text};
 use crate::strings::{put_hex_string, put_name, put_string};
 use out_lines::{put_number, put_text, put_value};
 use pk_base::{NoMemory, Span, Value};
-use pk_buffer::Buffers;
 use pk_fields::FieldId;
-use pk_tree::{Item, Layer, Place, Tree};
+use pk_tree::{Buffers, Item, Layer, Place, Tree};
 use std::alloc::Global;
 
 /// How many bytes a line has room for from the start.
@@ -244,7 +243,7 @@ fn put_buffers(line: &mut Vec<u8>, buffers: &Buffers) -> Result<(), NoMemory>
     put_text(line, "]")
 }
 
-#[tactic(auto, unfolding(crate::specs::Lines::buffer_json, crate::specs::Lines::string_text, pk_buffer::specs::Buffers::bytes_of))]
+#[tactic(auto, unfolding(crate::specs::Lines::buffer_json, crate::specs::Lines::string_text, pk_tree::specs::Buffers::bytes_of))]
 fn put_buffer(line: &mut Vec<u8>, buffers: &Buffers, number: u32) -> Result<(), NoMemory>
     requires { number < length buffers.now }
     ensures { OnOk result (line.new.items

@@ -1,7 +1,9 @@
 pub mod AddedFields
+pub mod Applications
 pub mod FieldSets
 pub mod Fields
 pub mod Halves
 pub mod Ids
 pub mod Rows
+pub mod Rules
 pub mod Table

@@ -2,7 +2,7 @@
 use Rattle.std.proofs.Common.{◌≡◌, ◌==◌, ℕ, Bool as Truth, true, false, cond, List, [], ◌∷◌, ◌++◌, map, ap, subst, sym, ◌∙◌, refl}
 use Rattle.std.specs.List.{AllByRecursion as Each, filter, flat_map}
 use Rattle.std.proofs.lemmas.Bool.{ne_eqb, eqb-false, eqb-true}
-use Rattle.pk_buffer.specs.Buffers.{bytes_of}
+use Rattle.pk_tree.specs.Buffers.{bytes_of}
 use Rattle.pk_fields.specs.declared.value_kind.ValueKind.{ValueKind}
 use Rattle.pk_fields.specs.declared.value_kind.ValueKind.TheVariants as kinds
 use Rattle.pk_fields.specs.Fields.{row_of}

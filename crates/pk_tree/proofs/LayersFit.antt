@@ -3,8 +3,8 @@ use Rattle.std.proofs.Common.{◌≡◌, ◌==◌, ℕ, zero, suc, ◌+◌, ◌-
 use Rattle.std.specs.List.{AllByRecursion as Each}
 use Rattle.std.proofs.lemmas.List.{length_push}
 use Rattle.std.proofs.lemmas.List.Sums.{sum_by_push, count_by_more_yes}
-use Rattle.pk_buffer.specs.Buffers.{IsInside}
-use Rattle.pk_buffer.proofs.Spans.{inside_more, bytes_of-more}
+use Rattle.pk_tree.specs.Buffers.{IsInside}
+use Rattle.pk_tree.proofs.Spans.{inside_more, bytes_of-more}
 use Rattle.pk_base.specs.declared.value.Value.{Value}
 use Rattle.pk_tree.specs.declared.item.Place.{Place}
 use Rattle.pk_tree.specs.declared.item.Place.TheVariants.{Read, Derived, Made}

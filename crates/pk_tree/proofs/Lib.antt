@@ -6,5 +6,6 @@ pub mod KeptValues
 pub mod LayersFit
 pub mod LayoutLemmas
 pub mod Readable
+pub mod Spans
 pub mod TableLemmas
 pub mod UnaskedLemmas

@@ -1,7 +1,7 @@
 -- The values of a field in a tree.
 use Rattle.std.specs.Prelude.{◌==◌, ℕ, List, [], ◌∷◌, if◌then◌else◌, map, filter}
 use Rattle.std.specs.List.{flat_map}
-use Rattle.pk_buffer.specs.Buffers.{bytes_of}
+use Rattle.pk_tree.specs.Buffers.{bytes_of}
 use Rattle.pk_fields.specs.Fields.{row_of}
 use Rattle.pk_base.specs.declared.value.Value.{Value}
 use Rattle.pk_base.specs.declared.value.Value.TheVariants as values

@@ -1,7 +1,7 @@
 -- What follows a header in its layer.
 use Rattle.std.specs.Prelude.{ℕ, ◌-◌, ◌<◌, min, List, nat_lt, if◌then◌else◌}
 use Rattle.pk_base.specs.declared.span.Span.{Span}
-use Rattle.pk_buffer.specs.Buffers.{IsInside}
+use Rattle.pk_tree.specs.Buffers.{IsInside}
 use Rattle.pk_base.specs.declared.heads.After.{After}
 use Rattle.pk_base.specs.declared.heads.After.TheVariants as afters
 use Rattle.pk_base.specs.declared.heads.Next.{Next}

@@ -3,7 +3,7 @@ use Rattle.std.specs.Prelude.{◌==◌, ℕ, ◌+◌, ◌*◌, Bool, true, false
 use Rattle.std.specs.List.{AllByRecursion as Each}
 use Rattle.pk_base.specs.declared.span.Span.{Span}
 use Rattle.pk_base.specs.Bits.{number_of_bits}
-use Rattle.pk_buffer.specs.Buffers.{buffer_of}
+use Rattle.pk_tree.specs.Buffers.{buffer_of}
 use Rattle.pk_fields.specs.Fields.{row_of}
 use Rattle.pk_fields.specs.Ids.{WS_SHORT, WS_MALFORMED}
 use Rattle.pk_base.specs.declared.heads.Mode.{Mode}

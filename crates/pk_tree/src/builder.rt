@@ -1,16 +1,16 @@
 ghost use Rattle.std.specs.Prelude.{◌≡◌, ℕ, ◌+◌, ◌-◌, ◌<◌, ◌≤◌, ◌^◌, false, [], ◌∷◌, ◌++◌, length, IfOk, IsTrue, OnErr, OnOk};
-ghost use Rattle.pk_buffer.specs.Buffers.{IsInside, bytes_of, buffer_of};
+ghost use Rattle.pk_tree.specs.Buffers.{IsInside, bytes_of, buffer_of};
 ghost use Rattle.pk_fields.specs.Fields.{row_of};
 ghost use Rattle.pk_fields.specs.FieldSets.{is_in, every_field};
 ghost use Rattle.pk_tree.specs.Trees.{IsTree, ItemFits, PlaceFits, last_proto, with_layer, with_item, with_last, with_buffer, read_of, derived_of, made_of};
 ghost use Rattle.pk_tree.specs.Values.{IsOfKind, IsProtocol, HasSize, is_read};
 
+use crate::buffers::Buffers;
 use crate::item::{Item, Items, Place};
 use crate::layer::{Layer, next_number, push_last};
 use crate::reading::read_value;
 use crate::tree::Tree;
 use pk_base::{NoMemory, Octets, Span, Value};
-use pk_buffer::Buffers;
 use pk_fields::{FieldId, FieldSet};
 use std::alloc::Global;
 use std::marker::Model;

@@ -1,5 +1,5 @@
 ghost use Rattle.std.specs.Prelude.{◌≡◌, ◌==◌, ◌+◌, ◌-◌, ◌*◌, ◌<◌, ◌≤◌, ◌^◌, ◌↔◌, [], ◌∷◌, length, nat_le, IfOk, OnOk, IfSome, IfNone, IsTrue, ◌&&◌, if◌then◌else◌};
-ghost use Rattle.pk_buffer.specs.Buffers.{IsInside};
+ghost use Rattle.pk_tree.specs.Buffers.{IsInside};
 ghost use Rattle.pk_fields.specs.Fields.{row_of};
 ghost use Rattle.pk_tree.specs.Layouts.{peeked, is_all, within, fitted, step_reach, step_items, items_after, items_read, reach, reaches_end, fault_of, with_fault, layer_read, belongs, StepFits, StepsFit, with_items};
 ghost use Rattle.pk_tree.specs.Trees.{last_proto, with_item, read_of, derived_of, made_of};

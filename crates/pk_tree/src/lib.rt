@@ -1,6 +1,7 @@
 //! The tree of a dissected frame: layers and their items, over the buffers that hold their bytes.
 #![tactic(auto)]
 
+mod buffers;
 mod builder;
 mod following;
 mod item;
@@ -10,6 +11,7 @@ mod reading;
 mod table;
 mod tree;
 
+pub use buffers::Buffers;
 pub use builder::TreeBuilder;
 pub use following::{behind, carried, first_of};
 pub use item::{Item, Items, Place};

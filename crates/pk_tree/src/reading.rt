@@ -1,12 +1,12 @@
 ghost use Rattle.std.specs.Prelude.{◌≡◌, ◌+◌, ◌≤◌, ◌*◌, ◌<◌, ◌^◌, length, IfOk, IsTrue};
 ghost use Rattle.pk_base.specs.Bits.{number_of_bits};
-ghost use Rattle.pk_buffer.specs.Buffers.{IsInside, bytes_of};
+ghost use Rattle.pk_tree.specs.Buffers.{IsInside, bytes_of};
 ghost use Rattle.pk_fields.specs.Fields.{row_of};
 ghost use Rattle.pk_fields.specs.Rows.{IsSound, size_of_place};
 ghost use Rattle.pk_tree.specs.Values.{IsOfKind, is_read, is_whole, HasSize, value_of, value_with, scaled};
 
+use crate::buffers::Buffers;
 use pk_base::{NoMemory, Span, Value, be_bits};
-use pk_buffer::Buffers;
 use pk_fields::{BitPlace, FieldId, ValueKind, bits, kind};
 
 #[tactic(auto, unfolding(crate::specs::Values::value_of))]

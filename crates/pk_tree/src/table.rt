@@ -1,6 +1,6 @@
 ghost use Rattle.std.specs.Prelude.{◌≡◌, ℕ, List, ◌+◌, ◌<◌, ◌≤◌, ◌^◌, false, ◌++◌, length, IfOk, OnOk};
 ghost use Rattle.std.specs.List.{slice_index_or};
-ghost use Rattle.pk_buffer.specs.Buffers.{IsInside};
+ghost use Rattle.pk_tree.specs.Buffers.{IsInside};
 ghost use Rattle.pk_fields.specs.Fields.{row_of};
 ghost use Rattle.pk_fields.specs.FieldSets.{is_in};
 ghost use Rattle.pk_tree.specs.Layouts.{step_reach, step_items, items_after, items_read, reach, reach as reach_of, layer_read, StepFits, StepsFit, with_items, is_all};

@@ -1,16 +1,16 @@
 ghost use Rattle.std.specs.Prelude.{◌≡◌, ℕ, List, ◌<◌, ◌++◌, length, IfOk, OnErr, OnOk};
 ghost use Rattle.std.specs.List.{AllByRecursion as Each};
 ghost use Rattle.pk_fields.specs.Fields.{row_of};
-ghost use Rattle.pk_buffer.specs.Buffers.{IsInside};
+ghost use Rattle.pk_tree.specs.Buffers.{IsInside};
 ghost use Rattle.pk_tree.specs.declared.layer.Layer.{Layer};
 ghost use Rattle.pk_tree.specs.FieldValues.{values_of, layer_values, chosen_values, proto_values, item_values};
 ghost use Rattle.pk_tree.specs.Trees.{IsTree, LayerFits, proto_at, with_item_at, made_of};
 ghost use Rattle.pk_tree.specs.Values.{IsOfKind, is_proto};
 
+use crate::buffers::Buffers;
 use crate::item::{Item, Place};
 use crate::layer::{Layer, push_at};
 use pk_base::{Layers, NoMemory, Value};
-use pk_buffer::Buffers;
 use pk_fields::{FieldId, FieldSet, ValueKind, kind, proto};
 use std::alloc::Global;
 use std::marker::Model;

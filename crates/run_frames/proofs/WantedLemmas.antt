@@ -10,7 +10,7 @@ use Rattle.cap_stats.specs.declared.kind.StatKind.TheVariants.{ConvTcp, ConvIp, 
 use Rattle.capture_read.specs.declared.frame.Frame.{Frame}
 use Rattle.dissect.specs.Followed.{asks_messages, asks_streams, HasSameValues}
 use Rattle.dissect.specs.Trees.{tree_at}
-use Rattle.port_rules.specs.declared.rules.PortRule.{PortRule}
+use Rattle.pk_fields.specs.declared.rules.PortRule.{PortRule}
 use Rattle.run_frames.specs.declared.plan.Plan.{Plan}
 use Rattle.run_frames.specs.Accessors.{rules_of, two_of}
 use Rattle.run_frames.specs.Tables.{asks_table, asks_tables}

@@ -3,7 +3,7 @@ use Rattle.std.specs.Prelude.{◌==◌, ℕ, Bool, not, ◌||◌, List, length, 
 use Rattle.capture_write.specs.declared.format.Format.{Format}
 use Rattle.flt_typed.specs.declared.typed.Typed.{Typed}
 use Rattle.out_lines.specs.declared.style.Style.{Style}
-use Rattle.port_rules.specs.declared.rules.PortRule.{PortRule}
+use Rattle.pk_fields.specs.declared.rules.PortRule.{PortRule}
 use Rattle.shark_words.specs.declared.options.LineKind.{LineKind}
 use Rattle.shark_words.specs.declared.options.Report.{Report}
 use Rattle.run_frames.specs.Compiled.{CompiledShown}

@@ -3,7 +3,7 @@ use Rattle.std.specs.Prelude.{ℕ, Bool, true, false, List, [], ◌∷◌, rever
 use Rattle.capture_read.specs.declared.frame.Frame.{Frame}
 use Rattle.dissect.specs.Trees.{tree_at}
 use Rattle.pk_tree.specs.Trees.{TreeShown}
-use Rattle.port_rules.specs.declared.rules.PortRule.{PortRule}
+use Rattle.pk_fields.specs.declared.rules.PortRule.{PortRule}
 use Rattle.second_pass.specs.Forward.{forwarded}
 use Rattle.second_pass.specs.Named.{Noted, noted_as}
 use Rattle.run_frames.specs.declared.plan.Plan.{Plan}

@@ -2,8 +2,8 @@
 ghost use Rattle.std.specs.Prelude.{◌≡◌};
 ghost use Rattle.flt_vm.specs.Programs.{FitsFilter};
 
-use flt_typing::Filter;
 use flt_program::Program;
+use flt_typing::Filter;
 use std::marker::Model;
 
 /// A filter, and a program that fits it and decides in its place which trees are let through.

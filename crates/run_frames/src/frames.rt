@@ -30,10 +30,9 @@ use dissect::{Dissector, TakeFault};
 use out_json::JsonWriter;
 use out_lines::{LineWriter, summary_line};
 use pk_base::NoMemory;
-use pk_fields::FieldSet;
+use pk_fields::{DecodeAs, FieldSet};
 use pk_outside::{Sink, SinkFault, write_whole};
 use pk_tree::Tree;
-use port_rules::DecodeAs;
 use shark_words::LineKind;
 use std::alloc::Global;
 

@@ -1,8 +1,8 @@
 // A capture that a number stands for.
 ghost use Rattle.std.specs.Prelude.{◌≡◌, ◌≤◌, IfOk};
-ghost use Rattle.make_capture.specs.Made.{made};
+ghost use Rattle.capture_write.specs.Made.{made};
 
-use make_capture::make;
+use capture_write::make;
 use pk_base::{NoMemory, Octets};
 use std::alloc::Global;
 use std::marker::Model;

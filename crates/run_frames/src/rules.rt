@@ -1,9 +1,9 @@
 // The rules for ports of a run.
 ghost use Rattle.std.specs.Prelude.{◌≡◌, IfOk};
-ghost use Rattle.port_rules.specs.Rules.{AreRules};
+ghost use Rattle.pk_fields.specs.Rules.{AreRules};
 
 use pk_base::NoMemory;
-use port_rules::PortRules;
+use pk_fields::PortRules;
 use std::alloc::Global;
 use std::marker::Model;
 
@@ -15,8 +15,8 @@ pub struct PlanRules {
 
 impl Model for PlanRules {
     ghost use Rattle.std.specs.Prelude.{List};
-    ghost use Rattle.port_rules.specs.Rules.{AreRules};
-    ghost use Rattle.port_rules.specs.declared.rules.PortRule.{PortRule};
+    ghost use Rattle.pk_fields.specs.Rules.{AreRules};
+    ghost use Rattle.pk_fields.specs.declared.rules.PortRule.{PortRule};
 
     ghost Value = { List PortRule };
 

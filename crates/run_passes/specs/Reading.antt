@@ -2,7 +2,7 @@
 use Rattle.std.specs.Prelude.{ℕ, List, [], length, take, Option, None, Some, Bool, true, false, nat_le}
 use Rattle.capture_read.specs.Capture.{Reading, capture_of}
 use Rattle.capture_read.specs.declared.ending.Ending.TheVariants.{Whole}
-use Rattle.make_capture.specs.Made.{made}
+use Rattle.capture_write.specs.Made.{made}
 use Rattle.run_frames.specs.declared.plan.Plan.{Plan}
 use Rattle.run_frames.specs.declared.source.PlanSource.{PlanSource}
 use Rattle.run_frames.specs.declared.source.PlanSource.TheVariants.{Named, Generated}

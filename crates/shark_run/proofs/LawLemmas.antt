@@ -13,7 +13,7 @@ use Rattle.shark_words.specs.declared.options.LineKind.{LineKind}
 use Rattle.shark_words.specs.declared.options.LineKind.TheVariants.{Text, Fields, Json}
 use Rattle.shark_words.specs.declared.options.Report.{Report}
 use Rattle.shark_words.specs.declared.options.Report.TheVariants.{Follow, Table}
-use Rattle.port_rules.specs.declared.rules.PortRule.{PortRule}
+use Rattle.pk_fields.specs.declared.rules.PortRule.{PortRule}
 use Rattle.dissect.specs.Trees.{tree_at}
 use Rattle.shark_words.specs.declared.options.Options.{Options}
 use Rattle.run_frames.specs.declared.plan.Plan.{Plan}

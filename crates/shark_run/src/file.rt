@@ -1,6 +1,6 @@
 // Beginning the capture file.
 ghost use Rattle.std.specs.Prelude.{◌≡◌, IsErrOf, IfOk, OnOk, OnErr, Some};
-ghost use Rattle.make_capture.specs.Made.{made};
+ghost use Rattle.capture_write.specs.Made.{made};
 ghost use Rattle.pk_outside.specs.Outside.{counted};
 ghost use Rattle.shark_run.specs.Causes.{IsUnopened};
 

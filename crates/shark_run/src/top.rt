@@ -1,6 +1,6 @@
 // The top call.
 ghost use Rattle.std.specs.Prelude.{◌≡◌, ◌≢◌, ◌≤◌, ◌+◌, ◌⊎◌, ℕ, List, Option, IfSome};
-ghost use Rattle.make_capture.specs.Made.{made};
+ghost use Rattle.capture_write.specs.Made.{made};
 ghost use Rattle.pk_outside.specs.Outside.{Rose};
 ghost use Rattle.shark_words.specs.Words.{texts};
 ghost use Rattle.run_frames.specs.declared.plan.Plan.{Plan};

@@ -2,7 +2,7 @@
 use Rattle.std.proofs.Common.{◌≡◌, ◌<◌, ◌≤◌, ◌+◌, ◌++◌, ℕ, List, [], ◌∷◌, length, Option, get_or, drop, refl, sym, ◌∙◌, ap, add-one, append_assoc, append-nil, drop-cons}
 use Rattle.std.specs.Prelude.{option_to_list}
 use Rattle.std.proofs.lemmas.List.{drop_all}
-use Rattle.port_rules.specs.declared.rules.PortRule.{PortRule}
+use Rattle.pk_fields.specs.declared.rules.PortRule.{PortRule}
 use Rattle.shark_words.specs.declared.letter.Letter.{Letter}
 use Rattle.shark_words.specs.declared.letter.Letter.TheVariants.{Decode, Report as ReportLetter}
 use Rattle.shark_words.specs.declared.options.Report.{Report}

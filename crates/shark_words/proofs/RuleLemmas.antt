@@ -6,9 +6,9 @@ use Rattle.std.proofs.lemmas.Bool.{both_ways}
 use Rattle.std.proofs.lemmas.Option.{none-some, same_Some}
 use Rattle.std.proofs.lemmas.List.Elements.{All-nil, All-cons}
 use Rattle.std.proofs.lemmas.Map.Keys.{IsDistinct-cons}
-use Rattle.port_rules.specs.declared.rules.App.{App}
-use Rattle.port_rules.specs.declared.rules.PortRule.{PortRule}
-use Rattle.port_rules.specs.Rules.{AreRules, app_fits, same_port}
+use Rattle.pk_fields.specs.declared.rules.App.{App}
+use Rattle.pk_fields.specs.declared.rules.PortRule.{PortRule}
+use Rattle.pk_fields.specs.Rules.{AreRules, app_fits, same_port}
 use Rattle.shark_words.specs.declared.letter.Letter.{Letter}
 use Rattle.shark_words.specs.declared.letter.Letter.TheVariants.{Decode}
 use Rattle.shark_words.specs.declared.port.Port.{Port}

@@ -4,7 +4,7 @@ use Rattle.std.specs.List.{list_any}
 use Rattle.std.proofs.lemmas.Bool.{both_ways, and_parts}
 use Rattle.std.specs.Cmp.Derive.{both_true}
 use mathlib.Core.Bool.{beq}
-use Rattle.port_rules.specs.Rules.{same_transport}
+use Rattle.pk_fields.specs.Rules.{same_transport}
 use denote.Enum.Bare.{same_true}
 use Rattle.shark_words.specs.declared.letter.Letter.{Letter}
 use Rattle.shark_words.specs.declared.letter.Letter.TheVariants.{Capture, Filter, Two, Kind, Name, Style, Most, Quiet, Decode, Report, Output, Format, SelfRun, FilterStats}

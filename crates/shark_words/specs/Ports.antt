@@ -3,10 +3,10 @@
 use Rattle.std.specs.Prelude.{ℕ, suc, ◌^◌, ◌-◌, ◌==◌, Bool, true, false, ◌&&◌, List, [], ◌∷◌, ◌++◌, take, drop, codes, Option, Some, None, option_and_then, option_map, option_to_list, if◌then◌else◌}
 use Rattle.std.specs.Option.{option_or}
 use Rattle.std.specs.Str.{bytes_eq}
-use Rattle.port_rules.specs.declared.rules.App.{App}
-use Rattle.port_rules.specs.declared.rules.App.TheVariants.{Http, Dns, Dhcp, Plain}
-use Rattle.port_rules.specs.declared.rules.PortRule.{PortRule}
-use Rattle.port_rules.specs.Rules.{app_fits, same_transport}
+use Rattle.pk_fields.specs.declared.rules.App.{App}
+use Rattle.pk_fields.specs.declared.rules.App.TheVariants.{Http, Dns, Dhcp, Plain}
+use Rattle.pk_fields.specs.declared.rules.PortRule.{PortRule}
+use Rattle.pk_fields.specs.Rules.{app_fits, same_transport}
 use Rattle.shark_words.specs.declared.port.Port.{Port}
 use Rattle.shark_words.specs.Keys.{behind_name}
 use Rattle.shark_words.specs.Numbers.{at_most, comma_in, decimal_of}

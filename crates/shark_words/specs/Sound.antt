@@ -1,6 +1,6 @@
 -- What holds of all options that words ask for, so that they can be carried out.
 use Rattle.std.specs.Prelude.{◌≡◌, ◌≤◌, true, false, [], IfSome, IsSome}
-use Rattle.port_rules.specs.Rules.{AreRules}
+use Rattle.pk_fields.specs.Rules.{AreRules}
 use Rattle.shark_words.specs.declared.options.LineKind.TheVariants.{Text}
 use Rattle.shark_words.specs.declared.options.Options.{Options}
 use Rattle.shark_words.specs.declared.options.Source.{Source}

@@ -16,7 +16,7 @@ use crate::report::read_report;
 use crate::uses::Use;
 use out_lines::{Occurrence, Quote, Style};
 use pk_base::{NoMemory, Octets};
-use port_rules::PortRule;
+use pk_fields::PortRule;
 use std::alloc::Global;
 
 // The value of a use, where it is one of this option.

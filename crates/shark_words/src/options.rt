@@ -4,7 +4,7 @@ use cap_stats::StatKind;
 use capture_write::Format;
 use out_lines::Style;
 use pk_base::Octets;
-use port_rules::DecodeAs;
+use pk_fields::DecodeAs;
 use std::marker::Model;
 
 /// Where the frames come from.

@@ -4,7 +4,7 @@ ghost use Rattle.shark_words.specs.Ports.{app_named, app_of, carried as carried_
 
 use crate::key::is_text;
 use crate::number::{comma_in, number_behind};
-use port_rules::{App, PortRule};
+use pk_fields::{App, PortRule};
 
 /// A port of one transport.
 #[derive(Clone, Copy, PartialEq, Eq, Hash)]

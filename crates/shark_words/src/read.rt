@@ -24,7 +24,7 @@ use crate::uses::{Use, uses_of};
 use crate::values::{is_blank, read_count, read_format, read_generated, read_kind};
 use capture_write::Format;
 use pk_base::{NoMemory, Octets};
-use port_rules::{DecodeAs, PortRules};
+use pk_fields::{DecodeAs, PortRules};
 use std::alloc::Global;
 
 // A filter that isn't blank.

@@ -4,7 +4,10 @@
 //! are printed, `beyond` or `unread`. A text behind `"` is the content of a string, and its value stands behind `quoted `. `kind`: a kind, ` -> `,
 //! its class, and what can be done with its values. `relation`: a relation, ` -> `, and whether it takes truths, and numbers, and a prefix length.
 
-use flt_typed::{Class, Constant, Relation, admits_prefix, class_of, is_masked, is_measured, is_searched, is_sliced, is_truth, kind_of_value, takes};
+use flt_typed::{
+    Class, Constant, Relation, admits_prefix, class_of, is_masked, is_measured, is_searched,
+    is_sliced, is_truth, kind_of_value, takes,
+};
 use flt_typing::{Reading, read_quote, read_word};
 use pk_base::{Octets, Value};
 use pk_fields::ValueKind;

@@ -2,8 +2,8 @@ ghost use Rattle.std.specs.Prelude.{◌≡◌, ◌⊎◌, ◌↔◌};
 ghost use Rattle.tcp_streams.specs.declared.ends.End.{End as EndValue};
 ghost use Rattle.tcp_streams.specs.Conversations.{end_at, end_of_endpoint, comes_first, ends_between, ends_of as ends_value};
 
-use pk_base::{Address, Endpoint};
 use crate::segment::Segment;
+use pk_base::{Address, Endpoint};
 
 /// An end of a conversation.
 #[derive(Clone, Copy, PartialEq, Eq, Hash)]

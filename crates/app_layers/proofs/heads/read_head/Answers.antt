@@ -1,6 +1,6 @@
 use Rattle.std.proofs.Common.{◌∙◌}
 use Rattle.std.proofs.lemmas.Result.{IfOk-weaker}
-use Rattle.pk_buffer.specs.Buffers.{bytes_of}
+use Rattle.pk_tree.specs.Buffers.{bytes_of}
 use Rattle.pk_fields.specs.Ids.{UDP, TCP}
 use Rattle.dis_ip.specs.Extensions.{extension_after}
 use Rattle.dis_ip.specs.Ip4.{ip4_after}

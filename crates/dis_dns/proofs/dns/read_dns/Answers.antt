@@ -1,5 +1,5 @@
 use Rattle.std.proofs.Common.{List, ℕ}
-use Rattle.pk_buffer.specs.Buffers.{bytes_of}
+use Rattle.pk_tree.specs.Buffers.{bytes_of}
 use Rattle.dis_dns.specs.Collected.{HoldsSteps}
 use Rattle.dis_dns.specs.Dns.{dns_layout}
 use Rattle.dis_dns.proofs.DnsFits.{layout_fits}

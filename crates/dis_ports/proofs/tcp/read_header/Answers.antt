@@ -1,7 +1,7 @@
 use Rattle.std.proofs.Common.{refl, ◌≡◌, ℕ, ◌≤◌, List, [], ◌++◌, length, take, sym, ◌∙◌, arith, append-nil}
 use Rattle.pk_base.specs.declared.span.Span.{Span}
-use Rattle.pk_buffer.specs.Buffers.{IsInside, bytes_of}
-use Rattle.pk_buffer.proofs.Spans.{length-bytes_of}
+use Rattle.pk_tree.specs.Buffers.{IsInside, bytes_of}
+use Rattle.pk_tree.proofs.Spans.{length-bytes_of}
 use Rattle.pk_tree.specs.declared.layout.Reach.{Reach}
 use Rattle.pk_tree.specs.declared.layout.Step.{Step}
 use Rattle.pk_tree.specs.Layouts.{reach}

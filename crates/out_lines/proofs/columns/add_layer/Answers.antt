@@ -1,5 +1,5 @@
 use Rattle.std.proofs.lemmas.Result.{on_ok_weaker}
-use Rattle.pk_buffer.specs.Buffers.{bytes_of}
+use Rattle.pk_tree.specs.Buffers.{bytes_of}
 use Rattle.pk_tree.specs.FieldValues.{layer_values}
 use Rattle.out_lines.specs.Places.{name_values, own_values}
 use Rattle.out_lines.proofs.PlaceLemmas.{added_more, layer_values-split}

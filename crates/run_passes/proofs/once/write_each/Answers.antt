@@ -1,5 +1,5 @@
 use Rattle.std.proofs.Common.{◌∙◌, ap, sym, subst, ℕ, List, [], ◌∷◌, suc, Err, refl, arith}
-use Rattle.port_rules.specs.declared.rules.DecodeAs.{DecodeAs}
+use Rattle.pk_fields.specs.declared.rules.DecodeAs.{DecodeAs}
 use Rattle.pk_base.specs.Limits.{file_limit}
 use Rattle.capture_read.specs.declared.ending.Ending.TheVariants.{Whole}
 use Rattle.capture_read.proofs.TakenLemmas.{took_none}

@@ -1,5 +1,5 @@
 use Rattle.std.proofs.Common.{◌∙◌, ◌-◌, ap, refl, ℕ, List, subst, [], ◌∷◌, drop, length, map, take}
-use Rattle.port_rules.specs.declared.rules.DecodeAs.{DecodeAs}
+use Rattle.pk_fields.specs.declared.rules.DecodeAs.{DecodeAs}
 use Rattle.dissect.specs.Followed.{asks_streams}
 use Rattle.dissect.specs.Trees.{tree_at}
 use Rattle.pk_tree.specs.Trees.{IsKept}

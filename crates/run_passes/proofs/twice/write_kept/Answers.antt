@@ -1,5 +1,5 @@
 use Rattle.std.proofs.Common.{◌∙◌, ap, sym, subst, refl, Err, ℕ, List, [], ◌∷◌, arith, length, take, drop, ◌-◌}
-use Rattle.port_rules.specs.declared.rules.DecodeAs.{DecodeAs}
+use Rattle.pk_fields.specs.declared.rules.DecodeAs.{DecodeAs}
 use Rattle.pk_outside.proofs.Parts.{part_whole}
 use Rattle.run_frames.specs.Fitting.{fitting}
 use Rattle.run_frames.specs.Job.{job_in}

@@ -1,6 +1,6 @@
 use Rattle.std.proofs.Common.{◌≡◌, ◌+◌, ◌∙◌, ℕ, suc, List, Option, Some, ap, drop, length-drop, take, arith, rules}
 use Rattle.std.proofs.lemmas.List.{take_all}
-use Rattle.port_rules.specs.declared.rules.PortRule.{PortRule}
+use Rattle.pk_fields.specs.declared.rules.PortRule.{PortRule}
 use Rattle.shark_words.specs.declared.port.Port.{Port}
 use Rattle.shark_words.specs.Numbers.{comma_in}
 use Rattle.shark_words.specs.Ports.{port_of, rule_by, rule_of}

@@ -1,5 +1,5 @@
 use Rattle.std.proofs.Common.{◌+◌, List, length, subst, sym, ap, ◌∙◌, true≢false, arith}
-use Rattle.port_rules.specs.declared.rules.PortRule.{PortRule}
+use Rattle.pk_fields.specs.declared.rules.PortRule.{PortRule}
 use Rattle.dissect.specs.Stands.{DissectorShown}
 use Rattle.app_layers.specs.Times.{with_time}
 use Rattle.dissect.specs.Trees.{tree_at}

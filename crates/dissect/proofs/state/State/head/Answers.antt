@@ -1,6 +1,6 @@
 use Rattle.std.proofs.Common.{◌∙◌, ap, subst, sym}
 use Rattle.std.proofs.lemmas.Result.{IfOk-weaker}
-use Rattle.pk_buffer.specs.Buffers.{bytes_of}
+use Rattle.pk_tree.specs.Buffers.{bytes_of}
 use Rattle.app_layers.specs.Heads.{head_after, head_read}
 use Rattle.dissect.specs.Stands.{IsWalked}
 use Rattle.dissect.specs.Walks.{Walk, followed, head_met}

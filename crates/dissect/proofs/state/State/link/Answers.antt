@@ -1,5 +1,5 @@
 use Rattle.std.proofs.Common.{◌≡◌, ◌∙◌, length, refl, subst, sym}
-use Rattle.pk_buffer.specs.Buffers.{bytes_of}
+use Rattle.pk_tree.specs.Buffers.{bytes_of}
 use Rattle.pk_base.specs.declared.heads.After.{After}
 use Rattle.app_layers.specs.Payloads.{ComesBehind}
 use Rattle.app_layers.proofs.Behind.{link_behind}

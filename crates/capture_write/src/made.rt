@@ -1,8 +1,8 @@
 // The file: its header, then a record for each word of the generator.
 ghost use Rattle.std.specs.Prelude.{◌≡◌, ◌+◌, ◌<◌, ◌≤◌, ◌^◌, ◌++◌, length, slice_index, ℕ, IfOk, OnOk};
-ghost use Rattle.make_capture.specs.Made.{client_of, file_header, frame_of, generator_after, made, record_head, record_of, records, sent_in, word_of};
+ghost use Rattle.capture_write.specs.Made.{client_of, file_header, frame_of, generator_after, made, record_head, record_of, records, sent_in, word_of};
 
-use crate::frames::{put_answer_frame, put_arp_frame, put_query_frame, put_request_frame};
+use crate::made_frames::{put_answer_frame, put_arp_frame, put_query_frame, put_request_frame};
 use bytes::BufMut;
 use pk_base::{NoMemory, Octets};
 use rand_core::utils::NextWord;
@@ -41,7 +41,7 @@ fn put_header(out: &mut Vec<u8>) -> Result<(), NoMemory>
     Ok(())
 }
 
-#[tactic(auto, using(crate::proofs::Lengths::frame_length, crate::proofs::Sending::sent_few), unfolding(crate::specs::Made::records, crate::specs::Made::generator_after, crate::specs::Made::word_of))]
+#[tactic(auto, using(crate::proofs::MadeLengths::frame_length, crate::proofs::Sending::sent_few), unfolding(crate::specs::Made::records, crate::specs::Made::generator_after, crate::specs::Made::word_of))]
 fn put_records(alloc: Global, out: &mut Vec<u8>, start: u64, frames: u32) -> Result<(), NoMemory>
     requires { frames ≤ 200_000 }
     ensures { OnOk result (out.new.items ≡ out.old.items ++ records start frames) }

@@ -2,7 +2,7 @@
 use Rattle.std.proofs.Common.{◌≡◌, ℕ, ◌+◌, ◌-◌, ◌<◌, ◌≤◌, List, [], ◌∷◌, ◌++◌, length, take, drop, refl, subst, arith, length-append, length-drop}
 use Rattle.std.proofs.lemmas.List.{get_or_append_left, drop-take, drop-drop, take-take, length-take-le}
 use Rattle.pk_base.specs.declared.span.Span.{Span}
-use Rattle.pk_buffer.specs.Buffers.{buffer_of, IsInside, bytes_of}
+use Rattle.pk_tree.specs.Buffers.{buffer_of, IsInside, bytes_of}
 
 -- one more buffer changes no other
 buffer_of-more : (buffers : List (List ℕ)) (bytes : List ℕ) (number : ℕ) → number < length buffers → buffer_of (buffers ++ bytes ∷ []) number ≡ buffer_of buffers number

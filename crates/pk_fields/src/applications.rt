@@ -1,5 +1,5 @@
 ghost use Rattle.std.specs.Prelude.{◌≡◌, true, false};
-ghost use Rattle.port_rules.specs.Applications.{app_known, rule_of, tcp_app, udp_app, usual_tcp, usual_udp};
+ghost use Rattle.pk_fields.specs.Applications.{app_known, rule_of, tcp_app, udp_app, usual_tcp, usual_udp};
 
 use crate::rules::{App, PortRule};
 

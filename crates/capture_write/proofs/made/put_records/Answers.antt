@@ -1,7 +1,7 @@
 use Rattle.std.proofs.Common.{rules}
-use Rattle.make_capture.specs.Made.{generator_after}
-use Rattle.make_capture.proofs.Sending.{drawn_more, drawn_none}
-use Rattle.make_capture.proofs.file.put_records.Goals as goal
+use Rattle.capture_write.specs.Made.{generator_after}
+use Rattle.capture_write.proofs.Sending.{drawn_more, drawn_none}
+use Rattle.capture_write.proofs.made.put_records.Goals as goal
 
 pub frames-init : goal.frames-init
 unfolding generator_after

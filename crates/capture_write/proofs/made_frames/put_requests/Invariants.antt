@@ -1,6 +1,6 @@
 use Rattle.std.proofs.Common.{◌≡◌, ◌++◌}
-use Rattle.make_capture.specs.Frames as frames
-use Rattle.make_capture.proofs.frames.put_requests.Given as goal
+use Rattle.capture_write.specs.MadeFrames as frames
+use Rattle.capture_write.proofs.made_frames.put_requests.Given as goal
 
 abbrev pub invariant-places : goal.invariant-places
 invariant-places l = l.out.items ≡ l.fn.out.items ++ frames.requests l.fn.before l.place

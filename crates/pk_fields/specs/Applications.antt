@@ -2,10 +2,10 @@
 use Rattle.std.specs.Prelude.{◌==◌, ℕ, Bool, true, false, ◌&&◌, ◌||◌, nat_le, if◌then◌else◌, List, Option, Some, None, option_map}
 use Rattle.std.specs.List.{find}
 use Rattle.std.specs.Option.{option_or}
-use Rattle.port_rules.specs.declared.rules.App.{App}
-use Rattle.port_rules.specs.declared.rules.App.TheVariants.{Http, Dns, Dhcp, Ntp, Mdns}
-use Rattle.port_rules.specs.declared.rules.PortRule.{PortRule}
-use Rattle.port_rules.specs.Rules.{same_transport}
+use Rattle.pk_fields.specs.declared.rules.App.{App}
+use Rattle.pk_fields.specs.declared.rules.App.TheVariants.{Http, Dns, Dhcp, Ntp, Mdns}
+use Rattle.pk_fields.specs.declared.rules.PortRule.{PortRule}
+use Rattle.pk_fields.specs.Rules.{same_transport}
 
 -- the application of a port of UDP: DNS has 53 (RFC 1035, 4.2.1), DHCP's server 67 and its client 68 (RFC 2131, 4.1), NTP 123
 -- (RFC 5905, 7.2), multicast DNS 5353 (RFC 6762, 3)

@@ -1,9 +1,9 @@
 -- Rules that name the application of a port.
 use Rattle.std.specs.Prelude.{◌==◌, Bool, true, false, ◌&&◌, not, List, All, IsTrue}
 use Rattle.std.specs.List.{IsDistinct}
-use Rattle.port_rules.specs.declared.rules.App.{App}
-use Rattle.port_rules.specs.declared.rules.App.TheVariants.{Http, Dns, Dhcp, Ntp, Mdns, Plain}
-use Rattle.port_rules.specs.declared.rules.PortRule.{PortRule}
+use Rattle.pk_fields.specs.declared.rules.App.{App}
+use Rattle.pk_fields.specs.declared.rules.App.TheVariants.{Http, Dns, Dhcp, Ntp, Mdns, Plain}
+use Rattle.pk_fields.specs.declared.rules.PortRule.{PortRule}
 
 -- HTTP is read in streams alone, DHCP, NTP and multicast DNS in datagrams alone
 abbrev pub app_fits : Bool → App → Bool

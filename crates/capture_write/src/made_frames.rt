@@ -1,6 +1,6 @@
 // The frames of a generated capture, written behind what a buffer holds.
 ghost use Rattle.std.specs.Prelude.{◌≡◌, ◌+◌, ◌<◌, ◌≤◌, ◌^◌, ◌++◌, OnOk};
-ghost use Rattle.make_capture.specs.Frames as frames;
+ghost use Rattle.capture_write.specs.MadeFrames as frames;
 
 use bytes::BufMut;
 use pk_base::NoMemory;
@@ -39,7 +39,7 @@ const QUESTION: [u8; 12] = [1, b'h', 4, b't', b'e', b's', b't', 0, 0, 1, 0, 1];
 
 const REQUEST: [u8; 27] = *b"GET / HTTP/1.1\r\nHost: h\r\n\r\n";
 
-#[tactic(auto, unfolding(crate::specs::Frames::ethernet_header))]
+#[tactic(auto, unfolding(crate::specs::MadeFrames::ethernet_header))]
 fn put_ethernet(out: &mut Vec<u8>, ethertype: u16) -> Result<(), NoMemory>
     ensures { OnOk result (out.new.items ≡ out.old.items ++ frames.ethernet_header ethertype) }
 {
@@ -49,7 +49,7 @@ fn put_ethernet(out: &mut Vec<u8>, ethertype: u16) -> Result<(), NoMemory>
     Ok(())
 }
 
-#[tactic(auto, unfolding(crate::specs::Frames::ip_header))]
+#[tactic(auto, unfolding(crate::specs::MadeFrames::ip_header))]
 fn put_ip(
     out: &mut Vec<u8>,
     size: u16,
@@ -69,7 +69,7 @@ fn put_ip(
     Ok(())
 }
 
-#[tactic(auto, unfolding(crate::specs::Frames::udp_header))]
+#[tactic(auto, unfolding(crate::specs::MadeFrames::udp_header))]
 fn put_udp(out: &mut Vec<u8>, size: u16, source: u16, target: u16) -> Result<(), NoMemory>
     requires { size < 2 ^ 15 }
     ensures { OnOk result (out.new.items ≡ out.old.items ++ frames.udp_header size source target) }
@@ -81,7 +81,7 @@ fn put_udp(out: &mut Vec<u8>, size: u16, source: u16, target: u16) -> Result<(),
     Ok(())
 }
 
-#[tactic(auto, unfolding(crate::specs::Frames::tcp_header))]
+#[tactic(auto, unfolding(crate::specs::MadeFrames::tcp_header))]
 fn put_tcp(out: &mut Vec<u8>, source: u16, target: u16, number: u32) -> Result<(), NoMemory>
     ensures { OnOk result (out.new.items
         ≡ out.old.items ++ frames.tcp_header source target number) }
@@ -94,7 +94,7 @@ fn put_tcp(out: &mut Vec<u8>, source: u16, target: u16, number: u32) -> Result<(
     Ok(())
 }
 
-#[tactic(auto, unfolding(crate::specs::Frames::dns_header))]
+#[tactic(auto, unfolding(crate::specs::MadeFrames::dns_header))]
 fn put_dns(out: &mut Vec<u8>, id: u16, flags: u16, answers: u16) -> Result<(), NoMemory>
     ensures { OnOk result (out.new.items ≡ out.old.items ++ frames.dns_header id flags answers) }
 {
@@ -106,7 +106,7 @@ fn put_dns(out: &mut Vec<u8>, id: u16, flags: u16, answers: u16) -> Result<(), N
     Ok(())
 }
 
-#[tactic(auto, unfolding(crate::specs::Frames::arp_frame, crate::specs::Frames::arp_request))]
+#[tactic(auto, unfolding(crate::specs::MadeFrames::arp_frame, crate::specs::MadeFrames::arp_request))]
 pub fn put_arp_frame(out: &mut Vec<u8>, client: u8) -> Result<(), NoMemory>
     ensures { OnOk result (out.new.items ≡ out.old.items ++ frames.arp_frame client) }
 {
@@ -119,7 +119,7 @@ pub fn put_arp_frame(out: &mut Vec<u8>, client: u8) -> Result<(), NoMemory>
     Ok(())
 }
 
-#[tactic(auto, unfolding(crate::specs::Frames::query_frame, crate::specs::Frames::question))]
+#[tactic(auto, unfolding(crate::specs::MadeFrames::query_frame, crate::specs::MadeFrames::question))]
 pub fn put_query_frame(out: &mut Vec<u8>, client: u8) -> Result<(), NoMemory>
     ensures { OnOk result (out.new.items ≡ out.old.items ++ frames.query_frame client) }
 {
@@ -132,7 +132,7 @@ pub fn put_query_frame(out: &mut Vec<u8>, client: u8) -> Result<(), NoMemory>
     Ok(())
 }
 
-#[tactic(auto, unfolding(crate::specs::Frames::answer_frame, crate::specs::Frames::question))]
+#[tactic(auto, unfolding(crate::specs::MadeFrames::answer_frame, crate::specs::MadeFrames::question))]
 pub fn put_answer_frame(out: &mut Vec<u8>, client: u8) -> Result<(), NoMemory>
     ensures { OnOk result (out.new.items ≡ out.old.items ++ frames.answer_frame client) }
 {
@@ -145,7 +145,7 @@ pub fn put_answer_frame(out: &mut Vec<u8>, client: u8) -> Result<(), NoMemory>
     put_answer(out, client)
 }
 
-#[tactic(auto, unfolding(crate::specs::Frames::answer))]
+#[tactic(auto, unfolding(crate::specs::MadeFrames::answer))]
 fn put_answer(out: &mut Vec<u8>, client: u8) -> Result<(), NoMemory>
     ensures { OnOk result (out.new.items ≡ out.old.items ++ frames.answer client) }
 {
@@ -157,7 +157,7 @@ fn put_answer(out: &mut Vec<u8>, client: u8) -> Result<(), NoMemory>
 }
 
 /// The next bytes of a client's requests, of which so many were sent before.
-#[tactic(auto, unfolding(crate::specs::Frames::request_frame))]
+#[tactic(auto, unfolding(crate::specs::MadeFrames::request_frame))]
 pub fn put_request_frame(
     out: &mut Vec<u8>,
     client: u8,
@@ -186,7 +186,7 @@ pub fn put_request_frame(
     put_requests(out, before, size)
 }
 
-#[tactic(auto, unfolding(crate::specs::Frames::requests, crate::specs::Frames::request))]
+#[tactic(auto, unfolding(crate::specs::MadeFrames::requests, crate::specs::MadeFrames::request))]
 fn put_requests(out: &mut Vec<u8>, before: u32, size: u16) -> Result<(), NoMemory>
     requires before { before < 2 ^ 31 }
     requires size { size ≤ 16 }

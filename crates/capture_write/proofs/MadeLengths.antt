@@ -1,8 +1,8 @@
 -- How long the frames are.
 use Rattle.std.proofs.Common.{◌≡◌, ◌<◌, ℕ, zero, suc, ◌+◌, ◌%◌, ◌^◌, Bool, true, false, ◌==◌, if◌then◌else◌, List, [], ◌∷◌, length, slice_index, refl, arith}
 use Rattle.std.proofs.lemmas.List.{length-append}
-use Rattle.make_capture.specs.Frames.{arp_frame, arp_request, answer, answer_frame, dns_header, ethernet_header, ip_header, query_frame, question, request, request_frame, requests, tcp_header, udp_header}
-use Rattle.make_capture.specs.Made.{frame_of, client_of, kind_of, size_of}
+use Rattle.capture_write.specs.MadeFrames.{arp_frame, arp_request, answer, answer_frame, dns_header, ethernet_header, ip_header, query_frame, question, request, request_frame, requests, tcp_header, udp_header}
+use Rattle.capture_write.specs.Made.{frame_of, client_of, kind_of, size_of}
 
 pub length-requests : (from size : ℕ) → length (requests from size) ≡ size
 unfolding requests

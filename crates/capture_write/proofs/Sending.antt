@@ -1,7 +1,7 @@
 -- What the clients have sent, as the loop over the frames keeps it.
 use Rattle.std.proofs.Common.{◌≡◌, ◌<◌, ◌≤◌, ℕ, zero, suc, ◌+◌, ◌*◌, ◌++◌, Bool, true, false, ◌==◌, ◌&&◌, if◌then◌else◌, List, length, slice_index, replicate, refl, arith, sym, ap, add-one}
 use Rattle.std.proofs.lemmas.List.{append-nil, append_assoc, get_or-replicate}
-use Rattle.make_capture.specs.Made.{client_of, frame_of, generator_after, kind_of, record_of, records, sent_before, sent_in, size_of, word_of}
+use Rattle.capture_write.specs.Made.{client_of, frame_of, generator_after, kind_of, record_of, records, sent_before, sent_in, size_of, word_of}
 use Rattle.rand_pcg.specs.Lcg.{Lcg}
 use Rattle.rand_pcg.specs.Pcg.{pcg32}
 

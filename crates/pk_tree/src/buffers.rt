@@ -12,7 +12,7 @@ pub struct Buffers {
 
 impl Model for Buffers {
     ghost use Rattle.std.specs.Prelude.{ℕ, List};
-    ghost use Rattle.pk_buffer.specs.Buffers.{IsAddressable};
+    ghost use Rattle.pk_tree.specs.Buffers.{IsAddressable};
 
     ghost Value = { List (List ℕ) };
 
@@ -22,7 +22,7 @@ impl Model for Buffers {
 }
 
 impl Buffers {
-    ghost use Rattle.pk_buffer.specs.Buffers.{buffer_of, IsInside, bytes_of};
+    ghost use Rattle.pk_tree.specs.Buffers.{buffer_of, IsInside, bytes_of};
 
     pub fn new(alloc: Global) -> Buffers
         ensures { result ≡ [] }

@@ -31,7 +31,7 @@ pub struct PortRules {
 
 impl Model for PortRules {
     ghost use Rattle.std.specs.Prelude.{List};
-    ghost use Rattle.port_rules.specs.declared.rules.PortRule.{PortRule};
+    ghost use Rattle.pk_fields.specs.declared.rules.PortRule.{PortRule};
 
     ghost Value = { List PortRule };
 

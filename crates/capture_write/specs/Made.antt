@@ -3,7 +3,7 @@
 -- for random number generation"), one word a frame.
 use Rattle.std.specs.Prelude.{ℕ, zero, suc, ◌+◌, ◌/◌, ◌%◌, ◌==◌, ◌&&◌, if◌then◌else◌, List, [], ◌∷◌, ◌++◌, length}
 use Rattle.std.specs.Int.{w32, to_le_bytes}
-use Rattle.make_capture.specs.Frames.{arp_frame, query_frame, answer_frame, request_frame}
+use Rattle.capture_write.specs.MadeFrames.{arp_frame, query_frame, answer_frame, request_frame}
 use Rattle.rand_pcg.specs.Lcg.{Lcg, started, increment_of, next}
 use Rattle.rand_pcg.specs.Pcg.{multiplier_64, output_xsh_rr}
 
