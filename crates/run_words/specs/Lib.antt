@@ -1,5 +1,9 @@
 pub mod Columns
+pub mod FaultLines
+pub mod FaultTexts
 pub mod Laws
+pub mod Outcomes
 pub mod Plan
 pub mod PlanErrors
+pub mod Statuses
 pub mod Sure

@@ -1,6 +1,6 @@
 // What the program answers by itself, before its run.
 ghost use Rattle.std.specs.Prelude.{◌≡◌, true, false};
-ghost use Rattle.shark_run.specs.declared.status.Status.TheVariants.{BadWords, NoMemory};
+ghost use Rattle.run_words.specs.declared.status.Status.TheVariants.{BadWords, NoMemory};
 
 use crate::help::write_help;
 use pk_outside::{Sink, SinkFault, write_whole};

@@ -9,10 +9,10 @@ use Rattle.run_words.specs.declared.refused.Refused.TheVariants as refused
 use Rattle.run_words.specs.Plan.{IsPlan, IsRefusal, IsRefusalFor}
 use Rattle.run_words.specs.Sure.{IsSure}
 use Rattle.run_words.proofs.PlanLemmas.{filter_or_fault, plan_or_refusal, same_options}
-use Rattle.shark_run.specs.declared.status.Status.{Status}
-use Rattle.shark_run.specs.declared.status.Status.TheVariants as status
+use Rattle.run_words.specs.declared.status.Status.{Status}
+use Rattle.run_words.specs.declared.status.Status.TheVariants as status
 use Rattle.shark_run.specs.Answers.{IsAnswered, IsRefusedForSize}
-use Rattle.shark_run.specs.Statuses.{refusal_status, status_of}
+use Rattle.run_words.specs.Statuses.{refusal_status, status_of}
 
 -- words that ask for a plan, refused: for a pattern's size
 pub refused_with_plan : (words : List (List ℕ)) (plan : Plan) (reason : Refused) (answer : Status) → IsPlan words plan → IsRefusal words reason

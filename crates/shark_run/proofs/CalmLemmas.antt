@@ -13,11 +13,11 @@ use Rattle.shark_run.specs.Way.{IsNextNear}
 use Rattle.run_passes.specs.Reading.{file_by, file_of}
 use Rattle.run_passes.specs.SoFar.{IfUnfit, IsNextNearOf}
 use Rattle.shark_run.specs.Calm.{HasFaults, TellsFaults}
-use Rattle.shark_run.specs.Outcomes.{HasEnded, IfEnded, outcome_status}
-use Rattle.shark_run.specs.declared.outcome.Outcome.{Outcome}
-use Rattle.shark_run.specs.declared.outcome.Outcome.TheVariants as outcome
-use Rattle.shark_run.specs.declared.status.Status.{Status}
-use Rattle.shark_run.specs.declared.status.Status.TheVariants as status
+use Rattle.run_words.specs.Outcomes.{HasEnded, IfEnded, outcome_status}
+use Rattle.run_words.specs.declared.outcome.Outcome.{Outcome}
+use Rattle.run_words.specs.declared.outcome.Outcome.TheVariants as outcome
+use Rattle.run_words.specs.declared.status.Status.{Status}
+use Rattle.run_words.specs.declared.status.Status.TheVariants as status
 
 -- nothing outside was touched
 pub tells_still : (answer : Status) (missed reads writes : ℕ) → TellsFaults answer missed missed reads reads writes writes

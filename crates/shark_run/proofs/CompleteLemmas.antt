@@ -1,14 +1,14 @@
 -- Where nothing outside fails, a plan's run ends as the reading of its frames does.
 use Rattle.std.proofs.Common.{◌≡◌, ◌⊎◌, inl, inr, ℕ, List, Option, refl, ap, ◌∙◌}
 use Rattle.std.specs.Prelude.{IfSome}
-use Rattle.shark_run.specs.declared.outcome.Outcome.{Outcome}
-use Rattle.shark_run.specs.declared.outcome.Outcome.TheVariants as outcome
+use Rattle.run_words.specs.declared.outcome.Outcome.{Outcome}
+use Rattle.run_words.specs.declared.outcome.Outcome.TheVariants as outcome
 use Rattle.run_frames.specs.declared.plan.Plan.{Plan}
-use Rattle.shark_run.specs.declared.status.Status.{Status}
-use Rattle.shark_run.specs.declared.status.Status.TheVariants as status
-use Rattle.shark_run.specs.Outcomes.{outcome_status, IfEnded}
+use Rattle.run_words.specs.declared.status.Status.{Status}
+use Rattle.run_words.specs.declared.status.Status.TheVariants as status
+use Rattle.run_words.specs.Outcomes.{outcome_status, IfEnded}
 use Rattle.run_passes.specs.Reading.{file_of, frames_read}
-use Rattle.shark_run.specs.Statuses.{status_of}
+use Rattle.run_words.specs.Statuses.{status_of}
 use Rattle.shark_run.proofs.AnswerLemmas.{any_file, each_file}
 
 -- nothing failed, so the status is that of the end, or tells of want of memory

@@ -8,11 +8,11 @@ use Rattle.run_words.specs.declared.refused.Refused.{Refused}
 use Rattle.run_words.specs.declared.refused.Refused.TheVariants as refused
 use Rattle.run_words.specs.Plan.{IsPlan, IsRefusal}
 use Rattle.shark_run.specs.Wrote.{WroteAll, WrotePart}
-use Rattle.shark_run.specs.declared.status.Status.{Status}
-use Rattle.shark_run.specs.declared.status.Status.TheVariants as status
-use Rattle.shark_run.specs.FaultTexts.{Told}
+use Rattle.run_words.specs.declared.status.Status.{Status}
+use Rattle.run_words.specs.declared.status.Status.TheVariants as status
+use Rattle.shark_run.specs.Told.{Told}
 use Rattle.shark_run.specs.Headline.{AreKept, Headline, HeadlineSaysAll, IsAnswer, IsCarriedOut, IsCutShort, IsRefused}
-use Rattle.shark_run.specs.Statuses.{refusal_status, status_of, IsNoRefusal, IsRefusing, WhenEnded}
+use Rattle.run_words.specs.Statuses.{refusal_status, status_of, IsNoRefusal, IsRefusing, WhenEnded}
 use Rattle.shark_run.proofs.AnswerLemmas.{each_file}
 
 -- the whole output, written over a file

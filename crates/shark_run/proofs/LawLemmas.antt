@@ -18,12 +18,12 @@ use Rattle.dissect.specs.Trees.{tree_at}
 use Rattle.shark_words.specs.declared.options.Options.{Options}
 use Rattle.run_frames.specs.declared.plan.Plan.{Plan}
 use Rattle.run_frames.specs.declared.run_ending.RunEnding.TheVariants.{Unfit}
-use Rattle.shark_run.specs.declared.status.Status.{Status}
-use Rattle.shark_run.specs.declared.status.Status.TheVariants as status
+use Rattle.run_words.specs.declared.status.Status.{Status}
+use Rattle.run_words.specs.declared.status.Status.TheVariants as status
 use Rattle.shark_run.specs.Answers.{IsAnswered}
 use Rattle.run_frames.specs.Chosen.{chosen, chosen_of, if_shown, is_unfit_in, packet_in}
 use Rattle.run_frames.specs.Fitting.{FramesRead, before, fitting, is_unfit, is_unfit_by, over}
-use Rattle.shark_run.specs.Statuses.{status_of}
+use Rattle.run_words.specs.Statuses.{status_of}
 use Rattle.shark_run.specs.Laws.{AreAlike, PlansAreAlike}
 use Rattle.run_frames.specs.declared.source.PlanSource.{PlanSource}
 use Rattle.run_frames.specs.Accessors.{is_quiet}

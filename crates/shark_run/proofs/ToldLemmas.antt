@@ -6,18 +6,19 @@ use Rattle.std.proofs.KnownBytes.{Appends-nil}
 use Rattle.pk_outside.specs.Outside.{AppendsPart}
 use Rattle.pk_outside.proofs.Parts.{part_none}
 use Rattle.capture_read.specs.declared.ending.Ending.TheVariants as ending
-use Rattle.shark_run.specs.declared.outcome.Outcome.{Outcome}
-use Rattle.shark_run.specs.declared.outcome.Outcome.TheVariants as outcome
+use Rattle.run_words.specs.declared.outcome.Outcome.{Outcome}
+use Rattle.run_words.specs.declared.outcome.Outcome.TheVariants as outcome
 use Rattle.run_frames.specs.declared.run_ending.RunEnding.TheVariants.{Read, Unfit}
 use Rattle.run_frames.specs.declared.plan.Plan.{Plan}
 use Rattle.run_words.specs.declared.refused.Refused.{Refused}
 use Rattle.run_words.specs.declared.refused.Refused.TheVariants as refused
-use Rattle.shark_run.specs.declared.status.Status.{Status}
-use Rattle.shark_run.specs.declared.status.Status.TheVariants as status
-use Rattle.shark_run.specs.FaultTexts.{refusal_text, ending_text, outcome_text, run_ending_text, IsFaultText, IsNone, IsSame, Told, ToldWhole}
-use Rattle.shark_run.specs.Outcomes.{outcome_status, IfEnded}
+use Rattle.run_words.specs.declared.status.Status.{Status}
+use Rattle.run_words.specs.declared.status.Status.TheVariants as status
+use Rattle.run_words.specs.FaultTexts.{refusal_text, ending_text, outcome_text, run_ending_text}
+use Rattle.shark_run.specs.Told.{IsFaultText, IsNone, IsSame, Told, ToldWhole}
+use Rattle.run_words.specs.Outcomes.{outcome_status, IfEnded}
 use Rattle.run_passes.specs.Reading.{file_of, frames_read}
-use Rattle.shark_run.specs.Statuses.{refusal_status}
+use Rattle.run_words.specs.Statuses.{refusal_status}
 
 pub told : (IsAsked : Plan → Type 0) (IsReason : Refused → Type 0) (files : List ℕ → Option (List ℕ)) (answer : Status) (text : List ℕ) (old new : Option (List ℕ)) →
     IsFaultText IsAsked IsReason files answer text → AppendsPart old new text → Told IsAsked IsReason files answer old new

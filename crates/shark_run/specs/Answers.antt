@@ -2,8 +2,8 @@
 use Rattle.std.specs.Prelude.{◌≡◌, ◌⊎◌, ℕ, IsTrue, List}
 use Rattle.flt_syntax.specs.declared.fault.FilterFault.{FilterFault}
 use Rattle.run_words.specs.declared.refused.Refused.TheVariants as refused
-use Rattle.shark_run.specs.declared.status.Status.{Status}
-use Rattle.shark_run.specs.declared.status.Status.TheVariants.{BadFilter, NoMemory}
+use Rattle.run_words.specs.declared.status.Status.{Status}
+use Rattle.run_words.specs.declared.status.Status.TheVariants.{BadFilter, NoMemory}
 use Rattle.run_words.specs.Plan.{IsRefusal}
 use Rattle.run_words.specs.Sure.{is_of_size}
 

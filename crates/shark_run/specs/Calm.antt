@@ -1,9 +1,9 @@
 -- Each fault of the outside is told, and as no other.
 use Rattle.std.specs.Prelude.{◌≡◌, ◌≢◌, ℕ}
-use Rattle.shark_run.specs.declared.outcome.Outcome.{Outcome}
-use Rattle.shark_run.specs.declared.outcome.Outcome.TheVariants as outcome
-use Rattle.shark_run.specs.declared.status.Status.{Status}
-use Rattle.shark_run.specs.declared.status.Status.TheVariants as status
+use Rattle.run_words.specs.declared.outcome.Outcome.{Outcome}
+use Rattle.run_words.specs.declared.outcome.Outcome.TheVariants as outcome
+use Rattle.run_words.specs.declared.status.Status.{Status}
+use Rattle.run_words.specs.declared.status.Status.TheVariants as status
 
 -- the counts of the begins, reads and writes that failed are as before, but for the one whose fault the status tells of
 pub record TellsFaults (answer : Status) (missed_old missed_new reads_old reads_new writes_old writes_new : ℕ) : Type 0 where

@@ -7,10 +7,10 @@ use Rattle.run_passes.specs.Reading.{file_of, frames_read}
 use Rattle.run_words.specs.declared.refused.Refused.{Refused}
 use Rattle.run_words.specs.Plan.{IsPlan, IsRefusal}
 use Rattle.shark_run.specs.Wrote.{WroteAll, WrotePart}
-use Rattle.shark_run.specs.declared.status.Status.{Status}
-use Rattle.shark_run.specs.declared.status.Status.TheVariants.{Done, BadWords, BadFilter, BadField, CannotOpen, ReadFault, Damaged, TooLarge, WriteFault, NoMemory, CannotWrite}
-use Rattle.shark_run.specs.FaultTexts.{Told}
-use Rattle.shark_run.specs.Statuses.{refusal_status, status_of, IsNoRefusal, IsRefusing, WhenEnded}
+use Rattle.run_words.specs.declared.status.Status.{Status}
+use Rattle.run_words.specs.declared.status.Status.TheVariants.{Done, BadWords, BadFilter, BadField, CannotOpen, ReadFault, Damaged, TooLarge, WriteFault, NoMemory, CannotWrite}
+use Rattle.shark_run.specs.Told.{Told}
+use Rattle.run_words.specs.Statuses.{refusal_status, status_of, IsNoRefusal, IsRefusing, WhenEnded}
 
 -- the words are refused: for this reason, which they give, as the status says; and nothing is written
 pub record IsRefused (words : List (List ℕ)) (reason : Refused) (answer : Status) (old new : Option (List ℕ)) : Type 0 where

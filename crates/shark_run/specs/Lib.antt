@@ -1,11 +1,8 @@
 pub mod Answers
 pub mod Calm
 pub mod Causes
-pub mod FaultLines
-pub mod FaultTexts
 pub mod Headline
 pub mod Laws
-pub mod Outcomes
-pub mod Statuses
+pub mod Told
 pub mod Way
 pub mod Wrote

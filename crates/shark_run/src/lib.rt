@@ -2,20 +2,16 @@
 //! and the lines of the frames that the filter lets through are written, or these frames as a capture.
 #![tactic(auto)]
 
-mod fault_text;
 mod file;
 mod laws;
-mod outcome;
 mod output;
 mod owned;
-mod status;
 mod sure;
 mod top;
 mod two_passes;
 
 pub use laws::{plans_are_alike, the_headline_says_all};
 pub use run_frames::{Compiled, FieldList, Generated, Plan, PlanRules, PlanSource, Text};
-pub use run_words::Refused;
-pub use status::Status;
+pub use run_words::{Refused, Status};
 pub use sure::sure_run;
 pub use top::{run, run_plan};

@@ -7,13 +7,13 @@ ghost use Rattle.shark_run.specs.Headline.{IsAnswer};
 ghost use Rattle.run_words.specs.Plan.{IsPlan, IsRefusal};
 ghost use Rattle.run_words.specs.Sure.{IsSure};
 ghost use Rattle.run_passes.specs.Reading.{file_of, frames_read};
-ghost use Rattle.shark_run.specs.Statuses.{status_of, refusal_status};
-ghost use Rattle.shark_run.specs.Statuses.{IsNoFault, IsRefusing, WhenEnded};
+ghost use Rattle.run_words.specs.Statuses.{status_of, refusal_status};
+ghost use Rattle.run_words.specs.Statuses.{IsNoFault, IsRefusing, WhenEnded};
 ghost use Rattle.shark_run.specs.Wrote.{WroteAll, WrotePart};
 
-use crate::status::Status;
 use crate::top::run;
 use pk_outside::{SureCapture, SureSink};
+use run_words::Status;
 use std::alloc::Global;
 
 /// A run over a capture file in memory, or over a generated capture, where nothing outside fails: the words are refused for their reason,

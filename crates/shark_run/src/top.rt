@@ -8,11 +8,12 @@ ghost use Rattle.run_words.specs.declared.refused.Refused.{Refused};
 ghost use Rattle.run_words.specs.Plan.{IsPlan, IsRefusal};
 ghost use Rattle.run_words.specs.Sure.{IsSure};
 ghost use Rattle.shark_run.specs.Answers.{IsAnswered};
-ghost use Rattle.run_passes.specs.Reading.{name_of, file_of, frames_read};
+ghost use Rattle.run_frames.specs.Accessors.{name_of};
+ghost use Rattle.run_passes.specs.Reading.{file_of, frames_read};
 ghost use Rattle.run_passes.specs.Taken.{Took};
-ghost use Rattle.shark_run.specs.Statuses.{status_of, refusal_status, IsNoRefusal, IsRefusing, WhenEnded};
-ghost use Rattle.shark_run.specs.FaultTexts.{IsNone, IsSame, Told, ToldWhole};
-ghost use Rattle.shark_run.specs.Outcomes.{IfEnded};
+ghost use Rattle.run_words.specs.Statuses.{status_of, refusal_status, IsNoRefusal, IsRefusing, WhenEnded};
+ghost use Rattle.shark_run.specs.Told.{IsNone, IsSame, Told, ToldWhole};
+ghost use Rattle.run_words.specs.Outcomes.{IfEnded};
 ghost use Rattle.shark_run.specs.Calm.{HasFaults, TellsFaults};
 ghost use Rattle.shark_run.specs.Causes.{IsUnopened, IsUnread};
 ghost use Rattle.shark_run.specs.Headline.{Headline};
@@ -20,15 +21,15 @@ ghost use Rattle.shark_run.specs.Way.{IsBroken, IsBrokenOf, IsFullNear, IsNextNe
 ghost use Rattle.run_passes.specs.SoFar.{IfUnfit, IsFullNearOf, IsNextNearOf};
 ghost use Rattle.shark_run.specs.Wrote.{WroteAll, WrotePart};
 
-use crate::fault_text::{outcome_text, refusal_text, tell, unopened_text};
 use crate::file::{FileFault, begin_file, begin_generated};
-use crate::outcome::Outcome;
 use crate::output::write_output;
-use crate::status::{Status, status_of_refusal};
 use pk_base::NoMemory;
 use pk_outside::{Capture, Sink};
 use run_frames::{Generated, Plan, PlanSource, RunFault, Text};
-use run_words::{PlanError, Refused, read_plan};
+use run_words::{
+    Outcome, PlanError, Refused, Status, outcome_text, read_plan, refusal_text, status_of_refusal,
+    tell, unopened_text,
+};
 use std::alloc::Global;
 
 // Reads the file of a name and writes the output over its frames.

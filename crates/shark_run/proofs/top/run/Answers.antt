@@ -2,7 +2,7 @@ use Rattle.std.proofs.Common.{refl, sym, subst}
 use Rattle.shark_words.specs.Words.{texts}
 use Rattle.run_frames.specs.declared.plan.Plan.{Plan}
 use Rattle.run_words.specs.declared.refused.Refused.{Refused}
-use Rattle.shark_run.specs.FaultTexts.{IsNone, IsSame}
+use Rattle.shark_run.specs.Told.{IsNone, IsSame}
 use Rattle.run_words.specs.Plan.{IsPlan, IsRefusal}
 use Rattle.run_words.proofs.PlanLemmas.{reason_given, refused_not_planned}
 use Rattle.shark_run.proofs.AnswerLemmas.{complete_refused, refused_or_none}

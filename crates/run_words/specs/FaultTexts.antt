@@ -1,9 +1,7 @@
--- What standard error is told: one line that names the fault, or nothing.
-use Rattle.std.specs.Prelude.{◌≡◌, ℕ, decimal, List, [], ◌++◌, codes, Option, IfSome}
-use Rattle.std.specs.Io.KnownBytes.{Appends}
+-- The texts of faults: one line that names it, or nothing.
+use Rattle.std.specs.Prelude.{ℕ, decimal, List, [], ◌++◌, codes}
 use Rattle.pk_base.specs.declared.found.Reason.{Reason}
 use Rattle.pk_base.specs.declared.found.Reason.TheVariants.{ShortHeader, UnknownMagic, BadVersion, RecordCut, TooLong, BlockLength, BlockCut, BadInterface, BadOption, BadResolution}
-use Rattle.pk_outside.specs.Outside.{AppendsPart}
 use Rattle.pk_text.specs.Escape.{escaped}
 use Rattle.capture_read.specs.declared.ending.Ending.{Ending}
 use Rattle.capture_read.specs.declared.ending.Ending.TheVariants as ending
@@ -11,17 +9,14 @@ use Rattle.flt_syntax.specs.declared.fault.FilterReason.{FilterReason}
 use Rattle.flt_syntax.specs.declared.fault.FilterReason.TheVariants as filter
 use Rattle.shark_words.specs.declared.fault.WordReason.{WordReason}
 use Rattle.shark_words.specs.declared.fault.WordReason.TheVariants.{UnknownOption, MissingValue, StrayWord, NoFile, Repeated, BadValue, NoFields, Unused, Clash}
-use Rattle.shark_run.specs.declared.outcome.Outcome.{Outcome}
-use Rattle.shark_run.specs.declared.outcome.Outcome.TheVariants as outcome
+use Rattle.run_words.specs.declared.outcome.Outcome.{Outcome}
+use Rattle.run_words.specs.declared.outcome.Outcome.TheVariants as outcome
 use Rattle.run_frames.specs.declared.run_ending.RunEnding.{RunEnding}
 use Rattle.run_frames.specs.declared.run_ending.RunEnding.TheVariants.{Read, Unfit}
 use Rattle.run_frames.specs.declared.plan.Plan.{Plan}
 use Rattle.run_words.specs.declared.refused.Refused.{Refused}
 use Rattle.run_words.specs.declared.refused.Refused.TheVariants as refused
-use Rattle.shark_run.specs.declared.status.Status.{Status}
-use Rattle.shark_run.specs.declared.status.Status.TheVariants as status
-use Rattle.run_passes.specs.Reading.{name_of, file_of, frames_read}
-use Rattle.shark_run.specs.Statuses.{refusal_status, status_of}
+use Rattle.run_frames.specs.Accessors.{name_of}
 
 -- the code and name of a reason why a file is damaged
 abbrev pub reason_text : Reason → List ℕ
@@ -95,43 +90,3 @@ outcome_text plan outcome.CannotOpen = codes "shark: cannot open " ++ (escaped (
 outcome_text plan outcome.ReadFault = read_fault_text
 outcome_text plan outcome.WriteFault = []
 outcome_text plan outcome.NoMemory = []
-
--- the text of a status that a plan's run ended with: of the end of what was read of the file
-pub record EndsSo (plan : Plan) (files : List ℕ → Option (List ℕ)) (answer : Status) (told : List ℕ) : Type 0 where
-  pub ending : RunEnding
-  pub status : status_of ending ≡ answer
-  pub read : IfSome (file_of plan files) (λ file. ending ≡ (frames_read plan file).ending)
-  pub text : told ≡ run_ending_text ending
-
--- only this one, and none at all
-abbrev pub IsSame : {A : Type 0} → A → A → Type 0
-IsSame a other = other ≡ a
-
-abbrev pub IsNone : {A : Type 0} → A → Type 0
-IsNone other = ⊥
-
--- the text of a refusal for one of these reasons, with its status
-abbrev pub IsRefusalText : (Refused → Type 0) → Status → List ℕ → Type 0
-IsRefusalText IsReason answer text = (reason : Refused) × IsReason reason × (answer ≡ refusal_status reason) × (text ≡ refusal_text reason)
-
--- the text of a status, for words that ask for such a plan or are refused for such a reason, over these files
-abbrev pub IsFaultText : (Plan → Type 0) → (Refused → Type 0) → (List ℕ → Option (List ℕ)) → Status → List ℕ → Type 0
-IsFaultText IsAsked IsReason files status.BadWords text = IsRefusalText IsReason status.BadWords text
-IsFaultText IsAsked IsReason files status.BadFilter text = IsRefusalText IsReason status.BadFilter text
-IsFaultText IsAsked IsReason files status.BadField text = IsRefusalText IsReason status.BadField text
-IsFaultText IsAsked IsReason files status.CannotOpen text = (plan : Plan) × IsAsked plan × (text ≡ outcome_text plan outcome.CannotOpen)
-IsFaultText IsAsked IsReason files status.ReadFault text = text ≡ read_fault_text
-IsFaultText IsAsked IsReason files status.Damaged text = (plan : Plan) × IsAsked plan × EndsSo plan files status.Damaged text
-IsFaultText IsAsked IsReason files status.CannotWrite text = (plan : Plan) × IsAsked plan × EndsSo plan files status.CannotWrite text
-IsFaultText IsAsked IsReason files status.TooLarge text = text ≡ too_large_text
-IsFaultText IsAsked IsReason files status.Done text = text ≡ []
-IsFaultText IsAsked IsReason files status.WriteFault text = text ≡ []
-IsFaultText IsAsked IsReason files status.NoMemory text = text ≡ []
-
--- standard error got a front of the status's text, and nothing else
-unfoldable pub Told : (Plan → Type 0) → (Refused → Type 0) → (List ℕ → Option (List ℕ)) → Status → Option (List ℕ) → Option (List ℕ) → Type 0
-Told IsAsked IsReason files answer old new = (text : List ℕ) × IsFaultText IsAsked IsReason files answer text × AppendsPart old new text
-
--- standard error got the status's text, and nothing else
-unfoldable pub ToldWhole : (Plan → Type 0) → (Refused → Type 0) → (List ℕ → Option (List ℕ)) → Status → Option (List ℕ) → Option (List ℕ) → Type 0
-ToldWhole IsAsked IsReason files answer old new = (text : List ℕ) × IsFaultText IsAsked IsReason files answer text × Appends old new text

@@ -1,10 +1,10 @@
 -- How carrying out a plan ends.
 use Rattle.run_frames.specs.declared.run_ending.RunEnding.{RunEnding}
-use Rattle.shark_run.specs.declared.outcome.Outcome.{Outcome}
-use Rattle.shark_run.specs.declared.outcome.Outcome.TheVariants as outcome
-use Rattle.shark_run.specs.declared.status.Status.{Status}
-use Rattle.shark_run.specs.declared.status.Status.TheVariants as status
-use Rattle.shark_run.specs.Statuses.{status_of}
+use Rattle.run_words.specs.declared.outcome.Outcome.{Outcome}
+use Rattle.run_words.specs.declared.outcome.Outcome.TheVariants as outcome
+use Rattle.run_words.specs.declared.status.Status.{Status}
+use Rattle.run_words.specs.declared.status.Status.TheVariants as status
+use Rattle.run_words.specs.Statuses.{status_of}
 
 abbrev pub outcome_status : Outcome → Status
 outcome_status (outcome.Ended ending) = status_of ending

@@ -1,7 +1,7 @@
 ghost use Rattle.std.specs.Prelude.{◌≡◌};
-ghost use Rattle.shark_run.specs.Statuses.{exit_number, refusal_status};
+ghost use Rattle.run_words.specs.Statuses.{exit_number, refusal_status};
 
-use run_words::Refused;
+use crate::refused::Refused;
 
 /// How a run ended. The program ends with the number of this variant, 0 for `Done`.
 #[derive(Clone, Copy, Debug, PartialEq, Eq)]
@@ -51,7 +51,7 @@ impl Status {
     }
 }
 
-pub(crate) fn status_of_refusal(refused: &Refused) -> Status
+pub fn status_of_refusal(refused: &Refused) -> Status
     ensures { result ≡ refusal_status refused.now }
 {
     match refused {

@@ -1,7 +1,7 @@
 -- A line for standard error, as it is kept until it is written.
 use Rattle.std.specs.Prelude.{ℕ, List, string_bytes}
-use Rattle.shark_run.specs.declared.fault_text.FaultLine.{FaultLine}
-use Rattle.shark_run.specs.declared.fault_text.FaultLine.TheVariants.{Fixed, Made}
+use Rattle.run_words.specs.declared.fault_text.FaultLine.{FaultLine}
+use Rattle.run_words.specs.declared.fault_text.FaultLine.TheVariants.{Fixed, Made}
 
 -- its bytes
 abbrev pub line_bytes : FaultLine → List ℕ

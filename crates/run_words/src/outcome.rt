@@ -1,5 +1,5 @@
 ghost use Rattle.std.specs.Prelude.{◌≡◌};
-ghost use Rattle.shark_run.specs.Outcomes.{outcome_status};
+ghost use Rattle.run_words.specs.Outcomes.{outcome_status};
 
 use crate::status::Status;
 use capture_read::Ending;
@@ -7,7 +7,7 @@ use run_frames::RunEnding;
 
 /// How carrying out a plan ended.
 #[derive(Clone, Copy)]
-pub(crate) enum Outcome {
+pub enum Outcome {
     /// The output over all frames that were read was written, and they end so.
     Ended(RunEnding),
     CannotOpen,
@@ -17,7 +17,7 @@ pub(crate) enum Outcome {
 }
 
 impl Outcome {
-    pub(crate) fn status(self) -> Status
+    pub fn status(self) -> Status
         ensures { result ≡ outcome_status self }
     {
         match self {

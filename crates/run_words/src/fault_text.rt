@@ -3,34 +3,34 @@ ghost use Rattle.std.specs.Prelude.{◌≡◌, IfOk, OnErr, string_bytes};
 ghost use Rattle.std.specs.Io.KnownBytes.{Appends};
 ghost use Rattle.pk_outside.specs.Outside.{Rose, AppendsPart};
 ghost use Rattle.run_frames.specs.declared.plan.Plan.{Plan};
-ghost use Rattle.shark_run.specs.FaultLines.{line_bytes};
-ghost use Rattle.shark_run.specs.FaultTexts.{reason_text as text_of_reason, word_reason_text as text_of_word_reason};
-ghost use Rattle.shark_run.specs.FaultTexts.{filter_reason_text as text_of_filter_reason};
-ghost use Rattle.shark_run.specs.FaultTexts.{ending_text as text_of_ending, run_ending_text as text_of_run_ending, outcome_text as text_of_outcome};
-ghost use Rattle.shark_run.specs.FaultTexts.{refusal_text as text_of_refusal};
-ghost use Rattle.shark_run.specs.Outcomes.{HasEnded};
+ghost use Rattle.run_words.specs.FaultLines.{line_bytes};
+ghost use Rattle.run_words.specs.FaultTexts.{reason_text as text_of_reason, word_reason_text as text_of_word_reason};
+ghost use Rattle.run_words.specs.FaultTexts.{filter_reason_text as text_of_filter_reason};
+ghost use Rattle.run_words.specs.FaultTexts.{ending_text as text_of_ending, run_ending_text as text_of_run_ending, outcome_text as text_of_outcome};
+ghost use Rattle.run_words.specs.FaultTexts.{refusal_text as text_of_refusal};
+ghost use Rattle.run_words.specs.Outcomes.{HasEnded};
 
 use crate::outcome::Outcome;
 use crate::owned::let_go;
+use crate::refused::Refused;
 use capture_read::Ending;
 use flt_syntax::FilterReason;
 use pk_base::{NoMemory, Reason};
 use pk_outside::{Sink, write_whole};
 use pk_text::escape_text;
 use run_frames::{Plan, RunEnding};
-use run_words::Refused;
 use shark_words::WordReason;
 use std::alloc::Global;
 
 /// What is told: a fixed text, which takes no memory, or one that names what is at fault.
 #[derive(Drop)]
-pub(crate) enum FaultLine {
+pub enum FaultLine {
     Fixed(&'static str),
     Made(String),
 }
 
 impl FaultLine {
-    pub(crate) fn bytes(&self) -> &[u8]
+    pub fn bytes(&self) -> &[u8]
         ensures { result.now ≡ line_bytes self.now }
     {
         match self {
@@ -41,7 +41,7 @@ impl FaultLine {
 }
 
 /// Writes a text, as far as the sink takes it.
-pub(crate) fn tell<E: Sink>(err: &mut E, text: &[u8])
+pub fn tell<E: Sink>(err: &mut E, text: &[u8])
     ensures part { AppendsPart (E.written err.old) (E.written err.new) text.now }
     ensures whole { ¬ Rose (E.faults err.old) (E.faults err.new)
         → ¬ Rose (E.starved err.old) (E.starved err.new)
@@ -132,7 +132,7 @@ fn run_ending_text(alloc: Global, ending: RunEnding) -> Result<FaultLine, NoMemo
 /// What is told where a plan's capture file can't be opened. It is made before the file is begun, so that no memory is asked for
 /// behind that fault.
 #[tactic(auto, unfolding(crate::specs::FaultTexts::outcome_text))]
-pub(crate) fn unopened_text(alloc: Global, plan: &Plan) -> Result<FaultLine, NoMemory>
+pub fn unopened_text(alloc: Global, plan: &Plan) -> Result<FaultLine, NoMemory>
     ensures { IfOk result (λ line. line_bytes line ≡ text_of_outcome plan.now Outcome.CannotOpen) }
 {
     let name = escape_text(alloc, plan.source.name().as_bytes())?;
@@ -142,7 +142,7 @@ pub(crate) fn unopened_text(alloc: Global, plan: &Plan) -> Result<FaultLine, NoM
 
 /// What is told of carrying out a plan, whose file can't be opened by this text.
 #[tactic(auto, unfolding(crate::specs::FaultTexts::outcome_text))]
-pub(crate) fn outcome_text(
+pub fn outcome_text(
     alloc: Global,
     outcome: Outcome,
     unopened: FaultLine,
@@ -174,7 +174,7 @@ pub(crate) fn outcome_text(
 
 /// What is told of a refusal.
 #[tactic(auto, unfolding(crate::specs::FaultTexts::refusal_text))]
-pub(crate) fn refusal_text(alloc: Global, refused: &Refused) -> Result<String, NoMemory>
+pub fn refusal_text(alloc: Global, refused: &Refused) -> Result<String, NoMemory>
     ensures { IfOk result (λ text. string_bytes text ≡ text_of_refusal refused.now) }
 {
     match refused {
