@@ -1,7 +1,8 @@
 """What bench/gate.sh prints. It looks five times a second at the processes of rt: a process counts for the crate that it was called
-for, with those that it started itself. A crate of rows that is a program counts as tests. What a process did behind the last look isn't
-seen: the last line tells how much of all that ran it saw, beside which rt itself, LLVM, the tests and the programs run. Interrupted, it
-prints what it saw until then."""
+for, with those that it started itself. A crate of rows that is a program counts as tests. What LLVM takes of a program counts with its
+proof, as ./build waits for both; what the second compiler takes, for which nothing waits, stands by itself. What a process did behind the
+last look isn't seen: the last line tells how much of all that ran it saw, beside which rt itself, the tests and the programs run.
+Interrupted, it prints what it saw until then."""
 import os
 import re
 import resource
@@ -14,7 +15,7 @@ import threading
 import time
 
 TICKS = os.sysconf("SC_CLK_TCK")
-PARTS = ("library", "tests", "edits")
+PARTS = ("library", "tests", "edits", "second")
 LOG = "bench/out/gate.log"
 
 
@@ -69,7 +70,8 @@ def proofs():
         except OSError:
             continue
         crate = words[words.index("--crate-name") + 1]
-        part = "edits" if is_edit else "tests" if "--test" in words or is_rows(crate) else "library"
+        is_second = "--crate-checked" in words and words[words.index("--backend") + 1] == "rattle"
+        part = "edits" if is_edit else "second" if is_second else "tests" if "--test" in words or is_rows(crate) else "library"
         yield (pid, stats[pid][19]), crate, part, used
 
 
@@ -170,6 +172,8 @@ def reckoned(deps, sums, lanes, is_gate):
             tasks[crate, "library"] = row["library"], under
         if is_gate and row["tests"]:
             tasks[crate, "tests"] = row["tests"], under
+        if is_gate and row["second"]:
+            tasks[crate, "second"] = row["second"], [(crate, "tests" if is_rows(crate) else "library")]
         if is_gate and row["edits"]:
             # the crate once more, over which they are tried, and then they
             first = min(row["library"], row["edits"])
@@ -179,7 +183,7 @@ def reckoned(deps, sums, lanes, is_gate):
         behind[key] = behind.get(key, 0.0) + tasks[key][0]
         for it in tasks[key][1]:
             behind[it] = max(behind.get(it, 0.0), behind[key] if key[1] in ("library", "tests") else 0.0)
-    left = sorted(tasks, key=lambda it: (it[1] in ("seed", "edits"), -behind[it]))
+    left = sorted(tasks, key=lambda it: (it[1] in ("second", "seed", "edits"), -behind[it]))
     now, running, done = 0.0, [], set()
     while left or running:
         for key in [it for it in left if done.issuperset(tasks[it][1])][: lanes - len(running)]:
@@ -212,7 +216,7 @@ def main(names):
     used = resource.getrusage(resource.RUSAGE_CHILDREN)
     sums = watch.seconds()
     seen = sum(sum(row.values()) for row in sums.values())
-    print(f"# {'crate':<16} {'library':>8} {'tests':>8} {'edits':>8}")
+    print(f"# {'crate':<16} " + " ".join(f"{part:>8}" for part in PARTS))
     rows = [it for it in deps if it in (names or sums)]
     for crate in rows:
         row = sums.get(crate, dict.fromkeys(PARTS, 0.0))
