@@ -316,7 +316,7 @@ fn mask(alloc: Global, inner: Term, at: u32, word: &Word) -> Result<Term, Filter
 }
 
 /// The number of a mask's word, for an operand of a kind.
-#[tactic(auto, unfolding(flt_typed::specs::Literals::word_read))]
+#[tactic(auto, unfolding(flt_typing::specs::Literals::word_read))]
 fn mask_number(kind: ValueKind, at: u32, word: &Word) -> Result<u64, FilterError>
     ensures masked { OnOk result (IsTrue (is_masked_kind kind)) }
     ensures ok { IfOk result (IsMask kind word.now.text) }
