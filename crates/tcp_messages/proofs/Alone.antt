@@ -148,18 +148,18 @@ from_same r P keeps app side ls s p all =
     }
 
 -- the frames of a stream are those of segments
-abbrev AllSegments : (ℕ → Type 0) → List Segment → Type 0
+abbrev pub AllSegments : (ℕ → Type 0) → List Segment → Type 0
 AllSegments P [] = Unit {0}
 AllSegments P (s ∷ ss) = P s.frame × AllSegments P ss
 
-stream_frames : (P : ℕ → Type 0) (n : ℕ) (past : List Segment) → AllSegments P past → AllFrames P (sided_of n (labels past))
+pub stream_frames : (P : ℕ → Type 0) (n : ℕ) (past : List Segment) → AllSegments P past → AllFrames P (sided_of n (labels past))
 stream_frames P n [] all = tt
 stream_frames P n (s ∷ past) all = elim (cases_Bool (eqb (label_of s (labels past)).stream n)) [
   | inl mine ↦ rw mine (subst (λ (t : Segment). P t.frame) (sym (label_segment s (labels past))) all.0, stream_frames P n past all.1)
   | inr other ↦ rw other (stream_frames P n past all.1)
 ]
 
-all_contained : (P : ℕ → Type 0) (ss : List Segment) → ((f : ℕ) → Contains (frames_of ss) f → P f) → AllSegments P ss
+pub all_contained : (P : ℕ → Type 0) (ss : List Segment) → ((f : ℕ) → Contains (frames_of ss) f → P f) → AllSegments P ss
 all_contained P [] there = tt
 all_contained P (s ∷ ss) there = (there s.frame (0, omega arith, refl), all_contained P ss (λ f in_rest. there f (suc in_rest.0, omega (arith, in_rest.1), in_rest.2)))
 

@@ -11,4 +11,6 @@ pub mod Ports
 pub mod Matching
 pub mod InHeld
 pub mod Renumbering
+pub mod Located
 pub mod Alone
+pub mod Placing

@@ -29,13 +29,13 @@ AllOf P (x ∷ xs) = P x × AllOf P xs
 abbrev pub Keeps : (ℕ → ℕ) → (ℕ → Type 0) → Type 0
 Keeps r P = (low high : ℕ) → P low → P high → low < high → r low < r high
 
-put_before : (x y : ℕ) (ys : List ℕ) → x < y → put_number x (y ∷ ys) ≡ x ∷ y ∷ ys
+pub put_before : (x y : ℕ) (ys : List ℕ) → x < y → put_number x (y ∷ ys) ≡ x ∷ y ∷ ys
 put_before x y ys low = cond-true _ _ _ (lt-ltb x y low)
 
-put_same : (x y : ℕ) (ys : List ℕ) → x ≡ y → put_number x (y ∷ ys) ≡ y ∷ ys
+pub put_same : (x y : ℕ) (ys : List ℕ) → x ≡ y → put_number x (y ∷ ys) ≡ y ∷ ys
 put_same x y ys same = cond-false _ _ _ (le-ltb x y (omega arith)) ∙ cond-true _ _ _ (eq-eqb x y same)
 
-put_behind : (x y : ℕ) (ys : List ℕ) → y < x → put_number x (y ∷ ys) ≡ y ∷ put_number x ys
+pub put_behind : (x y : ℕ) (ys : List ℕ) → y < x → put_number x (y ∷ ys) ≡ y ∷ put_number x ys
 put_behind x y ys high = cond-false _ _ _ (le-ltb x y (omega arith)) ∙ cond-false _ _ _ (ne_eqb x y (λ e. absurd (omega arith)))
 
 put_all : (P : ℕ → Type 0) (x : ℕ) (ys : List ℕ) → P x → AllOf P ys → AllOf P (put_number x ys)

@@ -1,5 +1,6 @@
 pub mod Brought
 pub mod Shown
+pub mod Places
 pub mod Readers
 pub mod Reading
 pub mod Standing

@@ -1,5 +1,5 @@
 ghost use Rattle.tcp_messages.specs.Brought.{MessagesOnce};
-ghost use Rattle.tcp_messages.specs.Laws.{PortsLaw};
+ghost use Rattle.tcp_messages.specs.Laws.{PlacesLaw, PortsLaw};
 ghost use Rattle.tcp_messages.specs.Renumbered.{AloneLaw, RenumberedLaw};
 
 /// Each message of a TCP stream's direction is shown by one frame, in the order of its bytes.
@@ -10,6 +10,12 @@ pub fn messages_once()
 /// An application that the two ports of a segment tell, whichever of them sends, is that of its whole conversation.
 pub fn ports_law()
     ensures { PortsLaw }
+{}
+
+/// A message whose bytes all came with its frame's segment lies in that at its place; any other is gathered, with the frames that
+/// brought it.
+pub fn places_law()
+    ensures { PlacesLaw }
 {}
 
 /// What the frame of a segment shows rests on the segments of its conversation, and on no frame's number: with other numbers in

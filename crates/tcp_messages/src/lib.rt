@@ -10,6 +10,6 @@ mod met;
 mod readers;
 mod reading;
 
-pub use laws::{messages_alone, messages_once, ports_law};
+pub use laws::{messages_alone, messages_once, places_law, ports_law};
 pub use message_streams::MessageStreams;
 pub use met::{Gathered, Met, ShownList, ShownMessage, Source};

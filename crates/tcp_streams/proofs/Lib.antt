@@ -1,5 +1,7 @@
 pub mod Places
 pub mod GapLemmas
+pub mod PassedGaps
+pub mod AckLemmas
 pub mod WayLemmas
 pub mod StandsLemmas
 pub mod TakeLemmas

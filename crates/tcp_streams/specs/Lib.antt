@@ -4,6 +4,8 @@ pub mod Ways
 pub mod States
 pub mod Conversations
 pub mod Labels
+pub mod Acknowledged
+pub mod Acks
 pub mod Stands
 pub mod Standing
 pub mod Order

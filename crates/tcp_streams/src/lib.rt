@@ -3,6 +3,7 @@
 
 mod ends;
 mod kept;
+mod laws;
 mod newest;
 mod numbers;
 mod passing;
@@ -13,5 +14,6 @@ mod stream;
 mod streams;
 mod way;
 
+pub use laws::{gaps_passed, places_acknowledged};
 pub use segment::{Segment, Taken};
 pub use streams::Streams;
