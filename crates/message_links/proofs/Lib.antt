@@ -1,4 +1,7 @@
+mod BackLemmas
 mod LinkKeys
 mod LinkLemmas
 pub mod LinkedLemmas
+mod NoteBits
 mod NoteLemmas
+mod ShownLemmas

@@ -26,7 +26,7 @@ pub query_eq_is : derived_query ≡ same_query
 query_eq_is = λ i a b. bool_is a.tcp b.tcp i && (eqb a.stream b.stream && eqb a.id b.id)
 
 -- such directions are one
-same_is : (a b : Bool) → same_bool a b ≡ true → a ≡ b
+pub same_is : (a b : Bool) → same_bool a b ≡ true → a ≡ b
 same_is true true same = refl
 same_is true false same = absurd (cc)
 same_is false true same = absurd (cc)

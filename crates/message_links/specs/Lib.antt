@@ -1,4 +1,5 @@
 pub mod Conversations
+pub mod Laws
 pub mod Linked
 pub mod LinkTables
 pub mod Links

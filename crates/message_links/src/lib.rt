@@ -3,6 +3,7 @@
 #![tactic(auto)]
 
 mod conversations;
+mod laws;
 mod link_tables;
 mod linking;
 mod links;
@@ -10,6 +11,7 @@ mod notes;
 mod segment_notes;
 
 pub use conversations::{Conversations, End, Ends, udp_ends};
+pub use laws::links_go_back;
 pub use linking::link_messages;
 pub use links::Links;
 pub use notes::{Direction, Note, dns_note, tcp_direction, udp_direction};

@@ -1,5 +1,10 @@
+pub mod AnswerLemmas
+pub mod FirstLemmas
 pub mod KeptLayers
 pub mod KeptLinks
 pub mod KeptMessages
+pub mod LeadBack
 pub mod LinkLemmas
 pub mod MessageLemmas
+pub mod ReadLemmas
+pub mod SentLemmas

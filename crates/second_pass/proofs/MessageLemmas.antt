@@ -19,9 +19,9 @@ use Rattle.second_pass.specs.declared.requests.Requests.{Requests}
 use Rattle.second_pass.specs.Messages.{is_request, requests_sent, responses_sent, same_direction}
 use Rattle.second_pass.specs.Named.{is_query, same_query}
 use Rattle.second_pass.specs.Replies.{answered, answered_of, reply_to, request_of}
-use Rattle.second_pass.specs.Stands.{HasMessages, IsFound, IsKeptAs, answer_in, count_in, counted, direction_at, place_in, request_in}
+use Rattle.second_pass.specs.Stands.{HasMessages, IsFound, answer_in, count_in, counted, direction_at, place_in, request_in}
 
-direction_is : (one other : Direction) → same_direction one other ≡ true → one ≡ other
+pub direction_is : (one other : Direction) → same_direction one other ≡ true → one ≡ other
 direction_is one other same =
     let a = and_parts (one.stream == other.stream) (one.version == other.version && (one.address == other.address && one.port == other.port)) same in
     let b = and_parts (one.version == other.version) (one.address == other.address && one.port == other.port) a.1 in
@@ -137,14 +137,14 @@ few_asked requests =
     let small = requests.asked.small in omega (arith, len, within, small)
 
 -- a request is one of those of its direction
-same_own : (at : Direction) → same_direction at at ≡ true
+pub same_own : (at : Direction) → same_direction at at ≡ true
 same_own at =
     (λ i. eq-eqb at.stream at.stream refl i && (at.version == at.version && (at.address == at.address && at.port == at.port)))
     ∙ (λ i. eq-eqb at.version at.version refl i && (at.address == at.address && at.port == at.port))
     ∙ (λ i. eq-eqb at.address at.address refl i && at.port == at.port)
     ∙ eq-eqb at.port at.port refl
 
-no_less : (test : Bool) (n below : ℕ) → below < n → below < cond test (n + 1) n
+pub no_less : (test : Bool) (n below : ℕ) → below < n → below < cond test (n + 1) n
 no_less true n below less = omega (arith, less)
 no_less false n below less = less
 

@@ -1,3 +1,4 @@
+pub mod Back
 pub mod Forward
 pub mod Laws
 pub mod Messages

@@ -14,5 +14,5 @@ mod reading;
 mod requests;
 
 pub use fields::add_fields;
-pub use laws::kept_trees_get_the_same_links;
+pub use laws::{kept_trees_get_the_same_links, links_are_read_from_trees, links_lead_back};
 pub use links::Links;

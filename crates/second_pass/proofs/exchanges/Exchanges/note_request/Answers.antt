@@ -1,5 +1,4 @@
 use Rattle.std.proofs.Common.{refl}
-use Rattle.second_pass.specs.declared.requests.Asked.{Asked}
 use Rattle.second_pass.proofs.MessageLemmas.{both_ok, request_noted}
 use Rattle.second_pass.proofs.exchanges.Exchanges.note_request.Goals as goal
 
