@@ -1,1 +1,4 @@
 pub mod HttpLemmas
+pub mod RowLemmas
+pub mod LayerLemmas
+pub mod RowsLawProofs

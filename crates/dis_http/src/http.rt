@@ -3,6 +3,7 @@ ghost use Rattle.pk_tree.specs.Buffers.{IsInside, bytes_of};
 ghost use Rattle.pk_fields.specs.Ids.{HTTP};
 ghost use Rattle.pk_tree.specs.Layouts.{StepsFit};
 ghost use Rattle.http_frame.specs.Sizes.{size_of_pieces};
+ghost use Rattle.dis_http.specs.Rows.{RowsLaw};
 ghost use Rattle.dis_http.specs.Http.{IsShape, body_steps, chunked_read, http_layout, http_read, joined, plain_read};
 
 use crate::heads::{front, push_fields, push_start, tail};
@@ -34,6 +35,11 @@ pub fn read_http(span: Span, shape: &Shape, b: &mut TreeBuilder) -> Result<(), N
         Body::NotShown => read_plain(span, &steps, b),
     }
 }
+
+/// A message's layer has exactly the rows of the head that the grammar reads at its front, and then the bytes of its body.
+pub fn rows_law()
+    ensures { RowsLaw }
+{}
 
 /// Reads a message without chunks.
 #[tactic(auto, unfolding(pk_fields::specs::Fields::row_of, pk_fields::specs::Table::rows))]

@@ -5,4 +5,4 @@
 mod heads;
 mod http;
 
-pub use http::read_http;
+pub use http::{read_http, rows_law};

@@ -2,9 +2,10 @@
 use Rattle.std.proofs.Common.{◌≡◌, ℕ, zero, suc, ◌+◌, ◌-◌, ◌<◌, ◌≤◌, List, ◌++◌, length, drop, refl, sym, ap, ◌∙◌, subst, ap₂, arith, length-drop, Some, None, ◌∷◌, []}
 use Rattle.std.specs.Prelude.{if◌then◌else◌}
 use Rattle.http_frame.specs.declared.plans.Start.{Start}
-use Rattle.http_frame.specs.declared.shape.Body.TheVariants.{Chunked, NotShown}
+use Rattle.http_frame.specs.declared.shape.Body.TheVariants.{Plain, Chunked, NotShown}
 use Rattle.http_frame.specs.declared.shape.Piece.{Piece}
 use Rattle.http_frame.specs.declared.shape.Shape.{Shape}
+use Rattle.http_frame.specs.declared.shape.Then.{Then}
 use Rattle.http_frame.specs.declared.shape.Then.TheVariants.{Follows, Opaque}
 use Rattle.http_frame.specs.declared.chunks.Place.{Place}
 use Rattle.http_frame.specs.declared.chunks.Turn.{Turn}
@@ -207,3 +208,45 @@ chunks_short (suc turns) start bytes place pieces all s same within e body =
         subst (λ (list : List Piece). size_of_pieces list ≤ body_limit) whole (omega (arith, same, within))
     by go Waits fits e = absurd (cc)
     by go Fails fits e = absurd (cc)
+
+-- ---- what a message keeps of its head, and where a body that is as it stands ends
+
+pub record IsStarted (start : Start) (s : Shape) : Type 0 where
+  pub request : s.request ≡ start.request
+  pub head : s.head ≡ start.head
+  pub plain : (n : ℕ) → s.body ≡ Plain n → s.end ≡ s.head + n
+
+pub started : (start : Start) (shape s : Shape) → IsStarted start shape → shape ≡ s → IsStarted start s
+started start shape s is same = subst (IsStarted start) same is
+
+pub hidden_started : (start : Start) (end : ℕ) (next : Then) → IsStarted start (shape_of start NotShown end next)
+hidden_started start end next = record { request = refl; head = refl; plain = λ n e. other n e }
+  where
+    other : (n : ℕ) → NotShown ≡ Plain n → end ≡ start.head + n
+    other n e = absurd (cc)
+
+chunked_started : (start : Start) (pieces : List Piece) (end : ℕ) (next : Then) → IsStarted start (shape_of start (Chunked pieces) end next)
+chunked_started start pieces end next = record { request = refl; head = refl; plain = λ n e. other n e }
+  where
+    other : (n : ℕ) → Chunked pieces ≡ Plain n → end ≡ start.head + n
+    other n e = absurd (cc)
+
+pub chunks_started : (turns : ℕ) (start : Start) (bytes : List ℕ) (place : Place) (pieces : List Piece) (s : Shape)
+    → chunks turns start bytes place pieces ≡ Some s → IsStarted start s
+unfolding chunks
+chunks_started zero start bytes place pieces s e = absurd (cc)
+chunks_started (suc turns) start bytes place pieces s e =
+    by (λ next more f. chunks_started turns start bytes next more s f) (turn_at place (drop place.at bytes)) e
+  where
+    by : ((next : Place) (more : List Piece) → chunks turns start bytes next more ≡ Some s → IsStarted start s) → (t : Turn)
+        → on_turn (chunks turns start bytes) start place pieces t ≡ Some s → IsStarted start s
+    by go (Chunk line size) e = go _ _ e
+    by go (Last line) e = go _ _ e
+    by go (Trailing line) e = go _ _ e
+    by go (Long line) e =
+        started start (shape_of start NotShown (place.at + line) Opaque) s (hidden_started start (place.at + line) Opaque) (same_shape (shape_of start NotShown (place.at + line) Opaque) s e)
+    by go End e =
+        started start (shape_of start (Chunked pieces) (place.at + 2) (Follows 0)) s (chunked_started start pieces (place.at + 2) (Follows 0))
+        (same_shape (shape_of start (Chunked pieces) (place.at + 2) (Follows 0)) s e)
+    by go Waits e = absurd (cc)
+    by go Fails e = absurd (cc)

@@ -12,3 +12,7 @@ pub mod TurnLemmas
 pub mod TextLemmas
 pub mod SizeLemmas
 pub mod ListingLemmas
+pub mod ChunkTextLemmas
+pub mod ChunkStepLemmas
+pub mod ChunkListLemmas
+pub mod ChunkLawProofs

@@ -18,7 +18,7 @@ use Rattle.http_frame.specs.Messages.{if_there, shape_by, by_shape, by_head, fir
 use Rattle.http_frame.proofs.HeadLemmas.{chosen}
 use Rattle.http_frame.proofs.HeadLawProofs.{head_of-stays, head_of-shrinks}
 use Rattle.http_frame.proofs.GoingLemmas.{there_is}
-use Rattle.http_frame.proofs.ChunkLemmas.{chunks_within, chunks_stay, chunks_shrink, chunks_short}
+use Rattle.http_frame.proofs.ChunkLemmas.{chunks_within, chunks_stay, chunks_shrink, chunks_short, IsStarted, started, hidden_started, chunks_started}
 
 le_says : (a b : ℕ) → nat_le a b ≡ true → a ≤ b
 le_says a b e = grind arith
@@ -59,7 +59,7 @@ planned_shrinks start (Some shape) bytes more s e room =
     let says = there_says shape s (bytes ++ more) e in
     there_is shape bytes (subst (λ (t : Shape). t.end ≤ length bytes) (sym says.0) room) ∙ ap Some says.0
 
-head_start : (h : Head) → (start_of h).head ≡ length (print_head h)
+pub head_start : (h : Head) → (start_of h).head ≡ length (print_head h)
 head_start (Request h) = refl
 head_start (Response h) = refl
 
@@ -114,7 +114,7 @@ first_shrinks asked bytes more s e room = by (head_of (bytes ++ more)) refl e
         ap (λ (o : Option Head). by_head asked o bytes) (head_of-shrinks bytes more h is (omega (arith, behind, room)))
         ∙ planned_shrinks (start_of h) (shape_by (start_of h) (plan_of asked h)) bytes more s e room
 
-there_body : (shape s : Shape) (bytes : List ℕ) (body : Body) → if_there shape bytes ≡ Some s → s.body ≡ body → shape.body ≡ body
+pub there_body : (shape s : Shape) (bytes : List ℕ) (body : Body) → if_there shape bytes ≡ Some s → s.body ≡ body → shape.body ≡ body
 there_body shape s bytes body e is = ap (λ (s : Shape). s.body) (there_says shape s bytes e).0 ∙ is
 
 planned_short : (start : Start) (plan : Plan) (bytes : List ℕ) (s : Shape) (pieces : List Piece) → by_shape start (shape_by start plan) bytes ≡ Some s
@@ -136,6 +136,43 @@ first_short asked bytes s pieces e body = by (head_of bytes) e
     by : (o : Option Head) → by_head asked o bytes ≡ Some s → size_of_pieces pieces ≤ body_limit
     by None e = absurd (cc)
     by (Some h) e = planned_short (start_of h) (plan_of asked h) bytes s pieces e body
+
+-- ---- what a message keeps of its head
+
+there_started : (start : Start) (shape s : Shape) (bytes : List ℕ) → IsStarted start shape → if_there shape bytes ≡ Some s → IsStarted start s
+there_started start shape s bytes is e = started start shape s is (there_says shape s bytes e).0
+
+bare_started : (start : Start) → IsStarted start (shape_of start Bodiless start.head (Follows 0))
+bare_started start = record { request = refl; head = refl; plain = λ n e. other n e }
+  where
+    other : (n : ℕ) → Bodiless ≡ Plain n → start.head ≡ start.head + n
+    other n e = absurd (cc)
+
+plain_started : (start : Start) (len : ℕ) → IsStarted start (shape_of start (Plain len) (start.head + len) (Follows 0))
+plain_started start len = record { request = refl; head = refl; plain = λ n e. same n e }
+  where
+    same : (n : ℕ) → Plain len ≡ Plain n → start.head + len ≡ start.head + n
+    same n e = let number : len ≡ n = cc in ap (λ (k : ℕ). start.head + k) number
+
+planned_started : (start : Start) (plan : Plan) (bytes : List ℕ) (s : Shape) → by_shape start (shape_by start plan) bytes ≡ Some s → IsStarted start s
+planned_started start Bare bytes s e = there_started start (shape_of start Bodiless start.head (Follows 0)) s bytes (bare_started start) e
+planned_started start (Fixed n) bytes s e = there_started start (shape_of start (Plain n) (start.head + n) (Follows 0)) s bytes (plain_started start n) e
+planned_started start (Pass n) bytes s e = there_started start (shape_of start NotShown start.head (Follows n)) s bytes (hidden_started start start.head (Follows n)) e
+planned_started start Unknown bytes s e = there_started start (shape_of start NotShown start.head Opaque) s bytes (hidden_started start start.head Opaque) e
+planned_started start Chunks bytes s e = chunks_started turn_limit start bytes (first_place start.head) [] s e
+
+pub record FirstHead (bytes : List ℕ) (s : Shape) : Type 0 where
+  pub head : Head
+  pub found : head_of bytes ≡ Some head
+  pub is : IsStarted (start_of head) s
+
+pub first_head : (asked : Bool) (bytes : List ℕ) (s : Shape) → first_message asked bytes ≡ Some s → FirstHead bytes s
+unfolding first_message
+first_head asked bytes s e = by (head_of bytes) refl e
+  where
+    by : (o : Option Head) → head_of bytes ≡ o → by_head asked o bytes ≡ Some s → FirstHead bytes s
+    by None is e = absurd (cc)
+    by (Some h) is e = record { head = h; found = is; is = planned_started (start_of h) (plan_of asked h) bytes s e }
 
 pub laws_of_messages : FirstLaws
 laws_of_messages = record { some = first_some; within = first_within; stays = first_stays; shrinks = first_shrinks; short = first_short }

@@ -18,7 +18,7 @@ drop_append (suc n) (x ∷ xs) ys =
 -- ---- bytes at the front that pass a test
 
 module _ (test : ℕ → Bool) where
-  prefix_on : (xs ys : List ℕ) → prefix_len test xs < length xs → prefix_len test (xs ++ ys) ≡ prefix_len test xs
+  pub prefix_on : (xs ys : List ℕ) → prefix_len test xs < length xs → prefix_len test (xs ++ ys) ≡ prefix_len test xs
   prefix_on [] ys less = absurd (omega arith)
   prefix_on (x ∷ xs) ys less = by (prefix_on xs ys) (test x) refl
     where

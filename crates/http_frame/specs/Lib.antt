@@ -10,4 +10,5 @@ pub mod LineFacts
 pub mod Chunks
 pub mod ChunkFacts
 pub mod Messages
+pub mod ChunkedBodies
 pub mod Sizes

@@ -14,7 +14,7 @@ mod resuming;
 mod shape;
 
 pub use heads::head_laws;
-pub use message::{Framed, begin_law, message_laws, next_message};
+pub use message::{Framed, begin_law, chunk_laws, message_laws, next_message};
 pub use progress::{ChunkProgress, Framing, HeadProgress, Progress};
 pub use resuming::resume;
 pub use shape::{Body, Piece, PieceList, Shape, Then};

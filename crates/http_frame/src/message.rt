@@ -1,4 +1,5 @@
 ghost use Rattle.std.specs.Prelude.{◌≡◌, IfOk};
+ghost use Rattle.http_frame.specs.ChunkedBodies.{ChunkLaws};
 ghost use Rattle.http_frame.specs.Messages.{BeginLaw, FirstLaws, first_message, found, message_in};
 
 use crate::progress::{Framing, Progress};
@@ -42,4 +43,10 @@ pub fn begin_law()
 /// A first message has a byte, lies in the bytes, and depends on nothing behind it. Its chunks are within the limit of a body.
 pub fn message_laws()
     ensures { FirstLaws }
+{}
+
+/// Where a head asks for chunks, the first message is exactly what the grammar makes of the bytes behind it, however many chunks
+/// they are, and no other message has chunks.
+pub fn chunk_laws()
+    ensures { ChunkLaws }
 {}
