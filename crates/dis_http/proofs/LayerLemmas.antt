@@ -14,10 +14,10 @@ use Rattle.http_frame.specs.ChunkedBodies.{print_line, print_size, SizedChunk, p
 use Rattle.http_frame.proofs.ChunkTextLemmas.{stands_first, stands_second}
 use Rattle.http_frame.proofs.ChunkListLemmas.{first_whole}
 use Rattle.pk_base.specs.declared.span.Span.{Span}
-use Rattle.pk_buffer.specs.Buffers.{IsInside, bytes_of}
-use Rattle.pk_buffer.proofs.Spans.{length-bytes_of, bytes_of-part}
+use Rattle.pk_tree.specs.Buffers.{IsInside, bytes_of}
+use Rattle.pk_tree.proofs.Spans.{length-bytes_of, bytes_of-part}
 use Rattle.pk_fields.specs.Ids.{HTTP, HTTP_FILE_DATA}
-use Rattle.pk_tree.specs.declared.heads.Mode.TheVariants.{Plain as InPlain}
+use Rattle.pk_base.specs.declared.heads.Mode.TheVariants.{Plain as InPlain}
 use Rattle.pk_tree.specs.declared.item.Item.{Item}
 use Rattle.pk_tree.specs.declared.layout.Reach.{Reach}
 use Rattle.pk_tree.specs.declared.layout.Reach.TheVariants.{All as Whole, Short, Failed}

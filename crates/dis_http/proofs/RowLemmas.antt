@@ -21,7 +21,7 @@ use Rattle.http_frame.proofs.ChunkTextLemmas.{prefix_is, front_by}
 use Rattle.pk_fields.specs.Ids.{HTTP_REQUEST, HTTP_REQUEST_METHOD, HTTP_REQUEST_URI, HTTP_REQUEST_VERSION, HTTP_RESPONSE, HTTP_RESPONSE_VERSION, HTTP_RESPONSE_CODE, HTTP_RESPONSE_PHRASE, HTTP_HEADER_NAME, HTTP_HEADER_VALUE}
 use Rattle.pk_tree.specs.declared.layout.Step.{Step}
 use Rattle.pk_tree.specs.declared.layout.Step.TheVariants.{Part, Made}
-use Rattle.pk_tree.specs.declared.value.Value.TheVariants.{Uint, Bool as Truth, Text}
+use Rattle.pk_base.specs.declared.value.Value.TheVariants.{Uint, Bool as Truth, Text}
 use Rattle.pk_tree.specs.declared.layout.Reach.TheVariants.{All as Whole}
 use Rattle.pk_tree.specs.Entries.{Entry, goes_on, ends, then_on, repeated}
 use Rattle.pk_tree.specs.Layouts.{step_reach, reach, reach_after}

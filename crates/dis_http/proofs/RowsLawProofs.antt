@@ -18,12 +18,12 @@ use Rattle.http_frame.proofs.HeadLawProofs.{head_of-says}
 use Rattle.http_frame.proofs.ChunkLemmas.{IsStarted}
 use Rattle.http_frame.proofs.ChunkLawProofs.{first_chunks}
 use Rattle.http_frame.proofs.MessageLemmas.{first_head}
-use Rattle.pk_buffer.specs.Buffers.{bytes_of}
-use Rattle.pk_buffer.proofs.Spans.{length-bytes_of}
+use Rattle.pk_tree.specs.Buffers.{bytes_of}
+use Rattle.pk_tree.proofs.Spans.{length-bytes_of}
 use Rattle.pk_fields.specs.Ids.{HTTP_REQUEST_METHOD, HTTP_REQUEST_URI, HTTP_RESPONSE, HTTP_RESPONSE_VERSION, HTTP_RESPONSE_CODE, HTTP_RESPONSE_PHRASE}
 use Rattle.pk_tree.specs.declared.layout.Step.{Step}
 use Rattle.pk_tree.specs.declared.layout.Step.TheVariants.{Part, Made}
-use Rattle.pk_tree.specs.declared.value.Value.TheVariants.{Uint, Bool as Truth, Text}
+use Rattle.pk_base.specs.declared.value.Value.TheVariants.{Uint, Bool as Truth, Text}
 use Rattle.pk_tree.specs.declared.layout.Reach.TheVariants.{All as Whole}
 use Rattle.pk_tree.specs.Entries.{Entry, goes_on, then_on, repeated}
 use Rattle.pk_tree.specs.Layouts.{reach}

@@ -12,12 +12,12 @@ use Rattle.http_frame.specs.declared.shape.Shape.{Shape}
 use Rattle.http_frame.specs.ChunkedBodies.{SizedChunk, StandsAt, IsChunked}
 use Rattle.http_frame.specs.Heads.{Head, Request, Response, print_head, head_of}
 use Rattle.pk_base.specs.declared.span.Span.{Span}
-use Rattle.pk_buffer.specs.Buffers.{IsInside, bytes_of}
+use Rattle.pk_tree.specs.Buffers.{IsInside, bytes_of}
 use Rattle.pk_fields.specs.Ids.{HTTP, HTTP_FILE_DATA, HTTP_REQUEST, HTTP_REQUEST_METHOD, HTTP_REQUEST_URI, HTTP_REQUEST_VERSION, HTTP_RESPONSE, HTTP_RESPONSE_VERSION, HTTP_RESPONSE_CODE, HTTP_RESPONSE_PHRASE, HTTP_HEADER_NAME, HTTP_HEADER_VALUE}
 use Rattle.pk_tree.specs.declared.item.Item.{Item}
 use Rattle.pk_tree.specs.declared.layout.Step.{Step}
 use Rattle.pk_tree.specs.declared.layout.Step.TheVariants.{Part, Made}
-use Rattle.pk_tree.specs.declared.value.Value.TheVariants.{Uint, Bool, Text}
+use Rattle.pk_base.specs.declared.value.Value.TheVariants.{Uint, Bool, Text}
 use Rattle.pk_tree.specs.Layouts.{step_items}
 use Rattle.pk_tree.specs.Trees.{TreeShown, with_buffer, with_layer, read_of}
 use Rattle.dis_http.specs.Heads.{value_field}

@@ -10,10 +10,19 @@ use pk_fields::FieldSet;
 use std::marker::Model;
 
 /// A program: instructions, whose jumps lead forward, and of which the last one is RETURN; and how many registers they use.
-#[derive(Drop)]
 pub struct Program {
     registers: usize,
     code: Vec<Instr>,
+}
+
+// The destructor is written out here, and not wherever a program is dropped.
+impl Drop for Program {
+    fn drop(self) {
+        let Program {
+            registers: _,
+            code: _code,
+        } = self;
+    }
 }
 
 // Contracts see a program as its instructions and the number of its registers.

@@ -19,7 +19,7 @@ pub fn calculate(operation: Arithmetic, left: &Value, right: &Value) -> Option<V
 {
     match (left, right) {
         (Value::Uint(left), Value::Uint(right)) => {
-            result_of(operation, *left, *right).map(|number| Value::Uint(number))
+            result_of(operation, *left, *right).map(Value::Uint)
         }
         _ => None,
     }
@@ -41,7 +41,7 @@ pub fn extreme_of(extreme: Extreme, values: &[Value]) -> Option<Value>
     ensures computed { result ≡ extreme_of extreme values.now }
     ensures extreme { IfSome result (IsExtreme extreme values.now) }
 {
-    extreme_number(extreme, values).map(|number| Value::Uint(number))
+    extreme_number(extreme, values).map(Value::Uint)
 }
 
 fn extreme_number(extreme: Extreme, values: &[Value]) -> Option<u64>

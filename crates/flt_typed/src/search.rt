@@ -6,10 +6,19 @@ use std::marker::Model;
 
 /// Searches for one pattern in as many byte lists as are asked for. To make one takes memory; a search takes none, and
 /// is quicker for what earlier ones found out.
-#[derive(Drop)]
 pub struct Search<'p> {
     pub(crate) regex: &'p Regex,
     pub(crate) matcher: Matcher<'p>,
+}
+
+// The destructor is written out here, and not wherever a search is dropped.
+impl Drop for Search<'_> {
+    fn drop(self) {
+        let Search {
+            regex: _,
+            matcher: _matcher,
+        } = self;
+    }
 }
 
 // Contracts see a search as the bytes of its pattern.

@@ -72,27 +72,41 @@ pub fn slice(alloc: Global, value: &Value, ranges: &[RangePart]) -> Result<Optio
 {
     match value {
         Value::Bytes(bytes) | Value::Text(bytes) | Value::Proto(bytes) => {
-            Ok(bytes_value(take_shared(alloc, bytes, ranges)?))
+            shared_slice(alloc, bytes, ranges)
         }
-        Value::Ether(address) => {
-            Ok(bytes_value(take_copied(alloc, address.as_slice(), ranges)?))
-        }
-        Value::Ip4(address) => {
-            let bytes = address.to_be_bytes();
-            Ok(bytes_value(take_copied(alloc, bytes.as_slice(), ranges)?))
-        }
-        Value::Ip6(address) => {
-            let bytes = address.to_be_bytes();
-            Ok(bytes_value(take_copied(alloc, bytes.as_slice(), ranges)?))
-        }
+        Value::Ether(address) => copied_slice(alloc, address.as_slice(), ranges),
+        Value::Ip4(address) => copied_slice(alloc, address.to_be_bytes().as_slice(), ranges),
+        Value::Ip6(address) => copied_slice(alloc, address.to_be_bytes().as_slice(), ranges),
         _ => Ok(None),
     }
+}
+
+fn shared_slice(
+    alloc: Global,
+    bytes: &Octets,
+    ranges: &[RangePart],
+) -> Result<Option<Value>, NoMemory>
+    ensures { IfOk result (λ slice.
+        slice ≡ option_map values.Bytes (taken_by bytes.now ranges.now)) }
+{
+    Ok(bytes_value(take_shared(alloc, bytes, ranges)?))
+}
+
+fn copied_slice(
+    alloc: Global,
+    bytes: &[u8],
+    ranges: &[RangePart],
+) -> Result<Option<Value>, NoMemory>
+    ensures { IfOk result (λ slice.
+        slice ≡ option_map values.Bytes (taken_by bytes.now ranges.now)) }
+{
+    Ok(bytes_value(take_copied(alloc, bytes, ranges)?))
 }
 
 fn bytes_value(bytes: Option<Octets>) -> Option<Value>
     ensures { result ≡ option_map values.Bytes bytes }
 {
-    bytes.map(|bytes| Value::Bytes(bytes))
+    bytes.map(Value::Bytes)
 }
 
 /// What the ranges take; a single range shares the bytes.

@@ -1,6 +1,9 @@
 // What the literals of filters write.
-ghost use Rattle.std.specs.Prelude.{◌≡◌, ◌^◌, nat_lt, IfOk};
+ghost use Rattle.std.specs.Prelude.{◌≡◌, ◌^◌, nat_lt, IfOk, Some};
+ghost use Rattle.std.specs.Option.{option_map};
 ghost use Rattle.pk_text.specs.Number.{number_of};
+ghost use Rattle.pk_text.specs.Octets.{bytes_of};
+ghost use Rattle.pk_base.specs.declared.value.Value.TheVariants as values;
 ghost use Rattle.flt_typing.specs.Literals.{true_words, false_words, is_one_of, number_read, number_within, truth_of, prefix_of, leading_read, value_read, bits_of, address_of, address_read, ether_value, word_read, quote_read};
 
 use flt_typed::Constant;
@@ -36,21 +39,32 @@ pub fn read_word(
 {
     match kind {
         ValueKind::Uint(width) => Ok(number_read(read_within(width, text))),
-        ValueKind::Bool => Ok(value_read(read_truth(text).map(|truth| Value::Bool(truth)))),
-        ValueKind::Bytes => {
-            let bytes = read_bytes(alloc, text)?;
-            Ok(value_read(bytes.map(|bytes| Value::Bytes(bytes))))
-        }
+        ValueKind::Bool => Ok(value_read(read_truth(text).map(Value::Bool))),
+        ValueKind::Bytes => read_octets(alloc, text),
         ValueKind::Text => Ok(Reading::Unread),
         ValueKind::Ether => Ok(value_read(ether_value(text))),
         ValueKind::Ip4 => Ok(read_address(Family::Ip4, prefixed, text)),
         ValueKind::Ip6 => Ok(read_address(Family::Ip6, prefixed, text)),
-        ValueKind::Time => Ok(value_read(read_time(text).map(|time| Value::Time(time)))),
-        ValueKind::Proto => {
-            let bytes = read_bytes(alloc, text)?;
-            Ok(value_read(bytes.map(|bytes| Value::Proto(bytes))))
-        }
+        ValueKind::Time => Ok(value_read(read_time(text).map(Value::Time))),
+        ValueKind::Proto => read_protocol(alloc, text),
     }
+}
+
+fn read_octets(alloc: Global, text: &str) -> Result<Reading, NoMemory>
+    ensures { IfOk result (λ reading.
+        reading ≡ value_read (option_map values.Bytes (bytes_of text.now))) }
+{
+    let bytes = read_bytes(alloc, text)?;
+    Ok(value_read(bytes.map(Value::Bytes)))
+}
+
+/// The bytes of a protocol.
+fn read_protocol(alloc: Global, text: &str) -> Result<Reading, NoMemory>
+    ensures { IfOk result (λ reading.
+        reading ≡ value_read (option_map values.Proto (bytes_of text.now))) }
+{
+    let bytes = read_bytes(alloc, text)?;
+    Ok(value_read(bytes.map(Value::Proto)))
 }
 
 fn value_read(value: Option<Value>) -> Reading
@@ -144,8 +158,8 @@ impl Family {
         ensures { result ≡ address_of self text.now }
     {
         match self {
-            Family::Ip4 => read_ip4(text).map(|address| Value::Ip4(address)),
-            Family::Ip6 => read_ip6(text).map(|address| Value::Ip6(address)),
+            Family::Ip4 => read_ip4(text).map(Value::Ip4),
+            Family::Ip6 => read_ip6(text).map(Value::Ip6),
         }
     }
 }
@@ -185,17 +199,32 @@ fn read_prefix(digits: &str) -> Option<Wide>
 fn leading_read(most: u8, address: Option<Value>, prefix: Option<Wide>) -> Reading
     ensures { result ≡ leading_read most address prefix }
 {
-    let (Some(value), Some(prefix)) = (address, prefix) else {
-        return Reading::Unread;
-    };
+    match address {
+        Some(address) => leading_of(most, address, prefix),
+        None => Reading::Unread,
+    }
+}
+
+/// The same of an address that is there.
+fn leading_of(most: u8, address: Value, prefix: Option<Wide>) -> Reading
+    ensures { result ≡ leading_read most (Some address) prefix }
+{
     match prefix {
-        Wide::Fits(n) if n <= u64::from(most) => Reading::Reads(Constant {
-            value,
+        Some(Wide::Fits(n)) if n <= u64::from(most) => Reading::Reads(Constant {
+            value: address,
             prefix: Some(n as u8),
             quoted: false,
         }),
-        _ => Reading::Beyond,
+        Some(_) => given_up(address, Reading::Beyond),
+        None => given_up(address, Reading::Unread),
     }
+}
+
+/// Gives an address up, so that its destructor is written out once.
+fn given_up(_address: Value, reading: Reading) -> Reading
+    ensures { result ≡ reading }
+{
+    reading
 }
 
 /// Reads a string as a literal of a kind. Its bytes are shared.

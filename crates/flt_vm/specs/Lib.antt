@@ -4,4 +4,5 @@ pub mod Machine
 pub mod Possible
 pub mod Programs
 pub mod Slots
+pub mod Turns
 pub mod Verdicts

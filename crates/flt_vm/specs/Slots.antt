@@ -110,6 +110,26 @@ acts (instr.JumpTrue n) = false
 acts instr.Return = false
 acts i = true
 
+-- whether it makes values, or asks registers
+abbrev pub works : Instr → Truth
+works (instr.Read r field layers) = false
+works (instr.Const r c) = false
+works (instr.Save r) = false
+works instr.Not = false
+works (instr.JumpFalse n) = false
+works (instr.JumpTrue n) = false
+works instr.Return = false
+works i = true
+
+-- whether it asks registers
+abbrev pub asks_registers : Instr → Truth
+asks_registers (instr.Test choice relation p q) = true
+asks_registers (instr.In choice r ms) = true
+asks_registers (instr.Match choice r n) = true
+asks_registers (instr.NonZero r) = true
+asks_registers (instr.Differ r) = true
+asks_registers i = false
+
 -- the place behind an instruction, and behind as many more as are passed over
 abbrev pub place_behind : ℕ → Truth → ℕ → ℕ
 place_behind at true count = at + 1 + count

@@ -1,6 +1,6 @@
 // Whether instructions find what they take.
 ghost use Rattle.std.specs.Prelude.{◌≡◌, ◌<◌, true, false, IfOk, IsTrue, List, ℕ, length};
-ghost use Rattle.flt_vm.specs.Given.{takes_of};
+ghost use Rattle.flt_vm.specs.Given.{Finds, takes_of};
 ghost use Rattle.flt_vm.specs.Slots.{IsGiven, IsKept, IsSet};
 
 use crate::asks::listed_truth;
@@ -55,10 +55,25 @@ pub(crate) fn is_given(
         → length all ≡ patterns → IsGiven tree.now all slots.now instr.now) }
     ensures known { looks ≡ false → IfOk result (λ truth. IsTrue truth) }
 {
-    if !looks {
-        return Ok(true);
+    if looks {
+        is_found(alloc, taken_by(instr), slots, patterns, tree)
+    } else {
+        Ok(true)
     }
-    match taken_by(instr) {
+}
+
+/// Whether this is there.
+fn is_found(
+    alloc: Global,
+    takes: Takes,
+    slots: &[Slot<'_>],
+    patterns: usize,
+    tree: &Tree,
+) -> Result<bool, NoMemory>
+    ensures { IfOk result (λ truth. IsTrue truth → (all : List (List ℕ))
+        → length all ≡ patterns → Finds tree.now all slots.now takes) }
+{
+    match takes {
         Takes::Nothing => Ok(true),
         Takes::One(register) => Ok(is_set(slots, register)),
         Takes::Two(left, right) => Ok(is_set(slots, left) && is_set(slots, right)),

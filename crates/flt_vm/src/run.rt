@@ -1,8 +1,10 @@
 // A run of the machine.
 ghost use Rattle.std.specs.Prelude.{◌≡◌, ◌<◌, ◌≤◌, IfOk, IfSome, IsSome, Bool as Truth, false, ℕ, length};
+ghost use Rattle.flt_vm.specs.Machine.{step as step_of};
 ghost use Rattle.flt_vm.specs.Possible.{HasRun, IsVerdict};
 ghost use Rattle.flt_program.specs.Programs.{IsProgram};
-ghost use Rattle.flt_vm.specs.Slots.{state_in};
+ghost use Rattle.flt_vm.specs.Slots.{IsThere, state_in};
+ghost use Rattle.flt_vm.specs.Turns.{IsAhead, IsMade, IsTurn};
 ghost use Rattle.flt_vm.specs.declared.slots.Flag.TheVariants.{Known};
 
 use crate::given::is_given;
@@ -52,26 +54,66 @@ pub(crate) fn run_code<'p>(
         let taken = test_at(alloc, code, at, slots, &mut flag, tree)?;
         at += taken as usize;
         steps += taken;
-        let instr = &code[at];
-        if is_return(instr) {
-            return Ok(Some(Verdict {
-                holds: known(&flag, tree),
-                steps: steps + 1,
-            }));
+        let turn = turn_at(alloc, looks, code, at, slots, &mut flag, searches, tree)?;
+        match turn {
+            Turn::Goes(place) => {
+                at = place;
+                steps += 1;
+            }
+            Turn::Ends(holds) => {
+                return Ok(Some(Verdict {
+                    holds,
+                    steps: steps + 1,
+                }));
+            }
+            Turn::Stuck => return Ok(None),
         }
-        if !is_given(alloc, looks, instr, slots, searches.len(), tree)? {
-            return Ok(None);
-        }
-        at = step(
-            alloc,
-            instr,
-            at,
-            code.len(),
-            slots,
-            &mut flag,
-            searches,
-            tree,
-        )?;
-        steps += 1;
     }
+}
+
+/// What the instruction at a place comes to.
+#[derive(Clone, Copy)]
+pub(crate) enum Turn {
+    /// The run goes on at another place.
+    Goes(usize),
+    /// It ends with the flag.
+    Ends(bool),
+    /// What the instruction takes isn't there.
+    Stuck,
+}
+
+/// Takes the instruction at a place, which may have to be looked at first.
+fn turn_at<'p>(
+    alloc: Global,
+    looks: bool,
+    code: &'p [Instr],
+    at: usize,
+    slots: &mut [Slot<'p>],
+    flag: &mut Flag<'p>,
+    searches: &mut [Search<'p>],
+    tree: &Tree,
+) -> Result<Turn, NoMemory>
+    requires program { IsProgram (record { registers = length slots.old; items = code.now }) }
+    requires inside { at < length code.now }
+    requires there { looks ≡ false
+        → IsThere (step_of (record { code = code.now; patterns = searches.old; tree = tree.now })
+        (state_in tree.now at flag.old slots.old)) }
+    ensures turned { IfOk result (IsTurn
+        (step_of (record { code = code.now; patterns = searches.old; tree = tree.now })
+        (state_in tree.now at flag.old slots.old))
+        (λ place. state_in tree.now place flag.new slots.new)) }
+    ensures ahead { IfOk result (IsAhead at (length code.now)) }
+    ensures made { looks ≡ false → IfOk result IsMade }
+    ensures count { length slots.new ≡ length slots.old }
+    ensures searches { searches.new ≡ searches.old }
+{
+    let instr = &code[at];
+    if is_return(instr) {
+        return Ok(Turn::Ends(known(flag, tree)));
+    }
+    if !is_given(alloc, looks, instr, slots, searches.len(), tree)? {
+        return Ok(Turn::Stuck);
+    }
+    let place = step(alloc, instr, at, code.len(), slots, flag, searches, tree)?;
+    Ok(Turn::Goes(place))
 }

@@ -13,7 +13,6 @@ use pk_tree::Tree;
 use std::alloc::Global;
 
 /// What a register holds: values, or where they are.
-#[derive(Drop)]
 pub(crate) enum Slot<'p> {
     Unset,
     /// The values of a field or protocol, asked where they stand in the tree.
@@ -21,6 +20,16 @@ pub(crate) enum Slot<'p> {
     Single(&'p Constant),
     Truth(bool),
     Values(Vec<Value>),
+}
+
+// The destructor is written out here, and not wherever a register is set.
+impl Drop for Slot<'_> {
+    fn drop(self) {
+        match self {
+            Slot::Unset | Slot::Field(_, _) | Slot::Single(_) | Slot::Truth(_) => {}
+            Slot::Values(_values) => {}
+        }
+    }
 }
 
 /// The flag: a truth, or whether a field or protocol has a value, which is asked where the flag is.
@@ -41,10 +50,19 @@ pub(crate) fn known(flag: &Flag<'_>, tree: &Tree) -> bool
 }
 
 /// Values that a register holds, or that were gathered for it.
-#[derive(Drop)]
 pub(crate) enum Gathered<'s> {
     Own(Vec<Value>),
     Lent(&'s [Value]),
+}
+
+// The destructor is written out here, and not wherever values were looked at.
+impl Drop for Gathered<'_> {
+    fn drop(self) {
+        match self {
+            Gathered::Own(_values) => {}
+            Gathered::Lent(_) => {}
+        }
+    }
 }
 
 impl<'s> Gathered<'s> {
@@ -96,7 +114,8 @@ fn of_one<'s>(alloc: Global, value: Value) -> Result<Gathered<'s>, NoMemory>
 /// Sets a register.
 pub(crate) fn put<'p>(slots: &mut [Slot<'p>], register: usize, slot: Slot<'p>)
     requires { register < length slots.old }
-    ensures { slots.new ≡ slice_set slots.old register slot.entry }
+    ensures set { slots.new ≡ slice_set slots.old register slot.entry }
+    ensures count { length slots.new ≡ length slots.old }
 {
     slots[register] = slot;
 }

@@ -14,7 +14,7 @@ ghost use Rattle.pk_tree.specs.Trees.{TreeShown};
 ghost use Rattle.pk_base.specs.declared.value.Value.TheVariants.{Uint};
 ghost use Rattle.flt_vm.specs.Machine.{Goes, Job, act, differs as differ, reads};
 ghost use Rattle.flt_program.specs.Programs.{Fits};
-ghost use Rattle.flt_vm.specs.Slots.{Does, HasRegisters, IsGiven, IsSet, acts, flag_in, held_in, is_return, is_unset, place_behind, state_in, truth_in};
+ghost use Rattle.flt_vm.specs.Slots.{Does, HasRegisters, IsGiven, IsSet, acts, asks_registers, flag_in, held_in, is_return, is_unset, place_behind, state_in, truth_in, works};
 ghost use Rattle.flt_vm.specs.declared.slots.Flag.TheVariants.{Known};
 ghost use Rattle.flt_vm.specs.declared.slots.Slot.TheVariants.{Values};
 
@@ -118,6 +118,39 @@ fn act<'p>(
             put(slots, *register, Slot::Single(constant));
             Ok(())
         }
+        Instr::Save(register) => {
+            put(slots, *register, Slot::Truth(known(flag, tree)));
+            Ok(())
+        }
+        Instr::Not => {
+            *flag = Flag::Known(!known(flag, tree));
+            Ok(())
+        }
+        instr => make_values(alloc, instr, slots, flag, searches, tree),
+    }
+}
+
+/// The same of an instruction that sets a register to values that are made, or asks registers.
+#[tactic(auto, unfolding(crate::specs::Machine::act))]
+fn make_values<'p>(
+    alloc: Global,
+    instr: &'p Instr,
+    slots: &mut [Slot<'p>],
+    flag: &mut Flag<'p>,
+    searches: &mut [Search<'p>],
+    tree: &Tree,
+) -> Result<(), NoMemory>
+    requires fits { HasRegisters (length slots.old) instr.now }
+    requires on { works instr.now ≡ true }
+    requires given { IsGiven tree.now searches.old slots.old instr.now }
+    ensures does { OnOk result ((job : Job) (at : ℕ) → job.tree ≡ tree.now
+        → job.patterns ≡ searches.old
+        → Does (act job (state_in tree.now at flag.old slots.old) (Some instr.now))
+        (Goes (state_in tree.now (at + 1) flag.new slots.new))) }
+    ensures count { length slots.new ≡ length slots.old }
+    ensures searches { searches.new ≡ searches.old }
+{
+    match instr {
         Instr::Slice(register, source, ranges) => {
             let values = sliced(alloc, &slots[*source], ranges.slice(), tree);
             fill(slots, flag, *register, values)
@@ -142,10 +175,31 @@ fn act<'p>(
             let values = chosen(alloc, *extreme, &slots[*left], &slots[*right], tree);
             set(slots, *register, values)
         }
-        Instr::Save(register) => {
-            put(slots, *register, Slot::Truth(known(flag, tree)));
-            Ok(())
-        }
+        instr => test_registers(alloc, instr, slots, flag, searches, tree),
+    }
+}
+
+/// The same of one that asks registers: the flag tells what they answer.
+#[tactic(auto, unfolding(crate::specs::Machine::act))]
+fn test_registers<'p>(
+    alloc: Global,
+    instr: &'p Instr,
+    slots: &mut [Slot<'p>],
+    flag: &mut Flag<'p>,
+    searches: &mut [Search<'p>],
+    tree: &Tree,
+) -> Result<(), NoMemory>
+    requires fits { HasRegisters (length slots.old) instr.now }
+    requires on { asks_registers instr.now ≡ true }
+    requires given { IsGiven tree.now searches.old slots.old instr.now }
+    ensures does { OnOk result ((job : Job) (at : ℕ) → job.tree ≡ tree.now
+        → job.patterns ≡ searches.old
+        → Does (act job (state_in tree.now at flag.old slots.old) (Some instr.now))
+        (Goes (state_in tree.now (at + 1) flag.new slots.new))) }
+    ensures count { length slots.new ≡ length slots.old }
+    ensures searches { searches.new ≡ searches.old }
+{
+    match instr {
         Instr::Test(choice, relation, left, right) => {
             let truth = compare(
                 alloc,
@@ -175,15 +229,11 @@ fn act<'p>(
                 asks(alloc, Choice::Any, &question, &slots[*register], tree),
             )
         }
-        Instr::Not => {
-            *flag = Flag::Known(!known(flag, tree));
-            Ok(())
-        }
         Instr::Differ(register) => {
             let truth = differs_from(alloc, &slots[*register], flag, tree);
             tell(flag, truth)
         }
-        Instr::JumpFalse(_) | Instr::JumpTrue(_) | Instr::Return => unreachable!(),
+        _ => unreachable!(),
     }
 }
 

@@ -5,7 +5,7 @@ use Rattle.pk_base.specs.Bits.{number_of_bits, sum_below}
 use Rattle.pk_fields.specs.Fields.{row_of}
 use Rattle.pk_fields.specs.Ids.{DNS_FLAGS_RESPONSE, DNS_ID}
 use Rattle.pk_fields.specs.Table.{rows}
-use Rattle.pk_tree.specs.declared.value.Value.TheVariants.{Bool, Uint}
+use Rattle.pk_base.specs.declared.value.Value.TheVariants.{Bool, Uint}
 use Rattle.pk_tree.specs.Values.{value_of}
 use Rattle.message_links.specs.declared.notes.Note.TheVariants.{Answer, Other, Query, Request, Response}
 use Rattle.message_links.specs.Laws.{DnsShort, DnsTold, HttpTold, NotesTold}

@@ -6,7 +6,7 @@ use Rattle.http_frame.specs.declared.shape.Shape.{Shape}
 use Rattle.pk_fields.specs.FieldSets.{is_in}
 use Rattle.pk_fields.specs.Ids.{DNS, DNS_FLAGS_RESPONSE, DNS_ID, DNS_RESPONSE_TO, HTTP, HTTP_REQUEST_IN}
 use Rattle.pk_tree.specs.declared.layer.Layer.{Layer}
-use Rattle.pk_tree.specs.declared.value.Value.TheVariants as values
+use Rattle.pk_base.specs.declared.value.Value.TheVariants as values
 use Rattle.pk_tree.specs.Trees.{TreeShown, made_of}
 use Rattle.pk_tree.specs.Values.{value_of}
 use Rattle.message_links.specs.declared.notes.Direction.{Direction}

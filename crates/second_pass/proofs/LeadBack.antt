@@ -7,8 +7,8 @@ use Rattle.std.specs.List.{AllByRecursion as Each, list_any, slice_get}
 use Rattle.pk_fields.specs.Ids.{IP, IP_FRAGMENT, IP_REASSEMBLED_IN, IPV6_FRAGHDR, IPV6_FRAGMENT, IPV6_REASSEMBLED_IN, TCP, TCP_SEGMENT, TCP_REASSEMBLED_IN, DNS, DNS_ID, DNS_FLAGS_RESPONSE, DNS_RESPONSE_TO, DNS_RESPONSE_IN, HTTP, HTTP_REQUEST, HTTP_RESPONSE_IN}
 use Rattle.pk_tree.specs.declared.item.Item.{Item}
 use Rattle.pk_tree.specs.declared.layer.Layer.{Layer}
-use Rattle.pk_tree.specs.declared.value.Value.{Value}
-use Rattle.pk_tree.specs.declared.value.Value.TheVariants as values
+use Rattle.pk_base.specs.declared.value.Value.{Value}
+use Rattle.pk_base.specs.declared.value.Value.TheVariants as values
 use Rattle.pk_tree.specs.Trees.{TreeShown}
 use Rattle.second_pass.specs.declared.messages.Kind.{Kind}
 use Rattle.second_pass.specs.Back.{AreInOrder, AsksNothing, HasAnswer, HasLater, HaveNumber, IsLeast, IsLinked, IsNoPart, IsNumber, IsResponseTo, NoOtherLinks, Part6Links, PartLinks, QueryLinks, RequestLinks, SegmentLinks, all_sent, is_request_layer, link_items, linked_layer}

@@ -5,7 +5,7 @@ use Rattle.std.proofs.lemmas.Bool.{eq-eqb, lt-ltb, ne_eqb}
 use Rattle.std.specs.List.{AllByRecursion as Each, prefix_len, slice_get}
 use Rattle.pk_fields.specs.Ids.{IP, IP_SRC, IPV6, IPV6_SRC, TCP_STREAM}
 use Rattle.pk_tree.specs.declared.layer.Layer.{Layer}
-use Rattle.pk_tree.specs.declared.value.Value.{Value}
+use Rattle.pk_base.specs.declared.value.Value.{Value}
 use Rattle.second_pass.specs.declared.messages.Direction.{Direction}
 use Rattle.second_pass.specs.Back.{DirectionsRead, IsSentFrom, LayersNoted, ValuesRead}
 use Rattle.second_pass.specs.Messages.{address_in, direction_at, direction_in, direction_of, has_stream, is_ip}

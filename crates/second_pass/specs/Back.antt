@@ -6,8 +6,8 @@ use Rattle.std.specs.Option.{option_map, unwrap_or}
 use Rattle.pk_fields.specs.Ids.{IP, IP_FRAGMENT, IP_REASSEMBLED_IN, IP_SRC, IPV6, IPV6_FRAGHDR, IPV6_FRAGMENT, IPV6_REASSEMBLED_IN, IPV6_SRC, TCP, TCP_SEGMENT, TCP_REASSEMBLED_IN, TCP_SRCPORT, TCP_STREAM, DNS, DNS_ID, DNS_FLAGS_RESPONSE, DNS_RESPONSE_TO, DNS_RESPONSE_IN, HTTP, HTTP_REQUEST, HTTP_REQUEST_IN, HTTP_RESPONSE, HTTP_RESPONSE_CODE, HTTP_RESPONSE_IN}
 use Rattle.pk_tree.specs.declared.item.Item.{Item}
 use Rattle.pk_tree.specs.declared.layer.Layer.{Layer}
-use Rattle.pk_tree.specs.declared.value.Value.{Value}
-use Rattle.pk_tree.specs.declared.value.Value.TheVariants as values
+use Rattle.pk_base.specs.declared.value.Value.{Value}
+use Rattle.pk_base.specs.declared.value.Value.TheVariants as values
 use Rattle.pk_tree.specs.FieldValues.{item_values}
 use Rattle.pk_tree.specs.Trees.{IsTree, TreeShown, made_of}
 use Rattle.second_pass.specs.declared.messages.Direction.{Direction}

@@ -11,7 +11,7 @@ compare_constant-requires c =
     let m = c.in-Read-Const-Test in
     let one = c.read.new.slots in
     let read_there = subst (IsSet one) (sym c.if-left-register.true) c.read.ensures.set in
-    put_stays one c.put.new.slots m.other m.left _ c.put.ensures refl read_there (get_or c.put.new.slots m.left c.index-slots-left.result) (ap (λ d. get_or c.put.new.slots m.left d) c.index-slots-left.is)
+    put_stays one c.put.new.slots m.other m.left _ c.put.ensures.set refl read_there (get_or c.put.new.slots m.left c.index-slots-left.result) (ap (λ d. get_or c.put.new.slots m.left d) c.index-slots-left.is)
 
 pub returns-in_ok-truth-in-Read-Const-Test-clause-leads : goal.returns-in_ok-truth-in-Read-Const-Test-clause-leads
 returns-in_ok-truth-in-Read-Const-Test-clause-leads c = λ job at first second third tree.
@@ -24,7 +24,7 @@ returns-in_ok-truth-in-Read-Const-Test-clause-leads c = λ job at first second t
     joined job c.args.tree.now at c.args.flag.now c.read.new.flag c.args.slots.now one two m.register m.field m.layers m.other m.constant _ m.choice m.relation m.left
     c.in_ok-truth-in-Read-Const-Test.truth
     (first ∙ ap Some m.is-0) (second ∙ ap Some m.is-1) (third ∙ ap Some m.is-2 ∙ ap (λ n. Some (instr.Test m.choice m.relation m.left n)) c.if-right-other.true) tree
-    (c.read.ensures.read at) c.put.ensures refl inside
+    (c.read.ensures.read at) c.put.ensures.set refl inside
     (λ h left. c.in_ok-truth-in-Read-Const-Test.ensures h (held_got c.args.tree.now two m.left c.index-slots-left.result h left))
 
 pub returns-in_default-clause-leads : goal.returns-in_default-clause-leads
