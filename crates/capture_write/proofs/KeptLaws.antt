@@ -25,7 +25,7 @@ abbrev pub bytes_from : Kept → List Frame → List ℕ
 bytes_from kept [] = end_at kept
 bytes_from kept (frame ∷ frames) = piece_at kept frame ++ bytes_from (kept_with kept frame) frames
 
-abbrev fits_from : Kept → List Frame → Bool
+abbrev pub fits_from : Kept → List Frame → Bool
 fits_from kept [] = true
 fits_from kept (frame ∷ frames) = fits_at kept frame && fits_from (kept_with kept frame) frames
 
@@ -87,7 +87,7 @@ blocks-fit : (little : Bool) (links : List ℕ) (frames : List Frame)
 blocks-fit little links [] = refl
 blocks-fit little links (frame ∷ frames) = ap (λ (b : Bool). fits_pcapng little links frame && b) (blocks-fit little (links_with frame.link links) frames)
 
-whole-fit : (format : Format) (frames : List Frame) → fits_from (nothing_kept format) frames ≡ fits format frames
+pub whole-fit : (format : Format) (frames : List Frame) → fits_from (nothing_kept format) frames ≡ fits format frames
 unfolding fits_in_pcap fits_in_pcapng
 whole-fit Pcap [] = refl
 whole-fit Pcap (frame ∷ frames) = ap (λ (b : Bool). fits_pcap frame.little frame.link frame && b) (records-fit frame.little frame.link [] frames)
@@ -105,7 +105,7 @@ one-fits format past frame all =
     sym (whole-fit format (in_order past (frame ∷ []))) ∙ past-fits format past (frame ∷ []) all ∙ and_true (fits_at (kept_of format past) frame)
 
 -- byte orders are kept
-order-kept : (little flag : Bool) (link : ℕ) → (if link == 0 then (if little then flag else not flag) else true) ≡ true → link ≡ 0 → flag ≡ little
+pub order-kept : (little flag : Bool) (link : ℕ) → (if link == 0 then (if little then flag else not flag) else true) ≡ true → link ≡ 0 → flag ≡ little
 order-kept true true link h zero = refl
 order-kept true false link h zero = grind (arith, nat_tests)
 order-kept false true link h zero = grind (arith, nat_tests)
@@ -125,7 +125,7 @@ block-orders little links (frame ∷ frames) fit =
       block-orders little (links_with frame.link links) frames both.1,
     )
 
-orders : (format : Format) (frames : List Frame) → fits format frames ≡ true → AreOrdersKept (order_of frames) frames
+pub orders : (format : Format) (frames : List Frame) → fits format frames ≡ true → AreOrdersKept (order_of frames) frames
 unfolding fits_in_pcap fits_in_pcapng
 orders Pcap [] fit = tt
 orders Pcap (frame ∷ frames) fit = record-orders frame.little frame.link (frame ∷ frames) fit
@@ -133,7 +133,7 @@ orders Pcapng [] fit = tt
 orders Pcapng (frame ∷ frames) fit = block-orders frame.little [] (frame ∷ frames) fit
 
 -- the file is read back
-file-back : (format : Format) (frames : List Frame) → AreFrames frames → fits format frames ≡ true → length (written format frames) ≤ file_limit
+pub file-back : (format : Format) (frames : List Frame) → AreFrames frames → fits format frames ≡ true → length (written format frames) ≤ file_limit
     → capture_of (written format frames) ≡ record { frames = all_read_back (order_of frames) 1 frames; ending = Whole }
 file-back Pcap frames are fit small = pcap-back frames are fit small
 file-back Pcapng frames are fit small = pcapng-back frames are fit small

@@ -1,5 +1,6 @@
 mod BlockBack
 pub mod FitLaws
+pub mod HeldLaws
 pub mod KeptLaws
 pub mod LinkLaws
 pub mod MadeLengths

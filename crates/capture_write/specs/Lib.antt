@@ -1,5 +1,7 @@
 pub mod Frames
+pub mod Held
 pub mod Kept
+pub mod Laws
 pub mod Made
 pub mod MadeFrames
 pub mod Numbers

@@ -5,6 +5,7 @@
 mod added;
 mod fitting;
 mod format;
+mod laws;
 mod links;
 mod made;
 mod made_frames;
@@ -16,5 +17,6 @@ mod writer;
 
 pub use added::Added;
 pub use format::Format;
+pub use laws::written_files_are_read_back;
 pub use made::make;
 pub use writer::Writer;
