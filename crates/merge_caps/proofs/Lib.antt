@@ -1,7 +1,9 @@
 pub mod FileSteps
 pub mod FilesSteps
+pub mod FrontSteps
 pub mod OneOrder
 pub mod StageSteps
+pub mod TimeOrder
 pub mod TopSteps
 pub mod WordSteps
 pub mod WriteSteps

@@ -24,13 +24,13 @@ use Rattle.merge_caps.specs.declared.place.Place.{Place}
 use Rattle.merge_caps.specs.Merged.{placed, placed_from, all_placed, place_cmp, place_of, frames_of, IsMerged}
 
 -- the frame of the same number in the same file
-same : Entry → Entry → Bool
+pub same : Entry → Entry → Bool
 same one other = (one.place.file == other.place.file) && (one.place.number == other.place.number)
 
 eqb_flips : (m n : ℕ) → (m == n) ≡ (n == m)
 eqb_flips m n = grind (arith, nat_tests)
 
-same_flips : (one other : Entry) → same one other ≡ same other one
+pub same_flips : (one other : Entry) → same one other ≡ same other one
 unfolding same
 same_flips one other =
     ap (λ (b : Bool). b && (one.place.number == other.place.number)) (eqb_flips one.place.file other.place.file)
@@ -46,19 +46,19 @@ right_false false other e = refl
 differ : (m n : ℕ) → m < n → (m == n) ≡ false
 differ m n less = grind (arith, nat_tests)
 
-each_map : {P Q : Entry → Type 0} → ((e : Entry) → P e → Q e) → (es : List Entry) → Each P es → Each Q es
+pub each_map : {P Q : Entry → Type 0} → ((e : Entry) → P e → Q e) → (es : List Entry) → Each P es → Each Q es
 each_map f [] each = tt
 each_map f (e ∷ es) each = (f e each.0, each_map f es each.1)
 
-each_append : (P : Entry → Type 0) (xs ys : List Entry) → Each P xs → Each P ys → Each P (xs ++ ys)
+pub each_append : (P : Entry → Type 0) (xs ys : List Entry) → Each P xs → Each P ys → Each P (xs ++ ys)
 each_append P [] ys left right = right
 each_append P (x ∷ xs) ys left right = (left.0, each_append P xs ys left.1 right)
 
 -- the frames of one file, from a number on
-abbrev Beyond : ℕ → ℕ → Entry → Type 0
+abbrev pub Beyond : ℕ → ℕ → Entry → Type 0
 Beyond file number entry = (entry.place.file ≡ file) × (number ≤ entry.place.number)
 
-placed_beyond : (latest : Option ℤ) (file number : ℕ) (frames : List Frame) → AreNumbered number frames → Each (Beyond file number) (placed_from latest file frames)
+pub placed_beyond : (latest : Option ℤ) (file number : ℕ) (frames : List Frame) → AreNumbered number frames → Each (Beyond file number) (placed_from latest file frames)
 placed_beyond latest file number [] are = tt
 placed_beyond latest file number (frame ∷ frames) are =
     let here : number ≤ frame.number = omega (arith, are.0) in (
@@ -83,10 +83,10 @@ placed_distinct latest file number (frame ∷ frames) are = (
 )
 
 -- the frames of files from a place on
-abbrev Behind : ℕ → Entry → Type 0
+abbrev pub Behind : ℕ → Entry → Type 0
 Behind place entry = place ≤ entry.place.file
 
-all_behind : (place : ℕ) (files : List (List ℕ)) → Each (Behind place) (all_placed place files)
+pub all_behind : (place : ℕ) (files : List (List ℕ)) → Each (Behind place) (all_placed place files)
 all_behind place [] = tt
 all_behind place (file ∷ files) =
     each_append (Behind place) (placed_from None place (capture_of file).frames) (all_placed (suc place) files)
@@ -106,7 +106,7 @@ files_differ place one other beyond behind =
     left_false (one.place.file == other.place.file) (one.place.number == other.place.number)
     (differ one.place.file other.place.file (omega (arith, beyond.0, behind)))
 
-all_distinct : (place : ℕ) (files : List (List ℕ)) → IsDistinct same (all_placed place files)
+pub all_distinct : (place : ℕ) (files : List (List ℕ)) → IsDistinct same (all_placed place files)
 unfolding IsDistinct
 all_distinct place [] = tt
 all_distinct place (file ∷ files) =
@@ -122,13 +122,13 @@ place_total =
     then_total (on_total (λ (place : Place). place.time) (options_total int_cmp_total))
     (then_total (on_total (λ (place : Place). place.file) nat_cmp_total) (on_total (λ (place : Place). place.number) nat_cmp_total))
 
-abbrev below : Entry → Entry → Bool
+abbrev pub below : Entry → Entry → Bool
 below one other = is_lt (place_cmp one.place other.place)
 
-place_ranks : IsStrictWeakOrder below
+pub place_ranks : IsStrictWeakOrder below
 place_ranks = ranks_by place_total place_of
 
-abbrev Sorted : List Entry → Type 0
+abbrev pub Sorted : List Entry → Type 0
 Sorted entries = IsSortedByKey place_of place_cmp entries
 
 -- neither is below the other
@@ -209,7 +209,7 @@ same_itself : (entry : Entry) → same entry entry ≡ true
 unfolding same
 same_itself entry = both_are (entry.place.file == entry.place.file) (entry.place.number == entry.place.number) (eqb_itself entry.place.file) (eqb_itself entry.place.number)
 
-abbrev Among : List Entry → List Entry → Type 0
+abbrev pub Among : List Entry → List Entry → Type 0
 Among ones others = (entry : Entry) → Contains ones entry → Contains others entry
 
 among_tails : (first : Entry) (ones others : List Entry) → IsDistinct same (first ∷ ones) → Among (first ∷ ones) (first ∷ others) → Among ones others
@@ -222,7 +222,7 @@ head_in : (first : Entry) (rest : List Entry) → Contains (first ∷ rest) firs
 head_in first rest = (0, omega arith, refl)
 
 -- two orders with the same elements
-one_order : (ones others : List Entry) → Sorted ones → Sorted others → IsDistinct same ones → IsDistinct same others → Among ones others → Among others ones → ones ≡ others
+pub one_order : (ones others : List Entry) → Sorted ones → Sorted others → IsDistinct same ones → IsDistinct same others → Among ones others → Among others ones → ones ≡ others
 one_order [] [] sorted sorted_others distinct distinct_others there here = refl
 one_order [] (other ∷ others) sorted sorted_others distinct distinct_others there here = absurd (let has = here other (head_in other others) in omega (arith, has.1))
 one_order (one ∷ ones) [] sorted sorted_others distinct distinct_others there here = absurd (let has = there one (head_in one ones) in omega (arith, has.1))
@@ -236,7 +236,7 @@ one_order (one ∷ ones) (other ∷ others) sorted sorted_others distinct distin
     ∙ ap (λ (es : List Entry). other ∷ es) (one_order ones others (sorted_tail one ones sorted) (sorted_tail other others sorted_others)
     (distinct_tail one ones distinct) (distinct_tail other others distinct_others) (among_tails one ones others distinct alike) (among_tails one others ones distinct_back alike_back))
 
-among_orders : (entries ones others : List Entry) → IsPermutation entries ones → IsPermutation entries others → Among ones others
+pub among_orders : (entries ones others : List Entry) → IsPermutation entries ones → IsPermutation entries others → Among ones others
 among_orders entries ones others to_ones to_others entry has =
     Contains-permutation entries others entry to_others (Contains-permutation ones entries entry (IsPermutation-sym entries ones to_ones) has)
 

@@ -1,7 +1,6 @@
 -- What the stages of merging come to, status by status.
-use Rattle.std.proofs.Common.{◌≡◌, ◌≢◌, ◌<◌, inl, inr, ℕ, Bool, true, false, List, ◌++◌, length, Option, Some, None, Result, Ok, Err, IfErr, IfOk, IfSome, IsErrOf, refl, sym, ap, ◌∙◌, subst}
+use Rattle.std.proofs.Common.{◌≡◌, ◌≢◌, ◌<◌, inl, inr, ℕ, Bool, true, false, List, length, Option, Some, None, Result, Ok, Err, IfErr, IfOk, IfSome, IsErrOf, refl, sym, ap, ◌∙◌, subst}
 use Rattle.std.specs.Prelude.{◌⊎◌}
-use Rattle.pk_outside.specs.Outside.{AppendsPart, Rose}
 use Rattle.pk_outside.specs.declared.sink.SinkFault.{SinkFault}
 use Rattle.pk_outside.specs.declared.sink.SinkFault.TheVariants as sink
 use Rattle.capture_write.specs.declared.format.Format.{Format}
@@ -11,14 +10,17 @@ use Rattle.merge_caps.specs.declared.readings.Cause.TheVariants as cause
 use Rattle.merge_caps.specs.declared.readings.Stopped.{Stopped}
 use Rattle.merge_caps.specs.declared.status.MergeStatus.{MergeStatus}
 use Rattle.merge_caps.specs.declared.status.MergeStatus.TheVariants.{Done, BadWords, CannotOpen, ReadFault, Damaged, TooLarge, WriteFault, NoMemory, CannotWrite}
+use Rattle.merge_caps.specs.ByTime.{WroteByTime}
 use Rattle.merge_caps.specs.Causes.{IsLargeAt, IsUnopened, IsUnread}
 use Rattle.merge_caps.specs.Merged.{IsInOrder, frames_of}
-use Rattle.merge_caps.specs.Reading.{AreSmallUpTo, ReadSoFar, endings_of, read_of}
+use Rattle.merge_caps.specs.Reading.{AreSmallUpTo, ReadSoFar, read_of}
 use Rattle.merge_caps.specs.Stages.{IsWrittenFrom}
 use Rattle.merge_caps.specs.Statuses.{IsNoFault, IsRefused, IsWritten, WhenRead, WhenUnread, WhenWritten, WrotePart, are_damaged, written_status}
 use Rattle.merge_caps.specs.Stopped.{IsCause, IsStopped, Seen}
 use Rattle.merge_caps.specs.Told.{IsWrittenText, cause_status, status_by}
-use Rattle.merge_caps.specs.Written.{IsPartOf, IsWrittenOf, file_of, first_unfit}
+use Rattle.merge_caps.specs.Written.{IsPartOf, IsWrittenOf, first_unfit}
+use Rattle.merge_caps.proofs.FrontSteps.{wrote_by_time}
+use Rattle.merge_caps.proofs.TimeOrder.{by_time}
 
 -- what always holds, holds at each status
 pub written_when : (answer : MergeStatus) (P Q : Type 0) → (P → Q) → WhenWritten answer P → WhenWritten answer Q
@@ -116,6 +118,18 @@ is_written format (Some files) read answer old new is wrote = record {
 pub written_of_files : (format : Format) (o : Option (List (List ℕ))) (read : ReadSoFar) (answer : MergeStatus) (old new : Option (List ℕ)) → IfSome o (λ files. read ≡ read_of files)
     → WhenWritten answer (IsWrittenFrom format read answer old new) → WhenWritten answer (IfSome o (λ files. IsWritten format files answer old new))
 written_of_files format o read answer old new is wrote = written_when answer _ _ (is_written format o read answer old new is) wrote
+
+-- and is read as the frames of the files in the order of their times
+is_by_time : (format : Format) (o : Option (List (List ℕ))) (read : ReadSoFar) (answer : MergeStatus) (old new : Option (List ℕ)) → IfSome o (λ files. read ≡ read_of files)
+    → IsWrittenFrom format read answer old new → IfSome o (λ files. WroteByTime format files answer old new)
+is_by_time format None read answer old new is wrote = tt
+is_by_time format (Some files) read answer old new is wrote =
+    wrote_by_time format files wrote.1.order wrote.0 (are_damaged read.endings) answer old new
+    (by_time files wrote.1.order (in_order_of files read wrote.1.order is wrote.1.ordered)) wrote.1.unfit_is wrote.2 wrote.1.wrote wrote.1.small
+
+pub by_time_of_files : (format : Format) (o : Option (List (List ℕ))) (read : ReadSoFar) (answer : MergeStatus) (old new : Option (List ℕ)) → IfSome o (λ files. read ≡ read_of files)
+    → WhenWritten answer (IsWrittenFrom format read answer old new) → WhenWritten answer (IfSome o (λ files. WroteByTime format files answer old new))
+by_time_of_files format o read answer old new is wrote = written_when answer _ _ (is_by_time format o read answer old new is) wrote
 
 part_by : (format : Format) (o : Option (List (List ℕ))) (read : ReadSoFar) (old new : Option (List ℕ)) → IfSome o (λ files. read ≡ read_of files)
     → IsPartOf format read.entries old new → IfSome o (λ files. WrotePart format files old new)

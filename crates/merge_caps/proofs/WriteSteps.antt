@@ -1,9 +1,9 @@
 -- Writing frames one after the other.
-use Rattle.std.proofs.Common.{◌≡◌, ◌<◌, ℕ, suc, ℤ, ◌+◌, Bool, true, false, List, [], ◌∷◌, ◌++◌, length, map, drop, get_or, Option, Some, None, refl, sym, ap, ◌∙◌, subst, append_assoc, arith}
+use Rattle.std.proofs.Common.{◌≡◌, ◌<◌, ◌≤◌, ℕ, suc, ℤ, ◌+◌, Bool, true, false, List, [], ◌∷◌, ◌++◌, length, map, drop, get_or, Option, Some, None, refl, sym, ap, ◌∙◌, subst, append_assoc, arith}
 use Rattle.std.specs.Prelude.{if◌then◌else◌, ◌&&◌, not, nat_lt}
 use Rattle.std.specs.Io.KnownBytes.{Appends}
 use Rattle.std.proofs.KnownBytes.{Appends-trans}
-use Rattle.std.proofs.lemmas.List.{at_drop_more}
+use Rattle.std.proofs.lemmas.List.{at_drop_more, drop_all}
 use Rattle.pk_base.specs.Limits.{captured_limit}
 use Rattle.pk_outside.specs.Outside.{AppendsPart}
 use Rattle.pk_outside.proofs.Parts.{part_more, part_after_front}
@@ -11,7 +11,7 @@ use Rattle.capture_read.specs.declared.frame.Frame.{Frame}
 use Rattle.capture_write.specs.Kept.{Kept, nothing_kept, order_by, link_by, fits_by, fits_at, start_by, packet_of, piece_at, kept_with, end_at}
 use Rattle.capture_write.specs.Pcap.{fits_pcap}
 use Rattle.capture_write.specs.Pcapng.{fits_by_time, packet_by, place_of, new_interface}
-use Rattle.capture_write.specs.Frames.{is_order_kept}
+use Rattle.capture_write.specs.Frames.{is_order_kept, IsFrame, AreFrames}
 use Rattle.capture_write.specs.declared.format.Format.{Format}
 use Rattle.capture_write.specs.declared.format.Format.TheVariants.{Pcap, Pcapng}
 use Rattle.capture_write.proofs.KeptLaws.{bytes_from, whole-file}
@@ -57,6 +57,27 @@ unfit_further entries i entry within is kept after before now unfit same steps =
     sym (ap (λ (n : ℕ). unfit_from n (kept_with kept entry.frame) rest) count ∙ ap (λ (k : Kept). unfit_from (suc (i + 1)) k rest) (sym steps.1))
     ∙ sym (ap (λ (b : Bool). if b then unfit_from (suc (suc i)) (kept_with kept entry.frame) rest else Some (suc i)) steps.0)
     ∙ sym (ap (λ (frames : List Frame). unfit_from (suc i) kept frames) (next_frame entries i entry within is)) ∙ same
+
+-- the numbers of the frames that are still to come
+pub small_further : (entries : List Entry) (i : ℕ) (entry : Entry) → i < length entries → entry ≡ get_or entries i entry
+    → (kept after : Kept) (before now : Option (List ℕ)) (Whole : Type 0) → IsFrame entry.frame → Steps true kept after entry.frame before now
+    → (AreFrames (fitting_from kept (map frame_of (drop i entries))) → Whole) → AreFrames (fitting_from after (map frame_of (drop (i + 1) entries))) → Whole
+small_further entries i entry within is kept after before now Whole small steps whole rest =
+    let rest_small : AreFrames (fitting_from (kept_with kept entry.frame) (map frame_of (drop (i + 1) entries))) =
+    subst (λ (k : Kept). AreFrames (fitting_from k (map frame_of (drop (i + 1) entries)))) steps.1 rest in
+    let both : AreFrames (entry.frame ∷ fitting_from (kept_with kept entry.frame) (map frame_of (drop (i + 1) entries))) = (small, rest_small) in
+    whole (subst (λ (frames : List Frame). AreFrames (fitting_from kept frames)) (sym (next_frame entries i entry within is))
+    (subst (λ (b : Bool). AreFrames (if b then entry.frame ∷ fitting_from (kept_with kept entry.frame) (map frame_of (drop (i + 1) entries)) else [])) (sym steps.0) both))
+
+pub small_unfit : (entries : List Entry) (i : ℕ) (entry : Entry) → i < length entries → entry ≡ get_or entries i entry
+    → (kept after : Kept) (before now : Option (List ℕ)) → Steps false kept after entry.frame before now → AreFrames (fitting_from kept (map frame_of (drop i entries)))
+small_unfit entries i entry within is kept after before now steps =
+    subst (λ (frames : List Frame). AreFrames (fitting_from kept frames)) (sym (next_frame entries i entry within is))
+    (subst (λ (b : Bool). AreFrames (if b then entry.frame ∷ fitting_from (kept_with kept entry.frame) (map frame_of (drop (i + 1) entries)) else [])) (sym steps.0) tt)
+
+-- none is still to come
+pub small_ended : (entries : List Entry) (i : ℕ) (kept : Kept) → length entries ≤ i → AreFrames (fitting_from kept (map frame_of (drop i entries)))
+small_ended entries i kept ended = subst (λ (es : List Entry). AreFrames (fitting_from kept (map frame_of es))) (sym (drop_all i entries ended)) tt
 
 -- a part of a frame
 by_piece : (kept : Kept) (frame : Frame) (rest : List Frame) (b : Bool)
@@ -133,6 +154,21 @@ same_unfit place kept number (frame ∷ frames) =
     ∙ ap (λ (o : Option ℕ). if fits_at kept frame then o else Some place)
     (ap (λ (k : Kept). unfit_from (suc place) k (numbered (suc number) frames)) (same_kept kept number frame) ∙ same_unfit (suc place) (kept_with kept frame) (suc number) frames)
 
+same_small : (kept : Kept) (number : ℕ) (frames : List Frame) → AreFrames (fitting_from kept frames) → AreFrames (fitting_from kept (numbered number frames))
+same_small kept number [] small = tt
+same_small kept number (frame ∷ frames) small =
+    subst (λ (b : Bool). AreFrames (if b then renumbered number frame ∷ fitting_from (kept_with kept (renumbered number frame)) (numbered (suc number) frames) else [])) (sym (same_fit kept number frame))
+    (by (fits_at kept frame) (same_small (kept_with kept frame) (suc number) frames) small)
+  where
+    by : (b : Bool) → (AreFrames (fitting_from (kept_with kept frame) frames) → AreFrames (fitting_from (kept_with kept frame) (numbered (suc number) frames)))
+        → AreFrames (if b then frame ∷ fitting_from (kept_with kept frame) frames else [])
+        → AreFrames (if b then renumbered number frame ∷ fitting_from (kept_with kept (renumbered number frame)) (numbered (suc number) frames) else [])
+    by true rest small = (
+      record { link = small.0.link; original = small.0.original },
+      subst (λ (k : Kept). AreFrames (fitting_from k (numbered (suc number) frames))) (sym (same_kept kept number frame)) (rest small.1),
+    )
+    by false rest small = tt
+
 -- the whole is the file of the frames up to the first that doesn't fit
 by_fit : (kept : Kept) (frame : Frame) (frames : List Frame) (b : Bool) → written_from (kept_with kept frame) frames ≡ bytes_from (kept_with kept frame) (fitting_from (kept_with kept frame) frames)
     → (if b then piece_at kept frame ++ written_from (kept_with kept frame) frames else end_at kept) ≡ bytes_from kept (if b then frame ∷ fitting_from (kept_with kept frame) frames else [])
@@ -176,3 +212,9 @@ file_broken format kept after frames old now later nothing wrote part =
 pub file_unfit_by : (format : Format) (kept : Kept) (frames : List Frame) (unfit : Option ℕ) → kept ≡ nothing_kept format
     → unfit ≡ unfit_from 1 kept frames → unfit ≡ first_unfit format (numbered 1 frames)
 file_unfit_by format kept frames unfit nothing is = is ∙ ap (λ (k : Kept). unfit_from 1 k frames) nothing ∙ file_unfit format frames
+
+pub file_small : (format : Format) (kept : Kept) (frames : List Frame) → kept ≡ nothing_kept format
+    → AreFrames (fitting_from kept frames) → AreFrames (fitting format (numbered 1 frames))
+unfolding fitting
+file_small format kept frames nothing small =
+    same_small (nothing_kept format) 1 frames (subst (λ (k : Kept). AreFrames (fitting_from k frames)) nothing small)

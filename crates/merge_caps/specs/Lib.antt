@@ -1,3 +1,4 @@
+pub mod ByTime
 pub mod Causes
 pub mod Laws
 pub mod Merged

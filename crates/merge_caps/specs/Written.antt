@@ -2,6 +2,7 @@
 use Rattle.std.specs.Prelude.{◌≡◌, ℕ, suc, Bool, true, false, List, [], ◌∷◌, ◌++◌, Option, Some, None, if◌then◌else◌}
 use Rattle.std.specs.Io.KnownBytes.{Appends}
 use Rattle.capture_read.specs.declared.frame.Frame.{Frame}
+use Rattle.capture_write.specs.Frames.{AreFrames}
 use Rattle.capture_write.specs.Kept.{Kept, nothing_kept, kept_with, fits_at, piece_at, end_at, written}
 use Rattle.capture_write.specs.declared.format.Format.{Format}
 use Rattle.pk_outside.specs.Outside.{AppendsPart}
@@ -57,6 +58,8 @@ pub record IsWrittenOf (format : Format) (entries : List Entry) (unfit : Option 
   pub ordered : IsInOrder entries order
   pub wrote : Appends old new (file_of format (frames_of order))
   pub unfit_is : unfit ≡ first_unfit format (frames_of order)
+  -- the numbers of those that were written are those of a frame
+  pub small : AreFrames (fitting format (frames_of order))
 
 -- a front of it was written
 abbrev pub IsPartOf : Format → List Entry → Option (List ℕ) → Option (List ℕ) → Type 0

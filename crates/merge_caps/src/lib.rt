@@ -14,6 +14,6 @@ mod top;
 mod words;
 mod write;
 
-pub use laws::merged_frames_are_unique;
+pub use laws::{merged_frames_are_unique, merged_frames_stand_by_time};
 pub use status::MergeStatus;
 pub use top::merge;

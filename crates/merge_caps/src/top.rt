@@ -2,6 +2,7 @@
 ghost use Rattle.std.specs.Prelude.{◌≡◌, ◌≢◌, ◌<◌, ◌⊎◌, ℕ, List, Option, length, IfErr, IfOk, IfSome, IsErrOf, OnOk};
 ghost use Rattle.pk_outside.specs.Outside.{Rose};
 ghost use Rattle.shark_words.specs.Words.{texts};
+ghost use Rattle.merge_caps.specs.ByTime.{WroteByTime};
 ghost use Rattle.merge_caps.specs.Causes.{IsLargeAt, IsUnopened, IsUnread};
 ghost use Rattle.merge_caps.specs.Reading.{AreSmallUpTo, IsLeftOfOne, files_of, read_of, so_far};
 ghost use Rattle.merge_caps.specs.Stages.{IsWrittenFrom};
@@ -102,6 +103,9 @@ fn merge_files<C: Capture, O: Sink, E: Sink>(
     ensures written { WhenWritten result
         (IfSome (files_of (C.file capture.old) wanted.now.names.items) (λ files.
         IsWritten wanted.now.format files result (O.written out.old) (O.written out.new))) }
+    ensures read_back { WhenWritten result
+        (IfSome (files_of (C.file capture.old) wanted.now.names.items) (λ files.
+        WroteByTime wanted.now.format files result (O.written out.old) (O.written out.new))) }
     ensures part { (out.new ≡ out.old)
         ⊎ IfSome (files_of (C.file capture.old) wanted.now.names.items) (λ files.
         WrotePart wanted.now.format files (O.written out.old) (O.written out.new)) }
@@ -178,6 +182,10 @@ pub fn merge<C: Capture, O: Sink, E: Sink>(
     ensures written { IfOk (wanted_of (texts words.now)) (λ wanted. WhenWritten result
         (IfSome (files_of (C.file capture.old) wanted.names) (λ files.
         IsWritten wanted.format files result (O.written out.old) (O.written out.new)))) }
+    // It is read as the frames of the files, each once, in the order of their times.
+    ensures read_back { IfOk (wanted_of (texts words.now)) (λ wanted. WhenWritten result
+        (IfSome (files_of (C.file capture.old) wanted.names) (λ files.
+        WroteByTime wanted.format files result (O.written out.old) (O.written out.new)))) }
     ensures part { IfOk (wanted_of (texts words.now)) (λ wanted. (out.new ≡ out.old)
         ⊎ IfSome (files_of (C.file capture.old) wanted.names) (λ files.
         WrotePart wanted.format files (O.written out.old) (O.written out.new))) }

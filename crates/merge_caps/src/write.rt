@@ -2,9 +2,10 @@
 ghost use Rattle.std.specs.Prelude.{◌≡◌, ◌≤◌, ◌++◌, ℕ, List, map, IfOk, IsErrOf, OnOk};
 ghost use Rattle.std.specs.Io.KnownBytes.{Appends};
 ghost use Rattle.pk_outside.specs.Outside.{AppendsPart, Rose};
+ghost use Rattle.capture_write.specs.Frames.{AreFrames, IsFrame};
 ghost use Rattle.capture_write.specs.Kept.{end_at};
 ghost use Rattle.merge_caps.specs.Merged.{frame_of, frames_of};
-ghost use Rattle.merge_caps.specs.Written.{Steps, file_of, first_unfit, piece_if, unfit_from, written_from};
+ghost use Rattle.merge_caps.specs.Written.{Steps, file_of, first_unfit, fitting, fitting_from, piece_if, unfit_from, written_from};
 
 use crate::owned::let_go;
 use crate::place::Entry;
@@ -18,12 +19,16 @@ use std::alloc::Global;
 fn write_frame<O: Sink>(writer: &mut Writer, frame: &Frame, out: &mut O) -> Result<bool, SinkFault>
     ensures steps { IfOk result (λ fit. Steps fit writer.old writer.new frame.now
         (O.written out.old) (O.written out.new)) }
+    ensures small { IsFrame frame.now }
     ensures part { AppendsPart (O.written out.old) (O.written out.new)
         (piece_if writer.old frame.now) }
     ensures fault { IsErrOf result SinkFault.Failed → Rose (O.faults out.old) (O.faults out.new) }
     ensures no_fault { OnOk result (O.faults out.new ≡ O.faults out.old) }
     ensures starved { IsErrOf result SinkFault.NoMemory → O.faults out.new ≡ O.faults out.old }
 {
+    // Read for their ranges.
+    let _link = frame.link;
+    let _original = frame.original;
     match writer.add(frame) {
         Ok(Added::Bytes(piece)) => {
             let written = write_whole(out, piece.bytes());
@@ -49,6 +54,8 @@ fn write_each<O: Sink>(
         × (done ++ end_at writer.new ≡ written_from writer.old (map frame_of entries.now))) }
     ensures unfit { IfOk result (λ unfit.
         unfit ≡ unfit_from 1 writer.old (map frame_of entries.now)) }
+    ensures small { OnOk result (AreFrames
+        (fitting_from writer.old (map frame_of entries.now))) }
     ensures part { AppendsPart (O.written out.old) (O.written out.new)
         (written_from writer.old (map frame_of entries.now)) }
     ensures fault { IsErrOf result SinkFault.Failed → Rose (O.faults out.old) (O.faults out.new) }
@@ -94,6 +101,7 @@ pub(crate) fn write_file<O: Sink>(
         (file_of format (frames_of entries.now))) }
     ensures unfit { IfOk result (λ unfit. unfit
         ≡ first_unfit format (frames_of entries.now)) }
+    ensures small { OnOk result (AreFrames (fitting format (frames_of entries.now))) }
     ensures part { AppendsPart (O.written out.old) (O.written out.new)
         (file_of format (frames_of entries.now)) }
     ensures fault { IsErrOf result SinkFault.Failed → Rose (O.faults out.old) (O.faults out.new) }

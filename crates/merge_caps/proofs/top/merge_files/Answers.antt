@@ -2,7 +2,7 @@ use Rattle.std.proofs.Common.{◌∙◌, inl, refl}
 use Rattle.merge_caps.specs.Reading.{files_of, so_far}
 use Rattle.merge_caps.specs.Told.{cause_text}
 use Rattle.merge_caps.specs.Words.{wanted}
-use Rattle.merge_caps.proofs.StageSteps.{is_read, part_of_files, read_always, read_never, stop_facts, unread_always, unread_when, written_of_files, written_when}
+use Rattle.merge_caps.proofs.StageSteps.{by_time_of_files, is_read, part_of_files, read_always, read_never, stop_facts, unread_always, unread_when, written_of_files, written_when}
 use Rattle.merge_caps.proofs.TopSteps.{starved, starved_whole, stop_told, told, told_whole}
 use Rattle.merge_caps.proofs.top.merge_files.Goals as goal
 
@@ -10,6 +10,7 @@ pub returns-in-Err : goal.returns-in-Err
 returns-in-Err g c = record {
   not_refused = λ is. absurd (cc is);
   written = tt;
+  read_back = tt;
   part = inl refl;
   nothing = tt;
   unopened = λ is. absurd (cc is);
@@ -31,6 +32,7 @@ returns-in-Err-read_files g c =
     record {
       not_refused = facts.not_refused;
       written = written_when c.tell_stopped-status.result _ _ (λ bad. absurd bad) facts.not_written;
+      read_back = written_when c.tell_stopped-status.result _ _ (λ bad. absurd bad) facts.not_written;
       part = inl (refl {a = c.args.out.now});
       nothing = unread_always c.tell_stopped-status.result _ refl;
       unopened = facts.unopened;
@@ -57,6 +59,7 @@ returns-in-Ok-read_files g c =
     record {
       not_refused = λ same. is_read c.write_readings-status.result _ w.all_read same;
       written = written_of_files c.args.wanted.now.format (files_of (g.C.Capture.file c.args.capture.now) c.args.wanted.now.names.items) (so_far c.in-Ok-read_files.readings) c.write_readings-status.result _ _ is w.written;
+      read_back = by_time_of_files c.args.wanted.now.format (files_of (g.C.Capture.file c.args.capture.now) c.args.wanted.now.names.items) (so_far c.in-Ok-read_files.readings) c.write_readings-status.result _ _ is w.written;
       part = part_of_files _ c.args.wanted.now.format (files_of (g.C.Capture.file c.args.capture.now) c.args.wanted.now.names.items) (so_far c.in-Ok-read_files.readings) _ _ is w.part;
       nothing = unread_when c.write_readings-status.result _ _ (λ bad. absurd bad) w.all_read;
       unopened = λ same. absurd (is_read c.write_readings-status.result _ w.all_read same);

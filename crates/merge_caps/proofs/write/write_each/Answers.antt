@@ -1,7 +1,8 @@
 use Rattle.std.proofs.Common.{◌∙◌, map}
+use Rattle.capture_write.specs.Frames.{AreFrames}
 use Rattle.merge_caps.specs.Merged.{frame_of}
-use Rattle.merge_caps.specs.Written.{unfit_from, written_from}
-use Rattle.merge_caps.proofs.WriteSteps.{unfit_further, wrote_further, wrote_part}
+use Rattle.merge_caps.specs.Written.{fitting_from, unfit_from, written_from}
+use Rattle.merge_caps.proofs.WriteSteps.{small_ended, small_further, small_unfit, unfit_further, wrote_further, wrote_part}
 use Rattle.merge_caps.proofs.write.write_each.Goals as goal
 
 pub returns-in-Err-clause-part : goal.returns-in-Err-clause-part
@@ -20,5 +21,19 @@ loop-index-preserved g c =
       unfit = unfit_further c.args.entries.now c.loop-index.index c.index-entries-index.result c.loop-index-test.true c.index-entries-index.is
           c.loop-index.writer c.write_frame.new.writer (g.O.Sink.written c.loop-index.out) (g.O.Sink.written c.write_frame.new.out)
           (unfit_from 1 c.args.writer.now (map frame_of c.args.entries.now)) c.loop-index.invariant.unfit steps;
+      small = small_further c.args.entries.now c.loop-index.index c.index-entries-index.result c.loop-index-test.true c.index-entries-index.is
+          c.loop-index.writer c.write_frame.new.writer (g.O.Sink.written c.loop-index.out) (g.O.Sink.written c.write_frame.new.out)
+          (AreFrames (fitting_from c.args.writer.now (map frame_of c.args.entries.now))) c.write_frame.ensures.small steps c.loop-index.invariant.small;
       faults = c.in-Ok-true.ensures.no_fault ∙ c.loop-index.invariant.faults;
     }
+
+pub returns-in-Ok-false-clause-small : goal.returns-in-Ok-false-clause-small
+returns-in-Ok-false-clause-small g c =
+    let steps = rw c.in-Ok-false.field-0-test at c.in-Ok-false.ensures.steps in
+    c.loop-index.invariant.small
+    (small_unfit c.args.entries.now c.loop-index.index c.index-entries-index.result c.loop-index-test.true c.index-entries-index.is
+    c.loop-index.writer c.write_frame.new.writer (g.O.Sink.written c.loop-index.out) (g.O.Sink.written c.write_frame.new.out) steps)
+
+pub returns-clause-small : goal.returns-clause-small
+returns-clause-small g c =
+    c.loop-index.invariant.small (small_ended c.args.entries.now c.loop-index.index c.loop-index.writer c.loop-index-test.false)
