@@ -1,7 +1,8 @@
-use pk_fields::{App, PortRule, tcp_app, udp_app};
 //! Which application a port's payload is read as. A row is `tcp 40000 9000 -> http`: the transport, source and target, and the
 //! application, or `none`. There are rules for TCP's ports 9000 (HTTP) and 80 (plain data), and for UDP's 9000 (DHCP) and 53 (plain
 //! data), or, with `usual udp 9000 53 -> dns`, none.
+
+use pk_fields::{App, PortRule, tcp_app, udp_app};
 
 const RULES: [PortRule; 4] = [
     PortRule {
