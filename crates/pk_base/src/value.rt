@@ -2,7 +2,6 @@ use crate::octets::Octets;
 use std::alloc::AllocError;
 
 /// What an item holds. The variants are those of the fields' kinds.
-#[derive(Drop)]
 pub enum Value {
     Uint(u64),
     Bool(bool),
@@ -16,6 +15,21 @@ pub enum Value {
     Time(i128),
     /// The bytes of a protocol's layer.
     Proto(Octets),
+}
+
+// The destructor is written out here, and not wherever a value is dropped.
+impl Drop for Value {
+    fn drop(self) {
+        match self {
+            Value::Bytes(_bytes) | Value::Text(_bytes) | Value::Proto(_bytes) => (),
+            Value::Uint(_)
+            | Value::Bool(_)
+            | Value::Ether(_)
+            | Value::Ip4(_)
+            | Value::Ip6(_)
+            | Value::Time(_) => (),
+        }
+    }
 }
 
 impl Clone for Value {

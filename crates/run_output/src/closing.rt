@@ -22,7 +22,7 @@ use std::alloc::Global;
 use std::mem;
 
 // Writes the reports, what is told of the program, and over a generated capture the line of what was counted.
-#[tactic(auto, using(crate::proofs::ClosingLemmas::behind_lines, crate::proofs::ClosingLemmas::behind_stats, crate::proofs::ClosingLemmas::behind_reports, crate::proofs::ClosingLemmas::among_reports, crate::proofs::EnoughLemmas::reports_need))]
+#[tactic(auto, using(crate::proofs::EnoughLemmas::reports_need))]
 fn write_behind_lines<O: Sink>(
     alloc: Global,
     plan: &Plan,
@@ -53,14 +53,10 @@ fn write_behind_lines<O: Sink>(
         Ok(()) => {}
         Err(fault) => return Err(fault),
     }
-    match write_counts(alloc, plan, dissector, notes, out) {
-        Ok(()) => Ok(()),
-        Err(fault) => Err(fault),
-    }
+    write_counts(alloc, plan, dissector, notes, out)
 }
 
 /// Writes what stands behind the lines of the frames, or at the end of the capture.
-#[tactic(auto, using(crate::proofs::ClosingLemmas::closed_line, crate::proofs::ClosingLemmas::closed_line_part, crate::proofs::ClosingLemmas::closed_capture, crate::proofs::ClosingLemmas::closed_capture_part))]
 pub fn write_closing<O: Sink>(
     alloc: Global,
     plan: &Plan,
@@ -87,14 +83,8 @@ pub fn write_closing<O: Sink>(
     match plan.written {
         Some(format) => {
             let writer = mem::replace(&mut lines.capture, Writer::new(alloc, format));
-            match write_end(writer, out) {
-                Ok(()) => Ok(()),
-                Err(fault) => Err(fault),
-            }
+            write_end(writer, out)
         }
-        None => match write_behind_lines(alloc, plan, dissector, &lines.notes, out) {
-            Ok(()) => Ok(()),
-            Err(fault) => Err(fault),
-        },
+        None => write_behind_lines(alloc, plan, dissector, &lines.notes, out),
     }
 }

@@ -93,8 +93,7 @@ pub(crate) fn write_stats<O: Sink>(
         Ok(text) => text,
         Err(NoMemory) => return Err(SinkFault::NoMemory),
     };
-    match write_lines(text.as_slice(), out) {
-        Ok(()) => Ok(()),
-        Err(fault) => Err(fault),
-    }
+    let written = write_lines(text.as_slice(), out);
+    let_go(text);
+    written
 }

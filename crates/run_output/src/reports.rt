@@ -15,6 +15,7 @@ ghost use Rattle.run_frames.specs.Notes.{AreNotes};
 ghost use Rattle.run_frames.specs.Ended.{HasTaken};
 ghost use Rattle.run_output.specs.Reports.{IsAsked, fronts_in, report_text, reports_text};
 
+use crate::owned::let_go;
 use dissect::Dissector;
 use out_lines::{Fronts, follow_text};
 use pk_base::NoMemory;
@@ -140,10 +141,9 @@ fn write_report<O: Sink>(
         Ok(text) => text,
         Err(NoMemory) => return Err(SinkFault::NoMemory),
     };
-    match write_lines(text.as_slice(), out) {
-        Ok(()) => Ok(()),
-        Err(fault) => Err(fault),
-    }
+    let written = write_lines(text.as_slice(), out);
+    let_go(text);
+    written
 }
 
 /// Writes reports over the frames that a dissector has taken, in order.

@@ -11,6 +11,7 @@ ghost use Rattle.run_frames.specs.Notes.{AreNotes};
 ghost use Rattle.run_output.specs.SelfRun.{counts_text, self_run_line as line_of_frames, totals_of};
 ghost use Rattle.run_frames.specs.Wanted.{IsEnough};
 
+use crate::owned::let_go;
 use dissect::Dissector;
 use pk_base::NoMemory;
 use pk_outside::{Sink, SinkFault, write_whole};
@@ -97,8 +98,7 @@ pub(crate) fn write_counts<O: Sink>(
         Ok(line) => line,
         Err(NoMemory) => return Err(SinkFault::NoMemory),
     };
-    if line.is_empty() {
-        return Ok(());
-    }
-    write_whole(out, line.as_bytes())
+    let written = write_whole(out, line.as_bytes());
+    let_go(line);
+    written
 }

@@ -14,7 +14,7 @@ ghost use Rattle.run_passes.specs.Passed.{AreCutOff, AreEndNear, AreRead, HaveBe
 ghost use Rattle.run_frames.specs.Notes.{AreFewNotes};
 ghost use Rattle.run_frames.specs.Wanted.{IsEnough};
 
-use crate::owned::give_up_reader;
+use crate::owned::{give_up_frame, give_up_reader};
 use capture_read::{Ending, FrameReader, NextFrame, ReadError};
 use dissect::Dissector;
 use pk_outside::{Capture, Sink};
@@ -96,9 +96,12 @@ fn write_each<C: Capture, O: Sink>(
             // The first error ends the run, so that this one is never met.
             Err(ReadError::Spent) => return Err(RunFault::NoMemory),
         };
-        match write_frame(alloc, plan, &frame, &Later::Unread, dissector, lines, out) {
+        let written = write_frame(alloc, plan, &frame, &Later::Unread, dissector, lines, out);
+        let number = frame.number;
+        give_up_frame(frame);
+        match written {
             Ok(true) => {}
-            Ok(false) => return Ok(RunEnding::Unfit(frame.number)),
+            Ok(false) => return Ok(RunEnding::Unfit(number)),
             Err(fault) => return Err(fault),
         }
         most = one_less(most);

@@ -1,8 +1,10 @@
 -- What a fault that ends a run leaves written.
-use Rattle.std.proofs.Common.{◌≡◌, ◌<◌, ◌∙◌, ℕ, Bool, true, List, [], length, Option, None, Some, inl, refl, sym, subst}
-use Rattle.std.specs.Prelude.{IfErr, IfSome, OnOk, Result, Ok, Err}
+use Rattle.std.proofs.Common.{◌≡◌, ◌<◌, ◌∙◌, ℕ, Bool, true, List, [], ◌∷◌, arith, length, Option, None, Some, inl, refl, sym, subst}
+use Rattle.std.specs.Prelude.{IfErr, IfOk, IfSome, IsErrOf, OnOk, Result, Ok, Err}
 use Rattle.std.specs.Io.KnownBytes.{Appends}
-use Rattle.pk_outside.specs.Outside.{AppendsPart}
+use Rattle.pk_outside.specs.Outside.{AppendsPart, Rose}
+use Rattle.pk_outside.specs.declared.sink.SinkFault.{SinkFault}
+use Rattle.pk_outside.specs.declared.sink.SinkFault.TheVariants as sink
 use Rattle.run_frames.specs.declared.frames.RunFault.{RunFault}
 use Rattle.run_frames.specs.declared.frames.RunFault.TheVariants.{ReadFault, WriteFault, NoMemory}
 use Rattle.run_frames.specs.declared.plan.Plan.{Plan}
@@ -13,11 +15,38 @@ use Rattle.run_frames.specs.Job.{IfOnce}
 use Rattle.run_passes.specs.Passed.{AreCutOff, AreEndNear, AreFewer, AreFullNear, IsCalm, IsCaused, IsReadCaused, IsWriteCaused}
 use Rattle.run_passes.specs.Reading.{frames_read}
 use Rattle.run_passes.specs.SoFar.{IsNearAfter}
+use Rattle.run_frames.proofs.CalmLemmas.{calm_starved}
 use Rattle.run_passes.proofs.FaultLemmas.{rose_before}
+use Rattle.shark_run.specs.Ends.{run_fault_of}
 use Rattle.run_output.specs.Lines.{opening}
 use Rattle.shark_run.specs.Way.{IsBodyCutOff, IsBrokenFrom, IsCutOff}
 use Rattle.shark_run.proofs.BodyLemmas.{twice_unread}
 use Rattle.shark_run.proofs.OpeningLemmas.{near_behind, near_opened, once_holds, so_far_behind}
+
+-- bytes that aren't none
+pub some_bytes : (bytes : List ℕ) → ¬ (bytes ≡ []) → 0 < length bytes
+some_bytes [] some = absurd (some refl)
+some_bytes (byte ∷ bytes) some = omega arith
+
+-- what holds of every value
+pub all_ok : {A E : Type 0} (answer : Result A E) (P : A → Type 0) → ((value : A) → P value) → IfOk answer P
+all_ok (Ok value) P all = all value
+all_ok (Err error) P all = tt
+
+-- a write behind the lines failed, or there was no memory for it
+pub write_caused : {A : Type 0} (fault : SinkFault) (answer : RunFault) (old now new : ℕ) → answer ≡ run_fault_of fault → now ≡ old
+    → (IsErrOf {T = A} {E = SinkFault} (Err fault) sink.Failed → Rose now new) → (¬ IsErrOf {T = A} {E = SinkFault} (Err fault) sink.Failed → new ≡ now) → IsWriteCaused old new answer
+write_caused sink.Failed answer old now new is same fails calm = subst (IsWriteCaused old new) (sym is) (rose_before old now new same (fails refl))
+write_caused sink.NoMemory answer old now new is same fails calm =
+    subst (IsWriteCaused old new) (sym is) (calm_starved sink.NoMemory now new refl calm ∙ same)
+
+pub closing_caused : {A : Type 0} (fault : SinkFault) (answer : RunFault) (reads_old reads_new old now new : ℕ) → answer ≡ run_fault_of fault → reads_new ≡ reads_old → now ≡ old
+    → (IsErrOf {T = A} {E = SinkFault} (Err fault) sink.Failed → Rose now new) → (¬ IsErrOf {T = A} {E = SinkFault} (Err fault) sink.Failed → new ≡ now)
+    → IsCaused reads_old reads_new old new answer
+closing_caused sink.Failed answer reads_old reads_new old now new is reads same fails calm =
+    subst (IsCaused reads_old reads_new old new) (sym is) (rose_before old now new same (fails refl), reads)
+closing_caused sink.NoMemory answer reads_old reads_new old now new is reads same fails calm =
+    subst (IsCaused reads_old reads_new old new) (sym is) (record { reads = reads; writes = calm_starved sink.NoMemory now new refl calm ∙ same })
 
 -- where the frames are read once, and where they are read twice
 told_once : (two : Bool) (told : Option (List ℕ)) (P : List ℕ → Type 0) → IfSome told P → IfSome told (λ file. IfOnce two (P file))
@@ -37,8 +66,10 @@ body_cut_off plan (Some file) left old new WriteFault is = once_holds (two_of pl
 body_cut_off plan told left old new NoMemory is = tt
 
 pub closing_cut_off : (plan : Plan) (told left old new : Option (List ℕ)) → IfSome told (λ file. IsBrokenFrom [] plan file left old new)
-    → IsBodyCutOff plan told left old new WriteFault
-closing_cut_off plan told left old new broken = told_once (two_of plan) told (λ file. IsBrokenFrom [] plan file left old new) broken
+    → (fault : SinkFault) (answer : RunFault) → answer ≡ run_fault_of fault → IsBodyCutOff plan told left old new answer
+closing_cut_off plan told left old new broken sink.Failed answer is =
+    subst (IsBodyCutOff plan told left old new) (sym is) (told_once (two_of plan) told (λ file. IsBrokenFrom [] plan file left old new) broken)
+closing_cut_off plan told left old new broken sink.NoMemory answer is = subst (IsBodyCutOff plan told left old new) (sym is) tt
 
 -- nothing was written before all was read
 pub twice_cut_off : (plan : Plan) (told left old : Option (List ℕ)) (reads_old reads_new : ℕ) (fault : RunFault) → two_of plan ≡ true

@@ -78,7 +78,7 @@ unfolding Headline
 starved words files old new told_old told_new nothing told = (inr (inr (refl, nothing)), told)
 
 -- no status is one of words that are refused and of words that aren't
-not_both : (answer : Status) (A : Type 0) → IsNoRefusal answer → IsRefusing answer → A
+pub not_both : (answer : Status) (A : Type 0) → IsNoRefusal answer → IsRefusing answer → A
 not_both status.Done A asked refusing = absurd refusing
 not_both status.Damaged A asked refusing = absurd refusing
 not_both status.TooLarge A asked refusing = absurd refusing

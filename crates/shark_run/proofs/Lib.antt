@@ -8,4 +8,5 @@ mod CutLemmas
 mod HeadlineLemmas
 mod LawLemmas
 mod OpeningLemmas
+mod OutcomeLemmas
 mod ToldLemmas

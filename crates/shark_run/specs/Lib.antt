@@ -1,6 +1,7 @@
 pub mod Answers
 pub mod Calm
 pub mod Causes
+pub mod Ends
 pub mod Headline
 pub mod Laws
 pub mod Told

@@ -2,6 +2,7 @@
 //! and the lines of the frames that the filter lets through are written, or these frames as a capture.
 #![tactic(auto)]
 
+mod ends;
 mod file;
 mod laws;
 mod output;

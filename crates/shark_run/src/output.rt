@@ -15,10 +15,12 @@ ghost use Rattle.run_frames.specs.Wanted.{IsEnough};
 ghost use Rattle.shark_run.specs.Way.{IsBodyCutOff, IsCutOff};
 ghost use Rattle.shark_run.specs.Wrote.{HaveAll, HaveBody, HavePart, HaveSomeBody};
 
+use crate::ends::run_fault;
+use crate::owned::let_go;
 use crate::two_passes::write_twice;
 use dissect::Dissector;
 use pk_base::NoMemory;
-use pk_outside::{Capture, Sink, SinkFault, write_whole};
+use pk_outside::{Capture, Sink, write_whole};
 use run_frames::{
     LineMaker, Plan, RunEnding, RunFault, give_up_dissector, give_up_lines, new_dissector,
     new_line_maker,
@@ -68,13 +70,11 @@ fn write_body<C: Capture, O: Sink>(
     };
     match write_closing(alloc, plan, dissector, lines, out) {
         Ok(()) => Ok(ending),
-        Err(SinkFault::Failed) => Err(RunFault::WriteFault),
-        Err(SinkFault::NoMemory) => Err(RunFault::NoMemory),
+        Err(fault) => Err(run_fault(fault)),
     }
 }
 
 // Reads the begun file once and writes what stands behind the opening, and answers how the reading ends.
-#[tactic(auto, using(crate::proofs::ClosedLemmas::none_body))]
 fn write_once<C: Capture, O: Sink>(
     alloc: Global,
     plan: &Plan,
@@ -156,13 +156,11 @@ fn write_opening<O: Sink>(alloc: Global, plan: &Plan, out: &mut O) -> Result<(),
         Ok(line) => line,
         Err(NoMemory) => return Err(RunFault::NoMemory),
     };
-    if line.is_empty() {
-        return Ok(());
-    }
-    match write_whole(out, line.as_slice()) {
+    let written = write_whole(out, line.as_slice());
+    let_go(line);
+    match written {
         Ok(()) => Ok(()),
-        Err(SinkFault::Failed) => Err(RunFault::WriteFault),
-        Err(SinkFault::NoMemory) => Err(RunFault::NoMemory),
+        Err(fault) => Err(run_fault(fault)),
     }
 }
 

@@ -21,11 +21,13 @@ ghost use Rattle.shark_run.specs.Way.{IsBroken, IsBrokenOf, IsFullNear, IsNextNe
 ghost use Rattle.run_passes.specs.SoFar.{IfUnfit, IsFullNearOf, IsNextNearOf};
 ghost use Rattle.shark_run.specs.Wrote.{WroteAll, WrotePart};
 
-use crate::file::{FileFault, begin_file, begin_generated};
+use crate::ends::{after_output, unbegun};
+use crate::file::{begin_file, begin_generated};
 use crate::output::write_output;
+use crate::owned::let_go;
 use pk_base::NoMemory;
 use pk_outside::{Capture, Sink};
-use run_frames::{Generated, Plan, PlanSource, RunFault, Text};
+use run_frames::{Generated, Plan, PlanSource, Text};
 use run_words::{
     Outcome, PlanError, Refused, Status, outcome_text, read_plan, refusal_text, status_of_refusal,
     tell, unopened_text,
@@ -71,15 +73,8 @@ fn carry_out_named<C: Capture, O: Sink>(
         IsNextNearOf plan.now file (C.left capture.new)))) }
 {
     match begin_file(alloc, name, capture) {
-        Ok(()) => {}
-        Err(FileFault::CannotOpen) => return Outcome::CannotOpen,
-        Err(FileFault::NoMemory) => return Outcome::NoMemory,
-    }
-    match write_output(alloc, plan, capture, out) {
-        Ok(ending) => Outcome::Ended(ending),
-        Err(RunFault::ReadFault) => Outcome::ReadFault,
-        Err(RunFault::WriteFault) => Outcome::WriteFault,
-        Err(RunFault::NoMemory) => Outcome::NoMemory,
+        Ok(()) => after_output(write_output(alloc, plan, capture, out)),
+        Err(fault) => unbegun(fault),
     }
 }
 
@@ -104,12 +99,9 @@ fn carry_out_generated<O: Sink>(
         Ok(capture) => capture,
         Err(NoMemory) => return Outcome::NoMemory,
     };
-    match write_output(alloc, plan, &mut capture, out) {
-        Ok(ending) => Outcome::Ended(ending),
-        Err(RunFault::ReadFault) => Outcome::ReadFault,
-        Err(RunFault::WriteFault) => Outcome::WriteFault,
-        Err(RunFault::NoMemory) => Outcome::NoMemory,
-    }
+    let ended = write_output(alloc, plan, &mut capture, out);
+    let_go(capture);
+    after_output(ended)
 }
 
 // Reads a plan's capture file and writes the output over its frames.
@@ -339,7 +331,11 @@ pub fn run<C: Capture, O: Sink, E: Sink>(
 {
     match read_plan(alloc, words) {
         Ok(plan) => run_plan(alloc, &plan, capture, out, err),
-        Err(PlanError::Refused(refused)) => refuse(alloc, &refused, err),
+        Err(PlanError::Refused(refused)) => {
+            let status = refuse(alloc, &refused, err);
+            let_go(refused);
+            status
+        }
         Err(PlanError::NoMemory) => Status::NoMemory,
     }
 }

@@ -15,10 +15,11 @@ ghost use Rattle.run_frames.specs.Wanted.{IsEnough};
 ghost use Rattle.shark_run.specs.Way.{IsBodyCutOff};
 ghost use Rattle.shark_run.specs.Wrote.{HaveBody, HaveKeptBody, HaveSomeBody, HaveSomeKeptBody, WroteBody, WroteSomeBody};
 
+use crate::ends::run_fault;
 use dissect::Dissector;
 use pk_base::NoMemory;
 use pk_fields::FieldSet;
-use pk_outside::{Capture, Sink, SinkFault};
+use pk_outside::{Capture, Sink};
 use run_frames::{
     Later, LineMaker, Plan, RunEnding, RunFault, give_up_dissector, give_up_lines, new_dissector,
     new_line_maker,
@@ -66,13 +67,11 @@ fn write_kept_body<O: Sink>(
     };
     match write_closing(alloc, plan, dissector, lines, out) {
         Ok(()) => Ok(ending),
-        Err(SinkFault::Failed) => Err(RunFault::WriteFault),
-        Err(SinkFault::NoMemory) => Err(RunFault::NoMemory),
+        Err(fault) => Err(run_fault(fault)),
     }
 }
 
 // Goes over kept frames with what is known of later ones, and writes what stands behind the opening.
-#[tactic(auto, using(crate::proofs::BodyLemmas::body_still))]
 fn write_known<O: Sink>(
     alloc: Global,
     plan: &Plan,
@@ -108,10 +107,7 @@ fn write_known<O: Sink>(
     let ended = write_kept_body(alloc, plan, kept, later, &mut dissector, &mut lines, out);
     give_up_dissector(dissector);
     give_up_lines(lines);
-    match ended {
-        Ok(ending) => Ok(ending),
-        Err(fault) => Err(fault),
-    }
+    ended
 }
 
 // Goes over kept frames twice, and writes what stands behind the opening.
@@ -142,10 +138,7 @@ fn write_again<O: Sink>(
     };
     let ended = write_known(alloc, plan, kept, wanted, &later, out);
     give_up_later(later);
-    match ended {
-        Ok(ending) => Ok(ending),
-        Err(fault) => Err(fault),
-    }
+    ended
 }
 
 /// Reads the begun file and then goes over its frames twice, and writes what stands behind the opening. Answers how the reading
@@ -178,8 +171,5 @@ pub(crate) fn write_twice<C: Capture, O: Sink>(
     };
     let ended = write_again(alloc, plan, &kept, out);
     give_up_kept(kept);
-    match ended {
-        Ok(ending) => Ok(ending),
-        Err(fault) => Err(fault),
-    }
+    ended
 }

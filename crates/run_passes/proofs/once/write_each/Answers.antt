@@ -93,30 +93,30 @@ pub returns-in-Err-NoMemory-clause-took : goal.returns-in-Err-NoMemory-clause-to
 returns-in-Err-NoMemory-clause-took g c =
     way_took c.args.plan.now c.loop-alloc.most (g.C.Capture.left c.args.capture.now) c.loop-alloc.reader (g.C.Capture.left c.loop-alloc.capture) (g.C.Capture.left c.next_frame.new.capture) c.loop-alloc.dissector c.loop-alloc.lines.notes c.loop-alloc.lines.capture (g.O.Sink.written c.args.out.now) (g.O.Sink.written c.loop-alloc.out) c.loop-alloc.invariant.way c.next_frame.ensures.took
 
-pub write_frame-requires-clause-few : goal.write_frame-requires-clause-few
-write_frame-requires-clause-few g c =
+pub write_frame-written-requires-clause-few : goal.write_frame-written-requires-clause-few
+write_frame-written-requires-clause-few g c =
     few_taken c.loop-alloc.reader.state c.loop-alloc.dissector c.loop-alloc.lines.notes c.loop-alloc.invariant.together c.loop-alloc.invariant.few
 
-pub write_frame-requires-clause-number : goal.write_frame-requires-clause-number
-write_frame-requires-clause-number g c =
+pub write_frame-written-requires-clause-number : goal.write_frame-written-requires-clause-number
+write_frame-written-requires-clause-number g c =
     (takeable c.loop-alloc.reader.state c.next_frame.new.self.state c.loop-alloc.dissector c.in-Ok-Frame.frame c.loop-alloc.invariant.together (rw c.in-Ok-Frame.field-0-is at c.in-Ok-Frame.ensures.counts) c.next_frame.ensures.limit).0
 
-pub write_frame-requires-clause-time : goal.write_frame-requires-clause-time
-write_frame-requires-clause-time g c =
+pub write_frame-written-requires-clause-time : goal.write_frame-written-requires-clause-time
+write_frame-written-requires-clause-time g c =
     (takeable c.loop-alloc.reader.state c.next_frame.new.self.state c.loop-alloc.dissector c.in-Ok-Frame.frame c.loop-alloc.invariant.together (rw c.in-Ok-Frame.field-0-is at c.in-Ok-Frame.ensures.counts) c.next_frame.ensures.limit).1
 
-pub write_frame-requires-clause-captured : goal.write_frame-requires-clause-captured
-write_frame-requires-clause-captured g c =
+pub write_frame-written-requires-clause-captured : goal.write_frame-written-requires-clause-captured
+write_frame-written-requires-clause-captured g c =
     (takeable c.loop-alloc.reader.state c.next_frame.new.self.state c.loop-alloc.dissector c.in-Ok-Frame.frame c.loop-alloc.invariant.together (rw c.in-Ok-Frame.field-0-is at c.in-Ok-Frame.ensures.counts) c.next_frame.ensures.limit).2
 
 pub returns-in-Err-clause-part : goal.returns-in-Err-clause-part
 returns-in-Err-clause-part g c =
-    broken_part c.args.plan.now c.loop-alloc.most (g.C.Capture.left c.args.capture.now) c.loop-alloc.reader c.next_frame.new.self (g.C.Capture.left c.loop-alloc.capture) (g.C.Capture.left c.next_frame.new.capture) c.loop-alloc.dissector c.loop-alloc.lines.notes c.loop-alloc.lines.capture (g.O.Sink.written c.args.out.now) (g.O.Sink.written c.loop-alloc.out) (g.O.Sink.written c.write_frame.new.out) c.in-Ok-Frame.frame (c.is_full.ensures.more c.if-is_full.false) c.loop-alloc.invariant.way (rw c.in-Ok-Frame.field-0-is at c.in-Ok-Frame.ensures.answers) (λ past. c.write_frame.ensures.part One past (serves_once c.args.plan.now c.requires.alone))
+    broken_part c.args.plan.now c.loop-alloc.most (g.C.Capture.left c.args.capture.now) c.loop-alloc.reader c.next_frame.new.self (g.C.Capture.left c.loop-alloc.capture) (g.C.Capture.left c.next_frame.new.capture) c.loop-alloc.dissector c.loop-alloc.lines.notes c.loop-alloc.lines.capture (g.O.Sink.written c.args.out.now) (g.O.Sink.written c.loop-alloc.out) (g.O.Sink.written c.write_frame-written.new.out) c.in-Ok-Frame.frame (c.is_full.ensures.more c.if-is_full.false) c.loop-alloc.invariant.way (rw c.in-Ok-Frame.field-0-is at c.in-Ok-Frame.ensures.answers) (λ past. c.write_frame-written.ensures.part One past (serves_once c.args.plan.now c.requires.alone))
 
 pub returns-in-Err-clause-broken : goal.returns-in-Err-clause-broken
 returns-in-Err-clause-broken g c =
-    cut_off c.args.plan.now (g.C.Capture.left c.args.capture.now) (g.C.Capture.left c.next_frame.new.capture) (g.O.Sink.written c.args.out.now) (g.O.Sink.written c.write_frame.new.out) c.in-Err.fault (λ is. c.in-Err.ensures.read (ap Err is))
-    (broken_near c.args.plan.now c.loop-alloc.most (g.C.Capture.left c.args.capture.now) c.loop-alloc.reader c.next_frame.new.self (g.C.Capture.left c.loop-alloc.capture) (g.C.Capture.left c.next_frame.new.capture) c.loop-alloc.dissector c.loop-alloc.lines.notes c.loop-alloc.lines.capture (g.O.Sink.written c.args.out.now) (g.O.Sink.written c.loop-alloc.out) (g.O.Sink.written c.write_frame.new.out) c.in-Ok-Frame.frame c.loop-alloc.invariant.way (rw c.in-Ok-Frame.field-0-is at c.in-Ok-Frame.ensures.answers) (λ past. c.write_frame.ensures.part One past (serves_once c.args.plan.now c.requires.alone)))
+    cut_off c.args.plan.now (g.C.Capture.left c.args.capture.now) (g.C.Capture.left c.next_frame.new.capture) (g.O.Sink.written c.args.out.now) (g.O.Sink.written c.write_frame-written.new.out) c.in-Err.fault (λ is. c.in-Err.ensures.read (ap Err is))
+    (broken_near c.args.plan.now c.loop-alloc.most (g.C.Capture.left c.args.capture.now) c.loop-alloc.reader c.next_frame.new.self (g.C.Capture.left c.loop-alloc.capture) (g.C.Capture.left c.next_frame.new.capture) c.loop-alloc.dissector c.loop-alloc.lines.notes c.loop-alloc.lines.capture (g.O.Sink.written c.args.out.now) (g.O.Sink.written c.loop-alloc.out) (g.O.Sink.written c.write_frame-written.new.out) c.in-Ok-Frame.frame c.loop-alloc.invariant.way (rw c.in-Ok-Frame.field-0-is at c.in-Ok-Frame.ensures.answers) (λ past. c.write_frame-written.ensures.part One past (serves_once c.args.plan.now c.requires.alone)))
 
 pub returns-in-Err-clause-took : goal.returns-in-Err-clause-took
 returns-in-Err-clause-took g c =
@@ -125,39 +125,15 @@ returns-in-Err-clause-took g c =
 pub loop-alloc-preserved : goal.loop-alloc-preserved
 loop-alloc-preserved g c =
     record {
-      way = rw c.one_less-most.ensures (way_further c.args.plan.now c.loop-alloc.most (g.C.Capture.left c.args.capture.now) c.loop-alloc.reader c.next_frame.new.self (g.C.Capture.left c.loop-alloc.capture) (g.C.Capture.left c.next_frame.new.capture) c.loop-alloc.dissector c.write_frame.new.dissector c.loop-alloc.lines.notes c.write_frame.new.lines.notes c.loop-alloc.lines.capture c.write_frame.new.lines.capture (g.O.Sink.written c.args.out.now) (g.O.Sink.written c.loop-alloc.out) (g.O.Sink.written c.write_frame.new.out) c.in-Ok-Frame.frame (c.is_full.ensures.more c.if-is_full.false) c.loop-alloc.invariant.way (rw c.in-Ok-Frame.field-0-is at c.in-Ok-Frame.ensures.answers) c.in-Ok-true.ensures.stands (λ past. (rw c.in-Ok-true.field-0-test at c.in-Ok-true.ensures.after) One past (serves_once c.args.plan.now c.requires.alone)));
-      together = together_after c.loop-alloc.reader.state c.next_frame.new.self.state c.loop-alloc.dissector c.write_frame.new.dissector c.in-Ok-Frame.frame c.loop-alloc.invariant.together (rw c.in-Ok-Frame.field-0-is at c.in-Ok-Frame.ensures.counts) c.next_frame.ensures.limit c.in-Ok-true.ensures.taken c.in-Ok-true.ensures.captured;
+      way = rw c.one_less-most.ensures (way_further c.args.plan.now c.loop-alloc.most (g.C.Capture.left c.args.capture.now) c.loop-alloc.reader c.next_frame.new.self (g.C.Capture.left c.loop-alloc.capture) (g.C.Capture.left c.next_frame.new.capture) c.loop-alloc.dissector c.write_frame-written.new.dissector c.loop-alloc.lines.notes c.write_frame-written.new.lines.notes c.loop-alloc.lines.capture c.write_frame-written.new.lines.capture (g.O.Sink.written c.args.out.now) (g.O.Sink.written c.loop-alloc.out) (g.O.Sink.written c.write_frame-written.new.out) c.in-Ok-Frame.frame (c.is_full.ensures.more c.if-is_full.false) c.loop-alloc.invariant.way (rw c.in-Ok-Frame.field-0-is at c.in-Ok-Frame.ensures.answers) c.in-Ok-true.ensures.stands (λ past. (rw c.in-Ok-true.field-0-test at c.in-Ok-true.ensures.after) One past (serves_once c.args.plan.now c.requires.alone)));
+      together = together_after c.loop-alloc.reader.state c.next_frame.new.self.state c.loop-alloc.dissector c.write_frame-written.new.dissector c.in-Ok-Frame.frame c.loop-alloc.invariant.together (rw c.in-Ok-Frame.field-0-is at c.in-Ok-Frame.ensures.counts) c.next_frame.ensures.limit c.in-Ok-true.ensures.taken c.in-Ok-true.ensures.captured;
       took = way_took c.args.plan.now c.loop-alloc.most (g.C.Capture.left c.args.capture.now) c.loop-alloc.reader (g.C.Capture.left c.loop-alloc.capture) (g.C.Capture.left c.next_frame.new.capture) c.loop-alloc.dissector c.loop-alloc.lines.notes c.loop-alloc.lines.capture (g.O.Sink.written c.args.out.now) (g.O.Sink.written c.loop-alloc.out) c.loop-alloc.invariant.way c.next_frame.ensures.took;
-      wanted = subst (λ (fields : List ℕ). IsEnough fields c.args.plan.now) (sym c.write_frame.ensures.kept) c.loop-alloc.invariant.wanted;
-      rules = ap (λ (decode : DecodeAs). decode.rules) c.write_frame.ensures.rules ∙ c.loop-alloc.invariant.rules;
+      wanted = subst (λ (fields : List ℕ). IsEnough fields c.args.plan.now) (sym c.write_frame-written.ensures.kept) c.loop-alloc.invariant.wanted;
+      rules = ap (λ (decode : DecodeAs). decode.rules) c.write_frame-written.ensures.rules ∙ c.loop-alloc.invariant.rules;
       stands = (c.in-Ok-Frame.frame ∷ c.loop-alloc.invariant.stands.0, c.in-Ok-true.ensures.stands c.loop-alloc.invariant.stands.0 c.loop-alloc.invariant.stands.1);
-      judge = c.write_frame.ensures.judge ∙ c.loop-alloc.invariant.judge;
-      writer = c.write_frame.ensures.writer ∙ c.loop-alloc.invariant.writer;
-      few = notes_few_after c.loop-alloc.dissector.taken c.write_frame.new.dissector.taken c.write_frame.new.lines.notes c.in-Ok-true.ensures.taken (c.write_frame.ensures.few c.loop-alloc.dissector.taken c.loop-alloc.invariant.few);
-      on = record {
-        asked = c.next_frame.ensures.asked ∙ c.loop-alloc.invariant.on.asked;
-        begun = c.next_frame.ensures.begun ∙ c.loop-alloc.invariant.on.begun;
-        missed = c.next_frame.ensures.missed ∙ c.loop-alloc.invariant.on.missed;
-      };
-      fresh = rw c.in-Ok-Frame.field-0-is at c.in-Ok-Frame.ensures.kept;
-      calm = record {
-        reads = c.in-Ok-Frame.ensures.no_fault ∙ c.loop-alloc.invariant.calm.reads;
-        writes = calm_ok _ _ _ _ c.in-Ok-true.ensures.calm ∙ c.loop-alloc.invariant.calm.writes;
-      };
-    }
-
-pub loop-alloc-preserved-in-Ok-true : goal.loop-alloc-preserved-in-Ok-true
-loop-alloc-preserved-in-Ok-true g c =
-    record {
-      way = rw c.one_less-most.ensures (way_further c.args.plan.now c.loop-alloc.most (g.C.Capture.left c.args.capture.now) c.loop-alloc.reader c.next_frame.new.self (g.C.Capture.left c.loop-alloc.capture) (g.C.Capture.left c.next_frame.new.capture) c.loop-alloc.dissector c.write_frame.new.dissector c.loop-alloc.lines.notes c.write_frame.new.lines.notes c.loop-alloc.lines.capture c.write_frame.new.lines.capture (g.O.Sink.written c.args.out.now) (g.O.Sink.written c.loop-alloc.out) (g.O.Sink.written c.write_frame.new.out) c.in-Ok-Frame.frame (c.is_full.ensures.more c.if-is_full.false) c.loop-alloc.invariant.way (rw c.in-Ok-Frame.field-0-is at c.in-Ok-Frame.ensures.answers) c.in-Ok-true.ensures.stands (λ past. (rw c.in-Ok-true.field-0-test at c.in-Ok-true.ensures.after) One past (serves_once c.args.plan.now c.requires.alone)));
-      together = together_after c.loop-alloc.reader.state c.next_frame.new.self.state c.loop-alloc.dissector c.write_frame.new.dissector c.in-Ok-Frame.frame c.loop-alloc.invariant.together (rw c.in-Ok-Frame.field-0-is at c.in-Ok-Frame.ensures.counts) c.next_frame.ensures.limit c.in-Ok-true.ensures.taken c.in-Ok-true.ensures.captured;
-      took = way_took c.args.plan.now c.loop-alloc.most (g.C.Capture.left c.args.capture.now) c.loop-alloc.reader (g.C.Capture.left c.loop-alloc.capture) (g.C.Capture.left c.next_frame.new.capture) c.loop-alloc.dissector c.loop-alloc.lines.notes c.loop-alloc.lines.capture (g.O.Sink.written c.args.out.now) (g.O.Sink.written c.loop-alloc.out) c.loop-alloc.invariant.way c.next_frame.ensures.took;
-      wanted = subst (λ (fields : List ℕ). IsEnough fields c.args.plan.now) (sym c.write_frame.ensures.kept) c.loop-alloc.invariant.wanted;
-      rules = ap (λ (decode : DecodeAs). decode.rules) c.write_frame.ensures.rules ∙ c.loop-alloc.invariant.rules;
-      stands = (c.in-Ok-Frame.frame ∷ c.loop-alloc.invariant.stands.0, c.in-Ok-true.ensures.stands c.loop-alloc.invariant.stands.0 c.loop-alloc.invariant.stands.1);
-      judge = c.write_frame.ensures.judge ∙ c.loop-alloc.invariant.judge;
-      writer = c.write_frame.ensures.writer ∙ c.loop-alloc.invariant.writer;
-      few = notes_few_after c.loop-alloc.dissector.taken c.write_frame.new.dissector.taken c.write_frame.new.lines.notes c.in-Ok-true.ensures.taken (c.write_frame.ensures.few c.loop-alloc.dissector.taken c.loop-alloc.invariant.few);
+      judge = c.write_frame-written.ensures.judge ∙ c.loop-alloc.invariant.judge;
+      writer = c.write_frame-written.ensures.writer ∙ c.loop-alloc.invariant.writer;
+      few = notes_few_after c.loop-alloc.dissector.taken c.write_frame-written.new.dissector.taken c.write_frame-written.new.lines.notes c.in-Ok-true.ensures.taken (c.write_frame-written.ensures.few c.loop-alloc.dissector.taken c.loop-alloc.invariant.few);
       on = record {
         asked = c.next_frame.ensures.asked ∙ c.loop-alloc.invariant.on.asked;
         begun = c.next_frame.ensures.begun ∙ c.loop-alloc.invariant.on.begun;
@@ -172,16 +148,16 @@ loop-alloc-preserved-in-Ok-true g c =
 
 pub returns-in-Ok-false-clause-ended : goal.returns-in-Ok-false-clause-ended
 returns-in-Ok-false-clause-ended g c =
-    way_unfit c.args.plan.now c.loop-alloc.most (g.C.Capture.left c.args.capture.now) c.loop-alloc.reader c.next_frame.new.self (g.C.Capture.left c.loop-alloc.capture) (g.C.Capture.left c.next_frame.new.capture) c.loop-alloc.dissector c.loop-alloc.lines.notes c.write_frame.new.lines.notes c.loop-alloc.lines.capture c.write_frame.new.lines.capture (g.O.Sink.written c.args.out.now) (g.O.Sink.written c.loop-alloc.out) (g.O.Sink.written c.write_frame.new.out) c.in-Ok-Frame.frame (c.is_full.ensures.more c.if-is_full.false) c.loop-alloc.invariant.way (rw c.in-Ok-Frame.field-0-is at c.in-Ok-Frame.ensures.answers) (λ past. (rw c.in-Ok-false.field-0-test at c.in-Ok-false.ensures.after) One past (serves_once c.args.plan.now c.requires.alone))
+    way_unfit c.args.plan.now c.loop-alloc.most (g.C.Capture.left c.args.capture.now) c.loop-alloc.reader c.next_frame.new.self (g.C.Capture.left c.loop-alloc.capture) (g.C.Capture.left c.next_frame.new.capture) c.loop-alloc.dissector c.loop-alloc.lines.notes c.write_frame-written.new.lines.notes c.loop-alloc.lines.capture c.write_frame-written.new.lines.capture (g.O.Sink.written c.args.out.now) (g.O.Sink.written c.loop-alloc.out) (g.O.Sink.written c.write_frame-written.new.out) c.in-Ok-Frame.frame (c.is_full.ensures.more c.if-is_full.false) c.loop-alloc.invariant.way (rw c.in-Ok-Frame.field-0-is at c.in-Ok-Frame.ensures.answers) (λ past. (rw c.in-Ok-false.field-0-test at c.in-Ok-false.ensures.after) One past (serves_once c.args.plan.now c.requires.alone))
 
 pub returns-in-Ok-false-clause-read : goal.returns-in-Ok-false-clause-read
 returns-in-Ok-false-clause-read g c =
-    read_unfit c.args.plan.now c.loop-alloc.most (g.C.Capture.left c.args.capture.now) c.loop-alloc.reader c.next_frame.new.self (g.C.Capture.left c.loop-alloc.capture) (g.C.Capture.left c.next_frame.new.capture) c.loop-alloc.dissector c.write_frame.new.dissector c.loop-alloc.lines.notes c.write_frame.new.lines.notes c.loop-alloc.lines.capture c.write_frame.new.lines.capture (g.O.Sink.written c.args.out.now) (g.O.Sink.written c.loop-alloc.out) (g.O.Sink.written c.write_frame.new.out) c.in-Ok-Frame.frame (c.is_full.ensures.more c.if-is_full.false) c.loop-alloc.invariant.way (rw c.in-Ok-Frame.field-0-is at c.in-Ok-Frame.ensures.answers) (λ past. (rw c.in-Ok-false.field-0-test at c.in-Ok-false.ensures.after) One past (serves_once c.args.plan.now c.requires.alone))
+    read_unfit c.args.plan.now c.loop-alloc.most (g.C.Capture.left c.args.capture.now) c.loop-alloc.reader c.next_frame.new.self (g.C.Capture.left c.loop-alloc.capture) (g.C.Capture.left c.next_frame.new.capture) c.loop-alloc.dissector c.write_frame-written.new.dissector c.loop-alloc.lines.notes c.write_frame-written.new.lines.notes c.loop-alloc.lines.capture c.write_frame-written.new.lines.capture (g.O.Sink.written c.args.out.now) (g.O.Sink.written c.loop-alloc.out) (g.O.Sink.written c.write_frame-written.new.out) c.in-Ok-Frame.frame (c.is_full.ensures.more c.if-is_full.false) c.loop-alloc.invariant.way (rw c.in-Ok-Frame.field-0-is at c.in-Ok-Frame.ensures.answers) (λ past. (rw c.in-Ok-false.field-0-test at c.in-Ok-false.ensures.after) One past (serves_once c.args.plan.now c.requires.alone))
 
 pub returns-in-Ok-false-clause-taken : goal.returns-in-Ok-false-clause-taken
 returns-in-Ok-false-clause-taken g c =
-    has_taken c.next_frame.new.self.state c.write_frame.new.dissector
-    (together_after c.loop-alloc.reader.state c.next_frame.new.self.state c.loop-alloc.dissector c.write_frame.new.dissector c.in-Ok-Frame.frame c.loop-alloc.invariant.together (rw c.in-Ok-Frame.field-0-is at c.in-Ok-Frame.ensures.counts) c.next_frame.ensures.limit c.in-Ok-false.ensures.taken c.in-Ok-false.ensures.captured)
+    has_taken c.next_frame.new.self.state c.write_frame-written.new.dissector
+    (together_after c.loop-alloc.reader.state c.next_frame.new.self.state c.loop-alloc.dissector c.write_frame-written.new.dissector c.in-Ok-Frame.frame c.loop-alloc.invariant.together (rw c.in-Ok-Frame.field-0-is at c.in-Ok-Frame.ensures.counts) c.next_frame.ensures.limit c.in-Ok-false.ensures.taken c.in-Ok-false.ensures.captured)
     (c.in-Ok-Frame.frame ∷ c.loop-alloc.invariant.stands.0, c.in-Ok-false.ensures.stands c.loop-alloc.invariant.stands.0 c.loop-alloc.invariant.stands.1)
 
 pub returns-then-is_full-clause-taken : goal.returns-then-is_full-clause-taken
@@ -192,11 +168,11 @@ returns-in-Ok-End-clause-taken g c = has_taken c.loop-alloc.reader.state c.loop-
 
 pub returns-in-Ok-false-clause-full : goal.returns-in-Ok-false-clause-full
 returns-in-Ok-false-clause-full g c =
-    end_unfit c.args.plan.now c.loop-alloc.most (g.C.Capture.left c.args.capture.now) c.loop-alloc.reader c.next_frame.new.self (g.C.Capture.left c.loop-alloc.capture) (g.C.Capture.left c.next_frame.new.capture) c.loop-alloc.dissector c.loop-alloc.lines.notes c.write_frame.new.lines.notes c.loop-alloc.lines.capture c.write_frame.new.lines.capture (g.O.Sink.written c.args.out.now) (g.O.Sink.written c.loop-alloc.out) (g.O.Sink.written c.write_frame.new.out) c.in-Ok-Frame.frame (c.is_full.ensures.more c.if-is_full.false) c.loop-alloc.invariant.way (rw c.in-Ok-Frame.field-0-is at c.in-Ok-Frame.ensures.answers) (λ past. (rw c.in-Ok-false.field-0-test at c.in-Ok-false.ensures.after) One past (serves_once c.args.plan.now c.requires.alone))
+    end_unfit c.args.plan.now c.loop-alloc.most (g.C.Capture.left c.args.capture.now) c.loop-alloc.reader c.next_frame.new.self (g.C.Capture.left c.loop-alloc.capture) (g.C.Capture.left c.next_frame.new.capture) c.loop-alloc.dissector c.loop-alloc.lines.notes c.write_frame-written.new.lines.notes c.loop-alloc.lines.capture c.write_frame-written.new.lines.capture (g.O.Sink.written c.args.out.now) (g.O.Sink.written c.loop-alloc.out) (g.O.Sink.written c.write_frame-written.new.out) c.in-Ok-Frame.frame (c.is_full.ensures.more c.if-is_full.false) c.loop-alloc.invariant.way (rw c.in-Ok-Frame.field-0-is at c.in-Ok-Frame.ensures.answers) (λ past. (rw c.in-Ok-false.field-0-test at c.in-Ok-false.ensures.after) One past (serves_once c.args.plan.now c.requires.alone))
 
 pub returns-in-Ok-false-clause-part : goal.returns-in-Ok-false-clause-part
 returns-in-Ok-false-clause-part g c =
-    broken_part c.args.plan.now c.loop-alloc.most (g.C.Capture.left c.args.capture.now) c.loop-alloc.reader c.next_frame.new.self (g.C.Capture.left c.loop-alloc.capture) (g.C.Capture.left c.next_frame.new.capture) c.loop-alloc.dissector c.loop-alloc.lines.notes c.loop-alloc.lines.capture (g.O.Sink.written c.args.out.now) (g.O.Sink.written c.loop-alloc.out) (g.O.Sink.written c.write_frame.new.out) c.in-Ok-Frame.frame (c.is_full.ensures.more c.if-is_full.false) c.loop-alloc.invariant.way (rw c.in-Ok-Frame.field-0-is at c.in-Ok-Frame.ensures.answers) (λ past. c.write_frame.ensures.part One past (serves_once c.args.plan.now c.requires.alone))
+    broken_part c.args.plan.now c.loop-alloc.most (g.C.Capture.left c.args.capture.now) c.loop-alloc.reader c.next_frame.new.self (g.C.Capture.left c.loop-alloc.capture) (g.C.Capture.left c.next_frame.new.capture) c.loop-alloc.dissector c.loop-alloc.lines.notes c.loop-alloc.lines.capture (g.O.Sink.written c.args.out.now) (g.O.Sink.written c.loop-alloc.out) (g.O.Sink.written c.write_frame-written.new.out) c.in-Ok-Frame.frame (c.is_full.ensures.more c.if-is_full.false) c.loop-alloc.invariant.way (rw c.in-Ok-Frame.field-0-is at c.in-Ok-Frame.ensures.answers) (λ past. c.write_frame-written.ensures.part One past (serves_once c.args.plan.now c.requires.alone))
 
 pub returns-in-Ok-false-clause-took : goal.returns-in-Ok-false-clause-took
 returns-in-Ok-false-clause-took g c =
@@ -235,8 +211,8 @@ returns-in-Err-ReadFault-clause-caused g c = (
 
 pub returns-in-Err-clause-caused : goal.returns-in-Err-clause-caused
 returns-in-Err-clause-caused g c =
-    caused_write (g.C.Capture.faults c.args.capture.now) (g.C.Capture.faults c.next_frame.new.capture) (g.O.Sink.faults c.args.out.now) (g.O.Sink.faults c.write_frame.new.out) c.in-Err.fault (c.in-Ok-Frame.ensures.no_fault ∙ c.loop-alloc.invariant.calm.reads)
-    (write_caused (g.O.Sink.faults c.args.out.now) (g.O.Sink.faults c.loop-alloc.out) (g.O.Sink.faults c.write_frame.new.out) c.in-Err.fault c.loop-alloc.invariant.calm.writes (λ is. c.in-Err.ensures.read (ap Err is)) (λ is. c.in-Err.ensures.fault (ap Err is)) (calm_err c.in-Err.fault WriteFault (g.O.Sink.faults c.loop-alloc.out) (g.O.Sink.faults c.write_frame.new.out) c.in-Err.ensures.calm))
+    caused_write (g.C.Capture.faults c.args.capture.now) (g.C.Capture.faults c.next_frame.new.capture) (g.O.Sink.faults c.args.out.now) (g.O.Sink.faults c.write_frame-written.new.out) c.in-Err.fault (c.in-Ok-Frame.ensures.no_fault ∙ c.loop-alloc.invariant.calm.reads)
+    (write_caused (g.O.Sink.faults c.args.out.now) (g.O.Sink.faults c.loop-alloc.out) (g.O.Sink.faults c.write_frame-written.new.out) c.in-Err.fault c.loop-alloc.invariant.calm.writes (λ is. c.in-Err.ensures.read (ap Err is)) (λ is. c.in-Err.ensures.fault (ap Err is)) (calm_err c.in-Err.fault WriteFault (g.O.Sink.faults c.loop-alloc.out) (g.O.Sink.faults c.write_frame-written.new.out) c.in-Err.ensures.calm))
 
 pub returns-in-Err-NoMemory-clause-caused : goal.returns-in-Err-NoMemory-clause-caused
 returns-in-Err-NoMemory-clause-caused g c = record {
@@ -257,7 +233,7 @@ returns-in-Ok-false-clause-calm g c = record {
 }
 
 pub returns-in-Ok-false-clause-enough : goal.returns-in-Ok-false-clause-enough
-returns-in-Ok-false-clause-enough g c = subst (λ (fields : List ℕ). IsEnough fields c.args.plan.now) (sym c.write_frame.ensures.kept) c.loop-alloc.invariant.wanted
+returns-in-Ok-false-clause-enough g c = subst (λ (fields : List ℕ). IsEnough fields c.args.plan.now) (sym c.write_frame-written.ensures.kept) c.loop-alloc.invariant.wanted
 
 pub returns-in-Err-Spent-clause-part : goal.returns-in-Err-Spent-clause-part
 returns-in-Err-Spent-clause-part g c =

@@ -1,101 +1,60 @@
-use Rattle.std.proofs.Common.{◌∙◌, Err, ap, refl}
+use Rattle.std.proofs.Common.{◌∙◌, Err, inl, ap, arith, refl}
+use Rattle.std.proofs.lemmas.Result.{IfOk-weaker}
+use Rattle.pk_outside.proofs.Parts.{part_none}
 use Rattle.run_passes.proofs.WayLemmas.{took_begun}
+use Rattle.shark_run.proofs.AnswerLemmas.{any_file}
 use Rattle.shark_run.proofs.CauseLemmas.{unread}
+use Rattle.shark_run.proofs.OutcomeLemmas.{ended_of, faults_of, read_failed, unbegun_ended, unbegun_open, unbegun_read, unbegun_starved, unbegun_written, was_opened, write_failed}
 use Rattle.shark_run.proofs.top.carry_out_named.Goals as goal
 
-pub returns-in-Ok-write_output-clause-ended : goal.returns-in-Ok-write_output-clause-ended
-returns-in-Ok-write_output-clause-ended g c = rw (← c.in-Ok.ensures.left) c.in-Ok-write_output.ensures.ended
+pub returns-in-Ok : goal.returns-in-Ok
+returns-in-Ok g c =
+    let o = c.after_output.result in
+    let r = c.write_output.result in
+    let e = c.after_output.ensures in
+    let w = c.write_output.ensures in
+    record {
+      ended = rw (← c.in-Ok.ensures.left) (ended_of r o _ e w.ended);
+      part = rw (← c.in-Ok.ensures.left) w.part;
+      unopened = λ is. absurd (was_opened r o e is);
+      unread = λ is.
+          unread (g.C.Capture.faults c.args.capture.now) (g.C.Capture.faults c.begin_file.new.capture) (g.C.Capture.faults c.write_output.new.capture)
+          (g.C.Capture.begun c.args.capture.now) (g.C.Capture.begun c.begin_file.new.capture) (g.C.Capture.begun c.write_output.new.capture)
+          (g.C.Capture.missed c.args.capture.now) (g.C.Capture.missed c.begin_file.new.capture) (g.C.Capture.missed c.write_output.new.capture)
+          (g.C.Capture.asked c.begin_file.new.capture) (g.C.Capture.asked c.write_output.new.capture) c.args.name.now
+          c.begin_file.ensures.faults c.in-Ok.ensures.begun c.in-Ok.ensures.not_missed c.in-Ok.ensures.asked
+          (read_failed r o _ e w.caused is).0 w.stays;
+      write_fault = λ is. (write_failed r o _ e w.caused is).0;
+      calm = faults_of r o _ _ _ (g.C.Capture.faults c.begin_file.new.capture) _ _ _ e (w.stays.missed ∙ c.in-Ok.ensures.not_missed) c.begin_file.ensures.faults w.caused w.calm;
+      taken = took_begun (g.C.Capture.file c.args.capture.now c.args.name.now) (g.C.Capture.left c.args.capture.now) (g.C.Capture.left c.begin_file.new.capture) (g.C.Capture.left c.write_output.new.capture)
+          (g.C.Capture.begun c.args.capture.now) (g.C.Capture.begun c.begin_file.new.capture) (g.C.Capture.begun c.write_output.new.capture) c.in-Ok.ensures.left c.in-Ok.ensures.begun w.stays.begun w.took;
+      begun_once = omega (arith, c.in-Ok.ensures.begun, c.write_output.ensures.stays.begun);
+      so_far = λ is. rw (← c.in-Ok.ensures.left) (read_failed r o _ e w.broken is);
+      near = λ is. rw (← c.in-Ok.ensures.left) (write_failed r o _ e w.broken is);
+      full = rw (← c.in-Ok.ensures.left) (ended_of r o _ e (IfOk-weaker r _ _ (λ _ both. both.0) w.full));
+      unfit = rw (← c.in-Ok.ensures.left) (ended_of r o _ e (IfOk-weaker r _ _ (λ _ both. both.1) w.full));
+    }
 
-pub returns-in-Ok-write_output-clause-full : goal.returns-in-Ok-write_output-clause-full
-returns-in-Ok-write_output-clause-full g c = rw (← c.in-Ok.ensures.left) c.in-Ok-write_output.ensures.full.0
-
-pub returns-in-Ok-write_output-clause-unfit : goal.returns-in-Ok-write_output-clause-unfit
-returns-in-Ok-write_output-clause-unfit g c = rw (← c.in-Ok.ensures.left) c.in-Ok-write_output.ensures.full.1
-
-pub returns-in-Err-ReadFault-clause-so_far : goal.returns-in-Err-ReadFault-clause-so_far
-returns-in-Err-ReadFault-clause-so_far g c = λ is. rw (← c.in-Ok.ensures.left) (rw c.in-Err-ReadFault.field-0-is at c.in-Err-ReadFault.ensures.broken)
-
-pub returns-in-Err-WriteFault-clause-near : goal.returns-in-Err-WriteFault-clause-near
-returns-in-Err-WriteFault-clause-near g c = λ is. rw (← c.in-Ok.ensures.left) (rw c.in-Err-WriteFault.field-0-is at c.in-Err-WriteFault.ensures.broken)
-
-pub returns-in-Ok-write_output-clause-part : goal.returns-in-Ok-write_output-clause-part
-returns-in-Ok-write_output-clause-part g c = rw (← c.in-Ok.ensures.left) c.write_output.ensures.part
-
-pub returns-in-Ok-write_output-clause-taken : goal.returns-in-Ok-write_output-clause-taken
-returns-in-Ok-write_output-clause-taken g c =
-    took_begun (g.C.Capture.file c.args.capture.now c.args.name.now) (g.C.Capture.left c.args.capture.now) (g.C.Capture.left c.begin_file.new.capture) (g.C.Capture.left c.write_output.new.capture)
-    (g.C.Capture.begun c.args.capture.now) (g.C.Capture.begun c.begin_file.new.capture) (g.C.Capture.begun c.write_output.new.capture) c.in-Ok.ensures.left c.in-Ok.ensures.begun c.write_output.ensures.stays.begun c.write_output.ensures.took
-
-pub returns-in-Err-ReadFault-clause-part : goal.returns-in-Err-ReadFault-clause-part
-returns-in-Err-ReadFault-clause-part g c = rw (← c.in-Ok.ensures.left) c.write_output.ensures.part
-
-pub returns-in-Err-ReadFault-clause-taken : goal.returns-in-Err-ReadFault-clause-taken
-returns-in-Err-ReadFault-clause-taken g c =
-    took_begun (g.C.Capture.file c.args.capture.now c.args.name.now) (g.C.Capture.left c.args.capture.now) (g.C.Capture.left c.begin_file.new.capture) (g.C.Capture.left c.write_output.new.capture)
-    (g.C.Capture.begun c.args.capture.now) (g.C.Capture.begun c.begin_file.new.capture) (g.C.Capture.begun c.write_output.new.capture) c.in-Ok.ensures.left c.in-Ok.ensures.begun c.write_output.ensures.stays.begun c.write_output.ensures.took
-
-pub returns-in-Err-WriteFault-clause-part : goal.returns-in-Err-WriteFault-clause-part
-returns-in-Err-WriteFault-clause-part g c = rw (← c.in-Ok.ensures.left) c.write_output.ensures.part
-
-pub returns-in-Err-WriteFault-clause-taken : goal.returns-in-Err-WriteFault-clause-taken
-returns-in-Err-WriteFault-clause-taken g c =
-    took_begun (g.C.Capture.file c.args.capture.now c.args.name.now) (g.C.Capture.left c.args.capture.now) (g.C.Capture.left c.begin_file.new.capture) (g.C.Capture.left c.write_output.new.capture)
-    (g.C.Capture.begun c.args.capture.now) (g.C.Capture.begun c.begin_file.new.capture) (g.C.Capture.begun c.write_output.new.capture) c.in-Ok.ensures.left c.in-Ok.ensures.begun c.write_output.ensures.stays.begun c.write_output.ensures.took
-
-pub returns-in-Err-NoMemory-write_output-clause-part : goal.returns-in-Err-NoMemory-write_output-clause-part
-returns-in-Err-NoMemory-write_output-clause-part g c = rw (← c.in-Ok.ensures.left) c.write_output.ensures.part
-
-pub returns-in-Err-NoMemory-write_output-clause-taken : goal.returns-in-Err-NoMemory-write_output-clause-taken
-returns-in-Err-NoMemory-write_output-clause-taken g c =
-    took_begun (g.C.Capture.file c.args.capture.now c.args.name.now) (g.C.Capture.left c.args.capture.now) (g.C.Capture.left c.begin_file.new.capture) (g.C.Capture.left c.write_output.new.capture)
-    (g.C.Capture.begun c.args.capture.now) (g.C.Capture.begun c.begin_file.new.capture) (g.C.Capture.begun c.write_output.new.capture) c.in-Ok.ensures.left c.in-Ok.ensures.begun c.write_output.ensures.stays.begun c.write_output.ensures.took
-
-pub returns-in-Err-ReadFault-clause-unread : goal.returns-in-Err-ReadFault-clause-unread
-returns-in-Err-ReadFault-clause-unread g c = λ is.
-    unread (g.C.Capture.faults c.args.capture.now) (g.C.Capture.faults c.begin_file.new.capture) (g.C.Capture.faults c.write_output.new.capture)
-    (g.C.Capture.begun c.args.capture.now) (g.C.Capture.begun c.begin_file.new.capture) (g.C.Capture.begun c.write_output.new.capture)
-    (g.C.Capture.missed c.args.capture.now) (g.C.Capture.missed c.begin_file.new.capture) (g.C.Capture.missed c.write_output.new.capture)
-    (g.C.Capture.asked c.begin_file.new.capture) (g.C.Capture.asked c.write_output.new.capture) c.args.name.now
-    c.begin_file.ensures.faults c.in-Ok.ensures.begun c.in-Ok.ensures.not_missed c.in-Ok.ensures.asked
-    (rw c.in-Err-ReadFault.field-0-is at c.in-Err-ReadFault.ensures.caused).0 c.write_output.ensures.stays
-
-pub returns-in-Err-WriteFault-clause-write_fault : goal.returns-in-Err-WriteFault-clause-write_fault
-returns-in-Err-WriteFault-clause-write_fault g c = λ is. (rw c.in-Err-WriteFault.field-0-is at c.in-Err-WriteFault.ensures.caused).0
-
-pub returns-in-Err-CannotOpen-clause-calm : goal.returns-in-Err-CannotOpen-clause-calm
-returns-in-Err-CannotOpen-clause-calm g c = record { missed = λ other. absurd (other refl); reads = λ other. c.begin_file.ensures.faults; writes = λ other. refl }
-
-pub returns-in-Err-NoMemory-clause-calm : goal.returns-in-Err-NoMemory-clause-calm
-returns-in-Err-NoMemory-clause-calm g c = record {
-  missed = λ other. c.in-Err-NoMemory.ensures.starved (ap Err c.in-Err-NoMemory.field-0-is);
-  reads = λ other. c.begin_file.ensures.faults;
-  writes = λ other. refl;
-}
-
-pub returns-in-Ok-write_output-clause-calm : goal.returns-in-Ok-write_output-clause-calm
-returns-in-Ok-write_output-clause-calm g c = record {
-  missed = λ other. c.write_output.ensures.stays.missed ∙ c.in-Ok.ensures.not_missed;
-  reads = λ other. c.in-Ok-write_output.ensures.calm.reads ∙ c.begin_file.ensures.faults;
-  writes = λ other. c.in-Ok-write_output.ensures.calm.writes;
-}
-
-pub returns-in-Err-ReadFault-clause-calm : goal.returns-in-Err-ReadFault-clause-calm
-returns-in-Err-ReadFault-clause-calm g c = record {
-  missed = λ other. c.write_output.ensures.stays.missed ∙ c.in-Ok.ensures.not_missed;
-  reads = λ other. absurd (other refl);
-  writes = λ other. (rw c.in-Err-ReadFault.field-0-is at c.in-Err-ReadFault.ensures.caused).1;
-}
-
-pub returns-in-Err-WriteFault-clause-calm : goal.returns-in-Err-WriteFault-clause-calm
-returns-in-Err-WriteFault-clause-calm g c = record {
-  missed = λ other. c.write_output.ensures.stays.missed ∙ c.in-Ok.ensures.not_missed;
-  reads = λ other. (rw c.in-Err-WriteFault.field-0-is at c.in-Err-WriteFault.ensures.caused).1 ∙ c.begin_file.ensures.faults;
-  writes = λ other. absurd (other refl);
-}
-
-pub returns-in-Err-NoMemory-write_output-clause-calm : goal.returns-in-Err-NoMemory-write_output-clause-calm
-returns-in-Err-NoMemory-write_output-clause-calm g c = record {
-  missed = λ other. c.write_output.ensures.stays.missed ∙ c.in-Ok.ensures.not_missed;
-  reads = λ other. (rw c.in-Err-NoMemory-write_output.field-0-is at c.in-Err-NoMemory-write_output.ensures.caused).reads ∙ c.begin_file.ensures.faults;
-  writes = λ other. (rw c.in-Err-NoMemory-write_output.field-0-is at c.in-Err-NoMemory-write_output.ensures.caused).writes;
-}
+pub returns-in-Err : goal.returns-in-Err
+returns-in-Err g c =
+    let o = c.unbegun.result in
+    let f = c.in-Err.fault in
+    let e = c.unbegun.ensures in
+    record {
+      ended = unbegun_ended f o _ e;
+      part = any_file _ _ (λ file. part_none _ _);
+      unopened = λ is. (c.in-Err.ensures.unopened (ap Err (unbegun_open f o e is)), refl);
+      unread = λ is. absurd (unbegun_read f o e is);
+      write_fault = λ is. absurd (unbegun_written f o e is);
+      calm = record {
+        missed = λ other. c.in-Err.ensures.starved (ap Err (unbegun_starved f o e other));
+        reads = λ other. c.begin_file.ensures.faults;
+        writes = λ other. refl;
+      };
+      taken = inl (c.in-Err.ensures.not_begun, c.in-Err.ensures.left_err);
+      begun_once = omega (arith, c.in-Err.ensures.not_begun);
+      so_far = λ is. absurd (unbegun_read f o e is);
+      near = λ is. absurd (unbegun_written f o e is);
+      full = unbegun_ended f o _ e;
+      unfit = unbegun_ended f o _ e;
+    }
