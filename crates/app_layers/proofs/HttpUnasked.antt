@@ -11,11 +11,11 @@ use Rattle.pk_fields.specs.Table.{rows}
 use Rattle.pk_tree.specs.Entries.{Entry, ends, repeated, then_on}
 use Rattle.pk_tree.proofs.EntryLemmas.{each_append, each_then, each_repeated}
 use Rattle.pk_tree.proofs.KeptLemmas.{Unasked}
-use Rattle.http_frame.specs.Lines.{is_text}
-use Rattle.http_frame.specs.declared.shape.Body.{Body}
-use Rattle.http_frame.specs.declared.shape.Body.TheVariants.{None as Bodiless, Plain, Chunked, NotShown}
-use Rattle.http_frame.specs.declared.shape.Shape.{Shape}
-use Rattle.http_frame.specs.Limits.{field_limit}
+use Rattle.stream_messages.specs.Lines.{is_text}
+use Rattle.stream_messages.specs.declared.shape.Body.{Body}
+use Rattle.stream_messages.specs.declared.shape.Body.TheVariants.{None as Bodiless, Plain, Chunked, NotShown}
+use Rattle.stream_messages.specs.declared.shape.Shape.{Shape}
+use Rattle.stream_messages.specs.Limits.{field_limit}
 use Rattle.dis_http.specs.Heads.{further_field, value_field, value_steps, value_len, lead_of, field_rows, field_line, status_line, start_line, start_place, field_by, name_at, raw_at, run_at, request_line}
 use Rattle.dis_http.specs.Http.{body_steps, http_layout}
 

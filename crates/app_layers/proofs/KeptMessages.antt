@@ -10,9 +10,9 @@ use Rattle.pk_base.specs.declared.value.Value.TheVariants.{Uint}
 use Rattle.pk_tree.specs.Layouts.{is_all, reach, within}
 use Rattle.pk_tree.specs.Trees.{TreeShown, IsKept as IsKeptTree, kept_tree, read_of, made_of}
 use Rattle.pk_tree.proofs.KeptTrees.{item_kept, buffer_kept, layer_kept}
-use Rattle.http_frame.specs.declared.shape.Body.{Body}
-use Rattle.http_frame.specs.declared.shape.Body.TheVariants.{None as Bodiless, Plain, Chunked, NotShown}
-use Rattle.http_frame.specs.declared.shape.Shape.{Shape}
+use Rattle.stream_messages.specs.declared.shape.Body.{Body}
+use Rattle.stream_messages.specs.declared.shape.Body.TheVariants.{None as Bodiless, Plain, Chunked, NotShown}
+use Rattle.stream_messages.specs.declared.shape.Shape.{Shape}
 use Rattle.dis_dns.specs.Dns.{dns_layout}
 use Rattle.dis_http.specs.Http.{http_layout, http_read, body_read, chunked_read, plain_read, with_content, joined}
 use Rattle.stream_messages.specs.declared.told.App.{App as StreamApp}

@@ -12,9 +12,9 @@ use Rattle.pk_tree.specs.declared.item.Item.{Item}
 use Rattle.pk_tree.specs.declared.layout.Step.{Step}
 use Rattle.pk_tree.specs.Layouts.{is_all, reach, reaches_end, fault_of, with_fault, items_read, layer_read}
 use Rattle.pk_tree.specs.Trees.{TreeShown, with_buffer, with_item, with_last, with_item_at, with_layer, read_of}
-use Rattle.http_frame.specs.declared.shape.Body.{Body}
-use Rattle.http_frame.specs.declared.shape.Body.TheVariants.{None as Bodiless, Plain, Chunked, NotShown}
-use Rattle.http_frame.specs.declared.shape.Shape.{Shape}
+use Rattle.stream_messages.specs.declared.shape.Body.{Body}
+use Rattle.stream_messages.specs.declared.shape.Body.TheVariants.{None as Bodiless, Plain, Chunked, NotShown}
+use Rattle.stream_messages.specs.declared.shape.Shape.{Shape}
 use Rattle.dis_http.specs.Http.{http_layout, http_read, body_read, chunked_read, plain_read, with_content, joined}
 
 -- at most so many buffers more

@@ -19,9 +19,9 @@ use Rattle.pk_base.specs.declared.value.Value.TheVariants.{Uint}
 use Rattle.pk_tree.specs.Layouts.{end_of, fault_of, is_all, items_read, layer_read, reach, reaches_end, with_fault, within}
 use Rattle.pk_tree.specs.Trees.{TreeShown, kept, layers_of, made_of, read_of, with_buffer, with_item, with_layer}
 use Rattle.pk_tree.proofs.KeptLemmas.{none_asked, passed}
-use Rattle.http_frame.specs.declared.shape.Body.{Body}
-use Rattle.http_frame.specs.declared.shape.Body.TheVariants.{None as Bodiless, Plain, Chunked, NotShown}
-use Rattle.http_frame.specs.declared.shape.Shape.{Shape}
+use Rattle.stream_messages.specs.declared.shape.Body.{Body}
+use Rattle.stream_messages.specs.declared.shape.Body.TheVariants.{None as Bodiless, Plain, Chunked, NotShown}
+use Rattle.stream_messages.specs.declared.shape.Shape.{Shape}
 use Rattle.dis_dns.specs.Dns.{dns_layout}
 use Rattle.dis_dns.proofs.DnsFits.{layout_fits}
 use Rattle.dis_http.specs.Http.{http_layout, http_read, body_read, plain_read, with_content, joined}

@@ -9,9 +9,9 @@ use Rattle.pk_base.specs.declared.heads.Mode.TheVariants.{Plain}
 use Rattle.pk_tree.specs.declared.layout.Step.{Step}
 use Rattle.pk_tree.specs.Layouts.{is_all, layer_read, reach, with_fault, within}
 use Rattle.pk_tree.specs.Trees.{TreeShown, with_layer, with_item, with_buffer, read_of}
-use Rattle.http_frame.specs.declared.shape.Body.{Body}
-use Rattle.http_frame.specs.declared.shape.Body.TheVariants as bodies
-use Rattle.http_frame.specs.declared.shape.Shape.{Shape}
+use Rattle.stream_messages.specs.declared.shape.Body.{Body}
+use Rattle.stream_messages.specs.declared.shape.Body.TheVariants as bodies
+use Rattle.stream_messages.specs.declared.shape.Shape.{Shape}
 use Rattle.dis_dns.specs.Dns.{dns_layout}
 use Rattle.dis_http.specs.Http.{http_layout, http_read, body_read, plain_read, with_content, joined}
 use Rattle.stream_messages.specs.declared.told.App.{App as StreamApp}

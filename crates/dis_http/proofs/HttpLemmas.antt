@@ -12,14 +12,14 @@ use Rattle.pk_tree.specs.Values.{is_read, IsOfKind}
 use Rattle.pk_base.specs.declared.value.Value.{Value}
 use Rattle.pk_tree.specs.Entries.{Entry, ends, repeated}
 use Rattle.pk_tree.proofs.EntryLemmas.{fit_append, fit_then, fit_repeated}
-use Rattle.http_frame.specs.Limits.{field_limit, body_limit}
-use Rattle.http_frame.specs.declared.shape.Shape.{Shape}
-use Rattle.http_frame.specs.declared.shape.Body.{Body}
-use Rattle.http_frame.specs.declared.shape.Body.TheVariants.{None as Bodiless, Plain, Chunked, NotShown}
-use Rattle.http_frame.proofs.MessageLemmas.{first_short}
+use Rattle.stream_messages.specs.Limits.{field_limit, body_limit}
+use Rattle.stream_messages.specs.declared.shape.Shape.{Shape}
+use Rattle.stream_messages.specs.declared.shape.Body.{Body}
+use Rattle.stream_messages.specs.declared.shape.Body.TheVariants.{None as Bodiless, Plain, Chunked, NotShown}
+use Rattle.stream_messages.proofs.HttpMessageLemmas.{first_short}
 use Rattle.dis_http.specs.Heads.{byte_at, code_at, value_field, value_steps, value_len, lead_of, field_rows, field_line, request_line, status_line, start_line, start_place}
-use Rattle.http_frame.specs.declared.shape.Piece.{Piece}
-use Rattle.http_frame.specs.Sizes.{size_of_pieces}
+use Rattle.stream_messages.specs.declared.shape.Piece.{Piece}
+use Rattle.stream_messages.specs.Sizes.{size_of_pieces}
 use Rattle.dis_http.specs.Http.{joined, piece_bytes, body_steps, http_layout, IsShape, plain_read, chunked_read, body_read}
 use Rattle.std.proofs.lemmas.List.{get_or_push, take_more, flat_map_more}
 use Rattle.std.specs.List.{flat_map}

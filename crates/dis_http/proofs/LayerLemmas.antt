@@ -6,13 +6,13 @@ use Rattle.std.proofs.lemmas.Bool.{cond_both}
 use Rattle.std.proofs.lemmas.Grind.{flat_map-append}
 use Rattle.std.proofs.lemmas.List.{get_or_push}
 use Rattle.httparse.specs.Ascii.{crlf_bytes}
-use Rattle.http_frame.specs.declared.shape.Body.{Body}
-use Rattle.http_frame.specs.declared.shape.Body.TheVariants.{None as Bodiless, Plain, Chunked, NotShown}
-use Rattle.http_frame.specs.declared.shape.Piece.{Piece}
-use Rattle.http_frame.specs.declared.shape.Shape.{Shape}
-use Rattle.http_frame.specs.ChunkedBodies.{print_line, print_size, SizedChunk, print_chunk, piece_at, pieces_from, print_trailer, StandsAt, IsChunked}
-use Rattle.http_frame.proofs.ChunkTextLemmas.{stands_first, stands_second}
-use Rattle.http_frame.proofs.ChunkListLemmas.{first_whole}
+use Rattle.stream_messages.specs.declared.shape.Body.{Body}
+use Rattle.stream_messages.specs.declared.shape.Body.TheVariants.{None as Bodiless, Plain, Chunked, NotShown}
+use Rattle.stream_messages.specs.declared.shape.Piece.{Piece}
+use Rattle.stream_messages.specs.declared.shape.Shape.{Shape}
+use Rattle.stream_messages.specs.ChunkedBodies.{print_line, print_size, SizedChunk, print_chunk, piece_at, pieces_from, print_trailer, StandsAt, IsChunked}
+use Rattle.stream_messages.proofs.ChunkTextLemmas.{stands_first, stands_second}
+use Rattle.stream_messages.proofs.ChunkListLemmas.{first_whole}
 use Rattle.pk_base.specs.declared.span.Span.{Span}
 use Rattle.pk_tree.specs.Buffers.{IsInside, bytes_of}
 use Rattle.pk_tree.proofs.Spans.{length-bytes_of, bytes_of-part}

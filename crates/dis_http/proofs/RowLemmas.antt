@@ -11,13 +11,13 @@ use Rattle.httparse.specs.Ascii.{carriage_return, space, colon}
 use Rattle.httparse.specs.Grammar.{AllPass, LineEnd, crlf, lf, print_end, print_blank, print_version, print_field, print_section, print_reason, reason_phrase, Field, IsField, IsRequestHead, IsResponseHead, RequestHead, ResponseHead, is_token_byte, is_uri_byte, is_value_byte, is_ows, skip_ows, trim_ows, field_value, status_code}
 use Rattle.httparse.specs.Pieces.{is_newline}
 use Rattle.httparse.proofs.PieceLemmas.{token_is_no_newline, space_ends_token, colon_ends_token, print_field-append}
-use Rattle.http_frame.specs.Heads.{begins, Head, Request, Response}
-use Rattle.http_frame.specs.Lines.{is_text}
-use Rattle.http_frame.specs.ChunkedBodies.{StandsAt}
-use Rattle.http_frame.proofs.HeadLemmas.{take-front, drop-front}
-use Rattle.http_frame.proofs.SplitLemmas.{section-cons}
-use Rattle.http_frame.proofs.TextLemmas.{prefix_on}
-use Rattle.http_frame.proofs.ChunkTextLemmas.{prefix_is, front_by}
+use Rattle.stream_messages.specs.Heads.{begins, Head, Request, Response}
+use Rattle.stream_messages.specs.Lines.{is_text}
+use Rattle.stream_messages.specs.ChunkedBodies.{StandsAt}
+use Rattle.stream_messages.proofs.HeadLemmas.{take-front, drop-front}
+use Rattle.stream_messages.proofs.SplitLemmas.{section-cons}
+use Rattle.stream_messages.proofs.TextLemmas.{prefix_on}
+use Rattle.stream_messages.proofs.ChunkTextLemmas.{prefix_is, front_by}
 use Rattle.pk_fields.specs.Ids.{HTTP_REQUEST, HTTP_REQUEST_METHOD, HTTP_REQUEST_URI, HTTP_REQUEST_VERSION, HTTP_RESPONSE, HTTP_RESPONSE_VERSION, HTTP_RESPONSE_CODE, HTTP_RESPONSE_PHRASE, HTTP_HEADER_NAME, HTTP_HEADER_VALUE}
 use Rattle.pk_tree.specs.declared.layout.Step.{Step}
 use Rattle.pk_tree.specs.declared.layout.Step.TheVariants.{Part, Made}

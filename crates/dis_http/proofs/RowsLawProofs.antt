@@ -6,18 +6,18 @@ use Rattle.httparse.specs.Grammar.{print_blank, print_version, print_end, print_
 use Rattle.httparse.specs.Pieces.{is_newline}
 use Rattle.httparse.proofs.PieceLemmas.{Stops_token}
 use Rattle.httparse.proofs.GrammarLemmas.{print_request-append, print_response-append}
-use Rattle.http_frame.specs.declared.shape.Body.TheVariants.{Plain}
-use Rattle.http_frame.specs.declared.shape.Shape.{Shape}
-use Rattle.http_frame.specs.Limits.{field_limit}
-use Rattle.http_frame.specs.Heads.{begins, Head, Request, Response, print_head, StartsWith}
-use Rattle.http_frame.specs.Plans.{start_of}
-use Rattle.http_frame.specs.ChunkedBodies.{StandsAt}
-use Rattle.http_frame.proofs.HeadLemmas.{drop-front}
-use Rattle.http_frame.proofs.RunLemmas.{begins-stops}
-use Rattle.http_frame.proofs.HeadLawProofs.{head_of-says}
-use Rattle.http_frame.proofs.ChunkLemmas.{IsStarted}
-use Rattle.http_frame.proofs.ChunkLawProofs.{first_chunks}
-use Rattle.http_frame.proofs.MessageLemmas.{first_head}
+use Rattle.stream_messages.specs.declared.shape.Body.TheVariants.{Plain}
+use Rattle.stream_messages.specs.declared.shape.Shape.{Shape}
+use Rattle.stream_messages.specs.Limits.{field_limit}
+use Rattle.stream_messages.specs.Heads.{begins, Head, Request, Response, print_head, StartsWith}
+use Rattle.stream_messages.specs.Plans.{start_of}
+use Rattle.stream_messages.specs.ChunkedBodies.{StandsAt}
+use Rattle.stream_messages.proofs.HeadLemmas.{drop-front}
+use Rattle.stream_messages.proofs.RunLemmas.{begins-stops}
+use Rattle.stream_messages.proofs.HeadLawProofs.{head_of-says}
+use Rattle.stream_messages.proofs.ChunkLemmas.{IsStarted}
+use Rattle.stream_messages.proofs.ChunkLawProofs.{first_chunks}
+use Rattle.stream_messages.proofs.HttpMessageLemmas.{first_head}
 use Rattle.pk_tree.specs.Buffers.{bytes_of}
 use Rattle.pk_tree.proofs.Spans.{length-bytes_of}
 use Rattle.pk_fields.specs.Ids.{HTTP_REQUEST_METHOD, HTTP_REQUEST_URI, HTTP_RESPONSE, HTTP_RESPONSE_VERSION, HTTP_RESPONSE_CODE, HTTP_RESPONSE_PHRASE}

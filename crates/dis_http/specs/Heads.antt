@@ -9,7 +9,7 @@ use Rattle.std.specs.Str.{str_eq_ignore_ascii_case}
 use Rattle.httparse.specs.Ascii.{carriage_return, space, colon, digit_zero}
 use Rattle.httparse.specs.Grammar.{is_ows}
 use Rattle.httparse.specs.Pieces.{is_newline}
-use Rattle.http_frame.specs.Lines.{is_text}
+use Rattle.stream_messages.specs.Lines.{is_text}
 use Rattle.pk_fields.specs.Ids.{HTTP_REQUEST, HTTP_REQUEST_METHOD, HTTP_REQUEST_URI, HTTP_REQUEST_VERSION, HTTP_RESPONSE, HTTP_RESPONSE_VERSION, HTTP_RESPONSE_CODE, HTTP_RESPONSE_PHRASE, HTTP_HEADER_NAME, HTTP_HEADER_VALUE, HTTP_HOST, HTTP_USER_AGENT, HTTP_CONTENT_TYPE, HTTP_CONTENT_LENGTH_HEADER, HTTP_TRANSFER_ENCODING, HTTP_CONTENT_ENCODING, HTTP_SERVER, HTTP_LOCATION, HTTP_CONNECTION, HTTP_COOKIE, HTTP_SET_COOKIE, HTTP_REFERER, HTTP_ACCEPT, HTTP_DATE}
 use Rattle.pk_tree.specs.declared.layout.Step.{Step}
 use Rattle.pk_tree.specs.declared.layout.Step.TheVariants.{Part, Made}

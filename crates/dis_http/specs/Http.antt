@@ -10,12 +10,12 @@ use Rattle.pk_tree.specs.declared.layout.Step.TheVariants.{Part}
 use Rattle.pk_tree.specs.Entries.{then_on, repeated}
 use Rattle.pk_tree.specs.Layouts.{is_all, reach, layer_read}
 use Rattle.pk_tree.specs.Trees.{TreeShown, with_buffer, with_item, read_of}
-use Rattle.http_frame.specs.declared.shape.Body.{Body}
-use Rattle.http_frame.specs.declared.shape.Body.TheVariants.{None as Bodiless, Plain, Chunked, NotShown}
-use Rattle.http_frame.specs.declared.shape.Piece.{Piece}
-use Rattle.http_frame.specs.declared.shape.Shape.{Shape}
-use Rattle.http_frame.specs.Limits.{field_limit}
-use Rattle.http_frame.specs.Messages.{first_message}
+use Rattle.stream_messages.specs.declared.shape.Body.{Body}
+use Rattle.stream_messages.specs.declared.shape.Body.TheVariants.{None as Bodiless, Plain, Chunked, NotShown}
+use Rattle.stream_messages.specs.declared.shape.Piece.{Piece}
+use Rattle.stream_messages.specs.declared.shape.Shape.{Shape}
+use Rattle.stream_messages.specs.Limits.{field_limit}
+use Rattle.stream_messages.specs.HttpMessages.{first_message}
 use Rattle.dis_http.specs.Heads.{start_line, field_line}
 
 -- a body that is as it stands

@@ -6,11 +6,11 @@
 use Rattle.std.specs.Prelude.{◌≡◌, ℕ, ◌+◌, ◌-◌, true, Option, Some, None, List, [], ◌∷◌, ◌++◌, length, map, drop, All}
 use Rattle.std.specs.List.{flat_map}
 use Rattle.httparse.specs.Grammar.{Field, field_value, skip_ows, print_blank, print_version, print_end, print_field, print_reason, reason_phrase, status_code, RequestHead, ResponseHead}
-use Rattle.http_frame.specs.declared.shape.Body.{Body}
-use Rattle.http_frame.specs.declared.shape.Body.TheVariants.{None as Bodiless, Plain, Chunked, NotShown}
-use Rattle.http_frame.specs.declared.shape.Shape.{Shape}
-use Rattle.http_frame.specs.ChunkedBodies.{SizedChunk, StandsAt, IsChunked}
-use Rattle.http_frame.specs.Heads.{Head, Request, Response, print_head, head_of}
+use Rattle.stream_messages.specs.declared.shape.Body.{Body}
+use Rattle.stream_messages.specs.declared.shape.Body.TheVariants.{None as Bodiless, Plain, Chunked, NotShown}
+use Rattle.stream_messages.specs.declared.shape.Shape.{Shape}
+use Rattle.stream_messages.specs.ChunkedBodies.{SizedChunk, StandsAt, IsChunked}
+use Rattle.stream_messages.specs.Heads.{Head, Request, Response, print_head, head_of}
 use Rattle.pk_base.specs.declared.span.Span.{Span}
 use Rattle.pk_tree.specs.Buffers.{IsInside, bytes_of}
 use Rattle.pk_fields.specs.Ids.{HTTP, HTTP_FILE_DATA, HTTP_REQUEST, HTTP_REQUEST_METHOD, HTTP_REQUEST_URI, HTTP_REQUEST_VERSION, HTTP_RESPONSE, HTTP_RESPONSE_VERSION, HTTP_RESPONSE_CODE, HTTP_RESPONSE_PHRASE, HTTP_HEADER_NAME, HTTP_HEADER_VALUE}

@@ -3,9 +3,9 @@ ghost use Rattle.std.specs.List.{prefix_len};
 ghost use Rattle.std.specs.Str.{str_eq_ignore_ascii_case};
 ghost use Rattle.httparse.specs.Ascii.{colon, space};
 ghost use Rattle.httparse.specs.Grammar.{is_ows};
-ghost use Rattle.http_frame.specs.Lines.{is_text};
+ghost use Rattle.stream_messages.specs.Lines.{is_text};
 ghost use Rattle.pk_tree.specs.Entries.{Adds, repeated};
-ghost use Rattle.http_frame.specs.Limits.{field_limit as field_limit_is};
+ghost use Rattle.stream_messages.specs.Limits.{field_limit as field_limit_is};
 ghost use Rattle.dis_http.specs.Heads.{behind_end, byte_at, code_at, field_line, field_rows, further_field, is_other, lead_of, name_at, phrase_len, raw_at, request_line, run_at, start_line, start_place, status_line, target_place, value_field, value_len, version_at, version_place};
 
 use pk_base::{HTTP_FIELD_LIMIT, NoMemory, Octets, Value};
@@ -180,7 +180,7 @@ fn push_lines(steps: &mut Vec<Step>, bytes: &[u8], most: usize, at: usize) -> Re
 }
 
 /// The field lines of a head, at most.
-#[tactic(auto, unfolding(http_frame::specs::Limits::field_limit))]
+#[tactic(auto, unfolding(stream_messages::specs::Limits::field_limit))]
 fn field_limit() -> usize
     ensures { result ≡ field_limit_is }
 {
@@ -314,7 +314,7 @@ fn further_field(name: &[u8]) -> Option<FieldId>
 }
 
 /// Whether a field's name is this one. The case of letters is ignored.
-#[tactic(auto, using(http_frame::proofs::LengthLemmas::as_wanted))]
+#[tactic(auto, using(stream_messages::proofs::LengthLemmas::as_wanted))]
 fn is_named(name: &[u8], wanted: &[u8]) -> bool
     ensures { result ≡ str_eq_ignore_ascii_case name.now wanted.now }
 {

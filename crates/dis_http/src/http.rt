@@ -2,16 +2,16 @@ ghost use Rattle.std.specs.Prelude.{◌≡◌, ◌+◌, ◌<◌, ◌≤◌, ◌^
 ghost use Rattle.pk_tree.specs.Buffers.{IsInside, bytes_of};
 ghost use Rattle.pk_fields.specs.Ids.{HTTP};
 ghost use Rattle.pk_tree.specs.Layouts.{StepsFit};
-ghost use Rattle.http_frame.specs.Sizes.{size_of_pieces};
+ghost use Rattle.stream_messages.specs.Sizes.{size_of_pieces};
 ghost use Rattle.dis_http.specs.Rows.{RowsLaw};
 ghost use Rattle.dis_http.specs.Http.{IsShape, body_steps, chunked_read, http_layout, http_read, joined, plain_read};
 
 use crate::heads::{front, push_fields, push_start, tail};
-use http_frame::{Body, Piece, PieceList, Shape};
 use pk_base::{Mode, NoMemory, Octets, Span};
 use pk_fields::ids;
 use pk_tree::{Step, TreeBuilder, read_layer};
 use std::alloc::Global;
+use stream_messages::{Body, Piece, PieceList, Shape};
 
 /// How many steps a message has room for from the start: a start line and some field lines.
 const FEW_STEPS: usize = 64;

@@ -4,9 +4,9 @@
 //! and of how many instructions it is. `listing`: a filter, and the lines of its program.
 
 use flt_code::compile;
-use flt_listing::listing;
 use flt_mean::holds;
-use flt_read::read_filter;
+use flt_program::listing;
+use flt_types::read_filter;
 use flt_typing::Filter;
 use flt_vm::run_program;
 use pk_tree::Tree;

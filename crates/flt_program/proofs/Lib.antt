@@ -1,2 +1,3 @@
 pub mod AskedLemmas
+pub mod ListingLemmas
 pub mod StackLemmas

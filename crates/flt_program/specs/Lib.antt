@@ -1,4 +1,6 @@
 pub mod Asked
+pub mod Listing
+pub mod Literals
 pub mod Programs
 pub mod Sources
 pub mod Stacks

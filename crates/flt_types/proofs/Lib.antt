@@ -3,5 +3,8 @@ pub mod Clear
 pub mod Few
 pub mod HaveTypes
 pub mod Lists
+pub mod OneMeaning
 pub mod OpenParts
 pub mod PartLemmas
+pub mod Sure
+pub mod Unique

@@ -4,3 +4,4 @@ pub mod Laws
 pub mod Operands
 pub mod Parts
 pub mod TextFaults
+pub mod TextLaws

@@ -13,10 +13,10 @@ use dis_icmp::{read_icmp, read_icmp6, read_igmp, read_neigh};
 use dis_ip::{read_extension, read_ip4, read_ip6};
 use dis_link::{read_arp, read_link, read_vlan};
 use dis_ports::{read_tcp, read_udp};
-use http_frame::{Framed, Shape, next_message};
 use pk_base::{Address, After, Mode, Next, NoMemory, Octets, PacketHead, Span};
 use pk_tree::{Tree, TreeBuilder};
 use std::alloc::Global;
+use stream_messages::{Framed, Shape, next_message};
 use tree_rows::{Places, layers_text};
 
 /// The layers of bytes, a line for each, and what follows them.

@@ -2,7 +2,7 @@
 use Rattle.std.specs.Prelude.{◌≡◌, ◌≢◌, ◌↔◌, ◌&&◌, ◌<◌, ◌+◌, ◌-◌, ℕ, Bool, true, false, not, if◌then◌else◌, List, [], ◌∷◌, ◌++◌, length, take, count_by, slice_get, Option, Some, None}
 use Rattle.std.specs.List.{AllByRecursion as Each}
 use Rattle.std.specs.Option.{option_map}
-use Rattle.http_frame.specs.declared.shape.Shape.{Shape}
+use Rattle.stream_messages.specs.declared.shape.Shape.{Shape}
 use Rattle.pk_fields.specs.FieldSets.{is_in}
 use Rattle.pk_fields.specs.Ids.{DNS, DNS_FLAGS_RESPONSE, DNS_ID, DNS_RESPONSE_TO, HTTP, HTTP_REQUEST_IN}
 use Rattle.pk_tree.specs.declared.layer.Layer.{Layer}

@@ -1,6 +1,6 @@
 -- What later links ask of the messages that frames show. Lists have the newest first.
 use Rattle.std.specs.Prelude.{◌==◌, ℕ, ◌+◌, ◌*◌, true, false, nat_le, if◌then◌else◌, List, [], ◌∷◌, drop, length, Option, Some, None}
-use Rattle.http_frame.specs.declared.shape.Shape.{Shape}
+use Rattle.stream_messages.specs.declared.shape.Shape.{Shape}
 use Rattle.tcp_streams.specs.declared.segment.Taken.{Taken}
 use Rattle.stream_messages.specs.declared.told.Told.{Told}
 use Rattle.stream_messages.specs.declared.told.Told.TheVariants as tellings

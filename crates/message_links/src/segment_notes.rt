@@ -3,10 +3,9 @@ ghost use Rattle.tcp_messages.specs.Shown.{IsMessage, IsWholeIn};
 ghost use Rattle.message_links.specs.Notes.{http_note, message_note, told_note};
 
 use crate::notes::{Note, dns_note};
-use http_frame::Shape;
 use pk_base::NoMemory;
 use std::alloc::Global;
-use stream_messages::Told;
+use stream_messages::{Shape, Told};
 use tcp_messages::{ShownMessage, Source};
 
 /// What a message that a segment's frame shows is to links.

@@ -1,7 +1,7 @@
 -- What is told of a plan's program: its listing, and its steps over the trees of all frames that were read.
 use Rattle.std.specs.Prelude.{ℕ, ◌+◌, if◌then◌else◌, List, [], ◌∷◌, ◌++◌, codes, decimal, length, Option, None, Some}
 use Rattle.capture_read.specs.declared.frame.Frame.{Frame}
-use Rattle.flt_listing.specs.Listing.{listing_of}
+use Rattle.flt_program.specs.Listing.{listing_of}
 use Rattle.pk_tree.specs.Trees.{TreeShown}
 use Rattle.run_frames.specs.Accessors.{compiled_of, stats_of}
 use Rattle.run_frames.specs.Compiled.{CompiledShown}

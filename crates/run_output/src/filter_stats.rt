@@ -9,7 +9,7 @@ ghost use Rattle.run_frames.specs.Notes.{AreNotes};
 
 use crate::owned::let_go;
 use crate::reports::write_lines;
-use flt_listing::listing;
+use flt_program::listing;
 use pk_base::NoMemory;
 use pk_outside::{Sink, SinkFault};
 use run_frames::{Compiled, Notes, Plan};

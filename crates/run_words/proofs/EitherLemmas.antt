@@ -7,7 +7,7 @@ use Rattle.flt_syntax.specs.declared.fault.FilterReason.TheVariants.{PatternSize
 use Rattle.flt_typing.specs.Texts.{IsTypedText}
 use Rattle.flt_typed.specs.declared.typed.Typed.{Typed}
 use Rattle.flt_types.specs.TextFaults.{IsFilterFault}
-use Rattle.flt_read.proofs.Sure.{typed_or_refused}
+use Rattle.flt_types.proofs.Sure.{typed_or_refused}
 use Rattle.flt_code.proofs.CompileLemmas.{texts_programmed}
 use Rattle.shark_words.specs.declared.options.Options.{Options}
 use Rattle.shark_words.specs.declared.fault.WordFault.{WordFault}

@@ -5,7 +5,7 @@ use Rattle.pk_fields.specs.Fields.{field_named}
 use Rattle.flt_syntax.specs.declared.fault.FilterFault.{FilterFault}
 use Rattle.flt_syntax.specs.declared.fault.FilterReason.{FilterReason}
 use Rattle.flt_syntax.specs.declared.fault.FilterReason.TheVariants.{PatternSize}
-use Rattle.flt_read.proofs.Unique.{typed_or_fault}
+use Rattle.flt_types.proofs.Unique.{typed_or_fault}
 use Rattle.shark_words.specs.declared.options.Options.{Options}
 use Rattle.shark_words.specs.Options.{options_of}
 use Rattle.run_frames.specs.declared.plan.Plan.{Plan}

@@ -3,7 +3,7 @@ use Rattle.std.proofs.Common.{◌≡◌, ⊎_elim, ℕ, List, Option, None, Some
 use Rattle.flt_syntax.specs.declared.fault.FilterFault.{FilterFault}
 use Rattle.flt_syntax.specs.declared.fault.FilterError.TheVariants.{Fault}
 use Rattle.flt_types.specs.TextFaults.{IsFilterFault}
-use Rattle.flt_read.proofs.Unique.{one_fault_but_size}
+use Rattle.flt_types.proofs.Unique.{one_fault_but_size}
 use Rattle.shark_words.specs.declared.options.Options.{Options}
 use Rattle.shark_words.specs.Options.{options_of}
 use Rattle.run_words.specs.declared.refused.Refused.{Refused}

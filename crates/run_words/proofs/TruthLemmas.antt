@@ -3,7 +3,7 @@ use Rattle.std.proofs.Common.{◌≡◌, ℕ, List, length, Option, None, Some, 
 use Rattle.pk_tree.specs.Trees.{TreeShown}
 use Rattle.flt_code.specs.Decides.{Agrees}
 use Rattle.flt_typed.specs.declared.typed.Typed.{Typed}
-use Rattle.flt_read.proofs.OneMeaning.{one_meaning}
+use Rattle.flt_types.proofs.OneMeaning.{one_meaning}
 use Rattle.flt_mean.specs.Meaning.{meaning}
 use Rattle.flt_vm.proofs.VerdictLemmas.{computed_run}
 use Rattle.flt_vm.specs.Machine.{start}

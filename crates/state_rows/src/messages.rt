@@ -3,9 +3,9 @@
 //! length of each piece, or `hidden`); its end, and what follows: so many bytes that belong to no message, or only such (`opaque`). Or the
 //! message is `unfinished`. It is found when its last byte comes: by looking anew at what came so far, and by going on from the last look.
 use crate::words::{behind, bytes_of, first_of, is_number, is_pair};
-use http_frame::{Body, Framed, Framing, Piece, Progress, Shape, Then, next_message, resume};
 use pk_base::NoMemory;
 use std::alloc::Global;
+use stream_messages::{Body, Framed, Framing, Piece, Progress, Shape, Then, next_message, resume};
 
 fn kind_of(shape: &Shape) -> &'static str {
     match (shape.request, shape.asks_head, shape.interim) {

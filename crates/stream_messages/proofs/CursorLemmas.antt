@@ -2,7 +2,7 @@
 use Rattle.std.proofs.Common.{◌≡◌, ℕ, ◌+◌, ◌<◌, ◌≤◌, Bool, true, List, [], ◌++◌, length, drop, refl, sym, ap, subst, ◌∙◌, arith, append_assoc, length-append, Some}
 use Rattle.std.specs.Option.{option_map}
 use Rattle.std.proofs.lemmas.List.{append-nil, drop-append-le, drop_all}
-use Rattle.http_frame.proofs.BeginLemmas.{begins as http_begins}
+use Rattle.stream_messages.proofs.BeginLemmas.{begins as http_begins}
 use Rattle.stream_messages.specs.declared.told.App.{App}
 use Rattle.stream_messages.specs.declared.told.App.TheVariants as apps
 use Rattle.stream_messages.specs.declared.told.Told.{Told}

@@ -5,8 +5,8 @@ use Rattle.std.proofs.lemmas.Bool.{cond-true, lt-ltb, ltb-true, cases_lt}
 use Rattle.std.proofs.lemmas.List.Elements.{All-push}
 use Rattle.std.proofs.lemmas.Option.{cond_some, none-some}
 use Rattle.std.proofs.lemmas.List.{append-nil, drop-append-le, drop-drop, drop_all, append_cancel_left}
-use Rattle.http_frame.specs.declared.shape.Then.{Then}
-use Rattle.http_frame.specs.declared.shape.Then.TheVariants.{Follows, Opaque}
+use Rattle.stream_messages.specs.declared.shape.Then.{Then}
+use Rattle.stream_messages.specs.declared.shape.Then.TheVariants.{Follows, Opaque}
 use Rattle.stream_messages.specs.declared.told.App.{App}
 use Rattle.stream_messages.specs.declared.told.Told.{Told}
 use Rattle.stream_messages.specs.declared.placed.Placed.{Placed}

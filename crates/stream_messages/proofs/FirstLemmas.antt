@@ -4,8 +4,8 @@ use Rattle.std.specs.Prelude.{nat_le}
 use Rattle.std.specs.Option.{option_map}
 use Rattle.std.proofs.lemmas.Bool.{cond-true, leb-true, le-leb}
 use Rattle.std.proofs.lemmas.Option.{cond_some}
-use Rattle.http_frame.specs.Messages.{first_message}
-use Rattle.http_frame.proofs.MessageLemmas.{laws_of_messages}
+use Rattle.stream_messages.specs.HttpMessages.{first_message}
+use Rattle.stream_messages.proofs.HttpMessageLemmas.{laws_of_messages}
 use Rattle.stream_messages.specs.declared.told.App.{App}
 use Rattle.stream_messages.specs.declared.told.App.TheVariants as apps
 use Rattle.stream_messages.specs.declared.told.Told.{Told}

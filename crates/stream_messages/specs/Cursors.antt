@@ -2,9 +2,9 @@
 use Rattle.std.specs.Prelude.{◌≡◌, ◌<◌, ◌≤◌, ℕ, ◌+◌, ◌-◌, ◌^◌, min, if◌then◌else◌, Bool, true, false, List, [], ◌∷◌, ◌++◌, length, drop, get_or, slice_get, Option, Some, None}
 use Rattle.std.specs.Option.{option_map}
 use Rattle.pk_base.specs.declared.stretch.Stretch.{Stretch}
-use Rattle.http_frame.specs.declared.shape.Then.{Then}
-use Rattle.http_frame.specs.declared.shape.Then.TheVariants.{Follows, Opaque}
-use Rattle.http_frame.specs.Messages.{resumed, begun as begun_asked}
+use Rattle.stream_messages.specs.declared.shape.Then.{Then}
+use Rattle.stream_messages.specs.declared.shape.Then.TheVariants.{Follows, Opaque}
+use Rattle.stream_messages.specs.HttpMessages.{resumed, begun as begun_asked}
 use Rattle.stream_messages.specs.declared.told.App.{App}
 use Rattle.stream_messages.specs.declared.told.App.TheVariants as apps
 use Rattle.stream_messages.specs.declared.told.Told.{Told}

@@ -1,7 +1,7 @@
 -- The messages of one direction of a stream, one behind the other, and which of them are new in longer bytes.
 use Rattle.std.specs.Prelude.{◌≡◌, ◌<◌, ◌≤◌, ℕ, zero, suc, ◌+◌, ◌-◌, if◌then◌else◌, Bool, List, [], ◌∷◌, ◌++◌, length, nat_lt, Option, Some, None}
-use Rattle.http_frame.specs.declared.shape.Then.{Then}
-use Rattle.http_frame.specs.declared.shape.Then.TheVariants.{Follows, Opaque}
+use Rattle.stream_messages.specs.declared.shape.Then.{Then}
+use Rattle.stream_messages.specs.declared.shape.Then.TheVariants.{Follows, Opaque}
 use Rattle.pk_base.specs.declared.stretch.Stretch.{Stretch}
 use Rattle.stream_messages.specs.declared.told.App.{App}
 use Rattle.stream_messages.specs.declared.told.Told.{Told}

@@ -4,8 +4,8 @@ ghost use Rattle.stream_messages.specs.Cursors.{answers_before, begun, mark_behi
 ghost use Rattle.stream_messages.specs.declared.cursor.Mark.{Mark as MarkValue};
 
 use crate::part::Part;
+use crate::shape::Then;
 use crate::told::Told;
-use http_frame::Then;
 
 /// Behind the last whole message of a stretch of a stream's bytes, with what is known of the next one.
 #[derive(Drop)]

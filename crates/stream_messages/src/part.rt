@@ -1,13 +1,14 @@
 ghost use Rattle.std.specs.Prelude.{◌≡◌, List, ℕ, IfOk};
 ghost use Rattle.std.specs.Option.{option_map};
-ghost use Rattle.http_frame.specs.Messages.{found as found_in, went_on as framing_on};
+ghost use Rattle.stream_messages.specs.HttpMessages.{found as found_in, went_on as framing_on};
 ghost use Rattle.stream_messages.specs.declared.told.Told.TheVariants.{Http};
 ghost use Rattle.stream_messages.specs.declared.part.Part.TheVariants as parts;
 ghost use Rattle.stream_messages.specs.Tellings.{first_dns};
 ghost use Rattle.stream_messages.specs.Cursors.{GoesOn, found, part_begun, went_on};
 
+use crate::progress::{Framing, Progress};
+use crate::resuming::resume;
 use crate::told::{App, Told};
-use http_frame::{Framing, Progress, resume};
 use pk_base::NoMemory;
 use std::alloc::Global;
 

@@ -1,7 +1,7 @@
 ghost use Rattle.std.specs.Prelude.{◌≡◌};
 ghost use Rattle.stream_messages.specs.Tellings.{answers, end_of, then_of};
 
-use http_frame::{Shape, Then};
+use crate::shape::{Shape, Then};
 
 /// What the messages of a stream belong to.
 #[derive(Clone, Copy)]

@@ -2,8 +2,8 @@
 use Rattle.std.proofs.Common.{◌≡◌, ℕ, zero, suc, ◌+◌, ◌-◌, ◌≤◌, Bool, true, false, nat_lt, List, [], ◌∷◌, ◌++◌, length, Option, Some, None, refl, inl, inr, arith}
 use Rattle.std.proofs.lemmas.Bool.{cases_Bool}
 use Rattle.pk_base.specs.declared.stretch.Stretch.{Stretch}
-use Rattle.http_frame.specs.declared.shape.Then.{Then}
-use Rattle.http_frame.specs.declared.shape.Then.TheVariants.{Follows, Opaque}
+use Rattle.stream_messages.specs.declared.shape.Then.{Then}
+use Rattle.stream_messages.specs.declared.shape.Then.TheVariants.{Follows, Opaque}
 use Rattle.range_bytes.specs.Held.{Held, HoldsAll, put_run}
 use Rattle.tcp_streams.specs.declared.segment.Segment.{Segment}
 use Rattle.tcp_streams.specs.Numbers.{first_number, ahead, place, taken_bytes}

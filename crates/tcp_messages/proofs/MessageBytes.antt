@@ -1,7 +1,7 @@
 -- A message has a byte, and lies in what brought it.
 use Rattle.std.proofs.Common.{◌≡◌, ℕ, zero, suc, ◌+◌, ◌-◌, ◌<◌, ◌≤◌, List, [], ◌∷◌, length, take, drop, Some, arith, length-drop}
 use Rattle.std.specs.List.{slice_range}
-use Rattle.http_frame.proofs.MessageLemmas.{laws_of_messages}
+use Rattle.stream_messages.proofs.HttpMessageLemmas.{laws_of_messages}
 use Rattle.stream_messages.specs.declared.told.Told.{Told}
 use Rattle.stream_messages.specs.declared.told.Told.TheVariants.{Dns, Http}
 use Rattle.stream_messages.specs.Tellings.{first_dns, end_of}

@@ -4,8 +4,8 @@ use Rattle.std.specs.FinMap.{get}
 use Rattle.std.proofs.lemmas.Bool.{cases_Bool}
 use Rattle.std.proofs.lemmas.List.Elements.{All-nil, All-cons}
 use Rattle.pk_base.specs.declared.stretch.Stretch.{Stretch}
-use Rattle.http_frame.specs.declared.shape.Then.{Then}
-use Rattle.http_frame.specs.declared.shape.Then.TheVariants.{Follows, Opaque}
+use Rattle.stream_messages.specs.declared.shape.Then.{Then}
+use Rattle.stream_messages.specs.declared.shape.Then.TheVariants.{Follows, Opaque}
 use Rattle.range_bytes.specs.Held.{Cell}
 use Rattle.tcp_streams.specs.declared.segment.Segment.{Segment}
 use Rattle.tcp_streams.specs.Labels.{Label, label_of, labels, sided_of, told, way_of}

@@ -6,8 +6,8 @@ use Rattle.std.proofs.lemmas.Bool.{false≢true}
 use Rattle.std.proofs.lemmas.List.{take-append-drop, length-take-le}
 use Rattle.std.specs.Cmp.Lexicographic.{bytes_decides}
 use Rattle.pk_base.specs.declared.stretch.Stretch.{Stretch}
-use Rattle.http_frame.specs.declared.shape.Shape.{Shape}
-use Rattle.http_frame.specs.Messages.{first_message}
+use Rattle.stream_messages.specs.declared.shape.Shape.{Shape}
+use Rattle.stream_messages.specs.HttpMessages.{first_message}
 use Rattle.std.specs.Prelude.{IsSome}
 use Rattle.std.specs.FinMap.{get}
 use Rattle.range_bytes.specs.Held.{Held, HoldsAll, IsFreeFrom, put_numbers, put_number}

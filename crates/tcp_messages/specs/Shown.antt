@@ -2,7 +2,7 @@
 use Rattle.std.specs.Prelude.{◌≡◌, ◌<◌, ◌+◌, ◌^◌, ℕ, Bool, if◌then◌else◌, List, [], ◌∷◌, drop, length, map, nat_eq, slice_range, Option, Some, None, ℤ, pos, negsuc, ◌-ℤ◌}
 use Rattle.std.specs.Cmp.Lexicographic.{pointwise}
 use Rattle.std.specs.List.{starts_with}
-use Rattle.http_frame.specs.Messages.{first_message}
+use Rattle.stream_messages.specs.HttpMessages.{first_message}
 use Rattle.range_bytes.specs.Held.{Held, bytes_at, frames_at, put_numbers}
 use Rattle.tcp_streams.specs.declared.segment.Segment.{Segment}
 use Rattle.tcp_streams.specs.Labels.{Label, label_of, labels, taken_after}

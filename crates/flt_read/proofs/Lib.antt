@@ -1,3 +1,0 @@
-pub mod OneMeaning
-pub mod Sure
-pub mod Unique

@@ -1,5 +1,0 @@
-use Rattle.flt_read.proofs.Unique.{one_fault_but_size}
-use Rattle.flt_read.proofs.laws.faults_are_unique.Goals as goal
-
-pub returns : goal.returns
-returns c = one_fault_but_size

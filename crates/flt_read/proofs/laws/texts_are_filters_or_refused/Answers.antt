@@ -1,5 +1,0 @@
-use Rattle.flt_read.proofs.Sure.{typed_or_refused}
-use Rattle.flt_read.proofs.laws.texts_are_filters_or_refused.Goals as goal
-
-pub returns : goal.returns
-returns c = typed_or_refused

@@ -1,5 +1,0 @@
-use Rattle.flt_read.proofs.OneMeaning.{one_meaning}
-use Rattle.flt_read.proofs.laws.texts_have_one_meaning.Goals as goal
-
-pub returns : goal.returns
-returns c = one_meaning

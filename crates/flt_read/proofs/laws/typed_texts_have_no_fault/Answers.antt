@@ -1,5 +1,0 @@
-use Rattle.flt_read.proofs.Unique.{typed_or_fault}
-use Rattle.flt_read.proofs.laws.typed_texts_have_no_fault.Goals as goal
-
-pub returns : goal.returns
-returns c = typed_or_fault

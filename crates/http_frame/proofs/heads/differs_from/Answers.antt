@@ -1,6 +1,0 @@
-use Rattle.std.proofs.Common.{◌∙◌, sym, arith}
-use Rattle.http_frame.proofs.HeadLawProofs.{kind_none}
-use Rattle.http_frame.proofs.heads.differs_from.Goals as goal
-
-pub returns-then-place-bytes : goal.returns-then-place-bytes
-returns-then-place-bytes c = sym (kind_none c.args.front.now c.args.bytes.now c.loop-place.place (omega arith) (omega arith)) ∙ c.loop-place.invariant

@@ -1,5 +1,0 @@
-use Rattle.http_frame.proofs.LengthLemmas.{as_wanted}
-use Rattle.http_frame.proofs.lengths.is_named.Goals as goal
-
-pub returns : goal.returns
-returns c = as_wanted _ _ _ c.eq_ignore_ascii_case.ensures.test
