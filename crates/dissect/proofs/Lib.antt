@@ -9,6 +9,7 @@ mod Passing
 pub mod RuleEvents
 mod SameValues
 mod Segmenting
+mod Shrinking
 mod Spaces
 mod Taken
 mod Told

@@ -4,9 +4,12 @@ use Rattle.pk_fields.specs.declared.rules.DecodeAs.{DecodeAs}
 use Rattle.pk_fields.specs.declared.rules.PortRule.{PortRule}
 use Rattle.capture_read.specs.declared.frame.Frame.{Frame}
 use Rattle.capture_read.specs.FrameList.{captured_bytes}
+use Rattle.pk_base.specs.declared.heads.After.{After}
+use Rattle.pk_base.specs.declared.heads.After.TheVariants as afters
 use Rattle.pk_tree.specs.Trees.{TreeShown, IsTree}
 use Rattle.ip_join.specs.Stands.{Stands as JoinsStandFor}
-use Rattle.tcp_streams.specs.Standing.{taken_so_far}
+use Rattle.ip_join.specs.Waiting.{bytes_waiting}
+use Rattle.tcp_streams.specs.Standing.{bytes_so_far, taken_so_far}
 use Rattle.tcp_messages.specs.Standing.{ReadsFor, streams_in}
 use Rattle.message_links.specs.declared.notes.Direction.{Direction}
 use Rattle.message_links.specs.declared.notes.Note.{Note}
@@ -70,25 +73,40 @@ pub record AddsAtMost (most : ℕ) (old new : State) : Type 0 where
   pub tcp : taken_so_far (streams_in new.streams) ≤ taken_so_far (streams_in old.streams) + most
   pub follows : new.follows ≡ old.follows
 
--- a header adds at most one, and then nothing more is to be read of its frame
-abbrev pub AddsOneThenEnds : State → State → Todo → Type 0
-AddsOneThenEnds old new todos.Done = AddsAtMost 1 old new
-AddsOneThenEnds old new (todos.Head head) = AddsAtMost 0 old new
+-- how many bytes of packets are kept: those that streams were sent, and those of fragments that wait
+abbrev pub bytes_kept : State → ℕ
+bytes_kept state = bytes_so_far (streams_in state.streams) + bytes_waiting state.joins
 
--- there is room for one conversation and one segment more
-pub record HasRoomForOne (state : State) : Type 0 where
+-- a header adds at most one, and then nothing more is to be read of its frame; of so many bytes those are kept that aren't still to be
+-- read
+abbrev pub AddsOneThenEnds : ℕ → State → State → Todo → Type 0
+AddsOneThenEnds bytes old new todos.Done = AddsAtMost 1 old new × (bytes_kept new ≤ bytes_kept old + bytes)
+AddsOneThenEnds bytes old new (todos.Head head) = AddsAtMost 0 old new × (bytes_kept new + head.span.len ≤ bytes_kept old + bytes)
+
+-- there is room for one conversation and one segment more, and for so many bytes
+pub record HasRoomForOne (more : ℕ) (state : State) : Type 0 where
   pub udp : length state.udp + 1 < 2 ^ 32
   pub tcp : taken_so_far (streams_in state.streams) < 2 ^ 32 - 1
+  pub bytes : bytes_kept state + more < 2 ^ 32
 
 -- so there is where a header is still to be read
 abbrev pub HasRoom : State → Todo → Type 0
 HasRoom state todos.Done = Unit {0}
-HasRoom state (todos.Head head) = HasRoomForOne state
+HasRoom state (todos.Head head) = HasRoomForOne head.span.len state
 
--- there is room for a header more: for what it adds to the state, for so many layers, and for a buffer; and for the messages that
--- come behind the last one
-pub record IsReady (most : ℕ) (st : State) (t : TreeShown) : Type 0 where
-  pub state : HasRoomForOne st
+-- how many bytes follow a header
+abbrev pub bytes_behind : After → ℕ
+bytes_behind (afters.Next which span) = span.len
+bytes_behind (afters.Packet which span packet) = span.len
+bytes_behind (afters.Fragment head span) = span.len
+bytes_behind (afters.Datagram head span) = span.len
+bytes_behind (afters.Segment head span) = span.len
+bytes_behind afters.End = 0
+
+-- there is room for a header more: for what it adds to the state, of so many bytes, for so many layers, and for a buffer; and for the
+-- messages that come behind the last one
+pub record IsReady (most bytes : ℕ) (st : State) (t : TreeShown) : Type 0 where
+  pub state : HasRoomForOne bytes st
   pub layers : length t.layers + most < 2 ^ 31
   pub buffers : length t.buffers + 1 < 2 ^ 31
 
@@ -145,10 +163,12 @@ unfoldable pub StandsWithin : List Frame → DissectorShown → Type 0
 StandsWithin past d = IsAfter past d
 
 -- a dissector that has answered no error has opened at most as many conversations over UDP as it took frames, and taken at most
--- as many segments; one that follows no streams was made for fields that ask nothing of them
+-- as many segments, and keeps no more bytes of packets than were captured; one that follows no streams was made for fields that ask
+-- nothing of them
 pub record IsKept (d : DissectorShown) : Type 0 where
   pub times : AreTimes d.times
   pub udp : length d.state.udp < 2 ^ 32
   pub udp_few : d.spent ≡ false → length d.state.udp ≤ d.taken
   pub tcp_few : d.spent ≡ false → taken_so_far (streams_in d.state.streams) ≤ d.taken
+  pub bytes_few : d.spent ≡ false → bytes_kept d.state ≤ d.captured
   pub asked : d.state.follows ≡ false → asks_streams d.wanted ≡ false

@@ -29,12 +29,12 @@ impl State {
         requires inside { IsInside tree.old.buffers span }
         requires last { LastIs UDP tree.old.layers }
         requires bytes { length frame.now.bytes < 2 ^ 32 }
-        requires ready { IsReady 4 self.old tree.old }
+        requires ready { IsReady 4 span.len self.old tree.old }
         ensures inside { IfOk result (λ todo. IsTodoInside tree.new.buffers todo) }
         ensures walked { IfOk result (λ todo. (es : List Event) → StandsAt rules.now es self.old
             → IsMet rules.now (datagram_met rules.now frame.now packet tree.old es head span)
             self.new tree.new todo) }
-        ensures adds { IfOk result (λ todo. AddsOneThenEnds self.old self.new todo) }
+        ensures adds { IfOk result (λ todo. AddsOneThenEnds span.len self.old self.new todo) }
         ensures added { AddsAtMost 1 self.old self.new }
         ensures buffers { tree.new.buffers ≡ tree.old.buffers }
         ensures most { OnOk result (length tree.new.layers ≤ length tree.old.layers + 4) }

@@ -8,7 +8,7 @@ ghost use Rattle.tcp_streams.specs.Standing.{StandsFor, taken_so_far};
 ghost use Rattle.pk_fields.specs.Ids.{field_count};
 ghost use Rattle.dissect.specs.Followed.{asks_any, asks_messages, asks_streams, HasSameValues};
 ghost use Rattle.dissect.specs.Segments.{segments_of};
-ghost use Rattle.dissect.specs.Stands.{Stands, StandsWithin, StandsAt, IsAfter, IsRead, HasRoomForOne, AddsAtMost};
+ghost use Rattle.dissect.specs.Stands.{Stands, StandsWithin, StandsAt, IsAfter, IsRead, HasRoomForOne, AddsAtMost, bytes_kept};
 ghost use Rattle.capture_read.specs.FrameList.{IsTime};
 ghost use Rattle.app_layers.specs.Times.{AreTimes};
 ghost use Rattle.dissect.specs.Trees.{tree_at, events_of, kept_walk};
@@ -331,10 +331,12 @@ fn make_tree(
     requires bytes { length frame.now.bytes < 2 ^ 32 }
     requires before { AreTimes before }
     requires time { IfSome frame.now.time IsTime }
-    requires few { HasRoomForOne state.old }
+    requires few { HasRoomForOne (length frame.now.bytes) state.old }
     ensures walked { IfOk result (λ tree. (es : List Event) → StandsAt rules.now es state.old
         → IsRead rules.now wanted (kept_walk rules.now wanted before es frame.now) state.new tree) }
     ensures added { AddsAtMost 1 state.old state.new }
+    ensures kept { OnOk result (bytes_kept state.new
+        ≤ bytes_kept state.old + length frame.now.bytes) }
 {
     let mut tree = begin_tree(alloc, before, frame, wanted)?;
     state.read_frame(rules, frame, &mut tree)?;

@@ -5,7 +5,7 @@ ghost use Rattle.app_layers.specs.Fragments.{joined_told};
 ghost use Rattle.app_layers.specs.Payloads.{LastIs};
 ghost use Rattle.dissect.specs.declared.state.State.{State as StateValue};
 ghost use Rattle.dissect.specs.Fragments.{joined_packet, joined_todo, todo_by};
-ghost use Rattle.dissect.specs.Stands.{AddsOneThenEnds};
+ghost use Rattle.dissect.specs.Stands.{AddsOneThenEnds, bytes_behind};
 ghost use Rattle.dissect.specs.Walks.{IsTodoInside};
 
 use crate::todo::{Head, Todo};
@@ -27,7 +27,8 @@ pub(crate) fn begin_datagram(
     ensures inside { IfOk result (λ todo. IsTodoInside tree.new.buffers todo) }
     ensures tree { IfOk result (λ _. tree.new ≡ joined_told tree.old head.now.six datagram) }
     ensures todo { IfOk result (λ todo. todo ≡ joined_todo tree.old head.now datagram) }
-    ensures adds { IfOk result (λ todo. (state : StateValue) → AddsOneThenEnds state state todo) }
+    ensures adds { IfOk result (λ todo. (state : StateValue)
+        → AddsOneThenEnds (length datagram.bytes) state state todo) }
     ensures buffers { OnOk result (length tree.new.buffers ≤ length tree.old.buffers + 1) }
     ensures count { OnOk result (length tree.new.layers ≡ length tree.old.layers) }
 {
@@ -56,7 +57,7 @@ fn joined_packet(head: &FragmentHead) -> PacketHead
 fn todo_by(packet: PacketHead, after: After) -> Todo
     ensures todo { result ≡ todo_by packet after }
     ensures inside { (buffers : List (List ℕ)) → LeadsInside buffers after → IsTodoInside buffers result }
-    ensures adds { (state : StateValue) → AddsOneThenEnds state state result }
+    ensures adds { (state : StateValue) → AddsOneThenEnds (bytes_behind after) state state result }
 {
     match after {
         After::Next(which, span) => Todo::Head(Head {

@@ -24,12 +24,13 @@ impl State {
     ) -> Result<Todo, NoMemory>
         requires inside { IsInside tree.old.buffers head.now.span }
         requires bytes { length frame.now.bytes < 2 ^ 32 }
-        requires ready { IsReady 6 self.old tree.old }
+        requires ready { IsReady 6 head.now.span.len self.old tree.old }
         ensures inside { IfOk result (λ todo. IsTodoInside tree.new.buffers todo) }
         ensures walked { IfOk result (λ todo. (es : List Event) → StandsAt rules.now es self.old
             → IsWalked rules.now (head_met rules.now frame.now head.now tree.old es) self.new tree.new
             todo) }
-        ensures adds { IfOk result (λ todo. AddsOneThenEnds self.old self.new todo) }
+        ensures adds { IfOk result (λ todo.
+            AddsOneThenEnds head.now.span.len self.old self.new todo) }
         ensures added { AddsAtMost 1 self.old self.new }
         ensures few { IfOk result (λ todo. AddsFew 6 tree.old tree.new todo) }
     {

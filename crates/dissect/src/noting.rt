@@ -3,7 +3,7 @@ ghost use Rattle.pk_fields.specs.declared.rules.PortRule.{PortRule as PortRuleVa
 ghost use Rattle.tcp_messages.specs.Shown.{IsWholeIn};
 ghost use Rattle.dissect.specs.Events.{Event, NewFrame};
 ghost use Rattle.message_links.specs.Notes.{datagram_notes, message_note, tcp_direction, udp_direction};
-ghost use Rattle.dissect.specs.Stands.{StandsAt, AddsAtMost, IsLinked, IsSameButLinks};
+ghost use Rattle.dissect.specs.Stands.{StandsAt, AddsAtMost, IsLinked, IsSameButLinks, bytes_kept};
 
 use crate::state::State;
 use message_links::{Direction, Note, dns_note, tcp_direction, udp_direction};
@@ -18,6 +18,7 @@ impl State {
         ensures stands { (rules : List PortRuleValue) (es : List Event)
             → StandsAt rules es self.old → StandsAt rules (NewFrame ∷ es) self.new }
         ensures adds { AddsAtMost 0 self.old self.new }
+        ensures kept { bytes_kept self.new ≡ bytes_kept self.old }
     {
         self.found.clear();
     }

@@ -2,6 +2,7 @@ ghost use Rattle.std.specs.Prelude.{◌≡◌, ◌+◌, ◌<◌, ◌≤◌, List
 ghost use Rattle.pk_tree.specs.Buffers.{IsInside};
 ghost use Rattle.dis_ip.specs.Fragments.{part_proto};
 ghost use Rattle.ip_join.specs.Datagrams.{IsShort};
+ghost use Rattle.ip_join.specs.Waiting.{bytes_joined};
 ghost use Rattle.pk_fields.specs.declared.rules.PortRule.{PortRule};
 ghost use Rattle.dissect.specs.Events.{Event};
 ghost use Rattle.app_layers.specs.Payloads.{LastIs};
@@ -30,13 +31,13 @@ impl State {
     ) -> Result<Todo, NoMemory>
         requires inside { IsInside tree.old.buffers span }
         requires last { LastIs (part_proto head.six) tree.old.layers }
-        requires ready { IsReady 2 self.old tree.old }
+        requires ready { IsReady 2 span.len self.old tree.old }
         ensures inside { IfOk result (λ todo. IsTodoInside tree.new.buffers todo) }
         ensures walked { IfOk result (λ todo. (rules : List PortRule) (es : List Event)
             → StandsAt rules es self.old
             → IsWalked rules (fragment_met frame.now packet tree.old es head span) self.new
             tree.new todo) }
-        ensures adds { IfOk result (λ todo. AddsOneThenEnds self.old self.new todo) }
+        ensures adds { IfOk result (λ todo. AddsOneThenEnds span.len self.old self.new todo) }
         ensures added { AddsAtMost 1 self.old self.new }
         ensures buffers { OnOk result (length tree.new.buffers ≤ length tree.old.buffers + 1) }
         ensures most { OnOk result (length tree.new.layers ≤ length tree.old.layers + 2) }
@@ -61,13 +62,14 @@ impl State {
         requires whole { head.whole ≡ true }
         requires inside { IsInside tree.old.buffers span }
         requires last { LastIs (part_proto head.six) tree.old.layers }
-        requires ready { IsReady 2 self.old tree.old }
+        requires bytes { length bytes.now ≤ span.len }
+        requires ready { IsReady 2 span.len self.old tree.old }
         ensures inside { IfOk result (λ todo. IsTodoInside tree.new.buffers todo) }
         ensures walked { IfOk result (λ todo. (rules : List PortRule) (es : List Event)
             → StandsAt rules es self.old
             → IsWalked rules (piece_met tree.old es frame.now.number head bytes.now span) self.new
             tree.new todo) }
-        ensures adds { IfOk result (λ todo. AddsOneThenEnds self.old self.new todo) }
+        ensures adds { IfOk result (λ todo. AddsOneThenEnds span.len self.old self.new todo) }
         ensures added { AddsAtMost 1 self.old self.new }
         ensures buffers { OnOk result (length tree.new.buffers ≤ length tree.old.buffers + 1) }
         ensures most { OnOk result (length tree.new.layers ≤ length tree.old.layers + 2) }
@@ -88,12 +90,13 @@ impl State {
         requires inside { IsInside tree.old.buffers span }
         requires last { LastIs (part_proto head.six) tree.old.layers }
         requires short { IsShort joined }
-        requires ready { IsReady 2 self.old tree.old }
+        requires ready { IsReady 2 (bytes_joined joined) self.old tree.old }
         ensures inside { IfOk result (λ todo. IsTodoInside tree.new.buffers todo) }
         ensures walked { IfOk result (λ todo. (rules : List PortRule) (es : List Event)
             → StandsAt rules es self.old
             → IsWalked rules (joined_met joined tree.old es head span) self.new tree.new todo) }
-        ensures adds { IfOk result (λ todo. AddsOneThenEnds self.old self.new todo) }
+        ensures adds { IfOk result (λ todo.
+            AddsOneThenEnds (bytes_joined joined) self.old self.new todo) }
         ensures added { AddsAtMost 1 self.old self.new }
         ensures buffers { OnOk result (length tree.new.buffers ≤ length tree.old.buffers + 1) }
         ensures most { OnOk result (length tree.new.layers ≤ length tree.old.layers + 2) }

@@ -37,12 +37,12 @@ impl State {
         requires inside { IsInside tree.old.buffers span }
         requires last { LastIs TCP tree.old.layers }
         requires bytes { length frame.now.bytes < 2 ^ 32 }
-        requires ready { IsReady 2 self.old tree.old }
+        requires ready { IsReady 2 span.len self.old tree.old }
         ensures inside { IfOk result (λ todo. IsTodoInside tree.new.buffers todo) }
         ensures walked { IfOk result (λ todo. (es : List Event) → StandsAt rules.now es self.old
             → IsWalked rules.now (segment_met rules.now frame.now packet tree.old es head span)
             self.new tree.new todo) }
-        ensures adds { IfOk result (λ todo. AddsOneThenEnds self.old self.new todo) }
+        ensures adds { IfOk result (λ todo. AddsOneThenEnds span.len self.old self.new todo) }
         ensures added { AddsAtMost 1 self.old self.new }
         ensures few { IfOk result (λ todo. AddsFew 4 tree.old tree.new todo) }
     {
@@ -69,12 +69,12 @@ impl State {
         requires inside { IsInside tree.old.buffers span }
         requires last { LastIs TCP tree.old.layers }
         requires bytes { length frame.now.bytes < 2 ^ 32 }
-        requires ready { IsReady 2 self.old tree.old }
+        requires ready { IsReady 2 span.len self.old tree.old }
         ensures inside { IfOk result (λ todo. IsTodoInside tree.new.buffers todo) }
         ensures walked { IfOk result (λ todo. (es : List Event) → StandsAt rules.now es self.old
             → IsWalked rules.now (segment_met rules.now frame.now packet tree.old es head span)
             self.new tree.new todo) }
-        ensures adds { IfOk result (λ todo. AddsOneThenEnds self.old self.new todo) }
+        ensures adds { IfOk result (λ todo. AddsOneThenEnds span.len self.old self.new todo) }
         ensures added { AddsAtMost 1 self.old self.new }
         ensures few { IfOk result (λ todo. AddsFew 4 tree.old tree.new todo) }
     {

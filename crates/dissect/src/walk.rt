@@ -1,11 +1,11 @@
-ghost use Rattle.std.specs.Prelude.{◌≡◌, ◌+◌, ◌-◌, ◌<◌, ◌≤◌, ◌^◌, List, [], ◌∷◌, length, IfOk, OnOk};
+ghost use Rattle.std.specs.Prelude.{◌≡◌, ℕ, ◌+◌, ◌-◌, ◌<◌, ◌≤◌, ◌^◌, List, [], ◌∷◌, length, IfOk, OnOk};
 ghost use Rattle.pk_tree.specs.Buffers.{IsInside};
 ghost use Rattle.pk_tree.specs.Following.{LeadsInside};
 ghost use Rattle.pk_fields.specs.declared.rules.PortRule.{PortRule as PortRuleValue};
 ghost use Rattle.dissect.specs.declared.state.State.{State as StateValue};
 ghost use Rattle.dissect.specs.Events.{Event, NewFrame};
 ghost use Rattle.app_layers.specs.Payloads.{ComesBehind};
-ghost use Rattle.dissect.specs.Stands.{StandsAt, IsWalked, HasRoom, HasRoomForOne, HasSpace, IsReady, AddsAtMost, AddsFew, AddsOneThenEnds};
+ghost use Rattle.dissect.specs.Stands.{StandsAt, IsWalked, HasRoom, HasRoomForOne, HasSpace, IsReady, AddsAtMost, AddsFew, AddsOneThenEnds, bytes_behind, bytes_kept};
 ghost use Rattle.dissect.specs.Walks.{IsTodoInside, rest_met, followed, chain, going, link_met, all_met, no_packet};
 
 use crate::state::State;
@@ -26,7 +26,7 @@ impl State {
         ensures walked { IfOk result (λ todo. (rules : List PortRuleValue) (es : List Event)
             → StandsAt rules es self.old
             → IsWalked rules (rest_met tree.old es span) self.new tree.new todo) }
-        ensures adds { IfOk result (λ todo. AddsOneThenEnds self.old self.new todo) }
+        ensures adds { IfOk result (λ todo. AddsOneThenEnds 0 self.old self.new todo) }
         ensures added { AddsAtMost 1 self.old self.new }
         ensures buffers { tree.new.buffers ≡ tree.old.buffers }
         ensures most { OnOk result (length tree.new.layers ≤ length tree.old.layers + 2) }
@@ -49,12 +49,13 @@ impl State {
         requires inside { LeadsInside tree.old.buffers after.now }
         requires last { ComesBehind after.now tree.old.layers }
         requires bytes { length frame.now.bytes < 2 ^ 32 }
-        requires ready { IsReady 4 self.old tree.old }
+        requires ready { IsReady 4 (bytes_behind after.now) self.old tree.old }
         ensures inside { IfOk result (λ todo. IsTodoInside tree.new.buffers todo) }
         ensures walked { IfOk result (λ todo. (es : List Event) → StandsAt rules.now es self.old
             → IsWalked rules.now (followed rules.now frame.now packet.now mode tree.old es after.now)
             self.new tree.new todo) }
-        ensures adds { IfOk result (λ todo. AddsOneThenEnds self.old self.new todo) }
+        ensures adds { IfOk result (λ todo.
+            AddsOneThenEnds (bytes_behind after.now) self.old self.new todo) }
         ensures added { AddsAtMost 1 self.old self.new }
         ensures few { IfOk result (λ todo. AddsFew 4 tree.old tree.new todo) }
     {
@@ -95,8 +96,11 @@ impl State {
         ensures walked { OnOk result ((es : List Event) → StandsAt rules.now es self.old
             → IsWalked rules.now (chain rules.now most frame.now (going tree.old es first))
             self.new tree.new Todo.Done) }
-        ensures added { (before : StateValue) → AddsOneThenEnds before self.old first
-            → AddsAtMost 1 before self.new }
+        ensures added { (before : StateValue) (bytes : ℕ)
+            → AddsOneThenEnds bytes before self.old first → AddsAtMost 1 before self.new }
+        ensures kept { OnOk result ((before : StateValue) (bytes : ℕ)
+            → AddsOneThenEnds bytes before self.old first
+            → bytes_kept self.new ≤ bytes_kept before + bytes) }
     {
         let mut left = most;
         let mut todo = first;
@@ -122,12 +126,13 @@ impl State {
         requires frame { tree.old.buffers ≡ frame.now.bytes ∷ [] }
         requires bytes { length frame.now.bytes < 2 ^ 32 }
         requires room { length tree.old.layers ≤ 2 }
-        requires few { HasRoomForOne self.old }
+        requires few { HasRoomForOne (length frame.now.bytes) self.old }
         ensures inside { IfOk result (λ todo. IsTodoInside tree.new.buffers todo) }
         ensures walked { IfOk result (λ todo. (es : List Event) → StandsAt rules.now es self.old
             → IsWalked rules.now (link_met rules.now frame.now tree.old es) self.new tree.new
             todo) }
-        ensures adds { IfOk result (λ todo. AddsOneThenEnds self.old self.new todo) }
+        ensures adds { IfOk result (λ todo.
+            AddsOneThenEnds (length frame.now.bytes) self.old self.new todo) }
         ensures added { AddsAtMost 1 self.old self.new }
         ensures space { IfOk result (λ todo. HasSpace 32 tree.new todo) }
     {
@@ -149,11 +154,13 @@ impl State {
         requires frame { tree.old.buffers ≡ frame.now.bytes ∷ [] }
         requires bytes { length frame.now.bytes < 2 ^ 32 }
         requires room { length tree.old.layers ≤ 2 }
-        requires few { HasRoomForOne self.old }
+        requires few { HasRoomForOne (length frame.now.bytes) self.old }
         ensures walked { OnOk result ((es : List Event) → StandsAt rules.now es self.old
             → IsWalked rules.now (all_met rules.now frame.now (link_met rules.now frame.now
             tree.old (NewFrame ∷ es))) self.new tree.new Todo.Done) }
         ensures added { AddsAtMost 1 self.old self.new }
+        ensures kept { OnOk result (bytes_kept self.new
+            ≤ bytes_kept self.old + length frame.now.bytes) }
     {
         self.begin_frame();
         let first = self.link(rules, frame, tree)?;

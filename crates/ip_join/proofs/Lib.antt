@@ -6,3 +6,4 @@ pub mod RenumberedLemmas
 pub mod KeptLemmas
 pub mod ShortLemmas
 pub mod FirstLemmas
+pub mod WaitingLemmas

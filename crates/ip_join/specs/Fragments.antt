@@ -21,6 +21,11 @@ repeats f g = f.head.offset == g.head.offset && bytes_eq f.bytes g.bytes
 abbrev pub reaches_past : ℕ → Fragment → Bool
 reaches_past end g = nat_lt (max end g.head.offset) (end_of g)
 
+-- how many bytes fragments have
+abbrev pub bytes_in : List Fragment → ℕ
+bytes_in [] = 0
+bytes_in (g ∷ gs) = length g.bytes + bytes_in gs
+
 abbrev pub put_fragments : Held → List Fragment → Held
 put_fragments held [] = held
 put_fragments held (g ∷ gs) = put_fragments (put_run held g.head.offset g.bytes g.frame) gs

@@ -3,6 +3,7 @@ pub mod Keys
 pub mod KeyOrder
 pub mod Datagrams
 pub mod Stands
+pub mod Waiting
 pub mod Renumbered
 pub mod Kept
 pub mod Forms

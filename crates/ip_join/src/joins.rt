@@ -1,4 +1,4 @@
-ghost use Rattle.std.specs.Prelude.{◌≡◌, ℕ, true, [], ◌∷◌, map, cond, unwrap_or, List, None, Some, IfOk, OnOk};
+ghost use Rattle.std.specs.Prelude.{◌≡◌, ◌+◌, ◌≤◌, ℕ, true, [], ◌∷◌, length, map, cond, unwrap_or, List, None, Some, IfOk, OnOk};
 ghost use Rattle.std.specs.BTreeMap as tree;
 ghost use Rattle.std.specs.Ordering.{eq_by_cmp};
 ghost use Rattle.ip_join.specs.declared.fragment.Fragment.{Fragment as FragmentValue};
@@ -6,6 +6,8 @@ ghost use Rattle.ip_join.specs.declared.key.Key.{Key as KeyValue};
 ghost use Rattle.ip_join.specs.KeyOrder.{key_cmp};
 ghost use Rattle.ip_join.specs.Stands.{Stands, joined_by, of_key};
 ghost use Rattle.ip_join.specs.Datagrams.{IsShort};
+ghost use Rattle.ip_join.specs.Fragments.{bytes_in};
+ghost use Rattle.ip_join.specs.Waiting.{bytes_joined, bytes_waiting};
 ghost use Rattle.ip_join.specs.Renumbered.{renumbered, answer_renumbered};
 
 use crate::fragment::Fragment;
@@ -28,7 +30,8 @@ impl Joins {
     /// No fragment was taken. Takes no memory.
     #[tactic(auto, unfolding(crate::specs::Stands::Stands))]
     pub fn new(alloc: Global) -> Joins
-        ensures { Stands [] result }
+        ensures stands { Stands [] result }
+        ensures waiting { bytes_waiting result ≡ 0 }
     {
         Joins {
             alloc,
@@ -70,6 +73,9 @@ impl Joins {
               bytes = payload.now;
             }))) }
         ensures short { IfOk result (λ joined. IsShort joined) }
+        // each byte of a datagram was brought by a fragment, which waits no more
+        ensures brought { IfOk result (λ joined. bytes_joined joined + bytes_waiting self.new
+            ≤ bytes_waiting self.old + length payload.now) }
     {
         // a part would keep the whole block that was read
         let bytes = Octets::copy(self.alloc, payload.bytes())?;
@@ -86,6 +92,8 @@ impl Joins {
         ensures stands { OnOk result ((past : List FragmentValue) → Stands past self.old
             → Stands (new ∷ past) self.new) }
         ensures short { IfOk result (λ joined. IsShort joined) }
+        ensures brought { IfOk result (λ joined. bytes_joined joined + bytes_waiting self.new
+            ≤ bytes_waiting self.old + length new.bytes) }
     {
         let head = new.head;
         let key = key_of(&head);
@@ -110,6 +118,8 @@ impl Joins {
         ensures rest { (q : KeyValue)
             → tree.get key_cmp self.new.parts q
             ≡ cond (eq_by_cmp key_cmp key q) None (tree.get key_cmp self.old.parts q) }
+        ensures waiting { IfOk result (λ parts.
+            bytes_in parts + bytes_waiting self.new ≤ bytes_waiting self.old) }
     {
         match self.parts.remove(&key) {
             Some(kept) => kept.into_parts(self.alloc),
@@ -118,9 +128,11 @@ impl Joins {
     }
 
     fn keep(&mut self, key: Key, parts: Parts) -> Result<(), NoMemory>
-        ensures { OnOk result ((q : KeyValue)
+        ensures kept { OnOk result ((q : KeyValue)
             → tree.get key_cmp self.new.parts q
             ≡ cond (eq_by_cmp key_cmp key q) (Some parts) (tree.get key_cmp self.old.parts q)) }
+        ensures waiting { OnOk result (bytes_waiting self.new
+            ≤ bytes_waiting self.old + bytes_in parts) }
     {
         self.parts.insert(key, Kept::new(self.alloc, parts)?)?;
         Ok(())

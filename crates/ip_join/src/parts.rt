@@ -4,7 +4,7 @@ ghost use Rattle.std.specs.List.{list_any};
 ghost use Rattle.std.specs.BTreeMap as tree;
 ghost use Rattle.std.specs.Ordering.{nat_cmp};
 ghost use Rattle.range_bytes.specs.Held.{HoldsAll};
-ghost use Rattle.ip_join.specs.Fragments.{end_of, overlaps, repeats, map_of, end_after, holds_below};
+ghost use Rattle.ip_join.specs.Fragments.{bytes_in, end_of, overlaps, repeats, map_of, end_after, holds_below};
 ghost use Rattle.ip_join.specs.Datagrams.{conflict_of, has_two_ends, misses_end, is_overlap_six, whole_end, next_of as next_value, datagram_if_whole};
 ghost use Rattle.ip_join.specs.Kept.{AreFirst, has_bytes, last_end, first_copy};
 
@@ -174,6 +174,8 @@ impl Parts {
     pub(crate) fn datagram(&self, head: FragmentHead) -> Result<Option<Datagram>, NoMemory>
         ensures whole { IfOk result (λ datagram. datagram ≡ datagram_if_whole self.now head) }
         ensures short { IfOk result (λ datagram. IfSome datagram (λ d. length d.bytes ≤ 65535)) }
+        ensures brought { IfOk result (λ datagram.
+            IfSome datagram (λ d. length d.bytes ≤ bytes_in self.now)) }
     {
         match self.whole_end() {
             Some(end) => Ok(Some(Datagram {

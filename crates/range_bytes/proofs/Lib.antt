@@ -1,4 +1,5 @@
 pub mod Runs
+pub mod Counting
 pub mod PieceLemmas
 pub mod LateLemmas
 pub mod Covering

@@ -55,6 +55,15 @@ abbrev pub HoldsAll : Held → ℕ → ℕ → Type 0
 HoldsAll held from to = (position : ℕ) → from ≤ position → position < to
     → IsSome (get held position)
 
+abbrev pub one_if_held : Option Cell → ℕ
+one_if_held None = 0
+one_if_held (Some cell) = 1
+
+-- how many positions below one are held
+abbrev pub held_below : ℕ → Held → ℕ
+held_below zero held = 0
+held_below (suc n) held = one_if_held (get held n) + held_below n held
+
 abbrev pub byte_of : Option Cell → ℕ
 byte_of None = 0
 byte_of (Some cell) = cell.0

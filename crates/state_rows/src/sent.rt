@@ -1,5 +1,5 @@
 ghost use Rattle.std.specs.Prelude.{◌≤◌};
-ghost use Rattle.tcp_streams.specs.Standing.{taken_so_far};
+ghost use Rattle.tcp_streams.specs.Standing.{bytes_so_far, taken_so_far};
 ghost use Rattle.tcp_messages.specs.Standing.{streams_in};
 
 use pk_base::{Address, Endpoint, NoMemory, Octets};
@@ -8,13 +8,15 @@ use stream_messages::App;
 use tcp_messages::{MessageStreams, Met};
 use tcp_streams::Segment;
 
-/// Streams of an application, and how many frames were sent to them.
+/// Streams of an application, and how many frames and bytes were sent to them.
 #[derive(Drop)]
 pub(crate) struct Sent {
     pub(crate) streams: MessageStreams,
     app: Option<App>,
     frames: u32,
+    bytes: u64,
     ghost few: { taken_so_far (streams_in streams) ≤ frames },
+    ghost few_bytes: { bytes_so_far (streams_in streams) ≤ bytes },
 }
 
 impl Sent {
@@ -23,16 +25,24 @@ impl Sent {
             streams: MessageStreams::new(alloc),
             app,
             frames: 0,
+            bytes: 0,
         }
     }
 
     /// Sends a segment in the next frame; frames are numbered from 1.
     pub(crate) fn send(&mut self, mut segment: Segment) -> Result<Met, NoMemory> {
+        let bytes = self
+            .bytes
+            .saturating_add(segment.payload.bytes().len() as u64);
         let Some(frames) = self.frames.checked_add(1) else {
             return Err(NoMemory);
         };
+        if bytes >= 1 << 32 {
+            return Err(NoMemory);
+        }
         segment.frame = frames;
         self.frames = frames;
+        self.bytes = bytes;
         self.streams.take(&segment, self.app)
     }
 }

@@ -1,5 +1,5 @@
 -- Where the bytes of messages are.
-use Rattle.std.proofs.Common.{◌≡◌, ℕ, zero, suc, ◌+◌, ◌-◌, ◌^◌, ◌<◌, ◌≤◌, Bool, nat_eq, List, [], ◌∷◌, ◌++◌, length, map, take, drop, slice_range, slice_get, Option, Some, None, option_map, unwrap_or, refl, sym, ap, subst, ◌∙◌, arith, length-drop, append_assoc, ℤ}
+use Rattle.std.proofs.Common.{◌≡◌, ℕ, zero, suc, ◌+◌, ◌-◌, ◌^◌, ◌<◌, ◌≤◌, Bool, nat_eq, List, [], ◌∷◌, ◌++◌, length, map, take, drop, slice_range, slice_get, Option, Some, None, option_map, unwrap_or, eqb, refl, sym, ap, subst, ◌∙◌, arith, length-drop, append_assoc, ℤ}
 use Rattle.std.specs.List.{starts_with}
 use Rattle.std.proofs.lemmas.Option.{none-some, cond_some}
 use Rattle.std.proofs.lemmas.Bool.{false≢true}
@@ -14,7 +14,9 @@ use Rattle.range_bytes.specs.Held.{Held, HoldsAll, IsFreeFrom, put_numbers, put_
 use Rattle.range_bytes.proofs.Ascending.{all_put}
 use Rattle.tcp_streams.specs.declared.segment.Segment.{Segment}
 use Rattle.tcp_streams.specs.Parts.{LiesIn, LiesInOne, IsPart}
-use Rattle.tcp_streams.specs.Ways.{WayState, stretches, end_of, IsWay, AreApart}
+use Rattle.tcp_streams.specs.declared.streams.Streams.{Streams}
+use Rattle.tcp_streams.specs.Standing.{AreReady, bytes_so_far, way_in}
+use Rattle.tcp_streams.specs.Ways.{WayState, stretches, end_of, IsWay, AreApart, AreShort}
 use Rattle.stream_messages.specs.declared.told.App.{App}
 use Rattle.stream_messages.specs.declared.told.App.TheVariants as apps
 use Rattle.stream_messages.specs.declared.told.Told.{Told}
@@ -70,6 +72,17 @@ pub ends_within : (v : WayState) (m : Placed) → IsWay v → IsSomeWhole (stret
 ends_within v m way some =
     let ends = ends_in 0 v.earlier (record { start = v.start; bytes = v.front }) some.1.0 some.1.1 way.apart some.1.2 in
     omega (arith, some.1.3.within, ends)
+
+-- and has fewer than 2^32 bytes, as all segments have
+short_at : (most : ℕ) (ss : List Stretch) (i : ℕ) (s : Stretch) → AreShort most ss → slice_get ss i ≡ Some s → length s.bytes ≤ most
+short_at most [] i s short = λ e. absurd (none-some s e)
+short_at most (x ∷ ss) zero s short = λ e. subst (λ (t : Stretch). length t.bytes ≤ most) (ap (λ (o : Option Stretch). unwrap_or o x) e) short.0
+short_at most (x ∷ ss) (suc i) s short = λ e. short_at most ss i s short.1 e
+
+pub is_short : (streams : Streams) (stream side : ℕ) (m : Placed) → AreReady streams → IsSomeWhole (stretches (way_in streams stream side)) m → told_end m.told < 2 ^ 32
+is_short streams stream side m ready some =
+    let long = short_at (bytes_so_far streams) (stretches (way_in streams stream side)) some.1.0 some.1.1 (ready.short stream (eqb side 1)) some.1.2 in
+    omega (arith, long, ready.few, some.1.3.from, some.1.3.within)
 
 pub lies_in_one : (ss : List Stretch) (m : Placed) (to : ℕ) → IsSomeWhole ss m → to ≡ end_at m → LiesInOne ss m.at to
 lies_in_one ss m to some ends = (some.1.0, some.1.1, some.1.2, record { low = some.1.3.from; order = omega (arith, ends); high = omega (arith, ends, some.1.3.within) })

@@ -51,7 +51,7 @@ pub(crate) fn locate_all(
     Ok(ShownList::from_vec(shown))
 }
 
-/// Finds where a message's bytes are. A message so long that no buffer holds it finds no memory.
+/// Finds where a message's bytes are.
 fn locate(
     alloc: Global,
     streams: &Streams,
@@ -70,7 +70,7 @@ fn locate(
     ensures located { IfOk result (λ source. (past : List SegmentValue) → StandsFor past streams.now
         → source ≡ (located (way_for past taken.now.stream taken.now.side).held s.now taken.now.position message.now).source) }
 {
-    let len = len_of(&message.told)?;
+    let len = len_of(&message.told);
     let to = message.at + u64::from(len);
     let bytes = streams.part(taken.stream, taken.side, message.at, to);
     let frames = frames_of(alloc, streams, taken, run, message.at, to)?;
@@ -100,17 +100,12 @@ fn run_at(streams: &Streams, taken: &Taken, before: Option<Run>, at: u64) -> Run
     }
 }
 
-/// How many bytes a message has, if a buffer holds so many.
-fn len_of(told: &Told) -> Result<u32, NoMemory>
-    ensures len { IfOk result (λ len. len ≡ end_of told.now) }
-    ensures short { IfOk result (λ _. end_of told.now < 2 ^ 32) }
+/// How many bytes a message has.
+fn len_of(told: &Told) -> u32
+    requires { end_of told.now < 2 ^ 32 }
+    ensures { result ≡ end_of told.now }
 {
-    let end = told.end();
-    if end < 1 << 32 {
-        Ok(end as u32)
-    } else {
-        Err(NoMemory)
-    }
+    told.end() as u32
 }
 
 /// The frames that brought bytes of a stretch. These are held.

@@ -1,7 +1,7 @@
-ghost use Rattle.std.specs.Prelude.{◌≡◌, ◌+◌, ◌-◌, ◌^◌, ◌<◌, ◌≤◌, List, [], ◌∷◌, All, Option, IfOk, OnOk};
+ghost use Rattle.std.specs.Prelude.{◌≡◌, ◌+◌, ◌-◌, ◌^◌, ◌<◌, ◌≤◌, List, [], ◌∷◌, length, All, Option, IfOk, OnOk};
 ghost use Rattle.tcp_streams.specs.declared.segment.Segment.{Segment as SegmentValue};
 ghost use Rattle.tcp_streams.specs.Labels.{taken_after, PassesNear};
-ghost use Rattle.tcp_streams.specs.Standing.{StandsFor, taken_so_far};
+ghost use Rattle.tcp_streams.specs.Standing.{StandsFor, bytes_so_far, taken_so_far};
 ghost use Rattle.stream_messages.specs.declared.told.App.{App as AppValue};
 ghost use Rattle.tcp_messages.specs.Shown.{IsWholeIn, frames_told as frames_value, shown_after};
 ghost use Rattle.tcp_messages.specs.Readers.{IsOfEnds};
@@ -36,6 +36,7 @@ impl MessageStreams {
     pub fn new(alloc: Global) -> MessageStreams
         ensures stands { (app_of : SegmentValue → Option AppValue) → ReadsFor app_of [] result }
         ensures taken { taken_so_far (streams_in result) ≡ 0 }
+        ensures bytes { bytes_so_far (streams_in result) ≡ 0 }
     {
         MessageStreams {
             alloc,
@@ -58,7 +59,8 @@ impl MessageStreams {
     /// Takes a segment, and tells what it is to those before it, and which messages its frame shows: those of its direction
     /// that end past the bytes before it, where an application of its stream is known. After `NoMemory` nothing more is known.
     pub fn take(&mut self, s: &Segment, app: Option<App>) -> Result<Met, NoMemory>
-        requires { taken_so_far (streams_in self.old) < 2 ^ 32 - 1 }
+        requires taken { taken_so_far (streams_in self.old) < 2 ^ 32 - 1 }
+        requires bytes { bytes_so_far (streams_in self.old) + length s.now.payload < 2 ^ 32 }
         ensures taken { IfOk result (λ met. (past : List SegmentValue) → StandsFor past (streams_in self.old) → met.taken ≡ taken_after past s.now) }
         ensures shown { IfOk result (λ met. (app_of : SegmentValue → Option AppValue) (past : List SegmentValue)
             → IsOfEnds app_of → app ≡ app_of s.now → ReadsFor app_of past self.old → met.messages ≡ shown_after app past s.now) }
@@ -68,6 +70,7 @@ impl MessageStreams {
             → IsOfEnds app_of → app ≡ app_of s.now → ReadsFor app_of past self.old → ReadsFor app_of (s.now ∷ past) self.new) }
         ensures near { IfOk result (λ met. PassesNear met.taken) }
         ensures counted { taken_so_far (streams_in self.new) ≤ taken_so_far (streams_in self.old) + 1 }
+        ensures bytes { bytes_so_far (streams_in self.new) ≤ bytes_so_far (streams_in self.old) + length s.now.payload }
     {
         let kept = &mut self.kept;
         if kept.spent {

@@ -1,12 +1,8 @@
 -- Where a direction's segments have few bytes and no gap was passed, none of them reaches far.
-use Rattle.std.proofs.Common.{◌≡◌, ℕ, zero, suc, ◌+◌, ◌-◌, ◌^◌, ◌<◌, ◌≤◌, Bool, true, false, cond, List, [], ◌∷◌, length, drop, Option, None, Some, IsSome, refl, sym, ap, subst, inl, inr, arith}
-use Rattle.std.specs.Ordering.{nat_cmp}
-use Rattle.std.specs.FinMap.{get, empty, get-empty}
-use Rattle.std.specs.Option.{option_or}
-use Rattle.std.proofs.lemmas.Bool.{false≢true, cases_lt}
+use Rattle.std.proofs.Common.{◌≡◌, ℕ, ◌+◌, ◌-◌, ◌^◌, ◌<◌, ◌≤◌, Bool, true, false, cond, List, [], ◌∷◌, length, drop, sym, ap, subst, inl, inr, arith}
 use Rattle.std.proofs.lemmas.List.{length-take, length-drop}
-use Rattle.range_bytes.specs.Held.{Held, Cell, HoldsAll, put_run, run_cell}
-use Rattle.range_bytes.proofs.Runs.{get-put_run, run_cell-before, run_cell-after}
+use Rattle.range_bytes.specs.Held.{held_below}
+use Rattle.range_bytes.proofs.Counting.{run_fits, none_below, put_few}
 use Rattle.tcp_streams.specs.declared.segment.Segment.{Segment}
 use Rattle.tcp_streams.specs.Numbers.{first_number, ahead, place, skipped, taken_bytes, window}
 use Rattle.tcp_streams.specs.Gaps.{end_past}
@@ -15,63 +11,7 @@ use Rattle.tcp_streams.specs.Order.{offset, AllInWindow, AllShort, bytes_sent, I
 use Rattle.tcp_streams.proofs.WayLemmas.{after_is}
 use Rattle.tcp_streams.proofs.OrderLemmas.{own_plain, earlier_back, start_is, holds_sent, holds_given, run_is, order_is_free}
 
--- how many positions below one are held
-abbrev one_at : Option Cell → ℕ
-one_at None = 0
-one_at (Some cell) = 1
-
-abbrev held_below : ℕ → Held → ℕ
-held_below zero held = 0
-held_below (suc n) held = one_at (get held n) + held_below n held
-
-one_some : (o : Option Cell) → IsSome o → one_at o ≡ 1
-one_some None there = absurd (false≢true there)
-one_some (Some cell) there = refl
-
-one_most : (o : Option Cell) → one_at o ≤ 1
-one_most None = omega arith
-one_most (Some cell) = omega arith
-
-one_or : (a b : Option Cell) → one_at (option_or a b) ≤ one_at a + one_at b
-one_or None b = omega arith
-one_or (Some cell) b = omega arith
-
-all_below : (n : ℕ) (held : Held) → HoldsAll held 0 n → held_below n held ≡ n
-all_below zero held all = refl
-all_below (suc n) held all =
-    let rest = all_below n held (λ p low high. all p low (omega (arith, high))) in
-    omega (arith, rest, one_some (get held n) (all n (omega arith) (omega arith)))
-
-none_below : (n : ℕ) → held_below n empty ≡ 0
-none_below zero = refl
-none_below (suc n) = let here : one_at (get empty n) ≡ 0 = ap one_at (get-empty nat_cmp n) in omega (arith, here, none_below n)
-
--- bytes that are put in
-record AreFew (n : ℕ) (held more : Held) (p size : ℕ) : Type 0 where
-  few : held_below n more ≤ held_below n held + size
-  near : held_below n more ≤ held_below n held + (n - p)
-
-put_few : (n : ℕ) (held : Held) (p : ℕ) (bytes : List ℕ) (frame : ℕ) → AreFew n held (put_run held p bytes frame) p (length bytes)
-put_few zero held p bytes frame = record { few = omega arith; near = omega arith }
-put_few (suc n) held p bytes frame =
-    let rest = put_few n held p bytes frame in
-    let new = run_cell p bytes frame n in
-    let here : one_at (get (put_run held p bytes frame) n) ≤ one_at (get held n) + one_at new =
-    subst (λ (o : Option Cell). one_at o ≤ one_at (get held n) + one_at new) (sym (get-put_run held p bytes frame n)) (one_or (get held n) new) in
-    elim (cases_lt n p) [
-      | inl before ↦
-          let none : one_at new ≡ 0 = ap one_at (run_cell-before p bytes frame n before) in
-          record { few = omega (arith, rest.few, here, none); near = omega (arith, rest.near, here, none, before) }
-      | inr after ↦ elim (cases_lt n (p + length bytes)) [
-        | inl within ↦
-            record { few = omega (arith, rest.near, here, one_most new, after, within); near = omega (arith, rest.near, here, one_most new, after) }
-        | inr past ↦
-            let none : one_at new ≡ 0 = ap one_at (run_cell-after p bytes frame n past) in
-            record { few = omega (arith, rest.few, here, none); near = omega (arith, rest.near, here, none, after) }
-      ]
-    ]
-
-step_few : (n : ℕ) (w : WayState) (s : Segment) (sent : ℕ) (own : Bool) → held_below n w.held ≤ sent → held_below n (way_step own w s).held ≤ cond own (length s.payload) 0 + sent
+pub step_few : (n : ℕ) (w : WayState) (s : Segment) (sent : ℕ) (own : Bool) → held_below n w.held ≤ sent → held_below n (way_step own w s).held ≤ cond own (length s.payload) 0 + sent
 unfolding own_step other_step
 step_few n w s sent true few =
     let u = ahead (origin_for w s) (front_for w) (first_number s) in
@@ -90,8 +30,8 @@ front_few : (side : Bool) (ls : List Sided) → (way_after side ls).earlier ≡ 
 front_few side ls none =
     let w = way_after side ls in
     let begins : w.start ≡ 0 = start_is side ls none in
-    let all = all_below (end_of w) w.held (λ p low high. (after_is side ls).place.run p (omega (arith, begins)) high) in
-    omega (arith, all, sent_few (end_of w) side ls)
+    let run = run_fits w.held w.start (end_of w) (after_is side ls).place.run in
+    omega (arith, run, begins, sent_few (end_of w) side ls)
 
 new_short : (origin : ℕ) (side : Bool) (l : Sided) (ls : List Sided) → AllInWindow origin side (l ∷ ls) → (way_step true (way_after side ls) l.segment).earlier ≡ []
     → same_side side l.side ≡ true → bytes_sent side ls ≤ 2 ^ 30 → 0 < length l.segment.payload → offset origin l.segment + length l.segment.payload < 2 ^ 31

@@ -5,10 +5,11 @@ pub mod AckLemmas
 pub mod WayLemmas
 pub mod StandsLemmas
 pub mod TakeLemmas
-pub mod Stepping
 pub mod Keys
 pub mod OrderLemmas
 pub mod FewLemmas
+pub mod Filling
+pub mod Stepping
 pub mod ReadLemmas
 pub mod PartLemmas
 pub mod FramesAside

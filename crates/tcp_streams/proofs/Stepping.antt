@@ -11,9 +11,10 @@ use Rattle.tcp_streams.specs.declared.streams.Streams.{Streams}
 use Rattle.tcp_streams.specs.Ways.{WayState, nothing, end_of, way_step, same_side, IsWay}
 use Rattle.tcp_streams.specs.States.{state_of}
 use Rattle.tcp_streams.specs.Labels.{told, side_from}
-use Rattle.tcp_streams.specs.Stands.{IsSound, IsSoundStream, IsStepped, IsOpened}
-use Rattle.tcp_streams.specs.Standing.{AreStepped, AreSteppedAt, AreReady, streams_of, way_kept}
+use Rattle.tcp_streams.specs.Stands.{IsSound, IsSoundStream, AreFilled, IsStepped, IsOpened}
+use Rattle.tcp_streams.specs.Standing.{AreStepped, AreSteppedAt, AreReady, bytes_so_far, streams_of, way_kept}
 use Rattle.tcp_streams.proofs.WayLemmas.{nothing_is}
+use Rattle.tcp_streams.proofs.Filling.{stretches_short, ways_filled}
 use Rattle.tcp_streams.proofs.TakeLemmas.{Followed, Started, at_stream}
 
 set_here : {X : Type 0} (xs : List X) (i : ℕ) (x : X) → i < length xs → slice_get (slice_set xs i x) i ≡ Some x
@@ -148,9 +149,16 @@ fine_at newest streams taken k one sound few = elim (slice_get streams k) as (λ
     by stream is true = (is.one, omega (arith, is.one_room, few))
     by stream is false = (is.zero, omega (arith, is.zero_room, few))
 
-pub are_ready : (streams : Streams) → streams.kept.spent ≡ false → IsSound streams.kept.newest (streams_of streams) streams.kept.taken → streams.kept.taken < 2 ^ 32 → AreReady streams
-are_ready streams fresh sound few = record {
+pub ways_sound : (newest : Newest) (streams : List Stream) (taken : ℕ) → IsSound newest streams taken → taken < 2 ^ 32 → (k : ℕ) (one : Bool) → IsWay (way_kept (slice_get streams k) one)
+ways_sound newest streams taken sound few k one = (fine_at newest streams taken k one sound few).0
+
+pub are_ready : (streams : Streams) → streams.kept.spent ≡ false → IsSound streams.kept.newest (streams_of streams) streams.kept.taken → AreFilled streams.kept.bytes (streams_of streams)
+    → streams.kept.taken < 2 ^ 32 → bytes_so_far streams < 2 ^ 32 → AreReady streams
+are_ready streams fresh sound filled few bytes_few = record {
   fresh = fresh;
-  ways = λ k one. (fine_at streams.kept.newest (streams_of streams) streams.kept.taken k one sound few).0;
+  few = bytes_few;
+  ways = ways_sound streams.kept.newest (streams_of streams) streams.kept.taken sound few;
   room = λ k one. (fine_at streams.kept.newest (streams_of streams) streams.kept.taken k one sound few).1;
+  short = λ k one. stretches_short (bytes_so_far streams) (way_kept (slice_get (streams_of streams) k) one)
+      (ways_sound streams.kept.newest (streams_of streams) streams.kept.taken sound few k one) (ways_filled (bytes_so_far streams) (streams_of streams) k one filled);
 }

@@ -4,7 +4,7 @@ use Rattle.tcp_streams.specs.declared.segment.Segment.{Segment}
 use Rattle.tcp_streams.specs.declared.segment.Taken.{Taken}
 use Rattle.tcp_streams.specs.declared.streams.Streams.{Streams}
 use Rattle.tcp_streams.specs.declared.stream.Stream.{Stream}
-use Rattle.tcp_streams.specs.Ways.{WayState, nothing, end_of, way_step, same_side, IsWay}
+use Rattle.tcp_streams.specs.Ways.{WayState, nothing, end_of, stretches, way_step, same_side, AreShort, IsWay}
 use Rattle.tcp_streams.specs.States.{state_of}
 use Rattle.tcp_streams.specs.Labels.{labels, way_of, told}
 use Rattle.tcp_streams.specs.Stands.{Agrees}
@@ -12,6 +12,10 @@ use Rattle.tcp_streams.specs.Stands.{Agrees}
 -- how many segments were taken
 abbrev pub taken_so_far : Streams → ℕ
 taken_so_far streams = streams.kept.taken
+
+-- how many bytes these had
+abbrev pub bytes_so_far : Streams → ℕ
+bytes_so_far streams = streams.kept.bytes
 
 -- how many streams there are; they are numbered from 0
 abbrev pub stream_count : Streams → ℕ
@@ -53,8 +57,10 @@ AreStepped s taken old new = (side : Bool) × AreSteppedAt s taken taken.stream 
 abbrev pub streams_of : Streams → List Stream
 streams_of streams = streams.kept.streams.items
 
--- streams that have answered no error, none of whose directions has gone far
+-- streams that have answered no error, none of whose directions has gone far: no stretch of one has more bytes than all segments had
 pub record AreReady (streams : Streams) : Type 0 where
   pub fresh : streams.kept.spent ≡ false
+  pub few : bytes_so_far streams < 2 ^ 32
   pub ways : (stream : ℕ) (one : Bool) → IsWay (way_kept (slice_get (streams_of streams) stream) one)
   pub room : (stream : ℕ) (one : Bool) → end_of (way_kept (slice_get (streams_of streams) stream) one) < 2 ^ 58
+  pub short : (stream : ℕ) (one : Bool) → AreShort (bytes_so_far streams) (stretches (way_kept (slice_get (streams_of streams) stream) one))

@@ -5,7 +5,7 @@ use Rattle.tcp_streams.specs.declared.segment.Taken.{Taken}
 use Rattle.tcp_streams.specs.declared.stream.Stream.{Stream}
 use Rattle.tcp_streams.specs.declared.ends.Ends.{Ends}
 use Rattle.tcp_streams.specs.declared.newest.Newest.{Newest}
-use Rattle.tcp_streams.specs.Ways.{nothing, end_of, own_step, other_step, way_step, same_side, IsWay}
+use Rattle.tcp_streams.specs.Ways.{nothing, end_of, own_step, other_step, way_step, same_side, IsWay, HoldsAtMost}
 use Rattle.tcp_streams.specs.States.{state_of}
 use Rattle.tcp_streams.specs.Conversations.{ends_of, number_of}
 use Rattle.tcp_streams.specs.Labels.{Label, latest, opened, opener, way_of, restarts, side_from, told}
@@ -36,6 +36,14 @@ pub record IsSound (newest : Newest) (streams : List Stream) (taken : ℕ) : Typ
   pub count : length streams ≤ taken
   pub within : (ends : Ends) (number : ℕ) → number_of newest ends ≡ Some number → number < length streams
   pub each : (number : ℕ) (stream : Stream) → slice_get streams number ≡ Some stream → IsSoundStream taken stream
+
+-- and neither holds more bytes than all segments had
+pub record IsFilled (bytes : ℕ) (stream : Stream) : Type 0 where
+  pub zero : HoldsAtMost bytes (state_of stream.zero)
+  pub one : HoldsAtMost bytes (state_of stream.one)
+
+abbrev pub AreFilled : ℕ → List Stream → Type 0
+AreFilled bytes streams = (number : ℕ) (stream : Stream) → slice_get streams number ≡ Some stream → IsFilled bytes stream
 
 -- the stream that a segment goes on with, as the objects have it
 abbrev pub origin_in : Stream → Segment → Option ℕ

@@ -1,12 +1,12 @@
 -- One direction of a stream, over the segments of both sides; these are listed with the newest first (RFC 9293, 3.4 and
 -- 3.10.7.4; that the first arrival stays, the window and the gaps are rules of this dissector).
-use mathlib.Core.HLevel.{×_prop}
+use mathlib.Core.HLevel.{×_prop, Unit-prop}
 use denote.Struct.Props as logic
 use Rattle.std.specs.Prelude.{◌≡◌, ℕ, ◌+◌, ◌-◌, max, Bool, true, false, if◌then◌else◌, List, [], ◌∷◌, ◌++◌, length, Option, None, Some, unwrap_or, ◌≤◌}
 use Rattle.std.specs.FinMap.{get, empty}
 use Rattle.pk_base.specs.declared.lost.Lost.{Lost}
 use Rattle.pk_base.specs.declared.stretch.Stretch.{Stretch}
-use Rattle.range_bytes.specs.Held.{Held, HoldsAll, put_run, bytes_at}
+use Rattle.range_bytes.specs.Held.{Held, HoldsAll, put_run, bytes_at, held_below}
 use Rattle.tcp_streams.specs.declared.segment.Segment.{Segment}
 use Rattle.tcp_streams.specs.Numbers.{first_number, ahead, place, window, taken_bytes}
 use Rattle.tcp_streams.specs.Gaps.{first_free, gaps_behind, start_past, end_past, left_behind}
@@ -113,3 +113,18 @@ pub record IsWay (w : WayState) : Type 0 where
   pub place : IsPlace w.held w.start (end_of w)
   pub bytes : w.front ≡ bytes_at w.held w.start (length w.front)
   pub apart : AreApart 0 w.earlier w.start
+
+-- none of these stretches has more bytes than that
+abbrev pub AreShort : ℕ → List Stretch → Type 0
+AreShort most [] = Unit {0}
+AreShort most (stretch ∷ stretches) = (length stretch.bytes ≤ most) × AreShort most stretches
+
+-- that too has one proof at most
+pub short_prop : (most : ℕ) (xs : List Stretch) → IsProp (AreShort most xs)
+short_prop most [] = Unit-prop
+short_prop most (stretch ∷ stretches) = ×_prop (Prim.hlevel logic.props) (short_prop most stretches)
+
+-- a direction that holds at most so many bytes; no stretch before the last has more
+pub record HoldsAtMost (bytes : ℕ) (w : WayState) : Type 0 where
+  pub held : (position : ℕ) → held_below position w.held ≤ bytes
+  pub earlier : AreShort bytes w.earlier

@@ -7,7 +7,7 @@ ghost use Rattle.tcp_streams.specs.Labels.{labels, sided_of, opened, side_from, 
 ghost use Rattle.tcp_streams.specs.Isolation.{HaveSameBetween, IsIsolated};
 ghost use Rattle.tcp_streams.specs.Order.{IsOrderFree};
 ghost use Rattle.tcp_streams.specs.Stands.{Agrees, IsSound, IsSoundStream, IsStepped, IsOpened, current_in};
-ghost use Rattle.tcp_streams.specs.Standing.{AreReady, AreStepped, StandsFor, streams_of, taken_so_far, stream_count};
+ghost use Rattle.tcp_streams.specs.Standing.{AreReady, AreStepped, StandsFor, bytes_so_far, streams_of, taken_so_far, stream_count};
 
 use crate::ends::ends_of;
 use crate::kept::Kept;
@@ -38,6 +38,7 @@ impl Streams {
     pub fn new(alloc: Global) -> Streams
         ensures stands { StandsFor [] result }
         ensures taken { taken_so_far result ≡ 0 }
+        ensures bytes { bytes_so_far result ≡ 0 }
     {
         Streams {
             alloc,
@@ -45,6 +46,7 @@ impl Streams {
                 newest: Newest::new(alloc),
                 streams: Vec::new(alloc),
                 taken: 0,
+                bytes: 0,
                 spent: false,
             },
         }
@@ -62,13 +64,15 @@ impl Streams {
     /// Takes a segment, and tells what it is to those before it. After `NoMemory` nothing more is known of the streams.
     #[tactic(auto, using(crate::proofs::FewLemmas::is_order_free), unfolding(crate::specs::Standing::StandsFor))]
     pub fn take(&mut self, s: &Segment) -> Result<Taken, NoMemory>
-        requires { taken_so_far self.old < 2 ^ 32 - 1 }
+        requires taken { taken_so_far self.old < 2 ^ 32 - 1 }
+        requires bytes { bytes_so_far self.old + length s.now.payload < 2 ^ 32 }
         ensures taken { IfOk result (λ taken. (past : List SegmentValue) → StandsFor past self.old → taken ≡ taken_after past s.now) }
         ensures stands { OnOk result ((past : List SegmentValue) → StandsFor past self.old → StandsFor (s.now ∷ past) self.new) }
         ensures near { IfOk result (λ taken. PassesNear taken) }
         ensures stepped { IfOk result (λ taken. AreStepped s.now taken (streams_of self.old) (streams_of self.new)) }
         ensures ready { OnOk result (AreReady self.new) }
         ensures counted { taken_so_far self.new ≤ taken_so_far self.old + 1 }
+        ensures bytes { bytes_so_far self.new ≤ bytes_so_far self.old + length s.now.payload }
         ensures isolated { (past ys : List SegmentValue) → HaveSameBetween s.now past ys → IsIsolated s.now past ys }
         ensures order { (past : List SegmentValue) (stream origin : ℕ) (side : Bool)
             → IsOrderFree origin side (sided_of stream (labels (s.now ∷ past))) }
@@ -79,6 +83,7 @@ impl Streams {
         }
         kept.spent = true;
         kept.taken += 1;
+        kept.bytes += s.payload.bytes().len() as u32;
         let taken = take_next(self.alloc, &mut kept.newest, &mut kept.streams, s)?;
         kept.spent = false;
         Ok(taken)

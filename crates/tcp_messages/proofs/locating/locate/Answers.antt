@@ -1,15 +1,18 @@
 use Rattle.std.proofs.Common.{◌≡◌, ◌+◌, eqb, sym, ◌∙◌, arith}
 use Rattle.tcp_streams.specs.Standing.{way_in}
 use Rattle.stream_messages.specs.Messages.{end_at}
-use Rattle.tcp_messages.proofs.Sources.{ends_within, part_is, gathered_whole, segment_whole}
+use Rattle.tcp_messages.proofs.Sources.{ends_within, is_short, part_is, gathered_whole, segment_whole}
 use Rattle.tcp_messages.proofs.locating.locate.Goals as goal
+
+pub len_of-len-requires : goal.len_of-len-requires
+len_of-len-requires c = is_short c.args.streams.now c.args.taken.now.stream c.args.taken.now.side c.args.message.now c.requires.ready c.requires.whole
 
 pub overflow_add-to : goal.overflow_add-to
 overflow_add-to c =
     let side = eqb c.args.taken.now.side 1 in
     let v = way_in c.args.streams.now c.args.taken.now.stream c.args.taken.now.side in
     let ends = ends_within v c.args.message.now (c.requires.ready.ways c.args.taken.now.stream side) c.requires.whole in
-    omega (arith, ends, c.requires.ready.room c.args.taken.now.stream side, c.from.ensures, c.in_ok-len.ensures.len)
+    omega (arith, ends, c.requires.ready.room c.args.taken.now.stream side, c.from.ensures, c.len_of-len.ensures)
 
 pub place_in-requires : goal.place_in-requires
 place_in-requires c =
@@ -20,12 +23,14 @@ place_in-requires c =
 
 pub returns-in-Some-clause-whole : goal.returns-in-Some-clause-whole
 returns-in-Some-clause-whole c =
-    let to : c.args.message.now.at + c.from.result ≡ end_at c.args.message.now = omega (arith, c.from.ensures, c.in_ok-len.ensures.len) in
+    let to : c.args.message.now.at + c.from.result ≡ end_at c.args.message.now = omega (arith, c.from.ensures, c.len_of-len.ensures) in
     segment_whole c.args.s.now.payload c.bytes.result.now c.args.message.now c.part-bytes.result.now _ c.in-Some.place c.bytes.ensures (sym c.place_in.ensures ∙ c.in-Some.is)
-    (part_is _ c.args.message.now (c.args.message.now.at + c.from.result) c.part-bytes.result.now c.requires.whole to c.part-bytes.ensures.kept) c.in_ok-len.ensures.short
+    (part_is _ c.args.message.now (c.args.message.now.at + c.from.result) c.part-bytes.result.now c.requires.whole to c.part-bytes.ensures.kept)
+    (is_short c.args.streams.now c.args.taken.now.stream c.args.taken.now.side c.args.message.now c.requires.ready c.requires.whole)
 
 pub returns-clause-whole : goal.returns-clause-whole
 returns-clause-whole c =
-    let to : c.args.message.now.at + c.from.result ≡ end_at c.args.message.now = omega (arith, c.from.ensures, c.in_ok-len.ensures.len) in
+    let to : c.args.message.now.at + c.from.result ≡ end_at c.args.message.now = omega (arith, c.from.ensures, c.len_of-len.ensures) in
     gathered_whole c.args.s.now.payload c.args.message.now _ c.part-bytes.result.now c.in_ok-bytes.ensures
-    (part_is _ c.args.message.now (c.args.message.now.at + c.from.result) c.part-bytes.result.now c.requires.whole to c.part-bytes.ensures.kept) c.in_ok-len.ensures.short
+    (part_is _ c.args.message.now (c.args.message.now.at + c.from.result) c.part-bytes.result.now c.requires.whole to c.part-bytes.ensures.kept)
+    (is_short c.args.streams.now c.args.taken.now.stream c.args.taken.now.side c.args.message.now c.requires.ready c.requires.whole)

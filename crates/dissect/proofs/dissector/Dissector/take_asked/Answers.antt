@@ -45,6 +45,7 @@ make_tree-requires-clause-few c =
     record {
       udp = omega (arith, udp, taken, c.requires.number, c.number_of-number.ensures.number, c.number_of-number.ensures.fits);
       tcp = omega (arith, tcp, taken, c.requires.number, c.number_of-number.ensures.number, c.number_of-number.ensures.fits);
+      bytes = omega (arith, c.self.invariant.bytes_few c.if-self.false, ap (λ (d : DissectorShown). d.captured) c.self.view_is, c.requires.captured);
     }
 
 pub invariant_of-self-in-Err : goal.invariant_of-self-in-Err
@@ -56,5 +57,6 @@ invariant_of-self-in-Err c =
       udp = omega (arith, few, taken, c.requires.number, c.number_of-number.ensures.number, c.number_of-number.ensures.fits, c.make_tree.ensures.added.udp);
       udp_few = λ not_spent. absurd (true≢false not_spent);
       tcp_few = λ not_spent. absurd (true≢false not_spent);
+      bytes_few = λ not_spent. absurd (true≢false not_spent);
       asked = λ unfollowed. c.self.invariant.asked (sym c.make_tree.ensures.added.follows ∙ unfollowed);
     }

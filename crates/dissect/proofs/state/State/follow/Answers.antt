@@ -1,5 +1,7 @@
 use Rattle.std.proofs.Common.{List, refl, arith}
+use Rattle.pk_base.specs.declared.heads.After.TheVariants as afters
 use Rattle.dissect.specs.declared.todo.Todo.TheVariants as todos
+use Rattle.dissect.proofs.Opens.{ready-at}
 use Rattle.dissect.proofs.Spaces.{few_all, few_same}
 use Rattle.dissect.specs.Events.{Event}
 use Rattle.dissect.specs.Walks.{followed, go_on, stop, datagram_met}
@@ -31,3 +33,21 @@ returns-in-Fragment-clause-few c = few_all 4 2 c.args.tree.now c.fragment.new.tr
 
 pub returns-in-Datagram-clause-few : goal.returns-in-Datagram-clause-few
 returns-in-Datagram-clause-few c = few_same 4 4 c.args.tree.now c.datagram.new.tree c.datagram.result (omega arith) c.datagram.ensures.buffers c.datagram.ensures.most
+
+pub fragment-requires-clause-ready : goal.fragment-requires-clause-ready
+fragment-requires-clause-ready c = ready-at 2 4 c.args.self.now c.args.tree.now c.args.after.now (afters.Fragment c.in-Fragment.head c.in-Fragment.span) (omega arith) c.in-Fragment.is c.requires.ready
+
+pub datagram-requires-clause-ready : goal.datagram-requires-clause-ready
+datagram-requires-clause-ready c = ready-at 4 4 c.args.self.now c.args.tree.now c.args.after.now (afters.Datagram c.in-Datagram.head c.in-Datagram.span) (omega arith) c.in-Datagram.is c.requires.ready
+
+pub segment-requires-clause-ready : goal.segment-requires-clause-ready
+segment-requires-clause-ready c = ready-at 2 4 c.args.self.now c.args.tree.now c.args.after.now (afters.Segment c.in-Segment.head c.in-Segment.span) (omega arith) c.in-Segment.is c.requires.ready
+
+pub returns-in-Fragment-clause-adds : goal.returns-in-Fragment-clause-adds
+returns-in-Fragment-clause-adds c = rw c.in-Fragment.is c.fragment.ensures.adds
+
+pub returns-in-Datagram-clause-adds : goal.returns-in-Datagram-clause-adds
+returns-in-Datagram-clause-adds c = rw c.in-Datagram.is c.datagram.ensures.adds
+
+pub returns-in-Segment-clause-adds : goal.returns-in-Segment-clause-adds
+returns-in-Segment-clause-adds c = rw c.in-Segment.is c.segment.ensures.adds

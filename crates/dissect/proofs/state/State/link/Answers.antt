@@ -1,11 +1,14 @@
-use Rattle.std.proofs.Common.{◌≡◌, ◌∙◌, length, refl, subst, sym}
+use Rattle.std.proofs.Common.{◌≡◌, ◌∙◌, length, refl, ap, subst, sym, arith}
+use Rattle.pk_base.specs.declared.span.Span.{Span}
 use Rattle.pk_tree.specs.Buffers.{bytes_of}
 use Rattle.pk_base.specs.declared.heads.After.{After}
 use Rattle.app_layers.specs.Payloads.{ComesBehind}
 use Rattle.app_layers.proofs.Behind.{link_behind}
 use Rattle.dissect.specs.declared.todo.Todo.TheVariants as todos
-use Rattle.dissect.specs.Stands.{IsWalked}
+use Rattle.dissect.specs.Stands.{IsWalked, bytes_behind}
 use Rattle.dissect.specs.Walks.{Walk, stop}
+use Rattle.dissect.proofs.Opens.{adds-ok, ready-first}
+use Rattle.dissect.proofs.Shrinking.{less-first}
 use Rattle.dissect.proofs.Told.{link_none, walked_same}
 use Rattle.dissect.proofs.state.State.link.Goals as goal
 
@@ -22,3 +25,14 @@ pub follow-requires-clause-last : goal.follow-requires-clause-last
 follow-requires-clause-last c =
     subst (λ (after : After). ComesBehind after c.read_link.new.b.layers) (sym c.in_ok-after.ensures.after)
     (link_behind c.read_link.new.b.layers c.args.frame.now.link c.args.frame.now.little c.frame_span-span.result (bytes_of c.args.tree.now.buffers c.frame_span-span.result))
+
+pub follow-requires-clause-ready : goal.follow-requires-clause-ready
+follow-requires-clause-ready c =
+    ready-first 4 (bytes_behind c.in_ok-after.after) (length c.args.frame.now.bytes) c.args.self.now c.args.tree.now c.read_link.new.b (omega arith)
+    (less-first c.in_ok-after.after c.args.frame.now.link c.args.frame.now.little c.frame_span-span.result (bytes_of c.args.tree.now.buffers c.frame_span-span.result) (length c.args.frame.now.bytes) c.in_ok-after.ensures.after (ap (λ (s : Span). s.len) c.frame_span-span.ensures))
+    c.requires.room (ap length c.requires.frame) c.in_ok-after.ensures.most c.read_link.ensures.buffers c.requires.few
+
+pub returns-clause-adds : goal.returns-clause-adds
+returns-clause-adds c =
+    adds-ok (bytes_behind c.in_ok-after.after) (length c.args.frame.now.bytes) c.args.self.now c.follow.new.self c.follow.result
+    (less-first c.in_ok-after.after c.args.frame.now.link c.args.frame.now.little c.frame_span-span.result (bytes_of c.args.tree.now.buffers c.frame_span-span.result) (length c.args.frame.now.bytes) c.in_ok-after.ensures.after (ap (λ (s : Span). s.len) c.frame_span-span.ensures)) c.follow.ensures.adds

@@ -1,4 +1,4 @@
-use Rattle.std.proofs.Common.{subst, sym, ap, ◌∙◌, ◌∷◌, ℕ, ◌-◌, arith}
+use Rattle.std.proofs.Common.{subst, sym, ap, ◌∙◌, ◌∷◌, ℕ, ◌-◌, length, arith}
 use Rattle.dissect.specs.declared.todo.Todo.TheVariants as todos
 use Rattle.dissect.specs.Events.{NewFrame}
 use Rattle.dissect.specs.Stands.{IsWalked}
@@ -18,15 +18,27 @@ returns c = record {
       let first = c.in_ok-first.ensures.walked begun (c.begin_frame.ensures.stands rules es stands) in
       let rest = c.in_ok-chain.ensures.walked w.events first.stands in
       all-met rules frame w c.link.new.self c.link.new.tree c.in_ok-first.first c.chain.new.self c.chain.new.tree
-      ((c.chain.ensures.added c.begin_frame.new.self c.in_ok-first.ensures.adds).follows ∙ sym c.link.ensures.added.follows) first
+      ((c.chain.ensures.added c.begin_frame.new.self (length frame.bytes) c.in_ok-first.ensures.adds).follows ∙ sym c.link.ensures.added.follows) first
       (subst (λ (n : ℕ). IsWalked rules (chain rules n frame (going c.link.new.tree w.events c.in_ok-first.first)) c.chain.new.self c.chain.new.tree todos.Done)
       (c.saturating_sub-left.ensures ∙ ap (λ (n : ℕ). 32 - n) c.layer_count.ensures) rest);
-  added = adds-both c.args.self.now c.begin_frame.new.self c.chain.new.self c.begin_frame.ensures.adds (c.chain.ensures.added c.begin_frame.new.self c.in_ok-first.ensures.adds);
+  added = adds-both c.args.self.now c.begin_frame.new.self c.chain.new.self c.begin_frame.ensures.adds (c.chain.ensures.added c.begin_frame.new.self (length c.args.frame.now.bytes) c.in_ok-first.ensures.adds);
+  kept = omega (arith, c.begin_frame.ensures.kept, c.in_ok-chain.ensures.kept c.begin_frame.new.self (length c.args.frame.now.bytes) c.in_ok-first.ensures.adds);
 }
 
 pub chain-requires-clause-few : goal.chain-requires-clause-few
-chain-requires-clause-few c = room-on c.begin_frame.new.self c.link.new.self c.in_ok-first.first (room-before c.args.self.now c.begin_frame.new.self c.requires.few c.begin_frame.ensures.adds) c.in_ok-first.ensures.adds
+chain-requires-clause-few c =
+    let bytes = length c.args.frame.now.bytes in
+    room-on bytes c.begin_frame.new.self c.link.new.self c.in_ok-first.first (room-before bytes c.args.self.now c.begin_frame.new.self c.requires.few c.begin_frame.ensures.adds c.begin_frame.ensures.kept)
+    c.in_ok-first.ensures.adds
 
 pub chain-requires-clause-space : goal.chain-requires-clause-space
 chain-requires-clause-space c =
     space_less c.saturating_sub-left.result c.link.new.tree c.in_ok-first.first (omega (arith, c.saturating_sub-left.ensures)) c.in_ok-first.ensures.space
+
+pub link-requires-clause-few : goal.link-requires-clause-few
+link-requires-clause-few c =
+    room-before (length c.args.frame.now.bytes) c.args.self.now c.begin_frame.new.self c.requires.few c.begin_frame.ensures.adds c.begin_frame.ensures.kept
+
+pub returns-in_err-chain-clause-added : goal.returns-in_err-chain-clause-added
+returns-in_err-chain-clause-added c =
+    adds-both c.args.self.now c.begin_frame.new.self c.chain.new.self c.begin_frame.ensures.adds (c.chain.ensures.added c.begin_frame.new.self (length c.args.frame.now.bytes) c.in_ok-first.ensures.adds)

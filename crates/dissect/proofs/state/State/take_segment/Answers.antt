@@ -1,4 +1,4 @@
-use Rattle.std.proofs.Common.{◌≡◌, ◌∙◌, ℕ, List, ◌∷◌, map, Option, ap, refl, subst, sym}
+use Rattle.std.proofs.Common.{◌≡◌, ◌∙◌, ℕ, List, ◌∷◌, length, map, Option, ap, refl, subst, sym, arith}
 use Rattle.stream_messages.specs.declared.told.App.{App as StreamApp}
 use Rattle.tcp_streams.specs.Standing.{StandsFor}
 use Rattle.tcp_messages.specs.Shown.{shown_after}
@@ -10,7 +10,9 @@ use Rattle.message_links.specs.Links.{links_of}
 use Rattle.message_links.specs.LinkTables.{LinksStandFor}
 use Rattle.message_links.specs.Notes.{message_note, noted_on, tcp_direction}
 use Rattle.dissect.specs.Segments.{segment_from}
+use Rattle.dissect.proofs.Opens.{adds-segment}
 use Rattle.dissect.proofs.Segmenting.{shown-walked}
+use Rattle.dissect.proofs.Shrinking.{segment_short}
 use Rattle.app_layers.proofs.StreamApps.{apps_of_ends}
 use Rattle.dissect.proofs.state.State.take_segment.Goals as goal
 
@@ -41,3 +43,11 @@ returns-in-Ok-clause-walked c =
       told = refl;
       shown = c.in-Ok.ensures.tree ∙ ap (λ (app : Option StreamApp). carried_over app (is_cut frame) c.args.span told met.messages) app_is;
     })
+
+pub take-requires-clause-bytes : goal.take-requires-clause-bytes
+take-requires-clause-bytes c = omega (arith, c.requires.ready.state.bytes, segment_short c.segment_from-segment.result c.args.frame.now.number c.args.packet c.args.head _ c.args.tree.now.buffers c.args.span c.segment_from-segment.ensures c.in_ok-part.ensures)
+
+pub returns-in-Ok-clause-adds : goal.returns-in-Ok-clause-adds
+returns-in-Ok-clause-adds c =
+    adds-segment c.args.span.len (length c.segment_from-segment.result.payload) c.args.self.now c.take.new.self c.show_met.new.self c.take.ensures.counted c.take.ensures.bytes
+    (segment_short c.segment_from-segment.result c.args.frame.now.number c.args.packet c.args.head _ c.args.tree.now.buffers c.args.span c.segment_from-segment.ensures c.in_ok-part.ensures) c.show_met.ensures.same

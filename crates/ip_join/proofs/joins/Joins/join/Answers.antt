@@ -1,10 +1,13 @@
-use Rattle.std.proofs.Common.{◌≡◌, List, sym, subst, ap, ◌∙◌, refl}
+use Rattle.std.proofs.Common.{◌≡◌, ◌+◌, ◌≤◌, List, Option, IfSome, length, sym, subst, ap, ◌∙◌, refl, arith}
 use Rattle.ip_join.specs.declared.fragment.Fragment.{Fragment}
 use Rattle.ip_join.specs.Kept.{AreFirst}
 use Rattle.ip_join.proofs.FirstLemmas.{counted_first}
+use Rattle.ip_join.specs.declared.joined.Datagram.{Datagram}
 use Rattle.ip_join.specs.declared.joined.Joined.TheVariants.{Pending, Whole, Conflict}
 use Rattle.ip_join.specs.Datagrams.{completed}
+use Rattle.ip_join.specs.Fragments.{bytes_in}
 use Rattle.ip_join.proofs.Taking.{counted_parts, conflict_is, completed_is, stands_gone, stands_kept}
+use Rattle.ip_join.proofs.WaitingLemmas.{bytes_in-push}
 use Rattle.ip_join.proofs.joins.Joins.join.Goals as goal
 
 pub returns-in-Some-clause-joined : goal.returns-in-Some-clause-joined
@@ -43,4 +46,15 @@ returns-in_ok-keep-in-None-clause-stands c = λ past stands.
     let is : Pending ≡ _ = ap completed (sym c.in-None.is)
     ∙ completed_is past c.args.new c.in_ok-before.before c.in_ok-parts.parts c.conflict.result c.in_ok-datagram.field-0 counted (c.conflict.ensures.kind (λ six. subst (λ (parts : List Fragment). AreFirst parts) (sym counted) (counted_first c.args.new past six))) c.in_default.is c.in_ok-parts.ensures c.in_ok-datagram.ensures.whole in
     stands_kept past c.args.self.now c.remove.new.self c.keep.new.self c.args.new c.key_of-key.result c.in_ok-before.before c.in_ok-parts.parts
-    stands c.key_of-key.ensures c.remove.ensures.rest c.in_ok-keep-in-None.ensures counted c.in_ok-parts.ensures is
+    stands c.key_of-key.ensures c.remove.ensures.rest c.in_ok-keep-in-None.ensures.kept counted c.in_ok-parts.ensures is
+
+pub returns-in-Some-2-clause-brought : goal.returns-in-Some-2-clause-brought
+returns-in-Some-2-clause-brought c =
+    let size : bytes_in c.in_ok-parts.parts ≡ bytes_in c.in_ok-before.before + length c.args.new.bytes = ap bytes_in c.in_ok-parts.ensures ∙ bytes_in-push c.in_ok-before.before c.args.new in
+    let brought = subst (λ (o : Option Datagram). IfSome o (λ d. length d.bytes ≤ bytes_in c.in_ok-parts.parts)) c.in-Some-2.is c.in_ok-datagram.ensures.brought in
+    omega (arith, brought, size, c.in_ok-before.ensures.waiting)
+
+pub returns-in_ok-keep-in-None-clause-brought : goal.returns-in_ok-keep-in-None-clause-brought
+returns-in_ok-keep-in-None-clause-brought c =
+    let size : bytes_in c.in_ok-parts.parts ≡ bytes_in c.in_ok-before.before + length c.args.new.bytes = ap bytes_in c.in_ok-parts.ensures ∙ bytes_in-push c.in_ok-before.before c.args.new in
+    omega (arith, c.in_ok-keep-in-None.ensures.waiting, size, c.in_ok-before.ensures.waiting)

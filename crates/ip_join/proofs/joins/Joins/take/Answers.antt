@@ -1,4 +1,4 @@
-use Rattle.std.proofs.Common.{◌≡◌, ℕ, List, IfOk, subst, refl, ap, ◌∙◌}
+use Rattle.std.proofs.Common.{◌≡◌, ℕ, List, IfOk, length, subst, refl, ap, ◌∙◌, arith}
 use Rattle.std.proofs.lemmas.Result.{IfOk-weaker}
 use Rattle.ip_join.specs.declared.fragment.Fragment.{Fragment}
 use Rattle.ip_join.specs.Stands.{Stands, joined_by}
@@ -21,3 +21,8 @@ returns-clause-renumbered c =
     ap (answer_renumbered one) (is past stands)
     ∙ joined_by-renumbered one other past others (record { head = c.args.head.now; frame = c.args.frame; bytes = c.args.payload.now }) (record { head = c.args.head.now; frame = number; bytes = c.args.payload.now })
     (ap (λ (n : ℕ). let g : Fragment = record { head = c.args.head.now; frame = n; bytes = c.args.payload.now } in g) frames) refl alike) joined
+
+pub returns-clause-brought : goal.returns-clause-brought
+returns-clause-brought c =
+    let size = ap length (c.in_ok-bytes.ensures ∙ c.bytes.ensures) in
+    IfOk-weaker c.join.result _ _ (λ joined brought. omega (arith, brought, size)) c.join.ensures.brought

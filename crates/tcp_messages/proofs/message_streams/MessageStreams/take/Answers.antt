@@ -11,7 +11,8 @@ read_next-requires-clause-sound c =
     let sound = c.args.self.now.kept.sound c.if-kept.false in (
       c.args.self.now.kept.streams,
       c.args.s.now,
-      are_ready c.args.self.now.kept.streams sound.fresh (c.args.self.now.kept.streams.kept.sound sound.fresh) (omega (arith, c.requires)),
+      are_ready c.args.self.now.kept.streams sound.fresh (c.args.self.now.kept.streams.kept.sound sound.fresh) (c.args.self.now.kept.streams.kept.filled sound.fresh)
+          (omega (arith, c.requires.taken)) (omega (arith, c.requires.bytes)),
       sound,
       c.in_ok-taken.ensures.stepped,
     )
