@@ -11,7 +11,7 @@ use Rattle.pk_fields.specs.declared.rules.App.{App}
 use Rattle.pk_fields.specs.declared.rules.PortRule.{PortRule}
 use Rattle.pk_fields.specs.Applications.{udp_app}
 use Rattle.capture_read.specs.declared.frame.Frame.{Frame}
-use Rattle.message_links.specs.declared.conversations.Ends.{Ends}
+use Rattle.tcp_streams.specs.declared.ends.Ends.{Ends}
 use Rattle.dissect.specs.declared.state.State.{State}
 use Rattle.dissect.specs.declared.todo.Todo.TheVariants as todos
 use Rattle.app_layers.specs.Applications.{payload_over}

@@ -2,7 +2,7 @@
 use Rattle.std.specs.Prelude.{ℕ, List, [], ◌∷◌}
 use Rattle.pk_base.specs.declared.heads.PacketHead.{PacketHead}
 use Rattle.pk_base.specs.declared.heads.PortsHead.{PortsHead}
-use Rattle.message_links.specs.declared.conversations.Ends.{Ends}
+use Rattle.tcp_streams.specs.declared.ends.Ends.{Ends}
 use Rattle.message_links.specs.Conversations.{number_in, udp_ends, with_ends}
 use Rattle.dissect.specs.Events.{Event, NewFrame, Piece, Udp, Tcp}
 

@@ -3,7 +3,7 @@ use Rattle.std.proofs.Common.{◌≡◌, ◌≢◌, ◌⊎◌, ◌==◌, ◌&&�
 use Rattle.std.proofs.lemmas.Bool.{and_parts, eq-eqb, eqb-true, false≢true}
 use Rattle.std.proofs.lemmas.List.Sums.{sum_by-cons}
 use Rattle.std.specs.List.{AllByRecursion as Each}
-use Rattle.message_links.specs.Conversations.{same_bool}
+use Rattle.tcp_streams.specs.Conversations.{same_bool}
 use Rattle.message_links.specs.declared.notes.Direction.{Direction}
 use Rattle.message_links.specs.declared.notes.Note.{Note}
 use Rattle.message_links.specs.declared.notes.Note.TheVariants.{Query, Response, Request, Answer, Other}

@@ -4,7 +4,7 @@ use Rattle.std.proofs.Math.Bool.{beq}
 use Rattle.std.proofs.lemmas.Bool.{and_parts, eqb-true}
 use Rattle.message_links.specs.declared.notes.Direction.{Direction}
 use Rattle.message_links.specs.declared.notes.QueryKey.{QueryKey}
-use Rattle.message_links.specs.Conversations.{same_bool}
+use Rattle.tcp_streams.specs.Conversations.{same_bool}
 use Rattle.message_links.specs.Links.{same_direction, same_query}
 
 bool_is : (a b : Bool) → beq a b ≡ same_bool a b

@@ -4,7 +4,7 @@ use Rattle.message_links.specs.declared.notes.Direction.{Direction}
 use Rattle.message_links.specs.declared.notes.Note.{Note}
 use Rattle.message_links.specs.declared.notes.Note.TheVariants.{Query, Response, Request, Answer, Other}
 use Rattle.message_links.specs.declared.notes.QueryKey.{QueryKey}
-use Rattle.message_links.specs.Conversations.{same_bool}
+use Rattle.tcp_streams.specs.Conversations.{same_bool}
 use Rattle.message_links.specs.Notes.{Noted}
 
 abbrev pub same_direction : Direction → Direction → Bool

@@ -10,7 +10,7 @@ mod links;
 mod notes;
 mod segment_notes;
 
-pub use conversations::{Conversations, End, Ends, udp_ends};
+pub use conversations::{Conversations, udp_ends};
 pub use laws::links_go_back;
 pub use linking::link_messages;
 pub use links::Links;

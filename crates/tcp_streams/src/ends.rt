@@ -7,7 +7,7 @@ use pk_base::{Address, Endpoint};
 
 /// An end of a conversation.
 #[derive(Clone, Copy, PartialEq, Eq, Hash)]
-pub(crate) struct End {
+pub struct End {
     /// Whether the address is one of IPv6.
     pub six: bool,
     pub address: u128,
@@ -16,7 +16,7 @@ pub(crate) struct End {
 
 /// The two ends of a conversation, in their order, so that both directions have the same.
 #[derive(Clone, Copy, PartialEq, Eq, Hash)]
-pub(crate) struct Ends {
+pub struct Ends {
     pub lesser: End,
     pub greater: End,
 }
@@ -25,7 +25,16 @@ pub(crate) struct Ends {
 pub(crate) fn ends_of(s: &Segment) -> Ends
     ensures { result ≡ ends_value s.now }
 {
-    ends_between(end_of_endpoint(s.from), end_of_endpoint(s.to))
+    ends_between(s.from, s.to)
+}
+
+/// The ends of a conversation: the same for two packets exactly where both have the same two endpoints, whichever of them
+/// sends.
+pub fn ends_between(one: Endpoint, other: Endpoint) -> Ends
+    ensures ends { result ≡ ends_between (end_of_endpoint one) (end_of_endpoint other) }
+    ensures unordered { (a b : EndValue) → result ≡ ends_between a b ↔ ((end_of_endpoint one ≡ a) × (end_of_endpoint other ≡ b)) ⊎ ((end_of_endpoint one ≡ b) × (end_of_endpoint other ≡ a)) }
+{
+    in_order(end_of_endpoint(one), end_of_endpoint(other))
 }
 
 pub(crate) fn end_of_endpoint(endpoint: Endpoint) -> End
@@ -51,10 +60,8 @@ fn end_at(address: Address, port: u16) -> End
     }
 }
 
-/// The ends of a conversation: the same for two segments exactly where both have the same two ends, whichever of them
-/// sends.
 #[tactic(auto, unfolding(crate::specs::Conversations::ends_between))]
-fn ends_between(source: End, target: End) -> Ends
+fn in_order(source: End, target: End) -> Ends
     ensures ends { result ≡ ends_between source target }
     ensures unordered { (a b : EndValue) → result ≡ ends_between a b ↔ ((source ≡ a) × (target ≡ b)) ⊎ ((source ≡ b) × (target ≡ a)) }
 {

@@ -14,6 +14,7 @@ mod stream;
 mod streams;
 mod way;
 
+pub use ends::{End, Ends, ends_between};
 pub use laws::{gaps_passed, places_acknowledged};
 pub use segment::{Segment, Taken};
 pub use streams::Streams;

@@ -1,6 +1,6 @@
 use Rattle.std.proofs.Common.{◌∙◌, ℕ, Bool, List, ap}
 use Rattle.pk_tree.specs.Buffers.{bytes_of}
-use Rattle.message_links.specs.declared.conversations.Ends.{Ends}
+use Rattle.tcp_streams.specs.declared.ends.Ends.{Ends}
 use Rattle.app_layers.specs.Applications.{payload_over}
 use Rattle.message_links.specs.Conversations.{number_in, with_ends}
 use Rattle.dissect.proofs.DatagramLemmas.{datagram-met}
