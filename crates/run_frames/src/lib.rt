@@ -15,7 +15,6 @@ mod rules;
 mod run_ending;
 mod source;
 mod tables;
-mod text;
 mod totals;
 
 pub use compiled::Compiled;
@@ -32,5 +31,4 @@ pub use rules::{PlanRules, copy_rules};
 pub use run_ending::RunEnding;
 pub use source::PlanSource;
 pub use tables::{Tables, asks_table};
-pub use text::Text;
 pub use totals::Totals;

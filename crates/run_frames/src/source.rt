@@ -3,7 +3,7 @@ ghost use Rattle.std.specs.Prelude.{◌≡◌};
 ghost use Rattle.run_frames.specs.Source.{is_generated_by, name_by};
 
 use crate::generated::Generated;
-use crate::text::Text;
+use run_texts::Text;
 
 /// Where the frames of a run come from.
 #[derive(Drop)]

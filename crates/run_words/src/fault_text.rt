@@ -1,10 +1,7 @@
 // What standard error is told.
 ghost use Rattle.std.specs.Prelude.{◌≡◌, IfOk, OnErr, string_bytes};
-ghost use Rattle.std.specs.Io.KnownBytes.{Appends};
-ghost use Rattle.pk_outside.specs.Outside.{Rose, AppendsPart};
 ghost use Rattle.run_frames.specs.declared.plan.Plan.{Plan};
 ghost use Rattle.run_words.specs.FaultLines.{line_bytes};
-ghost use Rattle.run_words.specs.FaultTexts.{reason_text as text_of_reason, word_reason_text as text_of_word_reason};
 ghost use Rattle.run_words.specs.FaultTexts.{filter_reason_text as text_of_filter_reason};
 ghost use Rattle.run_words.specs.FaultTexts.{ending_text as text_of_ending, run_ending_text as text_of_run_ending, outcome_text as text_of_outcome};
 ghost use Rattle.run_words.specs.FaultTexts.{refusal_text as text_of_refusal};
@@ -15,11 +12,13 @@ use crate::owned::let_go;
 use crate::refused::Refused;
 use capture_read::Ending;
 use flt_syntax::FilterReason;
-use pk_base::{NoMemory, Reason};
-use pk_outside::{Sink, write_whole};
+use pk_base::NoMemory;
 use pk_text::escape_text;
 use run_frames::{Plan, RunEnding};
-use shark_words::WordReason;
+use run_texts::{
+    cannot_open_text, cannot_write_text, read_fault_text, reason_text, too_large_text,
+    word_fault_text,
+};
 use std::alloc::Global;
 
 /// What is told: a fixed text, which takes no memory, or one that names what is at fault.
@@ -37,49 +36,6 @@ impl FaultLine {
             FaultLine::Fixed(text) => text.as_bytes(),
             FaultLine::Made(text) => text.as_bytes(),
         }
-    }
-}
-
-/// Writes a text, as far as the sink takes it.
-pub fn tell<E: Sink>(err: &mut E, text: &[u8])
-    ensures part { AppendsPart (E.written err.old) (E.written err.new) text.now }
-    ensures whole { ¬ Rose (E.faults err.old) (E.faults err.new)
-        → ¬ Rose (E.starved err.old) (E.starved err.new)
-        → Appends (E.written err.old) (E.written err.new) text.now }
-{
-    let _ = write_whole(err, text);
-}
-
-fn reason_text(reason: Reason) -> &'static str
-    ensures { result.now ≡ text_of_reason reason }
-{
-    match reason {
-        Reason::ShortHeader => "B1 ShortHeader",
-        Reason::UnknownMagic => "B2 UnknownMagic",
-        Reason::BadVersion => "B3 BadVersion",
-        Reason::RecordCut => "B4 RecordCut",
-        Reason::TooLong => "B5 TooLong",
-        Reason::BlockLength => "B6 BlockLength",
-        Reason::BlockCut => "B7 BlockCut",
-        Reason::BadInterface => "B8 BadInterface",
-        Reason::BadOption => "B9 BadOption",
-        Reason::BadResolution => "B10 BadResolution",
-    }
-}
-
-fn word_reason_text(reason: WordReason) -> &'static str
-    ensures { result.now ≡ text_of_word_reason reason }
-{
-    match reason {
-        WordReason::UnknownOption => "A1 UnknownOption",
-        WordReason::MissingValue => "A2 MissingValue",
-        WordReason::StrayWord => "A3 StrayWord",
-        WordReason::NoFile => "A4 NoFile",
-        WordReason::Repeated => "A5 Repeated",
-        WordReason::BadValue => "A6 BadValue",
-        WordReason::NoFields => "A7 NoFields",
-        WordReason::Unused => "A8 Unused",
-        WordReason::Clash => "A9 Clash",
     }
 }
 
@@ -112,7 +68,7 @@ fn ending_text(alloc: Global, ending: Ending) -> Result<FaultLine, NoMemory>
             let text = format!(in alloc; "shark: damaged at byte {at}: {reason}\n")?;
             Ok(FaultLine::Made(text))
         }
-        Ending::TooLarge => Ok(FaultLine::Fixed("shark: capture too large\n")),
+        Ending::TooLarge => Ok(FaultLine::Fixed(too_large_text())),
     }
 }
 
@@ -123,7 +79,7 @@ fn run_ending_text(alloc: Global, ending: RunEnding) -> Result<FaultLine, NoMemo
     match ending {
         RunEnding::Read(ending) => ending_text(alloc, ending),
         RunEnding::Unfit(number) => {
-            let text = format!(in alloc; "shark: cannot write frame {number}\n")?;
+            let text = cannot_write_text(alloc, u64::from(number))?;
             Ok(FaultLine::Made(text))
         }
     }
@@ -135,8 +91,7 @@ fn run_ending_text(alloc: Global, ending: RunEnding) -> Result<FaultLine, NoMemo
 pub fn unopened_text(alloc: Global, plan: &Plan) -> Result<FaultLine, NoMemory>
     ensures { IfOk result (λ line. line_bytes line ≡ text_of_outcome plan.now Outcome.CannotOpen) }
 {
-    let name = escape_text(alloc, plan.source.name().as_bytes())?;
-    let text = format!(in alloc; "shark: cannot open {name}\n")?;
+    let text = cannot_open_text(alloc, plan.source.name())?;
     Ok(FaultLine::Made(text))
 }
 
@@ -163,7 +118,7 @@ pub fn outcome_text(
         Outcome::CannotOpen => Ok(unopened),
         Outcome::ReadFault => {
             let_go(unopened);
-            Ok(FaultLine::Fixed("shark: read fault\n"))
+            Ok(FaultLine::Fixed(read_fault_text()))
         }
         Outcome::WriteFault | Outcome::NoMemory => {
             let_go(unopened);
@@ -178,11 +133,7 @@ pub fn refusal_text(alloc: Global, refused: &Refused) -> Result<String, NoMemory
     ensures { IfOk result (λ text. string_bytes text ≡ text_of_refusal refused.now) }
 {
     match refused {
-        Refused::Words(fault) => {
-            let word = fault.word;
-            let reason = word_reason_text(fault.reason);
-            Ok(format!(in alloc; "shark: word {word}: {reason}\n")?)
-        }
+        Refused::Words(fault) => word_fault_text(alloc, *fault),
         Refused::Filter(fault) => {
             let at = fault.at;
             let reason = filter_reason_text(fault.reason);

@@ -10,7 +10,7 @@ mod refused;
 mod status;
 mod words;
 
-pub use fault_text::{FaultLine, outcome_text, refusal_text, tell, unopened_text};
+pub use fault_text::{FaultLine, outcome_text, refusal_text, unopened_text};
 pub use laws::{
     plans_are_not_refused, plans_let_by_meaning, reasons_are_unique, words_are_planned_or_refused,
 };

@@ -2,7 +2,8 @@
 use Rattle.std.specs.Prelude.{◌≡◌, ℕ, List, [], Option, IfSome}
 use Rattle.std.specs.Io.KnownBytes.{Appends}
 use Rattle.pk_outside.specs.Outside.{AppendsPart}
-use Rattle.run_words.specs.FaultTexts.{outcome_text, read_fault_text, refusal_text, run_ending_text, too_large_text}
+use Rattle.run_texts.specs.FaultTexts.{read_fault_text, too_large_text}
+use Rattle.run_words.specs.FaultTexts.{outcome_text, refusal_text, run_ending_text}
 use Rattle.run_words.specs.declared.outcome.Outcome.TheVariants as outcome
 use Rattle.run_frames.specs.declared.run_ending.RunEnding.{RunEnding}
 use Rattle.run_frames.specs.declared.plan.Plan.{Plan}

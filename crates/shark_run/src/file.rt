@@ -7,7 +7,8 @@ ghost use Rattle.shark_run.specs.Causes.{IsUnopened};
 use crate::owned::let_go;
 use pk_base::NoMemory;
 use pk_outside::{Capture, Failed, SureCapture};
-use run_frames::{Generated, Text};
+use run_frames::Generated;
+use run_texts::Text;
 use std::alloc::Global;
 
 /// Why no file was begun.

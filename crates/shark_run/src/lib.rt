@@ -12,7 +12,8 @@ mod top;
 mod two_passes;
 
 pub use laws::{plans_are_alike, the_headline_says_all};
-pub use run_frames::{Compiled, FieldList, Generated, Plan, PlanRules, PlanSource, Text};
+pub use run_frames::{Compiled, FieldList, Generated, Plan, PlanRules, PlanSource};
+pub use run_texts::Text;
 pub use run_words::{Refused, Status};
 pub use sure::sure_run;
 pub use top::{run, run_plan};

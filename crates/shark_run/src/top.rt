@@ -27,10 +27,11 @@ use crate::output::write_output;
 use crate::owned::let_go;
 use pk_base::NoMemory;
 use pk_outside::{Capture, Sink};
-use run_frames::{Generated, Plan, PlanSource, Text};
+use run_frames::{Generated, Plan, PlanSource};
+use run_texts::{Text, tell};
 use run_words::{
     Outcome, PlanError, Refused, Status, outcome_text, read_plan, refusal_text, status_of_refusal,
-    tell, unopened_text,
+    unopened_text,
 };
 use std::alloc::Global;
 
