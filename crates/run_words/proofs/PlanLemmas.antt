@@ -14,9 +14,9 @@ use Rattle.run_words.specs.declared.refused.Refused.{Refused}
 use Rattle.run_words.specs.declared.refused.Refused.TheVariants as refused
 use Rattle.run_words.specs.declared.refused.PlanError.{PlanError}
 use Rattle.run_words.specs.declared.refused.PlanError.TheVariants as errors
-use Rattle.run_words.specs.Columns.{fields_named, known, with_first, with_others}
+use Rattle.run_words.specs.Columns.{fields_named, known, with_first, with_others, IsNameRefused}
 use Rattle.run_words.specs.Plan.{IsFaultAsked, IsFilterAsked, IsPlan, IsPlanFor, IsRefusal, IsRefusalFor}
-use Rattle.run_words.specs.PlanErrors.{Gives, IsErrorOf}
+use Rattle.run_words.specs.PlanErrors.{IsErrorOf}
 use Rattle.run_words.specs.Sure.{is_of_size, IsSure}
 
 pub same_options : (words : List (List ℕ)) (one other : Options) → options_of words ≡ Ok one → options_of words ≡ Ok other → one ≡ other
@@ -85,11 +85,10 @@ reason_of_names options chosen (refused.Words fault) asked is fields = absurd is
 reason_of_names options chosen (refused.Filter fault) asked is fields = absurd is
 
 -- the options are refused for a name, where their filter is read
-pub names_refused : (options : Options) (chosen : Option CompiledShown) (e : PlanError) (answer : Result (List ℕ) PlanError) → IsFilterAsked options.filter chosen
-    → answer ≡ Err e → Gives answer (fields_named options.names) → IsErrorOf (IsRefusalFor options) e
-names_refused options chosen errors.NoMemory answer asked same gives = tt
-names_refused options chosen (errors.Refused reason) answer asked same gives =
-    let fields : fields_named options.names ≡ Err reason = subst (λ (a : Result (List ℕ) PlanError). Gives a (fields_named options.names)) same gives in
+pub names_refused : (options : Options) (chosen : Option CompiledShown) (e : PlanError) → IsFilterAsked options.filter chosen
+    → IsErrorOf (IsNameRefused options.names) e → IsErrorOf (IsRefusalFor options) e
+names_refused options chosen errors.NoMemory asked is = tt
+names_refused options chosen (errors.Refused reason) asked fields =
     reason_of_names options chosen reason asked (subst IsOfName fields (names_alone options.names)) fields
 
 pub reason_given : (IsReason : Refused → Type 0) (e : PlanError) (reason : Refused) → e ≡ errors.Refused reason → IsErrorOf IsReason e → IsReason reason

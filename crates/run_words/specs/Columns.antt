@@ -1,5 +1,5 @@
 -- The columns: the fields of the names after `-e`.
-use Rattle.std.specs.Prelude.{ℕ, List, [], ◌∷◌, Option, Some, None, Result, Ok, Err}
+use Rattle.std.specs.Prelude.{◌≡◌, ℕ, List, [], ◌∷◌, Option, Some, None, Result, Ok, Err}
 use Rattle.pk_fields.specs.Fields.{field_named}
 use Rattle.run_words.specs.declared.refused.Refused.{Refused}
 use Rattle.run_words.specs.declared.refused.Refused.TheVariants as refused
@@ -24,3 +24,7 @@ with_first (Ok field) others = with_others field others
 abbrev pub fields_named : List (List ℕ) → Result (List ℕ) Refused
 fields_named [] = Ok []
 fields_named (name ∷ names) = with_first (field_or_refusal name) (fields_named names)
+
+-- why names are refused: for the first that isn't known
+abbrev pub IsNameRefused : List (List ℕ) → Refused → Type 0
+IsNameRefused names reason = fields_named names ≡ Err reason

@@ -1,6 +1,8 @@
 // What standard error is told.
 ghost use Rattle.std.specs.Prelude.{◌≡◌, IfOk, OnErr, string_bytes};
+ghost use Rattle.capture_read.specs.declared.ending.Ending.TheVariants as how;
 ghost use Rattle.run_frames.specs.declared.plan.Plan.{Plan};
+ghost use Rattle.run_words.specs.declared.refused.Refused.TheVariants as cause;
 ghost use Rattle.run_words.specs.FaultLines.{line_bytes};
 ghost use Rattle.run_words.specs.FaultTexts.{filter_reason_text as text_of_filter_reason};
 ghost use Rattle.run_words.specs.FaultTexts.{ending_text as text_of_ending, run_ending_text as text_of_run_ending, outcome_text as text_of_outcome};
@@ -10,9 +12,9 @@ ghost use Rattle.run_words.specs.Outcomes.{HasEnded};
 use crate::outcome::Outcome;
 use crate::owned::let_go;
 use crate::refused::Refused;
-use capture_read::Ending;
-use flt_syntax::FilterReason;
-use pk_base::NoMemory;
+use capture_read::{Damage, Ending};
+use flt_syntax::{FilterFault, FilterReason};
+use pk_base::{NoMemory, Octets};
 use pk_text::escape_text;
 use run_frames::{Plan, RunEnding};
 use run_texts::{
@@ -57,17 +59,22 @@ fn filter_reason_text(reason: FilterReason) -> &'static str
 }
 
 #[tactic(auto, unfolding(crate::specs::FaultTexts::ending_text))]
+fn damage_text(alloc: Global, damage: Damage) -> Result<FaultLine, NoMemory>
+    ensures { IfOk result (λ line. line_bytes line ≡ text_of_ending (how.Damaged damage)) }
+{
+    let at = damage.at;
+    let reason = reason_text(damage.reason);
+    let text = format!(in alloc; "shark: damaged at byte {at}: {reason}\n")?;
+    Ok(FaultLine::Made(text))
+}
+
+#[tactic(auto, unfolding(crate::specs::FaultTexts::ending_text))]
 fn ending_text(alloc: Global, ending: Ending) -> Result<FaultLine, NoMemory>
     ensures { IfOk result (λ line. line_bytes line ≡ text_of_ending ending) }
 {
     match ending {
         Ending::Whole => Ok(FaultLine::Fixed("")),
-        Ending::Damaged(damage) => {
-            let at = damage.at;
-            let reason = reason_text(damage.reason);
-            let text = format!(in alloc; "shark: damaged at byte {at}: {reason}\n")?;
-            Ok(FaultLine::Made(text))
-        }
+        Ending::Damaged(damage) => damage_text(alloc, damage),
         Ending::TooLarge => Ok(FaultLine::Fixed(too_large_text())),
     }
 }
@@ -127,6 +134,23 @@ pub fn outcome_text(
     }
 }
 
+#[tactic(auto, unfolding(crate::specs::FaultTexts::refusal_text))]
+fn filter_fault_text(alloc: Global, fault: &FilterFault) -> Result<String, NoMemory>
+    ensures { IfOk result (λ text. string_bytes text ≡ text_of_refusal (cause.Filter fault.now)) }
+{
+    let at = fault.at;
+    let reason = filter_reason_text(fault.reason);
+    Ok(format!(in alloc; "shark: filter byte {at}: {reason}\n")?)
+}
+
+#[tactic(auto, unfolding(crate::specs::FaultTexts::refusal_text))]
+fn unknown_field_text(alloc: Global, name: &Octets) -> Result<String, NoMemory>
+    ensures { IfOk result (λ text. string_bytes text ≡ text_of_refusal (cause.Field name.now)) }
+{
+    let name = escape_text(alloc, name.bytes())?;
+    Ok(format!(in alloc; "shark: field {name}: unknown\n")?)
+}
+
 /// What is told of a refusal.
 #[tactic(auto, unfolding(crate::specs::FaultTexts::refusal_text))]
 pub fn refusal_text(alloc: Global, refused: &Refused) -> Result<String, NoMemory>
@@ -134,14 +158,7 @@ pub fn refusal_text(alloc: Global, refused: &Refused) -> Result<String, NoMemory
 {
     match refused {
         Refused::Words(fault) => word_fault_text(alloc, *fault),
-        Refused::Filter(fault) => {
-            let at = fault.at;
-            let reason = filter_reason_text(fault.reason);
-            Ok(format!(in alloc; "shark: filter byte {at}: {reason}\n")?)
-        }
-        Refused::Field(name) => {
-            let name = escape_text(alloc, name.bytes())?;
-            Ok(format!(in alloc; "shark: field {name}: unknown\n")?)
-        }
+        Refused::Filter(fault) => filter_fault_text(alloc, fault),
+        Refused::Field(name) => unknown_field_text(alloc, name),
     }
 }

@@ -4,7 +4,7 @@ ghost use Rattle.run_words.specs.Statuses.{exit_number, refusal_status};
 use crate::refused::Refused;
 
 /// How a run ended. The program ends with the number of this variant, 0 for `Done`.
-#[derive(Clone, Copy, Debug, PartialEq, Eq)]
+#[derive(Clone, Copy)]
 pub enum Status {
     /// The whole file was read, and the whole output written.
     Done,

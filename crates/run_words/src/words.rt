@@ -1,11 +1,11 @@
 // The plan that words ask for.
-ghost use Rattle.std.specs.Prelude.{◌≡◌, IfOk, IfErr, IfSome, All};
+ghost use Rattle.std.specs.Prelude.{◌≡◌, Ok, Err, IfOk, IfErr, IfSome, All};
 ghost use Rattle.std.specs.Str.{IsUtf8};
 ghost use Rattle.flt_code.specs.Decides.{Agrees, Decides};
 ghost use Rattle.shark_words.specs.Sound.{AreSound, HasFrames};
 ghost use Rattle.shark_words.specs.Utf8.{AreUtf8, name_in};
 ghost use Rattle.shark_words.specs.Words.{texts};
-ghost use Rattle.run_words.specs.Columns.{field_or_refusal, fields_named};
+ghost use Rattle.run_words.specs.Columns.{field_or_refusal, fields_named, IsNameRefused};
 ghost use Rattle.run_words.specs.Plan.{IsFilterAsked, IsPlan, IsPlanFor, IsRefusal, IsRefusalFor};
 ghost use Rattle.run_words.specs.PlanErrors.{Gives, IsErrorOf, IsFilterError};
 ghost use Rattle.run_frames.specs.Source.{source_in as source_asked};
@@ -103,6 +103,83 @@ fn reports_in(alloc: Global, reports: &ReportList) -> Result<ReportList, NoMemor
     Ok(ReportList::from_vec(Vec::from_slice(alloc, reports.slice())?))
 }
 
+// The fields of the columns, and where the frames come from.
+fn columns_and_source(
+    alloc: Global,
+    options: &Options,
+) -> Result<(FieldList, PlanSource), PlanError>
+    requires utf8 { AreUtf8 options.now }
+    requires sound { AreSound options.now }
+    ensures fields { IfOk result (λ both. fields_named options.now.names ≡ Ok both.0) }
+    ensures source { IfOk result (λ both. both.1 ≡ source_asked options.now.source) }
+    ensures err { IfErr result (IsErrorOf (IsNameRefused options.now.names)) }
+{
+    let fields = find_fields(alloc, options.names.slice())?;
+    match source_in(alloc, &options.source) {
+        Ok(source) => Ok((fields, source)),
+        Err(NoMemory) => {
+            let_go(fields);
+            Err(PlanError::NoMemory)
+        }
+    }
+}
+
+fn rules_and_reports(alloc: Global, options: &Options) -> Result<(PlanRules, ReportList), NoMemory>
+    requires { AreSound options.now }
+    ensures rules { IfOk result (λ both. both.0 ≡ options.now.decode.rules) }
+    ensures reports { IfOk result (λ both. both.1 ≡ options.now.reports) }
+{
+    let rules = copy_rules(alloc, &options.decode.rules)?;
+    match reports_in(alloc, &options.reports) {
+        Ok(reports) => Ok((PlanRules::new(rules), reports)),
+        Err(error) => {
+            let_go(rules);
+            Err(error)
+        }
+    }
+}
+
+// No plan, and what was read for it is given up.
+fn refused<T: Drop>(error: PlanError, _read: T) -> Result<Plan, PlanError>
+    ensures { result ≡ Err error }
+{
+    Err(error)
+}
+
+// The plan, of which these parts were read.
+fn plan_from(
+    alloc: Global,
+    options: &Options,
+    chosen: Option<Compiled>,
+    fields: FieldList,
+    source: PlanSource,
+) -> Result<Plan, PlanError>
+    requires sound { AreSound options.now }
+    requires chosen { IsFilterAsked options.now.filter chosen }
+    requires fields { fields_named options.now.names ≡ Ok fields }
+    requires source { source ≡ source_asked options.now.source }
+    ensures ok { IfOk result (IsPlanFor options.now) }
+    ensures err { IfErr result (IsErrorOf (IsRefusalFor options.now)) }
+{
+    match rules_and_reports(alloc, options) {
+        Ok((decode, reports)) => Ok(Plan {
+            source,
+            chosen,
+            stats: options.stats,
+            two: options.two,
+            fields,
+            most: options.most,
+            decode,
+            reports,
+            kind: options.kind,
+            style: options.style,
+            quiet: options.quiet,
+            written: options.written,
+        }),
+        Err(NoMemory) => refused(PlanError::NoMemory, (source, chosen, fields)),
+    }
+}
+
 #[tactic(auto, using(crate::proofs::PlanLemmas::names_refused))]
 fn plan_with(alloc: Global, options: &Options) -> Result<Plan, PlanError>
     requires utf8 { AreUtf8 options.now }
@@ -111,54 +188,10 @@ fn plan_with(alloc: Global, options: &Options) -> Result<Plan, PlanError>
     ensures err { IfErr result (IsErrorOf (IsRefusalFor options.now)) }
 {
     let chosen = filter_asked(alloc, &options.filter)?;
-    let fields = match find_fields(alloc, options.names.slice()) {
-        Ok(fields) => fields,
-        Err(error) => {
-            let_go(chosen);
-            return Err(error);
-        }
-    };
-    let source = match source_in(alloc, &options.source) {
-        Ok(source) => source,
-        Err(NoMemory) => {
-            let_go(chosen);
-            let_go(fields);
-            return Err(PlanError::NoMemory);
-        }
-    };
-    let decode = match copy_rules(alloc, &options.decode.rules) {
-        Ok(rules) => PlanRules::new(rules),
-        Err(NoMemory) => {
-            let_go(chosen);
-            let_go(fields);
-            let_go(source);
-            return Err(PlanError::NoMemory);
-        }
-    };
-    let reports = match reports_in(alloc, &options.reports) {
-        Ok(reports) => reports,
-        Err(NoMemory) => {
-            let_go(chosen);
-            let_go(fields);
-            let_go(source);
-            let_go(decode);
-            return Err(PlanError::NoMemory);
-        }
-    };
-    Ok(Plan {
-        source,
-        chosen,
-        stats: options.stats,
-        two: options.two,
-        fields,
-        most: options.most,
-        decode,
-        reports,
-        kind: options.kind,
-        style: options.style,
-        quiet: options.quiet,
-        written: options.written,
-    })
+    match columns_and_source(alloc, options) {
+        Ok((fields, source)) => plan_from(alloc, options, chosen, fields, source),
+        Err(error) => refused(error, chosen),
+    }
 }
 
 /// Reads the plan that the words ask for, or refuses them: first the words, then the filter, then the names.
