@@ -1,5 +1,5 @@
 -- Steps that are taken one by one.
-use Rattle.std.proofs.Common.{◌≡◌, ℕ, suc, ◌+◌, ◌-◌, ◌<◌, ◌≤◌, Bool, true, false, if◌then◌else◌, List, [], ◌∷◌, ◌++◌, map, Option, Some, None, refl, sym, ap, ◌∙◌, arith, append_assoc, append-nil}
+use Rattle.std.proofs.Common.{◌≡◌, ℕ, suc, ◌+◌, ◌-◌, ◌<◌, ◌≤◌, Bool, true, false, if◌then◌else◌, List, [], ◌∷◌, ◌++◌, map, Option, Some, None, refl, sym, ap, ◌∙◌, arith, append_assoc, append-nil, length, drop, get_or, drop-cons, add-one}
 use Rattle.pk_base.specs.declared.span.Span.{Span}
 use Rattle.pk_fields.specs.Fields.{row_of}
 use Rattle.pk_fields.specs.FieldSets.{is_in}
@@ -13,14 +13,14 @@ use Rattle.pk_tree.specs.declared.layout.Step.{Step}
 use Rattle.pk_tree.specs.declared.layout.Step.TheVariants.{Row, Part, Whole, Derived, Made, Check, Room}
 use Rattle.pk_base.specs.declared.value.Value.{Value}
 use Rattle.pk_base.specs.declared.value.Value.TheVariants as values
-use Rattle.pk_tree.specs.Entries.{Entry, then_on, repeated}
+use Rattle.pk_tree.specs.Entries.{Entry, goes_on, ends, then_on, repeated}
 use Rattle.pk_tree.specs.Layouts.{StepFits, StepsFit, items_after, items_read, layer_read, reach, reach_after, step_items, step_reach, within}
 use Rattle.pk_tree.specs.Trees.{TreeShown, derived_of, kept, with_layer}
 use Rattle.pk_tree.specs.Values.{IsOfKind}
 use Rattle.pk_tree.proofs.KeptLemmas.{kept-append}
 use Rattle.dis_dns.specs.declared.steps.Taken.{Taken}
 use Rattle.dis_dns.specs.declared.steps.Taken.TheVariants as takens
-use Rattle.dis_dns.specs.Collected.{StepsShown, FitsTaken, HoldsSteps, IsTaken, Takes, is_plain, no_steps, shown_step, shown_value, with_step, with_steps}
+use Rattle.dis_dns.specs.Collected.{StepsShown, FitsTaken, HoldsSteps, IsTaken, Takes, Took, TookEntry, is_plain, no_steps, shown_step, shown_value, with_step, with_steps}
 
 pub with_steps_append : (s : StepsShown) (xs ys : List Step) → with_steps s (xs ++ ys) ≡ with_steps (with_steps s xs) ys
 unfolding with_steps
@@ -95,7 +95,7 @@ unfolding repeated
 repeated_suc n one at = refl
 
 -- a loop that takes entries: one more, after which reading goes on
-pub loop_step : (one : ℕ → Entry) (count done at next : ℕ) (old new : StepsShown) (whole : StepsShown × Option ℕ) → onto old (repeated (count - done) one at) ≡ whole → done < count → Takes old new (one at) (Some next) →
+loop_step : (one : ℕ → Entry) (count done at next : ℕ) (old new : StepsShown) (whole : StepsShown × Option ℕ) → onto old (repeated (count - done) one at) ≡ whole → done < count → Takes old new (one at) (Some next) →
     onto new (repeated (count - (done + 1)) one next) ≡ whole
 loop_step one count done at next old new whole goes more takes =
     let left : count - done ≡ suc (count - (done + 1)) = omega arith in
@@ -104,7 +104,7 @@ loop_step one count done at next old new whole goes more takes =
     sym step ∙ goes
 
 -- one more, after which it ends
-pub loop_stop : (one : ℕ → Entry) (count done at : ℕ) (first old new : StepsShown) (whole : Entry) → onto old (repeated (count - done) one at) ≡ onto first whole → done < count → Takes old new (one at) None →
+loop_stop : (one : ℕ → Entry) (count done at : ℕ) (first old new : StepsShown) (whole : Entry) → onto old (repeated (count - done) one at) ≡ onto first whole → done < count → Takes old new (one at) None →
     Takes first new whole None
 unfolding onto
 loop_stop one count done at first old new whole goes more takes =
@@ -115,13 +115,126 @@ loop_stop one count done at first old new whole goes more takes =
     record { steps = ap (λ (p : StepsShown × Option ℕ). p.0) same; next = ap (λ (p : StepsShown × Option ℕ). p.1) same }
 
 -- as many as there may be
-pub loop_done : (one : ℕ → Entry) (count done at : ℕ) (first new : StepsShown) (whole : Entry) → onto new (repeated (count - done) one at) ≡ onto first whole → count ≤ done →
+loop_done : (one : ℕ → Entry) (count done at : ℕ) (first new : StepsShown) (whole : Entry) → onto new (repeated (count - done) one at) ≡ onto first whole → count ≤ done →
     Takes first new whole (Some at)
 unfolding onto repeated with_steps
 loop_done one count done at first new whole goes most =
     let none : count - done ≡ 0 = omega arith in
     let same : (new, Some at) ≡ onto first whole = rw none at goes in
     record { steps = ap (λ (p : StepsShown × Option ℕ). p.0) same; next = ap (λ (p : StepsShown × Option ℕ). p.1) same }
+
+-- where memory isn't spent at the end, it wasn't before
+spent_if : (b : Bool) (s : StepsShown) (list : List Step) (r : Reach) → (if b then record s { list = list } else record s { reach = r }).spent ≡ s.spent
+spent_if true s list r = refl
+spent_if false s list r = refl
+
+spent_step : (s : StepsShown) (step : Step) → (with_step s step).spent ≡ s.spent
+unfolding with_step
+spent_step s step = spent_if s.keeps s (s.list ++ shown_step s.wanted step ∷ []) (reach_after s.reach (step_reach s.end step))
+
+spent_steps : (s : StepsShown) (steps : List Step) → (with_steps s steps).spent ≡ s.spent
+unfolding with_steps
+spent_steps s [] = refl
+spent_steps s (x ∷ xs) = spent_steps (with_step s x) xs ∙ spent_step s x
+
+unspent : (old new : StepsShown) (steps : List Step) → new ≡ with_steps old steps → new.spent ≡ false → old.spent ≡ false
+unspent old new steps is kept = sym (spent_steps old steps) ∙ sym (ap (λ (s : StepsShown). s.spent) is) ∙ kept
+
+-- nothing, then more
+pub took_none : (s : StepsShown) → Took s s []
+unfolding with_steps
+took_none s = record { all = λ _. refl }
+
+pub took_then : (old mid new : StepsShown) (xs ys : List Step) → Took old mid xs → Took mid new ys → Took old new (xs ++ ys)
+took_then old mid new xs ys first second = record {
+  all = λ kept.
+      let last : new ≡ with_steps mid ys = second.all kept in
+      let before : mid ≡ with_steps old xs = first.all (unspent mid new ys last kept) in
+      last ∙ ap (λ (s : StepsShown). with_steps s ys) before ∙ sym (with_steps_append old xs ys);
+}
+
+pub spent_took : (old new : StepsShown) (steps : List Step) → new.spent ≡ true → Took old new steps
+spent_took old new steps spent = record { all = λ kept. absurd (cc) }
+
+-- a loop over rows: behind some of them, what is left leads where all do
+pub rows_left : (old new whole : StepsShown) (taken rest : List Step) → Took old new taken → (old.spent ≡ false → with_steps old (taken ++ rest) ≡ whole) → new.spent ≡ false → with_steps new rest ≡ whole
+rows_left old new whole taken rest took goes kept =
+    let is : new ≡ with_steps old taken = took.all kept in
+    ap (λ (s : StepsShown). with_steps s rest) is ∙ sym (with_steps_append old taken rest) ∙ goes (unspent old new taken is kept)
+
+pub rows_cut : (rows : List (ℕ × ℕ)) (at : ℕ) (row : ℕ × ℕ) → at < length rows → row ≡ get_or rows at row → drop at rows ≡ row ∷ drop (at + 1) rows
+rows_cut rows at row more is = rw add-one (drop-cons rows at row more ∙ ap (λ (first : ℕ × ℕ). first ∷ drop (suc at) rows) (sym is))
+
+-- all of them
+pub rows_done : (first now : StepsShown) (steps : List Step) → (now.spent ≡ false → with_steps now [] ≡ with_steps first steps) → Took first now steps
+unfolding with_steps
+rows_done first now steps goes = record { all = goes }
+
+-- entries
+pub spent_entry : (old new : StepsShown) (entry : Entry) (answer : Option ℕ) → new.spent ≡ true → TookEntry old new entry answer
+spent_entry old new entry answer spent = record { all = λ kept. absurd (cc) }
+
+pub took_on : (old new : StepsShown) (steps : List Step) (at : ℕ) → Took old new steps → TookEntry old new (goes_on steps at) (Some at)
+took_on old new steps at took = record { all = λ kept. record { steps = took.all kept; next = refl } }
+
+pub took_last : (old new : StepsShown) (steps : List Step) → Took old new steps → TookEntry old new (ends steps) None
+took_last old new steps took = record { all = λ kept. record { steps = took.all kept; next = refl } }
+
+pub steps_of : (old new : StepsShown) (entry : Entry) (answer : Option ℕ) → TookEntry old new entry answer → Took old new entry.steps
+steps_of old new entry answer took = record { all = λ kept. (took.all kept).steps }
+
+pub entry_then : (old mid new : StepsShown) (entry : Entry) (more : ℕ → Entry) (at : ℕ) (answer : Option ℕ) → TookEntry old mid entry (Some at) → TookEntry mid new (more at) answer → TookEntry old new (then_on entry more) answer
+unfolding onto
+entry_then old mid new entry more at answer first second = record {
+  all = λ kept.
+      let last : Takes mid new (more at) answer = second.all kept in
+      let before : Takes old mid entry (Some at) = first.all (unspent mid new (more at).steps last.steps kept) in
+      let same : onto old (then_on entry more) ≡ onto mid (more at) = takes_on old mid entry at more before in
+      record {
+        steps = last.steps ∙ sym (ap (λ (p : StepsShown × Option ℕ). p.0) same);
+        next = last.next ∙ sym (ap (λ (p : StepsShown × Option ℕ). p.1) same);
+      };
+}
+
+pub steps_then : (old mid new : StepsShown) (entry : Entry) (more : ℕ → Entry) (at : ℕ) → TookEntry old mid entry (Some at) → Took mid new (more at).steps → Took old new (then_on entry more).steps
+unfolding onto
+steps_then old mid new entry more at first second = record {
+  all = λ kept.
+      let last : new ≡ with_steps mid (more at).steps = second.all kept in
+      let before : Takes old mid entry (Some at) = first.all (unspent mid new (more at).steps last kept) in
+      let same : onto old (then_on entry more) ≡ onto mid (more at) = takes_on old mid entry at more before in
+      last ∙ sym (ap (λ (p : StepsShown × Option ℕ). p.0) same);
+}
+
+pub entry_ends : (old new : StepsShown) (entry : Entry) (more : ℕ → Entry) → TookEntry old new entry None → TookEntry old new (then_on entry more) None
+unfolding onto
+entry_ends old new entry more took = record {
+  all = λ kept.
+      let same : onto old (then_on entry more) ≡ (new, None) = takes_end old new entry more (took.all kept) in
+      record {
+        steps = sym (ap (λ (p : StepsShown × Option ℕ). p.0) same);
+        next = sym (ap (λ (p : StepsShown × Option ℕ). p.1) same);
+      };
+}
+
+-- the loop, where memory isn't spent
+pub loop_took : (one : ℕ → Entry) (count done at next : ℕ) (old new : StepsShown) (whole : StepsShown × Option ℕ) → (old.spent ≡ false → onto old (repeated (count - done) one at) ≡ whole) → done < count → TookEntry old new (one at) (Some next) →
+    new.spent ≡ false → onto new (repeated (count - (done + 1)) one next) ≡ whole
+loop_took one count done at next old new whole goes more took kept =
+    let takes : Takes old new (one at) (Some next) = took.all kept in
+    loop_step one count done at next old new whole (goes (unspent old new (one at).steps takes.steps kept)) more takes
+
+pub loop_ends : (one : ℕ → Entry) (count done at : ℕ) (first old new : StepsShown) (whole : Entry) → (old.spent ≡ false → onto old (repeated (count - done) one at) ≡ onto first whole) → done < count → TookEntry old new (one at) None →
+    TookEntry first new whole None
+loop_ends one count done at first old new whole goes more took = record {
+  all = λ kept.
+      let takes : Takes old new (one at) None = took.all kept in
+      loop_stop one count done at first old new whole (goes (unspent old new (one at).steps takes.steps kept)) more takes;
+}
+
+pub loop_all : (one : ℕ → Entry) (count done at : ℕ) (first new : StepsShown) (whole : Entry) → (new.spent ≡ false → onto new (repeated (count - done) one at) ≡ onto first whole) → count ≤ done →
+    TookEntry first new whole (Some at)
+loop_all one count done at first new whole goes most = record { all = λ kept. loop_done one count done at first new whole (goes kept) most }
 
 -- a layer reads the same where names that aren't wanted have no text
 step_same : (wanted : List ℕ) (end : ℕ) (step : Step) → step_reach end (shown_step wanted step) ≡ step_reach end step

@@ -13,17 +13,19 @@ use Rattle.pk_tree.specs.Layouts.{StepsFit, reach, reach_after, step_reach}
 use Rattle.dis_dns.specs.declared.steps.Taken.{Taken}
 use Rattle.dis_dns.specs.declared.steps.Taken.TheVariants as takens
 
--- the fields that are wanted, whether steps are kept, and the layer's bytes; the steps so far, or how far they are read
+-- the fields that are wanted, whether steps are kept, and the layer's bytes; the steps so far, or how far they are read; and
+-- whether there was no memory for a step
 pub record StepsShown : Type 0 where
   pub wanted : List ℕ
   pub keeps : Bool
   pub end : ℕ
   pub list : List Step
   pub reach : Reach
+  pub spent : Bool
 
 abbrev pub no_steps : List ℕ → Bool → ℕ → StepsShown
 no_steps wanted keeps end =
-    record { wanted = wanted; keeps = keeps; end = end; list = []; reach = All }
+    record { wanted = wanted; keeps = keeps; end = end; list = []; reach = All; spent = false }
 
 -- whether the text of a field's name is kept
 abbrev pub shows : StepsShown → ℕ → Bool
@@ -70,6 +72,13 @@ with_steps s (step ∷ steps) = with_steps (with_step s step) steps
 pub record Takes (old new : StepsShown) (entry : Entry) (answer : Option ℕ) : Type 0 where
   pub steps : new ≡ with_steps old entry.steps
   pub next : answer ≡ entry.next
+
+-- the same, unless there was no memory for a step
+pub record Took (old new : StepsShown) (steps : List Step) : Type 0 where
+  pub all : new.spent ≡ false → new ≡ with_steps old steps
+
+pub record TookEntry (old new : StepsShown) (entry : Entry) (answer : Option ℕ) : Type 0 where
+  pub all : new.spent ≡ false → Takes old new entry answer
 
 -- what was taken in all
 abbrev pub IsTaken : StepsShown → Taken → Type 0

@@ -6,7 +6,7 @@ ghost use Rattle.pk_tree.specs.Layouts.{StepsFit, layer_read};
 ghost use Rattle.pk_tree.specs.Values.{IsProtocol};
 ghost use Rattle.pk_tree.specs.declared.layout.Step.{Step as StepValue};
 ghost use Rattle.dis_dns.specs.Chains.{AreChainEnds};
-ghost use Rattle.dis_dns.specs.Collected.{FitsTaken, HoldsSteps, Takes, with_steps};
+ghost use Rattle.dis_dns.specs.Collected.{FitsTaken, HoldsSteps, Took, TookEntry};
 ghost use Rattle.dis_dns.specs.Dns.{dns_layout, header_rows, mdns_layout, message_steps, record_count, sections};
 ghost use Rattle.dis_dns.specs.Names.{ReadsNames, TellsLeaving};
 ghost use Rattle.dis_dns.specs.Records.{question, resource, word_at};
@@ -43,8 +43,7 @@ pub fn read_dns(span: Span, prefixed: bool, cut: bool, b: &mut TreeBuilder) -> R
     ensures most { OnOk result (length b.new.layers ≤ length b.old.layers + 2) }
 {
     let taken = dns_steps(b, prefixed, b.bytes(span))?;
-    add_layer(b, ids::DNS, span, taken, cut)?;
-    Ok(())
+    add_layer(b, ids::DNS, span, taken, cut)
 }
 
 /// Reads a message of multicast DNS (RFC 6762, 18). Nothing follows it. `cut` says that the frame was captured only in part.
@@ -63,8 +62,7 @@ pub fn read_mdns(span: Span, cut: bool, b: &mut TreeBuilder) -> Result<(), NoMem
     ensures most { OnOk result (length b.new.layers ≤ length b.old.layers + 2) }
 {
     let taken = mdns_steps(b, b.bytes(span))?;
-    add_layer(b, ids::MDNS, span, taken, cut)?;
-    Ok(())
+    add_layer(b, ids::MDNS, span, taken, cut)
 }
 
 /// Adds the layer of a message whose steps were taken.
@@ -91,10 +89,7 @@ fn add_layer(
             read_layer(b, protocol, span, &steps, Mode::Plain, cut)?;
             Ok(())
         }
-        Taken::Reach(reach) => {
-            pass_layer(b, protocol, span, reach, Mode::Plain, cut)?;
-            Ok(())
-        }
+        Taken::Reach(reach) => pass_layer(b, protocol, span, reach, Mode::Plain, cut),
     }
 }
 
@@ -106,8 +101,8 @@ fn dns_steps(tree: &TreeBuilder, prefixed: bool, bytes: &[u8]) -> Result<Taken, 
     ensures fits { IfOk result (λ taken. FitsTaken tree.now.wanted DNS taken) }
 {
     let mut steps = Steps::new(tree, ids::DNS, bytes.len())?;
-    push_dns(tree.alloc(), &mut steps, prefixed, bytes)?;
-    Ok(steps.finish())
+    push_dns(tree.alloc(), &mut steps, prefixed, bytes);
+    steps.finish()
 }
 
 /// The same of multicast DNS.
@@ -118,48 +113,40 @@ fn mdns_steps(tree: &TreeBuilder, bytes: &[u8]) -> Result<Taken, NoMemory>
     ensures fits { IfOk result (λ taken. FitsTaken tree.now.wanted MDNS taken) }
 {
     let mut steps = Steps::new(tree, ids::MDNS, bytes.len())?;
-    push_mdns(tree.alloc(), &mut steps, bytes)?;
-    Ok(steps.finish())
+    push_mdns(tree.alloc(), &mut steps, bytes);
+    steps.finish()
 }
 
-#[tactic(auto, unfolding(crate::specs::Dns::dns_layout, crate::specs::Collected::with_steps))]
-fn push_dns(alloc: Global, steps: &mut Steps, prefixed: bool, bytes: &[u8]) -> Result<(), NoMemory>
+#[tactic(auto, unfolding(crate::specs::Dns::dns_layout))]
+fn push_dns(alloc: Global, steps: &mut Steps, prefixed: bool, bytes: &[u8])
     requires { length bytes.now < 2 ^ 32 }
-    ensures { OnOk result (steps.new ≡ with_steps steps.old (dns_layout prefixed bytes.now)) }
+    ensures { Took steps.old steps.new (dns_layout prefixed bytes.now) }
 {
-    if !prefixed {
-        let base = 0;
-        return push_message(alloc, steps, dns_fields(), bytes, base);
+    if prefixed {
+        steps.push(Step::Row(ids::DNS_LENGTH, 0));
+        push_message(alloc, steps, dns_fields(), behind_prefix(bytes), PREFIX)
+    } else {
+        push_message(alloc, steps, dns_fields(), bytes, 0)
     }
-    steps.push(Step::Row(ids::DNS_LENGTH, 0))?;
-    let bytes = behind_prefix(bytes);
-    let base = PREFIX;
-    push_message(alloc, steps, dns_fields(), bytes, base)
 }
 
 #[tactic(auto, unfolding(crate::specs::Dns::mdns_layout))]
-fn push_mdns(alloc: Global, steps: &mut Steps, bytes: &[u8]) -> Result<(), NoMemory>
+fn push_mdns(alloc: Global, steps: &mut Steps, bytes: &[u8])
     requires { length bytes.now < 2 ^ 32 }
-    ensures { OnOk result (steps.new ≡ with_steps steps.old (mdns_layout bytes.now)) }
+    ensures { Took steps.old steps.new (mdns_layout bytes.now) }
 {
-    let base = 0;
-    push_message(alloc, steps, mdns_fields(), bytes, base)
+    push_message(alloc, steps, mdns_fields(), bytes, 0)
 }
 
 /// Adds the steps of a message before which its layer has so many bytes.
-#[tactic(auto, using(crate::proofs::CollectedLemmas::with_steps_append), unfolding(crate::specs::Dns::message_steps))]
-fn push_message(
-    alloc: Global,
-    steps: &mut Steps,
-    fields: DnsFields,
-    bytes: &[u8],
-    base: usize,
-) -> Result<(), NoMemory>
+fn push_message(alloc: Global, steps: &mut Steps, fields: DnsFields, bytes: &[u8], base: usize)
     requires base { base ≤ 2 }
     requires short { length bytes.now < 2 ^ 32 }
-    ensures { OnOk result (steps.new ≡ with_steps steps.old (message_steps fields base bytes.now)) }
+    ensures { Took steps.old steps.new (message_steps fields base bytes.now) }
 {
-    let ends = chain_ends(alloc, bytes)?;
+    let Ok(ends) = chain_ends(alloc, bytes) else {
+        return steps.give_up();
+    };
     let message = Message {
         fields,
         bytes,
@@ -167,21 +154,8 @@ fn push_message(
         base,
         alloc,
     };
-    push_parts(steps, &message)
-}
-
-/// Adds the rows of a message's header, and the steps of what follows it.
-#[tactic(auto, using(crate::proofs::CollectedLemmas::with_steps_append), unfolding(crate::specs::Dns::message_steps))]
-fn push_parts(steps: &mut Steps, message: &Message) -> Result<(), NoMemory>
-    requires chains { AreChainEnds message.now.bytes.now message.now.chain_ends.now }
-    requires base { message.now.base ≤ 2 }
-    requires short { length message.now.bytes.now < 2 ^ 32 }
-    ensures { OnOk result (steps.new
-        ≡ with_steps steps.old
-        (message_steps message.now.fields message.now.base message.now.bytes.now)) }
-{
-    push_header(steps, message)?;
-    push_sections(steps, message)
+    push_header(steps, &message);
+    push_sections(steps, &message)
 }
 
 /// The bytes behind the length, where it is there.
@@ -192,53 +166,48 @@ fn behind_prefix(bytes: &[u8]) -> &[u8]
 }
 
 /// Adds the rows of a message's header.
-#[tactic(auto, unfolding(crate::specs::Dns::header_rows, crate::specs::Collected::with_steps))]
-fn push_header(steps: &mut Steps, message: &Message) -> Result<(), NoMemory>
+fn push_header(steps: &mut Steps, message: &Message)
     requires { message.now.base ≤ 2 }
-    ensures { OnOk result (steps.new
-        ≡ with_steps steps.old (header_rows message.now.fields.header message.now.base)) }
+    ensures { Took steps.old steps.new (header_rows message.now.fields.header message.now.base) }
 {
     let fields = message.fields.header;
-    let base = message.base;
     push_rows(
         steps,
+        message.base,
         &[
-            (fields.id, base),
-            (fields.flags, base + 2),
-            (fields.response, base + 2),
-            (fields.opcode, base + 2),
-            (fields.authoritative, base + 2),
-            (fields.truncated, base + 2),
-            (fields.recursion_desired, base + 2),
-            (fields.recursion_available, base + 3),
-            (fields.reserved, base + 3),
-            (fields.authenticated, base + 3),
-            (fields.checking_disabled, base + 3),
-            (fields.response_code, base + 3),
-            (fields.questions, base + 4),
-            (fields.answers, base + 6),
-            (fields.name_servers, base + 8),
-            (fields.further_records, base + 10),
+            (fields.id, 0),
+            (fields.flags, 2),
+            (fields.response, 2),
+            (fields.opcode, 2),
+            (fields.authoritative, 2),
+            (fields.truncated, 2),
+            (fields.recursion_desired, 2),
+            (fields.recursion_available, 3),
+            (fields.reserved, 3),
+            (fields.authenticated, 3),
+            (fields.checking_disabled, 3),
+            (fields.response_code, 3),
+            (fields.questions, 4),
+            (fields.answers, 6),
+            (fields.name_servers, 8),
+            (fields.further_records, 10),
         ],
     )
 }
 
 /// Adds the steps of a message's questions and records.
-#[tactic(auto, using(crate::proofs::CollectedLemmas::with_steps_append), unfolding(crate::specs::Dns::sections))]
-fn push_sections(steps: &mut Steps, message: &Message) -> Result<(), NoMemory>
+fn push_sections(steps: &mut Steps, message: &Message)
     requires chains { AreChainEnds message.now.bytes.now message.now.chain_ends.now }
     requires base { message.now.base ≤ 2 }
     requires short { length message.now.bytes.now < 2 ^ 32 }
-    ensures { OnOk result (steps.new
-        ≡ with_steps steps.old
-        (sections message.now.fields message.now.base message.now.bytes.now).steps) }
+    ensures { Took steps.old steps.new
+        (sections message.now.fields message.now.base message.now.bytes.now).steps }
 {
     let questions = word_at(message.bytes, 4);
-    let Some(at) = push_questions(steps, message, questions, HEADER)? else {
-        return Ok(());
-    };
-    let records = record_count(message.bytes);
-    push_records(steps, message, records, at)
+    match push_questions(steps, message, questions, HEADER) {
+        Some(at) => push_records(steps, message, record_count(message.bytes), at),
+        None => {}
+    }
 }
 
 /// The records of the three sections behind the questions.
@@ -249,54 +218,41 @@ fn record_count(bytes: &[u8]) -> usize
 }
 
 /// Adds the steps of at most so many questions from a place on, and answers where the records are.
-fn push_questions(
-    steps: &mut Steps,
-    message: &Message,
-    count: usize,
-    at: usize,
-) -> Result<Option<usize>, NoMemory>
+fn push_questions(steps: &mut Steps, message: &Message, count: usize, at: usize) -> Option<usize>
     requires chains { AreChainEnds message.now.bytes.now message.now.chain_ends.now }
     requires base { message.now.base ≤ 2 }
     requires short { length message.now.bytes.now < 2 ^ 32 }
     requires place { at < 2 ^ 33 }
-    ensures adds { IfOk result
-        (Takes steps.old steps.new
+    ensures adds { TookEntry steps.old steps.new
         (repeated count (question message.now.fields.question message.now.base
-        message.now.bytes.now) at)) }
-    ensures bound { IfOk result (λ next. IfSome next (λ place. place < 2 ^ 33)) }
+        message.now.bytes.now) at) result }
+    ensures bound { IfSome result (λ place. place < 2 ^ 33) }
 {
     let mut place = at;
     for _question in 0..count {
-        match push_question(steps, message, place)? {
+        match push_question(steps, message, place) {
             Some(next) => place = next,
-            None => return Ok(None),
+            None => return None,
         }
     }
-    Ok(Some(place))
+    Some(place)
 }
 
 /// Adds the steps of at most so many records from a place on.
-fn push_records(
-    steps: &mut Steps,
-    message: &Message,
-    count: usize,
-    at: usize,
-) -> Result<(), NoMemory>
+fn push_records(steps: &mut Steps, message: &Message, count: usize, at: usize)
     requires chains { AreChainEnds message.now.bytes.now message.now.chain_ends.now }
     requires base { message.now.base ≤ 2 }
     requires short { length message.now.bytes.now < 2 ^ 32 }
     requires place { at < 2 ^ 33 }
-    ensures { OnOk result (steps.new
-        ≡ with_steps steps.old
+    ensures { Took steps.old steps.new
         (repeated count (resource message.now.fields message.now.base message.now.bytes.now)
-        at).steps) }
+        at).steps }
 {
     let mut place = at;
     for _record in 0..count {
-        match push_record(steps, message, place)? {
+        match push_record(steps, message, place) {
             Some(next) => place = next,
-            None => return Ok(()),
+            None => return,
         }
     }
-    Ok(())
 }

@@ -1,9 +1,10 @@
-ghost use Rattle.std.specs.Prelude.{◌≡◌, true, false, [], ◌∷◌, nat_le, Some, None, ◌+◌, ◌-◌, ◌*◌, ◌<◌, ◌≤◌, ◌^◌, length, min, IfOk, IfSome, IsTrue, OnOk};
+ghost use Rattle.std.specs.Prelude.{◌≡◌, ℕ, List, Option, true, false, [], ◌∷◌, nat_le, Some, None, ◌+◌, ◌-◌, ◌*◌, ◌<◌, ◌≤◌, ◌^◌, length, min, IfOk, IfSome, IsTrue};
 ghost use Rattle.std.specs.List.{flat_map};
-ghost use Rattle.pk_tree.specs.Entries.{ends, goes_on, repeated};
+ghost use Rattle.pk_tree.specs.Entries.{Entry, ends, goes_on, repeated};
+ghost use Rattle.pk_base.specs.declared.value.Value.TheVariants as values;
 ghost use Rattle.pk_tree.specs.declared.layout.Step.TheVariants as steps_of_layers;
 ghost use Rattle.dis_dns.specs.Chains.{AreChainEnds};
-ghost use Rattle.dis_dns.specs.Collected.{Takes, is_plain, with_steps};
+ghost use Rattle.dis_dns.specs.Collected.{Took, TookEntry, is_plain, shows};
 ghost use Rattle.dis_dns.specs.Names.{EndsIn, name_at};
 ghost use Rattle.dis_dns.specs.Records.{class_rows, data_row, data_steps, mail_data, name_entry, question, question_tail, record_head, record_tail, resource, service_data, service_or_data, shown_name, text_string, word_at, zone_data, zone_numbers};
 
@@ -58,139 +59,109 @@ pub(crate) fn word_at(bytes: &[u8], at: usize) -> usize
 }
 
 /// Adds the steps of the question at a place, and answers where the next one is.
-#[tactic(auto, using(crate::proofs::CollectedLemmas::with_steps_append), unfolding(crate::specs::Records::question, crate::specs::Collected::with_steps))]
-pub(crate) fn push_question(
-    steps: &mut Steps,
-    message: &Message,
-    at: usize,
-) -> Result<Option<usize>, NoMemory>
+pub(crate) fn push_question(steps: &mut Steps, message: &Message, at: usize) -> Option<usize>
     requires chains { AreChainEnds message.now.bytes.now message.now.chain_ends.now }
     requires base { message.now.base ≤ 2 }
     requires short { length message.now.bytes.now < 2 ^ 32 }
     requires place { at < 2 ^ 33 }
-    ensures adds { IfOk result
-        (Takes steps.old steps.new
-        (question message.now.fields.question message.now.base message.now.bytes.now at)) }
-    ensures bound { IfOk result (λ next. IfSome next (λ place. place < 2 ^ 33)) }
+    ensures adds { TookEntry steps.old steps.new
+        (question message.now.fields.question message.now.base message.now.bytes.now at) result }
+    ensures bound { IfSome result (λ place. place < 2 ^ 33) }
 {
     let fields = message.fields.question;
     let end = message.bytes.len();
-    let Some(at) = push_name(steps, message, fields.name, end, at)? else {
-        return Ok(None);
-    };
-    push_question_tail(steps, fields, message.base, at)
+    match push_name(steps, message, fields.name, end, at) {
+        Some(at) => push_question_tail(steps, fields, message.base, at),
+        None => None,
+    }
 }
 
 /// Adds the steps of what follows a question's name, and answers where the next question is.
-#[tactic(auto, unfolding(crate::specs::Collected::with_steps))]
 fn push_question_tail(
     steps: &mut Steps,
     fields: QuestionFields,
     base: usize,
     at: usize,
-) -> Result<Option<usize>, NoMemory>
+) -> Option<usize>
     requires base { base ≤ 2 }
     requires place { at < 2 ^ 32 }
-    ensures adds { IfOk result (Takes steps.old steps.new (question_tail fields base at)) }
-    ensures bound { IfOk result (λ next. IfSome next (λ place. place < 2 ^ 33)) }
+    ensures adds { TookEntry steps.old steps.new (question_tail fields base at) result }
+    ensures bound { IfSome result (λ place. place < 2 ^ 33) }
 {
-    steps.push(Step::Row(fields.kind, base + at))?;
-    push_class(steps, fields.class, base + at + 2)?;
-    Ok(Some(at + 4))
+    steps.push(Step::Row(fields.kind, base + at));
+    push_class(steps, fields.class, base + at + 2);
+    Some(at + 4)
 }
 
 /// Adds the steps of a class.
-#[tactic(auto, unfolding(crate::specs::Collected::with_steps))]
-fn push_class(steps: &mut Steps, fields: ClassFields, at: usize) -> Result<(), NoMemory>
-    ensures { OnOk result (steps.new ≡ with_steps steps.old (class_rows fields at)) }
+fn push_class(steps: &mut Steps, fields: ClassFields, at: usize)
+    ensures { Took steps.old steps.new (class_rows fields at) }
 {
     match fields {
         ClassFields::Full(class) => steps.push(Step::Row(class, at)),
         ClassFields::Split(top, class) => {
-            steps.push(Step::Row(top, at))?;
+            steps.push(Step::Row(top, at));
             steps.push(Step::Row(class, at))
         }
     }
 }
 
 /// Adds the steps of the record at a place, and answers where the next one is.
-#[tactic(auto, using(crate::proofs::CollectedLemmas::with_steps_append), unfolding(crate::specs::Records::resource, crate::specs::Collected::with_steps))]
-pub(crate) fn push_record(
-    steps: &mut Steps,
-    message: &Message,
-    at: usize,
-) -> Result<Option<usize>, NoMemory>
+pub(crate) fn push_record(steps: &mut Steps, message: &Message, at: usize) -> Option<usize>
     requires chains { AreChainEnds message.now.bytes.now message.now.chain_ends.now }
     requires base { message.now.base ≤ 2 }
     requires short { length message.now.bytes.now < 2 ^ 32 }
     requires place { at < 2 ^ 33 }
-    ensures adds { IfOk result
-        (Takes steps.old steps.new
-        (resource message.now.fields message.now.base message.now.bytes.now at)) }
-    ensures bound { IfOk result (λ next. IfSome next (λ place. place < 2 ^ 33)) }
+    ensures adds { TookEntry steps.old steps.new
+        (resource message.now.fields message.now.base message.now.bytes.now at) result }
+    ensures bound { IfSome result (λ place. place < 2 ^ 33) }
 {
     let end = message.bytes.len();
-    let Some(at) = push_name(steps, message, message.fields.record_head.name, end, at)? else {
-        return Ok(None);
-    };
-    let next = push_record_tail(steps, message, at)?;
-    Ok(Some(next))
+    match push_name(steps, message, message.fields.record_head.name, end, at) {
+        Some(at) => push_record_tail(steps, message, at),
+        None => None,
+    }
 }
 
 /// Adds the steps of what follows a record's name, and answers where the next record is.
-#[tactic(auto, using(crate::proofs::CollectedLemmas::with_steps_append), unfolding(crate::specs::Records::record_tail, crate::specs::Collected::with_steps))]
-fn push_record_tail(steps: &mut Steps, message: &Message, at: usize) -> Result<usize, NoMemory>
+fn push_record_tail(steps: &mut Steps, message: &Message, at: usize) -> Option<usize>
     requires chains { AreChainEnds message.now.bytes.now message.now.chain_ends.now }
     requires base { message.now.base ≤ 2 }
     requires short { length message.now.bytes.now < 2 ^ 32 }
     requires place { at ≤ length message.now.bytes.now }
-    ensures adds { IfOk result (λ next.
-        Takes steps.old steps.new
-        (record_tail message.now.fields message.now.base message.now.bytes.now at)
-        (Some next)) }
-    ensures bound { IfOk result (λ next. next < 2 ^ 33) }
+    ensures adds { TookEntry steps.old steps.new
+        (record_tail message.now.fields message.now.base message.now.bytes.now at) result }
+    ensures bound { IfSome result (λ place. place < 2 ^ 33) }
 {
     let kind = word_at(message.bytes, at);
     let len = word_at(message.bytes, at + 8);
-    push_record_head(steps, message, message.base + at)?;
-    push_data(steps, message, kind, at + RECORD_HEAD, len)?;
-    Ok(at + RECORD_HEAD + len)
+    push_record_head(steps, message, message.base + at);
+    push_data(steps, message, kind, at + RECORD_HEAD, len);
+    Some(at + RECORD_HEAD + len)
 }
 
 /// Adds the steps of a record's numbers, at a place of the layer.
-#[tactic(auto, using(crate::proofs::CollectedLemmas::with_steps_append), unfolding(crate::specs::Collected::with_steps))]
-fn push_record_head(steps: &mut Steps, message: &Message, at: usize) -> Result<(), NoMemory>
+fn push_record_head(steps: &mut Steps, message: &Message, at: usize)
     requires { at < 2 ^ 34 }
-    ensures { OnOk result (steps.new
-        ≡ with_steps steps.old (record_head message.now.fields.record_head at)) }
+    ensures { Took steps.old steps.new (record_head message.now.fields.record_head at) }
 {
     let fields = message.fields.record_head;
-    steps.push(Step::Row(fields.kind, at))?;
-    push_class(steps, fields.class, at + 2)?;
-    push_rows(
-        steps,
-        &[(fields.time_to_live, at + 4), (fields.len, at + 8)],
-    )
+    steps.push(Step::Row(fields.kind, at));
+    push_class(steps, fields.class, at + 2);
+    push_rows(steps, at, &[(fields.time_to_live, 4), (fields.len, 8)])
 }
 
 /// Adds the steps of the data of a type, of so many bytes from a place on.
-#[tactic(auto, unfolding(crate::specs::Records::data_steps, crate::specs::Collected::with_steps))]
-fn push_data(
-    steps: &mut Steps,
-    message: &Message,
-    kind: usize,
-    at: usize,
-    len: usize,
-) -> Result<(), NoMemory>
+#[tactic(auto, unfolding(crate::specs::Records::data_steps))]
+fn push_data(steps: &mut Steps, message: &Message, kind: usize, at: usize, len: usize)
     requires chains { AreChainEnds message.now.bytes.now message.now.chain_ends.now }
     requires base { message.now.base ≤ 2 }
     requires short { length message.now.bytes.now < 2 ^ 32 }
     requires place { at < 2 ^ 33 }
     requires len { len < 65536 }
-    ensures { OnOk result (steps.new
-        ≡ with_steps steps.old
-        (data_steps message.now.fields.record_data message.now.base message.now.bytes.now kind
-        at len)) }
+    ensures { Took steps.old steps.new
+        (data_steps message.now.fields.record_data message.now.base message.now.bytes.now kind at
+        len) }
 {
     let fields = message.fields.record_data;
     let place = message.base + at;
@@ -210,23 +181,15 @@ fn push_data(
 }
 
 /// Adds the steps of the data of a service where it has fields, else of so many bytes.
-#[tactic(auto, unfolding(crate::specs::Collected::with_steps))]
-fn push_service_or_data(
-    steps: &mut Steps,
-    message: &Message,
-    at: usize,
-    len: usize,
-) -> Result<(), NoMemory>
+fn push_service_or_data(steps: &mut Steps, message: &Message, at: usize, len: usize)
     requires chains { AreChainEnds message.now.bytes.now message.now.chain_ends.now }
     requires base { message.now.base ≤ 2 }
     requires short { length message.now.bytes.now < 2 ^ 32 }
     requires place { at < 2 ^ 33 }
     requires len { len < 65536 }
-    ensures { OnOk result (steps.new
-        ≡ with_steps steps.old
-        (service_or_data message.now.fields.record_data.service
+    ensures { Took steps.old steps.new (service_or_data message.now.fields.record_data.service
         message.now.fields.record_data.other message.now.base message.now.bytes.now at
-        len)) }
+        len) }
 {
     match message.fields.record_data.service {
         Some(fields) => push_service(steps, message, fields, at, at + len),
@@ -235,101 +198,74 @@ fn push_service_or_data(
 }
 
 /// Adds the steps of a service, whose data ends at a place.
-#[tactic(auto, using(crate::proofs::CollectedLemmas::with_steps_append), unfolding(crate::specs::Records::service_data, crate::specs::Collected::with_steps))]
-fn push_service(
-    steps: &mut Steps,
-    message: &Message,
-    fields: ServiceFields,
-    at: usize,
-    end: usize,
-) -> Result<(), NoMemory>
+fn push_service(steps: &mut Steps, message: &Message, fields: ServiceFields, at: usize, end: usize)
     requires chains { AreChainEnds message.now.bytes.now message.now.chain_ends.now }
     requires base { message.now.base ≤ 2 }
     requires short { length message.now.bytes.now < 2 ^ 32 }
     requires place { at < 2 ^ 33 }
-    ensures { OnOk result (steps.new
-        ≡ with_steps steps.old
-        (service_data fields message.now.base message.now.bytes.now at end)) }
+    ensures { Took steps.old steps.new
+        (service_data fields message.now.base message.now.bytes.now at end) }
 {
     let rows = [(fields.priority, 0), (fields.weight, 2), (fields.port, 4)];
-    push_data_rows(steps, message, end, at, 2, &rows)?;
+    push_data_rows(steps, message, end, at, 2, &rows);
     push_name_within(steps, message, fields.target, end, at + 6)
 }
 
 /// Adds the steps of a name in a record's data, which ends at a place.
-fn push_name_within(
-    steps: &mut Steps,
-    message: &Message,
-    field: FieldId,
-    end: usize,
-    at: usize,
-) -> Result<(), NoMemory>
+fn push_name_within(steps: &mut Steps, message: &Message, field: FieldId, end: usize, at: usize)
     requires chains { AreChainEnds message.now.bytes.now message.now.chain_ends.now }
     requires base { message.now.base ≤ 2 }
     requires place { at < 2 ^ 34 }
-    ensures { OnOk result (steps.new
-        ≡ with_steps steps.old
-        (name_entry message.now.base message.now.bytes.now field
-        (min end (length message.now.bytes.now)) at).steps) }
+    ensures { Took steps.old steps.new (name_entry message.now.base message.now.bytes.now field
+        (min end (length message.now.bytes.now)) at).steps }
 {
     let limit = end.min(message.bytes.len());
-    push_name(steps, message, field, limit, at)?;
-    Ok(())
+    push_name(steps, message, field, limit, at);
 }
 
 /// Adds the steps of a mail exchange, whose data ends at a place.
-#[tactic(auto, using(crate::proofs::CollectedLemmas::with_steps_append), unfolding(crate::specs::Records::mail_data, crate::specs::Collected::with_steps))]
-fn push_mail(steps: &mut Steps, message: &Message, at: usize, end: usize) -> Result<(), NoMemory>
+fn push_mail(steps: &mut Steps, message: &Message, at: usize, end: usize)
     requires chains { AreChainEnds message.now.bytes.now message.now.chain_ends.now }
     requires base { message.now.base ≤ 2 }
     requires short { length message.now.bytes.now < 2 ^ 32 }
     requires place { at < 2 ^ 33 }
-    ensures { OnOk result (steps.new
-        ≡ with_steps steps.old
-        (mail_data message.now.fields.record_data message.now.base message.now.bytes.now at
-        end)) }
+    ensures { Took steps.old steps.new
+        (mail_data message.now.fields.record_data message.now.base message.now.bytes.now at end) }
 {
     let fields = message.fields.record_data;
-    push_row(steps, message, end, fields.preference, at, 2)?;
+    push_row(steps, message, end, fields.preference, at, 2);
     push_name_within(steps, message, fields.mail_exchange, end, at + 2)
 }
 
 /// Adds the steps of a zone's start of authority, whose data ends at a place.
-#[tactic(auto, using(crate::proofs::CollectedLemmas::with_steps_append), unfolding(crate::specs::Records::zone_data, crate::specs::Collected::with_steps))]
-fn push_zone(steps: &mut Steps, message: &Message, at: usize, end: usize) -> Result<(), NoMemory>
+#[tactic(auto, unfolding(crate::specs::Records::zone_data))]
+fn push_zone(steps: &mut Steps, message: &Message, at: usize, end: usize)
     requires chains { AreChainEnds message.now.bytes.now message.now.chain_ends.now }
     requires base { message.now.base ≤ 2 }
     requires short { length message.now.bytes.now < 2 ^ 32 }
     requires place { at < 2 ^ 33 }
-    ensures { OnOk result (steps.new
-        ≡ with_steps steps.old
+    ensures { Took steps.old steps.new
         (zone_data message.now.fields.record_data.zone message.now.base message.now.bytes.now at
-        end).steps) }
+        end).steps }
 {
     let fields = message.fields.record_data.zone;
     let limit = end.min(message.bytes.len());
-    let Some(at) = push_name(steps, message, fields.server, limit, at)? else {
-        return Ok(());
+    let Some(at) = push_name(steps, message, fields.server, limit, at) else {
+        return;
     };
-    let Some(at) = push_name(steps, message, fields.mailbox, limit, at)? else {
-        return Ok(());
+    let Some(at) = push_name(steps, message, fields.mailbox, limit, at) else {
+        return;
     };
     push_zone_numbers(steps, message, at, end)
 }
 
 /// Adds the steps of the numbers of a zone's start of authority.
-#[tactic(auto, unfolding(crate::specs::Records::zone_numbers, crate::specs::Collected::with_steps))]
-fn push_zone_numbers(
-    steps: &mut Steps,
-    message: &Message,
-    at: usize,
-    end: usize,
-) -> Result<(), NoMemory>
+#[tactic(auto, unfolding(crate::specs::Records::zone_numbers))]
+fn push_zone_numbers(steps: &mut Steps, message: &Message, at: usize, end: usize)
     requires base { message.now.base ≤ 2 }
     requires place { at < 2 ^ 33 }
-    ensures { OnOk result (steps.new
-        ≡ with_steps steps.old
-        (zone_numbers message.now.fields.record_data.zone message.now.base end at).steps) }
+    ensures { Took steps.old steps.new
+        (zone_numbers message.now.fields.record_data.zone message.now.base end at).steps }
 {
     let fields = message.fields.record_data.zone;
     let rows = [
@@ -343,7 +279,6 @@ fn push_zone_numbers(
 }
 
 /// Adds the steps of rows of a record's data, each a field and its place behind another, of so many bytes each.
-#[tactic(auto, using(crate::proofs::CollectedLemmas::with_steps_append), unfolding(crate::specs::Collected::with_steps))]
 fn push_data_rows(
     steps: &mut Steps,
     message: &Message,
@@ -351,77 +286,59 @@ fn push_data_rows(
     at: usize,
     len: usize,
     rows: &[(FieldId, u8)],
-) -> Result<(), NoMemory>
+)
     requires base { message.now.base ≤ 2 }
     requires place { at < 2 ^ 33 }
     requires len { len ≤ 4 }
-    ensures { OnOk result (steps.new
-        ≡ with_steps steps.old
-        (flat_map (λ row. data_row message.now.base end row.0 (at + row.1) len) rows.now)) }
+    ensures { Took steps.old steps.new
+        (flat_map (λ row. data_row message.now.base end row.0 (at + row.1) len) rows.now) }
 {
     for row in rows {
-        push_row(steps, message, end, row.0, at + usize::from(row.1), len)?;
+        push_row(steps, message, end, row.0, at + usize::from(row.1), len);
     }
-    Ok(())
 }
 
 /// Adds the steps of a row of a record's data, of which so many bytes must fit before its end.
-#[tactic(auto, unfolding(crate::specs::Collected::with_steps))]
-fn push_row(
-    steps: &mut Steps,
-    message: &Message,
-    end: usize,
-    field: FieldId,
-    at: usize,
-    len: usize,
-) -> Result<(), NoMemory>
+fn push_row(steps: &mut Steps, message: &Message, end: usize, field: FieldId, at: usize, len: usize)
     requires base { message.now.base ≤ 2 }
     requires place { at < 2 ^ 34 }
     requires len { len ≤ 4 }
-    ensures { OnOk result (steps.new
-        ≡ with_steps steps.old (data_row message.now.base end field at len)) }
+    ensures { Took steps.old steps.new (data_row message.now.base end field at len) }
 {
-    steps.push(Step::Room(at + len <= end))?;
+    steps.push(Step::Room(at + len <= end));
     steps.push(Step::Row(field, message.base + at))
 }
 
 /// Adds the steps of the strings of a text, in so many bytes from a place on.
-fn push_texts(steps: &mut Steps, message: &Message, at: usize, len: usize) -> Result<(), NoMemory>
+fn push_texts(steps: &mut Steps, message: &Message, at: usize, len: usize)
     requires base { message.now.base ≤ 2 }
     requires short { length message.now.bytes.now < 2 ^ 32 }
     requires place { at < 2 ^ 33 }
     requires len { len < 65536 }
-    ensures { OnOk result (steps.new
-        ≡ with_steps steps.old
+    ensures { Took steps.old steps.new
         (repeated len (text_string message.now.base message.now.bytes.now
-        message.now.fields.record_data.text (at + len)) at).steps) }
+        message.now.fields.record_data.text (at + len)) at).steps }
 {
     let mut place = at;
     for _string in 0..len {
-        match push_text(steps, message, place, at + len)? {
+        match push_text(steps, message, place, at + len) {
             Some(next) => place = next,
-            None => return Ok(()),
+            None => return,
         }
     }
-    Ok(())
 }
 
 /// Adds the steps of the string at a place of a text, whose data ends at another, and answers where the next one is.
-#[tactic(auto, unfolding(crate::specs::Records::text_string, crate::specs::Collected::with_steps))]
-fn push_text(
-    steps: &mut Steps,
-    message: &Message,
-    at: usize,
-    end: usize,
-) -> Result<Option<usize>, NoMemory>
+#[tactic(auto, unfolding(crate::specs::Records::text_string))]
+fn push_text(steps: &mut Steps, message: &Message, at: usize, end: usize) -> Option<usize>
     requires base { message.now.base ≤ 2 }
     requires short { length message.now.bytes.now < 2 ^ 32 }
-    ensures { IfOk result (Takes steps.old steps.new
-        (text_string message.now.base message.now.bytes.now message.now.fields.record_data.text end
-        at)) }
+    ensures { TookEntry steps.old steps.new
+        (text_string message.now.base message.now.bytes.now message.now.fields.record_data.text
+        end at) result }
 {
     if end <= at {
-        return Ok(None);
+        return None;
     }
     let Some(len) = message.bytes.get(at) else {
         return push_last(steps, Step::Room(false));
@@ -430,106 +347,122 @@ fn push_text(
 }
 
 /// Adds the steps of the string of so many bytes behind its length, and answers where it ends.
-#[tactic(auto, unfolding(crate::specs::Collected::with_steps))]
 fn push_string(
     steps: &mut Steps,
     message: &Message,
     at: usize,
     len: usize,
     end: usize,
-) -> Result<Option<usize>, NoMemory>
+) -> Option<usize>
     requires base { message.now.base ≤ 2 }
     requires place { at < 2 ^ 32 }
     requires len { len < 256 }
-    ensures { IfOk result (Takes steps.old steps.new
-        (goes_on
+    ensures { TookEntry steps.old steps.new (goes_on
         (steps_of_layers.Room (nat_le (at + 1 + len) end)
         ∷ steps_of_layers.Whole message.now.fields.record_data.text (message.now.base + at + 1) len
-        ∷ []) (at + 1 + len))) }
+        ∷ []) (at + 1 + len)) result }
 {
     let next = at + 1 + len;
-    steps.push(Step::Room(next <= end))?;
-    steps.push(Step::Whole(message.fields.record_data.text, message.base + at + 1, len))?;
-    Ok(Some(next))
+    steps.push(Step::Room(next <= end));
+    steps.push(Step::Whole(message.fields.record_data.text, message.base + at + 1, len));
+    Some(next)
 }
 
 /// Adds a step behind which nothing is read.
-#[tactic(auto, unfolding(crate::specs::Collected::with_steps))]
-fn push_last(steps: &mut Steps, step: Step) -> Result<Option<usize>, NoMemory>
+fn push_last(steps: &mut Steps, step: Step) -> Option<usize>
     requires plain { IsTrue (is_plain step) }
-    ensures takes { IfOk result (Takes steps.old steps.new (ends (step ∷ []))) }
-    ensures none { IfOk result (λ next. next ≡ None) }
+    ensures takes { TookEntry steps.old steps.new (ends (step ∷ [])) result }
+    ensures none { result ≡ None }
 {
-    steps.push(step)?;
-    Ok(None)
+    steps.push(step);
+    None
 }
 
 /// Adds the steps of the name at a place, whose first run may not go past `end`, and answers where it ends.
-#[tactic(auto, using(crate::proofs::CollectedLemmas::with_steps_append), unfolding(crate::specs::Records::name_entry, crate::specs::Collected::with_steps))]
+#[tactic(auto, unfolding(crate::specs::Records::name_entry))]
 fn push_name(
     steps: &mut Steps,
     message: &Message,
     field: FieldId,
     end: usize,
     place: usize,
-) -> Result<Option<usize>, NoMemory>
+) -> Option<usize>
     requires chains { AreChainEnds message.now.bytes.now message.now.chain_ends.now }
     requires base { message.now.base ≤ 2 }
     requires end { end ≤ length message.now.bytes.now }
     requires place { place < 2 ^ 34 }
-    ensures adds { IfOk result
-        (Takes steps.old steps.new
-        (name_entry message.now.base message.now.bytes.now field end place)) }
-    ensures bound { IfOk result (λ next.
-        IfSome next (λ after. after ≤ length message.now.bytes.now)) }
+    ensures adds { TookEntry steps.old steps.new
+        (name_entry message.now.base message.now.bytes.now field end place) result }
+    ensures bound { IfSome result (λ after. after ≤ length message.now.bytes.now) }
 {
-    let (name, text) = name_text(message, steps.shows(field), end, place)?;
-    match name {
-        NameEnd::Name(after) => {
-            steps.push_name(field, text, message.base + place, after - place)?;
-            Ok(Some(after))
-        }
-        NameEnd::Leaves => push_last(steps, Step::Room(false)),
-        NameEnd::Fails => push_last(steps, Step::Check(false)),
-    }
-}
-
-/// How the name at a place ends, and its text where that is to be `shown`.
-fn name_text(
-    message: &Message,
-    shown: bool,
-    end: usize,
-    place: usize,
-) -> Result<(NameEnd, Octets), NoMemory>
-    requires chains { AreChainEnds message.now.bytes.now message.now.chain_ends.now }
-    requires end { end ≤ length message.now.bytes.now }
-    requires place { place < 2 ^ 34 }
-    ensures end_is { IfOk result (λ read. read.0 ≡ (name_at message.now.bytes.now end place).0) }
-    ensures text { IfOk result (λ read. shown ≡ true
-        → read.1 ≡ shown_name (name_at message.now.bytes.now end place).1) }
-    ensures none { IfOk result (λ read. shown ≡ false → read.1 ≡ []) }
-    ensures bound { IfOk result (λ read. EndsIn place (length message.now.bytes.now) read.0) }
-{
+    let shown = steps.shows(field);
     let room = if shown { NAME_LIMIT } else { 0 };
-    let mut text = Vec::with_capacity(message.alloc, room)?;
-    let name = read_name(
+    let Ok(mut text) = Vec::with_capacity(message.alloc, room) else {
+        return push_none(steps);
+    };
+    let Ok(name) = read_name(
         message.bytes,
         message.chain_ends,
         end,
         place,
         shown,
         &mut text,
-    )?;
-    if !shown {
-        return Ok((name, Octets::new()));
+    ) else {
+        return push_none(steps);
+    };
+    match name {
+        NameEnd::Name(after) => push_found(steps, message, field, place, after, text),
+        NameEnd::Leaves => push_last(steps, Step::Room(false)),
+        NameEnd::Fails => push_last(steps, Step::Check(false)),
     }
-    Ok((name, shown_name(message.alloc, text)?))
 }
 
-/// The text of a name by its labels. The root's name has none.
-fn shown_name(alloc: Global, text: Vec<u8>) -> Result<Octets, NoMemory>
-    ensures { IfOk result (λ name. name ≡ shown_name text.items) }
+/// Takes no more, since there is no memory for it.
+fn push_none(steps: &mut Steps) -> Option<usize>
+    ensures takes { (entry : Entry) → (answer : Option ℕ)
+        → TookEntry steps.old steps.new entry answer }
+    ensures none { result ≡ None }
 {
+    steps.give_up();
+    None
+}
+
+/// Adds the step of a name with the text of its labels, which ends before a place, and answers that.
+fn push_found(
+    steps: &mut Steps,
+    message: &Message,
+    field: FieldId,
+    place: usize,
+    after: usize,
+    text: Vec<u8>,
+) -> Option<usize>
+    requires base { message.now.base ≤ 2 }
+    requires place { place < 2 ^ 34 }
+    requires order { place < after }
+    ensures adds { (whole : List ℕ) → (shows steps.old field ≡ true → text.items ≡ whole)
+        → TookEntry steps.old steps.new
+        (goes_on
+        (steps_of_layers.Derived field (values.Text (shown_name whole)) (message.now.base + place)
+        (after - place) ∷ []) after) result }
+    ensures bound { IfSome result (λ next. next ≡ after) }
+{
+    match name_text(message.alloc, steps.shows(field), text) {
+        Ok(text) => {
+            steps.push_name(field, text, message.base + place, after - place);
+            Some(after)
+        }
+        Err(_) => push_none(steps),
+    }
+}
+
+/// The text of a name by its labels where it is to be `shown`. The root's name has none.
+fn name_text(alloc: Global, shown: bool, text: Vec<u8>) -> Result<Octets, NoMemory>
+    ensures text { IfOk result (λ name. shown ≡ true → name ≡ shown_name text.items) }
+    ensures none { IfOk result (λ name. shown ≡ false → name ≡ []) }
+{
+    if !shown {
+        return Ok(Octets::new());
+    }
     if text.is_empty() {
         Octets::copy(alloc, b"<Root>")
     } else {

@@ -1,10 +1,10 @@
-ghost use Rattle.std.specs.Prelude.{◌≡◌, ◌==◌, ◌&&◌, ℕ, true, false, List, [], map, if◌then◌else◌, IfOk, OnOk, IsTrue};
+ghost use Rattle.std.specs.Prelude.{◌≡◌, ◌==◌, ◌&&◌, ℕ, true, false, List, [], ◌∷◌, ◌++◌, ◌+◌, ◌<◌, ◌^◌, map, if◌then◌else◌, IfOk, OnOk, IsTrue};
 ghost use Rattle.pk_fields.specs.Fields.{row_of};
 ghost use Rattle.pk_fields.specs.FieldSets.{is_in};
 ghost use Rattle.pk_tree.specs.Layouts.{fitted, reach_after, step_reach};
 ghost use Rattle.pk_base.specs.declared.value.Value.TheVariants as values;
 ghost use Rattle.pk_tree.specs.declared.layout.Step.TheVariants as steps_of_layers;
-ghost use Rattle.dis_dns.specs.Collected.{IsTaken, is_plain, no_steps, shows, with_step, with_steps};
+ghost use Rattle.dis_dns.specs.Collected.{IsTaken, Took, is_plain, no_steps, shows};
 
 use pk_base::{NoMemory, Octets, Value};
 use pk_fields::{FieldId, size};
@@ -15,7 +15,7 @@ use std::marker::Model;
 const FEW_STEPS: usize = 64;
 
 /// The steps of a layer, taken one by one. Where no field of the layer's protocol is wanted, none is kept, but how far they
-/// are read.
+/// are read. Whether there was memory for all of them is told at the end.
 #[derive(Drop)]
 pub(crate) struct Steps<'a> {
     tree: &'a TreeBuilder,
@@ -23,6 +23,8 @@ pub(crate) struct Steps<'a> {
     end: usize,
     list: Vec<Step>,
     reach: Reach,
+    /// Whether there was no memory for a step.
+    spent: bool,
 }
 
 /// What was taken.
@@ -45,6 +47,7 @@ impl<'a> Model for Steps<'a> {
       end = s.end;
       list = s.list.items;
       reach = s.reach;
+      spent = s.spent;
     } };
 }
 
@@ -68,6 +71,7 @@ impl<'a> Steps<'a> {
             end,
             list,
             reach: Reach::All,
+            spent: false,
         })
     }
 
@@ -79,64 +83,74 @@ impl<'a> Steps<'a> {
     }
 
     /// Takes a step other than a name.
-    #[tactic(auto, using(crate::proofs::CollectedLemmas::plain_shown), unfolding(crate::specs::Collected::with_step))]
-    pub(crate) fn push(&mut self, step: Step) -> Result<(), NoMemory>
+    #[tactic(auto, using(crate::proofs::CollectedLemmas::plain_shown), unfolding(crate::specs::Collected::with_step, crate::specs::Collected::with_steps))]
+    pub(crate) fn push(&mut self, step: Step)
         requires plain { IsTrue (is_plain step) }
-        ensures { OnOk result (self.new ≡ with_step self.old step) }
+        ensures { Took self.old self.new (step ∷ []) }
     {
         if self.keeps {
-            self.list.push(step)?;
-            return Ok(());
+            self.keep(step)
+        } else {
+            self.reach = passed(self.reach, self.end, step);
         }
-        self.reach = passed(self.reach, self.end, step);
-        Ok(())
     }
 
     /// Takes the step of a name at a place of the layer. Its text counts only where it is kept.
-    #[tactic(auto, unfolding(crate::specs::Collected::with_step, pk_tree::specs::Layouts::step_reach))]
-    pub(crate) fn push_name(
-        &mut self,
-        field: FieldId,
-        text: Octets,
-        at: usize,
-        len: usize,
-    ) -> Result<(), NoMemory>
+    #[tactic(auto, unfolding(crate::specs::Collected::with_step, crate::specs::Collected::with_steps, pk_tree::specs::Layouts::step_reach))]
+    pub(crate) fn push_name(&mut self, field: FieldId, text: Octets, at: usize, len: usize)
         requires none { shows self.old field ≡ false → text ≡ [] }
-        ensures { OnOk result ((whole : List ℕ) → (shows self.old field ≡ true → text ≡ whole)
-            → self.new ≡ with_step self.old
-            (steps_of_layers.Derived field (values.Text whole) at len)) }
+        ensures { (whole : List ℕ) → (shows self.old field ≡ true → text ≡ whole)
+            → Took self.old self.new
+            (steps_of_layers.Derived field (values.Text whole) at len ∷ []) }
     {
+        let step = Step::Derived(field, Value::Text(text), at, len);
         if self.keeps {
-            self.list
-                .push(Step::Derived(field, Value::Text(text), at, len))?;
+            self.keep(step)
         } else {
-            self.reach = reach_after(self.reach, fitted(self.end, at, len));
+            self.reach = passed(self.reach, self.end, step);
         }
-        Ok(())
+    }
+
+    /// Keeps a step as it is.
+    fn keep(&mut self, step: Step)
+        ensures { self.new.spent ≡ false
+            → self.new ≡ record self.old { list = self.old.list ++ step ∷ [] } }
+    {
+        if self.list.push(step).is_err() {
+            self.spent = true;
+        }
+    }
+
+    /// Takes no more, since there is no memory for it.
+    pub(crate) fn give_up(&mut self)
+        ensures { self.new.spent ≡ true }
+    {
+        self.spent = true;
     }
 
     /// What was taken in all.
-    pub(crate) fn finish(self) -> Taken
-        ensures { IsTaken self.entry result }
+    pub(crate) fn finish(self) -> Result<Taken, NoMemory>
+        ensures { IfOk result (λ taken. (self.entry.spent ≡ false) × IsTaken self.entry taken) }
     {
-        if self.keeps {
-            Taken::List(self.list)
+        if self.spent {
+            Err(NoMemory)
+        } else if self.keeps {
+            Ok(Taken::List(self.list))
         } else {
-            Taken::Reach(self.reach)
+            Ok(Taken::Reach(self.reach))
         }
     }
 }
 
-/// Takes rows, each a field at a place.
-#[tactic(auto, unfolding(crate::specs::Collected::with_steps))]
-pub(crate) fn push_rows(steps: &mut Steps, rows: &[(FieldId, usize)]) -> Result<(), NoMemory>
-    ensures { OnOk result (steps.new
-        ≡ with_steps steps.old (map (λ row. steps_of_layers.Row row.0 row.1) rows.now)) }
+/// Takes rows, each a field and how many bytes behind a place it stands.
+pub(crate) fn push_rows(steps: &mut Steps, place: usize, rows: &[(FieldId, u8)])
+    requires { place < 2 ^ 35 }
+    ensures { Took steps.old steps.new
+        (map (λ row. steps_of_layers.Row row.0 (place + row.1)) rows.now) }
 {
     for row in rows {
-        steps.push(Step::Row(row.0, row.1))?;
+        steps.push(Step::Row(row.0, place + usize::from(row.1)));
     }
-    Ok(())
 }
 
 /// How far a layer of so many bytes is read behind one more step, which is not kept.

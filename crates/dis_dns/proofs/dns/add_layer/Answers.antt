@@ -1,5 +1,5 @@
 use Rattle.std.proofs.Common.{◌≡◌, map, ◌∙◌}
-use Rattle.pk_tree.specs.Layouts.{reach}
+use Rattle.std.proofs.lemmas.Result.{IfOk-weaker}
 use Rattle.dis_dns.specs.Collected.{shown_step}
 use Rattle.dis_dns.proofs.CollectedLemmas.{same_layer}
 use Rattle.dis_dns.proofs.dns.add_layer.Goals as goal
@@ -16,7 +16,6 @@ returns-in_ok-read_layer-in-List-clause-layer c layout fit holds =
     let steps : c.deref.result.now ≡ map (shown_step c.args.b.now.wanted) layout = c.deref.ensures.value ∙ listed in
     (rw steps at c.in_ok-read_layer-in-List.ensures.layer) ∙ same_layer c.args.b.now c.args.protocol c.args.span layout _ c.args.cut
 
-pub returns-in_ok-pass_layer-in-Reach-clause-layer : goal.returns-in_ok-pass_layer-in-Reach-clause-layer
-returns-in_ok-pass_layer-in-Reach-clause-layer c layout fit holds =
-    let why : c.in-Reach.reach ≡ reach c.args.span.len layout = rw c.in-Reach.is at holds in
-    c.in_ok-pass_layer-in-Reach.ensures.layer layout fit why
+pub returns-in-Reach-clause-layer : goal.returns-in-Reach-clause-layer
+returns-in-Reach-clause-layer c =
+    IfOk-weaker c.pass_layer.result _ _ (λ _ passed layout fit holds. passed layout fit (rw c.in-Reach.is at holds)) c.pass_layer.ensures.layer

@@ -1,4 +1,5 @@
 use Rattle.std.proofs.Common.{length, ap, ◌∙◌}
+use Rattle.std.proofs.lemmas.Result.{IfOk-weaker}
 use Rattle.pk_fields.specs.Ids.{MDNS}
 use Rattle.dis_dns.specs.Collected.{StepsShown, with_steps}
 use Rattle.dis_dns.specs.Dns.{mdns_layout}
@@ -8,12 +9,17 @@ use Rattle.dis_dns.proofs.dns.mdns_steps.Goals as goal
 
 pub returns-clause-holds : goal.returns-clause-holds
 returns-clause-holds c =
-    holds_taken c.args.tree.now.wanted c.in_ok-steps.steps.keeps (length c.args.bytes.now) (mdns_layout c.args.bytes.now) c.push_mdns.new.steps c.finish.result
-    (c.in_ok-push_mdns.ensures ∙ ap (λ (s : StepsShown). with_steps s (mdns_layout c.args.bytes.now)) c.in_ok-steps.ensures.steps)
+    IfOk-weaker c.finish.result _ _
+    (λ taken is.
+    holds_taken c.args.tree.now.wanted c.in_ok-steps.steps.keeps (length c.args.bytes.now) (mdns_layout c.args.bytes.now) c.push_mdns.new.steps taken
+    (c.push_mdns.ensures.all is.0 ∙ ap (λ (s : StepsShown). with_steps s (mdns_layout c.args.bytes.now)) c.in_ok-steps.ensures.steps) is.1)
     c.finish.ensures
 
 pub returns-clause-fits : goal.returns-clause-fits
 returns-clause-fits c =
-    fits_taken c.args.tree.now.wanted MDNS c.in_ok-steps.steps.keeps (length c.args.bytes.now) (mdns_layout c.args.bytes.now) c.push_mdns.new.steps c.finish.result
-    (c.in_ok-push_mdns.ensures ∙ ap (λ (s : StepsShown). with_steps s (mdns_layout c.args.bytes.now)) c.in_ok-steps.ensures.steps)
-    c.finish.ensures c.in_ok-steps.ensures.none (mdns_layout_fits c.args.bytes.now)
+    IfOk-weaker c.finish.result _ _
+    (λ taken is.
+    fits_taken c.args.tree.now.wanted MDNS c.in_ok-steps.steps.keeps (length c.args.bytes.now) (mdns_layout c.args.bytes.now) c.push_mdns.new.steps taken
+    (c.push_mdns.ensures.all is.0 ∙ ap (λ (s : StepsShown). with_steps s (mdns_layout c.args.bytes.now)) c.in_ok-steps.ensures.steps) is.1
+    c.in_ok-steps.ensures.none (mdns_layout_fits c.args.bytes.now))
+    c.finish.ensures

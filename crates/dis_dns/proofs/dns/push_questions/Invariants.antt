@@ -1,4 +1,4 @@
-use Rattle.std.proofs.Common.{◌≡◌, ◌-◌, ◌<◌, ◌^◌}
+use Rattle.std.proofs.Common.{◌≡◌, false, ◌-◌, ◌<◌, ◌^◌}
 use Rattle.pk_tree.specs.Entries.{repeated}
 use Rattle.dis_dns.proofs.CollectedLemmas.{onto}
 use Rattle.dis_dns.specs.Records.{question}
@@ -8,7 +8,8 @@ use Rattle.dis_dns.proofs.dns.push_questions.Given as goal
 abbrev pub invariant-loop-question : goal.invariant-loop-question
 invariant-loop-question l = record {
   goes :
-      onto l.steps (repeated (l.count - l._question) (question l.message.fields.question l.message.base l.message.bytes.now) l.place)
+      l.steps.spent ≡ false
+      → onto l.steps (repeated (l.count - l._question) (question l.message.fields.question l.message.base l.message.bytes.now) l.place)
       ≡ onto l.initial.steps (repeated l.count (question l.message.fields.question l.message.base l.message.bytes.now) l.at);
   bound : l.place < 2 ^ 33;
 }

@@ -1,4 +1,5 @@
 use Rattle.std.proofs.Common.{List, ℕ}
+use Rattle.std.proofs.lemmas.Result.{IfOk-weaker}
 use Rattle.pk_tree.specs.Buffers.{bytes_of}
 use Rattle.dis_dns.specs.Collected.{HoldsSteps}
 use Rattle.dis_dns.specs.Dns.{mdns_layout}
@@ -12,7 +13,7 @@ pub returns-clause-layer : goal.returns-clause-layer
 returns-clause-layer c =
     let bytes : List ℕ = bytes_of c.args.b.now.buffers c.args.span in
     let holds : HoldsSteps c.args.b.now.wanted c.args.span.len (mdns_layout bytes) c.in_ok-taken.taken = rw (c.bytes.ensures.len, c.bytes.ensures.bytes) at c.in_ok-taken.ensures.holds in
-    c.in_ok-add_layer.ensures.layer (mdns_layout bytes) (mdns_layout_fits bytes) holds
+    IfOk-weaker c.add_layer.result _ _ (λ _ layer. layer (mdns_layout bytes) (mdns_layout_fits bytes) holds) c.add_layer.ensures.layer
 
 pub returns-in_err-taken-clause-names : goal.returns-in_err-taken-clause-names
 returns-in_err-taken-clause-names c = reads_names
@@ -22,15 +23,6 @@ returns-in_err-taken-clause-leaving c = tells_leaving
 
 pub returns-in_err-taken-clause-texts : goal.returns-in_err-taken-clause-texts
 returns-in_err-taken-clause-texts c = all_strings
-
-pub returns-in_err-add_layer-clause-names : goal.returns-in_err-add_layer-clause-names
-returns-in_err-add_layer-clause-names c = reads_names
-
-pub returns-in_err-add_layer-clause-leaving : goal.returns-in_err-add_layer-clause-leaving
-returns-in_err-add_layer-clause-leaving c = tells_leaving
-
-pub returns-in_err-add_layer-clause-texts : goal.returns-in_err-add_layer-clause-texts
-returns-in_err-add_layer-clause-texts c = all_strings
 
 pub returns-clause-names : goal.returns-clause-names
 returns-clause-names c = reads_names
