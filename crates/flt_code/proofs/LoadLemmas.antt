@@ -51,6 +51,11 @@ pub if_ok : {A E : Type 0} (P Q : A → Type 0) (r : Result A E) → ((x : A) �
 if_ok P Q (Ok x) f p = f x p
 if_ok P Q (Err e) f p = tt
 
+-- what holds of a register once its instruction stands, where that is given
+pub emitted : {E : Type 0} (P : ℕ → Type 0) (register : ℕ) (Stands : Type 0) (r : Result ℕ E) → (Stands → P register) → IfOk r (λ q. (q ≡ register) × Stands) → IfOk r P
+emitted P register Stands (Ok q) f is = subst P (sym is.0) (f is.1)
+emitted P register Stands (Err e) f is = tt
+
 -- pieces of code, one behind the other
 pub adds_on : (before middle after a b : List Instr) → middle ≡ before ++ a → after ≡ middle ++ b → after ≡ before ++ (a ++ b)
 adds_on before middle after a b first second = second ∙ ap (λ xs. xs ++ b) first ∙ append_assoc before a b

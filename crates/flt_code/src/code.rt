@@ -64,15 +64,23 @@ fn code_joined<'f>(
     match filter {
         Typed::Either(_, right) => {
             let start = code.len();
-            code_for(alloc, right, owners, patterns, code)?;
-            let passed = code.len() - start;
-            emit_at(code, start, Instr::JumpTrue(passed))
+            match code_for(alloc, right, owners, patterns, code) {
+                Ok(()) => {
+                    let passed = code.len() - start;
+                    emit_at(code, start, Instr::JumpTrue(passed))
+                }
+                Err(NoMemory) => Err(NoMemory),
+            }
         }
         Typed::Both(_, right) => {
             let start = code.len();
-            code_for(alloc, right, owners, patterns, code)?;
-            let passed = code.len() - start;
-            emit_at(code, start, Instr::JumpFalse(passed))
+            match code_for(alloc, right, owners, patterns, code) {
+                Ok(()) => {
+                    let passed = code.len() - start;
+                    emit_at(code, start, Instr::JumpFalse(passed))
+                }
+                Err(NoMemory) => Err(NoMemory),
+            }
         }
         Typed::Differ(part, right) => {
             let register = own(owners, Owner::OfPart(part))?;
@@ -102,18 +110,18 @@ fn code_alone<'f>(
         ≡ sources_of patterns.old.items ++ patterns_of filter.now) }
 {
     match filter {
-        Typed::Not(inner) => {
-            code_for(alloc, inner, owners, patterns, code)?;
-            emit(code, Instr::Not)
-        }
-        Typed::Exists(term) => {
-            load(alloc, Extreme::Least, term, owners, code)?;
-            Ok(())
-        }
-        Typed::AnyBit(term) => {
-            let register = load(alloc, Extreme::Least, term, owners, code)?;
-            emit(code, Instr::NonZero(register))
-        }
+        Typed::Not(inner) => match code_for(alloc, inner, owners, patterns, code) {
+            Ok(()) => emit(code, Instr::Not),
+            Err(NoMemory) => Err(NoMemory),
+        },
+        Typed::Exists(term) => match load(alloc, Extreme::Least, term, owners, code) {
+            Ok(_) => Ok(()),
+            Err(NoMemory) => Err(NoMemory),
+        },
+        Typed::AnyBit(term) => match load(alloc, Extreme::Least, term, owners, code) {
+            Ok(register) => emit(code, Instr::NonZero(register)),
+            Err(NoMemory) => Err(NoMemory),
+        },
         Typed::Compare(relation, choice, left, right) => {
             comparison(alloc, *relation, *choice, left, right, owners, code)
         }

@@ -1,5 +1,5 @@
 // Code, as it grows.
-ghost use Rattle.std.specs.Prelude.{◌≡◌, ◌++◌, ◌≤◌, [], ◌∷◌, insert, OnOk, vec_len};
+ghost use Rattle.std.specs.Prelude.{◌≡◌, ◌++◌, ◌≤◌, [], ◌∷◌, insert, IfOk, OnOk, vec_len};
 
 use flt_program::Instr;
 use pk_base::NoMemory;
@@ -10,6 +10,21 @@ pub(crate) fn emit(code: &mut Vec<Instr>, instr: Instr) -> Result<(), NoMemory>
 {
     code.push(instr)?;
     Ok(())
+}
+
+/// One more instruction, which sets a register. Gives the register.
+pub(crate) fn emit_to(
+    code: &mut Vec<Instr>,
+    register: usize,
+    instr: Instr,
+) -> Result<usize, NoMemory>
+    ensures { IfOk result (λ r.
+        (r ≡ register) × (code.new.items ≡ code.old.items ++ instr ∷ [])) }
+{
+    match emit(code, instr) {
+        Ok(()) => Ok(register),
+        Err(NoMemory) => Err(NoMemory),
+    }
 }
 
 /// An instruction before those from a place on.

@@ -10,7 +10,7 @@ ghost use Rattle.flt_typed.specs.declared.typed.Term.TheVariants.{Field};
 ghost use Rattle.flt_typed.specs.declared.arithmetic.Extreme.TheVariants.{Least};
 ghost use Rattle.flt_program.specs.declared.instr.Instr.TheVariants as instr;
 
-use crate::emits::emit;
+use crate::emits::emit_to;
 use crate::owners::{Owner, own, register_for};
 use crate::spines::term_below;
 use flt_program::{Instr, copied_layers, copied_ranges};
@@ -62,14 +62,20 @@ fn load_joined<'f>(
     match term {
         Term::Computed(operation, _, right) => {
             let (right, register) = load_inner(alloc, extreme, right, term, owners, code)?;
-            emit(code, Instr::Compute(register, *operation, left, right))?;
-            Ok(register)
+            emit_to(
+                code,
+                register,
+                Instr::Compute(register, *operation, left, right),
+            )
         }
         Term::Arguments(_, right) => {
             let right = load(alloc, extreme, right, owners, code)?;
             let register = own(owners, Owner::OfExtreme(extreme, term))?;
-            emit(code, Instr::Choose(register, extreme, left, right))?;
-            Ok(register)
+            emit_to(
+                code,
+                register,
+                Instr::Choose(register, extreme, left, right),
+            )
         }
         _ => unreachable!(),
     }
@@ -111,8 +117,7 @@ fn load_constant<'f>(
     ensures grows { OnOk result (Grows (owners_of owners.old.items) (owners_of owners.new.items)) }
 {
     let register = own(owners, Owner::OfTerm(term))?;
-    emit(code, Instr::Const(register, constant.clone()?))?;
-    Ok(register)
+    emit_to(code, register, Instr::Const(register, constant.clone()?))
 }
 
 /// Appends the code for a field.
@@ -130,11 +135,10 @@ fn load_field<'f>(
     ensures grows { OnOk result (Grows (owners_of owners.old.items) (owners_of owners.new.items)) }
 {
     let register = register_for(owners, term, field, layers)?;
-    emit(
-        code,
-        Instr::Read(register, field, copied_layers(alloc, layers)?),
-    )?;
-    Ok(register)
+    match copied_layers(alloc, layers) {
+        Ok(layers) => emit_to(code, register, Instr::Read(register, field, layers)),
+        Err(NoMemory) => Err(NoMemory),
+    }
 }
 
 /// Appends the code for the slices of a term.
@@ -155,11 +159,10 @@ fn load_slice<'f>(
     ensures grows { OnOk result (Grows (owners_of owners.old.items) (owners_of owners.new.items)) }
 {
     let (inner, register) = load_inner(alloc, extreme, inner, term, owners, code)?;
-    emit(
-        code,
-        Instr::Slice(register, inner, copied_ranges(alloc, ranges)?),
-    )?;
-    Ok(register)
+    match copied_ranges(alloc, ranges) {
+        Ok(ranges) => emit_to(code, register, Instr::Slice(register, inner, ranges)),
+        Err(NoMemory) => Err(NoMemory),
+    }
 }
 
 /// Appends the code for the masked numbers of a term.
@@ -180,8 +183,7 @@ fn load_mask<'f>(
     ensures grows { OnOk result (Grows (owners_of owners.old.items) (owners_of owners.new.items)) }
 {
     let (inner, register) = load_inner(alloc, extreme, inner, term, owners, code)?;
-    emit(code, Instr::Mask(register, inner, mask))?;
-    Ok(register)
+    emit_to(code, register, Instr::Mask(register, inner, mask))
 }
 
 /// Appends the code for what a function gives of a term.
@@ -245,11 +247,10 @@ fn count_field<'f>(
     ensures grows { OnOk result (Grows (owners_of owners.old.items) (owners_of owners.new.items)) }
 {
     let register = own(owners, Owner::OfTerm(term))?;
-    emit(
-        code,
-        Instr::Count(register, field, copied_layers(alloc, layers)?),
-    )?;
-    Ok(register)
+    match copied_layers(alloc, layers) {
+        Ok(layers) => emit_to(code, register, Instr::Count(register, field, layers)),
+        Err(NoMemory) => Err(NoMemory),
+    }
 }
 
 /// Appends the code for `min` and `max`. Several arguments make what is asked for by themselves.
@@ -272,8 +273,11 @@ fn load_extreme<'f>(
         return load(alloc, extreme, inner, owners, code);
     }
     let (arguments, register) = load_inner(alloc, extreme, inner, term, owners, code)?;
-    emit(code, Instr::Choose(register, extreme, arguments, arguments))?;
-    Ok(register)
+    emit_to(
+        code,
+        register,
+        Instr::Choose(register, extreme, arguments, arguments),
+    )
 }
 
 /// Whether a term is several arguments.
@@ -300,8 +304,7 @@ fn load_each<'f>(
     ensures grows { OnOk result (Grows (owners_of owners.old.items) (owners_of owners.new.items)) }
 {
     let (inner, register) = load_inner(alloc, Extreme::Least, inner, term, owners, code)?;
-    emit(code, Instr::Call(register, function, inner))?;
-    Ok(register)
+    emit_to(code, register, Instr::Call(register, function, inner))
 }
 
 /// Appends the code for the term that another is made of. Gives the register that it sets, and one for the other.

@@ -29,15 +29,17 @@ pub(crate) fn alone(alloc: Global, operand: &Operand) -> Result<Typed, FilterErr
     ensures ok { IfOk result (HasType (AloneOf (operand_of operand.now))) }
     ensures err { IfErr result (IsAnswer (faults (AloneOf (operand_of operand.now)))) }
 {
-    let inner = term(alloc, LEFT, operand)?;
-    match operand {
-        Operand::Masked(_, _, _) => Ok(Typed::AnyBit(inner)),
-        Operand::Called(_, at, _) => refused(fault(*at, FilterReason::TypeMismatch), inner),
-        Operand::Computed(_, at, left, _) => {
-            let sign = first_sign(*at, left);
-            refused(fault(sign, FilterReason::TypeMismatch), inner)
-        }
-        _ => Ok(Typed::Exists(inner)),
+    match term(alloc, LEFT, operand) {
+        Ok(inner) => match operand {
+            Operand::Masked(_, _, _) => Ok(Typed::AnyBit(inner)),
+            Operand::Called(_, at, _) => refused(fault(*at, FilterReason::TypeMismatch), inner),
+            Operand::Computed(_, at, left, _) => {
+                let sign = first_sign(*at, left);
+                refused(fault(sign, FilterReason::TypeMismatch), inner)
+            }
+            _ => Ok(Typed::Exists(inner)),
+        },
+        Err(error) => Err(error),
     }
 }
 
@@ -53,13 +55,15 @@ pub(crate) fn test(
     ensures err { IfErr result
         (IsAnswer (faults (TestOf choice (operand_of operand.now) (tail_of tail.now)))) }
 {
-    let left = term(alloc, LEFT, operand)?;
-    match tail {
-        Tail::Compare(operator, at, right) => {
-            compare(alloc, choice, left, *operator, *at, right)
-        }
-        Tail::In(negated, elements) => among(alloc, choice, left, *negated, elements),
-        Tail::Matches(at, quote) => searched(alloc, choice, left, *at, quote),
+    match term(alloc, LEFT, operand) {
+        Ok(left) => match tail {
+            Tail::Compare(operator, at, right) => {
+                compare(alloc, choice, left, *operator, *at, right)
+            }
+            Tail::In(negated, elements) => among(alloc, choice, left, *negated, elements),
+            Tail::Matches(at, quote) => searched(alloc, choice, left, *at, quote),
+        },
+        Err(error) => Err(error),
     }
 }
 
@@ -206,11 +210,15 @@ fn right_term(
     ensures err { IfErr result
         (IsAnswer (right_faults relation at kind (operand_of operand.now) None)) }
 {
-    let right = term(alloc, RIGHT, operand)?;
-    let same = same_class(kind, kind_of(&right));
-    match require(same, at, FilterReason::TypeMismatch) {
-        Ok(()) => Ok(right),
-        Err(error) => refused(error, right),
+    match term(alloc, RIGHT, operand) {
+        Ok(right) => {
+            let same = same_class(kind, kind_of(&right));
+            match require(same, at, FilterReason::TypeMismatch) {
+                Ok(()) => Ok(right),
+                Err(error) => refused(error, right),
+            }
+        }
+        Err(error) => Err(error),
     }
 }
 

@@ -32,9 +32,13 @@ pub(crate) fn layers_in(alloc: Global, ranges: &[LayerRange]) -> Result<Layers, 
     ensures ok { IfOk result (λ layers. layers ≡ These (map layers_written ranges.now)) }
     ensures err { IfErr result (IsAnswer (layers_faults ranges.now)) }
 {
-    check_layers(ranges)?;
-    let chosen = all_layers(alloc, ranges)?;
-    Ok(Layers::These(LayerRanges::from_vec(chosen)))
+    match check_layers(ranges) {
+        Ok(()) => match all_layers(alloc, ranges) {
+            Ok(chosen) => Ok(Layers::These(LayerRanges::from_vec(chosen))),
+            Err(NoMemory) => Err(FilterError::NoMemory),
+        },
+        Err(error) => Err(error),
+    }
 }
 
 fn check_layers(ranges: &[LayerRange]) -> Result<(), FilterError>

@@ -238,10 +238,13 @@ fn number(alloc: Global, standing: Standing, word: &Word) -> Result<Term, Filter
     match standing {
         Standing::First | Standing::Sliced => Err(fault(word.at, FilterReason::UnknownField)),
         Standing::Within(around) => Err(fault(around, FilterReason::TypeMismatch)),
-        Standing::Free(_) => {
-            let reading = read_word(alloc, NUMBER, false, word.text.as_str())?;
-            Ok(Term::Constant(constant(reading, word.at)?))
-        }
+        Standing::Free(_) => match read_word(alloc, NUMBER, false, word.text.as_str()) {
+            Ok(reading) => match constant(reading, word.at) {
+                Ok(constant) => Ok(Term::Constant(constant)),
+                Err(error) => Err(error),
+            },
+            Err(NoMemory) => Err(FilterError::NoMemory),
+        },
     }
 }
 
@@ -263,8 +266,13 @@ fn on_layer(alloc: Global, word: &Word, layer: Layer) -> Result<Term, FilterErro
     ensures err { IfErr result (IsAnswer (word_faults (field_named word.now.text) Sliced word.now
         ++ unless (is_layer layer) layer.at OutOfRange)) }
 {
-    let field = field(word)?;
-    Ok(Term::Field(field, single_layer(alloc, layer)?))
+    match field(word) {
+        Ok(field) => match single_layer(alloc, layer) {
+            Ok(layers) => Ok(Term::Field(field, layers)),
+            Err(error) => Err(error),
+        },
+        Err(error) => Err(error),
+    }
 }
 
 #[tactic(auto, using(crate::proofs::Answers::answer_left, crate::proofs::Answers::answer_right))]
@@ -273,8 +281,13 @@ fn on_layers(alloc: Global, word: &Word, ranges: &[LayerRange]) -> Result<Term, 
     ensures err { IfErr result (IsAnswer (word_faults (field_named word.now.text) Sliced word.now
         ++ layers_faults ranges.now)) }
 {
-    let field = field(word)?;
-    Ok(Term::Field(field, layers_in(alloc, ranges)?))
+    match field(word) {
+        Ok(field) => match layers_in(alloc, ranges) {
+            Ok(layers) => Ok(Term::Field(field, layers)),
+            Err(error) => Err(error),
+        },
+        Err(error) => Err(error),
+    }
 }
 
 /// A slice of what an operand stands for.

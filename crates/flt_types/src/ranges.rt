@@ -35,8 +35,13 @@ fn parts_in(alloc: Global, ranges: &[SliceRange]) -> Result<Vec<RangePart>, Filt
     ensures ok { IfOk result (λ parts. parts.items ≡ map (λ r. r.part) ranges.now) }
     ensures err { IfErr result (IsAnswer (ranges_faults ranges.now)) }
 {
-    check_ranges(ranges)?;
-    Ok(all_parts(alloc, ranges)?)
+    match check_ranges(ranges) {
+        Ok(()) => match all_parts(alloc, ranges) {
+            Ok(parts) => Ok(parts),
+            Err(NoMemory) => Err(FilterError::NoMemory),
+        },
+        Err(error) => Err(error),
+    }
 }
 
 fn check_ranges(ranges: &[SliceRange]) -> Result<(), FilterError>

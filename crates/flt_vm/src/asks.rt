@@ -43,8 +43,10 @@ fn asks_list(
     ensures { IfOk result (λ truth. (held : Held) → held_in tree.now slot.now ≡ Some held
         → truth ≡ passes choice (λ v. is_so question.now v) held.values) }
 {
-    let values = listed_in(alloc, slot, tree)?;
-    Ok(passes(choice, question, values.slice()))
+    match listed_in(alloc, slot, tree) {
+        Ok(values) => Ok(passes(choice, question, values.slice())),
+        Err(NoMemory) => Err(NoMemory),
+    }
 }
 
 /// Whether any or all pairs of two slots' values stand in a relation. Where the right one is a single value, no list is
@@ -84,8 +86,10 @@ fn compare_lists(
         → held_in tree.now right.now ≡ Some b → b.prefix ≡ None
         → truth ≡ compares relation choice a.values b.values b.prefix) }
 {
-    let right = listed_in(alloc, right, tree)?;
-    compare_list(alloc, relation, choice, left, right.slice(), tree)
+    match listed_in(alloc, right, tree) {
+        Ok(right) => compare_list(alloc, relation, choice, left, right.slice(), tree),
+        Err(NoMemory) => Err(NoMemory),
+    }
 }
 
 /// The same of a slot and a list.
@@ -101,8 +105,10 @@ fn compare_list(
     ensures { IfOk result (λ truth. (held : Held) → held_in tree.now left.now ≡ Some held
         → truth ≡ compares relation choice held.values right.now None) }
 {
-    let left = listed_in(alloc, left, tree)?;
-    compares(alloc, relation, choice, left.slice(), right, None)
+    match listed_in(alloc, left, tree) {
+        Ok(left) => compares(alloc, relation, choice, left.slice(), right, None),
+        Err(NoMemory) => Err(NoMemory),
+    }
 }
 
 /// Whether any or all of a slot's values stand in a relation to a constant.
@@ -135,8 +141,10 @@ pub(crate) fn finds(
         → truth ≡ passes choice (λ v. is_matched search.old v) held.values) }
     ensures same { search.new ≡ search.old }
 {
-    let values = listed_in(alloc, slot, tree)?;
-    Ok(matched(choice, search, values.slice()))
+    match listed_in(alloc, slot, tree) {
+        Ok(values) => Ok(matched(choice, search, values.slice())),
+        Err(NoMemory) => Err(NoMemory),
+    }
 }
 
 /// The one truth that a slot keeps.
@@ -162,8 +170,10 @@ pub(crate) fn listed_truth(
     requires { is_unset slot.now ≡ false }
     ensures { IfOk result (λ truth. truth ≡ truth_in tree.now slot.now) }
 {
-    let values = listed_in(alloc, slot, tree)?;
-    Ok(truth_of(values.slice()))
+    match listed_in(alloc, slot, tree) {
+        Ok(values) => Ok(truth_of(values.slice())),
+        Err(NoMemory) => Err(NoMemory),
+    }
 }
 
 /// The one truth of a list.

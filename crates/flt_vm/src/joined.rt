@@ -66,19 +66,18 @@ fn test_among<'p>(
     ensures few { IfOk result (λ taken. taken ≤ 3) }
     ensures count { length slots.new ≡ length slots.old }
 {
-    match (first, second, third) {
-        (
-            Instr::Read(register, field, layers),
-            Instr::Const(other, constant),
-            Instr::Test(choice, relation, left, right),
-        ) if *left == *register && *right == *other => {
-            read(slots, flag, *register, *field, layers, tree);
-            put(slots, *other, Slot::Single(constant));
-            let left = &slots[*left];
-            let truth = compare_constant(alloc, *relation, *choice, left, constant, tree)?;
-            *flag = Flag::Known(truth);
-            Ok(3)
-        }
-        _ => Ok(0),
+    if let Instr::Read(register, field, layers) = first
+        && let Instr::Const(other, constant) = second
+        && let Instr::Test(choice, relation, left, right) = third
+        && *left == *register
+        && *right == *other
+    {
+        read(slots, flag, *register, *field, layers, tree);
+        put(slots, *other, Slot::Single(constant));
+        let left = &slots[*left];
+        let truth = compare_constant(alloc, *relation, *choice, left, constant, tree)?;
+        *flag = Flag::Known(truth);
+        return Ok(3);
     }
+    Ok(0)
 }

@@ -99,16 +99,20 @@ pub(crate) fn listed_in<'s>(
 fn of_field<'s>(field: FieldId, layers: &Layers, tree: &Tree) -> Result<Gathered<'s>, NoMemory>
     ensures { IfOk result (λ all. listed_values all ≡ values_of tree.now field layers.now) }
 {
-    let values = tree.values(field, layers)?;
-    Ok(Gathered::Own(values))
+    match tree.values(field, layers) {
+        Ok(values) => Ok(Gathered::Own(values)),
+        Err(NoMemory) => Err(NoMemory),
+    }
 }
 
 /// One value.
 fn of_one<'s>(alloc: Global, value: Value) -> Result<Gathered<'s>, NoMemory>
     ensures { IfOk result (λ all. listed_values all ≡ value ∷ []) }
 {
-    let values = only(alloc, value)?;
-    Ok(Gathered::Own(values))
+    match only(alloc, value) {
+        Ok(values) => Ok(Gathered::Own(values)),
+        Err(NoMemory) => Err(NoMemory),
+    }
 }
 
 /// Sets a register.

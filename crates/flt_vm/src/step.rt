@@ -354,8 +354,10 @@ fn sliced(
     ensures { IfOk result (λ values. (held : Held) → held_in tree.now slot.now ≡ Some held
         → values.items ≡ filter_map (λ value. sliced_by value ranges.now) held.values) }
 {
-    let values = listed_in(alloc, slot, tree)?;
-    slices(alloc, values.slice(), ranges)
+    match listed_in(alloc, slot, tree) {
+        Ok(values) => slices(alloc, values.slice(), ranges),
+        Err(NoMemory) => Err(NoMemory),
+    }
 }
 
 /// The masked values of a slot.
@@ -364,8 +366,10 @@ fn masked(alloc: Global, slot: &Slot<'_>, mask: u64, tree: &Tree) -> Result<Vec<
     ensures { IfOk result (λ values. (held : Held) → held_in tree.now slot.now ≡ Some held
         → values.items ≡ filter_map (λ value. masked_by mask value) held.values) }
 {
-    let values = listed_in(alloc, slot, tree)?;
-    masked_values(alloc, values.slice(), mask)
+    match listed_in(alloc, slot, tree) {
+        Ok(values) => masked_values(alloc, values.slice(), mask),
+        Err(NoMemory) => Err(NoMemory),
+    }
 }
 
 /// What a function gives of a slot's values.
@@ -379,8 +383,10 @@ fn called(
     ensures { IfOk result (λ values. (held : Held) → held_in tree.now slot.now ≡ Some held
         → values.items ≡ values_called function held.values) }
 {
-    let values = listed_in(alloc, slot, tree)?;
-    called_values(alloc, function, values.slice())
+    match listed_in(alloc, slot, tree) {
+        Ok(values) => called_values(alloc, function, values.slice()),
+        Err(NoMemory) => Err(NoMemory),
+    }
 }
 
 /// How many values a field or protocol has, as the one value of a list.
@@ -393,15 +399,19 @@ fn counted(
     ensures { IfOk result (λ values.
         values.items ≡ Uint (length (values_of tree.now field layers.now)) ∷ []) }
 {
-    let count = count_of(field, layers, tree)?;
-    only(alloc, Value::Uint(count))
+    match count_of(field, layers, tree) {
+        Ok(count) => only(alloc, Value::Uint(count)),
+        Err(NoMemory) => Err(NoMemory),
+    }
 }
 
 fn count_of(field: FieldId, layers: &Layers, tree: &Tree) -> Result<u64, NoMemory>
     ensures { IfOk result (λ count. count ≡ length (values_of tree.now field layers.now)) }
 {
-    let values = tree.values(field, layers)?;
-    Ok(values.len() as u64)
+    match tree.values(field, layers) {
+        Ok(values) => Ok(values.len() as u64),
+        Err(NoMemory) => Err(NoMemory),
+    }
 }
 
 /// The sums, differences or products of two slots' numbers.
@@ -418,8 +428,10 @@ fn computed(
         → held_in tree.now right.now ≡ Some b
         → values.items ≡ values_calculated operation a.values b.values) }
 {
-    let left = listed_in(alloc, left, tree)?;
-    computed_with(alloc, operation, left.slice(), right, tree)
+    match listed_in(alloc, left, tree) {
+        Ok(left) => computed_with(alloc, operation, left.slice(), right, tree),
+        Err(NoMemory) => Err(NoMemory),
+    }
 }
 
 /// The same of a list of numbers and those of a slot.
@@ -434,8 +446,10 @@ fn computed_with(
     ensures { IfOk result (λ values. (held : Held) → held_in tree.now right.now ≡ Some held
         → values.items ≡ values_calculated operation left.now held.values) }
 {
-    let right = listed_in(alloc, right, tree)?;
-    calculated_values(alloc, operation, left, right.slice())
+    match listed_in(alloc, right, tree) {
+        Ok(right) => calculated_values(alloc, operation, left, right.slice()),
+        Err(NoMemory) => Err(NoMemory),
+    }
 }
 
 /// The least or the greatest number of two slots, if there is one.
@@ -489,8 +503,10 @@ fn push_extreme(
     ensures { OnOk result ((held : Held) → held_in tree.now slot.now ≡ Some held
         → both.new.items ≡ both.old.items ++ option_to_list (extreme_among extreme held.values)) }
 {
-    let values = listed_in(alloc, slot, tree)?;
-    push_some(both, extreme_of(extreme, values.slice()))
+    match listed_in(alloc, slot, tree) {
+        Ok(values) => push_some(both, extreme_of(extreme, values.slice())),
+        Err(NoMemory) => Err(NoMemory),
+    }
 }
 
 /// Adds a value to a list, if there is one.

@@ -35,17 +35,17 @@ code_for-above-preserved t c =
       grows = grows_on (owners_of c.args.owners.now.items) (owners_of c.above.owners.items) (owners_of c.code_joined.new.owners.items) c.above.invariant.grows joined.owners;
     }
 
-pub code_joined-returns-in_ok-code_for-in-Either-clause-code : goal.code_joined-returns-in_ok-code_for-in-Either-clause-code
-code_joined-returns-in_ok-code_for-in-Either-clause-code t c =
+pub code_joined-returns-in-Ok-clause-code : goal.code_joined-returns-in-Ok-clause-code
+code_joined-returns-in-Ok-clause-code t c =
     either_put c.emit_at.result (owners_of c.code_for.new.owners.items) (sources_of c.code_for.new.patterns.items) c.args.filter.now c.deref.result.now _ _ c.in-Either.field-0.value c.in-Either.right.value
     c.args.code.now.items c.code_for.new.code.items c.emit_at.new.code.items c.len-start.result c.len.result c.in-Either.is c.deref.ensures (omega (arith, c.len-start.ensures, c.args.code.now.ok.0))
-    (omega (arith, c.len.ensures, c.code_for.new.code.ok.0)) c.in_ok-code_for-in-Either.ensures.code c.emit_at.ensures
+    (omega (arith, c.len.ensures, c.code_for.new.code.ok.0)) c.in-Ok.ensures.code c.emit_at.ensures
 
-pub code_joined-returns-in_ok-code_for-in-Both-clause-code : goal.code_joined-returns-in_ok-code_for-in-Both-clause-code
-code_joined-returns-in_ok-code_for-in-Both-clause-code t c =
-    both_put c.emit_at-in-Both.result (owners_of c.code_for-in-Both.new.owners.items) (sources_of c.code_for-in-Both.new.patterns.items) c.args.filter.now c.deref-in-Both.result.now _ _ c.in-Both.field-0.value
-    c.in-Both.right.value c.args.code.now.items c.code_for-in-Both.new.code.items c.emit_at-in-Both.new.code.items c.len-start-in-Both.result c.len-in-Both.result c.in-Both.is c.deref-in-Both.ensures
-    (omega (arith, c.len-start-in-Both.ensures, c.args.code.now.ok.0)) (omega (arith, c.len-in-Both.ensures, c.code_for-in-Both.new.code.ok.0)) c.in_ok-code_for-in-Both.ensures.code c.emit_at-in-Both.ensures
+pub code_joined-returns-in-Ok-code_for-clause-code : goal.code_joined-returns-in-Ok-code_for-clause-code
+code_joined-returns-in-Ok-code_for-clause-code t c =
+    both_put c.emit_at-in-Ok-code_for.result (owners_of c.code_for-in-Both.new.owners.items) (sources_of c.code_for-in-Both.new.patterns.items) c.args.filter.now c.deref-in-Both.result.now _ _ c.in-Both.field-0.value
+    c.in-Both.right.value c.args.code.now.items c.code_for-in-Both.new.code.items c.emit_at-in-Ok-code_for.new.code.items c.len-start-in-Both.result c.len-in-Ok-code_for.result c.in-Both.is c.deref-in-Both.ensures
+    (omega (arith, c.len-start-in-Both.ensures, c.args.code.now.ok.0)) (omega (arith, c.len-in-Ok-code_for.ensures, c.code_for-in-Both.new.code.ok.0)) c.in-Ok-code_for.ensures.code c.emit_at-in-Ok-code_for.ensures
 
 pub code_joined-returns-in_ok-code_for-in-Differ-clause-code : goal.code_joined-returns-in_ok-code_for-in-Differ-clause-code
 code_joined-returns-in_ok-code_for-in-Differ-clause-code t c =
@@ -55,20 +55,20 @@ code_joined-returns-in_ok-code_for-in-Differ-clause-code t c =
     c.deref-in-Differ.result.now c.deref-in-Differ-2.result.now _ _ c.in-Differ.part.value c.in-Differ.right.value own.register c.args.code.now.items c.emit.new.code.items c.code_for-in-Differ.new.code.items
     c.emit-in-Differ.new.code.items c.in-Differ.is c.deref-in-Differ.ensures own.ensures.owned right.ensures.owners c.deref-in-Differ-2.ensures c.in_ok-emit-in-Differ.ensures right.ensures.code c.emit-in-Differ.ensures
 
-pub code_alone-returns-in_ok-code_for-in-Not-clause-code : goal.code_alone-returns-in_ok-code_for-in-Not-clause-code
-code_alone-returns-in_ok-code_for-in-Not-clause-code t c =
+pub code_alone-returns-in-Ok-clause-code : goal.code_alone-returns-in-Ok-clause-code
+code_alone-returns-in-Ok-clause-code t c =
     not_put c.emit.result (owners_of c.code_for.new.owners.items) (sources_of c.code_for.new.patterns.items) c.args.filter.now c.in-Not.inner.value c.deref.result.now _ c.args.code.now.items c.code_for.new.code.items
-    c.emit.new.code.items c.in-Not.is c.deref.ensures c.in_ok-code_for-in-Not.ensures.code c.emit.ensures
+    c.emit.new.code.items c.in-Not.is c.deref.ensures c.in-Ok.ensures.code c.emit.ensures
 
-pub code_alone-returns-in_ok-load-in-Exists-clause-code : goal.code_alone-returns-in_ok-load-in-Exists-clause-code
-code_alone-returns-in_ok-load-in-Exists-clause-code t c =
-    exists_code (owners_of c.load.new.owners.items) (sources_of c.args.patterns.now.items) c.args.filter.now c.in-Exists.term c.in_ok-load-in-Exists.field-0 c.args.code.now.items c.load.new.code.items c.in-Exists.is
-    c.in_ok-load-in-Exists.ensures.code
+pub code_alone-returns-in-Ok-load-clause-code : goal.code_alone-returns-in-Ok-load-clause-code
+code_alone-returns-in-Ok-load-clause-code t c =
+    exists_code (owners_of c.load.new.owners.items) (sources_of c.args.patterns.now.items) c.args.filter.now c.in-Exists.term c.in-Ok-load.field-0 c.args.code.now.items c.load.new.code.items c.in-Exists.is
+    c.in-Ok-load.ensures.code
 
-pub code_alone-returns-in_ok-register-in-AnyBit-clause-code : goal.code_alone-returns-in_ok-register-in-AnyBit-clause-code
-code_alone-returns-in_ok-register-in-AnyBit-clause-code t c =
-    bits_put c.emit-in-AnyBit.result (owners_of c.load-in-AnyBit.new.owners.items) (sources_of c.args.patterns.now.items) c.args.filter.now c.in-AnyBit.term c.in_ok-register-in-AnyBit.register c.args.code.now.items
-    c.load-in-AnyBit.new.code.items c.emit-in-AnyBit.new.code.items c.in-AnyBit.is c.in_ok-register-in-AnyBit.ensures.code c.emit-in-AnyBit.ensures
+pub code_alone-returns-in-Ok-load-2-clause-code : goal.code_alone-returns-in-Ok-load-2-clause-code
+code_alone-returns-in-Ok-load-2-clause-code t c =
+    bits_put c.emit-in-Ok-load-2.result (owners_of c.load-in-AnyBit.new.owners.items) (sources_of c.args.patterns.now.items) c.args.filter.now c.in-AnyBit.term c.in-Ok-load-2.register c.args.code.now.items
+    c.load-in-AnyBit.new.code.items c.emit-in-Ok-load-2.new.code.items c.in-AnyBit.is c.in-Ok-load-2.ensures.code c.emit-in-Ok-load-2.ensures
 
 pub code_alone-returns-in-Compare-clause-code : goal.code_alone-returns-in-Compare-clause-code
 code_alone-returns-in-Compare-clause-code t c =

@@ -1,8 +1,8 @@
 use Rattle.std.proofs.Common.{arith, refl, sym, ◌∙◌}
-use Rattle.flt_code.specs.Code.{Adds, Loads, LoadsCall, LoadsExtreme, Makes, Sets}
+use Rattle.flt_code.specs.Code.{Adds, Loads, LoadsCall, LoadsExtreme, LoadsRight, Makes, Sets}
 use Rattle.flt_code.specs.Owners.{OfTerm, owners_of}
 use Rattle.flt_code.specs.Spines.{left_of_term}
-use Rattle.flt_code.proofs.LoadLemmas.{adds_grown, adds_right, arguments_right, called_part, computed_right, constant_part, extreme_made, extreme_several, if_ok, makes_on, slice_part, term_within}
+use Rattle.flt_code.proofs.LoadLemmas.{adds_grown, adds_right, arguments_right, called_part, computed_right, constant_part, emitted, extreme_made, extreme_several, if_ok, makes_on, slice_part, term_within}
 use Rattle.flt_code.proofs.OwnerLemmas.{grows_on}
 use Rattle.flt_code.proofs.SpineLemmas.{stands_pop}
 use Rattle.flt_code.proofs.load.+load.Goals as goal
@@ -40,26 +40,33 @@ load_inner-returns-clause-code t c =
     adds_grown (owners_of c.load.new.owners.items) (owners_of c.own.new.owners.items) c.args.extreme c.args.inner.now c.in_ok-inner.inner c.args.code.now.items c.load.new.code.items c.in_ok-register.ensures.grows
     c.in_ok-inner.ensures.code
 
-pub load_joined-returns-in_ok-emit-in-Arguments-clause-code : goal.load_joined-returns-in_ok-emit-in-Arguments-clause-code
-load_joined-returns-in_ok-emit-in-Arguments-clause-code t c =
+pub load_joined-returns-in_ok-register-in-Arguments-clause-code : goal.load_joined-returns-in_ok-register-in-Arguments-clause-code
+load_joined-returns-in_ok-register-in-Arguments-clause-code t c =
     let right = c.in_ok-right-in-Arguments in
     let own = c.in_ok-register-in-Arguments in
     let grown = adds_grown (owners_of c.load.new.owners.items) (owners_of c.own.new.owners.items) c.args.extreme c.deref-in-Arguments.result.now right.right c.args.code.now.items c.load.new.code.items own.ensures.grows
     right.ensures.code in
-    arguments_right (owners_of c.own.new.owners.items) c.args.extreme c.args.term.now c.deref-in-Arguments.result.now _ _ c.in-Arguments.field-0.value c.in-Arguments.right.value c.args.left own.register right.right
-    c.args.code.now.items c.load.new.code.items c.emit-in-Arguments.new.code.items c.in-Arguments.is c.deref-in-Arguments.ensures grown own.ensures.owned c.in_ok-emit-in-Arguments.ensures
+    emitted (λ r. Adds (LoadsRight (owners_of c.own.new.owners.items) c.args.extreme c.args.term.now c.args.left r) c.args.code.now.items c.emit_to-in-Arguments.new.code.items) own.register _ c.emit_to-in-Arguments.result
+    (λ stands. arguments_right (owners_of c.own.new.owners.items) c.args.extreme c.args.term.now c.deref-in-Arguments.result.now _ _ c.in-Arguments.field-0.value c.in-Arguments.right.value c.args.left own.register right.right
+    c.args.code.now.items c.load.new.code.items c.emit_to-in-Arguments.new.code.items c.in-Arguments.is c.deref-in-Arguments.ensures grown own.ensures.owned stands) c.emit_to-in-Arguments.ensures
 
 pub load_each-returns-clause-code : goal.load_each-returns-clause-code
 load_each-returns-clause-code t c =
     let made = c.in_ok-inner in
-    makes_on (owners_of c.load_inner.new.owners.items) Least (OfTerm c.args.term.now) c.args.inner.now c.args.inner.now (λ q. instr.Call made.register c.args.function q) made.register made.inner c.args.code.now.items
-    c.load_inner.new.code.items c.emit.new.code.items refl made.ensures.code made.ensures.owned c.in_ok-emit.ensures
+    emitted
+    (λ r. Adds (Makes (owners_of c.load_inner.new.owners.items) (OfTerm c.args.term.now) r (Loads (owners_of c.load_inner.new.owners.items) Least c.args.inner.now) (λ q. instr.Call r c.args.function q)) c.args.code.now.items c.emit_to.new.code.items)
+    made.register _ c.emit_to.result
+    (λ stands. makes_on (owners_of c.load_inner.new.owners.items) Least (OfTerm c.args.term.now) c.args.inner.now c.args.inner.now (λ q. instr.Call made.register c.args.function q) made.register made.inner c.args.code.now.items
+    c.load_inner.new.code.items c.emit_to.new.code.items refl made.ensures.code made.ensures.owned stands) c.emit_to.ensures
 
 pub load_mask-returns-clause-code : goal.load_mask-returns-clause-code
 load_mask-returns-clause-code t c =
     let made = c.in_ok-inner in
-    makes_on (owners_of c.load_inner.new.owners.items) c.args.extreme (OfTerm c.args.term.now) c.args.inner.now c.args.inner.now (λ q. instr.Mask made.register q c.args.mask) made.register made.inner
-    c.args.code.now.items c.load_inner.new.code.items c.emit.new.code.items refl made.ensures.code made.ensures.owned c.in_ok-emit.ensures
+    emitted
+    (λ r. Adds (Makes (owners_of c.load_inner.new.owners.items) (OfTerm c.args.term.now) r (Loads (owners_of c.load_inner.new.owners.items) c.args.extreme c.args.inner.now) (λ q. instr.Mask r q c.args.mask)) c.args.code.now.items c.emit_to.new.code.items)
+    made.register _ c.emit_to.result
+    (λ stands. makes_on (owners_of c.load_inner.new.owners.items) c.args.extreme (OfTerm c.args.term.now) c.args.inner.now c.args.inner.now (λ q. instr.Mask made.register q c.args.mask) made.register made.inner
+    c.args.code.now.items c.load_inner.new.code.items c.emit_to.new.code.items refl made.ensures.code made.ensures.owned stands) c.emit_to.ensures
 
 pub load_extreme-returns-clause-code : goal.load_extreme-returns-clause-code
 load_extreme-returns-clause-code t c =
@@ -67,9 +74,10 @@ load_extreme-returns-clause-code t c =
     let e = c.args.extreme in
     let os = owners_of c.load_inner.new.owners.items in
     let inner = c.args.inner.now in
-    extreme_made os e (OfTerm c.args.term.now) inner (Loads os e inner) made.register c.args.code.now.items c.emit.new.code.items (sym c.is_several.ensures ∙ c.if-is_several.false)
-    (makes_on os e (OfTerm c.args.term.now) inner inner (λ q. instr.Choose made.register e q q) made.register made.arguments c.args.code.now.items c.load_inner.new.code.items c.emit.new.code.items refl
-    made.ensures.code made.ensures.owned c.in_ok-emit.ensures)
+    emitted (λ r. Adds (LoadsExtreme os e (OfTerm c.args.term.now) inner (Loads os e inner) r) c.args.code.now.items c.emit_to.new.code.items) made.register _ c.emit_to.result
+    (λ stands. extreme_made os e (OfTerm c.args.term.now) inner (Loads os e inner) made.register c.args.code.now.items c.emit_to.new.code.items (sym c.is_several.ensures ∙ c.if-is_several.false)
+    (makes_on os e (OfTerm c.args.term.now) inner inner (λ q. instr.Choose made.register e q q) made.register made.arguments c.args.code.now.items c.load_inner.new.code.items c.emit_to.new.code.items refl
+    made.ensures.code made.ensures.owned stands)) c.emit_to.ensures
 
 pub load_extreme-returns-then-is_several-clause-code : goal.load_extreme-returns-then-is_several-clause-code
 load_extreme-returns-then-is_several-clause-code t c =
@@ -80,11 +88,12 @@ load_extreme-returns-then-is_several-clause-code t c =
     (λ r. Adds (LoadsExtreme os e (OfTerm c.args.term.now) inner (Loads os e inner) r) c.args.code.now.items c.load.new.code.items) c.load.result
     (λ r added. extreme_several os e (OfTerm c.args.term.now) inner (Loads os e inner) r c.args.code.now.items c.load.new.code.items (sym c.is_several.ensures ∙ c.if-is_several.true) added) c.load.ensures.code
 
-pub load_joined-returns-in_ok-emit-in-Computed-clause-code : goal.load_joined-returns-in_ok-emit-in-Computed-clause-code
-load_joined-returns-in_ok-emit-in-Computed-clause-code t c =
+pub load_joined-returns-in_ok-right-in-Computed-clause-code : goal.load_joined-returns-in_ok-right-in-Computed-clause-code
+load_joined-returns-in_ok-right-in-Computed-clause-code t c =
     let right = c.in_ok-right-in-Computed in
-    computed_right (owners_of c.load_inner.new.owners.items) c.args.extreme c.args.term.now c.deref.result.now c.in-Computed.operation _ _ _ c.in-Computed.right.value c.args.left right.register
-    right.right c.args.code.now.items c.load_inner.new.code.items c.emit.new.code.items c.in-Computed.is c.deref.ensures right.ensures.code right.ensures.owned c.in_ok-emit-in-Computed.ensures
+    emitted (λ r. Adds (LoadsRight (owners_of c.load_inner.new.owners.items) c.args.extreme c.args.term.now c.args.left r) c.args.code.now.items c.emit_to.new.code.items) right.register _ c.emit_to.result
+    (λ stands. computed_right (owners_of c.load_inner.new.owners.items) c.args.extreme c.args.term.now c.deref.result.now c.in-Computed.operation _ _ _ c.in-Computed.right.value c.args.left right.register
+    right.right c.args.code.now.items c.load_inner.new.code.items c.emit_to.new.code.items c.in-Computed.is c.deref.ensures right.ensures.code right.ensures.owned stands) c.emit_to.ensures
 
 pub load_part-returns-in-Constant-clause-code : goal.load_part-returns-in-Constant-clause-code
 load_part-returns-in-Constant-clause-code t c =

@@ -1,4 +1,4 @@
-use Rattle.std.proofs.Common.{◌+◌, ◌∙◌, ℕ, List, false, length, arith, refl, subst, sym}
+use Rattle.std.proofs.Common.{◌+◌, ◌∙◌, ℕ, List, false, arith, refl, subst, sym}
 use Rattle.flt_vm.proofs.RunLemmas.{leads_both, run_ends, run_on, way_there}
 use Rattle.flt_vm.specs.Machine.{Job, step}
 use Rattle.flt_program.specs.Programs.{IsProgram}
