@@ -1,5 +1,5 @@
--- A fragment or a segment more: what is kept of it.
-use Rattle.std.proofs.Common.{◌≡◌, ℕ, true, List, ◌∷◌, ◌∙◌, sym, subst}
+-- A frame, a fragment or a segment more: what is kept of it.
+use Rattle.std.proofs.Common.{◌≡◌, ℕ, true, List, [], ◌∷◌, ◌∙◌, sym, subst}
 use Rattle.pk_base.specs.declared.heads.FragmentHead.{FragmentHead}
 use Rattle.pk_base.specs.declared.heads.PacketHead.{PacketHead}
 use Rattle.pk_base.specs.declared.heads.TcpHead.{TcpHead}
@@ -8,7 +8,7 @@ use Rattle.tcp_messages.specs.Standing.{ReadsFor}
 use Rattle.pk_fields.specs.declared.rules.PortRule.{PortRule}
 use Rattle.dissect.specs.declared.state.State.{State}
 use Rattle.dissect.specs.Conversations.{udp_opened}
-use Rattle.dissect.specs.Events.{Event, Piece, Tcp}
+use Rattle.dissect.specs.Events.{Event, NewFrame, Piece, Tcp}
 use Rattle.dissect.specs.Fragments.{fragment_from, fragments_of}
 use Rattle.message_links.specs.LinkTables.{LinksStandFor}
 use Rattle.dissect.specs.Links.{newest_links}
@@ -16,6 +16,18 @@ use Rattle.app_layers.specs.MessageLayers.{app_of_segment}
 use Rattle.dissect.specs.Notes.{noted}
 use Rattle.dissect.specs.Segments.{segment_from, segments_of}
 use Rattle.dissect.specs.Stands.{StandsAt}
+
+-- what is kept where a frame begins
+pub stands-frame : (rules : List PortRule) (es : List Event) (old new : State) → StandsAt rules es old → new.joins ≡ old.joins → new.udp ≡ old.udp → new.follows ≡ old.follows → new.streams ≡ old.streams
+    → new.links ≡ old.links → new.found.items ≡ [] → StandsAt rules (NewFrame ∷ es) new
+unfolding fragments_of udp_opened segments_of noted newest_links
+stands-frame rules es old new stands same_joins same_udp same_follows same_streams same_links none = record {
+  joins = subst (Stands (fragments_of es)) (sym same_joins) stands.joins;
+  udp = same_udp ∙ stands.udp;
+  streams = λ follows. subst (ReadsFor (app_of_segment rules) (segments_of es)) (sym same_streams) (stands.streams (sym same_follows ∙ follows));
+  links = λ follows. subst (LinksStandFor (noted rules es)) (sym same_links) (stands.links (sym same_follows ∙ follows));
+  found = λ _. none;
+}
 
 -- what is kept with a fragment more
 pub stands-piece : (rules : List PortRule) (es : List Event) (frame : ℕ) (head : FragmentHead) (bytes : List ℕ) (old new : State) → StandsAt rules es old → new.udp ≡ old.udp → new.follows ≡ old.follows → new.streams ≡ old.streams

@@ -17,7 +17,6 @@ use Rattle.pk_tree.specs.Trees.{TreeShown, IsKept as IsKeptTree, kept_tree, made
 use Rattle.pk_tree.proofs.KeptTrees.{item_kept, count_kept, layer_kept}
 use Rattle.dis_link.specs.Link.{link_of}
 use Rattle.dis_link.proofs.LinkKept.{link_kept}
-use Rattle.ip_join.specs.declared.joined.Datagram.{Datagram}
 use Rattle.ip_join.specs.declared.joined.Joined.{Joined}
 use Rattle.ip_join.specs.declared.joined.Joined.TheVariants.{Pending, Whole, Conflict}
 use Rattle.pk_fields.specs.declared.rules.PortRule.{PortRule}

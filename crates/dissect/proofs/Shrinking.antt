@@ -38,8 +38,6 @@ use Rattle.dis_ip.specs.Protocols.{carried_by, ends_chain, next_of_protocol}
 use Rattle.dis_ports.specs.Tcp.{tcp_after, tcp_carries}
 use Rattle.dis_ports.specs.Udp.{udp_after, udp_carries, udp_length, udp_span}
 use Rattle.app_layers.specs.Heads.{head_after}
-use Rattle.tcp_streams.specs.declared.segment.Segment.{Segment}
-use Rattle.dissect.specs.Segments.{segment_from}
 use Rattle.dissect.specs.Stands.{bytes_behind}
 
 -- ---- spans
@@ -219,7 +217,3 @@ less-joined after six number span size is len = subst (λ (a : After). bytes_beh
 pub bytes_short : (buffers : List (List ℕ)) (span : Span) (bytes : List ℕ) → bytes ≡ bytes_of buffers span → length bytes ≤ span.len
 unfolding bytes_of
 bytes_short buffers span bytes is = omega (arith, ap length is, length-take span.len (drop span.start (buffer_of buffers span.buffer)))
-
-pub segment_short : (s : Segment) (frame : ℕ) (packet : PacketHead) (head : TcpHead) (part : List ℕ) (buffers : List (List ℕ)) (span : Span) → s ≡ segment_from frame packet head part → part ≡ bytes_of buffers span
-    → length s.payload ≤ span.len
-segment_short s frame packet head part buffers span is part_is = omega (arith, ap (λ (t : Segment). length t.payload) is, bytes_short buffers span part part_is)

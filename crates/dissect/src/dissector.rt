@@ -10,10 +10,11 @@ ghost use Rattle.dissect.specs.Followed.{asks_any, asks_messages, asks_streams, 
 ghost use Rattle.dissect.specs.Segments.{segments_of};
 ghost use Rattle.dissect.specs.Stands.{Stands, StandsWithin, StandsAt, IsAfter, IsRead, HasRoomForOne, AddsAtMost, bytes_kept};
 ghost use Rattle.capture_read.specs.FrameList.{IsTime};
+ghost use Rattle.message_links.specs.Linked.{linked};
 ghost use Rattle.app_layers.specs.Times.{AreTimes};
 ghost use Rattle.dissect.specs.Trees.{tree_at, events_of, kept_walk};
 
-use crate::state::State;
+use crate::state::{State, let_go};
 use app_layers::{Times, begin_tree, captured};
 use capture_read::Frame;
 use ip_join::Joins;
@@ -339,8 +340,25 @@ fn make_tree(
         ≤ bytes_kept state.old + length frame.now.bytes) }
 {
     let mut tree = begin_tree(alloc, before, frame, wanted)?;
-    state.read_frame(rules, frame, &mut tree)?;
-    let mut tree = tree.finish();
-    link_messages(&state.found, &wanted, &mut tree)?;
-    Ok(tree)
+    match state.read_frame(rules, frame, &mut tree) {
+        Ok(()) => with_links(&state.found, &wanted, tree.finish()),
+        Err(NoMemory) => {
+            let_go(tree);
+            Err(NoMemory)
+        }
+    }
+}
+
+/// A frame's tree with the links of its messages.
+fn with_links(found: &[Option<u32>], wanted: &FieldSet, bare: Tree) -> Result<Tree, NoMemory>
+    ensures { IfOk result (λ tree. tree ≡ linked wanted.now found.now bare) }
+{
+    let mut tree = bare;
+    match link_messages(found, wanted, &mut tree) {
+        Ok(()) => Ok(tree),
+        Err(NoMemory) => {
+            let_go(tree);
+            Err(NoMemory)
+        }
+    }
 }

@@ -8,6 +8,7 @@ ghost use Rattle.dissect.specs.Fragments.{joined_packet, joined_todo, todo_by};
 ghost use Rattle.dissect.specs.Stands.{AddsOneThenEnds, bytes_behind};
 ghost use Rattle.dissect.specs.Walks.{IsTodoInside};
 
+use crate::state::let_go;
 use crate::todo::{Head, Todo};
 use app_layers::tell_joined;
 use dis_ip::carried_by;
@@ -37,9 +38,17 @@ pub(crate) fn begin_datagram(
         bytes,
         frames,
     } = datagram;
-    let span = tell_joined(head.six, &frames, bytes, tree)?;
-    let after = carried_by(head.six, next, span, 0);
-    Ok(todo_by(joined_packet(head), after))
+    match tell_joined(head.six, &frames, bytes, tree) {
+        Ok(span) => {
+            let_go(frames);
+            let after = carried_by(head.six, next, span, 0);
+            Ok(todo_by(joined_packet(head), after))
+        }
+        Err(NoMemory) => {
+            let_go(frames);
+            Err(NoMemory)
+        }
+    }
 }
 
 /// What stands for the IP header of a datagram's packet: its fragments' addresses.

@@ -13,7 +13,6 @@ use tcp_messages::Met;
 
 impl State {
     /// A frame begins, of which no message was met.
-    #[tactic(auto, unfolding(crate::specs::Fragments::fragments_of, crate::specs::Segments::segments_of, crate::specs::Conversations::udp_opened, crate::specs::Notes::noted, crate::specs::Links::newest_links))]
     pub(crate) fn begin_frame(&mut self)
         ensures stands { (rules : List PortRuleValue) (es : List Event)
             → StandsAt rules es self.old → StandsAt rules (NewFrame ∷ es) self.new }

@@ -1,4 +1,7 @@
 ghost use Rattle.std.specs.Prelude.{◌≡◌, ◌+◌, ◌<◌, ◌^◌, All, Bool, true, List, [], length, map, IfOk, OnOk};
+ghost use Rattle.pk_base.specs.declared.heads.PacketHead.{PacketHead as PacketValue};
+ghost use Rattle.pk_base.specs.declared.heads.TcpHead.{TcpHead as TcpValue};
+ghost use Rattle.pk_fields.specs.declared.rules.PortRule.{PortRule as PortRuleValue};
 ghost use Rattle.pk_tree.specs.Buffers.{IsInside, bytes_of};
 ghost use Rattle.pk_fields.specs.Ids.{TCP};
 ghost use Rattle.tcp_streams.specs.Labels.{PassesNear};
@@ -6,13 +9,13 @@ ghost use Rattle.tcp_messages.specs.Shown.{IsWholeIn, frames_told as gathered_fr
 ghost use Rattle.dissect.specs.Events.{Event};
 ghost use Rattle.app_layers.specs.FrameLayer.{is_cut};
 ghost use Rattle.message_links.specs.Notes.{message_note, tcp_direction};
-ghost use Rattle.app_layers.specs.MessageLayers.{carried_over};
+ghost use Rattle.app_layers.specs.MessageLayers.{app_of_segment, carried_over};
 ghost use Rattle.app_layers.specs.Payloads.{LastIs, carried_told, segment_told};
 ghost use Rattle.dissect.specs.Segments.{segment_from};
 ghost use Rattle.dissect.specs.Stands.{StandsAt, IsWalked, IsReady, IsLinked, IsSameButLinks, AddsAtMost, AddsFew, AddsOneThenEnds};
 ghost use Rattle.dissect.specs.Walks.{IsTodoInside, segment_met};
 
-use crate::state::State;
+use crate::state::{State, let_go};
 use crate::todo::Todo;
 use app_layers::{add_carried, add_passed, is_cut, stream_app, tell_carried, tell_segment};
 use capture_read::Frame;
@@ -80,11 +83,53 @@ impl State {
     {
         let segment = segment_from(frame.number, &packet, head, tree.part(span)?);
         let app = stream_app(rules, head.source, head.target);
+        match self.take_in(frame, &segment, app, span, tree) {
+            Ok(()) => {
+                let_go(segment);
+                Ok(Todo::Done)
+            }
+            Err(NoMemory) => {
+                let_go(segment);
+                Err(NoMemory)
+            }
+        }
+    }
+
+    /// Takes a segment into its stream, and shows what its frame shows then.
+    fn take_in(
+        &mut self,
+        frame: &Frame,
+        segment: &Segment,
+        app: Option<StreamApp>,
+        span: Span,
+        tree: &mut TreeBuilder,
+    ) -> Result<(), NoMemory>
+        requires follows { self.old.follows ≡ true }
+        requires inside { IsInside tree.old.buffers span }
+        requires last { LastIs TCP tree.old.layers }
+        requires bytes { length frame.now.bytes < 2 ^ 32 }
+        requires ready { IsReady 2 span.len self.old tree.old }
+        requires payload { segment.now.payload ≡ bytes_of tree.old.buffers span }
+        ensures walked { OnOk result ((rules : List PortRuleValue) (packet : PacketValue)
+            (head : TcpValue) (es : List Event)
+            → segment.now ≡ segment_from frame.now.number packet head (bytes_of tree.old.buffers span)
+            → app ≡ app_of_segment rules segment.now → StandsAt rules es self.old
+            → IsWalked rules (segment_met rules frame.now packet tree.old es head span) self.new
+            tree.new Todo.Done) }
+        ensures adds { OnOk result (AddsOneThenEnds span.len self.old self.new Todo.Done) }
+        ensures added { AddsAtMost 1 self.old self.new }
+    {
         let _streams = self.streams.streams();
-        let met = self.streams.take(&segment, app)?;
+        let met = self.streams.take(segment, app)?;
         match self.show_met(frame, &met, app, segment.payload.bytes(), span, tree) {
-            Ok(()) => Ok(Todo::Done),
-            Err(NoMemory) => Err(NoMemory),
+            Ok(()) => {
+                let_go(met);
+                Ok(())
+            }
+            Err(NoMemory) => {
+                let_go(met);
+                Err(NoMemory)
+            }
         }
     }
 

@@ -17,28 +17,18 @@ pub(crate) struct State {
     pub found: Vec<Option<u32>>,
 }
 
-// Part by part, each in a function of its own.
 impl Drop for State {
     fn drop(self) {
         let State {
-            joins,
-            udp,
+            joins: _joins,
+            udp: _udp,
             follows: _,
-            streams,
-            links,
+            streams: _streams,
+            links: _links,
             found: _found,
         } = self;
-        give_up_joins(joins);
-        give_up_conversations(udp);
-        give_up_streams(streams);
-        give_up_links(links);
     }
 }
 
-fn give_up_joins(_joins: Joins) {}
-
-fn give_up_conversations(_udp: Conversations) {}
-
-fn give_up_streams(_streams: MessageStreams) {}
-
-fn give_up_links(_links: Links) {}
+/// Lets a value go: its destructor is written out here alone, and not at each exit of what owned it.
+pub(crate) fn let_go<T: Drop>(_value: T) {}

@@ -20,10 +20,18 @@ use std::alloc::Global;
 use std::collections::BTreeMap;
 
 /// The datagrams of which some fragments were taken and which aren't whole yet.
-#[derive(Drop)]
 pub struct Joins {
     alloc: Global,
     parts: BTreeMap<Key, Kept>,
+}
+
+impl Drop for Joins {
+    fn drop(self) {
+        let Joins {
+            alloc: _,
+            parts: _parts,
+        } = self;
+    }
 }
 
 impl Joins {

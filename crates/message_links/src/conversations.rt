@@ -8,9 +8,14 @@ use std::marker::Model;
 use tcp_streams::{Ends, ends_between};
 
 /// The conversations so far, in the order of their first packets.
-#[derive(Drop)]
 pub struct Conversations {
     all: IndexSet<Ends>,
+}
+
+impl Drop for Conversations {
+    fn drop(self) {
+        let Conversations { all: _all } = self;
+    }
 }
 
 impl Model for Conversations {

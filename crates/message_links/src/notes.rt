@@ -1,4 +1,5 @@
-ghost use Rattle.std.specs.Prelude.{◌≡◌};
+ghost use Rattle.std.specs.Prelude.{◌≡◌, if◌then◌else◌, nat_le};
+ghost use Rattle.message_links.specs.declared.notes.Note.TheVariants.{Query, Response};
 ghost use Rattle.message_links.specs.Notes.{dns_note, tcp_direction, udp_direction};
 
 use tcp_streams::Taken;
@@ -59,20 +60,19 @@ pub fn tcp_direction(taken: &Taken) -> Direction
 pub fn dns_note(bytes: &[u8]) -> Note
     ensures { result ≡ dns_note bytes.now }
 {
-    let Some((high, rest)) = bytes.split_first() else {
-        return Note::Other;
-    };
-    let Some((low, rest)) = rest.split_first() else {
-        return Note::Other;
-    };
-    let Some((flags, rest)) = rest.split_first() else {
-        return Note::Other;
-    };
-    if rest.is_empty() {
-        return Note::Other;
+    match bytes {
+        [high, low, flags, _, ..] => {
+            flagged_note(*flags, u16::from(*high) * 256 + u16::from(*low))
+        }
+        _ => Note::Other,
     }
-    let id = u16::from(*high) * 256 + u16::from(*low);
-    if *flags >= 128 {
+}
+
+/// A query or a response, by the byte with the first of the flags.
+fn flagged_note(flags: u8, id: u16) -> Note
+    ensures { result ≡ (if nat_le 128 flags then Response id else Query id) }
+{
+    if flags >= 128 {
         Note::Response(id)
     } else {
         Note::Query(id)

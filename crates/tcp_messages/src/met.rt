@@ -6,7 +6,6 @@ use stream_messages::Placed;
 use tcp_streams::Taken;
 
 /// What a segment is to its stream, and what its frame shows.
-#[derive(Drop)]
 pub struct Met {
     pub taken: Taken,
     /// The messages that its frame shows, in order. Each has a byte of its own among those by which it moves the front end.
@@ -14,6 +13,16 @@ pub struct Met {
     /// The frames that brought the gathered ones among them: ascending, each once.
     pub frames: Numbers,
     ghost few: { length messages ≤ 2 ^ 25 },
+}
+
+impl Drop for Met {
+    fn drop(self) {
+        let Met {
+            taken: _taken,
+            messages: _messages,
+            frames: _frames,
+        } = self;
+    }
 }
 
 /// A message, and where its bytes are.

@@ -5,7 +5,6 @@ ghost use Rattle.tcp_streams.specs.Labels.{PassesNear};
 use pk_base::{Endpoint, LostList, Octets};
 
 /// A segment of TCP: its frame's number, its ends, what its header says, and its bytes (RFC 9293, 3.1).
-#[derive(Drop)]
 pub struct Segment {
     pub frame: u32,
     pub from: Endpoint,
@@ -16,6 +15,21 @@ pub struct Segment {
     /// Whether the acknowledgment number counts.
     pub acked: bool,
     pub payload: Octets,
+}
+
+impl Drop for Segment {
+    fn drop(self) {
+        let Segment {
+            frame: _,
+            from: _,
+            to: _,
+            seq: _,
+            ack: _,
+            syn: _,
+            acked: _,
+            payload: _payload,
+        } = self;
+    }
 }
 
 /// What a segment is to the streams that were there before it.

@@ -59,8 +59,7 @@ pub(crate) fn put(held: &mut JoinedRanges, ahead: u32, s: &Segment) -> Result<()
         skipped(start, front, ahead),
         window_end(front),
     )?;
-    held.insert(from, &bytes, s.frame)?;
-    Ok(())
+    held.insert(from, &bytes, s.frame)
 }
 
 /// The bytes behind some that are skipped, which begin at a position, as far as they lie before an end.
