@@ -6,7 +6,7 @@ use Rattle.std.proofs.KnownBytes.{Appends-trans}
 use Rattle.std.proofs.lemmas.List.{at_drop_more, drop_all}
 use Rattle.pk_base.specs.Limits.{captured_limit}
 use Rattle.pk_outside.specs.Outside.{AppendsPart}
-use Rattle.pk_outside.proofs.Parts.{part_more, part_after_front}
+use Rattle.pk_outside.proofs.Parts.{part_more, part_whole, part_after_front}
 use Rattle.capture_read.specs.declared.frame.Frame.{Frame}
 use Rattle.capture_write.specs.Kept.{Kept, nothing_kept, order_by, link_by, fits_by, fits_at, start_by, packet_of, piece_at, kept_with, end_at}
 use Rattle.capture_write.specs.Pcap.{fits_pcap}
@@ -57,6 +57,46 @@ unfit_further entries i entry within is kept after before now unfit same steps =
     sym (ap (λ (n : ℕ). unfit_from n (kept_with kept entry.frame) rest) count ∙ ap (λ (k : Kept). unfit_from (suc (i + 1)) k rest) (sym steps.1))
     ∙ sym (ap (λ (b : Bool). if b then unfit_from (suc (suc i)) (kept_with kept entry.frame) rest else Some (suc i)) steps.0)
     ∙ sym (ap (λ (frames : List Frame). unfit_from (suc i) kept frames) (next_frame entries i entry within is)) ∙ same
+
+-- one that doesn't fit, and its number
+wrote_none : (old now later : Option (List ℕ)) (kept after : Kept) (frame : Frame) (rest : List Frame) (whole : List ℕ)
+    → WroteTo old now kept (frame ∷ rest) whole → Steps false kept after frame now later → (done : List ℕ) × Appends old later done × (done ++ end_at after ≡ whole)
+wrote_none old now later kept after frame rest whole wrote steps =
+    let bytes : written_from kept (frame ∷ rest) ≡ end_at after =
+    ap (λ (b : Bool). if b then piece_at kept frame ++ written_from (kept_with kept frame) rest else end_at kept) steps.0 ∙ ap (λ (k : Kept). end_at k) (sym steps.1) in (
+      wrote.0,
+      subst (λ (o : Option (List ℕ)). Appends old o wrote.0) (sym steps.2) wrote.1,
+      ap (λ (l : List ℕ). wrote.0 ++ l) (sym bytes) ∙ wrote.2,
+    )
+
+pub wrote_unfit : (entries : List Entry) (i : ℕ) (entry : Entry) → i < length entries → entry ≡ get_or entries i entry
+    → (old now later : Option (List ℕ)) (kept after : Kept) (whole : List ℕ) → WroteTo old now kept (map frame_of (drop i entries)) whole
+    → Steps false kept after entry.frame now later → (done : List ℕ) × Appends old later done × (done ++ end_at after ≡ whole)
+wrote_unfit entries i entry within is old now later kept after whole wrote steps =
+    wrote_none old now later kept after entry.frame (map frame_of (drop (i + 1) entries)) whole
+    (subst (λ (frames : List Frame). WroteTo old now kept frames whole) (next_frame entries i entry within is) wrote) steps
+
+pub unfit_here : (entries : List Entry) (i : ℕ) (entry : Entry) → i < length entries → entry ≡ get_or entries i entry
+    → (kept after : Kept) (before now : Option (List ℕ)) (unfit : Option ℕ) → unfit_from (suc i) kept (map frame_of (drop i entries)) ≡ unfit
+    → Steps false kept after entry.frame before now → Some (i + 1) ≡ unfit
+unfit_here entries i entry within is kept after before now unfit same steps =
+    let rest : List Frame = map frame_of (drop (i + 1) entries) in
+    let count : i + 1 ≡ suc i = omega arith in
+    ap (λ (n : ℕ). Some n) count
+    ∙ sym (ap (λ (b : Bool). if b then unfit_from (suc (suc i)) (kept_with kept entry.frame) rest else Some (suc i)) steps.0)
+    ∙ sym (ap (λ (frames : List Frame). unfit_from (suc i) kept frames) (next_frame entries i entry within is)) ∙ same
+
+-- all fit
+pub wrote_ended : (entries : List Entry) (i : ℕ) (old now : Option (List ℕ)) (kept : Kept) (whole : List ℕ) → length entries ≤ i
+    → WroteTo old now kept (map frame_of (drop i entries)) whole → (done : List ℕ) × Appends old now done × (done ++ end_at kept ≡ whole)
+wrote_ended entries i old now kept whole ended wrote = subst (λ (es : List Entry). WroteTo old now kept (map frame_of es) whole) (drop_all i entries ended) wrote
+
+pub unfit_ended : (entries : List Entry) (i : ℕ) (kept : Kept) (unfit : Option ℕ) → length entries ≤ i → unfit_from (suc i) kept (map frame_of (drop i entries)) ≡ unfit → None ≡ unfit
+unfit_ended entries i kept unfit ended same = sym (ap (λ (es : List Entry). unfit_from (suc i) kept (map frame_of es)) (drop_all i entries ended)) ∙ same
+
+-- what was written before the end is a part
+pub part_ended : (old now : Option (List ℕ)) (kept : Kept) (whole : List ℕ) → ((done : List ℕ) × Appends old now done × (done ++ end_at kept ≡ whole)) → AppendsPart old now whole
+part_ended old now kept whole wrote = subst (AppendsPart old now) wrote.2 (part_more old now wrote.0 (end_at kept) (part_whole old now wrote.0 wrote.1))
 
 -- the numbers of the frames that are still to come
 pub small_further : (entries : List Entry) (i : ℕ) (entry : Entry) → i < length entries → entry ≡ get_or entries i entry

@@ -5,6 +5,7 @@ ghost use Rattle.capture_read.specs.Capture.{capture_of};
 ghost use Rattle.merge_caps.specs.Reading.{AreSmallUpTo, IsLeftOf, IsLeftOfOne, files_of, is_large_after, is_too_much_of, read_of, so_far, with_reading};
 ghost use Rattle.merge_caps.specs.Stopped.{IsStopped};
 
+use crate::owned::let_go;
 use crate::read_file::read_file;
 use crate::readings::{Cause, Readings, Stopped};
 use capture_read::{Ending, ReadError};
@@ -142,7 +143,10 @@ pub(crate) fn read_files<C: Capture>(
     for (place, name) in names.iter().enumerate() {
         match read_next(alloc, name, capture, &mut readings) {
             Ok(()) => {}
-            Err(cause) => return Err(Stopped { place, cause }),
+            Err(cause) => {
+                let_go(readings);
+                return Err(Stopped { place, cause });
+            }
         }
     }
     Ok(readings)

@@ -1,8 +1,7 @@
 use crate::place::Entry;
-use capture_read::{Ending, ReadError};
+use capture_read::Ending;
 
 /// What was read of the files so far.
-#[derive(Drop)]
 pub(crate) struct Readings {
     /// The frames of all files, with their places.
     pub(crate) entries: Vec<Entry>,
@@ -10,6 +9,16 @@ pub(crate) struct Readings {
     pub(crate) endings: Vec<Ending>,
     /// How many bytes were captured of all frames.
     pub(crate) captured: usize,
+}
+
+impl Drop for Readings {
+    fn drop(self) {
+        let Readings {
+            entries: _entries,
+            endings: _endings,
+            captured: _,
+        } = self;
+    }
 }
 
 /// Why a file isn't read.

@@ -14,7 +14,7 @@ use crate::status::{MergeStatus, status_of};
 use capture_read::{Damage, Ending};
 use pk_base::NoMemory;
 use pk_outside::{Sink, SinkFault};
-use pk_text::escape_text;
+use pk_text::{TextSink, put_escaped, put_number};
 use run_texts::{
     Text, cannot_open_text, cannot_write_text, read_fault_text, reason_text, tell, too_large_text,
     word_fault_text,
@@ -22,79 +22,57 @@ use run_texts::{
 use shark_words::WordFault;
 use std::alloc::Global;
 
-// The line of a damaged file up to the place of the damage.
+// Adds the line of a damaged file up to the place of the damage.
 #[tactic(auto, unfolding(crate::specs::Texts::damage_front))]
-fn damage_front(alloc: Global, name: &Text) -> Result<String, NoMemory>
-    ensures { IfOk result (λ text. string_bytes text ≡ front_of_line (escaped name.now)) }
-{
-    let name = escape_text(alloc, name.as_str().as_bytes())?;
-    Ok(format!(in alloc; "shark: {name} damaged at byte ")?)
-}
-
-// The rest of the line.
-#[tactic(auto, unfolding(crate::specs::Texts::damage_back))]
-fn damage_back(alloc: Global, damage: Damage) -> Result<String, NoMemory>
-    ensures { IfOk result (λ text. string_bytes text ≡ back_of_line damage) }
-{
-    let at = damage.at;
-    let reason = reason_text(damage.reason);
-    Ok(format!(in alloc; "{at}: {reason}\n")?)
-}
-
-fn push_front(alloc: Global, text: &mut String, name: &Text) -> Result<(), NoMemory>
+fn push_front(text: &mut String, name: &Text) -> Result<(), NoMemory>
     ensures { OnOk result (string_bytes text.new
         ≡ string_bytes text.old ++ front_of_line (escaped name.now)) }
 {
-    let front = damage_front(alloc, name)?;
-    Ok(text.push_str(front.as_str())?)
+    text.put_text("shark: ")?;
+    put_escaped(text, name.as_str().as_bytes())?;
+    text.put_text(" damaged at byte ")
 }
 
-fn push_back(alloc: Global, text: &mut String, damage: Damage) -> Result<(), NoMemory>
+// Adds the rest of the line.
+#[tactic(auto, unfolding(crate::specs::Texts::damage_back))]
+fn push_back(text: &mut String, damage: Damage) -> Result<(), NoMemory>
     ensures { OnOk result (string_bytes text.new ≡ string_bytes text.old ++ back_of_line damage) }
 {
-    let back = damage_back(alloc, damage)?;
-    Ok(text.push_str(back.as_str())?)
+    put_number(text, damage.at)?;
+    text.put_text(": ")?;
+    text.put_text(reason_text(damage.reason))?;
+    text.put_text("\n")
 }
 
 // Adds the line of a damaged file.
-fn push_damage(
-    alloc: Global,
-    text: &mut String,
-    name: &Text,
-    damage: Damage,
-) -> Result<(), NoMemory>
+fn push_damage(text: &mut String, name: &Text, damage: Damage) -> Result<(), NoMemory>
     ensures { OnOk result (string_bytes text.new ≡ string_bytes text.old
         ++ (front_of_line (escaped name.now) ++ back_of_line damage)) }
 {
-    push_front(alloc, text, name)?;
-    push_back(alloc, text, damage)
+    push_front(text, name)?;
+    push_back(text, damage)
 }
 
 // Adds the line of a file that ends so, where it is damaged.
 #[tactic(auto, unfolding(crate::specs::Texts::damage_line))]
-fn push_line(alloc: Global, text: &mut String, name: &Text, ending: Ending) -> Result<(), NoMemory>
+fn push_line(text: &mut String, name: &Text, ending: Ending) -> Result<(), NoMemory>
     ensures { OnOk result (string_bytes text.new
         ≡ string_bytes text.old ++ damage_line name.now ending) }
 {
     match ending {
-        Ending::Damaged(damage) => push_damage(alloc, text, name, damage),
+        Ending::Damaged(damage) => push_damage(text, name, damage),
         Ending::Whole | Ending::TooLarge => Ok(()),
     }
 }
 
 // Adds the lines of the damaged files.
-fn push_lines(
-    alloc: Global,
-    text: &mut String,
-    names: &[Text],
-    endings: &[Ending],
-) -> Result<(), NoMemory>
+fn push_lines(text: &mut String, names: &[Text], endings: &[Ending]) -> Result<(), NoMemory>
     requires { length endings.now ≡ length names.now }
     ensures { OnOk result (string_bytes text.new
         ≡ string_bytes text.old ++ damage_lines names.now endings.now) }
 {
     for (place, name) in names.iter().enumerate() {
-        push_line(alloc, text, name, endings[place])?;
+        push_line(text, name, endings[place])?;
     }
     Ok(())
 }
@@ -110,7 +88,7 @@ pub(crate) fn lines_of_damage(
     ensures { IfOk result (λ text. string_bytes text ≡ damage_lines names.now endings.now) }
 {
     let mut text = String::new(alloc);
-    match push_lines(alloc, &mut text, names, endings) {
+    match push_lines(&mut text, names, endings) {
         Ok(()) => Ok(text),
         Err(error) => {
             let_go(text);
@@ -124,11 +102,10 @@ fn push_unfit(alloc: Global, text: &mut String, unfit: Option<usize>) -> Result<
     ensures adds { OnOk result (string_bytes text.new ≡ string_bytes text.old ++ unfit_text unfit) }
     ensures none { unfit ≡ None → IsOk result }
 {
-    if let Some(number) = unfit {
-        let line = cannot_write_text(alloc, number as u64)?;
-        text.push_str(line.as_str())?;
+    match unfit {
+        Some(number) => text.put_text(cannot_write_text(alloc, number as u64)?.as_str()),
+        None => Ok(()),
     }
-    Ok(())
 }
 
 fn unfit_in(written: Result<Option<usize>, SinkFault>) -> Option<usize>
@@ -160,7 +137,12 @@ fn is_damaged(ending: Ending) -> bool
 pub(crate) fn are_damaged(endings: &[Ending]) -> bool
     ensures { result ≡ are_some_damaged endings.now }
 {
-    endings.iter().any(|ending| is_damaged(*ending))
+    for ending in endings {
+        if is_damaged(*ending) {
+            return true;
+        }
+    }
+    false
 }
 
 fn status_of_cause(cause: Cause) -> MergeStatus

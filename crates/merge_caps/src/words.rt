@@ -5,6 +5,7 @@ ghost use Rattle.shark_words.specs.Faults.{fault as fault_at};
 ghost use Rattle.shark_words.specs.declared.fault.WordsError.TheVariants as error;
 ghost use Rattle.merge_caps.specs.Words.{Hears, Wants, heard as heard_of, wanted_at_end, wanted_of, with_format, with_letters, with_name, with_option, with_rest, with_use, with_word};
 
+use crate::owned::let_go;
 use capture_write::Format;
 use pk_base::NoMemory;
 use run_texts::Text;
@@ -126,9 +127,11 @@ fn want(last: u64, heard: Heard) -> Result<Wanted, WordsError>
     ensures { Wants result (wanted_at_end last (heard_of heard)) }
 {
     if heard.waiting {
+        let_go(heard);
         return Err(word_fault(last, WordReason::MissingValue));
     }
     if heard.names.is_empty() {
+        let_go(heard);
         return Err(word_fault(last + 1, WordReason::NoFile));
     }
     Ok(Wanted {
@@ -150,7 +153,10 @@ pub(crate) fn read_words(alloc: Global, words: &[String]) -> Result<Wanted, Word
     for (before, word) in words.iter().enumerate() {
         match take_word(alloc, before as u64 + 1, &mut heard, word.as_str()) {
             Ok(()) => {}
-            Err(error) => return Err(error),
+            Err(error) => {
+                let_go(heard);
+                return Err(error);
+            }
         }
     }
     want(words.len() as u64, heard)

@@ -1,7 +1,8 @@
-use Rattle.std.proofs.Common.{Err, inl, refl, ap, ◌∙◌, ◌+◌, length, take, false, arith}
+use Rattle.std.proofs.Common.{ℕ, List, Err, inl, refl, ap, subst, ◌∙◌, ◌+◌, length, take, false, arith}
+use Rattle.std.proofs.lemmas.List.{take_all}
 use Rattle.merge_caps.specs.Reading.{so_far}
 use Rattle.merge_caps.specs.Stopped.{Seen}
-use Rattle.merge_caps.proofs.FilesSteps.{cause_is, judged, large_next, left_next, little_first, reads_next, small_first, small_more}
+use Rattle.merge_caps.proofs.FilesSteps.{IsReadOf, cause_is, judged, large_next, left_next, little_first, reads_next, small_first, small_more}
 use Rattle.merge_caps.proofs.read_files.read_files.Goals as goal
 
 pub loop-place-init : goal.loop-place-init
@@ -79,3 +80,17 @@ loop-place-preserved g c =
       missed = c.in-Ok.ensures.not_missed ∙ c.loop-place.invariant.missed;
       faults = c.in-Ok.ensures.no_fault ∙ c.loop-place.invariant.faults;
     }
+
+pub returns-clause-read : goal.returns-clause-read
+returns-clause-read g c =
+    subst (λ (names : List (List ℕ)). IsReadOf (g.C.Capture.file c.args.capture.now) names (so_far c.loop-place.readings))
+    (take_all c.loop-place.place c.args.names.now c.loop-place-test.false) c.loop-place.invariant.read
+
+pub returns-clause-small : goal.returns-clause-small
+returns-clause-small g c = λ n below. c.loop-place.invariant.small n (omega (arith, below, c.loop-place-test.false))
+
+pub returns-clause-took : goal.returns-clause-took
+returns-clause-took g c = c.loop-place.invariant.left
+
+pub returns-clause-no_fault : goal.returns-clause-no_fault
+returns-clause-no_fault g c = (c.loop-place.invariant.missed, c.loop-place.invariant.faults)

@@ -35,18 +35,18 @@ returns-in-Err-Fault g c =
     let is : wanted_of (texts c.args.words.now) ≡ Err c.in-Err-Fault.fault = rw c.in-Err-Fault.field-0-is at c.in-Err-Fault.ensures in
     let refused = c.tell_refusal.ensures.refused in
     record {
-      refused = rw is (refused, refl, refl);
+      refused = rw is (refused, refl {a = c.args.capture.now}, refl {a = c.args.out.now});
       not_refused = rw is tt;
       written = rw is tt;
       read_back = rw is tt;
       part = rw is tt;
-      nothing = unread_always c.tell_refusal.result _ refl;
+      nothing = unread_always c.tell_refusal.result _ (refl {a = c.args.out.now});
       unopened = λ same. rw is tt;
       unread = λ same. rw is tt;
       large = λ same. rw is tt;
       small = read_always c.tell_refusal.result _ (rw is tt);
       write_fault = refused_not c.tell_refusal.result _ _ (λ bad. absurd (cc bad)) (λ bad. absurd (cc bad)) refused;
-      starved = λ same. (refl, refl, refl);
+      starved = λ same. (refl {a = g.C.Capture.missed c.args.capture.now}, refl {a = g.C.Capture.faults c.args.capture.now}, refl {a = g.O.Sink.faults c.args.out.now});
       took = rw is tt;
       complete = λ a b d. refused_no_fault c.tell_refusal.result refused;
       told = rw is tt;
@@ -57,19 +57,19 @@ returns-in-Err-Fault g c =
 
 pub returns-in-Err-NoMemory : goal.returns-in-Err-NoMemory
 returns-in-Err-NoMemory g c = record {
-  refused = all_refused (wanted_of (texts c.args.words.now)) _ (λ fault. (inr refl, refl, refl));
+  refused = all_refused (wanted_of (texts c.args.words.now)) _ (λ fault. (inr refl, refl {a = c.args.capture.now}, refl {a = c.args.out.now}));
   not_refused = all_asked (wanted_of (texts c.args.words.now)) _ (λ wanted. λ same. absurd (cc same));
   written = all_asked (wanted_of (texts c.args.words.now)) _ (λ wanted. tt);
   read_back = all_asked (wanted_of (texts c.args.words.now)) _ (λ wanted. tt);
-  part = all_asked (wanted_of (texts c.args.words.now)) _ (λ wanted. inl refl);
+  part = all_asked (wanted_of (texts c.args.words.now)) _ (λ wanted. inl (refl {a = c.args.out.now}));
   nothing = tt;
   unopened = λ same. absurd (cc same);
   unread = λ same. absurd (cc same);
   large = λ same. absurd (cc same);
   small = tt;
   write_fault = λ same. absurd (cc same);
-  starved = λ same. (refl, refl, refl);
-  took = all_asked (wanted_of (texts c.args.words.now)) _ (λ wanted. inl refl);
+  starved = λ same. (refl {a = g.C.Capture.missed c.args.capture.now}, refl {a = g.C.Capture.faults c.args.capture.now}, refl {a = g.O.Sink.faults c.args.out.now});
+  took = all_asked (wanted_of (texts c.args.words.now)) _ (λ wanted. inl (refl {a = g.C.Capture.left c.args.capture.now}));
   complete = λ a b d. tt;
   told = none_told (wanted_of (texts c.args.words.now)) _ _ _;
   told_whole = λ calm fed. none_told_whole (wanted_of (texts c.args.words.now)) _ _ _;

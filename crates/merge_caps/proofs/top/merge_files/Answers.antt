@@ -11,17 +11,17 @@ returns-in-Err g c = record {
   not_refused = λ is. absurd (cc is);
   written = tt;
   read_back = tt;
-  part = inl refl;
+  part = inl (refl {a = c.args.out.now});
   nothing = tt;
   unopened = λ is. absurd (cc is);
   unread = λ is. absurd (cc is);
   large = λ is. absurd (cc is);
   small = tt;
-  took = inl refl;
+  took = inl (refl {a = g.C.Capture.left c.args.capture.now});
   write_fault = λ is. absurd (cc is);
-  starved = λ is. (refl, refl, refl);
-  told = starved (wanted c.args.wanted.now) _ _ _;
-  told_whole = λ calm fed. starved_whole (wanted c.args.wanted.now) _ _ _;
+  starved = λ is. (refl {a = g.C.Capture.missed c.args.capture.now}, refl {a = g.C.Capture.faults c.args.capture.now}, refl {a = g.O.Sink.faults c.args.out.now});
+  told = starved (wanted c.args.wanted.now) (g.C.Capture.file c.args.capture.now) (g.C.Capture.asked c.args.capture.now) (g.E.Sink.written c.args.err.now);
+  told_whole = λ calm fed. starved_whole (wanted c.args.wanted.now) (g.C.Capture.file c.args.capture.now) (g.C.Capture.asked c.args.capture.now) (g.E.Sink.written c.args.err.now);
 }
 
 pub returns-in-Err-read_files : goal.returns-in-Err-read_files
@@ -34,14 +34,14 @@ returns-in-Err-read_files g c =
       written = written_when c.tell_stopped-status.result _ _ (λ bad. absurd bad) facts.not_written;
       read_back = written_when c.tell_stopped-status.result _ _ (λ bad. absurd bad) facts.not_written;
       part = inl (refl {a = c.args.out.now});
-      nothing = unread_always c.tell_stopped-status.result _ refl;
+      nothing = unread_always c.tell_stopped-status.result _ (refl {a = c.args.out.now});
       unopened = facts.unopened;
       unread = facts.unread;
       large = facts.large;
       small = read_never c.tell_stopped-status.result _ facts.not_read;
       took = rw c.as_slice-names.ensures.value at c.read_files.ensures.took;
       write_fault = λ is. absurd (facts.no_write is);
-      starved = λ is. ((facts.starved is).0, (facts.starved is).1, refl);
+      starved = λ is. ((facts.starved is).0, (facts.starved is).1, refl {a = g.O.Sink.faults c.args.out.now});
       told = told (wanted c.args.wanted.now) (g.C.Capture.file c.args.capture.now) (g.C.Capture.asked c.read_files.new.capture) c.tell_stopped-status.result
           (cause_text c.in-Err-read_files.stopped.cause c.index-unopened-stopped.result)
           (g.E.Sink.written c.args.err.now) (g.E.Sink.written c.tell_stopped-status.new.err) text c.tell_stopped-status.ensures.told;

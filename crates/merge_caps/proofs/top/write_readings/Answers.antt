@@ -14,11 +14,11 @@ pub returns-in-Err : goal.returns-in-Err
 returns-in-Err g c = record {
   all_read = tt;
   written = tt;
-  part = inl refl;
+  part = inl (refl {a = c.args.out.now});
   write_fault = λ is. absurd (cc is);
-  starved = λ is. refl;
-  told = λ tell asked is. starved (wanted c.args.wanted.now) tell asked _;
-  told_whole = λ tell asked is calm fed. starved_whole (wanted c.args.wanted.now) tell asked _;
+  starved = λ is. refl {a = g.O.Sink.faults c.args.out.now};
+  told = λ tell asked is. starved (wanted c.args.wanted.now) tell asked (g.E.Sink.written c.args.err.now);
+  told_whole = λ tell asked is calm fed. starved_whole (wanted c.args.wanted.now) tell asked (g.E.Sink.written c.args.err.now);
 }
 
 pub returns-in-Ok : goal.returns-in-Ok
