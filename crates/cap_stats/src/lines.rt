@@ -1,5 +1,5 @@
 // The parts of which the tables' lines are made.
-ghost use Rattle.std.specs.Prelude.{◌≡◌, ◌∷◌, [], ◌++◌, decimal, IfOk, OnOk};
+ghost use Rattle.std.specs.Prelude.{◌≡◌, ◌∷◌, [], ◌++◌, codes, decimal, IfOk, OnOk};
 ghost use Rattle.cap_stats.specs.Tables.{address_text, port_text, party_text, tally_text, ends_text, tallies_text, talk_text};
 
 use crate::counts::{Talk, Tally};
@@ -13,10 +13,17 @@ pub(crate) fn begin_table(alloc: Global, name: &str, lines: usize) -> Result<Vec
     ensures { IfOk result (λ text. text.items ≡ name.now ++ (decimal lines ++ 10 ∷ [])) }
 {
     let mut text = Vec::new(alloc);
-    text.put_text(name)?;
-    put_number(&mut text, lines as u64)?;
-    text.push(b'\n')?;
+    put_count(&mut text, name, lines as u64)?;
+    text.put_text("\n")?;
     Ok(text)
+}
+
+/// Appends what is counted, and how many there are.
+pub(crate) fn put_count(text: &mut Vec<u8>, counted: &str, count: u64) -> Result<(), NoMemory>
+    ensures { OnOk result (text.new.items ≡ text.old.items ++ (counted.now ++ decimal count)) }
+{
+    text.put_text(counted)?;
+    put_number(text, count)
 }
 
 /// Appends both ends of a conversation, and what they sent.
@@ -31,27 +38,24 @@ fn put_ends(alloc: Global, text: &mut Vec<u8>, talk: &Talk) -> Result<(), NoMemo
     ensures { OnOk result (text.new.items ≡ text.old.items ++ ends_text talk.now) }
 {
     put_party(alloc, text, &talk.from)?;
-    text.push(b' ')?;
-    put_party(alloc, text, &talk.to)?;
-    text.push(b' ')?;
-    Ok(())
+    put_party(alloc, text, &talk.to)
 }
 
 fn put_tallies(text: &mut Vec<u8>, talk: &Talk) -> Result<(), NoMemory>
     ensures { OnOk result (text.new.items ≡ text.old.items ++ tallies_text talk.now) }
 {
-    put_tally(text, &talk.there)?;
-    text.push(b' ')?;
-    put_tally(text, &talk.back)?;
-    text.push(b'\n')?;
-    Ok(())
+    put_tally(text, &talk.there, " ")?;
+    put_tally(text, &talk.back, "\n")
 }
 
+/// Appends an end, and a space.
 fn put_party(alloc: Global, text: &mut Vec<u8>, party: &Party) -> Result<(), NoMemory>
-    ensures { OnOk result (text.new.items ≡ text.old.items ++ party_text party.now) }
+    ensures { OnOk result (text.new.items
+        ≡ text.old.items ++ (party_text party.now ++ codes " ")) }
 {
     put_address(alloc, text, party.address)?;
-    put_port(text, party.port)
+    put_port(text, party.port)?;
+    text.put_text(" ")
 }
 
 fn put_address(alloc: Global, text: &mut Vec<u8>, address: Address) -> Result<(), NoMemory>
@@ -68,17 +72,16 @@ fn put_port(text: &mut Vec<u8>, port: Option<u64>) -> Result<(), NoMemory>
 {
     match port {
         None => Ok(()),
-        Some(port) => {
-            text.push(b' ')?;
-            put_number(text, port)
-        }
+        Some(port) => put_count(text, " ", port),
     }
 }
 
-fn put_tally(text: &mut Vec<u8>, tally: &Tally) -> Result<(), NoMemory>
-    ensures { OnOk result (text.new.items ≡ text.old.items ++ tally_text tally.now) }
+/// Appends a tally, and what stands behind it.
+fn put_tally(text: &mut Vec<u8>, tally: &Tally, behind: &str) -> Result<(), NoMemory>
+    ensures { OnOk result (text.new.items
+        ≡ text.old.items ++ (tally_text tally.now ++ behind.now)) }
 {
     put_number(text, tally.frames)?;
-    text.push(b' ')?;
-    put_number(text, tally.bytes)
+    put_count(text, " ", tally.bytes)?;
+    text.put_text(behind)
 }

@@ -1,5 +1,5 @@
 // Paths of protocols, by their texts.
-ghost use Rattle.std.specs.Prelude.{◌≡◌, ◌==◌, ◌-◌, ◌^◌, ◌<◌, ℕ, Option, None, true, false, List, [], ◌∷◌, ◌++◌, length, map, codes, decimal, if◌then◌else◌, take, IfOk, IfSome, OnOk};
+ghost use Rattle.std.specs.Prelude.{◌≡◌, ◌==◌, ◌-◌, ◌^◌, ◌<◌, ℕ, Option, None, true, false, List, [], ◌∷◌, ◌++◌, length, map, codes, if◌then◌else◌, take, IfOk, IfSome, OnOk};
 ghost use Rattle.std.specs.BTreeMap.{get_by_text, keys};
 ghost use Rattle.std.specs.List.{flat_map};
 ghost use Rattle.std.specs.String.{string_bytes};
@@ -13,11 +13,11 @@ ghost use Rattle.cap_stats.specs.Tables.{paths_of, paths_table, path_line};
 ghost use Rattle.cap_stats.specs.Told.{length_of as bytes_of, paths_in, paths_to};
 
 use crate::counts::{Tally, tally_after};
-use crate::lines::begin_table;
+use crate::lines::{begin_table, put_count};
 use crate::told::length_of;
 use pk_base::NoMemory;
 use pk_fields::{FieldId, name};
-use pk_text::{TextSink, put_number};
+use pk_text::TextSink;
 use pk_tree::Layer;
 use std::alloc::Global;
 use std::collections::BTreeMap;
@@ -167,26 +167,9 @@ fn put_path(text: &mut Vec<u8>, path: &str, tally: Option<&Tally>) -> Result<(),
         None => Ok(()),
         Some(tally) => {
             text.put_text(path)?;
-            put_frames(text, tally.frames)?;
-            put_bytes(text, tally.bytes)
+            put_count(text, " frames ", tally.frames)?;
+            put_count(text, " bytes ", tally.bytes)?;
+            text.put_text("\n")
         }
     }
-}
-
-fn put_frames(text: &mut Vec<u8>, frames: u64) -> Result<(), NoMemory>
-    ensures { OnOk result (text.new.items
-        ≡ text.old.items ++ (codes " frames " ++ decimal frames)) }
-{
-    text.put_text(" frames ")?;
-    put_number(text, frames)
-}
-
-fn put_bytes(text: &mut Vec<u8>, bytes: u64) -> Result<(), NoMemory>
-    ensures { OnOk result (text.new.items
-        ≡ text.old.items ++ (codes " bytes " ++ (decimal bytes ++ 10 ∷ []))) }
-{
-    text.put_text(" bytes ")?;
-    put_number(text, bytes)?;
-    text.push(b'\n')?;
-    Ok(())
 }

@@ -3,7 +3,7 @@ ghost use Rattle.std.specs.Prelude.{◌≡◌, ◌<◌, reverse, length, positio
 ghost use Rattle.std.specs.Option.{option_copied};
 ghost use Rattle.std.specs.List.{find};
 ghost use Rattle.pk_tree.specs.FieldValues.{item_values};
-ghost use Rattle.cap_stats.specs.Told.{first_value, number_of, four_of, six_of, number_in, four_in, six_in, address_in, length_of, is_ip as is_ip_layer, has_stream as shows_stream, party_at as party_value, segment_of, segment_at, stream_in, has_addresses as shows_addresses, pair_of as pair_value, host as host_value, packet_of, packet_in};
+ghost use Rattle.cap_stats.specs.Told.{first_value, number_in, four_in, six_in, address_in, length_of, is_ip as is_ip_layer, has_stream as shows_stream, party_at as party_value, segment_of, segment_at, stream_in, has_addresses as shows_addresses, pair_of as pair_value, host as host_value, packet_of, packet_in};
 
 use crate::party::{Flight, Party};
 use pk_base::{Address, Value};
@@ -94,7 +94,12 @@ fn last_ip(layers: &[Layer]) -> Option<&Layer>
 fn first_pair(layers: &[Layer]) -> Option<&Layer>
     ensures { option_copied result ≡ find shows_addresses layers.now }
 {
-    layers.iter().find(|layer| has_addresses(layer))
+    for layer in layers {
+        if has_addresses(layer) {
+            return Some(layer);
+        }
+    }
+    None
 }
 
 fn is_ip(layer: &Layer) -> bool
@@ -156,44 +161,26 @@ fn address_in(layer: &Layer, four: FieldId, six: FieldId) -> Option<Address>
 fn number_in(layer: &Layer, field: FieldId) -> Option<u64>
     ensures { result ≡ number_in field layer.now }
 {
-    number_of(first_in(layer.items.slice(), field)?)
+    match first_in(layer.items.slice(), field) {
+        Some(Value::Uint(number)) => Some(*number),
+        _ => None,
+    }
 }
 
 fn four_in(layer: &Layer, field: FieldId) -> Option<u32>
     ensures { result ≡ four_in field layer.now }
 {
-    four_of(first_in(layer.items.slice(), field)?)
+    match first_in(layer.items.slice(), field) {
+        Some(Value::Ip4(address)) => Some(*address),
+        _ => None,
+    }
 }
 
 fn six_in(layer: &Layer, field: FieldId) -> Option<u128>
     ensures { result ≡ six_in field layer.now }
 {
-    six_of(first_in(layer.items.slice(), field)?)
-}
-
-fn number_of(value: &Value) -> Option<u64>
-    ensures { result ≡ number_of value.now }
-{
-    match value {
-        Value::Uint(number) => Some(*number),
-        _ => None,
-    }
-}
-
-fn four_of(value: &Value) -> Option<u32>
-    ensures { result ≡ four_of value.now }
-{
-    match value {
-        Value::Ip4(address) => Some(*address),
-        _ => None,
-    }
-}
-
-fn six_of(value: &Value) -> Option<u128>
-    ensures { result ≡ six_of value.now }
-{
-    match value {
-        Value::Ip6(address) => Some(*address),
+    match first_in(layer.items.slice(), field) {
+        Some(Value::Ip6(address)) => Some(*address),
         _ => None,
     }
 }
