@@ -3,7 +3,7 @@ ghost use Rattle.std.specs.Prelude.{◌≡◌, [], false, true, IfOk, OnOk};
 ghost use Rattle.out_lines.specs.Columns.{is_wanted, front_of, with_text, with_value};
 
 use crate::style::{Occurrence, Style};
-use crate::value_text::put_value;
+use crate::value_text::{put_text, put_value};
 use pk_base::{NoMemory, Value};
 use pk_fields::FieldId;
 use std::alloc::Global;
@@ -115,7 +115,6 @@ impl Column {
             return Ok(());
         }
         self.begin_value(style)?;
-        self.text.extend_from_slice(text.as_bytes())?;
-        Ok(())
+        put_text(&mut self.text, text)
     }
 }

@@ -108,8 +108,7 @@ fn put_bytes(text: &mut Vec<u8>, side: &str, bytes: &[u8]) -> Result<(), NoMemor
     put_text(text, side)?;
     text.push(b' ')?;
     put_hex(text, bytes)?;
-    text.push(b'\n')?;
-    Ok(())
+    put_text(text, "\n")
 }
 
 /// The line of a gap.
@@ -119,6 +118,5 @@ fn put_lost(text: &mut Vec<u8>, side: &str, count: u64) -> Result<(), NoMemory>
     put_text(text, side)?;
     put_text(text, " lost ")?;
     put_number(text, count)?;
-    text.push(b'\n')?;
-    Ok(())
+    put_text(text, "\n")
 }

@@ -186,8 +186,7 @@ fn put_line(
         → line.new.items ≡ line.old.items ++ field_line_of fields.now t style.now) }
 {
     put_columns(line, columns, places, fields, style)?;
-    line.push(b'\n')?;
-    Ok(())
+    put_text(line, "\n")
 }
 
 fn put_columns(

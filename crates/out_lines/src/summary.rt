@@ -39,8 +39,7 @@ fn put_summary(alloc: Global, line: &mut Vec<u8>, tree: &Tree) -> Result<(), NoM
     put_protocol(line, tree)?;
     line.push(b' ')?;
     put_length(alloc, line, tree)?;
-    line.push(b'\n')?;
-    Ok(())
+    put_text(line, "\n")
 }
 
 #[tactic(auto, unfolding(pk_fields::specs::Fields::row_of, pk_fields::specs::Table::rows))]
@@ -50,8 +49,7 @@ fn put_times(alloc: Global, line: &mut Vec<u8>, tree: &Tree) -> Result<(), NoMem
     put_first(alloc, line, tree, ids::FRAME_NUMBER)?;
     line.push(b' ')?;
     put_first(alloc, line, tree, ids::FRAME_TIME_RELATIVE)?;
-    line.push(b' ')?;
-    Ok(())
+    put_text(line, " ")
 }
 
 #[tactic(auto, unfolding(pk_fields::specs::Fields::row_of, pk_fields::specs::Table::rows))]
@@ -61,8 +59,7 @@ fn put_addresses(alloc: Global, line: &mut Vec<u8>, tree: &Tree) -> Result<(), N
     put_address(alloc, line, tree, ids::IP_SRC, ids::IPV6_SRC, ids::ETH_SRC)?;
     put_text(line, " -> ")?;
     put_address(alloc, line, tree, ids::IP_DST, ids::IPV6_DST, ids::ETH_DST)?;
-    line.push(b' ')?;
-    Ok(())
+    put_text(line, " ")
 }
 
 #[tactic(auto, unfolding(pk_fields::specs::Fields::row_of, pk_fields::specs::Table::rows))]
@@ -134,7 +131,12 @@ fn put_address(
 fn first_ip(layers: &[Layer]) -> Option<&Layer>
     ensures { option_copied result ≡ find is_ip_layer layers.now }
 {
-    layers.iter().find(|layer| is_ip(layer))
+    for layer in layers {
+        if is_ip(layer) {
+            return Some(layer);
+        }
+    }
+    None
 }
 
 fn is_ip(layer: &Layer) -> bool

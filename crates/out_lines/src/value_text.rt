@@ -60,8 +60,7 @@ fn put_truth(line: &mut Vec<u8>, truth: bool) -> Result<(), NoMemory>
     ensures { OnOk result (line.new.items
         ≡ line.old.items ++ (if truth then codes "1" else codes "0")) }
 {
-    line.push(if truth { b'1' } else { b'0' })?;
-    Ok(())
+    put_text(line, if truth { "1" } else { "0" })
 }
 
 /// Appends bytes in hexadecimal.
