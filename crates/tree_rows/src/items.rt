@@ -2,6 +2,7 @@ use pk_base::{Octets, Span, Value};
 use pk_fields::name;
 use pk_tree::{Item, Place};
 use std::alloc::{AllocError, Global};
+use std::fmt::Display;
 
 /// Of which items the bytes' place is printed too, as `@start+length`, with the buffer's number before it where that isn't 0.
 #[derive(Clone, Copy)]
@@ -14,68 +15,66 @@ pub enum Places {
 }
 
 /// Adds an item: ` field=value`.
-pub(crate) fn push_item(
-    alloc: Global,
-    text: &mut String,
-    item: &Item,
-    places: Places,
-) -> Result<(), AllocError> {
-    text.push_str(" ")?;
-    text.push_str(name(item.field))?;
-    push_value(alloc, text, &item.value)?;
+pub(crate) fn push_item(text: &mut String, item: &Item, places: Places) -> Result<(), AllocError> {
+    write!(text, " {}", name(item.field))?;
+    push_value(text, &item.value)?;
     match (places, item.place) {
-        (Places::Derived, Place::Derived(span)) => push_place(alloc, text, span),
-        (Places::Read, Place::Read(span)) => push_place(alloc, text, span),
+        (Places::Derived, Place::Derived(span)) | (Places::Read, Place::Read(span)) => {
+            push_place(text, span)
+        }
         _ => Ok(()),
     }
 }
 
-fn push_value(alloc: Global, text: &mut String, value: &Value) -> Result<(), AllocError> {
-    let value = value_text(alloc, value)?;
-    text.push_str(&value)
-}
-
-fn push_place(alloc: Global, text: &mut String, span: Span) -> Result<(), AllocError> {
-    let place = place_text(alloc, span)?;
-    text.push_str(&place)
-}
-
-fn place_text(alloc: Global, span: Span) -> Result<String, AllocError> {
+fn push_place(text: &mut String, span: Span) -> Result<(), AllocError> {
     if span.buffer == 0 {
-        format!(in alloc; "@{}+{}", span.start, span.len)
+        write!(text, "@{}+{}", span.start, span.len)
     } else {
-        format!(in alloc; "@{}:{}+{}", span.buffer, span.start, span.len)
+        write!(text, "@{}:{}+{}", span.buffer, span.start, span.len)
     }
 }
 
 /// A value behind its `=`: numbers in decimal, IPv4 addresses with points, IPv6 addresses as a number in hexadecimal, texts
 /// as they are, all other bytes as a list.
 pub fn value_text(alloc: Global, value: &Value) -> Result<String, AllocError> {
+    let mut text = String::new(alloc);
+    push_value(&mut text, value)?;
+    Ok(text)
+}
+
+fn push_value(text: &mut String, value: &Value) -> Result<(), AllocError> {
     match value {
-        Value::Uint(number) => format!(in alloc; "={number}"),
-        Value::Bool(truth) => format!(in alloc; "={truth}"),
-        Value::Time(time) => format!(in alloc; "={time}"),
-        Value::Ip4(address) => ip4_text(alloc, *address),
-        Value::Ip6(address) => format!(in alloc; "={address:x}"),
-        Value::Ether(address) => format!(in alloc; "={address:?}"),
-        Value::Text(bytes) => text_text(alloc, bytes),
-        Value::Bytes(bytes) => list_text(alloc, bytes),
-        Value::Proto(bytes) => list_text(alloc, bytes),
+        Value::Uint(number) => push_shown(text, *number),
+        Value::Bool(truth) => push_shown(text, *truth),
+        Value::Time(time) => push_shown(text, *time),
+        Value::Ip4(address) => push_ip4(text, *address),
+        Value::Ip6(address) => push_ip6(text, *address),
+        Value::Ether(address) => push_list(text, address),
+        Value::Text(bytes) => push_text(text, bytes),
+        Value::Bytes(bytes) | Value::Proto(bytes) => push_list(text, bytes.bytes()),
     }
 }
 
-fn ip4_text(alloc: Global, address: u32) -> Result<String, AllocError> {
+fn push_shown<T: Display + Copy>(text: &mut String, value: T) -> Result<(), AllocError> {
+    write!(text, "={value}")
+}
+
+fn push_ip4(text: &mut String, address: u32) -> Result<(), AllocError> {
     let [a, b, c, d] = address.to_be_bytes();
-    format!(in alloc; "={a}.{b}.{c}.{d}")
+    write!(text, "={a}.{b}.{c}.{d}")
 }
 
-fn text_text(alloc: Global, bytes: &Octets) -> Result<String, AllocError> {
+fn push_ip6(text: &mut String, address: u128) -> Result<(), AllocError> {
+    write!(text, "={address:x}")
+}
+
+fn push_text(text: &mut String, bytes: &Octets) -> Result<(), AllocError> {
     match str::from_utf8(bytes.bytes()) {
-        Ok(text) => format!(in alloc; "={text}"),
-        Err(_) => list_text(alloc, bytes),
+        Ok(shown) => push_shown(text, shown),
+        Err(_) => push_list(text, bytes.bytes()),
     }
 }
 
-fn list_text(alloc: Global, bytes: &Octets) -> Result<String, AllocError> {
-    format!(in alloc; "={:?}", bytes.bytes())
+fn push_list(text: &mut String, bytes: &[u8]) -> Result<(), AllocError> {
+    write!(text, "={bytes:?}")
 }

@@ -11,7 +11,7 @@ use pk_tree::{Tree, TreeBuilder};
 use std::alloc::{AllocError, AllocFailed, Global};
 
 /// Why a text makes no tree.
-#[derive(Clone, Copy, Debug)]
+#[derive(Clone, Copy)]
 pub enum Unread {
     /// A line that is no layer, or an item that the layer hasn't, or that can't hold its value.
     Line,
@@ -65,22 +65,16 @@ fn number_of(text: &str) -> Option<u32> {
     text.parse().ok()
 }
 
-fn address_of(kind: ValueKind, text: &str) -> Option<Value> {
-    match kind {
-        ValueKind::Ether => ether_of(text),
-        ValueKind::Ip4 => Some(Value::Ip4(u32::try_from(joined(text, '.', 10)?).ok()?)),
-        ValueKind::Ip6 => Some(Value::Ip6(u128::from_str_radix(text, 16).ok()?)),
-        _ => None,
-    }
-}
-
 /// A value of a kind, which has no memory of its own.
 fn plain_of(kind: ValueKind, text: &str) -> Option<Value> {
     match kind {
         ValueKind::Uint(_) => Some(Value::Uint(text.parse().ok()?)),
         ValueKind::Bool => Some(Value::Bool(text.parse().ok()?)),
         ValueKind::Time => Some(Value::Time(text.parse().ok()?)),
-        _ => address_of(kind, text),
+        ValueKind::Ether => ether_of(text),
+        ValueKind::Ip4 => Some(Value::Ip4(u32::try_from(joined(text, '.', 10)?).ok()?)),
+        ValueKind::Ip6 => Some(Value::Ip6(u128::from_str_radix(text, 16).ok()?)),
+        _ => None,
     }
 }
 
@@ -294,28 +288,6 @@ fn add_layer(alloc: Global, builder: &mut TreeBuilder, count: u32, line: &str) -
     add_items(alloc, builder, count, layer, items)
 }
 
-fn add_layers(
-    alloc: Global,
-    builder: &mut TreeBuilder,
-    count: u32,
-    lines: &str,
-) -> Result<(), Unread>
-    requires { count ≤ length builder.old.buffers }
-{
-    for line in lines.lines() {
-        add_layer(alloc, builder, count, line)?;
-    }
-    Ok(())
-}
-
-/// A tree without layers over the bytes of a frame.
-fn begun(alloc: Global, frame: &[u8]) -> Result<TreeBuilder, NoMemory>
-    requires { length frame.now < 100 }
-    ensures { IfOk result (λ builder. length builder.buffers ≡ 1) }
-{
-    TreeBuilder::new(alloc, Octets::copy(alloc, frame)?)
-}
-
 /// Adds the second buffer, if it has bytes, and answers how many buffers there are.
 fn add_more(alloc: Global, builder: &mut TreeBuilder, more: &[u8]) -> Result<u32, NoMemory>
     requires buffers { length builder.old.buffers ≡ 1 }
@@ -329,12 +301,16 @@ fn add_more(alloc: Global, builder: &mut TreeBuilder, more: &[u8]) -> Result<u32
     Ok(2)
 }
 
+/// Adds the second buffer, and a layer for each line.
 fn fill(alloc: Global, builder: &mut TreeBuilder, more: &[u8], lines: &str) -> Result<(), Unread>
     requires buffers { length builder.old.buffers ≡ 1 }
     requires short { length more.now < 100 }
 {
     let count = add_more(alloc, builder, more)?;
-    add_layers(alloc, builder, count, lines)
+    for line in lines.lines() {
+        add_layer(alloc, builder, count, line)?;
+    }
+    Ok(())
 }
 
 /// The tree over the bytes of a frame, and of a second buffer, if that has bytes, with a layer for each line: its name, its span, a colon,
@@ -343,7 +319,7 @@ pub fn read_tree(alloc: Global, frame: &[u8], more: &[u8], lines: &str) -> Resul
     if frame.len() >= 100 || more.len() >= 100 {
         return Err(Unread::Line);
     }
-    let mut builder = begun(alloc, frame)?;
+    let mut builder = TreeBuilder::new(alloc, Octets::copy(alloc, frame)?)?;
     fill(alloc, &mut builder, more, lines)?;
     Ok(builder.finish())
 }
