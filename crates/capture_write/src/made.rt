@@ -1,8 +1,9 @@
 // The file: its header, then a record for each word of the generator.
 ghost use Rattle.std.specs.Prelude.{◌≡◌, ◌+◌, ◌<◌, ◌≤◌, ◌^◌, ◌++◌, length, slice_index, ℕ, IfOk, OnOk};
-ghost use Rattle.capture_write.specs.Made.{client_of, file_header, frame_of, generator_after, made, record_head, record_of, records, sent_in, word_of};
+ghost use Rattle.capture_write.specs.Made.{client_of, frame_of, generator_after, made, record_of, records, sent_in, word_of};
 
 use crate::made_frames::{put_answer_frame, put_arp_frame, put_query_frame, put_request_frame};
+use crate::numbers::{Number, push_numbers};
 use bytes::BufMut;
 use pk_base::{NoMemory, Octets};
 use rand_core::utils::NextWord;
@@ -11,8 +12,7 @@ use std::alloc::Global;
 
 const STREAM: u64 = 54;
 
-// The second 1,700,000,000, little-endian.
-const FIRST_SECOND: [u8; 4] = [0x00, 0xf1, 0x53, 0x65];
+const FIRST_SECOND: u32 = 1_700_000_000;
 
 const FILE_HEADER: [u8; 24] = [
     0xd4, 0xc3, 0xb2, 0xa1, 2, 0, 4, 0, 0, 0, 0, 0, 0, 0, 0, 0, 0, 0, 4, 0, 1, 0, 0, 0,
@@ -21,24 +21,16 @@ const FILE_HEADER: [u8; 24] = [
 const CLIENTS: usize = 64;
 
 /// The capture file of so many frames that a number stands for.
-#[tactic(auto, unfolding(crate::specs::Made::made))]
+#[tactic(auto, unfolding(crate::specs::Made::made, crate::specs::Made::file_header))]
 pub fn make(alloc: Global, start: u64, frames: u32) -> Result<Octets, NoMemory>
     requires some { 1 ≤ frames }
     requires most { frames ≤ 200_000 }
     ensures { IfOk result (λ octets. octets ≡ made start frames) }
 {
     let mut out = Vec::new(alloc);
-    put_header(&mut out)?;
+    out.put_slice(&FILE_HEADER)?;
     put_records(alloc, &mut out, start, frames)?;
     Octets::from_vec(out)
-}
-
-#[tactic(auto, unfolding(crate::specs::Made::file_header))]
-fn put_header(out: &mut Vec<u8>) -> Result<(), NoMemory>
-    ensures { OnOk result (out.new.items ≡ out.old.items ++ file_header) }
-{
-    out.put_slice(&FILE_HEADER)?;
-    Ok(())
 }
 
 #[tactic(auto, using(crate::proofs::MadeLengths::frame_length, crate::proofs::Sending::sent_few), unfolding(crate::specs::Made::records, crate::specs::Made::generator_after, crate::specs::Made::word_of))]
@@ -58,23 +50,20 @@ fn put_records(alloc: Global, out: &mut Vec<u8>, start: u64, frames: u32) -> Res
     Ok(())
 }
 
+#[tactic(auto, unfolding(crate::specs::Made::record_head, crate::specs::Made::first_second))]
 fn put_record(out: &mut Vec<u8>, index: u32, frame: &[u8]) -> Result<(), NoMemory>
     requires { length frame.now < 2 ^ 32 }
     ensures { OnOk result (out.new.items ≡ out.old.items ++ record_of index frame.now) }
 {
-    put_record_head(out, index, frame.len() as u32)?;
+    let size = frame.len() as u32;
+    let numbers = [
+        Number::Four(FIRST_SECOND),
+        Number::Four(index),
+        Number::Four(size),
+        Number::Four(size),
+    ];
+    push_numbers(out, true, &numbers)?;
     out.put_slice(frame)?;
-    Ok(())
-}
-
-#[tactic(auto, unfolding(crate::specs::Made::record_head, crate::specs::Made::first_second))]
-fn put_record_head(out: &mut Vec<u8>, index: u32, size: u32) -> Result<(), NoMemory>
-    ensures { OnOk result (out.new.items ≡ out.old.items ++ record_head index size) }
-{
-    out.put_slice(&FIRST_SECOND)?;
-    out.put_u32_le(index)?;
-    out.put_u32_le(size)?;
-    out.put_u32_le(size)?;
     Ok(())
 }
 

@@ -1,6 +1,6 @@
-ghost use Rattle.std.specs.Prelude.{◌≡◌, ◌++◌, OnOk};
+ghost use Rattle.std.specs.Prelude.{◌≡◌, ◌++◌, if◌then◌else◌, OnOk};
 ghost use Rattle.std.specs.List.{flat_map};
-ghost use Rattle.capture_write.specs.Numbers.{bytes_in, number_bytes};
+ghost use Rattle.capture_write.specs.Numbers.{number_bytes};
 
 use pk_base::NoMemory;
 
@@ -23,45 +23,31 @@ pub fn push_numbers(bytes: &mut Vec<u8>, little: bool, numbers: &[Number]) -> Re
     Ok(())
 }
 
-fn push_number(bytes: &mut Vec<u8>, little: bool, number: Number) -> Result<(), NoMemory>
+/// Writes a number.
+pub fn push_number(bytes: &mut Vec<u8>, little: bool, number: Number) -> Result<(), NoMemory>
     ensures { OnOk result (bytes.new.items ≡ bytes.old.items ++ number_bytes little number) }
 {
     match number {
-        Number::Two(number) => push_u16(bytes, little, number),
-        Number::Four(number) => push_u32(bytes, little, number),
-        Number::Eight(number) => push_u64(bytes, little, number),
+        Number::Two(n) => push_ordered(bytes, little, &n.to_le_bytes(), &n.to_be_bytes()),
+        Number::Four(n) => push_ordered(bytes, little, &n.to_le_bytes(), &n.to_be_bytes()),
+        Number::Eight(n) => push_ordered(bytes, little, &n.to_le_bytes(), &n.to_be_bytes()),
     }
 }
 
-fn push_u16(bytes: &mut Vec<u8>, little: bool, number: u16) -> Result<(), NoMemory>
-    ensures { OnOk result (bytes.new.items ≡ bytes.old.items ++ bytes_in little 2 number) }
+/// Writes a number's bytes, the lowest first or the highest.
+fn push_ordered(
+    bytes: &mut Vec<u8>,
+    little: bool,
+    low_first: &[u8],
+    high_first: &[u8],
+) -> Result<(), NoMemory>
+    ensures { OnOk result (bytes.new.items
+        ≡ bytes.old.items ++ (if little then low_first.now else high_first.now)) }
 {
     if little {
-        bytes.extend_from_slice(&number.to_le_bytes())?;
+        bytes.extend_from_slice(low_first)?;
     } else {
-        bytes.extend_from_slice(&number.to_be_bytes())?;
-    }
-    Ok(())
-}
-
-pub fn push_u32(bytes: &mut Vec<u8>, little: bool, number: u32) -> Result<(), NoMemory>
-    ensures { OnOk result (bytes.new.items ≡ bytes.old.items ++ bytes_in little 4 number) }
-{
-    if little {
-        bytes.extend_from_slice(&number.to_le_bytes())?;
-    } else {
-        bytes.extend_from_slice(&number.to_be_bytes())?;
-    }
-    Ok(())
-}
-
-fn push_u64(bytes: &mut Vec<u8>, little: bool, number: u64) -> Result<(), NoMemory>
-    ensures { OnOk result (bytes.new.items ≡ bytes.old.items ++ bytes_in little 8 number) }
-{
-    if little {
-        bytes.extend_from_slice(&number.to_le_bytes())?;
-    } else {
-        bytes.extend_from_slice(&number.to_be_bytes())?;
+        bytes.extend_from_slice(high_first)?;
     }
     Ok(())
 }

@@ -6,7 +6,7 @@ ghost use Rattle.capture_formats.specs.Blocks.{enhanced_packet_type, simple_pack
 ghost use Rattle.capture_formats.specs.Options.{padded};
 
 use crate::fitting::nanoseconds;
-use crate::numbers::{Number, push_numbers, push_u32};
+use crate::numbers::{Number, push_number, push_numbers};
 use capture_read::Frame;
 use pk_base::NoMemory;
 
@@ -113,7 +113,7 @@ pub fn push_enhanced(
     ];
     push_numbers(bytes, little, &numbers)?;
     push_padded(bytes, captured)?;
-    push_u32(bytes, little, size)
+    push_number(bytes, little, Number::Four(size))
 }
 
 /// Writes the block of a frame without a time.
@@ -131,7 +131,7 @@ pub fn push_simple(bytes: &mut Vec<u8>, little: bool, frame: &Frame) -> Result<(
     ];
     push_numbers(bytes, little, &numbers)?;
     push_padded(bytes, captured)?;
-    push_u32(bytes, little, size)
+    push_number(bytes, little, Number::Four(size))
 }
 
 /// A length with the bytes that pad it.
