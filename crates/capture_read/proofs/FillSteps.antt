@@ -1,11 +1,11 @@
 -- Bytes that were read on.
 use Rattle.std.proofs.Common.{◌≡◌, ◌<◌, ◌≤◌, ℕ, suc, subst, ◌+◌, ◌-◌, ◌^◌, List, [], ◌∷◌, ◌++◌, length, take, Option, Some, None, refl, sym, ap, ◌∙◌, arith}
-use Rattle.std.specs.Io.KnownBytes.{Consumes, IsAtEnd}
+use Rattle.std.specs.Io.KnownBytes.{Consumes}
 use Rattle.std.proofs.KnownBytes.{Consumes-trans}
 use Rattle.std.proofs.lemmas.List.{append_assoc, append-nil, length-append, length-take, nil_from_length, take-append-drop}
 use Rattle.pk_outside.specs.Outside.{Moves}
 use Rattle.capture_read.specs.Answers.{open_count}
-use Rattle.capture_read.specs.Fill.{IsFilled, IsFilledTo}
+use Rattle.capture_read.specs.Fill.{IsFilled, IsFilledTo, IsUnfilled}
 use Rattle.capture_read.specs.Taken.{TookAtMost}
 use Rattle.capture_read.specs.declared.fill.Filled.{Filled}
 use Rattle.capture_read.specs.declared.kind.Seen.{Seen}
@@ -53,6 +53,24 @@ next_beyond bytes filled most old new same behind full =
       more = omega (arith, size, full, behind.4);
     }
 
+-- none is left behind these
+pub next_none : (bytes : List ℕ) (filled : Filled) (most : ℕ) (old new : Option (List ℕ)) → filled.bytes.items ≡ bytes
+    → ((beyond : List ℕ) × Consumes old new beyond × ((size : ℕ) → IsFilledTo filled.seen beyond size size new) × (length beyond ≤ 1) × (open_count filled.seen ≡ 0))
+    → filled.seen ≡ seen.Ended → length bytes ≤ most → IsFilled bytes filled (length bytes + 1) most old new
+next_none bytes filled most old new same behind is within =
+    let size : length filled.bytes.items ≡ length bytes = ap length same in
+    let none : IsFilledTo seen.Ended behind.0 0 0 new = subst (λ (s : Seen). IsFilledTo s behind.0 0 0 new) is (behind.2 0) in
+    record {
+      got = [];
+      beyond = behind.0;
+      bytes = same ∙ sym (append-nil bytes);
+      taken = behind.1;
+      behind = subst (λ (s : Seen). IsFilledTo s behind.0 (length filled.bytes.items) most new) (sym is) none;
+      few = omega (arith, size, behind.3);
+      within = omega (arith, size, within);
+      more = omega (arith, size, behind.4);
+    }
+
 -- bytes were read behind these
 pub next_more : (bytes : List ℕ) (filled : Filled) (most : ℕ) (old new : Option (List ℕ)) → ReadSoFar bytes filled.bytes.items old new
     → filled.seen ≡ seen.Open → length bytes < length filled.bytes.items → length filled.bytes.items ≤ length bytes + 2 ^ 16 → length filled.bytes.items ≤ most
@@ -68,24 +86,6 @@ next_more bytes filled most old new read is grown few within =
       few = omega (arith, few);
       within = within;
       more = omega (arith, grown, one);
-    }
-
--- none is left behind these, of which the last were just read
-pub next_ended : (bytes : List ℕ) (filled : Filled) (most : ℕ) (old new : Option (List ℕ)) → ReadSoFar bytes filled.bytes.items old new
-    → filled.seen ≡ seen.Ended → IsAtEnd new → length filled.bytes.items ≤ length bytes + 2 ^ 16 → length filled.bytes.items ≤ most
-    → IsFilled bytes filled (length bytes + 1) most old new
-next_ended bytes filled most old new read is ended few within =
-    let none : open_count filled.seen ≡ 0 = rw is refl in
-    let sizes : length filled.bytes.items ≡ length bytes + length read.0 = rw read.1 (length-append bytes read.0) in
-    record {
-      got = read.0;
-      beyond = [];
-      bytes = read.1;
-      taken = subst (λ (got : List ℕ). Consumes old new got) (sym (append-nil read.0)) read.2;
-      behind = subst (λ (s : Seen). IsFilledTo s [] (length filled.bytes.items) most new) (sym is) (refl, ended);
-      few = omega (arith, few);
-      within = within;
-      more = omega (arith, sizes, none);
     }
 
 all_of : (held got more before after : List ℕ) → before ≡ held ++ got → after ≡ before ++ more → after ≡ held ++ (got ++ more)
@@ -135,6 +135,18 @@ filled_open held filled need most a b read is less enough few within =
       few = omega (arith, few);
       within = within;
       more = omega (arith, one, less, enough);
+    }
+
+-- bytes were read so far, and then a read failed
+pub unfilled_by : (held bytes : List ℕ) (need most : ℕ) (a b c : Option (List ℕ)) → ReadSoFar held bytes a b → length bytes < need → length bytes ≤ most → c ≡ b
+    → IsUnfilled held need most a c
+unfilled_by held bytes need most a b c read few within same =
+    let size : length bytes ≡ length held + length read.0 = rw read.1 (length-append held read.0) in
+    record {
+      got = read.0;
+      taken = subst (λ (left : Option (List ℕ)). Consumes a left read.0) (sym same) read.2;
+      few = omega (arith, size, few);
+      within = omega (arith, size, within);
     }
 
 -- bytes were read so far, and then some more

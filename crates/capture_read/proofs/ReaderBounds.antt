@@ -1,12 +1,21 @@
 -- The numbers of a reader are small, and so are the times that it finds.
-use Rattle.std.proofs.Common.{◌≡◌, ◌≤◌, ◌+◌, ◌^◌, ℕ, List, length, Option, Result, Ok, Err, ap, subst, arith}
-use Rattle.std.specs.Prelude.{IfOk, IsErrOf, OnOk, OnErr}
+use Rattle.std.proofs.Common.{◌≡◌, ◌<◌, ◌≤◌, ◌+◌, ◌-◌, ◌^◌, ℕ, List, length, length-drop, take, drop, Option, Result, Ok, Err, refl, ap, subst, arith}
+use Rattle.std.specs.Prelude.{IfOk, IfSome, IsErrOf, OnOk, OnErr}
+use Rattle.std.proofs.lemmas.List.{length-take}
+use Rattle.pk_base.specs.declared.found.Found.{Found}
 use Rattle.pk_base.specs.Limits.{file_limit}
 use Rattle.pk_base.specs.declared.memory.NoMemory.{NoMemory}
 use Rattle.capture_formats.specs.Sections.{Scope, IsStepWithin}
 use Rattle.capture_formats.specs.declared.step.BlockStep.{BlockStep}
 use Rattle.capture_formats.specs.declared.step.BlockStep.TheVariants as step
+use Rattle.capture_read.specs.Answers.{IsCounted, open_count, work_left}
+use Rattle.capture_read.specs.Capture.{frame_of}
+use Rattle.capture_read.specs.Fill.{IsFilled}
+use Rattle.capture_read.specs.FrameList.{IsTime}
 use Rattle.capture_read.specs.Offsets.{AreInterfaces, IsStepTimely}
+use Rattle.capture_read.specs.declared.fill.Filled.{Filled}
+use Rattle.capture_read.specs.declared.frame.Frame.{Frame}
+use Rattle.capture_read.specs.declared.kind.Seen.TheVariants as seen
 use Rattle.capture_read.specs.Reader.{Reader, IsKept, scope_then, step_here}
 use Rattle.capture_read.specs.declared.kind.Kind.{Kind}
 use Rattle.capture_read.specs.declared.read_error.ReadError.{ReadError}
@@ -48,6 +57,48 @@ kept_offsets kind old new bytes (Err error) are taken kept = λ known. rw kept k
 pub step_few : (r : Reader) (bytes : List ℕ) (s t : BlockStep) → IsKept r → bytes ≡ r.held → s ≡ t → IsStepWithin s (length bytes) → IsStepFew t r.at
 step_few r bytes s t kept held is within =
     step_fits r t kept (subst (λ (u : BlockStep). IsStepWithin u (length r.held)) is (subst (λ (b : List ℕ). IsStepWithin s (length b)) held within))
+
+-- a step in the bytes held
+step_held : (inside : Reader) (bytes : List ℕ) (s t : BlockStep) → bytes ≡ inside.held → s ≡ t → IsStepWithin s (length bytes) → IsStepWithin t (length inside.held)
+step_held inside bytes s t held is within =
+    subst (λ (u : BlockStep). IsStepWithin u (length inside.held)) is (subst (λ (b : List ℕ). IsStepWithin s (length b)) held within)
+
+-- the number and the place move on by the frame found
+pub counted_by : (r inside : Reader) (bytes held : List ℕ) (s : BlockStep) (kind : Option Kind) (scope : Scope) (number : ℕ) (frame : Frame) (found : Found)
+    → inside ≡ r → bytes ≡ inside.held → s ≡ step.Item found → IsStepWithin s (length bytes) → IsStepTimely s
+    → number ≡ inside.number + 1 → frame ≡ frame_of inside.number found inside.held
+    → IsCounted frame r (record { kind = kind; scope = scope; number = number; at = inside.at + found.end; held = held; seen = inside.seen })
+counted_by r inside bytes held s kind scope number frame found view same is within timely counted told =
+    let bounds = step_held inside bytes s (step.Item found) same is within in
+    let few : length (take found.len (drop found.start inside.held)) ≤ found.len = omega (arith, length-take found.len (drop found.start inside.held)) in
+    let time : IfSome found.time IsTime = subst IsStepTimely is timely in
+    rw (← view, told) (record {
+      number = refl;
+      after = counted;
+      bytes = omega (arith, few, bounds.2);
+      moved = omega (arith, bounds.0);
+      time = time;
+    })
+
+-- there is less to do behind a block that is passed over
+pub lessened_by : (r inside : Reader) (bytes held : List ℕ) (s : BlockStep) (kind : Option Kind) (scope : Scope) (size : ℕ)
+    → inside ≡ r → IsKept inside → bytes ≡ inside.held → s ≡ step.Skipped size → IsStepWithin s (length bytes) → held ≡ drop size inside.held
+    → (inside.number ≡ r.number) × (r.at ≤ inside.at + size)
+    × (work_left (record { kind = kind; scope = scope; number = inside.number; at = inside.at + size; held = held; seen = inside.seen }) < work_left r)
+lessened_by r inside bytes held s kind scope size view kept same is within passed =
+    let bounds = step_held inside bytes s (step.Skipped size) same is within in
+    rw (← view, passed) (refl, omega arith, omega (arith, bounds.0, bounds.1, kept.within, length-drop size inside.held))
+
+-- there is less to do once bytes were read behind those held
+pub filled_lessens : (r inside : Reader) (bytes now : List ℕ) (limit : ℕ) (filled : Filled) (need : ℕ) (old new : Option (List ℕ)) → inside ≡ r → IsKept inside
+    → inside.seen ≡ seen.Open → bytes ≡ inside.held → limit ≡ file_limit → now ≡ filled.bytes.items
+    → IsFilled bytes filled need (limit - inside.at) old new
+    → (inside.number ≡ r.number) × (r.at ≤ inside.at)
+    × (work_left (record { kind = inside.kind; scope = inside.scope; number = inside.number; at = inside.at; held = now; seen = filled.seen }) < work_left r)
+filled_lessens r inside bytes now limit filled need old new view kept is held limited got more =
+    let one : open_count inside.seen ≡ 1 = ap open_count is in
+    let before : length bytes ≡ length inside.held = ap length held in
+    rw (← view, got) (refl, omega arith, omega (arith, one, before, limited, kept.within, more.within, more.more))
 
 -- an error is the same one in a result of another type
 error_in : {T : Type 0} → ReadError → Result T ReadError → ReadError

@@ -1,6 +1,6 @@
 // Reading on until enough bytes are held.
-ghost use Rattle.std.specs.Prelude.{◌≡◌, ◌+◌, ◌<◌, ◌≤◌, ◌++◌, ◌^◌, ◌-◌, suc, List, ℕ, length, false, IfErr, IfOk, IsErrOf, IsTrue, OnOk};
-ghost use Rattle.std.specs.Io.KnownBytes.{Consumes, IsAtEnd};
+ghost use Rattle.std.specs.Prelude.{◌≡◌, ◌+◌, ◌<◌, ◌≤◌, ◌++◌, ◌^◌, ◌-◌, suc, List, ℕ, length, IfErr, IfOk, IsErrOf, IsTrue, OnOk};
+ghost use Rattle.std.specs.Io.KnownBytes.{Consumes};
 ghost use Rattle.capture_read.specs.Answers.{open_count};
 ghost use Rattle.capture_read.specs.Fill.{IsFilled, IsFilledTo, IsUnfilled};
 ghost use Rattle.capture_read.specs.Reads.{CountsFault, StaysBegun};
@@ -30,22 +30,19 @@ pub struct Filled {
     pub seen: Seen,
 }
 
-/// Reads once behind these bytes, and answers whether there may be more: false only at the end.
+/// Reads once behind these bytes, and tells what is known then of the bytes behind.
 fn read_more<C: Capture>(
     capture: &mut C,
     piece: &mut [u8],
     bytes: &mut Vec<u8>,
-) -> Result<bool, ReadError>
-    requires { 0 < length piece.old }
+) -> Result<Seen, ReadError>
+    requires some { 0 < length piece.old }
+    requires size { length piece.old ≤ 2 ^ 16 }
     ensures size { length piece.new ≡ length piece.old }
-    ensures grown { OnOk result (length bytes.new.items
-        ≤ length bytes.old.items + length piece.old) }
-    ensures more { IfOk result (λ more. IsTrue more
-        → length bytes.old.items < length bytes.new.items) }
-    ensures end { IfOk result (λ more. more ≡ false → IsAtEnd (C.left capture.new)) }
-    ensures consumed { OnOk result ((got : List ℕ)
-        × (bytes.new.items ≡ bytes.old.items ++ got)
-        × Consumes (C.left capture.old) (C.left capture.new) got) }
+    ensures read { IfOk result (λ seen. (most : ℕ)
+        → length bytes.old.items + length piece.old ≤ most
+        → IsFilled bytes.old.items (record { bytes = bytes.new; seen = seen })
+        (length bytes.old.items + 1) most (C.left capture.old) (C.left capture.new)) }
     ensures unread { IsErrOf result ReadError.ReadFault → C.left capture.new ≡ C.left capture.old }
     ensures took { TookAtMost (length piece.old) (C.left capture.old) (C.left capture.new) }
     ensures stays { StaysBegun (C.file capture.old) (C.file capture.new)
@@ -56,9 +53,10 @@ fn read_more<C: Capture>(
         CountsFault error (C.faults capture.old) (C.faults capture.new)) }
 {
     match capture.read(piece) {
+        Ok(0) => Ok(Seen::Ended),
         Ok(count) => {
             bytes.extend_from_slice(&piece[..count])?;
-            Ok(count > 0)
+            Ok(Seen::Open)
         }
         Err(Failed) => Err(ReadError::ReadFault),
     }
@@ -114,14 +112,9 @@ fn read_next<C: Capture>(
 {
     let room = piece.len().min(most - bytes.len());
     if room == 0 {
-        let seen = read_beyond(capture, &mut piece[..1])?;
-        return Ok(seen);
+        return read_beyond(capture, &mut piece[..1]);
     }
-    let more = read_more(capture, &mut piece[..room], bytes)?;
-    if !more {
-        return Ok(Seen::Ended);
-    }
-    Ok(Seen::Open)
+    read_more(capture, &mut piece[..room], bytes)
 }
 
 /// Whether more bytes may come behind those held.
@@ -161,7 +154,10 @@ pub fn fill<C: Capture>(
 {
     let mut bytes = held.to_vec(alloc)?;
     while bytes.len() < need {
-        let seen = read_next(capture, piece, &mut bytes, most)?;
+        let seen = match read_next(capture, piece, &mut bytes, most) {
+            Ok(seen) => seen,
+            Err(error) => return Err(error),
+        };
         if !is_open(seen) {
             return Ok(Filled { bytes, seen });
         }

@@ -1,5 +1,5 @@
-use Rattle.std.proofs.Common.{arith}
-use Rattle.capture_read.proofs.ReaderBounds.{number_few, step_few}
+use Rattle.std.proofs.Common.{refl, arith}
+use Rattle.capture_read.proofs.ReaderBounds.{counted_by, lessened_by, number_few, step_few}
 use Rattle.capture_read.proofs.ReaderTurns.{bad_by, found_by, skipped_by, need_by}
 use Rattle.capture_read.proofs.position.Position.look_on.Goals as goal
 
@@ -35,3 +35,13 @@ returns-in-Skipped-clause-sees c = λ left.
 pub returns-in-Need-clause-sees : goal.returns-in-Need-clause-sees
 returns-in-Need-clause-sees c =
     need_by c.want.result c.args.self.now _ c.in_ok-need.field-0 c.look.new.kind c.look.new.sections c.in-Need.need c.self.view_is c.in-Need.is c.in_ok-need.ensures.untaken c.want.ensures.sees
+
+pub returns-in_ok-frame-in-Item-clause-counts : goal.returns-in_ok-frame-in-Item-clause-counts
+returns-in_ok-frame-in-Item-clause-counts c =
+    counted_by c.args.self.now _ c.bytes.result.now c.pass.new.self c.in_ok-need.field-0 c.look.new.kind c.look.new.sections _ c.in_ok-frame-in-Item.frame c.in-Item.found
+    c.self.view_is c.bytes.ensures c.in-Item.is c.in_ok-need.ensures.within (c.in_ok-need.ensures.timely c.self.invariant.1.offsets) refl c.in_ok-frame-in-Item.ensures
+
+pub returns-in-Skipped-clause-counts : goal.returns-in-Skipped-clause-counts
+returns-in-Skipped-clause-counts c =
+    lessened_by c.args.self.now _ c.bytes.result.now c.pass-in-Skipped.new.self c.in_ok-need.field-0 c.look.new.kind c.look.new.sections c.in-Skipped.size
+    c.self.view_is c.self.invariant.1 c.bytes.ensures c.in-Skipped.is c.in_ok-need.ensures.within c.pass-in-Skipped.ensures

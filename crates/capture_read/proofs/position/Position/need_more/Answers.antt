@@ -1,6 +1,6 @@
 use Rattle.std.proofs.Common.{ap, ◌∙◌}
 use Rattle.capture_read.specs.Reader.{Reader}
-use Rattle.capture_read.proofs.ReaderBounds.{error_moves}
+use Rattle.capture_read.proofs.ReaderBounds.{error_moves, filled_lessens}
 use Rattle.capture_read.proofs.ReaderTurns.{filled_by, filled_few, stands_few, unfilled_by}
 use Rattle.capture_read.proofs.position.Position.need_more.Goals as goal
 
@@ -31,3 +31,8 @@ pub returns-clause-took : goal.returns-clause-took
 returns-clause-took g c =
     filled_few c.args.self.now _ c.bytes.result.now c.file_limit.result (g.C.Capture.left c.args.capture.now) (g.C.Capture.left c.fill.new.capture)
     c.self.view_is (ap (λ (r : Reader). r.seen) c.self.view_is ∙ c.requires.open) c.bytes.ensures c.file_limit.ensures.value c.fill.ensures.took
+
+pub returns-clause-counts : goal.returns-clause-counts
+returns-clause-counts g c =
+    filled_lessens c.args.self.now _ c.bytes.result.now c.hold.new.self c.file_limit.result c.in-Ok.filled c.args.need (g.C.Capture.left c.args.capture.now) (g.C.Capture.left c.fill.new.capture)
+    c.self.view_is c.self.invariant.1 (ap (λ (r : Reader). r.seen) c.self.view_is ∙ c.requires.open) c.bytes.ensures c.file_limit.ensures.value c.in_ok-hold.ensures.held c.in-Ok.ensures.filled
