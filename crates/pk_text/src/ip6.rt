@@ -87,8 +87,7 @@ fn push_address(text: &mut String, groups: &[u16], run: Run) -> Result<(), NoMem
     ensures { OnOk result (IsIp6Text groups.now (string_bytes text.new)) }
 {
     if run.count < 2 {
-        push_groups(text, groups)?;
-        return Ok(());
+        return push_groups(text, groups);
     }
     push_groups(text, &groups[..run.start])?;
     text.push_str("::")?;
