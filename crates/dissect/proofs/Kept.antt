@@ -129,7 +129,7 @@ head_in rules wanted (nexts.Neigh kind) frame head es t k = layer_same rules wan
 head_in rules wanted nexts.Igmp frame head es t k = layer_same rules wanted frame head es _ _ _ _ t (kept_tree wanted t) k
 head_in rules wanted nexts.Rest frame head es t k = rest_same wanted t (kept_tree wanted t) es head.span k
 
-step_same : (rules : List PortRule) (wanted : List ℕ) (frame : Frame) (es : List Event) (todo : Todo) (t u : TreeShown) → IsKeptTree wanted t u → IsSameWay wanted (step_on rules frame t es todo) (step_on rules frame u es todo)
+pub step_same : (rules : List PortRule) (wanted : List ℕ) (frame : Frame) (es : List Event) (todo : Todo) (t u : TreeShown) → IsKeptTree wanted t u → IsSameWay wanted (step_on rules frame t es todo) (step_on rules frame u es todo)
 step_same rules wanted frame es todos.Done t u k = same_going wanted t u es todos.Done k
 step_same rules wanted frame es (todos.Head head) t u k = way_as wanted (λ v. head_met rules frame head v es) t u k (head_in rules wanted head.which frame head es t)
 
@@ -157,7 +157,7 @@ all_same rules wanted frame v x same =
     subst (λ (n : ℕ). IsSameWay wanted (chain rules (layers_left v.tree) frame v) (chain rules (32 - n) frame x)) (sym (count_kept wanted v.tree x.tree same.tree)) (chain_same rules wanted frame (layers_left v.tree) v x same)
 
 -- the first header
-link_same : (rules : List PortRule) (wanted : List ℕ) (frame : Frame) (es : List Event) (t u : TreeShown) → IsKeptTree wanted t u → IsSameWay wanted (link_met rules frame t es) (link_met rules frame u es)
+pub link_same : (rules : List PortRule) (wanted : List ℕ) (frame : Frame) (es : List Event) (t u : TreeShown) → IsKeptTree wanted t u → IsSameWay wanted (link_met rules frame t es) (link_met rules frame u es)
 unfolding link_met
 link_same rules wanted frame es t u k =
     way_as wanted (λ v. link_met rules frame v es) t u k

@@ -3,6 +3,7 @@ pub mod Events
 pub mod Followed
 pub mod Fragments
 pub mod Links
+pub mod MessageLaws
 pub mod Notes
 pub mod Segments
 pub mod Stands

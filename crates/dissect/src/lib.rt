@@ -5,6 +5,7 @@ mod datagrams;
 mod dissector;
 mod fragments;
 mod headers;
+mod laws;
 mod noting;
 mod pieces;
 mod segments;
@@ -13,5 +14,6 @@ mod todo;
 mod walk;
 
 pub use dissector::{Dissector, TakeFault, give_up_dissector};
+pub use laws::{frames_show_messages, messages_stand_in_trees};
 pub use pk_fields::{App, DecodeAs, PortRule, PortRules};
 pub use tcp_messages::messages_once;

@@ -2,6 +2,7 @@
 use Rattle.std.specs.Prelude.{◌≡◌, Bool, false, ℕ, List, [], ◌∷◌, ◌++◌, None}
 use Rattle.capture_read.specs.declared.frame.Frame.{Frame}
 use Rattle.out_json.specs.Lines.{json_line_of}
+use Rattle.dissect.specs.MessageLaws.{app_of_stream, trees_show, whole_messages}
 use Rattle.shark_words.specs.declared.options.LineKind.TheVariants.{Json}
 use Rattle.stream_messages.specs.declared.told.App.{App}
 use Rattle.stream_messages.specs.Messages.{of_stretches}
@@ -10,7 +11,7 @@ use Rattle.tcp_messages.specs.Brought.{brought}
 use Rattle.tcp_streams.specs.Labels.{Label, labels, way_of}
 use Rattle.tcp_streams.specs.Ways.{stretches}
 use Rattle.run_frames.specs.declared.plan.Plan.{Plan}
-use Rattle.run_frames.specs.Accessors.{filter_of, is_quiet, kind_of, written_of}
+use Rattle.run_frames.specs.Accessors.{filter_of, is_quiet, kind_of, rules_of, written_of}
 use Rattle.run_frames.specs.Job.{Job}
 use Rattle.run_frames.specs.Pieces.{pieces_of}
 use Rattle.run_output.specs.Reports.{tcp_segments}
@@ -33,12 +34,16 @@ abbrev pub labels_in : List Frame → List Label
 labels_in past = labels (tcp_segments past)
 
 -- each frame has a line, which shows its tree, and the messages that the frames show of a direction of a stream, one frame
--- behind the other, are those of its stretches in their order: each in one line
+-- behind the other, are those of its stretches in their order: each in one line. So are those that stand in the very trees of
+-- these lines, behind the last layer of TCP, each with its application and its bytes
 pub record IsToldOnce (job : Job) (past : List Frame) : Type 0 where
   pub lines : pieces_of job past ≡ json_lines job past
   pub once : (app : App) (stream : ℕ) (side : Bool)
       → shown_in side (noted app (brought stream (labels_in past)))
       ≡ of_stretches app (asked_in side (noted app (brought stream (labels_in past)))) 0 (stretches (way_of stream side (labels_in past)))
+  pub trees : (stream : ℕ) (side : Bool)
+      → trees_show (tree_of job) stream side past
+      ≡ whole_messages (app_of_stream (rules_of job.plan) stream (labels_in past)) stream side (labels_in past)
 
 abbrev pub MessagesToldOnce : Type 0
 MessagesToldOnce = (job : Job) (past : List Frame) → ShowsAll job.plan → IsToldOnce job past

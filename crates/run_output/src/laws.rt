@@ -2,6 +2,7 @@
 ghost use Rattle.run_output.specs.JsonLaws.{MessagesToldOnce};
 ghost use Rattle.run_output.specs.ReportLaws.{FollowsAlone};
 
+use dissect::messages_stand_in_trees;
 use tcp_messages::messages_once;
 
 /// Behind its first line, the report of a stream rests on the segments of its conversation alone.
@@ -10,9 +11,10 @@ pub fn follows_stand_alone()
 {}
 
 /// Where lines of JSON are written and no filter is given, each frame has a line, and each message of a TCP stream's direction is
-/// shown by one of them, in the order of its bytes.
+/// shown by one of them, in the order of its bytes: it stands in the tree of that line with its application and its bytes.
 pub fn messages_are_told_once()
     ensures { MessagesToldOnce }
 {
     messages_once();
+    messages_stand_in_trees();
 }
