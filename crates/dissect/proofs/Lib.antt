@@ -1,12 +1,16 @@
+mod AloneLemmas
 mod Asked
 mod Chains
 mod DatagramLemmas
+mod FramesAside
 pub mod FramesJoined
 mod FramesTold
 mod HeadWords
 mod HeldBytes
+mod Isolating
 mod Joining
 mod Kept
+mod LeftOut
 mod MessagesFit
 mod MessagesTold
 mod Opens

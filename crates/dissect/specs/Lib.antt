@@ -2,6 +2,7 @@ pub mod Conversations
 pub mod Events
 pub mod Followed
 pub mod Fragments
+pub mod Isolation
 pub mod Links
 pub mod MessageLaws
 pub mod Notes

@@ -1,4 +1,5 @@
-// What holds of the messages in the trees of every capture, stated on functions that do nothing.
+// What holds of the trees of every capture, stated on functions that do nothing.
+ghost use Rattle.dissect.specs.Isolation.{OtherFrameLeftOut, OthersLeftOut, OthersPutIn, TreesStandAlone};
 ghost use Rattle.dissect.specs.MessageLaws.{FramesShow, FramesTell, MessagesInTrees};
 
 /// Behind its last layer of TCP, a frame's tree shows the messages that the frame's segment brings, each with its bytes.
@@ -12,4 +13,18 @@ pub fn frames_show_messages()
 /// with its application and its bytes.
 pub fn messages_stand_in_trees()
     ensures { MessagesInTrees }
+{}
+
+/// Of earlier frames a frame's tree rests on their times, on the fragments of its datagrams, on the segments of its conversation and on
+/// the number of its stream, and its links on the messages noted of its stream; nothing else of them changes it.
+pub fn trees_stand_alone()
+    ensures { TreesStandAlone }
+{}
+
+/// Fragments of other datagrams and packets of other conversations may be left out of what came before a frame, or put in: where its
+/// numbers stay the same, its tree without links does.
+pub fn others_left_out()
+    ensures left_out { OthersLeftOut }
+    ensures put_in { OthersPutIn }
+    ensures frame { OtherFrameLeftOut }
 {}

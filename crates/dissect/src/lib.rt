@@ -14,6 +14,6 @@ mod todo;
 mod walk;
 
 pub use dissector::{Dissector, TakeFault, give_up_dissector};
-pub use laws::{frames_show_messages, messages_stand_in_trees};
+pub use laws::{frames_show_messages, messages_stand_in_trees, others_left_out, trees_stand_alone};
 pub use pk_fields::{App, DecodeAs, PortRule, PortRules};
 pub use tcp_messages::messages_once;
