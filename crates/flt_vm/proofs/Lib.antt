@@ -1,4 +1,5 @@
 pub mod ExtremeLists
+pub mod FedLemmas
 pub mod GivenLemmas
 pub mod JoinLemmas
 pub mod RunLemmas

@@ -1,3 +1,4 @@
+pub mod Fed
 pub mod Given
 pub mod Held
 pub mod Machine

@@ -10,6 +10,8 @@ mod run;
 mod slots;
 mod step;
 
-pub use laws::{trees_with_the_same_values_are_alike, verdicts_are_those_of_runs};
+pub use laws::{
+    fitting_programs_have_runs, trees_with_the_same_values_are_alike, verdicts_are_those_of_runs,
+};
 pub use machine::{Machine, run_program};
 pub use run::Verdict;
