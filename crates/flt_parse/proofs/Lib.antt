@@ -6,6 +6,7 @@ pub mod Fronts
 pub mod Inside
 pub mod Lexing
 pub mod Linked
+pub mod LongestLemmas
 pub mod Moves
 pub mod Numbers
 pub mod Parsed

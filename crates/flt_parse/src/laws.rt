@@ -1,5 +1,6 @@
 // What holds of every text, stated on functions that do nothing.
 ghost use Rattle.flt_parse.specs.Laws.{FilterOrFault, NeverBoth, OneFault, OneFilter};
+ghost use Rattle.flt_parse.specs.Longest.{FirstIsLongest, TokensAreLongest};
 
 /// No text is a filter and has a fault.
 pub fn filters_have_no_fault()
@@ -20,4 +21,10 @@ pub fn filters_are_unique()
 /// Each text is a filter or has a first fault.
 pub fn texts_are_filters_or_have_a_fault()
     ensures { FilterOrFault }
+{}
+
+/// Of the signs that stand at a place of a text the longest one is its token.
+pub fn longest_signs_are_tokens()
+    ensures front { FirstIsLongest }
+    ensures tokens { TokensAreLongest }
 {}

@@ -20,6 +20,7 @@ mod whole;
 mod within;
 
 pub use laws::{
-    faults_are_unique, filters_are_unique, filters_have_no_fault, texts_are_filters_or_have_a_fault,
+    faults_are_unique, filters_are_unique, filters_have_no_fault, longest_signs_are_tokens,
+    texts_are_filters_or_have_a_fault,
 };
 pub use parser::parse;
