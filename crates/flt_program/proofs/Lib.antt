@@ -1,3 +1,5 @@
 pub mod AskedLemmas
 pub mod ListingLemmas
+pub mod PartLemmas
+pub mod ToldLemmas
 pub mod StackLemmas

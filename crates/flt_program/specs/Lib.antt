@@ -1,6 +1,8 @@
 pub mod Asked
 pub mod Listing
 pub mod Literals
+pub mod Parts
 pub mod Programs
 pub mod Sources
 pub mod Stacks
+pub mod Told

@@ -5,6 +5,7 @@
 mod copies;
 mod fields;
 mod instr;
+mod laws;
 mod lines;
 mod literals;
 mod patterns;
@@ -12,6 +13,7 @@ mod program;
 
 pub use copies::{copied_layers, copied_members, copied_ranges};
 pub use instr::{Instr, MemberList, RangeList};
+pub use laws::{listings_tell_programs, parts_are_told};
 pub use lines::listing;
 pub use patterns::patterns_in;
 pub use program::Program;
