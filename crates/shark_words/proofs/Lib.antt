@@ -1,5 +1,6 @@
 mod Commands
 mod Examples
+mod FirstLemmas
 mod FoundLemmas
 mod RuleLemmas
 mod SlotLemmas

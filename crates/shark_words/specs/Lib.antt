@@ -1,5 +1,6 @@
 pub mod Asked
 pub mod Faults
+pub mod FirstFaults
 pub mod Keys
 pub mod Letters
 pub mod Numbers

@@ -5,6 +5,7 @@ mod asked;
 mod fault;
 mod faults;
 mod key;
+mod laws;
 mod letter;
 mod number;
 mod options;
@@ -16,6 +17,7 @@ mod uses;
 mod values;
 
 pub use fault::{WordFault, WordReason, WordsError};
+pub use laws::told_faults_are_the_first;
 pub use options::{LineKind, NameList, Options, Report, ReportList, Source};
 pub use read::read_words;
 pub use values::read_format;
