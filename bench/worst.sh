@@ -34,7 +34,7 @@ for filter in 'frame.number == 1' "$brackets" "$members" "$chain" 'tcp.payload m
 done
 
 echo "Two operands with many values in a frame, beside a field alone"
-for filter in 'dns.txt' 'dns.txt > dns.txt' 'dns.txt == dns.qry.name' 'dns.txt != dns.txt'; do
+for filter in 'dns.txt' 'dns.txt > dns.txt' 'dns.txt == dns.qry.name' 'dns.txt != dns.txt' 'all dns.txt contains dns.txt' 'lower(dns.txt) contains upper(dns.txt)'; do
   measure "${filter:0:16}" bench/out/worst.texts.pcap -T fields -e frame.number -Y "$filter"
 done
 for filter in 'dns.resp.type' 'dns.resp.type > dns.resp.class' 'dns.resp.type == dns.resp.class' 'dns.resp.type != dns.resp.class'; do

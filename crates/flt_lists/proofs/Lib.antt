@@ -1,6 +1,8 @@
 pub mod ClassLemmas
+pub mod InsideLemmas
 pub mod KeyLemmas
 pub mod ListLemmas
+pub mod NeedleLemmas
 pub mod OrderLemmas
 pub mod PairLemmas
 pub mod SearchLemmas

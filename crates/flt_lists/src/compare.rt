@@ -9,6 +9,7 @@ ghost use Rattle.flt_typed.specs.Relations.{related as are_related};
 ghost use Rattle.flt_typed.specs.declared.relation.Relation.TheVariants.{Equal, Unequal};
 
 use crate::ends::ends_hold;
+use crate::inside::have_inside;
 use crate::quantify::is_some_value;
 use crate::ties::{all_tie, any_ties};
 use flt_syntax::Choice;
@@ -56,7 +57,7 @@ fn many_relate(
     match relation {
         Relation::Equal => equal(alloc, choice, left, right, prefix),
         Relation::Unequal => unequal(alloc, choice, left, right, prefix),
-        Relation::Contains => Ok(pairs_relate(relation, choice, left, right, prefix)),
+        Relation::Contains => have_inside(alloc, choice, left, right, prefix),
         _ => Ok(ends_hold(relation, choice, left, right, prefix)),
     }
 }

@@ -4,6 +4,7 @@ ghost use Rattle.std.specs.List.{list_any};
 ghost use Rattle.std.specs.List.Sorted.{IsSorted};
 ghost use Rattle.std.specs.Ordering.{is_eq};
 ghost use Rattle.flt_lists.specs.Keys.{KeyShown, key_cmp, key_of as key_value, key_shown, keys_of as key_values, order_of_keys};
+ghost use Rattle.flt_lists.specs.Needles.{needle_of as needle_value};
 
 use flt_typed::{leading_amount, moment_of, octets_of};
 use pk_base::{NoMemory, Value};
@@ -14,7 +15,7 @@ use std::alloc::Global;
 #[derive(Clone, Copy, PartialEq, Eq, PartialOrd, Ord)]
 pub(crate) struct Key<'v> {
     amount: u128,
-    octets: &'v [u8],
+    pub(crate) octets: &'v [u8],
     moment: i128,
 }
 
@@ -26,6 +27,17 @@ pub(crate) fn key_of(prefix: Option<u8>, value: &Value) -> Key<'_>
         amount: leading_amount(prefix, value).unwrap_or(0),
         octets: octets_of(value).unwrap_or(&[]),
         moment: moment_of(value).unwrap_or(0),
+    }
+}
+
+/// The key of bytes that are looked for, which are ordered by their number first.
+pub(crate) fn needle_of(bytes: &[u8]) -> Key<'_>
+    ensures { key_shown result ≡ needle_value bytes.now }
+{
+    Key {
+        amount: bytes.len() as u128,
+        octets: bytes,
+        moment: 0,
     }
 }
 

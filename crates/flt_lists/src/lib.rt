@@ -4,8 +4,10 @@
 
 mod compare;
 mod ends;
+mod inside;
 mod keys;
 mod lists;
+mod needles;
 mod pairs;
 mod quantify;
 mod question;
