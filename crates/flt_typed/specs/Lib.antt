@@ -7,3 +7,4 @@ pub mod Kinds
 pub mod Patterns
 pub mod Relations
 pub mod Slices
+pub mod Positions

@@ -11,7 +11,7 @@ use regex::Error;
 pub enum PatternFault {
     /// It is no UTF-8, or no pattern by `regex`'s grammar, or nested deeper than 250.
     NoPattern,
-    /// It is a pattern that takes too much room. Only one of more than 64 bytes, or with a `{`, is refused so.
+    /// It is a pattern that takes too much room, or whose search too much time. Only one of more than 64 bytes, or with a `{`, is refused so.
     Large,
     NoMemory,
 }
@@ -33,7 +33,7 @@ pub(crate) fn fault_of(error: Error, text: &str) -> PatternFault
     }
 }
 
-fn may_be_large(text: &str) -> bool
+pub(crate) fn may_be_large(text: &str) -> bool
     ensures { IsTrue result ↔ ((sure_length < length text.now) ⊎ IsTrue
         (list_any (λ byte. byte == 0x7B) text.now)) }
 {

@@ -10,6 +10,7 @@ mod inside;
 mod kinds;
 mod order;
 mod pattern;
+mod positions;
 mod relation;
 mod search;
 mod slices;

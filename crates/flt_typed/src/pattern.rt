@@ -1,13 +1,16 @@
-ghost use Rattle.std.specs.Prelude.{◌≡◌, IfOk, IfErr};
+ghost use Rattle.std.specs.Prelude.{◌≡◌, ◌⊎◌, ◌<◌, ◌==◌, IsTrue, length, IfOk, IfErr};
+ghost use Rattle.std.specs.List.{list_any};
 ghost use Rattle.regex.specs.Bytes.{regex_source};
 ghost use Rattle.flt_typed.specs.Compiled.{IsOurs};
-ghost use Rattle.flt_typed.specs.Patterns.{HasCause, IsPattern, matches};
+ghost use Rattle.flt_typed.specs.Patterns.{HasCause, IsPattern, matches, sure_length};
 ghost use Rattle.flt_typed.specs.declared.fault.PatternFault.TheVariants.{NoMemory};
 
-use crate::fault::{PatternFault, fault_of};
+use crate::fault::{PatternFault, fault_of, may_be_large};
+use crate::positions::positions;
 use crate::search::Search;
 use regex::RegexBuilder;
 use regex::bytes::Regex;
+use regex_syntax::Config;
 use std::alloc::{AllocError, Global};
 use std::marker::Model;
 
@@ -31,6 +34,29 @@ impl Model for Pattern {
     ghost invariant = { λ p. IsOurs p.regex.value };
 }
 
+/// How many places a search may have to follow at once. Each takes some 10 ns a byte, so a frame of 64 KB takes less
+/// than a second.
+const MOST_POSITIONS: usize = 1_000;
+
+/// Whether a search takes too long, of a pattern that may be refused for that.
+fn is_costly(alloc: Global, text: &str) -> Result<bool, PatternFault>
+    ensures costly { IfOk result (λ costly. IsTrue costly → (sure_length < length text.now) ⊎ IsTrue
+        (list_any (λ byte. byte == 0x7B) text.now)) }
+    ensures err { IfErr result (λ fault. fault ≡ NoMemory) }
+{
+    if !may_be_large(text) {
+        return Ok(false);
+    }
+    let mut config = Config::default();
+    config.utf8 = false;
+    config.flags.case_insensitive = true;
+    // `regex` has read it under these options, so what stops here is a want of memory.
+    match regex_syntax::parse(alloc, text, &config) {
+        Ok(parsed) => Ok(positions(&parsed.hir) > MOST_POSITIONS),
+        Err(_) => Err(PatternFault::NoMemory),
+    }
+}
+
 /// The pattern of a regex.
 fn boxed(alloc: Global, regex: Regex) -> Result<Pattern, PatternFault>
     requires { IsOurs regex }
@@ -41,6 +67,19 @@ fn boxed(alloc: Global, regex: Regex) -> Result<Pattern, PatternFault>
         Ok(regex) => Ok(Pattern { regex }),
         Err(_) => Err(PatternFault::NoMemory),
     }
+}
+
+/// The pattern of a regex, where a search doesn't take too long.
+fn searchable(alloc: Global, regex: Regex, text: &str) -> Result<Pattern, PatternFault>
+    requires ours { IsOurs regex }
+    requires source { regex_source regex ≡ text.now }
+    ensures value { IfOk result (λ pattern. pattern ≡ text.now) }
+    ensures err { IfErr result (HasCause text.now) }
+{
+    if is_costly(alloc, text)? {
+        return Err(PatternFault::Large);
+    }
+    boxed(alloc, regex)
 }
 
 impl Pattern {
@@ -55,7 +94,7 @@ impl Pattern {
         };
         let builder = RegexBuilder::new(text).case_insensitive(true);
         match builder.build_bytes(alloc) {
-            Ok(regex) => boxed(alloc, regex),
+            Ok(regex) => searchable(alloc, regex, text),
             Err(error) => Err(fault_of(error, text)),
         }
     }

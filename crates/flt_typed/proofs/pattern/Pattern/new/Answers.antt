@@ -13,4 +13,4 @@ pub returns-in-Ok-build_bytes-clause-read : goal.returns-in-Ok-build_bytes-claus
 returns-in-Ok-build_bytes-clause-read c =
     let source : regex_source c.in-Ok-build_bytes.regex ≡ c.args.pattern.now = search rules in
     let ours : IsOurs c.in-Ok-build_bytes.regex = search rules in
-    always (IsPattern c.args.pattern.now) c.boxed.result (subst IsPattern source (is_pattern _ ours (subst IsUtf8 (sym source) c.in-Ok.ensures.cases.1)))
+    always (IsPattern c.args.pattern.now) c.searchable.result (subst IsPattern source (is_pattern _ ours (subst IsUtf8 (sym source) c.in-Ok.ensures.cases.1)))
