@@ -1,4 +1,5 @@
 mod FillSteps
+mod HeldParts
 mod FormatSteps
 pub mod FrameBounds
 mod HereSteps

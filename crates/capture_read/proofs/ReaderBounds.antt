@@ -13,11 +13,11 @@ use Rattle.capture_read.specs.Capture.{frame_of}
 use Rattle.capture_read.specs.Fill.{IsFilled}
 use Rattle.capture_read.specs.FrameList.{IsTime}
 use Rattle.capture_read.specs.Offsets.{AreInterfaces, IsStepTimely}
-use Rattle.capture_read.specs.declared.fill.Filled.{Filled}
 use Rattle.capture_read.specs.declared.frame.Frame.{Frame}
 use Rattle.capture_read.specs.declared.kind.Seen.TheVariants as seen
 use Rattle.capture_read.specs.Reader.{Reader, IsKept, scope_then, step_here}
 use Rattle.capture_read.specs.declared.kind.Kind.{Kind}
+use Rattle.capture_read.specs.declared.kind.Seen.{Seen}
 use Rattle.capture_read.specs.declared.read_error.ReadError.{ReadError}
 use Rattle.capture_read.proofs.SmallTimes.{AreBytes, scope_then-offsets, step-timely}
 
@@ -90,12 +90,12 @@ lessened_by r inside bytes held s kind scope size view kept same is within passe
     rw (← view, passed) (refl, omega arith, omega (arith, bounds.0, bounds.1, kept.within, length-drop size inside.held))
 
 -- there is less to do once bytes were read behind those held
-pub filled_lessens : (r inside : Reader) (bytes now : List ℕ) (limit : ℕ) (filled : Filled) (need : ℕ) (old new : Option (List ℕ)) → inside ≡ r → IsKept inside
-    → inside.seen ≡ seen.Open → bytes ≡ inside.held → limit ≡ file_limit → now ≡ filled.bytes.items
-    → IsFilled bytes filled need (limit - inside.at) old new
+pub filled_lessens : (r inside : Reader) (bytes now : List ℕ) (limit : ℕ) (filled : List ℕ) (told : Seen) (need : ℕ) (old new : Option (List ℕ)) → inside ≡ r → IsKept inside
+    → inside.seen ≡ seen.Open → bytes ≡ inside.held → limit ≡ file_limit → now ≡ filled
+    → IsFilled bytes filled told need (limit - inside.at) old new
     → (inside.number ≡ r.number) × (r.at ≤ inside.at)
-    × (work_left (record { kind = inside.kind; scope = inside.scope; number = inside.number; at = inside.at; held = now; seen = filled.seen }) < work_left r)
-filled_lessens r inside bytes now limit filled need old new view kept is held limited got more =
+    × (work_left (record { kind = inside.kind; scope = inside.scope; number = inside.number; at = inside.at; held = now; seen = told }) < work_left r)
+filled_lessens r inside bytes now limit filled told need old new view kept is held limited got more =
     let one : open_count inside.seen ≡ 1 = ap open_count is in
     let before : length bytes ≡ length inside.held = ap length held in
     rw (← view, got) (refl, omega arith, omega (arith, one, before, limited, kept.within, more.within, more.more))

@@ -17,7 +17,6 @@ use Rattle.capture_read.specs.Fill.{IsFilled, IsFilledTo, IsUnfilled}
 use Rattle.capture_read.specs.Reader.{Reader, IsKept, IsOver, IsReading, IsSeenBehind, HasFew, Stands, cut_here, kind_then, reading_here, scope_then, step_here, with_past}
 use Rattle.capture_read.specs.Taken.{TookAtMost, TookFew}
 use Rattle.capture_read.specs.declared.ending.Ending.{Ending}
-use Rattle.capture_read.specs.declared.fill.Filled.{Filled}
 use Rattle.capture_read.specs.declared.frame.Frame.{Frame}
 use Rattle.capture_read.specs.declared.kind.Kind.{Kind}
 use Rattle.capture_read.specs.declared.kind.Seen.{Seen}
@@ -273,14 +272,14 @@ filled_behind seen.Open beyond at size left filled within = nil_from_length beyo
 filled_behind seen.Ended beyond at size left filled within = (nil_from_length beyond filled.0, filled.1)
 filled_behind seen.Beyond beyond at size left filled within = (filled.0, omega (arith, filled.1, within))
 
-reading_filled : (r : Reader) (filled : Filled) (need : ℕ) (left_old left_new file : List ℕ) (past : List Frame) → IsKept r → IsReading r left_old file past
+reading_filled : (r : Reader) (filled : List ℕ) (told : Seen) (need : ℕ) (left_old left_new file : List ℕ) (past : List Frame) → IsKept r → IsReading r left_old file past
     → r.seen ≡ seen.Open → step_here r.kind r.scope r.held ≡ step.Need need
-    → IsFilled r.held filled need (file_limit - r.at) (Some left_old) (Some left_new)
-    → IsReading (filled_reader r filled.bytes.items filled.seen) left_new file past
-reading_filled r filled need left_old left_new file past kept reads is needs more =
+    → IsFilled r.held filled told need (file_limit - r.at) (Some left_old) (Some left_new)
+    → IsReading (filled_reader r filled told) left_new file past
+reading_filled r filled told need left_old left_new file past kept reads is needs more =
     let none : reads.beyond ≡ [] = subst (λ (s : Seen). IsSeenBehind s (r.at + length r.held) reads.beyond left_old) is reads.behind in
     let left : reads.beyond ++ left_old ≡ (more.got ++ more.beyond) ++ left_new = ap (λ (bytes : List ℕ). bytes ++ left_old) none ∙ more.taken in
-    let rest : r.held ++ (reads.beyond ++ left_old) ≡ filled.bytes.items ++ (more.beyond ++ left_new) =
+    let rest : r.held ++ (reads.beyond ++ left_old) ≡ filled ++ (more.beyond ++ left_new) =
     ap (λ (bytes : List ℕ). r.held ++ bytes) (left ∙ append_assoc more.got more.beyond left_new)
     ∙ sym (append_assoc r.held more.got (more.beyond ++ left_new))
     ∙ ap (λ (bytes : List ℕ). bytes ++ (more.beyond ++ left_new)) (sym more.bytes) in
@@ -290,7 +289,7 @@ reading_filled r filled need left_old left_new file past kept reads is needs mor
       whole = reads.whole ∙ ap (λ (bytes : List ℕ). reads.before ++ bytes) rest;
       place = reads.place;
       within = omega (arith, kept.within, more.within);
-      behind = filled_behind filled.seen more.beyond r.at (length filled.bytes.items) left_new more.behind (omega (arith, kept.within));
+      behind = filled_behind told more.beyond r.at (length filled) left_new more.ends (omega (arith, kept.within));
       over = reads.over;
       few = reads.few;
       near = λ front late. few_behind r left_old file past (step.Need need) need kept reads needs (λ n less. less) front (omega (arith, late, more.few));
@@ -383,13 +382,13 @@ unfolding Stands
 turn_beyond r None need kept is needs = λ file past so. absurd so
 turn_beyond r (Some left) need kept is needs = λ file past so. (so, reading_beyond r left file past need kept so is needs)
 
-pub turn_filled : (r : Reader) (filled : Filled) (need : ℕ) (old new : Option (List ℕ)) → IsKept r → r.seen ≡ seen.Open
-    → step_here r.kind r.scope r.held ≡ step.Need need → IsFilled r.held filled need (file_limit - r.at) old new
-    → GoesOn r (filled_reader r filled.bytes.items filled.seen) old new
+pub turn_filled : (r : Reader) (filled : List ℕ) (told : Seen) (need : ℕ) (old new : Option (List ℕ)) → IsKept r → r.seen ≡ seen.Open
+    → step_here r.kind r.scope r.held ≡ step.Need need → IsFilled r.held filled told need (file_limit - r.at) old new
+    → GoesOn r (filled_reader r filled told) old new
 unfolding Stands
-turn_filled r filled need None new kept is needs more = λ file past so. absurd so
-turn_filled r filled need (Some old) None kept is needs more = absurd more.taken
-turn_filled r filled need (Some old) (Some new) kept is needs more = λ file past so. reading_filled r filled need old new file past kept so is needs more
+turn_filled r filled told need None new kept is needs more = λ file past so. absurd so
+turn_filled r filled told need (Some old) None kept is needs more = absurd more.taken
+turn_filled r filled told need (Some old) (Some new) kept is needs more = λ file past so. reading_filled r filled told need old new file past kept so is needs more
 
 pub turn_unfilled : (r : Reader) (need : ℕ) (old new : Option (List ℕ)) → IsKept r → r.seen ≡ seen.Open
     → step_here r.kind r.scope r.held ≡ step.Need need → IsUnfilled r.held need (file_limit - r.at) old new → FailsAt r old new
@@ -404,13 +403,13 @@ needs_by : (r inside : Reader) (need : ℕ) → inside ≡ r → step_here r.kin
     → step_here inside.kind inside.scope inside.held ≡ step.Need need
 needs_by r inside need view needs = subst (λ (q : Reader). step_here q.kind q.scope q.held ≡ step.Need need) (sym view) needs
 
-pub filled_by : (r inside : Reader) (bytes now : List ℕ) (limit : ℕ) (filled : Filled) (need : ℕ) (old new : Option (List ℕ)) → inside ≡ r → IsKept inside
-    → inside.seen ≡ seen.Open → step_here r.kind r.scope r.held ≡ step.Need need → bytes ≡ inside.held → limit ≡ file_limit → now ≡ filled.bytes.items
-    → IsFilled bytes filled need (limit - inside.at) old new → GoesOn r (filled_reader inside now filled.seen) old new
-filled_by r inside bytes now limit filled need old new view kept is needs held limited got more =
-    rw (← view, got) (turn_filled inside filled need old new kept is (needs_by r inside need view needs)
-    (subst (λ (b : List ℕ). IsFilled b filled need (file_limit - inside.at) old new) held
-    (subst (λ (m : ℕ). IsFilled bytes filled need (m - inside.at) old new) limited more)))
+pub filled_by : (r inside : Reader) (bytes now : List ℕ) (limit : ℕ) (filled : List ℕ) (told : Seen) (need : ℕ) (old new : Option (List ℕ)) → inside ≡ r → IsKept inside
+    → inside.seen ≡ seen.Open → step_here r.kind r.scope r.held ≡ step.Need need → bytes ≡ inside.held → limit ≡ file_limit → now ≡ filled
+    → IsFilled bytes filled told need (limit - inside.at) old new → GoesOn r (filled_reader inside now told) old new
+filled_by r inside bytes now limit filled told need old new view kept is needs held limited got more =
+    rw (← view, got) (turn_filled inside filled told need old new kept is (needs_by r inside need view needs)
+    (subst (λ (b : List ℕ). IsFilled b filled told need (file_limit - inside.at) old new) held
+    (subst (λ (m : ℕ). IsFilled bytes filled told need (m - inside.at) old new) limited more)))
 
 pub unfilled_by : (r inside : Reader) (bytes : List ℕ) (limit need : ℕ) (old new : Option (List ℕ)) → inside ≡ r → IsKept inside
     → inside.seen ≡ seen.Open → step_here r.kind r.scope r.held ≡ step.Need need → bytes ≡ inside.held → limit ≡ file_limit
@@ -506,12 +505,12 @@ filling_few r left file past new reads is took =
     took_more (suc file_limit) (suc (file_limit - r.at) - length r.held) (Some file) (Some left) new (reads.before ++ r.held) whole took
     (omega (arith, length-append reads.before r.held, reads.place, reads.within))
 
-pub filled_few : (r inside : Reader) (bytes : List ℕ) (limit : ℕ) (old new : Option (List ℕ)) → inside ≡ r
-    → inside.seen ≡ seen.Open → bytes ≡ inside.held → limit ≡ file_limit
-    → TookAtMost (suc (limit - inside.at) - length bytes) old new → TakesFew r old new
+pub filled_few : (r inside : Reader) (size limit : ℕ) (old new : Option (List ℕ)) → inside ≡ r
+    → inside.seen ≡ seen.Open → size ≡ length inside.held → limit ≡ file_limit
+    → TookAtMost (suc (limit - inside.at) - size) old new → TakesFew r old new
 unfolding Stands
-filled_few r inside bytes limit None new view is held limited took = λ file past so. absurd so
-filled_few r inside bytes limit (Some left) new view is held limited took = λ file past so.
+filled_few r inside size limit None new view is held limited took = λ file past so. absurd so
+filled_few r inside size limit (Some left) new view is held limited took = λ file past so.
     filling_few inside left file past new (subst (λ (q : Reader). IsReading q left file past) (sym view) so) is
-    (subst (λ (b : List ℕ). TookAtMost (suc (file_limit - inside.at) - length b) (Some left) new) held
-    (subst (λ (m : ℕ). TookAtMost (suc (m - inside.at) - length bytes) (Some left) new) limited took))
+    (subst (λ (n : ℕ). TookAtMost (suc (file_limit - inside.at) - n) (Some left) new) held
+    (subst (λ (m : ℕ). TookAtMost (suc (m - inside.at) - size) (Some left) new) limited took))

@@ -4,7 +4,6 @@ use Rattle.std.specs.Io.KnownBytes.{Consumes, IsAtEnd}
 use Rattle.capture_read.specs.Answers.{open_count}
 use Rattle.capture_read.specs.declared.kind.Seen.{Seen}
 use Rattle.capture_read.specs.declared.kind.Seen.TheVariants as seen
-use Rattle.capture_read.specs.declared.fill.Filled.{Filled}
 
 -- what was seen behind so many bytes held, of which at most `most` are looked at
 abbrev pub IsFilledTo : Seen → List ℕ → ℕ → ℕ → Option (List ℕ) → Type 0
@@ -13,16 +12,16 @@ IsFilledTo seen.Ended beyond size most left = (length beyond ≡ 0) × IsAtEnd l
 IsFilledTo seen.Beyond beyond size most left = (length beyond ≡ 1) × (size ≡ most)
 
 -- bytes were read behind those held: no read was called once there were as many as are needed, nor asked for more than 65,536
-pub record IsFilled (held : List ℕ) (filled : Filled) (need most : ℕ)
+pub record IsFilled (held filled : List ℕ) (behind : Seen) (need most : ℕ)
     (old new : Option (List ℕ)) : Type 0 where
   pub got : List ℕ
   pub beyond : List ℕ
-  pub bytes : filled.bytes.items ≡ held ++ got
+  pub bytes : filled ≡ held ++ got
   pub taken : Consumes old new (got ++ beyond)
-  pub behind : IsFilledTo filled.seen beyond (length filled.bytes.items) most new
-  pub few : length filled.bytes.items + length beyond < need + 2 ^ 16
-  pub within : length filled.bytes.items ≤ most
-  pub more : length held + open_count filled.seen < length filled.bytes.items + 1
+  pub ends : IsFilledTo behind beyond (length filled) most new
+  pub few : length filled + length beyond < need + 2 ^ 16
+  pub within : length filled ≤ most
+  pub more : length held + open_count behind < length filled + 1
 
 -- a read failed before there were as many as are needed
 pub record IsUnfilled (held : List ℕ) (need most : ℕ) (old new : Option (List ℕ)) : Type 0 where

@@ -1,24 +1,27 @@
 // The bytes that a reader holds.
-ghost use Rattle.std.specs.Prelude.{◌≡◌, ◌+◌, ◌≤◌, ◌^◌, [], length, take, drop, IfOk, OnOk, OnErr};
+ghost use Rattle.std.specs.Prelude.{◌≡◌, ◌+◌, ◌≤◌, ◌^◌, [], length, take, drop, IfOk};
 
+use bytes::BytesMut;
 use pk_base::{NoMemory, Octets};
 use std::marker::Model;
+use std::mem;
 
-/// The bytes of a block of memory from a place on. Parts of them share the block.
+/// The bytes of a block of memory between two places. Parts of them share the block.
 #[derive(Drop)]
 pub struct Held {
-    shared: Octets,
+    block: Octets,
     from: usize,
+    to: usize,
 }
 
 impl Model for Held {
-    ghost use Rattle.std.specs.Prelude.{ℕ, List, ◌≤◌, ◌^◌, length, drop};
+    ghost use Rattle.std.specs.Prelude.{ℕ, List, ◌≤◌, ◌^◌, length, slice_range};
 
     ghost Value = { List ℕ };
 
-    ghost view = { λ h. drop h.from h.shared };
+    ghost view = { λ h. slice_range h.block h.from h.to };
 
-    ghost invariant = { λ h. (h.from ≤ length h.shared) × (length h.shared ≤ 2 ^ 28) };
+    ghost invariant = { λ h. (h.from ≤ h.to) × (h.to ≤ length h.block) × (h.to ≤ 2 ^ 28) };
 }
 
 impl Held {
@@ -26,15 +29,27 @@ impl Held {
         ensures { result ≡ [] }
     {
         Held {
-            shared: Octets::new(),
+            block: Octets::new(),
             from: 0,
+            to: 0,
         }
+    }
+
+    /// Whether there was no block yet.
+    pub fn is_new(&self) -> bool {
+        self.block.bytes().is_empty()
     }
 
     pub fn bytes(&self) -> &[u8]
         ensures { result.now ≡ self.now }
     {
-        &self.shared.bytes()[self.from..]
+        &self.block.bytes()[self.from..self.to]
+    }
+
+    pub fn len(&self) -> usize
+        ensures { result ≡ length self.now }
+    {
+        self.to - self.from
     }
 
     /// Lets the first bytes go.
@@ -51,17 +66,26 @@ impl Held {
         ensures { IfOk result (λ octets. octets ≡ take len (drop start self.now)) }
     {
         let from = self.from + start;
-        self.shared.part(from, from + len)
+        self.block.part(from, from + len)
     }
 
-    /// Holds these bytes in place of those held.
-    pub fn hold(&mut self, bytes: Vec<u8>) -> Result<(), NoMemory>
-        requires { length bytes.items ≤ 2 ^ 28 }
-        ensures held { OnOk result (self.new ≡ bytes.items) }
-        ensures kept { OnErr result (self.new ≡ self.old) }
+    /// Holds the first bytes of a block in place of those held.
+    pub fn hold(&mut self, block: Octets, len: usize)
+        requires inside { len ≤ length block }
+        requires small { len ≤ 2 ^ 28 }
+        ensures { self.new ≡ take len block }
     {
-        self.shared = Octets::from_vec(bytes)?;
+        self.block = block;
         self.from = 0;
-        Ok(())
+        self.to = len;
+    }
+
+    /// Lets all bytes go, and gives their block of memory, where nothing else shares it.
+    pub fn release(&mut self) -> Option<BytesMut>
+        ensures { self.new ≡ [] }
+    {
+        self.from = 0;
+        self.to = 0;
+        mem::replace(&mut self.block, Octets::new()).reclaim()
     }
 }

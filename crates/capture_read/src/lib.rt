@@ -19,6 +19,7 @@ mod piece;
 mod position;
 mod read_error;
 mod reading;
+mod room;
 mod state;
 
 pub use ending::{Damage, Ending};

@@ -9,14 +9,16 @@ ghost use Rattle.capture_read.specs.Reads.{CountsFault, StaysBegun};
 ghost use Rattle.capture_read.specs.declared.kind.Seen.TheVariants as seen;
 
 use crate::ending::{Ending, damage_at, end_of_bytes, unfinished};
-use crate::fill::{fill, read_size};
+use crate::fill::fill;
 use crate::frame::Frame;
 use crate::held::Held;
 use crate::kind::{Kind, Seen};
 use crate::look::look;
 use crate::next_frame::NextFrame;
 use crate::read_error::ReadError;
+use crate::room::{block_of, move_to_room};
 use crate::state::begins_pcapng;
+use bytes::BytesMut;
 use capture_formats::{BlockStep, Sections};
 use pk_base::{Found, NoMemory, Reason, file_limit};
 use pk_outside::Capture;
@@ -51,12 +53,11 @@ pub struct Position {
     at: usize,
     held: Held,
     seen: Seen,
-    /// Where reads go: none before the first read.
-    room: Vec<u8>,
+    /// Where reads go, unless that is the block of the bytes held.
+    room: BytesMut,
 }
 
 impl Model for Position {
-    ghost use Rattle.std.specs.Prelude.{◌≤◌, ◌^◌, length};
     ghost use Rattle.capture_read.specs.Reader.{Reader, IsKept};
 
     ghost Value = { Reader };
@@ -70,7 +71,7 @@ impl Model for Position {
       seen = p.seen;
     } };
 
-    ghost invariant = { λ p. (length p.room.items ≤ 2 ^ 16) × IsKept (record {
+    ghost invariant = { λ p. IsKept (record {
       kind = p.kind;
       scope = p.sections;
       number = p.number;
@@ -96,7 +97,7 @@ impl Position {
             at: 0,
             held: Held::new(),
             seen: Seen::Open,
-            room: Vec::new(alloc),
+            room: BytesMut::new(alloc),
         }
     }
 
@@ -148,13 +149,14 @@ impl Position {
             CountsFault error (C.faults capture.old) (C.faults capture.new)) }
     {
         let most = file_limit() - self.at;
-        make_room(self.alloc, &mut self.room)?;
-        let room = &mut self.room;
-        let filled = match fill(self.alloc, capture, room, self.held.bytes(), need, most) {
+        let len = self.held.len();
+        let alone = move_to_room(self.alloc, &mut self.held, &mut self.room)?;
+        let filled = match fill(capture, &mut self.room, len, need, most) {
             Ok(filled) => filled,
             Err(error) => return Err(error),
         };
-        self.held.hold(filled.bytes)?;
+        let block = block_of(self.alloc, &mut self.room, filled.len, alone)?;
+        self.held.hold(block, filled.len);
         self.seen = filled.seen;
         Ok(Turn::Again)
     }
@@ -247,17 +249,4 @@ impl Position {
             }
         }
     }
-}
-
-// Makes room for reads, where there is none.
-fn make_room(alloc: Global, room: &mut Vec<u8>) -> Result<(), NoMemory>
-    requires { length room.old.items ≤ 2 ^ 16 }
-    ensures some { OnOk result (0 < length room.new.items) }
-    ensures most { length room.new.items ≤ 2 ^ 16 }
-{
-    if room.is_empty() {
-        let size = read_size();
-        *room = vec![in alloc; 0; size]?;
-    }
-    Ok(())
 }

@@ -1,7 +1,7 @@
-ghost use Rattle.std.specs.Prelude.{◌≡◌, ◌≤◌, ◌^◌, ◌<◌, [], length, slice_range, IfOk};
+ghost use Rattle.std.specs.Prelude.{◌≡◌, ◌≤◌, ◌^◌, ◌<◌, [], length, slice_range, IfOk, IfSome};
 
 use crate::memory::NoMemory;
-use bytes::Bytes;
+use bytes::{Bytes, BytesMut};
 use std::alloc::Global;
 use std::marker::Model;
 
@@ -38,6 +38,15 @@ impl Octets {
         })
     }
 
+    /// Takes over the bytes of a block of memory, which it doesn't copy.
+    pub fn from_block(block: BytesMut) -> Result<Octets, NoMemory>
+        ensures { IfOk result (λ octets. octets ≡ block.items) }
+    {
+        Ok(Octets {
+            shared: block.freeze()?,
+        })
+    }
+
     /// Makes a list of its own from bytes.
     pub fn copy(alloc: Global, bytes: &[u8]) -> Result<Octets, NoMemory>
         ensures { IfOk result (λ octets. octets ≡ bytes.now) }
@@ -62,6 +71,13 @@ impl Octets {
         ensures { result.now ≡ self.now }
     {
         self.shared.as_slice()
+    }
+
+    /// Takes the block of memory back without a copy, where nothing else shares it. Otherwise this share of it is given up.
+    pub fn reclaim(self) -> Option<BytesMut>
+        ensures { IfSome result (λ block. block.items ≡ self) }
+    {
+        self.shared.reclaim()
     }
 }
 

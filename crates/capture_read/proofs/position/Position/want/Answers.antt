@@ -5,12 +5,12 @@ use Rattle.capture_read.proofs.position.Position.want.Goals as goal
 
 pub returns-in-Ended-clause-sees : goal.returns-in-Ended-clause-sees
 returns-in-Ended-clause-sees c = λ left.
-    rw c.cut.ensures (turn_ended c.args.self.now left c.args.need (subst IsKept c.self.view_is c.self.invariant.1)
+    rw c.cut.ensures (turn_ended c.args.self.now left c.args.need (subst IsKept c.self.view_is c.self.invariant)
     (ap (λ (r : Reader). r.seen) (sym c.self.view_is) ∙ c.in-Ended.is) c.requires.needs)
 
 pub returns-in-Beyond-clause-sees : goal.returns-in-Beyond-clause-sees
 returns-in-Beyond-clause-sees c = λ left.
-    rw c.cut-in-Beyond.ensures (turn_beyond c.args.self.now left c.args.need (subst IsKept c.self.view_is c.self.invariant.1)
+    rw c.cut-in-Beyond.ensures (turn_beyond c.args.self.now left c.args.need (subst IsKept c.self.view_is c.self.invariant)
     (ap (λ (r : Reader). r.seen) (sym c.self.view_is) ∙ c.in-Beyond.is) c.requires.needs)
 
 pub returns-in-Open-clause-sees : goal.returns-in-Open-clause-sees
