@@ -1,6 +1,6 @@
 -- Texts that stand in a string as they are: they have no quote, no backslash and no control character.
-use Rattle.std.proofs.Common.{◌≡◌, ◌≢◌, ℕ, zero, suc, ◌+◌, ◌/◌, ◌%◌, ◌≤◌, Bool, true, false, not, cond, ltb, ◌&&◌, ◌==◌, List, [], ◌∷◌, ◌++◌, replicate, refl, sym, ap, ap₂, ◌∙◌, arith}
-use Rattle.std.proofs.lemmas.Bool.{ne_eqb, le-ltb, ltb-true, ltb-false, and_parts}
+use Rattle.std.proofs.Common.{◌≡◌, ◌≢◌, ℕ, zero, suc, ◌+◌, ◌/◌, ◌%◌, ◌≤◌, Bool, true, false, not, cond, ltb, leb, length, ◌&&◌, ◌==◌, List, [], ◌∷◌, ◌++◌, replicate, refl, sym, ap, ap₂, ◌∙◌, arith}
+use Rattle.std.proofs.lemmas.Bool.{ne_eqb, le-ltb, leb-true, ltb-true, ltb-false, and_parts}
 use Rattle.std.proofs.lemmas.Grind.{flat_map-append}
 use Rattle.std.specs.Fmt.{digits, digits_onto, digit_glyph}
 use Rattle.std.specs.List.{flat_map, join_by, list_all}
@@ -98,3 +98,13 @@ pub bare_name : (field : ℕ) → IsBare (row_of field).name
 unfolding row_of is_plain
 bare_name field =
     all_plain (row_of field).name (passes_at (λ (row : FieldRow). list_all is_plain row.name) rows field (whole [] Proto 0) names_plain refl)
+
+-- no name is long
+names_short : list_all (λ (row : FieldRow). leb (length row.name) 64) rows ≡ true
+unfolding rows
+names_short = refl
+
+pub short_name : (field : ℕ) → length (row_of field).name ≤ 64
+unfolding row_of
+short_name field =
+    leb-true (length (row_of field).name) 64 (passes_at (λ (row : FieldRow). leb (length row.name) 64) rows field (whole [] Proto 0) names_short refl)

@@ -12,6 +12,7 @@ use Rattle.pk_text.specs.Digits.{hex_shown}
 use Rattle.out_lines.specs.ValueText.{shown_value}
 use Rattle.serde_json.specs.View.{items_of}
 use Rattle.serde_json.specs.Written.{compact_text, items_text}
+use Rattle.out_json.specs.Heads.{layer_head, layer_tail, made_head, placed_head}
 use Rattle.out_json.specs.Lines.{buffer_json, is_bare, item_json, json_line_of, layer_json, made_json, placed_json, string_text, tree_json, value_json}
 use Rattle.out_json.proofs.Bare.{IsBare, bare_hex, bare_name}
 use Rattle.out_json.proofs.Shown.{shown_bare}
@@ -29,30 +30,41 @@ name_string field = in_quotes (row_of field).name (bare_name field)
 pub bare_string : (field : ℕ) (value : Value) → is_bare value ≡ true → string_text (shown_value field value) ≡ 34 ∷ (shown_value field value ++ 34 ∷ [])
 bare_string field value is = in_quotes (shown_value field value) (shown_bare field value is)
 
-pub placed_text : (item : Item) (span : Span) → compact_text (placed_json item span)
-    ≡ codes "{\"buf\":" ++ (decimal span.buffer
-    ++ (codes ",\"name\":" ++ (string_text (row_of item.field).name
-    ++ (codes ",\"pos\":" ++ (decimal span.start
-    ++ (codes ",\"size\":" ++ (decimal span.len
-    ++ (codes ",\"value\":" ++ (compact_text (value_json item.field item.value) ++ codes "}")))))))))
-unfolding placed_json string_text escape_byte
-placed_text item span = refl
+-- the parts of an item and of a layer, put together as they are stored
+placed_parts : (key1 count1 key2 name key3 count3 key4 count4 key5 value end : List ℕ)
+    → key1 ++ (count1 ++ (key2 ++ (name ++ (key3 ++ (count3 ++ (key4 ++ (count4 ++ (key5 ++ (value ++ end)))))))))
+    ≡ ((key1 ++ count1) ++ ((key2 ++ name) ++ ((key3 ++ count3) ++ ((key4 ++ count4) ++ key5)))) ++ (value ++ end)
+placed_parts key1 count1 key2 name key3 count3 key4 count4 key5 value end = simp append_assoc
 
-pub made_text : (item : Item) → compact_text (made_json item)
-    ≡ codes "{\"name\":" ++ (string_text (row_of item.field).name
-    ++ (codes ",\"value\":" ++ (compact_text (value_json item.field item.value) ++ codes "}")))
-unfolding made_json string_text escape_byte
-made_text item = refl
+made_parts : (key1 name key2 value end : List ℕ) → key1 ++ (name ++ (key2 ++ (value ++ end))) ≡ ((key1 ++ name) ++ key2) ++ (value ++ end)
+made_parts key1 name key2 value end = simp append_assoc
+
+layer_parts : (key1 count1 key2 items key3 count3 key4 count4 key5 name key6 count6 end : List ℕ)
+    → key1 ++ (count1 ++ (key2 ++ (items ++ (key3 ++ (count3 ++ (key4 ++ (count4 ++ (key5 ++ (name ++ (key6 ++ (count6 ++ end)))))))))))
+    ≡ ((key1 ++ count1) ++ key2) ++ (items ++ ((key3 ++ count3) ++ ((key4 ++ count4) ++ ((key5 ++ name) ++ ((key6 ++ count6) ++ end)))))
+layer_parts key1 count1 key2 items key3 count3 key4 count4 key5 name key6 count6 end = simp append_assoc
+
+pub placed_text : (item : Item) (span : Span) → compact_text (placed_json item span)
+    ≡ placed_head item.field span ++ (compact_text (value_json item.field item.value) ++ codes "}")
+unfolding placed_json string_text escape_byte placed_head
+placed_text item span =
+    ap (λ (name : List ℕ). codes "{\"buf\":" ++ (decimal span.buffer ++ (codes ",\"name\":" ++ (name ++ (codes ",\"pos\":" ++ (decimal span.start ++ (codes ",\"size\":" ++ (decimal span.len ++ (codes ",\"value\":" ++ (compact_text (value_json item.field item.value) ++ codes "}")))))))))) (name_string item.field)
+    ∙ placed_parts (codes "{\"buf\":") (decimal span.buffer) (codes ",\"name\":\"") ((row_of item.field).name ++ codes "\"") (codes ",\"pos\":") (decimal span.start)
+    (codes ",\"size\":") (decimal span.len) (codes ",\"value\":") (compact_text (value_json item.field item.value)) (codes "}")
+
+pub made_text : (item : Item) → compact_text (made_json item) ≡ made_head item.field ++ (compact_text (value_json item.field item.value) ++ codes "}")
+unfolding made_json string_text escape_byte made_head
+made_text item =
+    ap (λ (name : List ℕ). codes "{\"name\":" ++ (name ++ (codes ",\"value\":" ++ (compact_text (value_json item.field item.value) ++ codes "}")))) (name_string item.field)
+    ∙ made_parts (codes "{\"name\":\"") ((row_of item.field).name ++ codes "\"") (codes ",\"value\":") (compact_text (value_json item.field item.value)) (codes "}")
 
 pub layer_text : (layer : Layer) → compact_text (layer_json layer)
-    ≡ codes "{\"buf\":" ++ (decimal layer.span.buffer
-    ++ (codes ",\"items\":[" ++ (items_text false (items_of (map item_json layer.items))
-    ++ (codes ",\"nth\":" ++ (decimal layer.nth
-    ++ (codes ",\"pos\":" ++ (decimal layer.span.start
-    ++ (codes ",\"proto\":" ++ (string_text (row_of layer.proto).name
-    ++ (codes ",\"size\":" ++ (decimal layer.span.len ++ codes "}")))))))))))
-unfolding layer_json string_text escape_byte
-layer_text layer = refl
+    ≡ layer_head layer.span.buffer ++ (items_text false (items_of (map item_json layer.items)) ++ layer_tail layer.nth layer.span layer.proto)
+unfolding layer_json string_text escape_byte layer_head layer_tail
+layer_text layer =
+    ap (λ (name : List ℕ). codes "{\"buf\":" ++ (decimal layer.span.buffer ++ (codes ",\"items\":[" ++ (items_text false (items_of (map item_json layer.items)) ++ (codes ",\"nth\":" ++ (decimal layer.nth ++ (codes ",\"pos\":" ++ (decimal layer.span.start ++ (codes ",\"proto\":" ++ (name ++ (codes ",\"size\":" ++ (decimal layer.span.len ++ codes "}")))))))))))) (name_string layer.proto)
+    ∙ layer_parts (codes "{\"buf\":") (decimal layer.span.buffer) (codes ",\"items\":[") (items_text false (items_of (map item_json layer.items))) (codes ",\"nth\":") (decimal layer.nth)
+    (codes ",\"pos\":") (decimal layer.span.start) (codes ",\"proto\":\"") ((row_of layer.proto).name ++ codes "\"") (codes ",\"size\":") (decimal layer.span.len) (codes "}")
 
 -- the line of a tree
 closed : (front one middle other : List ℕ) → (front ++ (one ++ (middle ++ (other ++ codes "}")))) ++ 10 ∷ [] ≡ front ++ (one ++ (middle ++ (other ++ codes "}\n")))
@@ -85,12 +97,6 @@ last_buffer [] = refl
 last_buffer (buffer ∷ buffers) = last_buffer buffers
 
 -- what was appended part by part
-pub layer_parts : {l1 l2 l3 l4 l5 l6 l7 : List ℕ} (old key1 count1 key2 items key3 count3 key4 count4 key5 name key6 count6 end : List ℕ)
-    → l1 ≡ old ++ (key1 ++ count1) → l2 ≡ l1 ++ key2 → l3 ≡ l2 ++ items → l4 ≡ l3 ++ (key3 ++ count3) → l5 ≡ l4 ++ (key4 ++ count4)
-    → l6 ≡ l5 ++ (key5 ++ name) → l7 ≡ l6 ++ (key6 ++ count6)
-    → l7 ++ end ≡ old ++ (key1 ++ (count1 ++ (key2 ++ (items ++ (key3 ++ (count3 ++ (key4 ++ (count4 ++ (key5 ++ (name ++ (key6 ++ (count6 ++ end))))))))))))
-layer_parts old key1 count1 key2 items key3 count3 key4 count4 key5 name key6 count6 end e1 e2 e3 e4 e5 e6 e7 = rw (e7, e6, e5, e4, e3, e2, e1) (simp append_assoc)
-
 pub line_parts : {l1 l2 l3 l4 : List ℕ} {one two : List (List ℕ)} {three four : List Layer} (old front middle end : List ℕ)
     → l1 ≡ old ++ front → one ≡ two → l2 ≡ l1 ++ items_text false (items_of (map buffer_json one)) → l3 ≡ l2 ++ middle
     → three ≡ four → l4 ≡ l3 ++ items_text false (items_of (map layer_json three))

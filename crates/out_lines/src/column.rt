@@ -3,9 +3,10 @@ ghost use Rattle.std.specs.Prelude.{◌≡◌, [], false, true, IfOk, OnOk};
 ghost use Rattle.out_lines.specs.Columns.{is_wanted, front_of, with_text, with_value};
 
 use crate::style::{Occurrence, Style};
-use crate::value_text::{put_text, put_value};
+use crate::value_text::put_value;
 use pk_base::{NoMemory, Value};
 use pk_fields::FieldId;
+use pk_text::TextSink;
 use std::alloc::Global;
 use std::marker::Model;
 
@@ -115,6 +116,6 @@ impl Column {
             return Ok(());
         }
         self.begin_value(style)?;
-        put_text(&mut self.text, text)
+        self.text.put_text(text)
     }
 }

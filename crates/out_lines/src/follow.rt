@@ -4,8 +4,8 @@ ghost use Rattle.pk_base.specs.declared.stretch.Stretch.{Stretch};
 ghost use Rattle.out_lines.specs.Follow.{AreApart, AreBehind, AreFollowed, HasEnd, bytes_line, end_of, follow_of, fronts_lines, lines_behind, lost_line, side_lines};
 
 use crate::lines::LINE_ROOM;
-use crate::value_text::{put_hex, put_number, put_text};
 use pk_base::{NoMemory, Stretch, Stretches};
+use pk_text::{TextSink, put_hex, put_number};
 use std::alloc::Global;
 
 /// What each side of a stream sent: its stretches, in order.
@@ -39,7 +39,7 @@ fn put_report(text: &mut Vec<u8>, stream: u32, fronts: &Option<Fronts>) -> Resul
     requires { IfSome fronts.now AreFollowed }
     ensures { OnOk result (text.new.items ≡ text.old.items ++ follow_of stream fronts.now) }
 {
-    put_text(text, "follow tcp ")?;
+    text.put_text("follow tcp ")?;
     put_number(text, u64::from(stream))?;
     put_fronts(text, fronts)
 }
@@ -49,7 +49,7 @@ fn put_fronts(text: &mut Vec<u8>, fronts: &Option<Fronts>) -> Result<(), NoMemor
     ensures { OnOk result (text.new.items ≡ text.old.items ++ fronts_lines fronts.now) }
 {
     match fronts {
-        None => put_text(text, " none\n"),
+        None => text.put_text(" none\n"),
         Some(fronts) => {
             text.push(b'\n')?;
             put_side(text, "0", fronts.zero.slice())?;
@@ -105,18 +105,18 @@ fn position_behind(stretch: &Stretch) -> u64
 fn put_bytes(text: &mut Vec<u8>, side: &str, bytes: &[u8]) -> Result<(), NoMemory>
     ensures { OnOk result (text.new.items ≡ text.old.items ++ bytes_line side.now bytes.now) }
 {
-    put_text(text, side)?;
+    text.put_text(side)?;
     text.push(b' ')?;
     put_hex(text, bytes)?;
-    put_text(text, "\n")
+    text.put_text("\n")
 }
 
 /// The line of a gap.
 fn put_lost(text: &mut Vec<u8>, side: &str, count: u64) -> Result<(), NoMemory>
     ensures { OnOk result (text.new.items ≡ text.old.items ++ lost_line side.now count) }
 {
-    put_text(text, side)?;
-    put_text(text, " lost ")?;
+    text.put_text(side)?;
+    text.put_text(" lost ")?;
     put_number(text, count)?;
-    put_text(text, "\n")
+    text.put_text("\n")
 }

@@ -15,4 +15,4 @@ pub use laws::kept_trees_have_the_same_line;
 pub use lines::{LineWriter, field_line, header_line};
 pub use style::{Occurrence, Quote, Style};
 pub use summary::summary_line;
-pub use value_text::{put_hex, put_number, put_text, put_value};
+pub use value_text::put_value;

@@ -10,9 +10,9 @@ ghost use Rattle.pk_tree.specs.Trees.{TreeShown};
 use crate::column::Column;
 use crate::columns::{add_layers, clear_columns, place_of, plan_columns};
 use crate::style::{Quote, Style};
-use crate::value_text::put_text;
 use pk_base::NoMemory;
 use pk_fields::{FieldId, name};
+use pk_text::TextSink;
 use pk_tree::Tree;
 use std::alloc::Global;
 use std::marker::Model;
@@ -139,7 +139,7 @@ fn put_names(line: &mut Vec<u8>, fields: &[FieldId], separator: u8) -> Result<()
     match fields {
         [] => Ok(()),
         [first, others @ ..] => {
-            put_text(line, name(*first))?;
+            line.put_text(name(*first))?;
             put_further_names(line, others, separator)
         }
     }
@@ -152,7 +152,7 @@ fn put_further_names(line: &mut Vec<u8>, fields: &[FieldId], separator: u8) -> R
 {
     for field in fields {
         line.push(separator)?;
-        put_text(line, name(*field))?;
+        line.put_text(name(*field))?;
     }
     Ok(())
 }
@@ -186,7 +186,7 @@ fn put_line(
         → line.new.items ≡ line.old.items ++ field_line_of fields.now t style.now) }
 {
     put_columns(line, columns, places, fields, style)?;
-    put_text(line, "\n")
+    line.put_text("\n")
 }
 
 fn put_columns(

@@ -10,9 +10,10 @@ ghost use Rattle.pk_tree.specs.declared.layer.Layer.{Layer};
 ghost use Rattle.out_lines.specs.Summary.{first_value, first_in_tree, is_ip as is_ip_layer, is_told as is_told_layer, last_told, or_dash, address_in, addresses_of, protocol_of, times_of, summary_of};
 
 use crate::lines::LINE_ROOM;
-use crate::value_text::{put_text, put_value};
+use crate::value_text::put_value;
 use pk_base::{NoMemory, Value};
 use pk_fields::{FieldId, ids, name};
+use pk_text::TextSink;
 use pk_tree::{Item, Layer, Tree};
 use std::alloc::Global;
 
@@ -39,7 +40,7 @@ fn put_summary(alloc: Global, line: &mut Vec<u8>, tree: &Tree) -> Result<(), NoM
     put_protocol(line, tree)?;
     line.push(b' ')?;
     put_length(alloc, line, tree)?;
-    put_text(line, "\n")
+    line.put_text("\n")
 }
 
 #[tactic(auto, unfolding(pk_fields::specs::Fields::row_of, pk_fields::specs::Table::rows))]
@@ -49,7 +50,7 @@ fn put_times(alloc: Global, line: &mut Vec<u8>, tree: &Tree) -> Result<(), NoMem
     put_first(alloc, line, tree, ids::FRAME_NUMBER)?;
     line.push(b' ')?;
     put_first(alloc, line, tree, ids::FRAME_TIME_RELATIVE)?;
-    put_text(line, " ")
+    line.put_text(" ")
 }
 
 #[tactic(auto, unfolding(pk_fields::specs::Fields::row_of, pk_fields::specs::Table::rows))]
@@ -57,9 +58,9 @@ fn put_addresses(alloc: Global, line: &mut Vec<u8>, tree: &Tree) -> Result<(), N
     ensures { OnOk result (line.new.items ≡ line.old.items ++ addresses_of tree.now) }
 {
     put_address(alloc, line, tree, ids::IP_SRC, ids::IPV6_SRC, ids::ETH_SRC)?;
-    put_text(line, " -> ")?;
+    line.put_text(" -> ")?;
     put_address(alloc, line, tree, ids::IP_DST, ids::IPV6_DST, ids::ETH_DST)?;
-    put_text(line, " ")
+    line.put_text(" ")
 }
 
 #[tactic(auto, unfolding(pk_fields::specs::Fields::row_of, pk_fields::specs::Table::rows))]
@@ -79,7 +80,7 @@ fn put_first(alloc: Global, line: &mut Vec<u8>, tree: &Tree, field: FieldId) -> 
 {
     match first_value(tree.layers(), field) {
         Some(value) => put_value(alloc, line, field, value),
-        None => put_text(line, NONE),
+        None => line.put_text(NONE),
     }
 }
 
@@ -151,8 +152,8 @@ fn put_protocol(line: &mut Vec<u8>, tree: &Tree) -> Result<(), NoMemory>
     ensures { OnOk result (line.new.items ≡ line.old.items ++ protocol_of tree.now) }
 {
     match last_told(tree.layers()) {
-        Some(layer) => put_text(line, name(layer.proto)),
-        None => put_text(line, NONE),
+        Some(layer) => line.put_text(name(layer.proto)),
+        None => line.put_text(NONE),
     }
 }
 

@@ -1,9 +1,10 @@
 -- The text that RFC 5952 recommends for an address is one text, and `ip6_shown` computes it.
-use Rattle.std.proofs.Common.{◌≡◌, ℕ, ◌+◌, ◌<◌, ◌≤◌, eqb, ltb, cond, List, [], ◌∷◌, ◌++◌, codes, length, length-drop, take, drop, refl, sym, ap, ap₂, subst, ◌∙◌, arith, ⊎_elim}
+use Rattle.std.proofs.Common.{◌≡◌, ℕ, ◌+◌, ◌^◌, ◌<◌, ◌≤◌, eqb, ltb, cond, Some, List, [], ◌∷◌, ◌++◌, codes, length, length-drop, take, drop, refl, sym, ap, ap₂, subst, ◌∙◌, arith, ⊎_elim}
 use Rattle.std.specs.List.{prefix_len}
 use Rattle.std.proofs.lemmas.Bool.{cond_both, ltb-true, ltb-false}
 use Rattle.std.proofs.lemmas.List.{drop-drop}
-use Rattle.pk_text.specs.Ip6.{IsRun, IsBestRun, IsIp6Text, groups_of, groups_shown, best_run_from, groups_written, ip6_shown}
+use Rattle.pk_text.specs.Ip6.{IsRun, IsBestRun, IsIp6Text, groups_of, groups_shown, best_run_from, groups_written, ip6_of, ip6_shown}
+use Rattle.pk_text.proofs.Ip6TextLemmas.{ip6_from_text}
 use Rattle.pk_text.proofs.Ip6RunLemmas.{zeros_from, IsBestBefore, best_none, best_taken, best_kept, best_done, plain_text, shortened_text}
 
 best_from : (groups rest : List ℕ) (at : ℕ) (best : ℕ × ℕ) → drop at groups ≡ rest → IsBestBefore groups at best.0 best.1 → IsBestRun groups (best_run_from at best rest).0 (best_run_from at best rest).1
@@ -67,3 +68,7 @@ one_text groups s t hs ht = ⊎_elim shortened plain hs
 -- a text that RFC 5952 recommends is the one that is computed
 pub text_shown : (address : ℕ) (text : List ℕ) → IsIp6Text (groups_of address) text → text ≡ ip6_shown address
 text_shown address text h = one_text (groups_of address) text (ip6_shown address) h (shown_text address)
+
+-- the text of an address is read as the address
+pub ip6_from_shown : (address : ℕ) → address < 2 ^ 128 → ip6_of (ip6_shown address) ≡ Some address
+ip6_from_shown address small = ip6_from_text address (ip6_shown address) small (shown_text address)

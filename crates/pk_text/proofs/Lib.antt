@@ -1,6 +1,7 @@
 pub mod CutLemmas
 pub mod DigitsLemmas
 pub mod EtherLemmas
+pub mod HexLemmas
 pub mod Ip4Lemmas
 pub mod Ip6Lemmas
 pub mod Ip6FormLemmas
@@ -11,4 +12,5 @@ pub mod NumberLemmas
 pub mod OctetsLemmas
 pub mod OptionLemmas
 pub mod PairsLemmas
+pub mod PlaceLemmas
 pub mod TimeLemmas

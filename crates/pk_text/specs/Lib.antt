@@ -7,4 +7,5 @@ pub mod Ip6
 pub mod Number
 pub mod Octets
 pub mod Pairs
+pub mod Places
 pub mod Time

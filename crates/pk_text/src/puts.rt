@@ -3,6 +3,7 @@ ghost use Rattle.std.specs.Prelude.{◌≡◌, ℕ, ◌<◌, ◌++◌, List, [],
 ghost use Rattle.std.specs.Fmt.{digit_glyph};
 ghost use Rattle.pk_text.specs.Digits.{hex_pair, hex_shown};
 
+use crate::hex::{BLOCK, block_digits};
 use itoa::Buffer;
 use pk_base::NoMemory;
 
@@ -22,8 +23,8 @@ pub trait TextSink {
         requires { character < 128 }
         ensures { OnOk result (taken self.new ≡ taken self.old ++ (character ∷ [])) };
 
-    /// Appends the hexadecimal digits of four bytes.
-    fn put_digits(&mut self, digits: &[u8; 8]) -> Result<(), NoMemory>
+    /// Appends digits.
+    fn put_digits(&mut self, digits: &[u8]) -> Result<(), NoMemory>
         requires { All (λ digit. digit < 128) digits.now }
         ensures { OnOk result (taken self.new ≡ taken self.old ++ digits.now) };
 }
@@ -41,7 +42,7 @@ impl TextSink for Vec<u8> {
         Ok(())
     }
 
-    fn put_digits(&mut self, digits: &[u8; 8]) -> Result<(), NoMemory> {
+    fn put_digits(&mut self, digits: &[u8]) -> Result<(), NoMemory> {
         self.extend_from_slice(digits)?;
         Ok(())
     }
@@ -62,7 +63,7 @@ impl TextSink for String {
         Ok(())
     }
 
-    fn put_digits(&mut self, digits: &[u8; 8]) -> Result<(), NoMemory> {
+    fn put_digits(&mut self, digits: &[u8]) -> Result<(), NoMemory> {
         for digit in digits {
             self.push(char::from(*digit))?;
         }
@@ -95,6 +96,20 @@ fn put_digits_of<S: TextSink>(sink: &mut S, number: u64) -> Result<(), NoMemory>
 /// Appends bytes in hexadecimal, two lower-case digits for each.
 #[tactic(auto, unfolding(crate::specs::Digits::hex_shown))]
 pub fn put_hex<S: TextSink>(sink: &mut S, bytes: &[u8]) -> Result<(), NoMemory>
+    ensures { OnOk result (S.taken sink.new ≡ S.taken sink.old ++ hex_shown bytes.now) }
+{
+    let mut left = bytes;
+    while left.len() >= BLOCK {
+        let (block, more) = left.split_at(BLOCK);
+        sink.put_digits(&block_digits(block))?;
+        left = more;
+    }
+    put_few(sink, left)
+}
+
+/// Appends bytes that are less than a block.
+#[tactic(auto, unfolding(crate::specs::Digits::hex_shown))]
+fn put_few<S: TextSink>(sink: &mut S, bytes: &[u8]) -> Result<(), NoMemory>
     ensures { OnOk result (S.taken sink.new ≡ S.taken sink.old ++ hex_shown bytes.now) }
 {
     let mut left = bytes;

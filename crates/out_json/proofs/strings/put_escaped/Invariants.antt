@@ -4,4 +4,4 @@ use Rattle.out_json.proofs.strings.put_escaped.Given as goal
 
 abbrev pub invariant-loop-byte : goal.invariant-loop-byte
 invariant-loop-byte l =
-    l.line.items ++ escape (drop l.byte-index l.text) ≡ l.initial.line.items ++ escape l.text
+    l.line ++ escape (drop l.byte-index l.text) ≡ l.initial.line ++ escape l.text

@@ -6,5 +6,5 @@ use Rattle.out_json.proofs.writer.put_bare_text.Goals as goal
 
 pub returns : goal.returns
 returns c =
-    let written : c.push-2.new.self.items ≡ c.args.line.now.items ++ (34 ∷ (shown_value c.args.field c.args.value.now ++ 34 ∷ [])) = grind (arith, common_steps) in
-    written ∙ ap (λ s. c.args.line.now.items ++ s) (sym (bare_string c.args.field c.args.value.now c.requires))
+    let written : c.put_byte-2.new.self ≡ c.args.line.now ++ (34 ∷ (shown_value c.args.field c.args.value.now ++ 34 ∷ [])) = grind (arith, common_steps) in
+    written ∙ ap (λ s. c.args.line.now ++ s) (sym (bare_string c.args.field c.args.value.now c.requires))

@@ -6,5 +6,5 @@ use Rattle.out_json.proofs.writer.put_buffers.Given as goal
 
 abbrev pub invariant-loop-number : goal.invariant-loop-number
 invariant-loop-number l =
-    l.line.items ++ items_text true (items_of (map buffer_json (drop l.number l.buffers)))
-    ≡ l.initial.line.items ++ items_text true (items_of (map buffer_json (drop 1 l.buffers)))
+    l.line ++ items_text true (items_of (map buffer_json (drop l.number l.buffers)))
+    ≡ l.initial.line ++ items_text true (items_of (map buffer_json (drop 1 l.buffers)))

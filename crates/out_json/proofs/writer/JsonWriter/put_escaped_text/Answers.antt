@@ -6,5 +6,5 @@ use Rattle.out_json.proofs.writer.JsonWriter.put_escaped_text.Goals as goal
 
 pub put_string-requires : goal.put_string-requires
 put_string-requires c =
-    let shown : c.as_slice.result.now ≡ shown_value c.args.field c.args.value.now = search rules in
+    let shown : c.text.result.now ≡ shown_value c.args.field c.args.value.now = search rules in
     subst (λ text. All (λ (byte : ℕ). 32 ≤ byte) text) (sym shown) (shown_without_controls c.args.field c.args.value.now c.requires)

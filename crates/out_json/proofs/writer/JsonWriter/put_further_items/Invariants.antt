@@ -6,5 +6,5 @@ use Rattle.out_json.proofs.writer.JsonWriter.put_further_items.Given as goal
 
 abbrev pub invariant-loop-item : goal.invariant-loop-item
 invariant-loop-item l =
-    l.line.items ++ items_text true (items_of (map item_json (drop l.item-index l.items)))
-    ≡ l.initial.line.items ++ items_text true (items_of (map item_json l.items))
+    l.self.line ++ items_text true (items_of (map item_json (drop l.item-index l.items)))
+    ≡ l.initial.self.line ++ items_text true (items_of (map item_json l.items))

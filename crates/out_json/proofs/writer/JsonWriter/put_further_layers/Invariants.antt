@@ -6,5 +6,5 @@ use Rattle.out_json.proofs.writer.JsonWriter.put_further_layers.Given as goal
 
 abbrev pub invariant-loop-layer : goal.invariant-loop-layer
 invariant-loop-layer l =
-    l.line.items ++ items_text true (items_of (map layer_json (drop l.layer-index l.layers)))
-    ≡ l.initial.line.items ++ items_text true (items_of (map layer_json l.layers))
+    l.self.line ++ items_text true (items_of (map layer_json (drop l.layer-index l.layers)))
+    ≡ l.initial.self.line ++ items_text true (items_of (map layer_json l.layers))

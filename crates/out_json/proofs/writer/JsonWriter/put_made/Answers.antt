@@ -2,12 +2,13 @@ use Rattle.std.proofs.Common.{◌≡◌, ◌++◌, codes, arith, sym, subst}
 use Rattle.std.proofs.lemmas.Grind.{common_steps}
 use Rattle.std.specs.Prelude.{OnOk}
 use Rattle.serde_json.specs.Written.{compact_text}
-use Rattle.pk_fields.specs.Fields.{row_of}
-use Rattle.out_json.specs.Lines.{string_text, value_json}
+use Rattle.out_json.specs.Heads.{made_head}
+use Rattle.out_json.specs.Lines.{value_json}
 use Rattle.out_json.proofs.Texts.{made_text}
 use Rattle.out_json.proofs.writer.JsonWriter.put_made.Goals as goal
 
 pub returns : goal.returns
 returns c =
-    let written : OnOk c.put_text-2.result (c.put_text-2.new.line.items ≡ c.args.line.now.items ++ (codes "{\"name\":" ++ (string_text (row_of c.args.item.now.field).name ++ (codes ",\"value\":" ++ (compact_text (value_json c.args.item.now.field c.args.item.now.value) ++ codes "}"))))) = grind (arith, common_steps) in
-    subst (λ s. OnOk c.put_text-2.result (c.put_text-2.new.line.items ≡ c.args.line.now.items ++ s)) (sym (made_text c.args.item.now)) written
+    let item = c.args.item.now in
+    let written : OnOk c.put_byte.result (c.put_byte.new.self ≡ c.args.self.now.line ++ (made_head c.args.item.now.field ++ (compact_text (value_json item.field item.value) ++ codes "}"))) = grind (arith, common_steps) in
+    subst (λ s. OnOk c.put_byte.result (c.put_byte.new.self ≡ c.args.self.now.line ++ s)) (sym (made_text c.args.item.now)) written
