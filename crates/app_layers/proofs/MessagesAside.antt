@@ -46,6 +46,28 @@ pub record AsksNoMessages (wanted : List ℕ) : Type 0 where
   pub http : (f : ℕ) → (row_of f).proto ≡ HTTP → is_in wanted f ≡ false
   pub dns : (f : ℕ) → (row_of f).proto ≡ DNS → is_in wanted f ≡ false
 
+-- nothing of a protocol is asked, nor the fault layers behind its messages
+pub record AsksNoneOf (proto : ℕ) (wanted : List ℕ) : Type 0 where
+  pub short : is_in wanted WS_SHORT ≡ false
+  pub malformed : is_in wanted WS_MALFORMED ≡ false
+  pub fields : (f : ℕ) → (row_of f).proto ≡ proto → is_in wanted f ≡ false
+
+-- nothing of what a message is told as
+abbrev pub AsksNotTold : List ℕ → Told → Type 0
+AsksNotTold wanted (tellings.Dns end) = AsksNoneOf DNS wanted
+AsksNotTold wanted (tellings.Http shape) = AsksNoneOf HTTP wanted
+
+abbrev pub AsksNotShown : List ℕ → List ShownMessage → Type 0
+AsksNotShown wanted ms = Each (λ m. AsksNotTold wanted m.message.told) ms
+
+none_told : (wanted : List ℕ) (told : Told) → AsksNoMessages wanted → AsksNotTold wanted told
+none_told wanted (tellings.Dns end) none = record { short = none.short; malformed = none.malformed; fields = none.dns }
+none_told wanted (tellings.Http shape) none = record { short = none.short; malformed = none.malformed; fields = none.http }
+
+pub none_shown : (wanted : List ℕ) (ms : List ShownMessage) → AsksNoMessages wanted → AsksNotShown wanted ms
+none_shown wanted [] none = tt
+none_shown wanted (m ∷ ms) none = (none_told wanted m.message.told none, none_shown wanted ms none)
+
 -- ---- a tree that lacks something, as one fact with its wanted fields
 
 pub record Lacks (whole t : TreeShown) : Type 0 where
@@ -122,7 +144,7 @@ unfolding IsFault
 fault_lacks t span None is = same_lacks t t refl
 fault_lacks t span (Some fault) is = layer_lacks t fault (end_of span) [] is (no_items t.wanted)
 
-read_lacks : (t : TreeShown) (proto : ℕ) (span : Span) (steps : List Step) (cut : Bool) → AsksNoMessages t.wanted → is_in t.wanted proto ≡ false → kept t.wanted (items_read t.buffers span steps) ≡ []
+read_lacks : (t : TreeShown) (proto : ℕ) (span : Span) (steps : List Step) (cut : Bool) → AsksNoneOf proto t.wanted → is_in t.wanted proto ≡ false → kept t.wanted (items_read t.buffers span steps) ≡ []
     → Lacks (layer_read t proto span steps PlainMode cut) t
 unfolding layer_read
 read_lacks t proto span steps cut unasked aside none =
@@ -151,29 +173,29 @@ if_lacks : (test : Bool) (t u v : TreeShown) → Lacks u v → Lacks t v → Lac
 if_lacks true t u v one other = one
 if_lacks false t u v one other = other
 
-content_lacks : (t v : TreeShown) (number : ℕ) (content : List ℕ) (whole : Bool) → AsksNoMessages t.wanted → Lacks t v → Lacks (with_content t whole number content) v
+content_lacks : (t v : TreeShown) (number : ℕ) (content : List ℕ) (whole : Bool) → AsksNoneOf HTTP t.wanted → Lacks t v → Lacks (with_content t whole number content) v
 content_lacks t v number content whole unasked lacks =
     let item = read_of t.buffers HTTP_FILE_DATA (record { buffer = number; start = 0; len = length content }) in
-    if_lacks (whole && nat_lt 0 (length content)) t (with_item t item) v (subst (λ (u : TreeShown). Lacks u v) (sym (item_none t item (unasked.http HTTP_FILE_DATA file_http))) lacks) lacks
+    if_lacks (whole && nat_lt 0 (length content)) t (with_item t item) v (subst (λ (u : TreeShown). Lacks u v) (sym (item_none t item (unasked.fields HTTP_FILE_DATA file_http))) lacks) lacks
 
-plain_lacks : (t : TreeShown) (span : Span) (shape : Shape) (bytes : List ℕ) → AsksNoMessages t.wanted → Lacks (plain_read t span (http_layout shape bytes)) t
+plain_lacks : (t : TreeShown) (span : Span) (shape : Shape) (bytes : List ℕ) → AsksNoneOf HTTP t.wanted → Lacks (plain_read t span (http_layout shape bytes)) t
 plain_lacks t span shape bytes unasked =
-    read_lacks t HTTP span (http_layout shape bytes) false unasked (unasked.http HTTP home_http)
-    (none_asked t.wanted t.buffers span (http_layout shape bytes) (http_unasked t.wanted unasked.http shape bytes))
+    read_lacks t HTTP span (http_layout shape bytes) false unasked (unasked.fields HTTP home_http)
+    (none_asked t.wanted t.buffers span (http_layout shape bytes) (http_unasked t.wanted unasked.fields shape bytes))
 
-body_lacks : (t : TreeShown) (span : Span) (shape : Shape) (bytes : List ℕ) (body : Body) → AsksNoMessages t.wanted → Lacks (body_read t span (http_layout shape bytes) bytes body) t
+body_lacks : (t : TreeShown) (span : Span) (shape : Shape) (bytes : List ℕ) (body : Body) → AsksNoneOf HTTP t.wanted → Lacks (body_read t span (http_layout shape bytes) bytes body) t
 body_lacks t span shape bytes Bodiless unasked = plain_lacks t span shape bytes unasked
 body_lacks t span shape bytes (Plain len) unasked = plain_lacks t span shape bytes unasked
 body_lacks t span shape bytes (Chunked pieces) unasked =
     let content : List ℕ = joined bytes pieces in
     let u = with_buffer t content in
     let one = buffer_lacks t content in
-    let asked : AsksNoMessages u.wanted = subst AsksNoMessages (sym one.wanted) unasked in
+    let asked : AsksNoneOf HTTP u.wanted = subst (AsksNoneOf HTTP) (sym one.wanted) unasked in
     let two = both (plain_read u span (http_layout shape bytes)) u t (plain_lacks u span shape bytes asked) one in
-    content_lacks (plain_read u span (http_layout shape bytes)) t (length t.buffers) content (is_all (reach span.len (http_layout shape bytes))) (subst AsksNoMessages (sym two.wanted) unasked) two
+    content_lacks (plain_read u span (http_layout shape bytes)) t (length t.buffers) content (is_all (reach span.len (http_layout shape bytes))) (subst (AsksNoneOf HTTP) (sym two.wanted) unasked) two
 body_lacks t span shape bytes NotShown unasked = plain_lacks t span shape bytes unasked
 
-http_lacks : (t : TreeShown) (span : Span) (shape : Shape) → AsksNoMessages t.wanted → Lacks (http_read t span shape) t
+http_lacks : (t : TreeShown) (span : Span) (shape : Shape) → AsksNoneOf HTTP t.wanted → Lacks (http_read t span shape) t
 unfolding http_read
 http_lacks t span shape unasked = body_lacks t span shape (bytes_of t.buffers span) shape.body unasked
 
@@ -181,44 +203,49 @@ opened_same : (t : TreeShown) (span : Span) → (with_layer t DNS span []).buffe
 unfolding with_layer
 opened_same t span = refl
 
-dns_lacks : (t : TreeShown) (span : Span) (bytes : List ℕ) (cut : Bool) → AsksNoMessages t.wanted → Lacks (layer_read t DNS span (dns_layout true bytes) PlainMode cut) t
+dns_lacks : (t : TreeShown) (span : Span) (bytes : List ℕ) (cut : Bool) → AsksNoneOf DNS t.wanted → Lacks (layer_read t DNS span (dns_layout true bytes) PlainMode cut) t
 dns_lacks t span bytes cut unasked =
     let steps = dns_layout true bytes in
     let u = with_layer t DNS span [] in
     let fault = fault_of PlainMode (cut && reaches_end u.buffers span) (reach span.len steps) in
-    let one = layer_lacks t DNS span [] (unasked.dns DNS home_dns) (no_items t.wanted) in
+    let one = layer_lacks t DNS span [] (unasked.fields DNS home_dns) (no_items t.wanted) in
     let closed : with_fault u span fault ≡ layer_read t DNS span steps PlainMode cut =
-    passed t u (with_fault u span fault) DNS span steps PlainMode cut (reach span.len steps) unasked.dns refl (opened_same t span) refl (layout_fits true bytes) refl in
+    passed t u (with_fault u span fault) DNS span steps PlainMode cut (reach span.len steps) unasked.fields refl (opened_same t span) refl (layout_fits true bytes) refl in
     subst (λ (v : TreeShown). Lacks v t) closed
     (both (with_fault u span fault) u t
     (fault_lacks u span fault (subst (IsFault fault) (sym one.wanted) (fault_is PlainMode (cut && reaches_end u.buffers span) (reach span.len steps) t.wanted refl unasked.short unasked.malformed))) one)
 
-told_lacks : (cut : Bool) (t : TreeShown) (span : Span) (told : Told) → AsksNoMessages t.wanted → Lacks (told_over cut t span told) t
+told_lacks : (cut : Bool) (t : TreeShown) (span : Span) (told : Told) → AsksNotTold t.wanted told → Lacks (told_over cut t span told) t
 told_lacks cut t span (tellings.Dns end) unasked = dns_lacks t span (bytes_of t.buffers span) cut unasked
 told_lacks cut t span (tellings.Http shape) unasked = http_lacks t span shape unasked
 
-sourced_lacks : (cut : Bool) (span : Span) (t : TreeShown) (told : Told) (source : Source) → AsksNoMessages t.wanted → Lacks (sourced_over cut span t told source) t
+sourced_lacks : (cut : Bool) (span : Span) (t : TreeShown) (told : Told) (source : Source) → AsksNotTold t.wanted told → Lacks (sourced_over cut span t told source) t
 sourced_lacks cut span t told (sources.Segment place) unasked = told_lacks cut t (within span place (told_end told)) told unasked
 sourced_lacks cut span t told (sources.Gathered g) unasked =
     let one = buffer_lacks t g.bytes in
-    both _ (with_buffer t g.bytes) t (told_lacks cut (with_buffer t g.bytes) (added_span t g.bytes) told (subst AsksNoMessages (sym one.wanted) unasked)) one
+    both _ (with_buffer t g.bytes) t (told_lacks cut (with_buffer t g.bytes) (added_span t g.bytes) told (subst (λ (wanted : List ℕ). AsksNotTold wanted told) (sym one.wanted) unasked)) one
 
-messages_lack : (cut : Bool) (span : Span) (t : TreeShown) (ms : List ShownMessage) → AsksNoMessages t.wanted → Lacks (messages_over cut span t ms) t
+messages_lack : (cut : Bool) (span : Span) (t : TreeShown) (ms : List ShownMessage) → AsksNotShown t.wanted ms → Lacks (messages_over cut span t ms) t
 unfolding message_over
 messages_lack cut span t [] unasked = same_lacks t t refl
 messages_lack cut span t (m ∷ ms) unasked =
-    let one = sourced_lacks cut span t m.message.told m.source unasked in
-    both _ (message_over cut span t m) t (messages_lack cut span (message_over cut span t m) ms (subst AsksNoMessages (sym one.wanted) unasked)) one
+    let one = sourced_lacks cut span t m.message.told m.source unasked.0 in
+    both _ (message_over cut span t m) t (messages_lack cut span (message_over cut span t m) ms (subst (λ (wanted : List ℕ). AsksNotShown wanted ms) (sym one.wanted) unasked.1)) one
 
-segments_none : (t : TreeShown) (frames : List ℕ) → AsksNoMessages t.wanted → with_segments t frames ≡ t
+segments_none : (t : TreeShown) (frames : List ℕ) → is_in t.wanted TCP_SEGMENT ≡ false → with_segments t frames ≡ t
 segments_none t [] unasked = refl
 segments_none t (frame ∷ frames) unasked =
-    let one : with_number t TCP_SEGMENT frame ≡ t = item_none t (made_of TCP_SEGMENT (Uint frame)) unasked.segment in
+    let one : with_number t TCP_SEGMENT frame ≡ t = item_none t (made_of TCP_SEGMENT (Uint frame)) unasked in
     ap (λ (u : TreeShown). with_segments u frames) one ∙ segments_none t frames unasked
 
-pub carried_lacks : (app : Option StreamApp) (cut : Bool) (span : Span) (t : TreeShown) (ms : List ShownMessage) → AsksNoMessages t.wanted → LacksOnly (carried_over app cut span t ms) (carried_over app cut span t [])
+-- of messages of one application, and the frames that brought them
+pub shown_lacks : (app : Option StreamApp) (cut : Bool) (span : Span) (t : TreeShown) (ms : List ShownMessage) → is_in t.wanted TCP_SEGMENT ≡ false → AsksNotShown t.wanted ms
+    → LacksOnly (carried_over app cut span t ms) (carried_over app cut span t [])
 unfolding carried_over
-carried_lacks None cut span t ms unasked = lacks_none (data_over t span)
-carried_lacks (Some app) cut span t ms unasked =
-    let same : with_segments t (gathered_from ms) ≡ t = segments_none t (gathered_from ms) unasked in
+shown_lacks None cut span t ms segment unasked = lacks_none (data_over t span)
+shown_lacks (Some app) cut span t ms segment unasked =
+    let same : with_segments t (gathered_from ms) ≡ t = segments_none t (gathered_from ms) segment in
     (subst (λ (u : TreeShown). Lacks (messages_over cut span u ms) t) (sym same) (messages_lack cut span t ms unasked)).only
+
+pub carried_lacks : (app : Option StreamApp) (cut : Bool) (span : Span) (t : TreeShown) (ms : List ShownMessage) → AsksNoMessages t.wanted → LacksOnly (carried_over app cut span t ms) (carried_over app cut span t [])
+carried_lacks app cut span t ms unasked = shown_lacks app cut span t ms unasked.segment (none_shown t.wanted ms unasked)

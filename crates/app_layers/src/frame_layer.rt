@@ -10,8 +10,7 @@ use crate::times::{Times, since};
 use capture_read::Frame;
 use pk_base::{Mode, NoMemory, Span, Value};
 use pk_fields::{FieldId, FieldSet, ids};
-use pk_tree::{Step, TreeBuilder, read_layer};
-use std::alloc::Global;
+use pk_tree::{Spare, Step, TreeBuilder, read_layer};
 
 /// Whether fewer bytes were captured than the frame had.
 pub fn is_cut(frame: &Frame) -> bool
@@ -41,9 +40,10 @@ pub fn frame_span(frame: &Frame) -> Span
     }
 }
 
-/// A tree of the wanted fields with the layer that tells of the frame itself, given the times of the frames before.
+/// A tree of the wanted fields with the layer that tells of the frame itself, given the times of the frames before, in the
+/// memory of an earlier tree.
 pub fn begin_tree(
-    alloc: Global,
+    spare: Spare,
     before: Times,
     frame: &Frame,
     wanted: FieldSet,
@@ -55,7 +55,7 @@ pub fn begin_tree(
     ensures buffers { IfOk result (λ tree. tree.buffers ≡ frame.now.bytes ∷ []) }
     ensures most { IfOk result (λ tree. length tree.layers ≤ 2) }
 {
-    let mut tree = TreeBuilder::keeping(alloc, frame.bytes.clone()?, wanted)?;
+    let mut tree = TreeBuilder::again(spare, frame.bytes.clone()?, wanted)?;
     add_wanted(before, frame, &wanted, &mut tree)?;
     Ok(tree)
 }

@@ -3,6 +3,7 @@ pub mod FieldLemmas
 pub mod KeptLemmas
 pub mod KeptTrees
 pub mod KeptValues
+pub mod KnownLemmas
 pub mod LayersFit
 pub mod LayoutLemmas
 pub mod Readable

@@ -45,6 +45,17 @@ impl Buffers {
         Ok(number)
     }
 
+    pub(crate) fn clear(&mut self)
+        ensures { self.new ≡ [] }
+    {
+        self.all.clear();
+    }
+
+    /// For how many buffers there is memory.
+    pub(crate) fn room(&self) -> usize {
+        self.all.capacity()
+    }
+
     /// How many buffers there are.
     pub fn count(&self) -> u32
         ensures { result ≡ length self.now }

@@ -9,6 +9,7 @@ use crate::buffers::Buffers;
 use crate::item::{Item, Items, Place};
 use crate::layer::{Layer, next_number, push_last};
 use crate::reading::read_value;
+use crate::spare::Spare;
 use crate::tree::Tree;
 use pk_base::{NoMemory, Octets, Span, Value};
 use pk_fields::{FieldId, FieldSet};
@@ -18,12 +19,11 @@ use std::marker::Model;
 /// A layer of so few items has room for all of them from the start.
 const FEW_ITEMS: usize = 8;
 
-/// How many layers a tree has room for from the start. Most frames have fewer.
-const FEW_LAYERS: usize = 8;
-
 /// A tree that is being built. Items are added to the last layer.
 pub struct TreeBuilder {
     layers: Vec<Layer>,
+    /// Lists for the items of layers to come.
+    lists: Vec<Items>,
     buffers: Buffers,
     wanted: FieldSet,
     alloc: Global,
@@ -33,6 +33,7 @@ impl Drop for TreeBuilder {
     fn drop(self) {
         let TreeBuilder {
             layers: _layers,
+            lists: _lists,
             buffers: _buffers,
             wanted: _,
             alloc: _,
@@ -71,15 +72,42 @@ impl TreeBuilder {
         ensures { IfOk result (λ t.
             t ≡ record { layers = []; buffers = frame ∷ []; wanted = wanted }) }
     {
-        let mut buffers = Buffers::new(alloc);
-        buffers.add(frame)?;
-        let layers = Vec::with_capacity(alloc, FEW_LAYERS)?;
-        Ok(TreeBuilder {
+        TreeBuilder::again(Spare::new(alloc), frame, wanted)
+    }
+
+    /// As `keeping`, in the memory of an earlier tree.
+    pub fn again(spare: Spare, frame: Octets, wanted: FieldSet) -> Result<TreeBuilder, NoMemory>
+        requires { length frame < 2 ^ 32 }
+        ensures { IfOk result (λ t.
+            t ≡ record { layers = []; buffers = frame ∷ []; wanted = wanted }) }
+    {
+        let mut spare = spare;
+        match spare.begin(frame) {
+            Ok(()) => Ok(spare.into_builder(wanted)),
+            Err(NoMemory) => {
+                let_spare_go(spare);
+                Err(NoMemory)
+            }
+        }
+    }
+
+    pub(crate) fn from_parts(
+        layers: Vec<Layer>,
+        lists: Vec<Items>,
+        buffers: Buffers,
+        wanted: FieldSet,
+        alloc: Global,
+    ) -> TreeBuilder
+        requires { IsTree (record { layers = layers.items; buffers = buffers; wanted = wanted }) }
+        ensures { result ≡ record { layers = layers.items; buffers = buffers; wanted = wanted } }
+    {
+        TreeBuilder {
             layers,
+            lists,
             buffers,
             wanted,
             alloc,
-        })
+        }
     }
 
     /// Whether the items of a field are kept.
@@ -127,11 +155,12 @@ impl TreeBuilder {
         ensures count { OnOk result (length self.new.layers ≡ length self.old.layers + 1) }
         ensures last { OnOk result (last_proto self.new.layers ≡ proto) }
     {
+        let room = self.room_for(items);
         let layer = Layer {
             proto,
             nth: next_number(&self.layers, proto),
             span,
-            items: Items::with_room(self.alloc, self.room_for(items))?,
+            items: empty_list(self.alloc, &mut self.lists, room)?,
         };
         self.layers.push(layer)?;
         Ok(())
@@ -339,11 +368,12 @@ impl TreeBuilder {
     {
         let TreeBuilder {
             layers,
+            lists,
             buffers,
             wanted,
             alloc,
         } = self;
-        Tree::from_parts(layers, buffers, wanted, alloc)
+        Tree::from_parts(layers, lists, buffers, wanted, alloc)
     }
 
     #[inline(always)]
@@ -362,3 +392,24 @@ impl TreeBuilder {
 }
 
 fn let_go(_item: Item) {}
+
+fn let_spare_go(_spare: Spare) {}
+
+/// An empty list of items: one of an earlier tree, or one with room for so many.
+fn empty_list(alloc: Global, lists: &mut Vec<Items>, room: usize) -> Result<Items, NoMemory>
+    ensures { IfOk result (λ list. list ≡ []) }
+{
+    match lists.pop() {
+        Some(list) => Ok(cleared(list)),
+        None => Items::with_room(alloc, room),
+    }
+}
+
+/// The list without items.
+fn cleared(list: Items) -> Items
+    ensures { result ≡ [] }
+{
+    let mut list = list;
+    list.clear();
+    list
+}

@@ -61,6 +61,17 @@ impl Items {
         })
     }
 
+    pub(crate) fn clear(&mut self)
+        ensures { self.new ≡ [] }
+    {
+        self.all.clear();
+    }
+
+    /// For how many items there is memory.
+    pub(crate) fn room(&self) -> usize {
+        self.all.capacity()
+    }
+
     #[inline(always)]
     pub(crate) fn push(&mut self, item: Item) -> Result<(), NoMemory>
         ensures ok { OnOk result (self.new ≡ self.old ++ item ∷ []) }

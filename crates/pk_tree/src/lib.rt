@@ -8,6 +8,7 @@ mod item;
 mod layer;
 mod layout;
 mod reading;
+mod spare;
 mod table;
 mod tree;
 
@@ -17,5 +18,6 @@ pub use following::{behind, carried, first_of};
 pub use item::{Item, Items, Place};
 pub use layer::{Layer, LayerList};
 pub use layout::{Reach, Step, peek, read_layer};
-pub use table::{Slot, pass_layer, read_table};
+pub use spare::Spare;
+pub use table::{Slot, pass_known, pass_layer, read_known, read_table};
 pub use tree::Tree;

@@ -1,4 +1,5 @@
-ghost use Rattle.std.specs.Prelude.{◌≡◌, ℕ, List, ◌+◌, ◌<◌, ◌≤◌, ◌^◌, false, ◌++◌, length, IfOk, OnOk};
+ghost use Rattle.std.specs.Prelude.{◌≡◌, ℕ, Bool as Truth, List, ◌+◌, ◌<◌, ◌≤◌, ◌^◌, false, ◌++◌, length, IfOk, OnOk};
+ghost use Rattle.pk_base.specs.declared.heads.Mode.{Mode as ModeValue};
 ghost use Rattle.std.specs.List.{slice_index_or};
 ghost use Rattle.pk_tree.specs.Buffers.{IsInside};
 ghost use Rattle.pk_fields.specs.Fields.{row_of};
@@ -66,6 +67,85 @@ pub fn read_table(
     Ok(reach)
 }
 
+/// As `read_table`, of a layer all of whose steps are known to be read: only rows that are wanted are looked at, and no fault
+/// layer follows.
+#[inline(never)]
+pub fn read_known(
+    tree: &mut TreeBuilder,
+    proto: FieldId,
+    span: Span,
+    slots: &[Slot],
+    holds: &[bool],
+    sizes: &[usize],
+) -> Result<(), NoMemory>
+    requires inside { IsInside tree.old.buffers span }
+    requires proto { IsProtocol proto }
+    requires room { length tree.old.layers + 1 < 2 ^ 32 }
+    requires fits { StepsFit proto (steps_of holds.now sizes.now slots.now) }
+    requires known { reach span.len (steps_of holds.now sizes.now slots.now) ≡ Reach.All }
+    ensures layer { OnOk result ((mode : ModeValue) (cut : Truth)
+        → tree.new ≡ layer_read tree.old proto span (steps_of holds.now sizes.now slots.now) mode
+        cut) }
+    ensures buffers { tree.new.buffers ≡ tree.old.buffers }
+    ensures count { OnOk result (length tree.new.layers ≡ length tree.old.layers + 1) }
+    ensures last { OnOk result (last_proto tree.new.layers ≡ proto) }
+{
+    tree.open_with_room(proto, span, slots.len())?;
+    put_slots(tree, span, slots, holds, sizes)
+}
+
+/// Reads slots that can all be read, one by one.
+fn put_slots(
+    tree: &mut TreeBuilder,
+    span: Span,
+    slots: &[Slot],
+    holds: &[bool],
+    sizes: &[usize],
+) -> Result<(), NoMemory>
+    requires inside { IsInside tree.old.buffers span }
+    requires layer { 0 < length tree.old.layers }
+    requires fits { StepsFit (last_proto tree.old.layers) (steps_of holds.now sizes.now slots.now) }
+    requires known { reach span.len (steps_of holds.now sizes.now slots.now) ≡ Reach.All }
+    ensures tree { OnOk result (tree.new ≡ with_items tree.old
+        (items_read tree.old.buffers span (steps_of holds.now sizes.now slots.now))) }
+    ensures buffers { tree.new.buffers ≡ tree.old.buffers }
+    ensures count { length tree.new.layers ≡ length tree.old.layers }
+    ensures last { last_proto tree.new.layers ≡ last_proto tree.old.layers }
+{
+    for slot in slots {
+        put_slot(tree, span, *slot, holds, sizes)?;
+    }
+    Ok(())
+}
+
+/// Reads a slot that can be read, if it isn't the row of a field that isn't wanted.
+#[inline(always)]
+fn put_slot(
+    tree: &mut TreeBuilder,
+    span: Span,
+    slot: Slot,
+    holds: &[bool],
+    sizes: &[usize],
+) -> Result<(), NoMemory>
+    requires inside { IsInside tree.old.buffers span }
+    requires layer { 0 < length tree.old.layers }
+    requires fits { StepFits (last_proto tree.old.layers) (step_of holds.now sizes.now slot) }
+    requires known { step_reach span.len (step_of holds.now sizes.now slot) ≡ Reach.All }
+    ensures tree { OnOk result (tree.new ≡ with_items tree.old
+        (step_items tree.old.buffers span (step_of holds.now sizes.now slot))) }
+    ensures buffers { tree.new.buffers ≡ tree.old.buffers }
+    ensures count { length tree.new.layers ≡ length tree.old.layers }
+    ensures last { last_proto tree.new.layers ≡ last_proto tree.old.layers }
+{
+    if let Slot::Row(field, _) = slot {
+        if !tree.wants(field_of(field)) {
+            return Ok(());
+        }
+    }
+    read_slot(tree, span, slot, holds, sizes)?;
+    Ok(())
+}
+
 /// Opens a layer of which no field is wanted, and closes it. `reach` is how far its steps would be read.
 pub fn pass_layer(
     tree: &mut TreeBuilder,
@@ -90,6 +170,22 @@ pub fn pass_layer(
     tree.open_with_room(proto, span, 0)?;
     close_layer(tree, span, reach, mode, cut)?;
     Ok(())
+}
+
+/// As `pass_layer`, of a layer all of whose steps are known to be read: no fault layer follows.
+pub fn pass_known(tree: &mut TreeBuilder, proto: FieldId, span: Span) -> Result<(), NoMemory>
+    requires inside { IsInside tree.old.buffers span }
+    requires proto { IsProtocol proto }
+    requires room { length tree.old.layers + 1 < 2 ^ 32 }
+    requires none { (f : ℕ) → (row_of f).proto ≡ proto → is_in tree.old.wanted f ≡ false }
+    ensures layer { OnOk result ((steps : List StepValue) (mode : ModeValue) (cut : Truth)
+        → StepsFit proto steps → reach span.len steps ≡ Reach.All
+        → tree.new ≡ layer_read tree.old proto span steps mode cut) }
+    ensures buffers { tree.new.buffers ≡ tree.old.buffers }
+    ensures count { OnOk result (length tree.new.layers ≡ length tree.old.layers + 1) }
+    ensures last { OnOk result (last_proto tree.new.layers ≡ proto) }
+{
+    tree.open_with_room(proto, span, 0)
 }
 
 /// Reads a table, and more steps where all of it was read.

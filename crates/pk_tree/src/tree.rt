@@ -8,8 +8,9 @@ ghost use Rattle.pk_tree.specs.Trees.{IsTree, LayerFits, proto_at, with_item_at,
 ghost use Rattle.pk_tree.specs.Values.{IsOfKind, is_proto};
 
 use crate::buffers::Buffers;
-use crate::item::{Item, Place};
+use crate::item::{Item, Items, Place};
 use crate::layer::{Layer, push_at};
+use crate::spare::Spare;
 use pk_base::{Layers, NoMemory, Value};
 use pk_fields::{FieldId, FieldSet, ValueKind, kind, proto};
 use std::alloc::Global;
@@ -18,6 +19,8 @@ use std::marker::Model;
 /// A dissected frame: its layers, and the buffers that hold their bytes, the frame's own first.
 pub struct Tree {
     layers: Vec<Layer>,
+    /// Lists for the items of layers to come.
+    lists: Vec<Items>,
     buffers: Buffers,
     /// The fields whose items were kept.
     wanted: FieldSet,
@@ -28,6 +31,7 @@ impl Drop for Tree {
     fn drop(self) {
         let Tree {
             layers: _layers,
+            lists: _lists,
             buffers: _buffers,
             wanted: _,
             alloc: _,
@@ -53,6 +57,7 @@ impl Model for Tree {
 impl Tree {
     pub(crate) fn from_parts(
         layers: Vec<Layer>,
+        lists: Vec<Items>,
         buffers: Buffers,
         wanted: FieldSet,
         alloc: Global,
@@ -62,10 +67,30 @@ impl Tree {
     {
         Tree {
             layers,
+            lists,
             buffers,
             wanted,
             alloc,
         }
+    }
+
+    /// Gives its memory back.
+    pub fn into_spare(self) -> Spare {
+        let Tree {
+            layers,
+            lists,
+            buffers,
+            wanted: _,
+            alloc,
+        } = self;
+        let mut spare = Spare {
+            layers,
+            lists,
+            buffers,
+            alloc,
+        };
+        spare.empty();
+        spare
     }
 
     pub fn layers(&self) -> &[Layer]
