@@ -7,16 +7,15 @@ use Rattle.pk_fields.specs.Ids.{HTTP, HTTP_FILE_DATA}
 use Rattle.pk_base.specs.declared.heads.Mode.TheVariants.{Plain as InPlain}
 use Rattle.pk_tree.specs.declared.layout.Step.{Step}
 use Rattle.pk_tree.specs.declared.layout.Step.TheVariants.{Part}
-use Rattle.pk_tree.specs.Entries.{then_on, repeated}
 use Rattle.pk_tree.specs.Layouts.{is_all, reach, layer_read}
 use Rattle.pk_tree.specs.Trees.{TreeShown, with_buffer, with_item, read_of}
 use Rattle.stream_messages.specs.declared.shape.Body.{Body}
 use Rattle.stream_messages.specs.declared.shape.Body.TheVariants.{None as Bodiless, Plain, Chunked, NotShown}
 use Rattle.stream_messages.specs.declared.shape.Piece.{Piece}
 use Rattle.stream_messages.specs.declared.shape.Shape.{Shape}
-use Rattle.stream_messages.specs.Limits.{field_limit}
+use Rattle.stream_messages.specs.Heads.{head_of}
 use Rattle.stream_messages.specs.HttpMessages.{first_message}
-use Rattle.dis_http.specs.Heads.{start_line, field_line}
+use Rattle.dis_http.specs.Heads.{head_rows}
 
 -- a body that is as it stands
 abbrev pub body_steps : ℕ → Body → List Step
@@ -25,10 +24,9 @@ body_steps head (Plain len) = Part HTTP_FILE_DATA head len ∷ []
 body_steps head (Chunked pieces) = []
 body_steps head NotShown = []
 
+-- the rows of the head at the front, and then of the body
 unfoldable pub http_layout : Shape → List ℕ → List Step
-http_layout shape bytes =
-    (then_on (start_line shape.request bytes) (repeated field_limit (field_line bytes))).steps
-    ++ body_steps shape.head shape.body
+http_layout shape bytes = head_rows (head_of bytes) ++ body_steps shape.head shape.body
 
 -- these bytes are one message, of this shape; it may be a response to HEAD
 abbrev pub IsShape : Shape → List ℕ → Type 0

@@ -1,3 +1,4 @@
 pub mod Heads
 pub mod Http
 pub mod Rows
+pub mod Steps

@@ -1,260 +1,122 @@
-ghost use Rattle.std.specs.Prelude.{◌≡◌, ◌==◌, ◌&&◌, ◌+◌, ◌-◌, ◌<◌, ◌≤◌, ◌^◌, ◌++◌, length, take, drop, reverse, Some, None, IfOk, IfSome, OnOk};
-ghost use Rattle.std.specs.List.{prefix_len};
+ghost use Rattle.std.specs.Prelude.{◌≡◌, ◌≤◌, ◌<◌, ◌+◌, ◌^◌, [], ◌∷◌, ◌++◌, List, length, map, take, drop, All, IfOk, OnOk};
 ghost use Rattle.std.specs.Str.{str_eq_ignore_ascii_case};
-ghost use Rattle.httparse.specs.Ascii.{colon, space};
-ghost use Rattle.httparse.specs.Grammar.{is_ows};
-ghost use Rattle.stream_messages.specs.Lines.{is_text};
-ghost use Rattle.pk_tree.specs.Entries.{Adds, repeated};
-ghost use Rattle.stream_messages.specs.Limits.{field_limit as field_limit_is};
-ghost use Rattle.dis_http.specs.Heads.{behind_end, byte_at, code_at, field_line, field_rows, further_field, is_other, lead_of, name_at, phrase_len, raw_at, request_line, run_at, start_line, start_place, status_line, target_place, value_field, value_len, version_at, version_place};
+ghost use Rattle.httparse.specs.Grammar.{Field, print_version};
+ghost use Rattle.httparse.specs.Spans.{IsHeaderWithin};
+ghost use Rattle.pk_base.specs.declared.value.Value.TheVariants.{Text};
+ghost use Rattle.pk_tree.specs.declared.layout.Step.TheVariants.{Made, Part as Row};
+ghost use Rattle.stream_messages.specs.Heads.{head_of};
+ghost use Rattle.stream_messages.specs.Limits.{head_limit};
+ghost use Rattle.stream_messages.specs.Places.{AreLinesAt};
+ghost use Rattle.dis_http.specs.Heads.{fields_told, further_field, head_rows, told_step, value_field};
+ghost use Rattle.dis_http.specs.Steps.{field_steps, line_steps};
 
+use httparse::spans::{EMPTY_HEADER_SPAN, HeaderSpan};
 use pk_base::{HTTP_FIELD_LIMIT, NoMemory, Octets, Value};
 use pk_fields::{FieldId, ids};
 use pk_tree::Step;
 use std::alloc::Global;
+use stream_messages::{FieldPlaces, HeadPlaces, Part, StartLine, field_places, head_places};
 
-/// The bytes of a version.
-const VERSION: usize = 8;
-/// The bytes of a version and a status code, with the space between them.
-const STATUS: usize = 12;
-
-/// Adds the steps of a head's start line, and answers where its field lines are.
-#[tactic(auto, unfolding(crate::specs::Heads::start_line))]
-pub(crate) fn push_start(
-    alloc: Global,
-    steps: &mut Vec<Step>,
-    request: bool,
-    bytes: &[u8],
-) -> Result<usize, NoMemory>
-    requires { length bytes.now < 2 ^ 32 }
-    ensures adds { IfOk result (λ next.
-        Adds steps.old.items steps.new.items (start_line request bytes.now) (Some next)) }
-    ensures bound { IfOk result (λ next. next ≤ length bytes.now + 16) }
+/// Adds the steps of a head's start line and field lines.
+#[tactic(auto, unfolding(stream_messages::specs::Limits::field_limit))]
+pub(crate) fn push_head(alloc: Global, steps: &mut Vec<Step>, head: &[u8]) -> Result<(), NoMemory>
+    requires { length head.now ≤ head_limit }
+    ensures { OnOk result (steps.new.items ≡ steps.old.items ++ head_rows (head_of head.now)) }
 {
-    let at = start_place(bytes);
-    if request {
-        push_request(alloc, steps, bytes, at)
-    } else {
-        push_status(alloc, steps, bytes, at)
+    let mut headers = [EMPTY_HEADER_SPAN; HTTP_FIELD_LIMIT];
+    match head_places(head, &mut headers) {
+        Some(places) => {
+            push_line(alloc, steps, places.line, places.minor)?;
+            push_fields(steps, head, &headers[..places.count], places.next)
+        }
+        None => Ok(()),
     }
 }
 
-/// Where the start line is, behind any empty lines.
-#[tactic(auto, unfolding(crate::specs::Heads::start_place))]
-fn start_place(bytes: &[u8]) -> usize
-    ensures value { result ≡ start_place bytes.now }
-    ensures bound { result ≤ length bytes.now }
-{
-    bytes
-        .iter()
-        .take_while(|byte| **byte == b'\r' || **byte == b'\n')
-        .count()
-}
-
-/// Adds the steps of a request's line at a place.
-#[tactic(auto, unfolding(crate::specs::Heads::request_line))]
-fn push_request(
+/// Adds the steps of a start line.
+fn push_line(
     alloc: Global,
     steps: &mut Vec<Step>,
-    bytes: &[u8],
-    at: usize,
-) -> Result<usize, NoMemory>
-    requires at { at ≤ length bytes.now }
-    requires short { length bytes.now < 2 ^ 32 }
-    ensures adds { IfOk result (λ next.
-        Adds steps.old.items steps.new.items (request_line bytes.now at) (Some next)) }
-    ensures bound { IfOk result (λ next. next ≤ length bytes.now + 16) }
+    line: StartLine,
+    minor: u8,
+) -> Result<(), NoMemory>
+    requires { minor ≤ 1 }
+    ensures { OnOk result (steps.new.items ≡ steps.old.items ++ line_steps minor line) }
 {
-    let target = target_place(bytes, at);
-    let version = version_place(bytes, target);
-    let text = version_at(alloc, bytes, version)?;
-    steps.push(Step::Made(ids::HTTP_REQUEST, Value::Bool(true)))?;
-    steps.push(Step::Part(ids::HTTP_REQUEST_METHOD, at, word_len(bytes, at)))?;
-    steps.push(Step::Part(ids::HTTP_REQUEST_URI, target, word_len(bytes, target)))?;
-    steps.push(Step::Made(ids::HTTP_REQUEST_VERSION, Value::Text(text)))?;
-    Ok(behind_end(bytes, version + VERSION))
-}
-
-/// Where a request's target is, behind its method and a space.
-#[tactic(auto, unfolding(crate::specs::Heads::target_place))]
-fn target_place(bytes: &[u8], at: usize) -> usize
-    requires at { at ≤ length bytes.now }
-    requires short { length bytes.now < 2 ^ 32 }
-    ensures value { result ≡ target_place bytes.now at }
-    ensures bound { result ≤ length bytes.now + 1 }
-{
-    at + word_len(bytes, at) + 1
-}
-
-/// Where a request's version is, behind its target and a space.
-#[tactic(auto, unfolding(crate::specs::Heads::version_place))]
-fn version_place(bytes: &[u8], target: usize) -> usize
-    requires at { target ≤ length bytes.now + 1 }
-    requires short { length bytes.now < 2 ^ 32 }
-    ensures value { result ≡ version_place bytes.now target }
-    ensures bound { result ≤ length bytes.now + 2 }
-{
-    target + word_len(bytes, target) + 1
-}
-
-/// Adds the steps of a response's line at a place.
-#[tactic(auto, unfolding(crate::specs::Heads::status_line))]
-fn push_status(
-    alloc: Global,
-    steps: &mut Vec<Step>,
-    bytes: &[u8],
-    at: usize,
-) -> Result<usize, NoMemory>
-    requires at { at ≤ length bytes.now }
-    requires short { length bytes.now < 2 ^ 32 }
-    ensures adds { IfOk result (λ next.
-        Adds steps.old.items steps.new.items (status_line bytes.now at) (Some next)) }
-    ensures bound { IfOk result (λ next. next ≤ length bytes.now + 16) }
-{
-    let text = version_at(alloc, bytes, at)?;
-    let code = u64::from(code_at(bytes, at + VERSION + 1));
-    let phrase = phrase_len(bytes, at + STATUS);
-    steps.push(Step::Made(ids::HTTP_RESPONSE, Value::Bool(true)))?;
-    steps.push(Step::Made(ids::HTTP_RESPONSE_VERSION, Value::Text(text)))?;
-    steps.push(Step::Made(ids::HTTP_RESPONSE_CODE, Value::Uint(code)))?;
-    steps.push(Step::Part(ids::HTTP_RESPONSE_PHRASE, at + STATUS + 1, phrase))?;
-    let end = at + STATUS + text_len(bytes, at + STATUS);
-    Ok(behind_end(bytes, end))
-}
-
-/// The three digits at a place.
-#[tactic(auto, unfolding(crate::specs::Heads::code_at))]
-fn code_at(bytes: &[u8], at: usize) -> u16
-    requires { at < 2 ^ 63 }
-    ensures value { result ≡ code_at bytes.now at }
-    ensures bound { result < 2 ^ 16 }
-{
-    digit_at(bytes, at) * 100 + digit_at(bytes, at + 1) * 10 + digit_at(bytes, at + 2)
-}
-
-fn digit_at(bytes: &[u8], at: usize) -> u16
-    ensures value { result ≡ byte_at bytes.now at - 48 }
-    ensures bound { result < 208 }
-{
-    u16::from(byte_at(bytes, at).saturating_sub(b'0'))
-}
-
-/// The bytes of the reason phrase behind its space, where the line has one.
-#[tactic(auto, unfolding(crate::specs::Heads::phrase_len))]
-fn phrase_len(bytes: &[u8], at: usize) -> usize
-    requires { at < 2 ^ 63 }
-    ensures { result ≡ phrase_len bytes.now at }
-{
-    if byte_at(bytes, at) == b' ' {
-        text_len(bytes, at + 1)
-    } else {
-        0
-    }
-}
-
-/// Adds the steps of a head's field lines from a place on.
-pub(crate) fn push_fields(steps: &mut Vec<Step>, bytes: &[u8], at: usize) -> Result<(), NoMemory>
-    requires at { at ≤ length bytes.now + 16 }
-    requires short { length bytes.now < 2 ^ 32 }
-    ensures { OnOk result (steps.new.items
-        ≡ steps.old.items ++ (repeated field_limit_is (field_line bytes.now) at).steps) }
-{
-    push_lines(steps, bytes, field_limit(), at)
-}
-
-/// Adds the steps of at most so many field lines from a place on.
-fn push_lines(steps: &mut Vec<Step>, bytes: &[u8], most: usize, at: usize) -> Result<(), NoMemory>
-    requires at { at ≤ length bytes.now + 16 }
-    requires short { length bytes.now < 2 ^ 32 }
-    ensures { OnOk result (steps.new.items
-        ≡ steps.old.items ++ (repeated most (field_line bytes.now) at).steps) }
-{
-    let mut place = at;
-    for _field in 0..most {
-        match push_field(steps, bytes, place)? {
-            Some(next) => place = next,
-            None => return Ok(()),
+    match line {
+        StartLine::Request { method, target } => {
+            steps.push(Step::Made(ids::HTTP_REQUEST, Value::Bool(true)))?;
+            push_part(steps, ids::HTTP_REQUEST_METHOD, method)?;
+            push_part(steps, ids::HTTP_REQUEST_URI, target)?;
+            push_version(alloc, steps, ids::HTTP_REQUEST_VERSION, minor)
+        }
+        StartLine::Response { code, phrase } => {
+            steps.push(Step::Made(ids::HTTP_RESPONSE, Value::Bool(true)))?;
+            push_version(alloc, steps, ids::HTTP_RESPONSE_VERSION, minor)?;
+            let code = u64::from(code);
+            steps.push(Step::Made(ids::HTTP_RESPONSE_CODE, Value::Uint(code)))?;
+            push_part(steps, ids::HTTP_RESPONSE_PHRASE, phrase)
         }
     }
+}
+
+/// Adds the step of a part that is told as it stands.
+fn push_part(steps: &mut Vec<Step>, field: FieldId, part: Part) -> Result<(), NoMemory>
+    ensures { OnOk result (steps.new.items ≡ steps.old.items ++ Row field part.at part.len ∷ []) }
+{
+    steps.push(Step::Part(field, part.at, part.len))?;
     Ok(())
 }
 
-/// The field lines of a head, at most.
-#[tactic(auto, unfolding(stream_messages::specs::Limits::field_limit))]
-fn field_limit() -> usize
-    ensures { result ≡ field_limit_is }
-{
-    HTTP_FIELD_LIMIT
-}
-
-/// Adds the steps of the field line at a place, and answers where the next one is.
-#[tactic(auto, unfolding(crate::specs::Heads::field_line))]
-fn push_field(steps: &mut Vec<Step>, bytes: &[u8], at: usize) -> Result<Option<usize>, NoMemory>
-    requires at { at ≤ length bytes.now + 16 }
-    requires short { length bytes.now < 2 ^ 32 }
-    ensures adds { IfOk result (Adds steps.old.items steps.new.items (field_line bytes.now at)) }
-    ensures bound { IfOk result (λ next. IfSome next (λ place. place ≤ length bytes.now + 16)) }
-{
-    if text_len(bytes, at) == 0 {
-        return Ok(None);
-    }
-    let name = name_at(bytes, at);
-    let place = at + name.len() + 1;
-    let raw = raw_at(bytes, place);
-    push_rows(steps, at, name, place, raw)?;
-    Ok(Some(behind_end(bytes, place + raw.len())))
-}
-
-/// Adds the steps of a field's name and of its value, which is among the bytes behind its colon.
-fn push_rows(
+/// Adds the step of a version.
+fn push_version(
+    alloc: Global,
     steps: &mut Vec<Step>,
-    at: usize,
-    name: &[u8],
-    place: usize,
-    raw: &[u8],
+    field: FieldId,
+    minor: u8,
 ) -> Result<(), NoMemory>
-    requires place { place < 2 ^ 40 }
-    requires short { length raw.now < 2 ^ 32 }
+    requires { minor ≤ 1 }
     ensures { OnOk result (steps.new.items
-        ≡ steps.old.items ++ field_rows at name.now place raw.now) }
+        ≡ steps.old.items ++ Made field (Text (print_version minor)) ∷ []) }
 {
-    let value = place + lead_of(raw);
-    let len = value_len(raw);
-    steps.push(Step::Part(ids::HTTP_HEADER_NAME, at, name.len()))?;
-    steps.push(Step::Part(ids::HTTP_HEADER_VALUE, value, len))?;
-    if let Some(field) = value_field(name) {
-        steps.push(Step::Part(field, value, len))?;
+    let version = [b'H', b'T', b'T', b'P', b'/', b'1', b'.', b'0' + minor];
+    let text = Octets::copy(alloc, &version)?;
+    steps.push(Step::Made(field, Value::Text(text)))?;
+    Ok(())
+}
+
+/// Adds the steps of field lines from a place on.
+fn push_fields(
+    steps: &mut Vec<Step>,
+    head: &[u8],
+    headers: &[HeaderSpan],
+    at: usize,
+) -> Result<(), NoMemory>
+    requires short { length head.now ≤ head_limit }
+    requires at { at ≤ length head.now }
+    requires within { All (IsHeaderWithin (length head.now)) headers.now }
+    ensures { OnOk result ((fields : List Field) → AreLinesAt head.now at headers.now fields
+        → steps.new.items ≡ steps.old.items ++ map told_step (fields_told at fields)) }
+{
+    let mut place = at;
+    for header in headers {
+        let field = field_places(head, place, *header);
+        push_field(steps, header.name.of(head), field)?;
+        place = field.next;
     }
     Ok(())
 }
 
-/// The white space before a value.
-#[tactic(auto, unfolding(crate::specs::Heads::lead_of))]
-fn lead_of(raw: &[u8]) -> usize
-    ensures value { result ≡ lead_of raw.now }
-    ensures bound { result ≤ length raw.now }
+/// Adds the steps of a field's name and of its value.
+fn push_field(steps: &mut Vec<Step>, name: &[u8], field: FieldPlaces) -> Result<(), NoMemory>
+    ensures { OnOk result (steps.new.items ≡ steps.old.items ++ field_steps name.now field) }
 {
-    raw.iter()
-        .take_while(|byte| **byte == b' ' || **byte == b'\t')
-        .count()
-}
-
-/// The bytes of a value without the white space around it.
-#[tactic(auto, unfolding(crate::specs::Heads::value_len))]
-fn value_len(raw: &[u8]) -> usize
-    ensures { result ≡ value_len raw.now }
-{
-    (raw.len() - lead_of(raw)).saturating_sub(trail_of(raw))
-}
-
-/// The white space behind a value.
-fn trail_of(raw: &[u8]) -> usize
-    ensures { result ≡ prefix_len is_ows (reverse raw.now) }
-{
-    raw.iter()
-        .rev()
-        .take_while(|byte| **byte == b' ' || **byte == b'\t')
-        .count()
+    push_part(steps, ids::HTTP_HEADER_NAME, field.name)?;
+    push_part(steps, ids::HTTP_HEADER_VALUE, field.value)?;
+    match value_field(name) {
+        Some(known) => push_part(steps, known, field.value),
+        None => Ok(()),
+    }
 }
 
 /// The item that a field's value has besides, by the field's name.
@@ -319,87 +181,6 @@ fn is_named(name: &[u8], wanted: &[u8]) -> bool
     ensures { result ≡ str_eq_ignore_ascii_case name.now wanted.now }
 {
     name.eq_ignore_ascii_case(wanted)
-}
-
-/// How many bytes stand at a place before a space.
-fn word_len(bytes: &[u8], at: usize) -> usize
-    ensures value { result ≡ run_at (is_other space) bytes.now at }
-    ensures bound { result ≤ length bytes.now - at }
-{
-    tail(bytes, at)
-        .iter()
-        .take_while(|byte| **byte != b' ')
-        .count()
-}
-
-/// How many bytes stand at a place before a line's end.
-fn text_len(bytes: &[u8], at: usize) -> usize
-    ensures value { result ≡ run_at is_text bytes.now at }
-    ensures bound { result ≤ length bytes.now - at }
-{
-    tail(bytes, at)
-        .iter()
-        .take_while(|byte| **byte != b'\r' && **byte != b'\n')
-        .count()
-}
-
-/// The name of the field at a place: the bytes before its colon.
-fn name_at(bytes: &[u8], at: usize) -> &[u8]
-    ensures value { result.now ≡ name_at bytes.now at }
-    ensures bound { length result.now ≤ length bytes.now - at }
-{
-    let len = name_len(bytes, at);
-    &tail(bytes, at)[..len]
-}
-
-fn name_len(bytes: &[u8], at: usize) -> usize
-    ensures value { result ≡ run_at (is_other colon) bytes.now at }
-    ensures bound { result ≤ length bytes.now - at }
-{
-    tail(bytes, at)
-        .iter()
-        .take_while(|byte| **byte != b':')
-        .count()
-}
-
-/// The bytes between a field's colon and its line's end.
-fn raw_at(bytes: &[u8], at: usize) -> &[u8]
-    ensures value { result.now ≡ raw_at bytes.now at }
-    ensures bound { length result.now ≤ length bytes.now - at }
-{
-    let len = text_len(bytes, at);
-    &tail(bytes, at)[..len]
-}
-
-/// The version at a place.
-fn version_at(alloc: Global, bytes: &[u8], at: usize) -> Result<Octets, NoMemory>
-    ensures { IfOk result (λ version. version ≡ version_at bytes.now at) }
-{
-    Octets::copy(alloc, front(tail(bytes, at), VERSION))
-}
-
-/// The place behind a line's end.
-#[tactic(auto, unfolding(crate::specs::Heads::behind_end))]
-fn behind_end(bytes: &[u8], at: usize) -> usize
-    requires { at < 2 ^ 63 }
-    ensures value { result ≡ behind_end bytes.now at }
-    ensures bound { result ≤ at + 2 }
-{
-    if byte_at(bytes, at) == b'\r' {
-        at + 2
-    } else {
-        at + 1
-    }
-}
-
-/// The byte at a place, or 0 where it isn't there.
-fn byte_at(bytes: &[u8], at: usize) -> u8
-    ensures { result ≡ byte_at bytes.now at }
-{
-    match bytes.get(at) {
-        Some(byte) => *byte,
-        None => 0,
-    }
 }
 
 /// The bytes from a place on.

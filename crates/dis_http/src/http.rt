@@ -6,7 +6,7 @@ ghost use Rattle.stream_messages.specs.Sizes.{size_of_pieces};
 ghost use Rattle.dis_http.specs.Rows.{RowsLaw};
 ghost use Rattle.dis_http.specs.Http.{IsShape, body_steps, chunked_read, http_layout, http_read, joined, plain_read};
 
-use crate::heads::{front, push_fields, push_start, tail};
+use crate::heads::{front, push_head, tail};
 use pk_base::{Mode, NoMemory, Octets, Span};
 use pk_fields::ids;
 use pk_tree::{Step, TreeBuilder, read_layer};
@@ -103,7 +103,7 @@ fn joined(alloc: Global, bytes: &[u8], pieces: &[Piece]) -> Result<Octets, NoMem
 
 /// The steps of a message's layer.
 fn http_steps(alloc: Global, shape: &Shape, bytes: &[u8]) -> Result<Vec<Step>, NoMemory>
-    requires { length bytes.now < 2 ^ 32 }
+    requires { IsShape shape.now bytes.now }
     ensures layout { IfOk result (λ steps. steps.items ≡ http_layout shape.now bytes.now) }
     ensures fits { IfOk result (λ steps. StepsFit HTTP steps.items) }
 {
@@ -112,7 +112,7 @@ fn http_steps(alloc: Global, shape: &Shape, bytes: &[u8]) -> Result<Vec<Step>, N
     Ok(steps)
 }
 
-/// Adds the steps of a message's start line, field lines and body.
+/// Adds the steps of a message's head and body.
 #[tactic(auto, unfolding(crate::specs::Http::http_layout))]
 fn push_layout(
     alloc: Global,
@@ -120,11 +120,10 @@ fn push_layout(
     shape: &Shape,
     bytes: &[u8],
 ) -> Result<(), NoMemory>
-    requires { length bytes.now < 2 ^ 32 }
+    requires { IsShape shape.now bytes.now }
     ensures { OnOk result (steps.new.items ≡ steps.old.items ++ http_layout shape.now bytes.now) }
 {
-    let at = push_start(alloc, steps, shape.request, bytes)?;
-    push_fields(steps, bytes, at)?;
+    push_head(alloc, steps, front(bytes, shape.head))?;
     push_body(steps, shape)
 }
 

@@ -16,6 +16,7 @@ pub mod LengthLemmas
 pub mod ListingLemmas
 pub mod MessageLemmas
 pub mod PassingLemmas
+pub mod PlaceLemmas
 pub mod RunLemmas
 pub mod SideLemmas
 pub mod SizeLemmas

@@ -10,6 +10,7 @@ pub mod Limits
 pub mod LineFacts
 pub mod Lines
 pub mod Messages
+pub mod Places
 pub mod PlanFacts
 pub mod Plans
 pub mod Searches

@@ -45,8 +45,9 @@ fn start_at(bytes: &[u8]) -> &[u8]
 }
 
 /// How many CR and LF stand at the front.
-fn newlines(bytes: &[u8]) -> usize
-    ensures { result ≡ prefix_len is_newline bytes.now }
+pub(crate) fn newlines(bytes: &[u8]) -> usize
+    ensures value { result ≡ prefix_len is_newline bytes.now }
+    ensures bound { result ≤ length bytes.now }
 {
     bytes
         .iter()
