@@ -1,27 +1,19 @@
 -- A fragment's answer, and what the joins stand for afterwards.
-use Rattle.std.proofs.Common.{◌≡◌, cond, List, [], ◌∷◌, ◌++◌, Option, None, Some, unwrap_or, sym, ap, ◌∙◌}
-use Rattle.std.specs.BTreeMap as tree
-use Rattle.std.specs.Ordering.{eq_by_cmp}
-use Rattle.ip_join.specs.declared.joins.Joins.{Joins}
+use Rattle.std.proofs.Common.{◌≡◌, ◌<◌, ℕ, zero, suc, Bool, true, false, ◌&&◌, ◌||◌, not, cond, List, [], ◌∷◌, ◌++◌, Option, None, Some, is_some, ltb, leb, refl, sym, ap, ◌∙◌, nat_cmp, arith}
+use Rattle.std.specs.Option.{option_or, option_map}
+use Rattle.std.specs.FinMap.{get, empty, get-empty}
+use Rattle.std.proofs.lemmas.Bool.{false≢true, and_parts, and_right, ltb-true, leb-true, le-ltb}
+use Rattle.range_bytes.specs.Held.{Cell, Held, run_cell}
+use Rattle.range_bytes.proofs.Runs.{get-put_run, run_cell-before}
 use Rattle.ip_join.specs.declared.joined.ConflictKind.{ConflictKind}
+use Rattle.ip_join.specs.declared.joined.ConflictKind.TheVariants.{TooLong, MultipleTails, Overlap6}
 use Rattle.ip_join.specs.declared.joined.Datagram.{Datagram}
-use Rattle.ip_join.specs.declared.joined.Joined.{Joined}
 use Rattle.ip_join.specs.declared.joined.Joined.TheVariants.{Pending, Conflict}
 use Rattle.ip_join.specs.declared.fragment.Fragment.{Fragment}
-use Rattle.ip_join.specs.declared.key.Key.{Key}
-use Rattle.ip_join.specs.KeyOrder.{key_of, key_cmp}
-use Rattle.ip_join.specs.Datagrams.{conflict_of, datagram_if_whole, completed, joined_unless, joined_of}
-use Rattle.ip_join.specs.Stands.{left_after, counted_for, joined_by, Stands}
-use Rattle.ip_join.proofs.StandsLemmas.{counted_is, stands_more, put_again}
-
--- what is kept by one key changes
-abbrev pub ChangesAt : Joins → Joins → Key → Option (List Fragment) → Type 0
-ChangesAt old new key left = (q : Key) → tree.get key_cmp new.parts q ≡ cond (eq_by_cmp key_cmp key q) left (tree.get key_cmp old.parts q)
-
-pub counted_parts : (past : List Fragment) (old : Joins) (f : Fragment) (key : Key) (parts : List Fragment) → Stands past old → key ≡ key_of f.head
-    → parts ≡ unwrap_or (tree.get key_cmp old.parts key) [] → parts ≡ counted_for f past
-counted_parts past old f key parts stands same is =
-    is ∙ ap (λ (k : Key). unwrap_or (tree.get key_cmp old.parts k) []) same ∙ counted_is past old f stands
+use Rattle.ip_join.specs.Fragments.{end_of, map_of, holds_below}
+use Rattle.ip_join.specs.Datagrams.{conflict_of, datagram_if_whole, datagram_of, end_if_held, completed, joined_unless, joined_of}
+use Rattle.ip_join.specs.Stands.{counted_for, joined_by}
+use Rattle.ip_join.specs.Waiting.{waits_alone}
 
 pub conflict_is : (past : List Fragment) (f : Fragment) (parts : List Fragment) (r : Option ConflictKind) (kind : ConflictKind) → parts ≡ counted_for f past
     → r ≡ conflict_of parts f → r ≡ Some kind → Conflict kind ≡ joined_by past f
@@ -39,22 +31,42 @@ completed_is past f parts more r whole counted is none more_is whole_is =
     let last : whole ≡ datagram_if_whole (counted_for f past ++ f ∷ []) f.head = whole_is ∙ ap (λ (c : List Fragment). datagram_if_whole c f.head) same in
     ap completed last ∙ sym (ap (λ (o : Option ConflictKind). joined_unless o (counted_for f past) f) found)
 
-pub stands_gone : (past : List Fragment) (old new : Joins) (f : Fragment) (key : Key) (joined : Joined) → Stands past old → key ≡ key_of f.head
-    → ChangesAt old new key None → joined ≡ joined_by past f → ((fs : List Fragment) → left_after joined fs ≡ []) → Stands (f ∷ past) new
-stands_gone past old new f key joined stands same out is nothing =
-    let fs = counted_for f past ++ f ∷ [] in
-    stands_more past old new f None stands
-    (λ q. out q ∙ ap (λ (k : Key). cond (eq_by_cmp key_cmp k q) None (tree.get key_cmp old.parts q)) same)
-    (sym (ap (λ (j : Joined). left_after j fs) (sym is) ∙ nothing fs))
+-- ---- the first fragment of a datagram
 
-pub stands_kept : (past : List Fragment) (old without new : Joins) (f : Fragment) (key : Key) (parts more : List Fragment) → Stands past old → key ≡ key_of f.head
-    → ChangesAt old without key None → ChangesAt without new key (Some more) → parts ≡ counted_for f past → more ≡ parts ++ f ∷ []
-    → Pending ≡ joined_by past f → Stands (f ∷ past) new
-stands_kept past old without new f key parts more stands same out back counted more_is is =
-    let fs = counted_for f past ++ f ∷ [] in
-    stands_more past old new f (Some more) stands
-    (λ q. back q
-    ∙ ap (λ (o : Option (List Fragment)). cond (eq_by_cmp key_cmp key q) (Some more) o) (out q)
-    ∙ put_again (eq_by_cmp key_cmp key q) (Some more) (tree.get key_cmp old.parts q)
-    ∙ ap (λ (k : Key). cond (eq_by_cmp key_cmp k q) (Some more) (tree.get key_cmp old.parts q)) same)
-    (more_is ∙ ap (λ (c : List Fragment). c ++ f ∷ []) counted ∙ ap (λ (j : Joined). left_after j fs) is)
+not_below : (held : Held) (n : ℕ) → get held 0 ≡ None → holds_below held (suc n) ≡ false
+not_below held zero none = rw none refl
+not_below held (suc n) none = and_right (is_some (get held (suc n))) (holds_below held (suc n)) (not_below held n none)
+
+not_held : (held : Held) (n : ℕ) → get held 0 ≡ None → 0 < n → holds_below held n ≡ false
+not_held held zero none some = absurd (omega (arith, some))
+not_held held (suc n) none some = not_below held n none
+
+none_at : (f : Fragment) → 0 < f.head.offset → get (map_of (f ∷ [])) 0 ≡ None
+none_at f some =
+    get-put_run empty f.head.offset f.bytes f.frame 0
+    ∙ ap (λ (o : Option Cell). option_or o (run_cell f.head.offset f.bytes f.frame 0)) (get-empty nat_cmp 0)
+    ∙ run_cell-before f.head.offset f.bytes f.frame 0 some
+
+none_goes_against : (long six more : Bool) → long ≡ false → cond long (Some TooLong) (cond (not more && false) (Some MultipleTails) (cond (six && false) (Some Overlap6) None)) ≡ None
+none_goes_against true six more short = absurd (false≢true (sym short))
+none_goes_against false true true short = refl
+none_goes_against false true false short = refl
+none_goes_against false false true short = refl
+none_goes_against false false false short = refl
+
+not_whole : (f : Fragment) (more : Bool) → (more || ltb 0 f.head.offset) ≡ true → option_map (datagram_of (f ∷ []) f.head) (end_if_held (f ∷ []) (cond more None (Some (end_of f)))) ≡ None
+not_whole f true waits = refl
+not_whole f false waits =
+    let behind : 0 < f.head.offset = ltb-true 0 f.head.offset waits in
+    ap (λ (b : Bool). option_map (datagram_of (f ∷ []) f.head) (cond b (Some (end_of f)) None)) (not_held (map_of (f ∷ [])) (end_of f) (none_at f behind) (omega (arith, behind)))
+
+pub waits_pending : (f : Fragment) → waits_alone f ≡ true → joined_of [] f ≡ Pending
+unfolding joined_of
+waits_pending f waits =
+    let parts = and_parts (leb (end_of f) 65535) (f.head.more || ltb 0 f.head.offset) waits in
+    let none : conflict_of [] f ≡ None = none_goes_against (ltb 65535 (end_of f)) f.head.six f.head.more (le-ltb 65535 (end_of f) (leb-true (end_of f) 65535 parts.0)) in
+    ap (λ (o : Option ConflictKind). joined_unless o [] f) none ∙ ap completed (not_whole f f.head.more parts.1)
+
+pub pending_is : (past : List Fragment) (f : Fragment) → waits_alone f ≡ true → counted_for f past ≡ [] → Pending ≡ joined_by past f
+unfolding joined_by
+pending_is past f waits none = sym (ap (λ (c : List Fragment). joined_of c f) none ∙ waits_pending f waits)

@@ -1,5 +1,5 @@
 -- A datagram has no more bytes than its fragments brought, and what waits is what was taken and not joined.
-use Rattle.std.proofs.Common.{◌≡◌, ℕ, Bool, ◌+◌, ◌≤◌, List, [], ◌∷◌, ◌++◌, Option, unwrap_or, option_map, sum_by, length, ap, arith}
+use Rattle.std.proofs.Common.{◌≡◌, ℕ, Bool, ◌+◌, ◌≤◌, List, [], ◌∷◌, ◌++◌, Option, None, Some, unwrap_or, option_map, sum_by, length, refl, ap, ◌∙◌, arith}
 use Rattle.std.specs.BTreeMap as tree
 use Rattle.std.specs.BTreeMap.{insert_entry}
 use Rattle.std.specs.FinMap.{empty}
@@ -12,10 +12,11 @@ use Rattle.std.proofs.lemmas.Map.Entries.{sum_by-remove_entry}
 use Rattle.range_bytes.specs.Held.{Held, HoldsAll, held_below, put_run}
 use Rattle.range_bytes.proofs.Counting.{none_below, put_few, run_fits}
 use Rattle.ip_join.specs.declared.fragment.Fragment.{Fragment}
-use Rattle.ip_join.specs.declared.joins.Joins.{Joins}
-use Rattle.ip_join.specs.declared.key.Key.{Key}
+use Rattle.pk_base.specs.declared.heads.FragmentHead.{FragmentHead}
+use Rattle.ip_join.specs.declared.kept.Kept.{Kept}
+use Rattle.ip_join.specs.declared.kept.Kept.TheVariants.{One, Many}
+use Rattle.ip_join.specs.Forms.{bytes_kept, bytes_kept_in, fragments_of}
 use Rattle.ip_join.specs.Fragments.{bytes_in, put_fragments, map_of}
-use Rattle.ip_join.specs.Waiting.{bytes_waiting}
 
 -- ---- the bytes of one datagram's fragments
 
@@ -34,33 +35,35 @@ whole_brought gs end all = omega (arith, run_fits (map_of gs) 0 end all, put_mos
 
 -- ---- the bytes of all of them
 
-abbrev total : List (Key × List Fragment) → ℕ
-total es = sum_by bytes_in (values_of es)
+kept_in : (found : Option Kept) → bytes_kept_in found ≡ unwrap_or (option_map bytes_kept found) 0
+kept_in None = refl
+kept_in (Some kept) = refl
 
-put_in : (cmp : Key → Key → Ordering) (es : List (Key × List Fragment)) (key : Key) (gs : List Fragment) → total (insert_entry cmp es key gs) ≤ total es + bytes_in gs
-put_in cmp [] key gs = omega (arith, sum_by-cons bytes_in gs [])
-put_in cmp (e ∷ es) key gs = by (cmp key e.0) (put_in cmp es key gs)
-  where
-    by : (r : Ordering) → total (insert_entry cmp es key gs) ≤ total es + bytes_in gs
-        → total (match_ordering r ((key, gs) ∷ e ∷ es) ((e.0, gs) ∷ es) (e ∷ insert_entry cmp es key gs)) ≤ total (e ∷ es) + bytes_in gs
-    by Less rest = omega (arith, sum_by-cons bytes_in gs (values_of (e ∷ es)))
-    by Equal rest = omega (arith, sum_by-cons bytes_in gs (values_of es), sum_by-cons bytes_in e.1 (values_of es))
-    by Greater rest = omega (arith, rest, sum_by-cons bytes_in e.1 (values_of es), sum_by-cons bytes_in e.1 (values_of (insert_entry cmp es key gs)))
+-- by whatever head of their datagram they are read
+pub bytes_of : (head : FragmentHead) (kept : Kept) → bytes_in (fragments_of head kept) ≡ bytes_kept kept
+bytes_of head (One lone) = omega arith
+bytes_of head (Many parts) = refl
 
-abbrev pub Kept : Type 0
-Kept = tree.BTreeMap Key (List Fragment)
+module _ {K : Type 0} where
+  abbrev pub total : List (K × Kept) → ℕ
+  total es = sum_by bytes_kept (values_of es)
 
-abbrev pub with_parts : Joins → Kept → Joins
-with_parts joins parts = record { alloc = joins.alloc; parts = parts }
+  put_in : (cmp : K → K → Ordering) (es : List (K × Kept)) (key : K) (kept : Kept) → total (insert_entry cmp es key kept) ≤ total es + bytes_kept kept
+  put_in cmp [] key kept = omega (arith, sum_by-cons bytes_kept kept [])
+  put_in cmp (e ∷ es) key kept = by (cmp key e.0) (put_in cmp es key kept)
+    where
+      by : (r : Ordering) → total (insert_entry cmp es key kept) ≤ total es + bytes_kept kept
+          → total (match_ordering r ((key, kept) ∷ e ∷ es) ((e.0, kept) ∷ es) (e ∷ insert_entry cmp es key kept)) ≤ total (e ∷ es) + bytes_kept kept
+      by Less rest = omega (arith, sum_by-cons bytes_kept kept (values_of (e ∷ es)))
+      by Equal rest = omega (arith, sum_by-cons bytes_kept kept (values_of es), sum_by-cons bytes_kept e.1 (values_of es))
+      by Greater rest = omega (arith, rest, sum_by-cons bytes_kept e.1 (values_of es), sum_by-cons bytes_kept e.1 (values_of (insert_entry cmp es key kept)))
 
-pub waiting_more : (cmp : Key → Key → Ordering) (old : Joins) (new : Kept) (key : Key) (kept parts : List Fragment) → new.entries ≡ insert_entry cmp old.parts.entries key kept → kept ≡ parts
-    → bytes_waiting (with_parts old new) ≤ bytes_waiting old + bytes_in parts
-unfolding bytes_waiting
-waiting_more cmp old new key kept parts entries is = omega (arith, ap total entries, put_in cmp old.parts.entries key kept, ap bytes_in is)
+  pub waiting_more : (cmp : K → K → Ordering) (old new : tree.BTreeMap K Kept) (key : K) (kept : Kept) → new.entries ≡ insert_entry cmp old.entries key kept
+      → sum_by bytes_kept (tree.values new) ≤ sum_by bytes_kept (tree.values old) + bytes_kept kept
+  waiting_more cmp old new key kept entries = omega (arith, ap total entries, put_in cmp old.entries key kept)
 
-pub waiting_less : (test : Key → Bool) (old : Joins) (new : Kept) (found : Option (List Fragment)) → new.entries ≡ remove_entry test old.parts.entries → found ≡ lookup test old.parts.entries
-    → bytes_waiting (with_parts old new) + unwrap_or (option_map bytes_in found) 0 ≡ bytes_waiting old
-unfolding bytes_waiting
-waiting_less test old new found entries is =
-    let gone : unwrap_or (option_map bytes_in found) 0 ≡ unwrap_or (option_map bytes_in (lookup test old.parts.entries)) 0 = ap (λ (o : Option (List Fragment)). unwrap_or (option_map bytes_in o) 0) is in
-    omega (arith, ap total entries, gone, sum_by-remove_entry bytes_in test old.parts.entries)
+  pub waiting_less : (test : K → Bool) (old new : tree.BTreeMap K Kept) (found : Option Kept) → new.entries ≡ remove_entry test old.entries → found ≡ lookup test old.entries
+      → bytes_kept_in found + sum_by bytes_kept (tree.values new) ≡ sum_by bytes_kept (tree.values old)
+  waiting_less test old new found entries is =
+      let gone : bytes_kept_in found ≡ unwrap_or (option_map bytes_kept (lookup test old.entries)) 0 = ap bytes_kept_in is ∙ kept_in (lookup test old.entries) in
+      omega (arith, ap total entries, gone, sum_by-remove_entry bytes_kept test old.entries)

@@ -70,17 +70,6 @@ impl Parts {
         }
     }
 
-    /// The one fragment, if no other is there.
-    pub(crate) fn alone(&self) -> Option<&Fragment>
-        ensures alone { IfSome result (λ fragment. self.now ≡ fragment.now ∷ []) }
-        ensures short { IfSome result (λ fragment. end_of fragment.now ≤ 65535) }
-    {
-        if self.counted.len() != 1 {
-            return None;
-        }
-        Some(&self.counted[0])
-    }
-
     /// How a fragment goes against these, if it does.
     pub(crate) fn conflict(&self, new: &Fragment) -> Option<ConflictKind>
         ensures kind { (new.now.head.six ≡ true → AreFirst self.now)
@@ -244,11 +233,11 @@ fn keep_first(firsts: &mut BTreeMap<u32, Octets>, new: &Fragment) -> Result<(), 
     Ok(())
 }
 
-/// One more fragment. One alone takes no more memory than it needs.
+/// One more fragment. A few take no more memory than they need.
 fn push(counted: &mut Vec<Fragment>, new: Fragment) -> Result<(), NoMemory>
     ensures { OnOk result (counted.new.items ≡ counted.old.items ++ new ∷ []) }
 {
-    if counted.is_empty() {
+    if counted.len() < 4 {
         counted.reserve_exact(1)?;
     }
     counted.push(new)?;

@@ -1,5 +1,6 @@
-use Rattle.ip_join.proofs.WaitingLemmas.{waiting_more}
+use Rattle.std.proofs.lemmas.Result.{on_ok_weaker}
+use Rattle.ip_join.specs.declared.kept.Kept.TheVariants.{Many}
 use Rattle.ip_join.proofs.joins.Joins.keep.Goals as goal
 
-pub returns-clause-waiting : goal.returns-clause-waiting
-returns-clause-waiting c = waiting_more _ c.args.self.now c.insert.new.self c.args.key _ c.args.parts c.in_ok-insert.ensures.entries c.in_ok-new.ensures
+pub returns-clause-kept : goal.returns-clause-kept
+returns-clause-kept c = on_ok_weaker c.put.result (λ kept. (Many c.in_ok-new.field-0, λ head. c.in_ok-new.ensures.ok, kept)) c.put.ensures.kept
