@@ -107,12 +107,15 @@ fn is_shown(words: &str, met: &Met) -> bool {
     }
 }
 
-/// Whether words tell what a segment is to its stream, where it shows nothing, or what it shows.
-fn is_met(words: &str, met: &Met) -> bool {
+/// Whether words tell what a segment is to its stream, also where no byte of that is kept, where it shows nothing, or what it
+/// shows.
+fn is_met(words: &str, met: &Met, placed: &Taken) -> bool {
     match (words.strip_prefix("shows "), met.messages.slice()) {
         (Some(words), []) => words == "nothing" && met.frames.slice().is_empty(),
         (Some(words), _) => is_shown(words, met),
-        (None, messages) => messages.is_empty() && is_taken(words, &met.taken),
+        (None, messages) => {
+            messages.is_empty() && is_taken(words, &met.taken) && is_taken(words, placed)
+        }
     }
 }
 
@@ -121,8 +124,9 @@ fn is_sent(sent: &mut Sent, alloc: Global, words: &str, told: &str) -> Result<bo
         return Ok(false);
     };
     let segment = head.segment(octets_of(alloc, bytes)?);
+    let placed = sent.place(&segment)?;
     let met = sent.send(segment)?;
-    Ok(is_met(told, &met))
+    Ok(is_met(told, &met, &placed))
 }
 
 /// Whether a direction hands out a stretch and its second half as parts, and nothing past its end.

@@ -1,4 +1,5 @@
 ghost use Rattle.std.specs.Prelude.{◌≤◌};
+ghost use Rattle.tcp_streams.specs.PlacesStanding.{places_taken};
 ghost use Rattle.tcp_streams.specs.Standing.{bytes_so_far, taken_so_far};
 ghost use Rattle.tcp_messages.specs.Standing.{streams_in};
 
@@ -6,15 +7,19 @@ use pk_base::{Address, Endpoint, NoMemory, Octets};
 use std::alloc::Global;
 use stream_messages::App;
 use tcp_messages::{MessageStreams, Met};
-use tcp_streams::Segment;
+use tcp_streams::{Segment, StreamPlaces, Taken};
 
 /// Streams of an application, and how many frames and bytes were sent to them.
 #[derive(Drop)]
 pub(crate) struct Sent {
     pub(crate) streams: MessageStreams,
+    /// The same streams by their numbers alone, and how many segments these took.
+    places: StreamPlaces,
+    placed: u32,
     app: Option<App>,
     frames: u32,
     bytes: u64,
+    ghost few_places: { places_taken places ≤ placed },
     ghost few: { taken_so_far (streams_in streams) ≤ frames },
     ghost few_bytes: { bytes_so_far (streams_in streams) ≤ bytes },
 }
@@ -23,6 +28,8 @@ impl Sent {
     pub(crate) fn new(alloc: Global, app: Option<App>) -> Sent {
         Sent {
             streams: MessageStreams::new(alloc),
+            places: StreamPlaces::new(alloc),
+            placed: 0,
             app,
             frames: 0,
             bytes: 0,
@@ -44,6 +51,15 @@ impl Sent {
         self.frames = frames;
         self.bytes = bytes;
         self.streams.take(&segment, self.app)
+    }
+
+    /// What a segment is to the streams by their numbers alone.
+    pub(crate) fn place(&mut self, segment: &Segment) -> Result<Taken, NoMemory> {
+        let Some(placed) = self.placed.checked_add(1) else {
+            return Err(NoMemory);
+        };
+        self.placed = placed;
+        self.places.take(segment)
     }
 }
 

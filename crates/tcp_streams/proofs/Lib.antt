@@ -13,5 +13,10 @@ pub mod Stepping
 pub mod ReadLemmas
 pub mod PartLemmas
 pub mod FramesAside
+pub mod RunLemmas
+pub mod ReachLemmas
+pub mod SideLemmas
+pub mod KeyLemmas
+pub mod PlacesLemmas
 pub mod Keyed
 pub mod Isolating

@@ -19,25 +19,25 @@ use Rattle.tcp_streams.specs.Stands.{AllBelow, IsStreamOf, Agrees, IsSoundStream
 use Rattle.tcp_streams.proofs.WayLemmas.{step_keeps, step_room, nothing_is}
 
 -- lists of streams
-set_same : {X : Type 0} (xs : List X) (i : ℕ) (x y : X) → slice_get (slice_set xs i x) i ≡ Some y → Some x ≡ Some y
+pub set_same : {X : Type 0} (xs : List X) (i : ℕ) (x y : X) → slice_get (slice_set xs i x) i ≡ Some y → Some x ≡ Some y
 set_same [] i x y e = absurd (false≢true (ap is_some e))
 set_same (z ∷ zs) zero x y e = e
 set_same (z ∷ zs) (suc i) x y e = set_same zs i x y e
 
-set_other : {X : Type 0} (xs : List X) (i j : ℕ) (x : X) → (i ≡ j → ⊥) → slice_get (slice_set xs i x) j ≡ slice_get xs j
+pub set_other : {X : Type 0} (xs : List X) (i j : ℕ) (x : X) → (i ≡ j → ⊥) → slice_get (slice_set xs i x) j ≡ slice_get xs j
 set_other [] i j x apart = refl
 set_other (z ∷ zs) zero zero x apart = absurd (apart refl)
 set_other (z ∷ zs) zero (suc j) x apart = refl
 set_other (z ∷ zs) (suc i) zero x apart = refl
 set_other (z ∷ zs) (suc i) (suc j) x apart = set_other zs i j x (λ e. apart (ap suc e))
 
-push_last : {X : Type 0} (xs : List X) (j : ℕ) (x : X) → j ≡ length xs → slice_get (xs ++ x ∷ []) j ≡ Some x
+pub push_last : {X : Type 0} (xs : List X) (j : ℕ) (x : X) → j ≡ length xs → slice_get (xs ++ x ∷ []) j ≡ Some x
 push_last [] zero x e = refl
 push_last [] (suc j) x e = absurd (omega (arith, e))
 push_last (z ∷ zs) zero x e = absurd (omega (arith, e))
 push_last (z ∷ zs) (suc j) x e = push_last zs j x (omega (arith, e))
 
-push_before : {X : Type 0} (xs : List X) (j : ℕ) (x : X) → j < length xs → slice_get (xs ++ x ∷ []) j ≡ slice_get xs j
+pub push_before : {X : Type 0} (xs : List X) (j : ℕ) (x : X) → j < length xs → slice_get (xs ++ x ∷ []) j ≡ slice_get xs j
 push_before [] j x low = absurd (omega (arith, low))
 push_before (z ∷ zs) zero x low = refl
 push_before (z ∷ zs) (suc j) x low = push_before zs j x (omega (arith, low))
@@ -53,7 +53,7 @@ same_bool_is true b e = sym e
 same_bool_is false true e = absurd (false≢true e)
 same_bool_is false false e = refl
 
-same_end_is : (a b : End) → same_end a b ≡ true → a ≡ b
+pub same_end_is : (a b : End) → same_end a b ≡ true → a ≡ b
 same_end_is a b e =
     let parts = and_parts (same_bool a.six b.six) (eqb a.address b.address && eqb a.port b.port) e in
     let more = and_parts (eqb a.address b.address) (eqb a.port b.port) parts.1 in
@@ -70,7 +70,7 @@ same_ends_is a b e =
     λ i. record { lesser = lesser i; greater = greater i }
 
 -- labels
-latest_below : (n : ℕ) (s : Segment) (ls : List Label) (l : Label) → AllBelow n ls → latest s ls ≡ Some l → l.stream < n
+pub latest_below : (n : ℕ) (s : Segment) (ls : List Label) (l : Label) → AllBelow n ls → latest s ls ≡ Some l → l.stream < n
 latest_below n s [] l below = λ e. absurd (false≢true (ap is_some e))
 latest_below n s (m ∷ ls) l below = elim (cases_Bool (same_ends (ends_of m.segment) (ends_of s))) [
   | inl same ↦ rw same (λ e. subst (λ (o : Option Label). unwrap_or (option_map (λ k. k.stream) o) 0 < n) e below.0)

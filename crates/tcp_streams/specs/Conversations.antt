@@ -1,11 +1,12 @@
 -- Conversations: the segments between the same two endpoints, whichever of them sends (RFC 9293, 3.3.1).
-use Rattle.std.specs.Prelude.{◌==◌, ℕ, Bool, true, false, not, ◌&&◌, nat_lt, nat_le, if◌then◌else◌, Option}
+use Rattle.std.specs.Prelude.{◌==◌, ◌^◌, ℕ, Bool, true, false, not, ◌&&◌, nat_lt, nat_le, if◌then◌else◌, Option, None, Some}
 use Rattle.pk_base.specs.declared.heads.Address.{Address}
 use Rattle.pk_base.specs.declared.heads.Address.TheVariants.{Four, Six}
 use Rattle.pk_base.specs.declared.heads.Endpoint.{Endpoint}
 use Rattle.indexmap.specs.IndexMap.{get}
 use Rattle.tcp_streams.specs.declared.ends.End.{End}
 use Rattle.tcp_streams.specs.declared.ends.Ends.{Ends}
+use Rattle.tcp_streams.specs.declared.ends.FourEnds.{FourEnds}
 use Rattle.tcp_streams.specs.declared.newest.Newest.{Newest}
 use Rattle.tcp_streams.specs.declared.segment.Segment.{Segment}
 
@@ -40,6 +41,27 @@ same_ends one other = same_end one.lesser other.lesser && same_end one.greater o
 abbrev pub ends_of : Segment → Ends
 ends_of s = ends_between (end_of_endpoint s.from) (end_of_endpoint s.to)
 
+-- an address of IPv4
+abbrev pub narrow : End → Option ℕ
+narrow end = if end.six then None else (if nat_lt end.address (2 ^ 32) then Some end.address else None)
+
+abbrev pub four_at : Option ℕ → Option ℕ → ℕ → ℕ → Option FourEnds
+four_at None greater lesser_port greater_port = None
+four_at (Some lesser) None lesser_port greater_port = None
+four_at (Some lesser) (Some greater) lesser_port greater_port =
+    Some (record { lesser = lesser; greater = greater; lesser_port = lesser_port; greater_port = greater_port })
+
+-- the ends of a conversation, if both are of IPv4
+abbrev pub four_of : Ends → Option FourEnds
+four_of ends = four_at (narrow ends.lesser) (narrow ends.greater) ends.lesser.port ends.greater.port
+
+abbrev pub same_four : FourEnds → FourEnds → Bool
+same_four one other = one.lesser == other.lesser && (one.greater == other.greater && (one.lesser_port == other.lesser_port && one.greater_port == other.greater_port))
+
+abbrev pub number_at : Newest → Option FourEnds → Ends → Option ℕ
+number_at newest None ends = get same_ends newest.others ends
+number_at newest (Some four) ends = get same_four newest.four four
+
 -- the number of a conversation's newest stream, as it is kept
 abbrev pub number_of : Newest → Ends → Option ℕ
-number_of newest ends = get same_ends newest.all ends
+number_of newest ends = number_at newest (four_of ends) ends

@@ -7,7 +7,11 @@ pub mod Labels
 pub mod Acknowledged
 pub mod Acks
 pub mod Stands
+pub mod Runs
+pub mod Reaches
+pub mod PlacesKept
 pub mod Standing
+pub mod PlacesStanding
 pub mod Order
 pub mod Parts
 pub mod Isolation

@@ -1,6 +1,6 @@
 ghost use Rattle.std.specs.Prelude.{◌≡◌, ◌⊎◌, ◌↔◌};
 ghost use Rattle.tcp_streams.specs.declared.ends.End.{End as EndValue};
-ghost use Rattle.tcp_streams.specs.Conversations.{end_at, end_of_endpoint, comes_first, ends_between, ends_of as ends_value};
+ghost use Rattle.tcp_streams.specs.Conversations.{narrow, four_of, end_at, end_of_endpoint, comes_first, ends_between, ends_of as ends_value};
 
 use crate::segment::Segment;
 use pk_base::{Address, Endpoint};
@@ -19,6 +19,43 @@ pub struct End {
 pub struct Ends {
     pub lesser: End,
     pub greater: End,
+}
+
+/// The two ends of a conversation over IPv4, in their order.
+#[derive(Clone, Copy, PartialEq, Eq, Hash)]
+pub(crate) struct FourEnds {
+    pub lesser: u32,
+    pub greater: u32,
+    pub lesser_port: u16,
+    pub greater_port: u16,
+}
+
+/// The ends of a conversation in fewer bytes, if both are of IPv4.
+pub(crate) fn four_of(ends: Ends) -> Option<FourEnds>
+    ensures { result ≡ four_of ends }
+{
+    match (narrow(ends.lesser), narrow(ends.greater)) {
+        (Some(lesser), Some(greater)) => Some(FourEnds {
+            lesser,
+            greater,
+            lesser_port: ends.lesser.port,
+            greater_port: ends.greater.port,
+        }),
+        _ => None,
+    }
+}
+
+fn narrow(end: End) -> Option<u32>
+    ensures { result ≡ narrow end }
+{
+    if end.six {
+        return None;
+    }
+    if end.address < 1 << 32 {
+        Some(end.address as u32)
+    } else {
+        None
+    }
 }
 
 /// The ends of a segment's conversation.
@@ -78,7 +115,7 @@ fn in_order(source: End, target: End) -> Ends
     }
 }
 
-fn comes_first(one: End, other: End) -> bool
+pub(crate) fn comes_first(one: End, other: End) -> bool
     ensures { result ≡ comes_first one other }
 {
     if one.six != other.six {

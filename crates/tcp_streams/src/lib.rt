@@ -2,19 +2,26 @@
 #![tactic(auto)]
 
 mod ends;
+mod followed;
 mod kept;
+mod kept_places;
 mod laws;
 mod newest;
 mod numbers;
 mod passing;
+mod reach;
 mod reads;
+mod runs;
 mod segment;
 mod steps;
 mod stream;
+mod stream_places;
 mod streams;
 mod way;
+mod ways;
 
 pub use ends::{End, Ends, ends_between};
 pub use laws::{gaps_passed, places_acknowledged};
 pub use segment::{Segment, Taken};
+pub use stream_places::StreamPlaces;
 pub use streams::Streams;

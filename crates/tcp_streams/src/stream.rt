@@ -80,7 +80,7 @@ impl Stream {
     }
 }
 
-fn restarts(origin: Option<u32>, s: &Segment) -> bool
+pub(crate) fn restarts(origin: Option<u32>, s: &Segment) -> bool
     ensures { result ≡ restarts origin s.now }
 {
     match origin {
@@ -127,13 +127,13 @@ fn tell(
 }
 
 /// A number counted from a direction's origin, which counts as 1.
-fn number_in(origin: u32, number: u32) -> u32
+pub(crate) fn number_in(origin: u32, number: u32) -> u32
     ensures { result ≡ number_in origin number }
 {
     number.wrapping_sub(origin).wrapping_add(1)
 }
 
-fn ack_in(origin: Option<u32>, s: &Segment) -> Option<u32>
+pub(crate) fn ack_in(origin: Option<u32>, s: &Segment) -> Option<u32>
     ensures { result ≡ ack_in origin s.now }
 {
     match origin {

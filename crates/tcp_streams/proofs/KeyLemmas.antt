@@ -1,0 +1,96 @@
+-- The conversations over IPv4 have keys of their own.
+use Rattle.std.proofs.Common.{◌≡◌, ℕ, ◌^◌, Bool, true, false, cond, Option, None, Some, is_some, unwrap_or, eqb, ltb, refl, sym, ap, ◌∙◌, inl, inr}
+use Rattle.std.proofs.lemmas.Bool.{false≢true, cases_Bool, and_parts, eqb-true, eq-eqb}
+use Rattle.indexmap.specs.IndexMap.{get}
+use Rattle.tcp_streams.specs.declared.ends.End.{End}
+use Rattle.tcp_streams.specs.declared.ends.Ends.{Ends}
+use Rattle.tcp_streams.specs.declared.ends.FourEnds.{FourEnds}
+use Rattle.tcp_streams.specs.declared.newest.Newest.{Newest}
+use Rattle.tcp_streams.specs.Conversations.{narrow, four_at, four_of, same_ends, same_four, number_at, number_of}
+use Rattle.tcp_streams.proofs.StandsLemmas.{same_ends_is}
+use Rattle.tcp_streams.proofs.SideLemmas.{same_ends_itself}
+
+abbrev wide : ℕ → ℕ → End
+wide address port = record { six = false; address = address; port = port }
+
+abbrev wide_ends : FourEnds → Ends
+wide_ends four = record { lesser = wide four.lesser four.lesser_port; greater = wide four.greater four.greater_port }
+
+narrow_is : (end : End) (address : ℕ) → narrow end ≡ Some address → end ≡ wide address end.port
+narrow_is end address = elim (cases_Bool end.six) [
+  | inl t ↦ rw t (λ e. absurd (false≢true (ap is_some e)))
+  | inr f ↦ rw f (elim (cases_Bool (ltb end.address (2 ^ 32))) [
+    | inl low ↦ rw low (λ e. let is : end.address ≡ address = ap (λ (o : Option ℕ). unwrap_or o 0) e in λ i. record { six = false; address = is i; port = end.port })
+    | inr high ↦ rw high (λ e. absurd (false≢true (ap is_some e)))
+  ])
+]
+
+four_is : (ends : Ends) (four : FourEnds) → four_of ends ≡ Some four → ends ≡ wide_ends four
+four_is ends four =
+    elim (narrow ends.lesser) as (λ (o : Option ℕ). narrow ends.lesser ≡ o → four_at o (narrow ends.greater) ends.lesser.port ends.greater.port ≡ Some four → ends ≡ wide_ends four) [
+      | None ↦ λ a e. absurd (false≢true (ap is_some e))
+      | Some low ↦ λ a.
+          elim (narrow ends.greater) as (λ (o : Option ℕ). narrow ends.greater ≡ o → four_at (Some low) o ends.lesser.port ends.greater.port ≡ Some four → ends ≡ wide_ends four) [
+            | None ↦ λ b e. absurd (false≢true (ap is_some e))
+            | Some high ↦ λ b e.
+                let made : FourEnds = record { lesser = low; greater = high; lesser_port = ends.lesser.port; greater_port = ends.greater.port } in
+                let is : made ≡ four = ap (λ (o : Option FourEnds). unwrap_or o made) e in
+                let first : ends.lesser ≡ wide low ends.lesser.port = narrow_is ends.lesser low a in
+                let second : ends.greater ≡ wide high ends.greater.port = narrow_is ends.greater high b in
+                let whole : ends ≡ wide_ends made = λ i. record { lesser = first i; greater = second i } in
+                whole ∙ ap wide_ends is
+          ] refl
+    ] refl
+
+same_four_is : (a b : FourEnds) → same_four a b ≡ true → a ≡ b
+same_four_is a b e =
+    let one = and_parts (eqb a.lesser b.lesser) _ e in
+    let two = and_parts (eqb a.greater b.greater) _ one.1 in
+    let three = and_parts (eqb a.lesser_port b.lesser_port) _ two.1 in
+    let lesser = eqb-true a.lesser b.lesser one.0 in
+    let greater = eqb-true a.greater b.greater two.0 in
+    let lesser_port = eqb-true a.lesser_port b.lesser_port three.0 in
+    let greater_port = eqb-true a.greater_port b.greater_port three.1 in
+    λ i. record { lesser = lesser i; greater = greater i; lesser_port = lesser_port i; greater_port = greater_port i }
+
+same_four_itself : (a : FourEnds) → same_four a a ≡ true
+same_four_itself a = rw (eq-eqb a.lesser a.lesser refl, eq-eqb a.greater a.greater refl, eq-eqb a.lesser_port a.lesser_port refl, eq-eqb a.greater_port a.greater_port refl) refl
+
+not_true : (b : Bool) → (b ≡ true → ⊥) → b ≡ false
+not_true true never = absurd (never refl)
+not_true false never = refl
+
+-- one key stands for one conversation
+same_keys : (ends other : Ends) (four key : FourEnds) → four_of ends ≡ Some four → four_of other ≡ Some key → same_four four key ≡ same_ends ends other
+same_keys ends other four key is other_is = elim (cases_Bool (same_four four key)) [
+  | inl t ↦
+      let same : ends ≡ other = four_is ends four is ∙ ap wide_ends (same_four_is four key t) ∙ sym (four_is other key other_is) in
+      t ∙ sym (ap (same_ends ends) (sym same) ∙ same_ends_itself ends)
+  | inr f ↦ f ∙ sym (not_true (same_ends ends other) (λ e.
+      let both : Some four ≡ Some key = sym is ∙ ap four_of (same_ends_is ends other e) ∙ other_is in
+      let same : four ≡ key = ap (λ (o : Option FourEnds). unwrap_or o four) both in
+      false≢true (sym f ∙ ap (same_four four) (sym same) ∙ same_four_itself four)))
+]
+
+apart_keys : (ends other : Ends) (is there : Option FourEnds) → four_of ends ≡ is → four_of other ≡ there → (is_some is ≡ is_some there → ⊥) → same_ends ends other ≡ false
+apart_keys ends other is there a b apart = not_true (same_ends ends other) (λ e. apart (ap is_some (sym a ∙ ap four_of (same_ends_is ends other e) ∙ b)))
+
+pub four_set : (old new : Newest) (ends : Ends) (four : FourEnds) (number : ℕ) → four_of ends ≡ Some four → new.others ≡ old.others
+    → ((key : FourEnds) → get same_four new.four key ≡ cond (same_four four key) (Some number) (get same_four old.four key))
+    → (other : Ends) → number_of new other ≡ cond (same_ends ends other) (Some number) (number_of old other)
+four_set old new ends four number is others updates other =
+    elim (four_of other) as (λ (o : Option FourEnds). four_of other ≡ o → number_at new o other ≡ cond (same_ends ends other) (Some number) (number_at old o other)) [
+      | None ↦ λ e. let apart : same_ends ends other ≡ false = apart_keys ends other (Some four) None is e (λ x. false≢true (sym x)) in
+          rw apart (ap (λ m. get same_ends m other) others)
+      | Some key ↦ λ e. updates key ∙ ap (λ (b : Bool). cond b (Some number) (get same_four old.four key)) (same_keys ends other four key is e)
+    ] refl
+
+pub other_set : (old new : Newest) (ends : Ends) (number : ℕ) → four_of ends ≡ None → new.four ≡ old.four
+    → ((key : Ends) → get same_ends new.others key ≡ cond (same_ends ends key) (Some number) (get same_ends old.others key))
+    → (other : Ends) → number_of new other ≡ cond (same_ends ends other) (Some number) (number_of old other)
+other_set old new ends number is four updates other =
+    elim (four_of other) as (λ (o : Option FourEnds). four_of other ≡ o → number_at new o other ≡ cond (same_ends ends other) (Some number) (number_at old o other)) [
+      | None ↦ λ e. updates other
+      | Some key ↦ λ e. let apart : same_ends ends other ≡ false = apart_keys ends other None (Some key) is e (λ x. false≢true x) in
+          rw apart (ap (λ m. get same_four m key) four)
+    ] refl
