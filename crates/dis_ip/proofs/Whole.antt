@@ -1,12 +1,19 @@
 -- Layouts of headers fit their protocol, and are read whole where all their bytes are there.
-use Rattle.std.proofs.Common.{rules, ◌≡◌, ◌≤◌, ℕ, List}
+use Rattle.std.proofs.Common.{rules, ◌≡◌, ◌≤◌, ◌||◌, ℕ, Bool, true, false, List, nat_lt, refl}
+use Rattle.pk_base.specs.declared.span.Span.{Span}
+use Rattle.pk_base.specs.declared.heads.After.TheVariants.{Packet}
+use Rattle.pk_base.specs.declared.heads.Mode.TheVariants.{Plain}
+use Rattle.pk_base.specs.declared.heads.Next.{Next}
+use Rattle.pk_tree.specs.Following.{behind}
 use Rattle.pk_fields.specs.Fields.{row_of}
 use Rattle.pk_fields.specs.Ids.{IP, IPV6, IPV6_HOPOPTS, IPV6_ROUTING, IPV6_FRAGHDR, IPV6_DSTOPTS}
 use Rattle.pk_fields.specs.Table.{rows}
 use Rattle.pk_tree.specs.Layouts.{reach, step_reach, StepsFit}
 use Rattle.pk_tree.specs.declared.layout.Reach.TheVariants.{All}
 use Rattle.dis_ip.specs.FragmentHeader.{fragment_layout}
-use Rattle.dis_ip.specs.Ip4.{ip4_layout}
+use Rattle.dis_ip.specs.Fragments.{part_after}
+use Rattle.dis_ip.specs.Ip4.{ip4_layout, ip4_after, ip4_header, ip4_is_read, ip4_more, ip4_offset, ip4_packet, ip4_protocol, ip4_span}
+use Rattle.dis_ip.specs.Protocols.{ends_chain, next_of_protocol}
 use Rattle.dis_ip.specs.Ip6.{ip6_layout}
 use Rattle.dis_ip.specs.Options.{header_size, hop_options_layout, target_options_layout}
 use Rattle.dis_ip.specs.Routing.{routing_layout}
@@ -14,6 +21,13 @@ use Rattle.dis_ip.specs.Routing.{routing_layout}
 pub ip4_fits : (bytes : List ℕ) → StepsFit IP (ip4_layout bytes)
 unfolding ip4_layout StepsFit row_of rows
 ip4_fits bytes = search rules
+
+-- what a whole packet carries that is no fragment
+pub ip4_carries : (cut : Bool) (span : Span) (bytes : List ℕ) (next : Next) → ip4_is_read span bytes ≡ true → (ip4_more bytes || nat_lt 0 (ip4_offset bytes)) ≡ false
+    → ends_chain (ip4_protocol bytes) ≡ false → next_of_protocol false (ip4_protocol bytes) ≡ next → nat_lt (ip4_header bytes) (ip4_span span bytes).len ≡ true
+    → ip4_after Plain cut span bytes ≡ Packet next (behind (ip4_span span bytes) (ip4_header bytes)) (ip4_packet cut span bytes)
+unfolding ip4_after part_after
+ip4_carries cut span bytes next read part on is some = rw (read, part, on, is, some) refl
 
 pub ip6_fits : (bytes : List ℕ) → StepsFit IPV6 (ip6_layout bytes)
 unfolding ip6_layout StepsFit row_of rows

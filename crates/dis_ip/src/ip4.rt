@@ -1,4 +1,5 @@
-ghost use Rattle.std.specs.Prelude.{◌≡◌, ◌≢◌, ℕ, Bool as Truth, List, [], ◌∷◌, ◌+◌, ◌-◌, ◌<◌, ◌≤◌, ◌^◌, length, IfOk, OnOk, IsTrue};
+ghost use Rattle.std.specs.Prelude.{◌≡◌, ◌≢◌, ℕ, Bool as Truth, List, [], ◌∷◌, ◌+◌, ◌-◌, ◌<◌, ◌≤◌, ◌^◌, ◌||◌, false, true, length, nat_lt, IfOk, IfSome, OnOk, IsTrue};
+ghost use Rattle.pk_base.specs.declared.heads.Mode.TheVariants.{Plain};
 ghost use Rattle.pk_tree.specs.Buffers.{IsInside, bytes_of};
 ghost use Rattle.pk_fields.specs.Ids.{IP};
 ghost use Rattle.pk_tree.specs.Following.{LeadsInside};
@@ -7,13 +8,17 @@ ghost use Rattle.pk_tree.specs.Tables.{steps_of};
 ghost use Rattle.pk_tree.specs.Trees.{last_proto};
 ghost use Rattle.pk_tree.specs.declared.layer.Layer.{Layer};
 ghost use Rattle.dis_ip.specs.Fragments.{LastIsPart};
-ghost use Rattle.dis_ip.specs.Ip4.{ip4_layout, ip4_header, ip4_total, ip4_conditions, ip4_is_read, ip4_size, ip4_part, ip4_carried, ip4_span, ip4_after};
+ghost use Rattle.dis_ip.specs.Ip4.{ip4_layout, ip4_header, ip4_total, ip4_more, ip4_offset, ip4_conditions, ip4_is_read, ip4_size, ip4_packet, ip4_part, ip4_carried, ip4_span, ip4_after};
+ghost use Rattle.dis_ip.specs.Protocols.{ends_chain, next_of_protocol};
 
 use crate::fragment::part_after;
 use crate::packet::{in_packet, is_whole, packet_span};
-use pk_base::{Address, After, FragmentHead, Mode, NoMemory, PacketHead, Span};
+use crate::protocol::{TCP, UDP};
+use pk_base::{Address, After, FragmentHead, Mode, Next, NoMemory, PacketHead, Span};
 use pk_fields::ids;
-use pk_tree::{Reach, Slot, TreeBuilder, pass_layer, peek, read_table};
+use pk_tree::{
+    Reach, Slot, TreeBuilder, behind, pass_known, pass_layer, peek, read_known, read_table,
+};
 
 /// The bytes of a header without options, the least that a header has.
 const HEADER: u32 = 20;
@@ -89,10 +94,113 @@ pub fn read_ip4(span: Span, cut: bool, mode: Mode, b: &mut TreeBuilder) -> Resul
     Ok(after)
 }
 
-#[tactic(auto, unfolding(crate::specs::Ip4::ip4_layout, pk_tree::specs::Tables::steps_of, pk_tree::specs::Layouts::StepsFit, pk_fields::specs::Fields::row_of, pk_fields::specs::Table::rows))]
+/// A header that was read whole, of a packet that is no fragment.
+#[derive(Clone, Copy)]
+pub struct WholeIp4 {
+    /// The packet, with its header.
+    pub layer: Span,
+    /// The header's bytes.
+    pub header: u32,
+    pub next: Next,
+    /// The packet's bytes behind the header.
+    pub inner: Span,
+}
+
+/// What follows a header that is read whole, of a packet that is no fragment and carries TCP or UDP.
+#[inline(always)]
+#[tactic(auto, using(crate::proofs::Whole::ip4_carries), unfolding(crate::specs::Ip4::ip4_span))]
+pub fn behind_ip4(span: Span, bytes: &[u8]) -> Option<WholeIp4>
+    requires bytes { length bytes.now ≡ span.len }
+    requires end { span.start + span.len < 2 ^ 32 }
+    ensures layer { IfSome result (λ ip. ip.layer ≡ ip4_span span bytes.now) }
+    ensures header { IfSome result (λ ip. ip.header ≡ ip4_header bytes.now) }
+    ensures least { IfSome result (λ ip. 20 ≤ ip.header) }
+    ensures most { IfSome result (λ ip. ip.header < ip.layer.len) }
+    ensures holds { IfSome result (λ _. ip4_conditions bytes.now ≡ true ∷ true ∷ true ∷ []) }
+    ensures whole { IfSome result (λ ip. reach ip.layer.len (ip4_layout bytes.now) ≡ Reach.All) }
+    ensures after { IfSome result (λ ip. (cut : Truth) → ip4_after Plain cut span bytes.now
+        ≡ After.Packet ip.next ip.inner (ip4_packet cut span bytes.now)) }
+    ensures inside { (buffers : List (List ℕ)) → IsInside buffers span
+        → IfSome result (λ ip. IsInside buffers ip.layer × IsInside buffers ip.inner) }
+{
+    let header = header(bytes);
+    let total = total(bytes);
+    let holds = conditions(bytes, header, total);
+    if !is_read(span, bytes, header, &holds) || is_part(bytes) {
+        return None;
+    }
+    let layer = packet_span(span, size(total));
+    if layer.len <= header {
+        return None;
+    }
+    let next = ports_next(peek(bytes, 72, 8) as u8)?;
+    Some(WholeIp4 {
+        layer,
+        header,
+        next,
+        inner: behind(layer, header),
+    })
+}
+
+/// What the header of a packet says of it.
+#[inline(always)]
+pub fn head_of_ip4(span: Span, cut: bool, bytes: &[u8]) -> PacketHead
+    ensures { result ≡ ip4_packet cut span bytes.now }
+{
+    PacketHead {
+        source: Address::Four(peek(bytes, 96, 32) as u32),
+        target: Address::Four(peek(bytes, 128, 32) as u32),
+        whole: is_whole(cut, span, size(total(bytes))),
+    }
+}
+
+/// Opens the layer of a header of so many bytes that is read whole, with the items that are wanted.
+#[tactic(auto, using(crate::proofs::Whole::ip4_fits), unfolding(pk_tree::specs::Layouts::StepsFit, pk_fields::specs::Fields::row_of, pk_fields::specs::Table::rows))]
+pub fn open_ip4(layer: Span, header: u32, b: &mut TreeBuilder) -> Result<(), NoMemory>
+    requires inside { IsInside b.old.buffers layer }
+    requires room { length b.old.layers + 1 < 2 ^ 32 }
+    requires least { 20 ≤ header }
+    requires whole { header ≤ layer.len }
+    ensures layer { OnOk result ((bytes : List ℕ) (cut : Truth) → header ≡ ip4_header bytes
+        → ip4_conditions bytes ≡ true ∷ true ∷ true ∷ []
+        → reach layer.len (ip4_layout bytes) ≡ Reach.All
+        → b.new ≡ layer_read b.old IP layer (ip4_layout bytes) Plain cut) }
+    ensures buffers { b.new.buffers ≡ b.old.buffers }
+    ensures count { OnOk result (length b.new.layers ≡ length b.old.layers + 1) }
+{
+    if !b.asks(ids::IP) {
+        return pass_known(b, ids::IP, layer);
+    }
+    let options = [(header - HEADER) as usize];
+    read_known(b, ids::IP, layer, ip4_slots(), &[true; 3], &options)
+}
+
+/// Whether a packet is a part of a datagram.
+fn is_part(bytes: &[u8]) -> bool
+    ensures { result ≡ (ip4_more bytes.now || nat_lt 0 (ip4_offset bytes.now)) }
+{
+    peek(bytes, 50, 1) == 1 || peek(bytes, 51, 13) > 0
+}
+
+/// The header behind an IP header that names TCP or UDP.
+#[tactic(auto, unfolding(crate::specs::Protocols::next_of_protocol))]
+fn ports_next(number: u8) -> Option<Next>
+    ensures next { IfSome result (λ next. next_of_protocol false number ≡ next) }
+    ensures goes_on { IfSome result (λ _. ends_chain number ≡ false) }
+{
+    match number {
+        TCP => Some(Next::Tcp),
+        UDP => Some(Next::Udp),
+        _ => None,
+    }
+}
+
+#[tactic(auto, unfolding(crate::specs::Ip4::ip4_layout, pk_tree::specs::Layouts::reach, pk_tree::specs::Layouts::step_reach, pk_tree::specs::Tables::steps_of, pk_tree::specs::Layouts::StepsFit, pk_fields::specs::Fields::row_of, pk_fields::specs::Table::rows))]
 fn ip4_slots() -> &'static [Slot]
     ensures fits { (holds : List Truth) (sizes : List ℕ)
         → StepsFit IP (steps_of holds sizes result.now) }
+    ensures whole { (end options : ℕ) → 20 ≤ end → 20 + options ≤ end
+        → reach end (steps_of (true ∷ true ∷ true ∷ []) (options ∷ []) result.now) ≡ Reach.All }
     ensures layout { (bytes : List ℕ) → steps_of (ip4_conditions bytes)
         ((ip4_header bytes - 20) ∷ []) result.now ≡ ip4_layout bytes }
 {
@@ -120,6 +228,8 @@ fn is_read(span: Span, bytes: &[u8], header: u32, holds: &[bool; 3]) -> bool
     requires header { header ≡ ip4_header bytes.now }
     requires holds { holds.now ≡ ip4_conditions bytes.now }
     ensures read { result ≡ ip4_is_read span bytes.now }
+    ensures holds { IsTrue result → holds.now ≡ true ∷ true ∷ true ∷ [] }
+    ensures least { IsTrue result → 20 ≤ header }
     ensures header { IsTrue result → ip4_header bytes.now ≤ (ip4_span span bytes.now).len }
     ensures whole { IsTrue result
         → reach (ip4_span span bytes.now).len (ip4_layout bytes.now) ≡ Reach.All }

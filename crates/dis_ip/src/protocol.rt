@@ -17,9 +17,9 @@ const IGMP: u8 = 2;
 
 const IP4: u8 = 4;
 
-const TCP: u8 = 6;
+pub(crate) const TCP: u8 = 6;
 
-const UDP: u8 = 17;
+pub(crate) const UDP: u8 = 17;
 
 const IP6: u8 = 41;
 

@@ -1,4 +1,4 @@
-ghost use Rattle.std.specs.Prelude.{◌≡◌, ◌≢◌, ℕ, List, [], ◌+◌, ◌<◌, ◌≤◌, ◌^◌, length, IfOk, OnOk};
+ghost use Rattle.std.specs.Prelude.{◌≡◌, ◌≢◌, ℕ, Bool as Truth, List, [], ◌+◌, ◌<◌, ◌≤◌, ◌^◌, false, length, IfOk, IfSome, OnOk};
 ghost use Rattle.pk_tree.specs.Buffers.{IsInside, bytes_of};
 ghost use Rattle.pk_fields.specs.Ids.{ETH};
 ghost use Rattle.pk_base.specs.declared.heads.Mode.TheVariants.{Plain};
@@ -10,9 +10,11 @@ ghost use Rattle.dis_link.specs.EtherTypes.{is_length};
 ghost use Rattle.dis_link.specs.Ethernet.{eth_layout, eth_span, eth_after, eth_type};
 
 use crate::ether_type::{ended, is_length, next_of_type};
-use pk_base::{After, Mode, NoMemory, Span};
+use pk_base::{After, Mode, Next, NoMemory, Span};
 use pk_fields::ids;
-use pk_tree::{Reach, Slot, TreeBuilder, carried, pass_layer, peek, read_table};
+use pk_tree::{
+    Reach, Slot, TreeBuilder, behind, carried, pass_known, pass_layer, peek, read_known, read_table,
+};
 
 /// The bytes of an Ethernet header.
 const HEADER: u32 = 14;
@@ -56,6 +58,42 @@ pub(crate) fn read_ethernet(span: Span, cut: bool, b: &mut TreeBuilder) -> Resul
     let slots = eth_slots(is_length(number));
     read_table(b, ids::ETH, layer, slots, &[], &[], &[], Mode::Plain, cut)?;
     Ok(carried(next_of_type(number), layer, HEADER))
+}
+
+/// What follows a header that is read whole and names a type.
+#[inline(always)]
+#[tactic(auto, unfolding(crate::specs::Ethernet::eth_after, crate::specs::EtherTypes::ended))]
+pub fn behind_ethernet(span: Span, bytes: &[u8]) -> Option<(Next, Span)>
+    requires end { span.start + span.len < 2 ^ 32 }
+    ensures whole { IfSome result (λ _. 14 ≤ span.len) }
+    ensures typed { IfSome result (λ _. is_length (eth_type bytes.now) ≡ false) }
+    ensures after { IfSome result (λ way. eth_after span bytes.now ≡ After.Next way.0 way.1) }
+    ensures inside { (buffers : List (List ℕ)) → IsInside buffers span
+        → IfSome result (λ way. IsInside buffers way.1) }
+{
+    let number = peek(bytes, 96, 16);
+    if is_length(number) || span.len <= HEADER {
+        return None;
+    }
+    Some((next_of_type(number), behind(span, HEADER)))
+}
+
+/// Opens the layer of a header that is read whole and names a type, with the items that are wanted.
+#[tactic(auto, using(crate::proofs::Whole::eth_whole, crate::proofs::Whole::eth_fits), unfolding(pk_tree::specs::Layouts::StepsFit, pk_fields::specs::Fields::row_of, pk_fields::specs::Table::rows))]
+pub fn open_ethernet(span: Span, b: &mut TreeBuilder) -> Result<(), NoMemory>
+    requires inside { IsInside b.old.buffers span }
+    requires room { length b.old.layers + 1 < 2 ^ 32 }
+    requires whole { 14 ≤ span.len }
+    ensures layer { OnOk result ((bytes : List ℕ) (cut : Truth)
+        → is_length (eth_type bytes) ≡ false
+        → b.new ≡ layer_read b.old ETH span (eth_layout bytes) Plain cut) }
+    ensures buffers { b.new.buffers ≡ b.old.buffers }
+    ensures count { OnOk result (length b.new.layers ≡ length b.old.layers + 1) }
+{
+    if !b.asks(ids::ETH) {
+        return pass_known(b, ids::ETH, span);
+    }
+    read_known(b, ids::ETH, span, eth_slots(false), &[], &[])
 }
 
 /// The rows of a header whose last number is a length, or is a type.

@@ -10,5 +10,6 @@ mod null;
 mod vlan;
 
 pub use arp::read_arp;
+pub use ethernet::{behind_ethernet, open_ethernet};
 pub use link::read_link;
 pub use vlan::read_vlan;

@@ -1,5 +1,5 @@
 -- TCP's layout: its steps are of the protocol's own fields, and its options, which lie in the header, are always read whole.
-use Rattle.std.proofs.Common.{◌≡◌, ℕ, zero, suc, ◌+◌, ◌*◌, ◌<◌, ◌≤◌, Bool, true, false, if◌then◌else◌, List, [], ◌∷◌, length, take, refl, arith, rules}
+use Rattle.std.proofs.Common.{◌≡◌, ℕ, zero, suc, ◌+◌, ◌*◌, ◌<◌, ◌≤◌, Bool, true, false, if◌then◌else◌, List, [], ◌∷◌, length, take, refl, sym, ◌∙◌, arith, rules}
 use Rattle.std.proofs.lemmas.Bool.Decides.{nat_tests}
 use Rattle.std.proofs.lemmas.List.{length-take}
 use Rattle.std.specs.Prelude.{◌==◌, nat_le, ◌&&◌, ◌-◌, ◌/◌, ◌%◌, slice_index}
@@ -9,18 +9,24 @@ use Rattle.pk_fields.specs.FieldSets.{is_in}
 use Rattle.pk_fields.specs.Fields.{row_of}
 use Rattle.pk_fields.specs.Ids.{TCP, TCP_OPTION_KIND, TCP_OPTION_LEN, TCP_OPTIONS_MSS_VAL, TCP_OPTIONS_WSCALE_SHIFT, TCP_OPTIONS_SACK_PERM, TCP_OPTIONS_SACK_LE, TCP_OPTIONS_SACK_RE, TCP_OPTIONS_TIMESTAMP_TSVAL, TCP_OPTIONS_TIMESTAMP_TSECR, TCP_OPTIONS_BAD}
 use Rattle.pk_fields.specs.Table.{rows}
+use Rattle.pk_base.specs.declared.heads.After.TheVariants.{Segment}
 use Rattle.pk_base.specs.declared.heads.Mode.{Mode}
-use Rattle.pk_tree.specs.declared.layout.Reach.TheVariants.{All, Short}
+use Rattle.pk_base.specs.declared.heads.Mode.TheVariants.{Plain}
+use Rattle.pk_tree.specs.declared.layout.Reach.{Reach}
+use Rattle.pk_tree.specs.declared.layout.Reach.TheVariants.{All, Short, Failed}
 use Rattle.pk_tree.specs.declared.layout.Step.{Step}
 use Rattle.pk_tree.specs.declared.layout.Step.TheVariants.{Row, Part}
 use Rattle.pk_tree.specs.Entries.{Entry, goes_on, ends, repeated}
-use Rattle.pk_tree.specs.Layouts.{StepFits, StepsFit, items_read, layer_read, reach, step_reach}
+use Rattle.pk_tree.specs.Following.{behind}
+use Rattle.pk_tree.specs.Layouts.{is_all, StepFits, StepsFit, items_read, layer_read, reach, step_reach}
+use Rattle.pk_tree.specs.declared.table.Slot.{Slot}
+use Rattle.pk_tree.specs.Tables.{steps_of}
 use Rattle.pk_tree.specs.Trees.{TreeShown, kept}
 use Rattle.pk_tree.specs.Values.{size_of}
 use Rattle.pk_tree.proofs.EntryLemmas.{all_repeated, each_repeated, fit_append}
 use Rattle.pk_tree.proofs.KeptLemmas.{Unasked, none_asked}
 use Rattle.pk_tree.proofs.UnaskedLemmas.{front_alone, front_reaches}
-use Rattle.dis_ports.specs.Tcp.{header_len, tcp_layout, tcp_rows}
+use Rattle.dis_ports.specs.Tcp.{header_len, tcp_after, tcp_head, tcp_layout, tcp_rows}
 use Rattle.dis_ports.specs.TcpOptions.{option_at, option_data, option_fields, option_with_length, sack_block, tcp_options}
 
 -- what holds of each step that an option may have holds of all steps of the options
@@ -225,3 +231,29 @@ layout_alone t span bytes mode cut most none =
     let header = take (header_len bytes) bytes in
     front_alone t TCP span (tcp_rows bytes) (tcp_options header).steps mode cut
     (options_whole header span.len (omega (arith, most, length-take (header_len bytes) bytes))) (options_unasked t.wanted t.buffers span header none)
+
+-- behind a header whose rows are read comes its segment
+pub segment_behind : (span : Span) (bytes : List ℕ) (r : Reach) → length bytes ≡ span.len → is_all r ≡ true → r ≡ reach span.len (tcp_rows bytes) → tcp_after Plain span bytes ≡ Segment (tcp_head bytes) (behind span (header_len bytes))
+unfolding tcp_after
+segment_behind span bytes All same on rows = rw (layout_reach bytes span.len (omega arith), ← rows) refl
+segment_behind span bytes Short same on rows = absurd (cc)
+segment_behind span bytes Failed same on rows = absurd (cc)
+
+-- a layer of the rows alone where no field of the options is wanted
+pub rows_alone : (t new : TreeShown) (span : Span) (bytes : List ℕ) (cut : Bool) → length bytes ≤ span.len → Each (λ field. is_in t.wanted field ≡ false) option_fields → new ≡ layer_read t TCP span (tcp_rows bytes) Plain cut
+    → new ≡ layer_read t TCP span (tcp_layout bytes) Plain cut
+rows_alone t new span bytes cut most none is = is ∙ sym (layout_alone t span bytes Plain cut most none)
+
+-- the rows of a whole header, by its table
+pub rows_by : (slots : List Slot) (options : ℕ) (bytes : List ℕ) → 20 ≤ header_len bytes → options ≡ header_len bytes - 20 → steps_of (nat_le 20 (header_len bytes) ∷ []) ((header_len bytes - 20) ∷ []) slots ≡ tcp_rows bytes
+    → steps_of (true ∷ []) (options ∷ []) slots ≡ tcp_rows bytes
+rows_by slots options bytes least size rows =
+    let holds : nat_le 20 (header_len bytes) ≡ true = grind (arith, nat_tests) in
+    rw size (rw holds at rows)
+
+rows_all : (bytes : List ℕ) (end : ℕ) → 20 ≤ header_len bytes → header_len bytes ≤ end → reach end (tcp_rows bytes) ≡ All
+unfolding tcp_rows reach step_reach row_of rows
+rows_all bytes end least most = search rules
+
+pub layout_all : (bytes : List ℕ) (end : ℕ) → length bytes ≤ end → 20 ≤ header_len bytes → header_len bytes ≤ end → reach end (tcp_layout bytes) ≡ All
+layout_all bytes end inside least most = rw (layout_reach bytes end inside) (rows_all bytes end least most)

@@ -6,5 +6,5 @@ mod tcp;
 mod tcp_options;
 mod udp;
 
-pub use tcp::read_tcp;
+pub use tcp::{WholeTcp, behind_tcp, open_tcp, read_tcp, tcp_head};
 pub use udp::read_udp;

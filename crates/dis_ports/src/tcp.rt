@@ -1,4 +1,5 @@
-ghost use Rattle.std.specs.Prelude.{◌≡◌, ◌≢◌, ℕ, Bool as Truth, false, List, [], ◌∷◌, ◌+◌, ◌-◌, ◌*◌, ◌<◌, ◌≤◌, ◌^◌, ◌++◌, length, nat_le, take, IfOk, OnOk};
+ghost use Rattle.std.specs.Prelude.{◌≡◌, ◌≢◌, ℕ, Bool as Truth, false, true, List, [], ◌∷◌, ◌+◌, ◌-◌, ◌*◌, ◌<◌, ◌≤◌, ◌^◌, ◌++◌, length, nat_le, take, IfOk, IfSome, OnOk};
+ghost use Rattle.pk_base.specs.declared.heads.Mode.TheVariants.{Plain};
 ghost use Rattle.std.specs.List.{AllByRecursion as Each};
 ghost use Rattle.pk_tree.specs.Buffers.{IsInside, bytes_of};
 ghost use Rattle.pk_fields.specs.FieldSets.{is_in};
@@ -13,7 +14,10 @@ ghost use Rattle.dis_ports.specs.TcpOptions.{AllOptions, option_fields, tcp_opti
 use crate::tcp_options::{FIXED, push_options};
 use pk_base::{After, Mode, Next, NoMemory, Span, TcpHead};
 use pk_fields::ids;
-use pk_tree::{Reach, Slot, Step, TreeBuilder, behind, carried, pass_layer, peek, read_table};
+use pk_tree::{
+    Reach, Slot, Step, TreeBuilder, behind, carried, pass_known, pass_layer, peek, read_known,
+    read_table,
+};
 use std::alloc::Global;
 
 /// Where the byte of the data offset ends.
@@ -42,6 +46,67 @@ pub fn read_tcp(span: Span, cut: bool, mode: Mode, b: &mut TreeBuilder) -> Resul
     let header = header_len(bytes);
     let reach = read_header(span, header, cut, mode, b)?;
     Ok(tcp_carries(reach, mode, head, header, span))
+}
+
+/// A header that was read whole.
+#[derive(Clone, Copy)]
+pub struct WholeTcp {
+    /// The header's bytes.
+    pub header: u32,
+    /// The bytes behind it.
+    pub payload: Span,
+}
+
+/// What follows a header that is read whole.
+#[inline(always)]
+#[tactic(auto, using(crate::proofs::TcpLemmas::segment_behind))]
+pub fn behind_tcp(span: Span, bytes: &[u8]) -> Option<WholeTcp>
+    requires bytes { length bytes.now ≡ span.len }
+    requires end { span.start + span.len < 2 ^ 32 }
+    ensures header { IfSome result (λ tcp. tcp.header ≡ header_len bytes.now) }
+    ensures least { IfSome result (λ tcp. 20 ≤ tcp.header) }
+    ensures most { IfSome result (λ tcp. tcp.header ≤ 60) }
+    ensures whole { IfSome result (λ tcp. tcp.header ≤ span.len) }
+    ensures after { IfSome result (λ tcp. tcp_after Plain span bytes.now
+        ≡ After.Segment (tcp_head bytes.now) tcp.payload) }
+    ensures inside { (buffers : List (List ℕ)) → IsInside buffers span
+        → IfSome result (λ tcp. IsInside buffers tcp.payload) }
+{
+    let header = header_len(bytes);
+    if !rows_reach(span.len, header).is_all() {
+        return None;
+    }
+    Some(WholeTcp {
+        header,
+        payload: behind(span, header),
+    })
+}
+
+/// Opens the layer of a header of so many bytes that is read whole, with the items that are wanted.
+#[tactic(auto, unfolding(pk_fields::specs::Fields::row_of, pk_fields::specs::Table::rows))]
+pub fn open_tcp(span: Span, header: u32, cut: bool, b: &mut TreeBuilder) -> Result<(), NoMemory>
+    requires inside { IsInside b.old.buffers span }
+    requires room { length b.old.layers + 2 < 2 ^ 32 }
+    requires header { header ≡ header_len (bytes_of b.old.buffers span) }
+    requires least { 20 ≤ header }
+    requires most { header ≤ 60 }
+    requires whole { header ≤ span.len }
+    ensures layer { OnOk result (b.new
+        ≡ layer_read b.old TCP span (tcp_layout (bytes_of b.old.buffers span)) Plain cut) }
+    ensures last { OnOk result (last_proto b.new.layers ≡ TCP) }
+    ensures buffers { b.new.buffers ≡ b.old.buffers }
+    ensures some { OnOk result (0 < length b.new.layers) }
+    ensures most { OnOk result (length b.new.layers ≤ length b.old.layers + 2) }
+{
+    if !b.asks(ids::TCP) {
+        return pass_known(b, ids::TCP, span);
+    }
+    if asks_options(b) {
+        read_header(span, header, cut, Mode::Plain, b)?;
+        return Ok(());
+    }
+    let options = [header as usize - FIXED];
+    read_known(b, ids::TCP, span, tcp_slots(), &[true], &options)
 }
 
 /// Opens the layer and reads its rows and options, as far as they are asked: where nothing of TCP is, the layer is passed,
@@ -156,10 +221,12 @@ static SLOTS: [Slot; 21] = [
     Slot::Part(ids::TCP_OPTIONS.0, 20, 0),
 ];
 
-#[tactic(auto, unfolding(crate::specs::Tcp::tcp_rows, pk_tree::specs::Tables::steps_of, pk_tree::specs::Layouts::StepsFit, pk_fields::specs::Fields::row_of, pk_fields::specs::Table::rows))]
+#[tactic(auto, unfolding(crate::specs::Tcp::tcp_rows, pk_tree::specs::Tables::steps_of, pk_tree::specs::Layouts::reach, pk_tree::specs::Layouts::step_reach, pk_tree::specs::Layouts::StepsFit, pk_fields::specs::Fields::row_of, pk_fields::specs::Table::rows))]
 fn tcp_slots() -> &'static [Slot]
     ensures fits { (holds : List Truth) (sizes : List ℕ)
         → StepsFit TCP (steps_of holds sizes result.now) }
+    ensures whole { (end options : ℕ) → 20 + options ≤ end
+        → reach end (steps_of (true ∷ []) (options ∷ []) result.now) ≡ Reach.All }
     ensures rows { (bytes : List ℕ)
         → steps_of (nat_le 20 (header_len bytes) ∷ []) ((header_len bytes - 20) ∷ []) result.now
         ≡ tcp_rows bytes }
@@ -173,6 +240,7 @@ fn rows_reach(len: u32, header: u32) -> Reach
     ensures reach { (bytes : List ℕ) → header ≡ header_len bytes
         → result ≡ reach len (tcp_rows bytes) }
     ensures header { result ≡ Reach.All → header ≤ len }
+    ensures least { result ≡ Reach.All → 20 ≤ header }
 {
     if len < BEHIND_DATA_OFFSET {
         Reach::Short
@@ -216,7 +284,9 @@ fn front(bytes: &[u8], most: usize) -> &[u8]
     &bytes[..most.min(bytes.len())]
 }
 
-fn tcp_head(bytes: &[u8]) -> TcpHead
+/// What the streams need of a header.
+#[inline(always)]
+pub fn tcp_head(bytes: &[u8]) -> TcpHead
     ensures { result ≡ tcp_head bytes.now }
 {
     TcpHead {
