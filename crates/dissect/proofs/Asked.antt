@@ -6,12 +6,12 @@ use Rattle.std.proofs.lemmas.Bool.{cases_lt}
 use Rattle.pk_fields.specs.declared.value_kind.ValueKind.TheVariants.{Proto}
 use Rattle.pk_fields.specs.Fields.{row_of}
 use Rattle.pk_fields.specs.FieldSets.{is_in}
-use Rattle.pk_fields.specs.Ids.{DNS, HTTP, TCP_SEGMENT, WS_MALFORMED, WS_SHORT, field_count}
+use Rattle.pk_fields.specs.Ids.{DNS, DNS_RESPONSE_TO, HTTP, HTTP_REQUEST_IN, TCP_ACK, TCP_LOST, TCP_SEGMENT, TCP_SEQ, TCP_STREAM, WS_MALFORMED, WS_SHORT, field_count}
 use Rattle.pk_fields.specs.Rows.{FieldRow, whole}
 use Rattle.pk_fields.specs.Table.{rows}
 use Rattle.pk_fields.proofs.Names.{rows_len}
 use Rattle.app_layers.proofs.MessagesAside.{AsksNoMessages}
-use Rattle.dissect.specs.Followed.{asks_any, asks_messages}
+use Rattle.dissect.specs.Followed.{asks_any, asks_messages, asks_streams}
 
 or_none : (a b : Bool) → (a || b) ≡ false → (a ≡ false) × (b ≡ false)
 or_none true b none = absurd (true≢false none)
@@ -45,7 +45,7 @@ past_rows : (f : ℕ) → field_count ≤ f → (row_of f).proto ≡ 0
 unfolding row_of
 past_rows f past = ap (λ (row : FieldRow). row.proto) (get_or_past rows f (whole [] Proto 0) (subst (λ (n : ℕ). n ≤ f) (sym rows_len) past))
 
-none_in : (proto : ℕ) (wanted : List ℕ) → 0 < proto → asks_any field_count proto wanted ≡ false → (f : ℕ) → (row_of f).proto ≡ proto → is_in wanted f ≡ false
+pub none_in : (proto : ℕ) (wanted : List ℕ) → 0 < proto → asks_any field_count proto wanted ≡ false → (f : ℕ) → (row_of f).proto ≡ proto → is_in wanted f ≡ false
 none_in proto wanted some none f is = elim (cases_lt f field_count) [
   | inl inside ↦ none_below field_count proto wanted none f inside is
   | inr past ↦ let zero_is : 0 ≡ proto = sym (past_rows f past) ∙ is in absurd (omega (arith, zero_is, some))
@@ -73,3 +73,15 @@ pub any_none : (n proto : ℕ) (wanted : List ℕ) → ((f : ℕ) → (row_of f)
 unfolding asks_any
 any_none zero proto wanted none = refl
 any_none (suc n) proto wanted none = by_test n proto wanted none (any_none n proto wanted none) ((row_of n).proto == proto) refl
+
+pub messages_unasked : (wanted : List ℕ) → asks_streams wanted ≡ false → AsksNoMessages wanted
+unfolding asks_streams
+messages_unasked wanted unasked =
+    no_messages wanted (none_of (is_in wanted TCP_STREAM) (is_in wanted TCP_SEQ) (is_in wanted TCP_ACK) (is_in wanted TCP_LOST) (asks_messages wanted) unasked).4
+
+-- nor of the links of messages
+pub unasked_fields : (wanted : List ℕ) → asks_streams wanted ≡ false → (is_in wanted DNS_RESPONSE_TO ≡ false) × (is_in wanted HTTP_REQUEST_IN ≡ false)
+unfolding row_of rows
+unasked_fields wanted unasked =
+    let none = messages_unasked wanted unasked in
+    (none.dns DNS_RESPONSE_TO refl, none.http HTTP_REQUEST_IN refl)

@@ -26,7 +26,7 @@ is_walk : (w : Walk) (t : TreeShown) (todo : Todo) → t ≡ w.tree → todo ≡
 is_walk w t todo tree is =
     ap (λ (u : TreeShown). going u w.events w.todo) (sym tree) ∙ ap (λ (x : Todo). going t w.events x) (sym is)
 
-chain-head : (rules : List PortRule) (frame : Frame) (left : ℕ) (t : TreeShown) (es : List Event) (head : Head) → 0 < left
+pub chain-head : (rules : List PortRule) (frame : Frame) (left : ℕ) (t : TreeShown) (es : List Event) (head : Head) → 0 < left
     → chain rules left frame (going t es (todos.Head head)) ≡ chain rules (left - 1) frame (head_met rules frame head t es)
 unfolding chain
 chain-head rules frame zero t es head some = search arith
@@ -47,7 +47,7 @@ goes-on rules frame most before t0 first left state t now head after t1 todo som
       sym (chain-head rules frame left t w.events head some) ∙ ap (chain rules left frame) one ∙ is,
     )
 
-chain-stop : (rules : List PortRule) (n : ℕ) (frame : Frame) (t : TreeShown) (es : List Event) → chain rules n frame (stop t es) ≡ stop t es
+pub chain-stop : (rules : List PortRule) (n : ℕ) (frame : Frame) (t : TreeShown) (es : List Event) → chain rules n frame (stop t es) ≡ stop t es
 unfolding chain
 chain-stop rules zero frame t es = refl
 chain-stop rules (suc n) frame t es = chain-stop rules n frame t es
@@ -79,7 +79,7 @@ goes-rest rules frame most before t0 first left state t now head after t1 todo n
 
 -- the first header, and then the others
 pub all-met : (rules : List PortRule) (frame : Frame) (w : Walk) (state : State) (t : TreeShown) (todo : Todo) (after : State) (t1 : TreeShown)
-    → after.follows ≡ state.follows → IsWalked rules w state t todo
+    → after.keeps ≡ state.keeps → IsWalked rules w state t todo
     → IsWalked rules (chain rules (layers_left t) frame (going t w.events todo)) after t1 todos.Done
     → IsWalked rules (all_met rules frame w) after t1 todos.Done
 unfolding all_met

@@ -105,7 +105,7 @@ unfolding walk_of
 walk_stands rules times es frame =
     all_stays rules frame (link_met rules frame (frame_tree times frame) (NewFrame ∷ es)) es (link_stays rules frame (frame_tree times frame) (NewFrame ∷ es) es refl)
 
-frame_stands : (past : List Frame) (frame : Frame) → events_of (frame ∷ past) ≡ brought past frame ++ (NewFrame ∷ events_of past)
+pub frame_stands : (past : List Frame) (frame : Frame) → events_of (frame ∷ past) ≡ brought past frame ++ (NewFrame ∷ events_of past)
 unfolding events_of
 frame_stands past frame = walk_stands [] (times_of past) (events_of past) frame
 

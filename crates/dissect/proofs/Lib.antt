@@ -1,5 +1,6 @@
 mod AloneLemmas
 mod Asked
+mod ButNumbers
 mod Chains
 mod DatagramLemmas
 mod FramesAside
@@ -9,12 +10,16 @@ mod HeadWords
 mod HeldBytes
 mod Isolating
 mod Joining
+mod KeepingLemmas
 mod Kept
 mod LeftOut
 mod MessagesFit
 mod MessagesTold
+mod Numbering
+mod NumbersAside
 mod Opens
 mod Passing
+mod PlainWay
 pub mod RuleEvents
 mod SameValues
 mod SegmentHeads
@@ -24,5 +29,8 @@ mod Spaces
 mod StreamsTold
 mod StretchBytes
 mod Taken
+mod TakenOut
+mod Tellings
 mod Told
 pub mod TreeMessages
+mod Unnumbered

@@ -25,7 +25,7 @@ pub room-now : (state : State) (now : Todo) (head : Head) → now ≡ todos.Head
 room-now state now head is_head room = subst (HasRoom state) is_head room
 
 pub adds-both : (first before state : State) → AddsAtMost 0 first before → AddsAtMost 1 before state → AddsAtMost 1 first state
-adds-both first before state none adds = record { udp = omega (arith, none.udp, adds.udp); tcp = omega (arith, none.tcp, adds.tcp); follows = adds.follows ∙ none.follows }
+adds-both first before state none adds = record { udp = omega (arith, none.udp, adds.udp); tcp = omega (arith, none.tcp, adds.tcp); keeps = adds.keeps ∙ none.keeps }
 
 -- of more bytes
 pub adds-more : (less bytes : ℕ) (old new : State) (todo : Todo) → less ≤ bytes → AddsOneThenEnds less old new todo → AddsOneThenEnds bytes old new todo
@@ -42,17 +42,17 @@ adds-behind : (left bytes : ℕ) (first before state : State) (todo : Todo) → 
     → AddsOneThenEnds left before state todo → AddsOneThenEnds bytes first state todo
 adds-behind left bytes first before state todos.Done none kept adds = (adds-both first before state none adds.0, omega (arith, kept, adds.1))
 adds-behind left bytes first before state (todos.Head head) none kept adds = (
-  record { udp = omega (arith, none.udp, adds.0.udp); tcp = omega (arith, none.tcp, adds.0.tcp); follows = adds.0.follows ∙ none.follows },
+  record { udp = omega (arith, none.udp, adds.0.udp); tcp = omega (arith, none.tcp, adds.0.tcp); keeps = adds.0.keeps ∙ none.keeps },
   omega (arith, kept, adds.1),
 )
 
 abbrev pub with_joins : State → Joins → State
-with_joins state joins = record { joins = joins; udp = state.udp; follows = state.follows; streams = state.streams; links = state.links; found = state.found }
+with_joins state joins = record { joins = joins; keeps = state.keeps; udp = state.udp; streams = state.streams; links = state.links; found = state.found }
 
 pub adds-joined : (joined bytes size : ℕ) (old : State) (joins : Joins) (new : State) (r : Result Todo NoMemory) → joined + bytes_waiting joins ≤ bytes_waiting old.joins + size → size ≤ bytes
     → IfOk r (λ todo. AddsOneThenEnds joined (with_joins old joins) new todo) → IfOk r (λ todo. AddsOneThenEnds bytes old new todo)
 adds-joined joined bytes size old joins new r brought short adds =
-    let none : AddsAtMost 0 old (with_joins old joins) = record { udp = omega arith; tcp = omega arith; follows = refl } in
+    let none : AddsAtMost 0 old (with_joins old joins) = record { udp = omega arith; tcp = omega arith; keeps = refl } in
     let kept : bytes_kept (with_joins old joins) + joined ≤ bytes_kept old + bytes = omega (arith, brought, short) in
     IfOk-weaker r (λ (todo : Todo). AddsOneThenEnds joined (with_joins old joins) new todo) (λ (todo : Todo). AddsOneThenEnds bytes old new todo)
     (λ todo had. adds-behind joined bytes old (with_joins old joins) new todo none kept had) adds
@@ -76,7 +76,7 @@ room-on bytes before state (todos.Head head) room adds = record {
 -- in the end at most one, and no more bytes
 pub adds-most : (bytes : ℕ) (first state : State) (todo : Todo) → AddsOneThenEnds bytes first state todo → AddsAtMost 1 first state
 adds-most bytes first state todos.Done adds = adds.0
-adds-most bytes first state (todos.Head head) adds = record { udp = omega (arith, adds.0.udp); tcp = omega (arith, adds.0.tcp); follows = adds.0.follows }
+adds-most bytes first state (todos.Head head) adds = record { udp = omega (arith, adds.0.udp); tcp = omega (arith, adds.0.tcp); keeps = adds.0.keeps }
 
 pub kept-most : (bytes : ℕ) (first state : State) (todo : Todo) → AddsOneThenEnds bytes first state todo → bytes_kept state ≤ bytes_kept first + bytes
 kept-most bytes first state todos.Done adds = adds.1
@@ -119,7 +119,7 @@ ready-at few most state t after next fewer is ready = record {
 
 -- a segment more in its stream, and the messages that it shows in the links
 abbrev pub with_streams : State → MessageStreams → State
-with_streams state streams = record { joins = state.joins; udp = state.udp; follows = state.follows; streams = streams; links = state.links; found = state.found }
+with_streams state streams = record { joins = state.joins; keeps = state.keeps; udp = state.udp; streams = streams; links = state.links; found = state.found }
 
 pub adds-segment : (bytes size : ℕ) (old : State) (streams : MessageStreams) (new : State) → taken_so_far (streams_in streams) ≤ taken_so_far (streams_in old.streams) + 1
     → bytes_so_far (streams_in streams) ≤ bytes_so_far (streams_in old.streams) + size → size ≤ bytes → IsSameButLinks (with_streams old streams) new
@@ -128,7 +128,7 @@ adds-segment bytes size old streams new taken sent short same = (
   record {
     udp = omega (arith, ap length same.udp);
     tcp = omega (arith, ap (λ (x : MessageStreams). taken_so_far (streams_in x)) same.streams, taken);
-    follows = same.follows;
+    keeps = same.keeps;
   },
   omega (arith, ap (λ (x : MessageStreams). bytes_so_far (streams_in x)) same.streams, ap bytes_waiting same.joins, sent, short),
 )

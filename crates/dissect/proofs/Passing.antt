@@ -1,11 +1,9 @@
 -- A segment that is passed over: what is told of it where nothing of its stream is asked.
-use Rattle.std.proofs.Common.{◌≡◌, [], subst, ℕ, false, List, Option, refl, sym, ◌∙◌, ap, true≢false}
+use Rattle.std.proofs.Common.{◌≡◌, [], ◌∷◌, subst, ℕ, true, false, List, Option, Some, None, arith, refl, sym, ◌∙◌, ap, true≢false}
 use Rattle.pk_base.specs.declared.span.Span.{Span}
 use Rattle.pk_tree.specs.Buffers.{bytes_of}
-use Rattle.pk_fields.specs.Fields.{row_of}
 use Rattle.pk_fields.specs.FieldSets.{is_in}
-use Rattle.pk_fields.specs.Ids.{DNS_RESPONSE_TO, HTTP_REQUEST_IN, TCP_STREAM, TCP_SEQ, TCP_ACK, TCP_LOST}
-use Rattle.pk_fields.specs.Table.{rows}
+use Rattle.pk_fields.specs.Ids.{DNS, HTTP, TCP_STREAM, TCP_SEGMENT, TCP_SEQ, TCP_ACK, TCP_LOST}
 use Rattle.pk_base.specs.declared.heads.PacketHead.{PacketHead}
 use Rattle.pk_base.specs.declared.heads.TcpHead.{TcpHead}
 use Rattle.pk_tree.specs.Trees.{TreeShown}
@@ -19,10 +17,15 @@ use Rattle.capture_read.specs.declared.frame.Frame.{Frame}
 use Rattle.dissect.specs.declared.state.State.{State}
 use Rattle.dissect.specs.declared.todo.Todo.TheVariants as todos
 use Rattle.dissect.specs.Events.{Event}
+use Rattle.dissect.specs.declared.keeping.Follows.{Follows}
+use Rattle.dissect.specs.declared.keeping.Follows.TheVariants.{Nothing, One, Everything}
 use Rattle.dissect.specs.Followed.{asks_messages, asks_streams}
+use Rattle.dissect.specs.Keeping.{AsksNoPlaces, AsksOnly, FollowsEnough, followed_of, keeps_all, is_followed, is_of, other_proto}
 use Rattle.app_layers.specs.Aside.{LacksOnly}
 use Rattle.app_layers.specs.FrameLayer.{is_cut}
-use Rattle.app_layers.specs.MessageLayers.{carried_over, stream_app}
+use Rattle.app_layers.specs.MessageLayers.{app_of_segment, carried_over, stream_app}
+use Rattle.tcp_streams.specs.declared.segment.Segment.{Segment}
+use Rattle.tcp_messages.specs.Standing.{ReadsFor}
 use Rattle.app_layers.specs.Payloads.{with_lost, carried_told, segment_told}
 use Rattle.dissect.specs.Segments.{segment_from, segments_of}
 use Rattle.dissect.specs.Stands.{StandsAt, IsWalked}
@@ -30,31 +33,64 @@ use Rattle.dissect.specs.Walks.{segment_met}
 use Rattle.app_layers.proofs.ToldHeads.{carried_wanted, lost_unasked, place_unasked, told_wanted}
 use Rattle.app_layers.proofs.WantedMessages.{carried_over_wanted}
 use Rattle.dissect.proofs.Joining.{stands-segment}
-use Rattle.app_layers.proofs.MessagesAside.{AsksNoMessages, carried_lacks}
-use Rattle.dissect.proofs.Asked.{no_messages, none_of}
+use Rattle.app_layers.proofs.MessagesAside.{AsksNoMessages, AsksNoneOf, AsksNotShown, none_shown, shown_lacks}
+use Rattle.stream_messages.specs.declared.told.App.TheVariants.{Dns, Http}
+use Rattle.dissect.proofs.Tellings.{none_shown_of, not_shown}
+use Rattle.dissect.proofs.Asked.{messages_unasked, none_in, none_of}
+use Rattle.dissect.proofs.KeepingLemmas.{all_everything, everything_of, everything_takes, passed_over}
 
--- a segment is told alike whatever it is to its stream
-told_alike : (t : TreeShown) (taken : Taken) (span : Span) → asks_streams t.wanted ≡ false → segment_told t taken span ≡ carried_told t span
-unfolding segment_told asks_streams
-told_alike t taken span unasked =
-    let none = none_of (is_in t.wanted TCP_STREAM) (is_in t.wanted TCP_SEQ) (is_in t.wanted TCP_ACK) (is_in t.wanted TCP_LOST) (asks_messages t.wanted) unasked in
-    ap (λ (u : TreeShown). with_lost (carried_told u span) (lost_bytes taken.lost)) (place_unasked t taken none.0 none.1 none.2)
-    ∙ lost_unasked (carried_told t span) (lost_bytes taken.lost) (ap (λ (wanted : List ℕ). is_in wanted TCP_LOST) (carried_wanted t span) ∙ none.3)
+-- where no place in a stream is asked, a segment is told alike whatever it is to its stream
+pub places_alike : (t : TreeShown) (taken : Taken) (span : Span) → AsksNoPlaces t.wanted → segment_told t taken span ≡ carried_told t span
+unfolding segment_told
+places_alike t taken span none =
+    ap (λ (u : TreeShown). with_lost (carried_told u span) (lost_bytes taken.lost)) (place_unasked t taken none.stream none.seq none.ack)
+    ∙ lost_unasked (carried_told t span) (lost_bytes taken.lost) (ap (λ (wanted : List ℕ). is_in wanted TCP_LOST) (carried_wanted t span) ∙ none.lost)
 
-messages_unasked : (wanted : List ℕ) → asks_streams wanted ≡ false → AsksNoMessages wanted
+no_places : (wanted : List ℕ) → asks_streams wanted ≡ false → AsksNoPlaces wanted
 unfolding asks_streams
-messages_unasked wanted unasked =
-    no_messages wanted (none_of (is_in wanted TCP_STREAM) (is_in wanted TCP_SEQ) (is_in wanted TCP_ACK) (is_in wanted TCP_LOST) (asks_messages wanted) unasked).4
+no_places wanted unasked =
+    let none = none_of (is_in wanted TCP_STREAM) (is_in wanted TCP_SEQ) (is_in wanted TCP_ACK) (is_in wanted TCP_LOST) (asks_messages wanted) unasked in
+    record { stream = none.0; seq = none.1; ack = none.2; lost = none.3 }
 
--- nor of the links of messages
-pub unasked_fields : (wanted : List ℕ) → asks_streams wanted ≡ false → (is_in wanted DNS_RESPONSE_TO ≡ false) × (is_in wanted HTTP_REQUEST_IN ≡ false)
-unfolding row_of rows
-unasked_fields wanted unasked =
-    let none = messages_unasked wanted unasked in
-    (none.dns DNS_RESPONSE_TO refl, none.http HTTP_REQUEST_IN refl)
+-- ---- a segment that is taken, with the others of its conversation
+
+pub told_enough : (rules : List PortRule) (follows : Follows) (segments : List Segment) (segment : Segment) (app : Option StreamApp) (t : TreeShown) (span : Span)
+    → is_followed follows app ≡ true → FollowsEnough follows t.wanted
+    → segment_told t (taken_after (followed_of rules follows segments) segment) span ≡ segment_told t (taken_after segments segment) span
+told_enough rules Nothing segments segment app t span taken enough = absurd (true≢false (sym taken))
+told_enough rules (One only) segments segment app t span taken enough =
+    places_alike t (taken_after (followed_of rules (One only) segments) segment) span enough.places ∙ sym (places_alike t (taken_after segments segment) span enough.places)
+told_enough rules Everything segments segment app t span taken enough =
+    ap (λ (past : List Segment). segment_told t (taken_after past segment) span) (everything_of rules Everything segments refl)
+
+-- ---- a segment that is passed over
+
+-- nothing is asked of a segment's stream
+record AsksNothingOf (app : Option StreamApp) (past : List Segment) (s : Segment) (wanted : List ℕ) : Type 0 where
+  pub places : AsksNoPlaces wanted
+  pub segment : is_in wanted TCP_SEGMENT ≡ false
+  pub messages : AsksNotShown wanted (shown_after app past s)
+
+no_others : (only : StreamApp) (app : Option StreamApp) (past : List Segment) (s : Segment) (wanted : List ℕ) → AsksOnly only wanted → is_of only app ≡ false → AsksNotShown wanted (shown_after app past s)
+no_others only None past s wanted asks other = none_shown_of wanted past s
+no_others Dns (Some Dns) past s wanted asks other = absurd (true≢false other)
+no_others Dns (Some Http) past s wanted asks other =
+    not_shown Http wanted past s (record { short = asks.short; malformed = asks.malformed; fields = none_in HTTP wanted (omega arith) asks.others })
+no_others Http (Some Dns) past s wanted asks other =
+    not_shown Dns wanted past s (record { short = asks.short; malformed = asks.malformed; fields = none_in DNS wanted (omega arith) asks.others })
+no_others Http (Some Http) past s wanted asks other = absurd (true≢false other)
+
+nothing_asked : (follows : Follows) (app : Option StreamApp) (past : List Segment) (s : Segment) (wanted : List ℕ) → FollowsEnough follows wanted → is_followed follows app ≡ false
+    → AsksNothingOf app past s wanted
+nothing_asked Nothing app past s wanted enough passed =
+    let none = messages_unasked wanted enough in
+    record { places = no_places wanted enough; segment = none.segment; messages = none_shown wanted (shown_after app past s) none }
+nothing_asked (One only) app past s wanted enough passed =
+    record { places = enough.places; segment = enough.segment; messages = no_others only app past s wanted enough passed }
+nothing_asked Everything app past s wanted enough passed = absurd (true≢false passed)
 
 pub passed-walked : (rules : List PortRule) (frame : Frame) (packet : PacketHead) (head : TcpHead) (span : Span) (app : Option StreamApp) (state : State) (t v : TreeShown)
-    → app ≡ stream_app rules head.source head.target → state.follows ≡ false → v ≡ carried_over app (is_cut frame) span (carried_told t span) []
+    → app ≡ stream_app rules head.source head.target → is_followed state.keeps.follows app ≡ false → v ≡ carried_over app (is_cut frame) span (carried_told t span) []
     → (es : List Event) → StandsAt rules es state → IsWalked rules (segment_met rules frame packet t es head span) state v todos.Done
 unfolding segment_met
 passed-walked rules frame packet head span app state t v app_is unfollowed shown es stands =
@@ -66,20 +102,25 @@ passed-walked rules frame packet head span app state t v app_is unfollowed shown
     let messages = shown_after own past segment in
     let told = segment_told t (taken_after past segment) span in
     let whole = carried_over own cut span told messages in
+    let follows = state.keeps.follows in
     let wanted : whole.wanted ≡ t.wanted = carried_over_wanted own cut span told messages ∙ told_wanted t (taken_after past segment) span in
     let passed : v ≡ carried_over own cut span (carried_told t span) [] = shown ∙ ap (λ (a : Option StreamApp). carried_over a cut span (carried_told t span) []) app_is in
+    let none : is_followed follows own ≡ false = ap (is_followed follows) (sym app_is) ∙ unfollowed in
+    let not_all = λ (all : keeps_all state.keeps ≡ true). true≢false (sym (everything_takes follows own (all_everything state.keeps all)) ∙ none) in
     record {
-      stands = stands-segment rules es frame.number packet head bytes state state stands refl refl (λ follows. absurd (true≢false (sym follows ∙ unfollowed)))
-          (λ follows. absurd (true≢false (sym follows ∙ unfollowed))) (λ follows. absurd (true≢false (sym follows ∙ unfollowed)));
+      stands = stands-segment rules es frame.number packet head bytes state state stands refl refl refl
+          (subst (λ (ss : List Segment). ReadsFor (app_of_segment rules) ss state.streams) (sym (passed_over rules follows segment past none)) stands.streams)
+          (λ all. absurd (not_all all)) (λ all. absurd (not_all all));
       tree = record {
         wanted = ap (λ (u : TreeShown). u.wanted) passed ∙ carried_over_wanted own cut span (carried_told t span) [] ∙ carried_wanted t span ∙ sym wanted;
-        same = λ follows. absurd (true≢false (sym (follows refl) ∙ unfollowed));
-        lacks = λ unasked.
-            let none : asks_streams t.wanted ≡ false = sym (ap asks_streams wanted) ∙ unasked in
-            let alike : told ≡ carried_told t span = told_alike t (taken_after past segment) span none in
-            let asked : AsksNoMessages told.wanted = subst AsksNoMessages (sym (told_wanted t (taken_after past segment) span)) (messages_unasked t.wanted none) in
+        same = λ all. absurd (not_all (all refl));
+        lacks = λ enough.
+            let nothing : AsksNothingOf own past segment t.wanted = nothing_asked follows own past segment t.wanted (subst (FollowsEnough follows) wanted enough.streams) none in
+            let alike : told ≡ carried_told t span = places_alike t (taken_after past segment) span nothing.places in
+            let asked : told.wanted ≡ t.wanted = told_wanted t (taken_after past segment) span in
             subst (λ (u : TreeShown). LacksOnly whole u) (sym (passed ∙ ap (λ (u : TreeShown). carried_over own cut span u []) (sym alike)))
-            (carried_lacks own cut span told messages asked);
+            (shown_lacks own cut span told messages (ap (λ (fields : List ℕ). is_in fields TCP_SEGMENT) asked ∙ nothing.segment)
+            (subst (λ (fields : List ℕ). AsksNotShown fields messages) (sym asked) nothing.messages));
       };
       todo = refl;
     }

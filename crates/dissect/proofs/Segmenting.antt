@@ -1,5 +1,5 @@
 -- A segment more: what is shown of it, and what is kept.
-use Rattle.std.proofs.Common.{◌≡◌, true, List, ◌∷◌, map, refl, ◌∙◌, ap, subst}
+use Rattle.std.proofs.Common.{◌≡◌, true, List, ◌∷◌, map, refl, sym, ◌∙◌, ap, subst}
 use Rattle.pk_base.specs.declared.span.Span.{Span}
 use Rattle.pk_tree.specs.Buffers.{bytes_of}
 use Rattle.pk_base.specs.declared.heads.PacketHead.{PacketHead}
@@ -26,22 +26,31 @@ use Rattle.message_links.specs.Notes.{Noted, message_note, noted_on, tcp_directi
 use Rattle.dissect.specs.Notes.{noted, segment_notes}
 use Rattle.app_layers.specs.Payloads.{segment_told}
 use Rattle.dissect.specs.Segments.{segment_from, segments_of}
+use Rattle.app_layers.specs.Aside.{LacksOnly}
+use Rattle.app_layers.proofs.MessagesAside.{lacks_none}
+use Rattle.app_layers.proofs.ToldHeads.{told_wanted}
+use Rattle.app_layers.proofs.WantedMessages.{carried_over_wanted}
+use Rattle.dissect.specs.declared.keeping.Keeping.{Keeping}
+use Rattle.dissect.specs.Keeping.{FollowsEnough, followed_of, is_followed, keeps_all}
+use Rattle.dissect.proofs.AloneLemmas.{shown_same}
+use Rattle.dissect.proofs.KeepingLemmas.{all_everything, between_followed, everything_enough, everything_of, more_followed}
+use Rattle.dissect.proofs.Passing.{told_enough}
 use Rattle.dissect.specs.Stands.{StandsAt, IsLinked, IsWalked}
 use Rattle.dissect.specs.Walks.{segment_met}
 use Rattle.dissect.proofs.Joining.{stands-segment}
-use Rattle.dissect.proofs.Told.{told_same}
 
 -- a segment that was taken, told and shown
 pub record IsShown (rules : List PortRule) (frame : Frame) (packet : PacketHead) (head : TcpHead) (span : Span) (segment : Segment) (taken : Taken) (messages : List ShownMessage) (old new : State) (t u v : TreeShown) : Type 0 where
   pub segment_is : segment ≡ segment_from frame.number packet head (bytes_of t.buffers span)
-  pub follows : old.follows ≡ true
+  pub taken_in : is_followed old.keeps.follows (app_of_segment rules segment) ≡ true
+  pub keeps : new.keeps ≡ old.keeps
   pub joins : new.joins ≡ old.joins
   pub udp : new.udp ≡ old.udp
   pub stands : (past : List Segment) → ReadsFor (app_of_segment rules) past old.streams → StandsFor past (streams_in old.streams)
   pub taken_is : (past : List Segment) → StandsFor past (streams_in old.streams) → taken ≡ taken_after past segment
   pub messages_is : (past : List Segment) → ReadsFor (app_of_segment rules) past old.streams → messages ≡ shown_after (app_of_segment rules segment) past segment
   pub kept : (past : List Segment) → ReadsFor (app_of_segment rules) past old.streams → ReadsFor (app_of_segment rules) (segment ∷ past) new.streams
-  pub links : IsLinked frame.number (tcp_direction taken) (map (message_note segment.payload) messages) old new
+  pub links : keeps_all old.keeps ≡ true → IsLinked frame.number (tcp_direction taken) (map (message_note segment.payload) messages) old new
   pub told : u ≡ segment_told t taken span
   pub shown : v ≡ carried_over (app_of_segment rules segment) (is_cut frame) span u messages
 
@@ -49,33 +58,55 @@ pub shown-walked : (rules : List PortRule) (frame : Frame) (packet : PacketHead)
     → IsShown rules frame packet head span segment taken messages old new t u v → (es : List Event) → StandsAt rules es old → IsWalked rules (segment_met rules frame packet t es head span) new v todos.Done
 unfolding segment_met noted newest_links
 shown-walked rules frame packet head span segment taken messages old new t u v is es stands =
-    let past = segments_of es in
+    let segments = segments_of es in
+    let follows = old.keeps.follows in
+    let past = followed_of rules follows segments in
+    let own = app_of_segment rules segment in
     let bytes = bytes_of t.buffers span in
     let cut = is_cut frame in
-    let reads = stands.streams is.follows in
-    let shown : v ≡ carried_over (app_of_segment rules segment) cut span (segment_told t (taken_after past segment) span) (shown_after (app_of_segment rules segment) past segment) =
-    is.shown ∙ ap (λ (x : TreeShown). carried_over (app_of_segment rules segment) cut span x messages)
-    (is.told ∙ ap (λ (k : Taken). segment_told t k span) (is.taken_is past (is.stands past reads)))
-    ∙ ap (carried_over (app_of_segment rules segment) cut span (segment_told t (taken_after past segment) span)) (is.messages_is past reads) in
+    let reads = stands.streams in
+    let messages_are : messages ≡ shown_after own segments segment =
+    is.messages_is past reads ∙ shown_same own past segments segment (between_followed rules follows segment segments is.taken_in) in
+    let taken_is : taken ≡ taken_after past segment = is.taken_is past (is.stands past reads) in
+    let told = segment_told t (taken_after segments segment) span in
+    let whole = carried_over own cut span told (shown_after own segments segment) in
+    let shown : v ≡ carried_over own cut span (segment_told t (taken_after past segment) span) (shown_after own segments segment) =
+    is.shown ∙ ap (λ (x : TreeShown). carried_over own cut span x messages) (is.told ∙ ap (λ (k : Taken). segment_told t k span) taken_is)
+    ∙ ap (carried_over own cut span (segment_told t (taken_after past segment) span)) messages_are in
+    let alike = λ (enough : FollowsEnough follows t.wanted).
+    shown ∙ ap (λ (x : TreeShown). carried_over own cut span x (shown_after own segments segment)) (told_enough rules follows segments segment own t span is.taken_in enough) in
+    let wanted : whole.wanted ≡ t.wanted = carried_over_wanted own cut span told (shown_after own segments segment) ∙ told_wanted t (taken_after segments segment) span in
+    let was_all = λ (all : keeps_all new.keeps ≡ true). ap keeps_all (sym is.keeps) ∙ all in
     let ns = noted rules es in
-    let links = stands.links is.follows in
-    let taken_is = is.taken_is past (is.stands past reads) in
-    let messages_is = is.messages_is past reads in
-    let linked : new.found.items ≡ links_of ns (tcp_direction (taken_after past segment)) (segment_notes rules past segment) =
-    is.links.found ns links
-    ∙ ap (λ (k : Taken). links_of ns (tcp_direction k) (map (message_note segment.payload) messages)) taken_is
-    ∙ ap (λ (ms : List ShownMessage). links_of ns (tcp_direction (taken_after past segment)) (map (message_note segment.payload) ms)) messages_is in
-    let more : List Noted = noted_on frame.number (tcp_direction taken) (map (message_note segment.payload) messages) ns in
-    let noted_is : more ≡ noted_on frame.number (tcp_direction (taken_after past segment)) (segment_notes rules past segment) ns =
-    ap (λ (k : Taken). noted_on frame.number (tcp_direction k) (map (message_note segment.payload) messages) ns) taken_is
-    ∙ ap (λ (ms : List ShownMessage). noted_on frame.number (tcp_direction (taken_after past segment)) (map (message_note segment.payload) ms) ns) messages_is in
+    let taken_all = λ (all : keeps_all old.keeps ≡ true). taken_is ∙ ap (λ (ss : List Segment). taken_after ss segment) (everything_of rules follows segments (all_everything old.keeps all)) in
+    let noted_is = λ (all : keeps_all old.keeps ≡ true).
+    ap (λ (k : Taken). noted_on frame.number (tcp_direction k) (map (message_note segment.payload) messages) ns) (taken_all all)
+    ∙ ap (λ (ms : List ShownMessage). noted_on frame.number (tcp_direction (taken_after segments segment)) (map (message_note segment.payload) ms) ns) messages_are in
+    let linked_is = λ (all : keeps_all old.keeps ≡ true).
+    ap (λ (k : Taken). links_of ns (tcp_direction k) (map (message_note segment.payload) messages)) (taken_all all)
+    ∙ ap (λ (ms : List ShownMessage). links_of ns (tcp_direction (taken_after segments segment)) (map (message_note segment.payload) ms)) messages_are in
+    let kept : ReadsFor (app_of_segment rules) (followed_of rules follows (segment ∷ segments)) new.streams =
+    subst (λ (ss : List Segment). ReadsFor (app_of_segment rules) ss new.streams) (sym (more_followed rules follows segment segments is.taken_in)) (is.kept past reads) in
+    let whole_is : whole ≡ (segment_met rules frame packet t es head span).tree =
+    ap (λ (s : Segment). carried_over (app_of_segment rules s) cut span (segment_told t (taken_after segments s) span) (shown_after (app_of_segment rules s) segments s)) is.segment_is in
     record {
-      stands = stands-segment rules es frame.number packet head bytes old new stands is.joins is.udp
-          (λ _. subst (λ (s : Segment). ReadsFor (app_of_segment rules) (s ∷ past) new.streams) is.segment_is (is.kept past reads))
-          (λ _. subst (λ (all : List Noted). LinksStandFor all new.links)
-          (noted_is ∙ ap (λ (s : Segment). noted_on frame.number (tcp_direction (taken_after past s)) (segment_notes rules past s) ns) is.segment_is) (is.links.links ns links))
-          (λ _. linked ∙ ap (λ (s : Segment). links_of ns (tcp_direction (taken_after past s)) (segment_notes rules past s)) is.segment_is);
-      tree = told_same new todos.Done _ v
-          (shown ∙ ap (λ (s : Segment). carried_over (app_of_segment rules s) cut span (segment_told t (taken_after past s) span) (shown_after (app_of_segment rules s) past s)) is.segment_is);
+      stands = stands-segment rules es frame.number packet head bytes old new stands is.joins is.udp is.keeps
+          (subst (λ (keeps : Keeping). ReadsFor (app_of_segment rules) (followed_of rules keeps.follows (segment_from frame.number packet head bytes ∷ segments)) new.streams) (sym is.keeps)
+          (subst (λ (s : Segment). ReadsFor (app_of_segment rules) (followed_of rules follows (s ∷ segments)) new.streams) is.segment_is kept))
+          (λ all. subst (λ (noted_all : List Noted). LinksStandFor noted_all new.links)
+          (noted_is (was_all all) ∙ ap (λ (s : Segment). noted_on frame.number (tcp_direction (taken_after segments s)) (segment_notes rules segments s) ns) is.segment_is)
+          ((is.links (was_all all)).links ns (stands.links (was_all all))))
+          (λ all. (is.links (was_all all)).found ns (stands.links (was_all all)) ∙ linked_is (was_all all)
+          ∙ ap (λ (s : Segment). links_of ns (tcp_direction (taken_after segments s)) (segment_notes rules segments s)) is.segment_is);
+      tree = record {
+        wanted = ap (λ (x : TreeShown). x.wanted) shown ∙ carried_over_wanted own cut span (segment_told t (taken_after past segment) span) (shown_after own segments segment)
+            ∙ told_wanted t (taken_after past segment) span ∙ sym wanted ∙ ap (λ (x : TreeShown). x.wanted) whole_is;
+        same = λ all. alike (everything_enough follows t.wanted (all_everything old.keeps (was_all (all refl)))) ∙ whole_is;
+        lacks = λ enough.
+            let fields : (segment_met rules frame packet t es head span).tree.wanted ≡ t.wanted = ap (λ (x : TreeShown). x.wanted) (sym whole_is) ∙ wanted in
+            subst (LacksOnly (segment_met rules frame packet t es head span).tree)
+            (sym (alike (subst (FollowsEnough follows) fields (subst (λ (keeps : Keeping). FollowsEnough keeps.follows (segment_met rules frame packet t es head span).tree.wanted) is.keeps enough.streams)) ∙ whole_is))
+            (lacks_none (segment_met rules frame packet t es head span).tree);
+      };
       todo = refl;
     }

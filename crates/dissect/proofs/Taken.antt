@@ -11,7 +11,9 @@ use Rattle.capture_read.specs.declared.frame.Frame.{Frame}
 use Rattle.dissect.specs.declared.state.State.{State}
 use Rattle.app_layers.specs.declared.times.Times.{Times}
 use Rattle.dissect.specs.Events.{Event}
-use Rattle.dissect.specs.Followed.{asks_streams, HasSameValues}
+use Rattle.dissect.specs.declared.keeping.Keeping.{Keeping}
+use Rattle.dissect.specs.Followed.{HasSameValues}
+use Rattle.dissect.specs.Keeping.{AsksNoLinks, KeepsFor, keeps_all}
 use Rattle.dissect.specs.Stands.{DissectorShown, StandsAt, IsRead, IsAfter}
 use Rattle.message_links.specs.Linked.{linked}
 use Rattle.dissect.specs.Links.{newest_links}
@@ -21,7 +23,6 @@ use Rattle.dissect.proofs.Kept.{walk_kept}
 use Rattle.message_links.proofs.LinkedLemmas.{links_kept, unasked_links}
 use Rattle.dissect.proofs.SameValues.{same_values}
 use Rattle.dissect.proofs.RuleEvents.{rules_change_no_events}
-use Rattle.dissect.proofs.Passing.{unasked_fields}
 
 -- the frame is read, whatever events are kept
 abbrev pub ReadsBy : List PortRule → List ℕ → Frame → Times → State → State → TreeShown → Type 0
@@ -49,46 +50,46 @@ unfolding tree_at bare_tree
 with_links rules asked past frame =
     links_kept asked (newest_links rules (events_of (frame ∷ past))) _ _ (walk_kept rules asked (times_of past) (events_of past) frame).tree
 
--- where streams are followed, the tree has the wanted items of the whole tree
-pub tree-taken : (asked : List ℕ) (past : List Frame) (frame : Frame) (d : DissectorShown) (state : State) (t : TreeShown) → state.follows ≡ d.state.follows
-    → IsAfter past d → Reads asked frame d state t → d.state.follows ≡ true → IsKeptTree asked (tree_at d.decode.rules past frame) t
-tree-taken asked past frame d state t same after reads follows =
+-- where everything is kept, the tree has the wanted items of the whole tree
+pub tree-taken : (asked : List ℕ) (past : List Frame) (frame : Frame) (d : DissectorShown) (state : State) (t : TreeShown) → state.keeps ≡ d.state.keeps
+    → IsAfter past d → Reads asked frame d state t → keeps_all d.state.keeps ≡ true → IsKeptTree asked (tree_at d.decode.rules past frame) t
+tree-taken asked past frame d state t same after reads had_all =
+    let all : keeps_all state.keeps ≡ true = ap keeps_all same ∙ had_all in
     let rules = d.decode.rules in
     let way = kept_walk rules asked (times_of past) (events_of past) frame in
     let one = read asked past frame d state t after reads in
-    let bare : one.bare ≡ way.tree = one.walked.tree.same (λ _. same ∙ follows) in
-    let found : state.found.items ≡ newest_links rules (events_of (frame ∷ past)) = one.walked.stands.found (same ∙ follows) ∙ ap (newest_links rules) (events_are rules asked past frame) in
+    let bare : one.bare ≡ way.tree = one.walked.tree.same (λ _. all) in
+    let found : state.found.items ≡ newest_links rules (events_of (frame ∷ past)) = one.walked.stands.found all ∙ ap (newest_links rules) (events_are rules asked past frame) in
     subst (λ (u : TreeShown). IsKeptTree asked (tree_at rules past frame) u)
     (sym (one.with_links ∙ ap (linked asked state.found.items) bare ∙ ap (λ (links : List (Option ℕ)). linked asked links way.tree) found))
     (with_links rules asked past frame)
 
--- else the values, where nothing of streams is asked
+-- else the values, where what is kept is enough and no link is asked
 pub values-taken : (asked : List ℕ) (past : List Frame) (frame : Frame) (d : DissectorShown) (state : State) (t : TreeShown)
-    → IsAfter past d → Reads asked frame d state t → asks_streams asked ≡ false → HasSameValues asked (tree_at d.decode.rules past frame) t
-values-taken asked past frame d state t after reads unasked =
+    → state.keeps ≡ d.state.keeps → IsAfter past d → Reads asked frame d state t → KeepsFor d.state.keeps asked → AsksNoLinks asked → HasSameValues asked (tree_at d.decode.rules past frame) t
+values-taken asked past frame d state t same after reads enough none =
     let rules = d.decode.rules in
     let way = kept_walk rules asked (times_of past) (events_of past) frame in
     let one = read asked past frame d state t after reads in
-    let none = unasked_fields asked unasked in
     let links = newest_links rules (events_of (frame ∷ past)) in
     let whole : IsKeptTree asked (tree_at rules past frame) way.tree =
-    subst (IsKeptTree asked (tree_at rules past frame)) (unasked_links asked links way.tree none.0 none.1) (with_links rules asked past frame) in
-    let bare : t ≡ one.bare = one.with_links ∙ unasked_links asked state.found.items one.bare none.0 none.1 in
+    subst (IsKeptTree asked (tree_at rules past frame)) (unasked_links asked links way.tree none.dns none.http) (with_links rules asked past frame) in
+    let bare : t ≡ one.bare = one.with_links ∙ unasked_links asked state.found.items one.bare none.dns none.http in
     let wanted : way.tree.wanted ≡ asked = ap (λ (u : TreeShown). u.wanted) whole.same in
     λ field layers is.
     ap (λ (u : TreeShown). values_of u field layers) bare
-    ∙ same_values _ one.bare one.fits (one.walked.tree.lacks (ap asks_streams wanted ∙ unasked)) field layers (ap (λ set. is_in set field) wanted ∙ is)
+    ∙ same_values _ one.bare one.fits (one.walked.tree.lacks (subst (KeepsFor state.keeps) (sym wanted) (subst (λ (keeps : Keeping). KeepsFor keeps asked) (sym same) enough))) field layers (ap (λ set. is_in set field) wanted ∙ is)
     ∙ ap (λ (u : TreeShown). values_of u field layers) whole.same
     ∙ values_same asked (tree_at rules past frame) field layers is
 
 pub kept-values : (asked : List ℕ) (whole t : TreeShown) → IsKeptTree asked whole t → HasSameValues asked whole t
 kept-values asked whole t kept = λ field layers is. ap (λ (u : TreeShown). values_of u field layers) kept.same ∙ values_same asked whole field layers is
 
--- by whether streams are followed
-pub values-read : (follows : Bool) (asked : List ℕ) (whole t : TreeShown) → (follows ≡ true → IsKeptTree asked whole t) → (asks_streams asked ≡ false → HasSameValues asked whole t)
-    → (follows ≡ false → asks_streams asked ≡ false) → HasSameValues asked whole t
-values-read true asked whole t kept values few = kept-values asked whole t (kept refl)
-values-read false asked whole t kept values few = values (few refl)
+-- by whether everything is kept
+pub values-read : (all : Bool) (asked : List ℕ) (whole t : TreeShown) → (all ≡ true → IsKeptTree asked whole t) → (all ≡ false → HasSameValues asked whole t)
+    → HasSameValues asked whole t
+values-read true asked whole t kept values = kept-values asked whole t (kept refl)
+values-read false asked whole t kept values = values refl
 
 -- the tree of all fields is the whole tree
 pub whole-taken : (rules : List PortRule) (past : List Frame) (frame : Frame) (t : TreeShown) → IsKeptTree every_field (tree_at rules past frame) t → t ≡ tree_at rules past frame

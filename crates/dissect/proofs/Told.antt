@@ -1,7 +1,7 @@
 -- How a tree is told of a way.
 use Rattle.std.proofs.lemmas.Bool.{cond-true}
 use Rattle.std.specs.Prelude.{IfOk, Result, Ok, Err}
-use Rattle.std.proofs.Common.{◌≡◌, List, length, eq-eqb, Bool, true, false, refl, sym, ap, subst, ◌∙◌, true≢false}
+use Rattle.std.proofs.Common.{◌≡◌, List, length, eq-eqb, sym, ap, subst, ◌∙◌}
 use Rattle.pk_base.specs.declared.memory.NoMemory.{NoMemory}
 use Rattle.pk_base.specs.declared.span.Span.{Span}
 use Rattle.pk_base.specs.declared.heads.After.{After}
@@ -18,12 +18,13 @@ use Rattle.dissect.specs.declared.state.State.{State}
 use Rattle.dissect.specs.declared.todo.Head.{Head}
 use Rattle.dissect.specs.declared.todo.Todo.{Todo}
 use Rattle.dissect.specs.declared.todo.Todo.TheVariants as todos
-use Rattle.dissect.specs.Followed.{asks_streams}
+use Rattle.dissect.specs.declared.keeping.Keeping.{Keeping}
+use Rattle.dissect.specs.Keeping.{KeepsFor, keeps_all}
 use Rattle.app_layers.specs.Aside.{LacksOnly}
 use Rattle.dissect.specs.Events.{Event}
 use Rattle.app_layers.specs.Fragments.{joined_told}
 use Rattle.dissect.specs.Fragments.{joined_todo}
-use Rattle.dissect.specs.Stands.{StandsAt, IsMet, IsToldAs, IsWalked}
+use Rattle.dissect.specs.Stands.{StandsAt, IsToldAs, IsWalked}
 use Rattle.dissect.specs.Walks.{Walk, followed, going, joined_met, link_met, stop}
 use Rattle.app_layers.proofs.MessagesAside.{lacks_none, lacks_on}
 
@@ -41,29 +42,18 @@ told_head state next head whole t is_head told =
     told.same (λ done. let bad : todos.Head head ≡ todos.Done = sym is_head ∙ done in absurd (cc bad))
 
 -- one tree after the other
-pub told_on : (state after : State) (whole t t1 : TreeShown) → after.follows ≡ state.follows → IsToldAs state todos.Done whole t → IsToldAs after todos.Done t t1
+pub told_on : (state after : State) (whole t t1 : TreeShown) → after.keeps ≡ state.keeps → IsToldAs state todos.Done whole t → IsToldAs after todos.Done t t1
     → IsToldAs after todos.Done whole t1
 told_on state after whole t t1 same first second = record {
   wanted = second.wanted ∙ first.wanted;
-  same = λ follows. second.same follows ∙ first.same (λ done. sym same ∙ follows done);
-  lacks = λ unasked. lacks_on whole t t1 first.wanted (first.lacks unasked) (second.lacks (ap asks_streams first.wanted ∙ unasked));
+  same = λ all. second.same all ∙ first.same (λ done. ap keeps_all (sym same) ∙ all done);
+  lacks = λ enough. lacks_on whole t t1 first.wanted (first.lacks (subst (λ (keeps : Keeping). KeepsFor keeps whole.wanted) same enough))
+      (second.lacks (subst (KeepsFor after.keeps) (sym first.wanted) enough));
 }
 
--- what is asked of streams is followed
-pub follows_asked : (follows asks : Bool) → (follows ≡ false → asks ≡ false) → asks ≡ true → follows ≡ true
-follows_asked true asks few asked = refl
-follows_asked false asks few asked = absurd (true≢false (sym asked ∙ few refl))
-
--- a way on which no segment was met
+-- a way on which nothing is left out
 pub walked_same : (rules : List PortRule) (w : Walk) (state : State) (t : TreeShown) (next : Todo) → StandsAt rules w.events state → t ≡ w.tree → next ≡ w.todo → IsWalked rules w state t next
 walked_same rules w state t next stands tree todo = record { stands = stands; tree = told_same state next w.tree t tree; todo = todo }
-
-pub walked_met : (rules : List PortRule) (before after : State) (w : List Event → Walk) (t : TreeShown) (r : Result Todo NoMemory) → IfOk r (λ next. (es : List Event) → StandsAt rules es before → IsMet rules (w es) after t next)
-    → IfOk r (λ next. (es : List Event) → StandsAt rules es before → IsWalked rules (w es) after t next)
-walked_met rules before after w t (Ok next) met = λ es stands.
-    let is = met es stands in
-    walked_same rules (w es) after t next is.stands is.tree is.todo
-walked_met rules before after w t (Err fault) met = tt
 
 -- the same way, said otherwise
 pub walked_alike : (rules : List PortRule) (before after : State) (w other : List Event → Walk) (t : TreeShown) (r : Result Todo NoMemory) → ((es : List Event) → other es ≡ w es)

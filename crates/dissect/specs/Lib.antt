@@ -3,9 +3,12 @@ pub mod Events
 pub mod Followed
 pub mod Fragments
 pub mod Isolation
+pub mod Keeping
 pub mod Links
 pub mod MessageLaws
 pub mod Notes
+pub mod Numbering
+pub mod Plain
 pub mod Segments
 pub mod Stands
 pub mod Trees

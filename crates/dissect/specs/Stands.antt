@@ -19,9 +19,9 @@ use Rattle.dissect.specs.declared.todo.Todo.{Todo}
 use Rattle.dissect.specs.declared.todo.Todo.TheVariants as todos
 use Rattle.dissect.specs.Conversations.{udp_opened}
 use Rattle.dissect.specs.Events.{Event}
-use Rattle.dissect.specs.Followed.{asks_streams}
 use Rattle.app_layers.specs.Aside.{LacksOnly}
 use Rattle.dissect.specs.Fragments.{fragments_of}
+use Rattle.dissect.specs.Keeping.{KeepsFor, KeepsWhole, followed_of, keeps_all}
 use Rattle.message_links.specs.LinkTables.{LinksStandFor}
 use Rattle.message_links.specs.Linked.{linked}
 use Rattle.message_links.specs.Links.{links_of}
@@ -34,26 +34,27 @@ use Rattle.app_layers.specs.Times.{AreTimes}
 use Rattle.dissect.specs.Trees.{times_of, events_of}
 use Rattle.dissect.specs.Walks.{Walk}
 
--- a dissector: the rules for ports, the fields that it was made for, whether it answered an error, how many frames it took and
--- how many captured bytes they had, and what later frames are read by
+-- a dissector: the rules for ports, the fields that it was made for, whether it keeps only what their values need, whether it answered
+-- an error, how many frames it took and how many captured bytes they had, and what later frames are read by
 pub record DissectorShown : Type 0 where
   pub decode : DecodeAs
   pub wanted : List ℕ
+  pub sparing : Bool
   pub spent : Bool
   pub taken : ℕ
   pub captured : ℕ
   pub times : Times
   pub state : State
 
--- what is kept of events: the fragments of datagrams that aren't whole yet, the conversations over UDP, and where they are followed
--- the streams of TCP, with the messages that they have by the rules for ports, what links ask of messages, and the links of the newest
--- frame
+-- what is kept of events: the fragments of datagrams that aren't whole yet, where they are numbered the conversations over UDP, of the
+-- segments that are taken the streams of TCP, with the messages that they have by the rules for ports, and where all is kept what links
+-- ask of messages, and the links of the newest frame
 pub record StandsAt (rules : List PortRule) (es : List Event) (state : State) : Type 0 where
   pub joins : JoinsStandFor (fragments_of es) state.joins
-  pub udp : state.udp ≡ udp_opened es
-  pub streams : state.follows ≡ true → ReadsFor (app_of_segment rules) (segments_of es) state.streams
-  pub links : state.follows ≡ true → LinksStandFor (noted rules es) state.links
-  pub found : state.follows ≡ true → state.found.items ≡ newest_links rules es
+  pub udp : state.keeps.numbers ≡ true → state.udp ≡ udp_opened es
+  pub streams : ReadsFor (app_of_segment rules) (followed_of rules state.keeps.follows (segments_of es)) state.streams
+  pub links : keeps_all state.keeps ≡ true → LinksStandFor (noted rules es) state.links
+  pub found : keeps_all state.keeps ≡ true → state.found.items ≡ newest_links rules es
 
 -- the messages that a frame shows are linked, and kept for later links
 pub record IsLinked (frame : ℕ) (at : Direction) (notes : List Note) (old new : State) : Type 0 where
@@ -64,14 +65,22 @@ pub record IsLinked (frame : ℕ) (at : Direction) (notes : List Note) (old new 
 pub record IsSameButLinks (old new : State) : Type 0 where
   pub joins : new.joins ≡ old.joins
   pub udp : new.udp ≡ old.udp
-  pub follows : new.follows ≡ old.follows
+  pub keeps : new.keeps ≡ old.keeps
   pub streams : new.streams ≡ old.streams
 
--- at most so many conversations over UDP were opened, and segments of TCP taken; streams are followed as before
+-- nothing but the conversations over UDP is changed
+pub record IsSameButNumbers (old new : State) : Type 0 where
+  pub joins : new.joins ≡ old.joins
+  pub keeps : new.keeps ≡ old.keeps
+  pub streams : new.streams ≡ old.streams
+  pub links : new.links ≡ old.links
+  pub found : new.found.items ≡ old.found.items
+
+-- at most so many conversations over UDP were opened, and segments of TCP taken; the same is kept as before
 pub record AddsAtMost (most : ℕ) (old new : State) : Type 0 where
   pub udp : length new.udp ≤ length old.udp + most
   pub tcp : taken_so_far (streams_in new.streams) ≤ taken_so_far (streams_in old.streams) + most
-  pub follows : new.follows ≡ old.follows
+  pub keeps : new.keeps ≡ old.keeps
 
 -- how many bytes of packets are kept: those that streams were sent, and those of fragments that wait
 abbrev pub bytes_kept : State → ℕ
@@ -120,18 +129,12 @@ abbrev pub HasSpace : ℕ → TreeShown → Todo → Type 0
 HasSpace left t todos.Done = Unit {0}
 HasSpace left t (todos.Head head) = (length t.layers + 6 * left ≤ 224) × (length t.buffers + left ≤ 34)
 
--- the tree that a way leads to; where streams aren't followed and the way has ended, it lacks only what has nothing to show, if nothing
--- of streams is asked
+-- the tree that a way leads to; where not everything is kept and the way has ended, it lacks only what has nothing to show, if what is
+-- kept is enough
 pub record IsToldAs (state : State) (next : Todo) (whole t : TreeShown) : Type 0 where
   pub wanted : t.wanted ≡ whole.wanted
-  pub same : (next ≡ todos.Done → state.follows ≡ true) → t ≡ whole
-  pub lacks : asks_streams whole.wanted ≡ false → LacksOnly whole t
-
--- how far a frame is read where no segment was met, with what is kept then
-pub record IsMet (rules : List PortRule) (w : Walk) (state : State) (t : TreeShown) (next : Todo) : Type 0 where
-  pub stands : StandsAt rules w.events state
-  pub tree : t ≡ w.tree
-  pub todo : next ≡ w.todo
+  pub same : (next ≡ todos.Done → keeps_all state.keeps ≡ true) → t ≡ whole
+  pub lacks : KeepsFor state.keeps whole.wanted → LacksOnly whole t
 
 -- how far a frame is read, with what is kept then
 pub record IsWalked (rules : List PortRule) (w : Walk) (state : State) (t : TreeShown) (next : Todo) : Type 0 where
@@ -154,21 +157,22 @@ pub record IsAfter (past : List Frame) (d : DissectorShown) : Type 0 where
   pub times : d.times ≡ times_of past
   pub state : StandsAt d.decode.rules (events_of past) d.state
 
--- a dissector that follows streams stands for the frames that it took
+-- a dissector that keeps everything stands for the frames that it took
 unfoldable pub Stands : List Frame → DissectorShown → Type 0
-Stands past d = IsAfter past d × (d.state.follows ≡ true)
+Stands past d = IsAfter past d × (keeps_all d.state.keeps ≡ true)
 
 -- any dissector does so as far as the fields go that it was made for
 unfoldable pub StandsWithin : List Frame → DissectorShown → Type 0
 StandsWithin past d = IsAfter past d
 
 -- a dissector that has answered no error has opened at most as many conversations over UDP as it took frames, and taken at most
--- as many segments, and keeps no more bytes of packets than were captured; one that follows no streams was made for fields that ask
--- nothing of them
+-- as many segments, and keeps no more bytes of packets than were captured; what it keeps is enough for the values of the fields that
+-- it was made for, and for their trees where it wasn't made for values alone
 pub record IsKept (d : DissectorShown) : Type 0 where
   pub times : AreTimes d.times
   pub udp : length d.state.udp < 2 ^ 32
   pub udp_few : d.spent ≡ false → length d.state.udp ≤ d.taken
   pub tcp_few : d.spent ≡ false → taken_so_far (streams_in d.state.streams) ≤ d.taken
   pub bytes_few : d.spent ≡ false → bytes_kept d.state ≤ d.captured
-  pub asked : d.state.follows ≡ false → asks_streams d.wanted ≡ false
+  pub asked : KeepsFor d.state.keeps d.wanted
+  pub whole : d.sparing ≡ false → KeepsWhole d.state.keeps d.wanted

@@ -5,8 +5,8 @@ ghost use Rattle.pk_fields.specs.Rules.{AreRules};
 ghost use Rattle.dissect.specs.Conversations.{udp_opened};
 ghost use Rattle.dissect.specs.Events.{Event};
 ghost use Rattle.tcp_streams.specs.Standing.{StandsFor, taken_so_far};
-ghost use Rattle.pk_fields.specs.Ids.{field_count};
-ghost use Rattle.dissect.specs.Followed.{asks_any, asks_messages, asks_streams, HasSameValues};
+ghost use Rattle.dissect.specs.Followed.{asks_streams, HasSameValues};
+ghost use Rattle.dissect.specs.Keeping.{KeepsFor, KeepsWhole, keeps_all};
 ghost use Rattle.dissect.specs.Segments.{segments_of};
 ghost use Rattle.dissect.specs.Stands.{Stands, StandsWithin, StandsAt, IsAfter, IsRead, HasRoomForOne, AddsAtMost, bytes_kept};
 ghost use Rattle.capture_read.specs.FrameList.{IsTime};
@@ -14,16 +14,18 @@ ghost use Rattle.message_links.specs.Linked.{linked};
 ghost use Rattle.app_layers.specs.Times.{AreTimes};
 ghost use Rattle.dissect.specs.Trees.{tree_at, events_of, kept_walk};
 
+use crate::keeping::Keeping;
 use crate::state::{State, let_go};
 use app_layers::{Times, begin_tree, captured};
 use capture_read::Frame;
 use ip_join::Joins;
 use message_links::{Conversations, Links, link_messages};
 use pk_base::NoMemory;
-use pk_fields::{DecodeAs, FieldId, FieldSet, PortRule, ids};
-use pk_tree::Tree;
+use pk_fields::{DecodeAs, FieldSet, PortRule};
+use pk_tree::{Spare, Tree};
 use std::alloc::Global;
 use std::marker::Model;
+use std::mem;
 use tcp_messages::MessageStreams;
 use tcp_streams::Streams;
 
@@ -40,11 +42,15 @@ pub struct Dissector {
     alloc: Global,
     decode: DecodeAs,
     wanted: FieldSet,
+    /// Whether only what the values of the wanted fields need is kept.
+    sparing: bool,
     spent: bool,
     taken: u32,
     captured: u32,
     times: Times,
     state: State,
+    /// The memory of a tree that was given back.
+    spare: Spare,
 }
 
 impl Model for Dissector {
@@ -61,11 +67,11 @@ impl Model for Dissector {
 
     ghost Value = { DissectorShown };
 
-    ghost coded = { code_by ((DecodeAsValue × (List ℕ × Bool)) × ((ℕ × ℕ) × (TimesValue × StateValue))) (coded× (coded× decode_row.the_row.coded (coded× set_row.the_row.coded coded_bool)) (coded× (coded× coded_ℕ coded_ℕ) (coded× times_row.the_row.coded state_row.the_row.coded))) (λ d. ((d.decode, (d.wanted, d.spent)), ((d.taken, d.captured), (d.times, d.state)))) (λ p. record { decode = p.0.0; wanted = p.0.1.0; spent = p.0.1.1; taken = p.1.0.0; captured = p.1.0.1; times = p.1.1.0; state = p.1.1.1 }) (λ _. refl) };
+    ghost coded = { code_by ((DecodeAsValue × (List ℕ × (Bool × Bool))) × ((ℕ × ℕ) × (TimesValue × StateValue))) (coded× (coded× decode_row.the_row.coded (coded× set_row.the_row.coded (coded× coded_bool coded_bool))) (coded× (coded× coded_ℕ coded_ℕ) (coded× times_row.the_row.coded state_row.the_row.coded))) (λ d. ((d.decode, (d.wanted, (d.sparing, d.spent))), ((d.taken, d.captured), (d.times, d.state)))) (λ p. record { decode = p.0.0; wanted = p.0.1.0; sparing = p.0.1.1.0; spent = p.0.1.1.1; taken = p.1.0.0; captured = p.1.0.1; times = p.1.1.0; state = p.1.1.1 }) (λ _. refl) };
 
-    ghost view = { λ d. record { decode = d.decode; wanted = d.wanted; spent = d.spent; taken = d.taken; captured = d.captured; times = d.times; state = d.state } };
+    ghost view = { λ d. record { decode = d.decode; wanted = d.wanted; sparing = d.sparing; spent = d.spent; taken = d.taken; captured = d.captured; times = d.times; state = d.state } };
 
-    ghost invariant = { λ d. IsKept (record { decode = d.decode; wanted = d.wanted; spent = d.spent; taken = d.taken; captured = d.captured; times = d.times; state = d.state }) };
+    ghost invariant = { λ d. IsKept (record { decode = d.decode; wanted = d.wanted; sparing = d.sparing; spent = d.spent; taken = d.taken; captured = d.captured; times = d.times; state = d.state }) };
 }
 
 // The destructor is written out here, and not wherever a dissector is dropped.
@@ -75,11 +81,13 @@ impl Drop for Dissector {
             alloc: _,
             decode: _decode,
             wanted: _,
+            sparing: _,
             spent: _,
             taken: _,
             captured: _,
             times: _,
             state: _state,
+            spare: _spare,
         } = self;
     }
 }
@@ -93,8 +101,9 @@ impl Dissector {
         ensures counted { (result.taken ≡ 0) × (result.captured ≡ 0) }
         ensures spent { result.spent ≡ false }
         ensures rules { result.decode ≡ decode }
+        ensures whole { result.sparing ≡ false }
     {
-        Dissector::following(alloc, decode, FieldSet::all(), true)
+        Dissector::keeping(alloc, decode, FieldSet::all(), Keeping::everything(), false)
     }
 
     /// As `new`, for trees of the wanted fields. Where they ask nothing of the streams of TCP, none is followed, which saves
@@ -107,15 +116,39 @@ impl Dissector {
         ensures counted { (result.taken ≡ 0) × (result.captured ≡ 0) }
         ensures spent { result.spent ≡ false }
         ensures rules { result.decode ≡ decode }
+        ensures whole { result.sparing ≡ false }
     {
-        Dissector::following(alloc, decode, wanted, asks_streams(&wanted))
+        Dissector::keeping(alloc, decode, wanted, Keeping::for_fields(&wanted), false)
     }
 
-    #[tactic(auto, unfolding(crate::specs::Fragments::fragments_of, crate::specs::Conversations::udp_opened, crate::specs::Segments::segments_of, crate::specs::Notes::noted, crate::specs::Links::newest_links, crate::specs::Trees::times_of, crate::specs::Trees::events_of))]
-    fn following(alloc: Global, decode: DecodeAs, wanted: FieldSet, follows: bool) -> Dissector
-        requires asked { follows ≡ false → asks_streams wanted ≡ false }
+    /// As `for_fields`, for the values of the wanted fields alone: of conversations and streams nothing is kept that these don't
+    /// need, so that `udp_count` and `streams` don't tell of all of them.
+    #[tactic(auto, unfolding(crate::specs::Stands::StandsWithin))]
+    pub fn for_values(alloc: Global, decode: DecodeAs, wanted: FieldSet) -> Dissector
+        requires rules { AreRules decode.rules }
+        ensures stands { StandsWithin [] result }
+        ensures wanted { result.wanted ≡ wanted }
+        ensures counted { (result.taken ≡ 0) × (result.captured ≡ 0) }
+        ensures spent { result.spent ≡ false }
+        ensures rules { result.decode ≡ decode }
+        ensures sparing { result.sparing ≡ true }
+    {
+        Dissector::keeping(alloc, decode, wanted, Keeping::for_values(&wanted), true)
+    }
+
+    #[tactic(auto, unfolding(crate::specs::Keeping::followed_of, crate::specs::Fragments::fragments_of, crate::specs::Conversations::udp_opened, crate::specs::Segments::segments_of, crate::specs::Notes::noted, crate::specs::Links::newest_links, crate::specs::Trees::times_of, crate::specs::Trees::events_of))]
+    fn keeping(
+        alloc: Global,
+        decode: DecodeAs,
+        wanted: FieldSet,
+        keeps: Keeping,
+        sparing: bool,
+    ) -> Dissector
+        requires asked { KeepsFor keeps wanted }
+        requires whole { sparing ≡ false → KeepsWhole keeps wanted }
         ensures after { IsAfter [] result }
-        ensures follows { result.state.follows ≡ follows }
+        ensures keeps { result.state.keeps ≡ keeps }
+        ensures sparing { result.sparing ≡ sparing }
         ensures wanted { result.wanted ≡ wanted }
         ensures counted { (result.taken ≡ 0) × (result.captured ≡ 0) }
         ensures spent { result.spent ≡ false }
@@ -125,38 +158,47 @@ impl Dissector {
             alloc,
             decode,
             wanted,
+            sparing,
             spent: false,
             taken: 0,
             captured: 0,
             times: Times::none(),
             state: State {
                 joins: Joins::new(alloc),
+                keeps,
                 udp: Conversations::new(alloc),
-                follows,
                 streams: MessageStreams::new(alloc),
                 links: Links::new(alloc),
                 found: Vec::new(alloc),
             },
+            spare: Spare::new(alloc),
         }
     }
 
-    /// How many conversations over UDP the frames taken have opened.
+    /// Takes back a tree that is no longer needed: the next is made in its memory.
+    pub fn give_back(&mut self, tree: Tree)
+        ensures { self.new ≡ self.old }
+    {
+        self.spare = tree.into_spare();
+    }
+
+    /// How many conversations over UDP the frames taken have opened, where not only values were asked.
     #[tactic(auto, unfolding(crate::specs::Stands::Stands, crate::specs::Stands::StandsWithin))]
     pub fn udp_count(&self) -> u32
         ensures count { (past : List FrameValue) → Stands past self.now
             → result ≡ length (udp_opened (events_of past)) }
-        ensures within { (past : List FrameValue) → StandsWithin past self.now
+        ensures within { self.now.sparing ≡ false → (past : List FrameValue) → StandsWithin past self.now
             → result ≡ length (udp_opened (events_of past)) }
     {
         self.state.udp.count()
     }
 
-    /// The streams of TCP that the frames taken have, where streams are followed. Takes no memory.
+    /// The streams of TCP that the frames taken have, where streams are followed and not only values were asked. Takes no memory.
     #[tactic(auto, unfolding(crate::specs::Stands::Stands, crate::specs::Stands::StandsWithin))]
     pub fn streams(&self) -> &Streams
         ensures streams { (past : List FrameValue) → Stands past self.now
             → StandsFor (segments_of (events_of past)) result.now }
-        ensures within { asks_streams self.now.wanted ≡ true
+        ensures within { asks_streams self.now.wanted ≡ true → self.now.sparing ≡ false
             → (past : List FrameValue) → StandsWithin past self.now
             → StandsFor (segments_of (events_of past)) result.now }
         ensures few { (past : List FrameValue) → StandsWithin past self.now → taken_so_far result.now ≤ self.now.taken }
@@ -209,7 +251,7 @@ impl Dissector {
     /// As `take`, for a tree that has only the items of the fields that the dissector was made for, with the same values of these
     /// as the whole tree.
     #[inline(always)]
-    #[tactic(auto, using(crate::proofs::Told::follows_asked), unfolding(crate::specs::Stands::StandsWithin))]
+    #[tactic(auto, using(crate::proofs::KeepingLemmas::all_asked), unfolding(crate::specs::Stands::StandsWithin))]
     pub fn take_wanted(&mut self, frame: &Frame) -> Result<Tree, TakeFault>
         requires number { frame.now.number ≡ self.old.taken + 1 }
         requires time { IfSome frame.now.time IsTime }
@@ -224,7 +266,8 @@ impl Dissector {
         ensures wanted { self.new.wanted ≡ self.old.wanted }
         ensures values { IfOk result (λ tree. (past : List FrameValue) → StandsWithin past self.old
             → HasSameValues self.old.wanted (tree_at self.old.decode.rules past frame.now) tree) }
-        ensures tree { IfOk result (λ tree. asks_streams self.old.wanted ≡ true
+        ensures sparing { self.new.sparing ≡ self.old.sparing }
+        ensures tree { IfOk result (λ tree. asks_streams self.old.wanted ≡ true → self.old.sparing ≡ false
             → (past : List FrameValue) → StandsWithin past self.old
             → IsKeptTree self.old.wanted (tree_at self.old.decode.rules past frame.now) tree) }
         ensures stands { OnOk result ((past : List FrameValue) → StandsWithin past self.old
@@ -247,12 +290,13 @@ impl Dissector {
             × (self.new.captured ≡ self.old.captured)) }
         ensures rules { self.new.decode ≡ self.old.decode }
         ensures wanted { self.new.wanted ≡ self.old.wanted }
-        ensures follows { self.new.state.follows ≡ self.old.state.follows }
+        ensures sparing { self.new.sparing ≡ self.old.sparing }
+        ensures keeps { self.new.state.keeps ≡ self.old.state.keeps }
         ensures tree { IfOk result (λ tree. (past : List FrameValue) → IsAfter past self.old
-            → self.old.state.follows ≡ true
+            → keeps_all self.old.state.keeps ≡ true
             → IsKeptTree asked (tree_at self.old.decode.rules past frame.now) tree) }
         ensures values { IfOk result (λ tree. (past : List FrameValue) → IsAfter past self.old
-            → (self.old.state.follows ≡ false → asks_streams asked ≡ false)
+            → KeepsFor self.old.state.keeps asked
             → HasSameValues asked (tree_at self.old.decode.rules past frame.now) tree) }
         ensures after { OnOk result ((past : List FrameValue) → IsAfter past self.old
             → IsAfter (frame.now ∷ past) self.new) }
@@ -262,7 +306,8 @@ impl Dissector {
         }
         let number = number_of(frame);
         let rules = self.decode.rules.slice();
-        match make_tree(self.alloc, rules, &mut self.state, self.times, frame, asked) {
+        let spare = mem::replace(&mut self.spare, Spare::new(self.alloc));
+        match make_tree(spare, rules, &mut self.state, self.times, frame, asked) {
             Ok(tree) => {
                 self.taken = number;
                 self.captured += captured(frame);
@@ -275,38 +320,6 @@ impl Dissector {
             }
         }
     }
-}
-
-/// Whether something may be asked that the streams of TCP give: a segment's place, or messages.
-#[tactic(auto, unfolding(crate::specs::Followed::asks_streams))]
-fn asks_streams(wanted: &FieldSet) -> bool
-    ensures { result ≡ false → asks_streams wanted.now ≡ false }
-{
-    wanted.contains(ids::TCP_STREAM)
-        || wanted.contains(ids::TCP_SEQ)
-        || wanted.contains(ids::TCP_ACK)
-        || wanted.contains(ids::TCP_LOST)
-        || asks_messages(wanted)
-}
-
-/// Whether something may be asked of the messages of streams.
-#[tactic(auto, unfolding(crate::specs::Followed::asks_messages))]
-fn asks_messages(wanted: &FieldSet) -> bool
-    ensures { result ≡ false → asks_messages wanted.now ≡ false }
-{
-    wanted.contains(ids::TCP_SEGMENT)
-        || wanted.contains(ids::WS_SHORT)
-        || wanted.contains(ids::WS_MALFORMED)
-        || asks_any(wanted, ids::HTTP)
-        || asks_any(wanted, ids::DNS)
-}
-
-/// Whether a protocol or a field of it may be asked.
-#[tactic(auto, using(crate::proofs::Asked::any_none))]
-fn asks_any(wanted: &FieldSet, protocol: FieldId) -> bool
-    ensures { result ≡ false → asks_any field_count protocol wanted.now ≡ false }
-{
-    wanted.has_any_of(protocol)
 }
 
 /// Gives a dissector up.
@@ -322,7 +335,7 @@ fn number_of(frame: &Frame) -> u32
 /// The tree of a frame with the wanted fields, given what is kept of the frames before it.
 #[tactic(auto, unfolding(crate::specs::Trees::kept_walk))]
 fn make_tree(
-    alloc: Global,
+    spare: Spare,
     rules: &[PortRule],
     state: &mut State,
     before: Times,
@@ -339,7 +352,7 @@ fn make_tree(
     ensures kept { OnOk result (bytes_kept state.new
         ≤ bytes_kept state.old + length frame.now.bytes) }
 {
-    let mut tree = begin_tree(alloc, before, frame, wanted)?;
+    let mut tree = begin_tree(spare, before, frame, wanted)?;
     match state.read_frame(rules, frame, &mut tree) {
         Ok(()) => with_links(&state.found, &wanted, tree.finish()),
         Err(NoMemory) => {

@@ -1,6 +1,7 @@
 // What holds of the trees of every capture, stated on functions that do nothing.
 ghost use Rattle.dissect.specs.Isolation.{OtherFrameLeftOut, OthersLeftOut, OthersPutIn, TreesStandAlone};
 ghost use Rattle.dissect.specs.MessageLaws.{FramesShow, FramesTell, MessagesInTrees};
+ghost use Rattle.dissect.specs.Numbering.{BringsTheSame, OthersTakenOut, TreesButNumbers};
 
 /// Behind its last layer of TCP, a frame's tree shows the messages that the frame's segment brings, each with its bytes.
 /// That layer tells the number of the segment's stream.
@@ -27,4 +28,13 @@ pub fn others_left_out()
     ensures left_out { OthersLeftOut }
     ensures put_in { OthersPutIn }
     ensures frame { OtherFrameLeftOut }
+{}
+
+/// But for the items that tell numbers of frames and streams, and times since earlier frames, a frame's tree rests on its own datagrams'
+/// fragments and its own conversation's segments alone. So other conversations' frames may be taken out of a capture, and those that stay
+/// be numbered anew: their trees are the same but for these items.
+pub fn others_number_alone()
+    ensures trees { TreesButNumbers }
+    ensures brings { BringsTheSame }
+    ensures taken_out { OthersTakenOut }
 {}

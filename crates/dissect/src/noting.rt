@@ -3,6 +3,7 @@ ghost use Rattle.pk_fields.specs.declared.rules.PortRule.{PortRule as PortRuleVa
 ghost use Rattle.tcp_messages.specs.Shown.{IsWholeIn};
 ghost use Rattle.dissect.specs.Events.{Event, NewFrame};
 ghost use Rattle.message_links.specs.Notes.{datagram_notes, message_note, tcp_direction, udp_direction};
+ghost use Rattle.dissect.specs.Keeping.{keeps_all};
 ghost use Rattle.dissect.specs.Stands.{StandsAt, AddsAtMost, IsLinked, IsSameButLinks, bytes_kept};
 
 use crate::state::State;
@@ -22,7 +23,7 @@ impl State {
         self.found.clear();
     }
 
-    /// Links the message that a datagram carries, where streams are followed.
+    /// Links the message that a datagram carries, where everything is kept.
     pub(crate) fn link_datagram(
         &mut self,
         frame: u32,
@@ -30,12 +31,12 @@ impl State {
         app: Option<App>,
         bytes: &[u8],
     ) -> Result<(), NoMemory>
-        ensures links { OnOk result (self.old.follows ≡ true
+        ensures links { OnOk result (keeps_all self.old.keeps ≡ true
             → IsLinked frame (udp_direction stream) (datagram_notes app bytes.now) self.old
             self.new) }
         ensures same { IsSameButLinks self.old self.new }
     {
-        if !self.follows {
+        if !self.keeps.is_all() {
             return Ok(());
         }
         match app {
@@ -46,7 +47,7 @@ impl State {
         }
     }
 
-    /// Links the messages that a segment's frame shows.
+    /// Links the messages that a segment's frame shows, where everything is kept.
     pub(crate) fn link_segment(
         &mut self,
         frame: u32,
@@ -54,10 +55,14 @@ impl State {
         payload: &[u8],
     ) -> Result<(), NoMemory>
         requires whole { All (IsWholeIn payload.now) met.now.messages }
-        ensures links { OnOk result (IsLinked frame (tcp_direction met.now.taken) (map
+        ensures links { OnOk result (keeps_all self.old.keeps ≡ true
+            → IsLinked frame (tcp_direction met.now.taken) (map
             (message_note payload.now) met.now.messages) self.old self.new) }
         ensures same { IsSameButLinks self.old self.new }
     {
+        if !self.keeps.is_all() {
+            return Ok(());
+        }
         let notes = self.links.notes(payload, met.messages.slice())?;
         self.link_all(frame, tcp_direction(&met.taken), &notes)
     }

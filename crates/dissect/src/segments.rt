@@ -9,8 +9,9 @@ ghost use Rattle.tcp_messages.specs.Shown.{IsWholeIn, frames_told as gathered_fr
 ghost use Rattle.dissect.specs.Events.{Event};
 ghost use Rattle.app_layers.specs.FrameLayer.{is_cut};
 ghost use Rattle.message_links.specs.Notes.{message_note, tcp_direction};
-ghost use Rattle.app_layers.specs.MessageLayers.{app_of_segment, carried_over};
+ghost use Rattle.app_layers.specs.MessageLayers.{app_of_segment, carried_over, stream_app};
 ghost use Rattle.app_layers.specs.Payloads.{LastIs, carried_told, segment_told};
+ghost use Rattle.dissect.specs.Keeping.{is_followed, keeps_all};
 ghost use Rattle.dissect.specs.Segments.{segment_from};
 ghost use Rattle.dissect.specs.Stands.{StandsAt, IsWalked, IsReady, IsLinked, IsSameButLinks, AddsAtMost, AddsFew, AddsOneThenEnds};
 ghost use Rattle.dissect.specs.Walks.{IsTodoInside, segment_met};
@@ -27,7 +28,7 @@ use tcp_messages::Met;
 use tcp_streams::Segment;
 
 impl State {
-    /// Takes a segment of TCP into its stream, where streams are followed.
+    /// Takes a segment of TCP into its stream, or passes it over where nothing is asked of this.
     pub(crate) fn segment(
         &mut self,
         rules: &[PortRule],
@@ -49,10 +50,10 @@ impl State {
         ensures added { AddsAtMost 1 self.old self.new }
         ensures few { IfOk result (λ todo. AddsFew 4 tree.old tree.new todo) }
     {
-        if self.follows {
-            self.take_segment(rules, frame, packet, head, span, tree)
+        let app = stream_app(rules, head.source, head.target);
+        if self.keeps.follows.takes(app) {
+            self.take_segment(app, frame, packet, head, span, tree)
         } else {
-            let app = stream_app(rules, head.source, head.target);
             pass_segment(app, span, tree)?;
             Ok(Todo::Done)
         }
@@ -61,28 +62,28 @@ impl State {
     /// Tells a segment's place in its stream, and shows the messages whose last bytes it brings, or what it carries as data.
     fn take_segment(
         &mut self,
-        rules: &[PortRule],
+        app: Option<StreamApp>,
         frame: &Frame,
         packet: PacketHead,
         head: TcpHead,
         span: Span,
         tree: &mut TreeBuilder,
     ) -> Result<Todo, NoMemory>
-        requires follows { self.old.follows ≡ true }
+        requires follows { is_followed self.old.keeps.follows app ≡ true }
         requires inside { IsInside tree.old.buffers span }
         requires last { LastIs TCP tree.old.layers }
         requires bytes { length frame.now.bytes < 2 ^ 32 }
         requires ready { IsReady 2 span.len self.old tree.old }
         ensures inside { IfOk result (λ todo. IsTodoInside tree.new.buffers todo) }
-        ensures walked { IfOk result (λ todo. (es : List Event) → StandsAt rules.now es self.old
-            → IsWalked rules.now (segment_met rules.now frame.now packet tree.old es head span)
-            self.new tree.new todo) }
+        ensures walked { IfOk result (λ todo. (rules : List PortRuleValue) (es : List Event)
+            → app ≡ stream_app rules head.source head.target → StandsAt rules es self.old
+            → IsWalked rules (segment_met rules frame.now packet tree.old es head span) self.new
+            tree.new todo) }
         ensures adds { IfOk result (λ todo. AddsOneThenEnds span.len self.old self.new todo) }
         ensures added { AddsAtMost 1 self.old self.new }
         ensures few { IfOk result (λ todo. AddsFew 4 tree.old tree.new todo) }
     {
         let segment = segment_from(frame.number, &packet, head, tree.part(span)?);
-        let app = stream_app(rules, head.source, head.target);
         match self.take_in(frame, &segment, app, span, tree) {
             Ok(()) => {
                 let_go(segment);
@@ -104,7 +105,7 @@ impl State {
         span: Span,
         tree: &mut TreeBuilder,
     ) -> Result<(), NoMemory>
-        requires follows { self.old.follows ≡ true }
+        requires follows { is_followed self.old.keeps.follows app ≡ true }
         requires inside { IsInside tree.old.buffers span }
         requires last { LastIs TCP tree.old.layers }
         requires bytes { length frame.now.bytes < 2 ^ 32 }
@@ -152,7 +153,8 @@ impl State {
         requires frames { met.now.frames ≡ gathered_from met.now.messages }
         requires payload { payload.now ≡ bytes_of tree.old.buffers span }
         requires whole { All (IsWholeIn payload.now) met.now.messages }
-        ensures links { OnOk result (IsLinked frame.now.number (tcp_direction met.now.taken) (map
+        ensures links { OnOk result (keeps_all self.old.keeps ≡ true
+            → IsLinked frame.now.number (tcp_direction met.now.taken) (map
             (message_note payload.now) met.now.messages) self.old self.new) }
         ensures same { IsSameButLinks self.old self.new }
         ensures tree { OnOk result (tree.new ≡ carried_over app (is_cut frame.now) span

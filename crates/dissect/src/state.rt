@@ -1,3 +1,4 @@
+use crate::keeping::Keeping;
 use ip_join::Joins;
 use message_links::{Conversations, Links};
 use tcp_messages::MessageStreams;
@@ -6,12 +7,12 @@ use tcp_messages::MessageStreams;
 pub(crate) struct State {
     /// The fragments of datagrams that aren't whole yet.
     pub joins: Joins,
+    /// What is kept of conversations.
+    pub keeps: Keeping,
     pub udp: Conversations,
-    /// Whether segments of TCP are taken into their streams, else they are passed over.
-    pub follows: bool,
-    /// The streams of TCP, and their messages.
+    /// The streams of TCP, and their messages: of the segments that are taken.
     pub streams: MessageStreams,
-    /// What links ask of the messages that frames showed, where streams are followed.
+    /// What links ask of the messages that frames showed, where everything is kept.
     pub links: Links,
     /// The links of the newest frame's messages.
     pub found: Vec<Option<u32>>,
@@ -21,8 +22,8 @@ impl Drop for State {
     fn drop(self) {
         let State {
             joins: _joins,
+            keeps: _,
             udp: _udp,
-            follows: _,
             streams: _streams,
             links: _links,
             found: _found,

@@ -8,6 +8,7 @@ ghost use Rattle.app_layers.specs.Payloads.{ComesBehind};
 ghost use Rattle.dissect.specs.Stands.{StandsAt, IsWalked, HasRoom, HasRoomForOne, HasSpace, IsReady, AddsAtMost, AddsFew, AddsOneThenEnds, bytes_behind, bytes_kept};
 ghost use Rattle.dissect.specs.Walks.{IsTodoInside, rest_met, followed, chain, going, link_met, all_met, no_packet};
 
+use crate::plain::plain_frame;
 use crate::state::State;
 use crate::todo::{Head, Todo};
 use app_layers::{add_data, captured, frame_span, is_cut};
@@ -163,6 +164,30 @@ impl State {
             ≤ bytes_kept self.old + length frame.now.bytes) }
     {
         self.begin_frame();
+        match plain_frame(frame, tree) {
+            Some(plain) => self.read_plain(rules, frame, &plain, tree),
+            None => self.read_heads(rules, frame, tree),
+        }
+    }
+
+    /// Reads a frame's headers one behind the other.
+    fn read_heads(
+        &mut self,
+        rules: &[PortRule],
+        frame: &Frame,
+        tree: &mut TreeBuilder,
+    ) -> Result<(), NoMemory>
+        requires frame { tree.old.buffers ≡ frame.now.bytes ∷ [] }
+        requires bytes { length frame.now.bytes < 2 ^ 32 }
+        requires room { length tree.old.layers ≤ 2 }
+        requires few { HasRoomForOne (length frame.now.bytes) self.old }
+        ensures walked { OnOk result ((es : List Event) → StandsAt rules.now es self.old
+            → IsWalked rules.now (all_met rules.now frame.now (link_met rules.now frame.now
+            tree.old es)) self.new tree.new Todo.Done) }
+        ensures added { AddsAtMost 1 self.old self.new }
+        ensures kept { OnOk result (bytes_kept self.new
+            ≤ bytes_kept self.old + length frame.now.bytes) }
+    {
         let first = self.link(rules, frame, tree)?;
         let left = LAYER_LIMIT.saturating_sub(tree.layer_count());
         self.chain(rules, frame, left, first, tree)?;

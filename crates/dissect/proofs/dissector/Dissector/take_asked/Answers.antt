@@ -1,28 +1,30 @@
 use Rattle.std.proofs.Common.{◌+◌, List, length, subst, sym, ap, ◌∙◌, true≢false, arith}
 use Rattle.pk_fields.specs.declared.rules.PortRule.{PortRule}
 use Rattle.dissect.specs.Stands.{DissectorShown}
+use Rattle.dissect.specs.declared.keeping.Keeping.{Keeping}
+use Rattle.dissect.specs.Keeping.{KeepsFor, KeepsWhole, keeps_all}
 use Rattle.app_layers.specs.Times.{with_time}
 use Rattle.dissect.specs.Trees.{tree_at}
 use Rattle.dissect.proofs.Taken.{Reads, ReadsBy, tree-taken, values-taken, values-read, after-taken}
 use Rattle.dissect.proofs.dissector.Dissector.take_asked.Goals as goal
 
 pub returns-in-Ok-clause-tree : goal.returns-in-Ok-clause-tree
-returns-in-Ok-clause-tree c = λ past after follows.
+returns-in-Ok-clause-tree c = λ past after all.
     let reads = subst (λ (d : DissectorShown). Reads c.args.asked c.args.frame.now d c.make_tree.new.state c.in-Ok.tree) c.self.view_is
     (subst (λ (rules : List PortRule). ReadsBy rules c.args.asked c.args.frame.now c.self.inside.times c.self.inside.state c.make_tree.new.state c.in-Ok.tree) c.slice-rules.ensures c.in-Ok.ensures.walked) in
     tree-taken c.args.asked past c.args.frame.now c.args.self.now c.make_tree.new.state c.in-Ok.tree
-    (c.make_tree.ensures.added.follows ∙ ap (λ (d : DissectorShown). d.state.follows) c.self.view_is) after reads follows
+    (c.make_tree.ensures.added.keeps ∙ ap (λ (d : DissectorShown). d.state.keeps) c.self.view_is) after reads all
 
 pub returns-in-Ok-clause-values : goal.returns-in-Ok-clause-values
-returns-in-Ok-clause-values c = λ past after few.
+returns-in-Ok-clause-values c = λ past after enough.
     let frame = c.args.frame.now in
     let tree = c.in-Ok.tree in
     let reads = subst (λ (d : DissectorShown). Reads c.args.asked frame d c.make_tree.new.state tree) c.self.view_is
     (subst (λ (rules : List PortRule). ReadsBy rules c.args.asked c.args.frame.now c.self.inside.times c.self.inside.state c.make_tree.new.state c.in-Ok.tree) c.slice-rules.ensures c.in-Ok.ensures.walked) in
-    values-read c.args.self.now.state.follows c.args.asked (tree_at c.args.self.now.decode.rules past frame) tree
-    (tree-taken c.args.asked past frame c.args.self.now c.make_tree.new.state tree
-    (c.make_tree.ensures.added.follows ∙ ap (λ (d : DissectorShown). d.state.follows) c.self.view_is) after reads)
-    (values-taken c.args.asked past frame c.args.self.now c.make_tree.new.state tree after reads) few
+    let same = c.make_tree.ensures.added.keeps ∙ ap (λ (d : DissectorShown). d.state.keeps) c.self.view_is in
+    values-read (keeps_all c.args.self.now.state.keeps) c.args.asked (tree_at c.args.self.now.decode.rules past frame) tree
+    (tree-taken c.args.asked past frame c.args.self.now c.make_tree.new.state tree same after reads)
+    (λ some. values-taken c.args.asked past frame c.args.self.now c.make_tree.new.state tree same after reads enough (enough.links some))
 
 pub returns-in-Ok-clause-after : goal.returns-in-Ok-clause-after
 returns-in-Ok-clause-after c = λ past after.
@@ -58,5 +60,6 @@ invariant_of-self-in-Err c =
       udp_few = λ not_spent. absurd (true≢false not_spent);
       tcp_few = λ not_spent. absurd (true≢false not_spent);
       bytes_few = λ not_spent. absurd (true≢false not_spent);
-      asked = λ unfollowed. c.self.invariant.asked (sym c.make_tree.ensures.added.follows ∙ unfollowed);
+      asked = subst (λ (keeps : Keeping). KeepsFor keeps c.self.inside.wanted) (sym c.make_tree.ensures.added.keeps) c.self.invariant.asked;
+      whole = λ unsparing. subst (λ (keeps : Keeping). KeepsWhole keeps c.self.inside.wanted) (sym c.make_tree.ensures.added.keeps) (c.self.invariant.whole unsparing);
     }

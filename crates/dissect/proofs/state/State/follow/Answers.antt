@@ -1,11 +1,10 @@
-use Rattle.std.proofs.Common.{List, refl, arith}
+use Rattle.std.proofs.Common.{refl, arith}
 use Rattle.pk_base.specs.declared.heads.After.TheVariants as afters
 use Rattle.dissect.specs.declared.todo.Todo.TheVariants as todos
 use Rattle.dissect.proofs.Opens.{ready-at}
 use Rattle.dissect.proofs.Spaces.{few_all, few_same}
-use Rattle.dissect.specs.Events.{Event}
-use Rattle.dissect.specs.Walks.{followed, go_on, stop, datagram_met}
-use Rattle.dissect.proofs.Told.{walked_same, walked_met}
+use Rattle.dissect.specs.Walks.{followed, go_on, stop}
+use Rattle.dissect.proofs.Told.{walked_same}
 use Rattle.dissect.proofs.state.State.follow.Goals as goal
 
 pub returns-in-Next-clause-walked : goal.returns-in-Next-clause-walked
@@ -26,7 +25,7 @@ returns-in-End-clause-walked c = rw c.in-End.is
 pub returns-in-Datagram-clause-walked : goal.returns-in-Datagram-clause-walked
 unfolding followed
 returns-in-Datagram-clause-walked c = rw c.in-Datagram.is
-    (walked_met c.args.rules.now c.args.self.now c.datagram.new.self (λ (es : List Event). datagram_met c.args.rules.now c.args.frame.now c.args.packet.now c.args.tree.now es c.in-Datagram.head c.in-Datagram.span) c.datagram.new.tree c.datagram.result c.datagram.ensures.walked)
+    c.datagram.ensures.walked
 
 pub returns-in-Fragment-clause-few : goal.returns-in-Fragment-clause-few
 returns-in-Fragment-clause-few c = few_all 4 2 c.args.tree.now c.fragment.new.tree c.fragment.result (omega arith) c.fragment.ensures.buffers c.fragment.ensures.most

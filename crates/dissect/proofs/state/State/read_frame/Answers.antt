@@ -1,44 +1,25 @@
-use Rattle.std.proofs.Common.{subst, sym, ap, ◌∙◌, ◌∷◌, ℕ, ◌-◌, length, arith}
-use Rattle.dissect.specs.declared.todo.Todo.TheVariants as todos
+use Rattle.std.proofs.Common.{length, ◌∷◌}
+use Rattle.std.proofs.lemmas.Result.{on_ok_weaker}
 use Rattle.dissect.specs.Events.{NewFrame}
-use Rattle.dissect.specs.Stands.{IsWalked}
-use Rattle.dissect.specs.Walks.{chain, going, link_met}
-use Rattle.dissect.proofs.Chains.{all-met}
-use Rattle.dissect.proofs.Opens.{adds-both, room-before, room-on}
-use Rattle.dissect.proofs.Spaces.{space_less}
+use Rattle.dissect.proofs.Opens.{adds-both, room-before}
 use Rattle.dissect.proofs.state.State.read_frame.Goals as goal
 
-pub returns : goal.returns
-returns c = record {
-  walked = λ es stands.
-      let rules = c.args.rules.now in
-      let frame = c.args.frame.now in
-      let begun = NewFrame ∷ es in
-      let w = link_met rules frame c.args.tree.now begun in
-      let first = c.in_ok-first.ensures.walked begun (c.begin_frame.ensures.stands rules es stands) in
-      let rest = c.in_ok-chain.ensures.walked w.events first.stands in
-      all-met rules frame w c.link.new.self c.link.new.tree c.in_ok-first.first c.chain.new.self c.chain.new.tree
-      ((c.chain.ensures.added c.begin_frame.new.self (length frame.bytes) c.in_ok-first.ensures.adds).follows ∙ sym c.link.ensures.added.follows) first
-      (subst (λ (n : ℕ). IsWalked rules (chain rules n frame (going c.link.new.tree w.events c.in_ok-first.first)) c.chain.new.self c.chain.new.tree todos.Done)
-      (c.saturating_sub-left.ensures ∙ ap (λ (n : ℕ). 32 - n) c.layer_count.ensures) rest);
-  added = adds-both c.args.self.now c.begin_frame.new.self c.chain.new.self c.begin_frame.ensures.adds (c.chain.ensures.added c.begin_frame.new.self (length c.args.frame.now.bytes) c.in_ok-first.ensures.adds);
-  kept = omega (arith, c.begin_frame.ensures.kept, c.in_ok-chain.ensures.kept c.begin_frame.new.self (length c.args.frame.now.bytes) c.in_ok-first.ensures.adds);
-}
+pub returns-in-Some-clause-walked : goal.returns-in-Some-clause-walked
+returns-in-Some-clause-walked c =
+    on_ok_weaker c.read_plain.result (λ walked es stands. walked (NewFrame ∷ es) (c.begin_frame.ensures.stands c.args.rules.now es stands)) c.read_plain.ensures.walked
 
-pub chain-requires-clause-few : goal.chain-requires-clause-few
-chain-requires-clause-few c =
-    let bytes = length c.args.frame.now.bytes in
-    room-on bytes c.begin_frame.new.self c.link.new.self c.in_ok-first.first (room-before bytes c.args.self.now c.begin_frame.new.self c.requires.few c.begin_frame.ensures.adds c.begin_frame.ensures.kept)
-    c.in_ok-first.ensures.adds
+pub returns-in-None-clause-walked : goal.returns-in-None-clause-walked
+returns-in-None-clause-walked c =
+    on_ok_weaker c.read_heads.result (λ walked es stands. walked (NewFrame ∷ es) (c.begin_frame.ensures.stands c.args.rules.now es stands)) c.read_heads.ensures.walked
 
-pub chain-requires-clause-space : goal.chain-requires-clause-space
-chain-requires-clause-space c =
-    space_less c.saturating_sub-left.result c.link.new.tree c.in_ok-first.first (omega (arith, c.saturating_sub-left.ensures)) c.in_ok-first.ensures.space
+pub returns-in-Some-clause-added : goal.returns-in-Some-clause-added
+returns-in-Some-clause-added c = adds-both c.args.self.now c.begin_frame.new.self c.read_plain.new.self c.begin_frame.ensures.adds c.read_plain.ensures.added
 
-pub link-requires-clause-few : goal.link-requires-clause-few
-link-requires-clause-few c =
-    room-before (length c.args.frame.now.bytes) c.args.self.now c.begin_frame.new.self c.requires.few c.begin_frame.ensures.adds c.begin_frame.ensures.kept
+pub returns-in-None-clause-added : goal.returns-in-None-clause-added
+returns-in-None-clause-added c = adds-both c.args.self.now c.begin_frame.new.self c.read_heads.new.self c.begin_frame.ensures.adds c.read_heads.ensures.added
 
-pub returns-in_err-chain-clause-added : goal.returns-in_err-chain-clause-added
-returns-in_err-chain-clause-added c =
-    adds-both c.args.self.now c.begin_frame.new.self c.chain.new.self c.begin_frame.ensures.adds (c.chain.ensures.added c.begin_frame.new.self (length c.args.frame.now.bytes) c.in_ok-first.ensures.adds)
+pub read_plain-requires-clause-few : goal.read_plain-requires-clause-few
+read_plain-requires-clause-few c = room-before (length c.args.frame.now.bytes) c.args.self.now c.begin_frame.new.self c.requires.few c.begin_frame.ensures.adds c.begin_frame.ensures.kept
+
+pub read_heads-requires-clause-few : goal.read_heads-requires-clause-few
+read_heads-requires-clause-few c = room-before (length c.args.frame.now.bytes) c.args.self.now c.begin_frame.new.self c.requires.few c.begin_frame.ensures.adds c.begin_frame.ensures.kept

@@ -9,6 +9,7 @@ use Rattle.app_layers.specs.MessageLayers.{app_of_segment, carried_over}
 use Rattle.message_links.specs.Links.{links_of}
 use Rattle.message_links.specs.LinkTables.{LinksStandFor}
 use Rattle.message_links.specs.Notes.{message_note, noted_on, tcp_direction}
+use Rattle.dissect.specs.Keeping.{is_followed}
 use Rattle.dissect.proofs.Opens.{adds-segment}
 use Rattle.dissect.proofs.Segmenting.{shown-walked}
 use Rattle.dissect.proofs.Shrinking.{bytes_short}
@@ -24,18 +25,19 @@ returns-in-Ok-clause-walked c = λ rules packet head es segment_is app_is stands
     shown-walked rules frame packet head c.args.span segment met.taken met.messages c.args.self.now _ c.args.tree.now told c.show_met.new.tree
     (record {
       segment_is = segment_is;
-      follows = c.requires.follows;
+      taken_in = ap (is_followed c.args.self.now.keeps.follows) (sym app_is) ∙ c.requires.follows;
+      keeps = c.show_met.ensures.same.keeps;
       joins = c.show_met.ensures.same.joins;
       udp = c.show_met.ensures.same.udp;
       stands = λ past reads. subst (StandsFor past) c.streams-streams.ensures.streams (c.streams-streams.ensures.stands (app_of_segment rules) past reads);
       taken_is = c.in_ok-met.ensures.taken;
       messages_is = λ past reads. c.in_ok-met.ensures.shown (app_of_segment rules) past (apps_of_ends rules) app_is reads ∙ ap (λ (app : Option StreamApp). shown_after app past segment) app_is;
       kept = λ past reads. subst (ReadsFor (app_of_segment rules) (segment ∷ past)) (sym c.show_met.ensures.same.streams) (c.in_ok-met.ensures.stands (app_of_segment rules) past (apps_of_ends rules) app_is reads);
-      links = record {
-        found = λ ns stands. c.in-Ok.ensures.links.found ns stands
+      links = λ all. record {
+        found = λ ns stands. (c.in-Ok.ensures.links all).found ns stands
             ∙ ap (λ (bytes : List ℕ). links_of ns (tcp_direction met.taken) (map (message_note bytes) met.messages)) c.bytes.ensures;
         links = λ ns stands. subst (λ (bytes : List ℕ). LinksStandFor (noted_on frame.number (tcp_direction met.taken) (map (message_note bytes) met.messages) ns) c.show_met.new.self.links)
-            c.bytes.ensures (c.in-Ok.ensures.links.links ns stands);
+            c.bytes.ensures ((c.in-Ok.ensures.links all).links ns stands);
       };
       told = refl;
       shown = c.in-Ok.ensures.tree ∙ ap (λ (app : Option StreamApp). carried_over app (is_cut frame) c.args.span told met.messages) app_is;

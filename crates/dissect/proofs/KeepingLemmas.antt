@@ -1,0 +1,143 @@
+-- What is known of what is kept.
+use Rattle.std.proofs.Common.{◌≡◌, Bool, true, false, ◌&&◌, List, [], ◌∷◌, ℕ, Option, Some, None, ◌⊎◌, inl, inr, refl, sym, ◌∙◌, ap, subst, true≢false}
+use Rattle.std.proofs.lemmas.Bool.{cases_Bool}
+use Rattle.pk_fields.specs.FieldSets.{is_in}
+use Rattle.pk_fields.specs.Ids.{UDP_STREAM}
+use Rattle.pk_fields.specs.declared.rules.PortRule.{PortRule}
+use Rattle.tcp_streams.specs.declared.segment.Segment.{Segment}
+use Rattle.tcp_streams.specs.Conversations.{ends_of, same_ends}
+use Rattle.tcp_streams.specs.Isolation.{between}
+use Rattle.stream_messages.specs.declared.told.App.{App as StreamApp}
+use Rattle.app_layers.specs.MessageLayers.{app_of_segment}
+use Rattle.app_layers.proofs.StreamApps.{apps_of_ends}
+use Rattle.dissect.specs.declared.keeping.Follows.{Follows}
+use Rattle.dissect.specs.declared.keeping.Follows.TheVariants.{Nothing, One, Everything}
+use Rattle.dissect.specs.declared.keeping.Keeping.{Keeping}
+use Rattle.dissect.specs.Followed.{asks_streams}
+use Rattle.dissect.specs.Keeping.{AsksNoLinks, FollowsEnough, KeepsFor, KeepsWhole, followed_of, is_everything, is_followed, keeps_all}
+use Rattle.capture_read.specs.declared.frame.Frame.{Frame}
+use Rattle.tcp_messages.specs.Standing.{ReadsFor}
+use Rattle.dissect.specs.Segments.{segments_of}
+use Rattle.dissect.specs.Trees.{events_of}
+use Rattle.dissect.specs.Stands.{DissectorShown, IsAfter, IsKept}
+use Rattle.dissect.proofs.Asked.{unasked_fields}
+
+first_of : (a b : Bool) → a && b ≡ true → a ≡ true
+first_of true b both = refl
+first_of false b both = absurd (true≢false (sym both))
+
+second_of : (a b : Bool) → a && b ≡ true → b ≡ true
+second_of true b both = both
+second_of false b both = absurd (true≢false (sym both))
+
+pub all_everything : (keeps : Keeping) → keeps_all keeps ≡ true → is_everything keeps.follows ≡ true
+all_everything keeps all = first_of (is_everything keeps.follows) keeps.numbers all
+
+pub all_numbers : (keeps : Keeping) → keeps_all keeps ≡ true → keeps.numbers ≡ true
+all_numbers keeps all = second_of (is_everything keeps.follows) keeps.numbers all
+
+-- ---- everything
+
+pub everything_takes : (follows : Follows) (app : Option StreamApp) → is_everything follows ≡ true → is_followed follows app ≡ true
+everything_takes Nothing app all = absurd (true≢false (sym all))
+everything_takes (One only) app all = absurd (true≢false (sym all))
+everything_takes Everything app all = refl
+
+pub everything_enough : (follows : Follows) (wanted : List ℕ) → is_everything follows ≡ true → FollowsEnough follows wanted
+everything_enough Nothing wanted all = absurd (true≢false (sym all))
+everything_enough (One only) wanted all = absurd (true≢false (sym all))
+everything_enough Everything wanted all = tt
+
+all_of : (rules : List PortRule) (segments : List Segment) → followed_of rules Everything segments ≡ segments
+unfolding followed_of
+all_of rules [] = refl
+all_of rules (s ∷ segments) = ap (λ (ss : List Segment). s ∷ ss) (all_of rules segments)
+
+pub everything_of : (rules : List PortRule) (follows : Follows) (segments : List Segment) → is_everything follows ≡ true → followed_of rules follows segments ≡ segments
+everything_of rules Nothing segments all = absurd (true≢false (sym all))
+everything_of rules (One only) segments all = absurd (true≢false (sym all))
+everything_of rules Everything segments all = all_of rules segments
+
+-- is enough for any fields
+pub all_for : (keeps : Keeping) (wanted : List ℕ) → keeps_all keeps ≡ true → KeepsFor keeps wanted
+all_for keeps wanted all = record {
+  streams = everything_enough keeps.follows wanted (all_everything keeps all);
+  numbers = λ none. absurd (true≢false (sym (all_numbers keeps all) ∙ none));
+  links = λ none. absurd (true≢false (sym all ∙ none));
+}
+
+pub all_whole : (keeps : Keeping) (wanted : List ℕ) → keeps_all keeps ≡ true → KeepsWhole keeps wanted
+all_whole keeps wanted all = record { numbers = all_numbers keeps all; all = λ _. all }
+
+-- ---- one segment more
+
+pub more_followed : (rules : List PortRule) (follows : Follows) (s : Segment) (segments : List Segment) → is_followed follows (app_of_segment rules s) ≡ true
+    → followed_of rules follows (s ∷ segments) ≡ s ∷ followed_of rules follows segments
+unfolding followed_of
+more_followed rules follows s segments is = rw is refl
+
+pub passed_over : (rules : List PortRule) (follows : Follows) (s : Segment) (segments : List Segment) → is_followed follows (app_of_segment rules s) ≡ false
+    → followed_of rules follows (s ∷ segments) ≡ followed_of rules follows segments
+unfolding followed_of
+passed_over rules follows s segments none = rw none refl
+
+-- all segments of a conversation are taken where one is
+pub between_followed : (rules : List PortRule) (follows : Follows) (s : Segment) (segments : List Segment) → is_followed follows (app_of_segment rules s) ≡ true
+    → between s (followed_of rules follows segments) ≡ between s segments
+unfolding followed_of
+between_followed rules follows s [] is = refl
+between_followed rules follows s (t ∷ segments) is = elim (cases_Bool (same_ends (ends_of t) (ends_of s))) [
+  | inl mine ↦
+      let taken : is_followed follows (app_of_segment rules t) ≡ true = ap (is_followed follows) (apps_of_ends rules t s mine) ∙ is in
+      rw (taken, mine) (ap (λ (ts : List Segment). t ∷ ts) (between_followed rules follows s segments is))
+  | inr other ↦ elim (cases_Bool (is_followed follows (app_of_segment rules t))) [
+    | inl taken ↦ rw (taken, other) (between_followed rules follows s segments is)
+    | inr passed ↦ rw (passed, other) (between_followed rules follows s segments is)
+  ]
+]
+
+-- ---- what is asked
+
+-- links go by the numbers of conversations, and by streams
+either_none : (a b : Bool) → a && b ≡ false → (a ≡ false) ⊎ (b ≡ false)
+either_none true b none = inr none
+either_none false b none = inl refl
+
+pub no_links : (wanted : List ℕ) → asks_streams wanted ≡ false → AsksNoLinks wanted
+no_links wanted unasked =
+    let none = unasked_fields wanted unasked in
+    record { dns = none.0; http = none.1 }
+
+pub keeps_for : (keeps : Keeping) (wanted : List ℕ) → FollowsEnough keeps.follows wanted → (keeps.numbers ≡ false → is_in wanted UDP_STREAM ≡ false)
+    → (is_everything keeps.follows ≡ false → AsksNoLinks wanted) → (keeps.numbers ≡ false → AsksNoLinks wanted) → KeepsFor keeps wanted
+keeps_for keeps wanted streams numbers unfollowed unnumbered = record {
+  streams = streams;
+  numbers = numbers;
+  links = λ some. elim (either_none (is_everything keeps.follows) keeps.numbers some) [
+    | inl none ↦ unfollowed none
+    | inr none ↦ unnumbered none
+  ];
+}
+
+-- where all conversations over UDP are numbered, and everything is kept where something of streams is asked
+pub for_trees : (keeps : Keeping) (wanted : List ℕ) → FollowsEnough keeps.follows wanted → (asks_streams wanted ≡ true → is_everything keeps.follows ≡ true)
+    → (is_everything keeps.follows ≡ false → AsksNoLinks wanted) → keeps.numbers ≡ true → KeepsFor keeps wanted × KeepsWhole keeps wanted
+for_trees keeps wanted streams all links numbers = (
+  keeps_for keeps wanted streams (λ none. absurd (true≢false (sym numbers ∙ none))) links (λ none. absurd (true≢false (sym numbers ∙ none))),
+  record { numbers = numbers; all = λ asked. both_are (is_everything keeps.follows) keeps.numbers (all asked) numbers },
+)
+  where
+    both_are : (a b : Bool) → a ≡ true → b ≡ true → a && b ≡ true
+    both_are true b one other = other
+    both_are false b one other = one
+
+-- trees are asked, and something of streams
+pub all_asked : (d : DissectorShown) → IsKept d → asks_streams d.wanted ≡ true → d.sparing ≡ false → keeps_all d.state.keeps ≡ true
+all_asked d kept asked unsparing = (kept.whole unsparing).all asked
+
+-- where everything is kept, the streams stand for all segments
+pub streams_of_all : (d : DissectorShown) (past : List Frame) → IsAfter past d → keeps_all d.state.keeps ≡ true
+    → ReadsFor (app_of_segment d.decode.rules) (segments_of (events_of past)) d.state.streams
+streams_of_all d past after all =
+    subst (λ (ss : List Segment). ReadsFor (app_of_segment d.decode.rules) ss d.state.streams)
+    (everything_of d.decode.rules d.state.keeps.follows (segments_of (events_of past)) (all_everything d.state.keeps all)) after.state.streams

@@ -1,0 +1,87 @@
+-- What is kept of conversations, and for the values of which fields that is enough.
+use Rattle.std.specs.Prelude.{◌≡◌, ℕ, Bool, true, false, ◌&&◌, List, filter, Option, Some, None}
+use Rattle.pk_fields.specs.FieldSets.{is_in}
+use Rattle.pk_fields.specs.Ids.{DNS, DNS_RESPONSE_TO, HTTP, HTTP_REQUEST_IN, TCP_ACK, TCP_LOST, TCP_SEGMENT, TCP_SEQ, TCP_STREAM, UDP_STREAM, WS_MALFORMED, WS_SHORT, field_count}
+use Rattle.pk_fields.specs.declared.rules.PortRule.{PortRule}
+use Rattle.tcp_streams.specs.declared.segment.Segment.{Segment}
+use Rattle.stream_messages.specs.declared.told.App.{App as StreamApp}
+use Rattle.stream_messages.specs.declared.told.App.TheVariants.{Dns, Http}
+use Rattle.app_layers.specs.MessageLayers.{app_of_segment}
+use Rattle.dissect.specs.declared.keeping.Follows.{Follows}
+use Rattle.dissect.specs.declared.keeping.Follows.TheVariants.{Nothing, One, Everything}
+use Rattle.dissect.specs.declared.keeping.Keeping.{Keeping}
+use Rattle.dissect.specs.Followed.{asks_any, asks_streams}
+
+-- ---- which segments are taken into their streams
+
+abbrev pub same_app : StreamApp → StreamApp → Bool
+same_app Dns Dns = true
+same_app Dns Http = false
+same_app Http Dns = false
+same_app Http Http = true
+
+abbrev pub is_of : StreamApp → Option StreamApp → Bool
+is_of app None = false
+is_of app (Some other) = same_app app other
+
+-- those of streams of an application
+abbrev pub is_followed : Follows → Option StreamApp → Bool
+is_followed Nothing app = false
+is_followed (One only) app = is_of only app
+is_followed Everything app = true
+
+abbrev pub is_everything : Follows → Bool
+is_everything Nothing = false
+is_everything (One only) = false
+is_everything Everything = true
+
+-- the segments that streams stand for, among all
+unfoldable pub followed_of : List PortRule → Follows → List Segment → List Segment
+followed_of rules follows segments = filter (λ s. is_followed follows (app_of_segment rules s)) segments
+
+-- everything is kept: messages are noted for links, which go by the numbers of conversations
+abbrev pub keeps_all : Keeping → Bool
+keeps_all keeps = is_everything keeps.follows && keeps.numbers
+
+-- ---- for which fields
+
+-- no segment's place in its stream is asked
+pub record AsksNoPlaces (wanted : List ℕ) : Type 0 where
+  pub stream : is_in wanted TCP_STREAM ≡ false
+  pub seq : is_in wanted TCP_SEQ ≡ false
+  pub ack : is_in wanted TCP_ACK ≡ false
+  pub lost : is_in wanted TCP_LOST ≡ false
+
+-- no link from a message to that of an earlier frame is asked
+pub record AsksNoLinks (wanted : List ℕ) : Type 0 where
+  pub dns : is_in wanted DNS_RESPONSE_TO ≡ false
+  pub http : is_in wanted HTTP_REQUEST_IN ≡ false
+
+-- the protocol of the messages of all other streams
+abbrev pub other_proto : StreamApp → ℕ
+other_proto Dns = HTTP
+other_proto Http = DNS
+
+-- nothing of streams is asked but the messages of one application
+pub record AsksOnly (app : StreamApp) (wanted : List ℕ) : Type 0 where
+  pub places : AsksNoPlaces wanted
+  pub segment : is_in wanted TCP_SEGMENT ≡ false
+  pub short : is_in wanted WS_SHORT ≡ false
+  pub malformed : is_in wanted WS_MALFORMED ≡ false
+  pub others : asks_any field_count (other_proto app) wanted ≡ false
+
+abbrev pub FollowsEnough : Follows → List ℕ → Type 0
+FollowsEnough Nothing wanted = asks_streams wanted ≡ false
+FollowsEnough (One only) wanted = AsksOnly only wanted
+FollowsEnough Everything wanted = Unit {0}
+
+-- what is kept is enough for the values of these fields
+pub record KeepsFor (keeps : Keeping) (wanted : List ℕ) : Type 0 where
+  pub streams : FollowsEnough keeps.follows wanted
+  pub numbers : keeps.numbers ≡ false → is_in wanted UDP_STREAM ≡ false
+  pub links : keeps_all keeps ≡ false → AsksNoLinks wanted
+
+-- all conversations over UDP are numbered, and everything is kept where these fields ask something of streams
+pub record KeepsWhole (keeps : Keeping) (wanted : List ℕ) : Type 0 where
+  pub numbers : keeps.numbers ≡ true
+  pub all : asks_streams wanted ≡ true → keeps_all keeps ≡ true

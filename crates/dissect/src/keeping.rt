@@ -1,0 +1,193 @@
+ghost use Rattle.std.specs.Prelude.{◌≡◌, false, true};
+ghost use Rattle.pk_fields.specs.FieldSets.{is_in};
+ghost use Rattle.pk_fields.specs.Ids.{TCP_SEGMENT, UDP_STREAM, WS_MALFORMED, WS_SHORT, field_count};
+ghost use Rattle.dissect.specs.Followed.{asks_any, asks_messages, asks_streams};
+ghost use Rattle.dissect.specs.Keeping.{AsksNoLinks, AsksNoPlaces, FollowsEnough, KeepsFor, KeepsWhole, is_everything, is_followed, keeps_all};
+
+use pk_fields::{FieldId, FieldSet, ids};
+use stream_messages::App as StreamApp;
+
+/// Which segments of TCP are taken into their streams; all others are passed over.
+#[derive(Clone, Copy)]
+pub(crate) enum Follows {
+    Nothing,
+    /// Those of streams of one application.
+    One(StreamApp),
+    Everything,
+}
+
+impl Follows {
+    fn is_everything(self) -> bool
+        ensures { result ≡ is_everything self }
+    {
+        match self {
+            Follows::Nothing | Follows::One(_) => false,
+            Follows::Everything => true,
+        }
+    }
+
+    /// Whether segments of streams of an application are taken.
+    pub fn takes(self, app: Option<StreamApp>) -> bool
+        ensures { result ≡ is_followed self app }
+    {
+        match (self, app) {
+            (Follows::Nothing, _) | (Follows::One(_), None) => false,
+            (Follows::One(StreamApp::Dns), Some(StreamApp::Dns)) => true,
+            (Follows::One(StreamApp::Dns), Some(StreamApp::Http)) => false,
+            (Follows::One(StreamApp::Http), Some(StreamApp::Dns)) => false,
+            (Follows::One(StreamApp::Http), Some(StreamApp::Http)) => true,
+            (Follows::Everything, _) => true,
+        }
+    }
+}
+
+/// What is kept of conversations.
+#[derive(Clone, Copy)]
+pub(crate) struct Keeping {
+    pub follows: Follows,
+    /// Whether conversations over UDP are numbered.
+    pub numbers: bool,
+}
+
+impl Keeping {
+    pub fn everything() -> Keeping
+        ensures { keeps_all result ≡ true }
+    {
+        Keeping {
+            follows: Follows::Everything,
+            numbers: true,
+        }
+    }
+
+    /// What trees of the wanted fields need, and all conversations over UDP.
+    #[tactic(auto, using(crate::proofs::KeepingLemmas::for_trees))]
+    pub fn for_fields(wanted: &FieldSet) -> Keeping
+        ensures asked { KeepsFor result wanted.now }
+        ensures whole { KeepsWhole result wanted.now }
+    {
+        Keeping {
+            follows: followed_for_trees(wanted),
+            numbers: true,
+        }
+    }
+
+    /// What the values of the wanted fields need.
+    #[tactic(auto, using(crate::proofs::KeepingLemmas::keeps_for))]
+    pub fn for_values(wanted: &FieldSet) -> Keeping
+        ensures { KeepsFor result wanted.now }
+    {
+        Keeping {
+            follows: followed_for_values(wanted),
+            numbers: wanted.contains(ids::UDP_STREAM) || asks_links(wanted),
+        }
+    }
+
+    /// Whether messages are noted for links, which go by the numbers of conversations.
+    pub fn is_all(self) -> bool
+        ensures { result ≡ keeps_all self }
+    {
+        self.follows.is_everything() && self.numbers
+    }
+}
+
+/// Which segments are taken for trees of the wanted fields: all, where anything may be asked of streams.
+fn followed_for_trees(wanted: &FieldSet) -> Follows
+    ensures enough { FollowsEnough result wanted.now }
+    ensures all { asks_streams wanted.now ≡ true → is_everything result ≡ true }
+    ensures links { is_everything result ≡ false → AsksNoLinks wanted.now }
+{
+    if asks_streams(wanted) {
+        Follows::Everything
+    } else {
+        Follows::Nothing
+    }
+}
+
+/// Which segments are taken for the values of the wanted fields.
+fn followed_for_values(wanted: &FieldSet) -> Follows
+    ensures enough { FollowsEnough result wanted.now }
+    ensures links { is_everything result ≡ false → AsksNoLinks wanted.now }
+{
+    if asks_streams(wanted) {
+        taken_for_values(wanted)
+    } else {
+        Follows::Nothing
+    }
+}
+
+/// Which segments are taken for the values of fields that ask something of streams.
+fn taken_for_values(wanted: &FieldSet) -> Follows
+    ensures enough { FollowsEnough result wanted.now }
+    ensures links { is_everything result ≡ false → AsksNoLinks wanted.now }
+{
+    if asks_places(wanted) || asks_any_messages(wanted) || asks_links(wanted) {
+        return Follows::Everything;
+    }
+    if !asks_any(wanted, ids::HTTP) {
+        return Follows::One(StreamApp::Dns);
+    }
+    if !asks_any(wanted, ids::DNS) {
+        return Follows::One(StreamApp::Http);
+    }
+    Follows::Everything
+}
+
+/// Whether links of messages may be asked.
+fn asks_links(wanted: &FieldSet) -> bool
+    ensures { result ≡ false → AsksNoLinks wanted.now }
+{
+    wanted.contains(ids::DNS_RESPONSE_TO) || wanted.contains(ids::HTTP_REQUEST_IN)
+}
+
+/// Whether a segment's place in its stream may be asked.
+fn asks_places(wanted: &FieldSet) -> bool
+    ensures { result ≡ false → AsksNoPlaces wanted.now }
+{
+    wanted.contains(ids::TCP_STREAM)
+        || wanted.contains(ids::TCP_SEQ)
+        || wanted.contains(ids::TCP_ACK)
+        || wanted.contains(ids::TCP_LOST)
+}
+
+/// Whether something may be asked that messages of all applications give.
+fn asks_any_messages(wanted: &FieldSet) -> bool
+    ensures segment { result ≡ false → is_in wanted.now TCP_SEGMENT ≡ false }
+    ensures short { result ≡ false → is_in wanted.now WS_SHORT ≡ false }
+    ensures malformed { result ≡ false → is_in wanted.now WS_MALFORMED ≡ false }
+{
+    wanted.contains(ids::TCP_SEGMENT)
+        || wanted.contains(ids::WS_SHORT)
+        || wanted.contains(ids::WS_MALFORMED)
+}
+
+/// Whether something may be asked that the streams of TCP give: a segment's place, or messages.
+#[tactic(auto, unfolding(crate::specs::Followed::asks_streams))]
+fn asks_streams(wanted: &FieldSet) -> bool
+    ensures { result ≡ false → asks_streams wanted.now ≡ false }
+{
+    wanted.contains(ids::TCP_STREAM)
+        || wanted.contains(ids::TCP_SEQ)
+        || wanted.contains(ids::TCP_ACK)
+        || wanted.contains(ids::TCP_LOST)
+        || asks_messages(wanted)
+}
+
+/// Whether something may be asked of the messages of streams.
+#[tactic(auto, unfolding(crate::specs::Followed::asks_messages))]
+fn asks_messages(wanted: &FieldSet) -> bool
+    ensures { result ≡ false → asks_messages wanted.now ≡ false }
+{
+    wanted.contains(ids::TCP_SEGMENT)
+        || wanted.contains(ids::WS_SHORT)
+        || wanted.contains(ids::WS_MALFORMED)
+        || asks_any(wanted, ids::HTTP)
+        || asks_any(wanted, ids::DNS)
+}
+
+/// Whether a protocol or a field of it may be asked.
+#[tactic(auto, using(crate::proofs::Asked::any_none))]
+fn asks_any(wanted: &FieldSet, protocol: FieldId) -> bool
+    ensures { result ≡ false → asks_any field_count protocol wanted.now ≡ false }
+{
+    wanted.has_any_of(protocol)
+}
