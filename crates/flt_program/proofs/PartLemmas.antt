@@ -21,10 +21,12 @@ use Rattle.pk_fields.specs.Table.{rows}
 use Rattle.pk_fields.specs.declared.value_kind.ValueKind.TheVariants.{Proto}
 use Rattle.pk_text.proofs.EtherLemmas.{ether_from_shown}
 use Rattle.pk_text.proofs.Ip4Lemmas.{ip4_from_shown}
+use Rattle.pk_text.proofs.Ip6ShownLemmas.{ip6_from_shown}
 use Rattle.pk_text.proofs.TimeLemmas.{time_from_shown}
 use Rattle.pk_text.specs.Digits.{hex_pair, hex_shown}
 use Rattle.pk_text.specs.Ether.{ether_of, ether_shown}
 use Rattle.pk_text.specs.Ip4.{ip4_of, ip4_shown}
+use Rattle.pk_text.specs.Ip6.{ip6_of, ip6_shown}
 use Rattle.pk_text.specs.Time.{time_of, time_shown}
 
 -- fields' names have no `#`, 35
@@ -94,7 +96,7 @@ same_hex (x ∷ xs) (y ∷ ys) one two same =
     let rest : flat_map hex_pair xs ≡ flat_map hex_pair ys = ap (λ (t : List ℕ). drop 2 t) same in
     ap (λ b. b ∷ xs) (same_byte x y one.0 two.0 high low) ∙ ap (λ (t : List ℕ). y ∷ t) (same_hex xs ys one.1 two.1 rest)
 
-differs : (a b : ℕ) → (a == b) ≡ false → a ≡ b → ⊥
+pub differs : (a b : ℕ) → (a == b) ≡ false → a ≡ b → ⊥
 differs a b is same = ⊎_elim (λ tells. let no : true ≡ false = sym tells.0 ∙ is in cc) (λ tells. tells.1 same) (eqb_tells a b)
 
 equals : (a b : ℕ) → (a == b) ≡ true → a ≡ b
@@ -156,7 +158,7 @@ ends_by y b r (AsSlash on here) same = let w : 34 ∷ r ≡ 92 ∷ 92 ∷ b = sa
 ends_by y b r (AsItself on off here) same = let w : 34 ∷ r ≡ y ∷ b = same ∙ ap (λ (t : List ℕ). t ++ b) here in on (sym (ap (λ (t : List ℕ). get_or t 0 0) w))
 ends_by y b r (AsDigits here) same = let w : 34 ∷ r ≡ 92 ∷ 120 ∷ (hex_pair y ++ b) = same ∙ ap (λ (t : List ℕ). t ++ b) here in unlike 34 92 refl w
 
-same_quoted : (xs ys r s : List ℕ) → AreBytes xs → AreBytes ys → flat_map quoted_byte xs ++ (34 ∷ r) ≡ flat_map quoted_byte ys ++ (34 ∷ s) → xs ≡ ys
+pub same_quoted : (xs ys r s : List ℕ) → AreBytes xs → AreBytes ys → flat_map quoted_byte xs ++ (34 ∷ r) ≡ flat_map quoted_byte ys ++ (34 ∷ s) → xs ≡ ys
 same_quoted [] [] r s one two same = refl
 same_quoted [] (y ∷ ys) r s one two same = absurd (ends_by y (flat_map quoted_byte ys ++ (34 ∷ s)) r (quoted_as y) (same ∙ append_assoc (quoted_byte y) (flat_map quoted_byte ys) (34 ∷ s)))
 same_quoted (x ∷ xs) [] r s one two same = absurd (ends_by x (flat_map quoted_byte xs ++ (34 ∷ r)) s (quoted_as x) (sym same ∙ append_assoc (quoted_byte x) (flat_map quoted_byte xs) (34 ∷ r)))
@@ -198,9 +200,10 @@ value_told quoted (values.Text xs) (values.Text ys) one two kind same = ap value
 value_told quoted (values.Ether a) (values.Ether b) one two kind same =
     ap values.Ether (by_reading ether_of (ether_shown a) (ether_shown b) a b (ether_from_shown a one.0 (byte_at a one.1)) (ether_from_shown b two.0 (byte_at b two.1)) same)
 value_told quoted (values.Ip4 a) (values.Ip4 b) one two kind same = ap values.Ip4 (by_reading ip4_of (ip4_shown a) (ip4_shown b) a b (ip4_from_shown a one) (ip4_from_shown b two) same)
+value_told quoted (values.Ip6 a) (values.Ip6 b) one two kind same = ap values.Ip6 (by_reading ip6_of (ip6_shown a) (ip6_shown b) a b (ip6_from_shown a one) (ip6_from_shown b two) same)
 value_told quoted (values.Time a) (values.Time b) one two kind same = ap values.Time (by_reading time_of (time_shown a) (time_shown b) a b (time_from_shown a one) (time_from_shown b two) same)
 value_told quoted (values.Proto xs) (values.Proto ys) one two kind same = ap values.Proto (same_bytes quoted xs ys one two same)
-value_told quoted (values.Ip6 a) w one two kind same = absurd one
+value_told quoted (values.Ip6 n) w one two kind same = cc
 value_told quoted (values.Uint n) w one two kind same = cc
 value_told quoted (values.Bool n) w one two kind same = cc
 value_told quoted (values.Bytes n) w one two kind same = cc

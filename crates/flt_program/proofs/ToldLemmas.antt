@@ -93,17 +93,17 @@ onto_over : (k base n : ℕ) (acc : List ℕ) → Over 48 acc → Over 48 (digit
 onto_over zero base n acc over = over
 onto_over (suc k) base n acc over = onto_step k base n (n / base == 0) acc over (λ m more is. onto_over k base m more is)
 
-digits_over : (base n : ℕ) → Over 48 (digits base false n)
+pub digits_over : (base n : ℕ) → Over 48 (digits base false n)
 unfolding digits
 digits_over base n = onto_over 64 base n [] tt
 
-pair_over : (byte : ℕ) → Over 48 (hex_pair byte)
+pub pair_over : (byte : ℕ) → Over 48 (hex_pair byte)
 pair_over byte = (glyph_over (byte / 16), (glyph_over (byte % 16), tt))
 
 decimal_over : (k n : ℕ) → k ≤ 48 → Over k (decimal n)
 decimal_over k n less = over_less k 48 (decimal n) less (digits_over 10 n)
 
-replicate_over : (n : ℕ) → Over 48 (replicate n 48)
+pub replicate_over : (n : ℕ) → Over 48 (replicate n 48)
 replicate_over zero = tt
 replicate_over (suc n) = (omega arith, replicate_over n)
 
