@@ -1,5 +1,5 @@
 -- A tree that has only the wanted items is shown as the whole tree.
-use Rattle.std.proofs.Common.{◌≡◌, ◌||◌, ℕ, Bool, true, false, List, map, refl, sym, ap, ◌∙◌, subst}
+use Rattle.std.proofs.Common.{◌≡◌, ◌||◌, ℕ, Bool, true, false, List, map, refl, sym, ap, ◌∙◌, subst, true≢false}
 use Rattle.pk_fields.specs.FieldSets.{is_in}
 use Rattle.pk_fields.specs.Ids.{TCP_SEQ, TCP_ACK, TCP_LOST}
 use Rattle.pk_tree.specs.Trees.{TreeShown, IsKept}
@@ -12,10 +12,11 @@ use Rattle.dissect.specs.Followed.{asks_messages, asks_streams, HasSameValues}
 use Rattle.dissect.specs.Trees.{tree_at}
 use Rattle.pk_fields.specs.declared.rules.PortRule.{PortRule}
 use Rattle.run_frames.specs.declared.plan.Plan.{Plan}
-use Rattle.run_frames.specs.Accessors.{rules_of, two_of}
+use Rattle.run_frames.specs.Accessors.{needs_streams, rules_of, two_of}
 use Rattle.run_frames.specs.Tables.{asks_table, asks_tables}
 use Rattle.run_frames.specs.Trees.{tree_of}
-use Rattle.run_frames.specs.Wanted.{HasFields, IsMadeFor, IsEnough, IsToldAs}
+use Rattle.dissect.specs.Stands.{DissectorShown}
+use Rattle.run_frames.specs.Wanted.{AreToldByValues, asks_trees, sums_up, HasFields, IsMadeFor, IsEnough, IsToldAs, ServesPlan}
 use Rattle.second_pass.specs.Forward.{forwarded, forwarded_to}
 use Rattle.second_pass.specs.Laws.{kept_noted, link_fields}
 use Rattle.second_pass.proofs.KeptLinks.{links_same}
@@ -92,10 +93,61 @@ told_by false (Two noted) (Known links) wanted plan rules past frame tree after 
 told_by true One Unread wanted plan rules past frame tree after two serves enough is made same = absurd serves
 told_by true One (Known links) wanted plan rules past frame tree after two serves enough is made same = absurd serves
 
-pub frame_told : (passes : Passes) (later : Later) (wanted : List ℕ) (plan : Plan) (rules : List PortRule) (past : List Frame) (frame : Frame) (tree after : TreeShown)
-    → ServesKept wanted (two_of plan) passes later → IsEnough wanted plan → rules ≡ rules_of plan → HasSameValues wanted (tree_at rules past frame) tree
-    → (asks_streams wanted ≡ true → IsKept wanted (tree_at rules past frame) tree)
+-- by values alone, where the frames are read once
+told_values : (passes : Passes) (later : Later) (wanted : List ℕ) (plan : Plan) (rules : List PortRule) (past : List Frame) (frame : Frame) (tree after : TreeShown)
+    → ServesKept wanted false passes later → AreToldByValues wanted plan → rules ≡ rules_of plan → HasSameValues wanted (tree_at rules past frame) tree
+    → after ≡ with_links (kept_passes wanted passes) frame.number tree → IsToldAs plan (tree_of (job_in plan passes) past frame) after
+told_values One later wanted plan rules past frame tree after serves told is values same =
+    told_once plan rules past frame tree after is (told (tree_at rules past frame) tree values) same
+told_values (Two noted) Unread wanted plan rules past frame tree after serves told is values same = absurd serves
+told_values (Two noted) (Known links) wanted plan rules past frame tree after serves told is values same = absurd serves
+
+not_both : (a : Bool) (b : Bool) → (a ≡ true → b ≡ false) → b ≡ true → a ≡ false
+not_both true b none is = absurd (true≢false (sym is ∙ none refl))
+not_both false b none is = refl
+
+pub frame_told : (passes : Passes) (later : Later) (d : DissectorShown) (plan : Plan) (rules : List PortRule) (past : List Frame) (frame : Frame) (tree after : TreeShown)
+    → ServesKept d.wanted (two_of plan) passes later → ServesPlan d plan → rules ≡ rules_of plan → HasSameValues d.wanted (tree_at rules past frame) tree
+    → (asks_streams d.wanted ≡ true → d.sparing ≡ false → IsKept d.wanted (tree_at rules past frame) tree)
     → ((two : Bool) (p : Passes) → Serves two p later → after ≡ with_links p frame.number tree) → IsToldAs plan (tree_of (job_in plan passes) past frame) after
-frame_told passes later wanted plan rules past frame tree after serves enough is values kept linked =
-    told_by (two_of plan) passes later wanted plan rules past frame tree after refl serves enough is (record { values = values; kept = kept })
-    (linked (two_of plan) (kept_passes wanted passes) serves)
+frame_told passes later d plan rules past frame tree after serves for_plan is values kept linked = by_kind d.sparing refl
+  where
+    by_kind : (sparing : Bool) → d.sparing ≡ sparing → IsToldAs plan (tree_of (job_in plan passes) past frame) after
+    by_kind false whole =
+        told_by (two_of plan) passes later d.wanted plan rules past frame tree after refl serves for_plan.enough is (record { values = values; kept = λ asks. kept asks whole })
+        (linked (two_of plan) (kept_passes d.wanted passes) serves)
+    by_kind true sparing =
+        let none : (needs_streams plan || two_of plan) ≡ false = not_both (needs_streams plan || two_of plan) d.sparing for_plan.whole sparing in
+        let once : two_of plan ≡ false = second_false (needs_streams plan) (two_of plan) none in
+        told_values passes later d.wanted plan rules past frame tree after (subst (λ (two : Bool). ServesKept d.wanted two passes later) once serves) (for_plan.values sparing) is values
+        (linked (two_of plan) (kept_passes d.wanted passes) serves)
+
+-- a dissector that takes frames goes on to serve
+pub serves_on : (old new : DissectorShown) (plan : Plan) → new.wanted ≡ old.wanted → new.sparing ≡ old.sparing → ServesPlan old plan → ServesPlan new plan
+serves_on old new plan wanted sparing serves = record {
+  enough = subst (λ (fields : List ℕ). IsEnough fields plan) (sym wanted) serves.enough;
+  values = λ is. subst (λ (fields : List ℕ). AreToldByValues fields plan) (sym wanted) (serves.values (sym sparing ∙ is));
+  whole = λ needs. sparing ∙ serves.whole needs;
+}
+
+-- a dissector for trees serves a plan for which its fields are enough
+pub serves_trees : (d : DissectorShown) (wanted : List ℕ) (plan : Plan) → IsEnough wanted plan → d.wanted ≡ wanted → d.sparing ≡ false → ServesPlan d plan
+serves_trees d wanted plan enough is whole = record {
+  enough = subst (λ (fields : List ℕ). IsEnough fields plan) (sym is) enough;
+  values = λ sparing. absurd (true≢false (sym sparing ∙ whole));
+  whole = λ needs. whole;
+}
+
+-- and one for values, where these tell the trees
+pub serves_values : (d : DissectorShown) (wanted : List ℕ) (plan : Plan) → IsEnough wanted plan → AreToldByValues wanted plan → asks_trees plan ≡ false → d.wanted ≡ wanted
+    → ServesPlan d plan
+serves_values d wanted plan enough told none_so is = record {
+  enough = subst (λ (fields : List ℕ). IsEnough fields plan) (sym is) enough;
+  values = λ sparing. subst (λ (fields : List ℕ). AreToldByValues fields plan) (sym is) told;
+  whole = λ needs. absurd (true≢false (sym needs ∙ swapped (two_of plan) (needs_streams plan) (sums_up plan) none_so));
+}
+  where
+    swapped : (two needs sums : Bool) → (two || needs || sums) ≡ false → (needs || two) ≡ false
+    swapped false false sums none = refl
+    swapped true needs sums none = absurd (true≢false none)
+    swapped false true sums none = absurd (true≢false none)

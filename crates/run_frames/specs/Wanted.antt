@@ -1,10 +1,11 @@
 -- The fields that the output asks for.
-use Rattle.std.specs.Prelude.{◌≡◌, ℕ, Bool, true, false, List, [], ◌∷◌, Option, Some, None, IsSome}
+use Rattle.std.specs.Prelude.{◌≡◌, ℕ, Bool, true, false, ◌||◌, List, [], ◌∷◌, Option, Some, None, IsSome}
 use Rattle.std.specs.List.{AllByRecursion as Each}
 use Rattle.pk_fields.specs.FieldSets.{is_in}
 use Rattle.pk_fields.specs.Ids.{FRAME_NUMBER, FRAME_TIME_RELATIVE, FRAME_LEN, ETH_SRC, ETH_DST, IP_SRC, IP_DST, IPV6_SRC, IPV6_DST}
 use Rattle.pk_tree.specs.Trees.{TreeShown, IsKept}
 use Rattle.dissect.specs.Followed.{asks_streams, HasSameValues}
+use Rattle.dissect.specs.Stands.{DissectorShown}
 use Rattle.cap_stats.specs.Laws.{IsKeptFor, fields_of as table_fields}
 use Rattle.cap_stats.specs.declared.kind.StatKind.{StatKind}
 use Rattle.capture_write.specs.declared.format.Format.{Format}
@@ -86,9 +87,24 @@ pub record IsToldAs (plan : Plan) (whole tree : TreeShown) : Type 0 where
   pub truth : IsSome (written_of plan) → lets plan tree ≡ lets plan whole
   pub noted : (kind : StatKind) → asks_table plan kind ≡ true → IsNotedAs plan kind whole tree
 
+-- whether something is told by more than the values of fields, where whole trees aren't shown
+abbrev pub asks_trees : Plan → Bool
+asks_trees plan = two_of plan || needs_streams plan || sums_up plan
+
+-- trees are told as the whole trees where they have the same values of these fields
+abbrev pub AreToldByValues : List ℕ → Plan → Type 0
+AreToldByValues wanted plan = (whole tree : TreeShown) → HasSameValues wanted whole tree → IsToldAs plan whole tree
+
 -- trees of these fields are told as the whole trees; streams are asked where something is told by them, and the fields of links
 -- where the frames are read twice
 pub record IsEnough (wanted : List ℕ) (plan : Plan) : Type 0 where
   pub told : (whole tree : TreeShown) → IsMadeFor wanted whole tree → IsToldAs plan whole tree
   pub streams : needs_streams plan ≡ true → asks_streams wanted ≡ true
   pub twice : two_of plan ≡ true → HasFields wanted link_fields
+
+-- a dissector is made for fields that are enough; one for values alone, where these are, nothing is told by streams behind the lines, and
+-- the frames are read once
+pub record ServesPlan (d : DissectorShown) (plan : Plan) : Type 0 where
+  pub enough : IsEnough d.wanted plan
+  pub values : d.sparing ≡ true → AreToldByValues d.wanted plan
+  pub whole : (needs_streams plan || two_of plan) ≡ true → d.sparing ≡ false

@@ -15,7 +15,7 @@ ghost use Rattle.run_frames.specs.Notes.{AreFewNotes, AreOneMore, HasNoted};
 ghost use Rattle.run_frames.specs.Tables.{asks_tables};
 ghost use Rattle.run_frames.specs.Totals.{nothing_counted};
 ghost use Rattle.run_frames.specs.Trees.{tree_of};
-ghost use Rattle.run_frames.specs.Wanted.{IsEnough, IsToldAs};
+ghost use Rattle.run_frames.specs.Wanted.{IsToldAs, ServesPlan};
 
 use crate::judge::{Judge, judge_for, verdict_of};
 use crate::later::{Later, add_links};
@@ -51,9 +51,27 @@ pub fn new_dissector(alloc: Global, plan: &Plan, wanted: FieldSet) -> Result<Dis
     ensures rules { IfOk result (λ dissector. dissector.decode.rules ≡ rules_of plan.now) }
     ensures taken { IfOk result (λ dissector. dissector.taken ≡ 0) }
     ensures captured { IfOk result (λ dissector. dissector.captured ≡ 0) }
+    ensures whole { IfOk result (λ dissector. dissector.sparing ≡ false) }
 {
     let rules = plan.decode.copy(alloc)?;
     Ok(Dissector::for_fields(alloc, DecodeAs { rules }, wanted))
+}
+
+/// As `new_dissector`, for the values of these fields alone.
+pub fn new_value_dissector(
+    alloc: Global,
+    plan: &Plan,
+    wanted: FieldSet,
+) -> Result<Dissector, NoMemory>
+    ensures stands { IfOk result (λ dissector. StandsWithin [] dissector) }
+    ensures wanted { IfOk result (λ dissector. dissector.wanted ≡ wanted) }
+    ensures rules { IfOk result (λ dissector. dissector.decode.rules ≡ rules_of plan.now) }
+    ensures taken { IfOk result (λ dissector. dissector.taken ≡ 0) }
+    ensures captured { IfOk result (λ dissector. dissector.captured ≡ 0) }
+    ensures sparing { IfOk result (λ dissector. dissector.sparing ≡ true) }
+{
+    let rules = plan.decode.copy(alloc)?;
+    Ok(Dissector::for_values(alloc, DecodeAs { rules }, wanted))
 }
 
 /// A line, with what decides whether it is shown, what writes it, what was noted so far, and what writes a capture.
@@ -236,7 +254,7 @@ fn take_frame(
     later: &Later,
     dissector: &mut Dissector,
 ) -> Result<Tree, TakeFault>
-    requires enough { IsEnough dissector.old.wanted plan.now }
+    requires serves { ServesPlan dissector.old plan.now }
     requires rules { dissector.old.decode.rules ≡ rules_of plan.now }
     requires number { frame.now.number ≡ dissector.old.taken + 1 }
     requires time { IfSome frame.now.time IsTime }
@@ -248,6 +266,7 @@ fn take_frame(
     ensures stands { OnOk result ((past : List FrameValue) → StandsWithin past dissector.old
         → StandsWithin (frame.now ∷ past) dissector.new) }
     ensures kept { dissector.new.wanted ≡ dissector.old.wanted }
+    ensures sparing { dissector.new.sparing ≡ dissector.old.sparing }
     ensures rules { dissector.new.decode ≡ dissector.old.decode }
     ensures taken { OnOk result (dissector.new.taken ≡ dissector.old.taken + 1) }
     ensures captured { OnOk result (dissector.new.captured
@@ -327,7 +346,7 @@ pub fn write_frame<O: Sink>(
     lines: &mut LineMaker<'_>,
     out: &mut O,
 ) -> Result<bool, RunFault>
-    requires enough { IsEnough dissector.old.wanted plan.now }
+    requires serves { ServesPlan dissector.old plan.now }
     requires rules { dissector.old.decode.rules ≡ rules_of plan.now }
     requires judge { lines.old.judge ≡ compiled_of plan.now }
     requires lines { lines.old.writer ≡ plan.now.fields }
@@ -338,6 +357,7 @@ pub fn write_frame<O: Sink>(
     ensures stands { OnOk result ((past : List FrameValue) → StandsWithin past dissector.old
         → StandsWithin (frame.now ∷ past) dissector.new) }
     ensures kept { dissector.new.wanted ≡ dissector.old.wanted }
+    ensures sparing { dissector.new.sparing ≡ dissector.old.sparing }
     ensures rules { dissector.new.decode ≡ dissector.old.decode }
     ensures taken { OnOk result (dissector.new.taken ≡ dissector.old.taken + 1) }
     ensures captured { OnOk result (dissector.new.captured
@@ -369,7 +389,7 @@ pub fn write_frame<O: Sink>(
         Err(TakeFault::NoMemory | TakeFault::Spent) => return Err(RunFault::NoMemory),
     };
     let written = write_told(alloc, plan, frame, &tree, lines, out);
-    give_up_tree(tree);
+    dissector.give_back(tree);
     match written {
         Ok(fit) => Ok(fit),
         Err(fault) => Err(run_fault(fault)),

@@ -19,7 +19,9 @@ mod totals;
 
 pub use compiled::Compiled;
 pub use dissect::give_up_dissector;
-pub use frames::{LineMaker, RunFault, new_dissector, new_line_maker, write_frame};
+pub use frames::{
+    LineMaker, RunFault, new_dissector, new_line_maker, new_value_dissector, write_frame,
+};
 pub use generated::Generated;
 pub use judge::Judge;
 pub use later::Later;

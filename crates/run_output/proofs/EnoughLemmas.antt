@@ -1,5 +1,5 @@
 -- Which fields are enough.
-use Rattle.std.proofs.Common.{◌≡◌, ◌==◌, ◌||◌, not, ◌<◌, ◌+◌, ℕ, suc, Bool, true, false, List, [], ◌∷◌, length, map, get_or, Option, Some, None, refl, sym, ap, ◌∙◌, subst, arith, if◌then◌else◌}
+use Rattle.std.proofs.Common.{◌≡◌, ◌==◌, ◌||◌, not, ◌<◌, ◌+◌, ℕ, suc, Bool, true, false, List, [], ◌∷◌, length, map, get_or, Option, Some, None, refl, sym, ap, ◌∙◌, subst, true≢false, arith, if◌then◌else◌}
 use Rattle.std.specs.List.{AllByRecursion as Each, fold, list_any}
 use Rattle.std.proofs.lemmas.Bool.{eq-eqb, ne_eqb}
 use Rattle.std.specs.Prelude.{cond, IsSome}
@@ -39,7 +39,8 @@ use Rattle.run_frames.specs.Tables.{asks_table, is_table_of}
 use Rattle.run_frames.specs.Trees.{lets}
 use Rattle.run_output.proofs.SummaryLemmas.{summary_same}
 use Rattle.run_frames.proofs.WantedLemmas.{first_false, second_false}
-use Rattle.run_frames.specs.Wanted.{HasAsked, HasFields, HasPlan, HasTables, IsMadeFor, IsEnough, IsNotedAs, shows_whole, shows_whole_by, summary_fields, sums_up, sums_up_by}
+use Rattle.dissect.specs.Stands.{DissectorShown}
+use Rattle.run_frames.specs.Wanted.{AreToldByValues, ServesPlan, asks_trees, HasAsked, HasFields, HasPlan, HasTables, IsMadeFor, IsEnough, IsNotedAs, shows_whole, shows_whole_by, summary_fields, sums_up, sums_up_by}
 use Rattle.second_pass.specs.Laws.{link_fields}
 
 -- a set that grows still has what an instruction and what a program asks for
@@ -128,7 +129,7 @@ line_same wanted plan Text t u same is has = absurd (cc is)
 line_same wanted plan Json t u same is has = absurd (cc is)
 line_same wanted plan Fields t u same is has = line_alike wanted plan.fields t u plan.style same has.columns
 
-shown_same : (wanted : List ℕ) (plan : Plan) (t u : TreeShown) → HasSameValues wanted t u → plan.kind ≡ Fields → HasPlan wanted plan → shown plan u ≡ shown plan t
+pub shown_same : (wanted : List ℕ) (plan : Plan) (t u : TreeShown) → HasSameValues wanted t u → plan.kind ≡ Fields → HasPlan wanted plan → shown plan u ≡ shown plan t
 shown_same wanted plan t u same is has =
     ap (λ (truth : Bool). if is_quiet plan then [] else if truth then line_of plan u else []) (satisfies_same wanted plan.chosen t u same has.filter)
     ∙ ap (λ (line : List ℕ). if is_quiet plan then [] else if lets plan t then line else []) (line_same wanted plan plan.kind t u same is has)
@@ -325,41 +326,50 @@ enough_followed wanted plan is has tables asks links = record {
   twice = links;
 }
 
-pub enough_none : (wanted : List ℕ) (plan : Plan) → (two_of plan || needs_streams plan || sums_up plan) ≡ false → plan.quiet ≡ true → stats_of plan ≡ false → written_of plan ≡ None
-    → IsEnough wanted plan
-enough_none wanted plan none_so is untold lines =
+-- where values of fields tell the trees
+pub values_none : (wanted : List ℕ) (plan : Plan) → asks_trees plan ≡ false → plan.quiet ≡ true → stats_of plan ≡ false → written_of plan ≡ None
+    → AreToldByValues wanted plan
+values_none wanted plan none_so is untold lines =
     let neither : (two_of plan || needs_streams plan) ≡ false = first_false (two_of plan || needs_streams plan) (sums_up plan) none_so in
-    let alone : two_of plan ≡ false = first_false (two_of plan) (needs_streams plan) neither in
     let not_so : needs_streams plan ≡ false = second_false (two_of plan) (needs_streams plan) neither in
-    record {
-      told = λ whole tree made. record {
-        shown = λ none. shown_quiet plan tree whole (quiet_asked plan is);
-        counted = λ totals. counted_file plan tree whole (not_generated plan not_so) (no_steps plan (judged plan.chosen tree) (judged plan.chosen whole) untold) totals;
-        truth = λ written. not_written plan lines written;
-        noted = λ kind asked. no_report plan kind not_so asked;
-      };
-      streams = not_needed plan not_so;
-      twice = not_twice plan alone;
+    λ whole tree values. record {
+      shown = λ none. shown_quiet plan tree whole (quiet_asked plan is);
+      counted = λ totals. counted_file plan tree whole (not_generated plan not_so) (no_steps plan (judged plan.chosen tree) (judged plan.chosen whole) untold) totals;
+      truth = λ written. not_written plan lines written;
+      noted = λ kind asked. no_report plan kind not_so asked;
     }
 
-pub enough_plain : (wanted : List ℕ) (plan : Plan) → shows_whole plan ≡ false → (two_of plan || needs_streams plan || sums_up plan) ≡ false → HasPlan wanted plan
-    → IsEnough wanted plan
-enough_plain wanted plan is none_so has =
+pub values_plain : (wanted : List ℕ) (plan : Plan) → shows_whole plan ≡ false → asks_trees plan ≡ false → HasPlan wanted plan
+    → AreToldByValues wanted plan
+values_plain wanted plan is none_so has =
     let neither : (two_of plan || needs_streams plan) ≡ false = first_false (two_of plan || needs_streams plan) (sums_up plan) none_so in
-    let alone : two_of plan ≡ false = first_false (two_of plan) (needs_streams plan) neither in
     let not_so : needs_streams plan ≡ false = second_false (two_of plan) (needs_streams plan) neither in
     let unsummed : sums_up plan ≡ false = second_false (two_of plan || needs_streams plan) (sums_up plan) none_so in
-    record {
-      told = λ whole tree made. record {
-        shown = λ lines. shown_asked wanted plan whole tree made.values has lines unsummed (which_lines plan lines is);
-        counted = λ totals. counted_file plan tree whole (not_generated plan not_so)
-            (ap (steps_told plan) (judged_same wanted plan.chosen whole tree made.values has.filter)) totals;
-        truth = λ written. satisfies_same wanted plan.chosen whole tree made.values has.filter;
-        noted = λ kind asked. no_report plan kind not_so asked;
-      };
-      streams = not_needed plan not_so;
-      twice = not_twice plan alone;
+    λ whole tree values. record {
+      shown = λ lines. shown_asked wanted plan whole tree values has lines unsummed (which_lines plan lines is);
+      counted = λ totals. counted_file plan tree whole (not_generated plan not_so)
+          (ap (steps_told plan) (judged_same wanted plan.chosen whole tree values has.filter)) totals;
+      truth = λ written. satisfies_same wanted plan.chosen whole tree values has.filter;
+      noted = λ kind asked. no_report plan kind not_so asked;
     }
+
+-- these are enough
+pub values_enough : (wanted : List ℕ) (plan : Plan) → asks_trees plan ≡ false → AreToldByValues wanted plan → IsEnough wanted plan
+values_enough wanted plan none_so told =
+    let neither : (two_of plan || needs_streams plan) ≡ false = first_false (two_of plan || needs_streams plan) (sums_up plan) none_so in
+    record {
+      told = λ whole tree made. told whole tree made.values;
+      streams = not_needed plan (second_false (two_of plan) (needs_streams plan) neither);
+      twice = not_twice plan (first_false (two_of plan) (needs_streams plan) neither);
+    }
+
+pub enough_none : (wanted : List ℕ) (plan : Plan) → asks_trees plan ≡ false → plan.quiet ≡ true → stats_of plan ≡ false → written_of plan ≡ None
+    → IsEnough wanted plan
+enough_none wanted plan none_so is untold lines = values_enough wanted plan none_so (values_none wanted plan none_so is untold lines)
+
+pub enough_plain : (wanted : List ℕ) (plan : Plan) → shows_whole plan ≡ false → asks_trees plan ≡ false → HasPlan wanted plan
+    → IsEnough wanted plan
+enough_plain wanted plan is none_so has = values_enough wanted plan none_so (values_plain wanted plan is none_so has)
 
 -- what they are enough for
 pub reports_need : (wanted : List ℕ) (plan : Plan) → IsEnough wanted plan → 0 < length plan.reports → asks_streams wanted ≡ true
@@ -368,3 +378,16 @@ reports_need wanted plan enough some = enough.streams (second (is_generated plan
     second : (a : Bool) (n : ℕ) → 0 < n → (a || not (n == 0)) ≡ true
     second true n some = refl
     second false n some = ap not (ne_eqb n 0 (λ none. absurd (omega (arith, some, none))))
+
+pub reports_whole : (d : DissectorShown) (plan : Plan) → ServesPlan d plan → 0 < length plan.reports → d.sparing ≡ false
+reports_whole d plan serves some = serves.whole (one_of (is_generated plan) (length plan.reports) (two_of plan) some)
+  where
+    one_of : (a : Bool) (n : ℕ) (b : Bool) → 0 < n → ((a || not (n == 0)) || b) ≡ true
+    one_of true n b some = refl
+    one_of false n b some = ap (λ (c : Bool). not c || b) (ne_eqb n 0 (λ none. absurd (omega (arith, some, none))))
+
+pub generated_streams : (d : DissectorShown) (plan : Plan) → ServesPlan d plan → is_generated plan ≡ true → asks_streams d.wanted ≡ true
+generated_streams d plan serves is = serves.enough.streams (ap (λ (b : Bool). b || not (length plan.reports == 0)) is)
+
+pub generated_whole : (d : DissectorShown) (plan : Plan) → ServesPlan d plan → is_generated plan ≡ true → d.sparing ≡ false
+generated_whole d plan serves is = serves.whole (ap (λ (b : Bool). b || not (length plan.reports == 0) || two_of plan) is)

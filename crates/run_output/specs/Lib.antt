@@ -1,5 +1,6 @@
 pub mod FilterStats
 pub mod JsonLaws
+pub mod LineLaws
 pub mod Lines
 pub mod ReportLaws
 pub mod Reports

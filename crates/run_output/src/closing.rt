@@ -9,7 +9,7 @@ ghost use Rattle.run_frames.specs.Job.{Passes, job_in};
 ghost use Rattle.run_frames.specs.Ended.{CanClose, HasTaken};
 ghost use Rattle.run_output.specs.Lines.{closing};
 ghost use Rattle.run_frames.specs.Notes.{AreNotes};
-ghost use Rattle.run_frames.specs.Wanted.{IsEnough};
+ghost use Rattle.run_frames.specs.Wanted.{ServesPlan};
 
 use crate::filter_stats::write_stats;
 use crate::reports::write_reports;
@@ -22,7 +22,7 @@ use std::alloc::Global;
 use std::mem;
 
 // Writes the reports, what is told of the program, and over a generated capture the line of what was counted.
-#[tactic(auto, using(crate::proofs::EnoughLemmas::reports_need))]
+#[tactic(auto, using(crate::proofs::EnoughLemmas::reports_need, crate::proofs::EnoughLemmas::reports_whole))]
 fn write_behind_lines<O: Sink>(
     alloc: Global,
     plan: &Plan,
@@ -30,7 +30,7 @@ fn write_behind_lines<O: Sink>(
     notes: &Notes,
     out: &mut O,
 ) -> Result<(), SinkFault>
-    requires enough { IsEnough dissector.now.wanted plan.now }
+    requires serves { ServesPlan dissector.now plan.now }
     requires taken { HasTaken dissector.now }
     requires lines { written_of plan.now ≡ None }
     ensures whole { OnOk result ((passes : Passes) (past : List FrameValue)
@@ -64,7 +64,7 @@ pub fn write_closing<O: Sink>(
     lines: &mut LineMaker<'_>,
     out: &mut O,
 ) -> Result<(), SinkFault>
-    requires enough { IsEnough dissector.now.wanted plan.now }
+    requires serves { ServesPlan dissector.now plan.now }
     requires taken { HasTaken dissector.now }
     ensures whole { OnOk result ((passes : Passes) (past : List FrameValue)
         → CanClose (written_of plan.now) (job_in plan.now passes) past

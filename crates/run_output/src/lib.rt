@@ -12,6 +12,6 @@ mod self_run;
 mod wanted;
 
 pub use closing::write_closing;
-pub use laws::{follows_stand_alone, messages_are_told_once};
+pub use laws::{follows_stand_alone, messages_are_told_once, others_lines_taken_out};
 pub use opening::opening_line;
-pub use wanted::needed_fields;
+pub use wanted::{needed_dissector, needed_fields};

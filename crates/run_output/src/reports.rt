@@ -1,5 +1,5 @@
 // The reports behind the lines of the frames.
-ghost use Rattle.std.specs.Prelude.{◌≡◌, ◌<◌, ◌≤◌, true, List, length, IfOk, IfSome, IsErrOf, OnOk};
+ghost use Rattle.std.specs.Prelude.{◌≡◌, false, ◌<◌, ◌≤◌, true, List, length, IfOk, IfSome, IsErrOf, OnOk};
 ghost use Rattle.std.specs.Io.KnownBytes.{Appends};
 ghost use Rattle.capture_read.specs.declared.frame.Frame.{Frame as FrameValue};
 ghost use Rattle.dissect.specs.Followed.{asks_streams};
@@ -95,6 +95,7 @@ fn report(
     asked: Report,
 ) -> Result<Vec<u8>, NoMemory>
     requires streams { asks_streams dissector.now.wanted ≡ true }
+    requires whole { dissector.now.sparing ≡ false }
     requires taken { HasTaken dissector.now }
     requires there { IsAsked plan.now asked }
     ensures { IfOk result (λ text. (passes : Passes) (past : List FrameValue)
@@ -123,6 +124,7 @@ fn write_report<O: Sink>(
     out: &mut O,
 ) -> Result<(), SinkFault>
     requires streams { asks_streams dissector.now.wanted ≡ true }
+    requires whole { dissector.now.sparing ≡ false }
     requires taken { HasTaken dissector.now }
     requires there { IsAsked plan.now asked }
     ensures whole { OnOk result ((passes : Passes) (past : List FrameValue)
@@ -156,6 +158,7 @@ pub(crate) fn write_reports<O: Sink>(
     out: &mut O,
 ) -> Result<(), SinkFault>
     requires streams { 0 < length reports.now → asks_streams dissector.now.wanted ≡ true }
+    requires whole { 0 < length reports.now → dissector.now.sparing ≡ false }
     requires taken { HasTaken dissector.now }
     requires there { reports.now ≡ reports_of plan.now }
     ensures whole { OnOk result ((passes : Passes) (past : List FrameValue)

@@ -1,5 +1,5 @@
 // The line over a generated capture.
-ghost use Rattle.std.specs.Prelude.{◌≡◌, ◌≤◌, true, IfOk, IsErrOf, List, OnOk, string_bytes};
+ghost use Rattle.std.specs.Prelude.{◌≡◌, false, ◌≤◌, true, IfOk, IsErrOf, List, OnOk, string_bytes};
 ghost use Rattle.std.specs.Io.KnownBytes.{Appends};
 ghost use Rattle.capture_read.specs.declared.frame.Frame.{Frame as FrameValue};
 ghost use Rattle.dissect.specs.Followed.{asks_streams};
@@ -9,7 +9,7 @@ ghost use Rattle.run_frames.specs.Job.{Job, Passes, job_in};
 ghost use Rattle.run_output.specs.Lines.{counted_line as line_counted};
 ghost use Rattle.run_frames.specs.Notes.{AreNotes};
 ghost use Rattle.run_output.specs.SelfRun.{counts_text, self_run_line as line_of_frames, totals_of};
-ghost use Rattle.run_frames.specs.Wanted.{IsEnough};
+ghost use Rattle.run_frames.specs.Wanted.{ServesPlan};
 
 use crate::owned::let_go;
 use dissect::Dissector;
@@ -37,7 +37,8 @@ fn counts_line(alloc: Global, totals: Totals, tcp: u32, udp: u32) -> Result<Stri
 
 // The line over all frames that a dissector has taken, of which these are the totals.
 fn self_run_line(alloc: Global, dissector: &Dissector, totals: Totals) -> Result<String, NoMemory>
-    requires { asks_streams dissector.now.wanted ≡ true }
+    requires streams { asks_streams dissector.now.wanted ≡ true }
+    requires whole { dissector.now.sparing ≡ false }
     ensures { IfOk result (λ line. (job : Job) (past : List FrameValue)
         → StandsWithin past dissector.now → totals ≡ totals_of job past
         → string_bytes line ≡ line_of_frames job past) }
@@ -51,14 +52,14 @@ fn self_run_line(alloc: Global, dissector: &Dissector, totals: Totals) -> Result
 }
 
 // Over a generated capture, the line of what was counted.
-#[tactic(auto, using(crate::proofs::ClosingLemmas::no_counts))]
+#[tactic(auto, using(crate::proofs::ClosingLemmas::no_counts, crate::proofs::EnoughLemmas::generated_streams, crate::proofs::EnoughLemmas::generated_whole))]
 fn counted_line(
     alloc: Global,
     plan: &Plan,
     dissector: &Dissector,
     notes: &Notes,
 ) -> Result<String, NoMemory>
-    requires { IsEnough dissector.now.wanted plan.now }
+    requires { ServesPlan dissector.now plan.now }
     ensures { IfOk result (λ line. (passes : Passes) (past : List FrameValue)
         → StandsWithin past dissector.now → AreNotes (job_in plan.now passes) past notes.now
         → string_bytes line ≡ line_counted (job_in plan.now passes) past) }
@@ -81,7 +82,7 @@ pub(crate) fn write_counts<O: Sink>(
     notes: &Notes,
     out: &mut O,
 ) -> Result<(), SinkFault>
-    requires { IsEnough dissector.now.wanted plan.now }
+    requires { ServesPlan dissector.now plan.now }
     ensures whole { OnOk result ((passes : Passes) (past : List FrameValue)
         → StandsWithin past dissector.now → AreNotes (job_in plan.now passes) past notes.now
         → Appends (O.written out.old) (O.written out.new)

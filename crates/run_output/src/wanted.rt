@@ -1,36 +1,72 @@
 // The fields that a plan asks for.
-ghost use Rattle.std.specs.Prelude.{◌≡◌, ℕ, true};
+ghost use Rattle.std.specs.Prelude.{◌≡◌, ℕ, true, false, IfOk, []};
 ghost use Rattle.cap_stats.specs.Laws.{fields_of as table_fields};
 ghost use Rattle.pk_fields.specs.FieldSets.{is_in};
 ghost use Rattle.second_pass.specs.Laws.{link_fields};
-ghost use Rattle.run_frames.specs.Accessors.{needs_streams as are_streams_needed, two_of};
+ghost use Rattle.dissect.specs.Stands.{StandsWithin};
+ghost use Rattle.run_frames.specs.Accessors.{needs_streams as are_streams_needed, rules_of, two_of};
 ghost use Rattle.run_frames.specs.Tables.{asks_table};
-ghost use Rattle.run_frames.specs.Wanted.{HasAsked, HasFields, HasPlan, HasTables, IsEnough, shows_whole, summary_fields, sums_up as are_summed_up};
+ghost use Rattle.run_frames.specs.Wanted.{AreToldByValues, HasAsked, HasFields, HasPlan, HasTables, IsEnough, ServesPlan, asks_trees, shows_whole, summary_fields, sums_up as are_summed_up};
 ghost use Rattle.dissect.specs.Followed.{asks_streams};
 
 use cap_stats::StatKind;
+use dissect::Dissector;
 use flt_typing::add_fields;
+use pk_base::NoMemory;
 use pk_fields::{FieldId, FieldSet, ids};
-use run_frames::{Compiled, Plan, asks_table};
+use run_frames::{Compiled, Plan, asks_table, new_dissector, new_value_dissector};
 use shark_words::LineKind;
+use std::alloc::Global;
 
 /// The fields that the output is made from: all for lines of JSON, else those of the filter, of the lines and of the tables, what
 /// tells of streams where the names of all protocols are shown or something is asked for behind the lines, and the fields of links
 /// where the frames are read twice.
-#[tactic(auto, using(crate::proofs::EnoughLemmas::enough_all, crate::proofs::EnoughLemmas::enough_followed, crate::proofs::EnoughLemmas::enough_none, crate::proofs::EnoughLemmas::enough_plain))]
+#[tactic(auto, using(crate::proofs::EnoughLemmas::enough_all, crate::proofs::EnoughLemmas::enough_followed, crate::proofs::EnoughLemmas::values_enough))]
 pub fn needed_fields(plan: &Plan) -> FieldSet
     ensures { IsEnough result plan.now }
 {
     if shows_trees(plan) {
         return FieldSet::all();
     }
-    if plan.two || needs_streams(plan) || sums_up(plan) {
+    if needs_trees(plan) {
         return followed_fields(plan);
     }
+    valued_fields(plan)
+}
+
+/// A dissector for these fields; where their values tell all, it keeps no more than these need.
+#[tactic(auto, using(run_frames::proofs::WantedLemmas::serves_trees, run_frames::proofs::WantedLemmas::serves_values, crate::proofs::EnoughLemmas::values_enough))]
+pub fn needed_dissector(alloc: Global, plan: &Plan) -> Result<Dissector, NoMemory>
+    ensures serves { IfOk result (λ dissector. ServesPlan dissector plan.now) }
+    ensures stands { IfOk result (λ dissector. StandsWithin [] dissector) }
+    ensures rules { IfOk result (λ dissector. dissector.decode.rules ≡ rules_of plan.now) }
+    ensures taken { IfOk result (λ dissector. dissector.taken ≡ 0) }
+    ensures captured { IfOk result (λ dissector. dissector.captured ≡ 0) }
+{
+    if shows_trees(plan) || needs_trees(plan) {
+        return new_dissector(alloc, plan, needed_fields(plan));
+    }
+    new_value_dissector(alloc, plan, valued_fields(plan))
+}
+
+// The fields whose values the output is made from, where these are all that is needed.
+#[tactic(auto, using(crate::proofs::EnoughLemmas::values_none, crate::proofs::EnoughLemmas::values_plain))]
+fn valued_fields(plan: &Plan) -> FieldSet
+    requires unshown { shows_whole plan.now ≡ false }
+    requires values { asks_trees plan.now ≡ false }
+    ensures { AreToldByValues result plan.now }
+{
     if plan.quiet && !plan.stats && plan.written.is_none() {
         return FieldSet::none();
     }
     wanted_fields(plan)
+}
+
+// Whether something is told by more than the values of the wanted fields.
+fn needs_trees(plan: &Plan) -> bool
+    ensures { result ≡ asks_trees plan.now }
+{
+    plan.two || needs_streams(plan) || sums_up(plan)
 }
 
 // Whether whole trees are shown.

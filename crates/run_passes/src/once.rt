@@ -12,7 +12,7 @@ ghost use Rattle.run_frames.specs.Ended.{HasTaken};
 ghost use Rattle.run_frames.specs.Steps.{KeepsUp};
 ghost use Rattle.run_passes.specs.Passed.{AreCutOff, AreEndNear, AreRead, HaveBegun, HavePassed, IsCalm, IsCaused, IsReadOn};
 ghost use Rattle.run_frames.specs.Notes.{AreFewNotes};
-ghost use Rattle.run_frames.specs.Wanted.{IsEnough};
+ghost use Rattle.run_frames.specs.Wanted.{ServesPlan};
 
 use crate::owned::{give_up_frame, give_up_reader};
 use capture_read::{Ending, FrameReader, NextFrame, ReadError};
@@ -50,7 +50,7 @@ fn write_each<C: Capture, O: Sink>(
     capture: &mut C,
     out: &mut O,
 ) -> Result<RunEnding, RunFault>
-    requires enough { IsEnough dissector.old.wanted plan.now }
+    requires serves { ServesPlan dissector.old plan.now }
     requires rules { dissector.old.decode.rules ≡ rules_of plan.now }
     requires judge { lines.old.judge ≡ compiled_of plan.now }
     requires lines { lines.old.writer ≡ plan.now.fields }
@@ -68,7 +68,7 @@ fn write_each<C: Capture, O: Sink>(
         (C.left capture.old) (O.written out.old) (O.written out.new)) }
     ensures read { OnOk result (AreRead plan.now (C.left capture.old)
         dissector.new lines.new.notes lines.new.capture) }
-    ensures enough { OnOk result (IsEnough dissector.new.wanted plan.now) }
+    ensures serves { OnOk result (ServesPlan dissector.new plan.now) }
     ensures taken { OnOk result (HasTaken dissector.new) }
     ensures full { IfOk result (AreEndNear plan.now (C.left capture.old) (C.left capture.new)) }
     ensures part { HaveBegun plan.now (C.left capture.old) (O.written out.old) (O.written out.new) }
@@ -118,7 +118,7 @@ pub fn write_rest<C: Capture, O: Sink>(
     capture: &mut C,
     out: &mut O,
 ) -> Result<RunEnding, RunFault>
-    requires enough { IsEnough dissector.old.wanted plan.now }
+    requires serves { ServesPlan dissector.old plan.now }
     requires rules { dissector.old.decode.rules ≡ rules_of plan.now }
     requires judge { lines.old.judge ≡ compiled_of plan.now }
     requires lines { lines.old.writer ≡ plan.now.fields }
@@ -134,7 +134,7 @@ pub fn write_rest<C: Capture, O: Sink>(
         (C.left capture.old) (O.written out.old) (O.written out.new)) }
     ensures read { OnOk result (AreRead plan.now (C.left capture.old)
         dissector.new lines.new.notes lines.new.capture) }
-    ensures enough { OnOk result (IsEnough dissector.new.wanted plan.now) }
+    ensures serves { OnOk result (ServesPlan dissector.new plan.now) }
     ensures taken { OnOk result (HasTaken dissector.new) }
     ensures full { IfOk result (AreEndNear plan.now (C.left capture.old) (C.left capture.new)) }
     ensures part { HaveBegun plan.now (C.left capture.old) (O.written out.old) (O.written out.new) }

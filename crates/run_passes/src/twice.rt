@@ -1,6 +1,6 @@
 // Keeping the frames of a file, and going over them twice: the first time for what later frames bring, the second time for what is
 // written.
-ghost use Rattle.std.specs.Prelude.{◌≡◌, true, ◌≤◌, ◌<◌, ℕ, suc, List, [], Some, IfErr, IfOk, OnOk, map, reverse};
+ghost use Rattle.std.specs.Prelude.{◌≡◌, false, true, ◌≤◌, ◌<◌, ℕ, suc, List, [], Some, IfErr, IfOk, OnOk, map, reverse};
 ghost use Rattle.pk_base.specs.Limits.{file_limit as limit_of_file};
 ghost use Rattle.capture_read.specs.Reader.{StandsFor};
 ghost use Rattle.capture_read.specs.Taken.{TookAtMost};
@@ -17,7 +17,7 @@ ghost use Rattle.run_passes.specs.Passed.{AreFewer, AreFullNear, AreKept, HaveBe
 ghost use Rattle.run_frames.specs.Steps.{KeepsUp};
 ghost use Rattle.run_passes.specs.Takeable.{AreTakeable};
 ghost use Rattle.run_frames.specs.Notes.{AreFewNotes};
-ghost use Rattle.run_frames.specs.Wanted.{IsEnough};
+ghost use Rattle.run_frames.specs.Wanted.{IsEnough, ServesPlan};
 
 use crate::once::{is_full, one_less};
 use crate::owned::{give_up_links, give_up_reader};
@@ -117,6 +117,7 @@ pub fn keep_frames<C: Capture>(
 // Notes the trees of frames, of which only the wanted fields are read, for their links to later ones.
 fn note_all(frames: &[Frame], dissector: &mut Dissector, links: &mut Links) -> Result<(), NoMemory>
     requires streams { asks_streams dissector.old.wanted ≡ true }
+    requires whole { dissector.old.sparing ≡ false }
     requires stands { StandsWithin [] dissector.old }
     requires taken { dissector.old.taken ≡ 0 }
     requires captured { dissector.old.captured ≡ 0 }
@@ -180,7 +181,7 @@ pub fn write_kept<O: Sink>(
     lines: &mut LineMaker<'_>,
     out: &mut O,
 ) -> Result<RunEnding, RunFault>
-    requires enough { IsEnough dissector.old.wanted plan.now }
+    requires serves { ServesPlan dissector.old plan.now }
     requires rules { dissector.old.decode.rules ≡ rules_of plan.now }
     requires judge { lines.old.judge ≡ compiled_of plan.now }
     requires lines { lines.old.writer ≡ plan.now.fields }
@@ -200,7 +201,7 @@ pub fn write_kept<O: Sink>(
         → CanClose (written_of plan.now) (job_in plan.now passes)
         (reverse (kept_read plan.now passes kept.now.frames kept.now.ending).frames)
         dissector.new lines.new.notes lines.new.capture) }
-    ensures enough { OnOk result (IsEnough dissector.new.wanted plan.now) }
+    ensures serves { OnOk result (ServesPlan dissector.new plan.now) }
     ensures taken { OnOk result (HasTaken dissector.new) }
     ensures part { (passes : Passes)
         → ServesKept dissector.old.wanted (two_of plan.now) passes later.now

@@ -11,7 +11,7 @@ ghost use Rattle.run_frames.specs.Steps.{KeepsUp};
 ghost use Rattle.run_output.specs.Lines.{opening};
 ghost use Rattle.run_passes.specs.Passed.{AreEndNear, IsCalm, IsCaused, IsReadOn, IsWriteCaused};
 ghost use Rattle.run_frames.specs.Notes.{AreFewNotes};
-ghost use Rattle.run_frames.specs.Wanted.{IsEnough};
+ghost use Rattle.run_frames.specs.Wanted.{ServesPlan};
 ghost use Rattle.shark_run.specs.Way.{IsBodyCutOff, IsCutOff};
 ghost use Rattle.shark_run.specs.Wrote.{HaveAll, HaveBody, HavePart, HaveSomeBody};
 
@@ -22,10 +22,9 @@ use dissect::Dissector;
 use pk_base::NoMemory;
 use pk_outside::{Capture, Sink, write_whole};
 use run_frames::{
-    LineMaker, Plan, RunEnding, RunFault, give_up_dissector, give_up_lines, new_dissector,
-    new_line_maker,
+    LineMaker, Plan, RunEnding, RunFault, give_up_dissector, give_up_lines, new_line_maker,
 };
-use run_output::{needed_fields, opening_line, write_closing};
+use run_output::{needed_dissector, opening_line, write_closing};
 use run_passes::write_rest;
 use std::alloc::Global;
 
@@ -38,7 +37,7 @@ fn write_body<C: Capture, O: Sink>(
     capture: &mut C,
     out: &mut O,
 ) -> Result<RunEnding, RunFault>
-    requires enough { IsEnough dissector.old.wanted plan.now }
+    requires serves { ServesPlan dissector.old plan.now }
     requires rules { dissector.old.decode.rules ≡ rules_of plan.now }
     requires judge { lines.old.judge ≡ compiled_of plan.now }
     requires lines { lines.old.writer ≡ plan.now.fields }
@@ -101,7 +100,7 @@ fn write_once<C: Capture, O: Sink>(
         Ok(lines) => lines,
         Err(NoMemory) => return Err(RunFault::NoMemory),
     };
-    let mut dissector = match new_dissector(alloc, plan, needed_fields(plan)) {
+    let mut dissector = match needed_dissector(alloc, plan) {
         Ok(dissector) => dissector,
         Err(NoMemory) => {
             give_up_lines(lines);

@@ -11,7 +11,7 @@ ghost use Rattle.run_passes.specs.Passed.{AreEndNear, IsCalm, IsCaused, IsReadOn
 ghost use Rattle.run_passes.specs.Reading.{read_of};
 ghost use Rattle.run_frames.specs.Steps.{KeepsUp};
 ghost use Rattle.run_passes.specs.Takeable.{AreTakeable};
-ghost use Rattle.run_frames.specs.Wanted.{IsEnough};
+ghost use Rattle.run_frames.specs.Wanted.{IsEnough, ServesPlan};
 ghost use Rattle.shark_run.specs.Way.{IsBodyCutOff};
 ghost use Rattle.shark_run.specs.Wrote.{HaveBody, HaveKeptBody, HaveSomeBody, HaveSomeKeptBody, WroteBody, WroteSomeBody};
 
@@ -38,7 +38,7 @@ fn write_kept_body<O: Sink>(
     lines: &mut LineMaker<'_>,
     out: &mut O,
 ) -> Result<RunEnding, RunFault>
-    requires enough { IsEnough dissector.old.wanted plan.now }
+    requires serves { ServesPlan dissector.old plan.now }
     requires rules { dissector.old.decode.rules ≡ rules_of plan.now }
     requires judge { lines.old.judge ≡ compiled_of plan.now }
     requires lines { lines.old.writer ≡ plan.now.fields }
@@ -72,6 +72,7 @@ fn write_kept_body<O: Sink>(
 }
 
 // Goes over kept frames with what is known of later ones, and writes what stands behind the opening.
+#[tactic(auto, using(run_frames::proofs::WantedLemmas::serves_trees))]
 fn write_known<O: Sink>(
     alloc: Global,
     plan: &Plan,

@@ -3,5 +3,5 @@ use Rattle.run_frames.proofs.frames.take_frame.Goals as goal
 
 pub returns-in-Ok-add_links-clause-told : goal.returns-in-Ok-add_links-clause-told
 returns-in-Ok-add_links-clause-told c = λ passes past serves stands.
-    frame_told passes c.args.later.now c.args.dissector.now.wanted c.args.plan.now c.args.dissector.now.decode.rules past c.args.frame.now c.in-Ok.tree c.add_links.new.tree
-    serves c.requires.enough c.requires.rules (c.in-Ok.ensures.values past stands) (λ asks. c.in-Ok.ensures.tree asks past stands) c.in-Ok-add_links.ensures
+    frame_told passes c.args.later.now c.args.dissector.now c.args.plan.now c.args.dissector.now.decode.rules past c.args.frame.now c.in-Ok.tree c.add_links.new.tree
+    serves c.requires.serves c.requires.rules (c.in-Ok.ensures.values past stands) (λ asks whole. c.in-Ok.ensures.tree asks whole past stands) c.in-Ok-add_links.ensures

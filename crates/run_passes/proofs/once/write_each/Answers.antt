@@ -10,7 +10,7 @@ use Rattle.run_frames.proofs.CalmLemmas.{calm_err, calm_ok}
 use Rattle.run_frames.proofs.NoteLemmas.{notes_few, notes_few_after}
 use Rattle.run_passes.proofs.WayLemmas.{way_begun, way_further, way_stopped, way_full, read_full, full_near, way_ended, read_ended, ended_near, end_near, end_unfit, way_unread, way_unfit, read_unfit, broken_part, broken_near, way_took, serves_once}
 use Rattle.run_frames.specs.Job.{One}
-use Rattle.run_frames.specs.Wanted.{IsEnough}
+use Rattle.run_frames.proofs.WantedLemmas.{serves_on}
 use Rattle.run_passes.proofs.once.write_each.Goals as goal
 
 pub loop-alloc-init : goal.loop-alloc-init
@@ -24,7 +24,7 @@ loop-alloc-init g c =
         limit = omega (arith, c.requires.at);
       };
       took = took_none (suc file_limit) (g.C.Capture.left c.args.capture.now) (g.C.Capture.left c.args.capture.now) refl;
-      wanted = c.requires.enough;
+      serves = c.requires.serves;
       rules = c.requires.rules;
       stands = ([], c.requires.stands);
       judge = c.requires.judge;
@@ -128,7 +128,7 @@ loop-alloc-preserved g c =
       way = rw c.one_less-most.ensures (way_further c.args.plan.now c.loop-alloc.most (g.C.Capture.left c.args.capture.now) c.loop-alloc.reader c.next_frame.new.self (g.C.Capture.left c.loop-alloc.capture) (g.C.Capture.left c.next_frame.new.capture) c.loop-alloc.dissector c.write_frame-written.new.dissector c.loop-alloc.lines.notes c.write_frame-written.new.lines.notes c.loop-alloc.lines.capture c.write_frame-written.new.lines.capture (g.O.Sink.written c.args.out.now) (g.O.Sink.written c.loop-alloc.out) (g.O.Sink.written c.write_frame-written.new.out) c.in-Ok-Frame.frame (c.is_full.ensures.more c.if-is_full.false) c.loop-alloc.invariant.way (rw c.in-Ok-Frame.field-0-is at c.in-Ok-Frame.ensures.answers) c.in-Ok-true.ensures.stands (λ past. (rw c.in-Ok-true.field-0-test at c.in-Ok-true.ensures.after) One past (serves_once c.args.plan.now c.requires.alone)));
       together = together_after c.loop-alloc.reader.state c.next_frame.new.self.state c.loop-alloc.dissector c.write_frame-written.new.dissector c.in-Ok-Frame.frame c.loop-alloc.invariant.together (rw c.in-Ok-Frame.field-0-is at c.in-Ok-Frame.ensures.counts) c.next_frame.ensures.limit c.in-Ok-true.ensures.taken c.in-Ok-true.ensures.captured;
       took = way_took c.args.plan.now c.loop-alloc.most (g.C.Capture.left c.args.capture.now) c.loop-alloc.reader (g.C.Capture.left c.loop-alloc.capture) (g.C.Capture.left c.next_frame.new.capture) c.loop-alloc.dissector c.loop-alloc.lines.notes c.loop-alloc.lines.capture (g.O.Sink.written c.args.out.now) (g.O.Sink.written c.loop-alloc.out) c.loop-alloc.invariant.way c.next_frame.ensures.took;
-      wanted = subst (λ (fields : List ℕ). IsEnough fields c.args.plan.now) (sym c.write_frame-written.ensures.kept) c.loop-alloc.invariant.wanted;
+      serves = serves_on c.loop-alloc.dissector c.write_frame-written.new.dissector c.args.plan.now c.write_frame-written.ensures.kept c.write_frame-written.ensures.sparing c.loop-alloc.invariant.serves;
       rules = ap (λ (decode : DecodeAs). decode.rules) c.write_frame-written.ensures.rules ∙ c.loop-alloc.invariant.rules;
       stands = (c.in-Ok-Frame.frame ∷ c.loop-alloc.invariant.stands.0, c.in-Ok-true.ensures.stands c.loop-alloc.invariant.stands.0 c.loop-alloc.invariant.stands.1);
       judge = c.write_frame-written.ensures.judge ∙ c.loop-alloc.invariant.judge;
@@ -232,8 +232,8 @@ returns-in-Ok-false-clause-calm g c = record {
   writes = calm_ok _ _ _ _ c.in-Ok-false.ensures.calm ∙ c.loop-alloc.invariant.calm.writes;
 }
 
-pub returns-in-Ok-false-clause-enough : goal.returns-in-Ok-false-clause-enough
-returns-in-Ok-false-clause-enough g c = subst (λ (fields : List ℕ). IsEnough fields c.args.plan.now) (sym c.write_frame-written.ensures.kept) c.loop-alloc.invariant.wanted
+pub returns-in-Ok-false-clause-serves : goal.returns-in-Ok-false-clause-serves
+returns-in-Ok-false-clause-serves g c = serves_on c.loop-alloc.dissector c.write_frame-written.new.dissector c.args.plan.now c.write_frame-written.ensures.kept c.write_frame-written.ensures.sparing c.loop-alloc.invariant.serves
 
 pub returns-in-Err-Spent-clause-part : goal.returns-in-Err-Spent-clause-part
 returns-in-Err-Spent-clause-part g c =

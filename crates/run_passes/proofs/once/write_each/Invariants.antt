@@ -9,7 +9,7 @@ use Rattle.run_frames.specs.Notes.{AreFewNotes}
 use Rattle.run_passes.specs.Passed.{IsCalm, IsReadOn}
 use Rattle.run_passes.proofs.Together.{AreTogether}
 use Rattle.run_passes.proofs.WayLemmas.{AreOnTheWay}
-use Rattle.run_frames.specs.Wanted.{IsEnough}
+use Rattle.run_frames.specs.Wanted.{ServesPlan}
 use Rattle.run_passes.proofs.once.write_each.Given as goal
 
 abbrev pub invariant-loop-alloc : goal.invariant-loop-alloc
@@ -17,7 +17,7 @@ invariant-loop-alloc g l = record {
   way : AreOnTheWay l.plan l.most (g.C.Capture.left l.fn.capture) l.reader (g.C.Capture.left l.capture) l.dissector l.lines.notes l.lines.capture (g.O.Sink.written l.fn.out) (g.O.Sink.written l.out);
   together : AreTogether l.reader.state l.dissector;
   took : TookAtMost (suc file_limit) (g.C.Capture.left l.fn.capture) (g.C.Capture.left l.capture);
-  wanted : IsEnough l.dissector.wanted l.plan;
+  serves : ServesPlan l.dissector l.plan;
   rules : l.dissector.decode.rules ≡ rules_of l.plan;
   stands : (past : List Frame) × StandsWithin past l.dissector;
   judge : l.lines.judge ≡ compiled_of l.plan;

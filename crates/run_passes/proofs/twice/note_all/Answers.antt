@@ -16,6 +16,7 @@ loop-left-init c = record {
   noted = c.requires.noted;
   rules = refl;
   wanted = refl;
+  whole = c.requires.whole;
   takeable = takeable_begun c.args.dissector.now.taken c.args.dissector.now.captured c.args.frames.now c.requires.taken c.requires.captured c.requires.takeable;
 }
 
@@ -39,10 +40,11 @@ loop-left-preserved c = record {
   noted = noted_more c.args.dissector.now.decode.rules c.loop-left.invariant.past c.frame-item.result c.in-Ok.tree c.args.dissector.now.wanted c.note-noted.new.self
       (subst (λ (decode : DecodeAs). IsKept c.args.dissector.now.wanted (tree_at decode.rules c.loop-left.invariant.past c.frame-item.result) c.in-Ok.tree) c.loop-left.invariant.rules
       (subst (λ (fields : List ℕ). IsKept fields (tree_at c.loop-left.dissector.decode.rules c.loop-left.invariant.past c.frame-item.result) c.in-Ok.tree) c.loop-left.invariant.wanted
-      (c.in-Ok.ensures.tree (ap asks_streams c.loop-left.invariant.wanted ∙ c.requires.streams) c.loop-left.invariant.past c.loop-left.invariant.stands)))
+      (c.in-Ok.ensures.tree (ap asks_streams c.loop-left.invariant.wanted ∙ c.requires.streams) c.loop-left.invariant.whole c.loop-left.invariant.past c.loop-left.invariant.stands)))
       (c.in-Ok-noted.ensures.stands (map (kept_noted c.args.dissector.now.wanted) (noted_of c.args.dissector.now.decode.rules c.loop-left.invariant.past)) c.loop-left.invariant.noted);
   rules = c.take_wanted.ensures.rules ∙ c.loop-left.invariant.rules;
   wanted = c.take_wanted.ensures.wanted ∙ c.loop-left.invariant.wanted;
+  whole = c.take_wanted.ensures.sparing ∙ c.loop-left.invariant.whole;
   takeable = takeable_after c.loop-left.dissector.taken c.loop-left.dissector.captured c.take_wanted.new.self.taken c.take_wanted.new.self.captured c.frame-item.result (take (length c.loop-left.left.now - 1) (drop 1 c.loop-left.left.now))
       (first_takeable c.loop-left.dissector.taken c.loop-left.dissector.captured c.loop-left.left.now c.frame-item.result c.frame-item.is c.in-len1-up.len_at_least c.loop-left.invariant.takeable)
       c.in-Ok.ensures.counted.0 c.in-Ok.ensures.counted.1;

@@ -1,4 +1,4 @@
-use Rattle.std.proofs.Common.{◌≡◌, List, length, map, ◌++◌, reverse}
+use Rattle.std.proofs.Common.{◌≡◌, false, List, length, map, ◌++◌, reverse}
 use Rattle.capture_read.specs.declared.frame.Frame.{Frame}
 use Rattle.dissect.specs.Stands.{StandsWithin}
 use Rattle.second_pass.specs.Laws.{kept_noted}
@@ -15,6 +15,7 @@ invariant-loop-left l = record {
   noted : Stands (map (kept_noted l.fn.dissector.wanted) (noted_of l.fn.dissector.decode.rules past)) l.links;
   rules : l.dissector.decode ≡ l.fn.dissector.decode;
   wanted : l.dissector.wanted ≡ l.fn.dissector.wanted;
+  whole : l.dissector.sparing ≡ false;
   takeable : AreTakeable l.dissector.taken l.dissector.captured l.left;
 }
 

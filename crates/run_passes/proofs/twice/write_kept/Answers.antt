@@ -4,7 +4,7 @@ use Rattle.pk_outside.proofs.Parts.{part_whole}
 use Rattle.run_frames.specs.Fitting.{fitting}
 use Rattle.run_frames.specs.Job.{job_in}
 use Rattle.run_frames.specs.Pieces.{pieces}
-use Rattle.run_frames.specs.Wanted.{IsEnough}
+use Rattle.run_frames.proofs.WantedLemmas.{serves_on}
 use Rattle.run_frames.specs.declared.frames.RunFault.TheVariants.{WriteFault}
 use Rattle.run_frames.proofs.CalmLemmas.{calm_err, calm_ok}
 use Rattle.run_frames.proofs.NoteLemmas.{notes_few, notes_few_after}
@@ -20,7 +20,7 @@ loop-left-init g c = record {
   way = λ passes serves. through_begun (job_in c.args.plan.now passes) c.args.lines.now.notes c.args.lines.now.capture (g.O.Sink.written c.args.out.now) (c.requires.keeps passes);
   takeable = takeable_begun c.args.dissector.now.taken c.args.dissector.now.captured c.slice-left.result.now c.requires.taken c.requires.captured (rw c.slice-left.ensures c.requires.takeable);
   taken = omega (arith, c.requires.taken);
-  wanted = c.requires.enough;
+  serves = c.requires.serves;
   same = refl;
   rules = c.requires.rules;
   judge = c.requires.judge;
@@ -76,8 +76,8 @@ returns-in-Ok-false-clause-read g c = λ passes serves.
     (c.loop-left.invariant.way passes serves)
     ((rw c.in-Ok-false.field-0-test at c.in-Ok-false.ensures.after) passes c.loop-left.invariant.past (serves_still c.args.dissector.now.wanted c.loop-left.dissector.wanted c.args.plan.now passes c.args.later.now c.loop-left.invariant.same serves) c.loop-left.invariant.stands (c.loop-left.invariant.way passes serves).keeps)
 
-pub returns-in-Ok-false-clause-enough : goal.returns-in-Ok-false-clause-enough
-returns-in-Ok-false-clause-enough g c = subst (λ (fields : List ℕ). IsEnough fields c.args.plan.now) (sym c.write_frame.ensures.kept) c.loop-left.invariant.wanted
+pub returns-in-Ok-false-clause-serves : goal.returns-in-Ok-false-clause-serves
+returns-in-Ok-false-clause-serves g c = serves_on c.loop-left.dissector c.write_frame.new.dissector c.args.plan.now c.write_frame.ensures.kept c.write_frame.ensures.sparing c.loop-left.invariant.serves
 
 pub returns-in-Ok-false-clause-taken : goal.returns-in-Ok-false-clause-taken
 returns-in-Ok-false-clause-taken g c = (
@@ -100,7 +100,7 @@ loop-left-preserved g c =
       takeable = takeable_after c.loop-left.dissector.taken c.loop-left.dissector.captured c.write_frame.new.dissector.taken c.write_frame.new.dissector.captured c.frame-item.result (take (length c.loop-left.left.now - 1) (drop 1 c.loop-left.left.now))
           able c.in-Ok-true.ensures.taken c.in-Ok-true.ensures.captured;
       taken = omega (arith, c.in-Ok-true.ensures.taken, able.0.few);
-      wanted = subst (λ (fields : List ℕ). IsEnough fields c.args.plan.now) (sym c.write_frame.ensures.kept) c.loop-left.invariant.wanted;
+      serves = serves_on c.loop-left.dissector c.write_frame.new.dissector c.args.plan.now c.write_frame.ensures.kept c.write_frame.ensures.sparing c.loop-left.invariant.serves;
       same = c.write_frame.ensures.kept ∙ c.loop-left.invariant.same;
       rules = ap (λ (decode : DecodeAs). decode.rules) c.write_frame.ensures.rules ∙ c.loop-left.invariant.rules;
       judge = c.write_frame.ensures.judge ∙ c.loop-left.invariant.judge;

@@ -7,7 +7,7 @@ use Rattle.run_frames.specs.Job.{Passes, job_in}
 use Rattle.run_frames.specs.Later.{ServesKept}
 use Rattle.run_frames.specs.Notes.{AreFewNotes}
 use Rattle.run_passes.specs.Takeable.{AreTakeable}
-use Rattle.run_frames.specs.Wanted.{IsEnough}
+use Rattle.run_frames.specs.Wanted.{ServesPlan}
 use Rattle.run_passes.proofs.TwiceLemmas.{IsThrough}
 use Rattle.run_passes.proofs.twice.write_kept.Given as goal
 
@@ -19,7 +19,7 @@ invariant-loop-left g l = record {
   way : (passes : Passes) → ServesKept l.fn.dissector.wanted (two_of l.plan) passes l.later → IsThrough (job_in l.plan passes) past l.lines.notes l.lines.capture (g.O.Sink.written l.fn.out) (g.O.Sink.written l.out);
   takeable : AreTakeable l.dissector.taken l.dissector.captured l.left;
   taken : l.dissector.taken ≤ file_limit;
-  wanted : IsEnough l.dissector.wanted l.plan;
+  serves : ServesPlan l.dissector l.plan;
   same : l.dissector.wanted ≡ l.fn.dissector.wanted;
   rules : l.dissector.decode.rules ≡ rules_of l.plan;
   judge : l.lines.judge ≡ compiled_of l.plan;

@@ -16,8 +16,8 @@ returns-in-Err g c = record {
   stays = record { asked = refl; begun = refl; missed = refl };
 }
 
-pub returns-in-Err-new_dissector : goal.returns-in-Err-new_dissector
-returns-in-Err-new_dissector g c = record {
+pub returns-in-Err-needed_dissector : goal.returns-in-Err-needed_dissector
+returns-in-Err-needed_dissector g c = record {
   ended = tt;
   full = tt;
   part = none_body c.args.plan.now (g.C.Capture.left c.args.capture.now) (g.O.Sink.written c.args.out.now);
