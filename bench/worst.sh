@@ -1,42 +1,59 @@
 #!/usr/bin/env bash
-# Captures of ten megabytes that are made to cost much: processor seconds and peak memory of bin/shark as JSON (which asks for all), each
-# beside ordinary traffic of the same size. Then filters that are made to cost much, over the ordinary traffic.
+# Captures that are made to cost much (bench/make_worst.py --list), one for each loop that a file's bytes decide: instructions for
+# each byte of the capture (valgrind's, or microseconds where it isn't installed), how these grow for a capture of twice the size
+# (1 is linear), and peak memory for that one.
+#
+#   bench/worst.sh [WORD]    the kinds alone that WORD names
+#   SHARK=PROGRAM            in place of bin/shark
+#   BYTES=NUMBER             of the smaller capture, 500000
+#
+# A row ends in MUCH where a byte of the capture costs more than 150 instructions, and in GROWS where twice the size costs more than
+# 2.2 times as much.
 set -eu
 cd "$(dirname "$0")/.."
-[ -x bin/shark ] || ./build
+program=${SHARK:-bin/shark}
+[ -x "$program" ] || ./build
 . bench/measure.sh
-mkdir -p bench/out
-base=
+bytes=${BYTES:-500000}
+folder=$(mktemp -d)
+trap 'rm -rf "$folder"' EXIT
+unit=instructions
+command -v valgrind >/dev/null || unit=microseconds
 
-measure() { # NAME CAPTURE WORDS..
-  local name=$1 capture=$2 row
-  shift 2
-  measure_row shark 10 bin/shark -r "$capture" "$@" || return 0
-  set -- $row
-  [ -n "$base" ] || base=$1
-  printf '%-10s cpu %7s s  %5s times ordinary traffic  peak %6s MB\n' "$name" "$1" "$(python3 -c "print(f'{$1 / $base:.1f}')")" "$4"
+cost() { # CAPTURE WORDS..
+  local capture=$1 row cpu
+  shift
+  if [ $unit = instructions ]; then
+    valgrind --tool=callgrind --callgrind-out-file=/dev/null "$program" -r "$capture" "$@" 2>&1 >/dev/null | sed -n 's/.*Collected : //p'
+  else
+    measure_row shark 1 "$program" -r "$capture" "$@"
+    read -r cpu _ <<<"$row"
+    python3 -c "print(round($cpu * 1e6))"
+  fi
 }
 
-for kind in ordinary headers options chains pointers empty pads lone streams falling overlaps payloads names heads chunks fields texts answers; do
-  capture=bench/out/worst.$kind.pcap
-  [ -f "$capture" ] || python3 bench/make_worst.py "$capture" "$kind"
-  measure "$kind" "$capture" -T json
-done
+# What the start costs, which is taken off.
+python3 bench/make_worst.py "$folder/none" tiny 0
+start=$(cost "$folder/none" -T fields -e frame.number)
 
-echo "Filters, beside frame.number == 1"
-base=
-ordinary=bench/out/worst.ordinary.pcap
-brackets=$(python3 -c "print('(' * 64 + 'frame.len == 1' + ')' * 64)")
-members=$(python3 -c "print('tcp.srcport in {' + ', '.join(str(60000 + n) for n in range(580)) + '}')")
-chain=$(python3 -c "print(' or '.join('frame.len==%d' % n for n in range(200)))")
-for filter in 'frame.number == 1' "$brackets" "$members" "$chain" 'tcp.payload matches "(.*)(.*)(.*)(.*)x"' 'tcp.payload matches "([a-z]+)*0"'; do
-  measure "${filter:0:10}" "$ordinary" -T fields -e frame.number -Y "$filter"
-done
-
-echo "Two operands with many values in a frame, beside a field alone"
-for filter in 'dns.txt' 'dns.txt > dns.txt' 'dns.txt == dns.qry.name' 'dns.txt != dns.txt' 'all dns.txt contains dns.txt' 'lower(dns.txt) contains upper(dns.txt)'; do
-  measure "${filter:0:16}" bench/out/worst.texts.pcap -T fields -e frame.number -Y "$filter"
-done
-for filter in 'dns.resp.type' 'dns.resp.type > dns.resp.class' 'dns.resp.type == dns.resp.class' 'dns.resp.type != dns.resp.class'; do
-  measure "${filter:0:32}" bench/out/worst.answers.pcap -T fields -e frame.number -Y "$filter"
+printf '%-12s %7s %6s %6s %8s  %s\n' kind "per B" grows writes memory "loop; command"
+python3 bench/make_worst.py --list | while IFS=$'\t' read -r -a cells; do
+  kind=${cells[0]} loop=${cells[1]}
+  words=("${cells[@]:2}")
+  [ "$kind" = "${1:-$kind}" ] || continue
+  python3 bench/make_worst.py "$folder/one" "$kind" "$bytes"
+  python3 bench/make_worst.py "$folder/two" "$kind" $((2 * bytes))
+  one=$(cost "$folder/one" "${words[@]}")
+  two=$(cost "$folder/two" "${words[@]}")
+  measure_row shark 1 "$program" -r "$folder/two" "${words[@]}"
+  read -r _ _ _ memory <<<"$row"
+  written=$("$program" -r "$folder/two" "${words[@]}" 2>/dev/null | wc -c)
+  command="${words[*]}"
+  python3 - "$kind" "$one" "$two" "$start" "$(stat -c %s "$folder/one")" "$(stat -c %s "$folder/two")" "$memory" "$written" "$loop; ${command:0:60}" <<'END'
+import sys
+kind, one, two, start, small, large, memory, written, text = sys.argv[1:]
+each, other = ((int(cost) - int(start)) / int(size) for cost, size in ((one, small), (two, large)))
+marks = (" MUCH" if max(each, other) > 150 else "") + (" GROWS" if other > 1.1 * each else "")
+print(f"{kind:12} {other:7.1f} {other / each:6.2f} {int(written) / int(large):6.1f} {memory:>5} MB  {text}{marks}", flush=True)
+END
 done
