@@ -6,7 +6,6 @@ use Rattle.pk_base.specs.declared.heads.PacketHead.{PacketHead}
 use Rattle.pk_base.specs.declared.heads.PortsHead.{PortsHead}
 use Rattle.pk_tree.specs.Trees.{TreeShown}
 use Rattle.ip_join.specs.Stands.{Stands}
-use Rattle.tcp_messages.specs.Standing.{ReadsFor}
 use Rattle.pk_fields.specs.declared.rules.App.{App}
 use Rattle.pk_fields.specs.declared.rules.PortRule.{PortRule}
 use Rattle.pk_fields.specs.Applications.{udp_app}
@@ -23,7 +22,6 @@ use Rattle.app_layers.specs.FrameLayer.{is_cut}
 use Rattle.message_links.specs.Links.{links_of}
 use Rattle.dissect.specs.Links.{newest_links}
 use Rattle.message_links.specs.LinkTables.{LinksStandFor}
-use Rattle.app_layers.specs.MessageLayers.{app_of_segment}
 use Rattle.message_links.specs.Notes.{Noted, datagram_notes, noted_on, udp_direction}
 use Rattle.dissect.specs.Notes.{noted}
 use Rattle.app_layers.specs.Payloads.{datagram_told}
@@ -34,7 +32,7 @@ use Rattle.app_layers.specs.Aside.{LacksOnly}
 use Rattle.app_layers.proofs.MessagesAside.{lacks_none}
 use Rattle.dissect.specs.declared.keeping.Keeping.{Keeping}
 use Rattle.dissect.specs.Keeping.{keeps_all}
-use Rattle.dissect.proofs.Joining.{streams_stay}
+use Rattle.dissect.proofs.Joining.{places_stay, streams_stay}
 use Rattle.dissect.proofs.KeepingLemmas.{all_numbers}
 use Rattle.dissect.proofs.Numbering.{datagram_wanted, numbered_alike}
 use Rattle.dissect.specs.Stands.{StandsAt, IsLinked, IsWalked}
@@ -48,6 +46,7 @@ pub record IsDatagram (rules : List PortRule) (frame : Frame) (packet : PacketHe
   pub joins : new.joins ≡ old.joins
   pub udp : old.keeps.numbers ≡ true → new.udp ≡ with_ends old.udp (udp_ends packet head)
   pub keeps : new.keeps ≡ old.keeps
+  pub places : new.places ≡ old.places
   pub streams : new.streams ≡ old.streams
   pub links : keeps_all old.keeps ≡ true → IsLinked frame.number (udp_direction stream) (datagram_notes app bytes) old new
   pub told : u ≡ datagram_told t stream span
@@ -76,6 +75,7 @@ datagram-met rules frame packet head span app stream bytes old new t u v is es s
       stands = record {
         joins = subst (Stands (fragments_of es)) (sym is.joins) stands.joins;
         udp = λ numbers. is.udp (numbered numbers) ∙ ap (λ (known : List Ends). with_ends known ends) (stands.udp (numbered numbers));
+        places = places_stay (segments_of es) old new is.keeps is.places stands.places;
         streams = streams_stay rules (segments_of es) old new is.keeps is.streams stands.streams;
         links = λ all.
             subst (λ (more : List Noted). LinksStandFor more new.links)

@@ -1,8 +1,10 @@
 -- What is known of what is kept.
-use Rattle.std.proofs.Common.{◌≡◌, Bool, true, false, ◌&&◌, List, [], ◌∷◌, ℕ, Option, Some, None, ◌⊎◌, inl, inr, refl, sym, ◌∙◌, ap, subst, true≢false}
+use Rattle.std.proofs.Common.{◌≡◌, Bool, true, false, ◌&&◌, List, [], ◌∷◌, ℕ, Option, ◌⊎◌, inl, inr, refl, sym, ◌∙◌, ap, subst, true≢false}
 use Rattle.std.proofs.lemmas.Bool.{cases_Bool}
 use Rattle.pk_fields.specs.FieldSets.{is_in}
-use Rattle.pk_fields.specs.Ids.{UDP_STREAM}
+use Rattle.pk_fields.specs.Fields.{row_of}
+use Rattle.pk_fields.specs.Table.{rows}
+use Rattle.pk_fields.specs.Ids.{DNS_RESPONSE_TO, HTTP_REQUEST_IN, UDP_STREAM}
 use Rattle.pk_fields.specs.declared.rules.PortRule.{PortRule}
 use Rattle.tcp_streams.specs.declared.segment.Segment.{Segment}
 use Rattle.tcp_streams.specs.Conversations.{ends_of, same_ends}
@@ -11,16 +13,16 @@ use Rattle.stream_messages.specs.declared.told.App.{App as StreamApp}
 use Rattle.app_layers.specs.MessageLayers.{app_of_segment}
 use Rattle.app_layers.proofs.StreamApps.{apps_of_ends}
 use Rattle.dissect.specs.declared.keeping.Follows.{Follows}
-use Rattle.dissect.specs.declared.keeping.Follows.TheVariants.{Nothing, One, Everything}
+use Rattle.dissect.specs.declared.keeping.Follows.TheVariants.{Nothing, Places, One, Everything}
 use Rattle.dissect.specs.declared.keeping.Keeping.{Keeping}
-use Rattle.dissect.specs.Followed.{asks_streams}
-use Rattle.dissect.specs.Keeping.{AsksNoLinks, FollowsEnough, KeepsFor, KeepsWhole, followed_of, is_everything, is_followed, keeps_all}
+use Rattle.dissect.specs.Followed.{asks_messages, asks_streams}
+use Rattle.dissect.specs.Keeping.{AsksNoLinks, FollowsEnough, KeepsFor, KeepsWhole, followed_of, is_everything, is_followed, keeps_all, tells_places}
 use Rattle.capture_read.specs.declared.frame.Frame.{Frame}
 use Rattle.tcp_messages.specs.Standing.{ReadsFor}
 use Rattle.dissect.specs.Segments.{segments_of}
 use Rattle.dissect.specs.Trees.{events_of}
 use Rattle.dissect.specs.Stands.{DissectorShown, IsAfter, IsKept}
-use Rattle.dissect.proofs.Asked.{unasked_fields}
+use Rattle.dissect.proofs.Asked.{no_messages, unasked_fields}
 
 first_of : (a b : Bool) → a && b ≡ true → a ≡ true
 first_of true b both = refl
@@ -40,11 +42,13 @@ all_numbers keeps all = second_of (is_everything keeps.follows) keeps.numbers al
 
 pub everything_takes : (follows : Follows) (app : Option StreamApp) → is_everything follows ≡ true → is_followed follows app ≡ true
 everything_takes Nothing app all = absurd (true≢false (sym all))
+everything_takes Places app all = absurd (true≢false (sym all))
 everything_takes (One only) app all = absurd (true≢false (sym all))
 everything_takes Everything app all = refl
 
 pub everything_enough : (follows : Follows) (wanted : List ℕ) → is_everything follows ≡ true → FollowsEnough follows wanted
 everything_enough Nothing wanted all = absurd (true≢false (sym all))
+everything_enough Places wanted all = absurd (true≢false (sym all))
 everything_enough (One only) wanted all = absurd (true≢false (sym all))
 everything_enough Everything wanted all = tt
 
@@ -55,6 +59,7 @@ all_of rules (s ∷ segments) = ap (λ (ss : List Segment). s ∷ ss) (all_of ru
 
 pub everything_of : (rules : List PortRule) (follows : Follows) (segments : List Segment) → is_everything follows ≡ true → followed_of rules follows segments ≡ segments
 everything_of rules Nothing segments all = absurd (true≢false (sym all))
+everything_of rules Places segments all = absurd (true≢false (sym all))
 everything_of rules (One only) segments all = absurd (true≢false (sym all))
 everything_of rules Everything segments all = all_of rules segments
 
@@ -96,6 +101,25 @@ between_followed rules follows s (t ∷ segments) is = elim (cases_Bool (same_en
   ]
 ]
 
+-- where places are told, no byte is kept
+pub placed_passed : (follows : Follows) (app : Option StreamApp) → tells_places follows ≡ true → is_followed follows app ≡ false
+placed_passed Nothing app places = refl
+placed_passed Places app places = refl
+placed_passed (One only) app places = absurd (true≢false (sym places))
+placed_passed Everything app places = absurd (true≢false (sym places))
+
+pub taken_unplaced : (follows : Follows) (app : Option StreamApp) → is_followed follows app ≡ true → tells_places follows ≡ false
+taken_unplaced Nothing app taken = refl
+taken_unplaced Places app taken = absurd (true≢false (sym taken))
+taken_unplaced (One only) app taken = refl
+taken_unplaced Everything app taken = refl
+
+pub placed_enough : (follows : Follows) (wanted : List ℕ) → tells_places follows ≡ true → FollowsEnough follows wanted → asks_messages wanted ≡ false
+placed_enough Nothing wanted places enough = absurd (true≢false (sym places))
+placed_enough Places wanted places enough = enough
+placed_enough (One only) wanted places enough = absurd (true≢false (sym places))
+placed_enough Everything wanted places enough = absurd (true≢false (sym places))
+
 -- ---- what is asked
 
 -- links go by the numbers of conversations, and by streams
@@ -107,6 +131,12 @@ pub no_links : (wanted : List ℕ) → asks_streams wanted ≡ false → AsksNoL
 no_links wanted unasked =
     let none = unasked_fields wanted unasked in
     record { dns = none.0; http = none.1 }
+
+pub no_message_links : (wanted : List ℕ) → asks_messages wanted ≡ false → AsksNoLinks wanted
+unfolding row_of rows
+no_message_links wanted unasked =
+    let none = no_messages wanted unasked in
+    record { dns = none.dns DNS_RESPONSE_TO refl; http = none.http HTTP_REQUEST_IN refl }
 
 pub keeps_for : (keeps : Keeping) (wanted : List ℕ) → FollowsEnough keeps.follows wanted → (keeps.numbers ≡ false → is_in wanted UDP_STREAM ≡ false)
     → (is_everything keeps.follows ≡ false → AsksNoLinks wanted) → (keeps.numbers ≡ false → AsksNoLinks wanted) → KeepsFor keeps wanted

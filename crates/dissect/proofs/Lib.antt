@@ -3,6 +3,7 @@ mod Asked
 mod ButNumbers
 mod Chains
 mod DatagramLemmas
+mod FirstHead
 mod FramesAside
 pub mod FramesJoined
 mod FramesTold

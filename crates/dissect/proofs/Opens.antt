@@ -7,6 +7,7 @@ use Rattle.pk_base.specs.declared.heads.After.{After}
 use Rattle.pk_tree.specs.Trees.{TreeShown}
 use Rattle.ip_join.specs.declared.joins.Joins.{Joins}
 use Rattle.ip_join.specs.Waiting.{bytes_waiting}
+use Rattle.tcp_streams.specs.PlacesStanding.{places_taken}
 use Rattle.tcp_streams.specs.Standing.{bytes_so_far, taken_so_far}
 use Rattle.tcp_messages.specs.declared.message_streams.MessageStreams.{MessageStreams}
 use Rattle.tcp_messages.specs.Standing.{streams_in}
@@ -47,7 +48,7 @@ adds-behind left bytes first before state (todos.Head head) none kept adds = (
 )
 
 abbrev pub with_joins : State → Joins → State
-with_joins state joins = record { joins = joins; keeps = state.keeps; udp = state.udp; streams = state.streams; links = state.links; found = state.found }
+with_joins state joins = record { joins = joins; keeps = state.keeps; udp = state.udp; places = state.places; streams = state.streams; links = state.links; found = state.found }
 
 pub adds-joined : (joined bytes size : ℕ) (old : State) (joins : Joins) (new : State) (r : Result Todo NoMemory) → joined + bytes_waiting joins ≤ bytes_waiting old.joins + size → size ≤ bytes
     → IfOk r (λ todo. AddsOneThenEnds joined (with_joins old joins) new todo) → IfOk r (λ todo. AddsOneThenEnds bytes old new todo)
@@ -119,7 +120,7 @@ ready-at few most state t after next fewer is ready = record {
 
 -- a segment more in its stream, and the messages that it shows in the links
 abbrev pub with_streams : State → MessageStreams → State
-with_streams state streams = record { joins = state.joins; keeps = state.keeps; udp = state.udp; streams = streams; links = state.links; found = state.found }
+with_streams state streams = record { joins = state.joins; keeps = state.keeps; udp = state.udp; places = state.places; streams = streams; links = state.links; found = state.found }
 
 pub adds-segment : (bytes size : ℕ) (old : State) (streams : MessageStreams) (new : State) → taken_so_far (streams_in streams) ≤ taken_so_far (streams_in old.streams) + 1
     → bytes_so_far (streams_in streams) ≤ bytes_so_far (streams_in old.streams) + size → size ≤ bytes → IsSameButLinks (with_streams old streams) new
@@ -127,7 +128,7 @@ pub adds-segment : (bytes size : ℕ) (old : State) (streams : MessageStreams) (
 adds-segment bytes size old streams new taken sent short same = (
   record {
     udp = omega (arith, ap length same.udp);
-    tcp = omega (arith, ap (λ (x : MessageStreams). taken_so_far (streams_in x)) same.streams, taken);
+    tcp = omega (arith, ap (λ (x : MessageStreams). taken_so_far (streams_in x)) same.streams, ap places_taken same.places, taken);
     keeps = same.keeps;
   },
   omega (arith, ap (λ (x : MessageStreams). bytes_so_far (streams_in x)) same.streams, ap bytes_waiting same.joins, sent, short),

@@ -18,9 +18,9 @@ use Rattle.dissect.specs.declared.state.State.{State}
 use Rattle.dissect.specs.declared.todo.Todo.TheVariants as todos
 use Rattle.dissect.specs.Events.{Event}
 use Rattle.dissect.specs.declared.keeping.Follows.{Follows}
-use Rattle.dissect.specs.declared.keeping.Follows.TheVariants.{Nothing, One, Everything}
+use Rattle.dissect.specs.declared.keeping.Follows.TheVariants.{Nothing, Places, One, Everything}
 use Rattle.dissect.specs.Followed.{asks_messages, asks_streams}
-use Rattle.dissect.specs.Keeping.{AsksNoPlaces, AsksOnly, FollowsEnough, followed_of, keeps_all, is_followed, is_of, other_proto}
+use Rattle.dissect.specs.Keeping.{AsksNoPlaces, AsksOnly, FollowsEnough, followed_of, keeps_all, tells_places, is_followed, is_of}
 use Rattle.app_layers.specs.Aside.{LacksOnly}
 use Rattle.app_layers.specs.FrameLayer.{is_cut}
 use Rattle.app_layers.specs.MessageLayers.{app_of_segment, carried_over, stream_app}
@@ -33,11 +33,14 @@ use Rattle.dissect.specs.Walks.{segment_met}
 use Rattle.app_layers.proofs.ToldHeads.{carried_wanted, lost_unasked, place_unasked, told_wanted}
 use Rattle.app_layers.proofs.WantedMessages.{carried_over_wanted}
 use Rattle.dissect.proofs.Joining.{stands-segment}
-use Rattle.app_layers.proofs.MessagesAside.{AsksNoMessages, AsksNoneOf, AsksNotShown, none_shown, shown_lacks}
+use Rattle.app_layers.proofs.MessagesAside.{AsksNotShown, carried_lacks, none_shown, shown_lacks}
 use Rattle.stream_messages.specs.declared.told.App.TheVariants.{Dns, Http}
 use Rattle.dissect.proofs.Tellings.{none_shown_of, not_shown}
-use Rattle.dissect.proofs.Asked.{messages_unasked, none_in, none_of}
-use Rattle.dissect.proofs.KeepingLemmas.{all_everything, everything_of, everything_takes, passed_over}
+use Rattle.tcp_streams.specs.PlacesStanding.{PlacesStandFor}
+use Rattle.tcp_streams.specs.declared.stream_places.StreamPlaces.{StreamPlaces}
+use Rattle.dissect.specs.declared.keeping.Keeping.{Keeping}
+use Rattle.dissect.proofs.Asked.{messages_unasked, no_messages, none_in, none_of}
+use Rattle.dissect.proofs.KeepingLemmas.{all_everything, everything_of, everything_takes, passed_over, placed_enough, placed_passed}
 
 -- where no place in a stream is asked, a segment is told alike whatever it is to its stream
 pub places_alike : (t : TreeShown) (taken : Taken) (span : Span) → AsksNoPlaces t.wanted → segment_told t taken span ≡ carried_told t span
@@ -58,6 +61,7 @@ pub told_enough : (rules : List PortRule) (follows : Follows) (segments : List S
     → is_followed follows app ≡ true → FollowsEnough follows t.wanted
     → segment_told t (taken_after (followed_of rules follows segments) segment) span ≡ segment_told t (taken_after segments segment) span
 told_enough rules Nothing segments segment app t span taken enough = absurd (true≢false (sym taken))
+told_enough rules Places segments segment app t span taken enough = absurd (true≢false (sym taken))
 told_enough rules (One only) segments segment app t span taken enough =
     places_alike t (taken_after (followed_of rules (One only) segments) segment) span enough.places ∙ sym (places_alike t (taken_after segments segment) span enough.places)
 told_enough rules Everything segments segment app t span taken enough =
@@ -80,20 +84,21 @@ no_others Http (Some Dns) past s wanted asks other =
     not_shown Dns wanted past s (record { short = asks.short; malformed = asks.malformed; fields = none_in DNS wanted (omega arith) asks.others })
 no_others Http (Some Http) past s wanted asks other = absurd (true≢false other)
 
-nothing_asked : (follows : Follows) (app : Option StreamApp) (past : List Segment) (s : Segment) (wanted : List ℕ) → FollowsEnough follows wanted → is_followed follows app ≡ false
+nothing_asked : (follows : Follows) (app : Option StreamApp) (past : List Segment) (s : Segment) (wanted : List ℕ) → FollowsEnough follows wanted → tells_places follows ≡ false → is_followed follows app ≡ false
     → AsksNothingOf app past s wanted
-nothing_asked Nothing app past s wanted enough passed =
+nothing_asked Nothing app past s wanted enough untold passed =
     let none = messages_unasked wanted enough in
     record { places = no_places wanted enough; segment = none.segment; messages = none_shown wanted (shown_after app past s) none }
-nothing_asked (One only) app past s wanted enough passed =
+nothing_asked Places app past s wanted enough untold passed = absurd (true≢false untold)
+nothing_asked (One only) app past s wanted enough untold passed =
     record { places = enough.places; segment = enough.segment; messages = no_others only app past s wanted enough passed }
-nothing_asked Everything app past s wanted enough passed = absurd (true≢false passed)
+nothing_asked Everything app past s wanted enough untold passed = absurd (true≢false passed)
 
 pub passed-walked : (rules : List PortRule) (frame : Frame) (packet : PacketHead) (head : TcpHead) (span : Span) (app : Option StreamApp) (state : State) (t v : TreeShown)
-    → app ≡ stream_app rules head.source head.target → is_followed state.keeps.follows app ≡ false → v ≡ carried_over app (is_cut frame) span (carried_told t span) []
+    → app ≡ stream_app rules head.source head.target → is_followed state.keeps.follows app ≡ false → tells_places state.keeps.follows ≡ false → v ≡ carried_over app (is_cut frame) span (carried_told t span) []
     → (es : List Event) → StandsAt rules es state → IsWalked rules (segment_met rules frame packet t es head span) state v todos.Done
 unfolding segment_met
-passed-walked rules frame packet head span app state t v app_is unfollowed shown es stands =
+passed-walked rules frame packet head span app state t v app_is unfollowed untold shown es stands =
     let bytes = bytes_of t.buffers span in
     let cut = is_cut frame in
     let own = stream_app rules head.source head.target in
@@ -109,18 +114,65 @@ passed-walked rules frame packet head span app state t v app_is unfollowed shown
     let not_all = λ (all : keeps_all state.keeps ≡ true). true≢false (sym (everything_takes follows own (all_everything state.keeps all)) ∙ none) in
     record {
       stands = stands-segment rules es frame.number packet head bytes state state stands refl refl refl
+          (λ places. absurd (true≢false (sym places ∙ untold)))
           (subst (λ (ss : List Segment). ReadsFor (app_of_segment rules) ss state.streams) (sym (passed_over rules follows segment past none)) stands.streams)
           (λ all. absurd (not_all all)) (λ all. absurd (not_all all));
       tree = record {
         wanted = ap (λ (u : TreeShown). u.wanted) passed ∙ carried_over_wanted own cut span (carried_told t span) [] ∙ carried_wanted t span ∙ sym wanted;
         same = λ all. absurd (not_all (all refl));
         lacks = λ enough.
-            let nothing : AsksNothingOf own past segment t.wanted = nothing_asked follows own past segment t.wanted (subst (FollowsEnough follows) wanted enough.streams) none in
+            let nothing : AsksNothingOf own past segment t.wanted = nothing_asked follows own past segment t.wanted (subst (FollowsEnough follows) wanted enough.streams) untold none in
             let alike : told ≡ carried_told t span = places_alike t (taken_after past segment) span nothing.places in
             let asked : told.wanted ≡ t.wanted = told_wanted t (taken_after past segment) span in
             subst (λ (u : TreeShown). LacksOnly whole u) (sym (passed ∙ ap (λ (u : TreeShown). carried_over own cut span u []) (sym alike)))
             (shown_lacks own cut span told messages (ap (λ (fields : List ℕ). is_in fields TCP_SEGMENT) asked ∙ nothing.segment)
             (subst (λ (fields : List ℕ). AsksNotShown fields messages) (sym asked) nothing.messages));
+      };
+      todo = refl;
+    }
+
+-- ---- a segment of which its place alone is told
+
+pub placed-walked : (rules : List PortRule) (frame : Frame) (packet : PacketHead) (head : TcpHead) (span : Span) (app : Option StreamApp) (taken : Taken) (places : StreamPlaces) (old new : State) (t v : TreeShown)
+    → app ≡ stream_app rules head.source head.target → tells_places old.keeps.follows ≡ true → new ≡ record old { places = places }
+    → ((past : List Segment) → PlacesStandFor past old.places → taken ≡ taken_after past (segment_from frame.number packet head (bytes_of t.buffers span)))
+    → ((past : List Segment) → PlacesStandFor past old.places → PlacesStandFor (segment_from frame.number packet head (bytes_of t.buffers span) ∷ past) places)
+    → v ≡ carried_over app (is_cut frame) span (segment_told t taken span) []
+    → (es : List Event) → StandsAt rules es old → IsWalked rules (segment_met rules frame packet t es head span) new v todos.Done
+unfolding segment_met
+placed-walked rules frame packet head span app taken places old new t v app_is tells new_is taken_is placed shown es stands =
+    let bytes = bytes_of t.buffers span in
+    let cut = is_cut frame in
+    let own = stream_app rules head.source head.target in
+    let segment = segment_from frame.number packet head bytes in
+    let past = segments_of es in
+    let messages = shown_after own past segment in
+    let told = segment_told t (taken_after past segment) span in
+    let whole = carried_over own cut span told messages in
+    let follows = old.keeps.follows in
+    let keeps : new.keeps ≡ old.keeps = ap (λ (s : State). s.keeps) new_is in
+    let none : is_followed follows own ≡ false = placed_passed follows own tells in
+    let not_all = λ (all : keeps_all new.keeps ≡ true). true≢false (sym (everything_takes follows own (all_everything old.keeps (ap keeps_all (sym keeps) ∙ all))) ∙ none) in
+    let wanted : whole.wanted ≡ t.wanted = carried_over_wanted own cut span told messages ∙ told_wanted t (taken_after past segment) span in
+    let is : v ≡ carried_over own cut span told [] =
+    shown ∙ ap (λ (a : Option StreamApp). carried_over a cut span (segment_told t taken span) []) app_is
+    ∙ ap (λ (k : Taken). carried_over own cut span (segment_told t k span) []) (taken_is past (stands.places tells)) in
+    record {
+      stands = stands-segment rules es frame.number packet head bytes old new stands (ap (λ (s : State). s.joins) new_is) (ap (λ (s : State). s.udp) new_is) keeps
+          (λ _. subst (PlacesStandFor (segment ∷ past)) (sym (ap (λ (s : State). s.places) new_is)) (placed past (stands.places tells)))
+          (subst (λ (ss : List Segment). ReadsFor (app_of_segment rules) ss new.streams)
+          (sym (ap (λ (k : Keeping). followed_of rules k.follows (segment ∷ past)) keeps ∙ passed_over rules follows segment past none))
+          (subst (ReadsFor (app_of_segment rules) (followed_of rules follows past)) (sym (ap (λ (s : State). s.streams) new_is)) stands.streams))
+          (λ all. absurd (not_all all)) (λ all. absurd (not_all all));
+      tree = record {
+        wanted = ap (λ (u : TreeShown). u.wanted) is ∙ carried_over_wanted own cut span told [] ∙ told_wanted t (taken_after past segment) span ∙ sym wanted;
+        same = λ all. absurd (not_all (all refl));
+        lacks = λ enough.
+            let unasked : asks_messages whole.wanted ≡ false =
+            placed_enough follows whole.wanted tells (subst (λ (k : Keeping). FollowsEnough k.follows whole.wanted) keeps enough.streams) in
+            let asked : told.wanted ≡ whole.wanted = sym (carried_over_wanted own cut span told messages) in
+            subst (λ (u : TreeShown). LacksOnly whole u) (sym is)
+            (carried_lacks own cut span told messages (no_messages told.wanted (ap asks_messages asked ∙ unasked)));
       };
       todo = refl;
     }

@@ -1,5 +1,5 @@
 -- A segment more: what is shown of it, and what is kept.
-use Rattle.std.proofs.Common.{◌≡◌, true, List, ◌∷◌, map, refl, sym, ◌∙◌, ap, subst}
+use Rattle.std.proofs.Common.{◌≡◌, true, true≢false, List, ◌∷◌, map, refl, sym, ◌∙◌, ap, subst}
 use Rattle.pk_base.specs.declared.span.Span.{Span}
 use Rattle.pk_tree.specs.Buffers.{bytes_of}
 use Rattle.pk_base.specs.declared.heads.PacketHead.{PacketHead}
@@ -31,9 +31,9 @@ use Rattle.app_layers.proofs.MessagesAside.{lacks_none}
 use Rattle.app_layers.proofs.ToldHeads.{told_wanted}
 use Rattle.app_layers.proofs.WantedMessages.{carried_over_wanted}
 use Rattle.dissect.specs.declared.keeping.Keeping.{Keeping}
-use Rattle.dissect.specs.Keeping.{FollowsEnough, followed_of, is_followed, keeps_all}
+use Rattle.dissect.specs.Keeping.{FollowsEnough, followed_of, is_followed, keeps_all, tells_places}
 use Rattle.dissect.proofs.AloneLemmas.{shown_same}
-use Rattle.dissect.proofs.KeepingLemmas.{all_everything, between_followed, everything_enough, everything_of, more_followed}
+use Rattle.dissect.proofs.KeepingLemmas.{all_everything, between_followed, everything_enough, everything_of, more_followed, taken_unplaced}
 use Rattle.dissect.proofs.Passing.{told_enough}
 use Rattle.dissect.specs.Stands.{StandsAt, IsLinked, IsWalked}
 use Rattle.dissect.specs.Walks.{segment_met}
@@ -91,6 +91,7 @@ shown-walked rules frame packet head span segment taken messages old new t u v i
     ap (λ (s : Segment). carried_over (app_of_segment rules s) cut span (segment_told t (taken_after segments s) span) (shown_after (app_of_segment rules s) segments s)) is.segment_is in
     record {
       stands = stands-segment rules es frame.number packet head bytes old new stands is.joins is.udp is.keeps
+          (λ places. absurd (true≢false (sym (ap (λ (keeps : Keeping). tells_places keeps.follows) (sym is.keeps) ∙ places) ∙ taken_unplaced follows own is.taken_in)))
           (subst (λ (keeps : Keeping). ReadsFor (app_of_segment rules) (followed_of rules keeps.follows (segment_from frame.number packet head bytes ∷ segments)) new.streams) (sym is.keeps)
           (subst (λ (s : Segment). ReadsFor (app_of_segment rules) (followed_of rules follows (s ∷ segments)) new.streams) is.segment_is kept))
           (λ all. subst (λ (noted_all : List Noted). LinksStandFor noted_all new.links)

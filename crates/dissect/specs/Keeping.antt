@@ -8,9 +8,9 @@ use Rattle.stream_messages.specs.declared.told.App.{App as StreamApp}
 use Rattle.stream_messages.specs.declared.told.App.TheVariants.{Dns, Http}
 use Rattle.app_layers.specs.MessageLayers.{app_of_segment}
 use Rattle.dissect.specs.declared.keeping.Follows.{Follows}
-use Rattle.dissect.specs.declared.keeping.Follows.TheVariants.{Nothing, One, Everything}
+use Rattle.dissect.specs.declared.keeping.Follows.TheVariants.{Nothing, Places, One, Everything}
 use Rattle.dissect.specs.declared.keeping.Keeping.{Keeping}
-use Rattle.dissect.specs.Followed.{asks_any, asks_streams}
+use Rattle.dissect.specs.Followed.{asks_any, asks_messages, asks_streams}
 
 -- ---- which segments are taken into their streams
 
@@ -27,13 +27,22 @@ is_of app (Some other) = same_app app other
 -- those of streams of an application
 abbrev pub is_followed : Follows → Option StreamApp → Bool
 is_followed Nothing app = false
+is_followed Places app = false
 is_followed (One only) app = is_of only app
 is_followed Everything app = true
 
 abbrev pub is_everything : Follows → Bool
 is_everything Nothing = false
+is_everything Places = false
 is_everything (One only) = false
 is_everything Everything = true
+
+-- whether of all segments their places are told, and no byte is kept
+abbrev pub tells_places : Follows → Bool
+tells_places Nothing = false
+tells_places Places = true
+tells_places (One only) = false
+tells_places Everything = false
 
 -- the segments that streams stand for, among all
 unfoldable pub followed_of : List PortRule → Follows → List Segment → List Segment
@@ -72,6 +81,7 @@ pub record AsksOnly (app : StreamApp) (wanted : List ℕ) : Type 0 where
 
 abbrev pub FollowsEnough : Follows → List ℕ → Type 0
 FollowsEnough Nothing wanted = asks_streams wanted ≡ false
+FollowsEnough Places wanted = asks_messages wanted ≡ false
 FollowsEnough (One only) wanted = AsksOnly only wanted
 FollowsEnough Everything wanted = Unit {0}
 

@@ -9,6 +9,7 @@ use Rattle.pk_base.specs.declared.heads.After.TheVariants as afters
 use Rattle.pk_tree.specs.Trees.{TreeShown, IsTree}
 use Rattle.ip_join.specs.Stands.{Stands as JoinsStandFor}
 use Rattle.ip_join.specs.Waiting.{bytes_waiting}
+use Rattle.tcp_streams.specs.PlacesStanding.{PlacesStandFor, places_taken}
 use Rattle.tcp_streams.specs.Standing.{bytes_so_far, taken_so_far}
 use Rattle.tcp_messages.specs.Standing.{ReadsFor, streams_in}
 use Rattle.message_links.specs.declared.notes.Direction.{Direction}
@@ -21,7 +22,7 @@ use Rattle.dissect.specs.Conversations.{udp_opened}
 use Rattle.dissect.specs.Events.{Event}
 use Rattle.app_layers.specs.Aside.{LacksOnly}
 use Rattle.dissect.specs.Fragments.{fragments_of}
-use Rattle.dissect.specs.Keeping.{KeepsFor, KeepsWhole, followed_of, keeps_all}
+use Rattle.dissect.specs.Keeping.{KeepsFor, KeepsWhole, followed_of, keeps_all, tells_places}
 use Rattle.message_links.specs.LinkTables.{LinksStandFor}
 use Rattle.message_links.specs.Linked.{linked}
 use Rattle.message_links.specs.Links.{links_of}
@@ -46,12 +47,13 @@ pub record DissectorShown : Type 0 where
   pub times : Times
   pub state : State
 
--- what is kept of events: the fragments of datagrams that aren't whole yet, where they are numbered the conversations over UDP, of the
--- segments that are taken the streams of TCP, with the messages that they have by the rules for ports, and where all is kept what links
--- ask of messages, and the links of the newest frame
+-- what is kept of events: the fragments of datagrams that aren't whole yet, where they are numbered the conversations over UDP, where no
+-- byte is kept the places in streams of TCP, else of the segments that are taken their streams, with the messages that they have by the
+-- rules for ports, and where all is kept what links ask of messages, and the links of the newest frame
 pub record StandsAt (rules : List PortRule) (es : List Event) (state : State) : Type 0 where
   pub joins : JoinsStandFor (fragments_of es) state.joins
   pub udp : state.keeps.numbers ≡ true → state.udp ≡ udp_opened es
+  pub places : tells_places state.keeps.follows ≡ true → PlacesStandFor (segments_of es) state.places
   pub streams : ReadsFor (app_of_segment rules) (followed_of rules state.keeps.follows (segments_of es)) state.streams
   pub links : keeps_all state.keeps ≡ true → LinksStandFor (noted rules es) state.links
   pub found : keeps_all state.keeps ≡ true → state.found.items ≡ newest_links rules es
@@ -66,20 +68,26 @@ pub record IsSameButLinks (old new : State) : Type 0 where
   pub joins : new.joins ≡ old.joins
   pub udp : new.udp ≡ old.udp
   pub keeps : new.keeps ≡ old.keeps
+  pub places : new.places ≡ old.places
   pub streams : new.streams ≡ old.streams
 
 -- nothing but the conversations over UDP is changed
 pub record IsSameButNumbers (old new : State) : Type 0 where
   pub joins : new.joins ≡ old.joins
   pub keeps : new.keeps ≡ old.keeps
+  pub places : new.places ≡ old.places
   pub streams : new.streams ≡ old.streams
   pub links : new.links ≡ old.links
   pub found : new.found.items ≡ old.found.items
 
+-- how many segments were taken, with their bytes or for their places alone
+abbrev pub segments_taken : State → ℕ
+segments_taken state = taken_so_far (streams_in state.streams) + places_taken state.places
+
 -- at most so many conversations over UDP were opened, and segments of TCP taken; the same is kept as before
 pub record AddsAtMost (most : ℕ) (old new : State) : Type 0 where
   pub udp : length new.udp ≤ length old.udp + most
-  pub tcp : taken_so_far (streams_in new.streams) ≤ taken_so_far (streams_in old.streams) + most
+  pub tcp : segments_taken new ≤ segments_taken old + most
   pub keeps : new.keeps ≡ old.keeps
 
 -- how many bytes of packets are kept: those that streams were sent, and those of fragments that wait
@@ -95,7 +103,7 @@ AddsOneThenEnds bytes old new (todos.Head head) = AddsAtMost 0 old new × (bytes
 -- there is room for one conversation and one segment more, and for so many bytes
 pub record HasRoomForOne (more : ℕ) (state : State) : Type 0 where
   pub udp : length state.udp + 1 < 2 ^ 32
-  pub tcp : taken_so_far (streams_in state.streams) < 2 ^ 32 - 1
+  pub tcp : segments_taken state < 2 ^ 32 - 1
   pub bytes : bytes_kept state + more < 2 ^ 32
 
 -- so there is where a header is still to be read
@@ -172,7 +180,7 @@ pub record IsKept (d : DissectorShown) : Type 0 where
   pub times : AreTimes d.times
   pub udp : length d.state.udp < 2 ^ 32
   pub udp_few : d.spent ≡ false → length d.state.udp ≤ d.taken
-  pub tcp_few : d.spent ≡ false → taken_so_far (streams_in d.state.streams) ≤ d.taken
+  pub tcp_few : d.spent ≡ false → segments_taken d.state ≤ d.taken
   pub bytes_few : d.spent ≡ false → bytes_kept d.state ≤ d.captured
   pub asked : KeepsFor d.state.keeps d.wanted
   pub whole : d.sparing ≡ false → KeepsWhole d.state.keeps d.wanted

@@ -27,7 +27,7 @@ use std::alloc::Global;
 use std::marker::Model;
 use std::mem;
 use tcp_messages::MessageStreams;
-use tcp_streams::Streams;
+use tcp_streams::{StreamPlaces, Streams};
 
 /// Why a frame has no tree.
 #[derive(Clone, Copy)]
@@ -167,6 +167,7 @@ impl Dissector {
                 joins: Joins::new(alloc),
                 keeps,
                 udp: Conversations::new(alloc),
+                places: StreamPlaces::new(alloc),
                 streams: MessageStreams::new(alloc),
                 links: Links::new(alloc),
                 found: Vec::new(alloc),

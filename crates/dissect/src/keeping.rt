@@ -2,7 +2,7 @@ ghost use Rattle.std.specs.Prelude.{◌≡◌, false, true};
 ghost use Rattle.pk_fields.specs.FieldSets.{is_in};
 ghost use Rattle.pk_fields.specs.Ids.{TCP_SEGMENT, UDP_STREAM, WS_MALFORMED, WS_SHORT, field_count};
 ghost use Rattle.dissect.specs.Followed.{asks_any, asks_messages, asks_streams};
-ghost use Rattle.dissect.specs.Keeping.{AsksNoLinks, AsksNoPlaces, FollowsEnough, KeepsFor, KeepsWhole, is_everything, is_followed, keeps_all};
+ghost use Rattle.dissect.specs.Keeping.{AsksNoLinks, AsksNoPlaces, FollowsEnough, KeepsFor, KeepsWhole, is_everything, is_followed, keeps_all, tells_places};
 
 use pk_fields::{FieldId, FieldSet, ids};
 use stream_messages::App as StreamApp;
@@ -11,6 +11,8 @@ use stream_messages::App as StreamApp;
 #[derive(Clone, Copy)]
 pub(crate) enum Follows {
     Nothing,
+    /// None, but of each its place in its stream is told, for which no byte is kept.
+    Places,
     /// Those of streams of one application.
     One(StreamApp),
     Everything,
@@ -21,8 +23,18 @@ impl Follows {
         ensures { result ≡ is_everything self }
     {
         match self {
-            Follows::Nothing | Follows::One(_) => false,
+            Follows::Nothing | Follows::Places | Follows::One(_) => false,
             Follows::Everything => true,
+        }
+    }
+
+    /// Whether of all segments their places are told, and no byte is kept.
+    pub fn tells_places(self) -> bool
+        ensures { result ≡ tells_places self }
+    {
+        match self {
+            Follows::Places => true,
+            Follows::Nothing | Follows::One(_) | Follows::Everything => false,
         }
     }
 
@@ -31,7 +43,7 @@ impl Follows {
         ensures { result ≡ is_followed self app }
     {
         match (self, app) {
-            (Follows::Nothing, _) | (Follows::One(_), None) => false,
+            (Follows::Nothing | Follows::Places, _) | (Follows::One(_), None) => false,
             (Follows::One(StreamApp::Dns), Some(StreamApp::Dns)) => true,
             (Follows::One(StreamApp::Dns), Some(StreamApp::Http)) => false,
             (Follows::One(StreamApp::Http), Some(StreamApp::Dns)) => false,
@@ -117,6 +129,18 @@ fn followed_for_values(wanted: &FieldSet) -> Follows
 
 /// Which segments are taken for the values of fields that ask something of streams.
 fn taken_for_values(wanted: &FieldSet) -> Follows
+    ensures enough { FollowsEnough result wanted.now }
+    ensures links { is_everything result ≡ false → AsksNoLinks wanted.now }
+{
+    if asks_messages(wanted) {
+        taken_for_messages(wanted)
+    } else {
+        Follows::Places
+    }
+}
+
+/// Which segments are taken for the values of fields that ask something of messages.
+fn taken_for_messages(wanted: &FieldSet) -> Follows
     ensures enough { FollowsEnough result wanted.now }
     ensures links { is_everything result ≡ false → AsksNoLinks wanted.now }
 {

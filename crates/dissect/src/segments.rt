@@ -11,7 +11,7 @@ ghost use Rattle.app_layers.specs.FrameLayer.{is_cut};
 ghost use Rattle.message_links.specs.Notes.{message_note, tcp_direction};
 ghost use Rattle.app_layers.specs.MessageLayers.{app_of_segment, carried_over, stream_app};
 ghost use Rattle.app_layers.specs.Payloads.{LastIs, carried_told, segment_told};
-ghost use Rattle.dissect.specs.Keeping.{is_followed, keeps_all};
+ghost use Rattle.dissect.specs.Keeping.{is_followed, keeps_all, tells_places};
 ghost use Rattle.dissect.specs.Segments.{segment_from};
 ghost use Rattle.dissect.specs.Stands.{StandsAt, IsWalked, IsReady, IsLinked, IsSameButLinks, AddsAtMost, AddsFew, AddsOneThenEnds};
 ghost use Rattle.dissect.specs.Walks.{IsTodoInside, segment_met};
@@ -25,7 +25,7 @@ use pk_fields::PortRule;
 use pk_tree::TreeBuilder;
 use stream_messages::App as StreamApp;
 use tcp_messages::Met;
-use tcp_streams::Segment;
+use tcp_streams::{Segment, Taken};
 
 impl State {
     /// Takes a segment of TCP into its stream, or passes it over where nothing is asked of this.
@@ -53,6 +53,8 @@ impl State {
         let app = stream_app(rules, head.source, head.target);
         if self.keeps.follows.takes(app) {
             self.take_segment(app, frame, packet, head, span, tree)
+        } else if self.keeps.follows.tells_places() {
+            self.place_segment(app, frame, packet, head, span, tree)
         } else {
             pass_segment(app, span, tree)?;
             Ok(Todo::Done)
@@ -93,6 +95,42 @@ impl State {
                 let_go(segment);
                 Err(NoMemory)
             }
+        }
+    }
+
+    /// Tells a segment's place in its stream, and shows what it carries as data where its stream has no application.
+    fn place_segment(
+        &mut self,
+        app: Option<StreamApp>,
+        frame: &Frame,
+        packet: PacketHead,
+        head: TcpHead,
+        span: Span,
+        tree: &mut TreeBuilder,
+    ) -> Result<Todo, NoMemory>
+        requires places { tells_places self.old.keeps.follows ≡ true }
+        requires inside { IsInside tree.old.buffers span }
+        requires last { LastIs TCP tree.old.layers }
+        requires bytes { length frame.now.bytes < 2 ^ 32 }
+        requires ready { IsReady 2 span.len self.old tree.old }
+        ensures inside { IfOk result (λ todo. IsTodoInside tree.new.buffers todo) }
+        ensures walked { IfOk result (λ todo. (rules : List PortRuleValue) (es : List Event)
+            → app ≡ stream_app rules head.source head.target → StandsAt rules es self.old
+            → IsWalked rules (segment_met rules frame.now packet tree.old es head span) self.new
+            tree.new todo) }
+        ensures adds { IfOk result (λ todo. AddsOneThenEnds span.len self.old self.new todo) }
+        ensures added { AddsAtMost 1 self.old self.new }
+        ensures few { IfOk result (λ todo. AddsFew 4 tree.old tree.new todo) }
+    {
+        let segment = segment_from(frame.number, &packet, head, tree.part(span)?);
+        let placed = self.places.take(&segment);
+        let_go(segment);
+        match placed {
+            Ok(taken) => {
+                tell_place_alone(&taken, app, span, tree)?;
+                Ok(Todo::Done)
+            }
+            Err(NoMemory) => Err(NoMemory),
         }
     }
 
@@ -164,6 +202,24 @@ impl State {
         tell_segment(&met.taken, span, tree)?;
         add_carried(app, met, is_cut(frame), span, tree)
     }
+}
+
+/// Tells a segment's place and what it carries, and shows this as data where its stream has no application.
+fn tell_place_alone(
+    taken: &Taken,
+    app: Option<StreamApp>,
+    span: Span,
+    tree: &mut TreeBuilder,
+) -> Result<(), NoMemory>
+    requires inside { IsInside tree.old.buffers span }
+    requires last { LastIs TCP tree.old.layers }
+    requires near { PassesNear taken.now }
+    requires room { length tree.old.layers + 2 < 2 ^ 32 }
+    ensures tree { IfOk result (λ _. (cut : Bool)
+        → tree.new ≡ carried_over app cut span (segment_told tree.old taken.now span) []) }
+{
+    tell_segment(taken, span, tree)?;
+    add_passed(app, span, tree)
 }
 
 /// Tells what a segment carries, and shows it as data where its stream has no application; nothing of its stream.

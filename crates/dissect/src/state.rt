@@ -2,6 +2,7 @@ use crate::keeping::Keeping;
 use ip_join::Joins;
 use message_links::{Conversations, Links};
 use tcp_messages::MessageStreams;
+use tcp_streams::StreamPlaces;
 
 /// What is kept of earlier frames' packets.
 pub(crate) struct State {
@@ -10,6 +11,8 @@ pub(crate) struct State {
     /// What is kept of conversations.
     pub keeps: Keeping,
     pub udp: Conversations,
+    /// The streams of TCP by their numbers, where places alone are asked.
+    pub places: StreamPlaces,
     /// The streams of TCP, and their messages: of the segments that are taken.
     pub streams: MessageStreams,
     /// What links ask of the messages that frames showed, where everything is kept.
@@ -24,6 +27,7 @@ impl Drop for State {
             joins: _joins,
             keeps: _,
             udp: _udp,
+            places: _places,
             streams: _streams,
             links: _links,
             found: _found,

@@ -18,6 +18,7 @@ returns-clause-walked c =
       joins = c.link_datagram.ensures.same.joins ∙ same.joins;
       udp = λ numbers. c.link_datagram.ensures.same.udp ∙ c.in_ok-stream.ensures.known numbers;
       keeps = c.link_datagram.ensures.same.keeps ∙ same.keeps;
+      places = c.link_datagram.ensures.same.places ∙ same.places;
       streams = c.link_datagram.ensures.same.streams ∙ same.streams;
       links = λ all.
           let links = c.in_ok-link_datagram.ensures.links (ap keeps_all same.keeps ∙ all) in

@@ -8,4 +8,4 @@ returns-clause-links c = record {
 }
 
 pub returns-clause-same : goal.returns-clause-same
-returns-clause-same c = record { joins = refl; udp = refl; keeps = refl; streams = refl }
+returns-clause-same c = record { joins = refl; udp = refl; keeps = refl; places = refl; streams = refl }

@@ -20,7 +20,7 @@ returns-clause-walked c =
     let kept = c.in_ok-joined.ensures.stands (fragments_of es) stands.joins in
     subst (λ (j : Joined). IsWalked rules (joined_met j c.args.tree.now (Piece frame head bytes ∷ es) head c.args.span) c.behind_piece.new.self c.behind_piece.new.tree todo)
     (c.in_ok-joined.ensures.joined (fragments_of es) stands.joins)
-    (walked rules (Piece frame head bytes ∷ es) (stands-piece rules es frame head bytes c.args.self.now _ stands refl refl refl refl refl kept)))
+    (walked rules (Piece frame head bytes ∷ es) (stands-piece rules es frame head bytes c.args.self.now _ stands refl refl refl refl refl refl kept)))
     c.behind_piece.ensures.walked
 
 pub returns-clause-adds : goal.returns-clause-adds
