@@ -1,3 +1,4 @@
+pub mod BareLayers
 pub mod CountLemmas
 pub mod FewLemmas
 pub mod KeptNotes
