@@ -1,6 +1,7 @@
 ghost use Rattle.std.specs.Prelude.{◌≡◌, ◌↔◌, ◌+◌, ◌≤◌, ◌<◌, ◌^◌, ◌||◌, List, [], ◌∷◌, true, false, length, Err, is_err, IfOk, IfSome, OnOk, OnErr};
 ghost use Rattle.capture_read.specs.declared.frame.Frame.{Frame as FrameValue};
-ghost use Rattle.pk_tree.specs.Trees.{IsKept as IsKeptTree};
+ghost use Rattle.pk_tree.specs.Trees.{IsKept as IsKeptTree, kept_tree};
+ghost use Rattle.app_layers.specs.Aside.{LacksOnly};
 ghost use Rattle.pk_fields.specs.Rules.{AreRules};
 ghost use Rattle.dissect.specs.Conversations.{udp_opened};
 ghost use Rattle.dissect.specs.Events.{Event};
@@ -250,7 +251,7 @@ impl Dissector {
     }
 
     /// As `take`, for a tree that has only the items of the fields that the dissector was made for, with the same values of these
-    /// as the whole tree.
+    /// as the whole tree. It may lack layers of messages that have nothing to show of them.
     #[inline(always)]
     #[tactic(auto, using(crate::proofs::KeepingLemmas::all_asked), unfolding(crate::specs::Stands::StandsWithin))]
     pub fn take_wanted(&mut self, frame: &Frame) -> Result<Tree, TakeFault>
@@ -271,6 +272,8 @@ impl Dissector {
         ensures tree { IfOk result (λ tree. asks_streams self.old.wanted ≡ true → self.old.sparing ≡ false
             → (past : List FrameValue) → StandsWithin past self.old
             → IsKeptTree self.old.wanted (tree_at self.old.decode.rules past frame.now) tree) }
+        ensures lacks { IfOk result (λ tree. (past : List FrameValue) → StandsWithin past self.old
+            → LacksOnly (kept_tree self.old.wanted (tree_at self.old.decode.rules past frame.now)) tree) }
         ensures stands { OnOk result ((past : List FrameValue) → StandsWithin past self.old
             → StandsWithin (frame.now ∷ past) self.new) }
     {
@@ -299,6 +302,9 @@ impl Dissector {
         ensures values { IfOk result (λ tree. (past : List FrameValue) → IsAfter past self.old
             → KeepsFor self.old.state.keeps asked
             → HasSameValues asked (tree_at self.old.decode.rules past frame.now) tree) }
+        ensures lacks { IfOk result (λ tree. (past : List FrameValue) → IsAfter past self.old
+            → KeepsFor self.old.state.keeps asked
+            → LacksOnly (kept_tree asked (tree_at self.old.decode.rules past frame.now)) tree) }
         ensures after { OnOk result ((past : List FrameValue) → IsAfter past self.old
             → IsAfter (frame.now ∷ past) self.new) }
     {

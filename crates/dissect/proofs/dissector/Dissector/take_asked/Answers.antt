@@ -5,7 +5,7 @@ use Rattle.dissect.specs.declared.keeping.Keeping.{Keeping}
 use Rattle.dissect.specs.Keeping.{KeepsFor, KeepsWhole, keeps_all}
 use Rattle.app_layers.specs.Times.{with_time}
 use Rattle.dissect.specs.Trees.{tree_at}
-use Rattle.dissect.proofs.Taken.{Reads, ReadsBy, tree-taken, values-taken, values-read, after-taken}
+use Rattle.dissect.proofs.Taken.{Reads, ReadsBy, tree-taken, lacks-read, lacks-taken, values-taken, values-read, after-taken}
 use Rattle.dissect.proofs.dissector.Dissector.take_asked.Goals as goal
 
 pub returns-in-Ok-clause-tree : goal.returns-in-Ok-clause-tree
@@ -25,6 +25,17 @@ returns-in-Ok-clause-values c = λ past after enough.
     values-read (keeps_all c.args.self.now.state.keeps) c.args.asked (tree_at c.args.self.now.decode.rules past frame) tree
     (tree-taken c.args.asked past frame c.args.self.now c.make_tree.new.state tree same after reads)
     (λ some. values-taken c.args.asked past frame c.args.self.now c.make_tree.new.state tree same after reads enough (enough.links some))
+
+pub returns-in-Ok-clause-lacks : goal.returns-in-Ok-clause-lacks
+returns-in-Ok-clause-lacks c = λ past after enough.
+    let frame = c.args.frame.now in
+    let tree = c.in-Ok.tree in
+    let reads = subst (λ (d : DissectorShown). Reads c.args.asked frame d c.make_tree.new.state tree) c.self.view_is
+    (subst (λ (rules : List PortRule). ReadsBy rules c.args.asked c.args.frame.now c.self.inside.times c.self.inside.state c.make_tree.new.state c.in-Ok.tree) c.slice-rules.ensures c.in-Ok.ensures.walked) in
+    let same = c.make_tree.ensures.added.keeps ∙ ap (λ (d : DissectorShown). d.state.keeps) c.self.view_is in
+    lacks-read (keeps_all c.args.self.now.state.keeps) c.args.asked (tree_at c.args.self.now.decode.rules past frame) tree
+    (tree-taken c.args.asked past frame c.args.self.now c.make_tree.new.state tree same after reads)
+    (λ some. lacks-taken c.args.asked past frame c.args.self.now c.make_tree.new.state tree same after reads enough (enough.links some))
 
 pub returns-in-Ok-clause-after : goal.returns-in-Ok-clause-after
 returns-in-Ok-clause-after c = λ past after.
