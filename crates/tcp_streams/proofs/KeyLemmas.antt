@@ -1,12 +1,16 @@
 -- The conversations over IPv4 have keys of their own.
-use Rattle.std.proofs.Common.{◌≡◌, ℕ, ◌^◌, Bool, true, false, cond, Option, None, Some, is_some, unwrap_or, eqb, ltb, refl, sym, ap, ◌∙◌, inl, inr}
+use Rattle.std.proofs.Common.{◌≡◌, ℕ, List, ◌^◌, Bool, true, false, cond, Option, None, Some, is_some, unwrap_or, eqb, ltb, refl, sym, ap, ◌∙◌, inl, inr}
 use Rattle.std.proofs.lemmas.Bool.{false≢true, cases_Bool, and_parts, eqb-true, eq-eqb}
-use Rattle.indexmap.specs.IndexMap.{get}
+use Rattle.std.specs.BTreeMap as tree
+use Rattle.std.specs.Map.{lookup}
+use Rattle.std.specs.Ordering.{is_eq}
 use Rattle.tcp_streams.specs.declared.ends.End.{End}
 use Rattle.tcp_streams.specs.declared.ends.Ends.{Ends}
 use Rattle.tcp_streams.specs.declared.ends.FourEnds.{FourEnds}
 use Rattle.tcp_streams.specs.declared.newest.Newest.{Newest}
-use Rattle.tcp_streams.specs.Conversations.{narrow, four_at, four_of, same_ends, same_four, number_at, number_of}
+use Rattle.tcp_streams.specs.Conversations.{narrow, four_at, four_of, same_ends, number_at, number_of}
+use Rattle.tcp_streams.specs.KeyOrder.{four_cmp, ends_cmp}
+use Rattle.tcp_streams.proofs.Keys.{ends_tied, four_tied, same_four}
 use Rattle.tcp_streams.proofs.StandsLemmas.{same_ends_is}
 use Rattle.tcp_streams.proofs.SideLemmas.{same_ends_itself}
 
@@ -33,7 +37,7 @@ four_is ends four =
           elim (narrow ends.greater) as (λ (o : Option ℕ). narrow ends.greater ≡ o → four_at (Some low) o ends.lesser.port ends.greater.port ≡ Some four → ends ≡ wide_ends four) [
             | None ↦ λ b e. absurd (false≢true (ap is_some e))
             | Some high ↦ λ b e.
-                let made : FourEnds = record { lesser = low; greater = high; lesser_port = ends.lesser.port; greater_port = ends.greater.port } in
+                let made : FourEnds = record { lesser_port = ends.lesser.port; greater_port = ends.greater.port; lesser = low; greater = high } in
                 let is : made ≡ four = ap (λ (o : Option FourEnds). unwrap_or o made) e in
                 let first : ends.lesser ≡ wide low ends.lesser.port = narrow_is ends.lesser low a in
                 let second : ends.greater ≡ wide high ends.greater.port = narrow_is ends.greater high b in
@@ -44,17 +48,17 @@ four_is ends four =
 
 same_four_is : (a b : FourEnds) → same_four a b ≡ true → a ≡ b
 same_four_is a b e =
-    let one = and_parts (eqb a.lesser b.lesser) _ e in
-    let two = and_parts (eqb a.greater b.greater) _ one.1 in
-    let three = and_parts (eqb a.lesser_port b.lesser_port) _ two.1 in
-    let lesser = eqb-true a.lesser b.lesser one.0 in
-    let greater = eqb-true a.greater b.greater two.0 in
-    let lesser_port = eqb-true a.lesser_port b.lesser_port three.0 in
-    let greater_port = eqb-true a.greater_port b.greater_port three.1 in
-    λ i. record { lesser = lesser i; greater = greater i; lesser_port = lesser_port i; greater_port = greater_port i }
+    let one = and_parts (eqb a.lesser_port b.lesser_port) _ e in
+    let two = and_parts (eqb a.greater_port b.greater_port) _ one.1 in
+    let three = and_parts (eqb a.lesser b.lesser) _ two.1 in
+    let lesser_port = eqb-true a.lesser_port b.lesser_port one.0 in
+    let greater_port = eqb-true a.greater_port b.greater_port two.0 in
+    let lesser = eqb-true a.lesser b.lesser three.0 in
+    let greater = eqb-true a.greater b.greater three.1 in
+    λ i. record { lesser_port = lesser_port i; greater_port = greater_port i; lesser = lesser i; greater = greater i }
 
 same_four_itself : (a : FourEnds) → same_four a a ≡ true
-same_four_itself a = rw (eq-eqb a.lesser a.lesser refl, eq-eqb a.greater a.greater refl, eq-eqb a.lesser_port a.lesser_port refl, eq-eqb a.greater_port a.greater_port refl) refl
+same_four_itself a = rw (eq-eqb a.lesser_port a.lesser_port refl, eq-eqb a.greater_port a.greater_port refl, eq-eqb a.lesser a.lesser refl, eq-eqb a.greater a.greater refl) refl
 
 not_true : (b : Bool) → (b ≡ true → ⊥) → b ≡ false
 not_true true never = absurd (never refl)
@@ -76,21 +80,29 @@ apart_keys : (ends other : Ends) (is there : Option FourEnds) → four_of ends �
 apart_keys ends other is there a b apart = not_true (same_ends ends other) (λ e. apart (ap is_some (sym a ∙ ap four_of (same_ends_is ends other e) ∙ b)))
 
 pub four_set : (old new : Newest) (ends : Ends) (four : FourEnds) (number : ℕ) → four_of ends ≡ Some four → new.others ≡ old.others
-    → ((key : FourEnds) → get same_four new.four key ≡ cond (same_four four key) (Some number) (get same_four old.four key))
+    → ((key : FourEnds) → tree.get four_cmp new.four key ≡ cond (is_eq (four_cmp four key)) (Some number) (tree.get four_cmp old.four key))
     → (other : Ends) → number_of new other ≡ cond (same_ends ends other) (Some number) (number_of old other)
 four_set old new ends four number is others updates other =
     elim (four_of other) as (λ (o : Option FourEnds). four_of other ≡ o → number_at new o other ≡ cond (same_ends ends other) (Some number) (number_at old o other)) [
       | None ↦ λ e. let apart : same_ends ends other ≡ false = apart_keys ends other (Some four) None is e (λ x. false≢true (sym x)) in
-          rw apart (ap (λ m. get same_ends m other) others)
-      | Some key ↦ λ e. updates key ∙ ap (λ (b : Bool). cond b (Some number) (get same_four old.four key)) (same_keys ends other four key is e)
+          rw apart (ap (λ m. tree.get ends_cmp m other) others)
+      | Some key ↦ λ e. updates key ∙ ap (λ (b : Bool). cond b (Some number) (tree.get four_cmp old.four key)) (four_tied four key ∙ same_keys ends other four key is e)
     ] refl
 
 pub other_set : (old new : Newest) (ends : Ends) (number : ℕ) → four_of ends ≡ None → new.four ≡ old.four
-    → ((key : Ends) → get same_ends new.others key ≡ cond (same_ends ends key) (Some number) (get same_ends old.others key))
+    → ((key : Ends) → tree.get ends_cmp new.others key ≡ cond (is_eq (ends_cmp ends key)) (Some number) (tree.get ends_cmp old.others key))
     → (other : Ends) → number_of new other ≡ cond (same_ends ends other) (Some number) (number_of old other)
 other_set old new ends number is four updates other =
     elim (four_of other) as (λ (o : Option FourEnds). four_of other ≡ o → number_at new o other ≡ cond (same_ends ends other) (Some number) (number_at old o other)) [
-      | None ↦ λ e. updates other
+      | None ↦ λ e. updates other ∙ ap (λ (b : Bool). cond b (Some number) (tree.get ends_cmp old.others other)) (ends_tied ends other)
       | Some key ↦ λ e. let apart : same_ends ends other ≡ false = apart_keys ends other None (Some key) is e (λ x. false≢true x) in
-          rw apart (ap (λ m. get same_four m key) four)
+          rw apart (ap (λ m. tree.get four_cmp m key) four)
     ] refl
+
+pub number_kept : (old new : Newest) → new.four.entries ≡ old.four.entries → new.others.entries ≡ old.others.entries
+    → (other : Ends) → number_of new other ≡ number_of old other
+number_kept old new four others other =
+    elim (four_of other) as (λ (o : Option FourEnds). number_at new o other ≡ number_at old o other) [
+      | None ↦ ap (λ (es : List (Ends × ℕ)). lookup (tree.is_at (ends_cmp other)) es) others
+      | Some key ↦ ap (λ (es : List (FourEnds × ℕ)). lookup (tree.is_at (four_cmp key)) es) four
+    ]

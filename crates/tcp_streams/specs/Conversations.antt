@@ -3,12 +3,13 @@ use Rattle.std.specs.Prelude.{◌==◌, ◌^◌, ℕ, Bool, true, false, not, �
 use Rattle.pk_base.specs.declared.heads.Address.{Address}
 use Rattle.pk_base.specs.declared.heads.Address.TheVariants.{Four, Six}
 use Rattle.pk_base.specs.declared.heads.Endpoint.{Endpoint}
-use Rattle.indexmap.specs.IndexMap.{get}
+use Rattle.std.specs.BTreeMap as tree
 use Rattle.tcp_streams.specs.declared.ends.End.{End}
 use Rattle.tcp_streams.specs.declared.ends.Ends.{Ends}
 use Rattle.tcp_streams.specs.declared.ends.FourEnds.{FourEnds}
 use Rattle.tcp_streams.specs.declared.newest.Newest.{Newest}
 use Rattle.tcp_streams.specs.declared.segment.Segment.{Segment}
+use Rattle.tcp_streams.specs.KeyOrder.{four_cmp, ends_cmp}
 
 abbrev pub end_at : Address → ℕ → End
 end_at (Four address) port = record { six = false; address = address; port = port }
@@ -55,12 +56,9 @@ four_at (Some lesser) (Some greater) lesser_port greater_port =
 abbrev pub four_of : Ends → Option FourEnds
 four_of ends = four_at (narrow ends.lesser) (narrow ends.greater) ends.lesser.port ends.greater.port
 
-abbrev pub same_four : FourEnds → FourEnds → Bool
-same_four one other = one.lesser == other.lesser && (one.greater == other.greater && (one.lesser_port == other.lesser_port && one.greater_port == other.greater_port))
-
 abbrev pub number_at : Newest → Option FourEnds → Ends → Option ℕ
-number_at newest None ends = get same_ends newest.others ends
-number_at newest (Some four) ends = get same_four newest.four four
+number_at newest None ends = tree.get ends_cmp newest.others ends
+number_at newest (Some four) ends = tree.get four_cmp newest.four four
 
 -- the number of a conversation's newest stream, as it is kept
 abbrev pub number_of : Newest → Ends → Option ℕ

@@ -2,6 +2,7 @@ pub mod Numbers
 pub mod Gaps
 pub mod Ways
 pub mod States
+pub mod KeyOrder
 pub mod Conversations
 pub mod Labels
 pub mod Acknowledged

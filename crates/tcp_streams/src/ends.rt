@@ -6,7 +6,7 @@ use crate::segment::Segment;
 use pk_base::{Address, Endpoint};
 
 /// An end of a conversation.
-#[derive(Clone, Copy, PartialEq, Eq, Hash)]
+#[derive(Clone, Copy, PartialEq, Eq, PartialOrd, Ord, Hash)]
 pub struct End {
     /// Whether the address is one of IPv6.
     pub six: bool,
@@ -15,19 +15,20 @@ pub struct End {
 }
 
 /// The two ends of a conversation, in their order, so that both directions have the same.
-#[derive(Clone, Copy, PartialEq, Eq, Hash)]
+#[derive(Clone, Copy, PartialEq, Eq, PartialOrd, Ord, Hash)]
 pub struct Ends {
     pub lesser: End,
     pub greater: End,
 }
 
-/// The two ends of a conversation over IPv4, in their order.
-#[derive(Clone, Copy, PartialEq, Eq, Hash)]
+/// The two ends of a conversation over IPv4, in their order. Such ends are compared by their fields in this order, and most differ
+/// in a port.
+#[derive(Clone, Copy, PartialEq, Eq, PartialOrd, Ord)]
 pub(crate) struct FourEnds {
-    pub lesser: u32,
-    pub greater: u32,
     pub lesser_port: u16,
     pub greater_port: u16,
+    pub lesser: u32,
+    pub greater: u32,
 }
 
 /// The ends of a conversation in fewer bytes, if both are of IPv4.
@@ -36,10 +37,10 @@ pub(crate) fn four_of(ends: Ends) -> Option<FourEnds>
 {
     match (narrow(ends.lesser), narrow(ends.greater)) {
         (Some(lesser), Some(greater)) => Some(FourEnds {
-            lesser,
-            greater,
             lesser_port: ends.lesser.port,
             greater_port: ends.greater.port,
+            lesser,
+            greater,
         }),
         _ => None,
     }

@@ -22,6 +22,7 @@ mod ways;
 
 pub use ends::{End, Ends, ends_between};
 pub use laws::{gaps_passed, places_acknowledged};
+pub use newest::Newest;
 pub use segment::{Segment, Taken};
 pub use stream_places::StreamPlaces;
 pub use streams::Streams;
