@@ -1,22 +1,20 @@
 -- A map that holds the sums of notes, after one more note.
-use Rattle.std.proofs.Common.{◌≡◌, ℕ, Bool, true, false, cond, List, [], ◌∷◌, ◌++◌, map, Option, Some, is_some, IsSome, refl, sym, ap, subst, ◌∙◌}
+use Rattle.std.proofs.Common.{◌≡◌, ℕ, Bool, true, false, cond, List, [], ◌∷◌, ◌++◌, map, Option, Some, None, is_some, IsSome, refl, sym, ap, subst, ◌∙◌}
 use Rattle.std.proofs.lemmas.List.{map-id}
 use Rattle.std.proofs.lemmas.Map.Made.{is_some-lookup}
 use Rattle.std.specs.BTreeMap as tree
 use Rattle.std.specs.List.{list_any}
 use Rattle.std.specs.Ordering.{nat_cmp}
-use Rattle.indexmap.specs.IndexMap as index
-use Rattle.indexmap.proofs.CallerLemmas.{keys-insert_entry-present}
 use Rattle.cap_stats.specs.declared.counts.Talk.{Talk}
 use Rattle.cap_stats.specs.declared.pairs.Pairs.{Pairs}
 use Rattle.cap_stats.specs.declared.party.Flight.{Flight}
 use Rattle.cap_stats.specs.declared.streams.Streams.{Streams}
-use Rattle.cap_stats.specs.Counts.{talk_of}
-use Rattle.cap_stats.specs.Keys.{place, same_number, numbers_in, same_pair, pairs_in}
+use Rattle.cap_stats.specs.Counts.{of_key, talk_of}
+use Rattle.cap_stats.specs.Keys.{place, same_number, numbers_in, same_pair, pair_cmp, pairs_in}
 use Rattle.cap_stats.specs.Stands.{HasStreams, HasPairs}
 use Rattle.cap_stats.specs.Steps.{talk_after}
 use Rattle.cap_stats.proofs.CountLemmas.{talk_more}
-use Rattle.cap_stats.proofs.KeyLemmas.{noted, numbers_equal, pairs_equal, placed, appended}
+use Rattle.cap_stats.proofs.KeyLemmas.{noted, numbers_equal, pair_itself, pair_tied, pairs_equal, placed, there}
 
 -- the keys, which stay where the key is among them
 pub keys_noted : {K : Type 0} (same : K → K → Bool) (put : K → List K → List K) (key : K) (old new keys : List K) (present : Bool)
@@ -54,24 +52,49 @@ stream_noted old new key flight talk seen notes is found stays entries updates h
           (tree.get nat_cmp old.all) (tree.get nat_cmp new.all) key flight talk notes has.talks is updates.0;
     }
 
-pub pair_noted : (old new : Pairs) (key : ℕ × ℕ) (flight : Flight) (talk : Talk) (seen : Option Talk) (notes : List ((ℕ × ℕ) × Flight))
-    → talk ≡ talk_after (index.get same_pair old.all key) flight
-    → seen ≡ index.get same_pair old.all key
-    → new.all.entries ≡ index.insert_entry same_pair old.all.entries key talk
-    → index.Updates same_pair old.all new.all key (Some talk)
-    → HasPairs notes old → HasPairs ((key, flight) ∷ notes) new
+-- two addresses are among those of the packets where there are packets between them
+pair_there : (pair : ℕ × ℕ) (notes : List ((ℕ × ℕ) × Flight)) → is_some (talk_of (of_key same_pair pair notes)) ≡ list_any (same_pair pair) (pairs_in notes)
+unfolding talk_of pairs_in
+pair_there pair notes = there same_pair pairs_equal pair_itself talk_of refl (λ f fs. refl) pair notes
+
+pairs_kept : (pair : ℕ × ℕ) (flight : Flight) (notes : List ((ℕ × ℕ) × Flight)) (any : Bool) → list_any (same_pair pair) (pairs_in notes) ≡ any
+    → cond any (pairs_in notes) (pairs_in notes ++ pair ∷ []) ≡ pairs_in ((pair, flight) ∷ notes)
 unfolding pairs_in
-pair_noted old new key flight talk seen notes is found entries updates has =
-    let there : is_some seen ≡ list_any (same_pair key) (index.keys old.all) =
-    ap (λ (o : Option Talk). is_some o) found ∙ is_some-lookup (same_pair key) old.all.entries in
-    let goes : is_some seen ≡ false → index.keys new.all ≡ index.keys old.all ++ key ∷ [] =
-    λ none. ap (λ (es : List ((ℕ × ℕ) × Talk)). map (λ (e : (ℕ × ℕ) × Talk). e.0) es) entries
-    ∙ appended same_pair key talk old.all.entries (sym there ∙ none) in
-    let stays : is_some seen ≡ true → index.keys new.all ≡ index.keys old.all =
-    λ some. ap (λ (es : List ((ℕ × ℕ) × Talk)). map (λ (e : (ℕ × ℕ) × Talk). e.0) es) entries
-    ∙ keys-insert_entry-present same_pair old.all key talk (sym (ap (λ (o : Option Talk). is_some o) found) ∙ some) in
+pairs_kept pair flight notes any is = ap (λ (b : Bool). cond b (pairs_in notes) (pairs_in notes ++ pair ∷ [])) (sym is)
+
+talks_noted : (old new : Pairs) (pair : ℕ × ℕ) (flight : Flight) (talk : Talk) (notes : List ((ℕ × ℕ) × Flight))
+    → ((q : ℕ × ℕ) → tree.get pair_cmp old.all q ≡ talk_of (of_key same_pair q notes))
+    → talk ≡ talk_after (tree.get pair_cmp old.all pair) flight
+    → tree.Updates pair_cmp old.all new.all pair (Some talk)
+    → (q : ℕ × ℕ) → tree.get pair_cmp new.all q ≡ talk_of (of_key same_pair q ((pair, flight) ∷ notes))
+talks_noted old new pair flight talk notes held is updates =
+    noted same_pair pairs_equal talk_of talk_after talk_more (tree.get pair_cmp old.all) (tree.get pair_cmp new.all) pair flight talk notes held is
+    (λ q. updates.0 q ∙ ap (λ (b : Bool). cond b (Some talk) (tree.get pair_cmp old.all q)) (pair_tied pair q))
+
+-- a packet between two addresses that are new
+pub pair_put : (old new : Pairs) (pair : ℕ × ℕ) (flight : Flight) (talk : Talk) (notes : List ((ℕ × ℕ) × Flight))
+    → tree.get pair_cmp old.all pair ≡ None
+    → talk ≡ talk_after None flight
+    → new.order.items ≡ old.order.items ++ pair ∷ []
+    → tree.Updates pair_cmp old.all new.all pair (Some talk)
+    → HasPairs notes old → HasPairs ((pair, flight) ∷ notes) new
+pair_put old new pair flight talk notes none is order updates has =
+    let absent : list_any (same_pair pair) (pairs_in notes) ≡ false = sym (pair_there pair notes) ∙ ap is_some (sym (has.talks pair) ∙ none) in
     record {
-      keys_are = keys_noted same_pair (λ k ks. ks ++ k ∷ []) key (index.keys old.all) (index.keys new.all) (pairs_in notes) (is_some seen) has.keys_are there stays goes;
-      talks = noted same_pair pairs_equal talk_of talk_after talk_more
-          (index.get same_pair old.all) (index.get same_pair new.all) key flight talk notes has.talks is updates.0;
+      keys_are = order ∙ ap (λ (keys : List (ℕ × ℕ)). keys ++ pair ∷ []) has.keys_are ∙ pairs_kept pair flight notes false absent;
+      talks = talks_noted old new pair flight talk notes has.talks (is ∙ ap (λ (o : Option Talk). talk_after o flight) (sym none)) updates;
+    }
+
+-- and between two that are there
+pub pair_raised : (old new : Pairs) (pair : ℕ × ℕ) (flight : Flight) (was talk : Talk) (notes : List ((ℕ × ℕ) × Flight))
+    → tree.get pair_cmp old.all pair ≡ Some was
+    → talk ≡ talk_after (Some was) flight
+    → new.order.items ≡ old.order.items
+    → tree.Updates pair_cmp old.all new.all pair (Some talk)
+    → HasPairs notes old → HasPairs ((pair, flight) ∷ notes) new
+pair_raised old new pair flight was talk notes some is order updates has =
+    let present : list_any (same_pair pair) (pairs_in notes) ≡ true = sym (pair_there pair notes) ∙ ap is_some (sym (has.talks pair) ∙ some) in
+    record {
+      keys_are = order ∙ has.keys_are ∙ pairs_kept pair flight notes true present;
+      talks = talks_noted old new pair flight talk notes has.talks (is ∙ ap (λ (o : Option Talk). talk_after o flight) (sym some)) updates;
     }

@@ -1,12 +1,11 @@
 -- A table, from what a map holds.
-use Rattle.std.proofs.Common.{◌≡◌, ℕ, List, [], ◌∷◌, ◌++◌, length, map, decimal, codes, Option, sym, ap, ◌∙◌, append_assoc, string_bytes, String, Global}
-use Rattle.std.proofs.lemmas.List.{length-map}
+use Rattle.std.proofs.Common.{◌≡◌, ◌+◌, ◌<◌, ℕ, List, [], ◌∷◌, ◌++◌, drop, get_or, length, map, decimal, codes, Option, sym, ap, ◌∙◌, append_assoc, string_bytes, String, Global}
+use Rattle.std.proofs.lemmas.List.{drop_more, length-map}
 use Rattle.std.proofs.lemmas.List.Folds.{flat_map-map}
 use Rattle.std.specs.BTreeMap as tree
 use Rattle.std.specs.List.{flat_map}
 use Rattle.std.specs.Ordering.{nat_cmp}
 use Rattle.std.specs.Str.{bytes_eq}
-use Rattle.indexmap.specs.IndexMap as index
 use Rattle.cap_stats.specs.declared.counts.Tally.{Tally}
 use Rattle.cap_stats.specs.declared.counts.Talk.{Talk}
 use Rattle.cap_stats.specs.declared.pairs.Pairs.{Pairs}
@@ -14,7 +13,7 @@ use Rattle.cap_stats.specs.declared.party.Flight.{Flight}
 use Rattle.cap_stats.specs.declared.paths.Paths.{Paths}
 use Rattle.cap_stats.specs.declared.streams.Streams.{Streams}
 use Rattle.cap_stats.specs.Counts.{of_key, sizes_tally, talk_of}
-use Rattle.cap_stats.specs.Keys.{same_number, numbers_in, same_pair, pairs_in, texts_in}
+use Rattle.cap_stats.specs.Keys.{same_number, numbers_in, same_pair, pair_cmp, pairs_in, texts_in}
 use Rattle.cap_stats.specs.Stands.{HasStreams, HasPairs, HasPaths}
 use Rattle.cap_stats.specs.Tables.{table_with, stream_line, pair_line, path_line, streams_table, pairs_table, paths_table}
 
@@ -39,14 +38,24 @@ streams_made streams notes count text counted written has =
     made (codes "conv tcp ") count (tree.keys streams.all) (numbers_in notes) (tree.get nat_cmp streams.all) (λ n. talk_of (of_key same_number n notes)) stream_line text
     has.keys_are (counted ∙ sym (length-map streams.all.entries (λ (e : ℕ × Talk). e.0))) has.talks written
 
+-- a list of lines, with one line more of it written
+pub line_written : {K : Type 0} (line : K → List ℕ) (keys : List K) (at : ℕ) (key : K) (before after whole : List ℕ) → at < length keys
+    → after ≡ before ++ line (get_or keys at key)
+    → before ++ flat_map line (drop at keys) ≡ whole
+    → after ++ flat_map line (drop (at + 1) keys) ≡ whole
+line_written line keys at key before after whole inside written goes =
+    ap (λ (text : List ℕ). text ++ flat_map line (drop (at + 1) keys)) written
+    ∙ append_assoc before (line (get_or keys at key)) (flat_map line (drop (at + 1) keys))
+    ∙ sym (ap (λ ks. before ++ flat_map line ks) (drop_more keys at key inside)) ∙ goes
+
 pub pairs_made : (pairs : Pairs) (notes : List ((ℕ × ℕ) × Flight)) (count : ℕ) (text : List ℕ)
-    → count ≡ index.index_map_len pairs.all
-    → text ≡ (codes "conv ip " ++ (decimal count ++ 10 ∷ [])) ++ flat_map (λ p. pair_line (index.get same_pair pairs.all p)) (index.keys pairs.all)
+    → count ≡ length pairs.order.items
+    → text ≡ (codes "conv ip " ++ (decimal count ++ 10 ∷ [])) ++ flat_map (λ p. pair_line (tree.get pair_cmp pairs.all p)) pairs.order.items
     → HasPairs notes pairs → text ≡ pairs_table notes
 unfolding pairs_table
 pairs_made pairs notes count text counted written has =
-    made (codes "conv ip ") count (index.keys pairs.all) (pairs_in notes) (index.get same_pair pairs.all) (λ p. talk_of (of_key same_pair p notes)) (λ p. pair_line) text
-    has.keys_are (counted ∙ sym (length-map pairs.all.entries (λ (e : (ℕ × ℕ) × Talk). e.0))) has.talks written
+    made (codes "conv ip ") count pairs.order.items (pairs_in notes) (tree.get pair_cmp pairs.all) (λ p. talk_of (of_key same_pair p notes)) (λ p. pair_line) text
+    has.keys_are counted has.talks written
 
 pub paths_made : (paths : Paths) (notes : List (List ℕ × ℕ)) (count : ℕ) (text : List ℕ)
     → count ≡ tree.btree_map_len paths.all

@@ -3,7 +3,7 @@ use Rattle.std.specs.Prelude.{ℕ, ◌==◌, ◌&&◌, Bool, if◌then◌else◌
 use Rattle.std.specs.declared.cmp.Ordering.{Ordering}
 use Rattle.std.specs.Cmp.Lexicographic.{slice_cmp}
 use Rattle.std.specs.List.{list_any}
-use Rattle.std.specs.Ordering.{nat_cmp, is_eq, is_lt}
+use Rattle.std.specs.Ordering.{nat_cmp, is_eq, is_lt, ordering_then}
 use Rattle.std.specs.Str.{bytes_eq}
 
 -- a new key among others: before the first that is above it
@@ -43,3 +43,7 @@ same_pair one other = one.0 == other.0 && one.1 == other.1
 
 unfoldable pub pairs_in : {F : Type 0} → List ((ℕ × ℕ) × F) → List (ℕ × ℕ)
 pairs_in notes = in_turn same_pair notes
+
+-- the order by which pairs are looked for
+abbrev pub pair_cmp : ℕ × ℕ → ℕ × ℕ → Ordering
+pair_cmp one other = ordering_then (nat_cmp one.0 other.0) (nat_cmp one.1 other.1)

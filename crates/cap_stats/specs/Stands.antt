@@ -4,7 +4,6 @@ use Rattle.std.specs.BTreeMap as tree
 use Rattle.std.specs.Ordering.{nat_cmp}
 use Rattle.std.specs.Str.{bytes_eq}
 use Rattle.std.specs.String.{string_bytes}
-use Rattle.indexmap.specs.IndexMap as index
 use Rattle.pk_tree.specs.Trees.{TreeShown}
 use Rattle.cap_stats.specs.declared.kind.StatKind.{StatKind}
 use Rattle.cap_stats.specs.declared.kind.StatKind.TheVariants.{ConvTcp, ConvIp, Phs}
@@ -14,7 +13,7 @@ use Rattle.cap_stats.specs.declared.paths.Paths.{Paths}
 use Rattle.cap_stats.specs.declared.stats.Stats.{Stats}
 use Rattle.cap_stats.specs.declared.streams.Streams.{Streams}
 use Rattle.cap_stats.specs.Counts.{of_key, sizes_tally, talk_of}
-use Rattle.cap_stats.specs.Keys.{same_number, numbers_in, texts_in, same_pair, pairs_in}
+use Rattle.cap_stats.specs.Keys.{same_number, numbers_in, texts_in, same_pair, pair_cmp, pairs_in}
 use Rattle.cap_stats.specs.Tables.{segments_of, packets_of, paths_of}
 
 -- the streams of segments
@@ -25,8 +24,8 @@ pub record HasStreams (notes : List (ℕ × Flight)) (streams : Streams) : Type 
 
 -- the pairs of packets
 pub record HasPairs (notes : List ((ℕ × ℕ) × Flight)) (pairs : Pairs) : Type 0 where
-  pub keys_are : index.keys pairs.all ≡ pairs_in notes
-  pub talks : (pair : ℕ × ℕ) → index.get same_pair pairs.all pair
+  pub keys_are : pairs.order.items ≡ pairs_in notes
+  pub talks : (pair : ℕ × ℕ) → tree.get pair_cmp pairs.all pair
       ≡ talk_of (of_key same_pair pair notes)
 
 -- the paths of frames
