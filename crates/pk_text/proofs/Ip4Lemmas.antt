@@ -1,14 +1,17 @@
 -- `ip4_of` reads the text of an address, and no other text.
-use Rattle.std.proofs.Common.{◌≡◌, ℕ, zero, suc, ◌/◌, ◌%◌, ◌^◌, ◌<◌, false, ◌&&◌, eqb, ltb, List, [], ◌∷◌, ◌++◌, codes, length, get_or, Option, Some, None, IfSome, refl, sym, ap, ap₂, ◌∙◌, arith, lit<, lit≤, inl, inr, cond}
+use Rattle.std.proofs.Common.{◌≡◌, ℕ, zero, suc, ◌/◌, ◌%◌, ◌^◌, ◌<◌, false, ◌&&◌, eqb, ltb, List, [], ◌∷◌, ◌++◌, codes, length, get_or, Option, Some, None, IfSome, refl, sym, ap, ap₂, ◌∙◌, arith, lit<, lit≤, inl, inr, cond, subst}
 use Rattle.std.specs.Option.{option_and_then}
-use Rattle.std.specs.List.{join_by}
+use Rattle.std.specs.List.{All, join_by}
 use Rattle.std.specs.Fmt.{decimal}
 use Rattle.std.specs.Int.{w32, from_be_bytes}
 use Rattle.std.specs.Str.Parse.{IsNumeral, AllDigits, digits_value}
 use Rattle.std.proofs.lemmas.Bool.{cases_eq, cond-true, cond-false, cond_both, lt-ltb, le-ltb, ltb-true, ltb-false, and_cases, and_left, and_right, ne_eqb, eqb-false}
 use Rattle.std.proofs.lemmas.Option.{none-some, same_Some, cond_some, option_and_then_some}
 use Rattle.std.proofs.lemmas.Str.Parse.{numerals_by_value, tells_digits}
-use Rattle.std.proofs.lemmas.Fmt.{decimal_is_IsNumeral, decimal-digits_value, length-decimal-le}
+use Rattle.std.proofs.lemmas.Fmt.{IsAscii-decimal, decimal_is_IsNumeral, decimal-digits_value, length-decimal-le}
+use Rattle.std.proofs.lemmas.Str.{IsAscii-append}
+use Rattle.std.proofs.lemmas.Str.Ascii.{All-from_ascii}
+use Rattle.std.specs.Str.{IsAscii}
 use Rattle.std.proofs.lemmas.List.{append-nil}
 use Rattle.std.proofs.lemmas.Nat.{be_bytes_4, from_be_bytes-to_be_bytes_4}
 use Rattle.pk_text.specs.Digits.{short_read}
@@ -122,3 +125,20 @@ ip4_reading t v h =
 pub ip4_only : (t : List ℕ) (r : Option ℕ) → r ≡ ip4_of t → IfSome r (λ v. t ≡ ip4_shown v)
 ip4_only t None e = tt
 ip4_only t (Some v) e = ip4_reading t v (sym e)
+
+-- its characters are ASCII
+dotted_ascii : (a b c d : ℕ) → a < 256 → b < 256 → c < 256 → d < 256 → IsAscii (dotted (decimal a) (decimal b) (decimal c) (decimal d))
+dotted_ascii a b c d ha hb hc hd =
+    IsAscii-append (decimal a) _ (part a ha) (behind _ (IsAscii-append (decimal b) _ (part b hb) (behind _ (IsAscii-append (decimal c) _ (part c hc) (behind (decimal d) (part d hd))))))
+  where
+    part : (n : ℕ) → n < 256 → IsAscii (decimal n)
+    part n small = IsAscii-decimal n (omega arith)
+
+    behind : (text : List ℕ) → IsAscii text → IsAscii (46 ∷ text)
+    behind text ascii zero = lit< tt
+    behind text ascii (suc i) = ascii i
+
+pub ip4_ascii : (v : ℕ) → All (λ byte. byte < 128) (ip4_shown v)
+ip4_ascii v =
+    subst (λ (text : List ℕ). All (λ byte. byte < 128) text) (sym (ip4_shown-dotted v))
+    (All-from_ascii _ (dotted_ascii (v / 2 ^ 24 % 256) (v / 2 ^ 16 % 256) (v / 2 ^ 8 % 256) (v % 256) (omega arith) (omega arith) (omega arith) (omega arith)))

@@ -22,13 +22,13 @@ best_from groups (group ∷ rest) at best e so_far =
     (best_taken groups at best.0 best.1 inside so_far (omega (arith, ltb-true best.1 count longer, counted))))
     (λ no_longer. best_kept groups at best.0 best.1 so_far (omega (arith, ltb-false best.1 count no_longer, counted))))
 
-written_text : (groups : List ℕ) (run : ℕ × ℕ) → IsBestRun groups run.0 run.1 → IsIp6Text groups (groups_written groups run)
+pub written_text : (groups : List ℕ) (run : ℕ × ℕ) → IsBestRun groups run.0 run.1 → IsIp6Text groups (groups_written groups run)
 written_text groups run best =
     cond_both (ltb run.1 2) _ _ (IsIp6Text groups)
     (λ few. plain_text groups _ run.0 run.1 best (ltb-true run.1 2 few) refl)
     (λ many. shortened_text groups _ run.0 run.1 best (ltb-false run.1 2 many) refl)
 
-shown_text : (address : ℕ) → IsIp6Text (groups_of address) (ip6_shown address)
+pub shown_text : (address : ℕ) → IsIp6Text (groups_of address) (ip6_shown address)
 unfolding ip6_shown
 shown_text address =
     let groups = groups_of address in
@@ -72,3 +72,8 @@ text_shown address text h = one_text (groups_of address) text (ip6_shown address
 -- the text of an address is read as the address
 pub ip6_from_shown : (address : ℕ) → address < 2 ^ 128 → ip6_of (ip6_shown address) ≡ Some address
 ip6_from_shown address small = ip6_from_text address (ip6_shown address) small (shown_text address)
+
+-- what is written by the best run
+pub run_shown : (address : ℕ) (groups : List ℕ) (at count : ℕ) → groups ≡ groups_of address → IsBestRun groups at count → groups_written groups (at, count) ≡ ip6_shown address
+run_shown address groups at count is best =
+    text_shown address (groups_written groups (at, count)) (subst (λ (gs : List ℕ). IsIp6Text gs (groups_written groups (at, count))) is (written_text groups (at, count) best))

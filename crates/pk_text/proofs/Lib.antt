@@ -1,6 +1,8 @@
 pub mod CutLemmas
 pub mod DigitsLemmas
+pub mod EscapeLemmas
 pub mod EtherLemmas
+pub mod GroupLemmas
 pub mod HexLemmas
 pub mod Ip4Lemmas
 pub mod Ip6Lemmas

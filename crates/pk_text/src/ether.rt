@@ -6,7 +6,7 @@ ghost use Rattle.pk_text.specs.Ether.{IsEtherForm, ether_of, ether_separator, et
 ghost use Rattle.pk_text.specs.Pairs.{PairsForm, pairs_text, pairs_value};
 
 use crate::pairs::read_pairs;
-use crate::puts::{TextSink, put_pair};
+use crate::puts::{TextSink, high_digit, low_digit, put_pair};
 use pk_base::NoMemory;
 use std::alloc::Global;
 
@@ -49,8 +49,7 @@ fn put_further_pairs<S: TextSink>(sink: &mut S, bytes: &[u8]) -> Result<(), NoMe
         ≡ S.taken sink.old ++ flat_map (λ byte. codes ":" ++ hex_pair byte) bytes.now) }
 {
     for byte in bytes {
-        sink.put_ascii(b':')?;
-        put_pair(sink, *byte)?;
+        sink.put_digits(&[b':', high_digit(*byte), low_digit(*byte)])?;
     }
     Ok(())
 }

@@ -1,9 +1,11 @@
-ghost use Rattle.std.specs.Prelude.{◌≡◌, ℕ, ◌^◌, ◌<◌, ◌++◌, codes, decimal, IfOk, IfSome, OnOk};
+ghost use Rattle.std.specs.Prelude.{◌≡◌, ℕ, ◌+◌, ◌^◌, ◌<◌, ◌≤◌, ◌++◌, codes, decimal, length, IfOk, IfSome, OnOk};
 ghost use Rattle.std.specs.String.{string_bytes};
+ghost use Rattle.pk_text.specs.Places.{Placed};
 ghost use Rattle.pk_text.specs.Ip4.{address_of, ip4_of, ip4_shown, part_read};
 
 use crate::digits::read_short;
-use crate::puts::{TextSink, put_number};
+use crate::places::{place_byte, place_small};
+use crate::puts::TextSink;
 use pk_base::NoMemory;
 use std::alloc::Global;
 
@@ -25,22 +27,37 @@ pub fn ip4_text(alloc: Global, v: u32) -> Result<String, NoMemory>
 }
 
 /// Appends an IPv4 address as four decimal numbers, joined by `.`.
-#[tactic(auto, unfolding(crate::specs::Ip4::ip4_shown))]
+#[tactic(auto, using(crate::proofs::Ip4Lemmas::ip4_ascii))]
 pub fn put_ip4<S: TextSink>(sink: &mut S, address: u32) -> Result<(), NoMemory>
     ensures { OnOk result (S.taken sink.new ≡ S.taken sink.old ++ ip4_shown address) }
 {
-    let [a, b, c, d] = address.to_be_bytes();
-    put_number(sink, u64::from(a))?;
-    put_part(sink, b)?;
-    put_part(sink, c)?;
-    put_part(sink, d)
+    let mut text = [0; TEXT_LEN];
+    let end = place_address(&mut text, address);
+    sink.put_digits(&text[..end])
 }
 
-fn put_part<S: TextSink>(sink: &mut S, part: u8) -> Result<(), NoMemory>
-    ensures { OnOk result (S.taken sink.new ≡ S.taken sink.old ++ (codes "." ++ decimal part)) }
+/// Stores an address at the front of a room, and tells where it ends.
+#[tactic(auto, unfolding(crate::specs::Ip4::ip4_shown))]
+fn place_address(room: &mut [u8], address: u32) -> usize
+    requires { 15 ≤ length room.old }
+    ensures text { Placed room.old room.new 0 (ip4_shown address) result }
+    ensures short { result ≤ 15 }
 {
-    sink.put_ascii(b'.')?;
-    put_number(sink, u64::from(part))
+    let [a, b, c, d] = address.to_be_bytes();
+    let at = place_small(room, 0, u64::from(a));
+    let at = place_part(room, at, b);
+    let at = place_part(room, at, c);
+    place_part(room, at, d)
+}
+
+#[inline(always)]
+fn place_part(room: &mut [u8], at: usize, part: u8) -> usize
+    requires { at + 4 ≤ length room.old }
+    ensures text { Placed room.old room.new at (codes "." ++ decimal part) result }
+    ensures short { result ≤ at + 4 }
+{
+    let at = place_byte(room, at, b'.');
+    place_small(room, at, u64::from(part))
 }
 
 /// Reads an IPv4 address: four decimal numbers from 0 to 255 without leading zeros, joined by `.`.

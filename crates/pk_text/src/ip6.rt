@@ -1,11 +1,13 @@
-ghost use Rattle.std.specs.Prelude.{◌≡◌, ℕ, [], ◌+◌, ◌-◌, ◌*◌, ◌^◌, ◌<◌, ◌≤◌, ◌++◌, ◌/◌, ◌%◌, ◌==◌, IfOk, IfSome, OnOk, option_and_then, nat_lt, if◌then◌else◌};
+ghost use Rattle.std.specs.Prelude.{◌≡◌, ℕ, false, codes, length, ◌+◌, ◌-◌, ◌*◌, ◌^◌, ◌<◌, ◌≤◌, ◌++◌, ◌/◌, ◌%◌, ◌==◌, IfOk, IfSome, OnOk, option_and_then, nat_lt, if◌then◌else◌};
 ghost use Rattle.std.specs.String.{string_bytes};
 ghost use Rattle.std.specs.Option.{option_map};
-ghost use Rattle.std.specs.List.{prefix_len};
+ghost use Rattle.std.specs.List.{flat_map, prefix_len};
+ghost use Rattle.std.specs.Fmt.{digits};
 ghost use Rattle.pk_text.specs.Digits.{short_read};
-ghost use Rattle.pk_text.specs.Ip6.{Ip6Form, IsIp6Form, IsIp6Text, IsBestRun, groups_of, groups_shown, ip6_form_text, ip6_form_value, ip6_of, ip6_shown, gap_in, side_of, side_more, shortened_of, whole_of};
+ghost use Rattle.pk_text.specs.Ip6.{Ip6Form, IsIp6Form, IsIp6Text, IsBestRun, groups_of, groups_shown, groups_written, ip6_form_text, ip6_form_value, ip6_of, ip6_shown, gap_in, side_of, side_more, shortened_of, whole_of};
 
 use crate::digits::read_short;
+use crate::puts::{TextSink, high_digit, low_digit};
 use pk_base::NoMemory;
 use std::alloc::Global;
 
@@ -36,15 +38,24 @@ struct Side {
 }
 
 /// An IPv6 address as RFC 5952 recommends, without the dotted form.
+#[tactic(auto, using(crate::proofs::Ip6ShownLemmas::shown_text, crate::proofs::Ip6ShownLemmas::ip6_from_shown))]
 pub fn ip6_text(alloc: Global, v: u128) -> Result<String, NoMemory>
     ensures recommended { IfOk result (λ text. IsIp6Text (groups_of v) (string_bytes text)) }
     // RFC 5952 recommends one text, and a definition computes it.
     ensures text { IfOk result (λ text. string_bytes text ≡ ip6_shown v) }
     ensures reads_back { IfOk result (λ text. ip6_of (string_bytes text) ≡ Some v) }
 {
-    let groups = groups_of(v);
-    let text = groups_text(alloc, &groups)?;
+    let mut text = String::with_capacity(alloc, TEXT_LEN)?;
+    put_ip6(&mut text, v)?;
     Ok(text)
+}
+
+/// Appends an IPv6 address as RFC 5952 recommends.
+pub fn put_ip6<S: TextSink>(sink: &mut S, address: u128) -> Result<(), NoMemory>
+    ensures { OnOk result (S.taken sink.new ≡ S.taken sink.old ++ ip6_shown address) }
+{
+    let groups = groups_of(address);
+    put_address(sink, &groups, best_run(&groups))
 }
 
 /// The groups of an address, the highest first.
@@ -71,41 +82,62 @@ fn group_at(address: u128, place: u32) -> u16
     ((address >> place) % GROUP) as u16
 }
 
-fn groups_text(alloc: Global, groups: &[u16]) -> Result<String, NoMemory>
-    ensures { IfOk result (λ text. IsIp6Text groups.now (string_bytes text)) }
-{
-    let mut text = String::with_capacity(alloc, TEXT_LEN)?;
-    push_address(&mut text, groups, best_run(groups))?;
-    Ok(text)
-}
-
-/// Appends the groups, of which the best run is shortened where it is longer than a group.
-#[tactic(auto, using(crate::proofs::Ip6RunLemmas::plain_text, crate::proofs::Ip6RunLemmas::shortened_text))]
-fn push_address(text: &mut String, groups: &[u16], run: Run) -> Result<(), NoMemory>
-    requires best { IsBestRun groups.now run.start run.count }
-    requires empty { string_bytes text.old ≡ [] }
-    ensures { OnOk result (IsIp6Text groups.now (string_bytes text.new)) }
+/// Appends the groups, of which the run is shortened where it is longer than a group.
+fn put_address<S: TextSink>(sink: &mut S, groups: &[u16], run: Run) -> Result<(), NoMemory>
+    requires { run.start + run.count ≤ length groups.now }
+    ensures { OnOk result (S.taken sink.new
+        ≡ S.taken sink.old ++ groups_written groups.now (run.start, run.count)) }
 {
     if run.count < 2 {
-        return push_groups(text, groups);
+        return put_groups(sink, groups);
     }
-    push_groups(text, &groups[..run.start])?;
-    text.push_str("::")?;
-    push_groups(text, &groups[run.start + run.count..])
+    put_groups(sink, &groups[..run.start])?;
+    sink.put_text("::")?;
+    put_groups(sink, &groups[run.start + run.count..])
 }
 
-fn push_groups(text: &mut String, groups: &[u16]) -> Result<(), NoMemory>
-    ensures { OnOk result (string_bytes text.new
-        ≡ string_bytes text.old ++ groups_shown groups.now) }
+fn put_groups<S: TextSink>(sink: &mut S, groups: &[u16]) -> Result<(), NoMemory>
+    ensures { OnOk result (S.taken sink.new ≡ S.taken sink.old ++ groups_shown groups.now) }
 {
     let [first, rest @ ..] = groups else {
         return Ok(());
     };
-    write!(text, "{first:x}")?;
-    for group in rest {
-        write!(text, ":{group:x}")?;
+    put_group(sink, *first)?;
+    put_further_groups(sink, rest)
+}
+
+/// Groups behind the first, each behind a colon.
+fn put_further_groups<S: TextSink>(sink: &mut S, groups: &[u16]) -> Result<(), NoMemory>
+    ensures { OnOk result (S.taken sink.new
+        ≡ S.taken sink.old ++ flat_map (λ group. codes ":" ++ digits 16 false group) groups.now) }
+{
+    for group in groups {
+        sink.put_ascii(b':')?;
+        put_group(sink, *group)?;
     }
     Ok(())
+}
+
+/// Appends a group without leading zeros.
+#[tactic(auto, using(crate::proofs::GroupLemmas::one_digit, crate::proofs::GroupLemmas::two_digits, crate::proofs::GroupLemmas::three_digits, crate::proofs::GroupLemmas::four_digits))]
+fn put_group<S: TextSink>(sink: &mut S, group: u16) -> Result<(), NoMemory>
+    ensures { OnOk result (S.taken sink.new ≡ S.taken sink.old ++ digits 16 false group) }
+{
+    let (high, low) = ((group / 256) as u8, (group % 256) as u8);
+    if group < 0x10 {
+        sink.put_ascii(low_digit(low))
+    } else if group < 0x100 {
+        sink.put_digits(&[high_digit(low), low_digit(low)])
+    } else if group < 0x1000 {
+        sink.put_digits(&[low_digit(high), high_digit(low), low_digit(low)])
+    } else {
+        sink.put_digits(&[
+            high_digit(high),
+            low_digit(high),
+            high_digit(low),
+            low_digit(low),
+        ])
+    }
 }
 
 /// The longest run of zeros, and the first of those as long.

@@ -20,7 +20,7 @@ pub use digits::read_digits;
 pub use escape::{escape_text, put_escaped};
 pub use ether::{ether_text, put_ether, read_ether};
 pub use ip4::{ip4_text, put_ip4, read_ip4};
-pub use ip6::{ip6_text, read_ip6};
+pub use ip6::{ip6_text, put_ip6, read_ip6};
 pub use number::{Wide, number_text, read_number};
 pub use octets::read_bytes;
 pub use places::{place, place_byte, place_number};

@@ -87,6 +87,33 @@ pub fn place_number(room: &mut [u8], at: usize, number: u64) -> usize
     }
 }
 
+/// Stores a number of at most three digits.
+#[inline(always)]
+pub(crate) fn place_small(room: &mut [u8], at: usize, number: u64) -> usize
+    requires room { at + 3 ≤ length room.old }
+    requires small { number < 1000 }
+    ensures text { Placed room.old room.new at (decimal number) result }
+    ensures short { result ≤ at + 3 }
+{
+    if number < 10 {
+        place_byte(room, at, b'0' + number as u8)
+    } else if number < 100 {
+        place_two(room, at, number)
+    } else {
+        place_three(room, at, number)
+    }
+}
+
+#[inline(always)]
+fn place_three(room: &mut [u8], at: usize, number: u64) -> usize
+    requires room { at + 3 ≤ length room.old }
+    requires three { (100 ≤ number) × (number < 1000) }
+    ensures { Placed room.old room.new at (decimal number) result }
+{
+    let at = place_two(room, at, number / 10);
+    place_byte(room, at, b'0' + (number % 10) as u8)
+}
+
 #[inline(always)]
 fn place_two(room: &mut [u8], at: usize, number: u64) -> usize
     requires room { at + 2 ≤ length room.old }

@@ -23,7 +23,7 @@ pub trait TextSink {
         requires { character < 128 }
         ensures { OnOk result (taken self.new ≡ taken self.old ++ (character ∷ [])) };
 
-    /// Appends digits.
+    /// Appends characters of ASCII, as digits are.
     fn put_digits(&mut self, digits: &[u8]) -> Result<(), NoMemory>
         requires { All (λ digit. digit < 128) digits.now }
         ensures { OnOk result (taken self.new ≡ taken self.old ++ digits.now) };
@@ -155,18 +155,17 @@ fn put_four<S: TextSink>(sink: &mut S, four: &[u8]) -> Result<(), NoMemory>
 pub(crate) fn put_pair<S: TextSink>(sink: &mut S, byte: u8) -> Result<(), NoMemory>
     ensures { OnOk result (S.taken sink.new ≡ S.taken sink.old ++ hex_pair byte) }
 {
-    sink.put_ascii(high_digit(byte))?;
-    sink.put_ascii(low_digit(byte))
+    sink.put_digits(&[high_digit(byte), low_digit(byte)])
 }
 
-fn high_digit(byte: u8) -> u8
+pub(crate) fn high_digit(byte: u8) -> u8
     ensures value { result ≡ digit_glyph false (byte / 16) }
     ensures ascii { result < 128 }
 {
     hex_digit(byte / 16)
 }
 
-fn low_digit(byte: u8) -> u8
+pub(crate) fn low_digit(byte: u8) -> u8
     ensures value { result ≡ digit_glyph false (byte % 16) }
     ensures ascii { result < 128 }
 {

@@ -12,7 +12,7 @@ use std::marker::Model;
 const SHORT: usize = 256;
 
 /// How many bytes are filled at once, at least.
-const LEAST_AHEAD: usize = 4096;
+const LEAST_AHEAD: usize = 512;
 
 /// A text of at most 256 bytes, of which all parts are stored behind one look for room.
 pub trait ShortText {

@@ -4,13 +4,15 @@ ghost use Rattle.std.specs.Fmt.{sign_text};
 ghost use Rattle.pk_text.specs.Time.{TimeForm, IsTimeForm, decimal_in, time_form_text, time_form_value, time_of, time_shown, whole_seconds, size_read, seconds_read, fraction_read};
 
 use crate::digits::read_short;
-use crate::puts::TextSink;
+use crate::puts::{TextSink, put_number};
 use itoa::Buffer;
 use pk_base::NoMemory;
 use std::alloc::Global;
 
 /// The nanoseconds of a second.
 const SECOND: u128 = 1_000_000_000;
+
+const SHORT_SECOND: u64 = 1_000_000_000;
 
 /// The bytes of a time's text, at most: a sign, 30 digits of whole seconds, a point and nine digits.
 const TEXT_LEN: usize = 41;
@@ -47,7 +49,31 @@ fn put_size<S: TextSink>(sink: &mut S, size: u128) -> Result<(), NoMemory>
     ensures { OnOk result (S.taken sink.new ≡ S.taken sink.old
         ++ (decimal (size / 10 ^ 9) ++ (46 ∷ decimal_in 9 (size % 10 ^ 9)))) }
 {
-    put_seconds(sink, size / SECOND)?;
+    match u64::try_from(size) {
+        Ok(size) => put_short_size(sink, size),
+        Err(_) => put_long_size(sink, size),
+    }
+}
+
+/// Most times have 64 bits, which are divided at once.
+#[inline(always)]
+fn put_short_size<S: TextSink>(sink: &mut S, size: u64) -> Result<(), NoMemory>
+    ensures { OnOk result (S.taken sink.new ≡ S.taken sink.old
+        ++ (decimal (size / 10 ^ 9) ++ (46 ∷ decimal_in 9 (size % 10 ^ 9)))) }
+{
+    put_number(sink, size / SHORT_SECOND)?;
+    sink.put_ascii(b'.')?;
+    put_fraction(sink, (size % SHORT_SECOND) as u32)
+}
+
+#[cold]
+#[inline(never)]
+fn put_long_size<S: TextSink>(sink: &mut S, size: u128) -> Result<(), NoMemory>
+    ensures { OnOk result (S.taken sink.new ≡ S.taken sink.old
+        ++ (decimal (size / 10 ^ 9) ++ (46 ∷ decimal_in 9 (size % 10 ^ 9)))) }
+{
+    let mut buffer = Buffer::new();
+    sink.put_text(buffer.format(size / SECOND))?;
     sink.put_ascii(b'.')?;
     put_fraction(sink, (size % SECOND) as u32)
 }
@@ -55,14 +81,11 @@ fn put_size<S: TextSink>(sink: &mut S, size: u128) -> Result<(), NoMemory>
 fn put_sign<S: TextSink>(sink: &mut S, negative: bool) -> Result<(), NoMemory>
     ensures { OnOk result (S.taken sink.new ≡ S.taken sink.old ++ sign_text negative) }
 {
-    sink.put_text(if negative { "-" } else { "" })
-}
-
-fn put_seconds<S: TextSink>(sink: &mut S, seconds: u128) -> Result<(), NoMemory>
-    ensures { OnOk result (S.taken sink.new ≡ S.taken sink.old ++ decimal seconds) }
-{
-    let mut buffer = Buffer::new();
-    sink.put_text(buffer.format(seconds))
+    if negative {
+        sink.put_ascii(b'-')
+    } else {
+        Ok(())
+    }
 }
 
 fn put_fraction<S: TextSink>(sink: &mut S, nanoseconds: u32) -> Result<(), NoMemory>
