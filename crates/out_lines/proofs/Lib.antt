@@ -1,4 +1,5 @@
 pub mod ColumnLemmas
 pub mod KeptLines
+pub mod LineLemmas
 pub mod PlaceLemmas
 pub mod SummaryLemmas

@@ -1,24 +1,20 @@
 // A column of a line, as it grows value by value.
-ghost use Rattle.std.specs.Prelude.{◌≡◌, [], false, true, IfOk, OnOk};
+ghost use Rattle.std.specs.Prelude.{◌≡◌, [], false, true, OnOk};
 ghost use Rattle.out_lines.specs.Columns.{is_wanted, front_of, with_text, with_value};
 
 use crate::style::{Occurrence, Style};
-use crate::value_text::put_value;
+use crate::value_text::put_shown;
 use pk_base::{NoMemory, Value};
 use pk_fields::FieldId;
-use pk_text::TextSink;
+use pk_text::{Slab, TextSink};
 use std::alloc::Global;
 use std::marker::Model;
-
-/// How many bytes a column has room for from the start. Most are shorter.
-const COLUMN_ROOM: usize = 64;
 
 /// The text of a column so far, without quotes, and whether it has a value.
 #[derive(Drop)]
 pub(crate) struct Column {
-    text: Vec<u8>,
+    text: Slab,
     filled: bool,
-    alloc: Global,
 }
 
 impl Model for Column {
@@ -26,18 +22,17 @@ impl Model for Column {
 
     ghost Value = { ColumnShown };
 
-    ghost view = { λ column. record { text = column.text.items; filled = column.filled } };
+    ghost view = { λ column. record { text = column.text; filled = column.filled } };
 }
 
 impl Column {
-    pub(crate) fn new(alloc: Global) -> Result<Column, NoMemory>
-        ensures { IfOk result (λ column. column ≡ record { text = []; filled = false }) }
+    pub(crate) fn new(alloc: Global) -> Column
+        ensures { result ≡ record { text = []; filled = false } }
     {
-        Ok(Column {
-            text: Vec::with_capacity(alloc, COLUMN_ROOM)?,
+        Column {
+            text: Slab::new(alloc),
             filled: false,
-            alloc,
-        })
+        }
     }
 
     pub(crate) fn clear(&mut self)
@@ -50,7 +45,7 @@ impl Column {
     pub(crate) fn text(&self) -> &[u8]
         ensures { result.now ≡ self.now.text }
     {
-        self.text.as_slice()
+        self.text.text()
     }
 
     pub(crate) fn is_filled(&self) -> bool
@@ -83,7 +78,7 @@ impl Column {
             Occurrence::Last => self.text.clear(),
             Occurrence::All => {
                 if self.filled {
-                    self.text.push(style.aggregator)?;
+                    self.text.put_byte(style.aggregator)?;
                 }
             }
         }
@@ -105,7 +100,7 @@ impl Column {
             return Ok(());
         }
         self.begin_value(style)?;
-        put_value(self.alloc, &mut self.text, field, value)
+        put_shown(&mut self.text, field, value)
     }
 
     pub(crate) fn add_text(&mut self, style: &Style, text: &str) -> Result<(), NoMemory>

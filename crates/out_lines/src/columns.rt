@@ -61,7 +61,7 @@ fn add_column(
     let number = usize::from(field.0);
     make_room(places, number)?;
     places[number] = Some(columns.len());
-    columns.push(Column::new(alloc)?)?;
+    columns.push(Column::new(alloc))?;
     Ok(())
 }
 

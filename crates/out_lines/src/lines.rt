@@ -5,14 +5,16 @@ ghost use Rattle.pk_fields.specs.Fields.{row_of};
 ghost use Rattle.out_lines.specs.Columns.{written};
 ghost use Rattle.out_lines.specs.Lines.{doubled, field_line_of, header_of, in_quotes, quoted};
 ghost use Rattle.out_lines.specs.Places.{ArePlaces, ArePlanned, AreWritten, column_in};
+ghost use Rattle.out_lines.specs.Summary.{summary_of};
 ghost use Rattle.pk_tree.specs.Trees.{TreeShown};
 
 use crate::column::Column;
 use crate::columns::{add_layers, clear_columns, place_of, plan_columns};
 use crate::style::{Quote, Style};
+use crate::summary::put_summary;
 use pk_base::NoMemory;
 use pk_fields::{FieldId, name};
-use pk_text::TextSink;
+use pk_text::{Slab, TextSink};
 use pk_tree::Tree;
 use std::alloc::Global;
 use std::marker::Model;
@@ -26,6 +28,8 @@ pub struct LineWriter {
     columns: Vec<Column>,
     /// By the number of a field, the place of its column.
     places: Vec<Option<usize>>,
+    /// The line of the tree at hand.
+    line: Slab,
 }
 
 impl Drop for LineWriter {
@@ -34,6 +38,7 @@ impl Drop for LineWriter {
             fields: _fields,
             columns: _columns,
             places: _places,
+            line: _line,
         } = self;
     }
 }
@@ -60,6 +65,7 @@ impl LineWriter {
             fields: all,
             columns,
             places,
+            line: Slab::new(alloc),
         })
     }
 
@@ -70,7 +76,27 @@ impl LineWriter {
         ensures fields { self.new ≡ self.old }
     {
         fill(&mut self.columns, &self.places, style, tree)?;
-        put_line(line, &self.columns, &self.places, &self.fields, style)
+        self.line.clear();
+        put_line(
+            &mut self.line,
+            &self.columns,
+            &self.places,
+            &self.fields,
+            style,
+        )?;
+        line.extend_from_slice(self.line.text())?;
+        Ok(())
+    }
+
+    /// Appends the line that sums up a tree, as `summary_line` makes it.
+    pub fn write_summary(&mut self, line: &mut Vec<u8>, tree: &Tree) -> Result<(), NoMemory>
+        ensures line { OnOk result (line.new.items ≡ line.old.items ++ summary_of tree.now) }
+        ensures fields { self.new ≡ self.old }
+    {
+        self.line.clear();
+        put_summary(&mut self.line, tree)?;
+        line.extend_from_slice(self.line.text())?;
+        Ok(())
     }
 }
 
@@ -175,7 +201,7 @@ fn fill(
 
 /// Appends a line of columns.
 fn put_line(
-    line: &mut Vec<u8>,
+    line: &mut Slab,
     columns: &[Column],
     places: &[Option<usize>],
     fields: &[FieldId],
@@ -183,22 +209,22 @@ fn put_line(
 ) -> Result<(), NoMemory>
     requires { ArePlanned fields.now (length columns.now) places.now }
     ensures { OnOk result ((t : TreeShown) → AreWritten style.now columns.now places.now t
-        → line.new.items ≡ line.old.items ++ field_line_of fields.now t style.now) }
+        → line.new ≡ line.old ++ field_line_of fields.now t style.now) }
 {
     put_columns(line, columns, places, fields, style)?;
-    line.put_text("\n")
+    line.put_byte(b'\n')
 }
 
 fn put_columns(
-    line: &mut Vec<u8>,
+    line: &mut Slab,
     columns: &[Column],
     places: &[Option<usize>],
     fields: &[FieldId],
     style: &Style,
 ) -> Result<(), NoMemory>
     requires { ArePlaces (length columns.now) places.now }
-    ensures { OnOk result (line.new.items
-        ≡ line.old.items ++ join_by (λ field.
+    ensures { OnOk result (line.new
+        ≡ line.old ++ join_by (λ field.
         written style.now.quote (column_in columns.now places.now field))
         (style.now.separator ∷ []) fields.now) }
 {
@@ -213,20 +239,20 @@ fn put_columns(
 
 /// Columns behind the first, each behind a separator.
 fn put_further(
-    line: &mut Vec<u8>,
+    line: &mut Slab,
     columns: &[Column],
     places: &[Option<usize>],
     fields: &[FieldId],
     style: &Style,
 ) -> Result<(), NoMemory>
     requires { ArePlaces (length columns.now) places.now }
-    ensures { OnOk result (line.new.items
-        ≡ line.old.items ++ flat_map (λ field.
+    ensures { OnOk result (line.new
+        ≡ line.old ++ flat_map (λ field.
         style.now.separator ∷ written style.now.quote (column_in columns.now places.now field))
         fields.now) }
 {
     for field in fields {
-        line.push(style.separator)?;
+        line.put_byte(style.separator)?;
         put_column(line, columns, places, *field, style.quote)?;
     }
     Ok(())
@@ -234,15 +260,15 @@ fn put_further(
 
 #[inline(always)]
 fn put_column(
-    line: &mut Vec<u8>,
+    line: &mut Slab,
     columns: &[Column],
     places: &[Option<usize>],
     field: FieldId,
     quote: Quote,
 ) -> Result<(), NoMemory>
     requires { ArePlaces (length columns.now) places.now }
-    ensures { OnOk result (line.new.items
-        ≡ line.old.items ++ written quote (column_in columns.now places.now field)) }
+    ensures { OnOk result (line.new
+        ≡ line.old ++ written quote (column_in columns.now places.now field)) }
 {
     match place_of(places, field) {
         Some(place) => put_filled(line, &columns[place], quote),
@@ -250,8 +276,8 @@ fn put_column(
     }
 }
 
-fn put_filled(line: &mut Vec<u8>, column: &Column, quote: Quote) -> Result<(), NoMemory>
-    ensures { OnOk result (line.new.items ≡ line.old.items ++ written quote column.now) }
+fn put_filled(line: &mut Slab, column: &Column, quote: Quote) -> Result<(), NoMemory>
+    ensures { OnOk result (line.new ≡ line.old ++ written quote column.now) }
 {
     if !column.is_filled() {
         return Ok(());
@@ -259,43 +285,42 @@ fn put_filled(line: &mut Vec<u8>, column: &Column, quote: Quote) -> Result<(), N
     put_quoted(line, column.text(), quote)
 }
 
-fn put_quoted(line: &mut Vec<u8>, text: &[u8], quote: Quote) -> Result<(), NoMemory>
-    ensures { OnOk result (line.new.items ≡ line.old.items ++ in_quotes quote text.now) }
+fn put_quoted(line: &mut Slab, text: &[u8], quote: Quote) -> Result<(), NoMemory>
+    ensures { OnOk result (line.new ≡ line.old ++ in_quotes quote text.now) }
 {
     match quote {
         Quote::Double => put_between(line, text, b'"'),
         Quote::Single => put_between(line, text, b'\''),
-        Quote::None => {
-            line.extend_from_slice(text)?;
-            Ok(())
-        }
+        Quote::None => line.put(text),
     }
 }
 
-fn put_between(line: &mut Vec<u8>, text: &[u8], quote: u8) -> Result<(), NoMemory>
-    ensures { OnOk result (line.new.items ≡ line.old.items ++ quoted quote text.now) }
+fn put_between(line: &mut Slab, text: &[u8], quote: u8) -> Result<(), NoMemory>
+    ensures { OnOk result (line.new ≡ line.old ++ quoted quote text.now) }
 {
-    line.push(quote)?;
+    line.put_byte(quote)?;
     put_doubled(line, text, quote)?;
-    line.push(quote)?;
-    Ok(())
+    line.put_byte(quote)
 }
 
-fn put_doubled(line: &mut Vec<u8>, text: &[u8], quote: u8) -> Result<(), NoMemory>
-    ensures { OnOk result (line.new.items ≡ line.old.items ++ flat_map (doubled quote) text.now) }
+#[tactic(auto, using(crate::proofs::LineLemmas::none_doubled))]
+fn put_doubled(line: &mut Slab, text: &[u8], quote: u8) -> Result<(), NoMemory>
+    ensures { OnOk result (line.new ≡ line.old ++ flat_map (doubled quote) text.now) }
 {
+    if !text.contains(&quote) {
+        return line.put(text);
+    }
     for byte in text {
         put_byte(line, *byte, quote)?;
     }
     Ok(())
 }
 
-fn put_byte(line: &mut Vec<u8>, byte: u8, quote: u8) -> Result<(), NoMemory>
-    ensures { OnOk result (line.new.items ≡ line.old.items ++ doubled quote byte) }
+fn put_byte(line: &mut Slab, byte: u8, quote: u8) -> Result<(), NoMemory>
+    ensures { OnOk result (line.new ≡ line.old ++ doubled quote byte) }
 {
     if byte == quote {
-        line.push(quote)?;
+        line.put_byte(quote)?;
     }
-    line.push(byte)?;
-    Ok(())
+    line.put_byte(byte)
 }

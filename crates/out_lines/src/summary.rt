@@ -1,5 +1,5 @@
 // The line that sums up a frame.
-ghost use Rattle.std.specs.Prelude.{◌≡◌, ◌++◌, false, IfOk, OnOk};
+ghost use Rattle.std.specs.Prelude.{◌≡◌, ◌++◌, [], false, IfOk, OnOk};
 ghost use Rattle.std.specs.Option.{option_copied};
 ghost use Rattle.std.specs.List.{find, flat_map};
 ghost use Rattle.pk_fields.specs.Fields.{row_of};
@@ -9,11 +9,10 @@ ghost use Rattle.pk_tree.specs.Values.{is_proto};
 ghost use Rattle.pk_tree.specs.declared.layer.Layer.{Layer};
 ghost use Rattle.out_lines.specs.Summary.{first_value, first_in_tree, is_ip as is_ip_layer, is_told as is_told_layer, last_told, or_dash, address_in, addresses_of, protocol_of, times_of, summary_of};
 
-use crate::lines::LINE_ROOM;
-use crate::value_text::put_value;
+use crate::value_text::put_shown;
 use pk_base::{NoMemory, Value};
 use pk_fields::{FieldId, ids, name};
-use pk_text::TextSink;
+use pk_text::{Slab, TextSink};
 use pk_tree::{Item, Layer, Tree};
 use std::alloc::Global;
 
@@ -26,60 +25,67 @@ const NONE: &str = "-";
 pub fn summary_line(alloc: Global, tree: &Tree) -> Result<Vec<u8>, NoMemory>
     ensures { IfOk result (λ line. line.items ≡ summary_of tree.now) }
 {
-    let mut line = Vec::with_capacity(alloc, LINE_ROOM)?;
-    put_summary(alloc, &mut line, tree)?;
-    Ok(line)
+    let mut text = Slab::new(alloc);
+    summary_by(alloc, &mut text, tree)
+}
+
+fn summary_by(alloc: Global, text: &mut Slab, tree: &Tree) -> Result<Vec<u8>, NoMemory>
+    requires { text.old ≡ [] }
+    ensures { IfOk result (λ line. line.items ≡ summary_of tree.now) }
+{
+    put_summary(text, tree)?;
+    Ok(Vec::from_slice(alloc, text.text())?)
 }
 
 #[tactic(auto, unfolding(crate::specs::Summary::summary_of))]
-fn put_summary(alloc: Global, line: &mut Vec<u8>, tree: &Tree) -> Result<(), NoMemory>
-    ensures { OnOk result (line.new.items ≡ line.old.items ++ summary_of tree.now) }
+pub(crate) fn put_summary(line: &mut Slab, tree: &Tree) -> Result<(), NoMemory>
+    ensures { OnOk result (line.new ≡ line.old ++ summary_of tree.now) }
 {
-    put_times(alloc, line, tree)?;
-    put_addresses(alloc, line, tree)?;
+    put_times(line, tree)?;
+    put_addresses(line, tree)?;
     put_protocol(line, tree)?;
-    line.push(b' ')?;
-    put_length(alloc, line, tree)?;
-    line.put_text("\n")
+    line.put_byte(b' ')?;
+    put_length(line, tree)?;
+    line.put_byte(b'\n')
 }
 
 #[tactic(auto, unfolding(pk_fields::specs::Fields::row_of, pk_fields::specs::Table::rows))]
-fn put_times(alloc: Global, line: &mut Vec<u8>, tree: &Tree) -> Result<(), NoMemory>
-    ensures { OnOk result (line.new.items ≡ line.old.items ++ times_of tree.now) }
+fn put_times(line: &mut Slab, tree: &Tree) -> Result<(), NoMemory>
+    ensures { OnOk result (line.new ≡ line.old ++ times_of tree.now) }
 {
-    put_first(alloc, line, tree, ids::FRAME_NUMBER)?;
-    line.push(b' ')?;
-    put_first(alloc, line, tree, ids::FRAME_TIME_RELATIVE)?;
-    line.put_text(" ")
+    put_first(line, tree, ids::FRAME_NUMBER)?;
+    line.put_byte(b' ')?;
+    put_first(line, tree, ids::FRAME_TIME_RELATIVE)?;
+    line.put_byte(b' ')
 }
 
 #[tactic(auto, unfolding(pk_fields::specs::Fields::row_of, pk_fields::specs::Table::rows))]
-fn put_addresses(alloc: Global, line: &mut Vec<u8>, tree: &Tree) -> Result<(), NoMemory>
-    ensures { OnOk result (line.new.items ≡ line.old.items ++ addresses_of tree.now) }
+fn put_addresses(line: &mut Slab, tree: &Tree) -> Result<(), NoMemory>
+    ensures { OnOk result (line.new ≡ line.old ++ addresses_of tree.now) }
 {
-    put_address(alloc, line, tree, ids::IP_SRC, ids::IPV6_SRC, ids::ETH_SRC)?;
+    put_address(line, tree, ids::IP_SRC, ids::IPV6_SRC, ids::ETH_SRC)?;
     line.put_text(" -> ")?;
-    put_address(alloc, line, tree, ids::IP_DST, ids::IPV6_DST, ids::ETH_DST)?;
-    line.put_text(" ")
+    put_address(line, tree, ids::IP_DST, ids::IPV6_DST, ids::ETH_DST)?;
+    line.put_byte(b' ')
 }
 
 #[tactic(auto, unfolding(pk_fields::specs::Fields::row_of, pk_fields::specs::Table::rows))]
-fn put_length(alloc: Global, line: &mut Vec<u8>, tree: &Tree) -> Result<(), NoMemory>
-    ensures { OnOk result (line.new.items
-        ≡ line.old.items ++ or_dash (first_in_tree tree.now FRAME_LEN)) }
+fn put_length(line: &mut Slab, tree: &Tree) -> Result<(), NoMemory>
+    ensures { OnOk result (line.new
+        ≡ line.old ++ or_dash (first_in_tree tree.now FRAME_LEN)) }
 {
-    put_first(alloc, line, tree, ids::FRAME_LEN)
+    put_first(line, tree, ids::FRAME_LEN)
 }
 
 /// The first value of a field in a tree.
 #[tactic(auto, using(crate::proofs::ColumnLemmas::tree_values_of_field), unfolding(crate::specs::Summary::first_in_tree))]
-fn put_first(alloc: Global, line: &mut Vec<u8>, tree: &Tree, field: FieldId) -> Result<(), NoMemory>
+fn put_first(line: &mut Slab, tree: &Tree, field: FieldId) -> Result<(), NoMemory>
     requires { is_proto (row_of field).kind ≡ false }
-    ensures { OnOk result (line.new.items
-        ≡ line.old.items ++ or_dash (first_in_tree tree.now field)) }
+    ensures { OnOk result (line.new
+        ≡ line.old ++ or_dash (first_in_tree tree.now field)) }
 {
     match first_value(tree.layers(), field) {
-        Some(value) => put_value(alloc, line, field, value),
+        Some(value) => put_shown(line, field, value),
         None => line.put_text(NONE),
     }
 }
@@ -110,23 +116,22 @@ fn first_item(items: &[Item], field: FieldId) -> Option<&Value>
 /// An address of the first IP header, in the field of its version, else the first of the link.
 #[tactic(auto, unfolding(crate::specs::Summary::address_in))]
 fn put_address(
-    alloc: Global,
-    line: &mut Vec<u8>,
+    line: &mut Slab,
     tree: &Tree,
     four: FieldId,
     six: FieldId,
     link: FieldId,
 ) -> Result<(), NoMemory>
     requires { is_proto (row_of link).kind ≡ false }
-    ensures { OnOk result (line.new.items ≡ line.old.items ++ address_in tree.now four six link) }
+    ensures { OnOk result (line.new ≡ line.old ++ address_in tree.now four six link) }
 {
     if let Some(layer) = first_ip(tree.layers()) {
         let field = if layer.proto == ids::IP { four } else { six };
         if let Some(value) = first_item(layer.items.slice(), field) {
-            return put_value(alloc, line, field, value);
+            return put_shown(line, field, value);
         }
     }
-    put_first(alloc, line, tree, link)
+    put_first(line, tree, link)
 }
 
 fn first_ip(layers: &[Layer]) -> Option<&Layer>
@@ -148,8 +153,8 @@ fn is_ip(layer: &Layer) -> bool
 
 /// The name of the last protocol.
 #[tactic(auto, unfolding(crate::specs::Summary::protocol_of))]
-fn put_protocol(line: &mut Vec<u8>, tree: &Tree) -> Result<(), NoMemory>
-    ensures { OnOk result (line.new.items ≡ line.old.items ++ protocol_of tree.now) }
+fn put_protocol(line: &mut Slab, tree: &Tree) -> Result<(), NoMemory>
+    ensures { OnOk result (line.new ≡ line.old ++ protocol_of tree.now) }
 {
     match last_told(tree.layers()) {
         Some(layer) => line.put_text(name(layer.proto)),

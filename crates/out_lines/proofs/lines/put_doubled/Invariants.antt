@@ -5,4 +5,4 @@ use Rattle.out_lines.proofs.lines.put_doubled.Given as goal
 
 abbrev pub invariant-loop-byte : goal.invariant-loop-byte
 invariant-loop-byte l =
-    l.line.items ++ flat_map (doubled l.quote) (drop l.byte-index l.text) ≡ l.initial.line.items ++ flat_map (doubled l.quote) l.text
+    l.line ++ flat_map (doubled l.quote) (drop l.byte-index l.text) ≡ l.initial.line ++ flat_map (doubled l.quote) l.text

@@ -6,5 +6,5 @@ use Rattle.out_lines.proofs.lines.put_further.Given as goal
 
 abbrev pub invariant-loop-field : goal.invariant-loop-field
 invariant-loop-field l =
-    l.line.items ++ flat_map (λ (field : ℕ). l.style.separator ∷ written l.style.quote (column_in l.columns l.places field)) (drop l.field-index l.fields)
-    ≡ l.initial.line.items ++ flat_map (λ (field : ℕ). l.style.separator ∷ written l.style.quote (column_in l.columns l.places field)) l.fields
+    l.line ++ flat_map (λ (field : ℕ). l.style.separator ∷ written l.style.quote (column_in l.columns l.places field)) (drop l.field-index l.fields)
+    ≡ l.initial.line ++ flat_map (λ (field : ℕ). l.style.separator ∷ written l.style.quote (column_in l.columns l.places field)) l.fields
