@@ -15,7 +15,7 @@ FIELDS = ["-T", "fields", "-e", "frame.number"]
 JSON = ["-T", "json"]
 # The frames of a kind that grows within them.
 FEW = 16
-# FoldHasher, by which indexmap keeps its keys, multiplies the halves of 16 bytes; with this half the product is 0, whatever the other.
+# FoldHasher, by which indexmap would keep its keys, multiplies the halves of 16 bytes; with this half the product is 0, whatever the other.
 MULTIPLIER = 0x9E3779B97F4A7C15
 
 
@@ -464,16 +464,16 @@ TABLE = [
     (overlaps, STREAMS, "range_bytes: runs that overlap"),
     (passed, STREAMS, "tcp_streams: gaps that are passed"),
     (restarts, STREAMS, "tcp_streams: streams of one conversation"),
-    (alike, STREAMS, "tcp_streams: indexmap, keys of one hash"),
+    (alike, STREAMS, "tcp_streams: keys of one hash"),
     (talks, [*FIELDS, "-e", "udp.stream"], "message_links: conversations"),
-    (talks_alike, [*FIELDS, "-e", "udp.stream"], "message_links: indexmap, keys of one hash"),
+    (talks_alike, [*FIELDS, "-e", "udp.stream"], "message_links: keys of one hash"),
     (queries, BOTH, "message_links: queries of one id"),
     (unanswered, BOTH, "message_links: queries that wait"),
     (pairs, BOTH, "message_links, second_pass: links"),
     (pipelined, BOTH, "message_links: requests that wait"),
     (streams, ["-q", "-z", "conv,tcp"], "cap_stats: rows of a table"),
     (streams, ["-q", "-z", "conv,ip"], "cap_stats: rows of a table"),
-    (alike, ["-q", "-z", "conv,ip"], "cap_stats: indexmap, keys of one hash"),
+    (alike, ["-q", "-z", "conv,ip"], "cap_stats: keys of one hash"),
     (headers, ["-q", "-z", "io,phs"], "cap_stats: layers of a path"),
     (falling, ["-q", "-z", "follow,tcp,raw,0"], "run_output: stretches of a stream"),
     (holes, ["-q", "-z", "follow,tcp,raw,0"], "run_output: stretches of a stream"),

@@ -4,4 +4,5 @@ mod LinkLemmas
 pub mod LinkedLemmas
 mod NoteBits
 mod NoteLemmas
+mod NumberedLemmas
 mod ShownLemmas

@@ -1,11 +1,16 @@
 -- The derived equalities of keys are those of the definitions.
-use Rattle.std.proofs.Common.{◌≡◌, ℕ, Bool, true, false, ◌&&◌, eqb, refl, ap, ◌∙◌}
+use Rattle.std.proofs.Common.{◌≡◌, ◌==◌, ℕ, Bool, true, false, ◌&&◌, eqb, refl, ap, ◌∙◌}
 use Rattle.std.proofs.Math.Bool.{beq}
+use Rattle.std.specs.Cmp.{unsigned_tied}
+use Rattle.std.specs.Ordering.{nat_cmp, bool_cmp, ordering_then, is_eq}
+use Rattle.std.specs.declared.cmp.Ordering.{Ordering}
+use Rattle.std.specs.declared.cmp.Ordering.TheVariants.{Less, Equal, Greater}
 use Rattle.std.proofs.lemmas.Bool.{and_parts, eqb-true}
 use Rattle.message_links.specs.declared.notes.Direction.{Direction}
 use Rattle.message_links.specs.declared.notes.QueryKey.{QueryKey}
 use Rattle.tcp_streams.specs.Conversations.{same_bool}
 use Rattle.message_links.specs.Links.{same_direction, same_query}
+use Rattle.message_links.specs.LinkTables.{query_cmp}
 
 bool_is : (a b : Bool) → beq a b ≡ same_bool a b
 bool_is true true = refl
@@ -16,14 +21,34 @@ bool_is false false = refl
 abbrev pub derived_direction : Direction → Direction → Bool
 derived_direction a b = beq a.tcp b.tcp && (eqb a.stream b.stream && beq a.side b.side)
 
-abbrev pub derived_query : QueryKey → QueryKey → Bool
-derived_query a b = beq a.tcp b.tcp && (eqb a.stream b.stream && eqb a.id b.id)
-
 pub direction_eq_is : derived_direction ≡ same_direction
 direction_eq_is = λ i a b. bool_is a.tcp b.tcp i && (eqb a.stream b.stream && bool_is a.side b.side i)
 
-pub query_eq_is : derived_query ≡ same_query
-query_eq_is = λ i a b. bool_is a.tcp b.tcp i && (eqb a.stream b.stream && eqb a.id b.id)
+tied_then : (x y : Ordering) → is_eq (ordering_then x y) ≡ (is_eq x && is_eq y)
+tied_then Less y = refl
+tied_then Equal y = refl
+tied_then Greater y = refl
+
+tied_bool : (a b : Bool) → is_eq (bool_cmp a b) ≡ same_bool a b
+tied_bool true true = refl
+tied_bool true false = refl
+tied_bool false true = refl
+tied_bool false false = refl
+
+turned : (stream id tcp : Bool) → (stream && (id && tcp)) ≡ (tcp && (stream && id))
+turned true true true = refl
+turned true true false = refl
+turned true false true = refl
+turned true false false = refl
+turned false id true = refl
+turned false id false = refl
+
+-- two keys tie where they are the same
+pub query_tied : (a b : QueryKey) → is_eq (query_cmp a b) ≡ same_query a b
+query_tied a b =
+    tied_then (nat_cmp a.stream b.stream) (ordering_then (nat_cmp a.id b.id) (bool_cmp a.tcp b.tcp))
+    ∙ ap (λ (o : Bool). is_eq (nat_cmp a.stream b.stream) && o) (tied_then (nat_cmp a.id b.id) (bool_cmp a.tcp b.tcp))
+    ∙ rw (unsigned_tied a.stream b.stream, unsigned_tied a.id b.id, tied_bool a.tcp b.tcp) (turned (a.stream == b.stream) (a.id == b.id) (same_bool a.tcp b.tcp))
 
 -- such directions are one
 pub same_is : (a b : Bool) → same_bool a b ≡ true → a ≡ b

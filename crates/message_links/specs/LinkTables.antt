@@ -1,6 +1,9 @@
 -- What is kept of the messages that frames showed, and the list of them that it stands for.
 use Rattle.std.specs.Prelude.{◌≡◌, ◌-◌, ◌^◌, ℕ, min, List, [], Option, unwrap_or}
 use Rattle.std.specs.Option.{option_map}
+use Rattle.std.specs.BTreeMap as tree
+use Rattle.std.specs.Ordering.{nat_cmp, bool_cmp, ordering_then}
+use Rattle.std.specs.declared.cmp.Ordering.{Ordering}
 use Rattle.indexmap.specs.IndexMap.{get}
 use Rattle.message_links.specs.declared.link_tables.Counts.{Counts}
 use Rattle.message_links.specs.declared.link_tables.Queries.{Queries}
@@ -8,11 +11,16 @@ use Rattle.message_links.specs.declared.link_tables.Requests.{Requests}
 use Rattle.message_links.specs.declared.links.Links.{Links}
 use Rattle.message_links.specs.declared.notes.Direction.{Direction}
 use Rattle.message_links.specs.declared.notes.QueryKey.{QueryKey}
-use Rattle.message_links.specs.Links.{answers_in, query_before, requests_in, same_direction, same_query}
+use Rattle.message_links.specs.Links.{answers_in, query_before, requests_in, same_direction}
 use Rattle.message_links.specs.Notes.{Noted}
 
+-- the order of queries' keys
+abbrev pub query_cmp : QueryKey → QueryKey → Ordering
+query_cmp one other = ordering_then (nat_cmp one.stream other.stream)
+    (ordering_then (nat_cmp one.id other.id) (bool_cmp one.tcp other.tcp))
+
 abbrev pub query_in : Queries → QueryKey → Option ℕ
-query_in queries key = get same_query queries.all key
+query_in queries key = tree.get query_cmp queries.all key
 
 -- the frames of a direction's requests
 abbrev pub requests_at : Requests → Direction → List ℕ

@@ -8,11 +8,12 @@ use crate::notes::{Direction, QueryKey};
 use indexmap::IndexMap;
 use pk_base::NoMemory;
 use std::alloc::Global;
+use std::collections::BTreeMap;
 
-/// The latest frame with each query.
+/// The latest frame with each query. The map is ordered, so that no choice of ids makes a search in it long.
 #[derive(Drop)]
 pub struct Queries {
-    pub all: IndexMap<QueryKey, u32>,
+    pub all: BTreeMap<QueryKey, u32>,
 }
 
 impl Queries {
@@ -20,7 +21,7 @@ impl Queries {
         ensures { (key : QueryKeyValue) → query_in result key ≡ None }
     {
         Queries {
-            all: IndexMap::new(alloc),
+            all: BTreeMap::new(alloc),
         }
     }
 

@@ -26,12 +26,12 @@ pub struct Direction {
     pub side: bool,
 }
 
-/// What a query is found by.
-#[derive(Clone, Copy, PartialEq, Eq, Hash)]
+/// What a query is found by. Such keys are compared by their fields in this order.
+#[derive(Clone, Copy, PartialEq, Eq, PartialOrd, Ord)]
 pub struct QueryKey {
-    pub tcp: bool,
     pub stream: u32,
     pub id: u16,
+    pub tcp: bool,
 }
 
 /// The direction of a datagram of UDP. Links don't ask for its side.

@@ -6,7 +6,7 @@ use crate::segment::Segment;
 use pk_base::{Address, Endpoint};
 
 /// An end of a conversation.
-#[derive(Clone, Copy, PartialEq, Eq, PartialOrd, Ord, Hash)]
+#[derive(Clone, Copy, PartialEq, Eq, PartialOrd, Ord)]
 pub struct End {
     /// Whether the address is one of IPv6.
     pub six: bool,
@@ -15,7 +15,7 @@ pub struct End {
 }
 
 /// The two ends of a conversation, in their order, so that both directions have the same.
-#[derive(Clone, Copy, PartialEq, Eq, PartialOrd, Ord, Hash)]
+#[derive(Clone, Copy, PartialEq, Eq, PartialOrd, Ord)]
 pub struct Ends {
     pub lesser: End,
     pub greater: End,
