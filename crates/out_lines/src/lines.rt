@@ -271,18 +271,11 @@ fn put_column(
         ≡ line.old ++ written quote (column_in columns.now places.now field)) }
 {
     match place_of(places, field) {
-        Some(place) => put_filled(line, &columns[place], quote),
-        None => Ok(()),
+        Some(place) if columns[place].is_filled() => {
+            put_quoted(line, columns[place].text(), quote)
+        }
+        Some(_) | None => Ok(()),
     }
-}
-
-fn put_filled(line: &mut Slab, column: &Column, quote: Quote) -> Result<(), NoMemory>
-    ensures { OnOk result (line.new ≡ line.old ++ written quote column.now) }
-{
-    if !column.is_filled() {
-        return Ok(());
-    }
-    put_quoted(line, column.text(), quote)
 }
 
 fn put_quoted(line: &mut Slab, text: &[u8], quote: Quote) -> Result<(), NoMemory>

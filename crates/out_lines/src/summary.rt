@@ -1,5 +1,5 @@
 // The line that sums up a frame.
-ghost use Rattle.std.specs.Prelude.{◌≡◌, ◌++◌, [], false, IfOk, OnOk};
+ghost use Rattle.std.specs.Prelude.{◌≡◌, ◌++◌, false, IfOk, OnOk};
 ghost use Rattle.std.specs.Option.{option_copied};
 ghost use Rattle.std.specs.List.{find, flat_map};
 ghost use Rattle.pk_fields.specs.Fields.{row_of};
@@ -26,14 +26,7 @@ pub fn summary_line(alloc: Global, tree: &Tree) -> Result<Vec<u8>, NoMemory>
     ensures { IfOk result (λ line. line.items ≡ summary_of tree.now) }
 {
     let mut text = Slab::new(alloc);
-    summary_by(alloc, &mut text, tree)
-}
-
-fn summary_by(alloc: Global, text: &mut Slab, tree: &Tree) -> Result<Vec<u8>, NoMemory>
-    requires { text.old ≡ [] }
-    ensures { IfOk result (λ line. line.items ≡ summary_of tree.now) }
-{
-    put_summary(text, tree)?;
+    put_summary(&mut text, tree)?;
     Ok(Vec::from_slice(alloc, text.text())?)
 }
 

@@ -29,7 +29,7 @@ pub(crate) fn put_shown<S: TextSink>(
 {
     match value {
         Value::Uint(number) => put_number(sink, *number),
-        Value::Bool(truth) => sink.put_text(if *truth { "1" } else { "0" }),
+        Value::Bool(truth) => sink.put_ascii(if *truth { b'1' } else { b'0' }),
         Value::Bytes(bytes) => put_hex(sink, bytes.bytes()),
         Value::Text(bytes) => put_escaped(sink, bytes.bytes()),
         Value::Ether(address) => put_ether(sink, address),

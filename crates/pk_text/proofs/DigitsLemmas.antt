@@ -5,7 +5,9 @@ use Rattle.std.specs.Str.Parse.{AllDigits, IsNumeral, digits_value}
 use Rattle.std.proofs.lemmas.Bool.{cases_lt, and_parts, ltb-true, leb-true, le-leb, lt-ltb, cond_both, cond-true}
 use Rattle.std.proofs.lemmas.Bool.Decides.{nat_tests}
 use Rattle.std.specs.Fmt.{decimal}
-use Rattle.std.proofs.lemmas.Fmt.{decimal_digit, first_decimal}
+use Rattle.std.proofs.lemmas.Fmt.{IsAscii-decimal, decimal_digit, first_decimal}
+use Rattle.std.proofs.lemmas.Str.Ascii.{All-from_ascii}
+use Rattle.std.specs.List.{All}
 use Rattle.std.proofs.lemmas.Option.{cond_some, none-some, same_Some}
 use Rattle.std.proofs.lemmas.Int.Digits.{digits_value-lt}
 use Rattle.std.proofs.Math.Nat.{pow-le-pow_right}
@@ -90,3 +92,6 @@ decimal_leading n small e =
       | inl above ↦ absurd (omega (arith, e, first_decimal n above small))
       | inr zero ↦ ap length (decimal_digit n (omega arith))
     ]
+
+pub decimal_ascii : (n : ℕ) → n < 2 ^ 64 → All (λ digit. digit < 128) (decimal n)
+decimal_ascii n small = All-from_ascii (decimal n) (IsAscii-decimal n small)

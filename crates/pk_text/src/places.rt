@@ -78,10 +78,8 @@ pub fn place_number(room: &mut [u8], at: usize, number: u64) -> usize
     ensures text { Placed room.old room.new at (decimal number) result }
     ensures short { result ≤ at + 20 }
 {
-    if number < 10 {
-        place_byte(room, at, b'0' + number as u8)
-    } else if number < 100 {
-        place_two(room, at, number)
+    if number < 1000 {
+        place_small(room, at, number)
     } else {
         place_long(room, at, number)
     }

@@ -4,6 +4,7 @@ ghost use Rattle.std.specs.Fmt.{digit_glyph};
 ghost use Rattle.pk_text.specs.Digits.{hex_pair, hex_shown};
 
 use crate::hex::{BLOCK, block_digits};
+use crate::places::place_small;
 use itoa::Buffer;
 use pk_base::NoMemory;
 
@@ -79,9 +80,22 @@ pub fn put_number<S: TextSink>(sink: &mut S, number: u64) -> Result<(), NoMemory
 {
     if number < 10 {
         sink.put_ascii(b'0' + number as u8)
+    } else if number < 1000 {
+        put_small(sink, number)
     } else {
         put_digits_of(sink, number)
     }
+}
+
+/// Appends a number of at most three digits.
+#[tactic(auto, using(crate::proofs::DigitsLemmas::decimal_ascii))]
+fn put_small<S: TextSink>(sink: &mut S, number: u64) -> Result<(), NoMemory>
+    requires { number < 1000 }
+    ensures { OnOk result (S.taken sink.new ≡ S.taken sink.old ++ decimal number) }
+{
+    let mut digits = [0; 3];
+    let end = place_small(&mut digits, 0, number);
+    sink.put_digits(&digits[..end])
 }
 
 /// Appends a number in decimal, whatever number of digits it has.
