@@ -1,5 +1,5 @@
 -- What a step takes is there where the step is.
-use Rattle.std.proofs.Common.{◌≡◌, ℕ, zero, suc, ◌+◌, ◌<◌, Bool as Truth, true, false, List, [], ◌∷◌, length, map, get_or, Option, Some, None, slice_get, slice_set, is_some, ap, sym, refl, ◌∙◌, subst}
+use Rattle.std.proofs.Common.{◌≡◌, ℕ, zero, suc, ◌+◌, ◌<◌, Bool as Truth, true, false, List, [], ◌∷◌, length, map, get_or, Option, Some, None, slice_get, slice_set, is_some, ap, sym, refl, ◌∙◌, subst, arith}
 use Rattle.std.proofs.lemmas.Option.{slice_get_read, slice_get_within}
 use Rattle.flt_vm.proofs.StepLemmas.{held_there}
 use Rattle.flt_vm.specs.Given.{Finds, takes_of}
@@ -178,3 +178,35 @@ finds_given tree patterns all instr.Return finds = tt
 
 pub taken_given : (tree : TreeShown) (patterns : List (List ℕ)) (all : List Slot) (i : Instr) (takes : Takes) → takes ≡ takes_of i → Finds tree patterns all takes → IsGiven tree patterns all i
 taken_given tree patterns all i takes is finds = finds_given tree patterns all i (subst (λ (t : Takes). Finds tree patterns all t) is finds)
+
+-- and the other way round
+pub set_inside : (all : List Slot) (q : ℕ) → IsSet all q → q < length all
+set_inside [] q set = let none = set slots.Unset refl in cc
+set_inside (s ∷ all) zero set = omega arith
+set_inside (s ∷ all) (suc q) set = let less = set_inside all q set in omega (arith, less)
+
+pub kept_is_set : (tree : TreeShown) (all : List Slot) (q : ℕ) → IsKept tree all q → IsSet all q
+kept_is_set tree all q kept = λ slot at. let k = kept slot at in kept_set tree slot k.0 k.1
+
+given_finds : (tree : TreeShown) (patterns : List (List ℕ)) (all : List Slot) (i : Instr) → IsGiven tree patterns all i → Finds tree patterns all (takes_of i)
+given_finds tree patterns all (instr.Read r field layers) given = tt
+given_finds tree patterns all (instr.Const r c) given = tt
+given_finds tree patterns all (instr.Slice r q ranges) given = given
+given_finds tree patterns all (instr.Mask r q mask) given = given
+given_finds tree patterns all (instr.Call r function q) given = given
+given_finds tree patterns all (instr.Count r field layers) given = tt
+given_finds tree patterns all (instr.Compute r operation p q) given = given
+given_finds tree patterns all (instr.Choose r extreme p q) given = given
+given_finds tree patterns all (instr.Save r) given = tt
+given_finds tree patterns all (instr.Test choice relation p q) given = given
+given_finds tree patterns all (instr.In choice r ms) given = given
+given_finds tree patterns all (instr.Match choice r n) given = given
+given_finds tree patterns all (instr.NonZero r) given = given
+given_finds tree patterns all instr.Not given = tt
+given_finds tree patterns all (instr.Differ r) given = given
+given_finds tree patterns all (instr.JumpFalse n) given = tt
+given_finds tree patterns all (instr.JumpTrue n) given = tt
+given_finds tree patterns all instr.Return given = tt
+
+pub given_taken : (tree : TreeShown) (patterns : List (List ℕ)) (all : List Slot) (i : Instr) (takes : Takes) → takes ≡ takes_of i → IsGiven tree patterns all i → Finds tree patterns all takes
+given_taken tree patterns all i takes is given = subst (λ (t : Takes). Finds tree patterns all t) (sym is) (given_finds tree patterns all i given)

@@ -53,7 +53,8 @@ pub(crate) fn is_given(
 ) -> Result<bool, NoMemory>
     ensures given { IfOk result (λ truth. IsTrue truth → looks ≡ true → (all : List (List ℕ))
         → length all ≡ patterns → IsGiven tree.now all slots.now instr.now) }
-    ensures known { looks ≡ false → IfOk result (λ truth. IsTrue truth) }
+    ensures found { (all : List (List ℕ)) → length all ≡ patterns
+        → IsGiven tree.now all slots.now instr.now → IfOk result (λ truth. IsTrue truth) }
 {
     if looks {
         is_found(alloc, taken_by(instr), slots, patterns, tree)
@@ -70,8 +71,10 @@ fn is_found(
     patterns: usize,
     tree: &Tree,
 ) -> Result<bool, NoMemory>
-    ensures { IfOk result (λ truth. IsTrue truth → (all : List (List ℕ))
+    ensures finds { IfOk result (λ truth. IsTrue truth → (all : List (List ℕ))
         → length all ≡ patterns → Finds tree.now all slots.now takes) }
+    ensures found { (all : List (List ℕ)) → length all ≡ patterns
+        → Finds tree.now all slots.now takes → IfOk result (λ truth. IsTrue truth) }
 {
     match takes {
         Takes::Nothing => Ok(true),
@@ -86,6 +89,7 @@ fn is_found(
 fn is_set(slots: &[Slot<'_>], register: usize) -> bool
     ensures set { IsTrue result → IsSet slots.now register }
     ensures inside { IsTrue result → register < length slots.now }
+    ensures found { IsSet slots.now register → IsTrue result }
 {
     register < slots.len() && !is_unset(&slots[register])
 }
@@ -97,7 +101,8 @@ fn is_kept(
     register: usize,
     tree: &Tree,
 ) -> Result<bool, NoMemory>
-    ensures { IfOk result (λ truth. IsTrue truth → IsKept tree.now slots.now register) }
+    ensures kept { IfOk result (λ truth. IsTrue truth → IsKept tree.now slots.now register) }
+    ensures found { IsKept tree.now slots.now register → IfOk result (λ truth. IsTrue truth) }
 {
     if !is_set(slots, register) {
         return Ok(false);

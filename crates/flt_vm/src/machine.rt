@@ -97,11 +97,12 @@ impl<'p> Machine<'p> {
     }
 
     /// Runs the program on a tree, where it isn't known that it has a run. It answers nothing where an instruction doesn't find
-    /// what it takes: a register that is set, a truth that is kept, a pattern.
+    /// what it takes: a register that is set, a truth that is kept, a pattern. Where there is a run it finds all of that.
     pub fn try_run(&mut self, tree: &Tree) -> Result<Option<Verdict>, NoMemory>
         ensures verdict { IfOk result (λ answer. IfSome answer (λ v. IsAnswer self.old tree.now v)) }
         ensures few { IfOk result (λ answer.
             IfSome answer (λ v. v.steps ≤ length self.old.code.items)) }
+        ensures some { CanRun self.old tree.now → IfOk result (λ answer. IsSome answer) }
         ensures same { self.new ≡ self.old }
     {
         self.answer(tree, true)
@@ -114,7 +115,7 @@ impl<'p> Machine<'p> {
         ensures few { IfOk result (λ answer.
             IfSome answer (λ v. v.steps ≤ length self.old.code.items)) }
         ensures some { IfOk result (λ answer. IfSome answer (λ v. 1 ≤ v.steps)) }
-        ensures answers { looks ≡ false → IfOk result (λ answer. IsSome answer) }
+        ensures answers { CanRun self.old tree.now → IfOk result (λ answer. IsSome answer) }
         ensures same { self.new ≡ self.old }
     {
         let slots = self.slots.as_mut_slice();

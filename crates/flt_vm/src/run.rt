@@ -43,7 +43,8 @@ pub(crate) fn run_code<'p>(
         (state_in tree.now 0 (Known false) slots.old) v)) }
     ensures few { IfOk result (λ answer. IfSome answer (λ v. v.steps ≤ length code.now)) }
     ensures some { IfOk result (λ answer. IfSome answer (λ v. 1 ≤ v.steps)) }
-    ensures answers { looks ≡ false → IfOk result (λ answer. IsSome answer) }
+    ensures answers { HasRun (record { code = code.now; patterns = searches.old; tree = tree.now })
+        (state_in tree.now 0 (Known false) slots.old) → IfOk result (λ answer. IsSome answer) }
     ensures count { length slots.new ≡ length slots.old }
     ensures searches { searches.new ≡ searches.old }
 {
@@ -103,7 +104,8 @@ fn turn_at<'p>(
         (state_in tree.now at flag.old slots.old))
         (λ place. state_in tree.now place flag.new slots.new)) }
     ensures ahead { IfOk result (IsAhead at (length code.now)) }
-    ensures made { looks ≡ false → IfOk result IsMade }
+    ensures made { IsThere (step_of (record { code = code.now; patterns = searches.old; tree = tree.now })
+        (state_in tree.now at flag.old slots.old)) → IfOk result IsMade }
     ensures count { length slots.new ≡ length slots.old }
     ensures searches { searches.new ≡ searches.old }
 {

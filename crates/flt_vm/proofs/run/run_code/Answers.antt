@@ -3,7 +3,7 @@ use Rattle.flt_vm.proofs.RunLemmas.{leads_both, run_ends, run_on, way_there}
 use Rattle.flt_vm.specs.Machine.{Job, step}
 use Rattle.flt_program.specs.Programs.{IsProgram}
 use Rattle.flt_vm.specs.Slots.{IsThere, state_in}
-use Rattle.flt_vm.specs.Turns.{IsTurn}
+use Rattle.flt_vm.specs.Turns.{IsMade, IsTurn}
 use Rattle.flt_vm.specs.declared.slots.Flag.TheVariants.{Known}
 use Rattle.flt_vm.proofs.run.run_code.Goals as goal
 
@@ -60,7 +60,20 @@ returns-in-Ends c =
       verdict = run_ends job first now c.in-Ends.holds steps (steps + 1) way does refl;
       few = omega (arith, c.steps.invariant.few, c.in_ok-taken.ensures.inside);
       some = omega arith;
-      answers = λ known. refl;
+      answers = λ run. refl;
       count = c.turn_at.ensures.count ∙ c.test_at.ensures.count ∙ c.steps.invariant.count;
       searches = c.turn_at.ensures.searches ∙ c.steps.invariant.searches;
     }
+
+pub returns-in-Stuck-clause-answers : goal.returns-in-Stuck-clause-answers
+returns-in-Stuck-clause-answers c = λ run.
+    let code = c.args.code.now in
+    let tree = c.args.tree.now in
+    let job : Job = record { code = code; patterns = c.args.searches.now; tree = tree } in
+    let first = state_in tree 0 (Known false) c.args.slots.now in
+    let now = state_in tree (c.steps.at + c.in_ok-taken.taken) c.test_at.new.flag c.test_at.new.slots in
+    let way = leads_both job first (state_in tree c.steps.at c.steps.flag c.steps.slots) now c.steps.steps c.in_ok-taken.taken (c.steps.steps + c.in_ok-taken.taken) c.steps.invariant.way (c.in_ok-taken.ensures.leads job refl refl) refl in
+    let there = subst (λ (ps : List (List ℕ)). IsThere (step (record { code = code; patterns = ps; tree = tree }) now)) (sym c.steps.invariant.searches)
+    (way_there job first now (c.steps.steps + c.in_ok-taken.taken) run way) in
+    let made : IsMade c.in_ok-turn.turn = c.in_ok-turn.ensures.made there in
+    absurd (subst (λ t. IsMade t) c.in-Stuck.is made)

@@ -30,3 +30,13 @@ pub returns-clause-few : goal.returns-clause-few
 returns-clause-few c =
     let by_code = c.code.ensures.code ∙ ap (λ (m : Ready). m.code.items) c.self.view_is in
     IfOk-weaker c.run_code.result _ _ (λ answer few. IfSome_then answer few (λ v n. subst (λ (xs : List Instr). v.steps ≤ length xs) by_code n)) c.run_code.ensures.few
+
+pub returns-clause-answers : goal.returns-clause-answers
+returns-clause-answers c = λ run.
+    let ready = c.args.self.now in
+    let size = ap length c.as_mut_slice-slots.ensures.value ∙ c.self.invariant ∙ ap (λ (m : Ready). m.code.registers) c.self.view_is in
+    let by_code = c.code.ensures.code ∙ ap (λ (m : Ready). m.code.items) c.self.view_is in
+    let by_patterns = c.deref_mut.ensures.value ∙ ap (λ (m : Ready). m.patterns) c.self.view_is in
+    c.run_code.ensures.answers
+    (runs_from_start ready.code.items c.code.result.now ready.patterns c.deref_mut.result.now c.args.tree.now c.unset.new.slots ready.code.registers by_code by_patterns
+    (c.unset.ensures.unset c.args.tree.now ∙ ap (λ n. replicate n None) size) run)
