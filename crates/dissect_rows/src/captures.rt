@@ -2,15 +2,17 @@
 //!
 //! A row's first line says what it shows. In the table `rule` it is a rule instead, as `tcp 8000 http`, and in the table `asked` the
 //! field that the dissector is asked for. Behind it stand the frames, each behind `> `: what is given of it (module `given`), `->`, and
-//! what is told of it (module `told`). Frames are of no more than 1,000 bytes, and at most 90 in a row.
+//! what is told of it (module `told`). Frames are of no more than 1,000 bytes, and at most 90 in a row. A row of the table `places` is
+//! read twice: by a dissector that follows streams, and by one for values alone, which keeps no byte of them.
 ghost use Rattle.std.specs.Prelude.{◌≡◌, ◌+◌, ◌*◌, ◌≤◌, ◌<◌, true, IfSome, OnSome};
 ghost use Rattle.pk_fields.specs.Rules.{AreRules, app_fits};
 ghost use Rattle.capture_read.specs.FrameList.{IsTime};
 
 use crate::given::{fields_named, frame_of, option};
-use crate::told::tells;
+use crate::told::{PLACES, tells};
 use capture_read::Frame;
 use dissect::{App, DecodeAs, Dissector, PortRule, PortRules, give_up_dissector};
+use pk_fields::FieldSet;
 use pk_tree::Tree;
 use std::alloc::Global;
 
@@ -61,15 +63,35 @@ fn one_rule(alloc: Global, rule: PortRule) -> Option<DecodeAs>
     })
 }
 
+/// The fields that the dissector of a table is made for.
+fn fields_wanted(check: &str, title: &str) -> Option<FieldSet> {
+    match check {
+        "asked" => fields_named(title),
+        _ => fields_named(PLACES),
+    }
+}
+
 fn dissector_of(alloc: Global, check: &str, title: &str) -> Option<Dissector>
     ensures taken { IfSome result (λ dissector. dissector.taken ≡ 0) }
     ensures captured { IfSome result (λ dissector. dissector.captured ≡ 0) }
 {
     match check {
-        "asked" => Some(Dissector::for_fields(alloc, no_rules(alloc), fields_named(title)?)),
+        "asked" | "followed" => {
+            let wanted = fields_wanted(check, title)?;
+            Some(Dissector::for_fields(alloc, no_rules(alloc), wanted))
+        }
+        "places" => {
+            let wanted = fields_wanted(check, title)?;
+            Some(Dissector::for_values(alloc, no_rules(alloc), wanted))
+        }
         "rule" => Some(Dissector::new(alloc, one_rule(alloc, rule_of(title)?)?)),
         _ => Some(Dissector::new(alloc, no_rules(alloc))),
     }
+}
+
+/// Whether the dissector of a table is made for some fields.
+fn is_for_fields(check: &str) -> bool {
+    matches!(check, "asked" | "followed" | "places")
 }
 
 /// Takes a frame as the table asks, or as the frame does.
@@ -85,7 +107,7 @@ fn take(dissector: &mut Dissector, frame: &Frame, check: &str, asks: Option<&str
     }
     match asks {
         Some(names) => dissector.take_kept(frame, fields_named(names)?).ok(),
-        None if check == "asked" => dissector.take_wanted(frame).ok(),
+        None if is_for_fields(check) => dissector.take_wanted(frame).ok(),
         None => dissector.take(frame).ok(),
     }
 }
@@ -149,11 +171,19 @@ fn take_all(alloc: Global, dissector: &mut Dissector, check: &str, frames: &str)
     Some(true)
 }
 
-/// Whether of a capture's frames is told what is wanted; nothing where it can't be read.
-pub(crate) fn is_told(alloc: Global, check: &str, row: &str) -> Option<bool> {
-    let (title, frames) = row.split_once("\n> ")?;
+/// Whether a dissector of a table's kind tells of a capture's frames what is wanted.
+fn is_told_by(alloc: Global, check: &str, title: &str, frames: &str) -> Option<bool> {
     let mut dissector = dissector_of(alloc, check, title)?;
     let told = take_all(alloc, &mut dissector, check, frames);
     give_up_dissector(dissector);
     told
+}
+
+/// Whether of a capture's frames is told what is wanted; nothing where it can't be read.
+pub(crate) fn is_told(alloc: Global, check: &str, row: &str) -> Option<bool> {
+    let (title, frames) = row.split_once("\n> ")?;
+    if check == "places" && !is_told_by(alloc, "followed", title, frames)? {
+        return Some(false);
+    }
+    is_told_by(alloc, check, title, frames)
 }

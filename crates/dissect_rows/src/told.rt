@@ -6,6 +6,7 @@
 //!   conversations over UDP there are.
 //! - `streams`: what segments tell of their streams; then ` of `, how many streams there are, and the front of the first one's two
 //!   directions.
+//! - `places`: what segments tell of their places in streams.
 //! - `messages` and `rule`: which frames brought a message, and some of its items; then ` of ` and how many buffers the frame has.
 //! - `asked`: all items that are there; then ` of ` and how many streams are followed.
 //! - `last`: how many layers there are, and the last one's name, number among those of its name, and place.
@@ -17,13 +18,16 @@ use pk_tree::{Items, Layer, Tree};
 use std::alloc::Global;
 use tree_rows::value_text;
 
+/// What is told of a segment's place in its stream.
+pub(crate) const PLACES: &str = "tcp.stream,tcp.seq,tcp.ack,tcp.lost";
+
 /// The fields that a table shows.
 fn shown_in(check: &str) -> Option<FieldSet> {
     match check {
         "conversations" => fields_named(
             "ip.fragment,ip.reassembled.length,ip.fragment.error,udp.stream,data.len",
         ),
-        "streams" => fields_named("tcp.stream,tcp.seq,tcp.ack,tcp.lost"),
+        "streams" => fields_named(PLACES),
         "messages" | "rule" => fields_named(
             "tcp.segment,http.request.uri,http.response.code,http.file_data,dns.length,dns.id",
         ),
