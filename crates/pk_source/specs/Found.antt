@@ -1,0 +1,112 @@
+-- The values of a field, found where headers have them.
+use Rattle.std.specs.Prelude.{◌≡◌, ◌==◌, ℕ, zero, suc, ◌&&◌, Bool as Truth, true, false, List, [], ◌∷◌, ◌++◌, if◌then◌else◌, Option, Some, None, IsTrue}
+use Rattle.std.specs.List.{flat_map, slice_index_or}
+use Rattle.pk_base.specs.Chosen.{is_chosen}
+use Rattle.pk_base.specs.declared.chosen.Layers.{Layers}
+use Rattle.pk_base.specs.declared.span.Span.{Span}
+use Rattle.pk_base.specs.declared.value.Value.{Value}
+use Rattle.pk_base.specs.declared.value.Value.TheVariants as values
+use Rattle.pk_fields.specs.FieldSets.{is_in}
+use Rattle.pk_fields.specs.Fields.{row_of}
+use Rattle.pk_source.specs.Outlines.{sizes_of}
+use Rattle.pk_source.specs.declared.found.Kth.{Kth}
+use Rattle.pk_source.specs.declared.found.Kth.TheVariants as kths
+use Rattle.pk_source.specs.declared.header.Header.{Header}
+use Rattle.pk_source.specs.declared.header.Note.{Note}
+use Rattle.pk_source.specs.declared.header.Told.{Told}
+use Rattle.pk_source.specs.declared.header.Told.TheVariants as tolds
+use Rattle.pk_tree.specs.Buffers.{IsInside, bytes_of}
+use Rattle.pk_tree.specs.Layouts.{within}
+use Rattle.pk_tree.specs.Values.{HasSize, is_proto, is_read, size_of, value_of}
+use Rattle.pk_tree.specs.declared.table.Slot.{Slot}
+use Rattle.pk_tree.specs.declared.table.Slot.TheVariants as slots
+
+-- there is no item for no bytes
+abbrev pub some_read : Span → List Told
+some_read span = if span.len == 0 then [] else tolds.Read span ∷ []
+
+-- where a slot reads a field in a span, if it does
+unfoldable pub slot_told : Span → List ℕ → ℕ → Slot → List Told
+slot_told span sizes field (slots.Row f at) =
+    if f == field then tolds.Read (within span at (size_of f)) ∷ [] else []
+slot_told span sizes field (slots.Part f at size) =
+    if f == field then some_read (within span at (slice_index_or sizes size 0)) else []
+slot_told span sizes field (slots.PartAt f at size) =
+    if f == field then some_read (within span (slice_index_or sizes at 0) (slice_index_or sizes size 0))
+    else []
+slot_told span sizes field (slots.Whole f at size) =
+    if f == field then tolds.Read (within span at (slice_index_or sizes size 0)) ∷ [] else []
+slot_told span sizes field (slots.Check test) = []
+slot_told span sizes field (slots.Room test) = []
+
+-- all the places of a field in a table
+unfoldable pub rows_told : Span → List ℕ → ℕ → List Slot → List Told
+rows_told span sizes field table = flat_map (slot_told span sizes field) table
+
+abbrev pub note_told : ℕ → Note → List Told
+note_told field note = if note.field == field then note.told ∷ [] else []
+
+unfoldable pub notes_told : ℕ → List Note → List Told
+notes_told field notes = flat_map (note_told field) notes
+
+abbrev pub header_told : ℕ → List Note → Header → List Told
+header_told field notes h =
+    rows_told h.span (sizes_of h) field h.slots.now ++ notes_told field notes
+
+-- a header of a protocol that is among the chosen layers
+abbrev pub is_asked : ℕ → Layers → Header → Truth
+is_asked proto layers h = (h.proto == proto) && is_chosen layers h.nth
+
+abbrev pub asked_told : ℕ → Layers → List Note → Header → List Told
+asked_told field layers notes h =
+    if is_asked (row_of field).proto layers h then header_told field notes h else []
+
+abbrev pub layer_told : ℕ → Layers → Header → List Told
+layer_told proto layers h = if is_asked proto layers h then tolds.Read h.span ∷ [] else []
+
+-- a field's places in the chosen layers, in their order; a protocol has one in each of its layers
+unfoldable pub fields_told : ℕ → Layers → List Note → List Header → List Told
+fields_told field layers notes headers = flat_map (asked_told field layers notes) headers
+
+unfoldable pub layers_told : ℕ → Layers → List Header → List Told
+layers_told proto layers headers = flat_map (layer_told proto layers) headers
+
+unfoldable pub all_told : List ℕ → List Header → List Note → ℕ → Layers → List Told
+all_told wanted headers notes field layers =
+    if is_proto (row_of field).kind then layers_told field layers headers
+    else if is_in wanted field then fields_told field layers notes headers
+    else []
+
+-- the value that stands there; of a protocol, all the bytes
+abbrev pub value_at : List (List ℕ) → ℕ → Told → Value
+value_at buffers field (tolds.Read span) = value_of field (bytes_of buffers span)
+value_at buffers field (tolds.Number number) = values.Uint number
+value_at buffers field (tolds.Moment time) = values.Time time
+
+-- a place where the field's row reads a value, or the bytes of a protocol
+abbrev pub IsReadable : List (List ℕ) → ℕ → Told → Type 0
+IsReadable buffers field (tolds.Read span) =
+    IsInside buffers span
+    × (is_proto (row_of field).kind ≡ false → HasSize (row_of field).bits span.len × IsTrue (is_read (row_of field)))
+IsReadable buffers field (tolds.Number number) = Unit {0}
+IsReadable buffers field (tolds.Moment time) = Unit {0}
+
+-- the one of a number, from 0, or the number that is left behind them all
+abbrev pub kth : List Told → ℕ → Kth
+kth [] k = kths.Left k
+kth (told ∷ more) zero = kths.At told
+kth (told ∷ more) (suc k) = kth more k
+
+abbrev pub there : Kth → Option Told
+there (kths.At told) = Some told
+there (kths.Left k) = None
+
+-- what is told once more where the first ones were too few
+abbrev pub or_then : Kth → (ℕ → Kth) → Kth
+or_then (kths.At told) more = kths.At told
+or_then (kths.Left k) more = more k
+
+-- whether there is a value
+abbrev pub is_there : List Value → Truth
+is_there [] = false
+is_there (value ∷ more) = true

@@ -1,0 +1,5 @@
+pub mod Found
+pub mod Laws
+pub mod Outlines
+pub mod Picks
+pub mod Sources

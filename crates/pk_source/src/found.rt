@@ -1,0 +1,301 @@
+// Where the values of a field stand, counted from 0.
+ghost use Rattle.std.specs.Prelude.{◌≡◌, ◌+◌, ◌<◌, ◌≤◌, ◌^◌, ◌∷◌, [], Bool as Truth, List, ℕ, IfSome, option_to_list, slice_get, slice_index_or, length};
+ghost use Rattle.std.specs.List.{All as ForAll};
+ghost use Rattle.pk_fields.specs.Fields.{row_of};
+ghost use Rattle.pk_source.specs.Found.{all_told, asked_told, fields_told, header_told, is_asked, kth, layer_told, layers_told, note_told, notes_told, rows_told, slot_told, some_read, there};
+ghost use Rattle.pk_source.specs.declared.header.Header.{Header as HeaderShown};
+ghost use Rattle.pk_source.specs.Picks.{IsPicked, IsPickedIn, picked_told, slot_at};
+ghost use Rattle.pk_source.specs.Outlines.{IsReadWhole, SlotsKnown, sizes_of};
+ghost use Rattle.pk_tree.specs.Layouts.{step_reach, within};
+ghost use Rattle.pk_tree.specs.Tables.{step_of};
+ghost use Rattle.pk_tree.specs.Values.{is_proto, size_of};
+
+use crate::header::{Header, Note, Told};
+use crate::picks::Picks;
+use pk_base::{Layers, Span};
+use pk_fields::{FieldId, FieldSet, ValueKind, kind, size};
+use pk_tree::{Reach, Slot};
+
+/// The one of a number among some, or the number that is left behind them all.
+#[derive(Clone, Copy)]
+pub enum Kth {
+    At(Told),
+    Left(usize),
+}
+
+/// What is asked: a field, its protocol, and the slots that are of it in the protocol's table.
+#[derive(Clone, Copy)]
+pub struct Asked {
+    pub field: FieldId,
+    pub home: FieldId,
+    pub picks: Picks,
+}
+
+/// A field's place of a number in the chosen layers, or a protocol's layer.
+#[tactic(auto, unfolding(crate::specs::Found::all_told))]
+pub(crate) fn find(
+    wanted: &FieldSet,
+    headers: &[Header],
+    notes: &[Note],
+    asked: &Asked,
+    layers: &Layers,
+    k: usize,
+) -> Option<Told>
+    requires short { ForAll (λ (h : HeaderShown). h.span.start + h.span.len < 2 ^ 32) headers.now }
+    requires whole { (buffers : List (List ℕ)) × ForAll (IsReadWhole buffers) headers.now }
+    requires home { asked.now.home ≡ (row_of asked.now.field).proto }
+    requires picked { ForAll (IsPickedIn asked.now) headers.now }
+    ensures { result ≡ slice_get (all_told wanted.now headers.now notes.now asked.now.field layers.now) k }
+{
+    if is_protocol(asked.field) {
+        return there(kth_layer(headers, asked.field, layers, k));
+    }
+    if !wanted.contains(asked.field) {
+        return None;
+    }
+    there(kth_told(headers, notes, asked, layers, k))
+}
+
+fn there(kth: Kth) -> Option<Told>
+    ensures { result ≡ there kth }
+{
+    match kth {
+        Kth::At(told) => Some(told),
+        Kth::Left(_) => None,
+    }
+}
+
+pub(crate) fn is_protocol(field: FieldId) -> bool
+    ensures { result ≡ is_proto (row_of field).kind }
+{
+    matches!(kind(field), ValueKind::Proto)
+}
+
+/// The layer of a number among the chosen ones of a protocol.
+fn kth_layer(headers: &[Header], proto: FieldId, layers: &Layers, k: usize) -> Kth
+    ensures { result ≡ kth (layers_told proto layers.now headers.now) k }
+{
+    let mut left = k;
+    for header in headers {
+        match layer_kth(header, proto, layers, left) {
+            Kth::At(told) => return Kth::At(told),
+            Kth::Left(rest) => left = rest,
+        }
+    }
+    Kth::Left(left)
+}
+
+fn layer_kth(header: &Header, proto: FieldId, layers: &Layers, k: usize) -> Kth
+    ensures { result ≡ kth (layer_told proto layers.now header.now) k }
+{
+    if is_asked(header, proto, layers) {
+        kth_of(Some(Told::Read(header.span)), k)
+    } else {
+        Kth::Left(k)
+    }
+}
+
+/// The place of a number among a field's places in the chosen layers.
+fn kth_told(headers: &[Header], notes: &[Note], asked: &Asked, layers: &Layers, k: usize) -> Kth
+    requires short { ForAll (λ (h : HeaderShown). h.span.start + h.span.len < 2 ^ 32) headers.now }
+    requires whole { (buffers : List (List ℕ)) × ForAll (IsReadWhole buffers) headers.now }
+    requires home { asked.now.home ≡ (row_of asked.now.field).proto }
+    requires picked { ForAll (IsPickedIn asked.now) headers.now }
+    ensures { result ≡ kth (fields_told asked.now.field layers.now notes.now headers.now) k }
+{
+    let mut left = k;
+    for header in headers {
+        match asked_kth(header, notes, asked, layers, left) {
+            Kth::At(told) => return Kth::At(told),
+            Kth::Left(rest) => left = rest,
+        }
+    }
+    Kth::Left(left)
+}
+
+fn asked_kth(header: &Header, notes: &[Note], asked: &Asked, layers: &Layers, k: usize) -> Kth
+    requires end { header.now.span.start + header.now.span.len < 2 ^ 32 }
+    requires whole { (buffers : List (List ℕ)) × IsReadWhole buffers header.now }
+    requires home { asked.now.home ≡ (row_of asked.now.field).proto }
+    requires picked { IsPickedIn asked.now header.now }
+    ensures { result ≡ kth (asked_told asked.now.field layers.now notes.now header.now) k }
+{
+    if is_asked(header, asked.home, layers) {
+        header_kth(header, notes, asked, k)
+    } else {
+        Kth::Left(k)
+    }
+}
+
+fn header_kth(header: &Header, notes: &[Note], asked: &Asked, k: usize) -> Kth
+    requires end { header.now.span.start + header.now.span.len < 2 ^ 32 }
+    requires whole { (buffers : List (List ℕ)) × IsReadWhole buffers header.now }
+    requires picked { IsPicked asked.now.field header.now.slots.now asked.now.picks }
+    ensures { result ≡ kth (header_told asked.now.field notes.now header.now) k }
+{
+    match picked_kth(header, asked, k) {
+        Kth::At(told) => Kth::At(told),
+        Kth::Left(left) => note_kth(notes, asked.field, left),
+    }
+}
+
+/// The place of a number among those of the slots that were picked.
+fn picked_kth(header: &Header, asked: &Asked, k: usize) -> Kth
+    requires end { header.now.span.start + header.now.span.len < 2 ^ 32 }
+    requires known { SlotsKnown header.now.span.len (sizes_of header.now) header.now.slots.now }
+    ensures { result ≡ kth (picked_told header.now.span (sizes_of header.now) asked.now.field header.now.slots.now asked.now.picks) k }
+{
+    match asked.picks {
+        Picks::Unknown => row_kth(header.span, header.size, header.slots, asked.field, k),
+        Picks::Never => Kth::Left(k),
+        Picks::Once(only) => slot_kth(header, only, asked.field, k),
+        Picks::Twice(first, second) => match slot_kth(header, first, asked.field, k) {
+            Kth::At(told) => Kth::At(told),
+            Kth::Left(left) => slot_kth(header, second, asked.field, left),
+        },
+    }
+}
+
+/// The place of a number among those of one slot.
+fn slot_kth(header: &Header, number: u8, field: FieldId, k: usize) -> Kth
+    requires end { header.now.span.start + header.now.span.len < 2 ^ 32 }
+    requires known { SlotsKnown header.now.span.len (sizes_of header.now) header.now.slots.now }
+    ensures { result ≡ kth (slot_told header.now.span (sizes_of header.now) field (slot_at header.now.slots.now number)) k }
+{
+    let place = usize::from(number);
+    if place < header.slots.len() {
+        kth_of(
+            slot_told(header.span, header.size, field, header.slots[place]),
+            k,
+        )
+    } else {
+        Kth::Left(k)
+    }
+}
+
+fn is_asked(header: &Header, proto: FieldId, layers: &Layers) -> bool
+    ensures { result ≡ is_asked proto layers.now header.now }
+{
+    header.proto == proto && layers.contains(header.nth)
+}
+
+/// The place of a number among those of a field in a table.
+fn row_kth(span: Span, part: u32, slots: &[Slot], field: FieldId, k: usize) -> Kth
+    requires end { span.start + span.len < 2 ^ 32 }
+    requires known { SlotsKnown span.len (part ∷ []) slots.now }
+    ensures { result ≡ kth (rows_told span (part ∷ []) field slots.now) k }
+{
+    let mut left = k;
+    for slot in slots {
+        match kth_of(slot_told(span, part, field, *slot), left) {
+            Kth::At(told) => return Kth::At(told),
+            Kth::Left(rest) => left = rest,
+        }
+    }
+    Kth::Left(left)
+}
+
+fn note_kth(notes: &[Note], field: FieldId, k: usize) -> Kth
+    ensures { result ≡ kth (notes_told field notes.now) k }
+{
+    let mut left = k;
+    for note in notes {
+        match kth_of(note_told(note, field), left) {
+            Kth::At(told) => return Kth::At(told),
+            Kth::Left(rest) => left = rest,
+        }
+    }
+    Kth::Left(left)
+}
+
+fn note_told(note: &Note, field: FieldId) -> Option<Told>
+    ensures { option_to_list result ≡ note_told field note.now }
+{
+    if note.field == field {
+        Some(note.told)
+    } else {
+        None
+    }
+}
+
+fn kth_of(told: Option<Told>, k: usize) -> Kth
+    ensures { result ≡ kth (option_to_list told) k }
+{
+    match told {
+        Some(told) if k == 0 => Kth::At(told),
+        Some(_) => Kth::Left(k - 1),
+        None => Kth::Left(k),
+    }
+}
+
+/// Where a slot reads a field in a span, if it does.
+#[tactic(auto, unfolding(crate::specs::Found::slot_told, pk_tree::specs::Layouts::step_reach))]
+fn slot_told(span: Span, part: u32, field: FieldId, slot: Slot) -> Option<Told>
+    requires end { span.start + span.len < 2 ^ 32 }
+    requires known { (holds : List Truth)
+        × (step_reach span.len (step_of holds (part ∷ []) slot) ≡ Reach.All) }
+    ensures { option_to_list result ≡ slot_told span (part ∷ []) field slot }
+{
+    match slot {
+        Slot::Row(f, at) => {
+            if f == field.0 {
+                Some(read(span, usize::from(at), size(field)))
+            } else {
+                None
+            }
+        }
+        Slot::Part(f, at, number) => {
+            if f == field.0 {
+                some_read(span, usize::from(at), size_at(part, number))
+            } else {
+                None
+            }
+        }
+        Slot::PartAt(f, at, number) => {
+            if f == field.0 {
+                some_read(span, size_at(part, at), size_at(part, number))
+            } else {
+                None
+            }
+        }
+        Slot::Whole(f, at, number) => {
+            if f == field.0 {
+                Some(read(span, usize::from(at), size_at(part, number)))
+            } else {
+                None
+            }
+        }
+        Slot::Check(_) | Slot::Room(_) => None,
+    }
+}
+
+fn some_read(span: Span, at: usize, len: usize) -> Option<Told>
+    requires end { span.start + span.len < 2 ^ 32 }
+    requires inside { 0 < len → at + len ≤ span.len }
+    ensures { option_to_list result ≡ some_read (within span at len) }
+{
+    if len == 0 {
+        None
+    } else {
+        Some(read(span, at, len))
+    }
+}
+
+fn read(span: Span, at: usize, len: usize) -> Told
+    requires end { span.start + span.len < 2 ^ 32 }
+    requires inside { at + len ≤ span.len }
+    ensures { result ≡ Told.Read (within span at len) }
+{
+    Told::Read(Span {
+        buffer: span.buffer,
+        start: span.start + at as u32,
+        len: len as u32,
+    })
+}
+
+/// The size of a number, of which there is one.
+fn size_at(part: u32, number: u8) -> usize
+    ensures { result ≡ slice_index_or (part ∷ []) number 0 }
+{
+    if number == 0 { part as usize } else { 0 }
+}

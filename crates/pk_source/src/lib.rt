@@ -1,0 +1,17 @@
+//! What answers for the values of a frame's fields: its tree, or the headers of a frame that needs none.
+#![tactic(auto)]
+
+mod found;
+mod header;
+mod laws;
+mod outline;
+mod picks;
+mod reading;
+mod source;
+mod walks;
+
+pub use header::{Header, Note, Told};
+pub use laws::outlines_are_trees;
+pub use outline::Outline;
+pub use picks::{Picks, Places, Table};
+pub use source::{Lender, Source};

@@ -1,0 +1,179 @@
+ghost use Rattle.std.specs.Prelude.{◌≡◌, ◌∷◌, [], is_some, slice_get, IfOk, OnOk};
+ghost use Rattle.std.specs.List.{All as ForAll, AllByRecursion as Each};
+ghost use Rattle.pk_fields.specs.Fields.{row_of};
+ghost use Rattle.pk_source.specs.Found.{IsReadable, is_there, value_at};
+ghost use Rattle.pk_source.specs.Outlines.{IsOutline, outlined};
+ghost use Rattle.pk_source.specs.Picks.{Knows, pick_at};
+ghost use Rattle.pk_tree.specs.FieldValues.{values_of};
+ghost use Rattle.pk_tree.specs.Trees.{IsTree};
+ghost use Rattle.pk_tree.specs.Values.{IsOfKind};
+
+use crate::found::{Asked, find, is_protocol};
+use crate::header::{Header, Note, Told};
+use crate::picks::Places;
+use crate::reading::{part_at, read_value};
+use pk_base::{Layers, NoMemory, Octets, Value};
+use pk_fields::{FieldId, FieldSet, proto};
+use std::alloc::Global;
+use std::marker::Model;
+
+/// The headers of a frame, each read whole, and what is told beside. It has the values of the tree that these headers
+/// make, and reads each where it stands.
+#[derive(Drop)]
+pub struct Outline<'f> {
+    bytes: &'f Octets,
+    wanted: &'f FieldSet,
+    headers: &'f [Header],
+    notes: &'f [Note],
+    places: &'f Places,
+}
+
+impl<'f> Model for Outline<'f> {
+    ghost use Rattle.std.specs.List.{All as ForAll};
+    ghost use Rattle.pk_source.specs.Outlines.{IsOutline, outlined};
+    ghost use Rattle.pk_source.specs.Picks.{Knows};
+    ghost use Rattle.pk_tree.specs.Trees.{TreeShown};
+
+    ghost Value = { TreeShown };
+
+    ghost view = { λ o. outlined o.bytes.now o.wanted.now o.headers.now o.notes.now };
+
+    ghost invariant = { λ o. IsOutline o.bytes.now o.wanted.now o.headers.now o.notes.now
+        × ForAll (Knows o.places.now) o.headers.now };
+}
+
+impl<'f> Outline<'f> {
+    pub fn new(
+        bytes: &'f Octets,
+        wanted: &'f FieldSet,
+        headers: &'f [Header],
+        notes: &'f [Note],
+        places: &'f Places,
+    ) -> Outline<'f>
+        requires outline { IsOutline bytes.now wanted.now headers.now notes.now }
+        requires known { ForAll (Knows places.now) headers.now }
+        ensures tree { result ≡ outlined bytes.now wanted.now headers.now notes.now }
+        ensures fits { IsTree result }
+    {
+        Outline {
+            bytes,
+            wanted,
+            headers,
+            notes,
+            places,
+        }
+    }
+
+    /// It is one of the trees that can be.
+    pub fn fits(&self)
+        ensures { IsTree self.now }
+    {
+        let _headers = self.headers;
+    }
+
+    /// The values of a field or protocol in the chosen layers, in the tree's order. Each is looked for anew: a field has few.
+    pub fn values(
+        &self,
+        alloc: Global,
+        field: FieldId,
+        layers: &Layers,
+    ) -> Result<Vec<Value>, NoMemory>
+        ensures values { IfOk result (λ values.
+            values.items ≡ values_of self.now field layers.now) }
+        ensures kind { IfOk result (λ values. Each (IsOfKind (row_of field).kind) values.items) }
+    {
+        self.fits();
+        let mut values = Vec::new(alloc);
+        push_all(&mut values, self, field, layers)?;
+        Ok(values)
+    }
+
+    /// Whether there is a value of a field or protocol in the chosen layers.
+    pub fn has(&self, field: FieldId, layers: &Layers) -> bool
+        ensures { result ≡ is_there (values_of self.now field layers.now) }
+    {
+        is_found(find(
+            self.wanted,
+            self.headers,
+            self.notes,
+            &asked(self.places, field),
+            layers,
+            0,
+        ))
+    }
+
+    /// The value of a number, from 0, among those of a field in the chosen layers.
+    pub fn value(
+        &self,
+        field: FieldId,
+        layers: &Layers,
+        k: usize,
+    ) -> Result<Option<Value>, NoMemory>
+        ensures { IfOk result (λ value. value ≡ slice_get (values_of self.now field layers.now) k) }
+    {
+        match find(
+            self.wanted,
+            self.headers,
+            self.notes,
+            &asked(self.places, field),
+            layers,
+            k,
+        ) {
+            Some(told) => Ok(Some(value_at(self.bytes, field, told)?)),
+            None => Ok(None),
+        }
+    }
+}
+
+/// Adds the values of a field to none.
+fn push_all(
+    values: &mut Vec<Value>,
+    outline: &Outline<'_>,
+    field: FieldId,
+    layers: &Layers,
+) -> Result<(), NoMemory>
+    requires { values.old.items ≡ [] }
+    ensures { OnOk result (values.new.items ≡ values_of outline.now field layers.now) }
+{
+    'values: while let Some(value) = outline.value(field, layers, values.len())? {
+        values.push(value)?;
+    }
+    Ok(())
+}
+
+fn asked(places: &Places, field: FieldId) -> Asked
+    ensures field { result.field ≡ field }
+    ensures home { result.home ≡ (row_of field).proto }
+    ensures picks { result.picks ≡ pick_at places.now field }
+{
+    Asked {
+        field,
+        home: proto(field),
+        picks: places.picks(field),
+    }
+}
+
+fn is_found(told: Option<Told>) -> bool
+    ensures { result ≡ is_some told }
+{
+    told.is_some()
+}
+
+/// The value that stands at a place.
+#[tactic(auto, using(crate::proofs::OutlineLaws::proto_value))]
+fn value_at(bytes: &Octets, field: FieldId, told: Told) -> Result<Value, NoMemory>
+    requires { IsReadable (bytes.now ∷ []) field told }
+    ensures { IfOk result (λ value. value ≡ value_at (bytes.now ∷ []) field told) }
+{
+    match told {
+        Told::Read(span) => {
+            if is_protocol(field) {
+                Ok(Value::Proto(part_at(bytes, span)?))
+            } else {
+                read_value(bytes, field, span)
+            }
+        }
+        Told::Number(number) => Ok(Value::Uint(number)),
+        Told::Moment(time) => Ok(Value::Time(time)),
+    }
+}
