@@ -1,7 +1,7 @@
 -- What is noted of one frame more.
 use Rattle.std.proofs.Common.{◌≡◌, ◌≤◌, ◌+◌, ℕ, suc, Bool, true, false, List, ◌∷◌, arith, sym, ap, ◌∙◌, subst, if◌then◌else◌, [], Option, None, Some}
 use Rattle.cap_stats.proofs.FewLemmas.{few_more as stats_few}
-use Rattle.cap_stats.proofs.KeptNotes.{kept_alike, stands_alike}
+use Rattle.cap_stats.proofs.KeptNotes.{stands_alike}
 use Rattle.cap_stats.specs.Few.{HasFew}
 use Rattle.cap_stats.specs.Stands.{Stands, kind_of}
 use Rattle.cap_stats.specs.declared.kind.StatKind.{StatKind}
@@ -130,7 +130,7 @@ stands_whole plan kind tree whole trees stats is noted stands =
     subst (λ (shown : Bool). Stands (if shown then whole ∷ trees else trees) stats) noted.truth (by (lets plan tree) stands)
   where
     by : (shown : Bool) → Stands (if shown then tree ∷ trees else trees) stats → Stands (if shown then whole ∷ trees else trees) stats
-    by true stands = stands_alike kind whole tree trees stats is (kept_alike kind whole tree noted.kept) stands
+    by true stands = stands_alike kind whole tree trees stats is noted.alike stands
     by false stands = stands
 
 table_same : (plan : Plan) (kind : StatKind) (tree whole : TreeShown) (trees : List TreeShown) (table : Table) → (asks_table plan kind ≡ true → IsNotedAs plan kind whole tree)

@@ -2,13 +2,15 @@
 use Rattle.std.proofs.Common.{◌≡◌, ◌||◌, ℕ, Bool, true, false, List, map, refl, sym, ap, ◌∙◌, subst, true≢false}
 use Rattle.pk_fields.specs.FieldSets.{is_in}
 use Rattle.pk_fields.specs.Ids.{TCP_SEQ, TCP_ACK, TCP_LOST}
-use Rattle.pk_tree.specs.Trees.{TreeShown, IsKept}
+use Rattle.pk_tree.specs.Trees.{TreeShown, IsKept, kept_tree}
 use Rattle.pk_tree.proofs.KeptValues.{values_same}
 use Rattle.pk_tree.specs.FieldValues.{values_of}
+use Rattle.app_layers.specs.Aside.{LacksOnly}
+use Rattle.app_layers.proofs.MessagesAside.{lacks_none}
 use Rattle.cap_stats.specs.declared.kind.StatKind.{StatKind}
 use Rattle.cap_stats.specs.declared.kind.StatKind.TheVariants.{ConvTcp, ConvIp, Phs}
 use Rattle.capture_read.specs.declared.frame.Frame.{Frame}
-use Rattle.dissect.specs.Followed.{asks_messages, asks_streams, HasSameValues}
+use Rattle.dissect.specs.Followed.{asks_messages, asks_streams}
 use Rattle.dissect.specs.Trees.{tree_at}
 use Rattle.pk_fields.specs.declared.rules.PortRule.{PortRule}
 use Rattle.run_frames.specs.declared.plan.Plan.{Plan}
@@ -16,7 +18,7 @@ use Rattle.run_frames.specs.Accessors.{needs_streams, rules_of, two_of}
 use Rattle.run_frames.specs.Tables.{asks_table, asks_tables}
 use Rattle.run_frames.specs.Trees.{tree_of}
 use Rattle.dissect.specs.Stands.{DissectorShown}
-use Rattle.run_frames.specs.Wanted.{AreToldByValues, asks_trees, sums_up, HasFields, IsMadeFor, IsEnough, IsToldAs, ServesPlan}
+use Rattle.run_frames.specs.Wanted.{AreToldByValues, asks_trees, sums_up, HasFields, IsMadeFor, IsEnough, IsSpared, IsToldAs, ServesPlan}
 use Rattle.second_pass.specs.Forward.{forwarded, forwarded_to}
 use Rattle.second_pass.specs.Laws.{kept_noted, link_fields}
 use Rattle.second_pass.proofs.KeptLinks.{links_same}
@@ -68,7 +70,10 @@ kept_forwarded wanted noted frame whole tree after links kept same = record {
 
 made_kept : (wanted : List ℕ) (whole tree : TreeShown) → IsKept wanted whole tree → IsMadeFor wanted whole tree
 made_kept wanted whole tree kept = record {
-  values = λ field layers is. ap (λ (t : TreeShown). values_of t field layers) kept.same ∙ values_same wanted whole field layers is;
+  spared = record {
+    values = λ field layers is. ap (λ (t : TreeShown). values_of t field layers) kept.same ∙ values_same wanted whole field layers is;
+    lacks = subst (LacksOnly (kept_tree wanted whole)) (sym kept.same) (lacks_none (kept_tree wanted whole));
+  };
   kept = λ asks. kept;
 }
 
@@ -93,33 +98,33 @@ told_by false (Two noted) (Known links) wanted plan rules past frame tree after 
 told_by true One Unread wanted plan rules past frame tree after two serves enough is made same = absurd serves
 told_by true One (Known links) wanted plan rules past frame tree after two serves enough is made same = absurd serves
 
--- by values alone, where the frames are read once
+-- by a tree that is made for values alone, where the frames are read once
 told_values : (passes : Passes) (later : Later) (wanted : List ℕ) (plan : Plan) (rules : List PortRule) (past : List Frame) (frame : Frame) (tree after : TreeShown)
-    → ServesKept wanted false passes later → AreToldByValues wanted plan → rules ≡ rules_of plan → HasSameValues wanted (tree_at rules past frame) tree
+    → ServesKept wanted false passes later → AreToldByValues wanted plan → rules ≡ rules_of plan → IsSpared wanted (tree_at rules past frame) tree
     → after ≡ with_links (kept_passes wanted passes) frame.number tree → IsToldAs plan (tree_of (job_in plan passes) past frame) after
-told_values One later wanted plan rules past frame tree after serves told is values same =
-    told_once plan rules past frame tree after is (told (tree_at rules past frame) tree values) same
-told_values (Two noted) Unread wanted plan rules past frame tree after serves told is values same = absurd serves
-told_values (Two noted) (Known links) wanted plan rules past frame tree after serves told is values same = absurd serves
+told_values One later wanted plan rules past frame tree after serves told is spared same =
+    told_once plan rules past frame tree after is (told (tree_at rules past frame) tree spared) same
+told_values (Two noted) Unread wanted plan rules past frame tree after serves told is spared same = absurd serves
+told_values (Two noted) (Known links) wanted plan rules past frame tree after serves told is spared same = absurd serves
 
 not_both : (a : Bool) (b : Bool) → (a ≡ true → b ≡ false) → b ≡ true → a ≡ false
 not_both true b none is = absurd (true≢false (sym is ∙ none refl))
 not_both false b none is = refl
 
 pub frame_told : (passes : Passes) (later : Later) (d : DissectorShown) (plan : Plan) (rules : List PortRule) (past : List Frame) (frame : Frame) (tree after : TreeShown)
-    → ServesKept d.wanted (two_of plan) passes later → ServesPlan d plan → rules ≡ rules_of plan → HasSameValues d.wanted (tree_at rules past frame) tree
+    → ServesKept d.wanted (two_of plan) passes later → ServesPlan d plan → rules ≡ rules_of plan → IsSpared d.wanted (tree_at rules past frame) tree
     → (asks_streams d.wanted ≡ true → d.sparing ≡ false → IsKept d.wanted (tree_at rules past frame) tree)
     → ((two : Bool) (p : Passes) → Serves two p later → after ≡ with_links p frame.number tree) → IsToldAs plan (tree_of (job_in plan passes) past frame) after
-frame_told passes later d plan rules past frame tree after serves for_plan is values kept linked = by_kind d.sparing refl
+frame_told passes later d plan rules past frame tree after serves for_plan is spared kept linked = by_kind d.sparing refl
   where
     by_kind : (sparing : Bool) → d.sparing ≡ sparing → IsToldAs plan (tree_of (job_in plan passes) past frame) after
     by_kind false whole =
-        told_by (two_of plan) passes later d.wanted plan rules past frame tree after refl serves for_plan.enough is (record { values = values; kept = λ asks. kept asks whole })
+        told_by (two_of plan) passes later d.wanted plan rules past frame tree after refl serves for_plan.enough is (record { spared = spared; kept = λ asks. kept asks whole })
         (linked (two_of plan) (kept_passes d.wanted passes) serves)
-    by_kind true sparing =
-        let none : (needs_streams plan || two_of plan) ≡ false = not_both (needs_streams plan || two_of plan) d.sparing for_plan.whole sparing in
+    by_kind true is_sparing =
+        let none : (needs_streams plan || two_of plan) ≡ false = not_both (needs_streams plan || two_of plan) d.sparing for_plan.whole is_sparing in
         let once : two_of plan ≡ false = second_false (needs_streams plan) (two_of plan) none in
-        told_values passes later d.wanted plan rules past frame tree after (subst (λ (two : Bool). ServesKept d.wanted two passes later) once serves) (for_plan.values sparing) is values
+        told_values passes later d.wanted plan rules past frame tree after (subst (λ (two : Bool). ServesKept d.wanted two passes later) once serves) (for_plan.values is_sparing) is spared
         (linked (two_of plan) (kept_passes d.wanted passes) serves)
 
 -- a dissector that takes frames goes on to serve

@@ -1,11 +1,14 @@
 -- What a plan asks for. Only these words look into it.
-use Rattle.std.specs.Prelude.{◌==◌, ℕ, Bool, not, ◌||◌, List, length, Option, option_map}
+use Rattle.std.specs.Prelude.{ℕ, Bool, true, false, ◌||◌, List, Option, option_map}
+use Rattle.std.specs.List.{list_any}
+use Rattle.cap_stats.specs.declared.kind.StatKind.TheVariants.{ConvTcp, ConvIp, Phs}
 use Rattle.capture_write.specs.declared.format.Format.{Format}
 use Rattle.flt_typed.specs.declared.typed.Typed.{Typed}
 use Rattle.out_lines.specs.declared.style.Style.{Style}
 use Rattle.pk_fields.specs.declared.rules.PortRule.{PortRule}
 use Rattle.shark_words.specs.declared.options.LineKind.{LineKind}
 use Rattle.shark_words.specs.declared.options.Report.{Report}
+use Rattle.shark_words.specs.declared.options.Report.TheVariants as reports
 use Rattle.run_frames.specs.Compiled.{CompiledShown}
 use Rattle.run_frames.specs.declared.plan.Plan.{Plan}
 use Rattle.run_frames.specs.declared.source.PlanSource.{PlanSource}
@@ -66,9 +69,16 @@ two_of plan = plan.two
 abbrev pub most_of : Plan → Option ℕ
 most_of plan = plan.most
 
--- whether something behind the lines may be told by streams of TCP
+-- whether a report may be told by streams of TCP: by what one has, or by the layers of its messages; headers tell of conversations
+abbrev pub is_of_streams : Report → Bool
+is_of_streams (reports.Follow stream) = true
+is_of_streams (reports.Table ConvTcp) = false
+is_of_streams (reports.Table ConvIp) = false
+is_of_streams (reports.Table Phs) = true
+
+-- whether something behind the lines may be
 abbrev pub needs_streams : Plan → Bool
-needs_streams plan = is_generated plan || not (length (reports_of plan) == 0)
+needs_streams plan = is_generated plan || list_any is_of_streams (reports_of plan)
 
 -- whether no lines of frames are written: so it is asked for, or the capture is generated
 abbrev pub is_quiet : Plan → Bool

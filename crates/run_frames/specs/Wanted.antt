@@ -3,10 +3,11 @@ use Rattle.std.specs.Prelude.{◌≡◌, ℕ, Bool, true, false, ◌||◌, List,
 use Rattle.std.specs.List.{AllByRecursion as Each}
 use Rattle.pk_fields.specs.FieldSets.{is_in}
 use Rattle.pk_fields.specs.Ids.{FRAME_NUMBER, FRAME_TIME_RELATIVE, FRAME_LEN, ETH_SRC, ETH_DST, IP_SRC, IP_DST, IPV6_SRC, IPV6_DST}
-use Rattle.pk_tree.specs.Trees.{TreeShown, IsKept}
+use Rattle.pk_tree.specs.Trees.{TreeShown, IsKept, kept_tree}
+use Rattle.app_layers.specs.Aside.{LacksOnly}
 use Rattle.dissect.specs.Followed.{asks_streams, HasSameValues}
 use Rattle.dissect.specs.Stands.{DissectorShown}
-use Rattle.cap_stats.specs.Laws.{IsKeptFor, fields_of as table_fields}
+use Rattle.cap_stats.specs.Laws.{AreNotedAlike, fields_of as table_fields}
 use Rattle.cap_stats.specs.declared.kind.StatKind.{StatKind}
 use Rattle.capture_write.specs.declared.format.Format.{Format}
 use Rattle.flt_typed.specs.Asked.{HasFilter}
@@ -69,15 +70,21 @@ shows_whole_by None false Fields = false
 abbrev pub shows_whole : Plan → Bool
 shows_whole plan = shows_whole_by (written_of plan) (is_quiet plan) (kind_of plan)
 
--- a tree that a dissector makes for these fields, beside the whole tree
-pub record IsMadeFor (wanted : List ℕ) (whole tree : TreeShown) : Type 0 where
+-- a tree that a dissector makes for the values of these fields, beside the whole tree: it has them, and of the whole tree with their
+-- items it lacks only layers behind its own that have nothing to show of them
+pub record IsSpared (wanted : List ℕ) (whole tree : TreeShown) : Type 0 where
   pub values : HasSameValues wanted whole tree
+  pub lacks : LacksOnly (kept_tree wanted whole) tree
+
+-- a tree that a dissector makes for these fields
+pub record IsMadeFor (wanted : List ℕ) (whole tree : TreeShown) : Type 0 where
+  pub spared : IsSpared wanted whole tree
   pub kept : asks_streams wanted ≡ true → IsKept wanted whole tree
 
--- a tree is noted for the table of a kind as the whole tree: the filter lets both through or neither, and it has what the table reads
+-- a tree is noted for the table of a kind as the whole tree: the filter lets both through or neither, and the table reads the same in both
 pub record IsNotedAs (plan : Plan) (kind : StatKind) (whole tree : TreeShown) : Type 0 where
   pub truth : lets plan tree ≡ lets plan whole
-  pub kept : IsKeptFor kind whole tree
+  pub alike : AreNotedAlike kind whole tree
 
 -- a tree is shown and counted as the whole tree, or chosen as the whole tree where frames are written, and noted as the whole tree
 -- where a table is asked for
@@ -87,13 +94,13 @@ pub record IsToldAs (plan : Plan) (whole tree : TreeShown) : Type 0 where
   pub truth : IsSome (written_of plan) → lets plan tree ≡ lets plan whole
   pub noted : (kind : StatKind) → asks_table plan kind ≡ true → IsNotedAs plan kind whole tree
 
--- whether something is told by more than the values of fields, where whole trees aren't shown
+-- whether something is told by more than such trees tell, where whole trees aren't shown
 abbrev pub asks_trees : Plan → Bool
 asks_trees plan = two_of plan || needs_streams plan || sums_up plan
 
--- trees are told as the whole trees where they have the same values of these fields
+-- trees that are made for the values of these fields are told as the whole trees
 abbrev pub AreToldByValues : List ℕ → Plan → Type 0
-AreToldByValues wanted plan = (whole tree : TreeShown) → HasSameValues wanted whole tree → IsToldAs plan whole tree
+AreToldByValues wanted plan = (whole tree : TreeShown) → IsSpared wanted whole tree → IsToldAs plan whole tree
 
 -- trees of these fields are told as the whole trees; streams are asked where something is told by them, and the fields of links
 -- where the frames are read twice

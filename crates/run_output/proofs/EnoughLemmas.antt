@@ -1,5 +1,5 @@
 -- Which fields are enough.
-use Rattle.std.proofs.Common.{◌≡◌, ◌==◌, ◌||◌, not, ◌<◌, ◌+◌, ℕ, suc, Bool, true, false, List, [], ◌∷◌, length, map, get_or, Option, Some, None, refl, sym, ap, ◌∙◌, subst, true≢false, arith, if◌then◌else◌}
+use Rattle.std.proofs.Common.{◌≡◌, ◌==◌, ◌||◌, not, ◌<◌, ◌+◌, ℕ, suc, Bool, true, false, List, [], ◌∷◌, length, map, get_or, Option, Some, None, refl, sym, ap, ◌∙◌, subst, arith, if◌then◌else◌}
 use Rattle.std.specs.List.{AllByRecursion as Each, fold, list_any}
 use Rattle.std.proofs.lemmas.Bool.{eq-eqb, ne_eqb}
 use Rattle.std.specs.Prelude.{cond, IsSome}
@@ -9,7 +9,11 @@ use Rattle.pk_fields.specs.Ids.{DNS, HTTP, TCP_STREAM, TCP_SEQ, TCP_ACK, TCP_LOS
 use Rattle.pk_tree.specs.Trees.{TreeShown, IsKept, kept_layer, kept_tree, layers_of}
 use Rattle.pk_tree.specs.declared.layer.Layer.{Layer}
 use Rattle.pk_tree.proofs.KeptTrees.{all_kept}
-use Rattle.cap_stats.specs.Laws.{fields_of as table_fields}
+use Rattle.app_layers.specs.Aside.{IsAside}
+use Rattle.cap_stats.specs.Laws.{AreNotedAlike, LacksBare, fields_of as table_fields}
+use Rattle.cap_stats.proofs.BareLayers.{bare_unread}
+use Rattle.cap_stats.proofs.KeptNotes.{kept_alike}
+use Rattle.cap_stats.proofs.KeptTables.{packet_same, stream_same}
 use Rattle.cap_stats.specs.declared.kind.StatKind.{StatKind}
 use Rattle.cap_stats.specs.declared.kind.StatKind.TheVariants.{ConvTcp, ConvIp, Phs}
 use Rattle.dissect.specs.Followed.{asks_messages, asks_streams, HasSameValues}
@@ -17,6 +21,7 @@ use Rattle.capture_write.specs.declared.format.Format.{Format}
 use Rattle.shark_words.specs.declared.options.LineKind.{LineKind}
 use Rattle.shark_words.specs.declared.options.LineKind.TheVariants.{Text, Fields, Json}
 use Rattle.shark_words.specs.declared.options.Report.{Report}
+use Rattle.shark_words.specs.declared.options.Report.TheVariants as reports
 use Rattle.out_lines.proofs.KeptLines.{line_alike}
 use Rattle.out_lines.specs.Summary.{summary_of}
 use Rattle.flt_mean.proofs.KeptMeaning.{meaning_alike}
@@ -30,7 +35,7 @@ use Rattle.flt_program.specs.declared.instr.Instr.TheVariants as instr
 use Rattle.flt_vm.specs.declared.run.Verdict.{Verdict}
 use Rattle.run_frames.specs.declared.plan.Plan.{Plan}
 use Rattle.run_frames.specs.declared.totals.Totals.{Totals}
-use Rattle.run_frames.specs.Accessors.{is_generated, is_quiet, needs_streams, reports_of, stats_of, two_of, written_of}
+use Rattle.run_frames.specs.Accessors.{is_generated, is_of_streams, is_quiet, needs_streams, reports_of, stats_of, two_of, written_of}
 use Rattle.run_frames.specs.Totals.{steps_told, counts_by, counts_with, with_tree}
 use Rattle.run_frames.specs.Pieces.{line_by, line_of, shown}
 use Rattle.run_frames.specs.Compiled.{CompiledShown}
@@ -40,7 +45,7 @@ use Rattle.run_frames.specs.Trees.{lets}
 use Rattle.run_output.proofs.SummaryLemmas.{summary_same}
 use Rattle.run_frames.proofs.WantedLemmas.{first_false, second_false}
 use Rattle.dissect.specs.Stands.{DissectorShown}
-use Rattle.run_frames.specs.Wanted.{AreToldByValues, ServesPlan, asks_trees, HasAsked, HasFields, HasPlan, HasTables, IsMadeFor, IsEnough, IsNotedAs, shows_whole, shows_whole_by, summary_fields, sums_up, sums_up_by}
+use Rattle.run_frames.specs.Wanted.{AreToldByValues, ServesPlan, asks_trees, HasAsked, HasFields, HasPlan, HasTables, IsMadeFor, IsEnough, IsNotedAs, IsSpared, shows_whole, shows_whole_by, summary_fields, sums_up, sums_up_by}
 use Rattle.second_pass.specs.Laws.{link_fields}
 
 -- a set that grows still has what an instruction and what a program asks for
@@ -255,21 +260,41 @@ not_written : {A : Type 0} (plan : Plan) → written_of plan ≡ None → IsSome
 not_written plan lines some = let bad : false ≡ true = subst IsSome lines some in absurd (cc bad)
 
 not_generated : (plan : Plan) → needs_streams plan ≡ false → is_generated plan ≡ false
-not_generated plan is = first_false (is_generated plan) (not (length plan.reports == 0)) is
+not_generated plan is = first_false (is_generated plan) (list_any is_of_streams plan.reports) is
 
 not_needed : {A : Type 0} (plan : Plan) → needs_streams plan ≡ false → needs_streams plan ≡ true → A
 not_needed plan not_so is = let bad : false ≡ true = sym not_so ∙ is in absurd (cc bad)
 
-not_empty : {A : Type 0} (reports : List Report) (test : Report → Bool) (b : Bool) → (b || not (length reports == 0)) ≡ false → list_any test reports ≡ true → A
-not_empty [] test b none is = let bad : false ≡ true = is in absurd (cc bad)
-not_empty (report ∷ reports) test true none is = absurd (cc none)
-not_empty (report ∷ reports) test false none is =
+not_empty : {A : Type 0} (reports : List Report) (test : Report → Bool) → not (length reports == 0) ≡ false → list_any test reports ≡ true → A
+not_empty [] test none is = let bad : false ≡ true = is in absurd (cc bad)
+not_empty (report ∷ reports) test none is =
     let some : not (length (report ∷ reports) == 0) ≡ true = ap not (ne_eqb (length (report ∷ reports)) 0 (λ zero. absurd (omega (arith, zero)))) in
     let bad : true ≡ false = sym some ∙ none in absurd (cc bad)
 
--- where nothing is told by streams, there are no reports
-no_report : {A : Type 0} (plan : Plan) (kind : StatKind) → needs_streams plan ≡ false → asks_table plan kind ≡ true → A
-no_report plan kind none asked = not_empty (reports_of plan) (is_table_of kind) (is_generated plan) none asked
+-- where there are no reports, there is no table
+no_report : {A : Type 0} (plan : Plan) (kind : StatKind) → not (length (reports_of plan) == 0) ≡ false → asks_table plan kind ≡ true → A
+no_report plan kind none asked = not_empty (reports_of plan) (is_table_of kind) none asked
+
+-- where nothing is told by streams, protocols aren't counted
+either_true_of : (a b c d : Bool) → (a ≡ true → b ≡ true) → (c ≡ true → d ≡ true) → (a || c) ≡ true → (b || d) ≡ true
+either_true_of true b c d first second is = ap (λ (x : Bool). x || d) (first refl)
+either_true_of false true c d first second is = refl
+either_true_of false false c d first second is = second is
+
+phs_of_streams : (report : Report) → is_table_of Phs report ≡ true → is_of_streams report ≡ true
+phs_of_streams (reports.Follow stream) is = refl
+phs_of_streams (reports.Table ConvTcp) is = is
+phs_of_streams (reports.Table ConvIp) is = is
+phs_of_streams (reports.Table Phs) is = refl
+
+any_of_streams : (all : List Report) → list_any (is_table_of Phs) all ≡ true → list_any is_of_streams all ≡ true
+any_of_streams [] is = is
+any_of_streams (report ∷ all) is =
+    either_true_of (is_table_of Phs report) (is_of_streams report) (list_any (is_table_of Phs) all) (list_any is_of_streams all) (phs_of_streams report) (any_of_streams all) is
+
+no_phs : {A : Type 0} (plan : Plan) → needs_streams plan ≡ false → asks_table plan Phs ≡ true → A
+no_phs plan none asked =
+    let bad : false ≡ true = sym (second_false (is_generated plan) (list_any is_of_streams plan.reports) none) ∙ any_of_streams (reports_of plan) asked in absurd (cc bad)
 
 -- all fields are those of every table
 tables_all : (kind : StatKind) → HasFields every_field (table_fields kind)
@@ -278,14 +303,34 @@ tables_all ConvTcp = (refl, (refl, (refl, (refl, (refl, (refl, (refl, (refl, tt)
 tables_all ConvIp = (refl, (refl, (refl, tt)))
 tables_all Phs = (refl, tt)
 
+all_bare : (wanted : List ℕ) (layers : List Layer) → Each (IsAside wanted) layers → Each (λ (layer : Layer). layer.items ≡ []) layers
+all_bare wanted [] aside = tt
+all_bare wanted (layer ∷ layers) aside = (aside.0.1, all_bare wanted layers aside.1)
+
+-- what a tree lacks that is made for values is nothing to the tables of conversations
+lacks_bare : (wanted : List ℕ) (whole tree : TreeShown) → IsSpared wanted whole tree → LacksBare (kept_tree wanted whole) tree
+lacks_bare wanted whole tree spared = record {
+  layers = spared.lacks.layers;
+  whole_layers = spared.lacks.whole_layers;
+  bare = all_bare wanted spared.lacks.layers spared.lacks.aside;
+}
+
+conversations_alike : (wanted : List ℕ) (plan : Plan) (whole tree : TreeShown) (kind : StatKind) → needs_streams plan ≡ false → HasTables wanted plan → IsSpared wanted whole tree
+    → asks_table plan kind ≡ true → AreNotedAlike kind whole tree
+conversations_alike wanted plan whole tree ConvTcp not_so tables spared asked =
+    (bare_unread (kept_tree wanted whole) tree (lacks_bare wanted whole tree spared)).0 ∙ stream_same wanted (tables ConvTcp asked) whole.layers
+conversations_alike wanted plan whole tree ConvIp not_so tables spared asked =
+    (bare_unread (kept_tree wanted whole) tree (lacks_bare wanted whole tree spared)).1 ∙ packet_same wanted (tables ConvIp asked) whole.layers
+conversations_alike wanted plan whole tree Phs not_so tables spared asked = no_phs plan not_so asked
+
 noted_all : (wanted : List ℕ) (plan : Plan) (kind : StatKind) (whole tree : TreeShown) → wanted ≡ every_field → IsMadeFor wanted whole tree → IsNotedAs plan kind whole tree
 noted_all wanted plan kind whole tree all made = record {
   truth = ap (lets plan) (tree_all wanted whole tree all made);
-  kept = record {
+  alike = kept_alike kind whole tree (record {
     wanted = every_field;
     fields = tables_all kind;
     kept = subst (λ (fields : List ℕ). IsKept fields whole tree) all (made.kept (ap asks_streams all ∙ streams_every));
-  };
+  });
 }
 
 not_twice : {A : Type 0} (plan : Plan) → two_of plan ≡ false → two_of plan ≡ true → A
@@ -314,12 +359,12 @@ pub enough_followed : (wanted : List ℕ) (plan : Plan) → shows_whole plan ≡
     → (two_of plan ≡ true → HasFields wanted link_fields) → IsEnough wanted plan
 enough_followed wanted plan is has tables asks links = record {
   told = λ whole tree made. record {
-    shown = λ lines. shown_kept wanted plan whole tree made.values (made.kept asks) has lines (which_lines plan lines is);
-    counted = λ totals. counted_kept wanted plan whole tree has made.values (made.kept asks) totals;
-    truth = λ written. satisfies_same wanted plan.chosen whole tree made.values has.filter;
+    shown = λ lines. shown_kept wanted plan whole tree made.spared.values (made.kept asks) has lines (which_lines plan lines is);
+    counted = λ totals. counted_kept wanted plan whole tree has made.spared.values (made.kept asks) totals;
+    truth = λ written. satisfies_same wanted plan.chosen whole tree made.spared.values has.filter;
     noted = λ kind asked. record {
-      truth = satisfies_same wanted plan.chosen whole tree made.values has.filter;
-      kept = record { wanted = wanted; fields = tables kind asked; kept = made.kept asks };
+      truth = satisfies_same wanted plan.chosen whole tree made.spared.values has.filter;
+      alike = kept_alike kind whole tree (record { wanted = wanted; fields = tables kind asked; kept = made.kept asks });
     };
   };
   streams = λ needed. asks;
@@ -328,29 +373,32 @@ enough_followed wanted plan is has tables asks links = record {
 
 -- where values of fields tell the trees
 pub values_none : (wanted : List ℕ) (plan : Plan) → asks_trees plan ≡ false → plan.quiet ≡ true → stats_of plan ≡ false → written_of plan ≡ None
-    → AreToldByValues wanted plan
-values_none wanted plan none_so is untold lines =
+    → not (length (reports_of plan) == 0) ≡ false → AreToldByValues wanted plan
+values_none wanted plan none_so is untold lines unreported =
     let neither : (two_of plan || needs_streams plan) ≡ false = first_false (two_of plan || needs_streams plan) (sums_up plan) none_so in
     let not_so : needs_streams plan ≡ false = second_false (two_of plan) (needs_streams plan) neither in
-    λ whole tree values. record {
+    λ whole tree spared. record {
       shown = λ none. shown_quiet plan tree whole (quiet_asked plan is);
       counted = λ totals. counted_file plan tree whole (not_generated plan not_so) (no_steps plan (judged plan.chosen tree) (judged plan.chosen whole) untold) totals;
       truth = λ written. not_written plan lines written;
-      noted = λ kind asked. no_report plan kind not_so asked;
+      noted = λ kind asked. no_report plan kind unreported asked;
     }
 
-pub values_plain : (wanted : List ℕ) (plan : Plan) → shows_whole plan ≡ false → asks_trees plan ≡ false → HasPlan wanted plan
+pub values_plain : (wanted : List ℕ) (plan : Plan) → shows_whole plan ≡ false → asks_trees plan ≡ false → HasPlan wanted plan → HasTables wanted plan
     → AreToldByValues wanted plan
-values_plain wanted plan is none_so has =
+values_plain wanted plan is none_so has tables =
     let neither : (two_of plan || needs_streams plan) ≡ false = first_false (two_of plan || needs_streams plan) (sums_up plan) none_so in
     let not_so : needs_streams plan ≡ false = second_false (two_of plan) (needs_streams plan) neither in
     let unsummed : sums_up plan ≡ false = second_false (two_of plan || needs_streams plan) (sums_up plan) none_so in
-    λ whole tree values. record {
-      shown = λ lines. shown_asked wanted plan whole tree values has lines unsummed (which_lines plan lines is);
+    λ whole tree spared. record {
+      shown = λ lines. shown_asked wanted plan whole tree spared.values has lines unsummed (which_lines plan lines is);
       counted = λ totals. counted_file plan tree whole (not_generated plan not_so)
-          (ap (steps_told plan) (judged_same wanted plan.chosen whole tree values has.filter)) totals;
-      truth = λ written. satisfies_same wanted plan.chosen whole tree values has.filter;
-      noted = λ kind asked. no_report plan kind not_so asked;
+          (ap (steps_told plan) (judged_same wanted plan.chosen whole tree spared.values has.filter)) totals;
+      truth = λ written. satisfies_same wanted plan.chosen whole tree spared.values has.filter;
+      noted = λ kind asked. record {
+        truth = satisfies_same wanted plan.chosen whole tree spared.values has.filter;
+        alike = conversations_alike wanted plan whole tree kind not_so tables spared asked;
+      };
     }
 
 -- these are enough
@@ -358,36 +406,25 @@ pub values_enough : (wanted : List ℕ) (plan : Plan) → asks_trees plan ≡ fa
 values_enough wanted plan none_so told =
     let neither : (two_of plan || needs_streams plan) ≡ false = first_false (two_of plan || needs_streams plan) (sums_up plan) none_so in
     record {
-      told = λ whole tree made. told whole tree made.values;
+      told = λ whole tree made. told whole tree made.spared;
       streams = not_needed plan (second_false (two_of plan) (needs_streams plan) neither);
       twice = not_twice plan (first_false (two_of plan) (needs_streams plan) neither);
     }
 
-pub enough_none : (wanted : List ℕ) (plan : Plan) → asks_trees plan ≡ false → plan.quiet ≡ true → stats_of plan ≡ false → written_of plan ≡ None
-    → IsEnough wanted plan
-enough_none wanted plan none_so is untold lines = values_enough wanted plan none_so (values_none wanted plan none_so is untold lines)
-
-pub enough_plain : (wanted : List ℕ) (plan : Plan) → shows_whole plan ≡ false → asks_trees plan ≡ false → HasPlan wanted plan
-    → IsEnough wanted plan
-enough_plain wanted plan is none_so has = values_enough wanted plan none_so (values_plain wanted plan is none_so has)
-
 -- what they are enough for
-pub reports_need : (wanted : List ℕ) (plan : Plan) → IsEnough wanted plan → 0 < length plan.reports → asks_streams wanted ≡ true
-reports_need wanted plan enough some = enough.streams (second (is_generated plan) (length plan.reports) some)
-  where
-    second : (a : Bool) (n : ℕ) → 0 < n → (a || not (n == 0)) ≡ true
-    second true n some = refl
-    second false n some = ap not (ne_eqb n 0 (λ none. absurd (omega (arith, some, none))))
+any_true : (a b : Bool) → b ≡ true → (a || b) ≡ true
+any_true true b is = refl
+any_true false b is = is
 
-pub reports_whole : (d : DissectorShown) (plan : Plan) → ServesPlan d plan → 0 < length plan.reports → d.sparing ≡ false
-reports_whole d plan serves some = serves.whole (one_of (is_generated plan) (length plan.reports) (two_of plan) some)
-  where
-    one_of : (a : Bool) (n : ℕ) (b : Bool) → 0 < n → ((a || not (n == 0)) || b) ≡ true
-    one_of true n b some = refl
-    one_of false n b some = ap (λ (c : Bool). not c || b) (ne_eqb n 0 (λ none. absurd (omega (arith, some, none))))
+pub reports_need : (wanted : List ℕ) (plan : Plan) → IsEnough wanted plan → list_any is_of_streams plan.reports ≡ true → asks_streams wanted ≡ true
+reports_need wanted plan enough some = enough.streams (any_true (is_generated plan) (list_any is_of_streams plan.reports) some)
+
+pub reports_whole : (d : DissectorShown) (plan : Plan) → ServesPlan d plan → list_any is_of_streams plan.reports ≡ true → d.sparing ≡ false
+reports_whole d plan serves some =
+    serves.whole (ap (λ (b : Bool). b || two_of plan) (any_true (is_generated plan) (list_any is_of_streams plan.reports) some))
 
 pub generated_streams : (d : DissectorShown) (plan : Plan) → ServesPlan d plan → is_generated plan ≡ true → asks_streams d.wanted ≡ true
-generated_streams d plan serves is = serves.enough.streams (ap (λ (b : Bool). b || not (length plan.reports == 0)) is)
+generated_streams d plan serves is = serves.enough.streams (ap (λ (b : Bool). b || list_any is_of_streams plan.reports) is)
 
 pub generated_whole : (d : DissectorShown) (plan : Plan) → ServesPlan d plan → is_generated plan ≡ true → d.sparing ≡ false
-generated_whole d plan serves is = serves.whole (ap (λ (b : Bool). b || not (length plan.reports == 0) || two_of plan) is)
+generated_whole d plan serves is = serves.whole (ap (λ (b : Bool). b || list_any is_of_streams plan.reports || two_of plan) is)

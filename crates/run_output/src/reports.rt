@@ -1,5 +1,6 @@
 // The reports behind the lines of the frames.
 ghost use Rattle.std.specs.Prelude.{◌≡◌, false, ◌<◌, ◌≤◌, true, List, length, IfOk, IfSome, IsErrOf, OnOk};
+ghost use Rattle.std.specs.List.{list_any};
 ghost use Rattle.std.specs.Io.KnownBytes.{Appends};
 ghost use Rattle.capture_read.specs.declared.frame.Frame.{Frame as FrameValue};
 ghost use Rattle.dissect.specs.Followed.{asks_streams};
@@ -9,7 +10,7 @@ ghost use Rattle.pk_base.specs.Limits.{file_limit};
 ghost use Rattle.pk_outside.specs.Outside.{AppendsPart, Rose};
 ghost use Rattle.tcp_streams.specs.Standing.{StandsFor, taken_so_far};
 ghost use Rattle.tcp_streams.specs.declared.segment.Segment.{Segment as SegmentValue};
-ghost use Rattle.run_frames.specs.Accessors.{reports_of};
+ghost use Rattle.run_frames.specs.Accessors.{is_of_streams, reports_of};
 ghost use Rattle.run_frames.specs.Job.{Passes, job_in};
 ghost use Rattle.run_frames.specs.Notes.{AreNotes};
 ghost use Rattle.run_frames.specs.Ended.{HasTaken};
@@ -94,8 +95,8 @@ fn report(
     notes: &Notes,
     asked: Report,
 ) -> Result<Vec<u8>, NoMemory>
-    requires streams { asks_streams dissector.now.wanted ≡ true }
-    requires whole { dissector.now.sparing ≡ false }
+    requires streams { is_of_streams asked ≡ true → asks_streams dissector.now.wanted ≡ true }
+    requires whole { is_of_streams asked ≡ true → dissector.now.sparing ≡ false }
     requires taken { HasTaken dissector.now }
     requires there { IsAsked plan.now asked }
     ensures { IfOk result (λ text. (passes : Passes) (past : List FrameValue)
@@ -123,8 +124,8 @@ fn write_report<O: Sink>(
     asked: Report,
     out: &mut O,
 ) -> Result<(), SinkFault>
-    requires streams { asks_streams dissector.now.wanted ≡ true }
-    requires whole { dissector.now.sparing ≡ false }
+    requires streams { is_of_streams asked ≡ true → asks_streams dissector.now.wanted ≡ true }
+    requires whole { is_of_streams asked ≡ true → dissector.now.sparing ≡ false }
     requires taken { HasTaken dissector.now }
     requires there { IsAsked plan.now asked }
     ensures whole { OnOk result ((passes : Passes) (past : List FrameValue)
@@ -157,8 +158,8 @@ pub(crate) fn write_reports<O: Sink>(
     reports: &[Report],
     out: &mut O,
 ) -> Result<(), SinkFault>
-    requires streams { 0 < length reports.now → asks_streams dissector.now.wanted ≡ true }
-    requires whole { 0 < length reports.now → dissector.now.sparing ≡ false }
+    requires streams { list_any is_of_streams reports.now ≡ true → asks_streams dissector.now.wanted ≡ true }
+    requires whole { list_any is_of_streams reports.now ≡ true → dissector.now.sparing ≡ false }
     requires taken { HasTaken dissector.now }
     requires there { reports.now ≡ reports_of plan.now }
     ensures whole { OnOk result ((passes : Passes) (past : List FrameValue)

@@ -1,10 +1,11 @@
 // The fields that a plan asks for.
-ghost use Rattle.std.specs.Prelude.{◌≡◌, ℕ, true, false, IfOk, []};
+ghost use Rattle.std.specs.Prelude.{◌≡◌, ◌==◌, ℕ, not, length, true, false, IfOk, []};
+ghost use Rattle.std.specs.List.{list_any};
 ghost use Rattle.cap_stats.specs.Laws.{fields_of as table_fields};
 ghost use Rattle.pk_fields.specs.FieldSets.{is_in};
 ghost use Rattle.second_pass.specs.Laws.{link_fields};
 ghost use Rattle.dissect.specs.Stands.{StandsWithin};
-ghost use Rattle.run_frames.specs.Accessors.{needs_streams as are_streams_needed, rules_of, two_of};
+ghost use Rattle.run_frames.specs.Accessors.{is_of_streams, needs_streams as are_streams_needed, reports_of, rules_of, two_of};
 ghost use Rattle.run_frames.specs.Tables.{asks_table};
 ghost use Rattle.run_frames.specs.Wanted.{AreToldByValues, HasAsked, HasFields, HasPlan, HasTables, IsEnough, ServesPlan, asks_trees, shows_whole, summary_fields, sums_up as are_summed_up};
 ghost use Rattle.dissect.specs.Followed.{asks_streams};
@@ -15,12 +16,12 @@ use flt_typing::add_fields;
 use pk_base::NoMemory;
 use pk_fields::{FieldId, FieldSet, ids};
 use run_frames::{Compiled, Plan, asks_table, new_dissector, new_value_dissector};
-use shark_words::LineKind;
+use shark_words::{LineKind, Report};
 use std::alloc::Global;
 
 /// The fields that the output is made from: all for lines of JSON, else those of the filter, of the lines and of the tables, what
-/// tells of streams where the names of all protocols are shown or something is asked for behind the lines, and the fields of links
-/// where the frames are read twice.
+/// tells of streams where the names of all protocols are shown or something behind the lines is told by streams, and the fields of
+/// links where the frames are read twice.
 #[tactic(auto, using(crate::proofs::EnoughLemmas::enough_all, crate::proofs::EnoughLemmas::enough_followed, crate::proofs::EnoughLemmas::values_enough))]
 pub fn needed_fields(plan: &Plan) -> FieldSet
     ensures { IsEnough result plan.now }
@@ -56,13 +57,30 @@ fn valued_fields(plan: &Plan) -> FieldSet
     requires values { asks_trees plan.now ≡ false }
     ensures { AreToldByValues result plan.now }
 {
-    if plan.quiet && !plan.stats && plan.written.is_none() {
+    if plan.quiet && !plan.stats && plan.written.is_none() && !has_reports(plan) {
         return FieldSet::none();
     }
-    wanted_fields(plan)
+    tabled_fields(plan)
 }
 
-// Whether something is told by more than the values of the wanted fields.
+// Whether anything is reported behind the lines.
+fn has_reports(plan: &Plan) -> bool
+    ensures { result ≡ not (length (reports_of plan.now) == 0) }
+{
+    !plan.reports.slice().is_empty()
+}
+
+// The fields of a plan and of its tables.
+fn tabled_fields(plan: &Plan) -> FieldSet
+    ensures plan { HasPlan result plan.now }
+    ensures tables { HasTables result plan.now }
+{
+    let mut wanted = wanted_fields(plan);
+    add_tables(plan, &mut wanted);
+    wanted
+}
+
+// Whether something is told by more than trees that are made for the values of the wanted fields.
 fn needs_trees(plan: &Plan) -> bool
     ensures { result ≡ asks_trees plan.now }
 {
@@ -99,7 +117,26 @@ fn sums_up(plan: &Plan) -> bool
 fn needs_streams(plan: &Plan) -> bool
     ensures { result ≡ are_streams_needed plan.now }
 {
-    plan.source.is_generated() || !plan.reports.slice().is_empty()
+    plan.source.is_generated() || reports_streams(plan)
+}
+
+// Whether one of the reports may be.
+fn reports_streams(plan: &Plan) -> bool
+    ensures { result ≡ list_any is_of_streams (reports_of plan.now) }
+{
+    plan.reports
+        .slice()
+        .iter()
+        .any(|report| is_of_streams(*report))
+}
+
+fn is_of_streams(report: Report) -> bool
+    ensures { result ≡ is_of_streams report }
+{
+    match report {
+        Report::Follow(_) | Report::Table(StatKind::Phs) => true,
+        Report::Table(StatKind::ConvTcp | StatKind::ConvIp) => false,
+    }
 }
 
 /// The fields of a plan and of its tables, one of the streams of TCP, and those of links where the frames are read twice.
@@ -109,8 +146,7 @@ fn followed_fields(plan: &Plan) -> FieldSet
     ensures streams { asks_streams result ≡ true }
     ensures links { two_of plan.now ≡ true → HasFields result link_fields }
 {
-    let mut wanted = wanted_fields(plan);
-    add_tables(plan, &mut wanted);
+    let mut wanted = tabled_fields(plan);
     add_links(plan, &mut wanted);
     wanted.add(ids::TCP_STREAM);
     wanted

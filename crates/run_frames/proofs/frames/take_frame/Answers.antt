@@ -4,4 +4,4 @@ use Rattle.run_frames.proofs.frames.take_frame.Goals as goal
 pub returns-in-Ok-add_links-clause-told : goal.returns-in-Ok-add_links-clause-told
 returns-in-Ok-add_links-clause-told c = λ passes past serves stands.
     frame_told passes c.args.later.now c.args.dissector.now c.args.plan.now c.args.dissector.now.decode.rules past c.args.frame.now c.in-Ok.tree c.add_links.new.tree
-    serves c.requires.serves c.requires.rules (c.in-Ok.ensures.values past stands) (λ asks whole. c.in-Ok.ensures.tree asks whole past stands) c.in-Ok-add_links.ensures
+    serves c.requires.serves c.requires.rules (record { values = c.in-Ok.ensures.values past stands; lacks = c.in-Ok.ensures.lacks past stands }) (λ asks whole. c.in-Ok.ensures.tree asks whole past stands) c.in-Ok-add_links.ensures

@@ -5,15 +5,13 @@ use Rattle.run_output.proofs.wanted.followed_fields.Goals as goal
 pub returns-clause-plan : goal.returns-clause-plan
 returns-clause-plan c =
     grown_plan c.add_links.new.wanted c.add.new.self c.args.plan.now
-    (grown_plan c.add_tables.new.wanted c.add_links.new.wanted c.args.plan.now
-    (grown_plan c.wanted_fields-wanted.result c.add_tables.new.wanted c.args.plan.now c.wanted_fields-wanted.ensures c.add_tables.ensures.kept)
-    c.add_links.ensures.kept)
+    (grown_plan c.tabled_fields-wanted.result c.add_links.new.wanted c.args.plan.now c.tabled_fields-wanted.ensures.plan c.add_links.ensures.kept)
     (stream_grown c.add_links.new.wanted c.add.new.self c.add.ensures)
 
 pub returns-clause-tables : goal.returns-clause-tables
 returns-clause-tables c =
     grown_tables c.add_links.new.wanted c.add.new.self c.args.plan.now
-    (grown_tables c.add_tables.new.wanted c.add_links.new.wanted c.args.plan.now c.add_tables.ensures.tables c.add_links.ensures.kept)
+    (grown_tables c.tabled_fields-wanted.result c.add_links.new.wanted c.args.plan.now c.tabled_fields-wanted.ensures.tables c.add_links.ensures.kept)
     (stream_grown c.add_links.new.wanted c.add.new.self c.add.ensures)
 
 pub returns-clause-streams : goal.returns-clause-streams
