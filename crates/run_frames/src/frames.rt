@@ -4,7 +4,6 @@ ghost use Rattle.std.specs.Io.KnownBytes.{Appends};
 ghost use Rattle.pk_outside.specs.Outside.{Rose, AppendsPart};
 ghost use Rattle.capture_read.specs.declared.frame.Frame.{Frame as FrameValue};
 ghost use Rattle.dissect.specs.Stands.{StandsWithin};
-ghost use Rattle.out_lines.specs.Summary.{summary_of};
 ghost use Rattle.capture_read.specs.FrameList.{IsTime};
 ghost use Rattle.run_frames.specs.Accessors.{compiled_of, is_generated, is_quiet as is_plan_quiet, rules_of, stats_of, two_of, written_of};
 ghost use Rattle.run_frames.specs.Job.{Passes, job_in};
@@ -28,7 +27,7 @@ use capture_read::Frame;
 use capture_write::{Format, Writer};
 use dissect::{Dissector, TakeFault};
 use out_json::JsonWriter;
-use out_lines::{LineWriter, summary_line};
+use out_lines::LineWriter;
 use pk_base::NoMemory;
 use pk_fields::{DecodeAs, FieldSet};
 use pk_outside::{Sink, SinkFault, write_whole};
@@ -128,26 +127,8 @@ pub fn new_line_maker(alloc: Global, plan: &Plan) -> Result<LineMaker<'_>, NoMem
     }
 }
 
-// Makes the line that sums up a frame, in place of another.
-fn put_summary(alloc: Global, tree: &Tree, line: &mut Vec<u8>) -> Result<(), NoMemory>
-    ensures { OnOk result (line.new.items ≡ summary_of tree.now) }
-{
-    match summary_line(alloc, tree) {
-        Ok(made) => {
-            *line = made;
-            Ok(())
-        }
-        Err(error) => Err(error),
-    }
-}
-
 // Puts the line of a tree, of the kind that is asked for.
-fn put_line(
-    alloc: Global,
-    plan: &Plan,
-    tree: &Tree,
-    lines: &mut LineMaker<'_>,
-) -> Result<(), NoMemory>
+fn put_line(plan: &Plan, tree: &Tree, lines: &mut LineMaker<'_>) -> Result<(), NoMemory>
     requires writer { lines.old.writer ≡ plan.now.fields }
     requires empty { lines.old.line.items ≡ [] }
     ensures line { OnOk result (lines.new.line.items ≡ line_of plan.now tree.now) }
@@ -156,7 +137,7 @@ fn put_line(
     ensures notes { lines.new.notes ≡ lines.old.notes }
 {
     match plan.kind {
-        LineKind::Text => put_summary(alloc, tree, &mut lines.line),
+        LineKind::Text => lines.writer.write_summary(&mut lines.line, tree),
         LineKind::Fields => lines.writer.write(&mut lines.line, tree, &plan.style),
         LineKind::Json => lines.json.write(&mut lines.line, tree),
     }
@@ -188,12 +169,7 @@ fn is_quiet(plan: &Plan) -> bool
 // Makes the line of a tree, where the filter lets it through, else one of no bytes, and notes the tree for what stands behind the
 // lines.
 #[tactic(auto, using(crate::proofs::NoteLemmas::noted_nothing, crate::proofs::NoteLemmas::one_more_same))]
-fn make_line(
-    alloc: Global,
-    plan: &Plan,
-    tree: &Tree,
-    lines: &mut LineMaker<'_>,
-) -> Result<(), NoMemory>
+fn make_line(plan: &Plan, tree: &Tree, lines: &mut LineMaker<'_>) -> Result<(), NoMemory>
     requires judge { lines.old.judge ≡ compiled_of plan.now }
     requires writer { lines.old.writer ≡ plan.now.fields }
     requires few { AreFewNotes (2 ^ 28) lines.old.notes }
@@ -215,12 +191,11 @@ fn make_line(
     if !verdict.holds {
         return Ok(());
     }
-    put_line(alloc, plan, tree, lines)
+    put_line(plan, tree, lines)
 }
 
 // Writes the line of a tree, where the filter lets it through.
 fn write_tree<O: Sink>(
-    alloc: Global,
     plan: &Plan,
     tree: &Tree,
     lines: &mut LineMaker<'_>,
@@ -240,7 +215,7 @@ fn write_tree<O: Sink>(
     ensures writer { lines.new.writer ≡ lines.old.writer }
     ensures few { AreOneMore lines.old.notes lines.new.notes }
 {
-    match make_line(alloc, plan, tree, lines) {
+    match make_line(plan, tree, lines) {
         Ok(()) => write_whole(out, lines.line.as_slice()),
         Err(NoMemory) => Err(SinkFault::NoMemory),
     }
@@ -288,7 +263,6 @@ fn take_frame(
 // Writes what is asked for of a frame of this tree, and answers whether it fits.
 #[tactic(auto, using(crate::proofs::NoteLemmas::one_more_same))]
 fn write_told<O: Sink>(
-    alloc: Global,
     plan: &Plan,
     frame: &Frame,
     tree: &Tree,
@@ -317,7 +291,7 @@ fn write_told<O: Sink>(
 {
     match plan.written {
         Some(_) => write_packet(frame, tree, &mut lines.judge, &mut lines.capture, out),
-        None => match write_tree(alloc, plan, tree, lines, out) {
+        None => match write_tree(plan, tree, lines, out) {
             Ok(()) => Ok(true),
             Err(fault) => Err(fault),
         },
@@ -338,7 +312,6 @@ fn run_fault(fault: SinkFault) -> RunFault
 
 /// Takes a frame and writes what is asked for of it, and answers whether it fits.
 pub fn write_frame<O: Sink>(
-    alloc: Global,
     plan: &Plan,
     frame: &Frame,
     later: &Later,
@@ -388,7 +361,7 @@ pub fn write_frame<O: Sink>(
         // The first error ends the run, so that this one is never `Spent`.
         Err(TakeFault::NoMemory | TakeFault::Spent) => return Err(RunFault::NoMemory),
     };
-    let written = write_told(alloc, plan, frame, &tree, lines, out);
+    let written = write_told(plan, frame, &tree, lines, out);
     dissector.give_back(tree);
     match written {
         Ok(fit) => Ok(fit),

@@ -42,7 +42,6 @@ pub(crate) fn one_less(most: Option<u32>) -> Option<u32>
 
 // Goes over the frames that a reader answers, and writes the line of each before it reads on.
 fn write_each<C: Capture, O: Sink>(
-    alloc: Global,
     plan: &Plan,
     reader: &mut FrameReader,
     dissector: &mut Dissector,
@@ -96,7 +95,7 @@ fn write_each<C: Capture, O: Sink>(
             // The first error ends the run, so that this one is never met.
             Err(ReadError::Spent) => return Err(RunFault::NoMemory),
         };
-        let written = write_frame(alloc, plan, &frame, &Later::Unread, dissector, lines, out);
+        let written = write_frame(plan, &frame, &Later::Unread, dissector, lines, out);
         let number = frame.number;
         give_up_frame(frame);
         match written {
@@ -152,7 +151,7 @@ pub fn write_rest<C: Capture, O: Sink>(
         (C.begun capture.old) (C.begun capture.new) (C.missed capture.old) (C.missed capture.new) }
 {
     let mut reader = FrameReader::new(alloc);
-    let ended = write_each(alloc, plan, &mut reader, dissector, lines, capture, out);
+    let ended = write_each(plan, &mut reader, dissector, lines, capture, out);
     give_up_reader(reader);
     ended
 }

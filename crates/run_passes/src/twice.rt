@@ -27,8 +27,7 @@ use pk_base::NoMemory;
 use pk_fields::FieldSet;
 use pk_outside::{Capture, Sink};
 use run_frames::{
-    Later, LineMaker, Plan, RunEnding, RunFault, give_up_dissector, give_up_tree, new_dissector,
-    write_frame,
+    Later, LineMaker, Plan, RunEnding, RunFault, give_up_dissector, new_dissector, write_frame,
 };
 use second_pass::Links;
 use std::alloc::Global;
@@ -135,7 +134,7 @@ fn note_all(frames: &[Frame], dissector: &mut Dissector, links: &mut Links) -> R
             Err(TakeFault::NoMemory | TakeFault::Spent) => return Err(NoMemory),
         };
         let noted = links.note(frame.number, &tree);
-        give_up_tree(tree);
+        dissector.give_back(tree);
         match noted {
             Ok(()) => {}
             Err(error) => return Err(error),
@@ -173,7 +172,6 @@ fn links_of(
 
 /// Writes what is asked for of frames, up to the first that can't be written, and answers how they end.
 pub fn write_kept<O: Sink>(
-    alloc: Global,
     plan: &Plan,
     kept: &KeptFrames,
     later: &Later,
@@ -213,7 +211,7 @@ pub fn write_kept<O: Sink>(
 {
     let mut left = kept.frames.slice();
     while let [frame, more @ ..] = left {
-        match write_frame(alloc, plan, frame, later, dissector, lines, out) {
+        match write_frame(plan, frame, later, dissector, lines, out) {
             Ok(true) => {}
             Ok(false) => return Ok(RunEnding::Unfit(frame.number)),
             Err(fault) => return Err(fault),

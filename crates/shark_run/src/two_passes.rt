@@ -61,7 +61,7 @@ fn write_kept_body<O: Sink>(
     ensures calm { OnOk result (O.faults out.new ≡ O.faults out.old) }
     ensures faults_stay { O.faults out.old ≤ O.faults out.new }
 {
-    let ending = match write_kept(alloc, plan, kept, later, dissector, lines, out) {
+    let ending = match write_kept(plan, kept, later, dissector, lines, out) {
         Ok(ending) => ending,
         Err(fault) => return Err(fault),
     };

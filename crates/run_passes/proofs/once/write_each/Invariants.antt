@@ -12,8 +12,8 @@ use Rattle.run_passes.proofs.WayLemmas.{AreOnTheWay}
 use Rattle.run_frames.specs.Wanted.{ServesPlan}
 use Rattle.run_passes.proofs.once.write_each.Given as goal
 
-abbrev pub invariant-loop-alloc : goal.invariant-loop-alloc
-invariant-loop-alloc g l = record {
+abbrev pub invariant-loop-most : goal.invariant-loop-most
+invariant-loop-most g l = record {
   way : AreOnTheWay l.plan l.most (g.C.Capture.left l.fn.capture) l.reader (g.C.Capture.left l.capture) l.dissector l.lines.notes l.lines.capture (g.O.Sink.written l.fn.out) (g.O.Sink.written l.out);
   together : AreTogether l.reader.state l.dissector;
   took : TookAtMost (suc file_limit) (g.C.Capture.left l.fn.capture) (g.C.Capture.left l.capture);
@@ -28,5 +28,5 @@ invariant-loop-alloc g l = record {
   calm : IsCalm (g.C.Capture.faults l.fn.capture) (g.C.Capture.faults l.capture) (g.O.Sink.faults l.fn.out) (g.O.Sink.faults l.out);
 }
 
-abbrev pub decreases-loop-alloc : goal.decreases-loop-alloc
-decreases-loop-alloc g l = file_limit - l.reader.state.at
+abbrev pub decreases-loop-most : goal.decreases-loop-most
+decreases-loop-most g l = file_limit - l.reader.state.at
