@@ -14,7 +14,7 @@ use Rattle.dis_ip.specs.FragmentHeader.{fragment_layout}
 use Rattle.dis_ip.specs.Fragments.{part_after}
 use Rattle.dis_ip.specs.Ip4.{ip4_layout, ip4_after, ip4_header, ip4_is_read, ip4_more, ip4_offset, ip4_packet, ip4_protocol, ip4_span}
 use Rattle.dis_ip.specs.Protocols.{ends_chain, next_of_protocol}
-use Rattle.dis_ip.specs.Ip6.{ip6_layout}
+use Rattle.dis_ip.specs.Ip6.{ip6_after, ip6_is_read, ip6_layout, ip6_next, ip6_packet, ip6_span}
 use Rattle.dis_ip.specs.Options.{header_size, hop_options_layout, target_options_layout}
 use Rattle.dis_ip.specs.Routing.{routing_layout}
 
@@ -28,6 +28,13 @@ pub ip4_carries : (cut : Bool) (span : Span) (bytes : List ℕ) (next : Next) �
     → ip4_after Plain cut span bytes ≡ Packet next (behind (ip4_span span bytes) (ip4_header bytes)) (ip4_packet cut span bytes)
 unfolding ip4_after part_after
 ip4_carries cut span bytes next read part on is some = rw (read, part, on, is, some) refl
+
+-- what a whole packet of version 6 carries
+pub ip6_carries : (cut : Bool) (span : Span) (bytes : List ℕ) (next : Next) → ip6_is_read span bytes ≡ true
+    → ends_chain (ip6_next bytes) ≡ false → next_of_protocol true (ip6_next bytes) ≡ next → nat_lt 40 (ip6_span span bytes).len ≡ true
+    → ip6_after cut span bytes ≡ Packet next (behind (ip6_span span bytes) 40) (ip6_packet cut span bytes)
+unfolding ip6_after
+ip6_carries cut span bytes next read on is some = rw (read, on, is, some) refl
 
 pub ip6_fits : (bytes : List ℕ) → StepsFit IPV6 (ip6_layout bytes)
 unfolding ip6_layout StepsFit row_of rows

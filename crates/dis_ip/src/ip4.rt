@@ -9,11 +9,10 @@ ghost use Rattle.pk_tree.specs.Trees.{last_proto};
 ghost use Rattle.pk_tree.specs.declared.layer.Layer.{Layer};
 ghost use Rattle.dis_ip.specs.Fragments.{LastIsPart};
 ghost use Rattle.dis_ip.specs.Ip4.{ip4_layout, ip4_header, ip4_total, ip4_more, ip4_offset, ip4_conditions, ip4_is_read, ip4_size, ip4_packet, ip4_part, ip4_carried, ip4_span, ip4_after};
-ghost use Rattle.dis_ip.specs.Protocols.{ends_chain, next_of_protocol};
 
 use crate::fragment::part_after;
 use crate::packet::{in_packet, is_whole, packet_span};
-use crate::protocol::{TCP, UDP};
+use crate::protocol::ports_next;
 use pk_base::{Address, After, FragmentHead, Mode, Next, NoMemory, PacketHead, Span};
 use pk_fields::ids;
 use pk_tree::{
@@ -182,27 +181,16 @@ fn is_part(bytes: &[u8]) -> bool
     peek(bytes, 50, 1) == 1 || peek(bytes, 51, 13) > 0
 }
 
-/// The header behind an IP header that names TCP or UDP.
-#[tactic(auto, unfolding(crate::specs::Protocols::next_of_protocol))]
-fn ports_next(number: u8) -> Option<Next>
-    ensures next { IfSome result (λ next. next_of_protocol false number ≡ next) }
-    ensures goes_on { IfSome result (λ _. ends_chain number ≡ false) }
-{
-    match number {
-        TCP => Some(Next::Tcp),
-        UDP => Some(Next::Udp),
-        _ => None,
-    }
-}
-
+/// The rows of a header, its options as one, and the conditions on it.
 #[tactic(auto, unfolding(crate::specs::Ip4::ip4_layout, pk_tree::specs::Layouts::reach, pk_tree::specs::Layouts::step_reach, pk_tree::specs::Tables::steps_of, pk_tree::specs::Layouts::StepsFit, pk_fields::specs::Fields::row_of, pk_fields::specs::Table::rows))]
-fn ip4_slots() -> &'static [Slot]
+pub fn ip4_slots() -> &'static [Slot]
     ensures fits { (holds : List Truth) (sizes : List ℕ)
         → StepsFit IP (steps_of holds sizes result.now) }
     ensures whole { (end options : ℕ) → 20 ≤ end → 20 + options ≤ end
         → reach end (steps_of (true ∷ true ∷ true ∷ []) (options ∷ []) result.now) ≡ Reach.All }
     ensures layout { (bytes : List ℕ) → steps_of (ip4_conditions bytes)
         ((ip4_header bytes - 20) ∷ []) result.now ≡ ip4_layout bytes }
+    ensures table { result.now ≡ SLOTS }
 {
     &SLOTS
 }

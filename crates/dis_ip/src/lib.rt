@@ -12,6 +12,6 @@ mod protocol;
 mod routing;
 
 pub use extension::read_extension;
-pub use ip4::{WholeIp4, behind_ip4, head_of_ip4, open_ip4, read_ip4};
-pub use ip6::read_ip6;
+pub use ip4::{WholeIp4, behind_ip4, head_of_ip4, ip4_slots, open_ip4, read_ip4};
+pub use ip6::{WholeIp6, behind_ip6, head_of_ip6, ip6_slots, read_ip6};
 pub use protocol::carried_by;

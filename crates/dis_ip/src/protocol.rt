@@ -1,9 +1,9 @@
-ghost use Rattle.std.specs.Prelude.{◌≡◌, ℕ, ◌+◌, ◌^◌, ◌<◌, List};
+ghost use Rattle.std.specs.Prelude.{◌≡◌, ℕ, ◌+◌, ◌^◌, ◌<◌, Bool as Truth, false, List, IfSome};
 ghost use Rattle.pk_tree.specs.Buffers.{IsInside};
 ghost use Rattle.pk_tree.specs.Following.{LeadsInside};
 ghost use Rattle.pk_tree.specs.declared.layer.Layer.{Layer};
 ghost use Rattle.dis_ip.specs.Fragments.{LastIsPart};
-ghost use Rattle.dis_ip.specs.Protocols.{next_under_ip4, next_under_ip6, next_of_protocol, carried_by};
+ghost use Rattle.dis_ip.specs.Protocols.{next_under_ip4, next_under_ip6, next_of_protocol, carried_by, ends_chain};
 
 use pk_base::{After, Next, Span};
 use pk_tree::carried;
@@ -17,9 +17,9 @@ const IGMP: u8 = 2;
 
 const IP4: u8 = 4;
 
-pub(crate) const TCP: u8 = 6;
+const TCP: u8 = 6;
 
-pub(crate) const UDP: u8 = 17;
+const UDP: u8 = 17;
 
 const IP6: u8 = 41;
 
@@ -66,6 +66,19 @@ fn next_of_protocol(six: bool, number: u8) -> Next
                 next_under_ip4(number)
             }
         }
+    }
+}
+
+/// The header behind an IP header of either version that names TCP or UDP.
+#[tactic(auto, unfolding(crate::specs::Protocols::next_of_protocol))]
+pub(crate) fn ports_next(number: u8) -> Option<Next>
+    ensures next { IfSome result (λ next. (six : Truth) → next_of_protocol six number ≡ next) }
+    ensures goes_on { IfSome result (λ _. ends_chain number ≡ false) }
+{
+    match number {
+        TCP => Some(Next::Tcp),
+        UDP => Some(Next::Udp),
+        _ => None,
     }
 }
 

@@ -1,4 +1,4 @@
-ghost use Rattle.std.specs.Prelude.{◌≡◌, ◌≢◌, ℕ, Bool as Truth, List, [], ◌+◌, ◌<◌, ◌≤◌, ◌^◌, false, length, IfOk, IfSome, OnOk};
+ghost use Rattle.std.specs.Prelude.{◌≡◌, ◌≢◌, ℕ, Bool as Truth, List, [], ◌+◌, ◌<◌, ◌≤◌, ◌^◌, false, if◌then◌else◌, length, IfOk, IfSome, OnOk};
 ghost use Rattle.pk_tree.specs.Buffers.{IsInside, bytes_of};
 ghost use Rattle.pk_fields.specs.Ids.{ETH};
 ghost use Rattle.pk_base.specs.declared.heads.Mode.TheVariants.{Plain};
@@ -98,11 +98,15 @@ pub fn open_ethernet(span: Span, b: &mut TreeBuilder) -> Result<(), NoMemory>
 
 /// The rows of a header whose last number is a length, or is a type.
 #[tactic(auto, unfolding(crate::specs::Ethernet::eth_layout, pk_tree::specs::Tables::steps_of, pk_tree::specs::Layouts::reach, pk_tree::specs::Layouts::step_reach, pk_tree::specs::Layouts::StepsFit, pk_fields::specs::Fields::row_of, pk_fields::specs::Table::rows))]
-fn eth_slots(sized: bool) -> &'static [Slot]
-    ensures fits { StepsFit ETH (steps_of [] [] result.now) }
-    ensures layout { (bytes : List ℕ) → sized ≡ is_length (eth_type bytes)
-        → steps_of [] [] result.now ≡ eth_layout bytes }
-    ensures whole { (end : ℕ) → 14 ≤ end → reach end (steps_of [] [] result.now) ≡ Reach.All }
+pub fn eth_slots(sized: bool) -> &'static [Slot]
+    ensures fits { (holds : List Truth) (sizes : List ℕ)
+        → StepsFit ETH (steps_of holds sizes result.now) }
+    ensures layout { (holds : List Truth) (sizes bytes : List ℕ)
+        → sized ≡ is_length (eth_type bytes)
+        → steps_of holds sizes result.now ≡ eth_layout bytes }
+    ensures whole { (holds : List Truth) (sizes : List ℕ) (end : ℕ) → 14 ≤ end
+        → reach end (steps_of holds sizes result.now) ≡ Reach.All }
+    ensures table { result.now ≡ (if sized then SIZED else TYPED) }
 {
     if sized { &SIZED } else { &TYPED }
 }

@@ -10,6 +10,6 @@ mod null;
 mod vlan;
 
 pub use arp::read_arp;
-pub use ethernet::{behind_ethernet, open_ethernet};
+pub use ethernet::{behind_ethernet, eth_slots, open_ethernet};
 pub use link::read_link;
-pub use vlan::read_vlan;
+pub use vlan::{behind_vlan, read_vlan, vlan_slots};

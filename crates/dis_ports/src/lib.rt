@@ -6,5 +6,5 @@ mod tcp;
 mod tcp_options;
 mod udp;
 
-pub use tcp::{WholeTcp, behind_tcp, open_tcp, read_tcp, tcp_head};
-pub use udp::read_udp;
+pub use tcp::{WholeTcp, behind_tcp, open_tcp, read_tcp, tcp_head, tcp_slots};
+pub use udp::{WholeUdp, behind_udp, read_udp, udp_ports, udp_slots};

@@ -196,7 +196,6 @@ fn header_options(alloc: Global, header: &[u8]) -> Result<Vec<Step>, NoMemory>
     Ok(steps)
 }
 
-/// The rows of a header, the condition on its length, and its options as one.
 static SLOTS: [Slot; 21] = [
     Slot::Row(ids::TCP_SRCPORT.0, 0),
     Slot::Row(ids::TCP_PORT.0, 0),
@@ -221,8 +220,9 @@ static SLOTS: [Slot; 21] = [
     Slot::Part(ids::TCP_OPTIONS.0, 20, 0),
 ];
 
+/// The rows of a header, the condition on its length, and its options as one.
 #[tactic(auto, unfolding(crate::specs::Tcp::tcp_rows, pk_tree::specs::Tables::steps_of, pk_tree::specs::Layouts::reach, pk_tree::specs::Layouts::step_reach, pk_tree::specs::Layouts::StepsFit, pk_fields::specs::Fields::row_of, pk_fields::specs::Table::rows))]
-fn tcp_slots() -> &'static [Slot]
+pub fn tcp_slots() -> &'static [Slot]
     ensures fits { (holds : List Truth) (sizes : List ℕ)
         → StepsFit TCP (steps_of holds sizes result.now) }
     ensures whole { (end options : ℕ) → 20 + options ≤ end
@@ -230,6 +230,7 @@ fn tcp_slots() -> &'static [Slot]
     ensures rows { (bytes : List ℕ)
         → steps_of (nat_le 20 (header_len bytes) ∷ []) ((header_len bytes - 20) ∷ []) result.now
         ≡ tcp_rows bytes }
+    ensures table { result.now ≡ SLOTS }
 {
     &SLOTS
 }

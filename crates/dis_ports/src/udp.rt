@@ -1,4 +1,5 @@
-ghost use Rattle.std.specs.Prelude.{◌≡◌, ◌≢◌, ℕ, Bool as Truth, List, [], ◌∷◌, ◌+◌, ◌<◌, ◌≤◌, ◌^◌, length, IfOk, OnOk};
+ghost use Rattle.std.specs.Prelude.{◌≡◌, ◌≢◌, ℕ, Bool as Truth, List, [], ◌∷◌, ◌+◌, ◌<◌, ◌≤◌, ◌^◌, true, length, IfOk, IfSome, OnOk};
+ghost use Rattle.pk_base.specs.declared.heads.Mode.TheVariants.{Plain};
 ghost use Rattle.pk_tree.specs.Buffers.{IsInside, bytes_of};
 ghost use Rattle.pk_fields.specs.Ids.{UDP};
 ghost use Rattle.pk_tree.specs.Following.{LeadsInside};
@@ -38,6 +39,39 @@ pub fn read_udp(span: Span, cut: bool, mode: Mode, b: &mut TreeBuilder) -> Resul
     let sound = is_udp_length(peek(bytes, 32, 16));
     let reach = read_rows(layer, sound, cut, mode, b)?;
     Ok(udp_carries(reach, mode, ports, layer))
+}
+
+/// A header that was read whole.
+#[derive(Clone, Copy)]
+pub struct WholeUdp {
+    /// The header and the bytes behind it, up to the length's end.
+    pub layer: Span,
+    /// The bytes behind it.
+    pub payload: Span,
+}
+
+/// What follows a header that is read whole.
+#[inline(always)]
+#[tactic(auto, using(crate::proofs::UdpLemmas::datagram_behind))]
+pub fn behind_udp(span: Span, bytes: &[u8]) -> Option<WholeUdp>
+    requires end { span.start + span.len < 2 ^ 32 }
+    ensures layer { IfSome result (λ udp. udp.layer ≡ udp_span span bytes.now) }
+    ensures sound { IfSome result (λ _. is_udp_length (udp_length bytes.now) ≡ true) }
+    ensures whole { IfSome result (λ udp. 8 ≤ udp.layer.len) }
+    ensures after { IfSome result (λ udp. udp_after Plain span bytes.now
+        ≡ After.Datagram (udp_ports bytes.now) udp.payload) }
+    ensures inside { (buffers : List (List ℕ)) → IsInside buffers span
+        → IfSome result (λ udp. IsInside buffers udp.layer × IsInside buffers udp.payload) }
+{
+    let layer = udp_span(span, bytes);
+    let sound = is_udp_length(peek(bytes, 32, 16));
+    if !rows_reach(layer.len, sound).is_all() {
+        return None;
+    }
+    Some(WholeUdp {
+        layer,
+        payload: behind(layer, HEADER),
+    })
 }
 
 /// Opens the layer and reads its rows, or passes it where no field of it is asked. `sound` says that the length may stand
@@ -82,7 +116,6 @@ fn read_rows(
     Ok(reach)
 }
 
-/// The rows of a header, and the condition on its length.
 static SLOTS: [Slot; 7] = [
     Slot::Row(ids::UDP_SRCPORT.0, 0),
     Slot::Row(ids::UDP_PORT.0, 0),
@@ -93,12 +126,16 @@ static SLOTS: [Slot; 7] = [
     Slot::Check(0),
 ];
 
-#[tactic(auto, unfolding(crate::specs::Udp::udp_layout, pk_tree::specs::Tables::steps_of, pk_tree::specs::Layouts::StepsFit, pk_fields::specs::Fields::row_of, pk_fields::specs::Table::rows))]
-fn udp_slots() -> &'static [Slot]
+/// The rows of a header, and the condition on its length.
+#[tactic(auto, unfolding(crate::specs::Udp::udp_layout, pk_tree::specs::Tables::steps_of, pk_tree::specs::Layouts::reach, pk_tree::specs::Layouts::step_reach, pk_tree::specs::Layouts::StepsFit, pk_fields::specs::Fields::row_of, pk_fields::specs::Table::rows))]
+pub fn udp_slots() -> &'static [Slot]
     ensures fits { (holds : List Truth) (sizes : List ℕ)
         → StepsFit UDP (steps_of holds sizes result.now) }
-    ensures layout { (bytes : List ℕ)
-        → steps_of (is_udp_length (udp_length bytes) ∷ []) [] result.now ≡ udp_layout bytes }
+    ensures layout { (sizes bytes : List ℕ)
+        → steps_of (is_udp_length (udp_length bytes) ∷ []) sizes result.now ≡ udp_layout bytes }
+    ensures whole { (sizes : List ℕ) (end : ℕ) → 8 ≤ end
+        → reach end (steps_of (true ∷ []) sizes result.now) ≡ Reach.All }
+    ensures table { result.now ≡ SLOTS }
 {
     &SLOTS
 }
@@ -109,6 +146,7 @@ fn rows_reach(len: u32, sound: bool) -> Reach
     ensures reach { (bytes : List ℕ) → sound ≡ is_udp_length (udp_length bytes)
         → result ≡ reach len (udp_layout bytes) }
     ensures header { result ≡ Reach.All → 8 ≤ len }
+    ensures sound { result ≡ Reach.All → sound ≡ true }
 {
     if len < HEADER {
         Reach::Short
@@ -125,7 +163,9 @@ fn is_udp_length(number: u64) -> bool
     number == 0 || u64::from(HEADER) <= number
 }
 
-fn udp_ports(bytes: &[u8]) -> PortsHead
+/// The ports that a header names.
+#[inline(always)]
+pub fn udp_ports(bytes: &[u8]) -> PortsHead
     ensures { result ≡ udp_ports bytes.now }
 {
     PortsHead {

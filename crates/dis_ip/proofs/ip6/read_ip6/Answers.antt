@@ -29,4 +29,4 @@ returns-clause-whole c =
     let true_read : c.is_read.result ≡ true = search rules in
     let is : layer ≡ packet_span c.args.span (ip6_size bytes) = c.packet_span-layer.ensures.span ∙ ap (packet_span c.args.span) c.size-size.ensures in
     let all : reach layer.len (ip6_layout bytes) ≡ All = read_in_layer c.args.span layer bytes (sym c.is_read.ensures.read ∙ true_read) is (c.is_read.ensures.whole read) in
-    λ _. c.in_ok-read_table-2.ensures.last (read_by_table c.in_ok-read_table-2.field-0 layer.len c.peek.result c.ip6_slots-slots.result.now bytes c.in_ok-read_table-2.ensures.why c.peek.ensures.value (c.ip6_slots-slots.ensures.layout bytes) all)
+    λ _. c.in_ok-read_table-2.ensures.last (read_by_table c.in_ok-read_table-2.field-0 layer.len c.peek.result c.ip6_slots-slots.result.now bytes c.in_ok-read_table-2.ensures.why c.peek.ensures.value (c.ip6_slots-slots.ensures.layout [] bytes) all)
