@@ -1,5 +1,5 @@
 -- Headers that are read whole make a tree, and each place that is found in them can be read.
-use Rattle.std.proofs.Common.{◌≡◌, ◌==◌, ◌<◌, ◌≤◌, ◌+◌, ◌*◌, ◌^◌, ℕ, zero, suc, Bool as Truth, true, false, cond, leb, ◌&&◌, List, [], ◌∷◌, ◌++◌, map, length, slice_index_or, slice_get, Option, Some, None, refl, subst, arith, add-one}
+use Rattle.std.proofs.Common.{◌≡◌, ◌==◌, ◌<◌, ◌≤◌, ◌+◌, ◌*◌, ◌^◌, ℕ, zero, suc, Bool as Truth, true, false, cond, leb, ◌&&◌, List, [], ◌∷◌, ◌++◌, map, length, slice_index_or, slice_get, Option, Some, None, refl, subst, arith, add-one, append-nil}
 use Rattle.std.proofs.Math.Nat.{pow-succ'}
 use Rattle.std.specs.List.{All as ForAll, AllByRecursion as Each}
 use Rattle.std.specs.Option.{IfSome, is_none, option_map_or}
@@ -7,10 +7,11 @@ use Rattle.std.proofs.lemmas.Bool.{and_parts, eqb-true, leb-true}
 use Rattle.std.proofs.lemmas.List.{length-map}
 use Rattle.std.proofs.lemmas.List.Elements.{recursion_from_All}
 use Rattle.std.proofs.lemmas.Nat.{column_fits}
-use Rattle.std.proofs.lemmas.Option.{same_Some}
+use Rattle.std.proofs.lemmas.Option.{get_or_from_slice_get, same_Some, slice_get_within}
 use Rattle.pk_base.proofs.JoinedBits.{bits_joined}
 use Rattle.pk_base.specs.Bits.{number_of_bits, sum_below}
 use Rattle.pk_base.specs.declared.chosen.Layers.{Layers}
+use Rattle.pk_base.specs.declared.chosen.Layers.TheVariants.{All as AllLayers}
 use Rattle.pk_base.specs.declared.span.Span.{Span}
 use Rattle.pk_fields.proofs.Sound.{row_sound}
 use Rattle.pk_fields.specs.FieldSets.{is_in}
@@ -19,7 +20,7 @@ use Rattle.pk_fields.specs.Rows.{IsSound, size_of_place}
 use Rattle.pk_fields.specs.declared.value_kind.BitPlace.{BitPlace}
 use Rattle.pk_fields.specs.declared.value_kind.ValueKind.{ValueKind}
 use Rattle.pk_fields.specs.declared.value_kind.ValueKind.TheVariants as kinds
-use Rattle.pk_source.specs.Found.{IsReadable, all_told, asked_told, fields_told, header_told, is_asked, layer_told, layers_told, note_told, notes_told, rows_told, slot_told}
+use Rattle.pk_source.specs.Found.{IsReadable, all_told, asked_told, fields_told, first_told, header_told, is_asked, layer_told, layers_told, note_told, notes_told, rows_told, slot_told, told_in}
 use Rattle.pk_source.specs.Outlines.{AreNumbered, IsOutline, IsReadWhole, NoteFits, ToldFits, header_items, header_layer, notes_of, outlined, rows_read, sizes_of, told_item}
 use Rattle.pk_source.specs.declared.header.Header.{Header}
 use Rattle.pk_source.specs.declared.header.Note.{Note}
@@ -322,6 +323,31 @@ pub found_reads : (bytes wanted : List ℕ) (headers : List Header) (notes : Lis
     IsReadable (bytes ∷ []) field told
 found_reads bytes wanted headers notes field layers k told is found =
     each_get (IsReadable (bytes ∷ []) field) (all_told wanted headers notes field layers) k told (all_read_well bytes wanted headers notes field layers is) found
+
+pub told_in_reads : (bytes wanted : List ℕ) (headers : List Header) (notes : List Note) (field : ℕ) (h : Header) (told : Told) → IsOutline bytes wanted headers notes → IsReadWhole (bytes ∷ []) h → slice_get (told_in wanted notes field h) 0 ≡ Some told →
+    IsReadable (bytes ∷ []) field told
+unfolding told_in fields_told
+told_in_reads bytes wanted headers notes field h told is whole found =
+    each_get (IsReadable (bytes ∷ []) field) (told_in wanted notes field h) 0 told (by_test (is_in wanted field)) found
+  where
+    all : Each (IsReadable (bytes ∷ []) field) (asked_told field AllLayers notes h)
+    all = rw append-nil at (fields_read_well (bytes ∷ []) field AllLayers notes (h ∷ []) (whole, tt) (each_note bytes wanted headers notes is))
+
+    by_test : (asked : Truth) → Each (IsReadable (bytes ∷ []) field) (cond asked (asked_told field AllLayers notes h) [])
+    by_test true = all
+    by_test false = tt
+
+-- of each, so of the one at a place
+pub all_get : {A : Type 0} (P : A → Type 0) (xs : List A) (k : ℕ) (x : A) → ForAll P xs → slice_get xs k ≡ Some x → P x
+all_get P xs k x all is = subst P (get_or_from_slice_get xs k x x is) (all k x (slice_get_within xs k x is))
+
+pub first_reads : (bytes wanted : List ℕ) (headers : List Header) (notes : List Note) (field place : ℕ) (told : Told) → IsOutline bytes wanted headers notes → first_told wanted notes field (slice_get headers place) ≡ Some told →
+    IsReadable (bytes ∷ []) field told
+first_reads bytes wanted headers notes field place told is found = by_header (slice_get headers place) refl found
+  where
+    by_header : (at : Option Header) → slice_get headers place ≡ at → first_told wanted notes field at ≡ Some told → IsReadable (bytes ∷ []) field told
+    by_header None here none = absurd (cc)
+    by_header (Some h) here some = told_in_reads bytes wanted headers notes field h told is (all_get (IsReadWhole (bytes ∷ [])) headers place h is.whole here) some
 
 -- a span of the frame's bytes ends where 32 bits tell
 inside_ends : (bytes : List ℕ) (number start len : ℕ) → length bytes < 2 ^ 32 → IsInside (bytes ∷ []) (record { buffer = number; start = start; len = len }) → start + len < 2 ^ 32

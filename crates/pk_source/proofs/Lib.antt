@@ -1,6 +1,8 @@
 pub mod FitLemmas
 pub mod FoundLemmas
 pub mod GrowthLaws
+pub mod LayerLaws
+pub mod NoteLemmas
 pub mod OutlineLaws
 pub mod PickLemmas
 pub mod Placed

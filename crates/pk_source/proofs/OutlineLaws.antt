@@ -1,20 +1,22 @@
 -- The tree that headers are shown as has the values that are found in the headers.
-use Rattle.std.proofs.Common.{◌≡◌, ◌==◌, ◌&&◌, ℕ, Bool as Truth, true, false, cond, List, [], ◌∷◌, ◌++◌, map, refl, ap, sym, ◌∙◌}
+use Rattle.std.proofs.Common.{◌≡◌, ◌==◌, ◌&&◌, ℕ, Bool as Truth, true, false, cond, List, [], ◌∷◌, ◌++◌, map, slice_get, Option, None, Some, refl, ap, sym, ◌∙◌}
 use Rattle.std.specs.List.{AllByRecursion as Each, flat_map}
-use Rattle.std.specs.Option.{option_map_or}
+use Rattle.std.specs.Option.{option_map, option_map_or}
 use Rattle.std.proofs.lemmas.Bool.{eqb-false, ne_eqb, eqb-true}
 use Rattle.std.proofs.lemmas.List.{map-append}
+use Rattle.std.proofs.lemmas.Option.{slice_get-map}
 use Rattle.pk_base.specs.Chosen.{is_chosen}
 use Rattle.pk_base.specs.declared.chosen.Layers.{Layers}
+use Rattle.pk_base.specs.declared.chosen.Layers.TheVariants.{All as AllLayers}
 use Rattle.pk_base.specs.declared.value.Value.{Value}
 use Rattle.pk_base.specs.declared.value.Value.TheVariants as values
 use Rattle.pk_fields.specs.FieldSets.{is_in}
 use Rattle.pk_fields.specs.Fields.{row_of}
 use Rattle.pk_fields.specs.declared.value_kind.ValueKind.{ValueKind}
 use Rattle.pk_fields.specs.declared.value_kind.ValueKind.TheVariants as kinds
-use Rattle.pk_source.proofs.FitLemmas.{each_note, each_whole, items_fit}
+use Rattle.pk_source.proofs.FitLemmas.{all_get, each_note, each_whole, items_fit}
 use Rattle.pk_source.proofs.Placed.{kept_values, notes_placed, placed, unwanted_values, values-append}
-use Rattle.pk_source.specs.Found.{all_told, asked_told, fields_told, header_told, layer_told, layers_told, notes_told, rows_told, value_at}
+use Rattle.pk_source.specs.Found.{all_told, asked_told, fields_told, first_in, first_told, header_told, layer_told, layers_told, notes_told, rows_told, told_in, value_at}
 use Rattle.pk_source.specs.Outlines.{IsOutline, IsReadWhole, NoteFits, header_items, header_layer, notes_of, outlined, rows_read, sizes_of, told_item}
 use Rattle.pk_source.specs.declared.header.Header.{Header}
 use Rattle.pk_source.specs.declared.header.Note.{Note}
@@ -68,6 +70,30 @@ fields_law buffers wanted notes field layers (h ∷ headers) whole told is kind 
     ap (λ front. front ++ flat_map (λ layer. chosen_values buffers field layers layer) (map (header_layer buffers wanted notes) headers)) (chosen_told buffers wanted notes field layers h whole.0 told is kind)
     ∙ ap (λ back. map (value_at buffers field) (asked_told field layers notes h) ++ back) (fields_law buffers wanted notes field layers headers whole.1 told is kind)
     ∙ sym (map-append (value_at buffers field) (asked_told field layers notes h) (fields_told field layers notes headers))
+
+-- in the layer of one header, whatever layers are chosen
+pub told_in_values : (buffers : List (List ℕ)) (wanted : List ℕ) (notes : List Note) (field : ℕ) (h : Header) → IsReadWhole buffers h → Each (NoteFits buffers) notes →
+    item_values field (kept wanted (header_items buffers notes h)) ≡ map (value_at buffers field) (told_in wanted notes field h)
+unfolding told_in
+told_in_values buffers wanted notes field h whole told = by_test (is_in wanted field) refl
+  where
+    by_test : (asked : Truth) → is_in wanted field ≡ asked → item_values field (kept wanted (header_items buffers notes h)) ≡ map (value_at buffers field) (cond asked (asked_told field AllLayers notes h) [])
+    by_test true is = header_values buffers wanted notes field h whole told is true (h.proto == (row_of field).proto) refl
+    by_test false none = unwanted_values wanted field (header_items buffers notes h) none
+
+-- in the layer at a place
+pub first_values : (bytes wanted : List ℕ) (headers : List Header) (notes : List Note) (field place : ℕ) → IsOutline bytes wanted headers notes →
+    first_in field (slice_get (outlined bytes wanted headers notes).layers place) ≡ option_map (value_at (bytes ∷ []) field) (first_told wanted notes field (slice_get headers place))
+unfolding outlined
+first_values bytes wanted headers notes field place is =
+    ap (first_in field) (slice_get-map (header_layer (bytes ∷ []) wanted notes) headers place) ∙ by_header (slice_get headers place) refl
+  where
+    by_header : (at : Option Header) → slice_get headers place ≡ at →
+        first_in field (option_map (header_layer (bytes ∷ []) wanted notes) at) ≡ option_map (value_at (bytes ∷ []) field) (first_told wanted notes field at)
+    by_header None here = refl
+    by_header (Some h) here =
+        ap (λ (values : List Value). slice_get values 0) (told_in_values (bytes ∷ []) wanted notes field h (all_get (IsReadWhole (bytes ∷ [])) headers place h is.whole here) (each_note bytes wanted headers notes is))
+        ∙ slice_get-map (value_at (bytes ∷ []) field) (told_in wanted notes field h) 0
 
 -- a field that isn't wanted has none
 none_chosen : (wanted : List ℕ) (field : ℕ) (items : List Value) (chosen : Truth) → items ≡ [] → cond chosen items [] ≡ []

@@ -1,8 +1,9 @@
 -- The values of a field, found where headers have them.
 use Rattle.std.specs.Prelude.{◌≡◌, ◌==◌, ℕ, zero, suc, ◌&&◌, Bool as Truth, true, false, List, [], ◌∷◌, ◌++◌, if◌then◌else◌, Option, Some, None, IsTrue}
-use Rattle.std.specs.List.{flat_map, slice_index_or}
+use Rattle.std.specs.List.{flat_map, slice_get, slice_index_or}
 use Rattle.pk_base.specs.Chosen.{is_chosen}
 use Rattle.pk_base.specs.declared.chosen.Layers.{Layers}
+use Rattle.pk_base.specs.declared.chosen.Layers.TheVariants.{All as AllLayers}
 use Rattle.pk_base.specs.declared.span.Span.{Span}
 use Rattle.pk_base.specs.declared.value.Value.{Value}
 use Rattle.pk_base.specs.declared.value.Value.TheVariants as values
@@ -16,8 +17,10 @@ use Rattle.pk_source.specs.declared.header.Note.{Note}
 use Rattle.pk_source.specs.declared.header.Told.{Told}
 use Rattle.pk_source.specs.declared.header.Told.TheVariants as tolds
 use Rattle.pk_tree.specs.Buffers.{IsInside, bytes_of}
+use Rattle.pk_tree.specs.FieldValues.{item_values}
 use Rattle.pk_tree.specs.Layouts.{within}
 use Rattle.pk_tree.specs.Values.{HasSize, is_proto, is_read, size_of, value_of}
+use Rattle.pk_tree.specs.declared.layer.Layer.{Layer}
 use Rattle.pk_tree.specs.declared.table.Slot.{Slot}
 use Rattle.pk_tree.specs.declared.table.Slot.TheVariants as slots
 
@@ -77,6 +80,15 @@ all_told wanted headers notes field layers =
     else if is_in wanted field then fields_told field layers notes headers
     else []
 
+-- the places of a field in the layer of one header
+unfoldable pub told_in : List ℕ → List Note → ℕ → Header → List Told
+told_in wanted notes field h =
+    if is_in wanted field then asked_told field AllLayers notes h else []
+
+abbrev pub first_told : List ℕ → List Note → ℕ → Option Header → Option Told
+first_told wanted notes field None = None
+first_told wanted notes field (Some h) = slice_get (told_in wanted notes field h) 0
+
 -- the value that stands there; of a protocol, all the bytes
 abbrev pub value_at : List (List ℕ) → ℕ → Told → Value
 value_at buffers field (tolds.Read span) = value_of field (bytes_of buffers span)
@@ -110,3 +122,8 @@ or_then (kths.Left k) more = more k
 abbrev pub is_there : List Value → Truth
 is_there [] = false
 is_there (value ∷ more) = true
+
+-- the first value of a field in a layer
+abbrev pub first_in : ℕ → Option Layer → Option Value
+first_in field None = None
+first_in field (Some layer) = slice_get (item_values field layer.items) 0

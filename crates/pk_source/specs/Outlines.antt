@@ -3,6 +3,7 @@ use Rattle.std.specs.Prelude.{◌≡◌, ◌==◌, ℕ, ◌+◌, ◌^◌, ◌<�
 use Rattle.std.specs.List.{All as ForAll, flat_map}
 use Rattle.pk_base.specs.declared.span.Span.{Span}
 use Rattle.pk_base.specs.declared.value.Value.TheVariants as values
+use Rattle.pk_fields.specs.FieldSets.{is_in}
 use Rattle.pk_fields.specs.Fields.{row_of}
 use Rattle.pk_source.specs.declared.header.Header.{Header}
 use Rattle.pk_source.specs.declared.header.Note.{Note}
@@ -36,6 +37,10 @@ told_item buffers field (tolds.Moment time) = made_of field (values.Time time)
 unfoldable pub notes_of : ℕ → List Note → List Note
 notes_of proto notes = filter (λ (note : Note). (row_of note.field).proto == proto) notes
 
+-- the notes of the wanted fields
+unfoldable pub wanted_notes : List ℕ → List Note → List Note
+wanted_notes wanted notes = filter (λ (note : Note). is_in wanted note.field) notes
+
 -- the items of a header's layer: those of its rows, and behind them what is told of its protocol
 unfoldable pub header_items : List (List ℕ) → List Note → Header → List Item
 header_items buffers notes h =
@@ -59,6 +64,13 @@ outlined bytes wanted headers notes =
       buffers = bytes ∷ [];
       wanted = wanted;
     }
+
+-- the protocols of layers, and of headers
+abbrev pub protocols : List Layer → List ℕ
+protocols layers = map (λ (layer : Layer). layer.proto) layers
+
+abbrev pub protocols_of : List Header → List ℕ
+protocols_of headers = map (λ (h : Header). h.proto) headers
 
 -- slots of which each row is inside a layer of so many bytes; conditions may be any
 abbrev pub SlotsKnown : ℕ → List ℕ → List Slot → Type 0

@@ -2,7 +2,7 @@
 ghost use Rattle.std.specs.Prelude.{◌≡◌, ◌+◌, ◌<◌, ◌≤◌, ◌^◌, ◌∷◌, [], Bool as Truth, List, ℕ, IfSome, option_to_list, slice_get, slice_index_or, length};
 ghost use Rattle.std.specs.List.{All as ForAll};
 ghost use Rattle.pk_fields.specs.Fields.{row_of};
-ghost use Rattle.pk_source.specs.Found.{all_told, asked_told, fields_told, header_told, is_asked, kth, layer_told, layers_told, note_told, notes_told, rows_told, slot_told, some_read, there};
+ghost use Rattle.pk_source.specs.Found.{all_told, asked_told, fields_told, first_told, header_told, is_asked, kth, layer_told, layers_told, note_told, notes_told, rows_told, slot_told, some_read, there, told_in};
 ghost use Rattle.pk_source.specs.declared.header.Header.{Header as HeaderShown};
 ghost use Rattle.pk_source.specs.Picks.{IsPicked, IsPickedIn, picked_told, slot_at};
 ghost use Rattle.pk_source.specs.Outlines.{IsReadWhole, SlotsKnown, sizes_of};
@@ -54,6 +54,42 @@ pub(crate) fn find(
         return None;
     }
     there(kth_told(headers, notes, asked, layers, k))
+}
+
+/// A field's first place in the layer of the header at a place.
+pub(crate) fn find_in(
+    wanted: &FieldSet,
+    headers: &[Header],
+    notes: &[Note],
+    asked: &Asked,
+    place: usize,
+) -> Option<Told>
+    requires short { ForAll (λ (h : HeaderShown). h.span.start + h.span.len < 2 ^ 32) headers.now }
+    requires whole { (buffers : List (List ℕ)) × ForAll (IsReadWhole buffers) headers.now }
+    requires home { asked.now.home ≡ (row_of asked.now.field).proto }
+    requires picked { ForAll (IsPickedIn asked.now) headers.now }
+    ensures { result
+        ≡ first_told wanted.now notes.now asked.now.field (slice_get headers.now place) }
+{
+    match headers.get(place) {
+        Some(header) => first_told(wanted, header, notes, asked),
+        None => None,
+    }
+}
+
+/// A field's first place in the layer of one header.
+#[tactic(auto, unfolding(crate::specs::Found::told_in))]
+fn first_told(wanted: &FieldSet, header: &Header, notes: &[Note], asked: &Asked) -> Option<Told>
+    requires end { header.now.span.start + header.now.span.len < 2 ^ 32 }
+    requires whole { (buffers : List (List ℕ)) × IsReadWhole buffers header.now }
+    requires home { asked.now.home ≡ (row_of asked.now.field).proto }
+    requires picked { IsPickedIn asked.now header.now }
+    ensures { result ≡ slice_get (told_in wanted.now notes.now asked.now.field header.now) 0 }
+{
+    if !wanted.contains(asked.field) {
+        return None;
+    }
+    there(asked_kth(header, notes, asked, &Layers::All, 0))
 }
 
 fn there(kth: Kth) -> Option<Told>

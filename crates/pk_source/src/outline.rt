@@ -1,14 +1,15 @@
-ghost use Rattle.std.specs.Prelude.{◌≡◌, ◌∷◌, [], is_some, slice_get, IfOk, OnOk};
+ghost use Rattle.std.specs.Prelude.{◌≡◌, ◌<◌, ◌∷◌, [], ℕ, List, is_some, length, slice_get, IfOk, OnOk};
 ghost use Rattle.std.specs.List.{All as ForAll, AllByRecursion as Each};
 ghost use Rattle.pk_fields.specs.Fields.{row_of};
-ghost use Rattle.pk_source.specs.Found.{IsReadable, is_there, value_at};
-ghost use Rattle.pk_source.specs.Outlines.{IsOutline, outlined};
+ghost use Rattle.pk_source.specs.Found.{IsReadable, first_in, is_there, value_at};
+ghost use Rattle.pk_source.specs.Outlines.{IsOutline, outlined, protocols, protocols_of};
 ghost use Rattle.pk_source.specs.Picks.{Knows, pick_at};
+ghost use Rattle.pk_source.specs.declared.header.Note.{Note as NoteShown};
 ghost use Rattle.pk_tree.specs.FieldValues.{values_of};
-ghost use Rattle.pk_tree.specs.Trees.{IsTree};
+ghost use Rattle.pk_tree.specs.Trees.{IsTree, proto_at};
 ghost use Rattle.pk_tree.specs.Values.{IsOfKind};
 
-use crate::found::{Asked, find, is_protocol};
+use crate::found::{Asked, find, find_in, is_protocol};
 use crate::header::{Header, Note, Told};
 use crate::picks::Places;
 use crate::reading::{part_at, read_value};
@@ -102,6 +103,20 @@ impl<'f> Outline<'f> {
         ))
     }
 
+    /// Whether there is a value of a number, from 0, among those of a field in the chosen layers.
+    pub fn has_at(&self, field: FieldId, layers: &Layers, k: usize) -> bool
+        ensures { result ≡ is_some (slice_get (values_of self.now field layers.now) k) }
+    {
+        is_found(find(
+            self.wanted,
+            self.headers,
+            self.notes,
+            &asked(self.places, field),
+            layers,
+            k,
+        ))
+    }
+
     /// The value of a number, from 0, among those of a field in the chosen layers.
     pub fn value(
         &self,
@@ -123,6 +138,54 @@ impl<'f> Outline<'f> {
             None => Ok(None),
         }
     }
+
+    /// How many layers the headers make.
+    pub fn layer_count(&self) -> usize
+        ensures { result ≡ length self.now.layers }
+    {
+        self.headers.len()
+    }
+
+    /// The protocol of the layer at a place.
+    pub fn protocol(&self, place: usize) -> FieldId
+        requires { place < length self.now.layers }
+        ensures { result ≡ proto_at self.now.layers place }
+    {
+        protocol_of(self.headers, place)
+    }
+
+    /// The headers. Each is of its layer's protocol.
+    pub fn headers(&self) -> &'f [Header]
+        ensures { protocols_of result.now ≡ protocols self.now.layers }
+    {
+        self.headers
+    }
+
+    /// The first value of a field in the layer at a place, if there is one.
+    pub fn value_in(&self, place: usize, field: FieldId) -> Result<Option<Value>, NoMemory>
+        ensures { IfOk result (λ value.
+            value ≡ first_in field (slice_get self.now.layers place)) }
+    {
+        match find_in(
+            self.wanted,
+            self.headers,
+            self.notes,
+            &asked(self.places, field),
+            place,
+        ) {
+            Some(told) => Ok(Some(value_at(self.bytes, field, told)?)),
+            None => Ok(None),
+        }
+    }
+}
+
+/// The protocol of the header at a place.
+fn protocol_of(headers: &[Header], place: usize) -> FieldId
+    requires { place < length headers.now }
+    ensures { (bytes wanted : List ℕ) (notes : List NoteShown)
+        → result ≡ proto_at (outlined bytes wanted headers.now notes).layers place }
+{
+    headers[place].proto
 }
 
 /// Adds the values of a field to none.

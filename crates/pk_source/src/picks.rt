@@ -1,5 +1,5 @@
 // By a field's number, the slots that read it.
-ghost use Rattle.std.specs.Prelude.{◌≡◌, ◌==◌, ◌<◌, ◌++◌, ℕ, List, Some, length, IfOk, IfSome, OnOk};
+ghost use Rattle.std.specs.Prelude.{◌≡◌, ◌==◌, ◌<◌, ◌++◌, ℕ, List, [], Some, length, IfOk, IfSome, OnOk};
 ghost use Rattle.std.specs.List.{find};
 ghost use Rattle.pk_base.specs.declared.span.Span.{Span as SpanShown};
 ghost use Rattle.pk_fields.specs.Fields.{IsField, row_of};
@@ -50,6 +50,15 @@ impl Model for Places {
 }
 
 impl Places {
+    /// Places of no field: each table is looked through. Takes no memory.
+    pub fn none(alloc: Global) -> Places
+        ensures { result ≡ [] }
+    {
+        Places {
+            all: Vec::new(alloc),
+        }
+    }
+
     pub fn new(alloc: Global, tables: &[Table]) -> Result<Places, NoMemory>
         ensures { IfOk result (ArePlaces tables.now) }
     {

@@ -1,14 +1,14 @@
-ghost use Rattle.std.specs.Prelude.{◌≡◌, slice_get, IfOk};
+ghost use Rattle.std.specs.Prelude.{◌≡◌, ◌<◌, length, slice_get, IfOk};
 ghost use Rattle.std.specs.List.{AllByRecursion as Each};
 ghost use Rattle.pk_fields.specs.Fields.{row_of};
 ghost use Rattle.pk_source.specs.Found.{is_there};
 ghost use Rattle.pk_source.specs.Sources.{shown_by};
 ghost use Rattle.pk_tree.specs.FieldValues.{values_of};
-ghost use Rattle.pk_tree.specs.Trees.{IsTree};
+ghost use Rattle.pk_tree.specs.Trees.{IsTree, proto_at};
 ghost use Rattle.pk_tree.specs.Values.{IsOfKind};
 
 use crate::outline::Outline;
-use crate::walks::{tree_has, tree_value};
+use crate::walks::{tree_has, tree_protocol, tree_value};
 use pk_base::{Layers, NoMemory, Value};
 use pk_fields::FieldId;
 use pk_tree::Tree;
@@ -52,6 +52,12 @@ impl<'s> Source<'s> {
         Source {
             of: Lender::Outline(outline),
         }
+    }
+
+    pub fn new(of: Lender<'s>) -> Source<'s>
+        ensures { result ≡ shown_by of.entry }
+    {
+        Source { of }
     }
 
     /// What it answers by.
@@ -107,6 +113,27 @@ impl<'s> Source<'s> {
         match self.of {
             Lender::Tree(tree) => tree_value(tree, field, layers, k),
             Lender::Outline(outline) => outline.value(field, layers, k),
+        }
+    }
+
+    /// How many layers there are.
+    pub fn layer_count(&self) -> usize
+        ensures { result ≡ length self.now.layers }
+    {
+        match self.of {
+            Lender::Tree(tree) => tree.layers().len(),
+            Lender::Outline(outline) => outline.layer_count(),
+        }
+    }
+
+    /// The protocol of the layer at a place.
+    pub fn protocol(&self, place: usize) -> FieldId
+        requires { place < length self.now.layers }
+        ensures { result ≡ proto_at self.now.layers place }
+    {
+        match self.of {
+            Lender::Tree(tree) => tree_protocol(tree, place),
+            Lender::Outline(outline) => outline.protocol(place),
         }
     }
 }

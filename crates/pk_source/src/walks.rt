@@ -1,8 +1,9 @@
 // Questions to a tree.
-ghost use Rattle.std.specs.Prelude.{◌≡◌, ℕ, List, slice_get, IfOk};
+ghost use Rattle.std.specs.Prelude.{◌≡◌, ◌<◌, ℕ, List, length, slice_get, IfOk};
 ghost use Rattle.std.specs.List.{flat_map};
 ghost use Rattle.pk_source.specs.Found.{is_there};
 ghost use Rattle.pk_tree.specs.FieldValues.{chosen_values, item_values, layer_values, values_of};
+ghost use Rattle.pk_tree.specs.Trees.{proto_at};
 
 use crate::found::is_protocol;
 use pk_base::{Layers, NoMemory, Value};
@@ -69,6 +70,14 @@ pub(crate) fn tree_value(
 {
     let values = tree.values(field, layers)?;
     copied(&values, k)
+}
+
+/// The protocol of the layer at a place.
+pub(crate) fn tree_protocol(tree: &Tree, place: usize) -> FieldId
+    requires { place < length tree.now.layers }
+    ensures { result ≡ proto_at tree.now.layers place }
+{
+    tree.layers()[place].proto
 }
 
 fn copied(values: &[Value], k: usize) -> Result<Option<Value>, NoMemory>
