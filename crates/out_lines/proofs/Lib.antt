@@ -1,4 +1,6 @@
 pub mod ColumnLemmas
+pub mod HeadersLemmas
+pub mod JoinedLemmas
 pub mod KeptLines
 pub mod LineLemmas
 pub mod PlaceLemmas

@@ -1,5 +1,6 @@
 pub mod Columns
 pub mod Follow
+pub mod Joined
 pub mod Laws
 pub mod Lines
 pub mod Places

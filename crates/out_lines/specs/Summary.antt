@@ -27,6 +27,10 @@ first_in_tree t field = first_shown field (values_of t field AllLayers)
 abbrev pub or_dash : Option (List ℕ) → List ℕ
 or_dash text = unwrap_or text (codes "-")
 
+-- the protocols of IP headers
+abbrev pub is_ip_proto : ℕ → Bool
+is_ip_proto proto = proto == IP || proto == IPV6
+
 -- the first IP header
 abbrev pub is_ip : Layer → Bool
 is_ip layer = layer.proto == IP || layer.proto == IPV6
@@ -41,6 +45,10 @@ ip_address four six (Some layer) =
     let field =
     if layer.proto == IP then four else six in first_shown field (item_values field layer.items)
 
+-- the field of an IP header's version
+abbrev pub version_field : ℕ → ℕ → ℕ → ℕ
+version_field four six proto = if proto == IP then four else six
+
 -- an address of the first IP header, where it has one, else the first of the link
 unfoldable pub address_in : TreeShown → ℕ → ℕ → ℕ → List ℕ
 address_in t four six link =
@@ -51,6 +59,9 @@ abbrev pub is_told : Layer → Bool
 is_told layer =
     not (layer.proto == DATA || (layer.proto == WS_SHORT || layer.proto == WS_MALFORMED))
 
+abbrev pub is_told_proto : ℕ → Bool
+is_told_proto proto = not (proto == DATA || (proto == WS_SHORT || proto == WS_MALFORMED))
+
 abbrev pub last_told : List Layer → Option Layer
 last_told layers = find is_told (reverse layers)
 
@@ -58,6 +69,11 @@ last_told layers = find is_told (reverse layers)
 unfoldable pub protocol_of : TreeShown → List ℕ
 protocol_of t =
     or_dash (option_map (λ (layer : Layer). (row_of layer.proto).name) (last_told t.layers))
+
+-- the same by the protocols alone
+abbrev pub last_name : List ℕ → List ℕ
+last_name protos =
+    or_dash (option_map (λ proto. (row_of proto).name) (find is_told_proto (reverse protos)))
 
 -- NUMBER TIME SOURCE -> TARGET PROTO LENGTH, with a line feed, 10
 abbrev pub times_of : TreeShown → List ℕ

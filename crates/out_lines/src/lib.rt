@@ -4,6 +4,8 @@
 mod column;
 mod columns;
 mod follow;
+mod headers_line;
+mod headers_summary;
 mod laws;
 mod lines;
 mod style;

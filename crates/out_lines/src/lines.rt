@@ -10,10 +10,12 @@ ghost use Rattle.pk_tree.specs.Trees.{TreeShown};
 
 use crate::column::Column;
 use crate::columns::{add_layers, clear_columns, place_of, plan_columns};
+use crate::headers_line::put_outline;
 use crate::style::{Quote, Style};
 use crate::summary::put_summary;
 use pk_base::NoMemory;
 use pk_fields::{FieldId, name};
+use pk_source::{Lender, Outline, Source};
 use pk_text::{Slab, TextSink};
 use pk_tree::Tree;
 use std::alloc::Global;
@@ -30,6 +32,8 @@ pub struct LineWriter {
     places: Vec<Option<usize>>,
     /// The line of the tree at hand.
     line: Slab,
+    /// What stands in quotes in a line that no columns make.
+    spare: Slab,
 }
 
 impl Drop for LineWriter {
@@ -39,6 +43,7 @@ impl Drop for LineWriter {
             columns: _columns,
             places: _places,
             line: _line,
+            spare: _spare,
         } = self;
     }
 }
@@ -66,6 +71,7 @@ impl LineWriter {
             columns,
             places,
             line: Slab::new(alloc),
+            spare: Slab::new(alloc),
         })
     }
 
@@ -88,13 +94,64 @@ impl LineWriter {
         Ok(())
     }
 
+    /// Appends the line of a frame, as `write` does for its tree. What needs no tree is written where it is read.
+    pub fn write_source(
+        &mut self,
+        line: &mut Vec<u8>,
+        source: &Source<'_>,
+        style: &Style,
+    ) -> Result<(), NoMemory>
+        ensures line { OnOk result (line.new.items ≡ line.old.items
+            ++ field_line_of self.old source.now style.now) }
+        ensures fields { self.new ≡ self.old }
+    {
+        match source.lender() {
+            Lender::Tree(tree) => self.write(line, tree, style),
+            Lender::Outline(outline) => self.write_outline(line, outline, style),
+        }
+    }
+
+    fn write_outline(
+        &mut self,
+        line: &mut Vec<u8>,
+        outline: &Outline<'_>,
+        style: &Style,
+    ) -> Result<(), NoMemory>
+        ensures line { OnOk result (line.new.items ≡ line.old.items
+            ++ field_line_of self.old outline.now style.now) }
+        ensures fields { self.new ≡ self.old }
+    {
+        self.line.clear();
+        put_outline(
+            &mut self.line,
+            &mut self.spare,
+            outline,
+            &self.fields,
+            style,
+        )?;
+        line.extend_from_slice(self.line.text())?;
+        Ok(())
+    }
+
     /// Appends the line that sums up a tree, as `summary_line` makes it.
     pub fn write_summary(&mut self, line: &mut Vec<u8>, tree: &Tree) -> Result<(), NoMemory>
         ensures line { OnOk result (line.new.items ≡ line.old.items ++ summary_of tree.now) }
         ensures fields { self.new ≡ self.old }
     {
+        self.write_summary_source(line, &Source::of_tree(tree))
+    }
+
+    /// Appends the line that sums up a frame, as `write_summary` does for its tree.
+    pub fn write_summary_source(
+        &mut self,
+        line: &mut Vec<u8>,
+        source: &Source<'_>,
+    ) -> Result<(), NoMemory>
+        ensures line { OnOk result (line.new.items ≡ line.old.items ++ summary_of source.now) }
+        ensures fields { self.new ≡ self.old }
+    {
         self.line.clear();
-        put_summary(&mut self.line, tree)?;
+        put_summary(&mut self.line, source)?;
         line.extend_from_slice(self.line.text())?;
         Ok(())
     }
@@ -278,7 +335,7 @@ fn put_column(
     }
 }
 
-fn put_quoted(line: &mut Slab, text: &[u8], quote: Quote) -> Result<(), NoMemory>
+pub(crate) fn put_quoted(line: &mut Slab, text: &[u8], quote: Quote) -> Result<(), NoMemory>
     ensures { OnOk result (line.new ≡ line.old ++ in_quotes quote text.now) }
 {
     match quote {

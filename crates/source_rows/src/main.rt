@@ -1,10 +1,12 @@
-//! What the headers of a frame answer without a tree: reads a table of rows, a field's name and its values, and prints the rows that
-//! don't hold, and how many there are.
+//! What the headers of a frame answer without a tree: reads a table of rows, a field's name and its values, or the frame's line of
+//! `columns`, or its `summary`, and prints the rows that don't hold, and how many there are.
 #![tactic(auto)]
 
 mod frame;
+mod lines;
 
 use crate::frame::{FRAME, make_given, notes, outline};
+use crate::lines::{has_columns, has_summary};
 use pk_base::{Layers, NoMemory, Octets, Value};
 use pk_fields::{FieldId, FieldSet, by_name};
 use pk_source::{Places, Source};
@@ -12,9 +14,24 @@ use std::alloc::Global;
 use std::io::{self, Read};
 use tree_rows::value_text;
 
-/// Whether a source has exactly these values of a field, by each of its calls.
 fn holds(alloc: Global, source: &Source<'_>, row: &str) -> Result<bool, NoMemory> {
-    let (name, expected) = row.split_once(" =").unwrap_or((row, ""));
+    let (asked, expected) = row.split_once(" =").unwrap_or((row, ""));
+    if asked == "summary" {
+        return has_summary(alloc, source, expected);
+    }
+    match asked.strip_prefix("columns ") {
+        Some(columns) => has_columns(alloc, source, columns, expected),
+        None => has_values(alloc, source, asked, expected),
+    }
+}
+
+/// Whether a source has exactly these values of a field, by each of its calls.
+fn has_values(
+    alloc: Global,
+    source: &Source<'_>,
+    name: &str,
+    expected: &str,
+) -> Result<bool, NoMemory> {
     match by_name(name) {
         Some(field) => answers(alloc, source, field, expected),
         None => Ok(false),

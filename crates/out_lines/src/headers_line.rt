@@ -1,0 +1,241 @@
+// The line of what a frame's headers have: each value is appended where it is read, without a column of its own.
+ghost use Rattle.std.specs.Prelude.{◌≡◌, ◌+◌, ◌-◌, ◌++◌, ◌∷◌, [], length, slice_get, IfOk, OnOk};
+ghost use Rattle.std.specs.Option.{option_map};
+ghost use Rattle.std.specs.List.{flat_map, join_by};
+ghost use Rattle.out_lines.specs.Joined.{IsTextPut, all_values, behind, joined, further, shown_at};
+ghost use Rattle.out_lines.specs.Lines.{chosen, column_text, field_line_of};
+ghost use Rattle.out_lines.specs.ValueText.{shown_value};
+
+use crate::lines::put_quoted;
+use crate::style::{Occurrence, Quote, Style};
+use crate::value_text::put_shown;
+use pk_base::{Layers, NoMemory};
+use pk_fields::FieldId;
+use pk_source::Outline;
+use pk_text::Slab;
+
+/// Appends the line of some fields. What stands in quotes is made in a text of its own, whose memory is used again.
+#[tactic(auto, unfolding(crate::specs::Lines::field_line_of))]
+pub(crate) fn put_outline(
+    line: &mut Slab,
+    spare: &mut Slab,
+    outline: &Outline<'_>,
+    fields: &[FieldId],
+    style: &Style,
+) -> Result<(), NoMemory>
+    ensures { OnOk result (line.new ≡ line.old ++ field_line_of fields.now outline.now style.now) }
+{
+    put_columns(line, spare, outline, fields, style)?;
+    line.put_byte(b'\n')
+}
+
+fn put_columns(
+    line: &mut Slab,
+    spare: &mut Slab,
+    outline: &Outline<'_>,
+    fields: &[FieldId],
+    style: &Style,
+) -> Result<(), NoMemory>
+    ensures { OnOk result (line.new ≡ line.old
+        ++ join_by (column_text outline.now style.now) (style.now.separator ∷ []) fields.now) }
+{
+    match fields {
+        [] => Ok(()),
+        [first, others @ ..] => {
+            put_column(line, spare, outline, *first, style)?;
+            put_further(line, spare, outline, others, style)
+        }
+    }
+}
+
+/// Columns behind the first, each behind a separator.
+fn put_further(
+    line: &mut Slab,
+    spare: &mut Slab,
+    outline: &Outline<'_>,
+    fields: &[FieldId],
+    style: &Style,
+) -> Result<(), NoMemory>
+    ensures { OnOk result (line.new ≡ line.old ++ flat_map (λ field.
+        style.now.separator ∷ column_text outline.now style.now field) fields.now) }
+{
+    for field in fields {
+        line.put_byte(style.separator)?;
+        put_column(line, spare, outline, *field, style)?;
+    }
+    Ok(())
+}
+
+#[tactic(auto, unfolding(crate::specs::Lines::column_text))]
+fn put_column(
+    line: &mut Slab,
+    spare: &mut Slab,
+    outline: &Outline<'_>,
+    field: FieldId,
+    style: &Style,
+) -> Result<(), NoMemory>
+    ensures { OnOk result (line.new
+        ≡ line.old ++ column_text outline.now style.now field) }
+{
+    match style.quote {
+        Quote::None => put_chosen(line, outline, field, style),
+        Quote::Double | Quote::Single => put_in_quotes(line, spare, outline, field, style),
+    }
+}
+
+/// A column in quotes, where the field has a value.
+#[tactic(auto, unfolding(crate::specs::Lines::column_text))]
+fn put_in_quotes(
+    line: &mut Slab,
+    spare: &mut Slab,
+    outline: &Outline<'_>,
+    field: FieldId,
+    style: &Style,
+) -> Result<(), NoMemory>
+    ensures { OnOk result (line.new
+        ≡ line.old ++ column_text outline.now style.now field) }
+{
+    if !outline.has(field, &Layers::All) {
+        return Ok(());
+    }
+    spare.clear();
+    put_chosen(spare, outline, field, style)?;
+    put_quoted(line, spare.text(), style.quote)
+}
+
+/// The values of a field that the style chooses, joined by the aggregator.
+fn put_chosen(
+    line: &mut Slab,
+    outline: &Outline<'_>,
+    field: FieldId,
+    style: &Style,
+) -> Result<(), NoMemory>
+    ensures { OnOk result (line.new ≡ line.old ++ joined style.now.aggregator field
+        (chosen style.now.occurrence (all_values outline.now field))) }
+{
+    match style.occurrence {
+        Occurrence::First => put_only(line, outline, field, 0),
+        Occurrence::Last => put_last(line, outline, field),
+        Occurrence::All => put_all(line, outline, field, style.aggregator),
+    }
+}
+
+/// The value of a number, if there is one.
+fn put_only(
+    line: &mut Slab,
+    outline: &Outline<'_>,
+    field: FieldId,
+    k: usize,
+) -> Result<(), NoMemory>
+    ensures { OnOk result (line.new
+        ≡ line.old ++ shown_at field (all_values outline.now field) k) }
+{
+    put_value(line, outline, field, k)?;
+    Ok(())
+}
+
+/// The value of a number, if there is one; whether there is.
+#[inline(always)]
+fn put_value(
+    line: &mut Slab,
+    outline: &Outline<'_>,
+    field: FieldId,
+    k: usize,
+) -> Result<bool, NoMemory>
+    ensures { IfOk result (λ there. IsTextPut
+        (option_map (shown_value field) (slice_get (all_values outline.now field) k))
+        there line.old line.new) }
+{
+    match outline.value(field, &Layers::All, k)? {
+        Some(value) => {
+            put_shown(line, field, &value)?;
+            Ok(true)
+        }
+        None => Ok(false),
+    }
+}
+
+fn put_last(line: &mut Slab, outline: &Outline<'_>, field: FieldId) -> Result<(), NoMemory>
+    ensures { OnOk result (line.new ≡ line.old ++ shown_at field (all_values outline.now field)
+        (length (all_values outline.now field) - 1)) }
+{
+    let last = last_number(outline, field)?;
+    put_only(line, outline, field, last)
+}
+
+/// The number of a field's last value, from 0; 0 also where it has none.
+fn last_number(outline: &Outline<'_>, field: FieldId) -> Result<usize, NoMemory>
+    ensures { IfOk result (λ last. last ≡ length (all_values outline.now field) - 1) }
+{
+    let mut next = 1;
+    'values: while outline.has_at(field, &Layers::All, next) {
+        next = number_behind(next)?;
+    }
+    Ok(next - 1)
+}
+
+/// No memory holds more values than numbers tell.
+fn number_behind(number: usize) -> Result<usize, NoMemory>
+    ensures { IfOk result (λ behind. behind ≡ number + 1) }
+{
+    match number.checked_add(1) {
+        Some(behind) => Ok(behind),
+        None => Err(NoMemory),
+    }
+}
+
+/// All values of a field, joined by the aggregator.
+fn put_all(
+    line: &mut Slab,
+    outline: &Outline<'_>,
+    field: FieldId,
+    aggregator: u8,
+) -> Result<(), NoMemory>
+    ensures { OnOk result (line.new
+        ≡ line.old ++ joined aggregator field (all_values outline.now field)) }
+{
+    if put_value(line, outline, field, 0)? {
+        put_more(line, outline, field, aggregator)
+    } else {
+        Ok(())
+    }
+}
+
+/// The values behind the first, each behind the aggregator.
+fn put_more(
+    line: &mut Slab,
+    outline: &Outline<'_>,
+    field: FieldId,
+    aggregator: u8,
+) -> Result<(), NoMemory>
+    ensures { OnOk result (line.new
+        ≡ line.old ++ further aggregator field (all_values outline.now field) 1) }
+{
+    let mut k = 1;
+    'values: while put_behind(line, outline, field, k, aggregator)? {
+        k = number_behind(k)?;
+    }
+    Ok(())
+}
+
+/// The value of a number behind the aggregator, if there is one; whether there is.
+fn put_behind(
+    line: &mut Slab,
+    outline: &Outline<'_>,
+    field: FieldId,
+    k: usize,
+    aggregator: u8,
+) -> Result<bool, NoMemory>
+    ensures { IfOk result (λ there. IsTextPut
+        (option_map (behind aggregator field) (slice_get (all_values outline.now field) k))
+        there line.old line.new) }
+{
+    match outline.value(field, &Layers::All, k)? {
+        Some(value) => {
+            line.put_byte(aggregator)?;
+            put_shown(line, field, &value)?;
+            Ok(true)
+        }
+        None => Ok(false),
+    }
+}
