@@ -6,4 +6,5 @@ pub mod KeptTables
 pub mod KeyLemmas
 pub mod MapLemmas
 pub mod PathLemmas
+pub mod PlaceLemmas
 pub mod TableLemmas

@@ -1,9 +1,9 @@
 -- Paths of protocols, after one more frame and for one more layer.
-use Rattle.std.proofs.Common.{◌≡◌, ◌==◌, ◌+◌, ◌<◌, ℕ, Bool, true, false, cond, List, [], ◌∷◌, ◌++◌, length, map, take, codes, Option, Some, None, is_some, refl, sym, ap, subst, ◌∙◌, true≢false, String, Global, string_bytes, string_cmp, append-nil, append_assoc, add-one, get_or, arith, if◌then◌else◌}
+use Rattle.std.proofs.Common.{◌≡◌, ◌==◌, ◌+◌, ◌<◌, ℕ, Bool, true, false, cond, List, [], ◌∷◌, ◌++◌, length, map, take, codes, Option, Some, None, is_some, refl, sym, ap, subst, ◌∙◌, true≢false, String, Global, string_bytes, string_cmp, append-nil, append_assoc, add-one, get_or, min, zero, suc, arith, if◌then◌else◌}
 use Rattle.std.proofs.lemmas.Bool.{eqb-true}
 use Rattle.std.proofs.lemmas.Grind.{flat_map-append}
-use Rattle.std.proofs.lemmas.List.{take_more, length-take-le, length-map}
-use Rattle.std.proofs.Math.ListN.{get_or-map}
+use Rattle.std.proofs.lemmas.List.{take_more, length-take, length-take-le, length-map}
+use Rattle.pk_tree.specs.Trees.{proto_at}
 use Rattle.pk_tree.specs.declared.layer.Layer.{Layer}
 use Rattle.std.proofs.lemmas.Map.Made.{is_some-lookup}
 use Rattle.std.proofs.lemmas.Map.Text.{is_eq-slice_cmp, btree_map_updates_text}
@@ -130,15 +130,26 @@ paths_step bytes protocols place path notes is =
     ∙ ap (λ (n : ℕ). paths_to bytes protocols n ++ notes) (sym (add-one place))
 
 -- all paths that a tree shows
-pub paths_shown : (layers shown : List Layer) (bytes : ℕ) → bytes ≡ length_of layers → shown ≡ take 32 layers
-    → paths_to bytes (map (λ (layer : Layer). layer.proto) shown) (length shown) ≡ paths_in layers
+pub paths_shown : (layers : List Layer) (bytes count : ℕ) → bytes ≡ length_of layers → count ≡ min 32 (length layers)
+    → paths_to bytes (protocols_in layers) count ≡ paths_in layers
 unfolding paths_in protocols_in
-paths_shown layers shown bytes size front =
-    (λ i. paths_to (size i) (map (λ (layer : Layer). layer.proto) (front i)) (length (front i)))
-    ∙ ap (λ (count : ℕ). paths_to (length_of layers) (map (λ (layer : Layer). layer.proto) (take 32 layers)) count) (sym (length-map (take 32 layers) (λ (layer : Layer). layer.proto)))
+paths_shown layers bytes count size all =
+    (λ i. paths_to (size i) (map (λ (layer : Layer). layer.proto) (take 32 layers)) (all i))
+    ∙ ap (λ (n : ℕ). paths_to (length_of layers) (map (λ (layer : Layer). layer.proto) (take 32 layers)) n)
+    (sym (length-take 32 layers) ∙ sym (length-map (take 32 layers) (λ (layer : Layer). layer.proto)))
 
--- the layer at a place has the protocol at that place
-pub proto_here : (layers : List Layer) (place : ℕ) (layer : Layer) → layer ≡ get_or layers place layer
-    → layer.proto ≡ get_or (map (λ (l : Layer). l.proto) layers) place layer.proto
-proto_here layers place layer at =
-    ap (λ (l : Layer). l.proto) at ∙ sym (get_or-map (λ (l : Layer). l.proto) layers place layer)
+pub protocols_count : (layers : List Layer) → length (protocols_in layers) ≡ min 32 (length layers)
+unfolding protocols_in
+protocols_count layers = length-map (take 32 layers) (λ (layer : Layer). layer.proto) ∙ length-take 32 layers
+
+-- the protocol of the layer at a place
+proto_taken : (layers : List Layer) (most place : ℕ) → place < length (map (λ (layer : Layer). layer.proto) (take most layers))
+    → proto_at layers place ≡ get_or (map (λ (layer : Layer). layer.proto) (take most layers)) place (proto_at layers place)
+proto_taken layers zero place inside = absurd (omega (arith, inside))
+proto_taken [] (suc most) place inside = absurd (omega (arith, inside))
+proto_taken (layer ∷ layers) (suc most) zero inside = refl
+proto_taken (layer ∷ layers) (suc most) (suc place) inside = proto_taken layers most place (omega (arith, inside))
+
+pub proto_here : (layers : List Layer) (place proto : ℕ) → place < length (protocols_in layers) → proto ≡ proto_at layers place → proto ≡ get_or (protocols_in layers) place proto
+unfolding protocols_in
+proto_here layers place proto inside is = rw is (proto_taken layers 32 place inside)

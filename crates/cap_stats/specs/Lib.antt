@@ -2,6 +2,7 @@ pub mod Counts
 pub mod Few
 pub mod Keys
 pub mod Laws
+pub mod Places
 pub mod Stands
 pub mod Steps
 pub mod Tables

@@ -3,12 +3,14 @@
 
 mod counts;
 mod fields;
+mod headers;
 mod kind;
 mod laws;
 mod lines;
 mod pairs;
 mod party;
 mod paths;
+mod shown;
 mod stats;
 mod streams;
 mod told;

@@ -1,28 +1,27 @@
 // Paths of protocols, by their texts.
-ghost use Rattle.std.specs.Prelude.{◌≡◌, ◌==◌, ◌-◌, ◌^◌, ◌<◌, ℕ, Option, None, true, false, List, [], ◌∷◌, ◌++◌, length, map, codes, if◌then◌else◌, take, IfOk, IfSome, OnOk};
+ghost use Rattle.std.specs.Prelude.{◌≡◌, ◌==◌, ◌-◌, ◌^◌, ◌<◌, ℕ, Option, None, true, false, List, [], ◌∷◌, ◌++◌, length, min, codes, if◌then◌else◌, IfOk, IfSome, OnOk};
 ghost use Rattle.std.specs.BTreeMap.{get_by_text, keys};
 ghost use Rattle.std.specs.List.{flat_map};
 ghost use Rattle.std.specs.String.{string_bytes};
 ghost use Rattle.std.specs.Option.{option_copied};
 ghost use Rattle.pk_fields.specs.Fields.{row_of};
-ghost use Rattle.pk_tree.specs.declared.layer.Layer.{Layer};
 ghost use Rattle.pk_tree.specs.Trees.{TreeShown};
 ghost use Rattle.cap_stats.specs.Few.{AreFew, HasRoom};
 ghost use Rattle.cap_stats.specs.Stands.{HasPaths};
 ghost use Rattle.cap_stats.specs.Tables.{paths_of, paths_table, path_line};
-ghost use Rattle.cap_stats.specs.Told.{length_of as bytes_of, paths_in, paths_to};
+ghost use Rattle.cap_stats.specs.Told.{length_of as bytes_of, paths_in, paths_to, protocols_in};
 
 use crate::counts::{Tally, tally_after};
 use crate::lines::{begin_table, put_count};
-use crate::told::length_of;
+use crate::shown::length_of;
 use pk_base::NoMemory;
 use pk_fields::{FieldId, name};
+use pk_source::Source;
 use pk_text::TextSink;
-use pk_tree::Layer;
 use std::alloc::Global;
 use std::collections::BTreeMap;
 
-/// How many of a tree's layers are looked at.
+/// How many of a frame's layers are looked at.
 const LAYERS: usize = 32;
 
 /// The frames of each path.
@@ -43,29 +42,29 @@ impl Paths {
         }
     }
 
-    /// Notes the paths that a tree's layers show.
-    pub fn add(&mut self, layers: &[Layer]) -> Result<(), NoMemory>
+    /// Notes the paths that a frame's layers show.
+    pub fn add(&mut self, source: &Source<'_>) -> Result<(), NoMemory>
         requires few { (past : List TreeShown) × HasPaths (paths_of past) self.old
             × AreFew (2 ^ 32 - 1) past }
-        requires short { bytes_of layers.now < 2 ^ 32 }
+        requires short { bytes_of source.now.layers < 2 ^ 32 }
         ensures { OnOk result ((notes : List (List ℕ × ℕ)) → HasPaths notes self.old
-            → HasPaths (paths_in layers.now ++ notes) self.new) }
+            → HasPaths (paths_in source.now.layers ++ notes) self.new) }
     {
-        let bytes = length_of(layers);
-        self.add_shown(front(layers, LAYERS), bytes)
+        let bytes = length_of(source)?;
+        self.add_shown(source, LAYERS.min(source.layer_count()), bytes)
     }
 
-    fn add_shown(&mut self, shown: &[Layer], bytes: u64) -> Result<(), NoMemory>
+    fn add_shown(&mut self, source: &Source<'_>, count: usize, bytes: u64) -> Result<(), NoMemory>
         requires known { (notes : List (List ℕ × ℕ)) × HasPaths notes self.old }
         requires room { (path : List ℕ) → IfSome (get_by_text self.old.all path) HasRoom }
         requires short { bytes < 2 ^ 32 }
+        requires count { count ≡ min 32 (length source.now.layers) }
         ensures { OnOk result ((notes : List (List ℕ × ℕ)) → HasPaths notes self.old
-            → HasPaths (paths_to bytes (map (λ (layer : Layer). layer.proto) shown.now)
-            (length shown.now) ++ notes) self.new) }
+            → HasPaths (paths_to bytes (protocols_in source.now.layers) count ++ notes) self.new) }
     {
         let mut path = String::new(self.alloc);
-        for (place, layer) in shown.iter().enumerate() {
-            extend_path(&mut path, place, layer.proto)?;
+        for place in 0..count {
+            extend_path(&mut path, place, source.protocol(place))?;
             self.add_path(path.as_str(), bytes)?;
         }
         Ok(())
@@ -114,17 +113,6 @@ impl Paths {
         let mut text = begin_table(alloc, "phs ", self.all.len())?;
         put_paths(&mut text, &self.all)?;
         Ok(text)
-    }
-}
-
-/// At most so many layers, from the first on.
-fn front(layers: &[Layer], most: usize) -> &[Layer]
-    ensures { result.now ≡ take most layers.now }
-{
-    if layers.len() <= most {
-        layers
-    } else {
-        &layers[..most]
     }
 }
 

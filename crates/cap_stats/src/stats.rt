@@ -9,10 +9,11 @@ ghost use Rattle.cap_stats.specs.Told.{length_of, stream_in as segment_of, packe
 use crate::kind::StatKind;
 use crate::pairs::Pairs;
 use crate::paths::Paths;
+use crate::shown::{packet_in, stream_in};
 use crate::streams::Streams;
-use crate::told::{packet_in, stream_in};
 use pk_base::NoMemory;
-use pk_tree::{Layer, Tree};
+use pk_source::Source;
+use pk_tree::Tree;
 use std::alloc::Global;
 
 /// Statistics of one kind over trees. They keep some bytes for each stream, pair or path, and none for a tree.
@@ -59,7 +60,6 @@ impl Stats {
 
     /// Notes a tree, of at most 2^32 - 1, as many as frames have numbers: so each sum fits 64 bits. Where there is no memory for
     /// it, the statistics are given up: nothing more is noted, and there is no table.
-    #[tactic(auto, unfolding(crate::specs::Stands::Stands))]
     pub fn note(&mut self, tree: &Tree) -> Result<(), NoMemory>
         requires { HasFew (2 ^ 32 - 1) self.old }
         ensures stands { OnOk result ((past : List TreeShown) → Stands past self.old
@@ -69,30 +69,45 @@ impl Stats {
         ensures kind { kind_of self.new ≡ kind_of self.old }
         ensures few { (most : ℕ) → HasFew most self.old → HasFew (suc most) self.new }
     {
+        self.note_source(&Source::of_tree(tree))
+    }
+
+    /// As `note`, by whatever answers for the tree.
+    #[tactic(auto, unfolding(crate::specs::Stands::Stands))]
+    pub fn note_source(&mut self, source: &Source<'_>) -> Result<(), NoMemory>
+        requires { HasFew (2 ^ 32 - 1) self.old }
+        ensures stands { OnOk result ((past : List TreeShown) → Stands past self.old
+            → Stands (source.now ∷ past) self.new) }
+        ensures spent { is_spent self.new ≡ is_spent self.old || is_err result }
+        ensures refused { is_spent self.old ≡ true → IsErr result }
+        ensures kind { kind_of self.new ≡ kind_of self.old }
+        ensures few { (most : ℕ) → HasFew most self.old → HasFew (suc most) self.new }
+    {
         if self.spent {
             return Err(NoMemory);
         }
-        let noted = self.add(tree);
+        let noted = self.add(source);
         self.spent = noted.is_err();
         noted
     }
 
     #[tactic(auto, using(crate::proofs::FewLemmas::short_length))]
-    fn add(&mut self, tree: &Tree) -> Result<(), NoMemory>
+    fn add(&mut self, source: &Source<'_>) -> Result<(), NoMemory>
         requires { (past : List TreeShown) × HasNotes (kind_of self.old) past self.old
             × AreFew (2 ^ 32 - 1) past }
         ensures notes { OnOk result ((past : List TreeShown)
             → HasNotes (kind_of self.old) past self.old
-            → HasNotes (kind_of self.old) (tree.now ∷ past) self.new) }
+            → HasNotes (kind_of self.old) (source.now ∷ past) self.new) }
         ensures spent { is_spent self.new ≡ is_spent self.old }
         ensures kind { kind_of self.new ≡ kind_of self.old }
-        ensures short { length_of tree.now.layers < 2 ^ 32 }
+        ensures short { length_of source.now.layers < 2 ^ 32 }
     {
-        let layers = tree.layers();
+        // What is true of each tree.
+        let _lender = source.lender();
         match self.kind {
-            StatKind::ConvTcp => add_stream(&mut self.streams, layers),
-            StatKind::ConvIp => add_pair(&mut self.pairs, layers),
-            StatKind::Phs => self.paths.add(layers),
+            StatKind::ConvTcp => add_stream(&mut self.streams, source),
+            StatKind::ConvIp => add_pair(&mut self.pairs, source),
+            StatKind::Phs => self.paths.add(source),
         }
     }
 
@@ -114,29 +129,29 @@ impl Stats {
     }
 }
 
-/// Notes the segment that layers show, if any.
-fn add_stream(streams: &mut Streams, layers: &[Layer]) -> Result<(), NoMemory>
+/// Notes the segment that a frame shows, if any.
+fn add_stream(streams: &mut Streams, source: &Source<'_>) -> Result<(), NoMemory>
     requires few { (past : List TreeShown) × HasStreams (segments_of past) streams.old
         × AreFew (2 ^ 32 - 1) past }
-    requires short { length_of layers.now < 2 ^ 32 }
+    requires short { length_of source.now.layers < 2 ^ 32 }
     ensures { OnOk result ((notes : List (ℕ × FlightValue)) → HasStreams notes streams.old
-        → HasStreams (with_note (segment_of layers.now) notes) streams.new) }
+        → HasStreams (with_note (segment_of source.now.layers) notes) streams.new) }
 {
-    match stream_in(layers) {
+    match stream_in(source)? {
         Some((number, flight)) => streams.add(number, &flight),
         None => Ok(()),
     }
 }
 
-/// Notes the packet that layers show, if any.
-fn add_pair(pairs: &mut Pairs, layers: &[Layer]) -> Result<(), NoMemory>
+/// Notes the packet that a frame shows, if any.
+fn add_pair(pairs: &mut Pairs, source: &Source<'_>) -> Result<(), NoMemory>
     requires few { (past : List TreeShown) × HasPairs (packets_of past) pairs.old
         × AreFew (2 ^ 32 - 1) past }
-    requires short { length_of layers.now < 2 ^ 32 }
+    requires short { length_of source.now.layers < 2 ^ 32 }
     ensures { OnOk result ((notes : List ((ℕ × ℕ) × FlightValue)) → HasPairs notes pairs.old
-        → HasPairs (with_note (packet_of layers.now) notes) pairs.new) }
+        → HasPairs (with_note (packet_of source.now.layers) notes) pairs.new) }
 {
-    match packet_in(layers) {
+    match packet_in(source)? {
         Some((pair, flight)) => pairs.add(pair, &flight),
         None => Ok(()),
     }

@@ -122,7 +122,7 @@ fn has_addresses(layer: &Layer) -> bool
         && four_in(layer, ids::IP_DST).is_some()
 }
 
-fn party_at(address: Address, port: u64) -> Party
+pub(crate) fn party_at(address: Address, port: u64) -> Party
     ensures { result ≡ party_value address port }
 {
     Party {
@@ -131,7 +131,7 @@ fn party_at(address: Address, port: u64) -> Party
     }
 }
 
-fn host(address: u32) -> Party
+pub(crate) fn host(address: u32) -> Party
     ensures { result ≡ host_value address }
 {
     Party {
@@ -141,7 +141,7 @@ fn host(address: u32) -> Party
 }
 
 /// Two addresses, whichever of them sends.
-fn pair_of(source: u32, target: u32) -> (u32, u32)
+pub(crate) fn pair_of(source: u32, target: u32) -> (u32, u32)
     ensures { result ≡ pair_value source target }
 {
     (source.min(target), source.max(target))

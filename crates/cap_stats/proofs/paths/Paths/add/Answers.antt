@@ -1,4 +1,4 @@
-use Rattle.std.proofs.Common.{◌++◌, ℕ, List, subst}
+use Rattle.std.proofs.Common.{◌++◌, ℕ, List, min, ap, subst, ◌∙◌}
 use Rattle.std.proofs.lemmas.Result.{on_ok_weaker}
 use Rattle.cap_stats.specs.Stands.{HasPaths}
 use Rattle.cap_stats.specs.Tables.{paths_of}
@@ -16,4 +16,4 @@ pub returns : goal.returns
 returns c =
     on_ok_weaker c.add_shown.result (λ noted notes has.
     subst (λ (paths : List (List ℕ × ℕ)). HasPaths (paths ++ notes) c.add_shown.new.self)
-    (paths_shown c.args.layers.now c.front.result.now c.length_of-bytes.result c.length_of-bytes.ensures c.front.ensures) (noted notes has)) c.add_shown.ensures
+    (paths_shown c.args.source.now.layers c.in_ok-bytes.bytes c.min.result c.in_ok-bytes.ensures (c.min.ensures ∙ ap (λ (n : ℕ). min 32 n) c.layer_count.ensures)) (noted notes has)) c.add_shown.ensures

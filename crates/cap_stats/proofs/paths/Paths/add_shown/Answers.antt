@@ -1,28 +1,30 @@
-use Rattle.std.proofs.Common.{◌==◌, ◌<◌, ℕ, List, [], ◌++◌, length, map, codes, if◌then◌else◌, IfSome, Option, ap, sym, subst, ◌∙◌, arith}
-use Rattle.std.proofs.lemmas.List.{length-map}
+use Rattle.std.proofs.Common.{◌==◌, ◌<◌, ℕ, List, [], ◌++◌, length, codes, if◌then◌else◌, IfSome, Option, ap, sym, subst, ◌∙◌, arith}
 use Rattle.pk_fields.specs.Fields.{row_of}
-use Rattle.pk_tree.specs.declared.layer.Layer.{Layer}
 use Rattle.cap_stats.specs.declared.counts.Tally.{Tally}
 use Rattle.cap_stats.specs.Few.{HasRoom}
 use Rattle.cap_stats.specs.Stands.{HasPaths}
-use Rattle.cap_stats.specs.Told.{path_of}
+use Rattle.cap_stats.specs.Told.{path_of, protocols_in}
 use Rattle.cap_stats.proofs.FewLemmas.{path_kept}
-use Rattle.cap_stats.proofs.PathLemmas.{path_more, paths_step, proto_here}
+use Rattle.cap_stats.proofs.PathLemmas.{path_more, paths_step, proto_here, protocols_count}
 use Rattle.cap_stats.proofs.paths.Paths.add_shown.Goals as goal
 
 pub loop-place-init : goal.loop-place-init
 unfolding path_of
 loop-place-init c = (λ notes has. has, c.new-path.ensures.bytes)
 
+pub protocol-requires : goal.protocol-requires
+protocol-requires c = omega (arith, c.loop-place-test.true, c.requires.count)
+
 pub add_path-requires-clause-room : goal.add_path-requires-clause-room
 add_path-requires-clause-room c =
-    let layer = c.index-shown-place.result in
-    let protocols = map (λ (l : Layer). l.proto) c.args.shown.now in
+    let layers = c.args.source.now.layers in
+    let protocols = protocols_in layers in
     let place = c.loop-place.place in
-    let within : place < length protocols = omega (arith, c.loop-place-test.true, length-map c.args.shown.now (λ (l : Layer). l.proto)) in
+    let proto = c.protocol.result in
+    let within : place < length protocols = omega (arith, c.loop-place-test.true, c.requires.count, protocols_count layers) in
     let longer = c.in_ok-extend_path.ensures
-    ∙ ap (λ (path : List ℕ). path ++ ((if place == 0 then [] else codes ":") ++ (row_of layer.proto).name)) c.loop-place.invariant.1
-    ∙ path_more protocols place layer.proto within (proto_here c.args.shown.now place layer c.index-shown-place.is) in
+    ∙ ap (λ (path : List ℕ). path ++ ((if place == 0 then [] else codes ":") ++ (row_of proto).name)) c.loop-place.invariant.1
+    ∙ path_more protocols place proto within (proto_here layers place proto within c.protocol.ensures) in
     let known = c.requires.known in
     subst (λ (o : Option Tally). IfSome o HasRoom)
     (sym (path_kept c.args.self.now c.loop-place.self c.args.bytes place protocols c.as_str.result.now known.0 within (c.as_str.ensures.value ∙ longer) known.1 (c.loop-place.invariant.0 known.0 known.1)))
@@ -30,13 +32,14 @@ add_path-requires-clause-room c =
 
 pub loop-place-preserved : goal.loop-place-preserved
 loop-place-preserved c =
-    let layer = c.index-shown-place.result in
-    let protocols = map (λ (l : Layer). l.proto) c.args.shown.now in
+    let layers = c.args.source.now.layers in
+    let protocols = protocols_in layers in
     let place = c.loop-place.place in
-    let within : place < length protocols = omega (arith, c.loop-place-test.true, length-map c.args.shown.now (λ (l : Layer). l.proto)) in
+    let proto = c.protocol.result in
+    let within : place < length protocols = omega (arith, c.loop-place-test.true, c.requires.count, protocols_count layers) in
     let longer = c.in_ok-extend_path.ensures
-    ∙ ap (λ (path : List ℕ). path ++ ((if place == 0 then [] else codes ":") ++ (row_of layer.proto).name)) c.loop-place.invariant.1
-    ∙ path_more protocols place layer.proto within (proto_here c.args.shown.now place layer c.index-shown-place.is) in (
+    ∙ ap (λ (path : List ℕ). path ++ ((if place == 0 then [] else codes ":") ++ (row_of proto).name)) c.loop-place.invariant.1
+    ∙ path_more protocols place proto within (proto_here layers place proto within c.protocol.ensures) in (
       λ notes has.
           subst (λ (ns : List (List ℕ × ℕ)). HasPaths ns c.add_path.new.self)
           (paths_step c.args.bytes protocols place c.as_str.result.now notes (c.as_str.ensures.value ∙ longer))

@@ -1,11 +1,10 @@
-use Rattle.std.proofs.Common.{◌≡◌, ◌++◌, ℕ, List, map, take, string_bytes}
-use Rattle.pk_tree.specs.declared.layer.Layer.{Layer}
+use Rattle.std.proofs.Common.{◌≡◌, ◌++◌, ℕ, List, take, string_bytes}
 use Rattle.cap_stats.specs.Stands.{HasPaths}
-use Rattle.cap_stats.specs.Told.{path_of, paths_to}
+use Rattle.cap_stats.specs.Told.{path_of, paths_to, protocols_in}
 use Rattle.cap_stats.proofs.paths.Paths.add_shown.Given as goal
 
 abbrev pub invariant-loop-place : goal.invariant-loop-place
 invariant-loop-place l =
     ((notes : List (List ℕ × ℕ)) → HasPaths notes l.initial.self
-    → HasPaths (paths_to l.bytes (map (λ (layer : Layer). layer.proto) l.shown) l.place ++ notes) l.self)
-    × (string_bytes l.path ≡ path_of (take l.place (map (λ (layer : Layer). layer.proto) l.shown)))
+    → HasPaths (paths_to l.bytes (protocols_in l.source.layers) l.place ++ notes) l.self)
+    × (string_bytes l.path ≡ path_of (take l.place (protocols_in l.source.layers)))
