@@ -5,5 +5,6 @@ pub mod ListLemmas
 pub mod NeedleLemmas
 pub mod OrderLemmas
 pub mod PairLemmas
+pub mod ReadLemmas
 pub mod SearchLemmas
 pub mod WalkLemmas

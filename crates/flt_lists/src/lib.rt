@@ -11,6 +11,7 @@ mod needles;
 mod pairs;
 mod quantify;
 mod question;
+mod sources;
 mod ties;
 mod walks;
 
@@ -19,4 +20,5 @@ pub use lists::{called_values, masked_values, only, slices};
 pub use pairs::calculated_values;
 pub use quantify::{is_some_value, matched, passes};
 pub use question::{Question, is_so};
+pub use sources::{asks_source, is_there_in};
 pub use walks::{asks_field, is_there};

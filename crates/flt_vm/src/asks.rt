@@ -6,11 +6,11 @@ ghost use Rattle.flt_vm.specs.Held.{Held, one_truth};
 ghost use Rattle.flt_vm.specs.Slots.{held_in, is_unset, truth_in};
 
 use crate::slots::{Slot, listed_in};
-use flt_lists::{Question, asks_field, compares, matched, passes};
+use flt_lists::{Question, asks_source, compares, matched, passes};
 use flt_syntax::Choice;
 use flt_typed::{Constant, Relation, Search};
 use pk_base::{NoMemory, Value};
-use pk_tree::Tree;
+use pk_source::Source;
 use std::alloc::Global;
 
 /// Whether any or all of a slot's values answer a question. A field is asked where its values stand.
@@ -19,15 +19,15 @@ pub(crate) fn asks(
     choice: Choice,
     question: &Question<'_>,
     slot: &Slot<'_>,
-    tree: &Tree,
+    source: &Source<'_>,
 ) -> Result<bool, NoMemory>
     requires { is_unset slot.now ≡ false }
-    ensures { IfOk result (λ truth. (held : Held) → held_in tree.now slot.now ≡ Some held
+    ensures { IfOk result (λ truth. (held : Held) → held_in source.now slot.now ≡ Some held
         → truth ≡ passes choice (λ v. is_so question.now v) held.values) }
 {
     match slot {
-        Slot::Field(field, layers) => asks_field(choice, question, *field, layers, tree),
-        slot => asks_list(alloc, choice, question, slot, tree),
+        Slot::Field(field, layers) => asks_source(choice, question, *field, layers, source),
+        slot => asks_list(alloc, choice, question, slot, source),
     }
 }
 
@@ -37,13 +37,13 @@ fn asks_list(
     choice: Choice,
     question: &Question<'_>,
     slot: &Slot<'_>,
-    tree: &Tree,
+    source: &Source<'_>,
 ) -> Result<bool, NoMemory>
     requires { is_unset slot.now ≡ false }
-    ensures { IfOk result (λ truth. (held : Held) → held_in tree.now slot.now ≡ Some held
+    ensures { IfOk result (λ truth. (held : Held) → held_in source.now slot.now ≡ Some held
         → truth ≡ passes choice (λ v. is_so question.now v) held.values) }
 {
-    match listed_in(alloc, slot, tree) {
+    match listed_in(alloc, slot, source) {
         Ok(values) => Ok(passes(choice, question, values.slice())),
         Err(NoMemory) => Err(NoMemory),
     }
@@ -57,17 +57,17 @@ pub(crate) fn compare(
     choice: Choice,
     left: &Slot<'_>,
     right: &Slot<'_>,
-    tree: &Tree,
+    source: &Source<'_>,
 ) -> Result<bool, NoMemory>
     requires left { is_unset left.now ≡ false }
     requires right { is_unset right.now ≡ false }
-    ensures { IfOk result (λ truth. (a b : Held) → held_in tree.now left.now ≡ Some a
-        → held_in tree.now right.now ≡ Some b
+    ensures { IfOk result (λ truth. (a b : Held) → held_in source.now left.now ≡ Some a
+        → held_in source.now right.now ≡ Some b
         → truth ≡ compares relation choice a.values b.values b.prefix) }
 {
     match right {
-        Slot::Single(constant) => compare_constant(alloc, relation, choice, left, constant, tree),
-        right => compare_lists(alloc, relation, choice, left, right, tree),
+        Slot::Single(constant) => compare_constant(alloc, relation, choice, left, constant, source),
+        right => compare_lists(alloc, relation, choice, left, right, source),
     }
 }
 
@@ -78,16 +78,16 @@ fn compare_lists(
     choice: Choice,
     left: &Slot<'_>,
     right: &Slot<'_>,
-    tree: &Tree,
+    source: &Source<'_>,
 ) -> Result<bool, NoMemory>
     requires left { is_unset left.now ≡ false }
     requires right { is_unset right.now ≡ false }
-    ensures { IfOk result (λ truth. (a b : Held) → held_in tree.now left.now ≡ Some a
-        → held_in tree.now right.now ≡ Some b → b.prefix ≡ None
+    ensures { IfOk result (λ truth. (a b : Held) → held_in source.now left.now ≡ Some a
+        → held_in source.now right.now ≡ Some b → b.prefix ≡ None
         → truth ≡ compares relation choice a.values b.values b.prefix) }
 {
-    match listed_in(alloc, right, tree) {
-        Ok(right) => compare_list(alloc, relation, choice, left, right.slice(), tree),
+    match listed_in(alloc, right, source) {
+        Ok(right) => compare_list(alloc, relation, choice, left, right.slice(), source),
         Err(NoMemory) => Err(NoMemory),
     }
 }
@@ -99,13 +99,13 @@ fn compare_list(
     choice: Choice,
     left: &Slot<'_>,
     right: &[Value],
-    tree: &Tree,
+    source: &Source<'_>,
 ) -> Result<bool, NoMemory>
     requires { is_unset left.now ≡ false }
-    ensures { IfOk result (λ truth. (held : Held) → held_in tree.now left.now ≡ Some held
+    ensures { IfOk result (λ truth. (held : Held) → held_in source.now left.now ≡ Some held
         → truth ≡ compares relation choice held.values right.now None) }
 {
-    match listed_in(alloc, left, tree) {
+    match listed_in(alloc, left, source) {
         Ok(left) => compares(alloc, relation, choice, left.slice(), right, None),
         Err(NoMemory) => Err(NoMemory),
     }
@@ -118,14 +118,14 @@ pub(crate) fn compare_constant(
     choice: Choice,
     left: &Slot<'_>,
     constant: &Constant,
-    tree: &Tree,
+    source: &Source<'_>,
 ) -> Result<bool, NoMemory>
     requires { is_unset left.now ≡ false }
-    ensures { IfOk result (λ truth. (held : Held) → held_in tree.now left.now ≡ Some held
+    ensures { IfOk result (λ truth. (held : Held) → held_in source.now left.now ≡ Some held
         → truth ≡ compares relation choice held.values (constant.now.value ∷ []) constant.now.prefix) }
 {
     let question = Question::IsRelated(relation, &constant.value, constant.prefix);
-    asks(alloc, choice, &question, left, tree)
+    asks(alloc, choice, &question, left, source)
 }
 
 /// Whether a pattern matches in any or all of a slot's values.
@@ -134,27 +134,27 @@ pub(crate) fn finds(
     choice: Choice,
     search: &mut Search<'_>,
     slot: &Slot<'_>,
-    tree: &Tree,
+    source: &Source<'_>,
 ) -> Result<bool, NoMemory>
     requires { is_unset slot.now ≡ false }
-    ensures found { IfOk result (λ truth. (held : Held) → held_in tree.now slot.now ≡ Some held
+    ensures found { IfOk result (λ truth. (held : Held) → held_in source.now slot.now ≡ Some held
         → truth ≡ passes choice (λ v. is_matched search.old v) held.values) }
     ensures same { search.new ≡ search.old }
 {
-    match listed_in(alloc, slot, tree) {
+    match listed_in(alloc, slot, source) {
         Ok(values) => Ok(matched(choice, search, values.slice())),
         Err(NoMemory) => Err(NoMemory),
     }
 }
 
 /// The one truth that a slot keeps.
-pub(crate) fn kept(alloc: Global, slot: &Slot<'_>, tree: &Tree) -> Result<bool, NoMemory>
-    requires { (truth : Truth) × (truth_in tree.now slot.now ≡ Some truth) }
-    ensures { IfOk result (λ answer. truth_in tree.now slot.now ≡ Some answer) }
+pub(crate) fn kept(alloc: Global, slot: &Slot<'_>, source: &Source<'_>) -> Result<bool, NoMemory>
+    requires { (truth : Truth) × (truth_in source.now slot.now ≡ Some truth) }
+    ensures { IfOk result (λ answer. truth_in source.now slot.now ≡ Some answer) }
 {
     match slot {
         Slot::Truth(truth) => Ok(*truth),
-        slot => match listed_truth(alloc, slot, tree)? {
+        slot => match listed_truth(alloc, slot, source)? {
             Some(truth) => Ok(truth),
             None => unreachable!(),
         },
@@ -165,12 +165,12 @@ pub(crate) fn kept(alloc: Global, slot: &Slot<'_>, tree: &Tree) -> Result<bool, 
 pub(crate) fn listed_truth(
     alloc: Global,
     slot: &Slot<'_>,
-    tree: &Tree,
+    source: &Source<'_>,
 ) -> Result<Option<bool>, NoMemory>
     requires { is_unset slot.now ≡ false }
-    ensures { IfOk result (λ truth. truth ≡ truth_in tree.now slot.now) }
+    ensures { IfOk result (λ truth. truth ≡ truth_in source.now slot.now) }
 {
-    match listed_in(alloc, slot, tree) {
+    match listed_in(alloc, slot, source) {
         Ok(values) => Ok(truth_of(values.slice())),
         Err(NoMemory) => Err(NoMemory),
     }

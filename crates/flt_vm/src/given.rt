@@ -8,7 +8,7 @@ use crate::slots::Slot;
 use crate::step::is_unset;
 use flt_program::Instr;
 use pk_base::NoMemory;
-use pk_tree::Tree;
+use pk_source::Source;
 use std::alloc::Global;
 
 /// What an instruction takes beside what it owns.
@@ -49,15 +49,15 @@ pub(crate) fn is_given(
     instr: &Instr,
     slots: &[Slot<'_>],
     patterns: usize,
-    tree: &Tree,
+    source: &Source<'_>,
 ) -> Result<bool, NoMemory>
     ensures given { IfOk result (λ truth. IsTrue truth → looks ≡ true → (all : List (List ℕ))
-        → length all ≡ patterns → IsGiven tree.now all slots.now instr.now) }
+        → length all ≡ patterns → IsGiven source.now all slots.now instr.now) }
     ensures found { (all : List (List ℕ)) → length all ≡ patterns
-        → IsGiven tree.now all slots.now instr.now → IfOk result (λ truth. IsTrue truth) }
+        → IsGiven source.now all slots.now instr.now → IfOk result (λ truth. IsTrue truth) }
 {
     if looks {
-        is_found(alloc, taken_by(instr), slots, patterns, tree)
+        is_found(alloc, taken_by(instr), slots, patterns, source)
     } else {
         Ok(true)
     }
@@ -69,19 +69,19 @@ fn is_found(
     takes: Takes,
     slots: &[Slot<'_>],
     patterns: usize,
-    tree: &Tree,
+    source: &Source<'_>,
 ) -> Result<bool, NoMemory>
     ensures finds { IfOk result (λ truth. IsTrue truth → (all : List (List ℕ))
-        → length all ≡ patterns → Finds tree.now all slots.now takes) }
+        → length all ≡ patterns → Finds source.now all slots.now takes) }
     ensures found { (all : List (List ℕ)) → length all ≡ patterns
-        → Finds tree.now all slots.now takes → IfOk result (λ truth. IsTrue truth) }
+        → Finds source.now all slots.now takes → IfOk result (λ truth. IsTrue truth) }
 {
     match takes {
         Takes::Nothing => Ok(true),
         Takes::One(register) => Ok(is_set(slots, register)),
         Takes::Two(left, right) => Ok(is_set(slots, left) && is_set(slots, right)),
         Takes::Searched(register, pattern) => Ok(is_set(slots, register) && pattern < patterns),
-        Takes::Kept(register) => is_kept(alloc, slots, register, tree),
+        Takes::Kept(register) => is_kept(alloc, slots, register, source),
     }
 }
 
@@ -99,14 +99,14 @@ fn is_kept(
     alloc: Global,
     slots: &[Slot<'_>],
     register: usize,
-    tree: &Tree,
+    source: &Source<'_>,
 ) -> Result<bool, NoMemory>
-    ensures kept { IfOk result (λ truth. IsTrue truth → IsKept tree.now slots.now register) }
-    ensures found { IsKept tree.now slots.now register → IfOk result (λ truth. IsTrue truth) }
+    ensures kept { IfOk result (λ truth. IsTrue truth → IsKept source.now slots.now register) }
+    ensures found { IsKept source.now slots.now register → IfOk result (λ truth. IsTrue truth) }
 {
     if !is_set(slots, register) {
         return Ok(false);
     }
-    let kept = listed_truth(alloc, &slots[register], tree)?;
+    let kept = listed_truth(alloc, &slots[register], source)?;
     Ok(kept.is_some())
 }

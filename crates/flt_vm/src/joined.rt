@@ -9,7 +9,7 @@ use crate::slots::{Flag, Slot, put};
 use crate::step::read;
 use flt_program::Instr;
 use pk_base::NoMemory;
-use pk_tree::Tree;
+use pk_source::Source;
 use std::alloc::Global;
 
 /// Takes READ, CONST and TEST at once where they stand at a place before others, and the test compares what was read with
@@ -20,13 +20,13 @@ pub(crate) fn test_at<'p>(
     at: usize,
     slots: &mut [Slot<'p>],
     flag: &mut Flag<'p>,
-    tree: &Tree,
+    source: &Source<'_>,
 ) -> Result<u32, NoMemory>
     requires program { IsProgram (record { registers = length slots.old; items = code.now }) }
     requires inside { at < length code.now }
-    ensures leads { IfOk result (λ taken. (job : Job) → job.code ≡ code.now → job.tree ≡ tree.now
-        → LeadsTo job (state_in tree.now at flag.old slots.old)
-        (state_in tree.now (at + taken) flag.new slots.new) taken) }
+    ensures leads { IfOk result (λ taken. (job : Job) → job.code ≡ code.now → job.tree ≡ source.now
+        → LeadsTo job (state_in source.now at flag.old slots.old)
+        (state_in source.now (at + taken) flag.new slots.new) taken) }
     ensures inside { IfOk result (λ taken. at + taken < length code.now) }
     ensures count { length slots.new ≡ length slots.old }
 {
@@ -41,7 +41,7 @@ pub(crate) fn test_at<'p>(
         &code[at + 2],
         slots,
         flag,
-        tree,
+        source,
     )
 }
 
@@ -53,16 +53,16 @@ fn test_among<'p>(
     third: &'p Instr,
     slots: &mut [Slot<'p>],
     flag: &mut Flag<'p>,
-    tree: &Tree,
+    source: &Source<'_>,
 ) -> Result<u32, NoMemory>
     requires first { HasRegisters (length slots.old) first.now }
     requires second { HasRegisters (length slots.old) second.now }
     requires third { HasRegisters (length slots.old) third.now }
     ensures leads { IfOk result (λ taken. (job : Job) (at : ℕ)
         → slice_get job.code at ≡ Some first.now → slice_get job.code (at + 1) ≡ Some second.now
-        → slice_get job.code (at + 2) ≡ Some third.now → job.tree ≡ tree.now
-        → LeadsTo job (state_in tree.now at flag.old slots.old)
-        (state_in tree.now (at + taken) flag.new slots.new) taken) }
+        → slice_get job.code (at + 2) ≡ Some third.now → job.tree ≡ source.now
+        → LeadsTo job (state_in source.now at flag.old slots.old)
+        (state_in source.now (at + taken) flag.new slots.new) taken) }
     ensures few { IfOk result (λ taken. taken ≤ 3) }
     ensures count { length slots.new ≡ length slots.old }
 {
@@ -72,10 +72,10 @@ fn test_among<'p>(
         && *left == *register
         && *right == *other
     {
-        read(slots, flag, *register, *field, layers, tree);
+        read(slots, flag, *register, *field, layers, source);
         put(slots, *other, Slot::Single(constant));
         let left = &slots[*left];
-        let truth = compare_constant(alloc, *relation, *choice, left, constant, tree)?;
+        let truth = compare_constant(alloc, *relation, *choice, left, constant, source)?;
         *flag = Flag::Known(truth);
         return Ok(3);
     }

@@ -1,4 +1,4 @@
-// The machine over many trees.
+// The machine over many trees, or what answers for them.
 ghost use Rattle.std.specs.Prelude.{◌≡◌, ◌≤◌, ◌++◌, [], ◌∷◌, false, IfOk, IfSome, IsSome, OnOk, Bool as Truth, ℕ, Some, length};
 ghost use Rattle.flt_vm.specs.Machine.{Runs, start};
 ghost use Rattle.flt_vm.specs.Possible.{CanRun, IsAnswer};
@@ -14,6 +14,7 @@ use flt_program::{Program, patterns_in};
 use flt_typed::{Pattern, Search, Typed};
 use flt_typing::Filter;
 use pk_base::NoMemory;
+use pk_source::Source;
 use pk_tree::Tree;
 use std::alloc::Global;
 use std::marker::Model;
@@ -88,9 +89,29 @@ impl<'p> Machine<'p> {
         ensures some { IfOk result (λ v. 1 ≤ v.steps) }
         ensures same { self.new ≡ self.old }
     {
+        self.run_source(&Source::of_tree(tree))
+    }
+
+    /// The same of whatever answers for a tree's values.
+    pub fn run_source(&mut self, source: &Source<'_>) -> Result<Verdict, NoMemory>
+        requires { CanRun self.old source.now }
+        ensures verdict { IfOk result (λ v. (steps : ℕ) (flag : Truth)
+            → Runs (record {
+              code = self.old.code.items;
+              patterns = self.old.patterns;
+              tree = source.now;
+            }) steps (start self.old.code.registers) flag
+            → (v.steps ≡ steps) × (v.holds ≡ flag)) }
+        ensures exact { (filter : TypedValue) → self.old.patterns ≡ patterns_of filter
+            → FitsFilter self.old.code filter
+            → IfOk result (λ v. verdict_of self.old.code filter source.now ≡ Some v) }
+        ensures few { IfOk result (λ v. v.steps ≤ length self.old.code.items) }
+        ensures some { IfOk result (λ v. 1 ≤ v.steps) }
+        ensures same { self.new ≡ self.old }
+    {
         // What is true of each tree.
-        let _layers = tree.layers();
-        match self.answer(tree, false)? {
+        let _lender = source.lender();
+        match self.answer(source, false)? {
             Some(verdict) => Ok(verdict),
             None => unreachable!(),
         }
@@ -105,17 +126,17 @@ impl<'p> Machine<'p> {
         ensures some { CanRun self.old tree.now → IfOk result (λ answer. IsSome answer) }
         ensures same { self.new ≡ self.old }
     {
-        self.answer(tree, true)
+        self.answer(&Source::of_tree(tree), true)
     }
 
     /// What the program answers of a tree. Where it isn't known that it has a run, each instruction is looked at.
-    fn answer(&mut self, tree: &Tree, looks: bool) -> Result<Option<Verdict>, NoMemory>
-        requires { looks ≡ false → CanRun self.old tree.now }
-        ensures verdict { IfOk result (λ answer. IfSome answer (λ v. IsAnswer self.old tree.now v)) }
+    fn answer(&mut self, source: &Source<'_>, looks: bool) -> Result<Option<Verdict>, NoMemory>
+        requires { looks ≡ false → CanRun self.old source.now }
+        ensures verdict { IfOk result (λ answer. IfSome answer (λ v. IsAnswer self.old source.now v)) }
         ensures few { IfOk result (λ answer.
             IfSome answer (λ v. v.steps ≤ length self.old.code.items)) }
         ensures some { IfOk result (λ answer. IfSome answer (λ v. 1 ≤ v.steps)) }
-        ensures answers { CanRun self.old tree.now → IfOk result (λ answer. IsSome answer) }
+        ensures answers { CanRun self.old source.now → IfOk result (λ answer. IsSome answer) }
         ensures same { self.new ≡ self.old }
     {
         let slots = self.slots.as_mut_slice();
@@ -125,7 +146,7 @@ impl<'p> Machine<'p> {
             self.program.code(),
             slots,
             &mut self.searches,
-            tree,
+            source,
             looks,
         )
     }

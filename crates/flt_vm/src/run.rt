@@ -14,7 +14,7 @@ use crate::step::{is_return, step};
 use flt_program::Instr;
 use flt_typed::Search;
 use pk_base::NoMemory;
-use pk_tree::Tree;
+use pk_source::Source;
 use std::alloc::Global;
 
 /// What a run answers: the flag at its end, and how many steps it has.
@@ -31,20 +31,20 @@ pub(crate) fn run_code<'p>(
     code: &'p [Instr],
     slots: &mut [Slot<'p>],
     searches: &mut [Search<'p>],
-    tree: &Tree,
+    source: &Source<'_>,
     looks: bool,
 ) -> Result<Option<Verdict>, NoMemory>
     requires program { IsProgram (record { registers = length slots.old; items = code.now }) }
     requires run { looks ≡ false
-        → HasRun (record { code = code.now; patterns = searches.old; tree = tree.now })
-        (state_in tree.now 0 (Known false) slots.old) }
+        → HasRun (record { code = code.now; patterns = searches.old; tree = source.now })
+        (state_in source.now 0 (Known false) slots.old) }
     ensures verdict { IfOk result (λ answer. IfSome answer (λ v.
-        IsVerdict (record { code = code.now; patterns = searches.old; tree = tree.now })
-        (state_in tree.now 0 (Known false) slots.old) v)) }
+        IsVerdict (record { code = code.now; patterns = searches.old; tree = source.now })
+        (state_in source.now 0 (Known false) slots.old) v)) }
     ensures few { IfOk result (λ answer. IfSome answer (λ v. v.steps ≤ length code.now)) }
     ensures some { IfOk result (λ answer. IfSome answer (λ v. 1 ≤ v.steps)) }
-    ensures answers { HasRun (record { code = code.now; patterns = searches.old; tree = tree.now })
-        (state_in tree.now 0 (Known false) slots.old) → IfOk result (λ answer. IsSome answer) }
+    ensures answers { HasRun (record { code = code.now; patterns = searches.old; tree = source.now })
+        (state_in source.now 0 (Known false) slots.old) → IfOk result (λ answer. IsSome answer) }
     ensures count { length slots.new ≡ length slots.old }
     ensures searches { searches.new ≡ searches.old }
 {
@@ -52,10 +52,10 @@ pub(crate) fn run_code<'p>(
     let mut at = 0;
     let mut steps = 0;
     'steps: loop {
-        let taken = test_at(alloc, code, at, slots, &mut flag, tree)?;
+        let taken = test_at(alloc, code, at, slots, &mut flag, source)?;
         at += taken as usize;
         steps += taken;
-        let turn = turn_at(alloc, looks, code, at, slots, &mut flag, searches, tree)?;
+        let turn = turn_at(alloc, looks, code, at, slots, &mut flag, searches, source)?;
         match turn {
             Turn::Goes(place) => {
                 at = place;
@@ -92,30 +92,30 @@ fn turn_at<'p>(
     slots: &mut [Slot<'p>],
     flag: &mut Flag<'p>,
     searches: &mut [Search<'p>],
-    tree: &Tree,
+    source: &Source<'_>,
 ) -> Result<Turn, NoMemory>
     requires program { IsProgram (record { registers = length slots.old; items = code.now }) }
     requires inside { at < length code.now }
     requires there { looks ≡ false
-        → IsThere (step_of (record { code = code.now; patterns = searches.old; tree = tree.now })
-        (state_in tree.now at flag.old slots.old)) }
+        → IsThere (step_of (record { code = code.now; patterns = searches.old; tree = source.now })
+        (state_in source.now at flag.old slots.old)) }
     ensures turned { IfOk result (IsTurn
-        (step_of (record { code = code.now; patterns = searches.old; tree = tree.now })
-        (state_in tree.now at flag.old slots.old))
-        (λ place. state_in tree.now place flag.new slots.new)) }
+        (step_of (record { code = code.now; patterns = searches.old; tree = source.now })
+        (state_in source.now at flag.old slots.old))
+        (λ place. state_in source.now place flag.new slots.new)) }
     ensures ahead { IfOk result (IsAhead at (length code.now)) }
-    ensures made { IsThere (step_of (record { code = code.now; patterns = searches.old; tree = tree.now })
-        (state_in tree.now at flag.old slots.old)) → IfOk result IsMade }
+    ensures made { IsThere (step_of (record { code = code.now; patterns = searches.old; tree = source.now })
+        (state_in source.now at flag.old slots.old)) → IfOk result IsMade }
     ensures count { length slots.new ≡ length slots.old }
     ensures searches { searches.new ≡ searches.old }
 {
     let instr = &code[at];
     if is_return(instr) {
-        return Ok(Turn::Ends(known(flag, tree)));
+        return Ok(Turn::Ends(known(flag, source)));
     }
-    if !is_given(alloc, looks, instr, slots, searches.len(), tree)? {
+    if !is_given(alloc, looks, instr, slots, searches.len(), source)? {
         return Ok(Turn::Stuck);
     }
-    let place = step(alloc, instr, at, code.len(), slots, flag, searches, tree)?;
+    let place = step(alloc, instr, at, code.len(), slots, flag, searches, source)?;
     Ok(Turn::Goes(place))
 }

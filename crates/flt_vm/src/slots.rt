@@ -5,17 +5,17 @@ ghost use Rattle.flt_vm.specs.Slots.{flag_in, held_in, is_unset, listed_values};
 ghost use Rattle.pk_tree.specs.FieldValues.{values_of};
 ghost use Rattle.pk_tree.specs.Trees.{TreeShown};
 
-use flt_lists::{is_there, only};
+use flt_lists::{is_there_in, only};
 use flt_typed::Constant;
 use pk_base::{Layers, NoMemory, Value};
 use pk_fields::FieldId;
-use pk_tree::Tree;
+use pk_source::Source;
 use std::alloc::Global;
 
 /// What a register holds: values, or where they are.
 pub(crate) enum Slot<'p> {
     Unset,
-    /// The values of a field or protocol, asked where they stand in the tree.
+    /// The values of a field or protocol, asked where they stand.
     Field(FieldId, &'p Layers),
     Single(&'p Constant),
     Truth(bool),
@@ -40,12 +40,12 @@ pub(crate) enum Flag<'p> {
 }
 
 /// What the flag is.
-pub(crate) fn known(flag: &Flag<'_>, tree: &Tree) -> bool
-    ensures { result ≡ flag_in tree.now flag.now }
+pub(crate) fn known(flag: &Flag<'_>, source: &Source<'_>) -> bool
+    ensures { result ≡ flag_in source.now flag.now }
 {
     match flag {
         Flag::Known(truth) => *truth,
-        Flag::IsThere(field, layers) => is_there(*field, layers, tree),
+        Flag::IsThere(field, layers) => is_there_in(*field, layers, source),
     }
 }
 
@@ -80,15 +80,15 @@ impl<'s> Gathered<'s> {
 pub(crate) fn listed_in<'s>(
     alloc: Global,
     slot: &'s Slot<'_>,
-    tree: &Tree,
+    source: &Source<'_>,
 ) -> Result<Gathered<'s>, NoMemory>
     requires { is_unset slot.now ≡ false }
-    ensures { IfOk result (λ all. (held : Held) → held_in tree.now slot.now ≡ Some held
+    ensures { IfOk result (λ all. (held : Held) → held_in source.now slot.now ≡ Some held
         → listed_values all ≡ held.values) }
 {
     match slot {
         Slot::Unset => unreachable!(),
-        Slot::Field(field, layers) => of_field(*field, layers, tree),
+        Slot::Field(field, layers) => of_field(alloc, *field, layers, source),
         Slot::Single(constant) => of_one(alloc, constant.value.clone()?),
         Slot::Truth(truth) => of_one(alloc, Value::Bool(*truth)),
         Slot::Values(values) => Ok(Gathered::Lent(values.as_slice())),
@@ -96,10 +96,15 @@ pub(crate) fn listed_in<'s>(
 }
 
 /// The values of a field or protocol.
-fn of_field<'s>(field: FieldId, layers: &Layers, tree: &Tree) -> Result<Gathered<'s>, NoMemory>
-    ensures { IfOk result (λ all. listed_values all ≡ values_of tree.now field layers.now) }
+fn of_field<'s>(
+    alloc: Global,
+    field: FieldId,
+    layers: &Layers,
+    source: &Source<'_>,
+) -> Result<Gathered<'s>, NoMemory>
+    ensures { IfOk result (λ all. listed_values all ≡ values_of source.now field layers.now) }
 {
-    match tree.values(field, layers) {
+    match source.values(alloc, field, layers) {
         Ok(values) => Ok(Gathered::Own(values)),
         Err(NoMemory) => Err(NoMemory),
     }

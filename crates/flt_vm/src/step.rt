@@ -29,7 +29,7 @@ use flt_syntax::{Arithmetic, Choice, Function, RangePart};
 use flt_typed::{Extreme, Search, extreme_of};
 use pk_base::{Layers, NoMemory, Value};
 use pk_fields::FieldId;
-use pk_tree::Tree;
+use pk_source::Source;
 use std::alloc::Global;
 
 /// Whether an instruction is RETURN.
@@ -48,33 +48,33 @@ pub(crate) fn step<'p>(
     slots: &mut [Slot<'p>],
     flag: &mut Flag<'p>,
     searches: &mut [Search<'p>],
-    tree: &Tree,
+    source: &Source<'_>,
 ) -> Result<usize, NoMemory>
     requires fits { Fits (length slots.old) size at instr.now }
     requires small { size < 2 ^ 32 }
     requires on { is_return instr.now ≡ false }
-    requires given { IsGiven tree.now searches.old slots.old instr.now }
-    ensures moves { IfOk result (λ place. (job : Job) → job.tree ≡ tree.now
+    requires given { IsGiven source.now searches.old slots.old instr.now }
+    ensures moves { IfOk result (λ place. (job : Job) → job.tree ≡ source.now
         → job.patterns ≡ searches.old
-        → Does (act job (state_in tree.now at flag.old slots.old) (Some instr.now))
-        (Goes (state_in tree.now place flag.new slots.new))) }
+        → Does (act job (state_in source.now at flag.old slots.old) (Some instr.now))
+        (Goes (state_in source.now place flag.new slots.new))) }
     ensures ahead { IfOk result (λ place. (at < place) × (place < size)) }
     ensures count { length slots.new ≡ length slots.old }
     ensures searches { searches.new ≡ searches.old }
 {
     match instr {
         Instr::JumpFalse(passed) => {
-            let truth = known(flag, tree);
+            let truth = known(flag, source);
             *flag = Flag::Known(truth);
             Ok(place_behind(at, !truth, *passed))
         }
         Instr::JumpTrue(passed) => {
-            let truth = known(flag, tree);
+            let truth = known(flag, source);
             *flag = Flag::Known(truth);
             Ok(place_behind(at, truth, *passed))
         }
         instr => {
-            act(alloc, instr, slots, flag, searches, tree)?;
+            act(alloc, instr, slots, flag, searches, source)?;
             Ok(at + 1)
         }
     }
@@ -96,22 +96,22 @@ fn act<'p>(
     slots: &mut [Slot<'p>],
     flag: &mut Flag<'p>,
     searches: &mut [Search<'p>],
-    tree: &Tree,
+    source: &Source<'_>,
 ) -> Result<(), NoMemory>
     requires fits { HasRegisters (length slots.old) instr.now }
     requires on { acts instr.now ≡ true }
-    requires given { IsGiven tree.now searches.old slots.old instr.now }
-    ensures does { OnOk result ((job : Job) (at : ℕ) → job.tree ≡ tree.now
+    requires given { IsGiven source.now searches.old slots.old instr.now }
+    ensures does { OnOk result ((job : Job) (at : ℕ) → job.tree ≡ source.now
         → job.patterns ≡ searches.old
-        → Does (act job (state_in tree.now at flag.old slots.old) (Some instr.now))
-        (Goes (state_in tree.now (at + 1) flag.new slots.new))) }
+        → Does (act job (state_in source.now at flag.old slots.old) (Some instr.now))
+        (Goes (state_in source.now (at + 1) flag.new slots.new))) }
     ensures on { acts instr.now ≡ true }
     ensures count { length slots.new ≡ length slots.old }
     ensures searches { searches.new ≡ searches.old }
 {
     match instr {
         Instr::Read(register, field, layers) => {
-            read(slots, flag, *register, *field, layers, tree);
+            read(slots, flag, *register, *field, layers, source);
             Ok(())
         }
         Instr::Const(register, constant) => {
@@ -119,14 +119,14 @@ fn act<'p>(
             Ok(())
         }
         Instr::Save(register) => {
-            put(slots, *register, Slot::Truth(known(flag, tree)));
+            put(slots, *register, Slot::Truth(known(flag, source)));
             Ok(())
         }
         Instr::Not => {
-            *flag = Flag::Known(!known(flag, tree));
+            *flag = Flag::Known(!known(flag, source));
             Ok(())
         }
-        instr => make_values(alloc, instr, slots, flag, searches, tree),
+        instr => make_values(alloc, instr, slots, flag, searches, source),
     }
 }
 
@@ -138,44 +138,44 @@ fn make_values<'p>(
     slots: &mut [Slot<'p>],
     flag: &mut Flag<'p>,
     searches: &mut [Search<'p>],
-    tree: &Tree,
+    source: &Source<'_>,
 ) -> Result<(), NoMemory>
     requires fits { HasRegisters (length slots.old) instr.now }
     requires on { works instr.now ≡ true }
-    requires given { IsGiven tree.now searches.old slots.old instr.now }
-    ensures does { OnOk result ((job : Job) (at : ℕ) → job.tree ≡ tree.now
+    requires given { IsGiven source.now searches.old slots.old instr.now }
+    ensures does { OnOk result ((job : Job) (at : ℕ) → job.tree ≡ source.now
         → job.patterns ≡ searches.old
-        → Does (act job (state_in tree.now at flag.old slots.old) (Some instr.now))
-        (Goes (state_in tree.now (at + 1) flag.new slots.new))) }
+        → Does (act job (state_in source.now at flag.old slots.old) (Some instr.now))
+        (Goes (state_in source.now (at + 1) flag.new slots.new))) }
     ensures count { length slots.new ≡ length slots.old }
     ensures searches { searches.new ≡ searches.old }
 {
     match instr {
-        Instr::Slice(register, source, ranges) => {
-            let values = sliced(alloc, &slots[*source], ranges.slice(), tree);
+        Instr::Slice(register, from, ranges) => {
+            let values = sliced(alloc, &slots[*from], ranges.slice(), source);
             fill(slots, flag, *register, values)
         }
-        Instr::Mask(register, source, bits) => {
-            let values = masked(alloc, &slots[*source], *bits, tree);
+        Instr::Mask(register, from, bits) => {
+            let values = masked(alloc, &slots[*from], *bits, source);
             set(slots, *register, values)
         }
-        Instr::Call(register, function, source) => {
-            let values = called(alloc, &slots[*source], *function, tree);
+        Instr::Call(register, function, from) => {
+            let values = called(alloc, &slots[*from], *function, source);
             set(slots, *register, values)
         }
         Instr::Count(register, field, layers) => {
-            let values = counted(alloc, *field, layers, tree);
+            let values = counted(alloc, *field, layers, source);
             set(slots, *register, values)
         }
         Instr::Compute(register, operation, left, right) => {
-            let values = computed(alloc, *operation, &slots[*left], &slots[*right], tree);
+            let values = computed(alloc, *operation, &slots[*left], &slots[*right], source);
             set(slots, *register, values)
         }
         Instr::Choose(register, extreme, left, right) => {
-            let values = chosen(alloc, *extreme, &slots[*left], &slots[*right], tree);
+            let values = chosen(alloc, *extreme, &slots[*left], &slots[*right], source);
             set(slots, *register, values)
         }
-        instr => test_registers(alloc, instr, slots, flag, searches, tree),
+        instr => test_registers(alloc, instr, slots, flag, searches, source),
     }
 }
 
@@ -187,15 +187,15 @@ fn test_registers<'p>(
     slots: &mut [Slot<'p>],
     flag: &mut Flag<'p>,
     searches: &mut [Search<'p>],
-    tree: &Tree,
+    source: &Source<'_>,
 ) -> Result<(), NoMemory>
     requires fits { HasRegisters (length slots.old) instr.now }
     requires on { asks_registers instr.now ≡ true }
-    requires given { IsGiven tree.now searches.old slots.old instr.now }
-    ensures does { OnOk result ((job : Job) (at : ℕ) → job.tree ≡ tree.now
+    requires given { IsGiven source.now searches.old slots.old instr.now }
+    ensures does { OnOk result ((job : Job) (at : ℕ) → job.tree ≡ source.now
         → job.patterns ≡ searches.old
-        → Does (act job (state_in tree.now at flag.old slots.old) (Some instr.now))
-        (Goes (state_in tree.now (at + 1) flag.new slots.new))) }
+        → Does (act job (state_in source.now at flag.old slots.old) (Some instr.now))
+        (Goes (state_in source.now (at + 1) flag.new slots.new))) }
     ensures count { length slots.new ≡ length slots.old }
     ensures searches { searches.new ≡ searches.old }
 {
@@ -207,7 +207,7 @@ fn test_registers<'p>(
                 *choice,
                 &slots[*left],
                 &slots[*right],
-                tree,
+                source,
             );
             tell(flag, truth)
         }
@@ -215,22 +215,25 @@ fn test_registers<'p>(
             let question = Question::IsAmong(members.slice());
             tell(
                 flag,
-                asks(alloc, *choice, &question, &slots[*register], tree),
+                asks(alloc, *choice, &question, &slots[*register], source),
             )
         }
         Instr::Match(choice, register, pattern) => {
             let search = &mut searches[*pattern];
-            tell(flag, finds(alloc, *choice, search, &slots[*register], tree))
+            tell(
+                flag,
+                finds(alloc, *choice, search, &slots[*register], source),
+            )
         }
         Instr::NonZero(register) => {
             let question = Question::IsNonzero;
             tell(
                 flag,
-                asks(alloc, Choice::Any, &question, &slots[*register], tree),
+                asks(alloc, Choice::Any, &question, &slots[*register], source),
             )
         }
         Instr::Differ(register) => {
-            let truth = differs_from(alloc, &slots[*register], flag, tree);
+            let truth = differs_from(alloc, &slots[*register], flag, source);
             tell(flag, truth)
         }
         _ => unreachable!(),
@@ -284,14 +287,14 @@ fn differs_from(
     alloc: Global,
     slot: &Slot<'_>,
     flag: &Flag<'_>,
-    tree: &Tree,
+    source: &Source<'_>,
 ) -> Result<bool, NoMemory>
-    requires { (kept : Truth) × (truth_in tree.now slot.now ≡ Some kept) }
-    ensures { IfOk result (λ truth. (kept : Truth) → truth_in tree.now slot.now ≡ Some kept
-        → truth ≡ differ kept (flag_in tree.now flag.now)) }
+    requires { (kept : Truth) × (truth_in source.now slot.now ≡ Some kept) }
+    ensures { IfOk result (λ truth. (kept : Truth) → truth_in source.now slot.now ≡ Some kept
+        → truth ≡ differ kept (flag_in source.now flag.now)) }
 {
-    let truth = kept(alloc, slot, tree)?;
-    Ok(differ(truth, known(flag, tree)))
+    let truth = kept(alloc, slot, source)?;
+    Ok(differ(truth, known(flag, source)))
 }
 
 /// Whether two truths differ.
@@ -308,12 +311,12 @@ pub(crate) fn read<'p>(
     register: usize,
     field: FieldId,
     layers: &'p Layers,
-    tree: &Tree,
+    source: &Source<'_>,
 )
     requires { register < length slots.old }
-    ensures read { (at : ℕ) → Goes (state_in tree.now (at + 1) flag.new slots.new)
-        ≡ reads (state_in tree.now at flag.old slots.old) register
-        (values_of tree.now field layers.now) }
+    ensures read { (at : ℕ) → Goes (state_in source.now (at + 1) flag.new slots.new)
+        ≡ reads (state_in source.now at flag.old slots.old) register
+        (values_of source.now field layers.now) }
     ensures set { IsSet slots.new register }
     ensures count { length slots.new ≡ length slots.old }
 {
@@ -348,25 +351,30 @@ fn sliced(
     alloc: Global,
     slot: &Slot<'_>,
     ranges: &[RangePart],
-    tree: &Tree,
+    source: &Source<'_>,
 ) -> Result<Vec<Value>, NoMemory>
     requires { is_unset slot.now ≡ false }
-    ensures { IfOk result (λ values. (held : Held) → held_in tree.now slot.now ≡ Some held
+    ensures { IfOk result (λ values. (held : Held) → held_in source.now slot.now ≡ Some held
         → values.items ≡ filter_map (λ value. sliced_by value ranges.now) held.values) }
 {
-    match listed_in(alloc, slot, tree) {
+    match listed_in(alloc, slot, source) {
         Ok(values) => slices(alloc, values.slice(), ranges),
         Err(NoMemory) => Err(NoMemory),
     }
 }
 
 /// The masked values of a slot.
-fn masked(alloc: Global, slot: &Slot<'_>, mask: u64, tree: &Tree) -> Result<Vec<Value>, NoMemory>
+fn masked(
+    alloc: Global,
+    slot: &Slot<'_>,
+    mask: u64,
+    source: &Source<'_>,
+) -> Result<Vec<Value>, NoMemory>
     requires { is_unset slot.now ≡ false }
-    ensures { IfOk result (λ values. (held : Held) → held_in tree.now slot.now ≡ Some held
+    ensures { IfOk result (λ values. (held : Held) → held_in source.now slot.now ≡ Some held
         → values.items ≡ filter_map (λ value. masked_by mask value) held.values) }
 {
-    match listed_in(alloc, slot, tree) {
+    match listed_in(alloc, slot, source) {
         Ok(values) => masked_values(alloc, values.slice(), mask),
         Err(NoMemory) => Err(NoMemory),
     }
@@ -377,13 +385,13 @@ fn called(
     alloc: Global,
     slot: &Slot<'_>,
     function: Function,
-    tree: &Tree,
+    source: &Source<'_>,
 ) -> Result<Vec<Value>, NoMemory>
     requires { is_unset slot.now ≡ false }
-    ensures { IfOk result (λ values. (held : Held) → held_in tree.now slot.now ≡ Some held
+    ensures { IfOk result (λ values. (held : Held) → held_in source.now slot.now ≡ Some held
         → values.items ≡ values_called function held.values) }
 {
-    match listed_in(alloc, slot, tree) {
+    match listed_in(alloc, slot, source) {
         Ok(values) => called_values(alloc, function, values.slice()),
         Err(NoMemory) => Err(NoMemory),
     }
@@ -394,21 +402,26 @@ fn counted(
     alloc: Global,
     field: FieldId,
     layers: &Layers,
-    tree: &Tree,
+    source: &Source<'_>,
 ) -> Result<Vec<Value>, NoMemory>
     ensures { IfOk result (λ values.
-        values.items ≡ Uint (length (values_of tree.now field layers.now)) ∷ []) }
+        values.items ≡ Uint (length (values_of source.now field layers.now)) ∷ []) }
 {
-    match count_of(field, layers, tree) {
+    match count_of(alloc, field, layers, source) {
         Ok(count) => only(alloc, Value::Uint(count)),
         Err(NoMemory) => Err(NoMemory),
     }
 }
 
-fn count_of(field: FieldId, layers: &Layers, tree: &Tree) -> Result<u64, NoMemory>
-    ensures { IfOk result (λ count. count ≡ length (values_of tree.now field layers.now)) }
+fn count_of(
+    alloc: Global,
+    field: FieldId,
+    layers: &Layers,
+    source: &Source<'_>,
+) -> Result<u64, NoMemory>
+    ensures { IfOk result (λ count. count ≡ length (values_of source.now field layers.now)) }
 {
-    match tree.values(field, layers) {
+    match source.values(alloc, field, layers) {
         Ok(values) => Ok(values.len() as u64),
         Err(NoMemory) => Err(NoMemory),
     }
@@ -420,16 +433,16 @@ fn computed(
     operation: Arithmetic,
     left: &Slot<'_>,
     right: &Slot<'_>,
-    tree: &Tree,
+    source: &Source<'_>,
 ) -> Result<Vec<Value>, NoMemory>
     requires left { is_unset left.now ≡ false }
     requires right { is_unset right.now ≡ false }
-    ensures { IfOk result (λ values. (a b : Held) → held_in tree.now left.now ≡ Some a
-        → held_in tree.now right.now ≡ Some b
+    ensures { IfOk result (λ values. (a b : Held) → held_in source.now left.now ≡ Some a
+        → held_in source.now right.now ≡ Some b
         → values.items ≡ values_calculated operation a.values b.values) }
 {
-    match listed_in(alloc, left, tree) {
-        Ok(left) => computed_with(alloc, operation, left.slice(), right, tree),
+    match listed_in(alloc, left, source) {
+        Ok(left) => computed_with(alloc, operation, left.slice(), right, source),
         Err(NoMemory) => Err(NoMemory),
     }
 }
@@ -440,13 +453,13 @@ fn computed_with(
     operation: Arithmetic,
     left: &[Value],
     right: &Slot<'_>,
-    tree: &Tree,
+    source: &Source<'_>,
 ) -> Result<Vec<Value>, NoMemory>
     requires { is_unset right.now ≡ false }
-    ensures { IfOk result (λ values. (held : Held) → held_in tree.now right.now ≡ Some held
+    ensures { IfOk result (λ values. (held : Held) → held_in source.now right.now ≡ Some held
         → values.items ≡ values_calculated operation left.now held.values) }
 {
-    match listed_in(alloc, right, tree) {
+    match listed_in(alloc, right, source) {
         Ok(right) => calculated_values(alloc, operation, left, right.slice()),
         Err(NoMemory) => Err(NoMemory),
     }
@@ -458,15 +471,15 @@ fn chosen(
     extreme: Extreme,
     left: &Slot<'_>,
     right: &Slot<'_>,
-    tree: &Tree,
+    source: &Source<'_>,
 ) -> Result<Vec<Value>, NoMemory>
     requires left { is_unset left.now ≡ false }
     requires right { is_unset right.now ≡ false }
-    ensures { IfOk result (λ values. (a b : Held) → held_in tree.now left.now ≡ Some a
-        → held_in tree.now right.now ≡ Some b
+    ensures { IfOk result (λ values. (a b : Held) → held_in source.now left.now ≡ Some a
+        → held_in source.now right.now ≡ Some b
         → values.items ≡ option_to_list (extreme_among extreme (a.values ++ b.values))) }
 {
-    let both = extremes(alloc, extreme, left, right, tree)?;
+    let both = extremes(alloc, extreme, left, right, source)?;
     extreme_in(alloc, extreme, &both)
 }
 
@@ -476,18 +489,18 @@ fn extremes(
     extreme: Extreme,
     left: &Slot<'_>,
     right: &Slot<'_>,
-    tree: &Tree,
+    source: &Source<'_>,
 ) -> Result<Vec<Value>, NoMemory>
     requires left { is_unset left.now ≡ false }
     requires right { is_unset right.now ≡ false }
-    ensures { IfOk result (λ values. (a b : Held) → held_in tree.now left.now ≡ Some a
-        → held_in tree.now right.now ≡ Some b
+    ensures { IfOk result (λ values. (a b : Held) → held_in source.now left.now ≡ Some a
+        → held_in source.now right.now ≡ Some b
         → values.items ≡ option_to_list (extreme_among extreme a.values)
         ++ option_to_list (extreme_among extreme b.values)) }
 {
     let mut both = Vec::new(alloc);
-    push_extreme(alloc, &mut both, extreme, left, tree)?;
-    push_extreme(alloc, &mut both, extreme, right, tree)?;
+    push_extreme(alloc, &mut both, extreme, left, source)?;
+    push_extreme(alloc, &mut both, extreme, right, source)?;
     Ok(both)
 }
 
@@ -497,13 +510,13 @@ fn push_extreme(
     both: &mut Vec<Value>,
     extreme: Extreme,
     slot: &Slot<'_>,
-    tree: &Tree,
+    source: &Source<'_>,
 ) -> Result<(), NoMemory>
     requires { is_unset slot.now ≡ false }
-    ensures { OnOk result ((held : Held) → held_in tree.now slot.now ≡ Some held
+    ensures { OnOk result ((held : Held) → held_in source.now slot.now ≡ Some held
         → both.new.items ≡ both.old.items ++ option_to_list (extreme_among extreme held.values)) }
 {
-    match listed_in(alloc, slot, tree) {
+    match listed_in(alloc, slot, source) {
         Ok(values) => push_some(both, extreme_of(extreme, values.slice())),
         Err(NoMemory) => Err(NoMemory),
     }

@@ -6,7 +6,7 @@ use Rattle.flt_vm.proofs.JoinLemmas.{stays}
 use Rattle.flt_vm.proofs.joined.test_at.Goals as goal
 
 pub returns-then-code-at-le3-clause-leads : goal.returns-then-code-at-le3-clause-leads
-returns-then-code-at-le3-clause-leads c = λ job code tree. stays job c.args.tree.now c.args.at c.args.flag.now c.args.slots.now
+returns-then-code-at-le3-clause-leads c = λ job code tree. stays job c.args.source.now c.args.at c.args.flag.now c.args.slots.now
 
 pub test_among-requires-clause-first : goal.test_among-requires-clause-first
 test_among-requires-clause-first c = has_registers (length c.args.slots.now) (length c.args.code.now) c.args.at c.index-code-at.result

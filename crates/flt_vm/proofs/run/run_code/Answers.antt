@@ -14,7 +14,7 @@ turn_at-requires-clause-program c =
 pub turn_at-requires-clause-there : goal.turn_at-requires-clause-there
 turn_at-requires-clause-there c = λ known.
     let code = c.args.code.now in
-    let tree = c.args.tree.now in
+    let tree = c.args.source.now in
     let job : Job = record { code = code; patterns = c.args.searches.now; tree = tree } in
     let first = state_in tree 0 (Known false) c.args.slots.now in
     let now = state_in tree (c.steps.at + c.in_ok-taken.taken) c.test_at.new.flag c.test_at.new.slots in
@@ -25,7 +25,7 @@ turn_at-requires-clause-there c = λ known.
 pub steps-preserved : goal.steps-preserved
 steps-preserved c =
     let code = c.args.code.now in
-    let tree = c.args.tree.now in
+    let tree = c.args.source.now in
     let job : Job = record { code = code; patterns = c.args.searches.now; tree = tree } in
     let steps = c.steps.steps + c.in_ok-taken.taken in
     let first = state_in tree 0 (Known false) c.args.slots.now in
@@ -47,7 +47,7 @@ steps-preserved c =
 pub returns-in-Ends : goal.returns-in-Ends
 returns-in-Ends c =
     let code = c.args.code.now in
-    let tree = c.args.tree.now in
+    let tree = c.args.source.now in
     let job : Job = record { code = code; patterns = c.args.searches.now; tree = tree } in
     let steps = c.steps.steps + c.in_ok-taken.taken in
     let first = state_in tree 0 (Known false) c.args.slots.now in
@@ -68,7 +68,7 @@ returns-in-Ends c =
 pub returns-in-Stuck-clause-answers : goal.returns-in-Stuck-clause-answers
 returns-in-Stuck-clause-answers c = λ run.
     let code = c.args.code.now in
-    let tree = c.args.tree.now in
+    let tree = c.args.source.now in
     let job : Job = record { code = code; patterns = c.args.searches.now; tree = tree } in
     let first = state_in tree 0 (Known false) c.args.slots.now in
     let now = state_in tree (c.steps.at + c.in_ok-taken.taken) c.test_at.new.flag c.test_at.new.slots in

@@ -9,7 +9,7 @@ invariant-steps l = record {
   few : l.steps ≤ l.at;
   count : length l.slots ≡ length l.fn.slots;
   searches : l.searches ≡ l.fn.searches;
-  way : LeadsTo (record { code = l.fn.code; patterns = l.fn.searches; tree = l.fn.tree }) (state_in l.fn.tree 0 (Known false) l.fn.slots) (state_in l.fn.tree l.at l.flag l.slots) l.steps;
+  way : LeadsTo (record { code = l.fn.code; patterns = l.fn.searches; tree = l.fn.source }) (state_in l.fn.source 0 (Known false) l.fn.slots) (state_in l.fn.source l.at l.flag l.slots) l.steps;
 }
 
 abbrev pub decreases-steps : goal.decreases-steps

@@ -16,7 +16,7 @@ step-requires-clause-fits c =
 pub step-requires-clause-given : goal.step-requires-clause-given
 step-requires-clause-given c =
     let code = c.args.code.now in
-    let tree = c.args.tree.now in
+    let tree = c.args.source.now in
     let job : Job = record { code = code; patterns = c.args.searches.now; tree = tree } in
     let there = slice_get_read code (length code) c.args.at c.index-code-at.result refl c.requires.inside c.index-code-at.is in
     let now = state_in tree c.args.at c.args.flag.now c.args.slots.now in
@@ -26,7 +26,7 @@ step-requires-clause-given c =
 pub returns-then-is_return : goal.returns-then-is_return
 returns-then-is_return c =
     let code = c.args.code.now in
-    let tree = c.args.tree.now in
+    let tree = c.args.source.now in
     let job : Job = record { code = code; patterns = c.args.searches.now; tree = tree } in
     let there = slice_get_read code (length code) c.args.at c.index-code-at.result refl c.requires.inside c.index-code-at.is in
     let now = state_in tree c.args.at c.args.flag.now c.args.slots.now in
@@ -42,7 +42,7 @@ returns-then-is_return c =
 pub returns : goal.returns
 returns c =
     let code = c.args.code.now in
-    let tree = c.args.tree.now in
+    let tree = c.args.source.now in
     let job : Job = record { code = code; patterns = c.args.searches.now; tree = tree } in
     let there = slice_get_read code (length code) c.args.at c.index-code-at.result refl c.requires.inside c.index-code-at.is in
     let now = state_in tree c.args.at c.args.flag.now c.args.slots.now in
@@ -58,7 +58,7 @@ returns c =
 pub returns-then-not-branch-clause-made : goal.returns-then-not-branch-clause-made
 returns-then-not-branch-clause-made c = λ there_is.
     let code = c.args.code.now in
-    let tree = c.args.tree.now in
+    let tree = c.args.source.now in
     let job : Job = record { code = code; patterns = c.args.searches.now; tree = tree } in
     let there = slice_get_read code (length code) c.args.at c.index-code-at.result refl c.requires.inside c.index-code-at.is in
     let now = state_in tree c.args.at c.args.flag.now c.args.slots.now in

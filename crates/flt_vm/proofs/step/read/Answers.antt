@@ -7,7 +7,7 @@ use Rattle.flt_vm.proofs.step.read.Goals as goal
 
 pub returns-clause-read : goal.returns-clause-read
 returns-clause-read c =
-    let tree = c.args.tree.now in
+    let tree = c.args.source.now in
     let all = c.args.slots.now in
     let vs = values_of tree c.args.field c.args.layers.now in
     elim c.if-is_unset.branch [

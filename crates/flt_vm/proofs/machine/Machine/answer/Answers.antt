@@ -12,12 +12,12 @@ run_code-requires-clause-run c = λ known.
     let size = ap length c.as_mut_slice-slots.ensures.value ∙ c.self.invariant ∙ ap (λ (m : Ready). m.code.registers) c.self.view_is in
     let by_code = c.code.ensures.code ∙ ap (λ (m : Ready). m.code.items) c.self.view_is in
     let by_patterns = c.deref_mut.ensures.value ∙ ap (λ (m : Ready). m.patterns) c.self.view_is in
-    runs_from_start ready.code.items c.code.result.now ready.patterns c.deref_mut.result.now c.args.tree.now c.unset.new.slots ready.code.registers by_code by_patterns
-    (c.unset.ensures.unset c.args.tree.now ∙ ap (λ n. replicate n None) size) (c.requires known)
+    runs_from_start ready.code.items c.code.result.now ready.patterns c.deref_mut.result.now c.args.source.now c.unset.new.slots ready.code.registers by_code by_patterns
+    (c.unset.ensures.unset c.args.source.now ∙ ap (λ n. replicate n None) size) (c.requires known)
 
 pub returns-clause-verdict : goal.returns-clause-verdict
 returns-clause-verdict c =
-    let tree = c.args.tree.now in
+    let tree = c.args.source.now in
     let ready = c.args.self.now in
     let size = ap length c.as_mut_slice-slots.ensures.value ∙ c.self.invariant ∙ ap (λ (m : Ready). m.code.registers) c.self.view_is in
     let by_code = c.code.ensures.code ∙ ap (λ (m : Ready). m.code.items) c.self.view_is in
@@ -38,5 +38,5 @@ returns-clause-answers c = λ run.
     let by_code = c.code.ensures.code ∙ ap (λ (m : Ready). m.code.items) c.self.view_is in
     let by_patterns = c.deref_mut.ensures.value ∙ ap (λ (m : Ready). m.patterns) c.self.view_is in
     c.run_code.ensures.answers
-    (runs_from_start ready.code.items c.code.result.now ready.patterns c.deref_mut.result.now c.args.tree.now c.unset.new.slots ready.code.registers by_code by_patterns
-    (c.unset.ensures.unset c.args.tree.now ∙ ap (λ n. replicate n None) size) run)
+    (runs_from_start ready.code.items c.code.result.now ready.patterns c.deref_mut.result.now c.args.source.now c.unset.new.slots ready.code.registers by_code by_patterns
+    (c.unset.ensures.unset c.args.source.now ∙ ap (λ n. replicate n None) size) run)
