@@ -9,8 +9,8 @@ use Rattle.app_layers.proofs.KeptHeads.{tree_as, kept_if}
 use Rattle.pk_base.specs.declared.heads.After.{After}
 use Rattle.pk_base.specs.declared.heads.After.TheVariants as afters
 use Rattle.pk_fields.specs.declared.rules.App.{App}
-use Rattle.pk_fields.specs.declared.rules.App.TheVariants.{Http, Dns, Dhcp, Ntp, Mdns, Plain}
 use Rattle.app_layers.specs.Applications.{data_behind, message_over}
+use Rattle.app_layers.specs.Rows.{in_datagrams}
 
 -- bytes that no protocol reads
 pub data_kept : (wanted : List ℕ) (t u : TreeShown) (span : Span) → IsKeptTree wanted t u → IsKeptTree wanted (data_over t span) (data_over u span)
@@ -26,15 +26,8 @@ behind_kept wanted (afters.Segment head span) t u k = k
 behind_kept wanted afters.End t u k = k
 
 pub message_kept : (wanted : List ℕ) (app : Option App) (cut : Bool) (span : Span) (t u : TreeShown) → IsKeptTree wanted t u → IsKeptTree wanted (message_over app t cut span) (message_over app u cut span)
-message_kept wanted (Some Dns) cut span t u k =
-    tree_as wanted (λ v. message_over (Some Dns) v cut span) t u k (λ one. layer_kept wanted t (kept_tree wanted t) _ span _ PlainMode cut one)
-message_kept wanted (Some Dhcp) cut span t u k =
-    tree_as wanted (λ v. message_over (Some Dhcp) v cut span) t u k (λ one. layer_kept wanted t (kept_tree wanted t) _ span _ PlainMode cut one)
-message_kept wanted (Some Ntp) cut span t u k =
-    tree_as wanted (λ v. message_over (Some Ntp) v cut span) t u k
-    (λ one. behind_kept wanted _ _ _ (layer_kept wanted t (kept_tree wanted t) _ span _ PlainMode cut one))
-message_kept wanted (Some Mdns) cut span t u k =
-    tree_as wanted (λ v. message_over (Some Mdns) v cut span) t u k (λ one. layer_kept wanted t (kept_tree wanted t) _ span _ PlainMode cut one)
-message_kept wanted (Some Http) cut span t u k = data_kept wanted t u span k
-message_kept wanted (Some Plain) cut span t u k = data_kept wanted t u span k
+message_kept wanted (Some app) cut span t u k =
+    tree_as wanted (λ v. message_over (Some app) v cut span) t u k
+    (λ one. kept_if wanted (in_datagrams app) _ _ _ _
+    (behind_kept wanted _ _ _ (layer_kept wanted t (kept_tree wanted t) _ span _ PlainMode cut one)) (data_kept wanted t (kept_tree wanted t) span one))
 message_kept wanted None cut span t u k = data_kept wanted t u span k

@@ -9,6 +9,7 @@ pub mod KeptPayloads
 pub mod MessageBuffers
 mod MessageLemmas
 pub mod MessagesAside
+pub mod RowLemmas
 pub mod StreamApps
 pub mod ToldHeads
 pub mod WantedMessages

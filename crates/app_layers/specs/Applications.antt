@@ -2,18 +2,14 @@
 use Rattle.std.specs.Prelude.{◌==◌, Bool, false, if◌then◌else◌, Option, Some, None}
 use Rattle.pk_base.specs.declared.span.Span.{Span}
 use Rattle.pk_tree.specs.Buffers.{bytes_of}
-use Rattle.pk_fields.specs.Ids.{DNS, DHCP, NTP, MDNS}
 use Rattle.pk_base.specs.declared.heads.After.{After}
 use Rattle.pk_base.specs.declared.heads.After.TheVariants as afters
 use Rattle.pk_base.specs.declared.heads.Mode.TheVariants.{Plain as PlainMode}
 use Rattle.pk_tree.specs.Layouts.{layer_read}
 use Rattle.pk_tree.specs.Trees.{TreeShown}
-use Rattle.dis_hosts.specs.Dhcp.{dhcp_layout}
-use Rattle.dis_hosts.specs.Ntp.{ntp_layout, ntp_after}
-use Rattle.dis_dns.specs.Dns.{dns_layout, mdns_layout}
 use Rattle.pk_fields.specs.declared.rules.App.{App}
-use Rattle.pk_fields.specs.declared.rules.App.TheVariants.{Http, Dns, Dhcp, Ntp, Mdns, Plain}
 use Rattle.app_layers.specs.DataLayer.{data_over}
+use Rattle.app_layers.specs.Rows.{in_datagrams, layout_of, proto_of, rest_of}
 
 -- the tree with what follows a layer, as data
 abbrev pub data_behind : TreeShown → After → TreeShown
@@ -26,13 +22,10 @@ data_behind t afters.End = t
 
 -- the tree with a datagram's payload, read by its application, which is a single message
 abbrev pub message_over : Option App → TreeShown → Bool → Span → TreeShown
-message_over (Some Dns) t cut span = layer_read t DNS span (dns_layout false (bytes_of t.buffers span)) PlainMode cut
-message_over (Some Dhcp) t cut span = layer_read t DHCP span (dhcp_layout (bytes_of t.buffers span)) PlainMode cut
-message_over (Some Ntp) t cut span =
-    data_behind (layer_read t NTP span (ntp_layout (bytes_of t.buffers span)) PlainMode cut) (ntp_after span (bytes_of t.buffers span))
-message_over (Some Mdns) t cut span = layer_read t MDNS span (mdns_layout (bytes_of t.buffers span)) PlainMode cut
-message_over (Some Http) t cut span = data_over t span
-message_over (Some Plain) t cut span = data_over t span
+message_over (Some app) t cut span =
+    if in_datagrams app
+    then data_behind (layer_read t (proto_of app) span (layout_of app false (bytes_of t.buffers span)) PlainMode cut) (rest_of app span (bytes_of t.buffers span))
+    else data_over t span
 message_over None t cut span = data_over t span
 
 -- a payload of no bytes is no message

@@ -6,4 +6,5 @@ pub mod FrameLayer
 pub mod Heads
 pub mod MessageLayers
 pub mod Payloads
+pub mod Rows
 pub mod Times

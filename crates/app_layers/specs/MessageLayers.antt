@@ -11,7 +11,6 @@ use Rattle.dis_dns.specs.Dns.{dns_layout}
 use Rattle.dis_http.specs.Http.{http_read}
 use Rattle.tcp_streams.specs.declared.segment.Segment.{Segment}
 use Rattle.stream_messages.specs.declared.told.App.{App as StreamApp}
-use Rattle.stream_messages.specs.declared.told.App.TheVariants as stream_apps
 use Rattle.stream_messages.specs.declared.told.Told.{Told}
 use Rattle.stream_messages.specs.declared.told.Told.TheVariants as tellings
 use Rattle.stream_messages.specs.Tellings.{end_of}
@@ -20,20 +19,15 @@ use Rattle.tcp_messages.specs.declared.met.Source.{Source}
 use Rattle.tcp_messages.specs.declared.met.Source.TheVariants as sources
 use Rattle.tcp_messages.specs.Shown.{frames_told as gathered_from}
 use Rattle.pk_fields.specs.declared.rules.App.{App}
-use Rattle.pk_fields.specs.declared.rules.App.TheVariants.{Http, Dns, Dhcp, Ntp, Mdns, Plain}
 use Rattle.pk_fields.specs.declared.rules.PortRule.{PortRule}
 use Rattle.pk_fields.specs.Applications.{tcp_app}
 use Rattle.app_layers.specs.DataLayer.{data_over}
 use Rattle.app_layers.specs.Payloads.{with_number}
+use Rattle.app_layers.specs.Rows.{framer_of}
 
 -- those that have messages in streams
 abbrev pub in_streams : Option App → Option StreamApp
-in_streams (Some Dns) = Some stream_apps.Dns
-in_streams (Some Http) = Some stream_apps.Http
-in_streams (Some Dhcp) = None
-in_streams (Some Ntp) = None
-in_streams (Some Mdns) = None
-in_streams (Some Plain) = None
+in_streams (Some app) = framer_of app
 in_streams None = None
 
 -- the application of a stream, by the ports of one of its segments

@@ -5,8 +5,7 @@ ghost use Rattle.app_layers.specs.Applications.{data_behind, payload_over};
 ghost use Rattle.app_layers.specs.MessageLayers.{in_streams, stream_app};
 
 use crate::data_layer::add_data;
-use dis_dns::{read_dns, read_mdns};
-use dis_hosts::{read_dhcp, read_ntp};
+use crate::rows::{framer_of, read_datagram};
 use pk_base::{After, NoMemory, Span};
 use pk_fields::{App, PortRule, tcp_app};
 use pk_tree::TreeBuilder;
@@ -24,11 +23,7 @@ pub fn stream_app(rules: &[PortRule], source: u16, target: u16) -> Option<Stream
 fn in_streams(app: Option<App>) -> Option<StreamApp>
     ensures { result ≡ in_streams app }
 {
-    match app {
-        Some(App::Dns) => Some(StreamApp::Dns),
-        Some(App::Http) => Some(StreamApp::Http),
-        Some(App::Dhcp) | Some(App::Ntp) | Some(App::Mdns) | Some(App::Plain) | None => None,
-    }
+    framer_of(app?)
 }
 
 /// Reads the payload of a datagram by its application. One of no bytes is no message.
@@ -49,19 +44,13 @@ pub fn add_message(
         return Ok(());
     }
     match app {
-        Some(App::Dns) => read_dns(span, false, cut, tree),
-        Some(App::Dhcp) => read_dhcp(span, cut, tree),
-        Some(App::Ntp) => {
-            let after = read_ntp(span, cut, tree)?;
-            add_rest(after, tree)
-        }
-        Some(App::Mdns) => read_mdns(span, cut, tree),
-        Some(App::Http) | Some(App::Plain) | None => add_data(span, tree),
+        Some(app) => read_datagram(app, cut, span, tree),
+        None => add_data(span, tree),
     }
 }
 
 /// Shows what follows a layer as data.
-fn add_rest(after: After, tree: &mut TreeBuilder) -> Result<(), NoMemory>
+pub(crate) fn add_rest(after: After, tree: &mut TreeBuilder) -> Result<(), NoMemory>
     requires inside { LeadsInside tree.old.buffers after }
     requires room { length tree.old.layers + 2 < 2 ^ 32 }
     ensures tree { IfOk result (λ _. tree.new ≡ data_behind tree.old after) }

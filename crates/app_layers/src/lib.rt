@@ -10,6 +10,7 @@ mod frame_layer;
 mod heads;
 mod message_layers;
 mod payload;
+mod rows;
 mod times;
 
 pub use applications::{add_message, stream_app};
@@ -19,4 +20,4 @@ pub use frame_layer::{begin_tree, captured, frame_span, is_cut};
 pub use heads::read_head;
 pub use message_layers::{add_carried, add_passed};
 pub use payload::{tell_carried, tell_datagram, tell_segment};
-pub use times::Times;
+pub use times::{Times, since};

@@ -41,7 +41,7 @@ impl Times {
 }
 
 /// Nanoseconds since an earlier time, or none where there is no earlier one.
-pub(crate) fn since(earlier: Option<i128>, time: i128) -> i128
+pub fn since(earlier: Option<i128>, time: i128) -> i128
     requires earlier { IfSome earlier IsTime }
     requires time { IsTime time }
     ensures { result ≡ since earlier time }

@@ -1,3 +1,4 @@
+-- Written by tools/make_protocols from tools/protocols.txt.
 pub mod Dhcp
 pub mod DhcpOptions
 pub mod Ntp

@@ -1,5 +1,7 @@
-//! How hosts get their addresses and their time: the messages of DHCP and of NTP. A reader that finds no memory leaves its layer
-//! unfinished, and the tree is given up.
+//! Written by tools/make_protocols from tools/protocols.txt.
+//!
+//! Messages of protocols that are tables of rows, or nearly: DHCP (RFC 2131, 4.1), NTP (RFC 5905, 7.2).
+//! A reader that finds no memory leaves its layer unfinished, and the tree is given up.
 #![tactic(auto)]
 
 mod dhcp;

@@ -8,7 +8,7 @@ use Rattle.stream_messages.specs.Tellings.{end_of}
 use Rattle.tcp_messages.specs.declared.met.ShownMessage.{ShownMessage}
 use Rattle.tcp_messages.specs.Shown.{bytes_from}
 use Rattle.pk_fields.specs.declared.rules.App.{App}
-use Rattle.pk_fields.specs.declared.rules.App.TheVariants.{Http, Dns, Dhcp, Ntp, Mdns, Plain}
+use Rattle.pk_fields.specs.declared.rules.App.TheVariants.{Dns}
 use Rattle.message_links.specs.declared.notes.Direction.{Direction}
 use Rattle.message_links.specs.declared.notes.Note.{Note}
 use Rattle.message_links.specs.declared.notes.Note.TheVariants.{Query, Response, Request, Answer, Other}
@@ -36,15 +36,10 @@ told_note (tellings.Http shape) bytes = http_note shape
 abbrev pub message_note : List ℕ → ShownMessage → Note
 message_note payload m = told_note m.message.told (bytes_from payload (end_of m.message.told) m.source)
 
--- what a datagram carries is at most one message; multicast DNS has no links
+-- what a datagram carries is at most one message; DNS alone has links, multicast DNS none
 abbrev pub datagram_notes : Option App → List ℕ → List Note
 datagram_notes (Some Dns) bytes = if length bytes == 0 then [] else dns_note bytes ∷ []
-datagram_notes (Some Http) bytes = []
-datagram_notes (Some Dhcp) bytes = []
-datagram_notes (Some Ntp) bytes = []
-datagram_notes (Some Mdns) bytes = []
-datagram_notes (Some Plain) bytes = []
-datagram_notes None bytes = []
+datagram_notes app bytes = []
 
 -- the direction in which a packet's messages go; over UDP links don't ask for the side
 abbrev pub udp_direction : ℕ → Direction
