@@ -14,16 +14,14 @@ use Rattle.pk_base.specs.declared.heads.TcpHead.{TcpHead}
 use Rattle.pk_base.specs.declared.value.Value.TheVariants.{Uint}
 use Rattle.pk_fields.specs.Applications.{udp_app}
 use Rattle.pk_fields.specs.FieldSets.{every_field}
-use Rattle.pk_fields.specs.Ids.{TCP_STREAM, ARP, DATA, DHCP, DNS, ETH, FRAME, ICMP, ICMPV6, IGMP, IP, IPV6, MDNS, ND, NTP, NULL, SLL, SLL2, UDP, UDP_PAYLOAD, UDP_STREAM, VLAN}
+use Rattle.pk_fields.specs.Ids.{TCP_STREAM, ARP, DATA, ETH, FRAME, ICMP, ICMPV6, IGMP, IP, IPV6, ND, NULL, SLL, SLL2, UDP, UDP_PAYLOAD, UDP_STREAM, VLAN}
 use Rattle.pk_fields.specs.declared.rules.App.{App}
-use Rattle.pk_fields.specs.declared.rules.App.TheVariants.{Http, Dns, Dhcp, Ntp, Mdns, Plain}
 use Rattle.pk_fields.specs.declared.rules.PortRule.{PortRule}
 use Rattle.pk_tree.specs.Buffers.{bytes_of}
 use Rattle.pk_tree.specs.Layouts.{layer_read}
 use Rattle.pk_tree.specs.Trees.{TreeShown, kept_tree, made_of}
 use Rattle.pk_tree.specs.declared.layout.Step.{Step}
 use Rattle.capture_read.specs.declared.frame.Frame.{Frame}
-use Rattle.dis_hosts.specs.Ntp.{ntp_after, ntp_layout}
 use Rattle.dis_icmp.specs.Icmp.{icmp_after}
 use Rattle.dis_icmp.specs.Icmp6.{icmp6_after}
 use Rattle.dis_ip.specs.Extensions.{extension_proto}
@@ -42,6 +40,8 @@ use Rattle.app_layers.specs.Fragments.{conflict_told, error_field, frame_field, 
 use Rattle.app_layers.specs.FrameLayer.{frame_span, frame_tree, is_cut, kept_frame}
 use Rattle.app_layers.specs.MessageLayers.{app_of_segment, carried_over}
 use Rattle.app_layers.specs.Payloads.{datagram_told, segment_told, with_number}
+use Rattle.app_layers.specs.Rows.{in_datagrams, proto_of, rest_of}
+use Rattle.app_layers.proofs.RowLemmas.{not_tcp}
 use Rattle.app_layers.specs.declared.times.Times.{Times}
 use Rattle.dissect.specs.Conversations.{udp_stream}
 use Rattle.dissect.specs.Events.{Event, NewFrame, Piece, Udp}
@@ -95,13 +95,9 @@ behind_none t (afters.Segment head span) none = none
 behind_none t afters.End none = none
 
 message_none : (app : Option App) (t : TreeShown) (cut : Bool) (span : Span) → HasNone t → HasNone (message_over app t cut span)
-message_none (Some Dns) t cut span none = none_read t DNS span _ PlainMode cut refl none
-message_none (Some Dhcp) t cut span none = none_read t DHCP span _ PlainMode cut refl none
-message_none (Some Ntp) t cut span none =
-    behind_none (layer_read t NTP span (ntp_layout (bytes_of t.buffers span)) PlainMode cut) (ntp_after span (bytes_of t.buffers span)) (none_read t NTP span _ PlainMode cut refl none)
-message_none (Some Mdns) t cut span none = none_read t MDNS span _ PlainMode cut refl none
-message_none (Some Http) t cut span none = data_none t span none
-message_none (Some Plain) t cut span none = data_none t span none
+message_none (Some app) t cut span none =
+    none_if (in_datagrams app) _ (data_over t span)
+    (behind_none _ (rest_of app span (bytes_of t.buffers span)) (none_read t (proto_of app) span _ PlainMode cut (not_tcp app) none)) (data_none t span none)
 message_none None t cut span none = data_none t span none
 
 datagram_none : (app : Option App) (t : TreeShown) (stream : ℕ) (cut : Bool) (span : Span) → HasNone t → HasNone (payload_over app (datagram_told t stream span) cut span)

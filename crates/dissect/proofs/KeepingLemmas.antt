@@ -16,7 +16,7 @@ use Rattle.dissect.specs.declared.keeping.Follows.{Follows}
 use Rattle.dissect.specs.declared.keeping.Follows.TheVariants.{Nothing, Places, One, Everything}
 use Rattle.dissect.specs.declared.keeping.Keeping.{Keeping}
 use Rattle.dissect.specs.Followed.{asks_messages, asks_streams}
-use Rattle.dissect.specs.Keeping.{AsksNoLinks, FollowsEnough, KeepsFor, KeepsWhole, followed_of, is_everything, is_followed, keeps_all, tells_places}
+use Rattle.dissect.specs.Keeping.{AsksNoLinks, FollowsEnough, KeepsFor, KeepsWhole, followed_of, is_everything, is_followed, keeps_all, keeps_no_bytes, tells_places}
 use Rattle.capture_read.specs.declared.frame.Frame.{Frame}
 use Rattle.tcp_messages.specs.Standing.{ReadsFor}
 use Rattle.dissect.specs.Segments.{segments_of}
@@ -113,6 +113,22 @@ taken_unplaced Nothing app taken = refl
 taken_unplaced Places app taken = absurd (true≢false (sym taken))
 taken_unplaced (One only) app taken = refl
 taken_unplaced Everything app taken = refl
+
+-- where no byte is kept, none is followed
+pub passes_followed : (follows : Follows) (app : Option StreamApp) → keeps_no_bytes follows ≡ true → is_followed follows app ≡ false
+passes_followed Nothing app passes = refl
+passes_followed Places app passes = refl
+passes_followed (One only) app passes = absurd (true≢false (sym passes))
+passes_followed Everything app passes = absurd (true≢false (sym passes))
+
+pub passes_some : (keeps : Keeping) → keeps_no_bytes keeps.follows ≡ true → keeps_all keeps ≡ false
+passes_some keeps passes = by_follows keeps.follows keeps.numbers passes
+  where
+    by_follows : (follows : Follows) (numbers : Bool) → keeps_no_bytes follows ≡ true → (is_everything follows && numbers) ≡ false
+    by_follows Nothing numbers all = refl
+    by_follows Places numbers all = refl
+    by_follows (One only) numbers all = absurd (true≢false (sym all))
+    by_follows Everything numbers all = absurd (true≢false (sym all))
 
 pub placed_enough : (follows : Follows) (wanted : List ℕ) → tells_places follows ≡ true → FollowsEnough follows wanted → asks_messages wanted ≡ false
 placed_enough Nothing wanted places enough = absurd (true≢false (sym places))

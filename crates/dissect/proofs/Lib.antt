@@ -18,8 +18,12 @@ mod MessagesFit
 mod MessagesTold
 mod Numbering
 mod NumbersAside
+mod OnWay
 mod Opens
 mod Passing
+mod PlainHeads
+mod PlainNotes
+mod PlainRead
 mod PlainWay
 pub mod RuleEvents
 mod SameValues

@@ -7,15 +7,16 @@ use Rattle.pk_base.specs.declared.heads.Mode.{Mode}
 use Rattle.pk_base.specs.declared.heads.Mode.TheVariants.{Plain as PlainMode}
 use Rattle.pk_base.specs.declared.value.Value.TheVariants.{Uint}
 use Rattle.pk_fields.specs.FieldSets.{is_in}
-use Rattle.pk_fields.specs.Ids.{DATA, DHCP, DNS, MDNS, NTP, UDP_PAYLOAD, UDP_STREAM}
+use Rattle.pk_fields.specs.Ids.{DATA, UDP_PAYLOAD, UDP_STREAM}
 use Rattle.pk_fields.specs.declared.rules.App.{App}
-use Rattle.pk_fields.specs.declared.rules.App.TheVariants.{Dns, Http, Dhcp, Ntp, Mdns, Plain}
+use Rattle.pk_tree.specs.Buffers.{bytes_of}
 use Rattle.pk_tree.specs.declared.layout.Step.{Step}
 use Rattle.pk_tree.specs.Layouts.{layer_read, with_fault}
 use Rattle.pk_tree.specs.Trees.{TreeShown, made_of, read_of, with_item, with_layer}
 use Rattle.app_layers.specs.Applications.{data_behind, message_over, payload_over}
 use Rattle.app_layers.specs.DataLayer.{data_layout, data_over}
 use Rattle.app_layers.specs.Payloads.{datagram_told, with_payload}
+use Rattle.app_layers.specs.Rows.{in_datagrams, proto_of, rest_of}
 use Rattle.app_layers.proofs.ToldHeads.{if_wanted, item_wanted}
 
 -- ---- what a datagram carries leaves the wanted fields as they are
@@ -42,12 +43,8 @@ behind_wanted t (afters.Segment head span) = refl
 behind_wanted t afters.End = refl
 
 message_wanted : (app : Option App) (t : TreeShown) (cut : Bool) (span : Span) → (message_over app t cut span).wanted ≡ t.wanted
-message_wanted (Some Dns) t cut span = layer_wanted t DNS span _ PlainMode cut
-message_wanted (Some Dhcp) t cut span = layer_wanted t DHCP span _ PlainMode cut
-message_wanted (Some Ntp) t cut span = behind_wanted _ _ ∙ layer_wanted t NTP span _ PlainMode cut
-message_wanted (Some Mdns) t cut span = layer_wanted t MDNS span _ PlainMode cut
-message_wanted (Some Http) t cut span = data_wanted t span
-message_wanted (Some Plain) t cut span = data_wanted t span
+message_wanted (Some app) t cut span =
+    if_wanted (in_datagrams app) t _ (data_over t span) (behind_wanted _ (rest_of app span (bytes_of t.buffers span)) ∙ layer_wanted t (proto_of app) span _ PlainMode cut) (data_wanted t span)
 message_wanted None t cut span = data_wanted t span
 
 payload_wanted : (app : Option App) (t : TreeShown) (cut : Bool) (span : Span) → (payload_over app t cut span).wanted ≡ t.wanted

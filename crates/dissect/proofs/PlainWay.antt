@@ -45,7 +45,7 @@ unfolding ended
 typed_span span bytes typed = rw typed refl
 
 -- a header of Ethernet
-ethernet_read : (frame : Frame) (t : TreeShown) → frame.link ≡ 1 → is_length (eth_type (bytes_of t.buffers (frame_span frame))) ≡ false
+pub ethernet_read : (frame : Frame) (t : TreeShown) → frame.link ≡ 1 → is_length (eth_type (bytes_of t.buffers (frame_span frame))) ≡ false
     → link_read (link_of frame.link) frame.little t (frame_span frame) (is_cut frame) ≡ layer_read t ETH (frame_span frame) (eth_layout (bytes_of t.buffers (frame_span frame))) Plain (is_cut frame)
 unfolding link_read
 ethernet_read frame t link typed =
@@ -53,11 +53,11 @@ ethernet_read frame t link typed =
     ap (λ (n : ℕ). link_read (link_of n) frame.little t (frame_span frame) (is_cut frame)) link
     ∙ ap (λ (s : Span). layer_read t ETH s (eth_layout bytes) Plain (is_cut frame)) (typed_span (frame_span frame) bytes typed)
 
-ethernet_after : (frame : Frame) (bytes : List ℕ) → frame.link ≡ 1 → link_after (link_of frame.link) frame.little (frame_span frame) bytes ≡ eth_after (frame_span frame) bytes
+pub ethernet_after : (frame : Frame) (bytes : List ℕ) → frame.link ≡ 1 → link_after (link_of frame.link) frame.little (frame_span frame) bytes ≡ eth_after (frame_span frame) bytes
 unfolding link_after
 ethernet_after frame bytes link = ap (λ (n : ℕ). link_after (link_of n) frame.little (frame_span frame) bytes) link
 
-first_met : (rules : List PortRule) (frame : Frame) (t t1 : TreeShown) (es : List Event) (which : Next) (span : Span) → 0 < length frame.bytes
+pub first_met : (rules : List PortRule) (frame : Frame) (t t1 : TreeShown) (es : List Event) (which : Next) (span : Span) → 0 < length frame.bytes
     → link_read (link_of frame.link) frame.little t (frame_span frame) (is_cut frame) ≡ t1
     → link_after (link_of frame.link) frame.little (frame_span frame) (bytes_of t.buffers (frame_span frame)) ≡ afters.Next which span
     → link_met rules frame t es ≡ go_on t1 es (first_head which span)
@@ -69,14 +69,14 @@ first_met rules frame t t1 es which span some tree after =
     (link_after (link_of frame.link) frame.little (frame_span frame) (bytes_of t.buffers (frame_span frame))) (afters.Next which span) es refl tree after
 
 -- a header behind others
-next_met : (rules : List PortRule) (frame : Frame) (left : ℕ) (t read : TreeShown) (es : List Event) (head : Head) (after : After) → 0 < left → is_rest head.which ≡ false
+pub next_met : (rules : List PortRule) (frame : Frame) (left : ℕ) (t read : TreeShown) (es : List Event) (head : Head) (after : After) → 0 < left → is_rest head.which ≡ false
     → head.mode ≡ mode_after head.which head.mode after → read ≡ head_read head.which head.mode (is_cut frame) head.span t
     → after ≡ head_after head.which head.packet head.mode (is_cut frame) head.span (bytes_of t.buffers head.span)
     → chain rules left frame (go_on t es head) ≡ chain rules (left - 1) frame (followed rules frame head.packet head.mode read es after)
 next_met rules frame left t read es head after some rest mode tree is =
     chain-head rules frame left t es head some ∙ ap (chain rules (left - 1) frame) (sym (head_followed rules frame head head.mode t read after rest mode tree is es))
 
-segment_last : (rules : List PortRule) (n : ℕ) (frame : Frame) (packet : PacketHead) (t : TreeShown) (es : List Event) (head : TcpHead) (span : Span)
+pub segment_last : (rules : List PortRule) (n : ℕ) (frame : Frame) (packet : PacketHead) (t : TreeShown) (es : List Event) (head : TcpHead) (span : Span)
     → chain rules n frame (segment_met rules frame packet t es head span) ≡ segment_met rules frame packet t es head span
 unfolding segment_met
 segment_last rules n frame packet t es head span = chain-stop rules n frame _ _
@@ -154,7 +154,13 @@ plain_walked rules frame w state t u es used packet had head span todo packet_is
     ap (λ (p : PacketHead). segment_met rules frame p t es had span) packet_is ∙ ap (λ (h : TcpHead). segment_met rules frame packet t es h span) head_is ∙ sym is in
     subst (λ (x : Walk). IsWalked rules x state u todos.Done) way (subst (λ (x : Todo). IsWalked rules (segment_met rules frame used t es had span) state u x) done walked)
 
--- what lies in the frame is no longer than it
+-- what lies in the frame ends inside it
+pub inside_end : (bytes : List ℕ) (span : Span) → IsInside (bytes ∷ []) span → (span.buffer ≡ 0) × (span.start + span.len ≤ length bytes)
+inside_end bytes span inside =
+    let first : span.buffer ≡ 0 = omega (arith, inside.0) in
+    (first, subst (λ (n : ℕ). span.start + span.len ≤ length (buffer_of (bytes ∷ []) n)) first inside.1)
+
+-- and is no longer than it
 pub short_inside : (bytes : List ℕ) (span : Span) → IsInside (bytes ∷ []) span → span.len ≤ length bytes
 short_inside bytes span inside =
     let first : span.buffer ≡ 0 = omega (arith, inside.0) in

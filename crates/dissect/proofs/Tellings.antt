@@ -1,5 +1,5 @@
 -- The messages of an application's streams are of this application.
-use Rattle.std.proofs.Common.{◌≡◌, ◌+◌, ◌-◌, ℕ, zero, suc, Bool, true, false, List, [], ◌∷◌, ◌++◌, length, map, Option, Some, None, if◌then◌else◌, refl, sym, ap, subst}
+use Rattle.std.proofs.Common.{◌≡◌, ◌+◌, ◌-◌, ℕ, zero, suc, Bool, true, false, List, [], ◌∷◌, ◌++◌, map, Option, Some, None, if◌then◌else◌, refl, sym, ap, subst}
 use Rattle.std.proofs.lemmas.Option.{none-some}
 use Rattle.std.specs.Prelude.{unwrap_or, nat_lt}
 use Rattle.std.specs.Option.{option_map}
@@ -7,7 +7,7 @@ use Rattle.std.specs.List.{AllByRecursion as Each}
 use Rattle.pk_base.specs.declared.stretch.Stretch.{Stretch}
 use Rattle.pk_fields.specs.Ids.{DNS, HTTP}
 use Rattle.tcp_streams.specs.declared.segment.Segment.{Segment}
-use Rattle.tcp_streams.specs.Labels.{label_of, labels, taken_after}
+use Rattle.tcp_streams.specs.Labels.{label_of, labels}
 use Rattle.stream_messages.specs.declared.placed.Placed.{Placed}
 use Rattle.stream_messages.specs.declared.told.App.{App}
 use Rattle.stream_messages.specs.declared.told.App.TheVariants as apps
@@ -22,7 +22,7 @@ use Rattle.stream_messages.specs.Sides.{Brought, Noted, asked_in, front_end, not
 use Rattle.stream_messages.specs.Tellings.{answers, end_of, first_dns, first_of, passed, then_of}
 use Rattle.tcp_messages.specs.declared.met.ShownMessage.{ShownMessage}
 use Rattle.tcp_messages.specs.Brought.{brought, brought_by}
-use Rattle.tcp_messages.specs.Shown.{messages_after, messages_at, shown_after}
+use Rattle.tcp_messages.specs.Shown.{messages_after, shown_after}
 use Rattle.app_layers.proofs.MessagesAside.{AsksNoneOf, AsksNotShown, AsksNotTold}
 
 -- ---- what tells it

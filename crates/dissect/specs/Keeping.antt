@@ -1,5 +1,7 @@
 -- What is kept of conversations, and for the values of which fields that is enough.
 use Rattle.std.specs.Prelude.{◌≡◌, ℕ, Bool, true, false, ◌&&◌, List, filter, Option, Some, None}
+use Rattle.std.specs.List.{AllByRecursion as Each}
+use Rattle.dis_ports.specs.TcpOptions.{option_fields}
 use Rattle.pk_fields.specs.FieldSets.{is_in}
 use Rattle.pk_fields.specs.Ids.{DNS, DNS_RESPONSE_TO, HTTP, HTTP_REQUEST_IN, TCP_ACK, TCP_LOST, TCP_SEGMENT, TCP_SEQ, TCP_STREAM, UDP_STREAM, WS_MALFORMED, WS_SHORT, field_count}
 use Rattle.pk_fields.specs.declared.rules.PortRule.{PortRule}
@@ -43,6 +45,13 @@ tells_places Nothing = false
 tells_places Places = true
 tells_places (One only) = false
 tells_places Everything = false
+
+-- whether no byte of streams is kept
+abbrev pub keeps_no_bytes : Follows → Bool
+keeps_no_bytes Nothing = true
+keeps_no_bytes Places = true
+keeps_no_bytes (One only) = false
+keeps_no_bytes Everything = false
 
 -- the segments that streams stand for, among all
 unfoldable pub followed_of : List PortRule → Follows → List Segment → List Segment
@@ -95,3 +104,8 @@ pub record KeepsFor (keeps : Keeping) (wanted : List ℕ) : Type 0 where
 pub record KeepsWhole (keeps : Keeping) (wanted : List ℕ) : Type 0 where
   pub numbers : keeps.numbers ≡ true
   pub all : asks_streams wanted ≡ true → keeps_all keeps ≡ true
+
+-- the headers of plain frames answer for these fields: none of them is of the options of TCP, and no byte of streams is kept
+pub record GoesPlain (wanted : List ℕ) (keeps : Keeping) : Type 0 where
+  pub options : Each (λ field. is_in wanted field ≡ false) option_fields
+  pub passes : keeps_no_bytes keeps.follows ≡ true

@@ -1,7 +1,9 @@
+pub mod Carried
 pub mod Conversations
 pub mod Events
 pub mod Followed
 pub mod Fragments
+pub mod Heads
 pub mod Isolation
 pub mod Keeping
 pub mod Links
@@ -11,5 +13,7 @@ pub mod Numbering
 pub mod Plain
 pub mod Segments
 pub mod Stands
+pub mod Tables
 pub mod Trees
 pub mod Walks
+pub mod Ways

@@ -1,13 +1,14 @@
-ghost use Rattle.std.specs.Prelude.{◌≡◌, ◌↔◌, ◌+◌, ◌≤◌, ◌<◌, ◌^◌, ◌||◌, List, [], ◌∷◌, true, false, length, Err, is_err, IfOk, IfSome, OnOk, OnErr};
+ghost use Rattle.std.specs.Prelude.{◌≡◌, ◌≢◌, ◌↔◌, ◌+◌, ◌≤◌, ◌<◌, ◌^◌, ◌||◌, List, [], ◌∷◌, true, false, length, Err, is_err, IfOk, IfSome, OnOk, OnErr};
 ghost use Rattle.capture_read.specs.declared.frame.Frame.{Frame as FrameValue};
-ghost use Rattle.pk_tree.specs.Trees.{IsKept as IsKeptTree, kept_tree};
+ghost use Rattle.pk_source.specs.Outlines.{IsOutline, outlined};
+ghost use Rattle.pk_tree.specs.Trees.{IsKept as IsKeptTree, IsTree, kept_tree};
 ghost use Rattle.app_layers.specs.Aside.{LacksOnly};
 ghost use Rattle.pk_fields.specs.Rules.{AreRules};
 ghost use Rattle.dissect.specs.Conversations.{udp_opened};
 ghost use Rattle.dissect.specs.Events.{Event};
 ghost use Rattle.tcp_streams.specs.Standing.{StandsFor, taken_so_far};
 ghost use Rattle.dissect.specs.Followed.{asks_streams, HasSameValues};
-ghost use Rattle.dissect.specs.Keeping.{KeepsFor, KeepsWhole, keeps_all};
+ghost use Rattle.dissect.specs.Keeping.{GoesPlain, KeepsFor, KeepsWhole, keeps_all};
 ghost use Rattle.dissect.specs.Segments.{segments_of};
 ghost use Rattle.dissect.specs.Stands.{Stands, StandsWithin, StandsAt, IsAfter, IsRead, HasRoomForOne, AddsAtMost, bytes_kept};
 ghost use Rattle.capture_read.specs.FrameList.{IsTime};
@@ -15,7 +16,8 @@ ghost use Rattle.message_links.specs.Linked.{linked};
 ghost use Rattle.app_layers.specs.Times.{AreTimes};
 ghost use Rattle.dissect.specs.Trees.{tree_at, events_of, kept_walk};
 
-use crate::keeping::Keeping;
+use crate::heads::{Asked, Heads};
+use crate::keeping::{Keeping, goes_plain};
 use crate::state::{State, let_go};
 use app_layers::{Times, begin_tree, captured};
 use capture_read::Frame;
@@ -23,6 +25,7 @@ use ip_join::Joins;
 use message_links::{Conversations, Links, link_messages};
 use pk_base::NoMemory;
 use pk_fields::{DecodeAs, FieldSet, PortRule};
+use pk_source::Outline;
 use pk_tree::{Spare, Tree};
 use std::alloc::Global;
 use std::marker::Model;
@@ -50,12 +53,14 @@ pub struct Dissector {
     captured: u32,
     times: Times,
     state: State,
+    /// Whether the headers of plain frames answer for what is wanted.
+    plain: bool,
     /// The memory of a tree that was given back.
     spare: Spare,
 }
 
 impl Model for Dissector {
-    ghost use Rattle.std.specs.Prelude.{ℕ, Bool, List, refl};
+    ghost use Rattle.std.specs.Prelude.{◌≡◌, ℕ, Bool, true, List, refl};
     ghost use Rattle.std.specs.Coded.{code_by, coded×, coded_ℕ, coded_bool};
     ghost use Rattle.pk_fields.specs.contracts.rules.DecodeAs as decode_row;
     ghost use Rattle.dissect.specs.contracts.state.State as state_row;
@@ -64,6 +69,7 @@ impl Model for Dissector {
     ghost use Rattle.pk_fields.specs.declared.rules.DecodeAs.{DecodeAs as DecodeAsValue};
     ghost use Rattle.dissect.specs.declared.state.State.{State as StateValue};
     ghost use Rattle.app_layers.specs.declared.times.Times.{Times as TimesValue};
+    ghost use Rattle.dissect.specs.Keeping.{GoesPlain};
     ghost use Rattle.dissect.specs.Stands.{DissectorShown, IsKept};
 
     ghost Value = { DissectorShown };
@@ -72,7 +78,7 @@ impl Model for Dissector {
 
     ghost view = { λ d. record { decode = d.decode; wanted = d.wanted; sparing = d.sparing; spent = d.spent; taken = d.taken; captured = d.captured; times = d.times; state = d.state } };
 
-    ghost invariant = { λ d. IsKept (record { decode = d.decode; wanted = d.wanted; sparing = d.sparing; spent = d.spent; taken = d.taken; captured = d.captured; times = d.times; state = d.state }) };
+    ghost invariant = { λ d. IsKept (record { decode = d.decode; wanted = d.wanted; sparing = d.sparing; spent = d.spent; taken = d.taken; captured = d.captured; times = d.times; state = d.state }) × (d.plain ≡ true → GoesPlain d.wanted d.state.keeps) };
 }
 
 // The destructor is written out here, and not wherever a dissector is dropped.
@@ -88,6 +94,7 @@ impl Drop for Dissector {
             captured: _,
             times: _,
             state: _state,
+            plain: _,
             spare: _spare,
         } = self;
     }
@@ -173,6 +180,7 @@ impl Dissector {
                 links: Links::new(alloc),
                 found: Vec::new(alloc),
             },
+            plain: goes_plain(&wanted, keeps),
             spare: Spare::new(alloc),
         }
     }
@@ -278,6 +286,108 @@ impl Dissector {
             → StandsWithin (frame.now ∷ past) self.new) }
     {
         self.take_asked(frame, self.wanted)
+    }
+
+    /// Takes a frame that is plain, for which its headers answer: true, and they stand in `heads` then. Of any other frame
+    /// nothing is taken: false.
+    pub fn take_plain(&mut self, frame: &Frame, heads: &mut Heads) -> Result<bool, TakeFault>
+        requires number { frame.now.number ≡ self.old.taken + 1 }
+        requires time { IfSome frame.now.time IsTime }
+        requires captured { self.old.captured + length frame.now.bytes ≤ 2 ^ 28 }
+        ensures spent { result ≡ Err TakeFault.Spent ↔ self.old.spent ≡ true }
+        ensures spent_after { self.new.spent ≡ self.old.spent || is_err result }
+        ensures passed { IfOk result (λ taken. taken ≡ false → self.new ≡ self.old) }
+        ensures counted { IfOk result (λ taken. taken ≡ true → (self.new.taken ≡ self.old.taken + 1)
+            × (self.new.captured ≡ self.old.captured + length frame.now.bytes)) }
+        ensures uncounted { OnErr result ((self.new.taken ≡ self.old.taken)
+            × (self.new.captured ≡ self.old.captured)) }
+        ensures rules { self.new.decode ≡ self.old.decode }
+        ensures wanted { self.new.wanted ≡ self.old.wanted }
+        ensures sparing { self.new.sparing ≡ self.old.sparing }
+        ensures values { IfOk result (λ taken. taken ≡ true → (past : List FrameValue) → StandsWithin past self.old
+            → HasSameValues self.old.wanted (tree_at self.old.decode.rules past frame.now)
+            (outlined frame.now.bytes self.old.wanted heads.new.headers heads.new.notes)) }
+        ensures tree { IfOk result (λ taken. taken ≡ true → asks_streams self.old.wanted ≡ true → self.old.sparing ≡ false
+            → (past : List FrameValue) → StandsWithin past self.old
+            → IsKeptTree self.old.wanted (tree_at self.old.decode.rules past frame.now)
+            (outlined frame.now.bytes self.old.wanted heads.new.headers heads.new.notes)) }
+        ensures lacks { IfOk result (λ taken. taken ≡ true → (past : List FrameValue) → StandsWithin past self.old
+            → LacksOnly (kept_tree self.old.wanted (tree_at self.old.decode.rules past frame.now))
+            (outlined frame.now.bytes self.old.wanted heads.new.headers heads.new.notes)) }
+        ensures stands { IfOk result (λ taken. taken ≡ true → (past : List FrameValue) → StandsWithin past self.old
+            → StandsWithin (frame.now ∷ past) self.new) }
+        ensures outline { IfOk result (λ taken. taken ≡ true
+            → IsOutline frame.now.bytes self.new.wanted heads.new.headers heads.new.notes) }
+    {
+        if self.spent {
+            return Err(TakeFault::Spent);
+        }
+        if !self.plain {
+            return Ok(false);
+        }
+        self.take_headers(frame, heads)
+    }
+
+    /// Takes a frame that is plain by its headers.
+    fn take_headers(&mut self, frame: &Frame, heads: &mut Heads) -> Result<bool, TakeFault>
+        requires not_spent { self.old.spent ≡ false }
+        requires goes { GoesPlain self.old.wanted self.old.state.keeps }
+        requires number { frame.now.number ≡ self.old.taken + 1 }
+        requires time { IfSome frame.now.time IsTime }
+        requires captured { self.old.captured + length frame.now.bytes ≤ 2 ^ 28 }
+        ensures spent { result ≢ Err TakeFault.Spent }
+        ensures spent_after { self.new.spent ≡ is_err result }
+        ensures passed { IfOk result (λ taken. taken ≡ false → self.new ≡ self.old) }
+        ensures counted { IfOk result (λ taken. taken ≡ true → (self.new.taken ≡ self.old.taken + 1)
+            × (self.new.captured ≡ self.old.captured + length frame.now.bytes)) }
+        ensures uncounted { OnErr result ((self.new.taken ≡ self.old.taken)
+            × (self.new.captured ≡ self.old.captured)) }
+        ensures rules { self.new.decode ≡ self.old.decode }
+        ensures wanted { self.new.wanted ≡ self.old.wanted }
+        ensures sparing { self.new.sparing ≡ self.old.sparing }
+        ensures tree { IfOk result (λ taken. taken ≡ true → (past : List FrameValue) → IsAfter past self.old
+            → keeps_all self.old.state.keeps ≡ true
+            → IsKeptTree self.old.wanted (tree_at self.old.decode.rules past frame.now)
+            (outlined frame.now.bytes self.old.wanted heads.new.headers heads.new.notes)) }
+        ensures values { IfOk result (λ taken. taken ≡ true → (past : List FrameValue) → IsAfter past self.old
+            → HasSameValues self.old.wanted (tree_at self.old.decode.rules past frame.now)
+            (outlined frame.now.bytes self.old.wanted heads.new.headers heads.new.notes)) }
+        ensures lacks { IfOk result (λ taken. taken ≡ true → (past : List FrameValue) → IsAfter past self.old
+            → LacksOnly (kept_tree self.old.wanted (tree_at self.old.decode.rules past frame.now))
+            (outlined frame.now.bytes self.old.wanted heads.new.headers heads.new.notes)) }
+        ensures after { IfOk result (λ taken. taken ≡ true → (past : List FrameValue) → IsAfter past self.old
+            → IsAfter (frame.now ∷ past) self.new) }
+        ensures outline { IfOk result (λ taken. taken ≡ true → IsOutline frame.now.bytes self.old.wanted heads.new.headers heads.new.notes) }
+    {
+        let number = number_of(frame);
+        let asked = Asked {
+            alloc: self.alloc,
+            rules: self.decode.rules.slice(),
+            wanted: &self.wanted,
+            before: self.times,
+        };
+        match heads.take(&asked, &mut self.state, frame) {
+            Ok(true) => {
+                self.taken = number;
+                self.captured += captured(frame);
+                self.times = self.times.with(frame.time);
+                Ok(true)
+            }
+            Ok(false) => Ok(false),
+            Err(NoMemory) => {
+                self.spent = true;
+                Err(TakeFault::NoMemory)
+            }
+        }
+    }
+
+    /// The values of the plain frame that was taken last.
+    pub fn outline<'a>(&'a self, frame: &'a Frame, heads: &'a Heads) -> Outline<'a>
+        requires { IsOutline frame.now.bytes self.now.wanted heads.now.headers heads.now.notes }
+        ensures tree { result ≡ outlined frame.now.bytes self.now.wanted heads.now.headers heads.now.notes }
+        ensures fits { IsTree result }
+    {
+        heads.outline(&frame.bytes, &self.wanted)
     }
 
     /// Takes a frame for a tree of some fields, of which those of streams are told only where streams are followed.

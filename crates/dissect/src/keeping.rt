@@ -1,8 +1,10 @@
 ghost use Rattle.std.specs.Prelude.{◌≡◌, false, true};
+ghost use Rattle.std.specs.List.{AllByRecursion as Each};
+ghost use Rattle.dis_ports.specs.TcpOptions.{option_fields};
 ghost use Rattle.pk_fields.specs.FieldSets.{is_in};
 ghost use Rattle.pk_fields.specs.Ids.{TCP_SEGMENT, UDP_STREAM, WS_MALFORMED, WS_SHORT, field_count};
 ghost use Rattle.dissect.specs.Followed.{asks_any, asks_messages, asks_streams};
-ghost use Rattle.dissect.specs.Keeping.{AsksNoLinks, AsksNoPlaces, FollowsEnough, KeepsFor, KeepsWhole, is_everything, is_followed, keeps_all, tells_places};
+ghost use Rattle.dissect.specs.Keeping.{AsksNoLinks, AsksNoPlaces, FollowsEnough, GoesPlain, KeepsFor, KeepsWhole, is_everything, is_followed, keeps_all, keeps_no_bytes, tells_places};
 
 use pk_fields::{FieldId, FieldSet, ids};
 use stream_messages::App as StreamApp;
@@ -35,6 +37,16 @@ impl Follows {
         match self {
             Follows::Places => true,
             Follows::Nothing | Follows::One(_) | Follows::Everything => false,
+        }
+    }
+
+    /// Whether no byte of streams is kept.
+    fn keeps_no_bytes(self) -> bool
+        ensures { result ≡ keeps_no_bytes self }
+    {
+        match self {
+            Follows::Nothing | Follows::Places => true,
+            Follows::One(_) | Follows::Everything => false,
         }
     }
 
@@ -100,6 +112,30 @@ impl Keeping {
     {
         self.follows.is_everything() && self.numbers
     }
+}
+
+/// Whether the headers of plain frames answer for the wanted fields: none of them is of the options of TCP, and no byte of
+/// streams is kept.
+pub(crate) fn goes_plain(wanted: &FieldSet, keeps: Keeping) -> bool
+    ensures { result ≡ true → GoesPlain wanted.now keeps }
+{
+    keeps.follows.keeps_no_bytes() && !asks_options(wanted)
+}
+
+/// Whether a field of the options of TCP may be asked.
+fn asks_options(wanted: &FieldSet) -> bool
+    ensures { result ≡ false → Each (λ field. is_in wanted.now field ≡ false) option_fields }
+{
+    wanted.contains(ids::TCP_OPTION_KIND)
+        || wanted.contains(ids::TCP_OPTION_LEN)
+        || wanted.contains(ids::TCP_OPTIONS_MSS_VAL)
+        || wanted.contains(ids::TCP_OPTIONS_WSCALE_SHIFT)
+        || wanted.contains(ids::TCP_OPTIONS_SACK_PERM)
+        || wanted.contains(ids::TCP_OPTIONS_SACK_LE)
+        || wanted.contains(ids::TCP_OPTIONS_SACK_RE)
+        || wanted.contains(ids::TCP_OPTIONS_TIMESTAMP_TSVAL)
+        || wanted.contains(ids::TCP_OPTIONS_TIMESTAMP_TSECR)
+        || wanted.contains(ids::TCP_OPTIONS_BAD)
 }
 
 /// Which segments are taken for trees of the wanted fields: all, where anything may be asked of streams.

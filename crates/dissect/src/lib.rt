@@ -1,10 +1,12 @@
 //! Reads a capture's frames into trees, one frame after the other: the frame itself, its headers, and what they carry.
 #![tactic(auto)]
 
+mod carried;
 mod datagrams;
 mod dissector;
 mod fragments;
 mod headers;
+mod heads;
 mod keeping;
 mod laws;
 mod noting;
@@ -12,10 +14,14 @@ mod pieces;
 mod plain;
 mod segments;
 mod state;
+mod tables;
+mod telling;
 mod todo;
 mod walk;
+mod ways;
 
 pub use dissector::{Dissector, TakeFault, give_up_dissector};
+pub use heads::Heads;
 pub use laws::{
     frames_show_messages, messages_stand_in_trees, others_left_out, others_number_alone,
     trees_stand_alone,

@@ -1,4 +1,4 @@
-ghost use Rattle.std.specs.Prelude.{◌≡◌, ◌+◌, ◌<◌, ◌≤◌, ◌^◌, ◌∷◌, [], List, length, IfSome, OnOk};
+ghost use Rattle.std.specs.Prelude.{◌≡◌, ◌+◌, ◌<◌, ◌≤◌, ◌^◌, ◌∷◌, [], List, length, IfOk, IfSome, OnOk};
 ghost use Rattle.pk_fields.specs.declared.rules.PortRule.{PortRule as PortRuleValue};
 ghost use Rattle.pk_fields.specs.Ids.{TCP};
 ghost use Rattle.pk_tree.specs.Buffers.{IsInside};
@@ -18,7 +18,7 @@ use capture_read::Frame;
 use dis_ip::{WholeIp4, behind_ip4, head_of_ip4, open_ip4};
 use dis_link::{behind_ethernet, open_ethernet};
 use dis_ports::{WholeTcp, behind_tcp, open_tcp, tcp_head};
-use pk_base::{Next, NoMemory, Span};
+use pk_base::{Next, NoMemory, Octets, Span};
 use pk_fields::PortRule;
 use pk_tree::TreeBuilder;
 
@@ -28,27 +28,25 @@ const ETHERNET: u16 = 1;
 /// Where the headers of a plain frame stand.
 #[derive(Clone, Copy)]
 pub(crate) struct PlainFrame {
-    packet: Span,
-    ip: WholeIp4,
-    tcp: WholeTcp,
+    pub packet: Span,
+    pub ip: WholeIp4,
+    pub tcp: WholeTcp,
 }
 
 /// The headers of a frame, where it is Ethernet, IPv4 in one piece, and TCP, and each header is whole: a few bytes tell it.
 #[inline(always)]
-pub(crate) fn plain_frame(frame: &Frame, tree: &TreeBuilder) -> Option<PlainFrame>
-    requires frame { tree.now.buffers ≡ frame.now.bytes ∷ [] }
+pub(crate) fn plain_frame(frame: &Frame) -> Option<PlainFrame>
     requires bytes { length frame.now.bytes < 2 ^ 32 }
     ensures plain { IfSome result (IsPlain frame.now) }
 {
-    let packet = plain_ethernet(frame, tree)?;
-    let ip = plain_ip4(frame, packet, tree)?;
-    let tcp = plain_tcp(frame, ip.inner, tree)?;
+    let packet = plain_ethernet(frame)?;
+    let ip = plain_ip4(frame, packet)?;
+    let tcp = plain_tcp(frame, ip.inner)?;
     Some(PlainFrame { packet, ip, tcp })
 }
 
 #[inline(always)]
-fn plain_ethernet(frame: &Frame, tree: &TreeBuilder) -> Option<Span>
-    requires frame { tree.now.buffers ≡ frame.now.bytes ∷ [] }
+fn plain_ethernet(frame: &Frame) -> Option<Span>
     requires bytes { length frame.now.bytes < 2 ^ 32 }
     ensures ethernet { IfSome result (IsEthernet frame.now) }
 {
@@ -56,19 +54,19 @@ fn plain_ethernet(frame: &Frame, tree: &TreeBuilder) -> Option<Span>
         return None;
     }
     let whole = frame_span(frame);
-    match behind_ethernet(whole, tree.bytes(whole))? {
+    match behind_ethernet(whole, own(frame, whole))? {
         (Next::Ip4, packet) => Some(packet),
         _ => None,
     }
 }
 
 #[inline(always)]
-fn plain_ip4(frame: &Frame, packet: Span, tree: &TreeBuilder) -> Option<WholeIp4>
-    requires frame { tree.now.buffers ≡ frame.now.bytes ∷ [] }
+fn plain_ip4(frame: &Frame, packet: Span) -> Option<WholeIp4>
+    requires bytes { length frame.now.bytes < 2 ^ 32 }
     requires inside { IsInside (frame.now.bytes ∷ []) packet }
     ensures ip { IfSome result (IsIp4 frame.now packet) }
 {
-    let ip = behind_ip4(packet, tree.bytes(packet))?;
+    let ip = behind_ip4(packet, own(frame, packet))?;
     match ip.next {
         Next::Tcp => Some(ip),
         _ => None,
@@ -76,13 +74,36 @@ fn plain_ip4(frame: &Frame, packet: Span, tree: &TreeBuilder) -> Option<WholeIp4
 }
 
 #[inline(always)]
-fn plain_tcp(frame: &Frame, inner: Span, tree: &TreeBuilder) -> Option<WholeTcp>
-    requires frame { tree.now.buffers ≡ frame.now.bytes ∷ [] }
+fn plain_tcp(frame: &Frame, inner: Span) -> Option<WholeTcp>
+    requires bytes { length frame.now.bytes < 2 ^ 32 }
     requires inside { IsInside (frame.now.bytes ∷ []) inner }
     ensures tcp { IfSome result (IsTcp frame.now inner) }
 {
-    let tcp = behind_tcp(inner, tree.bytes(inner))?;
+    let tcp = behind_tcp(inner, own(frame, inner))?;
     Some(tcp)
+}
+
+/// Bytes of a frame.
+#[inline(always)]
+#[tactic(auto, using(crate::proofs::PlainWay::inside_end), unfolding(pk_tree::specs::Buffers::bytes_of))]
+pub(crate) fn own(frame: &Frame, span: Span) -> &[u8]
+    requires inside { IsInside (frame.now.bytes ∷ []) span }
+    ensures bytes { result.now ≡ own frame.now span }
+    ensures len { length result.now ≡ span.len }
+    ensures end { span.start + span.len ≤ length frame.now.bytes }
+{
+    let start = span.start as usize;
+    &frame.bytes.bytes()[start..start + span.len as usize]
+}
+
+/// Bytes of a frame, shared and not copied.
+#[tactic(auto, using(crate::proofs::PlainWay::inside_end), unfolding(pk_tree::specs::Buffers::bytes_of))]
+pub(crate) fn own_part(frame: &Frame, span: Span) -> Result<Octets, NoMemory>
+    requires inside { IsInside (frame.now.bytes ∷ []) span }
+    ensures { IfOk result (λ part. part ≡ own frame.now span) }
+{
+    let start = span.start as usize;
+    frame.bytes.part(start, start + span.len as usize)
 }
 
 impl State {

@@ -235,7 +235,12 @@ fn pass_segment(app: Option<StreamApp>, span: Span, tree: &mut TreeBuilder) -> R
 }
 
 /// A segment between the ends of the packet that it is in.
-fn segment_from(frame: u32, packet: &PacketHead, head: TcpHead, payload: Octets) -> Segment
+pub(crate) fn segment_from(
+    frame: u32,
+    packet: &PacketHead,
+    head: TcpHead,
+    payload: Octets,
+) -> Segment
     ensures { result ≡ segment_from frame packet.now head payload }
 {
     Segment {

@@ -164,7 +164,7 @@ impl State {
             ≤ bytes_kept self.old + length frame.now.bytes) }
     {
         self.begin_frame();
-        match plain_frame(frame, tree) {
+        match plain_frame(frame) {
             Some(plain) => self.read_plain(rules, frame, &plain, tree),
             None => self.read_heads(rules, frame, tree),
         }
@@ -196,7 +196,7 @@ impl State {
 }
 
 /// What stands for the IP header where none was met.
-fn no_packet() -> PacketHead
+pub(crate) fn no_packet() -> PacketHead
     ensures { result ≡ no_packet }
 {
     PacketHead {

@@ -4,7 +4,7 @@ use Rattle.pk_base.specs.declared.heads.After.TheVariants as afters
 use Rattle.pk_base.specs.declared.heads.Mode.TheVariants.{Plain}
 use Rattle.pk_base.specs.declared.heads.Next.{Next}
 use Rattle.pk_base.specs.declared.heads.Next.TheVariants as nexts
-use Rattle.pk_tree.specs.Buffers.{IsInside, bytes_of}
+use Rattle.pk_tree.specs.Buffers.{IsInside}
 use Rattle.pk_tree.specs.Layouts.{reach}
 use Rattle.dis_ip.specs.declared.ip4.WholeIp4.{WholeIp4}
 use Rattle.dis_ip.specs.Ip4.{ip4_after, ip4_conditions, ip4_header, ip4_layout, ip4_packet, ip4_span}
@@ -17,7 +17,7 @@ returns-in-Tcp c =
     let packet = c.args.packet in
     let ip = c.in_ok-ip.ip in
     let bs : List (List ℕ) = frame.bytes ∷ [] in
-    let is : c.bytes.result.now ≡ own frame packet = c.bytes.ensures.bytes ∙ ap (λ (b : List (List ℕ)). bytes_of b packet) c.requires.frame in
+    let is : c.own.result.now ≡ own frame packet = c.own.ensures.bytes in
     record {
       ip = record {
         layer = c.in_ok-ip.ensures.layer ∙ ap (ip4_span packet) is;
@@ -27,7 +27,7 @@ returns-in-Tcp c =
         holds = sym (ap (λ (b : List ℕ). ip4_conditions b) is) ∙ c.in_ok-ip.ensures.holds;
         whole = sym (ap (λ (b : List ℕ). reach ip.layer.len (ip4_layout b)) is) ∙ c.in_ok-ip.ensures.whole;
         after = λ cut. sym (ap (ip4_after Plain cut packet) is) ∙ c.in_ok-ip.ensures.after cut
-            ∙ ap (λ (which : Next). afters.Packet which ip.inner (ip4_packet cut packet c.bytes.result.now)) c.in-Tcp.is
+            ∙ ap (λ (which : Next). afters.Packet which ip.inner (ip4_packet cut packet c.own.result.now)) c.in-Tcp.is
             ∙ ap (λ (b : List ℕ). afters.Packet nexts.Tcp ip.inner (ip4_packet cut packet b)) is;
         inside = subst (λ (r : Option WholeIp4). IfSome r (λ w. IsInside bs w.layer × IsInside bs w.inner)) c.in_ok-ip.was
             (c.behind_ip4.ensures.inside bs c.requires.inside);

@@ -2,7 +2,7 @@ use Rattle.std.proofs.Common.{◌≡◌, ℕ, List, [], ◌∷◌, ap, subst, �
 use Rattle.std.specs.Prelude.{IfSome, Option}
 use Rattle.pk_base.specs.declared.heads.After.TheVariants as afters
 use Rattle.pk_base.specs.declared.heads.Mode.TheVariants.{Plain}
-use Rattle.pk_tree.specs.Buffers.{IsInside, bytes_of}
+use Rattle.pk_tree.specs.Buffers.{IsInside}
 use Rattle.dis_ports.specs.declared.tcp.WholeTcp.{WholeTcp}
 use Rattle.dis_ports.specs.Tcp.{header_len, tcp_after, tcp_head}
 use Rattle.dissect.specs.Plain.{own}
@@ -14,7 +14,7 @@ returns c =
     let inner = c.args.inner in
     let tcp = c.in_ok-tcp.tcp in
     let bs : List (List ℕ) = frame.bytes ∷ [] in
-    let is : c.bytes.result.now ≡ own frame inner = c.bytes.ensures.bytes ∙ ap (λ (b : List (List ℕ)). bytes_of b inner) c.requires.frame in
+    let is : c.own.result.now ≡ own frame inner = c.own.ensures.bytes in
     record {
       tcp = record {
         header = c.in_ok-tcp.ensures.header ∙ ap (λ (b : List ℕ). header_len b) is;

@@ -20,4 +20,4 @@ returns-clause-within c = λ asked unsparing past stands.
     let d = c.args.self.now in
     c.streams.ensures.stands (app_of_segment d.decode.rules) (segments_of (events_of past))
     (subst (λ (x : DissectorShown). ReadsFor (app_of_segment d.decode.rules) (segments_of (events_of past)) x.state.streams) (sym c.self.view_is)
-    (streams_of_all d past stands (all_asked d (subst IsKept c.self.view_is c.self.invariant) asked unsparing)))
+    (streams_of_all d past stands (all_asked d (subst IsKept c.self.view_is c.self.invariant.0) asked unsparing)))

@@ -2,7 +2,7 @@ use Rattle.std.proofs.Common.{◌+◌, List, length, subst, sym, ap, ◌∙◌, 
 use Rattle.pk_fields.specs.declared.rules.PortRule.{PortRule}
 use Rattle.dissect.specs.Stands.{DissectorShown}
 use Rattle.dissect.specs.declared.keeping.Keeping.{Keeping}
-use Rattle.dissect.specs.Keeping.{KeepsFor, KeepsWhole, keeps_all}
+use Rattle.dissect.specs.Keeping.{GoesPlain, KeepsFor, KeepsWhole, keeps_all}
 use Rattle.app_layers.specs.Times.{with_time}
 use Rattle.dissect.specs.Trees.{tree_at}
 use Rattle.dissect.proofs.Taken.{Reads, ReadsBy, tree-taken, lacks-read, lacks-taken, values-taken, values-read, after-taken}
@@ -52,25 +52,27 @@ returns-in-Ok-clause-after c = λ past after.
 
 pub make_tree-requires-clause-few : goal.make_tree-requires-clause-few
 make_tree-requires-clause-few c =
-    let udp = c.self.invariant.udp_few c.if-self.false in
-    let tcp = c.self.invariant.tcp_few c.if-self.false in
+    let udp = c.self.invariant.0.udp_few c.if-self.false in
+    let tcp = c.self.invariant.0.tcp_few c.if-self.false in
     let taken = ap (λ (d : DissectorShown). d.taken) c.self.view_is in
     record {
       udp = omega (arith, udp, taken, c.requires.number, c.number_of-number.ensures.number, c.number_of-number.ensures.fits);
       tcp = omega (arith, tcp, taken, c.requires.number, c.number_of-number.ensures.number, c.number_of-number.ensures.fits);
-      bytes = omega (arith, c.self.invariant.bytes_few c.if-self.false, ap (λ (d : DissectorShown). d.captured) c.self.view_is, c.requires.captured);
+      bytes = omega (arith, c.self.invariant.0.bytes_few c.if-self.false, ap (λ (d : DissectorShown). d.captured) c.self.view_is, c.requires.captured);
     }
 
 pub invariant_of-self-in-Err : goal.invariant_of-self-in-Err
 invariant_of-self-in-Err c =
-    let few = c.self.invariant.udp_few c.if-self.false in
-    let taken = ap (λ (d : DissectorShown). d.taken) c.self.view_is in
-    record {
-      times = c.self.invariant.times;
-      udp = omega (arith, few, taken, c.requires.number, c.number_of-number.ensures.number, c.number_of-number.ensures.fits, c.make_tree.ensures.added.udp);
-      udp_few = λ not_spent. absurd (true≢false not_spent);
-      tcp_few = λ not_spent. absurd (true≢false not_spent);
-      bytes_few = λ not_spent. absurd (true≢false not_spent);
-      asked = subst (λ (keeps : Keeping). KeepsFor keeps c.self.inside.wanted) (sym c.make_tree.ensures.added.keeps) c.self.invariant.asked;
-      whole = λ unsparing. subst (λ (keeps : Keeping). KeepsWhole keeps c.self.inside.wanted) (sym c.make_tree.ensures.added.keeps) (c.self.invariant.whole unsparing);
-    }
+    let few = c.self.invariant.0.udp_few c.if-self.false in
+    let taken = ap (λ (d : DissectorShown). d.taken) c.self.view_is in (
+      record {
+        times = c.self.invariant.0.times;
+        udp = omega (arith, few, taken, c.requires.number, c.number_of-number.ensures.number, c.number_of-number.ensures.fits, c.make_tree.ensures.added.udp);
+        udp_few = λ not_spent. absurd (true≢false not_spent);
+        tcp_few = λ not_spent. absurd (true≢false not_spent);
+        bytes_few = λ not_spent. absurd (true≢false not_spent);
+        asked = subst (λ (keeps : Keeping). KeepsFor keeps c.self.inside.wanted) (sym c.make_tree.ensures.added.keeps) c.self.invariant.0.asked;
+        whole = λ unsparing. subst (λ (keeps : Keeping). KeepsWhole keeps c.self.inside.wanted) (sym c.make_tree.ensures.added.keeps) (c.self.invariant.0.whole unsparing);
+      },
+      λ goes. subst (GoesPlain c.self.inside.wanted) (sym c.make_tree.ensures.added.keeps) (c.self.invariant.1 goes),
+    )

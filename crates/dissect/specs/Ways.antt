@@ -1,0 +1,132 @@
+-- The way through a plain frame's headers, and the headers that stand for the layers they make.
+use Rattle.std.specs.Prelude.{◌≡◌, ◌==◌, ℕ, ◌-◌, ◌<◌, ◌≤◌, Bool as Truth, false, List, [], ◌∷◌, ◌++◌, length, take, count_by}
+use Rattle.std.specs.List.{AllByRecursion as Each}
+use Rattle.pk_base.specs.declared.span.Span.{Span}
+use Rattle.pk_base.specs.declared.heads.Mode.TheVariants.{Plain}
+use Rattle.pk_fields.specs.FieldSets.{is_in}
+use Rattle.pk_fields.specs.Ids.{TCP, UDP}
+use Rattle.pk_fields.specs.declared.rules.PortRule.{PortRule}
+use Rattle.pk_source.specs.Laws.{IsUntold}
+use Rattle.pk_source.specs.Outlines.{AreNumbered, IsReadWhole, outlined, sizes_of}
+use Rattle.pk_source.specs.declared.header.Header.{Header}
+use Rattle.pk_source.specs.declared.header.Note.{Note}
+use Rattle.pk_tree.specs.Buffers.{IsInside}
+use Rattle.pk_tree.specs.Layouts.{reach}
+use Rattle.pk_tree.specs.Tables.{steps_of}
+use Rattle.pk_tree.specs.Trees.{TreeShown}
+use Rattle.pk_tree.specs.declared.layout.Reach.TheVariants.{All}
+use Rattle.pk_tree.specs.declared.layout.Step.{Step}
+use Rattle.dis_ports.specs.TcpOptions.{option_fields}
+use Rattle.capture_read.specs.declared.frame.Frame.{Frame}
+use Rattle.app_layers.specs.FrameLayer.{kept_frame}
+use Rattle.app_layers.specs.declared.times.Times.{Times}
+use Rattle.dissect.specs.Carried.{frame_notes}
+use Rattle.dissect.specs.declared.todo.Head.{Head}
+use Rattle.dissect.specs.declared.ways.Carried.{Carried}
+use Rattle.dissect.specs.declared.ways.Carried.TheVariants as carries
+use Rattle.dissect.specs.Events.{Event}
+use Rattle.dissect.specs.Heads.{HeadsShown}
+use Rattle.dissect.specs.Walks.{Walk, all_met, chain, datagram_met, go_on, link_met, segment_met}
+
+-- no field of the options of TCP is wanted
+abbrev pub AsksNoOptions : List ℕ → Type 0
+AsksNoOptions wanted = Each (λ field. is_in wanted field ≡ false) option_fields
+
+-- how many headers are of a protocol
+abbrev pub headers_of : ℕ → List Header → ℕ
+headers_of proto headers = count_by (λ (h : Header). h.proto == proto) headers
+
+-- of all protocols but the frame's own nothing is told
+abbrev pub AreOfFrame : List Note → Type 0
+AreOfFrame notes = (proto : ℕ) → 0 < proto → IsUntold proto notes
+
+-- where a header stands, and by which steps its table reads it
+pub record IsHeaderOf (proto : ℕ) (span : Span) (holds : List Truth) (steps : List Step) (h : Header) : Type 0 where
+  pub own : h.proto ≡ proto
+  pub place : h.span ≡ span
+  pub table : steps_of holds (sizes_of h) h.slots.now ≡ steps
+  pub ends : reach h.span.len steps ≡ All
+
+-- the headers so far, of protocols up to a number, each read whole
+pub record AreRead (frame : Frame) (most : ℕ) (headers : List Header) : Type 0 where
+  pub whole : Each (IsReadWhole (frame.bytes ∷ [])) headers
+  pub numbered : (wanted : List ℕ) (notes : List Note)
+      → AreNumbered [] (outlined frame.bytes wanted headers notes).layers
+  pub lower : Each (λ (h : Header). h.proto ≤ most) headers
+
+-- what is met behind the first header
+abbrev pub LeadsTo : Frame → HeadsShown → (List PortRule → List ℕ → List Event → Walk) → Type 0
+LeadsTo frame heads met =
+    (wanted : List ℕ) → AsksNoOptions wanted → (rules : List PortRule) (es : List Event)
+    → all_met rules frame
+    (link_met rules frame (outlined frame.bytes wanted (take 1 heads.headers) heads.notes) es)
+    ≡ met rules wanted es
+
+abbrev pub shown : Frame → List ℕ → HeadsShown → TreeShown
+shown frame wanted heads = outlined frame.bytes wanted heads.headers heads.notes
+
+-- behind the headers so far, at most so many, comes this one
+pub record IsAt (frame : Frame) (most count : ℕ) (heads : HeadsShown) (head : Head) : Type 0 where
+  pub read : AreRead frame most heads.headers
+  pub told : AreOfFrame heads.notes
+  pub some : 0 < length heads.headers
+  pub few : length heads.headers ≤ count
+  pub plain : head.mode ≡ Plain
+  pub inside : IsInside (frame.bytes ∷ []) head.span
+  pub way : LeadsTo frame heads (λ rules wanted es.
+      chain rules (32 - length heads.headers) frame (go_on (shown frame wanted heads) es head))
+
+-- the headers begin with the frame's own
+pub record IsBegun (frame : Frame) (headers : List Header) : Type 0 where
+  pub read : AreRead frame 0 headers
+  pub one : length headers ≡ 1
+
+-- what is met where a header carries this
+abbrev pub carried_met : List PortRule → Frame → TreeShown → List Event → Carried → Walk
+carried_met rules frame t es (carries.Segment packet head span) =
+    segment_met rules frame packet t es head span
+carried_met rules frame t es (carries.Datagram packet head span) =
+    datagram_met rules frame packet t es head span
+
+abbrev pub carrier_of : Carried → ℕ
+carrier_of (carries.Segment packet head span) = TCP
+carrier_of (carries.Datagram packet head span) = UDP
+
+abbrev pub span_of : Carried → Span
+span_of (carries.Segment packet head span) = span
+span_of (carries.Datagram packet head span) = span
+
+-- the last header is the only one of its protocol
+pub record IsLast (proto : ℕ) (headers : List Header) : Type 0 where
+  pub front : List Header
+  pub last : Header
+  pub parts : headers ≡ front ++ last ∷ []
+  pub own : last.proto ≡ proto
+  pub others : Each (λ (h : Header). (last.proto == h.proto) ≡ false) front
+
+-- the headers end with one that carries this
+pub record IsCarried (frame : Frame) (heads : HeadsShown) (carried : Carried) : Type 0 where
+  pub read : AreRead frame TCP heads.headers
+  pub told : AreOfFrame heads.notes
+  pub few : length heads.headers ≤ 6
+  pub last : IsLast (carrier_of carried) heads.headers
+  pub inside : IsInside (frame.bytes ∷ []) (span_of carried)
+  pub way : LeadsTo frame heads (λ rules wanted es.
+      carried_met rules frame (shown frame wanted heads) es carried)
+
+-- whatever is told of the frame itself, behind the headers so far comes this one
+abbrev pub Reaches : Frame → ℕ → ℕ → List Header → Head → Type 0
+Reaches frame most count headers head =
+    (notes : List Note) → AreOfFrame notes
+    → IsAt frame most count (record { headers = headers; notes = notes }) head
+
+abbrev pub Carries : Frame → List Header → Carried → Type 0
+Carries frame headers carried =
+    (notes : List Note) → AreOfFrame notes
+    → IsCarried frame (record { headers = headers; notes = notes }) carried
+
+-- the headers begin with that of the frame itself, which with its notes stands for the tree that the walk begins with
+abbrev pub Opens : Frame → List Header → Type 0
+Opens frame headers =
+    (wanted : List ℕ) (before : Times)
+    → outlined frame.bytes wanted (take 1 headers) (frame_notes before frame) ≡ kept_frame wanted before frame
