@@ -6,4 +6,5 @@ pub mod NoteLemmas
 pub mod OutlineLaws
 pub mod PickLemmas
 pub mod Placed
+pub mod SingleLemmas
 pub mod ThereLemmas

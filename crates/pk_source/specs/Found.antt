@@ -1,5 +1,5 @@
 -- The values of a field, found where headers have them.
-use Rattle.std.specs.Prelude.{◌≡◌, ◌==◌, ℕ, zero, suc, ◌&&◌, Bool as Truth, true, false, List, [], ◌∷◌, ◌++◌, if◌then◌else◌, Option, Some, None, IsTrue}
+use Rattle.std.specs.Prelude.{◌≡◌, ◌==◌, ℕ, zero, suc, ◌&&◌, not, Bool as Truth, true, false, List, [], ◌∷◌, ◌++◌, if◌then◌else◌, Option, Some, None, IsTrue}
 use Rattle.std.specs.List.{flat_map, slice_get, slice_index_or}
 use Rattle.pk_base.specs.Chosen.{is_chosen}
 use Rattle.pk_base.specs.declared.chosen.Layers.{Layers}
@@ -66,6 +66,12 @@ asked_told field layers notes h =
 
 abbrev pub layer_told : ℕ → Layers → Header → List Told
 layer_told proto layers h = if is_asked proto layers h then tolds.Read h.span ∷ [] else []
+
+-- whether at most one header is of a protocol, or none where one was seen before
+abbrev pub is_alone : Truth → ℕ → List Header → Truth
+is_alone seen proto [] = true
+is_alone seen proto (h ∷ headers) =
+    if h.proto == proto then not seen && is_alone true proto headers else is_alone seen proto headers
 
 -- a field's places in the chosen layers, in their order; a protocol has one in each of its layers
 unfoldable pub fields_told : ℕ → Layers → List Note → List Header → List Told

@@ -1,5 +1,5 @@
 -- Which slots of its protocol's table read a field, looked up once.
-use Rattle.std.specs.Prelude.{◌≡◌, ◌==◌, ℕ, Bool as Truth, false, List, [], ◌++◌, Some}
+use Rattle.std.specs.Prelude.{◌≡◌, ◌==◌, ℕ, Bool as Truth, true, false, List, [], ◌++◌, Some}
 use Rattle.std.specs.List.{find, slice_index_or}
 use Rattle.pk_base.specs.declared.span.Span.{Span}
 use Rattle.pk_fields.specs.Fields.{row_of}
@@ -32,6 +32,13 @@ picked_told span sizes field table picks.Never = []
 picked_told span sizes field table (picks.Once a) = slot_told span sizes field (slot_at table a)
 picked_told span sizes field table (picks.Twice a b) =
     slot_told span sizes field (slot_at table a) ++ slot_told span sizes field (slot_at table b)
+
+-- whether at most one slot was picked
+abbrev pub has_one_slot : Picks → Truth
+has_one_slot picks.Unknown = false
+has_one_slot picks.Never = true
+has_one_slot (picks.Once a) = true
+has_one_slot (picks.Twice a b) = false
 
 -- no place in the table is left out, in whatever span and with whatever sizes it is read
 abbrev pub IsPicked : ℕ → List Slot → Picks → Type 0

@@ -1,10 +1,11 @@
 // Where the values of a field stand, counted from 0.
-ghost use Rattle.std.specs.Prelude.{◌≡◌, ◌+◌, ◌<◌, ◌≤◌, ◌^◌, ◌∷◌, [], Bool as Truth, List, ℕ, IfSome, option_to_list, slice_get, slice_index_or, length};
+ghost use Rattle.std.specs.Prelude.{◌≡◌, ◌+◌, ◌<◌, ◌≤◌, ◌^◌, ◌∷◌, [], true, false, Bool as Truth, List, ℕ, IfSome, option_to_list, slice_get, slice_index_or, length};
 ghost use Rattle.std.specs.List.{All as ForAll};
 ghost use Rattle.pk_fields.specs.Fields.{row_of};
-ghost use Rattle.pk_source.specs.Found.{all_told, asked_told, fields_told, first_told, header_told, is_asked, kth, layer_told, layers_told, note_told, notes_told, rows_told, slot_told, some_read, there, told_in};
+ghost use Rattle.pk_base.specs.declared.chosen.Layers.{Layers as LayersShown};
+ghost use Rattle.pk_source.specs.Found.{all_told, asked_told, fields_told, first_told, header_told, is_alone, is_asked, kth, layer_told, layers_told, note_told, notes_told, rows_told, slot_told, some_read, there, told_in};
 ghost use Rattle.pk_source.specs.declared.header.Header.{Header as HeaderShown};
-ghost use Rattle.pk_source.specs.Picks.{IsPicked, IsPickedIn, picked_told, slot_at};
+ghost use Rattle.pk_source.specs.Picks.{has_one_slot, IsPicked, IsPickedIn, picked_told, slot_at};
 ghost use Rattle.pk_source.specs.Outlines.{IsReadWhole, SlotsKnown, sizes_of};
 ghost use Rattle.pk_tree.specs.Layouts.{step_reach, within};
 ghost use Rattle.pk_tree.specs.Tables.{step_of};
@@ -53,7 +54,61 @@ pub(crate) fn find(
     if !wanted.contains(asked.field) {
         return None;
     }
+    if k > 0 && is_single(headers, notes, asked) {
+        return None;
+    }
     there(kth_told(headers, notes, asked, layers, k))
+}
+
+/// Whether a field has at most one place: one header is of its protocol, one slot of the table is of it, and nothing is told beside.
+#[inline(always)]
+#[tactic(auto, using(crate::proofs::SingleLemmas::at_most_one))]
+fn is_single(headers: &[Header], notes: &[Note], asked: &Asked) -> bool
+    requires home { asked.now.home ≡ (row_of asked.now.field).proto }
+    requires picked { ForAll (IsPickedIn asked.now) headers.now }
+    ensures { result ≡ true → (layers : LayersShown)
+        → length (fields_told asked.now.field layers notes.now headers.now) ≤ 1 }
+{
+    has_one_slot(asked.picks) && is_untold(notes, asked.field) && is_alone(headers, asked.home)
+}
+
+#[inline(always)]
+fn has_one_slot(picks: Picks) -> bool
+    ensures { result ≡ has_one_slot picks }
+{
+    match picks {
+        Picks::Never | Picks::Once(_) => true,
+        Picks::Unknown | Picks::Twice(_, _) => false,
+    }
+}
+
+#[inline(always)]
+fn is_untold(notes: &[Note], field: FieldId) -> bool
+    ensures { result ≡ true → notes_told field notes.now ≡ [] }
+{
+    for note in notes {
+        if note.field == field {
+            return false;
+        }
+    }
+    true
+}
+
+/// Whether at most one header is of a protocol.
+#[inline(always)]
+fn is_alone(headers: &[Header], proto: FieldId) -> bool
+    ensures { result ≡ is_alone false proto headers.now }
+{
+    let mut seen = false;
+    for header in headers {
+        if header.proto == proto {
+            if seen {
+                return false;
+            }
+            seen = true;
+        }
+    }
+    true
 }
 
 /// A field's first place in the layer of the header at a place.
@@ -78,6 +133,7 @@ pub(crate) fn find_in(
 }
 
 /// A field's first place in the layer of one header.
+#[inline(always)]
 #[tactic(auto, unfolding(crate::specs::Found::told_in))]
 fn first_told(wanted: &FieldSet, header: &Header, notes: &[Note], asked: &Asked) -> Option<Told>
     requires end { header.now.span.start + header.now.span.len < 2 ^ 32 }
@@ -92,6 +148,7 @@ fn first_told(wanted: &FieldSet, header: &Header, notes: &[Note], asked: &Asked)
     there(asked_kth(header, notes, asked, &Layers::All, 0))
 }
 
+#[inline(always)]
 fn there(kth: Kth) -> Option<Told>
     ensures { result ≡ there kth }
 {
@@ -101,6 +158,7 @@ fn there(kth: Kth) -> Option<Told>
     }
 }
 
+#[inline(always)]
 pub(crate) fn is_protocol(field: FieldId) -> bool
     ensures { result ≡ is_proto (row_of field).kind }
 {
@@ -121,6 +179,7 @@ fn kth_layer(headers: &[Header], proto: FieldId, layers: &Layers, k: usize) -> K
     Kth::Left(left)
 }
 
+#[inline(always)]
 fn layer_kth(header: &Header, proto: FieldId, layers: &Layers, k: usize) -> Kth
     ensures { result ≡ kth (layer_told proto layers.now header.now) k }
 {
@@ -141,14 +200,17 @@ fn kth_told(headers: &[Header], notes: &[Note], asked: &Asked, layers: &Layers, 
 {
     let mut left = k;
     for header in headers {
-        match asked_kth(header, notes, asked, layers, left) {
-            Kth::At(told) => return Kth::At(told),
-            Kth::Left(rest) => left = rest,
+        if is_asked(header, asked.home, layers) {
+            match header_kth(header, notes, asked, left) {
+                Kth::At(told) => return Kth::At(told),
+                Kth::Left(rest) => left = rest,
+            }
         }
     }
     Kth::Left(left)
 }
 
+#[inline(always)]
 fn asked_kth(header: &Header, notes: &[Note], asked: &Asked, layers: &Layers, k: usize) -> Kth
     requires end { header.now.span.start + header.now.span.len < 2 ^ 32 }
     requires whole { (buffers : List (List ℕ)) × IsReadWhole buffers header.now }
@@ -163,6 +225,7 @@ fn asked_kth(header: &Header, notes: &[Note], asked: &Asked, layers: &Layers, k:
     }
 }
 
+#[inline(never)]
 fn header_kth(header: &Header, notes: &[Note], asked: &Asked, k: usize) -> Kth
     requires end { header.now.span.start + header.now.span.len < 2 ^ 32 }
     requires whole { (buffers : List (List ℕ)) × IsReadWhole buffers header.now }
@@ -176,6 +239,7 @@ fn header_kth(header: &Header, notes: &[Note], asked: &Asked, k: usize) -> Kth
 }
 
 /// The place of a number among those of the slots that were picked.
+#[inline(always)]
 fn picked_kth(header: &Header, asked: &Asked, k: usize) -> Kth
     requires end { header.now.span.start + header.now.span.len < 2 ^ 32 }
     requires known { SlotsKnown header.now.span.len (sizes_of header.now) header.now.slots.now }
@@ -193,6 +257,7 @@ fn picked_kth(header: &Header, asked: &Asked, k: usize) -> Kth
 }
 
 /// The place of a number among those of one slot.
+#[inline(always)]
 fn slot_kth(header: &Header, number: u8, field: FieldId, k: usize) -> Kth
     requires end { header.now.span.start + header.now.span.len < 2 ^ 32 }
     requires known { SlotsKnown header.now.span.len (sizes_of header.now) header.now.slots.now }
@@ -209,6 +274,7 @@ fn slot_kth(header: &Header, number: u8, field: FieldId, k: usize) -> Kth
     }
 }
 
+#[inline(always)]
 fn is_asked(header: &Header, proto: FieldId, layers: &Layers) -> bool
     ensures { result ≡ is_asked proto layers.now header.now }
 {
@@ -244,6 +310,7 @@ fn note_kth(notes: &[Note], field: FieldId, k: usize) -> Kth
     Kth::Left(left)
 }
 
+#[inline(always)]
 fn note_told(note: &Note, field: FieldId) -> Option<Told>
     ensures { option_to_list result ≡ note_told field note.now }
 {
@@ -254,6 +321,7 @@ fn note_told(note: &Note, field: FieldId) -> Option<Told>
     }
 }
 
+#[inline(always)]
 fn kth_of(told: Option<Told>, k: usize) -> Kth
     ensures { result ≡ kth (option_to_list told) k }
 {
@@ -265,6 +333,7 @@ fn kth_of(told: Option<Told>, k: usize) -> Kth
 }
 
 /// Where a slot reads a field in a span, if it does.
+#[inline(always)]
 #[tactic(auto, unfolding(crate::specs::Found::slot_told, pk_tree::specs::Layouts::step_reach))]
 fn slot_told(span: Span, part: u32, field: FieldId, slot: Slot) -> Option<Told>
     requires end { span.start + span.len < 2 ^ 32 }
@@ -305,6 +374,7 @@ fn slot_told(span: Span, part: u32, field: FieldId, slot: Slot) -> Option<Told>
     }
 }
 
+#[inline(always)]
 fn some_read(span: Span, at: usize, len: usize) -> Option<Told>
     requires end { span.start + span.len < 2 ^ 32 }
     requires inside { 0 < len → at + len ≤ span.len }
@@ -317,6 +387,7 @@ fn some_read(span: Span, at: usize, len: usize) -> Option<Told>
     }
 }
 
+#[inline(always)]
 fn read(span: Span, at: usize, len: usize) -> Told
     requires end { span.start + span.len < 2 ^ 32 }
     requires inside { at + len ≤ span.len }
@@ -330,6 +401,7 @@ fn read(span: Span, at: usize, len: usize) -> Told
 }
 
 /// The size of a number, of which there is one.
+#[inline(always)]
 fn size_at(part: u32, number: u8) -> usize
     ensures { result ≡ slice_index_or (part ∷ []) number 0 }
 {

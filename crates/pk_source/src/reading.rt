@@ -10,6 +10,7 @@ use pk_base::{NoMemory, Octets, Span, Value, be_bits};
 use pk_fields::{BitPlace, FieldId, ValueKind, bits, kind};
 
 /// The bytes of a span.
+#[inline(always)]
 #[tactic(auto, unfolding(pk_tree::specs::Buffers::bytes_of))]
 pub(crate) fn bytes_at(bytes: &Octets, span: Span) -> &[u8]
     requires { IsInside (bytes.now ∷ []) span }
@@ -31,6 +32,7 @@ pub(crate) fn part_at(bytes: &Octets, span: Span) -> Result<Octets, NoMemory>
 }
 
 /// What a field's row reads in a span.
+#[inline(always)]
 #[tactic(auto, unfolding(pk_tree::specs::Values::value_of))]
 pub(crate) fn read_value(bytes: &Octets, field: FieldId, span: Span) -> Result<Value, NoMemory>
     requires inside { IsInside (bytes.now ∷ []) span }
@@ -66,6 +68,7 @@ fn read_bytes(kind: ValueKind, bytes: &Octets, span: Span) -> Result<Value, NoMe
 }
 
 /// A value that bits spell.
+#[inline(always)]
 fn read_number(kind: ValueKind, place: BitPlace, bytes: &[u8]) -> Value
     requires sound { IsSound kind place }
     requires size { length bytes.now ≡ size_of_place place }
@@ -82,6 +85,7 @@ fn read_number(kind: ValueKind, place: BitPlace, bytes: &[u8]) -> Value
 }
 
 /// The number that bits spell, taken by their factor.
+#[inline(always)]
 fn scaled_number(place: BitPlace, bytes: &[u8]) -> u64
     requires some { 1 ≤ place.width }
     requires most { place.width ≤ 64 }
@@ -95,6 +99,7 @@ fn scaled_number(place: BitPlace, bytes: &[u8]) -> u64
 }
 
 /// The number that bits spell. Where the width is a constant, the compiler reads whole bytes at once.
+#[inline(always)]
 fn placed_number(place: BitPlace, bytes: &[u8]) -> u64
     requires some { 1 ≤ place.width }
     requires most { place.width ≤ 64 }
@@ -111,6 +116,7 @@ fn placed_number(place: BitPlace, bytes: &[u8]) -> u64
 }
 
 /// The number that sixteen bytes spell.
+#[inline(always)]
 fn wide_number(bytes: &[u8]) -> u128
     requires { length bytes.now ≡ 16 }
     ensures { result ≡ number_of_bits bytes.now 0 128 }
@@ -118,6 +124,7 @@ fn wide_number(bytes: &[u8]) -> u128
     (u128::from(be_bits(bytes, 0, 64)) << 64) + u128::from(be_bits(bytes, 64, 64))
 }
 
+#[inline(always)]
 fn six_bytes(bytes: &[u8]) -> [u8; 6]
     requires { length bytes.now ≡ 6 }
     ensures { result ≡ bytes.now }

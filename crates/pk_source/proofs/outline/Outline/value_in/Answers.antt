@@ -1,4 +1,4 @@
-use Rattle.std.proofs.Common.{◌∷◌, [], Some, slice_get, ap, sym, ◌∙◌}
+use Rattle.std.proofs.Common.{◌∷◌, [], Some, ap, sym, ◌∙◌}
 use Rattle.std.specs.Option.{option_map}
 use Rattle.pk_source.specs.Found.{value_at}
 use Rattle.pk_source.proofs.FitLemmas.{first_reads}
