@@ -10,6 +10,7 @@ use Rattle.pk_fields.specs.Ids.{IP, IPV6, IPV6_HOPOPTS, IPV6_ROUTING, IPV6_FRAGH
 use Rattle.pk_fields.specs.Table.{rows}
 use Rattle.pk_tree.specs.Layouts.{reach, step_reach, StepsFit}
 use Rattle.pk_tree.specs.declared.layout.Reach.TheVariants.{All}
+use Rattle.dis_ip.specs.Extensions.{extension_layout, extension_proto}
 use Rattle.dis_ip.specs.FragmentHeader.{fragment_layout}
 use Rattle.dis_ip.specs.Fragments.{part_after}
 use Rattle.dis_ip.specs.Ip4.{ip4_layout, ip4_after, ip4_header, ip4_is_read, ip4_more, ip4_offset, ip4_packet, ip4_protocol, ip4_span}
@@ -17,6 +18,9 @@ use Rattle.dis_ip.specs.Protocols.{ends_chain, next_of_protocol}
 use Rattle.dis_ip.specs.Ip6.{ip6_after, ip6_is_read, ip6_layout, ip6_next, ip6_packet, ip6_span}
 use Rattle.dis_ip.specs.Options.{header_size, hop_options_layout, target_options_layout}
 use Rattle.dis_ip.specs.Routing.{routing_layout}
+use Rattle.dis_ip.specs.Sized.{next_of}
+use Rattle.dis_ip.specs.declared.sized.Sized.{Sized}
+use Rattle.dis_ip.specs.declared.sized.Sized.TheVariants.{HopOptions, Routing, TargetOptions}
 
 pub ip4_fits : (bytes : List ℕ) → StepsFit IP (ip4_layout bytes)
 unfolding ip4_layout StepsFit row_of rows
@@ -63,6 +67,18 @@ routing_fits bytes = search rules
 pub routing_whole : (bytes : List ℕ) (end : ℕ) → header_size bytes ≤ end → reach end (routing_layout bytes) ≡ All
 unfolding routing_layout reach step_reach row_of rows
 routing_whole bytes end all = search rules
+
+pub sized_fits : (which : Sized) (bytes : List ℕ) → StepsFit (extension_proto (next_of which)) (extension_layout (next_of which) bytes)
+unfolding extension_layout
+sized_fits HopOptions bytes = hop_options_fits bytes
+sized_fits Routing bytes = routing_fits bytes
+sized_fits TargetOptions bytes = target_options_fits bytes
+
+pub sized_whole : (which : Sized) (bytes : List ℕ) (end : ℕ) → header_size bytes ≤ end → reach end (extension_layout (next_of which) bytes) ≡ All
+unfolding extension_layout
+sized_whole HopOptions bytes end all = hop_options_whole bytes end all
+sized_whole Routing bytes end all = routing_whole bytes end all
+sized_whole TargetOptions bytes end all = target_options_whole bytes end all
 
 pub fragment_fits : StepsFit IPV6_FRAGHDR fragment_layout
 unfolding fragment_layout StepsFit row_of rows

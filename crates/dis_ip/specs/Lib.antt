@@ -7,3 +7,4 @@ pub mod Options
 pub mod Packets
 pub mod Protocols
 pub mod Routing
+pub mod Sized

@@ -7,8 +7,7 @@ ghost use Rattle.dis_ip.specs.Fragments.{LastIsPart};
 ghost use Rattle.dis_ip.specs.Extensions.{is_extension, extension_proto, extension_layout, extension_after};
 
 use crate::fragment_header::read_fragment_header;
-use crate::options::{read_hop_options, read_target_options};
-use crate::routing::read_routing;
+use crate::sized::{Sized, read_sized};
 use pk_base::{After, Mode, Next, NoMemory, PacketHead, Span};
 use pk_tree::TreeBuilder;
 
@@ -40,9 +39,9 @@ pub fn read_extension(
     ensures most { OnOk result (length b.new.layers ≤ length b.old.layers + 2) }
 {
     match which {
-        Next::HopOpts => read_hop_options(span, cut, mode, b),
-        Next::Routing => read_routing(span, cut, mode, b),
-        Next::DstOpts => read_target_options(span, cut, mode, b),
+        Next::HopOpts => read_sized(Sized::HopOptions, span, cut, mode, b),
+        Next::Routing => read_sized(Sized::Routing, span, cut, mode, b),
+        Next::DstOpts => read_sized(Sized::TargetOptions, span, cut, mode, b),
         Next::FragHdr => read_fragment_header(packet, span, cut, mode, b),
         Next::Ip4
         | Next::Ip6

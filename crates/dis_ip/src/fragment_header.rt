@@ -9,7 +9,7 @@ ghost use Rattle.dis_ip.specs.Fragments.{LastIsPart};
 ghost use Rattle.dis_ip.specs.FragmentHeader.{fragment_layout, fragment_part, fragment_after};
 
 use crate::fragment::part_after;
-use crate::options::next_header;
+use crate::sized::next_header;
 use pk_base::{After, FragmentHead, Mode, NoMemory, PacketHead, Span};
 use pk_fields::ids;
 use pk_tree::{Reach, Slot, TreeBuilder, pass_layer, peek, read_table};

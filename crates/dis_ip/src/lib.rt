@@ -6,10 +6,9 @@ mod fragment;
 mod fragment_header;
 mod ip4;
 mod ip6;
-mod options;
 mod packet;
 mod protocol;
-mod routing;
+mod sized;
 
 pub use extension::read_extension;
 pub use ip4::{WholeIp4, behind_ip4, head_of_ip4, ip4_slots, open_ip4, read_ip4};
