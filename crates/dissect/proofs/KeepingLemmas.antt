@@ -13,10 +13,10 @@ use Rattle.stream_messages.specs.declared.told.App.{App as StreamApp}
 use Rattle.app_layers.specs.MessageLayers.{app_of_segment}
 use Rattle.app_layers.proofs.StreamApps.{apps_of_ends}
 use Rattle.dissect.specs.declared.keeping.Follows.{Follows}
-use Rattle.dissect.specs.declared.keeping.Follows.TheVariants.{Nothing, Places, One, Everything}
+use Rattle.dissect.specs.declared.keeping.Follows.TheVariants.{Nothing, Places, One, Applications, Everything}
 use Rattle.dissect.specs.declared.keeping.Keeping.{Keeping}
 use Rattle.dissect.specs.Followed.{asks_messages, asks_streams}
-use Rattle.dissect.specs.Keeping.{AsksNoLinks, FollowsEnough, KeepsFor, KeepsWhole, followed_of, is_everything, is_followed, keeps_all, keeps_no_bytes, tells_places}
+use Rattle.dissect.specs.Keeping.{AsksNoLinks, FollowsEnough, KeepsFor, KeepsWhole, followed_of, is_everything, is_followed, keeps_all, tells_places}
 use Rattle.capture_read.specs.declared.frame.Frame.{Frame}
 use Rattle.tcp_messages.specs.Standing.{ReadsFor}
 use Rattle.dissect.specs.Segments.{segments_of}
@@ -44,12 +44,14 @@ pub everything_takes : (follows : Follows) (app : Option StreamApp) → is_every
 everything_takes Nothing app all = absurd (true≢false (sym all))
 everything_takes Places app all = absurd (true≢false (sym all))
 everything_takes (One only) app all = absurd (true≢false (sym all))
+everything_takes Applications app all = absurd (true≢false (sym all))
 everything_takes Everything app all = refl
 
 pub everything_enough : (follows : Follows) (wanted : List ℕ) → is_everything follows ≡ true → FollowsEnough follows wanted
 everything_enough Nothing wanted all = absurd (true≢false (sym all))
 everything_enough Places wanted all = absurd (true≢false (sym all))
 everything_enough (One only) wanted all = absurd (true≢false (sym all))
+everything_enough Applications wanted all = absurd (true≢false (sym all))
 everything_enough Everything wanted all = tt
 
 all_of : (rules : List PortRule) (segments : List Segment) → followed_of rules Everything segments ≡ segments
@@ -61,6 +63,7 @@ pub everything_of : (rules : List PortRule) (follows : Follows) (segments : List
 everything_of rules Nothing segments all = absurd (true≢false (sym all))
 everything_of rules Places segments all = absurd (true≢false (sym all))
 everything_of rules (One only) segments all = absurd (true≢false (sym all))
+everything_of rules Applications segments all = absurd (true≢false (sym all))
 everything_of rules Everything segments all = all_of rules segments
 
 -- is enough for any fields
@@ -106,34 +109,25 @@ pub placed_passed : (follows : Follows) (app : Option StreamApp) → tells_place
 placed_passed Nothing app places = refl
 placed_passed Places app places = refl
 placed_passed (One only) app places = absurd (true≢false (sym places))
+placed_passed Applications app places = absurd (true≢false (sym places))
 placed_passed Everything app places = absurd (true≢false (sym places))
 
 pub taken_unplaced : (follows : Follows) (app : Option StreamApp) → is_followed follows app ≡ true → tells_places follows ≡ false
 taken_unplaced Nothing app taken = refl
 taken_unplaced Places app taken = absurd (true≢false (sym taken))
 taken_unplaced (One only) app taken = refl
+taken_unplaced Applications app taken = refl
 taken_unplaced Everything app taken = refl
 
--- where no byte is kept, none is followed
-pub passes_followed : (follows : Follows) (app : Option StreamApp) → keeps_no_bytes follows ≡ true → is_followed follows app ≡ false
-passes_followed Nothing app passes = refl
-passes_followed Places app passes = refl
-passes_followed (One only) app passes = absurd (true≢false (sym passes))
-passes_followed Everything app passes = absurd (true≢false (sym passes))
-
-pub passes_some : (keeps : Keeping) → keeps_no_bytes keeps.follows ≡ true → keeps_all keeps ≡ false
-passes_some keeps passes = by_follows keeps.follows keeps.numbers passes
-  where
-    by_follows : (follows : Follows) (numbers : Bool) → keeps_no_bytes follows ≡ true → (is_everything follows && numbers) ≡ false
-    by_follows Nothing numbers all = refl
-    by_follows Places numbers all = refl
-    by_follows (One only) numbers all = absurd (true≢false (sym all))
-    by_follows Everything numbers all = absurd (true≢false (sym all))
+-- where not all is followed, not all is kept
+pub some_kept : (keeps : Keeping) → is_everything keeps.follows ≡ false → keeps_all keeps ≡ false
+some_kept keeps some = ap (λ (all : Bool). all && keeps.numbers) some
 
 pub placed_enough : (follows : Follows) (wanted : List ℕ) → tells_places follows ≡ true → FollowsEnough follows wanted → asks_messages wanted ≡ false
 placed_enough Nothing wanted places enough = absurd (true≢false (sym places))
 placed_enough Places wanted places enough = enough
 placed_enough (One only) wanted places enough = absurd (true≢false (sym places))
+placed_enough Applications wanted places enough = absurd (true≢false (sym places))
 placed_enough Everything wanted places enough = absurd (true≢false (sym places))
 
 -- ---- what is asked

@@ -15,6 +15,7 @@ mod KeepingLemmas
 mod Kept
 mod LeftOut
 mod MessagesFit
+mod MessagesPassed
 mod MessagesTold
 mod Numbering
 mod NumbersAside

@@ -51,7 +51,7 @@ payload_wanted : (app : Option App) (t : TreeShown) (cut : Bool) (span : Span) �
 unfolding payload_over
 payload_wanted app t cut span = if_wanted (span.len == 0) t t (message_over app t cut span) refl (message_wanted app t cut span)
 
-told_wanted : (t : TreeShown) (stream : ℕ) (span : Span) → (datagram_told t stream span).wanted ≡ t.wanted
+pub told_wanted : (t : TreeShown) (stream : ℕ) (span : Span) → (datagram_told t stream span).wanted ≡ t.wanted
 unfolding datagram_told
 told_wanted t stream span =
     let u = with_item t (made_of UDP_STREAM (Uint stream)) in

@@ -1,5 +1,5 @@
 -- A segment that is passed over: what is told of it where nothing of its stream is asked.
-use Rattle.std.proofs.Common.{◌≡◌, [], ◌∷◌, subst, ℕ, true, false, List, Option, Some, None, arith, refl, sym, ◌∙◌, ap, true≢false}
+use Rattle.std.proofs.Common.{◌≡◌, [], ◌∷◌, subst, ℕ, Bool, true, false, List, Option, Some, None, arith, refl, sym, ◌∙◌, ap, true≢false}
 use Rattle.pk_base.specs.declared.span.Span.{Span}
 use Rattle.pk_tree.specs.Buffers.{bytes_of}
 use Rattle.pk_fields.specs.FieldSets.{is_in}
@@ -18,7 +18,8 @@ use Rattle.dissect.specs.declared.state.State.{State}
 use Rattle.dissect.specs.declared.todo.Todo.TheVariants as todos
 use Rattle.dissect.specs.Events.{Event}
 use Rattle.dissect.specs.declared.keeping.Follows.{Follows}
-use Rattle.dissect.specs.declared.keeping.Follows.TheVariants.{Nothing, Places, One, Everything}
+use Rattle.dissect.specs.declared.keeping.Follows.TheVariants.{Nothing, Places, One, Applications, Everything}
+use Rattle.dissect.specs.Carried.{is_free, shown_by}
 use Rattle.dissect.specs.Followed.{asks_messages, asks_streams}
 use Rattle.dissect.specs.Keeping.{AsksNoPlaces, AsksOnly, FollowsEnough, followed_of, keeps_all, tells_places, is_followed, is_of}
 use Rattle.app_layers.specs.Aside.{LacksOnly}
@@ -42,6 +43,12 @@ use Rattle.dissect.specs.declared.keeping.Keeping.{Keeping}
 use Rattle.dissect.proofs.Asked.{messages_unasked, no_messages, none_in, none_of}
 use Rattle.dissect.proofs.KeepingLemmas.{all_everything, everything_of, everything_takes, passed_over, placed_enough, placed_passed}
 
+-- what a segment shows where no message is shown
+pub shown_free : (app : Option StreamApp) (cut : Bool) (span : Span) (t : TreeShown) → shown_by (is_free app) t span ≡ carried_over app cut span t []
+unfolding carried_over
+shown_free None cut span t = refl
+shown_free (Some app) cut span t = refl
+
 -- where no place in a stream is asked, a segment is told alike whatever it is to its stream
 pub places_alike : (t : TreeShown) (taken : Taken) (span : Span) → AsksNoPlaces t.wanted → segment_told t taken span ≡ carried_told t span
 unfolding segment_told
@@ -64,6 +71,8 @@ told_enough rules Nothing segments segment app t span taken enough = absurd (tru
 told_enough rules Places segments segment app t span taken enough = absurd (true≢false (sym taken))
 told_enough rules (One only) segments segment app t span taken enough =
     places_alike t (taken_after (followed_of rules (One only) segments) segment) span enough.places ∙ sym (places_alike t (taken_after segments segment) span enough.places)
+told_enough rules Applications segments segment app t span taken enough =
+    places_alike t (taken_after (followed_of rules Applications segments) segment) span enough.places ∙ sym (places_alike t (taken_after segments segment) span enough.places)
 told_enough rules Everything segments segment app t span taken enough =
     ap (λ (past : List Segment). segment_told t (taken_after past segment) span) (everything_of rules Everything segments refl)
 
@@ -92,6 +101,9 @@ nothing_asked Nothing app past s wanted enough untold passed =
 nothing_asked Places app past s wanted enough untold passed = absurd (true≢false untold)
 nothing_asked (One only) app past s wanted enough untold passed =
     record { places = enough.places; segment = enough.segment; messages = no_others only app past s wanted enough passed }
+nothing_asked Applications None past s wanted enough untold passed =
+    record { places = enough.places; segment = enough.segment; messages = none_shown_of wanted past s }
+nothing_asked Applications (Some app) past s wanted enough untold passed = absurd (true≢false passed)
 nothing_asked Everything app past s wanted enough untold passed = absurd (true≢false passed)
 
 pub passed-walked : (rules : List PortRule) (frame : Frame) (packet : PacketHead) (head : TcpHead) (span : Span) (app : Option StreamApp) (state : State) (t v : TreeShown)

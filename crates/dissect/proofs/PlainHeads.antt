@@ -1,5 +1,5 @@
 -- The headers of a plain frame stand for the tree that its way makes.
-use Rattle.std.proofs.Common.{◌≡◌, ◌==◌, ℕ, ◌+◌, ◌<◌, ◌≤◌, ◌^◌, Bool as Truth, true, false, ◌⊎◌, inl, inr, Option, None, Some, List, [], ◌∷◌, ◌++◌, length, take, refl, ap, sym, subst, ◌∙◌, append_assoc, append-nil, arith, rules}
+use Rattle.std.proofs.Common.{◌≡◌, ◌==◌, ℕ, ◌+◌, ◌<◌, ◌≤◌, ◌^◌, Bool as Truth, true, false, ◌⊎◌, inl, inr, List, [], ◌∷◌, ◌++◌, length, take, refl, ap, sym, subst, ◌∙◌, append_assoc, append-nil, arith, rules}
 use Rattle.std.specs.List.{All as ForAll, AllByRecursion as Each}
 use Rattle.std.specs.Prelude.{nat_le}
 use Rattle.std.proofs.lemmas.Bool.{cases_Bool}
@@ -7,8 +7,6 @@ use Rattle.std.proofs.lemmas.Bool.Decides.{nat_tests}
 use Rattle.std.proofs.lemmas.List.{length_push}
 use Rattle.std.proofs.lemmas.List.Elements.{All-from_recursion}
 use Rattle.pk_base.specs.declared.span.Span.{Span}
-use Rattle.pk_base.specs.declared.heads.PacketHead.{PacketHead}
-use Rattle.pk_base.specs.declared.heads.TcpHead.{TcpHead}
 use Rattle.pk_fields.specs.declared.rules.PortRule.{PortRule}
 use Rattle.pk_base.specs.declared.heads.Mode.{Mode}
 use Rattle.pk_base.specs.declared.heads.Mode.TheVariants.{Plain}
@@ -34,25 +32,22 @@ use Rattle.pk_tree.specs.declared.layout.Reach.TheVariants.{All}
 use Rattle.pk_tree.specs.declared.layout.Step.{Step}
 use Rattle.pk_tree.specs.declared.layout.Step.TheVariants.{Made, Whole}
 use Rattle.pk_tree.specs.declared.table.Slot.{Slot}
-use Rattle.stream_messages.specs.declared.told.App.{App as StreamApp}
 use Rattle.capture_read.specs.declared.frame.Frame.{Frame}
 use Rattle.app_layers.specs.DataLayer.{data_layout, data_over}
 use Rattle.app_layers.specs.FrameLayer.{frame_layout, frame_span, is_cut, kept_frame}
-use Rattle.app_layers.specs.MessageLayers.{carried_over}
 use Rattle.app_layers.specs.declared.times.Times.{Times}
-use Rattle.dissect.specs.Carried.{carried_by, data_header, data_headers, data_notes, frame_header, frame_notes, notes_of, number_note, segment_notes}
+use Rattle.dissect.specs.Carried.{carried_by, carrier_notes, carrier_proto, data_header, data_headers, data_notes, frame_header, frame_notes, notes_of, number_note, shown_by}
 use Rattle.dissect.specs.Heads.{HeadsShown, StandFor}
 use Rattle.dissect.specs.Events.{Event, NewFrame}
 use Rattle.dissect.specs.Tables.{AreTables, IsTabled, tables_listed}
 use Rattle.dissect.specs.Trees.{kept_walk}
-use Rattle.dissect.specs.Walks.{all_met, link_met, segment_met}
-use Rattle.dissect.specs.Ways.{AreOfFrame, AreRead, AsksNoOptions, Carries, IsBegun, IsLast, Opens, span_of}
+use Rattle.dissect.specs.Walks.{all_met, link_met}
+use Rattle.dissect.specs.Ways.{AreOfFrame, AreRead, AsksNoOptions, Carries, IsBegun, IsLast, Opens, carried_met, carrier_of, span_of}
 use Rattle.dissect.specs.declared.ways.Carried.{Carried as WayCarried}
-use Rattle.dissect.specs.declared.ways.Carried.TheVariants as carries
 use Rattle.dissect.specs.declared.carried.Carried.{Carried}
 use Rattle.dissect.specs.declared.tables.Tables.{Tables}
 use Rattle.dissect.proofs.OnWay.{none_higher, others_higher, read_more, same_count}
-use Rattle.dissect.proofs.PlainNotes.{both_untold, frame_items, frame_own, frame_read, frame_untold, segment_items, segment_own}
+use Rattle.dissect.proofs.PlainNotes.{both_untold, carrier_items, carrier_own, frame_items, frame_own, frame_read, frame_untold, not_data}
 
 -- steps of a layer that are read whole, as items that are added
 pub made_layer : (t : TreeShown) (proto : ℕ) (span : Span) (xs ys : List Step) (mode : Mode) (cut : Truth) → reach span.len xs ≡ All → reach span.len ys ≡ All
@@ -141,13 +136,13 @@ some_data tables bytes wanted headers notes span are untold nth others =
     ∙ ap (with_items (layer_read t DATA span (Whole DATA_DATA 0 span.len ∷ []) Plain false)) (sym (ap (λ (bs : List (List ℕ)). items_read bs span length_told) (buffers_of bytes wanted headers notes) ∙ len_items (bytes ∷ []) span span.len))
     ∙ sym (made_layer t DATA span (Whole DATA_DATA 0 span.len ∷ []) length_told Plain false (data_whole span.len) (len_read span.len span.len))
 
-carried_outlined : (tables : Tables) (bytes wanted : List ℕ) (headers : List Header) (notes : List Note) (app : Option StreamApp) (span : Span) (cut : Truth) → AreTables tables → IsUntold DATA notes
+carried_outlined : (tables : Tables) (bytes wanted : List ℕ) (headers : List Header) (notes : List Note) (free : Truth) (span : Span) → AreTables tables → IsUntold DATA notes
     → 1 ≡ layers_of DATA (outlined bytes wanted headers notes).layers + 1 → ForAll (λ (other : Header). (DATA == other.proto) ≡ false) headers
-    → outlined bytes wanted (headers ++ data_headers tables app span) (notes ++ data_notes app span) ≡ carried_over app cut span (outlined bytes wanted headers notes) []
-unfolding carried_over data_over data_notes
-carried_outlined tables bytes wanted headers notes (Some app) span cut are untold nth others =
+    → outlined bytes wanted (headers ++ data_headers tables free span) (notes ++ data_notes free span) ≡ shown_by free (outlined bytes wanted headers notes) span
+unfolding data_over data_notes
+carried_outlined tables bytes wanted headers notes false span are untold nth others =
     ap (λ (hs : List Header). outlined bytes wanted hs (notes ++ [])) (append-nil headers) ∙ ap (outlined bytes wanted headers) (append-nil notes)
-carried_outlined tables bytes wanted headers notes None span cut are untold nth others = elim (cases_Bool (span.len == 0)) [
+carried_outlined tables bytes wanted headers notes true span are untold nth others = elim (cases_Bool (span.len == 0)) [
   | inl empty ↦ rw empty (ap (λ (hs : List Header). outlined bytes wanted hs (notes ++ [])) (append-nil headers) ∙ ap (outlined bytes wanted headers) (append-nil notes))
   | inr some ↦ rw some (some_data tables bytes wanted headers notes span are untold nth others)
 ]
@@ -170,20 +165,20 @@ unfolding outlined
 data_nth frame wanted headers notes read =
     ap (λ (n : ℕ). n + 1) (sym (same_count (frame.bytes ∷ []) wanted notes DATA headers ∙ none_higher TCP DATA headers (omega arith) read.lower))
 
-heads_tree : (tables : Tables) (wanted : List ℕ) (before : Times) (frame : Frame) (c : Carried) (headers : List Header) → AreTables tables → AreRead frame TCP headers → IsLast TCP headers
-    → outlined frame.bytes wanted (headers ++ data_headers tables c.app c.payload) (notes_of before frame c) ≡ carried_by c (is_cut frame) (outlined frame.bytes wanted headers (frame_notes before frame))
+heads_tree : (tables : Tables) (wanted : List ℕ) (before : Times) (frame : Frame) (c : Carried) (headers : List Header) → AreTables tables → AreRead frame TCP headers → IsLast (carrier_proto c.carrier) headers
+    → outlined frame.bytes wanted (headers ++ data_headers tables c.free c.payload) (notes_of before frame c) ≡ carried_by c (outlined frame.bytes wanted headers (frame_notes before frame))
 unfolding notes_of
 heads_tree tables wanted before frame c headers are read last =
     let bytes = frame.bytes in
     let payload = c.payload in
     let first = frame_notes before frame in
-    let second = segment_notes c.place payload in
-    ap (outlined bytes wanted (headers ++ data_headers tables c.app payload)) (sym (append_assoc first second (data_notes c.app payload)))
-    ∙ carried_outlined tables bytes wanted headers (first ++ second) c.app payload (is_cut frame) are (both_untold before frame c.place payload DATA refl refl) (data_nth frame wanted headers (first ++ second) read)
+    let second = carrier_notes c.carrier payload in
+    ap (outlined bytes wanted (headers ++ data_headers tables c.free payload)) (sym (append_assoc first second (data_notes c.free payload)))
+    ∙ carried_outlined tables bytes wanted headers (first ++ second) c.free payload are (both_untold before frame c.carrier payload DATA refl (not_data c.carrier)) (data_nth frame wanted headers (first ++ second) read)
     (others_of DATA headers (others_higher TCP DATA headers (omega arith) read.lower))
-    ∙ ap (λ (t : TreeShown). carried_over c.app (is_cut frame) payload t [])
-    (told_last bytes wanted headers first second TCP last (segment_own c.place payload)
-    ∙ segment_items (bytes ∷ []) (outlined bytes wanted headers first) c.place payload (buffers_of bytes wanted headers first))
+    ∙ ap (λ (t : TreeShown). shown_by c.free t payload)
+    (told_last bytes wanted headers first second (carrier_proto c.carrier) last (carrier_own c.carrier payload)
+    ∙ carrier_items (bytes ∷ []) (outlined bytes wanted headers first) c.carrier payload (buffers_of bytes wanted headers first))
 
 -- ---- each header is read whole
 
@@ -243,19 +238,19 @@ read_outline wanted frame most headers notes short read few fit = record {
   numbered = read.numbered wanted notes;
 }
 
-pub data_cases : (tables : Tables) (app : Option StreamApp) (span : Span) → (data_headers tables app span ≡ []) ⊎ (data_headers tables app span ≡ data_header tables span ∷ [])
-data_cases tables (Some app) span = inl refl
-data_cases tables None span = elim (cases_Bool (span.len == 0)) [
+data_cases : (tables : Tables) (free : Truth) (span : Span) → (data_headers tables free span ≡ []) ⊎ (data_headers tables free span ≡ data_header tables span ∷ [])
+data_cases tables false span = inl refl
+data_cases tables true span = elim (cases_Bool (span.len == 0)) [
   | inl empty ↦ inl (rw empty refl)
   | inr some ↦ inr (rw some refl)
 ]
 
-heads_outline : (tables : Tables) (wanted : List ℕ) (frame : Frame) (app : Option StreamApp) (span : Span) (headers : List Header) (notes : List Note) → length frame.bytes < 2 ^ 32 → AreTables tables → AreRead frame TCP headers → length headers ≤ 6
-    → IsInside (frame.bytes ∷ []) span → Each (NoteFits (frame.bytes ∷ [])) notes → IsOutline frame.bytes wanted (headers ++ data_headers tables app span) notes
-heads_outline tables wanted frame app span headers notes short are read few inside fit =
+heads_outline : (tables : Tables) (wanted : List ℕ) (frame : Frame) (free : Truth) (span : Span) (headers : List Header) (notes : List Note) → length frame.bytes < 2 ^ 32 → AreTables tables → AreRead frame TCP headers → length headers ≤ 6
+    → IsInside (frame.bytes ∷ []) span → Each (NoteFits (frame.bytes ∷ [])) notes → IsOutline frame.bytes wanted (headers ++ data_headers tables free span) notes
+heads_outline tables wanted frame free span headers notes short are read few inside fit =
     let is_outline = λ (hs : List Header). IsOutline frame.bytes wanted hs notes in
     let h : Header = data_header tables span in
-    elim (data_cases tables app span) [
+    elim (data_cases tables free span) [
       | inl none ↦ subst is_outline (sym (ap (λ (more : List Header). headers ++ more) none ∙ append-nil headers)) (read_outline wanted frame TCP headers notes short read (omega (arith, few)) fit)
       | inr some ↦ subst is_outline (sym (ap (λ (more : List Header). headers ++ more) some))
           (read_outline wanted frame DATA (headers ++ h ∷ []) notes short
@@ -270,27 +265,30 @@ pub carried_inside : (frame : Frame) (headers : List Header) (carried : WayCarri
 carried_inside frame headers carried carries_it = (carries_it [] (λ proto some. All-from_recursion (λ (note : Note). ((row_of note.field).proto == proto) ≡ false) [] tt)).inside
 
 -- with what is wanted of the notes they stand for the tree
-pub heads_stand : (tables : Tables) (wanted : List ℕ) (before : Times) (frame : Frame) (c : Carried) (headers : List Header) (heads : HeadsShown) (packet : PacketHead) (head : TcpHead) → length frame.bytes < 2 ^ 32 → AreTables tables
-    → Carries frame headers (carries.Segment packet head c.payload) → Each (NoteFits (frame.bytes ∷ [])) (notes_of before frame c) → heads.headers ≡ headers ++ data_headers tables c.app c.payload → heads.notes ≡ wanted_notes wanted (notes_of before frame c)
-    → StandFor frame.bytes wanted heads (carried_by c (is_cut frame) (outlined frame.bytes wanted headers (frame_notes before frame)))
-heads_stand tables wanted before frame c headers heads packet head short are carried fit headers_are notes_are =
-    let all = headers ++ data_headers tables c.app c.payload in
+pub heads_stand : (tables : Tables) (wanted : List ℕ) (before : Times) (frame : Frame) (way : WayCarried) (c : Carried) (headers : List Header) (heads : HeadsShown) → length frame.bytes < 2 ^ 32 → AreTables tables
+    → Carries frame headers way → c.payload ≡ span_of way → carrier_proto c.carrier ≡ carrier_of way → ((buffers : List (List ℕ)) → IsInside buffers c.payload → Each (NoteFits buffers) (notes_of before frame c))
+    → heads.headers ≡ headers ++ data_headers tables c.free c.payload → heads.notes ≡ wanted_notes wanted (notes_of before frame c)
+    → StandFor frame.bytes wanted heads (carried_by c (outlined frame.bytes wanted headers (frame_notes before frame)))
+heads_stand tables wanted before frame way c headers heads short are carried payload carrier fits headers_are notes_are =
+    let all = headers ++ data_headers tables c.free c.payload in
     let notes = notes_of before frame c in
     let is = carried (frame_notes before frame) (of_frame before frame) in
+    let inside = subst (IsInside (frame.bytes ∷ [])) (sym payload) is.inside in
+    let last = subst (λ (proto : ℕ). IsLast proto headers) (sym carrier) is.last in
     record {
       outline = subst (λ (hs : List Header). IsOutline frame.bytes wanted hs heads.notes) (sym headers_are)
           (subst (λ (ns : List Note). IsOutline frame.bytes wanted all ns) (sym notes_are)
-          (outline_kept frame.bytes wanted all notes (heads_outline tables wanted frame c.app c.payload headers notes short are is.read is.few is.inside fit)));
+          (outline_kept frame.bytes wanted all notes (heads_outline tables wanted frame c.free c.payload headers notes short are is.read is.few inside (fits (frame.bytes ∷ []) inside))));
       tree = ap (λ (hs : List Header). outlined frame.bytes wanted hs heads.notes) headers_are ∙ ap (outlined frame.bytes wanted all) notes_are
-          ∙ outlined_kept frame.bytes wanted all notes ∙ heads_tree tables wanted before frame c headers are is.read is.last;
+          ∙ outlined_kept frame.bytes wanted all notes ∙ heads_tree tables wanted before frame c headers are is.read last;
     }
 
--- the way to it is that of its segment behind its headers
-pub carried_way : (rules : List PortRule) (wanted : List ℕ) (before : Times) (es : List Event) (frame : Frame) (headers : List Header) (packet : PacketHead) (head : TcpHead) (span : Span) → AsksNoOptions wanted
-    → Carries frame headers (carries.Segment packet head span) → Opens frame headers
-    → kept_walk rules wanted before es frame ≡ segment_met rules frame packet (outlined frame.bytes wanted headers (frame_notes before frame)) (NewFrame ∷ es) head span
+-- the way to it is that of what its last header carries
+pub carried_way : (rules : List PortRule) (wanted : List ℕ) (before : Times) (es : List Event) (frame : Frame) (headers : List Header) (way : WayCarried) → AsksNoOptions wanted
+    → Carries frame headers way → Opens frame headers
+    → kept_walk rules wanted before es frame ≡ carried_met rules frame (outlined frame.bytes wanted headers (frame_notes before frame)) (NewFrame ∷ es) way
 unfolding kept_walk
-carried_way rules wanted before es frame headers packet head span none carried opens =
+carried_way rules wanted before es frame headers way none carried opens =
     ap (λ (t : TreeShown). all_met rules frame (link_met rules frame t (NewFrame ∷ es))) (sym (opens wanted before))
     ∙ (carried (frame_notes before frame) (of_frame before frame)).way wanted none rules (NewFrame ∷ es)
 

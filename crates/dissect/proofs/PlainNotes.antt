@@ -9,7 +9,7 @@ use Rattle.pk_base.specs.declared.span.Span.{Span}
 use Rattle.pk_base.specs.declared.value.Value.TheVariants.{Uint}
 use Rattle.pk_fields.specs.Fields.{row_of}
 use Rattle.pk_fields.specs.FieldSets.{is_in}
-use Rattle.pk_fields.specs.Ids.{FRAME, FRAME_CAP_LEN, FRAME_LEN, FRAME_NUMBER, TCP, TCP_ACK, TCP_LEN, TCP_LOST, TCP_PAYLOAD, TCP_SEQ, TCP_STREAM}
+use Rattle.pk_fields.specs.Ids.{DATA, FRAME, FRAME_CAP_LEN, FRAME_LEN, FRAME_NUMBER, TCP, TCP_ACK, TCP_LEN, TCP_LOST, TCP_PAYLOAD, TCP_SEQ, TCP_STREAM, UDP, UDP_PAYLOAD, UDP_STREAM}
 use Rattle.pk_fields.specs.Table.{rows}
 use Rattle.pk_source.specs.Laws.{IsUntold}
 use Rattle.pk_source.specs.Outlines.{told_item, wanted_notes}
@@ -24,9 +24,11 @@ use Rattle.pk_tree.specs.declared.layout.Step.{Step}
 use Rattle.pk_tree.specs.declared.layout.Step.TheVariants.{Made}
 use Rattle.capture_read.specs.declared.frame.Frame.{Frame}
 use Rattle.app_layers.specs.FrameLayer.{frame_layout, time_steps}
-use Rattle.app_layers.specs.Payloads.{carried_told, with_ack, with_lost, with_number}
+use Rattle.app_layers.specs.Payloads.{carried_told, datagram_told, with_ack, with_lost, with_number}
 use Rattle.app_layers.specs.declared.times.Times.{Times}
-use Rattle.dissect.specs.Carried.{ack_notes, bytes_notes, frame_notes, frame_notes_at, lost_notes, number_note, place_notes, segment_notes, told_by}
+use Rattle.dissect.specs.Carried.{ack_notes, bytes_notes, carrier_notes, carrier_proto, conversation_notes, frame_notes, frame_notes_at, lost_notes, number_note, place_notes, segment_by, segment_notes, told_by}
+use Rattle.dissect.specs.declared.carried.Carrier.{Carrier}
+use Rattle.dissect.specs.declared.carried.Carrier.TheVariants as carriers
 use Rattle.dissect.specs.declared.carried.Place.{Place}
 
 pub wanted-append : (wanted : List ℕ) (xs ys : List Note) → wanted_notes wanted (xs ++ ys) ≡ wanted_notes wanted xs ++ wanted_notes wanted ys
@@ -104,7 +106,7 @@ unfolding lost_notes IsOf row_of rows
 lost_own None = tt
 lost_own (Some place) = if_own (place.lost == 0) TCP [] _ tt (refl, tt)
 
-pub segment_own : (place : Option Place) (span : Span) → Each (λ (note : Note). (row_of note.field).proto ≡ TCP) (segment_notes place span)
+segment_own : (place : Option Place) (span : Span) → Each (λ (note : Note). (row_of note.field).proto ≡ TCP) (segment_notes place span)
 unfolding IsOf
 segment_own place span =
     each-append (IsOf TCP) (place_notes place) (bytes_notes span ++ lost_notes place) (place_own place) (each-append (IsOf TCP) (bytes_notes span) (lost_notes place) (bytes_own span) (lost_own place))
@@ -114,12 +116,25 @@ unfolding IsOf
 frame_untold before frame proto other =
     All-from_recursion (λ (note : Note). ((row_of note.field).proto == proto) ≡ false) (frame_notes before frame) (untold FRAME proto (frame_notes before frame) (frame_own before frame) other)
 
-pub both_untold : (before : Times) (frame : Frame) (place : Option Place) (span : Span) (proto : ℕ) → (FRAME == proto) ≡ false → (TCP == proto) ≡ false → IsUntold proto (frame_notes before frame ++ segment_notes place span)
+conversation_own : (stream : ℕ) (span : Span) → Each (IsOf UDP) (conversation_notes stream span)
+unfolding conversation_notes IsOf row_of rows
+conversation_own stream span = (refl, if_own (span.len == 0) UDP [] _ tt (refl, tt))
+
+pub carrier_own : (carrier : Carrier) (span : Span) → Each (λ (note : Note). (row_of note.field).proto ≡ carrier_proto carrier) (carrier_notes carrier span)
 unfolding IsOf
-both_untold before frame place span proto one other =
-    All-from_recursion (λ (note : Note). ((row_of note.field).proto == proto) ≡ false) (frame_notes before frame ++ segment_notes place span)
-    (each-append (λ (note : Note). ((row_of note.field).proto == proto) ≡ false) (frame_notes before frame) (segment_notes place span)
-    (untold FRAME proto (frame_notes before frame) (frame_own before frame) one) (untold TCP proto (segment_notes place span) (segment_own place span) other))
+carrier_own (carriers.Segment place) span = segment_own place span
+carrier_own (carriers.Datagram stream) span = conversation_own stream span
+
+pub not_data : (carrier : Carrier) → (carrier_proto carrier == DATA) ≡ false
+not_data (carriers.Segment place) = refl
+not_data (carriers.Datagram stream) = refl
+
+pub both_untold : (before : Times) (frame : Frame) (carrier : Carrier) (span : Span) (proto : ℕ) → (FRAME == proto) ≡ false → (carrier_proto carrier == proto) ≡ false → IsUntold proto (frame_notes before frame ++ carrier_notes carrier span)
+unfolding IsOf
+both_untold before frame carrier span proto one other =
+    All-from_recursion (λ (note : Note). ((row_of note.field).proto == proto) ≡ false) (frame_notes before frame ++ carrier_notes carrier span)
+    (each-append (λ (note : Note). ((row_of note.field).proto == proto) ≡ false) (frame_notes before frame) (carrier_notes carrier span)
+    (untold FRAME proto (frame_notes before frame) (frame_own before frame) one) (untold (carrier_proto carrier) proto (carrier_notes carrier span) (carrier_own carrier span) other))
 
 -- ---- the items that they are
 
@@ -145,7 +160,7 @@ pub frame_read : (end : ℕ) (before : Times) (frame : Frame) → reach end (fra
 unfolding layout_at frame_layout
 frame_read end before frame = frame_read_at end before frame frame.time
 
--- what is told of a segment, item by item
+-- what is told of a segment or a datagram, item by item
 item_buffers : (t : TreeShown) (item : Item) → (with_item t item).buffers ≡ t.buffers
 unfolding with_item with_last with_item_at
 item_buffers t item = elim (cases_Bool (is_in t.wanted item.field)) [
@@ -179,7 +194,7 @@ lost_items buffers t lost = elim (cases_Bool (lost == 0)) [
   | inr some ↦ rw some refl
 ]
 
-pub segment_items : (buffers : List (List ℕ)) (t : TreeShown) (place : Option Place) (span : Span) → t.buffers ≡ buffers → with_items t (items_told buffers (segment_notes place span)) ≡ told_by t place span
+segment_items : (buffers : List (List ℕ)) (t : TreeShown) (place : Option Place) (span : Span) → t.buffers ≡ buffers → with_items t (items_told buffers (segment_notes place span)) ≡ segment_by t place span
 unfolding place_notes lost_notes with_items
 segment_items buffers t None span same =
     ap (with_items t) (ap (items_told buffers) (append-nil (bytes_notes span))) ∙ bytes_items buffers t span same
@@ -194,3 +209,17 @@ segment_items buffers t (Some place) span same =
     ∙ with_items-append (with_ack u place.ack) (items_told buffers (bytes_notes span)) (items_told buffers lost)
     ∙ ap (λ (x : TreeShown). with_items x (items_told buffers lost)) (bytes_items buffers (with_ack u place.ack) span (ack_buffers u place.ack ∙ own))
     ∙ lost_items buffers (carried_told (with_ack u place.ack) span) place.lost
+
+conversation_items : (buffers : List (List ℕ)) (t : TreeShown) (stream : ℕ) (span : Span) → t.buffers ≡ buffers → with_items t (items_told buffers (conversation_notes stream span)) ≡ datagram_told t stream span
+unfolding with_items conversation_notes datagram_told
+conversation_items buffers t stream span same =
+    let u : TreeShown = with_number t UDP_STREAM stream in
+    let own : u.buffers ≡ buffers = item_buffers t (made_of UDP_STREAM (Uint stream)) ∙ same in
+    elim (cases_Bool (span.len == 0)) [
+      | inl none ↦ rw none refl
+      | inr some ↦ rw some (ap (λ (bs : List (List ℕ)). with_item u (read_of bs UDP_PAYLOAD span)) (sym own))
+    ]
+
+pub carrier_items : (buffers : List (List ℕ)) (t : TreeShown) (carrier : Carrier) (span : Span) → t.buffers ≡ buffers → with_items t (items_told buffers (carrier_notes carrier span)) ≡ told_by t carrier span
+carrier_items buffers t (carriers.Segment place) span same = segment_items buffers t place span same
+carrier_items buffers t (carriers.Datagram stream) span same = conversation_items buffers t stream span same

@@ -1,7 +1,7 @@
--- What is told of a plain frame: its headers, as the tables read them, and beside them what its segment carries.
-use Rattle.std.specs.Prelude.{◌==◌, ℕ, ℤ, Bool, false, not, List, [], ◌∷◌, ◌++◌, length, if◌then◌else◌, Option, Some, None}
+-- What is told of a plain frame: its headers, as the tables read them, and beside them what its last header carries.
+use Rattle.std.specs.Prelude.{◌==◌, ◌&&◌, ℕ, ℤ, Bool, true, false, not, List, [], ◌∷◌, ◌++◌, length, if◌then◌else◌, Option, Some, None}
 use Rattle.pk_base.specs.declared.span.Span.{Span}
-use Rattle.pk_fields.specs.Ids.{DATA, DATA_LEN, FRAME, FRAME_CAP_LEN, FRAME_LEN, FRAME_NUMBER, FRAME_TIME_DELTA, FRAME_TIME_EPOCH, FRAME_TIME_RELATIVE, TCP_ACK, TCP_LEN, TCP_LOST, TCP_PAYLOAD, TCP_SEQ, TCP_STREAM}
+use Rattle.pk_fields.specs.Ids.{DATA, DATA_LEN, FRAME, FRAME_CAP_LEN, FRAME_LEN, FRAME_NUMBER, FRAME_TIME_DELTA, FRAME_TIME_EPOCH, FRAME_TIME_RELATIVE, TCP, TCP_ACK, TCP_LEN, TCP_LOST, TCP_PAYLOAD, TCP_SEQ, TCP_STREAM, UDP, UDP_PAYLOAD, UDP_STREAM}
 use Rattle.pk_source.specs.declared.header.Header.{Header}
 use Rattle.pk_source.specs.declared.header.Note.{Note}
 use Rattle.pk_source.specs.declared.header.Told.TheVariants.{Moment, Number, Read}
@@ -10,30 +10,49 @@ use Rattle.tcp_streams.specs.declared.segment.Taken.{Taken}
 use Rattle.tcp_streams.specs.Gaps.{lost_bytes}
 use Rattle.stream_messages.specs.declared.told.App.{App as StreamApp}
 use Rattle.capture_read.specs.declared.frame.Frame.{Frame}
+use Rattle.app_layers.specs.DataLayer.{data_over}
 use Rattle.app_layers.specs.FrameLayer.{frame_span}
-use Rattle.app_layers.specs.MessageLayers.{carried_over}
-use Rattle.app_layers.specs.Payloads.{carried_told, with_ack, with_lost, with_number}
+use Rattle.app_layers.specs.Payloads.{carried_told, datagram_told, with_ack, with_lost, with_number}
 use Rattle.app_layers.specs.Times.{since}
 use Rattle.app_layers.specs.declared.times.Times.{Times}
 use Rattle.dissect.specs.declared.carried.Carried.{Carried}
+use Rattle.dissect.specs.declared.carried.Carrier.{Carrier}
+use Rattle.dissect.specs.declared.carried.Carrier.TheVariants as carriers
 use Rattle.dissect.specs.declared.carried.Place.{Place}
 use Rattle.dissect.specs.declared.tables.Tables.{Tables}
 
 -- ---- the tree that its way makes
 
--- what is told of its segment: its place, if that is, and what it carries
-abbrev pub told_by : TreeShown → Option Place → Span → TreeShown
-told_by t None span = carried_told t span
-told_by t (Some place) span =
+-- what is told of a segment: its place, if that is, and what it carries
+abbrev pub segment_by : TreeShown → Option Place → Span → TreeShown
+segment_by t None span = carried_told t span
+segment_by t (Some place) span =
     with_lost (carried_told (with_ack (with_number (with_number t TCP_STREAM place.stream) TCP_SEQ place.seq) place.ack) span) place.lost
 
 -- the place of a segment that was taken
 abbrev pub place_of : Taken → Place
 place_of taken = record { stream = taken.stream; seq = taken.seq; ack = taken.ack; lost = lost_bytes taken.lost }
 
--- and its bytes as data, where its stream has no application
-abbrev pub carried_by : Carried → Bool → TreeShown → TreeShown
-carried_by c cut t = carried_over c.app cut c.payload (told_by t c.place c.payload) []
+-- and of a datagram: the number of its conversation, and what it carries
+abbrev pub told_by : TreeShown → Carrier → Span → TreeShown
+told_by t (carriers.Segment place) span = segment_by t place span
+told_by t (carriers.Datagram stream) span = datagram_told t stream span
+
+abbrev pub carrier_proto : Carrier → ℕ
+carrier_proto (carriers.Segment place) = TCP
+carrier_proto (carriers.Datagram stream) = UDP
+
+-- and its bytes as data, where they are that
+abbrev pub shown_by : Bool → TreeShown → Span → TreeShown
+shown_by free t span = if free then data_over t span else t
+
+abbrev pub carried_by : Carried → TreeShown → TreeShown
+carried_by c t = shown_by c.free (told_by t c.carrier c.payload) c.payload
+
+-- the bytes of a segment are data where its stream has no application
+abbrev pub is_free : Option StreamApp → Bool
+is_free None = true
+is_free (Some app) = false
 
 -- ---- the headers of the frame itself, and of the data
 
@@ -43,12 +62,11 @@ frame_header tables frame = record { proto = FRAME; nth = 1; span = frame_span f
 abbrev pub data_header : Tables → Span → Header
 data_header tables span = record { proto = DATA; nth = 1; span = span; slots = tables.payload; size = span.len }
 
-abbrev pub is_data : Option StreamApp → Span → Bool
-is_data None span = not (span.len == 0)
-is_data (Some app) span = false
+abbrev pub has_data : Bool → Span → Bool
+has_data free span = free && not (span.len == 0)
 
-abbrev pub data_headers : Tables → Option StreamApp → Span → List Header
-data_headers tables app span = if is_data app span then data_header tables span ∷ [] else []
+abbrev pub data_headers : Tables → Bool → Span → List Header
+data_headers tables free span = if has_data free span then data_header tables span ∷ [] else []
 
 -- ---- what is told beside
 
@@ -98,8 +116,15 @@ lost_notes (Some place) = if place.lost == 0 then [] else number_note TCP_LOST p
 abbrev pub segment_notes : Option Place → Span → List Note
 segment_notes place span = place_notes place ++ (bytes_notes span ++ lost_notes place)
 
-unfoldable pub data_notes : Option StreamApp → Span → List Note
-data_notes app span = if is_data app span then number_note DATA_LEN span.len ∷ [] else []
+unfoldable pub conversation_notes : ℕ → Span → List Note
+conversation_notes stream span = number_note UDP_STREAM stream ∷ (if span.len == 0 then [] else read_note UDP_PAYLOAD span ∷ [])
+
+abbrev pub carrier_notes : Carrier → Span → List Note
+carrier_notes (carriers.Segment place) span = segment_notes place span
+carrier_notes (carriers.Datagram stream) span = conversation_notes stream span
+
+unfoldable pub data_notes : Bool → Span → List Note
+data_notes free span = if has_data free span then number_note DATA_LEN span.len ∷ [] else []
 
 unfoldable pub notes_of : Times → Frame → Carried → List Note
-notes_of before frame c = frame_notes before frame ++ (segment_notes c.place c.payload ++ data_notes c.app c.payload)
+notes_of before frame c = frame_notes before frame ++ (carrier_notes c.carrier c.payload ++ data_notes c.free c.payload)

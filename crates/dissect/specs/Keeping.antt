@@ -10,7 +10,7 @@ use Rattle.stream_messages.specs.declared.told.App.{App as StreamApp}
 use Rattle.stream_messages.specs.declared.told.App.TheVariants.{Dns, Http}
 use Rattle.app_layers.specs.MessageLayers.{app_of_segment}
 use Rattle.dissect.specs.declared.keeping.Follows.{Follows}
-use Rattle.dissect.specs.declared.keeping.Follows.TheVariants.{Nothing, Places, One, Everything}
+use Rattle.dissect.specs.declared.keeping.Follows.TheVariants.{Nothing, Places, One, Applications, Everything}
 use Rattle.dissect.specs.declared.keeping.Keeping.{Keeping}
 use Rattle.dissect.specs.Followed.{asks_any, asks_messages, asks_streams}
 
@@ -26,17 +26,23 @@ abbrev pub is_of : StreamApp → Option StreamApp → Bool
 is_of app None = false
 is_of app (Some other) = same_app app other
 
--- those of streams of an application
+abbrev pub has_app : Option StreamApp → Bool
+has_app None = false
+has_app (Some app) = true
+
+-- those of streams of an application, or of any
 abbrev pub is_followed : Follows → Option StreamApp → Bool
 is_followed Nothing app = false
 is_followed Places app = false
 is_followed (One only) app = is_of only app
+is_followed Applications app = has_app app
 is_followed Everything app = true
 
 abbrev pub is_everything : Follows → Bool
 is_everything Nothing = false
 is_everything Places = false
 is_everything (One only) = false
+is_everything Applications = false
 is_everything Everything = true
 
 -- whether of all segments their places are told, and no byte is kept
@@ -44,14 +50,8 @@ abbrev pub tells_places : Follows → Bool
 tells_places Nothing = false
 tells_places Places = true
 tells_places (One only) = false
+tells_places Applications = false
 tells_places Everything = false
-
--- whether no byte of streams is kept
-abbrev pub keeps_no_bytes : Follows → Bool
-keeps_no_bytes Nothing = true
-keeps_no_bytes Places = true
-keeps_no_bytes (One only) = false
-keeps_no_bytes Everything = false
 
 -- the segments that streams stand for, among all
 unfoldable pub followed_of : List PortRule → Follows → List Segment → List Segment
@@ -88,10 +88,16 @@ pub record AsksOnly (app : StreamApp) (wanted : List ℕ) : Type 0 where
   pub malformed : is_in wanted WS_MALFORMED ≡ false
   pub others : asks_any field_count (other_proto app) wanted ≡ false
 
+-- nothing of streams is asked but messages: no place in a stream, nor what brought a message
+pub record AsksMessagesAlone (wanted : List ℕ) : Type 0 where
+  pub places : AsksNoPlaces wanted
+  pub segment : is_in wanted TCP_SEGMENT ≡ false
+
 abbrev pub FollowsEnough : Follows → List ℕ → Type 0
 FollowsEnough Nothing wanted = asks_streams wanted ≡ false
 FollowsEnough Places wanted = asks_messages wanted ≡ false
 FollowsEnough (One only) wanted = AsksOnly only wanted
+FollowsEnough Applications wanted = AsksMessagesAlone wanted
 FollowsEnough Everything wanted = Unit {0}
 
 -- what is kept is enough for the values of these fields
@@ -105,7 +111,7 @@ pub record KeepsWhole (keeps : Keeping) (wanted : List ℕ) : Type 0 where
   pub numbers : keeps.numbers ≡ true
   pub all : asks_streams wanted ≡ true → keeps_all keeps ≡ true
 
--- the headers of plain frames answer for these fields: none of them is of the options of TCP, and no byte of streams is kept
+-- the headers of plain frames may answer for these fields: none of them is of the options of TCP, and not all streams are followed
 pub record GoesPlain (wanted : List ℕ) (keeps : Keeping) : Type 0 where
   pub options : Each (λ field. is_in wanted field ≡ false) option_fields
-  pub passes : keeps_no_bytes keeps.follows ≡ true
+  pub some : is_everything keeps.follows ≡ false

@@ -14,6 +14,7 @@ pub mod Plain
 pub mod Segments
 pub mod Stands
 pub mod Tables
+pub mod Tells
 pub mod Trees
 pub mod Walks
 pub mod Ways

@@ -1,25 +1,30 @@
-// What a plain frame's segment carries, and what it is to its stream.
-ghost use Rattle.std.specs.Prelude.{◌≡◌, ◌<◌, ◌^◌, ◌∷◌, [], List, true, length, IfOk};
+// What a plain frame's last header carries, and what is told of it.
+ghost use Rattle.std.specs.Prelude.{◌≡◌, ◌+◌, ◌<◌, ◌^◌, ◌∷◌, [], Bool, List, None, true, false, length, IfOk, IfSome};
+ghost use Rattle.pk_fields.specs.Ids.{TCP};
+ghost use Rattle.capture_read.specs.declared.frame.Frame.{Frame as FrameValue};
 ghost use Rattle.pk_fields.specs.declared.rules.PortRule.{PortRule as PortRuleValue};
 ghost use Rattle.tcp_streams.specs.Labels.{PassesNear};
 ghost use Rattle.pk_tree.specs.Buffers.{IsInside};
 ghost use Rattle.pk_tree.specs.Trees.{TreeShown};
-ghost use Rattle.app_layers.specs.FrameLayer.{is_cut};
 ghost use Rattle.app_layers.specs.MessageLayers.{stream_app};
-ghost use Rattle.dissect.specs.Carried.{carried_by, is_data, place_of};
+ghost use Rattle.dissect.specs.Carried.{carried_by, carrier_proto, has_data, is_free, place_of};
 ghost use Rattle.dissect.specs.Events.{Event};
-ghost use Rattle.dissect.specs.Keeping.{keeps_no_bytes, tells_places};
+ghost use Rattle.dissect.specs.Keeping.{is_everything, tells_places};
 ghost use Rattle.dissect.specs.Stands.{StandsAt, IsWalked, HasRoomForOne, AddsAtMost, bytes_kept};
+ghost use Rattle.dissect.specs.Tells.{AsksNoDatagrams, Tells, shown_of};
 ghost use Rattle.dissect.specs.Walks.{segment_met};
+ghost use Rattle.dissect.specs.Ways.{span_of};
+ghost use Rattle.dissect.specs.declared.ways.Carried.TheVariants as ways_carried;
 
 use crate::plain::own_part;
 use crate::segments::segment_from;
 use crate::state::{State, let_go};
 use crate::todo::Todo;
+use crate::ways;
 use app_layers::stream_app;
 use capture_read::Frame;
-use pk_base::{NoMemory, PacketHead, Span, TcpHead};
-use pk_fields::PortRule;
+use pk_base::{NoMemory, PacketHead, PortsHead, Span, TcpHead};
+use pk_fields::{App, FieldSet, PortRule, ids, udp_app};
 use stream_messages::App as StreamApp;
 use tcp_streams::Taken;
 
@@ -41,21 +46,66 @@ pub(crate) struct SegmentMet {
     pub payload: Span,
 }
 
-/// What a plain frame's segment carries, and what is told of it.
+/// A datagram as its frame's headers tell it, and where what it carries stands.
 #[derive(Clone, Copy)]
-pub(crate) struct Carried {
+pub(crate) struct DatagramMet {
+    pub packet: PacketHead,
+    pub head: PortsHead,
     pub payload: Span,
-    /// The application of its stream.
-    pub app: Option<StreamApp>,
-    /// Its place, where places are told.
-    pub place: Option<Place>,
 }
 
-/// Whether what a segment carries is shown as data.
-pub(crate) fn is_data(app: Option<StreamApp>, span: Span) -> bool
-    ensures { result ≡ is_data app span }
+/// What carries a plain frame's last bytes, with what is told of it.
+#[derive(Clone, Copy)]
+pub(crate) enum Carrier {
+    /// A segment, with its place, where places are told.
+    Segment(Option<Place>),
+    /// A datagram, with the number of its conversation.
+    Datagram(u32),
+}
+
+/// What a plain frame's last header carries.
+#[derive(Clone, Copy)]
+pub(crate) struct Carried {
+    pub carrier: Carrier,
+    pub payload: Span,
+    /// Whether its bytes are data, and no message of an application.
+    pub free: bool,
+}
+
+/// Whether something is shown as data.
+pub(crate) fn has_data(free: bool, span: Span) -> bool
+    ensures { result ≡ has_data free span }
 {
-    app.is_none() && span.len != 0
+    free && span.len != 0
+}
+
+/// Whether a segment's bytes are data: its stream has no application.
+fn is_free(app: Option<StreamApp>) -> bool
+    ensures { result ≡ is_free app }
+{
+    app.is_none()
+}
+
+/// Whether a datagram's bytes are data, and none where they are a message that isn't passed over.
+fn shown_of(app: Option<App>, passes: bool) -> Option<bool>
+    ensures { result ≡ shown_of app passes }
+{
+    match app {
+        None | Some(App::Http | App::Plain) => Some(true),
+        Some(App::Dns | App::Mdns | App::Dhcp) if passes => Some(false),
+        Some(App::Dns | App::Mdns | App::Dhcp | App::Ntp) => None,
+    }
+}
+
+/// Whether something may be asked of messages of datagrams that are passed over else, or of the faults behind them.
+pub(crate) fn asks_datagrams(wanted: &FieldSet) -> bool
+    ensures { result ≡ false → AsksNoDatagrams wanted.now }
+{
+    wanted.contains(ids::WS_SHORT)
+        || wanted.contains(ids::WS_MALFORMED)
+        || wanted.has_any_of(ids::DNS)
+        || wanted.has_any_of(ids::MDNS)
+        || wanted.has_any_of(ids::DHCP)
 }
 
 /// What is told of a segment's place.
@@ -72,34 +122,74 @@ fn place_of(taken: &Taken) -> Place
 }
 
 impl State {
-    /// Takes the segment of a plain frame, where no byte of streams is kept.
+    /// Takes what a plain frame carries, with which the frame begins, where no byte of its stream is kept and no message of it
+    /// is asked; nothing is taken else.
     pub(crate) fn carry(
         &mut self,
         rules: &[PortRule],
         frame: &Frame,
+        way: ways::Carried,
+        passes: bool,
+    ) -> Result<Option<Carried>, NoMemory>
+        requires some { is_everything self.old.keeps.follows ≡ false }
+        requires inside { IsInside (frame.now.bytes ∷ []) (span_of way) }
+        requires bytes { length frame.now.bytes < 2 ^ 32 }
+        requires few { HasRoomForOne (length frame.now.bytes) self.old }
+        ensures tells { IfOk result (λ found. IfSome found (Tells rules.now frame.now passes way self.old self.new)) }
+        ensures passed { IfOk result (λ found. found ≡ None → self.new ≡ self.old) }
+        ensures added { AddsAtMost 1 self.old self.new }
+        ensures kept { bytes_kept self.new ≡ bytes_kept self.old }
+    {
+        match way {
+            ways::Carried::Segment(packet, head, payload) => {
+                let met = SegmentMet {
+                    packet,
+                    head,
+                    payload,
+                };
+                self.carry_segment(rules, frame, &met)
+            }
+            ways::Carried::Datagram(packet, head, payload) => {
+                let met = DatagramMet {
+                    packet,
+                    head,
+                    payload,
+                };
+                self.carry_datagram(rules, passes, &met)
+            }
+        }
+    }
+
+    /// Takes the segment of a plain frame, where no byte of its stream is kept.
+    fn carry_segment(
+        &mut self,
+        rules: &[PortRule],
+        frame: &Frame,
         met: &SegmentMet,
-    ) -> Result<Carried, NoMemory>
-        requires passes { keeps_no_bytes self.old.keeps.follows ≡ true }
+    ) -> Result<Option<Carried>, NoMemory>
         requires inside { IsInside (frame.now.bytes ∷ []) met.now.payload }
         requires bytes { length frame.now.bytes < 2 ^ 32 }
         requires few { HasRoomForOne (length frame.now.bytes) self.old }
-        ensures payload { IfOk result (λ carried. carried.payload ≡ met.now.payload) }
-        ensures walked { IfOk result (λ carried. (t : TreeShown) (es : List Event) → t.buffers ≡ frame.now.bytes ∷ []
-            → StandsAt rules.now es self.old → IsWalked rules.now (segment_met rules.now frame.now
-            met.now.packet t es met.now.head met.now.payload) self.new
-            (carried_by carried (is_cut frame.now) t) Todo.Done) }
+        ensures tells { IfOk result (λ found. IfSome found (λ carried. (passes : Bool) → Tells rules.now frame.now passes
+            (ways_carried.Segment met.now.packet met.now.head met.now.payload) self.old self.new carried)) }
+        ensures passed { IfOk result (λ found. found ≡ None → self.new ≡ self.old) }
         ensures added { AddsAtMost 1 self.old self.new }
         ensures kept { bytes_kept self.new ≡ bytes_kept self.old }
     {
         let app = stream_app(rules, met.head.source, met.head.target);
-        if self.keeps.follows.tells_places() {
-            return self.carry_placed(app, frame, met);
+        if self.keeps.follows.takes(app) {
+            return Ok(None);
         }
-        Ok(Carried {
+        self.begin_frame();
+        if self.keeps.follows.tells_places() {
+            let carried = self.carry_placed(app, frame, met)?;
+            return Ok(Some(carried));
+        }
+        Ok(Some(Carried {
+            carrier: Carrier::Segment(None),
             payload: met.payload,
-            app,
-            place: None,
-        })
+            free: is_free(app),
+        }))
     }
 
     /// Takes the segment of a plain frame for its place.
@@ -114,10 +204,11 @@ impl State {
         requires bytes { length frame.now.bytes < 2 ^ 32 }
         requires few { HasRoomForOne (length frame.now.bytes) self.old }
         ensures payload { IfOk result (λ carried. carried.payload ≡ met.now.payload) }
+        ensures carrier { IfOk result (λ carried. carrier_proto carried.carrier ≡ TCP) }
         ensures walked { IfOk result (λ carried. (rules : List PortRuleValue) (t : TreeShown) (es : List Event)
             → app ≡ stream_app rules met.now.head.source met.now.head.target → t.buffers ≡ frame.now.bytes ∷ []
             → StandsAt rules es self.old → IsWalked rules (segment_met rules frame.now
-            met.now.packet t es met.now.head met.now.payload) self.new (carried_by carried (is_cut frame.now) t) Todo.Done) }
+            met.now.packet t es met.now.head met.now.payload) self.new (carried_by carried t) Todo.Done) }
         ensures added { AddsAtMost 1 self.old self.new }
         ensures kept { bytes_kept self.new ≡ bytes_kept self.old }
     {
@@ -127,11 +218,39 @@ impl State {
         let_go(segment);
         match placed {
             Ok(taken) => Ok(Carried {
+                carrier: Carrier::Segment(Some(place_of(&taken))),
                 payload: met.payload,
-                app,
-                place: Some(place_of(&taken)),
+                free: is_free(app),
             }),
             Err(NoMemory) => Err(NoMemory),
         }
+    }
+
+    /// Takes the datagram of a plain frame, where it carries no message, or one that is passed over.
+    fn carry_datagram(
+        &mut self,
+        rules: &[PortRule],
+        passes: bool,
+        met: &DatagramMet,
+    ) -> Result<Option<Carried>, NoMemory>
+        requires some { is_everything self.old.keeps.follows ≡ false }
+        requires room { length self.old.udp + 1 < 2 ^ 32 }
+        ensures tells { IfOk result (λ found. IfSome found (λ carried. (frame : FrameValue) → Tells rules.now frame passes
+            (ways_carried.Datagram met.now.packet met.now.head met.now.payload) self.old self.new carried)) }
+        ensures passed { IfOk result (λ found. found ≡ None → self.new ≡ self.old) }
+        ensures added { AddsAtMost 1 self.old self.new }
+        ensures kept { bytes_kept self.new ≡ bytes_kept self.old }
+    {
+        let app = udp_app(rules, met.head.source, met.head.target);
+        let Some(free) = shown_of(app, passes) else {
+            return Ok(None);
+        };
+        self.begin_frame();
+        let stream = self.number_datagram(&met.packet, met.head)?;
+        Ok(Some(Carried {
+            carrier: Carrier::Datagram(stream),
+            payload: met.payload,
+            free,
+        }))
     }
 }

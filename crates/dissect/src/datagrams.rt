@@ -49,7 +49,11 @@ impl State {
     }
 
     /// The number of a packet's conversation, where conversations are numbered; any number else.
-    fn number_datagram(&mut self, packet: &PacketHead, head: PortsHead) -> Result<u32, NoMemory>
+    pub(crate) fn number_datagram(
+        &mut self,
+        packet: &PacketHead,
+        head: PortsHead,
+    ) -> Result<u32, NoMemory>
         requires { length self.old.udp + 1 < 2 ^ 32 }
         ensures number { IfOk result (λ number. self.old.keeps.numbers ≡ true
             → number ≡ number_in self.old.udp (udp_ends packet.now head)) }

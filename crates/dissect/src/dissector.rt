@@ -16,6 +16,7 @@ ghost use Rattle.message_links.specs.Linked.{linked};
 ghost use Rattle.app_layers.specs.Times.{AreTimes};
 ghost use Rattle.dissect.specs.Trees.{tree_at, events_of, kept_walk};
 
+use crate::carried::asks_datagrams;
 use crate::heads::{Asked, Heads};
 use crate::keeping::{Keeping, goes_plain};
 use crate::state::{State, let_go};
@@ -55,6 +56,8 @@ pub struct Dissector {
     state: State,
     /// Whether the headers of plain frames answer for what is wanted.
     plain: bool,
+    /// Whether nothing is asked of the messages of datagrams that are passed over then.
+    passes: bool,
     /// The memory of a tree that was given back.
     spare: Spare,
 }
@@ -71,6 +74,7 @@ impl Model for Dissector {
     ghost use Rattle.app_layers.specs.declared.times.Times.{Times as TimesValue};
     ghost use Rattle.dissect.specs.Keeping.{GoesPlain};
     ghost use Rattle.dissect.specs.Stands.{DissectorShown, IsKept};
+    ghost use Rattle.dissect.specs.Tells.{AsksNoDatagrams};
 
     ghost Value = { DissectorShown };
 
@@ -78,7 +82,7 @@ impl Model for Dissector {
 
     ghost view = { λ d. record { decode = d.decode; wanted = d.wanted; sparing = d.sparing; spent = d.spent; taken = d.taken; captured = d.captured; times = d.times; state = d.state } };
 
-    ghost invariant = { λ d. IsKept (record { decode = d.decode; wanted = d.wanted; sparing = d.sparing; spent = d.spent; taken = d.taken; captured = d.captured; times = d.times; state = d.state }) × (d.plain ≡ true → GoesPlain d.wanted d.state.keeps) };
+    ghost invariant = { λ d. IsKept (record { decode = d.decode; wanted = d.wanted; sparing = d.sparing; spent = d.spent; taken = d.taken; captured = d.captured; times = d.times; state = d.state }) × (d.plain ≡ true → GoesPlain d.wanted d.state.keeps) × (d.passes ≡ true → AsksNoDatagrams d.wanted) };
 }
 
 // The destructor is written out here, and not wherever a dissector is dropped.
@@ -95,6 +99,7 @@ impl Drop for Dissector {
             times: _,
             state: _state,
             plain: _,
+            passes: _,
             spare: _spare,
         } = self;
     }
@@ -181,6 +186,7 @@ impl Dissector {
                 found: Vec::new(alloc),
             },
             plain: goes_plain(&wanted, keeps),
+            passes: !asks_datagrams(&wanted),
             spare: Spare::new(alloc),
         }
     }
@@ -365,6 +371,7 @@ impl Dissector {
             rules: self.decode.rules.slice(),
             wanted: &self.wanted,
             before: self.times,
+            passes: self.passes,
         };
         match heads.take(&asked, &mut self.state, frame) {
             Ok(true) => {

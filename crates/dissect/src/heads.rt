@@ -1,19 +1,21 @@
-ghost use Rattle.std.specs.Prelude.{◌≡◌, ◌<◌, ◌^◌, ◌∷◌, ◌++◌, [], List, false, true, length, IfOk, IfSome, OnOk};
+ghost use Rattle.std.specs.Prelude.{◌≡◌, ◌<◌, ◌^◌, ◌∷◌, ◌++◌, [], ℕ, List, false, true, length, IfOk, IfSome, OnOk};
 ghost use Rattle.std.specs.List.{AllByRecursion as Each};
 ghost use Rattle.capture_read.specs.FrameList.{IsTime};
-ghost use Rattle.pk_source.specs.Outlines.{IsOutline, outlined};
+ghost use Rattle.pk_source.specs.Outlines.{IsOutline, NoteFits, outlined, wanted_notes};
 ghost use Rattle.pk_source.specs.Picks.{ArePlaces};
+ghost use Rattle.pk_tree.specs.Buffers.{IsInside};
 ghost use Rattle.pk_tree.specs.Trees.{IsTree};
 ghost use Rattle.app_layers.specs.Times.{AreTimes};
-ghost use Rattle.dissect.specs.Carried.{data_header, data_headers, frame_header};
+ghost use Rattle.dissect.specs.Carried.{data_header, data_headers, frame_header, notes_of};
 ghost use Rattle.dissect.specs.Events.{Event};
 ghost use Rattle.dissect.specs.Keeping.{AsksNoLinks, GoesPlain};
 ghost use Rattle.dissect.specs.Stands.{StandsAt, IsRead, HasRoomForOne, AddsAtMost, bytes_kept};
 ghost use Rattle.dissect.specs.Tables.{AreTables, IsTabled, KnownBy, tables_listed};
+ghost use Rattle.dissect.specs.Tells.{AsksNoDatagrams};
 ghost use Rattle.dissect.specs.Trees.{kept_walk};
 ghost use Rattle.dissect.specs.Ways.{Carries, Opens};
 
-use crate::carried::{Carried, SegmentMet, is_data};
+use crate::carried::{Carried, has_data};
 use crate::state::State;
 use crate::tables::Tables;
 use crate::telling::push_notes;
@@ -33,6 +35,8 @@ pub(crate) struct Asked<'a> {
     pub rules: &'a [PortRule],
     pub wanted: &'a FieldSet,
     pub before: Times,
+    /// Whether nothing is asked of the messages of datagrams that are passed over then.
+    pub passes: bool,
 }
 
 /// What stands in a plain frame: its headers, and what is told beside their rows. It is made once, and filled again for each
@@ -113,6 +117,7 @@ impl Heads {
         requires goes { GoesPlain asked.now.wanted.now state.old.keeps }
         requires few { HasRoomForOne (length frame.now.bytes) state.old }
         requires links { AsksNoLinks asked.now.wanted.now }
+        requires messages { asked.now.passes ≡ true → AsksNoDatagrams asked.now.wanted.now }
         ensures read { IfOk result (λ taken. taken ≡ true → (es : List Event) → StandsAt asked.now.rules.now es state.old
             → IsRead asked.now.rules.now asked.now.wanted.now (kept_walk asked.now.rules.now asked.now.wanted.now asked.now.before es frame.now)
             state.new (outlined frame.now.bytes asked.now.wanted.now self.new.headers self.new.notes)) }
@@ -179,6 +184,7 @@ fn take_headers(
     requires goes { GoesPlain asked.now.wanted.now state.old.keeps }
     requires few { HasRoomForOne (length frame.now.bytes) state.old }
     requires links { AsksNoLinks asked.now.wanted.now }
+    requires messages { asked.now.passes ≡ true → AsksNoDatagrams asked.now.wanted.now }
     ensures tabled { OnOk result (Each (IsTabled tables.now) headers.new.items) }
     ensures read { IfOk result (λ taken. taken ≡ true → (es : List Event) → StandsAt asked.now.rules.now es state.old
         → IsRead asked.now.rules.now asked.now.wanted.now (kept_walk asked.now.rules.now asked.now.wanted.now asked.now.before es frame.now)
@@ -189,21 +195,39 @@ fn take_headers(
     ensures added { AddsAtMost 1 state.old state.new }
     ensures kept { bytes_kept state.new ≡ bytes_kept state.old }
 {
-    match open_headers(headers, tables, frame)? {
-        Some(ways::Carried::Segment(packet, head, payload)) => {
-            let met = SegmentMet {
-                packet,
-                head,
-                payload,
-            };
-            state.begin_frame();
-            let carried = state.carry(asked.rules, frame, &met)?;
-            push_data(headers, tables, &carried)?;
-            push_notes(notes, asked.wanted, asked.before, frame, &carried)?;
+    let Some(way) = open_headers(headers, tables, frame)? else {
+        return Ok(false);
+    };
+    match state.carry(asked.rules, frame, way, asked.passes)? {
+        Some(carried) => {
+            put_carried(headers, notes, tables, asked, frame, &carried)?;
             Ok(true)
         }
-        _ => Ok(false),
+        None => Ok(false),
     }
+}
+
+/// Puts the header of what is shown as data, and what is told of the frame.
+fn put_carried(
+    headers: &mut Vec<Header>,
+    notes: &mut Vec<Note>,
+    tables: &Tables,
+    asked: &Asked<'_>,
+    frame: &Frame,
+    carried: &Carried,
+) -> Result<(), NoMemory>
+    requires untold { notes.old.items ≡ [] }
+    requires tabled { Each (IsTabled tables.now) headers.old.items }
+    requires bytes { length frame.now.bytes < 2 ^ 32 }
+    requires before { AreTimes asked.now.before }
+    requires time { IfSome frame.now.time IsTime }
+    ensures headers { OnOk result (headers.new.items ≡ headers.old.items ++ data_headers tables.now carried.now.free carried.now.payload) }
+    ensures notes { OnOk result (notes.new.items ≡ wanted_notes asked.now.wanted.now (notes_of asked.now.before frame.now carried.now)) }
+    ensures fits { OnOk result ((buffers : List (List ℕ)) → IsInside buffers carried.now.payload → Each (NoteFits buffers) (notes_of asked.now.before frame.now carried.now)) }
+    ensures tabled { OnOk result (Each (IsTabled tables.now) headers.new.items) }
+{
+    push_data(headers, tables, carried)?;
+    push_notes(notes, asked.wanted, asked.before, frame, carried)
 }
 
 /// Puts the headers of a plain frame, its own first, and finds what they carry.
@@ -223,13 +247,13 @@ fn open_headers(
     read_way(tables, frame, headers)
 }
 
-/// Puts the header of what a segment carries, where this is shown as data.
+/// Puts the header of the bytes that are shown as data.
 fn push_data(headers: &mut Vec<Header>, tables: &Tables, carried: &Carried) -> Result<(), NoMemory>
     requires tabled { Each (IsTabled tables.now) headers.old.items }
-    ensures headers { OnOk result (headers.new.items ≡ headers.old.items ++ data_headers tables.now carried.now.app carried.now.payload) }
+    ensures headers { OnOk result (headers.new.items ≡ headers.old.items ++ data_headers tables.now carried.now.free carried.now.payload) }
     ensures tabled { OnOk result (Each (IsTabled tables.now) headers.new.items) }
 {
-    if is_data(carried.app, carried.payload) {
+    if has_data(carried.free, carried.payload) {
         push_all(headers, &[data_header(tables, carried.payload)])
     } else {
         Ok(())

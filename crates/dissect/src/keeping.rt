@@ -4,7 +4,7 @@ ghost use Rattle.dis_ports.specs.TcpOptions.{option_fields};
 ghost use Rattle.pk_fields.specs.FieldSets.{is_in};
 ghost use Rattle.pk_fields.specs.Ids.{TCP_SEGMENT, UDP_STREAM, WS_MALFORMED, WS_SHORT, field_count};
 ghost use Rattle.dissect.specs.Followed.{asks_any, asks_messages, asks_streams};
-ghost use Rattle.dissect.specs.Keeping.{AsksNoLinks, AsksNoPlaces, FollowsEnough, GoesPlain, KeepsFor, KeepsWhole, is_everything, is_followed, keeps_all, keeps_no_bytes, tells_places};
+ghost use Rattle.dissect.specs.Keeping.{AsksNoLinks, AsksNoPlaces, FollowsEnough, GoesPlain, KeepsFor, KeepsWhole, is_everything, is_followed, keeps_all, tells_places};
 
 use pk_fields::{FieldId, FieldSet, ids};
 use stream_messages::App as StreamApp;
@@ -17,6 +17,8 @@ pub(crate) enum Follows {
     Places,
     /// Those of streams of one application.
     One(StreamApp),
+    /// Those of streams that have an application.
+    Applications,
     Everything,
 }
 
@@ -25,7 +27,7 @@ impl Follows {
         ensures { result ≡ is_everything self }
     {
         match self {
-            Follows::Nothing | Follows::Places | Follows::One(_) => false,
+            Follows::Nothing | Follows::Places | Follows::One(_) | Follows::Applications => false,
             Follows::Everything => true,
         }
     }
@@ -36,17 +38,9 @@ impl Follows {
     {
         match self {
             Follows::Places => true,
-            Follows::Nothing | Follows::One(_) | Follows::Everything => false,
-        }
-    }
-
-    /// Whether no byte of streams is kept.
-    fn keeps_no_bytes(self) -> bool
-        ensures { result ≡ keeps_no_bytes self }
-    {
-        match self {
-            Follows::Nothing | Follows::Places => true,
-            Follows::One(_) | Follows::Everything => false,
+            Follows::Nothing | Follows::One(_) | Follows::Applications | Follows::Everything => {
+                false
+            }
         }
     }
 
@@ -55,12 +49,13 @@ impl Follows {
         ensures { result ≡ is_followed self app }
     {
         match (self, app) {
-            (Follows::Nothing | Follows::Places, _) | (Follows::One(_), None) => false,
+            (Follows::Nothing | Follows::Places, _)
+            | (Follows::One(_) | Follows::Applications, None) => false,
             (Follows::One(StreamApp::Dns), Some(StreamApp::Dns)) => true,
             (Follows::One(StreamApp::Dns), Some(StreamApp::Http)) => false,
             (Follows::One(StreamApp::Http), Some(StreamApp::Dns)) => false,
             (Follows::One(StreamApp::Http), Some(StreamApp::Http)) => true,
-            (Follows::Everything, _) => true,
+            (Follows::Applications, Some(_)) | (Follows::Everything, _) => true,
         }
     }
 }
@@ -114,12 +109,12 @@ impl Keeping {
     }
 }
 
-/// Whether the headers of plain frames answer for the wanted fields: none of them is of the options of TCP, and no byte of
-/// streams is kept.
+/// Whether the headers of plain frames may answer for the wanted fields: none of them is of the options of TCP, and not all
+/// streams are followed.
 pub(crate) fn goes_plain(wanted: &FieldSet, keeps: Keeping) -> bool
     ensures { result ≡ true → GoesPlain wanted.now keeps }
 {
-    keeps.follows.keeps_no_bytes() && !asks_options(wanted)
+    !keeps.follows.is_everything() && !asks_options(wanted)
 }
 
 /// Whether a field of the options of TCP may be asked.
@@ -180,8 +175,11 @@ fn taken_for_messages(wanted: &FieldSet) -> Follows
     ensures enough { FollowsEnough result wanted.now }
     ensures links { is_everything result ≡ false → AsksNoLinks wanted.now }
 {
-    if asks_places(wanted) || asks_any_messages(wanted) || asks_links(wanted) {
+    if asks_places(wanted) || wanted.contains(ids::TCP_SEGMENT) || asks_links(wanted) {
         return Follows::Everything;
+    }
+    if asks_faults(wanted) {
+        return Follows::Applications;
     }
     if !asks_any(wanted, ids::HTTP) {
         return Follows::One(StreamApp::Dns);
@@ -189,7 +187,7 @@ fn taken_for_messages(wanted: &FieldSet) -> Follows
     if !asks_any(wanted, ids::DNS) {
         return Follows::One(StreamApp::Http);
     }
-    Follows::Everything
+    Follows::Applications
 }
 
 /// Whether links of messages may be asked.
@@ -209,15 +207,12 @@ fn asks_places(wanted: &FieldSet) -> bool
         || wanted.contains(ids::TCP_LOST)
 }
 
-/// Whether something may be asked that messages of all applications give.
-fn asks_any_messages(wanted: &FieldSet) -> bool
-    ensures segment { result ≡ false → is_in wanted.now TCP_SEGMENT ≡ false }
+/// Whether the fault layers may be asked that messages of all applications can have behind them.
+fn asks_faults(wanted: &FieldSet) -> bool
     ensures short { result ≡ false → is_in wanted.now WS_SHORT ≡ false }
     ensures malformed { result ≡ false → is_in wanted.now WS_MALFORMED ≡ false }
 {
-    wanted.contains(ids::TCP_SEGMENT)
-        || wanted.contains(ids::WS_SHORT)
-        || wanted.contains(ids::WS_MALFORMED)
+    wanted.contains(ids::WS_SHORT) || wanted.contains(ids::WS_MALFORMED)
 }
 
 /// Whether something may be asked that the streams of TCP give: a segment's place, or messages.

@@ -7,15 +7,14 @@ ghost use Rattle.pk_source.specs.Outlines.{NoteFits, wanted_notes};
 ghost use Rattle.pk_tree.specs.Buffers.{IsInside};
 ghost use Rattle.pk_tree.specs.Values.{IsOfKind};
 ghost use Rattle.app_layers.specs.Times.{AreTimes};
-ghost use Rattle.dissect.specs.Carried.{bytes_notes, data_notes, frame_notes, lost_notes, moment_note, notes_of, number_note, place_notes, read_note, segment_notes};
+ghost use Rattle.dissect.specs.Carried.{bytes_notes, carrier_notes, conversation_notes, data_notes, frame_notes, lost_notes, moment_note, notes_of, number_note, place_notes, read_note, segment_notes};
 
-use crate::carried::{Carried, Place, is_data};
+use crate::carried::{Carried, Carrier, Place, has_data};
 use app_layers::{Times, captured, since};
 use capture_read::Frame;
 use pk_base::{NoMemory, Span, Value};
 use pk_fields::{FieldId, FieldSet, ids};
 use pk_source::{Note, Told};
-use stream_messages::App as StreamApp;
 
 /// Tells of a plain frame what is wanted.
 pub(crate) fn push_notes(
@@ -34,8 +33,8 @@ pub(crate) fn push_notes(
 {
     let payload = carried.payload;
     tell_frame(notes, wanted, before, frame)?;
-    tell_segment(notes, wanted, &carried.place, payload)?;
-    tell_data(notes, wanted, carried.app, payload)
+    tell_carrier(notes, wanted, &carried.carrier, payload)?;
+    tell_data(notes, wanted, carried.free, payload)
 }
 
 /// Tells of the frame itself: its number, its time, its lengths.
@@ -67,6 +66,22 @@ fn tell_frame(
             )
         }
         None => tell_all(notes, wanted, &[first, wire, captured]),
+    }
+}
+
+/// Tells what stands in the last header's layer.
+fn tell_carrier(
+    notes: &mut Vec<Note>,
+    wanted: &FieldSet,
+    carrier: &Carrier,
+    span: Span,
+) -> Result<(), NoMemory>
+    ensures notes { OnOk result (notes.new.items ≡ notes.old.items ++ wanted_notes wanted.now (carrier_notes carrier.now span)) }
+    ensures fits { OnOk result ((buffers : List (List ℕ)) → IsInside buffers span → Each (NoteFits buffers) (carrier_notes carrier.now span)) }
+{
+    match carrier {
+        Carrier::Segment(place) => tell_segment(notes, wanted, place, span),
+        Carrier::Datagram(stream) => tell_conversation(notes, wanted, *stream, span),
     }
 }
 
@@ -139,17 +154,36 @@ fn tell_lost(
     }
 }
 
+/// Tells the number of a datagram's conversation, and what it carries.
+#[tactic(auto, unfolding(crate::specs::Carried::conversation_notes, pk_fields::specs::Fields::row_of, pk_fields::specs::Table::rows))]
+fn tell_conversation(
+    notes: &mut Vec<Note>,
+    wanted: &FieldSet,
+    stream: u32,
+    span: Span,
+) -> Result<(), NoMemory>
+    ensures notes { OnOk result (notes.new.items ≡ notes.old.items ++ wanted_notes wanted.now (conversation_notes stream span)) }
+    ensures fits { OnOk result ((buffers : List (List ℕ)) → IsInside buffers span → Each (NoteFits buffers) (conversation_notes stream span)) }
+{
+    let number = number_note(ids::UDP_STREAM, stream);
+    if span.len == 0 {
+        tell_all(notes, wanted, &[number])
+    } else {
+        tell_all(notes, wanted, &[number, read_note(ids::UDP_PAYLOAD, span)])
+    }
+}
+
 #[tactic(auto, unfolding(crate::specs::Carried::data_notes, pk_fields::specs::Fields::row_of, pk_fields::specs::Table::rows))]
 fn tell_data(
     notes: &mut Vec<Note>,
     wanted: &FieldSet,
-    app: Option<StreamApp>,
+    free: bool,
     span: Span,
 ) -> Result<(), NoMemory>
-    ensures notes { OnOk result (notes.new.items ≡ notes.old.items ++ wanted_notes wanted.now (data_notes app span)) }
-    ensures fits { OnOk result ((buffers : List (List ℕ)) → Each (NoteFits buffers) (data_notes app span)) }
+    ensures notes { OnOk result (notes.new.items ≡ notes.old.items ++ wanted_notes wanted.now (data_notes free span)) }
+    ensures fits { OnOk result ((buffers : List (List ℕ)) → Each (NoteFits buffers) (data_notes free span)) }
 {
-    if is_data(app, span) {
+    if has_data(free, span) {
         tell_all(notes, wanted, &[number_note(ids::DATA_LEN, span.len)])
     } else {
         tell_all(notes, wanted, &[])

@@ -75,4 +75,5 @@ invariant_of-self-in-Err c =
         whole = λ unsparing. subst (λ (keeps : Keeping). KeepsWhole keeps c.self.inside.wanted) (sym c.make_tree.ensures.added.keeps) (c.self.invariant.0.whole unsparing);
       },
       λ goes. subst (GoesPlain c.self.inside.wanted) (sym c.make_tree.ensures.added.keeps) (c.self.invariant.1 goes),
+      c.self.invariant.2,
     )

@@ -4,7 +4,7 @@ use Rattle.pk_source.specs.Outlines.{outlined}
 use Rattle.dissect.specs.Stands.{DissectorShown}
 use Rattle.dissect.specs.Keeping.{KeepsFor}
 use Rattle.app_layers.specs.Times.{with_time}
-use Rattle.dissect.proofs.KeepingLemmas.{passes_some}
+use Rattle.dissect.proofs.KeepingLemmas.{some_kept}
 use Rattle.dissect.proofs.Taken.{ReadsBy, after-taken, lacks-taken, values-taken}
 use Rattle.dissect.proofs.dissector.Dissector.take_headers.Goals as goal
 
@@ -17,7 +17,7 @@ returns-in-Ok-true-clause-values c = λ taken past after.
     (subst (λ (rules : List PortRule). ReadsBy rules c.self.inside.wanted frame c.self.inside.times c.self.inside.state c.take.new.state (outlined frame.bytes c.self.inside.wanted heads.headers heads.notes)) c.slice.ensures (c.in-Ok-true.ensures.read c.in-Ok-true.field-0-test)) in
     let enough = subst (λ (x : DissectorShown). KeepsFor x.state.keeps x.wanted) c.self.view_is c.self.invariant.0.asked in
     values-taken d.wanted past frame d c.take.new.state (outlined frame.bytes d.wanted heads.headers heads.notes)
-    (c.take.ensures.added.keeps ∙ ap (λ (x : DissectorShown). x.state.keeps) c.self.view_is) after reads enough (enough.links (passes_some d.state.keeps c.requires.goes.passes))
+    (c.take.ensures.added.keeps ∙ ap (λ (x : DissectorShown). x.state.keeps) c.self.view_is) after reads enough (enough.links (some_kept d.state.keeps c.requires.goes.some))
 
 pub returns-in-Ok-true-clause-lacks : goal.returns-in-Ok-true-clause-lacks
 returns-in-Ok-true-clause-lacks c = λ taken past after.
@@ -28,7 +28,7 @@ returns-in-Ok-true-clause-lacks c = λ taken past after.
     (subst (λ (rules : List PortRule). ReadsBy rules c.self.inside.wanted frame c.self.inside.times c.self.inside.state c.take.new.state (outlined frame.bytes c.self.inside.wanted heads.headers heads.notes)) c.slice.ensures (c.in-Ok-true.ensures.read c.in-Ok-true.field-0-test)) in
     let enough = subst (λ (x : DissectorShown). KeepsFor x.state.keeps x.wanted) c.self.view_is c.self.invariant.0.asked in
     lacks-taken d.wanted past frame d c.take.new.state (outlined frame.bytes d.wanted heads.headers heads.notes)
-    (c.take.ensures.added.keeps ∙ ap (λ (x : DissectorShown). x.state.keeps) c.self.view_is) after reads enough (enough.links (passes_some d.state.keeps c.requires.goes.passes))
+    (c.take.ensures.added.keeps ∙ ap (λ (x : DissectorShown). x.state.keeps) c.self.view_is) after reads enough (enough.links (some_kept d.state.keeps c.requires.goes.some))
 
 pub returns-in-Ok-true-clause-after : goal.returns-in-Ok-true-clause-after
 returns-in-Ok-true-clause-after c = λ taken past after.

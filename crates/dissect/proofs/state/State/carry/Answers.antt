@@ -1,15 +1,17 @@
-use Rattle.std.proofs.Common.{◌≡◌, false, refl, sym, ◌∙◌}
-use Rattle.dissect.specs.Keeping.{tells_places}
-use Rattle.dissect.proofs.KeepingLemmas.{passes_followed}
-use Rattle.dissect.proofs.Passing.{passed-walked}
+use Rattle.std.proofs.Common.{Option, None, Some}
+use Rattle.std.specs.Prelude.{IfOk, IfSome, Result, Ok, Err}
+use Rattle.dissect.specs.declared.carried.Carried.{Carried}
 use Rattle.dissect.proofs.state.State.carry.Goals as goal
 
-pub returns-clause-walked : goal.returns-clause-walked
-returns-clause-walked c = λ t es buffers stands.
-    let rules = c.args.rules.now in
-    let frame = c.args.frame.now in
-    let met = c.args.met.now in
-    let follows = c.args.self.now.keeps.follows in
-    let untold : tells_places follows ≡ false = sym c.tells_places.ensures ∙ c.if-tells_places.false in
-    passed-walked rules frame met.packet met.head met.payload c.stream_app-app.result c.args.self.now t _ c.stream_app-app.ensures
-    (passes_followed follows c.stream_app-app.result c.requires.passes) untold refl es stands
+if_found : {E : Type 0} (P Q : Carried → Type 0) (r : Result (Option Carried) E) → ((c : Carried) → P c → Q c) → IfOk r (λ (found : Option Carried). IfSome found P) → IfOk r (λ (found : Option Carried). IfSome found Q)
+if_found P Q (Ok None) more is = tt
+if_found P Q (Ok (Some c)) more is = more c is
+if_found P Q (Err e) more is = tt
+
+pub returns-in-Segment-clause-tells : goal.returns-in-Segment-clause-tells
+returns-in-Segment-clause-tells c = rw c.in-Segment.is
+    (if_found _ _ c.carry_segment.result (λ carried tells. tells c.args.passes) c.carry_segment.ensures.tells)
+
+pub returns-in-Datagram-clause-tells : goal.returns-in-Datagram-clause-tells
+returns-in-Datagram-clause-tells c = rw c.in-Datagram.is
+    (if_found _ _ c.carry_datagram.result (λ carried tells. tells c.args.frame.now) c.carry_datagram.ensures.tells)

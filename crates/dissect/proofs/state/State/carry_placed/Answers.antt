@@ -1,4 +1,4 @@
-use Rattle.std.proofs.Common.{◌≡◌, ◌∙◌, ◌∷◌, [], ℕ, List, ap, refl, subst, sym}
+use Rattle.std.proofs.Common.{◌≡◌, ◌∙◌, Bool, ◌∷◌, ℕ, List, ap, refl, subst, sym}
 use Rattle.pk_base.specs.declared.span.Span.{Span}
 use Rattle.pk_tree.specs.Buffers.{bytes_of}
 use Rattle.pk_tree.specs.Trees.{TreeShown}
@@ -7,17 +7,16 @@ use Rattle.tcp_streams.specs.declared.segment.Taken.{Taken}
 use Rattle.tcp_streams.specs.Labels.{taken_after}
 use Rattle.tcp_streams.specs.PlacesStanding.{PlacesStandFor}
 use Rattle.app_layers.specs.FrameLayer.{is_cut}
-use Rattle.app_layers.specs.MessageLayers.{carried_over}
 use Rattle.app_layers.specs.Payloads.{place_told, segment_told}
-use Rattle.dissect.specs.Carried.{place_of, told_by}
+use Rattle.dissect.specs.Carried.{place_of, segment_by, shown_by}
 use Rattle.dissect.specs.Plain.{own}
 use Rattle.dissect.specs.Segments.{segment_from}
 use Rattle.dissect.specs.declared.carried.Place.{Place}
-use Rattle.dissect.proofs.Passing.{placed-walked}
+use Rattle.dissect.proofs.Passing.{placed-walked, shown_free}
 use Rattle.dissect.proofs.state.State.carry_placed.Goals as goal
 use Rattle.std.specs.Prelude.{Some}
 
-told_placed : (t : TreeShown) (taken : Taken) (span : Span) → told_by t (Some (place_of taken)) span ≡ segment_told t taken span
+told_placed : (t : TreeShown) (taken : Taken) (span : Span) → segment_by t (Some (place_of taken)) span ≡ segment_told t taken span
 unfolding segment_told place_told
 told_placed t taken span = refl
 
@@ -28,13 +27,16 @@ returns-in-Ok-clause-walked c = λ rules t es app_is buffers stands.
     let packet = met.packet in
     let head = met.head in
     let payload = met.payload in
+    let app = c.args.app in
     let bytes_are : own frame payload ≡ bytes_of t.buffers payload = ap (λ (bs : List (List ℕ)). bytes_of bs payload) (sym buffers) in
     let segment_is : c.segment_from-segment.result ≡ segment_from frame.number packet head (bytes_of t.buffers payload) =
     c.segment_from-segment.ensures ∙ ap (segment_from frame.number packet head) (c.in_ok-payload.ensures ∙ bytes_are) in
-    placed-walked rules frame packet head payload c.args.app c.in-Ok.taken c.take-placed.new.self c.args.self.now _ t _
+    placed-walked rules frame packet head payload app c.in-Ok.taken c.take-placed.new.self c.args.self.now _ t _
     app_is c.requires.places refl
     (λ past stood. subst (λ (s : Segment). c.in-Ok.taken ≡ taken_after past s) segment_is (c.in-Ok.ensures.taken past stood))
     (λ past stood. subst (λ (s : Segment). PlacesStandFor (s ∷ past) c.take-placed.new.self) segment_is (c.in-Ok.ensures.stands past stood))
-    (ap (λ (place : Place). carried_over c.args.app (is_cut frame) payload (told_by t (Some place) payload) []) c.place_of.ensures
-    ∙ ap (λ (x : TreeShown). carried_over c.args.app (is_cut frame) payload x []) (told_placed t c.in-Ok.taken payload))
+    (ap (λ (place : Place). shown_by c.is_free.result (segment_by t (Some place) payload) payload) c.place_of.ensures
+    ∙ ap (λ (x : TreeShown). shown_by c.is_free.result x payload) (told_placed t c.in-Ok.taken payload)
+    ∙ ap (λ (free : Bool). shown_by free (segment_told t c.in-Ok.taken payload) payload) c.is_free.ensures
+    ∙ shown_free app (is_cut frame) payload (segment_told t c.in-Ok.taken payload))
     es stands
