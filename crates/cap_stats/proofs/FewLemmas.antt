@@ -21,6 +21,7 @@ use Rattle.pk_tree.specs.FieldValues.{item_values}
 use Rattle.pk_tree.specs.Trees.{IsTree, ItemFits, LayersFit, TreeShown}
 use Rattle.pk_tree.specs.Values.{IsOfKind}
 use Rattle.cap_stats.specs.declared.counts.Talk.{Talk}
+use Rattle.cap_stats.specs.declared.counts.Tally.{Tally}
 use Rattle.cap_stats.specs.declared.kind.StatKind.{StatKind}
 use Rattle.cap_stats.specs.declared.kind.StatKind.TheVariants.{ConvTcp, ConvIp, Phs}
 use Rattle.cap_stats.specs.declared.pairs.Pairs.{Pairs}
@@ -29,9 +30,9 @@ use Rattle.cap_stats.specs.declared.paths.Paths.{Paths}
 use Rattle.cap_stats.specs.declared.stats.Stats.{Stats}
 use Rattle.cap_stats.specs.declared.streams.Streams.{Streams}
 use Rattle.cap_stats.specs.Counts.{first_of, leaves, lengths_of, of_key, sizes_tally, tally_of, talk_of}
-use Rattle.cap_stats.specs.Few.{AreFew, HasFew, HasRoom, HasTalkRoom}
+use Rattle.cap_stats.specs.Few.{AreFew, HasFew, HasRoom, HasTalkRoom, HaveRoom}
 use Rattle.cap_stats.specs.Keys.{same_number, same_pair, pair_cmp}
-use Rattle.cap_stats.specs.Stands.{HasNotes, HasPairs, HasPaths, HasStreams, Stands, is_spent, kind_of}
+use Rattle.cap_stats.specs.Stands.{HasNotes, HasPairs, HasPaths, HasStreams, Stands, is_spent, kind_of, tally_at}
 use Rattle.cap_stats.specs.Tables.{packets_of, paths_of, segments_of, with_note}
 use Rattle.cap_stats.specs.Told.{◌>>=◌, address_in, first_value, four_in, has_addresses, has_stream, host, is_ip, length_of, number_in, number_of, packet_in, packet_of, pair_of, party_at, path_of, paths_in, paths_to, protocols_in, segment_at, segment_of, stream_in}
 use Rattle.cap_stats.proofs.PathLemmas.{path_more}
@@ -280,15 +281,16 @@ new_path bytes protocols (suc count) place notes before within =
     ap (λ (test : Bool). cond test (bytes ∷ rest) rest) (bytes_apart (path_of (take (suc count) protocols)) path less)
     ∙ new_path bytes protocols count place notes (omega (arith, before)) within
 
-pub path_kept : (old now : Paths) (bytes place : ℕ) (protocols path : List ℕ) (notes : List (List ℕ × ℕ)) → place < length protocols
-    → path ≡ path_of (take (place + 1) protocols) → HasPaths notes old → HasPaths (paths_to bytes protocols place ++ notes) now
-    → tree.get_by_text now.all path ≡ tree.get_by_text old.all path
-path_kept old now bytes place protocols path notes within is had has =
-    has.tallies path
-    ∙ ap (λ (p : List ℕ). sizes_tally (of_key bytes_eq p (paths_to bytes protocols place ++ notes))) is
-    ∙ ap (λ (sizes : List ℕ). sizes_tally sizes) (new_path bytes protocols place place notes (omega arith) within)
-    ∙ ap (λ (p : List ℕ). sizes_tally (of_key bytes_eq p notes)) (sym is)
-    ∙ sym (had.tallies path)
+pub room_kept : (paths : Paths) (bytes place : ℕ) (protocols path : List ℕ) (notes : List (List ℕ × ℕ)) → place < length protocols
+    → path ≡ path_of (take (place + 1) protocols) → HasPaths (paths_to bytes protocols place ++ notes) paths → HaveRoom notes
+    → IfSome (tally_at paths path) HasRoom
+room_kept paths bytes place protocols path notes within is has room =
+    let all = paths_to bytes protocols place ++ notes in
+    subst (λ (o : Option Tally). IfSome o HasRoom)
+    (sym (has.tallies path
+    ∙ ap (λ (p : List ℕ). sizes_tally (of_key bytes_eq p all)) is
+    ∙ ap (λ (sizes : List ℕ). sizes_tally sizes) (new_path bytes protocols place place notes (omega arith) within)))
+    (room (path_of (take (place + 1) protocols)))
 
 once_more : (path : List ℕ) (bytes most : ℕ) (protocols : List ℕ) (count : ℕ) (notes : List (List ℕ × ℕ)) → count ≤ length protocols → bytes < 2 ^ 32
     → AreShort most (of_key bytes_eq path notes) → AreShort (suc most) (of_key bytes_eq path (paths_to bytes protocols count ++ notes))
@@ -317,12 +319,10 @@ paths_short [] path short = record { count = omega arith; short = tt }
 paths_short (t ∷ past) path short =
     once_more path (length_of t.layers) (length past) (protocols_in t.layers) (length (protocols_in t.layers)) (paths_of past) (omega arith) short.0 (paths_short past path short.1)
 
-pub path_room : (paths : Paths) (past : List TreeShown) (path : List ℕ) → HasPaths (paths_of past) paths → AreFew (2 ^ 32 - 1) past
-    → IfSome (tree.get_by_text paths.all path) HasRoom
-path_room paths past path has are =
-    subst (λ o. IfSome o HasRoom) (sym (has.tallies path))
-    (sizes_room (of_key bytes_eq path (paths_of past))
-    (shorter (length past) (2 ^ 32 - 1) (of_key bytes_eq path (paths_of past)) are.count (paths_short past path are.lengths)))
+pub paths_room : (past : List TreeShown) → AreFew (2 ^ 32 - 1) past → HaveRoom (paths_of past)
+paths_room past are path =
+    sizes_room (of_key bytes_eq path (paths_of past))
+    (shorter (length past) (2 ^ 32 - 1) (of_key bytes_eq path (paths_of past)) are.count (paths_short past path are.lengths))
 
 -- statistics of few trees, and of one more
 pub few_more : (most more : ℕ) (stats : Stats) → most ≤ more → HasFew most stats → HasFew more stats

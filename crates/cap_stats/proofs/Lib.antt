@@ -1,5 +1,6 @@
 pub mod BareLayers
 pub mod CountLemmas
+pub mod Elsewhere
 pub mod FewLemmas
 pub mod KeptNotes
 pub mod KeptTables

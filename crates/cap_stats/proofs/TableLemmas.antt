@@ -6,7 +6,6 @@ use Rattle.std.specs.BTreeMap as tree
 use Rattle.std.specs.List.{flat_map}
 use Rattle.std.specs.Ordering.{nat_cmp}
 use Rattle.std.specs.Str.{bytes_eq}
-use Rattle.cap_stats.specs.declared.counts.Tally.{Tally}
 use Rattle.cap_stats.specs.declared.counts.Talk.{Talk}
 use Rattle.cap_stats.specs.declared.pairs.Pairs.{Pairs}
 use Rattle.cap_stats.specs.declared.party.Flight.{Flight}
@@ -14,7 +13,7 @@ use Rattle.cap_stats.specs.declared.paths.Paths.{Paths}
 use Rattle.cap_stats.specs.declared.streams.Streams.{Streams}
 use Rattle.cap_stats.specs.Counts.{of_key, sizes_tally, talk_of}
 use Rattle.cap_stats.specs.Keys.{same_number, numbers_in, same_pair, pair_cmp, pairs_in, texts_in}
-use Rattle.cap_stats.specs.Stands.{HasStreams, HasPairs, HasPaths}
+use Rattle.cap_stats.specs.Stands.{HasStreams, HasPairs, HasPaths, tally_at}
 use Rattle.cap_stats.specs.Tables.{table_with, stream_line, pair_line, path_line, streams_table, pairs_table, paths_table}
 
 made : {K V : Type 0} (name : List ℕ) (count : ℕ) (keys wanted : List K) (has is : K → Option V) (line : K → Option V → List ℕ) (text : List ℕ)
@@ -59,13 +58,13 @@ pairs_made pairs notes count text counted written has =
 
 pub paths_made : (paths : Paths) (notes : List (List ℕ × ℕ)) (count : ℕ) (text : List ℕ)
     → count ≡ tree.btree_map_len paths.all
-    → text ≡ (codes "phs " ++ (decimal count ++ 10 ∷ [])) ++ flat_map (λ k. path_line (string_bytes k) (tree.get_by_text paths.all (string_bytes k))) (tree.keys paths.all)
+    → text ≡ (codes "phs " ++ (decimal count ++ 10 ∷ [])) ++ flat_map (λ k. path_line (string_bytes k) (tally_at paths (string_bytes k))) (tree.keys paths.all)
     → HasPaths notes paths → text ≡ paths_table notes
 unfolding paths_table
 paths_made paths notes count text counted written has =
-    made (codes "phs ") count (map string_bytes (tree.keys paths.all)) (texts_in notes) (λ p. tree.get_by_text paths.all p) (λ p. sizes_tally (of_key bytes_eq p notes)) path_line text
+    made (codes "phs ") count (map string_bytes (tree.keys paths.all)) (texts_in notes) (λ p. tally_at paths p) (λ p. sizes_tally (of_key bytes_eq p notes)) path_line text
     has.keys_are
-    (counted ∙ sym (length-map paths.all.entries (λ (e : String Global × Tally). e.0)) ∙ sym (length-map (tree.keys paths.all) string_bytes))
+    (counted ∙ sym (length-map paths.all.entries (λ (e : String Global × ℕ). e.0)) ∙ sym (length-map (tree.keys paths.all) string_bytes))
     has.tallies
     (written ∙ ap (λ (lines : List ℕ). (codes "phs " ++ (decimal count ++ 10 ∷ [])) ++ lines)
-    (sym (flat_map-map (λ p. path_line p (tree.get_by_text paths.all p)) string_bytes (tree.keys paths.all))))
+    (sym (flat_map-map (λ p. path_line p (tally_at paths p)) string_bytes (tree.keys paths.all))))

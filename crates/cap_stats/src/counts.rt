@@ -1,7 +1,7 @@
 // Frames and bytes, and how one more frame changes them.
 ghost use Rattle.std.specs.Prelude.{◌≡◌, ◌<◌, ◌^◌, IfSome};
 ghost use Rattle.cap_stats.specs.Few.{HasRoom, HasTalkRoom};
-ghost use Rattle.cap_stats.specs.Steps.{tally_with, tally_after, talk_with, first_talk, talk_after};
+ghost use Rattle.cap_stats.specs.Steps.{tally_with, tally_after, talk_with, first_talk};
 
 use crate::party::{Flight, Party, is_same};
 
@@ -47,21 +47,21 @@ pub(crate) fn tally_after(tally: Option<Tally>, bytes: u64) -> Tally
     }
 }
 
-fn talk_with(talk: Talk, flight: &Flight) -> Talk
-    requires room { HasTalkRoom talk }
+/// A conversation gets one more flight.
+pub(crate) fn raise_talk(talk: &mut Talk, flight: &Flight)
+    requires room { HasTalkRoom talk.old }
     requires short { flight.now.bytes < 2 ^ 32 }
-    ensures { result ≡ talk_with talk flight.now }
+    ensures { talk.new ≡ talk_with talk.old flight.now }
 {
     if is_same(&flight.from, &talk.from) {
-        let there = tally_with(talk.there, flight.bytes);
-        Talk { there, ..talk }
+        talk.there = tally_with(talk.there, flight.bytes);
     } else {
-        let back = tally_with(talk.back, flight.bytes);
-        Talk { back, ..talk }
+        talk.back = tally_with(talk.back, flight.bytes);
     }
 }
 
-fn first_talk(flight: &Flight) -> Talk
+/// A conversation of one flight.
+pub(crate) fn first_talk(flight: &Flight) -> Talk
     ensures { result ≡ first_talk flight.now }
 {
     Talk {
@@ -75,17 +75,5 @@ fn first_talk(flight: &Flight) -> Talk
             frames: 0,
             bytes: 0,
         },
-    }
-}
-
-/// A conversation, if there is one, with one more flight.
-pub(crate) fn talk_after(talk: Option<Talk>, flight: &Flight) -> Talk
-    requires room { IfSome talk HasTalkRoom }
-    requires short { flight.now.bytes < 2 ^ 32 }
-    ensures { result ≡ talk_after talk flight.now }
-{
-    match talk {
-        None => first_talk(flight),
-        Some(talk) => talk_with(talk, flight),
     }
 }

@@ -197,6 +197,19 @@ fn is_ip(proto: FieldId) -> bool
 }
 
 fn has_stream(outline: &Outline<'_>, place: usize) -> Result<bool, NoMemory>
+    requires { place < length outline.now.layers }
+    ensures { IfOk result (λ has. has ≡ has_there shows_stream outline.now.layers place) }
+{
+    if outline.protocol(place) == ids::TCP {
+        has_number(outline, place)
+    } else {
+        outline.fits();
+        Ok(false)
+    }
+}
+
+/// Whether the layer at a place has a stream's number.
+fn has_number(outline: &Outline<'_>, place: usize) -> Result<bool, NoMemory>
     ensures { IfOk result (λ has. has ≡ has_there shows_stream outline.now.layers place) }
 {
     let stream = number_at(outline, place, ids::TCP_STREAM)?;

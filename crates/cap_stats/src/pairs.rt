@@ -8,7 +8,7 @@ ghost use Rattle.cap_stats.specs.Few.{HasTalkRoom};
 ghost use Rattle.cap_stats.specs.Stands.{HasPairs};
 ghost use Rattle.cap_stats.specs.Tables.{pairs_table, pair_line};
 
-use crate::counts::{Talk, talk_after};
+use crate::counts::{Talk, first_talk, raise_talk};
 use crate::lines::{begin_table, put_talk};
 use crate::party::Flight;
 use pk_base::NoMemory;
@@ -52,7 +52,7 @@ impl Pairs {
         if self.raise(pair, flight) {
             return Ok(());
         }
-        let first = talk_after(None, flight);
+        let first = first_talk(flight);
         self.order.push(pair)?;
         self.all.insert(pair, first)?;
         Ok(())
@@ -70,7 +70,7 @@ impl Pairs {
     {
         match self.all.get_mut(&pair) {
             Some(talk) => {
-                *talk = talk_after(Some(*talk), flight);
+                raise_talk(talk, flight);
                 true
             }
             None => false,

@@ -1,5 +1,5 @@
 // TCP streams, by their numbers.
-ghost use Rattle.std.specs.Prelude.{◌≡◌, ◌<◌, ◌^◌, ℕ, List, [], ◌∷◌, ◌++◌, IfOk, IfSome, OnOk};
+ghost use Rattle.std.specs.Prelude.{◌≡◌, ◌<◌, ◌^◌, ℕ, None, true, false, List, [], ◌∷◌, ◌++◌, IfOk, IfSome, OnOk};
 ghost use Rattle.std.specs.BTreeMap.{get, keys};
 ghost use Rattle.std.specs.List.{flat_map};
 ghost use Rattle.std.specs.Option.{option_copied};
@@ -9,7 +9,7 @@ ghost use Rattle.cap_stats.specs.Few.{HasTalkRoom};
 ghost use Rattle.cap_stats.specs.Stands.{HasStreams};
 ghost use Rattle.cap_stats.specs.Tables.{streams_table, stream_line};
 
-use crate::counts::{Talk, talk_after};
+use crate::counts::{Talk, first_talk, raise_talk};
 use crate::lines::{begin_table, put_talk};
 use crate::party::Flight;
 use pk_base::NoMemory;
@@ -40,9 +40,30 @@ impl Streams {
         ensures { OnOk result ((notes : List (ℕ × FlightValue)) → HasStreams notes self.old
             → HasStreams ((number, flight.now) ∷ notes) self.new) }
     {
-        let talk = talk_after(self.all.get(&number).copied(), flight);
-        self.all.insert(number, talk)?;
+        if self.raise(number, flight) {
+            return Ok(());
+        }
+        self.all.insert(number, first_talk(flight))?;
         Ok(())
+    }
+
+    /// Notes a segment of a stream that is there, and answers whether it is.
+    fn raise(&mut self, number: u64, flight: &Flight) -> bool
+        requires room { IfSome (get nat_cmp self.old.all number) HasTalkRoom }
+        requires short { flight.now.bytes < 2 ^ 32 }
+        ensures raised { result ≡ true → (notes : List (ℕ × FlightValue)) → HasStreams notes self.old
+            → HasStreams ((number, flight.now) ∷ notes) self.new }
+        ensures absent { result ≡ false → get nat_cmp self.new.all number ≡ None }
+        ensures kept { result ≡ false → (notes : List (ℕ × FlightValue)) → HasStreams notes self.old
+            → HasStreams notes self.new }
+    {
+        match self.all.get_mut(&number) {
+            Some(talk) => {
+                raise_talk(talk, flight);
+                true
+            }
+            None => false,
+        }
     }
 
     /// The table, with a line for each stream.

@@ -1,14 +1,12 @@
-use Rattle.std.proofs.Common.{sym, subst, IfSome, Option, rules}
-use Rattle.cap_stats.specs.declared.counts.Tally.{Tally}
-use Rattle.cap_stats.specs.Few.{HasRoom}
+use Rattle.std.proofs.Common.{length, refl}
+use Rattle.std.proofs.lemmas.Option.{slice_get_read}
+use Rattle.std.specs.Vec.{with_item}
 use Rattle.cap_stats.proofs.PathLemmas.{path_raised}
 use Rattle.cap_stats.proofs.paths.Paths.raise.Goals as goal
 
-pub tally_after-requires-clause-room : goal.tally_after-requires-clause-room
-tally_after-requires-clause-room c = subst (λ (o : Option Tally). IfSome o HasRoom) (sym c.in-Some.ensures.value) c.requires.room
-
-pub returns-in-Some-clause-raised : goal.returns-in-Some-clause-raised
-returns-in-Some-clause-raised c = λ e notes has.
-    let tally = c.tally_after.result in
-    path_raised c.args.self.now (record { alloc = c.args.self.now.alloc; all = c.get_mut.follows.lender tally }) c.args.path.now c.args.bytes c.in-Some.tally.now tally notes
-    (sym c.in-Some.ensures.value) c.tally_after.ensures (c.get_mut.follows.holds tally).1 ((c.get_mut.follows.holds tally).3 (search rules)) has
+pub returns-clause-raised : goal.returns-clause-raised
+returns-clause-raised c = λ path some notes has.
+    let old = c.args.self.now in
+    path_raised old (record old { tallies = with_item old.tallies c.args.place c.tally_after.result }) path c.args.place c.args.bytes c.index-tally.result.now c.tally_after.result notes some
+    (slice_get_read old.tallies.items (length old.tallies.items) c.args.place c.index-tally.result.now refl c.requires.within c.index-tally.ensures)
+    c.tally_after.ensures refl refl refl has
