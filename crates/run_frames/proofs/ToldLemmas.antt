@@ -7,11 +7,14 @@ use Rattle.pk_tree.specs.Trees.{TreeShown}
 use Rattle.capture_read.specs.declared.frame.Frame.{Frame}
 use Rattle.capture_write.specs.Kept.{Kept, Stands}
 use Rattle.capture_write.specs.declared.format.Format.{Format}
+use Rattle.dissect.specs.Stands.{DissectorShown, StandsWithin}
+use Rattle.run_frames.specs.declared.later.Later.{Later}
 use Rattle.run_frames.specs.declared.notes.Notes.{Notes}
 use Rattle.run_frames.specs.declared.plan.Plan.{Plan}
-use Rattle.run_frames.specs.Accessors.{written_of}
+use Rattle.run_frames.specs.Accessors.{two_of, written_of}
 use Rattle.run_frames.specs.Chosen.{chosen_of}
 use Rattle.run_frames.specs.Job.{Passes, job_in}
+use Rattle.run_frames.specs.Later.{ServesKept}
 use Rattle.run_frames.specs.Notes.{HasNoted}
 use Rattle.run_frames.specs.Pieces.{shown}
 use Rattle.run_frames.specs.Steps.{IsAfterFrame, IsPacked, KeepsUp, fit_packet, fit_piece}
@@ -59,3 +62,15 @@ pub part_of_line : (plan : Plan) (frame : Frame) (tree : TreeShown) (before now 
     → (passes : Passes) (past : List Frame) → IsToldAs plan (tree_of (job_in plan passes) past frame) tree → AppendsPart before now (fit_piece (job_in plan passes) past frame)
 part_of_line plan frame tree before now is part passes past told =
     part_shown (job_in plan passes) past frame before now is (subst (AppendsPart before now) (told.shown is) part)
+
+-- where the dissector serves and stands, a tree of the frame is told as the whole one
+pub after_told : {E : Type 0} (result : Result Bool E) (later : Later) (d : DissectorShown) (plan : Plan) (frame : Frame) (tree : TreeShown) (notes noted : Notes) (old new : Kept)
+    (before now : Option (List ℕ))
+    → ((passes : Passes) (past : List Frame) → ServesKept d.wanted (two_of plan) passes later → StandsWithin past d → IsToldAs plan (tree_of (job_in plan passes) past frame) tree)
+    → IfOk result (λ fit. (passes : Passes) (past : List Frame) → IsToldAs plan (tree_of (job_in plan passes) past frame) tree
+    → KeepsUp (written_of plan) (job_in plan passes) past notes old → IsAfterFrame fit (job_in plan passes) past frame noted new before now)
+    → IfOk result (λ fit. (passes : Passes) (past : List Frame) → ServesKept d.wanted (two_of plan) passes later → StandsWithin past d
+    → KeepsUp (written_of plan) (job_in plan passes) past notes old → IsAfterFrame fit (job_in plan passes) past frame noted new before now)
+after_told (Err error) later d plan frame tree notes noted old new before now told after = tt
+after_told (Ok fit) later d plan frame tree notes noted old new before now told after = λ passes past serves stands keeps.
+    after passes past (told passes past serves stands) keeps

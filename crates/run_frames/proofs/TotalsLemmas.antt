@@ -1,5 +1,10 @@
 -- How many frames and layers were counted.
-use Rattle.std.proofs.Common.{◌≡◌, ◌≤◌, ◌<◌, ◌+◌, ◌*◌, ◌^◌, ℕ, suc, Bool, true, false, sym, subst, if◌then◌else◌, arith}
+use Rattle.std.proofs.Common.{◌≡◌, ◌==◌, ◌≤◌, ◌<◌, ◌+◌, ◌*◌, ◌^◌, ℕ, suc, Bool, true, false, cond, List, [], ◌∷◌, length, count_by, get_or, drop, refl, ap, sym, subst, ◌∙◌, if◌then◌else◌, arith}
+use Rattle.std.proofs.lemmas.List.{length-map}
+use Rattle.std.proofs.lemmas.List.Sums.{sum_by-cons}
+use Rattle.pk_source.specs.Outlines.{protocols, protocols_of}
+use Rattle.pk_source.specs.declared.header.Header.{Header}
+use Rattle.pk_tree.specs.declared.layer.Layer.{Layer}
 use Rattle.pk_fields.specs.Ids.{DNS, HTTP}
 use Rattle.pk_tree.specs.Trees.{TreeShown, layers_of}
 use Rattle.run_frames.specs.declared.totals.Totals.{Totals}
@@ -46,3 +51,26 @@ few_steps most steps t few within = record {
   http = few.http;
   steps = within;
 }
+
+-- by headers of the layers' protocols
+heads : {first second : ℕ} {firsts seconds : List ℕ} → first ∷ firsts ≡ second ∷ seconds → first ≡ second
+heads same = ap (λ (ps : List ℕ). get_or ps 0 0) same
+
+tails : {first second : ℕ} {firsts seconds : List ℕ} → first ∷ firsts ≡ second ∷ seconds → firsts ≡ seconds
+tails same = ap (λ (ps : List ℕ). drop 1 ps) same
+
+pub counted : (proto : ℕ) (headers : List Header) (layers : List Layer) → protocols_of headers ≡ protocols layers
+    → count_by (λ (h : Header). h.proto == proto) headers ≡ layers_of proto layers
+counted proto [] [] same = refl
+counted proto [] (layer ∷ layers) same = absurd (cc same)
+counted proto (h ∷ headers) [] same = absurd (cc same)
+counted proto (h ∷ headers) (layer ∷ layers) same =
+    let rest = counted proto headers layers (tails same) in
+    sum_by-cons (λ (one : Header). cond (one.proto == proto) 1 0) h headers
+    ∙ ap (λ (p : ℕ). cond (p == proto) 1 0 + count_by (λ (one : Header). one.proto == proto) headers) (heads same)
+    ∙ ap (λ (n : ℕ). cond (layer.proto == proto) 1 0 + n) rest
+    ∙ sym (sum_by-cons (λ (one : Layer). cond (one.proto == proto) 1 0) layer layers)
+
+pub same_length : (headers : List Header) (layers : List Layer) → protocols_of headers ≡ protocols layers → length headers ≡ length layers
+same_length headers layers same =
+    sym (length-map headers (λ (h : Header). h.proto)) ∙ ap (λ (ps : List ℕ). length ps) same ∙ length-map layers (λ (layer : Layer). layer.proto)

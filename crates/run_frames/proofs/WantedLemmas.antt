@@ -17,7 +17,9 @@ use Rattle.run_frames.specs.declared.plan.Plan.{Plan}
 use Rattle.run_frames.specs.Accessors.{needs_streams, rules_of, two_of}
 use Rattle.run_frames.specs.Tables.{asks_table, asks_tables}
 use Rattle.run_frames.specs.Trees.{tree_of}
-use Rattle.dissect.specs.Stands.{DissectorShown}
+use Rattle.dissect.specs.Heads.{HeadsShown}
+use Rattle.dissect.specs.Stands.{DissectorShown, StandsWithin}
+use Rattle.run_frames.specs.Taken.{IsTakenPlain, heads_tree}
 use Rattle.run_frames.specs.Wanted.{AreToldByValues, asks_trees, sums_up, HasFields, IsMadeFor, IsEnough, IsSpared, IsToldAs, ServesPlan}
 use Rattle.second_pass.specs.Forward.{forwarded, forwarded_to}
 use Rattle.second_pass.specs.Laws.{kept_noted, link_fields}
@@ -126,6 +128,23 @@ frame_told passes later d plan rules past frame tree after serves for_plan is sp
         let once : two_of plan ≡ false = second_false (needs_streams plan) (two_of plan) none in
         told_values passes later d.wanted plan rules past frame tree after (subst (λ (two : Bool). ServesKept d.wanted two passes later) once serves) (for_plan.values is_sparing) is spared
         (linked (two_of plan) (kept_passes d.wanted passes) serves)
+
+-- where nothing is known of later frames, a tree gets no links
+unread_links : (tree : TreeShown) (frame : ℕ) (two : Bool) (passes : Passes) → Serves two passes Unread → tree ≡ with_links passes frame tree
+unread_links tree frame false One serves = refl
+unread_links tree frame false (Two noted) serves = absurd serves
+unread_links tree frame true One serves = absurd serves
+unread_links tree frame true (Two noted) serves = absurd serves
+
+-- a frame whose headers answer for it
+pub plain_told : (passes : Passes) (later : Later) (old new : DissectorShown) (plan : Plan) (past : List Frame) (frame : Frame) (heads : HeadsShown) → later ≡ Unread
+    → ServesKept old.wanted (two_of plan) passes later → ServesPlan old plan → old.decode.rules ≡ rules_of plan → new.wanted ≡ old.wanted → IsTakenPlain old new frame heads
+    → StandsWithin past old → IsToldAs plan (tree_of (job_in plan passes) past frame) (heads_tree frame.bytes new.wanted heads)
+plain_told passes later old new plan past frame heads unread serves for_plan is kept taken stands =
+    let tree : TreeShown = heads_tree frame.bytes old.wanted heads in
+    subst (λ (wanted : List ℕ). IsToldAs plan (tree_of (job_in plan passes) past frame) (heads_tree frame.bytes wanted heads)) (sym kept)
+    (frame_told passes Unread old plan old.decode.rules past frame tree tree (subst (λ (l : Later). ServesKept old.wanted (two_of plan) passes l) unread serves) for_plan is
+    (taken.spared past stands) (λ asks whole. taken.kept asks whole past stands) (unread_links tree frame.number))
 
 -- a dissector that takes frames goes on to serve
 pub serves_on : (old new : DissectorShown) (plan : Plan) → new.wanted ≡ old.wanted → new.sparing ≡ old.sparing → ServesPlan old plan → ServesPlan new plan

@@ -12,6 +12,7 @@ pub mod Satisfied
 pub mod Source
 pub mod Steps
 pub mod Tables
+pub mod Taken
 pub mod Totals
 pub mod Trees
 pub mod Wanted

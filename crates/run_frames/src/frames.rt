@@ -3,9 +3,12 @@ ghost use Rattle.std.specs.Prelude.{◌≡◌, ◌≢◌, ◌<◌, ◌≤◌, �
 ghost use Rattle.std.specs.Io.KnownBytes.{Appends};
 ghost use Rattle.pk_outside.specs.Outside.{Rose, AppendsPart};
 ghost use Rattle.capture_read.specs.declared.frame.Frame.{Frame as FrameValue};
+ghost use Rattle.out_json.specs.Lines.{json_line_of};
+ghost use Rattle.pk_source.specs.Outlines.{IsOutline};
+ghost use Rattle.pk_source.specs.Sources.{shown_by};
 ghost use Rattle.dissect.specs.Stands.{StandsWithin};
 ghost use Rattle.capture_read.specs.FrameList.{IsTime};
-ghost use Rattle.run_frames.specs.Accessors.{compiled_of, is_generated, is_quiet as is_plan_quiet, rules_of, stats_of, two_of, written_of};
+ghost use Rattle.run_frames.specs.Accessors.{compiled_of, is_generated, kind_of, is_quiet as is_plan_quiet, rules_of, stats_of, two_of, written_of};
 ghost use Rattle.run_frames.specs.Job.{Passes, job_in};
 ghost use Rattle.run_frames.specs.Later.{ServesKept};
 ghost use Rattle.run_frames.specs.Steps.{IsAfterFrame, KeepsUp, fit_piece};
@@ -15,23 +18,25 @@ ghost use Rattle.run_frames.specs.Tables.{asks_tables};
 ghost use Rattle.run_frames.specs.Totals.{nothing_counted};
 ghost use Rattle.run_frames.specs.Trees.{tree_of};
 ghost use Rattle.run_frames.specs.Wanted.{IsToldAs, ServesPlan};
+ghost use Rattle.run_frames.specs.Taken.{IsTreeLent, heads_tree};
 
 use crate::judge::{Judge, judge_for, verdict_of};
-use crate::later::{Later, add_links};
+use crate::later::Later;
 use crate::notes::Notes;
-use crate::owned::{give_up_tree, give_up_writer};
+use crate::owned::give_up_writer;
 use crate::packet::write_packet;
 use crate::plan::Plan;
 use crate::tables::has_tables;
+use crate::taken::{goes_plain, take_heads, take_tree};
 use capture_read::Frame;
 use capture_write::{Format, Writer};
-use dissect::{Dissector, TakeFault};
+use dissect::{Dissector, Heads};
 use out_json::JsonWriter;
 use out_lines::LineWriter;
 use pk_base::NoMemory;
 use pk_fields::{DecodeAs, FieldSet};
 use pk_outside::{Sink, SinkFault, write_whole};
-use pk_tree::Tree;
+use pk_source::{Lender, Source};
 use shark_words::LineKind;
 use std::alloc::Global;
 
@@ -81,6 +86,9 @@ pub struct LineMaker<'p> {
     pub(crate) line: Vec<u8>,
     pub notes: Notes,
     pub capture: Writer,
+    /// Where the headers of a plain frame will stand, once there was one.
+    pub(crate) heads: Option<Box<Heads>>,
+    pub(crate) alloc: Global,
 }
 
 impl Drop for LineMaker<'_> {
@@ -92,6 +100,8 @@ impl Drop for LineMaker<'_> {
             line: _line,
             notes: _notes,
             capture: _capture,
+            heads: _heads,
+            alloc: _,
         } = self;
     }
 }
@@ -118,6 +128,8 @@ pub fn new_line_maker(alloc: Global, plan: &Plan) -> Result<LineMaker<'_>, NoMem
                 line: Vec::new(alloc),
                 notes,
                 capture,
+                heads: None,
+                alloc,
             })
         }
         Err(error) => {
@@ -127,19 +139,40 @@ pub fn new_line_maker(alloc: Global, plan: &Plan) -> Result<LineMaker<'_>, NoMem
     }
 }
 
-// Puts the line of a tree, of the kind that is asked for.
-fn put_line(plan: &Plan, tree: &Tree, lines: &mut LineMaker<'_>) -> Result<(), NoMemory>
+// Puts the line of a frame, of the kind that is asked for. A line of all items needs the tree.
+fn put_line(
+    plan: &Plan,
+    source: &Source<'_>,
+    lender: &Lender<'_>,
+    lines: &mut LineMaker<'_>,
+) -> Result<(), NoMemory>
+    requires lent { shown_by lender.now ≡ source.now }
+    requires tree { kind_of plan.now ≡ LineKind.Json → IsTreeLent lender.now }
     requires writer { lines.old.writer ≡ plan.now.fields }
     requires empty { lines.old.line.items ≡ [] }
-    ensures line { OnOk result (lines.new.line.items ≡ line_of plan.now tree.now) }
+    ensures line { OnOk result (lines.new.line.items ≡ line_of plan.now source.now) }
     ensures judge { lines.new.judge ≡ lines.old.judge }
     ensures writer { lines.new.writer ≡ lines.old.writer }
     ensures notes { lines.new.notes ≡ lines.old.notes }
 {
     match plan.kind {
-        LineKind::Text => lines.writer.write_summary(&mut lines.line, tree),
-        LineKind::Fields => lines.writer.write(&mut lines.line, tree, &plan.style),
-        LineKind::Json => lines.json.write(&mut lines.line, tree),
+        LineKind::Text => lines.writer.write_summary_source(&mut lines.line, source),
+        LineKind::Fields => lines
+            .writer
+            .write_source(&mut lines.line, source, &plan.style),
+        LineKind::Json => put_json(&mut lines.json, &mut lines.line, lender),
+    }
+}
+
+// Puts the line of a tree, as JSON.
+fn put_json(json: &mut JsonWriter, line: &mut Vec<u8>, lender: &Lender<'_>) -> Result<(), NoMemory>
+    requires tree { IsTreeLent lender.now }
+    requires empty { line.old.items ≡ [] }
+    ensures { OnOk result (line.new.items ≡ json_line_of (shown_by lender.now)) }
+{
+    match *lender {
+        Lender::Tree(tree) => json.write(line, tree),
+        Lender::Outline(_) => unreachable!(),
     }
 }
 
@@ -169,12 +202,19 @@ fn is_quiet(plan: &Plan) -> bool
 // Makes the line of a tree, where the filter lets it through, else one of no bytes, and notes the tree for what stands behind the
 // lines.
 #[tactic(auto, using(crate::proofs::NoteLemmas::noted_nothing, crate::proofs::NoteLemmas::one_more_same))]
-fn make_line(plan: &Plan, tree: &Tree, lines: &mut LineMaker<'_>) -> Result<(), NoMemory>
+fn make_line(
+    plan: &Plan,
+    source: &Source<'_>,
+    lender: &Lender<'_>,
+    lines: &mut LineMaker<'_>,
+) -> Result<(), NoMemory>
+    requires lent { shown_by lender.now ≡ source.now }
+    requires tree { kind_of plan.now ≡ LineKind.Json → IsTreeLent lender.now }
     requires judge { lines.old.judge ≡ compiled_of plan.now }
     requires writer { lines.old.writer ≡ plan.now.fields }
     requires few { AreFewNotes (2 ^ 28) lines.old.notes }
-    ensures line { OnOk result (lines.new.line.items ≡ shown plan.now tree.now) }
-    ensures noted { OnOk result (HasNoted plan.now tree.now lines.old.notes lines.new.notes) }
+    ensures line { OnOk result (lines.new.line.items ≡ shown plan.now source.now) }
+    ensures noted { OnOk result (HasNoted plan.now source.now lines.old.notes lines.new.notes) }
     ensures judge { lines.new.judge ≡ lines.old.judge }
     ensures writer { lines.new.writer ≡ lines.old.writer }
     ensures few { AreOneMore lines.old.notes lines.new.notes }
@@ -183,31 +223,34 @@ fn make_line(plan: &Plan, tree: &Tree, lines: &mut LineMaker<'_>) -> Result<(), 
     if !asks_filter(plan) {
         return Ok(());
     }
-    let verdict = verdict_of(&mut lines.judge, tree)?;
-    lines.notes.note(plan, tree, verdict)?;
+    let verdict = verdict_of(&mut lines.judge, source)?;
+    lines.notes.note(plan, source, verdict)?;
     if is_quiet(plan) {
         return Ok(());
     }
     if !verdict.holds {
         return Ok(());
     }
-    put_line(plan, tree, lines)
+    put_line(plan, source, lender, lines)
 }
 
 // Writes the line of a tree, where the filter lets it through.
 fn write_tree<O: Sink>(
     plan: &Plan,
-    tree: &Tree,
+    source: &Source<'_>,
+    lender: &Lender<'_>,
     lines: &mut LineMaker<'_>,
     out: &mut O,
 ) -> Result<(), SinkFault>
+    requires lent { shown_by lender.now ≡ source.now }
+    requires tree { kind_of plan.now ≡ LineKind.Json → IsTreeLent lender.now }
     requires judge { lines.old.judge ≡ compiled_of plan.now }
     requires writer { lines.old.writer ≡ plan.now.fields }
     requires few { AreFewNotes (2 ^ 28) lines.old.notes }
     ensures whole { OnOk result
-        (Appends (O.written out.old) (O.written out.new) (shown plan.now tree.now)) }
-    ensures part { AppendsPart (O.written out.old) (O.written out.new) (shown plan.now tree.now) }
-    ensures noted { OnOk result (HasNoted plan.now tree.now lines.old.notes lines.new.notes) }
+        (Appends (O.written out.old) (O.written out.new) (shown plan.now source.now)) }
+    ensures part { AppendsPart (O.written out.old) (O.written out.new) (shown plan.now source.now) }
+    ensures noted { OnOk result (HasNoted plan.now source.now lines.old.notes lines.new.notes) }
     ensures fault { IsErrOf result SinkFault.Failed → Rose (O.faults out.old) (O.faults out.new) }
     ensures calm { ¬ IsErrOf result SinkFault.Failed → O.faults out.new ≡ O.faults out.old }
     ensures faults_stay { O.faults out.old ≤ O.faults out.new }
@@ -215,48 +258,9 @@ fn write_tree<O: Sink>(
     ensures writer { lines.new.writer ≡ lines.old.writer }
     ensures few { AreOneMore lines.old.notes lines.new.notes }
 {
-    match make_line(plan, tree, lines) {
+    match make_line(plan, source, lender, lines) {
         Ok(()) => write_whole(out, lines.line.as_slice()),
         Err(NoMemory) => Err(SinkFault::NoMemory),
-    }
-}
-
-// Takes a frame, of which only the fields are read that the output is made from, and adds its links to later frames.
-#[inline(always)]
-fn take_frame(
-    plan: &Plan,
-    frame: &Frame,
-    later: &Later,
-    dissector: &mut Dissector,
-) -> Result<Tree, TakeFault>
-    requires serves { ServesPlan dissector.old plan.now }
-    requires rules { dissector.old.decode.rules ≡ rules_of plan.now }
-    requires number { frame.now.number ≡ dissector.old.taken + 1 }
-    requires time { IfSome frame.now.time IsTime }
-    requires captured { dissector.old.captured + length frame.now.bytes ≤ 2 ^ 28 }
-    ensures told { IfOk result (λ tree. (passes : Passes) (past : List FrameValue)
-        → ServesKept dissector.old.wanted (two_of plan.now) passes later.now
-        → StandsWithin past dissector.old
-        → IsToldAs plan.now (tree_of (job_in plan.now passes) past frame.now) tree) }
-    ensures stands { OnOk result ((past : List FrameValue) → StandsWithin past dissector.old
-        → StandsWithin (frame.now ∷ past) dissector.new) }
-    ensures kept { dissector.new.wanted ≡ dissector.old.wanted }
-    ensures sparing { dissector.new.sparing ≡ dissector.old.sparing }
-    ensures rules { dissector.new.decode ≡ dissector.old.decode }
-    ensures taken { OnOk result (dissector.new.taken ≡ dissector.old.taken + 1) }
-    ensures captured { OnOk result (dissector.new.captured
-        ≡ dissector.old.captured + length frame.now.bytes) }
-{
-    let mut tree = match dissector.take_wanted(frame) {
-        Ok(tree) => tree,
-        Err(fault) => return Err(fault),
-    };
-    match add_links(later, frame.number, &mut tree) {
-        Ok(()) => Ok(tree),
-        Err(NoMemory) => {
-            give_up_tree(tree);
-            Err(TakeFault::NoMemory)
-        }
     }
 }
 
@@ -265,20 +269,23 @@ fn take_frame(
 fn write_told<O: Sink>(
     plan: &Plan,
     frame: &Frame,
-    tree: &Tree,
+    source: &Source<'_>,
+    lender: &Lender<'_>,
     lines: &mut LineMaker<'_>,
     out: &mut O,
 ) -> Result<bool, SinkFault>
+    requires lent { shown_by lender.now ≡ source.now }
+    requires tree { kind_of plan.now ≡ LineKind.Json → IsTreeLent lender.now }
     requires judge { lines.old.judge ≡ compiled_of plan.now }
     requires writer { lines.old.writer ≡ plan.now.fields }
     requires few { AreFewNotes (2 ^ 28) lines.old.notes }
     ensures after { IfOk result (λ fit. (passes : Passes) (past : List FrameValue)
-        → IsToldAs plan.now (tree_of (job_in plan.now passes) past frame.now) tree.now
+        → IsToldAs plan.now (tree_of (job_in plan.now passes) past frame.now) source.now
         → KeepsUp (written_of plan.now) (job_in plan.now passes) past lines.old.notes lines.old.capture
         → IsAfterFrame fit (job_in plan.now passes) past frame.now lines.new.notes lines.new.capture
         (O.written out.old) (O.written out.new)) }
     ensures part { (passes : Passes) (past : List FrameValue)
-        → IsToldAs plan.now (tree_of (job_in plan.now passes) past frame.now) tree.now
+        → IsToldAs plan.now (tree_of (job_in plan.now passes) past frame.now) source.now
         → KeepsUp (written_of plan.now) (job_in plan.now passes) past lines.old.notes lines.old.capture
         → AppendsPart (O.written out.old) (O.written out.new)
         (fit_piece (job_in plan.now passes) past frame.now) }
@@ -290,8 +297,8 @@ fn write_told<O: Sink>(
     ensures faults_stay { O.faults out.old ≤ O.faults out.new }
 {
     match plan.written {
-        Some(_) => write_packet(frame, tree, &mut lines.judge, &mut lines.capture, out),
-        None => match write_tree(plan, tree, lines, out) {
+        Some(_) => write_packet(frame, source, &mut lines.judge, &mut lines.capture, out),
+        None => match write_tree(plan, source, lender, lines, out) {
             Ok(()) => Ok(true),
             Err(fault) => Err(fault),
         },
@@ -307,6 +314,116 @@ fn run_fault(fault: SinkFault) -> RunFault
     match fault {
         SinkFault::Failed => RunFault::WriteFault,
         SinkFault::NoMemory => RunFault::NoMemory,
+    }
+}
+
+// Writes what is asked for of a plain frame, of which these headers were taken, and gives them back: those of the next one will stand
+// there.
+#[inline(always)]
+fn write_plain<O: Sink>(
+    plan: &Plan,
+    frame: &Frame,
+    heads: Box<Heads>,
+    dissector: &Dissector,
+    lines: &mut LineMaker<'_>,
+    out: &mut O,
+) -> Result<bool, RunFault>
+    requires outline { IsOutline frame.now.bytes dissector.now.wanted heads.value.headers heads.value.notes }
+    requires kind { kind_of plan.now ≡ LineKind.Json → ⊥ }
+    requires judge { lines.old.judge ≡ compiled_of plan.now }
+    requires writer { lines.old.writer ≡ plan.now.fields }
+    requires few { AreFewNotes (2 ^ 28) lines.old.notes }
+    ensures after { IfOk result (λ fit. (passes : Passes) (past : List FrameValue)
+        → IsToldAs plan.now (tree_of (job_in plan.now passes) past frame.now)
+        (heads_tree frame.now.bytes dissector.now.wanted heads.value)
+        → KeepsUp (written_of plan.now) (job_in plan.now passes) past lines.old.notes lines.old.capture
+        → IsAfterFrame fit (job_in plan.now passes) past frame.now lines.new.notes lines.new.capture
+        (O.written out.old) (O.written out.new)) }
+    ensures part { (passes : Passes) (past : List FrameValue)
+        → IsToldAs plan.now (tree_of (job_in plan.now passes) past frame.now)
+        (heads_tree frame.now.bytes dissector.now.wanted heads.value)
+        → KeepsUp (written_of plan.now) (job_in plan.now passes) past lines.old.notes lines.old.capture
+        → AppendsPart (O.written out.old) (O.written out.new)
+        (fit_piece (job_in plan.now passes) past frame.now) }
+    ensures few { AreOneMore lines.old.notes lines.new.notes }
+    ensures judge { lines.new.judge ≡ lines.old.judge }
+    ensures writer { lines.new.writer ≡ lines.old.writer }
+    ensures read { IsErrOf result RunFault.ReadFault → ⊥ }
+    ensures fault { IsErrOf result RunFault.WriteFault
+        → Rose (O.faults out.old) (O.faults out.new) }
+    ensures calm { ¬ IsErrOf result RunFault.WriteFault → O.faults out.new ≡ O.faults out.old }
+    ensures faults_stay { O.faults out.old ≤ O.faults out.new }
+{
+    let written = {
+        let outline = dissector.outline(frame, &heads);
+        let source = Source::of_outline(&outline);
+        write_told(plan, frame, &source, &Lender::Outline(&outline), lines, out)
+    };
+    lines.heads = Some(heads);
+    match written {
+        Ok(fit) => Ok(fit),
+        Err(fault) => Err(run_fault(fault)),
+    }
+}
+
+// The same by the frame's tree, in whose memory the next one is made. No tree is moved through the way of plain frames.
+#[inline(never)]
+fn write_by_tree<O: Sink>(
+    plan: &Plan,
+    frame: &Frame,
+    later: &Later,
+    dissector: &mut Dissector,
+    lines: &mut LineMaker<'_>,
+    out: &mut O,
+) -> Result<bool, RunFault>
+    requires serves { ServesPlan dissector.old plan.now }
+    requires rules { dissector.old.decode.rules ≡ rules_of plan.now }
+    requires judge { lines.old.judge ≡ compiled_of plan.now }
+    requires lines { lines.old.writer ≡ plan.now.fields }
+    requires few { AreFewNotes (2 ^ 28) lines.old.notes }
+    requires number { frame.now.number ≡ dissector.old.taken + 1 }
+    requires time { IfSome frame.now.time IsTime }
+    requires captured { dissector.old.captured + length frame.now.bytes ≤ 2 ^ 28 }
+    ensures stands { OnOk result ((past : List FrameValue) → StandsWithin past dissector.old
+        → StandsWithin (frame.now ∷ past) dissector.new) }
+    ensures kept { dissector.new.wanted ≡ dissector.old.wanted }
+    ensures sparing { dissector.new.sparing ≡ dissector.old.sparing }
+    ensures rules { dissector.new.decode ≡ dissector.old.decode }
+    ensures taken { OnOk result (dissector.new.taken ≡ dissector.old.taken + 1) }
+    ensures captured { OnOk result (dissector.new.captured
+        ≡ dissector.old.captured + length frame.now.bytes) }
+    ensures after { IfOk result (λ fit. (passes : Passes) (past : List FrameValue)
+        → ServesKept dissector.old.wanted (two_of plan.now) passes later.now
+        → StandsWithin past dissector.old
+        → KeepsUp (written_of plan.now) (job_in plan.now passes) past lines.old.notes lines.old.capture
+        → IsAfterFrame fit (job_in plan.now passes) past frame.now lines.new.notes lines.new.capture
+        (O.written out.old) (O.written out.new)) }
+    ensures part { (passes : Passes) (past : List FrameValue)
+        → ServesKept dissector.old.wanted (two_of plan.now) passes later.now
+        → StandsWithin past dissector.old
+        → KeepsUp (written_of plan.now) (job_in plan.now passes) past lines.old.notes lines.old.capture
+        → AppendsPart (O.written out.old) (O.written out.new)
+        (fit_piece (job_in plan.now passes) past frame.now) }
+    ensures few { (most : ℕ) → AreFewNotes most lines.old.notes → AreFewNotes (suc most) lines.new.notes }
+    ensures judge { lines.new.judge ≡ lines.old.judge }
+    ensures writer { lines.new.writer ≡ lines.old.writer }
+    ensures read { IsErrOf result RunFault.ReadFault → ⊥ }
+    ensures fault { IsErrOf result RunFault.WriteFault
+        → Rose (O.faults out.old) (O.faults out.new) }
+    ensures calm { ¬ IsErrOf result RunFault.WriteFault → O.faults out.new ≡ O.faults out.old }
+    ensures faults_stay { O.faults out.old ≤ O.faults out.new }
+{
+    let Ok(tree) = take_tree(plan, frame, later, dissector) else {
+        return Err(RunFault::NoMemory);
+    };
+    let written = {
+        let source = Source::of_tree(&tree);
+        write_told(plan, frame, &source, &Lender::Tree(&tree), lines, out)
+    };
+    dissector.give_back(tree);
+    match written {
+        Ok(fit) => Ok(fit),
+        Err(fault) => Err(run_fault(fault)),
     }
 }
 
@@ -356,15 +473,12 @@ pub fn write_frame<O: Sink>(
     ensures calm { ¬ IsErrOf result RunFault.WriteFault → O.faults out.new ≡ O.faults out.old }
     ensures faults_stay { O.faults out.old ≤ O.faults out.new }
 {
-    let tree = match take_frame(plan, frame, later, dissector) {
-        Ok(tree) => tree,
-        // The first error ends the run, so that this one is never `Spent`.
-        Err(TakeFault::NoMemory | TakeFault::Spent) => return Err(RunFault::NoMemory),
-    };
-    let written = write_told(plan, frame, &tree, lines, out);
-    dissector.give_back(tree);
-    match written {
-        Ok(fit) => Ok(fit),
-        Err(fault) => Err(run_fault(fault)),
+    if !goes_plain(plan, later) {
+        return write_by_tree(plan, frame, later, dissector, lines, out);
+    }
+    match take_heads(lines.alloc, frame, dissector, &mut lines.heads) {
+        Ok(Some(heads)) => write_plain(plan, frame, heads, dissector, lines, out),
+        Ok(None) => write_by_tree(plan, frame, later, dissector, lines, out),
+        Err(NoMemory) => Err(RunFault::NoMemory),
     }
 }

@@ -7,7 +7,7 @@ use crate::compiled::Compiled;
 use crate::plan::Plan;
 use flt_vm::{Machine, Verdict};
 use pk_base::NoMemory;
-use pk_tree::Tree;
+use pk_source::Source;
 use std::alloc::Global;
 use std::marker::Model;
 
@@ -36,13 +36,13 @@ impl<'p> Model for Judge<'p> {
 impl Judge<'_> {
     /// What the run of the program on a tree answers.
     #[tactic(auto, unfolding(crate::specs::Satisfied::judged))]
-    fn answer(&mut self, tree: &Tree) -> Result<Verdict, NoMemory>
-        ensures verdict { IfOk result (λ verdict. verdict ≡ judged (Some self.old) tree.now) }
+    fn answer(&mut self, source: &Source<'_>) -> Result<Verdict, NoMemory>
+        ensures verdict { IfOk result (λ verdict. verdict ≡ judged (Some self.old) source.now) }
         ensures same { self.new ≡ self.old }
     {
         // What is true of each tree.
-        let _layers = tree.layers();
-        self.machine.run(tree)
+        let _lender = source.lender();
+        self.machine.run_source(source)
     }
 }
 
@@ -61,8 +61,11 @@ pub(crate) fn judge_for(alloc: Global, plan: &Plan) -> Result<Option<Judge<'_>>,
 
 /// Whether a tree is let through, and in how many steps; where there is no filter every tree is, in none.
 #[tactic(auto, unfolding(crate::specs::Satisfied::judged))]
-pub(crate) fn verdict_of(judge: &mut Option<Judge<'_>>, tree: &Tree) -> Result<Verdict, NoMemory>
-    ensures verdict { IfOk result (λ verdict. verdict ≡ judged judge.old tree.now) }
+pub(crate) fn verdict_of(
+    judge: &mut Option<Judge<'_>>,
+    source: &Source<'_>,
+) -> Result<Verdict, NoMemory>
+    ensures verdict { IfOk result (λ verdict. verdict ≡ judged judge.old source.now) }
     ensures same { judge.new ≡ judge.old }
 {
     match judge {
@@ -70,6 +73,6 @@ pub(crate) fn verdict_of(judge: &mut Option<Judge<'_>>, tree: &Tree) -> Result<V
             holds: true,
             steps: 0,
         }),
-        Some(judge) => judge.answer(tree),
+        Some(judge) => judge.answer(source),
     }
 }

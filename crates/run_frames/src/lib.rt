@@ -15,6 +15,7 @@ mod rules;
 mod run_ending;
 mod source;
 mod tables;
+mod taken;
 mod totals;
 
 pub use compiled::Compiled;

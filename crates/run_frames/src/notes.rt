@@ -11,7 +11,7 @@ use crate::tables::Tables;
 use crate::totals::Totals;
 use flt_vm::Verdict;
 use pk_base::NoMemory;
-use pk_tree::Tree;
+use pk_source::Source;
 use std::alloc::Global;
 
 /// What is noted of the frames that were taken, for what stands behind their lines.
@@ -46,17 +46,17 @@ impl Notes {
     pub(crate) fn note(
         &mut self,
         plan: &Plan,
-        tree: &Tree,
+        source: &Source<'_>,
         verdict: Verdict,
     ) -> Result<(), NoMemory>
         requires few { AreFewNotes (2 ^ 28) self.old }
-        requires verdict { verdict ≡ judged (compiled_of plan.now) tree.now }
-        ensures noted { OnOk result (HasNoted plan.now tree.now self.old self.new) }
+        requires verdict { verdict ≡ judged (compiled_of plan.now) source.now }
+        ensures noted { OnOk result (HasNoted plan.now source.now self.old self.new) }
         ensures few { AreOneMore self.old self.new }
     {
-        self.totals = totals_after(plan, tree, verdict, self.totals);
+        self.totals = totals_after(plan, source, verdict, self.totals);
         if verdict.holds {
-            self.tables.note(tree)
+            self.tables.note(source)
         } else {
             Ok(())
         }
@@ -65,16 +65,16 @@ impl Notes {
 
 // The totals with one tree more, where they are counted.
 #[tactic(auto, using(crate::proofs::TotalsLemmas::few_suc))]
-fn totals_after(plan: &Plan, tree: &Tree, verdict: Verdict, totals: Totals) -> Totals
+fn totals_after(plan: &Plan, source: &Source<'_>, verdict: Verdict, totals: Totals) -> Totals
     requires { AreFew (2 ^ 28) totals }
-    ensures value { result ≡ counts_by plan.now verdict tree.now totals }
+    ensures value { result ≡ counts_by plan.now verdict source.now totals }
     ensures few { (most : ℕ) → AreFew most totals → AreFew (suc most) result }
 {
     let steps = steps_after(plan, verdict, totals.steps);
     if plan.source.is_generated() {
         Totals {
             steps,
-            ..totals.with(tree, verdict.holds)
+            ..totals.with(source, verdict.holds)
         }
     } else {
         Totals { steps, ..totals }

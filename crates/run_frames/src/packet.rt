@@ -12,29 +12,29 @@ use capture_read::Frame;
 use capture_write::{Added, Writer};
 use pk_base::NoMemory;
 use pk_outside::{Sink, SinkFault, write_whole};
-use pk_tree::Tree;
+use pk_source::Source;
 
 /// Writes a frame whose tree satisfies the filter, where it fits, and answers whether it does. A frame that isn't written fits.
 #[tactic(auto, using(crate::proofs::PacketLemmas::packed_left, crate::proofs::PacketLemmas::packed_none))]
 pub(crate) fn write_packet<O: Sink>(
     frame: &Frame,
-    tree: &Tree,
+    source: &Source<'_>,
     judge: &mut Option<Judge<'_>>,
     writer: &mut Writer,
     out: &mut O,
 ) -> Result<bool, SinkFault>
     ensures packed { IfOk result (λ fit. (chosen : List FrameValue) → Stands writer.old chosen
-        → IsPacked fit (satisfies judge.old tree.now) writer.old.format frame.now writer.new
+        → IsPacked fit (satisfies judge.old source.now) writer.old.format frame.now writer.new
         chosen (O.written out.old) (O.written out.new)) }
     ensures part { (chosen : List FrameValue) → Stands writer.old chosen
         → AppendsPart (O.written out.old) (O.written out.new)
-        (fit_packet (satisfies judge.old tree.now) writer.old.format chosen frame.now) }
+        (fit_packet (satisfies judge.old source.now) writer.old.format chosen frame.now) }
     ensures judge { judge.new ≡ judge.old }
     ensures fault { IsErrOf result SinkFault.Failed → Rose (O.faults out.old) (O.faults out.new) }
     ensures calm { ¬ IsErrOf result SinkFault.Failed → O.faults out.new ≡ O.faults out.old }
     ensures faults_stay { O.faults out.old ≤ O.faults out.new }
 {
-    match verdict_of(judge, tree) {
+    match verdict_of(judge, source) {
         Ok(verdict) => {
             if verdict.holds {
                 write_added(frame, writer, out)

@@ -10,7 +10,7 @@ ghost use Rattle.run_frames.specs.declared.plan.Plan.{Plan as PlanValue};
 use crate::plan::Plan;
 use cap_stats::{StatKind, Stats};
 use pk_base::NoMemory;
-use pk_tree::Tree;
+use pk_source::Source;
 use shark_words::Report;
 use std::alloc::Global;
 
@@ -42,16 +42,16 @@ impl Table {
 
     /// Notes a tree.
     #[tactic(auto, using(crate::proofs::NoteLemmas::stats_few_suc))]
-    fn note(&mut self, tree: &Tree) -> Result<(), NoMemory>
+    fn note(&mut self, source: &Source<'_>) -> Result<(), NoMemory>
         requires { HasFew (2 ^ 28) self.old.stats }
         ensures noted { OnOk result ((plan : PlanValue) (kind : KindValue) (trees : List TreeShown)
-            → IsTable plan kind trees self.old → IsTable plan kind (tree.now ∷ trees) self.new) }
+            → IsTable plan kind trees self.old → IsTable plan kind (source.now ∷ trees) self.new) }
         ensures few { (most : ℕ) → HasFew most self.old.stats → HasFew (suc most) self.new.stats }
     {
         if !self.asked {
             return Ok(());
         }
-        self.stats.note(tree)
+        self.stats.note_source(source)
     }
 
     /// The table, where it is asked for.
@@ -125,15 +125,15 @@ impl Tables {
     }
 
     /// Notes a tree that the filter lets through.
-    pub(crate) fn note(&mut self, tree: &Tree) -> Result<(), NoMemory>
+    pub(crate) fn note(&mut self, source: &Source<'_>) -> Result<(), NoMemory>
         requires { AreFewTables (2 ^ 28) self.old }
         ensures noted { OnOk result ((plan : PlanValue) (trees : List TreeShown)
-            → AreTables plan trees self.old → AreTables plan (tree.now ∷ trees) self.new) }
+            → AreTables plan trees self.old → AreTables plan (source.now ∷ trees) self.new) }
         ensures few { (most : ℕ) → AreFewTables most self.old → AreFewTables (suc most) self.new }
     {
-        self.conv_tcp.note(tree)?;
-        self.conv_ip.note(tree)?;
-        match self.phs.note(tree) {
+        self.conv_tcp.note(source)?;
+        self.conv_ip.note(source)?;
+        match self.phs.note(source) {
             Ok(()) => Ok(()),
             Err(error) => Err(error),
         }

@@ -15,5 +15,5 @@ ready_runs compiled machine tree ready is =
     let by_code = subst (λ (code : Code). Runs (record { code = code.items; patterns = patterns_of compiled.filter; tree = tree }) run.0 (start code.registers) run.1) (sym ready.code) run.2 in
     (run.0, run.1, subst (λ ps. Runs (record { code = machine.code.items; patterns = ps; tree = tree }) run.0 (start machine.code.registers) run.1) (sym ready.patterns) by_code)
 
-pub run-requires : goal.run-requires
-run-requires c = ready_runs _ _ c.args.tree.now c.self.invariant c.layers-layers.ensures.fits
+pub run_source-requires : goal.run_source-requires
+run_source-requires c = ready_runs _ _ c.args.source.now c.self.invariant c.lender-lender.ensures.fits

@@ -1,5 +1,5 @@
 use Rattle.run_frames.proofs.WantedLemmas.{frame_told}
-use Rattle.run_frames.proofs.frames.take_frame.Goals as goal
+use Rattle.run_frames.proofs.taken.take_tree.Goals as goal
 
 pub returns-in-Ok-add_links-clause-told : goal.returns-in-Ok-add_links-clause-told
 returns-in-Ok-add_links-clause-told c = λ passes past serves stands.

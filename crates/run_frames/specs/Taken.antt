@@ -1,0 +1,32 @@
+-- A frame that is taken for its headers, which answer for it.
+use Rattle.std.specs.Prelude.{◌≡◌, ◌+◌, ℕ, true, false, List, ◌∷◌, length}
+use Rattle.capture_read.specs.declared.frame.Frame.{Frame}
+use Rattle.dissect.specs.Followed.{asks_streams}
+use Rattle.dissect.specs.Heads.{HeadsShown}
+use Rattle.dissect.specs.Stands.{DissectorShown, StandsWithin}
+use Rattle.dissect.specs.Trees.{tree_at}
+use Rattle.pk_source.specs.Outlines.{IsOutline, outlined}
+use Rattle.pk_source.specs.declared.source.Lender.{Lender}
+use Rattle.pk_source.specs.declared.source.Lender.TheVariants as lenders
+use Rattle.pk_tree.specs.Trees.{IsKept, TreeShown}
+use Rattle.run_frames.specs.Wanted.{IsSpared}
+
+-- there is a tree
+abbrev pub IsTreeLent : Lender → Type 0
+IsTreeLent (lenders.Tree tree) = Unit {0}
+IsTreeLent (lenders.Outline outline) = ⊥
+
+-- the tree that headers in these bytes make, with the items of the wanted fields
+abbrev pub heads_tree : List ℕ → List ℕ → HeadsShown → TreeShown
+heads_tree bytes wanted heads = outlined bytes wanted heads.headers heads.notes
+
+-- a dissector took a frame whose headers tell what a tree of it would
+pub record IsTakenPlain (old new : DissectorShown) (frame : Frame) (heads : HeadsShown) : Type 0 where
+  pub outline : IsOutline frame.bytes new.wanted heads.headers heads.notes
+  pub spared : (past : List Frame) → StandsWithin past old
+      → IsSpared old.wanted (tree_at old.decode.rules past frame) (heads_tree frame.bytes old.wanted heads)
+  pub kept : asks_streams old.wanted ≡ true → old.sparing ≡ false → (past : List Frame) → StandsWithin past old
+      → IsKept old.wanted (tree_at old.decode.rules past frame) (heads_tree frame.bytes old.wanted heads)
+  pub stands : (past : List Frame) → StandsWithin past old → StandsWithin (frame ∷ past) new
+  pub taken : new.taken ≡ old.taken + 1
+  pub captured : new.captured ≡ old.captured + length frame.bytes
