@@ -18,7 +18,7 @@ use std::alloc::Global;
 
 /// The rules that stand for no option.
 #[tactic(auto, using(crate::proofs::Rules::no_rules))]
-fn no_rules(alloc: Global) -> DecodeAs
+pub(crate) fn no_rules(alloc: Global) -> DecodeAs
     ensures { AreRules result.rules }
 {
     DecodeAs {
@@ -112,7 +112,7 @@ fn take(dissector: &mut Dissector, frame: &Frame, check: &str, asks: Option<&str
     }
 }
 
-fn give_up_tree(_tree: Tree) {}
+pub(crate) fn give_up_tree(_tree: Tree) {}
 
 /// Takes a frame, and compares what is told of it.
 fn take_frame(

@@ -19,6 +19,12 @@ fn digits_of(word: &str) -> &str {
     match word {
         // From 02:00:00:00:00:01 to everyone.
         "to-all" => "ffffffffffff020000000001",
+        // From 02:00:00:00:00:01 to 02:00:00:00:00:02, and back.
+        "one-two" => "020000000002020000000001",
+        "two-one" => "020000000001020000000002",
+        // From 10.0.0.1 to 10.0.0.2, and back.
+        "there" => "0a0000010a000002",
+        "back" => "0a0000020a000001",
         // Who has 10.0.0.2? Tell 10.0.0.1. (RFC 826)
         "who-has" => "00010800060400010200000000010a0000010000000000000a000002",
         // The header of an IPv4 packet up to its addresses (RFC 791, 3.1). A length of 0 is that of all bytes.
@@ -35,10 +41,15 @@ fn digits_of(word: &str) -> &str {
 /// The names of fields, with commas between them.
 pub(crate) fn fields_named(names: &str) -> Option<FieldSet> {
     let mut fields = FieldSet::none();
+    add_named(&mut fields, names)?;
+    Some(fields)
+}
+
+pub(crate) fn add_named(fields: &mut FieldSet, names: &str) -> Option<()> {
     for name in names.split(',') {
         fields.add(by_name(name)?);
     }
-    Some(fields)
+    Some(())
 }
 
 /// What stands behind the first word that begins so.

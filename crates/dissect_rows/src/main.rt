@@ -1,18 +1,25 @@
-//! What the trees of captures of few frames tell: reads tables of captures, and prints those that don't hold, and how many each table
-//! has.
+//! What the trees of captures of few frames tell, and whether plain frames' headers tell the same: reads tables of captures, and prints
+//! those that don't hold, and how many each table has.
 #![tactic(auto)]
 
+mod alike;
+mod both;
 mod captures;
 mod given;
 mod told;
 
+use both::is_told_alike;
 use captures::is_told;
 use std::alloc::Global;
 use std::io::{self, Read};
 
 /// Whether a row of the table of this name holds.
 fn holds(alloc: Global, check: &str, row: &str) -> bool {
-    matches!(is_told(alloc, check, row), Some(true))
+    let told = match check {
+        "heads" | "named" => is_told_alike(alloc, check, row),
+        _ => is_told(alloc, check, row),
+    };
+    matches!(told, Some(true))
 }
 
 /// Prints the rows of a table that don't hold, and how many it has. Rows are lines, or what stands between empty lines where the first
