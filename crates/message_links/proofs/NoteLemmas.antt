@@ -31,9 +31,6 @@ module _ (payload : List ℕ) (m : ShownMessage) (place len : ℕ) (source : m.s
   pub part_fits : place + len ≤ length payload
   part_fits = omega (arith, size, segment_fits payload m.message.told place part_is)
 
-  pub part_whole : (bytes : List ℕ) → bytes ≡ slice_range payload place (place + len) → IsMessage m.message.told bytes
-  part_whole bytes is = subst (IsMessage m.message.told) (sym (is ∙ ap (λ (n : ℕ). slice_range payload place (place + n)) size)) part_is
-
 -- a message of DNS by its length
 pub short_other : (bytes : List ℕ) → length bytes < 4 → dns_note bytes ≡ Other
 short_other [] short = refl

@@ -1,5 +1,5 @@
 -- What later links ask of the messages that frames show. Lists have the newest first.
-use Rattle.std.specs.Prelude.{◌==◌, ℕ, ◌+◌, ◌*◌, true, false, nat_le, if◌then◌else◌, List, [], ◌∷◌, drop, length, Option, Some, None}
+use Rattle.std.specs.Prelude.{◌==◌, ℕ, ◌+◌, ◌*◌, true, false, nat_le, if◌then◌else◌, List, [], ◌∷◌, drop, length, map, Option, Some, None}
 use Rattle.stream_messages.specs.declared.shape.Shape.{Shape}
 use Rattle.tcp_streams.specs.declared.segment.Taken.{Taken}
 use Rattle.stream_messages.specs.declared.told.Told.{Told}
@@ -7,8 +7,8 @@ use Rattle.stream_messages.specs.declared.told.Told.TheVariants as tellings
 use Rattle.stream_messages.specs.Tellings.{end_of}
 use Rattle.tcp_messages.specs.declared.met.ShownMessage.{ShownMessage}
 use Rattle.tcp_messages.specs.Shown.{bytes_from}
-use Rattle.pk_fields.specs.declared.rules.App.{App}
-use Rattle.pk_fields.specs.declared.rules.App.TheVariants.{Dns}
+use Rattle.pk_fields.specs.declared.apps.App.{App}
+use Rattle.pk_fields.specs.declared.apps.App.TheVariants.{Dns}
 use Rattle.message_links.specs.declared.notes.Direction.{Direction}
 use Rattle.message_links.specs.declared.notes.Note.{Note}
 use Rattle.message_links.specs.declared.notes.Note.TheVariants.{Query, Response, Request, Answer, Other}
@@ -27,14 +27,24 @@ dns_note (high ∷ low ∷ flags ∷ more ∷ rest) =
 abbrev pub http_note : Shape → Note
 http_note shape = if shape.request then Request else (if shape.interim then Other else Answer)
 
--- in a stream the length of a DNS message stands before it (RFC 1035, 4.2.2)
-abbrev pub told_note : Told → List ℕ → Note
-told_note (tellings.Dns end) bytes = dns_note (drop 2 bytes)
-told_note (tellings.Http shape) bytes = http_note shape
+-- a message whose head tells its length: in a stream the length of a DNS message stands before it (RFC 1035, 4.2.2); others have no links
+abbrev pub sized_note : App → List ℕ → Note
+sized_note Dns bytes = dns_note (drop 2 bytes)
+sized_note app bytes = Other
 
--- a message that the frame of a segment with this payload shows
-abbrev pub message_note : List ℕ → ShownMessage → Note
-message_note payload m = told_note m.message.told (bytes_from payload (end_of m.message.told) m.source)
+-- a message of a stream, by the stream's application
+abbrev pub told_note : App → Told → List ℕ → Note
+told_note app (tellings.Sized end) bytes = sized_note app bytes
+told_note app (tellings.Http shape) bytes = http_note shape
+
+-- one that the frame of a segment with this payload shows
+abbrev pub message_note : App → List ℕ → ShownMessage → Note
+message_note app payload m = told_note app m.message.told (bytes_from payload (end_of m.message.told) m.source)
+
+-- all that it shows; where the stream has no application, there are none
+abbrev pub shown_notes : Option App → List ℕ → List ShownMessage → List Note
+shown_notes None payload ms = []
+shown_notes (Some app) payload ms = map (message_note app payload) ms
 
 -- what a datagram carries is at most one message; DNS alone has links, multicast DNS none
 abbrev pub datagram_notes : Option App → List ℕ → List Note

@@ -1,6 +1,6 @@
-ghost use Rattle.std.specs.Prelude.{◌≡◌, All, map, ◌+◌, ◌∷◌, [], ℕ, List, if◌then◌else◌, IfOk, OnOk};
+ghost use Rattle.std.specs.Prelude.{◌≡◌, All, ◌+◌, ◌∷◌, [], ℕ, List, if◌then◌else◌, IfOk, OnOk};
 ghost use Rattle.tcp_messages.specs.Shown.{IsWholeIn};
-ghost use Rattle.message_links.specs.Notes.{Noted, message_note, noted_on};
+ghost use Rattle.message_links.specs.Notes.{Noted, noted_on, shown_notes};
 ghost use Rattle.message_links.specs.Links.{is_answer, key_of, link_of, links_of, other_side};
 ghost use Rattle.message_links.specs.LinkTables.{LinksStandFor, counted};
 
@@ -8,6 +8,7 @@ use crate::link_tables::{Counts, Queries, Requests, one_more};
 use crate::notes::{Direction, Note, QueryKey};
 use crate::segment_notes::notes_of;
 use pk_base::NoMemory;
+use pk_fields::App;
 use std::alloc::Global;
 use tcp_messages::ShownMessage;
 
@@ -44,11 +45,19 @@ impl Links {
     }
 
     /// What the messages that a segment's frame shows are to links.
-    pub fn notes(&self, payload: &[u8], messages: &[ShownMessage]) -> Result<Vec<Note>, NoMemory>
+    pub fn notes(
+        &self,
+        app: Option<App>,
+        payload: &[u8],
+        messages: &[ShownMessage],
+    ) -> Result<Vec<Note>, NoMemory>
         requires whole { All (IsWholeIn payload.now) messages.now }
-        ensures { IfOk result (λ notes. notes.items ≡ map (message_note payload.now) messages.now) }
+        ensures { IfOk result (λ notes. notes.items ≡ shown_notes app payload.now messages.now) }
     {
-        notes_of(self.alloc, payload, messages)
+        match app {
+            None => Ok(Vec::new(self.alloc)),
+            Some(app) => notes_of(self.alloc, app, payload, messages),
+        }
     }
 
     /// Takes the messages that a frame shows, and answers the earlier frame that each belongs to.

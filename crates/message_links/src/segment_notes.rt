@@ -1,22 +1,23 @@
-ghost use Rattle.std.specs.Prelude.{◌≡◌, ◌+◌, ◌≤◌, All, length, map, slice_range, IfOk};
-ghost use Rattle.tcp_messages.specs.Shown.{IsMessage, IsWholeIn};
-ghost use Rattle.message_links.specs.Notes.{http_note, message_note, told_note};
+ghost use Rattle.std.specs.Prelude.{◌≡◌, ◌+◌, ◌≤◌, All, drop, length, map, slice_range, IfOk};
+ghost use Rattle.tcp_messages.specs.Shown.{IsWholeIn};
+ghost use Rattle.message_links.specs.Notes.{http_note, message_note, sized_note, told_note};
 
 use crate::notes::{Note, dns_note};
 use pk_base::NoMemory;
+use pk_fields::App;
 use std::alloc::Global;
 use stream_messages::{Shape, Told};
 use tcp_messages::{ShownMessage, Source};
 
 /// What a message that a segment's frame shows is to links.
-pub(crate) fn message_note(payload: &[u8], message: &ShownMessage) -> Note
+pub(crate) fn message_note(app: App, payload: &[u8], message: &ShownMessage) -> Note
     requires whole { IsWholeIn payload.now message.now }
-    ensures { result ≡ message_note payload.now message.now }
+    ensures { result ≡ message_note app payload.now message.now }
 {
     let told = &message.message.told;
     match &message.source {
-        Source::Segment(place) => told_note(told, part(payload, *place, told.end())),
-        Source::Gathered(gathered) => told_note(told, gathered.bytes.bytes()),
+        Source::Segment(place) => told_note(app, told, part(payload, *place, told.end())),
+        Source::Gathered(gathered) => told_note(app, told, gathered.bytes.bytes()),
     }
 }
 
@@ -27,15 +28,32 @@ fn part(payload: &[u8], place: usize, len: usize) -> &[u8]
     &payload[place..place + len]
 }
 
-/// What a message is to links, by its bytes.
-fn told_note(told: &Told, bytes: &[u8]) -> Note
-    requires whole { IsMessage told.now bytes.now }
-    ensures { result ≡ told_note told.now bytes.now }
+/// What a message of a stream is to links, by its bytes.
+fn told_note(app: App, told: &Told, bytes: &[u8]) -> Note
+    ensures { result ≡ told_note app told.now bytes.now }
 {
     match told {
-        Told::Dns(_) => dns_note(&bytes[2..]),
+        Told::Sized(_) => sized_note(app, bytes),
         Told::Http(shape) => http_note(shape),
     }
+}
+
+/// What a message whose head tells its length is to links.
+fn sized_note(app: App, bytes: &[u8]) -> Note
+    ensures { result ≡ sized_note app bytes.now }
+{
+    match app {
+        App::Dns => dns_note(behind_length(bytes)),
+        _ => Note::Other,
+    }
+}
+
+/// The bytes behind the two of a length.
+fn behind_length(bytes: &[u8]) -> &[u8]
+    ensures { result.now ≡ drop 2 bytes.now }
+{
+    let from = 2usize.min(bytes.len());
+    &bytes[from..]
 }
 
 fn http_note(shape: &Shape) -> Note
@@ -53,15 +71,16 @@ fn http_note(shape: &Shape) -> Note
 /// What the messages that a segment's frame shows are to links.
 pub(crate) fn notes_of(
     alloc: Global,
+    app: App,
     payload: &[u8],
     messages: &[ShownMessage],
 ) -> Result<Vec<Note>, NoMemory>
     requires whole { All (IsWholeIn payload.now) messages.now }
-    ensures { IfOk result (λ notes. notes.items ≡ map (message_note payload.now) messages.now) }
+    ensures { IfOk result (λ notes. notes.items ≡ map (message_note app payload.now) messages.now) }
 {
     let mut notes = Vec::new(alloc);
     for message in messages {
-        notes.push(message_note(payload, message))?;
+        notes.push(message_note(app, payload, message))?;
     }
     Ok(notes)
 }

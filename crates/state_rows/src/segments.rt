@@ -16,7 +16,7 @@ use crate::words::{
 };
 use pk_base::{Lost, NoMemory, Stretch};
 use std::alloc::Global;
-use stream_messages::App;
+use stream_messages::Framer;
 use tcp_messages::{Met, ShownMessage, Source};
 use tcp_streams::{Streams, Taken};
 
@@ -246,9 +246,9 @@ fn lines_hold(sent: &mut Sent, alloc: Global, lines: &str) -> Result<bool, NoMem
     Ok(true)
 }
 
-pub(crate) fn hold(alloc: Global, app: Option<App>, row: &str) -> Result<bool, NoMemory> {
+pub(crate) fn hold(alloc: Global, framer: Option<Framer>, row: &str) -> Result<bool, NoMemory> {
     let (_, lines) = row.split_once('\n').unwrap_or((row, "?"));
-    let mut sent = Sent::new(alloc, app);
+    let mut sent = Sent::new(alloc, framer);
     let hold = lines_hold(&mut sent, alloc, lines);
     give_up(sent);
     hold

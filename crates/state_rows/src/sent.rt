@@ -5,18 +5,18 @@ ghost use Rattle.tcp_messages.specs.Standing.{streams_in};
 
 use pk_base::{Address, Endpoint, NoMemory, Octets};
 use std::alloc::Global;
-use stream_messages::App;
+use stream_messages::Framer;
 use tcp_messages::{MessageStreams, Met};
 use tcp_streams::{Segment, StreamPlaces, Taken};
 
-/// Streams of an application, and how many frames and bytes were sent to them.
+/// Streams of a framing, and how many frames and bytes were sent to them.
 #[derive(Drop)]
 pub(crate) struct Sent {
     pub(crate) streams: MessageStreams,
     /// The same streams by their numbers alone, and how many segments these took.
     places: StreamPlaces,
     placed: u32,
-    app: Option<App>,
+    framer: Option<Framer>,
     frames: u32,
     bytes: u64,
     ghost few_places: { places_taken places ≤ placed },
@@ -25,12 +25,12 @@ pub(crate) struct Sent {
 }
 
 impl Sent {
-    pub(crate) fn new(alloc: Global, app: Option<App>) -> Sent {
+    pub(crate) fn new(alloc: Global, framer: Option<Framer>) -> Sent {
         Sent {
             streams: MessageStreams::new(alloc),
             places: StreamPlaces::new(alloc),
             placed: 0,
-            app,
+            framer,
             frames: 0,
             bytes: 0,
         }
@@ -50,7 +50,7 @@ impl Sent {
         segment.frame = frames;
         self.frames = frames;
         self.bytes = bytes;
-        self.streams.take(&segment, self.app)
+        self.streams.take(&segment, self.framer)
     }
 
     /// What a segment is to the streams by their numbers alone.

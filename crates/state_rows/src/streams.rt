@@ -13,16 +13,16 @@ use crate::words::{bytes_of, first_of, is_pair};
 use pk_base::NoMemory;
 use std::alloc::Global;
 use std::mem;
-use stream_messages::{App, Cursor, Placed, PlacedList, Told, cut_messages};
+use stream_messages::{Cursor, Framer, Placed, PlacedList, Told, cut_messages};
 
 /// The bytes of a stretch that came so far, from a position on.
 #[derive(Drop)]
 struct Stretch {
-    app: App,
+    framer: Framer,
     start: u32,
     bytes: Vec<u8>,
     cursor: Cursor,
-    ghost sound: { IsSound app cursor bytes.items } by { Prim.hlevel (sound_prop told_row.the_row.coded, props) },
+    ghost sound: { IsSound framer cursor bytes.items } by { Prim.hlevel (sound_prop told_row.the_row.coded, props) },
 }
 
 /// Gives a stretch up, whose destructor is written out at each place where it is dropped.
@@ -30,7 +30,7 @@ fn give_up(_stretch: Stretch) {}
 
 fn kind_of(told: &Told) -> &'static str {
     match told {
-        Told::Dns(_) => "dns",
+        Told::Sized(_) => "sized",
         Told::Http(shape) if shape.request => "request",
         Told::Http(shape) if shape.interim => "interim",
         Told::Http(_) => "response",
@@ -81,9 +81,9 @@ fn heads_of(word: &str) -> Option<&'static [bool]> {
 }
 
 impl Stretch {
-    fn new(alloc: Global, app: App, start: u32, cursor: Cursor) -> Stretch {
+    fn new(alloc: Global, framer: Framer, start: u32, cursor: Cursor) -> Stretch {
         Stretch {
-            app,
+            framer,
             start,
             bytes: Vec::new(alloc),
             cursor: cursor.anew(),
@@ -103,7 +103,7 @@ impl Stretch {
         self.bytes.extend_from_slice(more)?;
         let start = u64::from(self.start);
         let end = start.wrapping_add(self.bytes.len() as u64);
-        let shown = cut_messages(alloc, self.app, start, &self.bytes, cursor, heads)?;
+        let shown = cut_messages(alloc, self.framer, start, &self.bytes, cursor, heads)?;
         self.cursor = shown.cursor;
         Ok(behind_messages(words, &shown.messages, more.len(), end))
     }
@@ -145,14 +145,14 @@ fn in_two(
 /// What is looked at.
 #[derive(Clone, Copy)]
 struct Row<'a> {
-    app: App,
+    framer: Framer,
     heads: &'a [bool],
     bytes: &'a [u8],
     words: &'a str,
 }
 
 fn are_shown_by_bytes(alloc: Global, row: Row) -> Result<bool, NoMemory> {
-    let mut stretch = Stretch::new(alloc, row.app, 1000, Cursor::first());
+    let mut stretch = Stretch::new(alloc, row.framer, 1000, Cursor::first());
     let shown = by_bytes(&mut stretch, alloc, row.bytes, row.heads, row.words);
     give_up(stretch);
     shown
@@ -162,7 +162,7 @@ fn are_shown_in_two(alloc: Global, row: Row, cut: usize) -> Result<bool, NoMemor
     if cut > row.bytes.len() {
         return Ok(false);
     }
-    let mut stretch = Stretch::new(alloc, row.app, 1000, Cursor::first());
+    let mut stretch = Stretch::new(alloc, row.framer, 1000, Cursor::first());
     let parts = row.bytes.split_at(cut);
     let shown = in_two(&mut stretch, alloc, parts, row.heads, row.words);
     give_up(stretch);
@@ -190,14 +190,14 @@ fn parts_of(line: &str) -> Option<(&'static [bool], &str, &str)> {
     Some((heads_of(heads)?, text, words))
 }
 
-pub(crate) fn holds(alloc: Global, app: App, row: &str) -> Result<bool, NoMemory> {
+pub(crate) fn holds(alloc: Global, framer: Framer, row: &str) -> Result<bool, NoMemory> {
     let (heads, text, words) = parts_of(row).ok_or(NoMemory)?;
     let bytes = bytes_of(alloc, text)?;
     let bytes = bytes.as_slice();
     are_shown(
         alloc,
         Row {
-            app,
+            framer,
             heads,
             bytes,
             words,
@@ -239,7 +239,7 @@ fn lines_hold(stretch: &mut Stretch, alloc: Global, lines: &str) -> Result<bool,
 
 pub(crate) fn steps_hold(alloc: Global, row: &str) -> Result<bool, NoMemory> {
     let (_, lines) = row.split_once('\n').unwrap_or((row, "?"));
-    let mut stretch = Stretch::new(alloc, App::Http, 1000, Cursor::first());
+    let mut stretch = Stretch::new(alloc, Framer::Http, 1000, Cursor::first());
     let hold = lines_hold(&mut stretch, alloc, lines);
     give_up(stretch);
     hold

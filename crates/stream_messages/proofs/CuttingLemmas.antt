@@ -7,7 +7,7 @@ use Rattle.std.proofs.lemmas.Option.{cond_some, none-some}
 use Rattle.std.proofs.lemmas.List.{append-nil, drop-append-le, drop-drop, drop_all, append_cancel_left}
 use Rattle.stream_messages.specs.declared.shape.Then.{Then}
 use Rattle.stream_messages.specs.declared.shape.Then.TheVariants.{Follows, Opaque}
-use Rattle.stream_messages.specs.declared.told.App.{App}
+use Rattle.stream_messages.specs.declared.framer.Framer.{Framer}
 use Rattle.stream_messages.specs.declared.told.Told.{Told}
 use Rattle.stream_messages.specs.declared.placed.Placed.{Placed}
 use Rattle.stream_messages.specs.declared.cursor.Cursor.{Cursor}
@@ -26,14 +26,14 @@ use Rattle.stream_messages.proofs.StretchLemmas.{above-append, answered-append}
 use Rattle.stream_messages.proofs.CursorLemmas.{behind_same, sound_now}
 
 -- what a cursor says by its mark and whether a message may come
-abbrev from_mark : App → Asked → ℕ → ℕ → Bool → Mark → List ℕ → List Placed
-from_mark app asked start number may mark front = if may then of_front app asked number (start + next_at mark) (drop (next_at mark) front) else []
+abbrev from_mark : Framer → Asked → ℕ → ℕ → Bool → Mark → List ℕ → List Placed
+from_mark framer asked start number may mark front = if may then of_front framer asked number (start + next_at mark) (drop (next_at mark) front) else []
 
 -- bytes that have a message of their own have a byte
-pub there_are : (app : App) (asked : Bool) (at : ℕ) (front : List ℕ) (told : Told) → first_of app asked (drop at front) ≡ Some told → at + end_of told ≤ length front
-there_are app asked at front told e =
-    let within : end_of told ≤ length (drop at front) = first_within app asked (drop at front) told e in
-    let some : 0 < end_of told = first_some app asked (drop at front) told e in
+pub there_are : (framer : Framer) (asked : Bool) (at : ℕ) (front : List ℕ) (told : Told) → first_of framer asked (drop at front) ≡ Some told → at + end_of told ≤ length front
+there_are framer asked at front told e =
+    let within : end_of told ≤ length (drop at front) = first_within framer asked (drop at front) told e in
+    let some : 0 < end_of told = first_some framer asked (drop at front) told e in
     omega (arith, within, some, length-drop at front)
 
 -- where the next message begins, if a byte of it is there
@@ -48,99 +48,99 @@ place_none at len e = elim (cases_lt at len) [
 
 -- ---- the messages so far
 
-pub record IsCutting (app : App) (asked : Asked) (count start : ℕ) (old front : List ℕ) (c : Cursor) (ms : List Placed) : Type 0 where
+pub record IsCutting (framer : Framer) (asked : Asked) (count start : ℕ) (old front : List ℕ) (c : Cursor) (ms : List Placed) : Type 0 where
   -- the answers up to the cursor
   pub number : ℕ
-  pub number_is : number ≡ answered count (of_front app asked count start old ++ ms)
+  pub number_is : number ≡ answered count (of_front framer asked count start old ++ ms)
   pub rest_is : (later : Asked) (more : List ℕ) → AgreeBelow (start + length front) asked later
-      → of_front app later count start (front ++ more) ≡ (of_front app asked count start old ++ ms) ++ from_cursor app later start number c (front ++ more)
+      → of_front framer later count start (front ++ more) ≡ (of_front framer asked count start old ++ ms) ++ from_cursor framer later start number c (front ++ more)
   pub counts : CountsFor (answers_before c) number
-  pub known : KnowsNext app (asked (start + next_at c.mark) number) (next_at c.mark) old c.next
+  pub known : KnowsNext framer (asked (start + next_at c.mark) number) (next_at c.mark) old c.next
   pub new : above (start + length old) ms ≡ ms
-  pub quiet : from_cursor app asked start number c old ≡ []
+  pub quiet : from_cursor framer asked start number c old ≡ []
 
 nothing_more : (xs ys : List Placed) → xs ≡ xs ++ ys → ys ≡ []
 nothing_more xs ys e = append_cancel_left xs ys [] (sym e ∙ sym (append-nil xs))
 
-behind_quiet : (app : App) (asked : Asked) (count start : ℕ) (c : Cursor) (front : List ℕ) → IsBehind app asked count start c front
-    → from_cursor app asked start (answered count (of_front app asked count start front)) c front ≡ []
-behind_quiet app asked count start c front is =
-    let number : ℕ = answered count (of_front app asked count start front) in
-    let same : of_front app asked count start (front ++ []) ≡ of_front app asked count start front ++ from_cursor app asked start number c (front ++ []) = is.behind asked [] (λ at n low. refl) in
-    nothing_more (of_front app asked count start front) (from_cursor app asked start number c front)
-    (subst (λ (bytes : List ℕ). of_front app asked count start bytes ≡ of_front app asked count start front ++ from_cursor app asked start number c bytes) (append-nil front) same)
+behind_quiet : (framer : Framer) (asked : Asked) (count start : ℕ) (c : Cursor) (front : List ℕ) → IsBehind framer asked count start c front
+    → from_cursor framer asked start (answered count (of_front framer asked count start front)) c front ≡ []
+behind_quiet framer asked count start c front is =
+    let number : ℕ = answered count (of_front framer asked count start front) in
+    let same : of_front framer asked count start (front ++ []) ≡ of_front framer asked count start front ++ from_cursor framer asked start number c (front ++ []) = is.behind asked [] (λ at n low. refl) in
+    nothing_more (of_front framer asked count start front) (from_cursor framer asked start number c front)
+    (subst (λ (bytes : List ℕ). of_front framer asked count start bytes ≡ of_front framer asked count start front ++ from_cursor framer asked start number c bytes) (append-nil front) same)
 
-pub cutting_first : (app : App) (asked later : Asked) (count start : ℕ) (old new front : List ℕ) (c : Cursor) → front ≡ old ++ new → AgreeBelow (start + length old) asked later
-    → IsBehind app asked count start c old → IsCutting app later count start old front c []
-cutting_first app asked later count start old new front c is agree behind =
-    subst (λ (all : List ℕ). IsCutting app later count start old all c []) (sym is) (record {
+pub cutting_first : (framer : Framer) (asked later : Asked) (count start : ℕ) (old new front : List ℕ) (c : Cursor) → front ≡ old ++ new → AgreeBelow (start + length old) asked later
+    → IsBehind framer asked count start c old → IsCutting framer later count start old front c []
+cutting_first framer asked later count start old new front c is agree behind =
+    subst (λ (all : List ℕ). IsCutting framer later count start old all c []) (sym is) (record {
       number = answered count base;
       number_is = ap (answered count) (sym (append-nil base));
       rest_is = λ newer more also.
-          ap (of_front app newer count start) (append_assoc old new more)
+          ap (of_front framer newer count start) (append_assoc old new more)
           ∙ here.behind newer (new ++ more) (λ at n low. also at n (omega (arith, low, length-append old new)))
-          ∙ ap (λ (ms : List Placed). ms ++ from_cursor app newer start (answered count base) c (old ++ (new ++ more))) (sym (append-nil base))
-          ∙ ap (λ (all : List ℕ). (base ++ []) ++ from_cursor app newer start (answered count base) c all) (sym (append_assoc old new more));
+          ∙ ap (λ (ms : List Placed). ms ++ from_cursor framer newer start (answered count base) c (old ++ (new ++ more))) (sym (append-nil base))
+          ∙ ap (λ (all : List ℕ). (base ++ []) ++ from_cursor framer newer start (answered count base) c all) (sym (append_assoc old new more));
       counts = here.counts;
       known = here.known;
       new = refl;
-      quiet = behind_quiet app later count start c old here;
+      quiet = behind_quiet framer later count start c old here;
     })
   where
-    here : IsBehind app later count start c old
-    here = behind_same app asked later count start c old agree behind
+    here : IsBehind framer later count start c old
+    here = behind_same framer asked later count start c old agree behind
 
     base : List Placed
-    base = of_front app later count start old
+    base = of_front framer later count start old
 
 -- what is found is asked of the right request
-pub asks_right : (app : App) (asked : Asked) (count start : ℕ) (old new front : List ℕ) (c : Cursor) (ms : List Placed) (heads : List Bool) → front ≡ old ++ new
-    → AsksBetween (start + length old) (start + length front) heads asked → (cutting : IsCutting app asked count start old front c ms)
-    → IsAskedOf app (asked (start + next_at c.mark) cutting.number) heads cutting.number c.next (drop (next_at c.mark) front)
-asks_right app asked count start old new front c ms heads is asks cutting = by c.next cutting.known
+pub asks_right : (framer : Framer) (asked : Asked) (count start : ℕ) (old new front : List ℕ) (c : Cursor) (ms : List Placed) (heads : List Bool) → front ≡ old ++ new
+    → AsksBetween (start + length old) (start + length front) heads asked → (cutting : IsCutting framer asked count start old front c ms)
+    → IsAskedOf framer (asked (start + next_at c.mark) cutting.number) heads cutting.number c.next (drop (next_at c.mark) front)
+asks_right framer asked count start old new front c ms heads is asks cutting = by c.next cutting.known
   where
-    by : (next : Next) → KnowsNext app (asked (start + next_at c.mark) cutting.number) (next_at c.mark) old next
-        → IsAskedOf app (asked (start + next_at c.mark) cutting.number) heads cutting.number next (drop (next_at c.mark) front)
+    by : (next : Next) → KnowsNext framer (asked (start + next_at c.mark) cutting.number) (next_at c.mark) old next
+        → IsAskedOf framer (asked (start + next_at c.mark) cutting.number) heads cutting.number next (drop (next_at c.mark) front)
     by Never known = tt
     by Awaited known = λ some. asks (start + next_at c.mark) cutting.number (omega (arith, known)) (omega (arith, some, length-drop (next_at c.mark) front))
     by (Begun started) known = known.2
 
 -- a message that is found ends in the new bytes
-ends_late : (app : App) (asked : Asked) (answers start at : ℕ) (old new : List ℕ) (told : Told) → of_front app asked answers (start + at) (drop at old) ≡ []
-    → first_of app (asked (start + at) answers) (drop at (old ++ new)) ≡ Some told → length old < at + end_of told
-ends_late app asked answers start at old new told quiet e = elim (cases_lt (length old) (at + end_of told)) [
+ends_late : (framer : Framer) (asked : Asked) (answers start at : ℕ) (old new : List ℕ) (told : Told) → of_front framer asked answers (start + at) (drop at old) ≡ []
+    → first_of framer (asked (start + at) answers) (drop at (old ++ new)) ≡ Some told → length old < at + end_of told
+ends_late framer asked answers start at old new told quiet e = elim (cases_lt (length old) (at + end_of told)) [
   | inl late ↦ late
   | inr early ↦
       let within : at ≤ length old = omega (arith, early) in
       let split : drop at (old ++ new) ≡ drop at old ++ new = drop-append-le at old new within in
-      let there : first_of app (asked (start + at) answers) (drop at old ++ new) ≡ Some told = ap (first_of app (asked (start + at) answers)) (sym split) ∙ e in
-      let was : first_of app (asked (start + at) answers) (drop at old) ≡ Some told =
-      first_shrinks app (asked (start + at) answers) (drop at old) new told there (omega (arith, early, length-drop at old)) in
-      absurd (some_none _ _ (sym (steps app asked answers (start + at) (drop at old) told was) ∙ quiet))
+      let there : first_of framer (asked (start + at) answers) (drop at old ++ new) ≡ Some told = ap (first_of framer (asked (start + at) answers)) (sym split) ∙ e in
+      let was : first_of framer (asked (start + at) answers) (drop at old) ≡ Some told =
+      first_shrinks framer (asked (start + at) answers) (drop at old) new told there (omega (arith, early, length-drop at old)) in
+      absurd (some_none _ _ (sym (steps framer asked answers (start + at) (drop at old) told was) ∙ quiet))
 ]
   where
     some_none : (m : Placed) (ms : List Placed) → m ∷ ms ≡ [] → ⊥
     some_none m ms e = absurd (cc)
 
 -- behind a message
-follows : (app : App) (asked : Asked) (start number : ℕ) (mark : Mark) (told : Told) (next : Then) (bytes : List ℕ)
-    → follow next (messages app asked (number + answers told) ((start + next_at mark) + (end_of told + passed next)) 0 (drop (end_of told + passed next) (drop (next_at mark) bytes)))
-    ≡ (if goes (next_behind next) then of_front app asked (number + answers told) (start + ((next_at mark + end_of told) + passed next)) (drop ((next_at mark + end_of told) + passed next) bytes) else [])
-follows app asked start number mark told Opaque bytes = refl
-follows app asked start number mark told (Follows n) bytes =
+follows : (framer : Framer) (asked : Asked) (start number : ℕ) (mark : Mark) (told : Told) (next : Then) (bytes : List ℕ)
+    → follow next (messages framer asked (number + answers told) ((start + next_at mark) + (end_of told + passed next)) 0 (drop (end_of told + passed next) (drop (next_at mark) bytes)))
+    ≡ (if goes (next_behind next) then of_front framer asked (number + answers told) (start + ((next_at mark + end_of told) + passed next)) (drop ((next_at mark + end_of told) + passed next) bytes) else [])
+follows framer asked start number mark told Opaque bytes = refl
+follows framer asked start number mark told (Follows n) bytes =
     let place : (start + next_at mark) + (end_of told + n) ≡ start + ((next_at mark + end_of told) + n) = omega arith in
     let size : next_at mark + (end_of told + n) ≡ (next_at mark + end_of told) + n = omega arith in
-    ap (λ (p : ℕ). messages app asked (number + answers told) p 0 (drop (end_of told + n) (drop (next_at mark) bytes))) place
-    ∙ ap (messages app asked (number + answers told) (start + ((next_at mark + end_of told) + n)) 0) (drop-drop (end_of told + n) (next_at mark) bytes ∙ ap (λ (k : ℕ). drop k bytes) size)
+    ap (λ (p : ℕ). messages framer asked (number + answers told) p 0 (drop (end_of told + n) (drop (next_at mark) bytes))) place
+    ∙ ap (messages framer asked (number + answers told) (start + ((next_at mark + end_of told) + n)) 0) (drop-drop (end_of told + n) (next_at mark) bytes ∙ ap (λ (k : ℕ). drop k bytes) size)
 
 -- the message that comes next, and those behind it
-one_more : (app : App) (asked : Asked) (start number : ℕ) (c : Cursor) (told : Told) (bytes : List ℕ) → goes c.next ≡ true
-    → first_of app (asked (start + next_at c.mark) number) (drop (next_at c.mark) bytes) ≡ Some told
-    → from_cursor app asked start number c bytes ≡ record { at = start + next_at c.mark; told = told } ∷ from_cursor app asked start (number + answers told) (cursor_behind c.mark told) bytes
-one_more app asked start number c told bytes may e =
+one_more : (framer : Framer) (asked : Asked) (start number : ℕ) (c : Cursor) (told : Told) (bytes : List ℕ) → goes c.next ≡ true
+    → first_of framer (asked (start + next_at c.mark) number) (drop (next_at c.mark) bytes) ≡ Some told
+    → from_cursor framer asked start number c bytes ≡ record { at = start + next_at c.mark; told = told } ∷ from_cursor framer asked start (number + answers told) (cursor_behind c.mark told) bytes
+one_more framer asked start number c told bytes may e =
     cond-true _ _ _ may
-    ∙ steps app asked number (start + next_at c.mark) (drop (next_at c.mark) bytes) told e
-    ∙ ap (λ (ms : List Placed). record { at = start + next_at c.mark; told = told } ∷ ms) (follows app asked start number c.mark told (then_of told) bytes)
+    ∙ steps framer asked number (start + next_at c.mark) (drop (next_at c.mark) bytes) told e
+    ∙ ap (λ (ms : List Placed). record { at = start + next_at c.mark; told = told } ∷ ms) (follows framer asked start number c.mark told (then_of told) bytes)
 
 -- a count that is raised stands for the raised number
 count_more : (count number more : ℕ) → CountsFor count number → CountsFor (counted (count + more)) (number + more)
@@ -150,33 +150,33 @@ pushed : (base ms : List Placed) (m : Placed) (rest : List Placed) → (base ++ 
 pushed base ms m rest =
     append_assoc base ms (m ∷ rest) ∙ ap (λ (xs : List Placed). base ++ xs) (sym (append_assoc ms (m ∷ []) rest)) ∙ sym (append_assoc base (ms ++ m ∷ []) rest)
 
-knows_behind : (app : App) (asked : Bool) (at : ℕ) (front : List ℕ) (next : Then) → length front ≤ at → KnowsNext app asked at front (next_behind next)
-knows_behind app asked at front (Follows n) past = past
-knows_behind app asked at front Opaque past = tt
+knows_behind : (framer : Framer) (asked : Bool) (at : ℕ) (front : List ℕ) (next : Then) → length front ≤ at → KnowsNext framer asked at front (next_behind next)
+knows_behind framer asked at front (Follows n) past = past
+knows_behind framer asked at front Opaque past = tt
 
 if_none : (t : Bool) (xs : List Placed) → xs ≡ [] → (if t then xs else []) ≡ []
 if_none true xs e = e
 if_none false xs e = refl
 
-quiet_past : (app : App) (asked : Asked) (start number : ℕ) (c : Cursor) (front : List ℕ) → length front ≤ next_at c.mark → from_cursor app asked start number c front ≡ []
-quiet_past app asked start number c front past =
-    if_none (goes c.next) _ (ap (of_front app asked number (start + next_at c.mark)) (drop_all (next_at c.mark) front past) ∙ no_messages app asked number (start + next_at c.mark))
+quiet_past : (framer : Framer) (asked : Asked) (start number : ℕ) (c : Cursor) (front : List ℕ) → length front ≤ next_at c.mark → from_cursor framer asked start number c front ≡ []
+quiet_past framer asked start number c front past =
+    if_none (goes c.next) _ (ap (of_front framer asked number (start + next_at c.mark)) (drop_all (next_at c.mark) front past) ∙ no_messages framer asked number (start + next_at c.mark))
 
-found_longer : (app : App) (asked later : Asked) (start answers at : ℕ) (front more : List ℕ) (told : Told) → AgreeBelow (start + length front) asked later
-    → first_of app (asked (start + at) answers) (drop at front) ≡ Some told → first_of app (later (start + at) answers) (drop at (front ++ more)) ≡ Some told
-found_longer app asked later start answers at front more told agree e =
-    let there : at + end_of told ≤ length front = there_are app (asked (start + at) answers) at front told e in
-    let some : 0 < end_of told = first_some app (asked (start + at) answers) (drop at front) told e in
+found_longer : (framer : Framer) (asked later : Asked) (start answers at : ℕ) (front more : List ℕ) (told : Told) → AgreeBelow (start + length front) asked later
+    → first_of framer (asked (start + at) answers) (drop at front) ≡ Some told → first_of framer (later (start + at) answers) (drop at (front ++ more)) ≡ Some told
+found_longer framer asked later start answers at front more told agree e =
+    let there : at + end_of told ≤ length front = there_are framer (asked (start + at) answers) at front told e in
+    let some : 0 < end_of told = first_some framer (asked (start + at) answers) (drop at front) told e in
     let same : later (start + at) answers ≡ asked (start + at) answers = agree (start + at) answers (omega (arith, there, some)) in
-    ap (λ (a : Bool). first_of app a (drop at (front ++ more))) same
-    ∙ ap (first_of app (asked (start + at) answers)) (drop-append-le at front more (omega (arith, there)))
-    ∙ first_stays app (asked (start + at) answers) (drop at front) more told e
+    ap (λ (a : Bool). first_of framer a (drop at (front ++ more))) same
+    ∙ ap (first_of framer (asked (start + at) answers)) (drop-append-le at front more (omega (arith, there)))
+    ∙ first_stays framer (asked (start + at) answers) (drop at front) more told e
 
-cutting_step : (app : App) (asked : Asked) (count start : ℕ) (old new front : List ℕ) (c : Cursor) (ms : List Placed) (told : Told) → front ≡ old ++ new
-    → (cutting : IsCutting app asked count start old front c ms) → goes c.next ≡ true
-    → first_of app (asked (start + next_at c.mark) cutting.number) (drop (next_at c.mark) front) ≡ Some told
-    → IsCutting app asked count start old front (cursor_behind c.mark told) (ms ++ record { at = start + next_at c.mark; told = told } ∷ [])
-cutting_step app asked count start old new front c ms told is cutting may e = record {
+cutting_step : (framer : Framer) (asked : Asked) (count start : ℕ) (old new front : List ℕ) (c : Cursor) (ms : List Placed) (told : Told) → front ≡ old ++ new
+    → (cutting : IsCutting framer asked count start old front c ms) → goes c.next ≡ true
+    → first_of framer (asked (start + next_at c.mark) cutting.number) (drop (next_at c.mark) front) ≡ Some told
+    → IsCutting framer asked count start old front (cursor_behind c.mark told) (ms ++ record { at = start + next_at c.mark; told = told } ∷ [])
+cutting_step framer asked count start old new front c ms told is cutting may e = record {
   number = number + answers told;
   number_is =
       ap (λ (n : ℕ). n + answers told) cutting.number_is
@@ -184,242 +184,242 @@ cutting_step app asked count start old new front c ms told is cutting may e = re
       ∙ ap (answered count) (append_assoc base ms (m ∷ []));
   rest_is = λ later more agree.
       cutting.rest_is later more agree
-      ∙ ap (λ (xs : List Placed). (base ++ ms) ++ xs) (one_more app later start number c told (front ++ more) may (found_longer app asked later start number (next_at c.mark) front more told agree e))
-      ∙ pushed base ms m (from_cursor app later start (number + answers told) (cursor_behind c.mark told) (front ++ more));
+      ∙ ap (λ (xs : List Placed). (base ++ ms) ++ xs) (one_more framer later start number c told (front ++ more) may (found_longer framer asked later start number (next_at c.mark) front more told agree e))
+      ∙ pushed base ms m (from_cursor framer later start (number + answers told) (cursor_behind c.mark told) (front ++ more));
   counts = count_more (answers_before c) number (answers told) cutting.counts;
-  known = knows_behind app _ _ old (then_of told) (omega (arith, late));
+  known = knows_behind framer _ _ old (then_of told) (omega (arith, late));
   new =
       above-append (start + length old) ms (m ∷ [])
       ∙ ap (λ (xs : List Placed). xs ++ above (start + length old) (m ∷ [])) cutting.new
       ∙ ap (λ (xs : List Placed). ms ++ xs) (cond-true _ _ _ (lt-ltb (start + length old) (end_at m) (omega (arith, late))));
-  quiet = quiet_past app asked start (number + answers told) (cursor_behind c.mark told) old (omega (arith, late));
+  quiet = quiet_past framer asked start (number + answers told) (cursor_behind c.mark told) old (omega (arith, late));
 }
   where
     number : ℕ
     number = cutting.number
 
     base : List Placed
-    base = of_front app asked count start old
+    base = of_front framer asked count start old
 
     m : Placed
     m = record { at = start + next_at c.mark; told = told }
 
-    was : of_front app asked number (start + next_at c.mark) (drop (next_at c.mark) old) ≡ []
+    was : of_front framer asked number (start + next_at c.mark) (drop (next_at c.mark) old) ≡ []
     was = sym (cond-true _ _ _ may) ∙ cutting.quiet
 
     late : length old < next_at c.mark + end_of told
-    late = ends_late app asked number start (next_at c.mark) old new told was
-        (subst (λ (all : List ℕ). first_of app (asked (start + next_at c.mark) number) (drop (next_at c.mark) all) ≡ Some told) is e)
+    late = ends_late framer asked number start (next_at c.mark) old new told was
+        (subst (λ (all : List ℕ). first_of framer (asked (start + next_at c.mark) number) (drop (next_at c.mark) all) ≡ Some told) is e)
 
-pub cutting_more : (app : App) (asked : Asked) (count start : ℕ) (old new front : List ℕ) (c : Cursor) (ms : List Placed) (m : Placed) (behind : Cursor) → front ≡ old ++ new
-    → (cutting : IsCutting app asked count start old front c ms) → goes c.next ≡ true → IsNext app (asked (start + next_at c.mark) cutting.number) start front c.mark m behind
-    → IsCutting app asked count start old front behind (ms ++ m ∷ [])
-cutting_more app asked count start old new front c ms m behind is cutting may next =
+pub cutting_more : (framer : Framer) (asked : Asked) (count start : ℕ) (old new front : List ℕ) (c : Cursor) (ms : List Placed) (m : Placed) (behind : Cursor) → front ≡ old ++ new
+    → (cutting : IsCutting framer asked count start old front c ms) → goes c.next ≡ true → IsNext framer (asked (start + next_at c.mark) cutting.number) start front c.mark m behind
+    → IsCutting framer asked count start old front behind (ms ++ m ∷ [])
+cutting_more framer asked count start old new front c ms m behind is cutting may next =
     let placed : record { at = start + next_at c.mark; told = m.told } ≡ m = λ i. record { at = sym next.at i; told = m.told } in
-    let here : IsCutting app asked count start old front (cursor_behind c.mark m.told) (ms ++ record { at = start + next_at c.mark; told = m.told } ∷ []) =
-    cutting_step app asked count start old new front c ms m.told is cutting may next.first in
-    let moved : IsCutting app asked count start old front behind (ms ++ record { at = start + next_at c.mark; told = m.told } ∷ []) =
-    subst (λ (d : Cursor). IsCutting app asked count start old front d (ms ++ record { at = start + next_at c.mark; told = m.told } ∷ [])) (sym next.cursor) here in
-    subst (λ (x : Placed). IsCutting app asked count start old front behind (ms ++ x ∷ [])) placed moved
+    let here : IsCutting framer asked count start old front (cursor_behind c.mark m.told) (ms ++ record { at = start + next_at c.mark; told = m.told } ∷ []) =
+    cutting_step framer asked count start old new front c ms m.told is cutting may next.first in
+    let moved : IsCutting framer asked count start old front behind (ms ++ record { at = start + next_at c.mark; told = m.told } ∷ []) =
+    subst (λ (d : Cursor). IsCutting framer asked count start old front d (ms ++ record { at = start + next_at c.mark; told = m.told } ∷ [])) (sym next.cursor) here in
+    subst (λ (x : Placed). IsCutting framer asked count start old front behind (ms ++ x ∷ [])) placed moved
 
 -- ---- nothing more
 
-rest_quiet : (app : App) (asked : Asked) (start number : ℕ) (front : List ℕ) (c new : Cursor) → IsRest app (asked (start + next_at c.mark) number) front c new
-    → from_cursor app asked start number c front ≡ []
-rest_quiet app asked start number front c new rest = by (goes c.next) refl
+rest_quiet : (framer : Framer) (asked : Asked) (start number : ℕ) (front : List ℕ) (c new : Cursor) → IsRest framer (asked (start + next_at c.mark) number) front c new
+    → from_cursor framer asked start number c front ≡ []
+rest_quiet framer asked start number front c new rest = by (goes c.next) refl
   where
-    by : (t : Bool) → goes c.next ≡ t → (if t then of_front app asked number (start + next_at c.mark) (drop (next_at c.mark) front) else []) ≡ []
-    by true may = none_left app asked number (start + next_at c.mark) (drop (next_at c.mark) front) (rest.none may)
+    by : (t : Bool) → goes c.next ≡ t → (if t then of_front framer asked number (start + next_at c.mark) (drop (next_at c.mark) front) else []) ≡ []
+    by true may = none_left framer asked number (start + next_at c.mark) (drop (next_at c.mark) front) (rest.none may)
     by false may = refl
 
-pub cutting_last : (app : App) (asked : Asked) (count start : ℕ) (old front : List ℕ) (c : Cursor) (ms : List Placed) (shown : Shown)
-    → (cutting : IsCutting app asked count start old front c ms) → IsRest app (asked (start + next_at c.mark) cutting.number) front c shown.cursor → shown.messages ≡ ms
-    → IsCut app asked count start old front shown
-cutting_last app asked count start old front c ms shown cutting rest is = record {
+pub cutting_last : (framer : Framer) (asked : Asked) (count start : ℕ) (old front : List ℕ) (c : Cursor) (ms : List Placed) (shown : Shown)
+    → (cutting : IsCutting framer asked count start old front c ms) → IsRest framer (asked (start + next_at c.mark) cutting.number) front c shown.cursor → shown.messages ≡ ms
+    → IsCut framer asked count start old front shown
+cutting_last framer asked count start old front c ms shown cutting rest is = record {
   messages = is ∙ sym (
       ap (above (start + length old)) all
       ∙ above-append (start + length old) base ms
-      ∙ ap (λ (xs : List Placed). xs ++ above (start + length old) ms) (all_below app asked (start + length old) count start 0 old (omega arith))
+      ∙ ap (λ (xs : List Placed). xs ++ above (start + length old) ms) (all_below framer asked (start + length old) count start 0 old (omega arith))
       ∙ cutting.new
       );
   cursor = record {
     behind = λ later more agree.
         cutting.rest_is later more agree
-        ∙ ap (λ (xs : List Placed). xs ++ from_cursor app later start cutting.number c (front ++ more)) (sym all)
-        ∙ ap (λ (xs : List Placed). of_front app asked count start front ++ xs) (
-        sym (ap (λ (k : Mark). from_mark app later start cutting.number (goes shown.cursor.next) k (front ++ more)) rest.mark ∙ ap (λ (t : Bool). from_mark app later start cutting.number t c.mark (front ++ more)) rest.goes_is)
-        ∙ ap (λ (n : ℕ). from_cursor app later start n shown.cursor (front ++ more)) number_is
+        ∙ ap (λ (xs : List Placed). xs ++ from_cursor framer later start cutting.number c (front ++ more)) (sym all)
+        ∙ ap (λ (xs : List Placed). of_front framer asked count start front ++ xs) (
+        sym (ap (λ (k : Mark). from_mark framer later start cutting.number (goes shown.cursor.next) k (front ++ more)) rest.mark ∙ ap (λ (t : Bool). from_mark framer later start cutting.number t c.mark (front ++ more)) rest.goes_is)
+        ∙ ap (λ (n : ℕ). from_cursor framer later start n shown.cursor (front ++ more)) number_is
         );
     counts = subst (CountsFor (answers_before shown.cursor)) number_is (ap (λ (k : Mark). counted k.answers) rest.mark ∙ cutting.counts);
-    known = subst (λ (n : ℕ). KnowsNext app (asked (start + next_at shown.cursor.mark) n) (next_at shown.cursor.mark) front shown.cursor.next) number_is
-        (subst (λ (k : Mark). KnowsNext app (asked (start + next_at k) cutting.number) (next_at k) front shown.cursor.next) (sym rest.mark) rest.known);
+    known = subst (λ (n : ℕ). KnowsNext framer (asked (start + next_at shown.cursor.mark) n) (next_at shown.cursor.mark) front shown.cursor.next) number_is
+        (subst (λ (k : Mark). KnowsNext framer (asked (start + next_at k) cutting.number) (next_at k) front shown.cursor.next) (sym rest.mark) rest.known);
   };
 }
   where
     base : List Placed
-    base = of_front app asked count start old
+    base = of_front framer asked count start old
 
-    all : of_front app asked count start front ≡ base ++ ms
+    all : of_front framer asked count start front ≡ base ++ ms
     all =
-        ap (of_front app asked count start) (sym (append-nil front))
+        ap (of_front framer asked count start) (sym (append-nil front))
         ∙ cutting.rest_is asked [] (λ at n low. refl)
-        ∙ ap (λ (xs : List Placed). (base ++ ms) ++ xs) (ap (from_cursor app asked start cutting.number c) (append-nil front) ∙ rest_quiet app asked start cutting.number front c shown.cursor rest)
+        ∙ ap (λ (xs : List Placed). (base ++ ms) ++ xs) (ap (from_cursor framer asked start cutting.number c) (append-nil front) ∙ rest_quiet framer asked start cutting.number front c shown.cursor rest)
         ∙ append-nil (base ++ ms)
 
-    number_is : cutting.number ≡ answered count (of_front app asked count start front)
+    number_is : cutting.number ≡ answered count (of_front framer asked count start front)
     number_is = cutting.number_is ∙ ap (answered count) (sym all)
 
 -- ---- whatever the cursor
 
 -- some request is the one that a sound cursor is asked of
-pub some_asked : (app : App) (heads : List Bool) (count at : ℕ) (front : List ℕ) (next : Next) → IsSoundNext app at front next
-    → (asked : Bool) × IsAskedOf app asked heads count next (drop at front)
-some_asked app heads count at front Never sound = (false, tt)
-some_asked app heads count at front Awaited sound = (get_or heads count false, λ some. refl)
-some_asked app heads count at front (Begun started) sound = (started.asked, refl)
+pub some_asked : (framer : Framer) (heads : List Bool) (count at : ℕ) (front : List ℕ) (next : Next) → IsSoundNext framer at front next
+    → (asked : Bool) × IsAskedOf framer asked heads count next (drop at front)
+some_asked framer heads count at front Never sound = (false, tt)
+some_asked framer heads count at front Awaited sound = (get_or heads count false, λ some. refl)
+some_asked framer heads count at front (Begun started) sound = (started.asked, refl)
 
-pub next_whole : (app : App) (asked : Bool) (start : ℕ) (front : List ℕ) (mark : Mark) (m : Placed) (c : Cursor) → IsNext app asked start front mark m c → IsWhole app start front m
-next_whole app asked start front mark m c next =
-    let there : next_at mark + end_of m.told ≤ length front = there_are app asked (next_at mark) front m.told next.first in
+pub next_whole : (framer : Framer) (asked : Bool) (start : ℕ) (front : List ℕ) (mark : Mark) (m : Placed) (c : Cursor) → IsNext framer asked start front mark m c → IsWhole framer start front m
+next_whole framer asked start front mark m c next =
+    let there : next_at mark + end_of m.told ≤ length front = there_are framer asked (next_at mark) front m.told next.first in
     let place : next_at mark ≡ m.at - start = omega (arith, next.at) in
     record {
       from = omega (arith, next.at);
       within = omega (arith, next.at, there);
-      first = (asked, subst (λ (k : ℕ). first_of app asked (drop k front) ≡ Some m.told) place next.first);
+      first = (asked, subst (λ (k : ℕ). first_of framer asked (drop k front) ≡ Some m.told) place next.first);
     }
 
-sound_behind : (app : App) (at : ℕ) (front : List ℕ) (next : Then) → IsSoundNext app at front (next_behind next)
-sound_behind app at front (Follows n) = tt
-sound_behind app at front Opaque = tt
+sound_behind : (framer : Framer) (at : ℕ) (front : List ℕ) (next : Then) → IsSoundNext framer at front (next_behind next)
+sound_behind framer at front (Follows n) = tt
+sound_behind framer at front Opaque = tt
 
-pub next_sound : (app : App) (asked : Bool) (start : ℕ) (front : List ℕ) (mark : Mark) (m : Placed) (c : Cursor) → IsNext app asked start front mark m c → IsSound app c front
-next_sound app asked start front mark m c next =
-    subst (λ (d : Cursor). IsSound app d front) (sym next.cursor) (sound_behind app (next_at (mark_behind mark m.told)) front (then_of m.told))
+pub next_sound : (framer : Framer) (asked : Bool) (start : ℕ) (front : List ℕ) (mark : Mark) (m : Placed) (c : Cursor) → IsNext framer asked start front mark m c → IsSound framer c front
+next_sound framer asked start front mark m c next =
+    subst (λ (d : Cursor). IsSound framer d front) (sym next.cursor) (sound_behind framer (next_at (mark_behind mark m.told)) front (then_of m.told))
 
-pub next_nearer : (app : App) (asked : Bool) (start : ℕ) (front : List ℕ) (mark : Mark) (m : Placed) (c : Cursor) → IsNext app asked start front mark m c
+pub next_nearer : (framer : Framer) (asked : Bool) (start : ℕ) (front : List ℕ) (mark : Mark) (m : Placed) (c : Cursor) → IsNext framer asked start front mark m c
     → length front - c.mark.end < length front - mark.end
-next_nearer app asked start front mark m c next =
-    let there : next_at mark + end_of m.told ≤ length front = there_are app asked (next_at mark) front m.told next.first in
-    let some : 0 < end_of m.told = first_some app asked (drop (next_at mark) front) m.told next.first in
+next_nearer framer asked start front mark m c next =
+    let there : next_at mark + end_of m.told ≤ length front = there_are framer asked (next_at mark) front m.told next.first in
+    let some : 0 < end_of m.told = first_some framer asked (drop (next_at mark) front) m.told next.first in
     let end : c.mark.end ≡ next_at mark + end_of m.told = ap (λ (d : Cursor). d.mark.end) next.cursor in
     omega (arith, there, some, end)
 
-pub rest_sound : (app : App) (asked : Bool) (front : List ℕ) (old new : Cursor) → IsRest app asked front old new → IsSound app new front
-rest_sound app asked front old new rest =
-    subst (λ (k : Mark). IsSoundNext app (next_at k) front new.next) (sym rest.mark) (sound_now app asked (next_at old.mark) front new.next rest.known)
+pub rest_sound : (framer : Framer) (asked : Bool) (front : List ℕ) (old new : Cursor) → IsRest framer asked front old new → IsSound framer new front
+rest_sound framer asked front old new rest =
+    subst (λ (k : Mark). IsSoundNext framer (next_at k) front new.next) (sym rest.mark) (sound_now framer asked (next_at old.mark) front new.next rest.known)
 
 -- ---- each has a new byte
 
 -- a message that wasn't whole before ends in the new bytes
-late_of : (app : App) (asked : Bool) (at : ℕ) (old new : List ℕ) (told : Told) → first_of app asked (drop at old) ≡ None → first_of app asked (drop at (old ++ new)) ≡ Some told
+late_of : (framer : Framer) (asked : Bool) (at : ℕ) (old new : List ℕ) (told : Told) → first_of framer asked (drop at old) ≡ None → first_of framer asked (drop at (old ++ new)) ≡ Some told
     → length old < at + end_of told
-late_of app asked at old new told none e = elim (cases_lt (length old) (at + end_of told)) [
+late_of framer asked at old new told none e = elim (cases_lt (length old) (at + end_of told)) [
   | inl late ↦ late
   | inr early ↦
       let within : at ≤ length old = omega (arith, early) in
-      let there : first_of app asked (drop at old ++ new) ≡ Some told = ap (first_of app asked) (sym (drop-append-le at old new within)) ∙ e in
-      let was : first_of app asked (drop at old) ≡ Some told = first_shrinks app asked (drop at old) new told there (omega (arith, early, length-drop at old)) in
+      let there : first_of framer asked (drop at old ++ new) ≡ Some told = ap (first_of framer asked) (sym (drop-append-le at old new within)) ∙ e in
+      let was : first_of framer asked (drop at old) ≡ Some told = first_shrinks framer asked (drop at old) new told there (omega (arith, early, length-drop at old)) in
       absurd (none-some told (sym none ∙ was))
 ]
 
-quiet_late : (app : App) (asked : Bool) (heads : List Bool) (count at : ℕ) (old new front : List ℕ) (next : Next) (told : Told) → front ≡ old ++ new → goes next ≡ true
-    → IsQuietNext app at old next → IsAskedOf app asked heads count next (drop at front) → first_of app asked (drop at front) ≡ Some told → length old < at + end_of told
-quiet_late app asked heads count at old new front Never told is may quiet asks e = absurd (cc)
-quiet_late app asked heads count at old new front Awaited told is may quiet asks e = omega (arith, quiet, first_some app asked (drop at front) told e)
-quiet_late app asked heads count at old new front (Begun started) told is may quiet asks e =
-    late_of app asked at old new told (subst (λ (a : Bool). first_of app a (drop at old) ≡ None) asks quiet) (ap (λ (all : List ℕ). first_of app asked (drop at all)) (sym is) ∙ e)
+quiet_late : (framer : Framer) (asked : Bool) (heads : List Bool) (count at : ℕ) (old new front : List ℕ) (next : Next) (told : Told) → front ≡ old ++ new → goes next ≡ true
+    → IsQuietNext framer at old next → IsAskedOf framer asked heads count next (drop at front) → first_of framer asked (drop at front) ≡ Some told → length old < at + end_of told
+quiet_late framer asked heads count at old new front Never told is may quiet asks e = absurd (cc)
+quiet_late framer asked heads count at old new front Awaited told is may quiet asks e = omega (arith, quiet, first_some framer asked (drop at front) told e)
+quiet_late framer asked heads count at old new front (Begun started) told is may quiet asks e =
+    late_of framer asked at old new told (subst (λ (a : Bool). first_of framer a (drop at old) ≡ None) asks quiet) (ap (λ (all : List ℕ). first_of framer asked (drop at all)) (sym is) ∙ e)
 
 -- nothing was cut yet, or each message has a byte of its own past those before
 abbrev pub IsFew : List ℕ → List ℕ → Cursor → Cursor → List Placed → Type 0
 IsFew old front first c ms = ((c ≡ first) × (ms ≡ [])) ⊎ ((length old + length ms ≤ c.mark.end) × (c.mark.end ≤ length front))
 
-few_more : (app : App) (asked : Bool) (heads : List Bool) (start : ℕ) (old new front : List ℕ) (first c : Cursor) (ms : List Placed) (m : Placed) (behind : Cursor) → front ≡ old ++ new
-    → IsQuiet app first old → IsAskedOf app asked heads (answers_before c) c.next (drop (next_at c.mark) front) → goes c.next ≡ true → IsNext app asked start front c.mark m behind
+few_more : (framer : Framer) (asked : Bool) (heads : List Bool) (start : ℕ) (old new front : List ℕ) (first c : Cursor) (ms : List Placed) (m : Placed) (behind : Cursor) → front ≡ old ++ new
+    → IsQuiet framer first old → IsAskedOf framer asked heads (answers_before c) c.next (drop (next_at c.mark) front) → goes c.next ≡ true → IsNext framer asked start front c.mark m behind
     → IsFew old front first c ms → IsFew old front first behind (ms ++ m ∷ [])
-few_more app asked heads start old new front first c ms m behind is quiet asks may next (inl (same, none)) =
+few_more framer asked heads start old new front first c ms m behind is quiet asks may next (inl (same, none)) =
     let late : length old < next_at c.mark + end_of m.told =
-    quiet_late app asked heads (answers_before c) (next_at c.mark) old new front c.next m.told is may (subst (λ (d : Cursor). IsQuiet app d old) (sym same) quiet) asks next.first in
-    let there : next_at c.mark + end_of m.told ≤ length front = there_are app asked (next_at c.mark) front m.told next.first in
+    quiet_late framer asked heads (answers_before c) (next_at c.mark) old new front c.next m.told is may (subst (λ (d : Cursor). IsQuiet framer d old) (sym same) quiet) asks next.first in
+    let there : next_at c.mark + end_of m.told ≤ length front = there_are framer asked (next_at c.mark) front m.told next.first in
     let end : behind.mark.end ≡ next_at c.mark + end_of m.told = ap (λ (d : Cursor). d.mark.end) next.cursor in
     let size : length (ms ++ m ∷ []) ≡ 1 = ap (λ (xs : List Placed). length (xs ++ m ∷ [])) none in
     inr (omega (arith, late, end, size), omega (arith, there, end))
-few_more app asked heads start old new front first c ms m behind is quiet asks may next (inr (far, within)) =
-    let some : 0 < end_of m.told = first_some app asked (drop (next_at c.mark) front) m.told next.first in
-    let there : next_at c.mark + end_of m.told ≤ length front = there_are app asked (next_at c.mark) front m.told next.first in
+few_more framer asked heads start old new front first c ms m behind is quiet asks may next (inr (far, within)) =
+    let some : 0 < end_of m.told = first_some framer asked (drop (next_at c.mark) front) m.told next.first in
+    let there : next_at c.mark + end_of m.told ≤ length front = there_are framer asked (next_at c.mark) front m.told next.first in
     let end : behind.mark.end ≡ next_at c.mark + end_of m.told = ap (λ (d : Cursor). d.mark.end) next.cursor in
     let size : length (ms ++ m ∷ []) ≡ length ms + 1 = length-append ms (m ∷ []) in
     inr (omega (arith, far, some, end, size), omega (arith, there, end))
 
 -- and none is left
-rest_left : (app : App) (asked : Bool) (front : List ℕ) (old new : Cursor) → IsRest app asked front old new → IsQuiet app new front
-rest_left app asked front old new rest = subst (λ (k : Mark). IsQuietNext app (next_at k) front new.next) (sym rest.mark) (by new.next rest.goes_is rest.known)
+rest_left : (framer : Framer) (asked : Bool) (front : List ℕ) (old new : Cursor) → IsRest framer asked front old new → IsQuiet framer new front
+rest_left framer asked front old new rest = subst (λ (k : Mark). IsQuietNext framer (next_at k) front new.next) (sym rest.mark) (by new.next rest.goes_is rest.known)
   where
-    by : (next : Next) → goes next ≡ goes old.next → KnowsNext app asked (next_at old.mark) front next → IsQuietNext app (next_at old.mark) front next
+    by : (next : Next) → goes next ≡ goes old.next → KnowsNext framer asked (next_at old.mark) front next → IsQuietNext framer (next_at old.mark) front next
     by Never goes_is known = tt
     by Awaited goes_is known = known
-    by (Begun started) goes_is known = subst (λ (a : Bool). first_of app a (drop (next_at old.mark) front) ≡ None) (sym known.2) (rest.none (sym goes_is))
+    by (Begun started) goes_is known = subst (λ (a : Bool). first_of framer a (drop (next_at old.mark) front) ≡ None) (sym known.2) (rest.none (sym goes_is))
 
 -- ---- all messages
 
-pub record IsLoop (app : App) (start : ℕ) (front : List ℕ) (heads : List Bool) (first c : Cursor) (ms : List Placed) : Type 0 where
+pub record IsLoop (framer : Framer) (start : ℕ) (front : List ℕ) (heads : List Bool) (first c : Cursor) (ms : List Placed) : Type 0 where
   pub cutting : (asked later : Asked) (count : ℕ) (old new : List ℕ) → front ≡ old ++ new → AgreeBelow (start + length old) asked later
-      → AsksBetween (start + length old) (start + length front) heads later → IsBehind app asked count start first old → IsCutting app later count start old front c ms
-  pub whole : All (IsWhole app start front) ms
-  pub few : (old new : List ℕ) → front ≡ old ++ new → IsQuiet app first old → IsFew old front first c ms
-  pub sound : IsSound app c front
+      → AsksBetween (start + length old) (start + length front) heads later → IsBehind framer asked count start first old → IsCutting framer later count start old front c ms
+  pub whole : All (IsWhole framer start front) ms
+  pub few : (old new : List ℕ) → front ≡ old ++ new → IsQuiet framer first old → IsFew old front first c ms
+  pub sound : IsSound framer c front
 
-pub loop_first : (app : App) (start : ℕ) (front : List ℕ) (heads : List Bool) (c : Cursor) → IsSound app c front → IsLoop app start front heads c c []
-loop_first app start front heads c sound = record {
-  cutting = λ asked later count old new is agree asks behind. cutting_first app asked later count start old new front c is agree behind;
+pub loop_first : (framer : Framer) (start : ℕ) (front : List ℕ) (heads : List Bool) (c : Cursor) → IsSound framer c front → IsLoop framer start front heads c c []
+loop_first framer start front heads c sound = record {
+  cutting = λ asked later count old new is agree asks behind. cutting_first framer asked later count start old new front c is agree behind;
   whole = λ k m inside. absurd (omega (arith, inside));
   few = λ old new is quiet. inl (refl, refl);
   sound = sound;
 }
 
 -- the bit of one look, where the look is right for each
-pub loop_asked : (app : App) (start : ℕ) (front : List ℕ) (heads : List Bool) (c : Cursor) (cut : Cut) → IsSound app c front
-    → IsLook app start front heads c cut
-    → (asked : Bool) × IsAskedOf app asked heads (answers_before c) c.next (drop (next_at c.mark) front) × IsCutFrom app asked start front c cut
-loop_asked app start front heads c cut sound each =
-    let some = some_asked app heads (answers_before c) (next_at c.mark) front c.next sound in (some.0, some.1, each some.0 (answers_before c) refl some.1)
+pub loop_asked : (framer : Framer) (start : ℕ) (front : List ℕ) (heads : List Bool) (c : Cursor) (cut : Cut) → IsSound framer c front
+    → IsLook framer start front heads c cut
+    → (asked : Bool) × IsAskedOf framer asked heads (answers_before c) c.next (drop (next_at c.mark) front) × IsCutFrom framer asked start front c cut
+loop_asked framer start front heads c cut sound each =
+    let some = some_asked framer heads (answers_before c) (next_at c.mark) front c.next sound in (some.0, some.1, each some.0 (answers_before c) refl some.1)
 
-pub loop_more : (app : App) (start : ℕ) (front : List ℕ) (heads : List Bool) (first c : Cursor) (ms : List Placed) (m : Placed) (behind : Cursor)
-    → IsLoop app start front heads first c ms
-    → IsLook app start front heads c (Whole m behind)
-    → IsLoop app start front heads first behind (ms ++ m ∷ [])
-loop_more app start front heads first c ms m behind loop each =
-    let some = loop_asked app start front heads c (Whole m behind) loop.sound each in
+pub loop_more : (framer : Framer) (start : ℕ) (front : List ℕ) (heads : List Bool) (first c : Cursor) (ms : List Placed) (m : Placed) (behind : Cursor)
+    → IsLoop framer start front heads first c ms
+    → IsLook framer start front heads c (Whole m behind)
+    → IsLoop framer start front heads first behind (ms ++ m ∷ [])
+loop_more framer start front heads first c ms m behind loop each =
+    let some = loop_asked framer start front heads c (Whole m behind) loop.sound each in
     record {
       cutting = λ asked later count old new is agree asks from.
-          let cutting : IsCutting app later count start old front c ms = loop.cutting asked later count old new is agree asks from in
-          let here = each (later (start + next_at c.mark) cutting.number) cutting.number cutting.counts (asks_right app later count start old new front c ms heads is asks cutting) in
-          cutting_more app later count start old new front c ms m behind is cutting here.0 here.1;
-      whole = All-push (IsWhole app start front) ms m loop.whole (next_whole app some.0 start front c.mark m behind some.2.1);
-      few = λ old new is quiet. few_more app some.0 heads start old new front first c ms m behind is quiet some.1 some.2.0 some.2.1 (loop.few old new is quiet);
-      sound = next_sound app some.0 start front c.mark m behind some.2.1;
+          let cutting : IsCutting framer later count start old front c ms = loop.cutting asked later count old new is agree asks from in
+          let here = each (later (start + next_at c.mark) cutting.number) cutting.number cutting.counts (asks_right framer later count start old new front c ms heads is asks cutting) in
+          cutting_more framer later count start old new front c ms m behind is cutting here.0 here.1;
+      whole = All-push (IsWhole framer start front) ms m loop.whole (next_whole framer some.0 start front c.mark m behind some.2.1);
+      few = λ old new is quiet. few_more framer some.0 heads start old new front first c ms m behind is quiet some.1 some.2.0 some.2.1 (loop.few old new is quiet);
+      sound = next_sound framer some.0 start front c.mark m behind some.2.1;
     }
 
-pub loop_nearer : (app : App) (start : ℕ) (front : List ℕ) (heads : List Bool) (c : Cursor) (m : Placed) (behind : Cursor) → IsSound app c front
-    → IsLook app start front heads c (Whole m behind)
+pub loop_nearer : (framer : Framer) (start : ℕ) (front : List ℕ) (heads : List Bool) (c : Cursor) (m : Placed) (behind : Cursor) → IsSound framer c front
+    → IsLook framer start front heads c (Whole m behind)
     → length front - behind.mark.end < length front - c.mark.end
-loop_nearer app start front heads c m behind sound each =
-    let some = loop_asked app start front heads c (Whole m behind) sound each in
-    next_nearer app some.0 start front c.mark m behind some.2.1
+loop_nearer framer start front heads c m behind sound each =
+    let some = loop_asked framer start front heads c (Whole m behind) sound each in
+    next_nearer framer some.0 start front c.mark m behind some.2.1
 
-pub loop_sound : (app : App) (start : ℕ) (front : List ℕ) (heads : List Bool) (c new : Cursor) → IsSound app c front
-    → IsLook app start front heads c (Rest new)
-    → IsSound app new front
-loop_sound app start front heads c new sound each =
-    let some = loop_asked app start front heads c (Rest new) sound each in rest_sound app some.0 front c new some.2
+pub loop_sound : (framer : Framer) (start : ℕ) (front : List ℕ) (heads : List Bool) (c new : Cursor) → IsSound framer c front
+    → IsLook framer start front heads c (Rest new)
+    → IsSound framer new front
+loop_sound framer start front heads c new sound each =
+    let some = loop_asked framer start front heads c (Rest new) sound each in rest_sound framer some.0 front c new some.2
 
-pub loop_quiet : (app : App) (start : ℕ) (front : List ℕ) (heads : List Bool) (c new : Cursor) → IsSound app c front
-    → IsLook app start front heads c (Rest new)
-    → IsQuiet app new front
-loop_quiet app start front heads c new sound each =
-    let some = loop_asked app start front heads c (Rest new) sound each in rest_left app some.0 front c new some.2
+pub loop_quiet : (framer : Framer) (start : ℕ) (front : List ℕ) (heads : List Bool) (c new : Cursor) → IsSound framer c front
+    → IsLook framer start front heads c (Rest new)
+    → IsQuiet framer new front
+loop_quiet framer start front heads c new sound each =
+    let some = loop_asked framer start front heads c (Rest new) sound each in rest_left framer some.0 front c new some.2
 
-pub loop_few : (app : App) (start : ℕ) (front : List ℕ) (heads : List Bool) (first c : Cursor) (ms shown : List Placed) → IsLoop app start front heads first c ms → shown ≡ ms → AddsFew app first front shown
-loop_few app start front heads first c ms shown loop same old new is quiet = by (loop.few old new is quiet)
+pub loop_few : (framer : Framer) (start : ℕ) (front : List ℕ) (heads : List Bool) (first c : Cursor) (ms shown : List Placed) → IsLoop framer start front heads first c ms → shown ≡ ms → AddsFew framer first front shown
+loop_few framer start front heads first c ms shown loop same old new is quiet = by (loop.few old new is quiet)
   where
     size : length front ≡ length old + length new
     size = ap length is ∙ length-append old new
@@ -431,12 +431,12 @@ loop_few app start front heads first c ms shown loop same old new is quiet = by 
     by (inl (begins, none)) = let nothing : length ms ≡ 0 = ap length none in omega (arith, nothing, count)
     by (inr (far, within)) = omega (arith, far, within, size, count)
 
-pub loop_cut : (app : App) (start : ℕ) (front : List ℕ) (heads : List Bool) (first c : Cursor) (ms : List Placed) (shown : Shown)
-    → IsLoop app start front heads first c ms
-    → IsLook app start front heads c (Rest shown.cursor)
+pub loop_cut : (framer : Framer) (start : ℕ) (front : List ℕ) (heads : List Bool) (first c : Cursor) (ms : List Placed) (shown : Shown)
+    → IsLoop framer start front heads first c ms
+    → IsLook framer start front heads c (Rest shown.cursor)
     → shown.messages ≡ ms → (asked later : Asked) (count : ℕ) (old new : List ℕ) → front ≡ old ++ new → AgreeBelow (start + length old) asked later
-    → AsksBetween (start + length old) (start + length front) heads later → IsBehind app asked count start first old → IsCut app later count start old front shown
-loop_cut app start front heads first c ms shown loop each same asked later count old new is agree asks from =
-    let cutting : IsCutting app later count start old front c ms = loop.cutting asked later count old new is agree asks from in
-    cutting_last app later count start old front c ms shown cutting
-    (each (later (start + next_at c.mark) cutting.number) cutting.number cutting.counts (asks_right app later count start old new front c ms heads is asks cutting)) same
+    → AsksBetween (start + length old) (start + length front) heads later → IsBehind framer asked count start first old → IsCut framer later count start old front shown
+loop_cut framer start front heads first c ms shown loop each same asked later count old new is agree asks from =
+    let cutting : IsCutting framer later count start old front c ms = loop.cutting asked later count old new is agree asks from in
+    cutting_last framer later count start old front c ms shown cutting
+    (each (later (start + next_at c.mark) cutting.number) cutting.number cutting.counts (asks_right framer later count start old new front c ms heads is asks cutting)) same

@@ -8,6 +8,7 @@ pub mod CursorLemmas
 pub mod CuttingLemmas
 pub mod EndLemmas
 pub mod FirstLemmas
+pub mod FramerLemmas
 pub mod GoingLemmas
 pub mod HeadLawProofs
 pub mod HeadLemmas

@@ -4,11 +4,12 @@ use Rattle.std.specs.Option.{option_map}
 use Rattle.pk_base.specs.declared.stretch.Stretch.{Stretch}
 use Rattle.stream_messages.specs.declared.shape.Then.{Then}
 use Rattle.stream_messages.specs.declared.shape.Then.TheVariants.{Follows, Opaque}
+use Rattle.stream_messages.specs.Framers.{first_sized}
 use Rattle.stream_messages.specs.HttpMessages.{resumed, begun as begun_asked}
-use Rattle.stream_messages.specs.declared.told.App.{App}
-use Rattle.stream_messages.specs.declared.told.App.TheVariants as apps
+use Rattle.stream_messages.specs.declared.framer.Framer.{Framer}
+use Rattle.stream_messages.specs.declared.framer.Framer.TheVariants as framers
 use Rattle.stream_messages.specs.declared.told.Told.{Told}
-use Rattle.stream_messages.specs.declared.told.Told.TheVariants.{Dns, Http}
+use Rattle.stream_messages.specs.declared.told.Told.TheVariants.{Sized, Http}
 use Rattle.stream_messages.specs.declared.placed.Placed.{Placed}
 use Rattle.stream_messages.specs.declared.part.Part.{Part}
 use Rattle.stream_messages.specs.declared.part.Part.TheVariants as parts
@@ -21,20 +22,20 @@ use Rattle.stream_messages.specs.declared.cursor.Next.TheVariants.{Never, Awaite
 use Rattle.stream_messages.specs.declared.cutting.Shown.{Shown}
 use Rattle.stream_messages.specs.declared.cutting.Cut.{Cut}
 use Rattle.stream_messages.specs.declared.cutting.Cut.TheVariants.{Whole, Rest}
-use Rattle.stream_messages.specs.Tellings.{first_dns, first_of, end_of, then_of, passed, answers}
+use Rattle.stream_messages.specs.Tellings.{first_of, end_of, then_of, passed, answers}
 use Rattle.stream_messages.specs.Messages.{Asked, of_front, end_at, above, AgreeBelow, answered}
 
 -- ---- a message of which a part was looked at
 
 -- what is found of it
 abbrev pub resumed_part : Part → List ℕ → Option Told
-resumed_part parts.Dns bytes = option_map Dns (first_dns bytes)
+resumed_part (parts.Sized head at width) bytes = option_map Sized (first_sized head at width bytes)
 resumed_part (parts.Http progress) bytes = option_map Http (resumed progress bytes)
 
 -- what is known of the first message of bytes says it, whatever follows
-abbrev pub IsKnown : App → Bool → Part → List ℕ → Type 0
-IsKnown app asked part bytes = (more : List ℕ)
-    → first_of app asked (bytes ++ more) ≡ resumed_part part (bytes ++ more)
+abbrev pub IsKnown : Framer → Bool → Part → List ℕ → Type 0
+IsKnown framer asked part bytes = (more : List ℕ)
+    → first_of framer asked (bytes ++ more) ≡ resumed_part part (bytes ++ more)
 
 abbrev pub found : Going → Option Told
 found (Unfinished part) = None
@@ -46,9 +47,9 @@ went_on (Unfinished part) bytes = resumed_part part bytes
 went_on (Message told) bytes = Some told
 
 -- what is known of a message before its first byte
-abbrev pub part_begun : App → Bool → Part
-part_begun apps.Dns asked = parts.Dns
-part_begun apps.Http asked = parts.Http (begun_asked asked)
+abbrev pub part_begun : Framer → Bool → Part
+part_begun (framers.LengthPrefix head at width) asked = parts.Sized head at width
+part_begun framers.Http asked = parts.Http (begun_asked asked)
 
 -- an answer is what is found of the bytes, and nothing is lost for more of them
 pub record GoesOn (part : Part) (bytes : List ℕ) (going : Going) : Type 0 where
@@ -98,51 +99,51 @@ goes Awaited = true
 goes (Begun started) = true
 
 -- the messages behind a cursor of a stretch that begins at a position, behind so many answers
-abbrev pub from_cursor : App → Asked → ℕ → ℕ → Cursor → List ℕ → List Placed
-from_cursor app asked start number c front =
-    if goes c.next then of_front app asked number (start + next_at c.mark)
+abbrev pub from_cursor : Framer → Asked → ℕ → ℕ → Cursor → List ℕ → List Placed
+from_cursor framer asked start number c front =
+    if goes c.next then of_front framer asked number (start + next_at c.mark)
     (drop (next_at c.mark) front) else []
 
 -- either no byte of the next message is there, or what is known of it says it
-abbrev pub KnowsNext : App → Bool → ℕ → List ℕ → Next → Type 0
-KnowsNext app asked at front Never = Unit {0}
-KnowsNext app asked at front Awaited = length front ≤ at
-KnowsNext app asked at front (Begun started) = (at < length front) × IsKnown app started.asked started.part (drop at front) × (started.asked ≡ asked)
+abbrev pub KnowsNext : Framer → Bool → ℕ → List ℕ → Next → Type 0
+KnowsNext framer asked at front Never = Unit {0}
+KnowsNext framer asked at front Awaited = length front ≤ at
+KnowsNext framer asked at front (Begun started) = (at < length front) × IsKnown framer started.asked started.part (drop at front) × (started.asked ≡ asked)
 
 -- a cursor is behind the messages of a stretch: all others come behind it, whatever bytes follow, and whatever is asked of them
-pub record IsBehind (app : App) (asked : Asked) (count start : ℕ) (c : Cursor)
+pub record IsBehind (framer : Framer) (asked : Asked) (count start : ℕ) (c : Cursor)
     (front : List ℕ) : Type 0 where
   pub behind : (later : Asked) (more : List ℕ) → AgreeBelow (start + length front) asked later
-      → of_front app later count start (front ++ more)
-      ≡ of_front app asked count start front ++ from_cursor app later start
-      (answered count (of_front app asked count start front)) c (front ++ more)
-  pub counts : CountsFor (answers_before c) (answered count (of_front app asked count start front))
-  pub known : KnowsNext app
-      (asked (start + next_at c.mark) (answered count (of_front app asked count start front)))
+      → of_front framer later count start (front ++ more)
+      ≡ of_front framer asked count start front ++ from_cursor framer later start
+      (answered count (of_front framer asked count start front)) c (front ++ more)
+  pub counts : CountsFor (answers_before c) (answered count (of_front framer asked count start front))
+  pub known : KnowsNext framer
+      (asked (start + next_at c.mark) (answered count (of_front framer asked count start front)))
       (next_at c.mark) front c.next
 
 -- what a cursor knows of a message that has begun is right
-abbrev pub IsSoundNext : App → ℕ → List ℕ → Next → Type 0
-IsSoundNext app at front Never = Unit {0}
-IsSoundNext app at front Awaited = Unit {0}
-IsSoundNext app at front (Begun started) = (at < length front) × IsKnown app started.asked started.part (drop at front)
+abbrev pub IsSoundNext : Framer → ℕ → List ℕ → Next → Type 0
+IsSoundNext framer at front Never = Unit {0}
+IsSoundNext framer at front Awaited = Unit {0}
+IsSoundNext framer at front (Begun started) = (at < length front) × IsKnown framer started.asked started.part (drop at front)
 
-abbrev pub IsSound : App → Cursor → List ℕ → Type 0
-IsSound app c front = IsSoundNext app (next_at c.mark) front c.next
+abbrev pub IsSound : Framer → Cursor → List ℕ → Type 0
+IsSound framer c front = IsSoundNext framer (next_at c.mark) front c.next
 
 -- no whole message is left behind a cursor in the bytes of its stretch
-abbrev pub IsQuietNext : App → ℕ → List ℕ → Next → Type 0
-IsQuietNext app at front Never = Unit {0}
-IsQuietNext app at front Awaited = length front ≤ at
-IsQuietNext app at front (Begun started) = first_of app started.asked (drop at front) ≡ None
+abbrev pub IsQuietNext : Framer → ℕ → List ℕ → Next → Type 0
+IsQuietNext framer at front Never = Unit {0}
+IsQuietNext framer at front Awaited = length front ≤ at
+IsQuietNext framer at front (Begun started) = first_of framer started.asked (drop at front) ≡ None
 
-abbrev pub IsQuiet : App → Cursor → List ℕ → Type 0
-IsQuiet app c front = IsQuietNext app (next_at c.mark) front c.next
+abbrev pub IsQuiet : Framer → Cursor → List ℕ → Type 0
+IsQuiet framer c front = IsQuietNext framer (next_at c.mark) front c.next
 
 -- each new message has a new byte, where none was left in the bytes before
-abbrev pub AddsFew : App → Cursor → List ℕ → List Placed → Type 0
-AddsFew app c front ms =
-    (old new : List ℕ) → front ≡ old ++ new → IsQuiet app c old → length ms ≤ length new
+abbrev pub AddsFew : Framer → Cursor → List ℕ → List Placed → Type 0
+AddsFew framer c front ms =
+    (old new : List ℕ) → front ≡ old ++ new → IsQuiet framer c old → length ms ≤ length new
 
 -- how many bytes stretches have
 abbrev pub bytes_in : List Stretch → ℕ
@@ -159,28 +160,28 @@ abbrev pub AsksFrom : ℕ → List Bool → Asked → Type 0
 AsksFrom from heads asked = (at count : ℕ) → from ≤ at → asked at count ≡ get_or heads count false
 
 -- a cursor is behind the messages of the last of stretches, or where there are none, it is as before
-abbrev pub IsBehindAll : App → Asked → ℕ → Cursor → List Stretch → Cursor → Type 0
-IsBehindAll app asked count old [] new = new ≡ old
-IsBehindAll app asked count old (s ∷ []) new = IsBehind app asked count s.start new s.bytes
-IsBehindAll app asked count old (s ∷ next ∷ ss) new =
-    IsBehindAll app asked (answered count (of_front app asked count s.start s.bytes)) old
+abbrev pub IsBehindAll : Framer → Asked → ℕ → Cursor → List Stretch → Cursor → Type 0
+IsBehindAll framer asked count old [] new = new ≡ old
+IsBehindAll framer asked count old (s ∷ []) new = IsBehind framer asked count s.start new s.bytes
+IsBehindAll framer asked count old (s ∷ next ∷ ss) new =
+    IsBehindAll framer asked (answered count (of_front framer asked count s.start s.bytes)) old
     (next ∷ ss) new
 
 -- what is shown of a longer stretch are its new messages, and the cursor is behind all of them
-pub record IsCut (app : App) (asked : Asked) (count start : ℕ) (old front : List ℕ)
+pub record IsCut (framer : Framer) (asked : Asked) (count start : ℕ) (old front : List ℕ)
     (shown : Shown) : Type 0 where
-  pub messages : shown.messages ≡ above (start + length old) (of_front app asked count start front)
-  pub cursor : IsBehind app asked count start shown.cursor front
+  pub messages : shown.messages ≡ above (start + length old) (of_front framer asked count start front)
+  pub cursor : IsBehind framer asked count start shown.cursor front
 
 -- a message that is shown is the first one of its own bytes
-pub record IsWhole (app : App) (start : ℕ) (front : List ℕ) (m : Placed) : Type 0 where
+pub record IsWhole (framer : Framer) (start : ℕ) (front : List ℕ) (m : Placed) : Type 0 where
   pub from : start ≤ m.at
   pub within : end_at m ≤ start + length front
-  pub first : (asked : Bool) × (first_of app asked (drop (m.at - start) front) ≡ Some m.told)
+  pub first : (asked : Bool) × (first_of framer asked (drop (m.at - start) front) ≡ Some m.told)
 
 -- the same of one of stretches
-abbrev pub IsWholeInOne : App → List Stretch → Placed → Type 0
-IsWholeInOne app ss m = (number : ℕ) × (s : Stretch) × (slice_get ss number ≡ Some s) × IsWhole app s.start s.bytes m
+abbrev pub IsWholeInOne : Framer → List Stretch → Placed → Type 0
+IsWholeInOne framer ss m = (number : ℕ) × (s : Stretch) × (slice_get ss number ≡ Some s) × IsWhole framer s.start s.bytes m
 
 -- with one more behind them
 abbrev pub with_last : List Stretch → ℕ → List ℕ → List Stretch
@@ -189,59 +190,59 @@ with_last ss start front = ss ++ record { start = start; bytes = front } ∷ []
 -- how a cursor is kept: it begins at a stretch, serves whatever is asked further on, and what it knows is right, also of more
 -- bytes
 pub record CursorLaws : Type 0 where
-  pub begins : (app : App) (asked : Asked) (number count start : ℕ) → CountsFor number count
-      → IsBehind app asked count start (begun number) []
-  pub same : (app : App) (asked later : Asked) (count start : ℕ) (c : Cursor) (front : List ℕ)
+  pub begins : (framer : Framer) (asked : Asked) (number count start : ℕ) → CountsFor number count
+      → IsBehind framer asked count start (begun number) []
+  pub same : (framer : Framer) (asked later : Asked) (count start : ℕ) (c : Cursor) (front : List ℕ)
       → AgreeBelow (start + length front) asked later
-      → IsBehind app asked count start c front → IsBehind app later count start c front
-  pub sound : (app : App) (asked : Asked) (count start : ℕ) (c : Cursor) (front more : List ℕ)
-      → IsBehind app asked count start c front
-      → IsSound app c (front ++ more)
-  pub longer : (app : App) (c : Cursor) (front more : List ℕ) → IsSound app c front
-      → IsSound app c (front ++ more)
+      → IsBehind framer asked count start c front → IsBehind framer later count start c front
+  pub sound : (framer : Framer) (asked : Asked) (count start : ℕ) (c : Cursor) (front more : List ℕ)
+      → IsBehind framer asked count start c front
+      → IsSound framer c (front ++ more)
+  pub longer : (framer : Framer) (c : Cursor) (front more : List ℕ) → IsSound framer c front
+      → IsSound framer c (front ++ more)
 
 -- ---- one look for a message
 
 -- the request of the next message: the one that it answers, fixed once a byte of it is there
-abbrev pub IsAskedOf : App → Bool → List Bool → ℕ → Next → List ℕ → Type 0
-IsAskedOf app asked heads count Never bytes = Unit {0}
-IsAskedOf app asked heads count Awaited bytes = 0 < length bytes → asked ≡ get_or heads count false
-IsAskedOf app asked heads count (Begun started) bytes = started.asked ≡ asked
+abbrev pub IsAskedOf : Framer → Bool → List Bool → ℕ → Next → List ℕ → Type 0
+IsAskedOf framer asked heads count Never bytes = Unit {0}
+IsAskedOf framer asked heads count Awaited bytes = 0 < length bytes → asked ≡ get_or heads count false
+IsAskedOf framer asked heads count (Begun started) bytes = started.asked ≡ asked
 
 -- a message that begins where the next one does
-pub record IsNext (app : App) (asked : Bool) (start : ℕ) (front : List ℕ) (mark : Mark) (m : Placed)
+pub record IsNext (framer : Framer) (asked : Bool) (start : ℕ) (front : List ℕ) (mark : Mark) (m : Placed)
     (c : Cursor) : Type 0 where
-  pub first : first_of app asked (drop (next_at mark) front) ≡ Some m.told
+  pub first : first_of framer asked (drop (next_at mark) front) ≡ Some m.told
   pub at : m.at ≡ start + next_at mark
   pub cursor : c ≡ cursor_behind mark m.told
 
 -- no whole message is there, and this is what is known of the next one
-pub record IsRest (app : App) (asked : Bool) (front : List ℕ) (old new : Cursor) : Type 0 where
+pub record IsRest (framer : Framer) (asked : Bool) (front : List ℕ) (old new : Cursor) : Type 0 where
   pub mark : new.mark ≡ old.mark
   pub goes_is : goes new.next ≡ goes old.next
-  pub none : goes old.next ≡ true → first_of app asked (drop (next_at old.mark) front) ≡ None
-  pub known : KnowsNext app asked (next_at old.mark) front new.next
+  pub none : goes old.next ≡ true → first_of framer asked (drop (next_at old.mark) front) ≡ None
+  pub known : KnowsNext framer asked (next_at old.mark) front new.next
 
-abbrev pub IsCutFrom : App → Bool → ℕ → List ℕ → Cursor → Cut → Type 0
-IsCutFrom app asked start front old (Whole m new) =
-    (goes old.next ≡ true) × IsNext app asked start front old.mark m new
-IsCutFrom app asked start front old (Rest new) = IsRest app asked front old new
+abbrev pub IsCutFrom : Framer → Bool → ℕ → List ℕ → Cursor → Cut → Type 0
+IsCutFrom framer asked start front old (Whole m new) =
+    (goes old.next ≡ true) × IsNext framer asked start front old.mark m new
+IsCutFrom framer asked start front old (Rest new) = IsRest framer asked front old new
 
 -- one look for a message is right for the request that it is asked of
-abbrev pub IsLook : App → ℕ → List ℕ → List Bool → Cursor → Cut → Type 0
-IsLook app start front heads old cut =
+abbrev pub IsLook : Framer → ℕ → List ℕ → List Bool → Cursor → Cut → Type 0
+IsLook framer start front heads old cut =
     (asked : Bool) (number : ℕ) → CountsFor (answers_before old) number
-    → IsAskedOf app asked heads number old.next (drop (next_at old.mark) front)
-    → IsCutFrom app asked start front old cut
+    → IsAskedOf framer asked heads number old.next (drop (next_at old.mark) front)
+    → IsCutFrom framer asked start front old cut
 
 -- the same of a message that has begun
-pub record IsPartRest (app : App) (asked : Bool) (front : List ℕ) (mark : Mark)
+pub record IsPartRest (framer : Framer) (asked : Bool) (front : List ℕ) (mark : Mark)
     (new : Cursor) : Type 0 where
   pub same : new.mark ≡ mark
   pub goes_is : goes new.next ≡ true
-  pub none : first_of app asked (drop (next_at mark) front) ≡ None
-  pub known : KnowsNext app asked (next_at mark) front new.next
+  pub none : first_of framer asked (drop (next_at mark) front) ≡ None
+  pub known : KnowsNext framer asked (next_at mark) front new.next
 
-abbrev pub IsPartCut : App → Bool → ℕ → List ℕ → Mark → Cut → Type 0
-IsPartCut app asked start front mark (Whole m new) = IsNext app asked start front mark m new
-IsPartCut app asked start front mark (Rest new) = IsPartRest app asked front mark new
+abbrev pub IsPartCut : Framer → Bool → ℕ → List ℕ → Mark → Cut → Type 0
+IsPartCut framer asked start front mark (Whole m new) = IsNext framer asked start front mark m new
+IsPartCut framer asked start front mark (Rest new) = IsPartRest framer asked front mark new

@@ -4,6 +4,7 @@ pub mod Chunks
 pub mod Cursors
 pub mod Ends
 pub mod Fields
+pub mod Framers
 pub mod Heads
 pub mod HttpMessages
 pub mod Limits

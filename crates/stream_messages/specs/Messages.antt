@@ -3,7 +3,7 @@ use Rattle.std.specs.Prelude.{◌≡◌, ◌<◌, ◌≤◌, ℕ, zero, suc, ◌
 use Rattle.stream_messages.specs.declared.shape.Then.{Then}
 use Rattle.stream_messages.specs.declared.shape.Then.TheVariants.{Follows, Opaque}
 use Rattle.pk_base.specs.declared.stretch.Stretch.{Stretch}
-use Rattle.stream_messages.specs.declared.told.App.{App}
+use Rattle.stream_messages.specs.declared.framer.Framer.{Framer}
 use Rattle.stream_messages.specs.declared.told.Told.{Told}
 use Rattle.stream_messages.specs.declared.placed.Placed.{Placed}
 use Rattle.stream_messages.specs.Tellings.{first_of, end_of, then_of, passed, answers}
@@ -23,17 +23,17 @@ with_first at (Some told) more = record { at = at; told = told } ∷ follow (the
 
 -- the whole messages of bytes that begin at a position, behind so many that are passed over and so many answers; they end where
 -- a message would begin and no whole one stands
-unfoldable pub messages : App → Asked → ℕ → ℕ → ℕ → List ℕ → List Placed
-messages app asked count at skip [] = []
-messages app asked count at (suc skip) (b ∷ rest) = messages app asked count (suc at) skip rest
-messages app asked count at zero (b ∷ rest) =
-    with_first at (first_of app (asked at count) (b ∷ rest)) (λ told.
-    messages app asked (count + answers told) (suc at)
+unfoldable pub messages : Framer → Asked → ℕ → ℕ → ℕ → List ℕ → List Placed
+messages framer asked count at skip [] = []
+messages framer asked count at (suc skip) (b ∷ rest) = messages framer asked count (suc at) skip rest
+messages framer asked count at zero (b ∷ rest) =
+    with_first at (first_of framer (asked at count) (b ∷ rest)) (λ told.
+    messages framer asked (count + answers told) (suc at)
     (end_of told - 1 + passed (then_of told)) rest)
 
 -- the messages of a stretch of bytes that begins at a position, behind so many answers
-abbrev pub of_front : App → Asked → ℕ → ℕ → List ℕ → List Placed
-of_front app asked count start front = messages app asked count start 0 front
+abbrev pub of_front : Framer → Asked → ℕ → ℕ → List ℕ → List Placed
+of_front framer asked count start front = messages framer asked count start 0 front
 
 -- the position behind a message
 abbrev pub end_at : Placed → ℕ
@@ -50,11 +50,11 @@ AgreeBelow end asked later = (at count : ℕ) → at < end → later at count �
 
 -- what longer bytes add are the messages that end in the new bytes
 abbrev pub PrefixLaw : Type 0
-PrefixLaw = (app : App) (asked later : Asked) (count start : ℕ) (front more : List ℕ)
+PrefixLaw = (framer : Framer) (asked later : Asked) (count start : ℕ) (front more : List ℕ)
     → AgreeBelow (start + length front) asked later
-    → of_front app later count start (front ++ more)
-    ≡ of_front app asked count start front
-    ++ above (start + length front) (of_front app later count start (front ++ more))
+    → of_front framer later count start (front ++ more)
+    ≡ of_front framer asked count start front
+    ++ above (start + length front) (of_front framer later count start (front ++ more))
 
 -- the answers up to behind messages
 abbrev pub answered : ℕ → List Placed → ℕ
@@ -62,11 +62,11 @@ answered count [] = count
 answered count (m ∷ ms) = answered (count + answers m.told) ms
 
 -- the messages of stretches: each is cut by itself, and the answers are counted over all of them
-abbrev pub of_stretches : App → Asked → ℕ → List Stretch → List Placed
-of_stretches app asked count [] = []
-of_stretches app asked count (s ∷ ss) =
-    of_front app asked count s.start s.bytes
-    ++ of_stretches app asked (answered count (of_front app asked count s.start s.bytes)) ss
+abbrev pub of_stretches : Framer → Asked → ℕ → List Stretch → List Placed
+of_stretches framer asked count [] = []
+of_stretches framer asked count (s ∷ ss) =
+    of_front framer asked count s.start s.bytes
+    ++ of_stretches framer asked (answered count (of_front framer asked count s.start s.bytes)) ss
 
 -- stretches that begin at or behind a position
 abbrev pub AllFrom : ℕ → List Stretch → Type 0
@@ -90,19 +90,19 @@ AreLonger end (s ∷ next ∷ ss) (t ∷ ts) =
 
 -- so each message of stretches is new once, when its last byte comes
 abbrev pub StretchLaw : Type 0
-StretchLaw = (app : App) (asked later : Asked) (count end : ℕ) (ss ts : List Stretch)
+StretchLaw = (framer : Framer) (asked later : Asked) (count end : ℕ) (ss ts : List Stretch)
     → AreLonger end ss ts → AgreeBelow end asked later
-    → of_stretches app later count ts
-    ≡ of_stretches app asked count ss ++ above end (of_stretches app later count ts)
+    → of_stretches framer later count ts
+    ≡ of_stretches framer asked count ss ++ above end (of_stretches framer later count ts)
 
 -- where the last of stretches has grown, the new messages are its own; where others begin behind lost bytes, they are all of theirs
 pub record NewLaws : Type 0 where
-  pub grown : (app : App) (asked : Asked) (count end : ℕ) (ss : List Stretch) (t : Stretch)
+  pub grown : (framer : Framer) (asked : Asked) (count end : ℕ) (ss : List Stretch) (t : Stretch)
       → AllBefore end ss
-      → above end (of_stretches app asked count (ss ++ t ∷ []))
-      ≡ above end (of_front app asked
-      (answered count (of_stretches app asked count ss)) t.start t.bytes)
-  pub begun : (app : App) (asked : Asked) (count end : ℕ) (ss ts : List Stretch) → AllBefore end ss
+      → above end (of_stretches framer asked count (ss ++ t ∷ []))
+      ≡ above end (of_front framer asked
+      (answered count (of_stretches framer asked count ss)) t.start t.bytes)
+  pub begun : (framer : Framer) (asked : Asked) (count end : ℕ) (ss ts : List Stretch) → AllBefore end ss
       → AllFrom end ts
-      → above end (of_stretches app asked count (ss ++ ts))
-      ≡ of_stretches app asked (answered count (of_stretches app asked count ss)) ts
+      → above end (of_stretches framer asked count (ss ++ ts))
+      ≡ of_stretches framer asked (answered count (of_stretches framer asked count ss)) ts

@@ -2,9 +2,9 @@
 -- segments have the newest first.
 use Rattle.std.specs.Prelude.{◌≡◌, ◌≤◌, ℕ, ◌+◌, if◌then◌else◌, Bool, true, false, not, List, [], ◌∷◌, ◌++◌, length, nat_lt, get_or}
 use Rattle.pk_base.specs.declared.stretch.Stretch.{Stretch}
-use Rattle.stream_messages.specs.declared.told.App.{App}
+use Rattle.stream_messages.specs.declared.framer.Framer.{Framer}
 use Rattle.stream_messages.specs.declared.told.Told.{Told}
-use Rattle.stream_messages.specs.declared.told.Told.TheVariants.{Dns, Http}
+use Rattle.stream_messages.specs.declared.told.Told.TheVariants.{Sized, Http}
 use Rattle.stream_messages.specs.declared.placed.Placed.{Placed}
 use Rattle.stream_messages.specs.Messages.{Asked, AgreeBelow, above, of_stretches, AreLonger}
 
@@ -43,7 +43,7 @@ shown_in side (n ∷ ns) =
 
 -- the requests among messages: whether the method of each is HEAD
 abbrev pub head_of : Told → List Bool
-head_of (Dns end) = []
+head_of (Sized end) = []
 head_of (Http shape) = if shape.request then shape.asks_head ∷ [] else []
 
 abbrev pub heads_in : List Placed → List Bool
@@ -63,16 +63,16 @@ asked_in side ns at count =
     get_or (heads_in (shown_in (not side) (before_longer side at ns))) count false
 
 -- a frame shows the messages that end past the bytes before it
-abbrev pub note_next : App → List Noted → Brought → Noted
-note_next app ns b = record {
+abbrev pub note_next : Framer → List Noted → Brought → Noted
+note_next framer ns b = record {
   side = b.side;
   stretches = b.stretches;
-  shown = above (front_end b.side ns) (of_stretches app (asked_in b.side ns) 0 b.stretches);
+  shown = above (front_end b.side ns) (of_stretches framer (asked_in b.side ns) 0 b.stretches);
 }
 
-abbrev pub noted : App → List Brought → List Noted
-noted app [] = []
-noted app (b ∷ bs) = note_next app (noted app bs) b ∷ noted app bs
+abbrev pub noted : Framer → List Brought → List Noted
+noted framer [] = []
+noted framer (b ∷ bs) = note_next framer (noted framer bs) b ∷ noted framer bs
 
 -- stretches one behind the other
 abbrev pub AreInOrder : ℕ → List Stretch → Type 0
@@ -80,11 +80,11 @@ AreInOrder low [] = Unit {0}
 AreInOrder low (s ∷ ss) = (low ≤ s.start) × AreInOrder (s.start + length s.bytes) ss
 
 -- each segment leaves the earlier stretches of its direction as they were, and has the last one grow, or others begin behind it
-abbrev pub AllGrow : App → List Brought → Type 0
-AllGrow app [] = Unit {0}
-AllGrow app (b ∷ bs) =
-    AreLonger (front_end b.side (noted app bs)) (stretches_in b.side (noted app bs)) b.stretches
-    × (AreInOrder 0 b.stretches × AllGrow app bs)
+abbrev pub AllGrow : Framer → List Brought → Type 0
+AllGrow framer [] = Unit {0}
+AllGrow framer (b ∷ bs) =
+    AreLonger (front_end b.side (noted framer bs)) (stretches_in b.side (noted framer bs)) b.stretches
+    × (AreInOrder 0 b.stretches × AllGrow framer bs)
 
 -- what is asked below a direction's end is not changed by a further segment
 abbrev pub AskedLaw : Type 0
@@ -98,9 +98,9 @@ HeadsLaw = (side : Bool) (ns : List Noted) (at count : ℕ) → front_end side n
 
 -- the messages that the frames show of a direction, one frame behind the other, are those of its stretches: each in one frame
 abbrev pub ShownOnce : Type 0
-ShownOnce = (app : App) (side : Bool) (bs : List Brought) → AllGrow app bs
-    → shown_in side (noted app bs)
-    ≡ of_stretches app (asked_in side (noted app bs)) 0 (stretches_in side (noted app bs))
+ShownOnce = (framer : Framer) (side : Bool) (bs : List Brought) → AllGrow framer bs
+    → shown_in side (noted framer bs)
+    ≡ of_stretches framer (asked_in side (noted framer bs)) 0 (stretches_in side (noted framer bs))
 
 pub record SideLaws : Type 0 where
   pub asked : AskedLaw

@@ -1,12 +1,12 @@
 ghost use Rattle.std.specs.Prelude.{◌≡◌, ◌+◌, ◌++◌, ◌^◌, ◌<◌, ◌≤◌, ℕ, Bool, false, true, List, All, length, drop, get_or, IfOk, IfSome, IfNone};
 ghost use Rattle.stream_messages.specs.Messages.{Asked, AgreeBelow};
 ghost use Rattle.stream_messages.specs.Cursors.{AddsFew, AsksBetween, CountsFor, IsAskedOf, IsBehind, IsCut, IsKnown, IsLook, IsPartCut, IsQuiet, IsSound, IsSoundNext, IsWhole, goes, next_at};
-ghost use Rattle.stream_messages.specs.declared.told.App.{App as AppValue};
+ghost use Rattle.stream_messages.specs.declared.framer.Framer.{Framer as FramerValue};
 
 use crate::cursor::{Cursor, Mark, Next, Started, mark_behind, next_behind};
+use crate::framer::Framer;
 use crate::part::{Going, Part};
 use crate::placed::{Placed, PlacedList};
-use crate::told::App;
 use pk_base::NoMemory;
 use std::alloc::Global;
 
@@ -32,29 +32,29 @@ pub(crate) enum Cut {
 /// requests change nothing. After `NoMemory` the cursor is gone.
 pub fn cut_messages(
     alloc: Global,
-    app: App,
+    framer: Framer,
     start: u64,
     front: &[u8],
     cursor: Cursor,
     heads: &[bool],
 ) -> Result<Shown, NoMemory>
     requires room { start + length front.now < 2 ^ 64 }
-    requires sound { IsSound app cursor front.now }
+    requires sound { IsSound framer cursor front.now }
     ensures cut { IfOk result (λ shown. (asked later : Asked) (count : ℕ) (old new : List ℕ)
         → front.now ≡ old ++ new
         → AgreeBelow (start + length old) asked later
         → AsksBetween (start + length old) (start + length front.now) heads.now later
-        → IsBehind app asked count start cursor old
-        → IsCut app later count start old front.now shown) }
-    ensures whole { IfOk result (λ shown. All (IsWhole app start front.now) shown.messages) }
-    ensures few { IfOk result (λ shown. AddsFew app cursor front.now shown.messages) }
-    ensures sound { IfOk result (λ shown. IsSound app shown.cursor front.now) }
-    ensures quiet { IfOk result (λ shown. IsQuiet app shown.cursor front.now) }
+        → IsBehind framer asked count start cursor old
+        → IsCut framer later count start old front.now shown) }
+    ensures whole { IfOk result (λ shown. All (IsWhole framer start front.now) shown.messages) }
+    ensures few { IfOk result (λ shown. AddsFew framer cursor front.now shown.messages) }
+    ensures sound { IfOk result (λ shown. IsSound framer shown.cursor front.now) }
+    ensures quiet { IfOk result (λ shown. IsQuiet framer shown.cursor front.now) }
 {
     let mut messages = Vec::new(alloc);
     let mut cursor = cursor;
     loop {
-        match cut_one(alloc, app, start, front, cursor, heads)? {
+        match cut_one(alloc, framer, start, front, cursor, heads)? {
             Cut::Whole(message, behind) => {
                 messages.push(message)?;
                 cursor = behind;
@@ -70,21 +70,21 @@ pub fn cut_messages(
 /// Looks for the next message.
 fn cut_one(
     alloc: Global,
-    app: App,
+    framer: Framer,
     start: u64,
     front: &[u8],
     cursor: Cursor,
     heads: &[bool],
 ) -> Result<Cut, NoMemory>
     requires room { start + length front.now < 2 ^ 64 }
-    requires sound { IsSound app cursor front.now }
-    ensures { IfOk result (IsLook app start front.now heads.now cursor) }
+    requires sound { IsSound framer cursor front.now }
+    ensures { IfOk result (IsLook framer start front.now heads.now cursor) }
 {
     let mark = cursor.mark;
     let Some(place) = mark.place_within(front.len()) else {
         return Ok(Cut::Rest(cursor));
     };
-    match started(app, heads, mark.answers, cursor.next) {
+    match started(framer, heads, mark.answers, cursor.next) {
         None => Ok(Cut::Rest(Cursor {
             mark,
             next: Next::Never,
@@ -94,19 +94,19 @@ fn cut_one(
 }
 
 /// What is known of the next message, if one may come. Whether it answers HEAD is fixed when its first byte is there.
-fn started(app: App, heads: &[bool], answers: usize, next: Next) -> Option<Started>
+fn started(framer: Framer, heads: &[bool], answers: usize, next: Next) -> Option<Started>
     ensures none { IfNone result (goes next ≡ false) }
     ensures some { IfSome result (λ started. goes next ≡ true) }
     ensures asked { IfSome result (λ started. (asked : Bool) (number : ℕ) (bytes : List ℕ) → 0 < length bytes
-        → CountsFor answers number → IsAskedOf app asked heads.now number next bytes
+        → CountsFor answers number → IsAskedOf framer asked heads.now number next bytes
         → started.asked ≡ asked) }
-    ensures known { IfSome result (λ started. (at : ℕ) (front : List ℕ) → IsSoundNext app at front next → IsKnown app started.asked started.part (drop at front)) }
+    ensures known { IfSome result (λ started. (at : ℕ) (front : List ℕ) → IsSoundNext framer at front next → IsKnown framer started.asked started.part (drop at front)) }
 {
     match next {
         Next::Never => None,
         Next::Awaited => {
             let asked = is_head(heads, answers);
-            let part = Part::begun(app, asked);
+            let part = Part::begun(framer, asked);
             Some(Started { asked, part })
         }
         Next::Begun(started) => Some(started),
@@ -131,8 +131,8 @@ fn cut_part(
 ) -> Result<Cut, NoMemory>
     requires room { start + length front.now < 2 ^ 64 }
     requires place { (place ≡ next_at mark) × (place < length front.now) }
-    requires known { (app : AppValue) × IsKnown app started.asked started.part (drop place front.now) }
-    ensures { IfOk result (λ cut. (app : AppValue) → IsKnown app started.asked started.part (drop place front.now) → IsPartCut app started.asked start front.now mark cut) }
+    requires known { (framer : FramerValue) × IsKnown framer started.asked started.part (drop place front.now) }
+    ensures { IfOk result (λ cut. (framer : FramerValue) → IsKnown framer started.asked started.part (drop place front.now) → IsPartCut framer started.asked start front.now mark cut) }
 {
     let asked = started.asked;
     match started.part.go_on(alloc, tail(front, place))? {

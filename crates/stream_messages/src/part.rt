@@ -3,20 +3,20 @@ ghost use Rattle.std.specs.Option.{option_map};
 ghost use Rattle.stream_messages.specs.HttpMessages.{found as found_in, went_on as framing_on};
 ghost use Rattle.stream_messages.specs.declared.told.Told.TheVariants.{Http};
 ghost use Rattle.stream_messages.specs.declared.part.Part.TheVariants as parts;
-ghost use Rattle.stream_messages.specs.Tellings.{first_dns};
 ghost use Rattle.stream_messages.specs.Cursors.{GoesOn, found, part_begun, went_on};
 
+use crate::framer::{Framer, first_sized};
 use crate::progress::{Framing, Progress};
 use crate::resuming::resume;
-use crate::told::{App, Told};
+use crate::told::Told;
 use pk_base::NoMemory;
 use std::alloc::Global;
 
 /// What is known of a message that isn't whole, from looking at a part of it.
 #[derive(Drop)]
 pub(crate) enum Part {
-    /// A DNS message: its length is read anew.
-    Dns,
+    /// One whose head tells its length, which is read anew.
+    Sized { head: u8, at: u8, width: u8 },
     Http(Progress),
 }
 
@@ -29,12 +29,12 @@ pub(crate) enum Going {
 
 impl Part {
     /// What is known of a message before its first byte. A response is to HEAD where it is `asked`.
-    pub fn begun(app: App, asked: bool) -> Part
-        ensures { result ≡ part_begun app asked }
+    pub fn begun(framer: Framer, asked: bool) -> Part
+        ensures { result ≡ part_begun framer asked }
     {
-        match app {
-            App::Dns => Part::Dns,
-            App::Http => Part::Http(Progress::begun(asked)),
+        match framer {
+            Framer::LengthPrefix { head, at, width } => Part::Sized { head, at, width },
+            Framer::Http => Part::Http(Progress::begun(asked)),
         }
     }
 
@@ -43,32 +43,18 @@ impl Part {
         ensures { IfOk result (GoesOn self bytes.now) }
     {
         match self {
-            Part::Dns => Ok(go_on_dns(bytes)),
+            Part::Sized { head, at, width } => Ok(go_on_sized(head, at, width, bytes)),
             Part::Http(progress) => go_on_http(alloc, bytes, progress),
         }
     }
 }
 
-fn go_on_dns(bytes: &[u8]) -> Going
-    ensures { GoesOn parts.Dns bytes.now result }
+fn go_on_sized(head: u8, at: u8, width: u8, bytes: &[u8]) -> Going
+    ensures { GoesOn (parts.Sized head at width) bytes.now result }
 {
-    match first_dns(bytes) {
-        None => Going::Unfinished(Part::Dns),
-        Some(end) => Going::Message(Told::Dns(end)),
-    }
-}
-
-/// The bytes of the first DNS message, with the two of its length.
-fn first_dns(bytes: &[u8]) -> Option<usize>
-    ensures { result ≡ first_dns bytes.now }
-{
-    let (high, rest) = bytes.split_first()?;
-    let (low, rest) = rest.split_first()?;
-    let len = usize::from(*high) * 256 + usize::from(*low);
-    if len <= rest.len() {
-        Some(len + 2)
-    } else {
-        None
+    match first_sized(head, at, width, bytes) {
+        None => Going::Unfinished(Part::Sized { head, at, width }),
+        Some(end) => Going::Message(Told::Sized(end)),
     }
 }
 
@@ -79,7 +65,7 @@ fn go_on_http(alloc: Global, bytes: &[u8], progress: Progress) -> Result<Going, 
     Ok(told_by(framing))
 }
 
-/// The same answer, of one application among others.
+/// The same answer, of one framing among others.
 fn told_by(framing: Framing) -> Going
     ensures found { found result ≡ option_map Http (found_in framing) }
     ensures later { (bytes : List ℕ)

@@ -4,8 +4,8 @@ ghost use Rattle.stream_messages.specs.Cursors.{AsksFrom, CountsFor, IsBehind, I
 
 use crate::cursor::Cursor;
 use crate::cutting::{Shown, cut_messages};
+use crate::framer::Framer;
 use crate::placed::PlacedList;
-use crate::told::App;
 use pk_base::{NoMemory, Stretch};
 use std::alloc::Global;
 
@@ -13,7 +13,7 @@ use std::alloc::Global;
 /// before them count, and nothing else does.
 pub fn cut_stretches(
     alloc: Global,
-    app: App,
+    framer: Framer,
     stretches: &[Stretch],
     cursor: Cursor,
     heads: &[bool],
@@ -22,12 +22,12 @@ pub fn cut_stretches(
     ensures messages { IfOk result (λ shown. (asked : Asked) (number from : ℕ)
         → CountsFor (answers_before cursor) number
         → AsksFrom from heads.now asked → AllFrom from stretches.now
-        → shown.messages ≡ of_stretches app asked number stretches.now) }
+        → shown.messages ≡ of_stretches framer asked number stretches.now) }
     ensures cursor { IfOk result (λ shown. (asked : Asked) (number from : ℕ)
         → CountsFor (answers_before cursor) number
         → AsksFrom from heads.now asked → AllFrom from stretches.now
-        → IsBehindAll app asked number cursor stretches.now shown.cursor) }
-    ensures whole { IfOk result (λ shown. All (IsWholeInOne app stretches.now) shown.messages) }
+        → IsBehindAll framer asked number cursor stretches.now shown.cursor) }
+    ensures whole { IfOk result (λ shown. All (IsWholeInOne framer stretches.now) shown.messages) }
     ensures few { IfOk result (λ shown. length shown.messages ≤ bytes_in stretches.now) }
 {
     let mut messages = PlacedList::new(alloc);
@@ -35,7 +35,7 @@ pub fn cut_stretches(
     for stretch in stretches {
         let shown = cut_messages(
             alloc,
-            app,
+            framer,
             stretch.start,
             stretch.bytes.bytes(),
             cursor.anew(),
@@ -50,7 +50,7 @@ pub fn cut_stretches(
 /// As `cut_stretches`, with the stretch behind them, which begins at position `start`. The cursor is behind its messages.
 pub fn cut_newest(
     alloc: Global,
-    app: App,
+    framer: Framer,
     passed: &[Stretch],
     start: u64,
     front: &[u8],
@@ -62,20 +62,20 @@ pub fn cut_newest(
     ensures messages { IfOk result (λ shown. (asked : Asked) (number from : ℕ)
         → CountsFor (answers_before cursor) number
         → AsksFrom from heads.now asked → AllFrom from (with_last passed.now start front.now)
-        → shown.messages ≡ of_stretches app asked number (with_last passed.now start front.now)) }
+        → shown.messages ≡ of_stretches framer asked number (with_last passed.now start front.now)) }
     ensures cursor { IfOk result (λ shown. (asked : Asked) (number from : ℕ)
         → CountsFor (answers_before cursor) number
         → AsksFrom from heads.now asked → AllFrom from (with_last passed.now start front.now)
-        → IsBehind app asked (answered number (of_stretches app asked number passed.now))
+        → IsBehind framer asked (answered number (of_stretches framer asked number passed.now))
         start shown.cursor front.now) }
-    ensures whole { IfOk result (λ shown. All (IsWholeInOne app (with_last passed.now start front.now)) shown.messages) }
+    ensures whole { IfOk result (λ shown. All (IsWholeInOne framer (with_last passed.now start front.now)) shown.messages) }
     ensures few { IfOk result (λ shown. length shown.messages
         ≤ bytes_in passed.now + length front.now) }
-    ensures sound { IfOk result (λ shown. IsSound app shown.cursor front.now) }
-    ensures quiet { IfOk result (λ shown. IsQuiet app shown.cursor front.now) }
+    ensures sound { IfOk result (λ shown. IsSound framer shown.cursor front.now) }
+    ensures quiet { IfOk result (λ shown. IsQuiet framer shown.cursor front.now) }
 {
-    let before = cut_stretches(alloc, app, passed, cursor, heads)?;
-    let last = cut_messages(alloc, app, start, front, before.cursor.anew(), heads)?;
+    let before = cut_stretches(alloc, framer, passed, cursor, heads)?;
+    let last = cut_messages(alloc, framer, start, front, before.cursor.anew(), heads)?;
     let mut messages = before.messages;
     messages.append(last.messages)?;
     let cursor = last.cursor;

@@ -10,7 +10,7 @@ use Rattle.tcp_streams.specs.Labels.{Label, label_of, labels, sided_of, taken_af
 use Rattle.tcp_streams.specs.Ways.{WayState, Sided, stretches, front_for, origin_for, own_step, way_after}
 use Rattle.tcp_streams.specs.Isolation.{IsSameWay, between}
 use Rattle.tcp_streams.proofs.FramesAside.{front_same, ahead_same, own_same, frames_aside}
-use Rattle.stream_messages.specs.declared.told.App.{App}
+use Rattle.stream_messages.specs.declared.framer.Framer.{Framer}
 use Rattle.stream_messages.specs.declared.placed.Placed.{Placed}
 use Rattle.stream_messages.specs.Sides.{Brought, asked_in, front_end, note_next, noted}
 use Rattle.tcp_messages.specs.declared.met.ShownMessage.{ShownMessage}
@@ -34,29 +34,29 @@ brought_from n (l ∷ ls) = elim (eqb_tells l.stream n) [
   | inr other ↦ rw other.0 (brought_from n ls)
 ]
 
-abbrev messages_from : Option App → Bool → List Sided → Segment → List Placed
+abbrev messages_from : Option Framer → Bool → List Sided → Segment → List Placed
 messages_from None side ls s = []
-messages_from (Some app) side ls s = (note_next app (noted app (brought_of ls)) (record { side = side; stretches = stretches (own_step (way_after side ls) s) })).shown
+messages_from (Some framer) side ls s = (note_next framer (noted framer (brought_of ls)) (record { side = side; stretches = stretches (own_step (way_after side ls) s) })).shown
 
 abbrev position_from : Bool → List Sided → Segment → ℤ
 position_from side ls s = position_ahead (front_for (way_after side ls)) (ahead (origin_for (way_after side ls) s) (front_for (way_after side ls)) (first_number s))
 
-abbrev shown_from : Option App → Bool → List Sided → Segment → List ShownMessage
-shown_from app side ls s = map (located (own_step (way_after side ls) s).held s (position_from side ls s)) (messages_from app side ls s)
+abbrev shown_from : Option Framer → Bool → List Sided → Segment → List ShownMessage
+shown_from framer side ls s = map (located (own_step (way_after side ls) s).held s (position_from side ls s)) (messages_from framer side ls s)
 
-messages_are : (app : Option App) (l : Label) (ls : List Label) → messages_by app l ls ≡ messages_from app l.side (sided_of l.stream ls) l.segment
+messages_are : (framer : Option Framer) (l : Label) (ls : List Label) → messages_by framer l ls ≡ messages_from framer l.side (sided_of l.stream ls) l.segment
 messages_are None l ls = refl
-messages_are (Some app) l ls = ap (λ (bs : List Brought). (note_next app (noted app bs) (brought_by l ls)).shown) (brought_from l.stream ls)
+messages_are (Some framer) l ls = ap (λ (bs : List Brought). (note_next framer (noted framer bs) (brought_by l ls)).shown) (brought_from l.stream ls)
 
-by_stream : (app : Option App) (past : List Segment) (s : Segment)
-    → shown_after app past s ≡ shown_from app (label_of s (labels past)).side (sided_of (label_of s (labels past)).stream (labels past)) s
+by_stream : (framer : Option Framer) (past : List Segment) (s : Segment)
+    → shown_after framer past s ≡ shown_from framer (label_of s (labels past)).side (sided_of (label_of s (labels past)).stream (labels past)) s
 unfolding shown_after told
-by_stream app past s =
+by_stream framer past s =
     let ls : List Label = labels past in
     let l : Label = label_of s ls in
     let ss : List Sided = sided_of l.stream ls in
-    ap (map (located (way_with l ls).held s (taken_after past s).position)) (messages_are app l ls)
-    ∙ ap (λ (t : Segment). map (located (own_step (way_after l.side ss) t).held s (position_from l.side ss t)) (messages_from app l.side ss t)) (label_segment s ls)
+    ap (map (located (way_with l ls).held s (taken_after past s).position)) (messages_are framer l ls)
+    ∙ ap (λ (t : Segment). map (located (own_step (way_after l.side ss) t).held s (position_from l.side ss t)) (messages_from framer l.side ss t)) (label_segment s ls)
 
 -- ---- the conversation alone
 
@@ -71,15 +71,15 @@ same_segments : (ss : List Segment) → map (renumbered (λ n. n)) ss ≡ ss
 same_segments [] = refl
 same_segments (s ∷ ss) = ap (λ (ts : List Segment). s ∷ ts) (same_segments ss)
 
-shown_alone : (app : Option App) (past : List Segment) (s : Segment) → shown_after app past s ≡ shown_after app (between s past) s
-shown_alone app past s =
+shown_alone : (framer : Option Framer) (past : List Segment) (s : Segment) → shown_after framer past s ≡ shown_after framer (between s past) s
+shown_alone framer past s =
     let ls : List Label = labels past in
     let ms : List Label = labels (alone (λ n. n) s past) in
     let is = is_alone (λ n. n) s past in
-    by_stream app past s
-    ∙ (λ i. shown_from app (is.side i) ((sym (same_sides (sided_of (label_of s ls).stream ls)) ∙ is.segments) i) s)
-    ∙ sym (by_stream app (alone (λ n. n) s past) s)
-    ∙ ap (λ (ts : List Segment). shown_after app ts s) (same_segments (between s past))
+    by_stream framer past s
+    ∙ (λ i. shown_from framer (is.side i) ((sym (same_sides (sided_of (label_of s ls).stream ls)) ∙ is.segments) i) s)
+    ∙ sym (by_stream framer (alone (λ n. n) s past) s)
+    ∙ ap (λ (ts : List Segment). shown_after framer ts s) (same_segments (between s past))
 
 between_same : (r : ℕ → ℕ) (s : Segment) (past : List Segment) → between (renumbered r s) past ≡ between s past
 between_same r s [] = refl
@@ -118,10 +118,10 @@ brought_same : (r : ℕ → ℕ) (ls : List Sided) → brought_of ls ≡ brought
 brought_same r [] = refl
 brought_same r (l ∷ ls) = λ i. record { side = l.side; stretches = stretches_same r l.side ls l.segment i } ∷ brought_same r ls i
 
-messages_same : (r : ℕ → ℕ) (app : Option App) (side : Bool) (ls : List Sided) (s : Segment)
-    → messages_from app side ls s ≡ messages_from app side (sides_renumbered r ls) (renumbered r s)
+messages_same : (r : ℕ → ℕ) (framer : Option Framer) (side : Bool) (ls : List Sided) (s : Segment)
+    → messages_from framer side ls s ≡ messages_from framer side (sides_renumbered r ls) (renumbered r s)
 messages_same r None side ls s = refl
-messages_same r (Some app) side ls s = λ i. (note_next app (noted app (brought_same r ls i)) (record { side = side; stretches = stretches_same r side ls s i })).shown
+messages_same r (Some framer) side ls s = λ i. (note_next framer (noted framer (brought_same r ls i)) (record { side = side; stretches = stretches_same r side ls s i })).shown
 
 position_same : (r : ℕ → ℕ) (side : Bool) (ls : List Sided) (s : Segment) → position_from side ls s ≡ position_from side (sides_renumbered r ls) (renumbered r s)
 position_same r side ls s =
@@ -130,21 +130,21 @@ position_same r side ls s =
     let same = frames_aside side ls (sides_renumbered r ls) (same_sided r ls) in
     λ i. position_ahead (front_same ls (sides_renumbered r ls) v w same i) (ahead_same ls (sides_renumbered r ls) v w s (renumbered r s) same (same_but r s) i)
 
-messages_held : (app : Option App) (side : Bool) (ls : List Sided) (s : Segment) → AreIn (own_step (way_after side ls) s).held (messages_from app side ls s)
+messages_held : (framer : Option Framer) (side : Bool) (ls : List Sided) (s : Segment) → AreIn (own_step (way_after side ls) s).held (messages_from framer side ls s)
 messages_held None side ls s = tt
-messages_held (Some app) side ls s = shown_in_held app (asked_in side (noted app (brought_of ls))) side ls s (front_end side (noted app (brought_of ls)))
+messages_held (Some framer) side ls s = shown_in_held framer (asked_in side (noted framer (brought_of ls))) side ls s (front_end side (noted framer (brought_of ls)))
 
-from_same : (r : ℕ → ℕ) (P : ℕ → Type 0) → Keeps r P → (app : Option App) (side : Bool) (ls : List Sided) (s : Segment) → P s.frame → AllFrames P ls
-    → AreLocated r P (shown_from app side ls s) (shown_from app side (sides_renumbered r ls) (renumbered r s))
-from_same r P keeps app side ls s p all =
+from_same : (r : ℕ → ℕ) (P : ℕ → Type 0) → Keeps r P → (framer : Option Framer) (side : Bool) (ls : List Sided) (s : Segment) → P s.frame → AllFrames P ls
+    → AreLocated r P (shown_from framer side ls s) (shown_from framer side (sides_renumbered r ls) (renumbered r s))
+from_same r P keeps framer side ls s p all =
     let l : Sided = record { segment = s; side = side } in
     let v : WayState = own_step (way_after side ls) s in
     let w : WayState = own_step (way_after side (sides_renumbered r ls)) (renumbered r s) in
     let held : IsSameHeld r P (l ∷ ls) v.held w.held = record { cells = (way_same r side ls s).held; frames = (p, all) } in
-    let are = all_located r P keeps (l ∷ ls) v.held w.held s (position_from side ls s) (messages_from app side ls s) held p (messages_held app side ls s) in
+    let are = all_located r P keeps (l ∷ ls) v.held w.held s (position_from side ls s) (messages_from framer side ls s) held p (messages_held framer side ls s) in
     record {
       all = are.all;
-      is = (λ i. map (located w.held (renumbered r s) (sym (position_same r side ls s) i)) (sym (messages_same r app side ls s) i)) ∙ are.is;
+      is = (λ i. map (located w.held (renumbered r s) (sym (position_same r side ls s) i)) (sym (messages_same r framer side ls s) i)) ∙ are.is;
     }
 
 -- the frames of a stream are those of segments
@@ -163,9 +163,9 @@ pub all_contained : (P : ℕ → Type 0) (ss : List Segment) → ((f : ℕ) → 
 all_contained P [] there = tt
 all_contained P (s ∷ ss) there = (there s.frame (0, omega arith, refl), all_contained P ss (λ f in_rest. there f (suc in_rest.0, omega (arith, in_rest.1), in_rest.2)))
 
-after_same : (r : ℕ → ℕ) (app : Option App) (past : List Segment) (s : Segment) → KeepsOrder r (frames_of (s ∷ past))
-    → AreLocated r (Contains (frames_of (s ∷ past))) (shown_after app past s) (shown_after app (alone r s past) (renumbered r s))
-after_same r app past s keeps =
+after_same : (r : ℕ → ℕ) (framer : Option Framer) (past : List Segment) (s : Segment) → KeepsOrder r (frames_of (s ∷ past))
+    → AreLocated r (Contains (frames_of (s ∷ past))) (shown_after framer past s) (shown_after framer (alone r s past) (renumbered r s))
+after_same r framer past s keeps =
     let P : ℕ → Type 0 = Contains (frames_of (s ∷ past)) in
     let ls : List Label = labels past in
     let ms : List Label = labels (alone r s past) in
@@ -173,10 +173,10 @@ after_same r app past s keeps =
     let ss : List Sided = sided_of l.stream ls in
     let all : AllSegments P (s ∷ past) = all_contained P (s ∷ past) (λ f there. there) in
     let is = is_alone r s past in
-    let are = from_same r P keeps app l.side ss s all.0 (stream_frames P l.stream past all.1) in
-    let shown : shown_after app past s ≡ shown_from app l.side ss s = by_stream app past s in
-    let other : shown_after app (alone r s past) (renumbered r s) ≡ shown_from app l.side (sides_renumbered r ss) (renumbered r s) =
-    by_stream app (alone r s past) (renumbered r s) ∙ sym (λ i. shown_from app (is.side i) (is.segments i) (renumbered r s)) in
+    let are = from_same r P keeps framer l.side ss s all.0 (stream_frames P l.stream past all.1) in
+    let shown : shown_after framer past s ≡ shown_from framer l.side ss s = by_stream framer past s in
+    let other : shown_after framer (alone r s past) (renumbered r s) ≡ shown_from framer l.side (sides_renumbered r ss) (renumbered r s) =
+    by_stream framer (alone r s past) (renumbered r s) ∙ sym (λ i. shown_from framer (is.side i) (is.segments i) (renumbered r s)) in
     record {
       all = subst (AllIn P) (sym shown) are.all;
       is = other ∙ are.is ∙ ap (map (shown_renumbered r)) (sym shown);
@@ -189,14 +189,14 @@ shown_same r P keeps shown other are = record {
 }
 
 pub stands_alone : AloneLaw
-stands_alone r app past others s keeps same =
+stands_alone r framer past others s keeps same =
     let mine : List Segment = between s past in
-    let is = shown_same r (Contains (frames_of (s ∷ mine))) keeps (shown_after app mine s) (shown_after app (alone r s mine) (renumbered r s)) (after_same r app mine s keeps) in
-    let there : shown_after app (alone r s mine) (renumbered r s) ≡ shown_after app others (renumbered r s) =
-    ap (λ (ts : List Segment). shown_after app ts (renumbered r s)) (ap (map (renumbered r)) (between_again s past) ∙ sym same ∙ sym (between_same r s others))
-    ∙ sym (shown_alone app others (renumbered r s)) in
-    subst (λ (xs : List ShownMessage). IsSameShown r xs (shown_after app others (renumbered r s))) (sym (shown_alone app past s))
-    (subst (IsSameShown r (shown_after app mine s)) there is)
+    let is = shown_same r (Contains (frames_of (s ∷ mine))) keeps (shown_after framer mine s) (shown_after framer (alone r s mine) (renumbered r s)) (after_same r framer mine s keeps) in
+    let there : shown_after framer (alone r s mine) (renumbered r s) ≡ shown_after framer others (renumbered r s) =
+    ap (λ (ts : List Segment). shown_after framer ts (renumbered r s)) (ap (map (renumbered r)) (between_again s past) ∙ sym same ∙ sym (between_same r s others))
+    ∙ sym (shown_alone framer others (renumbered r s)) in
+    subst (λ (xs : List ShownMessage). IsSameShown r xs (shown_after framer others (renumbered r s))) (sym (shown_alone framer past s))
+    (subst (IsSameShown r (shown_after framer mine s)) there is)
 
 pub stands_renumbered : RenumberedLaw
-stands_renumbered r app past s rises = stands_alone r app past (map (renumbered r) past) s (λ low high a b. rises low high) (between_renumbered r s past)
+stands_renumbered r framer past s rises = stands_alone r framer past (map (renumbered r) past) s (λ low high a b. rises low high) (between_renumbered r s past)

@@ -13,7 +13,7 @@ use Rattle.tcp_streams.specs.Labels.{Label, labels, sided_of, way_of}
 use Rattle.tcp_streams.specs.Ways.{WayState, stretches, end_of, lost_in, start_for, front_for, origin_for, held_after, own_step, other_step, way_step, same_side, IsWay, AreApart}
 use Rattle.tcp_streams.proofs.Places.{length-bytes_at, apart_past, place_past, put_free}
 use Rattle.tcp_streams.proofs.WayLemmas.{renew_same, taken_short, own_keeps, after_is}
-use Rattle.stream_messages.specs.declared.told.App.{App}
+use Rattle.stream_messages.specs.declared.framer.Framer.{Framer}
 use Rattle.stream_messages.specs.Messages.{Asked, AllFrom, AreLonger, messages, of_stretches}
 use Rattle.stream_messages.specs.Sides.{Brought, same_side as is_same, end_behind, stretches_in, asked_in, noted, AreInOrder, AllGrow}
 use Rattle.stream_messages.proofs.SideLemmas.{laws_of_sides}
@@ -130,15 +130,15 @@ brought_next false false own old w s here is = inl (here refl)
 brought_next true false own old w s here is = subst (IsBrought old) (sym (other_same w s)) is
 brought_next false true own old w s here is = subst (IsBrought old) (sym (other_same w s)) is
 
-pub brought_is : (app : App) (stream : ℕ) (side : Bool) (ls : List Label) → IsBrought (stretches_in side (noted app (brought stream ls))) (stretches (way_of stream side ls))
-brought_is app stream side [] = inr (refl, refl)
-brought_is app stream side (l ∷ ls) = elim (eqb_tells l.stream stream) [
+pub brought_is : (framer : Framer) (stream : ℕ) (side : Bool) (ls : List Label) → IsBrought (stretches_in side (noted framer (brought stream ls))) (stretches (way_of stream side ls))
+brought_is framer stream side [] = inr (refl, refl)
+brought_is framer stream side (l ∷ ls) = elim (eqb_tells l.stream stream) [
   | inl here ↦
       let own : List Stretch = stretches (own_step (way_of l.stream l.side ls) l.segment) in
       let same : (l.side ≡ side → own ≡ stretches (own_step (way_of stream side ls) l.segment)) =
       λ from. ap (λ (n : ℕ). stretches (own_step (way_of n l.side ls) l.segment)) here.1 ∙ ap (λ (b : Bool). stretches (own_step (way_of stream b ls) l.segment)) from in
-      rw here.0 (brought_next side l.side own (stretches_in side (noted app (brought stream ls))) (way_of stream side ls) l.segment same (brought_is app stream side ls))
-  | inr other ↦ rw other.0 (brought_is app stream side ls)
+      rw here.0 (brought_next side l.side own (stretches_in side (noted framer (brought stream ls))) (way_of stream side ls) l.segment same (brought_is framer stream side ls))
+  | inr other ↦ rw other.0 (brought_is framer stream side ls)
 ]
 
 longer_by : (found : List Stretch) (w : WayState) (s : Segment) → IsWay w → IsBrought found (stretches w) → AreLonger (end_behind 0 found) found (stretches (own_step w s))
@@ -151,27 +151,27 @@ longer_by found w s way (inr none) =
 order_of : (w : WayState) → IsWay w → AreInOrder 0 (stretches w)
 order_of w way = in_order 0 0 w.earlier (record { start = w.start; bytes = w.front }) (omega arith) way.apart
 
-pub all_grow : (app : App) (stream : ℕ) (ls : List Label) → AllGrow app (brought stream ls)
-all_grow app stream [] = tt
-all_grow app stream (l ∷ ls) = elim (eqb_tells l.stream stream) [
+pub all_grow : (framer : Framer) (stream : ℕ) (ls : List Label) → AllGrow framer (brought stream ls)
+all_grow framer stream [] = tt
+all_grow framer stream (l ∷ ls) = elim (eqb_tells l.stream stream) [
   | inl here ↦
       let w : WayState = way_of l.stream l.side ls in
       let way : IsWay w = after_is l.side (sided_of l.stream ls) in
-      let found = subst (λ (n : ℕ). IsBrought (stretches_in l.side (noted app (brought stream ls))) (stretches (way_of n l.side ls))) (sym here.1) (brought_is app stream l.side ls) in
-      rw here.0 (longer_by (stretches_in l.side (noted app (brought stream ls))) w l.segment way found, (order_of (own_step w l.segment) (own_keeps w l.segment way), all_grow app stream ls))
-  | inr other ↦ rw other.0 (all_grow app stream ls)
+      let found = subst (λ (n : ℕ). IsBrought (stretches_in l.side (noted framer (brought stream ls))) (stretches (way_of n l.side ls))) (sym here.1) (brought_is framer stream l.side ls) in
+      rw here.0 (longer_by (stretches_in l.side (noted framer (brought stream ls))) w l.segment way found, (order_of (own_step w l.segment) (own_keeps w l.segment way), all_grow framer stream ls))
+  | inr other ↦ rw other.0 (all_grow framer stream ls)
 ]
 
-no_messages : (app : App) (asked : Asked) → of_stretches app asked 0 (record { start = 0; bytes = [] } ∷ []) ≡ []
+no_messages : (framer : Framer) (asked : Asked) → of_stretches framer asked 0 (record { start = 0; bytes = [] } ∷ []) ≡ []
 unfolding messages
-no_messages app asked = refl
+no_messages framer asked = refl
 
-same_messages : (app : App) (asked : Asked) (found ss : List Stretch) → IsBrought found ss → of_stretches app asked 0 found ≡ of_stretches app asked 0 ss
-same_messages app asked found ss (inl same) = ap (of_stretches app asked 0) same
-same_messages app asked found ss (inr none) = ap (of_stretches app asked 0) none.0 ∙ sym (no_messages app asked) ∙ sym (ap (of_stretches app asked 0) none.1)
+same_messages : (framer : Framer) (asked : Asked) (found ss : List Stretch) → IsBrought found ss → of_stretches framer asked 0 found ≡ of_stretches framer asked 0 ss
+same_messages framer asked found ss (inl same) = ap (of_stretches framer asked 0) same
+same_messages framer asked found ss (inr none) = ap (of_stretches framer asked 0) none.0 ∙ sym (no_messages framer asked) ∙ sym (ap (of_stretches framer asked 0) none.1)
 
 pub each_once : MessagesOnce
-each_once app past stream side =
+each_once framer past stream side =
     let bs : List Brought = brought stream (labels past) in
-    laws_of_sides.once app side bs (all_grow app stream (labels past))
-    ∙ same_messages app (asked_in side (noted app bs)) (stretches_in side (noted app bs)) (stretches (way_of stream side (labels past))) (brought_is app stream side (labels past))
+    laws_of_sides.once framer side bs (all_grow framer stream (labels past))
+    ∙ same_messages framer (asked_in side (noted framer bs)) (stretches_in side (noted framer bs)) (stretches (way_of stream side (labels past))) (brought_is framer stream side (labels past))

@@ -11,7 +11,7 @@ use Rattle.tcp_streams.specs.Gaps.{first_free, next_from, gaps_on, gaps, left_be
 use Rattle.tcp_streams.specs.Ways.{WayState, Sided, stretches, end_of as end_in, lost_in, start_for, front_for, origin_for, own_step, other_step, way_step, way_after, same_side, IsPlace, IsWay}
 use Rattle.tcp_streams.proofs.Places.{length-bytes_at, next_is, place_jump, put_stays}
 use Rattle.tcp_streams.proofs.WayLemmas.{after_is, own_keeps}
-use Rattle.stream_messages.specs.declared.told.App.{App}
+use Rattle.stream_messages.specs.declared.framer.Framer.{Framer}
 use Rattle.stream_messages.specs.declared.told.Told.{Told}
 use Rattle.stream_messages.specs.declared.placed.Placed.{Placed}
 use Rattle.stream_messages.specs.Tellings.{first_of, end_of, then_of, passed, answers}
@@ -90,23 +90,23 @@ first_in : (held : Held) (at : ℕ) (o : Option Told) (more : Told → List Plac
 first_in held at None more run rest = tt
 first_in held at (Some told) more run rest = (run told refl, follow_in held (then_of told) (more told) (rest told))
 
-messages_in : (app : App) (asked : Asked) (held : Held) (count at skip : ℕ) (bytes : List ℕ) → HoldsAll held at (at + length bytes) → AreIn held (messages app asked count at skip bytes)
+messages_in : (framer : Framer) (asked : Asked) (held : Held) (count at skip : ℕ) (bytes : List ℕ) → HoldsAll held at (at + length bytes) → AreIn held (messages framer asked count at skip bytes)
 unfolding messages
-messages_in app asked held count at skip [] run = tt
-messages_in app asked held count at (suc skip) (b ∷ rest) run =
-    messages_in app asked held count (suc at) skip rest (λ q low high. run q (omega (arith, low)) (omega (arith, high)))
-messages_in app asked held count at zero (b ∷ rest) run =
-    first_in held at (first_of app (asked at count) (b ∷ rest))
-    (λ (told : Told). messages app asked (count + answers told) (suc at) (end_of told - 1 + passed (then_of told)) rest)
-    (λ told e q low high. run q low (omega (arith, high, first_within app (asked at count) (b ∷ rest) told e)))
-    (λ told. messages_in app asked held (count + answers told) (suc at) (end_of told - 1 + passed (then_of told)) rest
+messages_in framer asked held count at skip [] run = tt
+messages_in framer asked held count at (suc skip) (b ∷ rest) run =
+    messages_in framer asked held count (suc at) skip rest (λ q low high. run q (omega (arith, low)) (omega (arith, high)))
+messages_in framer asked held count at zero (b ∷ rest) run =
+    first_in held at (first_of framer (asked at count) (b ∷ rest))
+    (λ (told : Told). messages framer asked (count + answers told) (suc at) (end_of told - 1 + passed (then_of told)) rest)
+    (λ told e q low high. run q low (omega (arith, high, first_within framer (asked at count) (b ∷ rest) told e)))
+    (λ told. messages_in framer asked held (count + answers told) (suc at) (end_of told - 1 + passed (then_of told)) rest
     (λ q low high. run q (omega (arith, low)) (omega (arith, high))))
 
-all_in : (app : App) (asked : Asked) (held : Held) (count : ℕ) (ss : List Stretch) → AreHeldIn held ss → AreIn held (of_stretches app asked count ss)
-all_in app asked held count [] all = tt
-all_in app asked held count (s ∷ ss) all =
-    in_append held (of_front app asked count s.start s.bytes) _ (messages_in app asked held count s.start 0 s.bytes all.0)
-    (all_in app asked held (answered count (of_front app asked count s.start s.bytes)) ss all.1)
+all_in : (framer : Framer) (asked : Asked) (held : Held) (count : ℕ) (ss : List Stretch) → AreHeldIn held ss → AreIn held (of_stretches framer asked count ss)
+all_in framer asked held count [] all = tt
+all_in framer asked held count (s ∷ ss) all =
+    in_append held (of_front framer asked count s.start s.bytes) _ (messages_in framer asked held count s.start 0 s.bytes all.0)
+    (all_in framer asked held (answered count (of_front framer asked count s.start s.bytes)) ss all.1)
 
 above_in : (held : Held) (before : ℕ) (ms : List Placed) → AreIn held ms → AreIn held (above before ms)
 above_in held before [] all = tt
@@ -116,8 +116,8 @@ above_in held before (m ∷ ms) all = elim (cases_Bool (nat_lt before (end_at m)
 ]
 
 -- those of a direction's stretches with a segment of it
-pub shown_in_held : (app : App) (asked : Asked) (side : Bool) (ls : List Sided) (s : Segment) (before : ℕ)
-    → AreIn (own_step (way_after side ls) s).held (above before (of_stretches app asked 0 (stretches (own_step (way_after side ls) s))))
-shown_in_held app asked side ls s before =
+pub shown_in_held : (framer : Framer) (asked : Asked) (side : Bool) (ls : List Sided) (s : Segment) (before : ℕ)
+    → AreIn (own_step (way_after side ls) s).held (above before (of_stretches framer asked 0 (stretches (own_step (way_after side ls) s))))
+shown_in_held framer asked side ls s before =
     let v : WayState = own_step (way_after side ls) s in
-    above_in v.held before (of_stretches app asked 0 (stretches v)) (all_in app asked v.held 0 (stretches v) (stretches_held side ls s))
+    above_in v.held before (of_stretches framer asked 0 (stretches v)) (all_in framer asked v.held 0 (stretches v) (stretches_held side ls s))

@@ -1,5 +1,5 @@
 -- What is kept is right for the bytes that the streams have, whatever was taken.
-use Rattle.std.proofs.Common.{◌≡◌, ℕ, ◌+◌, ◌^◌, ◌<◌, ◌≤◌, Bool, true, false, not, eqb, List, [], ◌∷◌, length, Option, None, Some, unwrap_or, slice_get, slice_set, refl, sym, ap, subst, ◌∙◌, inl, inr, arith, length-append}
+use Rattle.std.proofs.Common.{◌≡◌, ℕ, ◌+◌, ◌^◌, ◌<◌, ◌≤◌, Bool, true, false, not, eqb, List, [], ◌∷◌, length, Option, None, Some, option_map, unwrap_or, slice_get, slice_set, refl, sym, ap, subst, ◌∙◌, inl, inr, arith, length-append}
 use Rattle.std.specs.Prelude.{◌⊎◌, All}
 use Rattle.std.proofs.lemmas.Bool.{cond-true, cond-false}
 use Rattle.std.proofs.lemmas.Bool.Decides.{eqb_tells}
@@ -13,7 +13,7 @@ use Rattle.tcp_streams.specs.declared.streams.Streams.{Streams}
 use Rattle.tcp_streams.specs.Labels.{told}
 use Rattle.tcp_streams.specs.Ways.{WayState, stretches, lost_in, own_step, other_step, way_step, same_side}
 use Rattle.tcp_streams.specs.Standing.{AreReady, AreStepped, AreSteppedAt, stream_count, streams_of, way_in, way_kept}
-use Rattle.stream_messages.specs.declared.told.App.{App}
+use Rattle.stream_messages.specs.declared.framer.Framer.{Framer}
 use Rattle.stream_messages.specs.declared.placed.Placed.{Placed}
 use Rattle.stream_messages.specs.declared.cursor.Cursor.{Cursor}
 use Rattle.stream_messages.specs.Cursors.{IsQuiet, IsSound, IsWholeInOne}
@@ -21,7 +21,7 @@ use Rattle.stream_messages.proofs.CursorLemmas.{sound_longer}
 use Rattle.tcp_messages.specs.declared.readers.Reader.{Reader}
 use Rattle.tcp_messages.specs.declared.readers.Readers.{Readers}
 use Rattle.tcp_messages.specs.Readers.{AreSound, IsBegun, IsRight, reader_of}
-use Rattle.tcp_messages.specs.Reading.{IsNew, IsOpenedAt, IsReadAt, IsReadFrom, IsReadOn, IsSomeWhole, side_of}
+use Rattle.tcp_messages.specs.Reading.{AreWholeIn, IsNew, IsOpenedAt, IsReadAt, IsReadFrom, IsReadOn, IsSomeWhole, side_of}
 use Rattle.tcp_messages.proofs.Passing.{own_grown}
 use Rattle.tcp_messages.proofs.Streaming.{get_push, get_set, get_there}
 
@@ -91,7 +91,7 @@ other_front w s = refl
 
 -- each cursor is right for the bytes that its direction had
 abbrev pub IsSoundWith : List Stream → ℕ → Readers → Type 0
-IsSoundWith streams number r = (one : Bool) → IsRight r.app (reader_of r one).cursor (way_kept (slice_get streams number) one).front
+IsSoundWith streams number r = (one : Bool) → IsRight r.framer (reader_of r one).cursor (way_kept (slice_get streams number) one).front
 
 get_past : (xs : List Stream) → slice_get xs (length xs) ≡ None
 get_past [] = refl
@@ -101,17 +101,17 @@ get_past (x ∷ xs) = get_past xs
 begun_right : (streams : List Stream) (number : ℕ) (r : Readers) → number ≡ length streams → ((side : Bool) → IsBegun (reader_of r side)) → IsSoundWith streams number r
 begun_right streams number r is begins one =
     let none : slice_get streams number ≡ None = ap (slice_get streams) is ∙ get_past streams in
-    subst (λ (o : Option Stream). IsRight r.app (reader_of r one).cursor (way_kept o one).front) (sym none)
-    (subst (λ (c : Cursor). IsRight r.app c []) (sym (begins one).cursor) (record { sound = tt; quiet = omega arith }))
+    subst (λ (o : Option Stream). IsRight r.framer (reader_of r one).cursor (way_kept o one).front) (sym none)
+    (subst (λ (c : Cursor). IsRight r.framer c []) (sym (begins one).cursor) (record { sound = tt; quiet = omega arith }))
 
 pub record AreOpened (s : Segment) (taken : Taken) (side : Bool) (old new : List Stream) (mid : List (Option Readers)) : Type 0 where
   pub step : IsStep s taken side old new
   pub count : length mid ≡ length new
   pub each : (number : ℕ) (r : Readers) → slice_get mid number ≡ Some (Some r) → IsSoundWith old number r
 
-pub are_opened : (app : Option App) (s : Segment) (taken : Taken) (side : Bool) (old : Streams) (new : List Stream) (readers mid : List (Option Readers)) → AreSound old readers
-    → IsStep s taken side (streams_of old) new → IsOpenedAt app taken.stream readers mid → AreOpened s taken side (streams_of old) new mid
-are_opened app s taken side old new readers mid sound step opened = elim (eqb_tells taken.stream (length readers)) [
+pub are_opened : (framer : Option Framer) (s : Segment) (taken : Taken) (side : Bool) (old : Streams) (new : List Stream) (readers mid : List (Option Readers)) → AreSound old readers
+    → IsStep s taken side (streams_of old) new → IsOpenedAt framer taken.stream readers mid → AreOpened s taken side (streams_of old) new mid
+are_opened framer s taken side old new readers mid sound step opened = elim (eqb_tells taken.stream (length readers)) [
   | inl here ↦
       let last = opened.0 here.1 in
       let size : length new ≡ stream_count old + 1 = step.opens (here.1 ∙ sound.count) in
@@ -129,29 +129,29 @@ are_opened app s taken side old new readers mid sound step opened = elim (eqb_te
       }
 ]
   where
-    by : (x : Option Readers) → IsNew app x → (number : ℕ) (r : Readers) → (slice_get readers number ≡ Some (Some r)) ⊎ ((number ≡ length readers) × (x ≡ Some r))
+    by : (x : Option Readers) → IsNew framer x → (number : ℕ) (r : Readers) → (slice_get readers number ≡ Some (Some r)) ⊎ ((number ≡ length readers) × (x ≡ Some r))
         → IsSoundWith (streams_of old) number r
     by x new number r (inl there) = sound.each number r there
-    by x new number r (inr last) = begun_right (streams_of old) number r (last.0 ∙ sound.count) (begun app r (subst (IsNew app) last.1 new))
+    by x new number r (inr last) = begun_right (streams_of old) number r (last.0 ∙ sound.count) (begun framer r (subst (IsNew framer) last.1 new))
       where
-        begun : (app : Option App) (r : Readers) → IsNew app (Some r) → (side : Bool) → IsBegun (reader_of r side)
+        begun : (framer : Option Framer) (r : Readers) → IsNew framer (Some r) → (side : Bool) → IsBegun (reader_of r side)
         begun None r new = absurd (none-some r (sym new))
-        begun (Some app) r new = new.1
+        begun (Some framer) r new = new.1
 
 -- before a segment is read
 pub own_sound : (s : Segment) (taken : Taken) (side : Bool) (old : Streams) (new : List Stream) (mid : List (Option Readers)) (r : Readers) → AreReady old → AreOpened s taken side (streams_of old) new mid
-    → slice_get mid taken.stream ≡ Some (Some r) → taken.lost ≡ [] → IsSound r.app (reader_of r side).cursor (way_kept (slice_get new taken.stream) side).front
+    → slice_get mid taken.stream ≡ Some (Some r) → taken.lost ≡ [] → IsSound r.framer (reader_of r side).cursor (way_kept (slice_get new taken.stream) side).front
 own_sound s taken side old new mid r ready are there none =
     let w : WayState = way_kept (slice_get (streams_of old) taken.stream) side in
     let grown = own_grown w s (ready.ways taken.stream side) (sym are.step.lost ∙ none) in
-    subst (λ (v : WayState). IsSound r.app (reader_of r side).cursor v.front) (sym are.step.own)
-    (subst (λ (b : List ℕ). IsSound r.app (reader_of r side).cursor b) (sym grown.front) (sound_longer r.app (reader_of r side).cursor w.front grown.more (are.each taken.stream r there side).sound))
+    subst (λ (v : WayState). IsSound r.framer (reader_of r side).cursor v.front) (sym are.step.own)
+    (subst (λ (b : List ℕ). IsSound r.framer (reader_of r side).cursor b) (sym grown.front) (sound_longer r.framer (reader_of r side).cursor w.front grown.more (are.each taken.stream r there side).sound))
 
 -- other readers
 kept_sound : (s : Segment) (taken : Taken) (side : Bool) (old new : List Stream) (mid : List (Option Readers)) (number : ℕ) (r : Readers) (one : Bool) → AreOpened s taken side old new mid
     → slice_get mid number ≡ Some (Some r) → (way_kept (slice_get new number) one).front ≡ (way_kept (slice_get old number) one).front
-    → IsRight r.app (reader_of r one).cursor (way_kept (slice_get new number) one).front
-kept_sound s taken side old new mid number r one are there same = subst (IsRight r.app (reader_of r one).cursor) (sym same) (are.each number r there one)
+    → IsRight r.framer (reader_of r one).cursor (way_kept (slice_get new number) one).front
+kept_sound s taken side old new mid number r one are there same = subst (IsRight r.framer (reader_of r one).cursor) (sym same) (are.each number r there one)
 
 same_or : (b one : Bool) → (one ≡ b) ⊎ (one ≡ not b)
 same_or true true = inl refl
@@ -161,27 +161,27 @@ same_or false true = inr refl
 
 both_sound : (s : Segment) (taken : Taken) (side : Bool) (old new : List Stream) (mid : List (Option Readers)) (messages : List Placed) (x y : Readers) → AreOpened s taken side old new mid
     → slice_get mid taken.stream ≡ Some (Some x) → IsReadOn (way_kept (slice_get new taken.stream) side) taken x y messages → (one : Bool)
-    → IsRight y.app (reader_of y one).cursor (way_kept (slice_get new taken.stream) one).front
+    → IsRight y.framer (reader_of y one).cursor (way_kept (slice_get new taken.stream) one).front
 both_sound s taken side old new mid messages x y are there on one = by (same_or side one)
   where
     is : side_of taken ≡ side
     is = are.step.side_is
 
-    by : (one ≡ side) ⊎ (one ≡ not side) → IsRight y.app (reader_of y one).cursor (way_kept (slice_get new taken.stream) one).front
+    by : (one ≡ side) ⊎ (one ≡ not side) → IsRight y.framer (reader_of y one).cursor (way_kept (slice_get new taken.stream) one).front
     by (inl e) =
-        let here : IsRight x.app (reader_of y side).cursor (way_kept (slice_get new taken.stream) side).front =
-        subst (λ (b : Bool). IsRight x.app (reader_of y b).cursor (way_kept (slice_get new taken.stream) side).front) is on.own.right in
-        subst (λ (o : Bool). IsRight y.app (reader_of y o).cursor (way_kept (slice_get new taken.stream) o).front) (sym e)
-        (subst (λ (a : App). IsRight a (reader_of y side).cursor (way_kept (slice_get new taken.stream) side).front) (sym on.app) here)
+        let here : IsRight x.framer (reader_of y side).cursor (way_kept (slice_get new taken.stream) side).front =
+        subst (λ (b : Bool). IsRight x.framer (reader_of y b).cursor (way_kept (slice_get new taken.stream) side).front) is on.own.right in
+        subst (λ (o : Bool). IsRight y.framer (reader_of y o).cursor (way_kept (slice_get new taken.stream) o).front) (sym e)
+        (subst (λ (a : Framer). IsRight a (reader_of y side).cursor (way_kept (slice_get new taken.stream) side).front) (sym on.framer) here)
     by (inr e) =
         let kept : reader_of y (not side) ≡ reader_of x (not side) = subst (λ (b : Bool). reader_of y (not b) ≡ reader_of x (not b)) is on.other in
         let front : (way_kept (slice_get new taken.stream) (not side)).front ≡ (way_kept (slice_get old taken.stream) (not side)).front =
         ap (λ (w : WayState). w.front) are.step.other ∙ other_front (way_kept (slice_get old taken.stream) (not side)) s in
-        let was : IsRight x.app (reader_of x (not side)).cursor (way_kept (slice_get new taken.stream) (not side)).front =
+        let was : IsRight x.framer (reader_of x (not side)).cursor (way_kept (slice_get new taken.stream) (not side)).front =
         kept_sound s taken side old new mid taken.stream x (not side) are there front in
-        subst (λ (o : Bool). IsRight y.app (reader_of y o).cursor (way_kept (slice_get new taken.stream) o).front) (sym e)
-        (subst (λ (a : App). IsRight a (reader_of y (not side)).cursor (way_kept (slice_get new taken.stream) (not side)).front) (sym on.app)
-        (subst (λ (r : Reader). IsRight x.app r.cursor (way_kept (slice_get new taken.stream) (not side)).front) (sym kept) was))
+        subst (λ (o : Bool). IsRight y.framer (reader_of y o).cursor (way_kept (slice_get new taken.stream) o).front) (sym e)
+        (subst (λ (a : Framer). IsRight a (reader_of y (not side)).cursor (way_kept (slice_get new taken.stream) (not side)).front) (sym on.framer)
+        (subst (λ (r : Reader). IsRight x.framer r.cursor (way_kept (slice_get new taken.stream) (not side)).front) (sym kept) was))
 
 -- behind a segment that was read
 record IsKept (new : List Stream) (left : List (Option Readers)) : Type 0 where
@@ -238,7 +238,13 @@ read_whole v taken mid left messages low read = by at.0 (read at.0 at.1)
 
     by : (r : Option Readers) → IsReadFrom v taken mid left messages r → All (IsSomeWhole (stretches v)) messages
     by None from = subst (All (IsSomeWhole (stretches v))) (sym from.1) (All-nil (IsSomeWhole (stretches v)))
-    by (Some x) from = All-weaker (IsWholeInOne x.app (stretches v)) (IsSomeWhole (stretches v)) (λ m is. (x.app, is)) messages from.2.own.whole
+    by (Some x) from = All-weaker (IsWholeInOne x.framer (stretches v)) (IsSomeWhole (stretches v)) (λ m is. (x.framer, is)) messages from.2.own.whole
+
+-- as its stream is framed
+pub read_framed : (v : WayState) (taken : Taken) (mid left : List (Option Readers)) (messages : List Placed) (r : Option Readers) → IsReadFrom v taken mid left messages r
+    → AreWholeIn (option_map (λ (x : Readers). x.framer) r) (stretches v) messages
+read_framed v taken mid left messages None from = from.1
+read_framed v taken mid left messages (Some x) from = from.2.own.whole
 
 -- a stream's readers, by the place where they are kept
 pub read_at_some : (v : WayState) (taken : Taken) (mid left : List (Option Readers)) (x y : Readers) (messages : List Placed) → slice_get mid taken.stream ≡ Some (Some x) → left ≡ slice_set mid taken.stream (Some y)
@@ -268,4 +274,4 @@ read_few s taken side old new mid left messages ready side_is are read = by at.0
     by None there from = let none : length messages ≡ 0 = ap length from.1 in omega (arith, none)
     by (Some x) there from =
         from.2.own.few w s (ready.ways taken.stream side) are.step.own are.step.lost
-        (subst (λ (b : Bool). IsQuiet x.app (reader_of x b).cursor w.front) (sym side_is) (are.each taken.stream x there side).quiet)
+        (subst (λ (b : Bool). IsQuiet x.framer (reader_of x b).cursor w.front) (sym side_is) (are.each taken.stream x there side).quiet)

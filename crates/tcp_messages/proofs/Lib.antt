@@ -14,3 +14,4 @@ pub mod Renumbering
 pub mod Located
 pub mod Alone
 pub mod Placing
+pub mod Framed

@@ -1,22 +1,14 @@
 -- A message has a byte, and lies in what brought it.
-use Rattle.std.proofs.Common.{◌≡◌, ℕ, zero, suc, ◌+◌, ◌-◌, ◌<◌, ◌≤◌, List, [], ◌∷◌, length, take, drop, Some, arith, length-drop}
+use Rattle.std.proofs.Common.{◌≡◌, ℕ, zero, suc, ◌+◌, ◌-◌, ◌<◌, ◌≤◌, List, [], ◌∷◌, length, take, drop, arith, length-drop}
 use Rattle.std.specs.List.{slice_range}
-use Rattle.stream_messages.proofs.HttpMessageLemmas.{laws_of_messages}
+use Rattle.stream_messages.proofs.FirstLemmas.{first_some}
 use Rattle.stream_messages.specs.declared.told.Told.{Told}
-use Rattle.stream_messages.specs.declared.told.Told.TheVariants.{Dns, Http}
-use Rattle.stream_messages.specs.Tellings.{first_dns, end_of}
+use Rattle.stream_messages.specs.Tellings.{end_of}
 use Rattle.tcp_messages.specs.Shown.{IsMessage}
-
-dns_some : (bytes : List ℕ) (end : ℕ) → first_dns bytes ≡ Some end → 0 < length bytes
-dns_some [] end e = absurd (cc)
-dns_some (b ∷ bytes) end e = omega arith
 
 -- a message has a byte, and ends with the last one
 pub told_ends : (told : Told) (bytes : List ℕ) → IsMessage told bytes → (end_of told ≡ length bytes) × (0 < length bytes)
-told_ends (Dns end) bytes is = (is.1, dns_some bytes end is.0)
-told_ends (Http shape) bytes is =
-    let some : 0 < shape.end = laws_of_messages.some is.0 bytes shape is.1 in
-    (is.2, omega (arith, is.2, some))
+told_ends told bytes is = (is.3, omega (arith, is.3, first_some is.0 is.1 bytes told is.2))
 
 part_len : (payload : List ℕ) (place len : ℕ) → len ≡ length (slice_range payload place (place + len)) → 0 < len → place + len ≤ length payload
 part_len payload place len whole some =

@@ -1,20 +1,20 @@
 -- A segment's messages, given the segments before it.
-use Rattle.std.proofs.Common.{◌≡◌, ℕ, ◌<◌, Bool, not, List, ◌∷◌, length, Option, None, Some, refl, sym, ap, subst, ◌∙◌}
+use Rattle.std.proofs.Common.{◌≡◌, ℕ, ◌<◌, Bool, not, List, ◌∷◌, length, slice_get, Option, None, Some, option_map, refl, sym, ap, subst, ◌∙◌}
 use Rattle.tcp_streams.specs.declared.segment.Segment.{Segment}
 use Rattle.tcp_streams.specs.declared.segment.Taken.{Taken}
 use Rattle.tcp_streams.specs.declared.streams.Streams.{Streams}
 use Rattle.tcp_streams.specs.Labels.{Label, goes_on, latest, label_on, label_of, labels, told, taken_after, way_of}
-use Rattle.tcp_streams.specs.Ways.{WayState, own_step}
+use Rattle.tcp_streams.specs.Ways.{WayState, own_step, stretches}
 use Rattle.tcp_streams.specs.Standing.{StandsFor, stream_count, way_in}
 use Rattle.tcp_streams.proofs.ReadLemmas.{stands_way}
-use Rattle.stream_messages.specs.declared.told.App.{App}
+use Rattle.stream_messages.specs.declared.framer.Framer.{Framer}
 use Rattle.stream_messages.specs.declared.placed.Placed.{Placed}
 use Rattle.tcp_messages.specs.declared.readers.Readers.{Readers}
 use Rattle.tcp_messages.specs.Shown.{messages_after, messages_by}
 use Rattle.tcp_messages.specs.Readers.{IsOfEnds, ReadsStreams}
-use Rattle.tcp_messages.specs.Reading.{AreListed, IsOpenedAt, IsReadAt, side_of}
-use Rattle.tcp_messages.proofs.Keeping.{told_side, told_lost, own_way, self_eqb}
-use Rattle.tcp_messages.proofs.Streaming.{IsOf, IsOpening, app_is, opened_reads, read_reads}
+use Rattle.tcp_messages.specs.Reading.{AreListed, AreWholeIn, IsOpenedAt, IsReadAt, side_of}
+use Rattle.tcp_messages.proofs.Keeping.{told_side, told_lost, own_way, read_framed, self_eqb}
+use Rattle.tcp_messages.proofs.Streaming.{IsOf, IsOpening, framer_is, get_there, opened_reads, read_reads}
 
 pub segment_is : (s : Segment) (ls : List Label) → (label_of s ls).segment ≡ s
 segment_is s ls = by (goes_on (latest s ls) s ls)
@@ -49,20 +49,28 @@ is_of past s taken streams stands is low =
       lost = told_lost l.stream l.side (way_of l.stream l.side ls) (way_of l.stream (not l.side) ls) l.segment taken is;
     }
 
-pub next_reads : (app_of : Segment → Option App) (app : Option App) (past : List Segment) (s : Segment) (taken : Taken) (streams : Streams) (old mid left : List (Option Readers)) (messages : List Placed)
-    → IsOfEnds app_of → app ≡ app_of s → StandsFor (s ∷ past) streams → taken ≡ taken_after past s → AreListed (labels past) old → ReadsStreams app_of (labels past) old
-    → taken.stream < stream_count streams → taken.stream < length mid → IsOpenedAt app taken.stream old mid → IsReadAt (way_in streams taken.stream taken.side) taken mid left messages
-    → (messages ≡ messages_after app past s) × ReadsStreams app_of (labels (s ∷ past)) left
-next_reads app_of app past s taken streams old mid left messages of_ends app_same stands is listed reads low within opened read =
+pub next_reads : (framer_of : Segment → Option Framer) (framer : Option Framer) (past : List Segment) (s : Segment) (taken : Taken) (streams : Streams) (old mid left : List (Option Readers)) (messages : List Placed)
+    → IsOfEnds framer_of → framer ≡ framer_of s → StandsFor (s ∷ past) streams → taken ≡ taken_after past s → AreListed (labels past) old → ReadsStreams framer_of (labels past) old
+    → taken.stream < stream_count streams → taken.stream < length mid → IsOpenedAt framer taken.stream old mid → IsReadAt (way_in streams taken.stream taken.side) taken mid left messages
+    → (messages ≡ messages_after framer past s) × ReadsStreams framer_of (labels (s ∷ past)) left
+    × AreWholeIn framer (stretches (way_in streams taken.stream taken.side)) messages
+next_reads framer_of framer past s taken streams old mid left messages of_ends framer_same stands is listed reads low within opened read =
     let ls : List Label = labels past in
     let l : Label = label_of s ls in
     let of : IsOf l ls (way_in streams taken.stream taken.side) taken = is_of past s taken streams stands is low in
-    let opening : IsOpening app s ls old mid = record { listed = listed; is = subst (λ (k : ℕ). IsOpenedAt app k old mid) of.stream opened } in
+    let opening : IsOpening framer s ls old mid = record { listed = listed; is = subst (λ (k : ℕ). IsOpenedAt framer k old mid) of.stream opened } in
     let segment : l.segment ≡ s = segment_is s ls in
-    let result = read_reads app_of l ls (way_in streams taken.stream taken.side) taken mid left messages (record {
+    let result = read_reads framer_of l ls (way_in streams taken.stream taken.side) taken mid left messages (record {
       of = of;
       low = subst (λ (k : ℕ). k < length mid) of.stream within;
-      reads = opened_reads app_of app s ls old mid reads opening;
-      knows = λ r there. ap app_of segment ∙ app_is app_of app s ls old mid r of_ends app_same reads opening there;
+      reads = opened_reads framer_of framer s ls old mid reads opening;
+      knows = λ r there. ap framer_of segment ∙ framer_is framer_of framer s ls old mid r of_ends framer_same reads opening there;
     }) read in
-    (result.0 ∙ ap (λ (a : Option App). messages_by a l ls) (ap app_of segment ∙ sym app_same), result.1)
+    let at = get_there mid taken.stream within in
+    let there : slice_get mid l.stream ≡ Some at.0 = ap (slice_get mid) (sym of.stream) ∙ at.1 in
+    let known : framer ≡ option_map (λ (x : Readers). x.framer) at.0 = framer_same ∙ framer_is framer_of framer s ls old mid at.0 of_ends framer_same reads opening there in (
+      result.0 ∙ ap (λ (a : Option Framer). messages_by a l ls) (ap framer_of segment ∙ sym framer_same),
+      result.1,
+      subst (λ (a : Option Framer). AreWholeIn a (stretches (way_in streams taken.stream taken.side)) messages) (sym known)
+          (read_framed (way_in streams taken.stream taken.side) taken mid left messages at.0 (read at.0 at.1)),
+    )

@@ -10,7 +10,7 @@ use Rattle.tcp_streams.specs.Gaps.{first_free, start_past, left_behind}
 use Rattle.tcp_streams.specs.Ways.{WayState, stretches, end_of, lost_in, start_for, front_for, held_after, own_step, IsWay, AreApart}
 use Rattle.tcp_streams.proofs.Places.{length-bytes_at, apart_past}
 use Rattle.tcp_streams.proofs.WayLemmas.{step_room}
-use Rattle.stream_messages.specs.declared.told.App.{App}
+use Rattle.stream_messages.specs.declared.framer.Framer.{Framer}
 use Rattle.stream_messages.specs.declared.placed.Placed.{Placed}
 use Rattle.stream_messages.specs.declared.cursor.Cursor.{Cursor}
 use Rattle.stream_messages.specs.declared.cutting.Shown.{Shown}
@@ -69,23 +69,23 @@ own_grown w s way none =
       front = grown.1;
     }
 
-pub cut_grown : (app : App) (heads : List Bool) (asked : Asked) (w v : WayState) (cursor : Cursor) (shown : Shown) → IsWay w → IsGrown w v
-    → CutsAll app heads v.start cursor v.front shown → AsksFrom (end_of w) heads asked → IsBehindWay app asked w cursor → CutsWay app asked (end_of w) v shown
-cut_grown app heads asked w v cursor shown way grown cuts asks behind =
-    let count : ℕ = answered 0 (of_stretches app asked 0 w.earlier) in
+pub cut_grown : (framer : Framer) (heads : List Bool) (asked : Asked) (w v : WayState) (cursor : Cursor) (shown : Shown) → IsWay w → IsGrown w v
+    → CutsAll framer heads v.start cursor v.front shown → AsksFrom (end_of w) heads asked → IsBehindWay framer asked w cursor → CutsWay framer asked (end_of w) v shown
+cut_grown framer heads asked w v cursor shown way grown cuts asks behind =
+    let count : ℕ = answered 0 (of_stretches framer asked 0 w.earlier) in
     let end : v.start + length w.front ≡ end_of w = ap (λ (n : ℕ). n + length w.front) grown.start in
     let low : end_of w ≤ v.start + length w.front = omega (arith, end) in
-    let cut : IsCut app asked count v.start w.front v.front shown =
+    let cut : IsCut framer asked count v.start w.front v.front shown =
     cuts asked asked count w.front grown.more grown.front (λ at n below. refl) (λ at n above below. asks at n (omega (arith, low, above)))
-    (subst (λ (n : ℕ). IsBehind app asked count n cursor w.front) (sym grown.start) behind) in
+    (subst (λ (n : ℕ). IsBehind framer asked count n cursor w.front) (sym grown.start) behind) in
     let last : Stretch = record { start = v.start; bytes = v.front } in
     record {
       messages =
           cut.messages
-          ∙ ap (λ (n : ℕ). above n (of_front app asked count v.start v.front)) end
-          ∙ sym (laws_of_new.grown app asked 0 (end_of w) w.earlier last (all_before (end_of w) 0 w.earlier w.start (omega arith) way.apart))
-          ∙ ap (λ (xs : List Stretch). above (end_of w) (of_stretches app asked 0 (xs ++ last ∷ []))) (sym grown.earlier);
-      cursor = subst (λ (xs : List Stretch). IsBehind app asked (answered 0 (of_stretches app asked 0 xs)) v.start shown.cursor v.front) (sym grown.earlier) cut.cursor;
+          ∙ ap (λ (n : ℕ). above n (of_front framer asked count v.start v.front)) end
+          ∙ sym (laws_of_new.grown framer asked 0 (end_of w) w.earlier last (all_before (end_of w) 0 w.earlier w.start (omega arith) way.apart))
+          ∙ ap (λ (xs : List Stretch). above (end_of w) (of_stretches framer asked 0 (xs ++ last ∷ []))) (sym grown.earlier);
+      cursor = subst (λ (xs : List Stretch). IsBehind framer asked (answered 0 (of_stretches framer asked 0 xs)) v.start shown.cursor v.front) (sym grown.earlier) cut.cursor;
     }
 
 -- ---- others begin behind lost bytes
@@ -160,47 +160,47 @@ own_passed w s gap gaps way is =
     }
 
 -- the answers before the last stretch, and in it
-counts_all : (app : App) (asked : Asked) (w : WayState) (cursor : Cursor) → IsBehindWay app asked w cursor → CountsFor (answers_before cursor) (answered 0 (of_stretches app asked 0 (stretches w)))
-counts_all app asked w cursor behind =
+counts_all : (framer : Framer) (asked : Asked) (w : WayState) (cursor : Cursor) → IsBehindWay framer asked w cursor → CountsFor (answers_before cursor) (answered 0 (of_stretches framer asked 0 (stretches w)))
+counts_all framer asked w cursor behind =
     let old : Stretch = record { start = w.start; bytes = w.front } in
-    let count : ℕ = answered 0 (of_stretches app asked 0 w.earlier) in
-    let is : answered 0 (of_stretches app asked 0 (stretches w)) ≡ answered count (of_front app asked count w.start w.front) =
-    ap (answered 0) (of_stretches-append app asked 0 w.earlier (old ∷ []))
-    ∙ answered-append 0 (of_stretches app asked 0 w.earlier) (of_stretches app asked count (old ∷ []))
-    ∙ ap (answered count) (append-nil (of_front app asked count w.start w.front)) in
+    let count : ℕ = answered 0 (of_stretches framer asked 0 w.earlier) in
+    let is : answered 0 (of_stretches framer asked 0 (stretches w)) ≡ answered count (of_front framer asked count w.start w.front) =
+    ap (answered 0) (of_stretches-append framer asked 0 w.earlier (old ∷ []))
+    ∙ answered-append 0 (of_stretches framer asked 0 w.earlier) (of_stretches framer asked count (old ∷ []))
+    ∙ ap (answered count) (append-nil (of_front framer asked count w.start w.front)) in
     subst (CountsFor (answers_before cursor)) (sym is) behind.counts
 
-abbrev pub CutsNewest : App → List Bool → List Stretch → ℕ → List ℕ → Cursor → Shown → Type 0
-CutsNewest app heads passed start front cursor shown =
+abbrev pub CutsNewest : Framer → List Bool → List Stretch → ℕ → List ℕ → Cursor → Shown → Type 0
+CutsNewest framer heads passed start front cursor shown =
     (asked : Asked) (number from : ℕ) → CountsFor (answers_before cursor) number → AsksFrom from heads asked → AllFrom from (with_last passed start front)
-    → shown.messages ≡ of_stretches app asked number (with_last passed start front)
+    → shown.messages ≡ of_stretches framer asked number (with_last passed start front)
 
-abbrev pub BehindNewest : App → List Bool → List Stretch → ℕ → List ℕ → Cursor → Shown → Type 0
-BehindNewest app heads passed start front cursor shown =
+abbrev pub BehindNewest : Framer → List Bool → List Stretch → ℕ → List ℕ → Cursor → Shown → Type 0
+BehindNewest framer heads passed start front cursor shown =
     (asked : Asked) (number from : ℕ) → CountsFor (answers_before cursor) number → AsksFrom from heads asked → AllFrom from (with_last passed start front)
-    → IsBehind app asked (answered number (of_stretches app asked number passed)) start shown.cursor front
+    → IsBehind framer asked (answered number (of_stretches framer asked number passed)) start shown.cursor front
 
-pub cut_behind : (app : App) (heads : List Bool) (asked : Asked) (w v : WayState) (passed : List Stretch) (cursor : Cursor) (shown : Shown) → IsWay w → IsNewest w v passed
-    → CutsNewest app heads passed v.start v.front cursor shown → BehindNewest app heads passed v.start v.front cursor shown
-    → AsksFrom (end_of w) heads asked → IsBehindWay app asked w cursor → CutsWay app asked (end_of w) v shown
-cut_behind app heads asked w v passed cursor shown way newest messages_are cursor_is asks behind =
+pub cut_behind : (framer : Framer) (heads : List Bool) (asked : Asked) (w v : WayState) (passed : List Stretch) (cursor : Cursor) (shown : Shown) → IsWay w → IsNewest w v passed
+    → CutsNewest framer heads passed v.start v.front cursor shown → BehindNewest framer heads passed v.start v.front cursor shown
+    → AsksFrom (end_of w) heads asked → IsBehindWay framer asked w cursor → CutsWay framer asked (end_of w) v shown
+cut_behind framer heads asked w v passed cursor shown way newest messages_are cursor_is asks behind =
     let old : Stretch = record { start = w.start; bytes = w.front } in
     let last : Stretch = record { start = v.start; bytes = v.front } in
-    let count : ℕ = answered 0 (of_stretches app asked 0 (stretches w)) in
-    let counts : CountsFor (answers_before cursor) count = counts_all app asked w cursor behind in
+    let count : ℕ = answered 0 (of_stretches framer asked 0 (stretches w)) in
+    let counts : CountsFor (answers_before cursor) count = counts_all framer asked w cursor behind in
     let split : v.earlier ≡ stretches w ++ passed = newest.earlier ∙ sym (append_assoc w.earlier (old ∷ []) passed) in
     let before : AllBefore (end_of w) (stretches w) =
     before_push (end_of w) w.earlier old (all_before (end_of w) 0 w.earlier w.start (omega arith) way.apart) (omega arith) in
     record {
       messages =
           messages_are asked count (end_of w) counts asks newest.from
-          ∙ sym (laws_of_new.begun app asked 0 (end_of w) (stretches w) (with_last passed v.start v.front) before newest.from)
-          ∙ ap (λ (xs : List Stretch). above (end_of w) (of_stretches app asked 0 xs)) (sym (append_assoc (stretches w) passed (last ∷ [])))
-          ∙ ap (λ (xs : List Stretch). above (end_of w) (of_stretches app asked 0 (xs ++ last ∷ []))) (sym split);
-      cursor = subst (λ (n : ℕ). IsBehind app asked n v.start shown.cursor v.front) (sym (
-          ap (λ (xs : List Stretch). answered 0 (of_stretches app asked 0 xs)) split
-          ∙ ap (answered 0) (of_stretches-append app asked 0 (stretches w) passed)
-          ∙ answered-append 0 (of_stretches app asked 0 (stretches w)) (of_stretches app asked count passed)
+          ∙ sym (laws_of_new.begun framer asked 0 (end_of w) (stretches w) (with_last passed v.start v.front) before newest.from)
+          ∙ ap (λ (xs : List Stretch). above (end_of w) (of_stretches framer asked 0 xs)) (sym (append_assoc (stretches w) passed (last ∷ [])))
+          ∙ ap (λ (xs : List Stretch). above (end_of w) (of_stretches framer asked 0 (xs ++ last ∷ []))) (sym split);
+      cursor = subst (λ (n : ℕ). IsBehind framer asked n v.start shown.cursor v.front) (sym (
+          ap (λ (xs : List Stretch). answered 0 (of_stretches framer asked 0 xs)) split
+          ∙ ap (answered 0) (of_stretches-append framer asked 0 (stretches w) passed)
+          ∙ answered-append 0 (of_stretches framer asked 0 (stretches w)) (of_stretches framer asked count passed)
           )) (cursor_is asked count (end_of w) counts asks newest.from);
     }
 
@@ -210,10 +210,10 @@ pub nil_by : {X : Type 0} (xs : List X) → length xs ≡ 0 → xs ≡ []
 nil_by [] none = refl
 nil_by (x ∷ xs) none = absurd (omega (arith, none))
 
-pub whole_last : (app : App) (v : WayState) (start : ℕ) (front : List ℕ) (ms : List Placed) → start ≡ v.start → front ≡ v.front → All (IsWhole app start front) ms → All (IsWholeInOne app (stretches v)) ms
-whole_last app v start front ms starts is whole =
-    whole_in app (stretches v) (length v.earlier) (record { start = v.start; bytes = v.front }) ms (last_there v.earlier (record { start = v.start; bytes = v.front }))
-    (subst (λ (b : List ℕ). All (IsWhole app v.start b) ms) is (subst (λ (n : ℕ). All (IsWhole app n front) ms) starts whole))
+pub whole_last : (framer : Framer) (v : WayState) (start : ℕ) (front : List ℕ) (ms : List Placed) → start ≡ v.start → front ≡ v.front → All (IsWhole framer start front) ms → All (IsWholeInOne framer (stretches v)) ms
+whole_last framer v start front ms starts is whole =
+    whole_in framer (stretches v) (length v.earlier) (record { start = v.start; bytes = v.front }) ms (last_there v.earlier (record { start = v.start; bytes = v.front }))
+    (subst (λ (b : List ℕ). All (IsWhole framer v.start b) ms) is (subst (λ (n : ℕ). All (IsWhole framer n front) ms) starts whole))
 
 drop_there : (k i j : ℕ) (xs ys : List Stretch) (s : Stretch) → j ≡ k + i → k ≤ length xs → slice_get (drop k xs ++ ys) i ≡ Some s → slice_get (xs ++ ys) j ≡ Some s
 drop_there zero i j xs ys s place low = let is : j ≡ i = omega (arith, place) in λ e. ap (slice_get (xs ++ ys)) is ∙ e
@@ -221,14 +221,14 @@ drop_there (suc k) i j [] ys s place low = absurd (omega (arith, low))
 drop_there (suc k) i zero (x ∷ xs) ys s place low = absurd (omega (arith, place))
 drop_there (suc k) i (suc j) (x ∷ xs) ys s place low = λ e. drop_there k i j xs ys s (omega (arith, place)) (omega (arith, low)) e
 
-pub whole_behind : (app : App) (v : WayState) (passed : List Stretch) (n start : ℕ) (front : List ℕ) (ms : List Placed) → passed ≡ drop (length v.earlier - n) v.earlier → start ≡ v.start → front ≡ v.front
-    → All (IsWholeInOne app (with_last passed start front)) ms → All (IsWholeInOne app (stretches v)) ms
-whole_behind app v passed n start front ms passed_is starts is whole =
-    let here : All (IsWholeInOne app (with_last (drop (length v.earlier - n) v.earlier) v.start v.front)) ms =
-    subst (λ (b : List ℕ). All (IsWholeInOne app (with_last (drop (length v.earlier - n) v.earlier) v.start b)) ms) is
-    (subst (λ (k : ℕ). All (IsWholeInOne app (with_last (drop (length v.earlier - n) v.earlier) k front)) ms) starts
-    (subst (λ (xs : List Stretch). All (IsWholeInOne app (with_last xs start front)) ms) passed_is whole)) in
-    All-weaker (IsWholeInOne app (with_last (drop (length v.earlier - n) v.earlier) v.start v.front)) (IsWholeInOne app (stretches v))
+pub whole_behind : (framer : Framer) (v : WayState) (passed : List Stretch) (n start : ℕ) (front : List ℕ) (ms : List Placed) → passed ≡ drop (length v.earlier - n) v.earlier → start ≡ v.start → front ≡ v.front
+    → All (IsWholeInOne framer (with_last passed start front)) ms → All (IsWholeInOne framer (stretches v)) ms
+whole_behind framer v passed n start front ms passed_is starts is whole =
+    let here : All (IsWholeInOne framer (with_last (drop (length v.earlier - n) v.earlier) v.start v.front)) ms =
+    subst (λ (b : List ℕ). All (IsWholeInOne framer (with_last (drop (length v.earlier - n) v.earlier) v.start b)) ms) is
+    (subst (λ (k : ℕ). All (IsWholeInOne framer (with_last (drop (length v.earlier - n) v.earlier) k front)) ms) starts
+    (subst (λ (xs : List Stretch). All (IsWholeInOne framer (with_last xs start front)) ms) passed_is whole)) in
+    All-weaker (IsWholeInOne framer (with_last (drop (length v.earlier - n) v.earlier) v.start v.front)) (IsWholeInOne framer (stretches v))
     (λ m one. (
       (length v.earlier - n) + one.0,
       one.1,
@@ -237,42 +237,42 @@ whole_behind app v passed n start front ms passed_is starts is whole =
     ))
     ms here
 
-pub grown_case : (app : App) (heads : List Bool) (asked : Asked) (w v : WayState) (s : Segment) (start : ℕ) (front : List ℕ) (lost : List Lost) (cursor : Cursor) (shown : Shown) → start ≡ v.start → front ≡ v.front
-    → length lost ≡ 0 → CutsAll app heads start cursor front shown → IsWay w → v ≡ own_step w s → lost ≡ lost_in w → AsksFrom (end_of w) heads asked → IsBehindWay app asked w cursor
-    → CutsWay app asked (end_of w) (own_step w s) shown
-grown_case app heads asked w v s start front lost cursor shown starts is none cuts way step lost_is asks behind =
-    let here : CutsAll app heads v.start cursor v.front shown =
-    subst (λ (b : List ℕ). CutsAll app heads v.start cursor b shown) is (subst (λ (n : ℕ). CutsAll app heads n cursor front shown) starts cuts) in
-    let own : CutsAll app heads (own_step w s).start cursor (own_step w s).front shown = subst (λ (u : WayState). CutsAll app heads u.start cursor u.front shown) step here in
-    cut_grown app heads asked w (own_step w s) cursor shown way (own_grown w s way (sym lost_is ∙ nil_by lost none)) own asks behind
+pub grown_case : (framer : Framer) (heads : List Bool) (asked : Asked) (w v : WayState) (s : Segment) (start : ℕ) (front : List ℕ) (lost : List Lost) (cursor : Cursor) (shown : Shown) → start ≡ v.start → front ≡ v.front
+    → length lost ≡ 0 → CutsAll framer heads start cursor front shown → IsWay w → v ≡ own_step w s → lost ≡ lost_in w → AsksFrom (end_of w) heads asked → IsBehindWay framer asked w cursor
+    → CutsWay framer asked (end_of w) (own_step w s) shown
+grown_case framer heads asked w v s start front lost cursor shown starts is none cuts way step lost_is asks behind =
+    let here : CutsAll framer heads v.start cursor v.front shown =
+    subst (λ (b : List ℕ). CutsAll framer heads v.start cursor b shown) is (subst (λ (n : ℕ). CutsAll framer heads n cursor front shown) starts cuts) in
+    let own : CutsAll framer heads (own_step w s).start cursor (own_step w s).front shown = subst (λ (u : WayState). CutsAll framer heads u.start cursor u.front shown) step here in
+    cut_grown framer heads asked w (own_step w s) cursor shown way (own_grown w s way (sym lost_is ∙ nil_by lost none)) own asks behind
 
-record BothNewest (app : App) (heads : List Bool) (passed : List Stretch) (start : ℕ) (front : List ℕ) (cursor : Cursor) (shown : Shown) : Type 0 where
-  cuts : CutsNewest app heads passed start front cursor shown
-  behind : BehindNewest app heads passed start front cursor shown
+record BothNewest (framer : Framer) (heads : List Bool) (passed : List Stretch) (start : ℕ) (front : List ℕ) (cursor : Cursor) (shown : Shown) : Type 0 where
+  cuts : CutsNewest framer heads passed start front cursor shown
+  behind : BehindNewest framer heads passed start front cursor shown
 
-pub newest_case : (app : App) (heads : List Bool) (asked : Asked) (w v : WayState) (s : Segment) (passed : List Stretch) (start : ℕ) (front : List ℕ) (lost : List Lost) (cursor : Cursor) (shown : Shown)
+pub newest_case : (framer : Framer) (heads : List Bool) (asked : Asked) (w v : WayState) (s : Segment) (passed : List Stretch) (start : ℕ) (front : List ℕ) (lost : List Lost) (cursor : Cursor) (shown : Shown)
     → passed ≡ drop (length v.earlier - (length lost - 1)) v.earlier → start ≡ v.start → front ≡ v.front → (length lost ≡ 0 → ⊥)
-    → CutsNewest app heads passed start front cursor shown → BehindNewest app heads passed start front cursor shown
-    → IsWay w → v ≡ own_step w s → lost ≡ lost_in w → AsksFrom (end_of w) heads asked → IsBehindWay app asked w cursor → CutsWay app asked (end_of w) (own_step w s) shown
-newest_case app heads asked w v s passed start front [] cursor shown passed_is starts is some cuts behind_is way step lost_is asks behind = absurd (some refl)
-newest_case app heads asked w v s passed start front (gap ∷ gaps) cursor shown passed_is starts is some cuts behind_is way step lost_is asks behind =
+    → CutsNewest framer heads passed start front cursor shown → BehindNewest framer heads passed start front cursor shown
+    → IsWay w → v ≡ own_step w s → lost ≡ lost_in w → AsksFrom (end_of w) heads asked → IsBehindWay framer asked w cursor → CutsWay framer asked (end_of w) (own_step w s) shown
+newest_case framer heads asked w v s passed start front [] cursor shown passed_is starts is some cuts behind_is way step lost_is asks behind = absurd (some refl)
+newest_case framer heads asked w v s passed start front (gap ∷ gaps) cursor shown passed_is starts is some cuts behind_is way step lost_is asks behind =
     let has = own_passed w s gap gaps way (sym lost_is) in
     let here : passed ≡ has.passed = passed_is ∙ ap (λ (u : WayState). drop (length u.earlier - (length (gap ∷ gaps) - 1)) u.earlier) step ∙ has.last in
-    let both : BothNewest app heads has.passed (own_step w s).start (own_step w s).front cursor shown =
-    subst (λ (u : WayState). BothNewest app heads has.passed u.start u.front cursor shown) step
-    (subst (λ (b : List ℕ). BothNewest app heads has.passed v.start b cursor shown) is
-    (subst (λ (n : ℕ). BothNewest app heads has.passed n front cursor shown) starts
-    (subst (λ (xs : List Stretch). BothNewest app heads xs start front cursor shown) here (record { cuts = cuts; behind = behind_is })))) in
-    cut_behind app heads asked w (own_step w s) has.passed cursor shown way has.is both.cuts both.behind asks behind
+    let both : BothNewest framer heads has.passed (own_step w s).start (own_step w s).front cursor shown =
+    subst (λ (u : WayState). BothNewest framer heads has.passed u.start u.front cursor shown) step
+    (subst (λ (b : List ℕ). BothNewest framer heads has.passed v.start b cursor shown) is
+    (subst (λ (n : ℕ). BothNewest framer heads has.passed n front cursor shown) starts
+    (subst (λ (xs : List Stretch). BothNewest framer heads xs start front cursor shown) here (record { cuts = cuts; behind = behind_is })))) in
+    cut_behind framer heads asked w (own_step w s) has.passed cursor shown way has.is both.cuts both.behind asks behind
 
 -- ---- each message has a byte of its own
 
-pub right_by : (app : App) (v : WayState) (front : List ℕ) (c : Cursor) → front ≡ v.front → IsSound app c front → IsQuiet app c front → IsRight app c v.front
-right_by app v front c is sound quiet = subst (IsRight app c) is (record { sound = sound; quiet = quiet })
+pub right_by : (framer : Framer) (v : WayState) (front : List ℕ) (c : Cursor) → front ≡ v.front → IsSound framer c front → IsQuiet framer c front → IsRight framer c v.front
+right_by framer v front c is sound quiet = subst (IsRight framer c) is (record { sound = sound; quiet = quiet })
 
-pub grown_few : (app : App) (w v : WayState) (s : Segment) (front : List ℕ) (lost : List Lost) (cursor : Cursor) (ms : List Placed) → front ≡ v.front → length lost ≡ 0
-    → AddsFew app cursor front ms → IsWay w → v ≡ own_step w s → lost ≡ lost_in w → IsQuiet app cursor w.front → length ms ≤ 2 ^ 25
-grown_few app w v s front lost cursor ms is none adds way step lost_is quiet =
+pub grown_few : (framer : Framer) (w v : WayState) (s : Segment) (front : List ℕ) (lost : List Lost) (cursor : Cursor) (ms : List Placed) → front ≡ v.front → length lost ≡ 0
+    → AddsFew framer cursor front ms → IsWay w → v ≡ own_step w s → lost ≡ lost_in w → IsQuiet framer cursor w.front → length ms ≤ 2 ^ 25
+grown_few framer w v s front lost cursor ms is none adds way step lost_is quiet =
     let grown = own_grown w s way (sym lost_is ∙ nil_by lost none) in
     let here : front ≡ w.front ++ grown.more = is ∙ ap (λ (u : WayState). u.front) step ∙ grown.front in
     let few : length ms ≤ length grown.more = adds w.front grown.more here quiet in
@@ -285,11 +285,11 @@ bytes_apart : (low : ℕ) (xs : List Stretch) (next : ℕ) → AreApart low xs n
 bytes_apart low [] next apart = omega (arith, apart)
 bytes_apart low (x ∷ xs) next apart = omega (arith, apart.0, bytes_apart (x.start + length x.bytes + 1) xs next apart.1)
 
-pub newest_few : (app : App) (w v : WayState) (s : Segment) (passed : List Stretch) (front : List ℕ) (lost : List Lost) (ms : List Placed)
+pub newest_few : (framer : Framer) (w v : WayState) (s : Segment) (passed : List Stretch) (front : List ℕ) (lost : List Lost) (ms : List Placed)
     → passed ≡ drop (length v.earlier - (length lost - 1)) v.earlier → front ≡ v.front → (length lost ≡ 0 → ⊥) → length ms ≤ bytes_in passed + length front
     → IsWay w → v ≡ own_step w s → lost ≡ lost_in w → length ms ≤ 2 ^ 25
-newest_few app w v s passed front [] ms passed_is is some few way step lost_is = absurd (some refl)
-newest_few app w v s passed front (gap ∷ gaps) ms passed_is is some few way step lost_is =
+newest_few framer w v s passed front [] ms passed_is is some few way step lost_is = absurd (some refl)
+newest_few framer w v s passed front (gap ∷ gaps) ms passed_is is some few way step lost_is =
     let has = own_passed w s gap gaps way (sym lost_is) in
     let here : bytes_in passed ≡ bytes_in has.passed =
     ap bytes_in (passed_is ∙ ap (λ (u : WayState). drop (length u.earlier - (length (gap ∷ gaps) - 1)) u.earlier) step ∙ has.last) in

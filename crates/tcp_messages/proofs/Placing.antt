@@ -11,7 +11,7 @@ use Rattle.tcp_streams.specs.declared.segment.Segment.{Segment}
 use Rattle.tcp_streams.specs.Labels.{Label, label_of, labels, sided_of, told, way_of}
 use Rattle.tcp_streams.specs.Ways.{WayState, own_step}
 use Rattle.tcp_streams.proofs.PassedGaps.{with_own}
-use Rattle.stream_messages.specs.declared.told.App.{App}
+use Rattle.stream_messages.specs.declared.framer.Framer.{Framer}
 use Rattle.stream_messages.specs.declared.told.Told.{Told}
 use Rattle.stream_messages.specs.declared.placed.Placed.{Placed}
 use Rattle.stream_messages.specs.Tellings.{first_of, end_of, then_of, passed, answers}
@@ -47,21 +47,21 @@ with_some : (at : ℕ) (o : Option Told) (more : Told → List Placed) → ((tol
 with_some at None more some rest = tt
 with_some at (Some told) more some rest = (some told refl, follow_some (then_of told) (more told) (rest told))
 
-messages_some : (app : App) (asked : Asked) (count at skip : ℕ) (bytes : List ℕ) → AreSome (messages app asked count at skip bytes)
+messages_some : (framer : Framer) (asked : Asked) (count at skip : ℕ) (bytes : List ℕ) → AreSome (messages framer asked count at skip bytes)
 unfolding messages
-messages_some app asked count at skip [] = tt
-messages_some app asked count at (suc skip) (b ∷ rest) = messages_some app asked count (suc at) skip rest
-messages_some app asked count at zero (b ∷ rest) =
-    with_some at (first_of app (asked at count) (b ∷ rest))
-    (λ (told : Told). messages app asked (count + answers told) (suc at) (end_of told - 1 + passed (then_of told)) rest)
-    (λ told e. first_some app (asked at count) (b ∷ rest) told e)
-    (λ told. messages_some app asked (count + answers told) (suc at) (end_of told - 1 + passed (then_of told)) rest)
+messages_some framer asked count at skip [] = tt
+messages_some framer asked count at (suc skip) (b ∷ rest) = messages_some framer asked count (suc at) skip rest
+messages_some framer asked count at zero (b ∷ rest) =
+    with_some at (first_of framer (asked at count) (b ∷ rest))
+    (λ (told : Told). messages framer asked (count + answers told) (suc at) (end_of told - 1 + passed (then_of told)) rest)
+    (λ told e. first_some framer (asked at count) (b ∷ rest) told e)
+    (λ told. messages_some framer asked (count + answers told) (suc at) (end_of told - 1 + passed (then_of told)) rest)
 
-all_some : (app : App) (asked : Asked) (count : ℕ) (ss : List Stretch) → AreSome (of_stretches app asked count ss)
-all_some app asked count [] = tt
-all_some app asked count (s ∷ ss) =
-    some_append (of_front app asked count s.start s.bytes) _ (messages_some app asked count s.start 0 s.bytes)
-    (all_some app asked (answered count (of_front app asked count s.start s.bytes)) ss)
+all_some : (framer : Framer) (asked : Asked) (count : ℕ) (ss : List Stretch) → AreSome (of_stretches framer asked count ss)
+all_some framer asked count [] = tt
+all_some framer asked count (s ∷ ss) =
+    some_append (of_front framer asked count s.start s.bytes) _ (messages_some framer asked count s.start 0 s.bytes)
+    (all_some framer asked (answered count (of_front framer asked count s.start s.bytes)) ss)
 
 above_some : (before : ℕ) (ms : List Placed) → AreSome ms → AreSome (above before ms)
 above_some before [] all = tt
@@ -70,17 +70,17 @@ above_some before (m ∷ ms) all = elim (cases_Bool (nat_lt before (end_at m))) 
   | inr early ↦ rw early (above_some before ms all.1)
 ]
 
-by_some : (app : Option App) (l : Label) (ls : List Label) → AreSome (messages_by app l ls)
+by_some : (framer : Option Framer) (l : Label) (ls : List Label) → AreSome (messages_by framer l ls)
 by_some None l ls = tt
-by_some (Some app) l ls =
-    above_some (front_end l.side (noted app (brought l.stream ls)))
-    (of_stretches app (asked_in l.side (noted app (brought l.stream ls))) 0 (brought_by l ls).stretches)
-    (all_some app (asked_in l.side (noted app (brought l.stream ls))) 0 (brought_by l ls).stretches)
+by_some (Some framer) l ls =
+    above_some (front_end l.side (noted framer (brought l.stream ls)))
+    (of_stretches framer (asked_in l.side (noted framer (brought l.stream ls))) 0 (brought_by l ls).stretches)
+    (all_some framer (asked_in l.side (noted framer (brought l.stream ls))) 0 (brought_by l ls).stretches)
 
-by_held : (app : Option App) (l : Label) (ls : List Label) → AreIn (own_step (way_of l.stream l.side ls) l.segment).held (messages_by app l ls)
+by_held : (framer : Option Framer) (l : Label) (ls : List Label) → AreIn (own_step (way_of l.stream l.side ls) l.segment).held (messages_by framer l ls)
 by_held None l ls = tt
-by_held (Some app) l ls =
-    shown_in_held app (asked_in l.side (noted app (brought l.stream ls))) l.side (sided_of l.stream ls) l.segment (front_end l.side (noted app (brought l.stream ls)))
+by_held (Some framer) l ls =
+    shown_in_held framer (asked_in l.side (noted framer (brought l.stream ls))) l.side (sided_of l.stream ls) l.segment (front_end l.side (noted framer (brought l.stream ls)))
 
 -- ---- all that a frame shows
 
@@ -99,7 +99,7 @@ others_frames past s fresh stream =
 
 pub stands_where : PlacesLaw
 unfolding shown_after told
-stands_where app past s fresh =
+stands_where framer past s fresh =
     let ls : List Label = labels past in
     let l : Label = label_of s ls in
     let w : WayState = way_of l.stream l.side ls in
@@ -107,6 +107,6 @@ stands_where app past s fresh =
     let position : ℤ = position_in w l.segment in
     let other : ((q : ℕ) (cell : Cell) → get w.held q ≡ Some cell → cell.1 ≡ l.segment.frame → ⊥) =
     λ q cell e is. frame_in (λ (f : ℕ). f ≡ s.frame → ⊥) l.side (sided_of l.stream ls) q cell (others_frames past s fresh l.stream) e (is ∙ ap (λ (t : Segment). t.frame) same) in
-    let own = all_lie w l.segment (messages_by app l ls) (by_some app l ls) (by_held app l ls) other in
-    subst (λ (v : WayState). All (LiesWhereBrought w.held v.held s position) (shown_after app past s)) (sym (with_own l ls))
-    (subst (λ (t : Segment). All (LiesWhereBrought w.held (own_step w l.segment).held t position) (map (located (own_step w l.segment).held t position) (messages_by app l ls))) same own)
+    let own = all_lie w l.segment (messages_by framer l ls) (by_some framer l ls) (by_held framer l ls) other in
+    subst (λ (v : WayState). All (LiesWhereBrought w.held v.held s position) (shown_after framer past s)) (sym (with_own l ls))
+    (subst (λ (t : Segment). All (LiesWhereBrought w.held (own_step w l.segment).held t position) (map (located (own_step w l.segment).held t position) (messages_by framer l ls))) same own)

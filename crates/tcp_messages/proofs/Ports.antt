@@ -9,7 +9,7 @@ use Rattle.tcp_streams.specs.declared.ends.Ends.{Ends}
 use Rattle.tcp_streams.specs.declared.segment.Segment.{Segment}
 use Rattle.tcp_streams.specs.Conversations.{comes_first, end_at, end_of_endpoint, ends_between, ends_of}
 use Rattle.tcp_streams.proofs.StandsLemmas.{same_ends_is}
-use Rattle.stream_messages.specs.declared.told.App.{App}
+use Rattle.stream_messages.specs.declared.framer.Framer.{Framer}
 use Rattle.tcp_messages.specs.Readers.{IsOfEnds}
 
 port_at : (a : Address) (port : ℕ) → (end_at a port).port ≡ port
@@ -33,8 +33,8 @@ ports_in s = by (has_both (end_of_endpoint s.from) (end_of_endpoint s.to))
     by (inl is) = inl (is.0 ∙ port_at s.from.address s.from.port, is.1 ∙ port_at s.to.address s.to.port)
     by (inr is) = inr (is.0 ∙ port_at s.to.address s.to.port, is.1 ∙ port_at s.from.address s.from.port)
 
--- an application by two ports, whichever of them sends
-pub of_ports : (known : ℕ → ℕ → Option App) → ((a b : ℕ) → known a b ≡ known b a) → IsOfEnds (λ s. known s.from.port s.to.port)
+-- where messages end, by two ports, whichever of them sends
+pub of_ports : (known : ℕ → ℕ → Option Framer) → ((a b : ℕ) → known a b ≡ known b a) → IsOfEnds (λ s. known s.from.port s.to.port)
 of_ports known either s t same = by (ports_in s) (ports_in t)
   where
     is : ends_of s ≡ ends_of t

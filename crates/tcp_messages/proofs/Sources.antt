@@ -1,14 +1,12 @@
 -- Where the bytes of messages are.
-use Rattle.std.proofs.Common.{◌≡◌, ℕ, zero, suc, ◌+◌, ◌-◌, ◌^◌, ◌<◌, ◌≤◌, Bool, nat_eq, List, [], ◌∷◌, ◌++◌, length, map, take, drop, slice_range, slice_get, Option, Some, None, option_map, unwrap_or, eqb, refl, sym, ap, subst, ◌∙◌, arith, length-drop, append_assoc, ℤ}
+use Rattle.std.proofs.Common.{◌≡◌, ℕ, zero, suc, ◌+◌, ◌-◌, ◌^◌, ◌<◌, ◌≤◌, nat_eq, List, [], ◌∷◌, ◌++◌, length, map, take, drop, slice_range, slice_get, Option, Some, None, unwrap_or, eqb, refl, sym, ap, subst, ◌∙◌, arith, length-drop, append_assoc, ℤ}
 use Rattle.std.specs.List.{starts_with}
 use Rattle.std.proofs.lemmas.Option.{none-some, cond_some}
 use Rattle.std.proofs.lemmas.Bool.{false≢true}
 use Rattle.std.proofs.lemmas.List.{take-append-drop, length-take-le}
 use Rattle.std.specs.Cmp.Lexicographic.{bytes_decides}
 use Rattle.pk_base.specs.declared.stretch.Stretch.{Stretch}
-use Rattle.stream_messages.specs.declared.shape.Shape.{Shape}
-use Rattle.stream_messages.specs.HttpMessages.{first_message}
-use Rattle.std.specs.Prelude.{IsSome}
+use Rattle.std.specs.Prelude.{All, IsSome}
 use Rattle.std.specs.FinMap.{get}
 use Rattle.range_bytes.specs.Held.{Held, HoldsAll, IsFreeFrom, put_numbers, put_number}
 use Rattle.range_bytes.proofs.Ascending.{all_put}
@@ -17,21 +15,18 @@ use Rattle.tcp_streams.specs.Parts.{LiesIn, LiesInOne, IsPart}
 use Rattle.tcp_streams.specs.declared.streams.Streams.{Streams}
 use Rattle.tcp_streams.specs.Standing.{AreReady, bytes_so_far, way_in}
 use Rattle.tcp_streams.specs.Ways.{WayState, stretches, end_of, IsWay, AreApart, AreShort}
-use Rattle.stream_messages.specs.declared.told.App.{App}
-use Rattle.stream_messages.specs.declared.told.App.TheVariants as apps
-use Rattle.stream_messages.specs.declared.told.Told.{Told}
-use Rattle.stream_messages.specs.declared.told.Told.TheVariants.{Dns, Http}
+use Rattle.stream_messages.specs.declared.framer.Framer.{Framer}
 use Rattle.stream_messages.specs.declared.placed.Placed.{Placed}
-use Rattle.stream_messages.specs.Tellings.{end_of as told_end, first_dns, first_of}
+use Rattle.stream_messages.specs.Tellings.{end_of as told_end, first_of}
 use Rattle.stream_messages.specs.Messages.{end_at}
-use Rattle.stream_messages.specs.Cursors.{IsWhole}
+use Rattle.stream_messages.specs.Cursors.{IsWhole, IsWholeInOne}
 use Rattle.stream_messages.proofs.FirstLemmas.{first_shrinks}
 use Rattle.tcp_messages.specs.declared.met.Gathered.{Gathered}
 use Rattle.tcp_messages.specs.declared.met.ShownMessage.{ShownMessage}
 use Rattle.tcp_messages.specs.declared.met.Source.{Source}
 use Rattle.tcp_messages.specs.declared.met.Source.TheVariants as sources
-use Rattle.tcp_messages.specs.Shown.{IsMessage, IsWholeIn, located, frames_in, frames_told, place_of}
-use Rattle.tcp_messages.specs.Reading.{IsSomeWhole}
+use Rattle.tcp_messages.specs.Shown.{AreFramedIn, IsFramedIn, IsMessage, IsMessageBy, IsWholeIn, located, frames_in, frames_told, place_of}
+use Rattle.tcp_messages.specs.Reading.{AreWholeIn, IsSomeWhole}
 use Rattle.tcp_messages.proofs.Growing.{apart_order}
 
 -- ---- the frames of gathered messages
@@ -87,40 +82,30 @@ is_short streams stream side m ready some =
 pub lies_in_one : (ss : List Stretch) (m : Placed) (to : ℕ) → IsSomeWhole ss m → to ≡ end_at m → LiesInOne ss m.at to
 lies_in_one ss m to some ends = (some.1.0, some.1.1, some.1.2, record { low = some.1.3.from; order = omega (arith, ends); high = omega (arith, ends, some.1.3.within) })
 
-is_message : (app : App) (asked : Bool) (bytes : List ℕ) (told : Told) → first_of app asked bytes ≡ Some told → told_end told ≡ length bytes → IsMessage told bytes
-is_message apps.Dns asked bytes told = elim (first_dns bytes) as (λ (o : Option ℕ). first_dns bytes ≡ o → option_map Dns o ≡ Some told → told_end told ≡ length bytes → IsMessage told bytes) [
-  | None ↦ λ is e ends. absurd (none-some told e)
-  | Some end ↦ λ is e ends.
-      let same : Dns end ≡ told = ap (λ (o : Option Told). unwrap_or o told) e in
-      subst (λ (t : Told). IsMessage t bytes) same (is, subst (λ (t : Told). told_end t ≡ length bytes) (sym same) ends)
-] refl
-is_message apps.Http asked bytes told = elim (first_message asked bytes) as (λ (o : Option Shape). first_message asked bytes ≡ o → option_map Http o ≡ Some told → told_end told ≡ length bytes → IsMessage told bytes) [
-  | None ↦ λ is e ends. absurd (none-some told e)
-  | Some shape ↦ λ is e ends.
-      let same : Http shape ≡ told = ap (λ (o : Option Told). unwrap_or o told) e in
-      subst (λ (t : Told). IsMessage t bytes) same (asked, is, subst (λ (t : Told). told_end t ≡ length bytes) (sym same) ends)
-] refl
-
 -- the bytes from a message's place on, as many as it has, are the message
-pub part_is : (ss : List Stretch) (m : Placed) (to : ℕ) (bytes : List ℕ) → IsSomeWhole ss m → to ≡ end_at m → IsPart ss m.at to bytes → IsMessage m.told bytes × (length bytes ≡ told_end m.told)
+pub part_by : (framer : Framer) (ss : List Stretch) (m : Placed) (to : ℕ) (bytes : List ℕ) → IsWholeInOne framer ss m → to ≡ end_at m → IsPart ss m.at to bytes → IsMessageBy framer m.told bytes × (length bytes ≡ told_end m.told)
 unfolding lies_in_one
-part_is ss m to bytes some ends part =
-    let app : App = some.0 in
-    let s : Stretch = some.1.1 in
-    let whole : IsWhole app s.start s.bytes m = some.1.3 in
-    let lies : LiesIn s m.at to = (lies_in_one ss m to some ends).3 in
+part_by framer ss m to bytes one ends part =
+    let s : Stretch = one.1 in
+    let whole : IsWhole framer s.start s.bytes m = one.3 in
+    let lies : LiesIn s m.at to = (lies_in_one ss m to (framer, one) ends).3 in
     let rest : List ℕ = drop (m.at - s.start) s.bytes in
     let size : (to - s.start) - (m.at - s.start) ≡ told_end m.told = omega (arith, ends, whole.from) in
-    let is : bytes ≡ take (told_end m.told) rest = part some.1.0 s some.1.2 lies ∙ ap (λ (n : ℕ). take n rest) size in
+    let is : bytes ≡ take (told_end m.told) rest = part one.0 s one.2 lies ∙ ap (λ (n : ℕ). take n rest) size in
     let far : length rest ≡ length s.bytes - (m.at - s.start) = length-drop (m.at - s.start) s.bytes in
     let long : length (take (told_end m.told) rest) ≡ told_end m.told = length-take-le (told_end m.told) rest (omega (arith, far, whole.within, whole.from)) in
-    let first : first_of app whole.first.0 (take (told_end m.told) rest ++ drop (told_end m.told) rest) ≡ Some m.told =
-    ap (first_of app whole.first.0) (take-append-drop (told_end m.told) rest) ∙ whole.first.1 in
-    let here : first_of app whole.first.0 (take (told_end m.told) rest) ≡ Some m.told =
-    first_shrinks app whole.first.0 (take (told_end m.told) rest) (drop (told_end m.told) rest) m.told first (omega (arith, long)) in (
-      subst (IsMessage m.told) (sym is) (is_message app whole.first.0 (take (told_end m.told) rest) m.told here (sym long)),
+    let first : first_of framer whole.first.0 (take (told_end m.told) rest ++ drop (told_end m.told) rest) ≡ Some m.told =
+    ap (first_of framer whole.first.0) (take-append-drop (told_end m.told) rest) ∙ whole.first.1 in
+    let here : first_of framer whole.first.0 (take (told_end m.told) rest) ≡ Some m.told =
+    first_shrinks framer whole.first.0 (take (told_end m.told) rest) (drop (told_end m.told) rest) m.told first (omega (arith, long)) in (
+      subst (IsMessageBy framer m.told) (sym is) (whole.first.0, here, sym long),
       ap length is ∙ long,
     )
+
+pub part_is : (ss : List Stretch) (m : Placed) (to : ℕ) (bytes : List ℕ) → IsSomeWhole ss m → to ≡ end_at m → IsPart ss m.at to bytes → IsMessage m.told bytes × (length bytes ≡ told_end m.told)
+part_is ss m to bytes some ends part =
+    let by = part_by some.0 ss m to bytes some.1 ends part in
+    ((some.0, by.0.0, by.0.1, by.0.2), by.1)
 
 -- where it is shown
 pub gathered_whole : (payload : List ℕ) (m : Placed) (g : Gathered) (bytes : List ℕ) → g.bytes ≡ bytes → IsMessage m.told bytes × (length bytes ≡ told_end m.told) → told_end m.told < 2 ^ 32
@@ -134,13 +119,32 @@ place_is payload bytes (Some k) place = λ e.
     ap (λ (n : ℕ). take (length bytes) (drop n payload)) (sym says.1)
     ∙ sym ((bytes_decides bytes (take (length bytes) (drop k payload))).0 says.0)
 
+in_segment : (payload part bytes : List ℕ) (len : ℕ) (o : Option ℕ) (place : ℕ) → part ≡ payload → place_of part bytes o ≡ Some place → length bytes ≡ len
+    → slice_range payload place (place + len) ≡ bytes
+in_segment payload part bytes len o place all e long =
+    let size : (place + len) - place ≡ length bytes = omega (arith, long) in
+    ap (λ (n : ℕ). take n (drop place payload)) size ∙ ap (λ (b : List ℕ). take (length bytes) (drop place b)) (sym all) ∙ place_is part bytes o place e
+
 pub segment_whole : (payload part : List ℕ) (m : Placed) (bytes : List ℕ) (o : Option ℕ) (place : ℕ) → part ≡ payload → place_of part bytes o ≡ Some place → IsMessage m.told bytes × (length bytes ≡ told_end m.told)
     → told_end m.told < 2 ^ 32 → IsWholeIn payload (record { message = m; source = sources.Segment place })
 segment_whole payload part m bytes o place all e is short =
-    let size : (place + told_end m.told) - place ≡ length bytes = omega (arith, is.1) in
-    let same : slice_range payload place (place + told_end m.told) ≡ bytes =
-    ap (λ (n : ℕ). take n (drop place payload)) size ∙ ap (λ (b : List ℕ). take (length bytes) (drop place b)) (sym all) ∙ place_is part bytes o place e in
-    record { is = subst (IsMessage m.told) (sym same) is.0; short = short }
+    record { is = subst (IsMessage m.told) (sym (in_segment payload part bytes (told_end m.told) o place all e is.1)) is.0; short = short }
+
+pub segment_framed : (framer : Framer) (payload part : List ℕ) (m : Placed) (bytes : List ℕ) (o : Option ℕ) (place : ℕ) → part ≡ payload → place_of part bytes o ≡ Some place
+    → IsMessageBy framer m.told bytes × (length bytes ≡ told_end m.told) → IsFramedIn framer payload (record { message = m; source = sources.Segment place })
+segment_framed framer payload part m bytes o place all e is =
+    subst (IsMessageBy framer m.told) (sym (in_segment payload part bytes (told_end m.told) o place all e is.1)) is.0
+
+-- messages of which all are framed so
+pub framed_all : (framer : Option Framer) (payload : List ℕ) (ss : List Stretch) (ms : List Placed) (shown : List ShownMessage)
+    → ((known : Framer) → All (IsWholeInOne known ss) ms → All (IsFramedIn known payload) shown) → (ms ≡ [] → shown ≡ [])
+    → AreWholeIn framer ss ms → AreFramedIn framer payload shown
+framed_all None payload ss ms shown some none whole = none whole
+framed_all (Some framer) payload ss ms shown some none whole = some framer whole
+
+pub none_of : (shown : List ShownMessage) → length shown ≡ 0 → shown ≡ []
+none_of [] none = refl
+none_of (m ∷ ms) none = absurd (omega (arith, none))
 
 -- one message more
 pub locate_more : (held : Held) (s : Segment) (position : ℤ) (shown : List ShownMessage) (m : Placed) (source : Source) (rest left : List Placed) (all : List ShownMessage) → rest ≡ m ∷ left

@@ -12,7 +12,7 @@ use Rattle.tcp_streams.specs.Stands.{AllBelow}
 use Rattle.tcp_streams.specs.Ways.{WayState, nothing, lost_in, own_step, way_step, same_side as is_own}
 use Rattle.tcp_streams.proofs.StandsLemmas.{none_new}
 use Rattle.tcp_streams.proofs.WayLemmas.{after_is}
-use Rattle.stream_messages.specs.declared.told.App.{App}
+use Rattle.stream_messages.specs.declared.framer.Framer.{Framer}
 use Rattle.stream_messages.specs.declared.placed.Placed.{Placed}
 use Rattle.stream_messages.specs.declared.cursor.Cursor.{Cursor}
 use Rattle.stream_messages.specs.Cursors.{IsBehind}
@@ -58,12 +58,12 @@ get_there [] i low = absurd (omega (arith, low))
 get_there (x ∷ xs) zero low = (x, refl)
 get_there (x ∷ xs) (suc i) low = get_there xs i (omega (arith, low))
 
--- ---- applications
+-- ---- how streams are framed
 
 -- nothing was said of a stream that is new
-none_have : (app_of : Segment → Option App) (number : ℕ) (app : Option App) (ls : List Label) → AllBelow number ls → AllHave app_of number app ls
-none_have app_of number app [] below = tt
-none_have app_of number app (l ∷ ls) below = (λ same. absurd (omega (arith, below.0, same)), none_have app_of number app ls below.1)
+none_have : (framer_of : Segment → Option Framer) (number : ℕ) (framer : Option Framer) (ls : List Label) → AllBelow number ls → AllHave framer_of number framer ls
+none_have framer_of number framer [] below = tt
+none_have framer_of number framer (l ∷ ls) below = (λ same. absurd (omega (arith, below.0, same)), none_have framer_of number framer ls below.1)
 
 none_brought : (number : ℕ) (ls : List Label) → AllBelow number ls → brought number ls ≡ []
 none_brought number [] below = refl
@@ -72,15 +72,15 @@ none_brought number (l ∷ ls) below = elim (eqb_tells l.stream number) [
   | inr other ↦ rw other.0 (none_brought number ls below.1)
 ]
 
--- a segment's conversation has the application of the segments before it
-latest_has : (app_of : Segment → Option App) (number : ℕ) (app : Option App) (s : Segment) (found : Label) (ls : List Label) → IsOfEnds app_of → found.stream ≡ number
-    → latest s ls ≡ Some found → AllHave app_of number app ls → app_of s ≡ app
-latest_has app_of number app s found [] of_ends at = λ e all. absurd (none-some found e)
-latest_has app_of number app s found (l ∷ ls) of_ends at = elim (cases_Bool (same_ends (ends_of l.segment) (ends_of s))) [
+-- a segment's conversation is framed as the segments before it
+latest_has : (framer_of : Segment → Option Framer) (number : ℕ) (framer : Option Framer) (s : Segment) (found : Label) (ls : List Label) → IsOfEnds framer_of → found.stream ≡ number
+    → latest s ls ≡ Some found → AllHave framer_of number framer ls → framer_of s ≡ framer
+latest_has framer_of number framer s found [] of_ends at = λ e all. absurd (none-some found e)
+latest_has framer_of number framer s found (l ∷ ls) of_ends at = elim (cases_Bool (same_ends (ends_of l.segment) (ends_of s))) [
   | inl same ↦ rw same (λ e all.
       let is : l.stream ≡ number = ap (λ (o : Option Label). (unwrap_or o l).stream) e ∙ at in
       sym (of_ends l.segment s same) ∙ all.0 is)
-  | inr other ↦ rw other (λ e all. latest_has app_of number app s found ls of_ends at e all.1)
+  | inr other ↦ rw other (λ e all. latest_has framer_of number framer s found ls of_ends at e all.1)
 ]
 
 abbrev GoesAt : Option Label → ℕ → Type 0
@@ -93,15 +93,15 @@ goes_at (Some l) s ls number = elim (cases_Bool (restarts (way_of l.stream (side
   | inr same ↦ rw same (λ e. (l, refl, ap (λ (o : Option ℕ). unwrap_or o number) e))
 ]
 
--- what is kept of the segment's stream has its application
-pub record IsOpening (app : Option App) (s : Segment) (ls : List Label) (old new : List (Option Readers)) : Type 0 where
+-- what is kept of the segment's stream is framed as it is
+pub record IsOpening (framer : Option Framer) (s : Segment) (ls : List Label) (old new : List (Option Readers)) : Type 0 where
   pub listed : AreListed ls old
-  pub is : IsOpenedAt app (label_of s ls).stream old new
+  pub is : IsOpenedAt framer (label_of s ls).stream old new
 
-new_app : (app : Option App) (r : Option Readers) → IsNew app r → option_map (λ (x : Readers). x.app) r ≡ app
-new_app None r new = ap (option_map (λ (x : Readers). x.app)) new
-new_app (Some app) None new = absurd new
-new_app (Some app) (Some r) new = ap Some new.0
+new_framer : (framer : Option Framer) (r : Option Readers) → IsNew framer r → option_map (λ (x : Readers). x.framer) r ≡ framer
+new_framer None r new = ap (option_map (λ (x : Readers). x.framer)) new
+new_framer (Some framer) None new = absurd new
+new_framer (Some framer) (Some r) new = ap Some new.0
 
 latest_within : (n : ℕ) (s : Segment) (ls : List Label) (l : Label) → AllBelow n ls → latest s ls ≡ Some l → l.stream < n
 latest_within n s [] l below = λ e. absurd (none-some l e)
@@ -110,21 +110,21 @@ latest_within n s (m ∷ ls) l below = elim (cases_Bool (same_ends (ends_of m.se
   | inr apart ↦ rw apart (λ e. latest_within n s ls l below.1 e)
 ]
 
-pub app_is : (app_of : Segment → Option App) (app : Option App) (s : Segment) (ls : List Label) (old new : List (Option Readers)) (r : Option Readers) → IsOfEnds app_of → app ≡ app_of s
-    → ReadsStreams app_of ls old → IsOpening app s ls old new → slice_get new (label_of s ls).stream ≡ Some r → app_of s ≡ option_map (λ (x : Readers). x.app) r
-app_is app_of app s ls old new r of_ends is reads opening =
-    elim (goes_on (latest s ls) s ls) as (λ (o : Option ℕ). goes_on (latest s ls) s ls ≡ o → IsOpenedAt app (label_on o s ls).stream old new → slice_get new (label_on o s ls).stream ≡ Some r → app_of s ≡ option_map (λ (x : Readers). x.app) r) [
+pub framer_is : (framer_of : Segment → Option Framer) (framer : Option Framer) (s : Segment) (ls : List Label) (old new : List (Option Readers)) (r : Option Readers) → IsOfEnds framer_of → framer ≡ framer_of s
+    → ReadsStreams framer_of ls old → IsOpening framer s ls old new → slice_get new (label_of s ls).stream ≡ Some r → framer_of s ≡ option_map (λ (x : Readers). x.framer) r
+framer_is framer_of framer s ls old new r of_ends is reads opening =
+    elim (goes_on (latest s ls) s ls) as (λ (o : Option ℕ). goes_on (latest s ls) s ls ≡ o → IsOpenedAt framer (label_on o s ls).stream old new → slice_get new (label_on o s ls).stream ≡ Some r → framer_of s ≡ option_map (λ (x : Readers). x.framer) r) [
       | Some number ↦ λ e at there.
           let goes = goes_at (latest s ls) s ls number e in
           let low : number < length old = omega (arith, latest_within (opened ls) s ls goes.0 opening.listed.below goes.1, goes.2, opening.listed.size) in
           let stays : new ≡ old = at.1 (λ same. omega (arith, low, same)) in
           let was : slice_get old number ≡ Some r = ap (λ (xs : List (Option Readers)). slice_get xs number) (sym stays) ∙ there in
-          latest_has app_of number (option_map (λ (x : Readers). x.app) r) s goes.0 ls of_ends goes.2 goes.1 (reads.apps number r was)
+          latest_has framer_of number (option_map (λ (x : Readers). x.framer) r) s goes.0 ls of_ends goes.2 goes.1 (reads.framers number r was)
       | None ↦ λ e at there.
           let last = at.0 (sym opening.listed.size) in
           let there : slice_get (old ++ last.0 ∷ []) (opened ls) ≡ Some r = ap (λ (xs : List (Option Readers)). slice_get xs (opened ls)) (sym last.2) ∙ there in
           let here : last.0 ≡ r = pushed (get_push old last.0 r (opened ls) there) in
-          sym is ∙ sym (new_app app last.0 last.1) ∙ ap (option_map (λ (x : Readers). x.app)) here
+          sym is ∙ sym (new_framer framer last.0 last.1) ∙ ap (option_map (λ (x : Readers). x.framer)) here
     ] refl opening.is
   where
     pushed : {x y : Option Readers} → (slice_get old (opened ls) ≡ Some y) ⊎ ((opened ls ≡ length old) × (x ≡ y)) → x ≡ y
@@ -133,26 +133,26 @@ app_is app_of app s ls old new r of_ends is reads opening =
 
 -- ---- a stream that is new
 
-begun_reads : (app : App) (reader : Reader) (side : Bool) → IsBegun reader → ReadsWay app [] side nothing reader
-begun_reads app reader side is = record {
-  cursor = subst (λ (c : Cursor). IsBehind app (asked_in side []) 0 0 c []) (sym is.cursor) (laws_of_cursors.begins app (asked_in side []) 0 0 0 refl);
+begun_reads : (framer : Framer) (reader : Reader) (side : Bool) → IsBegun reader → ReadsWay framer [] side nothing reader
+begun_reads framer reader side is = record {
+  cursor = subst (λ (c : Cursor). IsBehind framer (asked_in side []) 0 0 c []) (sym is.cursor) (laws_of_cursors.begins framer (asked_in side []) 0 0 0 refl);
   heads = is.heads;
 }
 
-new_reads : (app : Option App) (number : ℕ) (ls : List Label) (r : Option Readers) → AllBelow number ls → IsNew app r → ReadsStream ls number r
-new_reads app number ls None below new = tt
+new_reads : (framer : Option Framer) (number : ℕ) (ls : List Label) (r : Option Readers) → AllBelow number ls → IsNew framer r → ReadsStream ls number r
+new_reads framer number ls None below new = tt
 new_reads None number ls (Some r) below new = absurd (none-some r (sym new))
-new_reads (Some app) number ls (Some r) below new = λ side.
-    rw (none_brought number ls below, none_new number ls below) (begun_reads r.app (reader_of r side) side (new.1 side))
+new_reads (Some framer) number ls (Some r) below new = λ side.
+    rw (none_brought number ls below, none_new number ls below) (begun_reads r.framer (reader_of r side) side (new.1 side))
 
-pub opened_reads : (app_of : Segment → Option App) (app : Option App) (s : Segment) (ls : List Label) (old new : List (Option Readers)) → ReadsStreams app_of ls old → IsOpening app s ls old new
-    → ReadsStreams app_of ls new
-opened_reads app_of app s ls old new reads opening = elim (eqb_tells (label_of s ls).stream (length old)) [
-  | inr other ↦ subst (ReadsStreams app_of ls) (sym (opening.is.1 other.1)) reads
+pub opened_reads : (framer_of : Segment → Option Framer) (framer : Option Framer) (s : Segment) (ls : List Label) (old new : List (Option Readers)) → ReadsStreams framer_of ls old → IsOpening framer s ls old new
+    → ReadsStreams framer_of ls new
+opened_reads framer_of framer s ls old new reads opening = elim (eqb_tells (label_of s ls).stream (length old)) [
+  | inr other ↦ subst (ReadsStreams framer_of ls) (sym (opening.is.1 other.1)) reads
   | inl here ↦
       let last = opening.is.0 here.1 in
-      subst (ReadsStreams app_of ls) (sym last.2) (record {
-        apps = λ number r there. apps_at last.0 number r (get_push old last.0 r number there);
+      subst (ReadsStreams framer_of ls) (sym last.2) (record {
+        framers = λ number r there. framers_at last.0 number r (get_push old last.0 r number there);
         each = λ number r there. each_at last.0 last.1 number r (get_push old last.0 r number there);
       })
 ]
@@ -160,13 +160,13 @@ opened_reads app_of app s ls old new reads opening = elim (eqb_tells (label_of s
     below : (number : ℕ) → number ≡ length old → AllBelow number ls
     below number is = subst (λ (n : ℕ). AllBelow n ls) (sym (is ∙ opening.listed.size)) opening.listed.below
 
-    apps_at : (x : Option Readers) (number : ℕ) (r : Option Readers) → (slice_get old number ≡ Some r) ⊎ ((number ≡ length old) × (x ≡ r)) → AllHave app_of number (option_map (λ (x : Readers). x.app) r) ls
-    apps_at x number r (inl there) = reads.apps number r there
-    apps_at x number r (inr last) = none_have app_of number _ ls (below number last.0)
+    framers_at : (x : Option Readers) (number : ℕ) (r : Option Readers) → (slice_get old number ≡ Some r) ⊎ ((number ≡ length old) × (x ≡ r)) → AllHave framer_of number (option_map (λ (x : Readers). x.framer) r) ls
+    framers_at x number r (inl there) = reads.framers number r there
+    framers_at x number r (inr last) = none_have framer_of number _ ls (below number last.0)
 
-    each_at : (x : Option Readers) → IsNew app x → (number : ℕ) (r : Option Readers) → (slice_get old number ≡ Some r) ⊎ ((number ≡ length old) × (x ≡ r)) → ReadsStream ls number r
+    each_at : (x : Option Readers) → IsNew framer x → (number : ℕ) (r : Option Readers) → (slice_get old number ≡ Some r) ⊎ ((number ≡ length old) × (x ≡ r)) → ReadsStream ls number r
     each_at x new number r (inl there) = reads.each number r there
-    each_at x new number r (inr last) = subst (ReadsStream ls number) last.1 (new_reads app number ls x (below number last.0) new)
+    each_at x new number r (inr last) = subst (ReadsStream ls number) last.1 (new_reads framer number ls x (below number last.0) new)
 
 -- ---- a segment of a stream
 
@@ -179,10 +179,10 @@ skips number l ls (Some r) apart reads = elim (eqb_tells l.stream number) [
 ]
 
 -- its own
-are_reads : (l : Label) (ls : List Label) (r : Readers) → ReadsStream ls l.stream (Some r) → AreReads r.app (noted r.app (brought l.stream ls)) (λ side. way_of l.stream side ls) r
+are_reads : (l : Label) (ls : List Label) (r : Readers) → ReadsStream ls l.stream (Some r) → AreReads r.framer (noted r.framer (brought l.stream ls)) (λ side. way_of l.stream side ls) r
 are_reads l ls r reads = record {
   ways = λ side. after_is side (sided_of l.stream ls);
-  found = λ side. brought_is r.app l.stream side ls;
+  found = λ side. brought_is r.framer l.stream side ls;
   reads = reads;
 }
 
@@ -200,38 +200,38 @@ pub record IsOf (l : Label) (ls : List Label) (v : WayState) (taken : Taken) : T
   pub lost : taken.lost ≡ lost_in (way_of l.stream l.side ls)
 
 on_own : (l : Label) (ls : List Label) (v : WayState) (taken : Taken) (old new : Readers) (messages : List Placed) → IsOf l ls v taken → ReadsStream ls l.stream (Some old) → IsReadOn v taken old new messages
-    → (messages ≡ messages_at old.app l ls) × ReadsStream (l ∷ ls) l.stream (Some new)
+    → (messages ≡ messages_at old.framer l ls) × ReadsStream (l ∷ ls) l.stream (Some new)
 on_own l ls v taken old new messages of reads on =
     let own = subst (λ (w : WayState). IsReadAtSide w l.side) of.way (subst (λ (b : Bool). IsReadAtSide v b) of.side on.own) in
     let kept : reader_of new (not l.side) ≡ reader_of old (not l.side) = subst (λ (b : Bool). reader_of new (not b) ≡ reader_of old (not b)) of.side on.other in
     let are = are_reads l ls old reads in (
-      both_shown old.app (noted old.app (brought l.stream ls)) (λ side. way_of l.stream side ls) l.side l.segment taken.lost old new messages are own of.lost,
-      λ side. rw (self l.stream) (subst (λ (a : App). ReadsWay a (note_next a (noted a (brought l.stream ls)) (brought_by l ls) ∷ noted a (brought l.stream ls)) side (way_step (is_own side l.side) (way_of l.stream side ls) l.segment) (reader_of new side)) (sym on.app)
-          (both_reads old.app (noted old.app (brought l.stream ls)) (λ b. way_of l.stream b ls) l.side l.segment taken.lost old new messages are own of.lost kept side)),
+      both_shown old.framer (noted old.framer (brought l.stream ls)) (λ side. way_of l.stream side ls) l.side l.segment taken.lost old new messages are own of.lost,
+      λ side. rw (self l.stream) (subst (λ (a : Framer). ReadsWay a (note_next a (noted a (brought l.stream ls)) (brought_by l ls) ∷ noted a (brought l.stream ls)) side (way_step (is_own side l.side) (way_of l.stream side ls) l.segment) (reader_of new side)) (sym on.framer)
+          (both_reads old.framer (noted old.framer (brought l.stream ls)) (λ b. way_of l.stream b ls) l.side l.segment taken.lost old new messages are own of.lost kept side)),
     )
   where
     IsReadAtSide : WayState → Bool → Type 0
-    IsReadAtSide w b = IsRead old.app (reader_of old (not b)).heads.items w taken.lost (reader_of old b) (reader_of new b) messages
+    IsReadAtSide w b = IsRead old.framer (reader_of old (not b)).heads.items w taken.lost (reader_of old b) (reader_of new b) messages
 
 -- all streams
-pub record IsReading (app_of : Segment → Option App) (l : Label) (ls : List Label) (v : WayState) (taken : Taken) (mid : List (Option Readers)) : Type 0 where
+pub record IsReading (framer_of : Segment → Option Framer) (l : Label) (ls : List Label) (v : WayState) (taken : Taken) (mid : List (Option Readers)) : Type 0 where
   pub of : IsOf l ls v taken
   pub low : l.stream < length mid
-  pub reads : ReadsStreams app_of ls mid
-  pub knows : (r : Option Readers) → slice_get mid l.stream ≡ Some r → app_of l.segment ≡ option_map (λ (x : Readers). x.app) r
+  pub reads : ReadsStreams framer_of ls mid
+  pub knows : (r : Option Readers) → slice_get mid l.stream ≡ Some r → framer_of l.segment ≡ option_map (λ (x : Readers). x.framer) r
 
-abbrev Result : (Segment → Option App) → Label → List Label → List (Option Readers) → List Placed → Type 0
-Result app_of l ls new messages = (messages ≡ messages_by (app_of l.segment) l ls) × ReadsStreams app_of (l ∷ ls) new
+abbrev Result : (Segment → Option Framer) → Label → List Label → List (Option Readers) → List Placed → Type 0
+Result framer_of l ls new messages = (messages ≡ messages_by (framer_of l.segment) l ls) × ReadsStreams framer_of (l ∷ ls) new
 
 same_some : {x y : Option Readers} → Some x ≡ Some y → x ≡ y
 same_some {x} {y} e = ap (λ (o : Option (Option Readers)). unwrap_or o x) e
 
-read_none : (app_of : Segment → Option App) (l : Label) (ls : List Label) (v : WayState) (taken : Taken) (mid new : List (Option Readers)) (messages : List Placed)
-    → IsReading app_of l ls v taken mid → slice_get mid l.stream ≡ Some None → new ≡ mid → messages ≡ [] → Result app_of l ls new messages
-read_none app_of l ls v taken mid new messages is there same none = (
-  none ∙ ap (λ (a : Option App). messages_by a l ls) (sym (is.knows None there)),
-  subst (ReadsStreams app_of (l ∷ ls)) (sym same) (record {
-    apps = λ number r at. (λ here. is.knows r (ap (slice_get mid) here ∙ at), is.reads.apps number r at);
+read_none : (framer_of : Segment → Option Framer) (l : Label) (ls : List Label) (v : WayState) (taken : Taken) (mid new : List (Option Readers)) (messages : List Placed)
+    → IsReading framer_of l ls v taken mid → slice_get mid l.stream ≡ Some None → new ≡ mid → messages ≡ [] → Result framer_of l ls new messages
+read_none framer_of l ls v taken mid new messages is there same none = (
+  none ∙ ap (λ (a : Option Framer). messages_by a l ls) (sym (is.knows None there)),
+  subst (ReadsStreams framer_of (l ∷ ls)) (sym same) (record {
+    framers = λ number r at. (λ here. is.knows r (ap (slice_get mid) here ∙ at), is.reads.framers number r at);
     each = each;
   }),
 )
@@ -240,37 +240,37 @@ read_none app_of l ls v taken mid new messages is there same none = (
     each number None at = tt
     each number (Some x) at = skips number l ls (Some x) (λ here. none-some x (same_some (sym there ∙ ap (slice_get mid) here ∙ at))) (is.reads.each number (Some x) at)
 
-read_some : (app_of : Segment → Option App) (l : Label) (ls : List Label) (v : WayState) (taken : Taken) (mid new : List (Option Readers)) (messages : List Placed) (x y : Readers)
-    → IsReading app_of l ls v taken mid → slice_get mid l.stream ≡ Some (Some x) → new ≡ slice_set mid l.stream (Some y) → IsReadOn v taken x y messages → Result app_of l ls new messages
-read_some app_of l ls v taken mid new messages x y is there set on = (
-  own.0 ∙ ap (λ (a : Option App). messages_by a l ls) (sym (is.knows (Some x) there)),
-  subst (ReadsStreams app_of (l ∷ ls)) (sym set) (record {
-    apps = λ number r at. apps number r (get_set mid l.stream number (Some y) r at);
+read_some : (framer_of : Segment → Option Framer) (l : Label) (ls : List Label) (v : WayState) (taken : Taken) (mid new : List (Option Readers)) (messages : List Placed) (x y : Readers)
+    → IsReading framer_of l ls v taken mid → slice_get mid l.stream ≡ Some (Some x) → new ≡ slice_set mid l.stream (Some y) → IsReadOn v taken x y messages → Result framer_of l ls new messages
+read_some framer_of l ls v taken mid new messages x y is there set on = (
+  own.0 ∙ ap (λ (a : Option Framer). messages_by a l ls) (sym (is.knows (Some x) there)),
+  subst (ReadsStreams framer_of (l ∷ ls)) (sym set) (record {
+    framers = λ number r at. framers number r (get_set mid l.stream number (Some y) r at);
     each = λ number r at. each number r (get_set mid l.stream number (Some y) r at);
   }),
 )
   where
-    own : (messages ≡ messages_at x.app l ls) × ReadsStream (l ∷ ls) l.stream (Some y)
+    own : (messages ≡ messages_at x.framer l ls) × ReadsStream (l ∷ ls) l.stream (Some y)
     own = on_own l ls v taken x y messages is.of (is.reads.each l.stream (Some x) there) on
 
-    apps : (number : ℕ) (r : Option Readers) → ((l.stream ≡ number → ⊥) × (slice_get mid number ≡ Some r)) ⊎ ((l.stream ≡ number) × (Some y ≡ r))
-        → AllHave app_of number (option_map (λ (z : Readers). z.app) r) (l ∷ ls)
-    apps number r (inl other) = (λ same. absurd (other.0 same), is.reads.apps number r other.1)
-    apps number r (inr here) =
-        let named : Some x.app ≡ option_map (λ (z : Readers). z.app) r = ap Some (sym on.app) ∙ ap (option_map (λ (z : Readers). z.app)) here.1 in
-        (λ same. is.knows (Some x) there ∙ named, subst (λ (a : Option App). AllHave app_of number a ls) named (is.reads.apps number (Some x) (ap (slice_get mid) (sym here.0) ∙ there)))
+    framers : (number : ℕ) (r : Option Readers) → ((l.stream ≡ number → ⊥) × (slice_get mid number ≡ Some r)) ⊎ ((l.stream ≡ number) × (Some y ≡ r))
+        → AllHave framer_of number (option_map (λ (z : Readers). z.framer) r) (l ∷ ls)
+    framers number r (inl other) = (λ same. absurd (other.0 same), is.reads.framers number r other.1)
+    framers number r (inr here) =
+        let named : Some x.framer ≡ option_map (λ (z : Readers). z.framer) r = ap Some (sym on.framer) ∙ ap (option_map (λ (z : Readers). z.framer)) here.1 in
+        (λ same. is.knows (Some x) there ∙ named, subst (λ (a : Option Framer). AllHave framer_of number a ls) named (is.reads.framers number (Some x) (ap (slice_get mid) (sym here.0) ∙ there)))
 
     each : (number : ℕ) (r : Option Readers) → ((l.stream ≡ number → ⊥) × (slice_get mid number ≡ Some r)) ⊎ ((l.stream ≡ number) × (Some y ≡ r)) → ReadsStream (l ∷ ls) number r
     each number r (inl other) = skips number l ls r other.0 (is.reads.each number r other.1)
     each number r (inr here) = subst (λ (k : ℕ). ReadsStream (l ∷ ls) k r) here.0 (subst (ReadsStream (l ∷ ls) l.stream) here.1 own.1)
 
-pub read_reads : (app_of : Segment → Option App) (l : Label) (ls : List Label) (v : WayState) (taken : Taken) (mid new : List (Option Readers)) (messages : List Placed)
-    → IsReading app_of l ls v taken mid → IsReadAt v taken mid new messages → (messages ≡ messages_by (app_of l.segment) l ls) × ReadsStreams app_of (l ∷ ls) new
-read_reads app_of l ls v taken mid new messages is read = by at.0 at.1 (read at.0 (ap (slice_get mid) is.of.stream ∙ at.1))
+pub read_reads : (framer_of : Segment → Option Framer) (l : Label) (ls : List Label) (v : WayState) (taken : Taken) (mid new : List (Option Readers)) (messages : List Placed)
+    → IsReading framer_of l ls v taken mid → IsReadAt v taken mid new messages → (messages ≡ messages_by (framer_of l.segment) l ls) × ReadsStreams framer_of (l ∷ ls) new
+read_reads framer_of l ls v taken mid new messages is read = by at.0 at.1 (read at.0 (ap (slice_get mid) is.of.stream ∙ at.1))
   where
     at : (r : Option Readers) × (slice_get mid l.stream ≡ Some r)
     at = get_there mid l.stream is.low
 
-    by : (r : Option Readers) → slice_get mid l.stream ≡ Some r → IsReadFrom v taken mid new messages r → Result app_of l ls new messages
-    by None there from = read_none app_of l ls v taken mid new messages is there from.0 from.1
-    by (Some x) there from = read_some app_of l ls v taken mid new messages x from.0 is there (from.1 ∙ ap (λ (k : ℕ). slice_set mid k (Some from.0)) is.of.stream) from.2
+    by : (r : Option Readers) → slice_get mid l.stream ≡ Some r → IsReadFrom v taken mid new messages r → Result framer_of l ls new messages
+    by None there from = read_none framer_of l ls v taken mid new messages is there from.0 from.1
+    by (Some x) there from = read_some framer_of l ls v taken mid new messages x from.0 is there (from.1 ∙ ap (λ (k : ℕ). slice_set mid k (Some from.0)) is.of.stream) from.2

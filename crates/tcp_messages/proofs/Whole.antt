@@ -8,7 +8,7 @@ use Rattle.tcp_streams.specs.Labels.{Label, label_of, labels, taken_after}
 use Rattle.tcp_streams.specs.Ways.{WayState}
 use Rattle.tcp_streams.specs.Standing.{StandsFor, stream_count, way_for}
 use Rattle.tcp_streams.proofs.ReadLemmas.{stands_way}
-use Rattle.stream_messages.specs.declared.told.App.{App}
+use Rattle.stream_messages.specs.declared.framer.Framer.{Framer}
 use Rattle.stream_messages.specs.declared.placed.Placed.{Placed}
 use Rattle.tcp_messages.specs.declared.readers.Readers.{Readers}
 use Rattle.tcp_messages.specs.declared.message_streams.MessageStreams.{MessageStreams}
@@ -40,22 +40,22 @@ new_sound streams readers stands none = record {
   each = λ number r there. absurd (none_there readers number (Some r) none there);
 }
 
-pub new_reads : (app_of : Segment → Option App) (m : MessageStreams) → StandsFor [] (streams_in m) → m.kept.spent ≡ false → m.kept.readers.items ≡ [] → ReadsRight app_of [] m
-new_reads app_of m stands fresh none = record {
+pub new_reads : (framer_of : Segment → Option Framer) (m : MessageStreams) → StandsFor [] (streams_in m) → m.kept.spent ≡ false → m.kept.readers.items ≡ [] → ReadsRight framer_of [] m
+new_reads framer_of m stands fresh none = record {
   streams = stands;
   fresh = fresh;
   readers = record {
-    apps = λ number r there. absurd (none_there m.kept.readers.items number r none there);
+    framers = λ number r there. absurd (none_there m.kept.readers.items number r none there);
     each = λ number r there. absurd (none_there m.kept.readers.items number r none there);
   };
 }
 
 -- what is shown of a segment is what its direction holds
-pub shown_is : (app : Option App) (past : List Segment) (s : Segment) (taken : Taken) (streams : Streams) (messages : List Placed) (shown : List ShownMessage)
-    → StandsFor (s ∷ past) streams → taken ≡ taken_after past s → taken.stream < stream_count streams → messages ≡ messages_after app past s
-    → shown ≡ map (located (way_for (s ∷ past) taken.stream taken.side).held s taken.position) messages → shown ≡ shown_after app past s
+pub shown_is : (framer : Option Framer) (past : List Segment) (s : Segment) (taken : Taken) (streams : Streams) (messages : List Placed) (shown : List ShownMessage)
+    → StandsFor (s ∷ past) streams → taken ≡ taken_after past s → taken.stream < stream_count streams → messages ≡ messages_after framer past s
+    → shown ≡ map (located (way_for (s ∷ past) taken.stream taken.side).held s taken.position) messages → shown ≡ shown_after framer past s
 unfolding shown_after
-shown_is app past s taken streams messages shown stands is low messages_are shown_are =
+shown_is framer past s taken streams messages shown stands is low messages_are shown_are =
     let ls : List Label = labels past in
     let of = is_of past s taken streams stands is low in
     let way : way_for (s ∷ past) taken.stream taken.side ≡ way_with (label_of s ls) ls = sym (stands_way (s ∷ past) streams taken.stream taken.side stands low) ∙ of.way in

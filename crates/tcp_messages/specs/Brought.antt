@@ -3,7 +3,7 @@ use Rattle.std.specs.Prelude.{◌≡◌, ◌==◌, ℕ, Bool, if◌then◌else�
 use Rattle.tcp_streams.specs.declared.segment.Segment.{Segment}
 use Rattle.tcp_streams.specs.Labels.{Label, labels, way_of}
 use Rattle.tcp_streams.specs.Ways.{WayState, stretches, own_step}
-use Rattle.stream_messages.specs.declared.told.App.{App}
+use Rattle.stream_messages.specs.declared.framer.Framer.{Framer}
 use Rattle.stream_messages.specs.Messages.{of_stretches}
 use Rattle.stream_messages.specs.Sides.{Brought, asked_in, noted, shown_in}
 
@@ -23,6 +23,6 @@ brought stream (l ∷ ls) = if l.stream == stream then brought_by l ls ∷ broug
 -- the messages that the frames show of a direction of a stream, one frame behind the other, are those of its stretches in their
 -- order: each in one frame
 abbrev pub MessagesOnce : Type 0
-MessagesOnce = (app : App) (past : List Segment) (stream : ℕ) (side : Bool)
-    → shown_in side (noted app (brought stream (labels past)))
-    ≡ of_stretches app (asked_in side (noted app (brought stream (labels past)))) 0 (stretches (way_of stream side (labels past)))
+MessagesOnce = (framer : Framer) (past : List Segment) (stream : ℕ) (side : Bool)
+    → shown_in side (noted framer (brought stream (labels past)))
+    ≡ of_stretches framer (asked_in side (noted framer (brought stream (labels past)))) 0 (stretches (way_of stream side (labels past)))

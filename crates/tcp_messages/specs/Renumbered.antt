@@ -2,7 +2,7 @@
 use Rattle.std.specs.Prelude.{◌≡◌, ◌<◌, ℕ, Contains, List, ◌∷◌, map, Option}
 use Rattle.tcp_streams.specs.declared.segment.Segment.{Segment}
 use Rattle.tcp_streams.specs.Isolation.{between}
-use Rattle.stream_messages.specs.declared.told.App.{App}
+use Rattle.stream_messages.specs.declared.framer.Framer.{Framer}
 use Rattle.tcp_messages.specs.declared.met.ShownMessage.{ShownMessage}
 use Rattle.tcp_messages.specs.declared.met.Source.{Source}
 use Rattle.tcp_messages.specs.declared.met.Source.TheVariants as sources
@@ -34,11 +34,11 @@ pub record IsSameShown (renumber : ℕ → ℕ) (shown other : List ShownMessage
 -- what the frame of a segment shows rests on the segments of its conversation: other conversations' segments change nothing, and
 -- other numbers of the frames, in the same order, change these numbers alone
 abbrev pub AloneLaw : Type 0
-AloneLaw = (renumber : ℕ → ℕ) (app : Option App) (past others : List Segment) (s : Segment) → KeepsOrder renumber (frames_of (s ∷ between s past))
+AloneLaw = (renumber : ℕ → ℕ) (framer : Option Framer) (past others : List Segment) (s : Segment) → KeepsOrder renumber (frames_of (s ∷ between s past))
     → between s others ≡ map (renumbered renumber) (between s past)
-    → IsSameShown renumber (shown_after app past s) (shown_after app others (renumbered renumber s))
+    → IsSameShown renumber (shown_after framer past s) (shown_after framer others (renumbered renumber s))
 
 -- so where all frames get other numbers in the same order, each shows the same messages
 abbrev pub RenumberedLaw : Type 0
-RenumberedLaw = (renumber : ℕ → ℕ) (app : Option App) (past : List Segment) (s : Segment) → ((low high : ℕ) → low < high → renumber low < renumber high)
-    → IsSameShown renumber (shown_after app past s) (shown_after app (map (renumbered renumber) past) (renumbered renumber s))
+RenumberedLaw = (renumber : ℕ → ℕ) (framer : Option Framer) (past : List Segment) (s : Segment) → ((low high : ℕ) → low < high → renumber low < renumber high)
+    → IsSameShown renumber (shown_after framer past s) (shown_after framer (map (renumbered renumber) past) (renumbered renumber s))

@@ -1,16 +1,14 @@
 -- The messages that a segment's frame shows, and where their bytes are.
-use Rattle.std.specs.Prelude.{◌≡◌, ◌<◌, ◌+◌, ◌^◌, ℕ, Bool, if◌then◌else◌, List, [], ◌∷◌, drop, length, map, nat_eq, slice_range, Option, Some, None, ℤ, pos, negsuc, ◌-ℤ◌}
+use Rattle.std.specs.Prelude.{◌≡◌, ◌<◌, ◌+◌, ◌^◌, ℕ, All, Bool, if◌then◌else◌, List, [], ◌∷◌, drop, length, map, nat_eq, slice_range, Option, Some, None, ℤ, pos, negsuc, ◌-ℤ◌}
 use Rattle.std.specs.Cmp.Lexicographic.{pointwise}
 use Rattle.std.specs.List.{starts_with}
-use Rattle.stream_messages.specs.HttpMessages.{first_message}
 use Rattle.range_bytes.specs.Held.{Held, bytes_at, frames_at, put_numbers}
 use Rattle.tcp_streams.specs.declared.segment.Segment.{Segment}
 use Rattle.tcp_streams.specs.Labels.{Label, label_of, labels, taken_after}
-use Rattle.stream_messages.specs.declared.told.App.{App}
+use Rattle.stream_messages.specs.declared.framer.Framer.{Framer}
 use Rattle.stream_messages.specs.declared.told.Told.{Told}
-use Rattle.stream_messages.specs.declared.told.Told.TheVariants.{Dns, Http}
 use Rattle.stream_messages.specs.declared.placed.Placed.{Placed}
-use Rattle.stream_messages.specs.Tellings.{end_of, first_dns}
+use Rattle.stream_messages.specs.Tellings.{end_of, first_of}
 use Rattle.stream_messages.specs.Sides.{note_next, noted}
 use Rattle.tcp_messages.specs.declared.met.ShownMessage.{ShownMessage}
 use Rattle.tcp_messages.specs.declared.met.Source.{Source}
@@ -19,8 +17,8 @@ use Rattle.tcp_messages.specs.declared.met.Gathered.{Gathered}
 use Rattle.tcp_messages.specs.Brought.{brought, brought_by, way_with}
 
 -- the messages that the frame of a segment shows
-abbrev pub messages_at : App → Label → List Label → List Placed
-messages_at app l ls = (note_next app (noted app (brought l.stream ls)) (brought_by l ls)).shown
+abbrev pub messages_at : Framer → Label → List Label → List Placed
+messages_at framer l ls = (note_next framer (noted framer (brought l.stream ls)) (brought_by l ls)).shown
 
 -- a message's bytes, and the frames that brought them
 abbrev pub gathered : Held → Placed → Gathered
@@ -47,16 +45,16 @@ source_of payload frame g place = if pointwise nat_eq g.frames (frame ∷ []) th
 abbrev pub located : Held → Segment → ℤ → Placed → ShownMessage
 located held s position m = record { message = m; source = source_of s.payload s.frame (gathered held m) (distance (pos m.at -ℤ position)) }
 
--- where no application is known, nothing is shown
-abbrev pub messages_by : Option App → Label → List Label → List Placed
+-- where it isn't known where messages end, none is shown
+abbrev pub messages_by : Option Framer → Label → List Label → List Placed
 messages_by None l ls = []
-messages_by (Some app) l ls = messages_at app l ls
+messages_by (Some framer) l ls = messages_at framer l ls
 
-abbrev pub messages_after : Option App → List Segment → Segment → List Placed
-messages_after app past s = messages_by app (label_of s (labels past)) (labels past)
+abbrev pub messages_after : Option Framer → List Segment → Segment → List Placed
+messages_after framer past s = messages_by framer (label_of s (labels past)) (labels past)
 
-unfoldable pub shown_after : Option App → List Segment → Segment → List ShownMessage
-shown_after app past s = map (located (way_with (label_of s (labels past)) (labels past)).held s (taken_after past s).position) (messages_after app past s)
+unfoldable pub shown_after : Option Framer → List Segment → Segment → List ShownMessage
+shown_after framer past s = map (located (way_with (label_of s (labels past)) (labels past)).held s (taken_after past s).position) (messages_after framer past s)
 
 -- the frames of the gathered ones: ascending, each once
 abbrev pub frames_in : Source → List ℕ
@@ -67,10 +65,13 @@ abbrev pub frames_told : List ShownMessage → List ℕ
 frames_told [] = []
 frames_told (m ∷ ms) = put_numbers (frames_in m.source) (frames_told ms)
 
--- these bytes are one message; it may be a response to HEAD
+-- these bytes are one message that is framed so; it may be a response to HEAD
+abbrev pub IsMessageBy : Framer → Told → List ℕ → Type 0
+IsMessageBy framer told bytes = (asked : Bool) × (first_of framer asked bytes ≡ Some told) × (end_of told ≡ length bytes)
+
+-- in some way
 abbrev pub IsMessage : Told → List ℕ → Type 0
-IsMessage (Dns end) bytes = (first_dns bytes ≡ Some end) × (end ≡ length bytes)
-IsMessage (Http shape) bytes = (asked : Bool) × (first_message asked bytes ≡ Some shape) × (shape.end ≡ length bytes)
+IsMessage told bytes = (framer : Framer) × (asked : Bool) × (first_of framer asked bytes ≡ Some told) × (end_of told ≡ length bytes)
 
 -- the bytes of a message that a segment with this payload shows
 abbrev pub bytes_from : List ℕ → ℕ → Source → List ℕ
@@ -81,3 +82,12 @@ bytes_from payload len (sources.Gathered g) = g.bytes
 pub record IsWholeIn (payload : List ℕ) (m : ShownMessage) : Type 0 where
   pub is : IsMessage m.message.told (bytes_from payload (end_of m.message.told) m.source)
   pub short : end_of m.message.told < 2 ^ 32
+
+-- they are the message, as its stream is framed
+abbrev pub IsFramedIn : Framer → List ℕ → ShownMessage → Type 0
+IsFramedIn framer payload m = IsMessageBy framer m.message.told (bytes_from payload (end_of m.message.told) m.source)
+
+-- all are; where it isn't known where messages end, there are none
+abbrev pub AreFramedIn : Option Framer → List ℕ → List ShownMessage → Type 0
+AreFramedIn None payload ms = ms ≡ []
+AreFramedIn (Some framer) payload ms = All (IsFramedIn framer payload) ms

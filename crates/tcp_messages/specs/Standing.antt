@@ -4,17 +4,17 @@ use Rattle.tcp_streams.specs.declared.segment.Segment.{Segment}
 use Rattle.tcp_streams.specs.declared.streams.Streams.{Streams}
 use Rattle.tcp_streams.specs.Labels.{labels}
 use Rattle.tcp_streams.specs.Standing.{StandsFor}
-use Rattle.stream_messages.specs.declared.told.App.{App}
+use Rattle.stream_messages.specs.declared.framer.Framer.{Framer}
 use Rattle.tcp_messages.specs.declared.message_streams.MessageStreams.{MessageStreams}
 use Rattle.tcp_messages.specs.Readers.{ReadsStreams}
 
 abbrev pub streams_in : MessageStreams → Streams
 streams_in m = m.kept.streams
 
-pub record ReadsRight (app_of : Segment → Option App) (past : List Segment) (m : MessageStreams) : Type 0 where
+pub record ReadsRight (framer_of : Segment → Option Framer) (past : List Segment) (m : MessageStreams) : Type 0 where
   pub streams : StandsFor past (streams_in m)
   pub fresh : m.kept.spent ≡ false
-  pub readers : ReadsStreams app_of (labels past) m.kept.readers.items
+  pub readers : ReadsStreams framer_of (labels past) m.kept.readers.items
 
-unfoldable pub ReadsFor : (Segment → Option App) → List Segment → MessageStreams → Type 0
-ReadsFor app_of past m = ReadsRight app_of past m
+unfoldable pub ReadsFor : (Segment → Option Framer) → List Segment → MessageStreams → Type 0
+ReadsFor framer_of past m = ReadsRight framer_of past m

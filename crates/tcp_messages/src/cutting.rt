@@ -9,7 +9,7 @@ ghost use Rattle.tcp_messages.specs.Reading.{AreFew};
 
 use pk_base::{NoMemory, Stretch};
 use std::alloc::Global;
-use stream_messages::{App, Cursor, Shown, cut_messages, cut_newest};
+use stream_messages::{Cursor, Framer, Shown, cut_messages, cut_newest};
 use tcp_streams::{Streams, Taken};
 
 /// Cuts the messages that a segment brings, behind its direction's cursor. `heads` are the requests that the other direction has
@@ -17,7 +17,7 @@ use tcp_streams::{Streams, Taken};
 /// byte on.
 pub(crate) fn cut_brought(
     alloc: Global,
-    app: App,
+    framer: Framer,
     streams: &Streams,
     taken: &Taken,
     cursor: Cursor,
@@ -26,21 +26,21 @@ pub(crate) fn cut_brought(
     requires ready { AreReady streams.now }
     requires stream { taken.now.stream < stream_count streams.now }
     requires side { taken.now.side < 2 }
-    requires sound { taken.now.lost ≡ [] → IsSound app cursor (way_in streams.now taken.now.stream taken.now.side).front }
-    ensures right { IfOk result (λ shown. IsRight app shown.cursor (way_in streams.now taken.now.stream taken.now.side).front) }
-    ensures few { IfOk result (λ shown. AreFew app (way_in streams.now taken.now.stream taken.now.side) taken.now.lost cursor shown.messages) }
-    ensures whole { IfOk result (λ shown. All (IsWholeInOne app (stretches (way_in streams.now taken.now.stream taken.now.side))) shown.messages) }
+    requires sound { taken.now.lost ≡ [] → IsSound framer cursor (way_in streams.now taken.now.stream taken.now.side).front }
+    ensures right { IfOk result (λ shown. IsRight framer shown.cursor (way_in streams.now taken.now.stream taken.now.side).front) }
+    ensures few { IfOk result (λ shown. AreFew framer (way_in streams.now taken.now.stream taken.now.side) taken.now.lost cursor shown.messages) }
+    ensures whole { IfOk result (λ shown. All (IsWholeInOne framer (stretches (way_in streams.now taken.now.stream taken.now.side))) shown.messages) }
     ensures cut { IfOk result (λ shown. (asked : Asked) (w : WayState) (s : SegmentValue) → IsWay w → way_in streams.now taken.now.stream taken.now.side ≡ own_step w s
-        → taken.now.lost ≡ lost_in w → AsksFrom (end_of w) heads.now asked → IsBehindWay app asked w cursor → CutsWay app asked (end_of w) (own_step w s) shown) }
+        → taken.now.lost ≡ lost_in w → AsksFrom (end_of w) heads.now asked → IsBehindWay framer asked w cursor → CutsWay framer asked (end_of w) (own_step w s) shown) }
 {
     let start = streams.front_start(taken.stream, taken.side);
     let front = streams.front(taken.stream, taken.side);
     let gaps = taken.lost.slice().len();
     if gaps == 0 {
-        return cut_messages(alloc, app, start, front, cursor, heads);
+        return cut_messages(alloc, framer, start, front, cursor, heads);
     }
     let passed = last_of(streams.earlier(taken.stream, taken.side), gaps - 1);
-    cut_newest(alloc, app, passed, start, front, cursor, heads)
+    cut_newest(alloc, framer, passed, start, front, cursor, heads)
 }
 
 /// The last so many of stretches.

@@ -10,7 +10,7 @@ use tcp_streams::Streams;
 #[derive(Drop)]
 pub(crate) struct Kept {
     pub streams: Streams,
-    /// By the numbers of the streams; none where the application isn't known.
+    /// By the numbers of the streams; none where it isn't known where messages end.
     pub readers: Vec<Option<Readers>>,
     /// Whether a segment found no memory: then nothing more is known.
     pub spent: bool,

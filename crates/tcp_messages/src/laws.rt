@@ -1,5 +1,5 @@
 ghost use Rattle.tcp_messages.specs.Brought.{MessagesOnce};
-ghost use Rattle.tcp_messages.specs.Laws.{PlacesLaw, PortsLaw};
+ghost use Rattle.tcp_messages.specs.Laws.{PlacesLaw, PortsLaw, ToldLaw};
 ghost use Rattle.tcp_messages.specs.Renumbered.{AloneLaw, RenumberedLaw};
 
 /// Each message of a TCP stream's direction is shown by one frame, in the order of its bytes.
@@ -7,7 +7,7 @@ pub fn messages_once()
     ensures { MessagesOnce }
 {}
 
-/// An application that the two ports of a segment tell, whichever of them sends, is that of its whole conversation.
+/// Where messages end, as the two ports of a segment tell, whichever of them sends, is the same in its whole conversation.
 pub fn ports_law()
     ensures { PortsLaw }
 {}
@@ -23,4 +23,9 @@ pub fn places_law()
 pub fn messages_alone()
     ensures alone { AloneLaw }
     ensures renumbered { RenumberedLaw }
+{}
+
+/// What is told of a message says how it is framed.
+pub fn told_law()
+    ensures { ToldLaw }
 {}

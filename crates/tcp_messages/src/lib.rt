@@ -1,4 +1,5 @@
-//! The messages that the segments of TCP streams bring, each shown by one frame: HTTP/1 (RFC 9112) and DNS (RFC 1035, 4.2.2).
+//! The messages that the segments of TCP streams bring, each shown by one frame: those of HTTP/1 (RFC 9112), and those whose head tells
+//! their length.
 #![tactic(auto)]
 
 mod cutting;
@@ -10,6 +11,6 @@ mod met;
 mod readers;
 mod reading;
 
-pub use laws::{messages_alone, messages_once, places_law, ports_law};
+pub use laws::{messages_alone, messages_once, places_law, ports_law, told_law};
 pub use message_streams::MessageStreams;
 pub use met::{Gathered, Met, ShownList, ShownMessage, Source};

@@ -1,12 +1,14 @@
-ghost use Rattle.std.specs.Prelude.{◌≡◌, ◌-◌, ◌^◌, ◌<◌, List, drop, length, All, map, pos, ◌-ℤ◌, ◌≤◌, IfOk, IfSome};
+ghost use Rattle.std.specs.Prelude.{◌≡◌, ◌-◌, ◌^◌, ◌<◌, List, Option, drop, length, All, map, pos, ◌-ℤ◌, ◌≤◌, IfOk, IfSome};
 ghost use Rattle.range_bytes.specs.Held.{IsFreeFrom, frames_at};
 ghost use Rattle.tcp_streams.specs.declared.segment.Segment.{Segment as SegmentValue};
 ghost use Rattle.tcp_streams.specs.Parts.{LiesInOne};
 ghost use Rattle.tcp_streams.specs.Standing.{AreReady, StandsFor, stream_count, way_for, way_in};
 ghost use Rattle.tcp_streams.specs.Ways.{stretches};
 ghost use Rattle.stream_messages.specs.Tellings.{end_of};
-ghost use Rattle.tcp_messages.specs.Reading.{IsSomeWhole};
-ghost use Rattle.tcp_messages.specs.Shown.{IsWholeIn, distance, frames_told as frames_value, located, place_of};
+ghost use Rattle.stream_messages.specs.declared.framer.Framer.{Framer as FramerValue};
+ghost use Rattle.stream_messages.specs.Cursors.{IsWholeInOne};
+ghost use Rattle.tcp_messages.specs.Reading.{AreWholeIn, IsSomeWhole};
+ghost use Rattle.tcp_messages.specs.Shown.{AreFramedIn, IsFramedIn, IsWholeIn, distance, frames_told as frames_value, located, place_of};
 
 use crate::met::{Gathered, ShownList, ShownMessage, Source};
 use pk_base::{NoMemory, Numbers, Octets};
@@ -35,6 +37,8 @@ pub(crate) fn locate_all(
     requires side { taken.now.side < 2 }
     requires whole { All (IsSomeWhole (stretches (way_in streams.now taken.now.stream taken.now.side))) messages }
     ensures whole { IfOk result (λ shown. All (IsWholeIn s.now.payload) shown) }
+    ensures framed { IfOk result (λ shown. (framer : Option FramerValue)
+        → AreWholeIn framer (stretches (way_in streams.now taken.now.stream taken.now.side)) messages → AreFramedIn framer s.now.payload shown) }
     ensures count { IfOk result (λ shown. length shown ≤ length messages) }
     ensures located { IfOk result (λ shown. (past : List SegmentValue) → StandsFor past streams.now
         → shown ≡ map (located (way_for past taken.now.stream taken.now.side).held s.now taken.now.position) messages) }
@@ -67,6 +71,8 @@ fn locate(
     requires from { (run.from ≤ message.now.at) × (message.now.at ≤ run.to) }
     requires whole { IsSomeWhole (stretches (way_in streams.now taken.now.stream taken.now.side)) message.now }
     ensures whole { IfOk result (λ source. IsWholeIn s.now.payload (record { message = message.now; source = source })) }
+    ensures framed { IfOk result (λ source. (framer : FramerValue)
+        → IsWholeInOne framer (stretches (way_in streams.now taken.now.stream taken.now.side)) message.now → IsFramedIn framer s.now.payload (record { message = message.now; source = source })) }
     ensures located { IfOk result (λ source. (past : List SegmentValue) → StandsFor past streams.now
         → source ≡ (located (way_for past taken.now.stream taken.now.side).held s.now taken.now.position message.now).source) }
 {

@@ -2,8 +2,8 @@ ghost use Rattle.std.specs.Prelude.{◌≡◌, ◌+◌, ◌-◌, ◌^◌, ◌<�
 ghost use Rattle.tcp_streams.specs.declared.segment.Segment.{Segment as SegmentValue};
 ghost use Rattle.tcp_streams.specs.Labels.{taken_after, PassesNear};
 ghost use Rattle.tcp_streams.specs.Standing.{StandsFor, bytes_so_far, taken_so_far};
-ghost use Rattle.stream_messages.specs.declared.told.App.{App as AppValue};
-ghost use Rattle.tcp_messages.specs.Shown.{IsWholeIn, frames_told as frames_value, shown_after};
+ghost use Rattle.stream_messages.specs.declared.framer.Framer.{Framer as FramerValue};
+ghost use Rattle.tcp_messages.specs.Shown.{AreFramedIn, IsWholeIn, frames_told as frames_value, shown_after};
 ghost use Rattle.tcp_messages.specs.Readers.{IsOfEnds};
 ghost use Rattle.tcp_messages.specs.Standing.{ReadsFor, streams_in};
 
@@ -13,7 +13,7 @@ use crate::met::Met;
 use crate::reading::read_next;
 use pk_base::NoMemory;
 use std::alloc::Global;
-use stream_messages::App;
+use stream_messages::Framer;
 use tcp_streams::{Segment, Streams};
 
 /// TCP streams, and the messages that their segments bring.
@@ -34,7 +34,7 @@ impl Drop for MessageStreams {
 impl MessageStreams {
     /// No segment was taken. Takes no memory.
     pub fn new(alloc: Global) -> MessageStreams
-        ensures stands { (app_of : SegmentValue → Option AppValue) → ReadsFor app_of [] result }
+        ensures stands { (framer_of : SegmentValue → Option FramerValue) → ReadsFor framer_of [] result }
         ensures taken { taken_so_far (streams_in result) ≡ 0 }
         ensures bytes { bytes_so_far (streams_in result) ≡ 0 }
     {
@@ -51,23 +51,25 @@ impl MessageStreams {
     /// The streams. Takes no memory.
     pub fn streams(&self) -> &Streams
         ensures streams { result.now ≡ streams_in self.now }
-        ensures stands { (app_of : SegmentValue → Option AppValue) (past : List SegmentValue) → ReadsFor app_of past self.now → StandsFor past result.now }
+        ensures stands { (framer_of : SegmentValue → Option FramerValue) (past : List SegmentValue) → ReadsFor framer_of past self.now → StandsFor past result.now }
     {
         &self.kept.streams
     }
 
     /// Takes a segment, and tells what it is to those before it, and which messages its frame shows: those of its direction
-    /// that end past the bytes before it, where an application of its stream is known. After `NoMemory` nothing more is known.
-    pub fn take(&mut self, s: &Segment, app: Option<App>) -> Result<Met, NoMemory>
+    /// that end past the bytes before it, where it is known where those of its stream end. After `NoMemory` nothing more is known.
+    pub fn take(&mut self, s: &Segment, framer: Option<Framer>) -> Result<Met, NoMemory>
         requires taken { taken_so_far (streams_in self.old) < 2 ^ 32 - 1 }
         requires bytes { bytes_so_far (streams_in self.old) + length s.now.payload < 2 ^ 32 }
         ensures taken { IfOk result (λ met. (past : List SegmentValue) → StandsFor past (streams_in self.old) → met.taken ≡ taken_after past s.now) }
-        ensures shown { IfOk result (λ met. (app_of : SegmentValue → Option AppValue) (past : List SegmentValue)
-            → IsOfEnds app_of → app ≡ app_of s.now → ReadsFor app_of past self.old → met.messages ≡ shown_after app past s.now) }
+        ensures shown { IfOk result (λ met. (framer_of : SegmentValue → Option FramerValue) (past : List SegmentValue)
+            → IsOfEnds framer_of → framer ≡ framer_of s.now → ReadsFor framer_of past self.old → met.messages ≡ shown_after framer past s.now) }
         ensures frames { IfOk result (λ met. met.frames ≡ frames_value met.messages) }
         ensures whole { IfOk result (λ met. All (IsWholeIn s.now.payload) met.messages) }
-        ensures stands { OnOk result ((app_of : SegmentValue → Option AppValue) (past : List SegmentValue)
-            → IsOfEnds app_of → app ≡ app_of s.now → ReadsFor app_of past self.old → ReadsFor app_of (s.now ∷ past) self.new) }
+        ensures framed { IfOk result (λ met. (framer_of : SegmentValue → Option FramerValue) (past : List SegmentValue)
+            → IsOfEnds framer_of → framer ≡ framer_of s.now → ReadsFor framer_of past self.old → AreFramedIn framer s.now.payload met.messages) }
+        ensures stands { OnOk result ((framer_of : SegmentValue → Option FramerValue) (past : List SegmentValue)
+            → IsOfEnds framer_of → framer ≡ framer_of s.now → ReadsFor framer_of past self.old → ReadsFor framer_of (s.now ∷ past) self.new) }
         ensures near { IfOk result (λ met. PassesNear met.taken) }
         ensures counted { taken_so_far (streams_in self.new) ≤ taken_so_far (streams_in self.old) + 1 }
         ensures bytes { bytes_so_far (streams_in self.new) ≤ bytes_so_far (streams_in self.old) + length s.now.payload }
@@ -78,7 +80,7 @@ impl MessageStreams {
         }
         kept.spent = true;
         let taken = kept.streams.take(s)?;
-        let read = read_next(self.alloc, &kept.streams, &mut kept.readers, &taken, app)?;
+        let read = read_next(self.alloc, &kept.streams, &mut kept.readers, &taken, framer)?;
         let messages = locate_all(self.alloc, &kept.streams, s, &taken, read)?;
         let frames = frames_told(self.alloc, messages.slice())?;
         kept.spent = false;

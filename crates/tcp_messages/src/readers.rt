@@ -5,7 +5,7 @@ ghost use Rattle.tcp_messages.specs.Readers.{IsBegun, reader_of};
 
 use pk_base::NoMemory;
 use std::alloc::Global;
-use stream_messages::{App, Cursor, Placed, Told};
+use stream_messages::{Cursor, Framer, Placed, Told};
 
 /// What is kept of one direction of a stream.
 #[derive(Drop)]
@@ -18,7 +18,7 @@ pub(crate) struct Reader {
 
 /// What is kept of both directions of a stream.
 pub(crate) struct Readers {
-    pub app: App,
+    pub framer: Framer,
     pub zero: Reader,
     pub one: Reader,
 }
@@ -26,7 +26,7 @@ pub(crate) struct Readers {
 impl Drop for Readers {
     fn drop(self) {
         let Readers {
-            app: _app,
+            framer: _framer,
             zero: _zero,
             one: _one,
         } = self;
@@ -47,12 +47,12 @@ impl Reader {
 
 impl Readers {
     /// Before the first byte. Takes no memory.
-    pub fn begun(alloc: Global, app: App) -> Readers
-        ensures app { result.app ≡ app }
+    pub fn begun(alloc: Global, framer: Framer) -> Readers
+        ensures framer { result.framer ≡ framer }
         ensures begun { (side : Bool) → IsBegun (reader_of result side) }
     {
         Readers {
-            app,
+            framer,
             zero: Reader::begun(alloc),
             one: Reader::begun(alloc),
         }

@@ -5,10 +5,10 @@ ghost use Rattle.tcp_streams.specs.declared.streams.Streams.{Streams as StreamsV
 ghost use Rattle.tcp_streams.specs.Labels.{labels, taken_after};
 ghost use Rattle.tcp_streams.specs.Standing.{AreReady, AreStepped, StandsFor, stream_count, streams_of, way_in};
 ghost use Rattle.tcp_streams.specs.Ways.{stretches};
-ghost use Rattle.stream_messages.specs.declared.told.App.{App as AppValue};
+ghost use Rattle.stream_messages.specs.declared.framer.Framer.{Framer as FramerValue};
 ghost use Rattle.tcp_messages.specs.declared.readers.Readers.{Readers as ReadersValue};
 ghost use Rattle.tcp_messages.specs.Readers.{AreSound, IsOfEnds, ReadsStreams, reader_of};
-ghost use Rattle.tcp_messages.specs.Reading.{AreListed, IsOpenedAt, IsNew, IsRead, IsReadAt, IsReadOn, IsSomeWhole};
+ghost use Rattle.tcp_messages.specs.Reading.{AreListed, AreWholeIn, IsOpenedAt, IsNew, IsRead, IsReadAt, IsReadOn, IsSomeWhole};
 ghost use Rattle.tcp_messages.specs.Shown.{messages_after};
 
 use crate::cutting::cut_brought;
@@ -16,28 +16,31 @@ use crate::readers::{Reader, Readers, push_heads};
 use pk_base::NoMemory;
 use std::alloc::Global;
 use std::mem;
-use stream_messages::{App, Cursor, PlacedList};
+use stream_messages::{Cursor, Framer, PlacedList};
 use tcp_streams::{Streams, Taken};
 
-/// The messages that a segment brings. A stream's application is known from its first segment on.
+/// The messages that a segment brings. Where the messages of a stream end is known from its first segment on.
 pub(crate) fn read_next(
     alloc: Global,
     streams: &Streams,
     readers: &mut Vec<Option<Readers>>,
     taken: &Taken,
-    app: Option<App>,
+    framer: Option<Framer>,
 ) -> Result<PlacedList, NoMemory>
     requires ready { AreReady streams.now }
     requires sound { (old : StreamsValue) × (s : SegmentValue) × AreReady old × AreSound old readers.old.items × AreStepped s taken.now (streams_of old) (streams_of streams.now) }
     ensures sound { OnOk result (AreSound streams.now readers.new.items) }
     ensures whole { IfOk result (λ messages. All (IsSomeWhole (stretches (way_in streams.now taken.now.stream taken.now.side))) messages) }
+    ensures framed { IfOk result (λ messages. (framer_of : SegmentValue → Option FramerValue) (past : List SegmentValue) (s : SegmentValue) → IsOfEnds framer_of → framer ≡ framer_of s
+        → StandsFor (s ∷ past) streams.now → taken.now ≡ taken_after past s → AreListed (labels past) readers.old.items → ReadsStreams framer_of (labels past) readers.old.items
+        → AreWholeIn framer (stretches (way_in streams.now taken.now.stream taken.now.side)) messages) }
     ensures few { IfOk result (λ messages. length messages ≤ 2 ^ 25) }
-    ensures read { IfOk result (λ messages. (app_of : SegmentValue → Option AppValue) (past : List SegmentValue) (s : SegmentValue) → IsOfEnds app_of → app ≡ app_of s
-        → StandsFor (s ∷ past) streams.now → taken.now ≡ taken_after past s → AreListed (labels past) readers.old.items → ReadsStreams app_of (labels past) readers.old.items → messages ≡ messages_after app past s) }
-    ensures stands { OnOk result ((app_of : SegmentValue → Option AppValue) (past : List SegmentValue) (s : SegmentValue) → IsOfEnds app_of → app ≡ app_of s
-        → StandsFor (s ∷ past) streams.now → taken.now ≡ taken_after past s → AreListed (labels past) readers.old.items → ReadsStreams app_of (labels past) readers.old.items → ReadsStreams app_of (labels (s ∷ past)) readers.new.items) }
+    ensures read { IfOk result (λ messages. (framer_of : SegmentValue → Option FramerValue) (past : List SegmentValue) (s : SegmentValue) → IsOfEnds framer_of → framer ≡ framer_of s
+        → StandsFor (s ∷ past) streams.now → taken.now ≡ taken_after past s → AreListed (labels past) readers.old.items → ReadsStreams framer_of (labels past) readers.old.items → messages ≡ messages_after framer past s) }
+    ensures stands { OnOk result ((framer_of : SegmentValue → Option FramerValue) (past : List SegmentValue) (s : SegmentValue) → IsOfEnds framer_of → framer ≡ framer_of s
+        → StandsFor (s ∷ past) streams.now → taken.now ≡ taken_after past s → AreListed (labels past) readers.old.items → ReadsStreams framer_of (labels past) readers.old.items → ReadsStreams framer_of (labels (s ∷ past)) readers.new.items) }
 {
-    open(alloc, readers, taken.stream, app)?;
+    open(alloc, readers, taken.stream, framer)?;
     read_stream(alloc, streams, readers, taken)
 }
 
@@ -46,21 +49,21 @@ fn open(
     alloc: Global,
     readers: &mut Vec<Option<Readers>>,
     number: u32,
-    app: Option<App>,
+    framer: Option<Framer>,
 ) -> Result<(), NoMemory>
-    ensures { OnOk result (IsOpenedAt app number readers.old.items readers.new.items) }
+    ensures { OnOk result (IsOpenedAt framer number readers.old.items readers.new.items) }
 {
     if number as usize == readers.len() {
-        readers.push(begin(alloc, app))?;
+        readers.push(begin(alloc, framer))?;
     }
     Ok(())
 }
 
-/// What is kept of a new stream, if its application is known.
-fn begin(alloc: Global, app: Option<App>) -> Option<Readers>
-    ensures { IsNew app result }
+/// What is kept of a new stream, if it is known where its messages end.
+fn begin(alloc: Global, framer: Option<Framer>) -> Option<Readers>
+    ensures { IsNew framer result }
 {
-    Some(Readers::begun(alloc, app?))
+    Some(Readers::begun(alloc, framer?))
 }
 
 /// The messages that a segment brings to its stream.
@@ -75,7 +78,7 @@ fn read_stream(
     requires side { taken.now.side < 2 }
     requires count { length readers.old.items ≡ stream_count streams.now }
     requires sound { (r : ReadersValue) → slice_get readers.old.items taken.now.stream ≡ Some (Some r) → taken.now.lost ≡ []
-        → IsSound r.app (reader_of r (taken.now.side == 1)).cursor (way_in streams.now taken.now.stream taken.now.side).front }
+        → IsSound r.framer (reader_of r (taken.now.side == 1)).cursor (way_in streams.now taken.now.stream taken.now.side).front }
     ensures { IfOk result (λ messages. IsReadAt (way_in streams.now taken.now.stream taken.now.side) taken.now readers.old.items readers.new.items messages) }
 {
     let kept = &mut readers[taken.stream as usize];
@@ -96,15 +99,15 @@ impl Readers {
         requires ready { AreReady streams.now }
         requires stream { taken.now.stream < stream_count streams.now }
         requires side { taken.now.side < 2 }
-        requires sound { taken.now.lost ≡ [] → IsSound self.old.app (reader_of self.old (taken.now.side == 1)).cursor (way_in streams.now taken.now.stream taken.now.side).front }
+        requires sound { taken.now.lost ≡ [] → IsSound self.old.framer (reader_of self.old (taken.now.side == 1)).cursor (way_in streams.now taken.now.stream taken.now.side).front }
         ensures { IfOk result (λ messages. IsReadOn (way_in streams.now taken.now.stream taken.now.side) taken.now self.old self.new messages) }
     {
         if taken.side == 1 {
             self.one
-                .read(alloc, self.app, &self.zero.heads, streams, taken)
+                .read(alloc, self.framer, &self.zero.heads, streams, taken)
         } else {
             self.zero
-                .read(alloc, self.app, &self.one.heads, streams, taken)
+                .read(alloc, self.framer, &self.one.heads, streams, taken)
         }
     }
 }
@@ -115,7 +118,7 @@ impl Reader {
     fn read(
         &mut self,
         alloc: Global,
-        app: App,
+        framer: Framer,
         heads: &[bool],
         streams: &Streams,
         taken: &Taken,
@@ -123,11 +126,11 @@ impl Reader {
         requires ready { AreReady streams.now }
         requires stream { taken.now.stream < stream_count streams.now }
         requires side { taken.now.side < 2 }
-        requires sound { taken.now.lost ≡ [] → IsSound app self.old.cursor (way_in streams.now taken.now.stream taken.now.side).front }
-        ensures { IfOk result (λ messages. IsRead app heads.now (way_in streams.now taken.now.stream taken.now.side) taken.now.lost self.old self.new messages) }
+        requires sound { taken.now.lost ≡ [] → IsSound framer self.old.cursor (way_in streams.now taken.now.stream taken.now.side).front }
+        ensures { IfOk result (λ messages. IsRead framer heads.now (way_in streams.now taken.now.stream taken.now.side) taken.now.lost self.old self.new messages) }
     {
         let cursor = mem::replace(&mut self.cursor, Cursor::first());
-        let shown = cut_brought(alloc, app, streams, taken, cursor, heads)?;
+        let shown = cut_brought(alloc, framer, streams, taken, cursor, heads)?;
         self.cursor = shown.cursor;
         push_heads(&mut self.heads, shown.messages.slice())?;
         Ok(shown.messages)

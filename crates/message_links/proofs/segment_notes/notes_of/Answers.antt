@@ -14,7 +14,7 @@ message_note-requires c = record {
 
 pub loop-message-preserved : goal.loop-message-preserved
 loop-message-preserved c =
-    let f = message_note c.args.payload.now in
+    let f = message_note c.args.app c.args.payload.now in
     let i = c.loop-message.message-index in
     let one : suc i ≡ i + 1 = omega arith in
     c.in_ok-push.ensures.items
@@ -26,4 +26,4 @@ loop-message-preserved c =
 pub returns : goal.returns
 returns c =
     c.loop-message.invariant
-    ∙ ap (map (message_note c.args.payload.now)) (taken_all c.loop-message.message-index c.args.messages.now c.loop-message-test.false)
+    ∙ ap (map (message_note c.args.app c.args.payload.now)) (taken_all c.loop-message.message-index c.args.messages.now c.loop-message-test.false)

@@ -16,14 +16,14 @@ mark_behind-requires c =
     omega (arith, there, c.requires.room)
 
 pub returns-in-Unfinished : goal.returns-in-Unfinished
-returns-in-Unfinished c app known =
+returns-in-Unfinished c framer known =
     let goes_on : GoesOn c.args.started.part (drop c.args.place c.args.front.now) (Unfinished c.in-Unfinished.part) =
     subst (λ (bytes : List ℕ). GoesOn c.args.started.part bytes (Unfinished c.in-Unfinished.part)) c.tail.ensures (subst (GoesOn c.args.started.part c.tail.result.now) c.in-Unfinished.is c.in_ok-part.ensures) in
-    part_rest app c.args.started.asked c.args.front.now c.args.mark c.args.place c.args.started.part c.in-Unfinished.part c.requires.place.0 c.requires.place.1 known goes_on
+    part_rest framer c.args.started.asked c.args.front.now c.args.mark c.args.place c.args.started.part c.in-Unfinished.part c.requires.place.0 c.requires.place.1 known goes_on
 
 pub returns-in-Message : goal.returns-in-Message
-returns-in-Message c app known =
+returns-in-Message c framer known =
     let goes_on : GoesOn c.args.started.part (drop c.args.place c.args.front.now) (Message c.in-Message.told) =
     subst (λ (bytes : List ℕ). GoesOn c.args.started.part bytes (Message c.in-Message.told)) c.tail.ensures (subst (GoesOn c.args.started.part c.tail.result.now) c.in-Message.is c.in_ok-part.ensures) in
-    part_next app c.args.started.asked c.args.start c.args.front.now c.args.mark c.mark_behind.result c.args.place c.args.started.part c.in-Message.told c.next_behind.result
+    part_next framer c.args.started.asked c.args.start c.args.front.now c.args.mark c.mark_behind.result c.args.place c.args.started.part c.in-Message.told c.next_behind.result
     c.requires.place.0 known goes_on (c.mark_behind.ensures c.args.mark (sym c.requires.place.0) refl) (c.next_behind.ensures ∙ ap next_behind c.then.ensures)

@@ -8,9 +8,9 @@ use Rattle.stream_messages.proofs.cutting.started.Goals as goal
 pub returns-in-Awaited-clause-asked : goal.returns-in-Awaited-clause-asked
 returns-in-Awaited-clause-asked c asked number bytes some counts is =
     let head : 0 < length bytes → asked ≡ get_or c.args.heads.now number false =
-    subst (λ (next : Next). IsAskedOf c.args.app asked c.args.heads.now number next bytes) c.in-Awaited.is is in
+    subst (λ (next : Next). IsAskedOf c.args.framer asked c.args.heads.now number next bytes) c.in-Awaited.is is in
     c.is_head-asked.ensures number counts ∙ sym (head some)
 
 pub returns-in-Awaited-clause-known : goal.returns-in-Awaited-clause-known
 returns-in-Awaited-clause-known c at front sound =
-    subst (λ (part : Part). IsKnown c.args.app c.is_head-asked.result part (drop at front)) (sym c.begun-part.ensures) (begun_known c.args.app c.is_head-asked.result (drop at front))
+    subst (λ (part : Part). IsKnown c.args.framer c.is_head-asked.result part (drop at front)) (sym c.begun-part.ensures) (begun_known c.args.framer c.is_head-asked.result (drop at front))

@@ -7,7 +7,7 @@ use Rattle.stream_messages.proofs.stretches.cut_stretches.Given as goal
 abbrev pub invariant-loop-stretch : goal.invariant-loop-stretch
 invariant-loop-stretch l =
     record {
-      passed : IsPassed l.app l.heads l.fn.cursor l.cursor (take l.stretch-index l.stretches) l.messages;
-      whole : All (IsWholeInOne l.app l.stretches) l.messages;
+      passed : IsPassed l.framer l.heads l.fn.cursor l.cursor (take l.stretch-index l.stretches) l.messages;
+      whole : All (IsWholeInOne l.framer l.stretches) l.messages;
       few : length l.messages ≤ bytes_in (take l.stretch-index l.stretches);
     }

@@ -15,25 +15,25 @@ read_stream-requires-clause-side c = (step_by c.requires.sound.1 c.args.taken.no
 pub read_stream-requires-clause-count : goal.read_stream-requires-clause-count
 read_stream-requires-clause-count c =
     let step = step_by c.requires.sound.1 c.args.taken.now (streams_of c.requires.sound.0) (streams_of c.args.streams.now) c.requires.sound.4 in
-    (are_opened c.args.app c.requires.sound.1 c.args.taken.now (side_of c.args.taken.now) c.requires.sound.0 (streams_of c.args.streams.now) c.args.readers.now.items c.open.new.readers.items c.requires.sound.3 step c.in_ok-open.ensures).count
+    (are_opened c.args.framer c.requires.sound.1 c.args.taken.now (side_of c.args.taken.now) c.requires.sound.0 (streams_of c.args.streams.now) c.args.readers.now.items c.open.new.readers.items c.requires.sound.3 step c.in_ok-open.ensures).count
 
 pub read_stream-requires-clause-sound : goal.read_stream-requires-clause-sound
 read_stream-requires-clause-sound c r there none =
     let step = step_by c.requires.sound.1 c.args.taken.now (streams_of c.requires.sound.0) (streams_of c.args.streams.now) c.requires.sound.4 in
-    let are = are_opened c.args.app c.requires.sound.1 c.args.taken.now (side_of c.args.taken.now) c.requires.sound.0 (streams_of c.args.streams.now) c.args.readers.now.items c.open.new.readers.items c.requires.sound.3 step c.in_ok-open.ensures in
+    let are = are_opened c.args.framer c.requires.sound.1 c.args.taken.now (side_of c.args.taken.now) c.requires.sound.0 (streams_of c.args.streams.now) c.args.readers.now.items c.open.new.readers.items c.requires.sound.3 step c.in_ok-open.ensures in
     own_sound c.requires.sound.1 c.args.taken.now (side_of c.args.taken.now) c.requires.sound.0 (streams_of c.args.streams.now) c.open.new.readers.items r c.requires.sound.2 are there none
 
 pub returns-clause-sound : goal.returns-clause-sound
 returns-clause-sound c =
     let step = step_by c.requires.sound.1 c.args.taken.now (streams_of c.requires.sound.0) (streams_of c.args.streams.now) c.requires.sound.4 in
-    let are = are_opened c.args.app c.requires.sound.1 c.args.taken.now (side_of c.args.taken.now) c.requires.sound.0 (streams_of c.args.streams.now) c.args.readers.now.items c.open.new.readers.items c.requires.sound.3 step c.in_ok-open.ensures in
+    let are = are_opened c.args.framer c.requires.sound.1 c.args.taken.now (side_of c.args.taken.now) c.requires.sound.0 (streams_of c.args.streams.now) c.args.readers.now.items c.open.new.readers.items c.requires.sound.3 step c.in_ok-open.ensures in
     IfOk-weaker c.read_stream.result _ _
     (λ messages read. read_sound c.requires.sound.1 c.args.taken.now c.requires.sound.0 c.args.streams.now c.open.new.readers.items c.read_stream.new.readers.items messages c.requires.ready are read) c.read_stream.ensures
 
 pub returns-clause-whole : goal.returns-clause-whole
 returns-clause-whole c =
     let step = step_by c.requires.sound.1 c.args.taken.now (streams_of c.requires.sound.0) (streams_of c.args.streams.now) c.requires.sound.4 in
-    let are = are_opened c.args.app c.requires.sound.1 c.args.taken.now (side_of c.args.taken.now) c.requires.sound.0 (streams_of c.args.streams.now) c.args.readers.now.items c.open.new.readers.items c.requires.sound.3 step c.in_ok-open.ensures in
+    let are = are_opened c.args.framer c.requires.sound.1 c.args.taken.now (side_of c.args.taken.now) c.requires.sound.0 (streams_of c.args.streams.now) c.args.readers.now.items c.open.new.readers.items c.requires.sound.3 step c.in_ok-open.ensures in
     IfOk-weaker c.read_stream.result _ _
     (λ messages read. read_whole (way_in c.args.streams.now c.args.taken.now.stream c.args.taken.now.side) c.args.taken.now c.open.new.readers.items c.read_stream.new.readers.items messages
     (omega (arith, step.within, are.count)) read) c.read_stream.ensures
@@ -41,25 +41,34 @@ returns-clause-whole c =
 pub returns-clause-read : goal.returns-clause-read
 returns-clause-read c =
     let step = step_by c.requires.sound.1 c.args.taken.now (streams_of c.requires.sound.0) (streams_of c.args.streams.now) c.requires.sound.4 in
-    let are = are_opened c.args.app c.requires.sound.1 c.args.taken.now (side_of c.args.taken.now) c.requires.sound.0 (streams_of c.args.streams.now) c.args.readers.now.items c.open.new.readers.items c.requires.sound.3 step c.in_ok-open.ensures in
+    let are = are_opened c.args.framer c.requires.sound.1 c.args.taken.now (side_of c.args.taken.now) c.requires.sound.0 (streams_of c.args.streams.now) c.args.readers.now.items c.open.new.readers.items c.requires.sound.3 step c.in_ok-open.ensures in
     IfOk-weaker c.read_stream.result _ _
-    (λ messages read app_of past s of_ends same stands is listed reads.
-    (next_reads app_of c.args.app past s c.args.taken.now c.args.streams.now c.args.readers.now.items c.open.new.readers.items c.read_stream.new.readers.items messages of_ends same stands is listed reads step.within
+    (λ messages read framer_of past s of_ends same stands is listed reads.
+    (next_reads framer_of c.args.framer past s c.args.taken.now c.args.streams.now c.args.readers.now.items c.open.new.readers.items c.read_stream.new.readers.items messages of_ends same stands is listed reads step.within
     (omega (arith, step.within, are.count)) c.in_ok-open.ensures read).0) c.read_stream.ensures
 
 pub returns-clause-stands : goal.returns-clause-stands
 returns-clause-stands c =
     let step = step_by c.requires.sound.1 c.args.taken.now (streams_of c.requires.sound.0) (streams_of c.args.streams.now) c.requires.sound.4 in
-    let are = are_opened c.args.app c.requires.sound.1 c.args.taken.now (side_of c.args.taken.now) c.requires.sound.0 (streams_of c.args.streams.now) c.args.readers.now.items c.open.new.readers.items c.requires.sound.3 step c.in_ok-open.ensures in
+    let are = are_opened c.args.framer c.requires.sound.1 c.args.taken.now (side_of c.args.taken.now) c.requires.sound.0 (streams_of c.args.streams.now) c.args.readers.now.items c.open.new.readers.items c.requires.sound.3 step c.in_ok-open.ensures in
     IfOk-weaker c.read_stream.result _ _
-    (λ messages read app_of past s of_ends same stands is listed reads.
-    (next_reads app_of c.args.app past s c.args.taken.now c.args.streams.now c.args.readers.now.items c.open.new.readers.items c.read_stream.new.readers.items messages of_ends same stands is listed reads step.within
+    (λ messages read framer_of past s of_ends same stands is listed reads.
+    (next_reads framer_of c.args.framer past s c.args.taken.now c.args.streams.now c.args.readers.now.items c.open.new.readers.items c.read_stream.new.readers.items messages of_ends same stands is listed reads step.within
     (omega (arith, step.within, are.count)) c.in_ok-open.ensures read).1) c.read_stream.ensures
+
+pub returns-clause-framed : goal.returns-clause-framed
+returns-clause-framed c =
+    let step = step_by c.requires.sound.1 c.args.taken.now (streams_of c.requires.sound.0) (streams_of c.args.streams.now) c.requires.sound.4 in
+    let are = are_opened c.args.framer c.requires.sound.1 c.args.taken.now (side_of c.args.taken.now) c.requires.sound.0 (streams_of c.args.streams.now) c.args.readers.now.items c.open.new.readers.items c.requires.sound.3 step c.in_ok-open.ensures in
+    IfOk-weaker c.read_stream.result _ _
+    (λ messages read framer_of past s of_ends same stands is listed reads.
+    (next_reads framer_of c.args.framer past s c.args.taken.now c.args.streams.now c.args.readers.now.items c.open.new.readers.items c.read_stream.new.readers.items messages of_ends same stands is listed reads step.within
+    (omega (arith, step.within, are.count)) c.in_ok-open.ensures read).2) c.read_stream.ensures
 
 pub returns-clause-few : goal.returns-clause-few
 returns-clause-few c =
     let step = step_by c.requires.sound.1 c.args.taken.now (streams_of c.requires.sound.0) (streams_of c.args.streams.now) c.requires.sound.4 in
-    let are = are_opened c.args.app c.requires.sound.1 c.args.taken.now (side_of c.args.taken.now) c.requires.sound.0 (streams_of c.args.streams.now) c.args.readers.now.items c.open.new.readers.items c.requires.sound.3 step c.in_ok-open.ensures in
+    let are = are_opened c.args.framer c.requires.sound.1 c.args.taken.now (side_of c.args.taken.now) c.requires.sound.0 (streams_of c.args.streams.now) c.args.readers.now.items c.open.new.readers.items c.requires.sound.3 step c.in_ok-open.ensures in
     IfOk-weaker c.read_stream.result _ _
     (λ messages read. read_few c.requires.sound.1 c.args.taken.now (side_of c.args.taken.now) c.requires.sound.0 (streams_of c.args.streams.now) c.open.new.readers.items c.read_stream.new.readers.items messages
     c.requires.sound.2 refl are read) c.read_stream.ensures

@@ -8,4 +8,4 @@ invariant_of-result c = record { sound = λ _. new_sound c.new.result c.new-2.re
 
 pub returns-clause-stands : goal.returns-clause-stands
 unfolding ReadsFor
-returns-clause-stands c = λ app_of. new_reads app_of _ c.new.ensures.stands refl c.new-2.ensures.items
+returns-clause-stands c = λ framer_of. new_reads framer_of _ c.new.ensures.stands refl c.new-2.ensures.items

@@ -3,4 +3,4 @@ use Rattle.tcp_messages.proofs.message_streams.MessageStreams.streams.Goals as g
 
 pub returns-clause-stands : goal.returns-clause-stands
 unfolding ReadsFor
-returns-clause-stands c = λ app_of past reads. reads.streams
+returns-clause-stands c = λ framer_of past reads. reads.streams

@@ -23,22 +23,30 @@ locate_all-requires-clause-side c =
 
 pub returns-clause-shown : goal.returns-clause-shown
 unfolding ReadsFor
-returns-clause-shown c = λ app_of past of_ends same reads.
+returns-clause-shown c = λ framer_of past of_ends same reads.
     let step = step_by c.args.s.now c.in_ok-taken.taken (streams_of c.args.self.now.kept.streams) (streams_of c.take.new.self) c.in_ok-taken.ensures.stepped in
     let stands = c.in_ok-taken.ensures.stands past reads.streams in
     let is = c.in_ok-taken.ensures.taken past reads.streams in
     let all = listed past c.args.self.now.kept.streams c.args.self.now.kept.readers.items reads.streams (c.args.self.now.kept.sound c.if-kept.false) in
-    shown_is c.args.app past c.args.s.now c.in_ok-taken.taken c.take.new.self c.in_ok-read.read c.in_ok-messages.messages stands is step.within
-    (c.in_ok-read.ensures.read app_of past c.args.s.now of_ends same stands is all reads.readers) (c.in_ok-messages.ensures.located (_ ∷ past) stands)
+    shown_is c.args.framer past c.args.s.now c.in_ok-taken.taken c.take.new.self c.in_ok-read.read c.in_ok-messages.messages stands is step.within
+    (c.in_ok-read.ensures.read framer_of past c.args.s.now of_ends same stands is all reads.readers) (c.in_ok-messages.ensures.located (_ ∷ past) stands)
 
 pub returns-clause-stands : goal.returns-clause-stands
 unfolding ReadsFor
-returns-clause-stands c = λ app_of past of_ends same reads.
+returns-clause-stands c = λ framer_of past of_ends same reads.
     let stands = c.in_ok-taken.ensures.stands past reads.streams in
     let is = c.in_ok-taken.ensures.taken past reads.streams in
     let all = listed past c.args.self.now.kept.streams c.args.self.now.kept.readers.items reads.streams (c.args.self.now.kept.sound c.if-kept.false) in
     record {
       streams = stands;
       fresh = refl;
-      readers = c.in_ok-read.ensures.stands app_of past c.args.s.now of_ends same stands is all reads.readers;
+      readers = c.in_ok-read.ensures.stands framer_of past c.args.s.now of_ends same stands is all reads.readers;
     }
+
+pub returns-clause-framed : goal.returns-clause-framed
+unfolding ReadsFor
+returns-clause-framed c = λ framer_of past of_ends same reads.
+    let stands = c.in_ok-taken.ensures.stands past reads.streams in
+    let is = c.in_ok-taken.ensures.taken past reads.streams in
+    let all = listed past c.args.self.now.kept.streams c.args.self.now.kept.readers.items reads.streams (c.args.self.now.kept.sound c.if-kept.false) in
+    c.in_ok-messages.ensures.framed c.args.framer (c.in_ok-read.ensures.framed framer_of past c.args.s.now of_ends same stands is all reads.readers)
