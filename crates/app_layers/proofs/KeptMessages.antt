@@ -3,7 +3,7 @@ use Rattle.std.proofs.Common.{ℕ, Bool, true, false, if◌then◌else◌, List,
 use Rattle.std.specs.Prelude.{◌&&◌, nat_lt}
 use Rattle.pk_base.specs.declared.span.Span.{Span}
 use Rattle.pk_tree.specs.Buffers.{bytes_of}
-use Rattle.pk_fields.specs.Ids.{DNS, HTTP, HTTP_FILE_DATA, TCP_SEGMENT}
+use Rattle.pk_fields.specs.Ids.{HTTP, HTTP_FILE_DATA, TCP_SEGMENT}
 use Rattle.pk_base.specs.declared.heads.Mode.TheVariants.{Plain as PlainMode}
 use Rattle.pk_tree.specs.declared.layout.Step.{Step}
 use Rattle.pk_base.specs.declared.value.Value.TheVariants.{Uint}
@@ -13,9 +13,9 @@ use Rattle.pk_tree.proofs.KeptTrees.{item_kept, buffer_kept, layer_kept}
 use Rattle.stream_messages.specs.declared.shape.Body.{Body}
 use Rattle.stream_messages.specs.declared.shape.Body.TheVariants.{None as Bodiless, Plain, Chunked, NotShown}
 use Rattle.stream_messages.specs.declared.shape.Shape.{Shape}
-use Rattle.dis_dns.specs.Dns.{dns_layout}
 use Rattle.dis_http.specs.Http.{http_layout, http_read, body_read, chunked_read, plain_read, with_content, joined}
-use Rattle.stream_messages.specs.declared.told.App.{App as StreamApp}
+use Rattle.pk_fields.specs.declared.apps.App.{App}
+use Rattle.app_layers.specs.declared.streamed.StreamApp.{StreamApp}
 use Rattle.stream_messages.specs.declared.told.Told.{Told}
 use Rattle.stream_messages.specs.declared.told.Told.TheVariants as tellings
 use Rattle.stream_messages.specs.Tellings.{end_of}
@@ -24,7 +24,8 @@ use Rattle.tcp_messages.specs.declared.met.Source.{Source}
 use Rattle.tcp_messages.specs.declared.met.Source.TheVariants as sources
 use Rattle.tcp_messages.specs.Shown.{frames_told as gathered_from}
 use Rattle.app_layers.specs.DataLayer.{data_over}
-use Rattle.app_layers.specs.MessageLayers.{added_span, with_segments, told_over, sourced_over, message_over, messages_over, carried_over}
+use Rattle.app_layers.specs.MessageLayers.{added_span, with_segments, told_over, sized_over, sourced_over, message_over, messages_over, carried_over, tells_length}
+use Rattle.app_layers.specs.Rows.{framer_of, layout_of, proto_of}
 use Rattle.app_layers.specs.Payloads.{with_number}
 use Rattle.app_layers.proofs.KeptHeads.{tree_as, kept_if}
 
@@ -60,28 +61,32 @@ segments_kept wanted [] t u k = k
 segments_kept wanted (frame ∷ frames) t u k =
     segments_kept wanted frames (with_number t TCP_SEGMENT frame) (with_number u TCP_SEGMENT frame) (item_kept wanted t u (made_of TCP_SEGMENT (Uint frame)) k)
 
-told_kept : (wanted : List ℕ) (cut : Bool) (span : Span) (told : Told) (t u : TreeShown) → IsKeptTree wanted t u → IsKeptTree wanted (told_over cut t span told) (told_over cut u span told)
-told_kept wanted cut span (tellings.Dns end) t u k =
-    tree_as wanted (λ v. told_over cut v span (tellings.Dns end)) t u k
-    (λ one. layer_kept wanted t (kept_tree wanted t) DNS span (dns_layout true (bytes_of t.buffers span)) PlainMode cut one)
-told_kept wanted cut span (tellings.Http shape) t u k = http_kept wanted span shape t u k
+sized_kept : (wanted : List ℕ) (app : App) (cut : Bool) (span : Span) (t u : TreeShown) → IsKeptTree wanted t u → IsKeptTree wanted (sized_over app cut t span) (sized_over app cut u span)
+sized_kept wanted app cut span t u k =
+    tree_as wanted (λ v. sized_over app cut v span) t u k
+    (λ one. kept_if wanted (tells_length (framer_of app)) _ _ _ _
+    (layer_kept wanted t (kept_tree wanted t) (proto_of app) span (layout_of app true (bytes_of t.buffers span)) PlainMode cut one) one)
 
-sourced_kept : (wanted : List ℕ) (cut : Bool) (span : Span) (told : Told) (source : Source) (t u : TreeShown) → IsKeptTree wanted t u → IsKeptTree wanted (sourced_over cut span t told source) (sourced_over cut span u told source)
-sourced_kept wanted cut span told (sources.Segment place) t u k = told_kept wanted cut (within span place (end_of told)) told t u k
-sourced_kept wanted cut span told (sources.Gathered g) t u k =
-    tree_as wanted (λ v. sourced_over cut span v told (sources.Gathered g)) t u k
-    (λ one. told_kept wanted cut (added_span t g.bytes) told _ _ (buffer_kept wanted t (kept_tree wanted t) g.bytes one))
+told_kept : (wanted : List ℕ) (app : App) (cut : Bool) (span : Span) (told : Told) (t u : TreeShown) → IsKeptTree wanted t u → IsKeptTree wanted (told_over app cut t span told) (told_over app cut u span told)
+told_kept wanted app cut span (tellings.Sized end) t u k = sized_kept wanted app cut span t u k
+told_kept wanted app cut span (tellings.Http shape) t u k = http_kept wanted span shape t u k
 
-messages_kept : (wanted : List ℕ) (cut : Bool) (span : Span) (messages : List ShownMessage) (t u : TreeShown) → IsKeptTree wanted t u → IsKeptTree wanted (messages_over cut span t messages) (messages_over cut span u messages)
+sourced_kept : (wanted : List ℕ) (app : App) (cut : Bool) (span : Span) (told : Told) (source : Source) (t u : TreeShown) → IsKeptTree wanted t u → IsKeptTree wanted (sourced_over app cut span t told source) (sourced_over app cut span u told source)
+sourced_kept wanted app cut span told (sources.Segment place) t u k = told_kept wanted app cut (within span place (end_of told)) told t u k
+sourced_kept wanted app cut span told (sources.Gathered g) t u k =
+    tree_as wanted (λ v. sourced_over app cut span v told (sources.Gathered g)) t u k
+    (λ one. told_kept wanted app cut (added_span t g.bytes) told _ _ (buffer_kept wanted t (kept_tree wanted t) g.bytes one))
+
+messages_kept : (wanted : List ℕ) (app : App) (cut : Bool) (span : Span) (messages : List ShownMessage) (t u : TreeShown) → IsKeptTree wanted t u → IsKeptTree wanted (messages_over app cut span t messages) (messages_over app cut span u messages)
 unfolding message_over
-messages_kept wanted cut span [] t u k = k
-messages_kept wanted cut span (m ∷ ms) t u k =
-    messages_kept wanted cut span ms (message_over cut span t m) (message_over cut span u m) (sourced_kept wanted cut span m.message.told m.source t u k)
+messages_kept wanted app cut span [] t u k = k
+messages_kept wanted app cut span (m ∷ ms) t u k =
+    messages_kept wanted app cut span ms (message_over app cut span t m) (message_over app cut span u m) (sourced_kept wanted app cut span m.message.told m.source t u k)
 
 pub carried_kept : (wanted : List ℕ) (app : Option StreamApp) (cut : Bool) (span : Span) (messages : List ShownMessage) (t u : TreeShown)
     → IsKeptTree wanted (data_over t span) (data_over u span) → IsKeptTree wanted t u → IsKeptTree wanted (carried_over app cut span t messages) (carried_over app cut span u messages)
 unfolding carried_over
 carried_kept wanted None cut span messages t u as_data k = as_data
 carried_kept wanted (Some app) cut span messages t u as_data k =
-    messages_kept wanted cut span messages (with_segments t (gathered_from messages)) (with_segments u (gathered_from messages))
+    messages_kept wanted app.app cut span messages (with_segments t (gathered_from messages)) (with_segments u (gathered_from messages))
     (segments_kept wanted (gathered_from messages) t u k)

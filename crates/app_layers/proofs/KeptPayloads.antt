@@ -1,5 +1,5 @@
 -- Reading the payload of a datagram with some fields is reading all of it and keeping those.
-use Rattle.std.proofs.Common.{◌==◌, ℕ, Bool, false, if◌then◌else◌, List, Option, None, Some}
+use Rattle.std.proofs.Common.{◌==◌, ℕ, Bool, false, List, Option, None, Some}
 use Rattle.pk_base.specs.declared.span.Span.{Span}
 use Rattle.pk_base.specs.declared.heads.Mode.TheVariants.{Plain as PlainMode}
 use Rattle.pk_tree.specs.Trees.{TreeShown, IsKept as IsKeptTree, kept_tree}
@@ -8,7 +8,7 @@ use Rattle.app_layers.specs.DataLayer.{data_over}
 use Rattle.app_layers.proofs.KeptHeads.{tree_as, kept_if}
 use Rattle.pk_base.specs.declared.heads.After.{After}
 use Rattle.pk_base.specs.declared.heads.After.TheVariants as afters
-use Rattle.pk_fields.specs.declared.rules.App.{App}
+use Rattle.pk_fields.specs.declared.apps.App.{App}
 use Rattle.app_layers.specs.Applications.{data_behind, message_over}
 use Rattle.app_layers.specs.Rows.{in_datagrams}
 

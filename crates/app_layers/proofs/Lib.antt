@@ -1,5 +1,6 @@
 pub mod Behind
 mod DataLemmas
+mod DnsFraming
 mod FramePassed
 mod HeadLemmas
 mod HttpUnasked

@@ -76,7 +76,7 @@ unfolding with_item
 item_same t item = item_by (is_in t.wanted item.field) t item
 
 -- a chunked body adds one
-if_same : (test : Bool) (t u : TreeShown) → u.buffers ≡ t.buffers → (if test then u else t).buffers ≡ t.buffers
+pub if_same : (test : Bool) (t u : TreeShown) → u.buffers ≡ t.buffers → (if test then u else t).buffers ≡ t.buffers
 if_same true t u same = same
 if_same false t u same = refl
 

@@ -1,12 +1,13 @@
 -- Where nothing of messages is asked, a tree without them lacks only layers that have nothing to show, and buffers.
 use Rattle.std.proofs.Common.{◌≡◌, ℕ, ◌+◌, Bool, true, false, ◌&&◌, if◌then◌else◌, List, [], ◌∷◌, ◌++◌, length, Option, None, Some, refl, sym, ap, ◌∙◌, subst, append_assoc, append-nil}
-use Rattle.std.specs.Prelude.{nat_lt}
+use Rattle.std.specs.Prelude.{nat_lt, IsSome}
+use Rattle.std.proofs.lemmas.Bool.{true≢false}
 use Rattle.std.specs.List.{AllByRecursion as Each}
 use Rattle.pk_base.specs.declared.span.Span.{Span}
 use Rattle.pk_tree.specs.Buffers.{bytes_of}
 use Rattle.pk_fields.specs.Fields.{row_of}
 use Rattle.pk_fields.specs.FieldSets.{is_in}
-use Rattle.pk_fields.specs.Ids.{DNS, HTTP, HTTP_FILE_DATA, TCP_SEGMENT, WS_MALFORMED, WS_SHORT}
+use Rattle.pk_fields.specs.Ids.{HTTP, HTTP_FILE_DATA, TCP_SEGMENT, WS_MALFORMED, WS_SHORT}
 use Rattle.pk_fields.specs.Table.{rows}
 use Rattle.pk_base.specs.declared.heads.Mode.{Mode}
 use Rattle.pk_base.specs.declared.heads.Mode.TheVariants.{Plain as PlainMode}
@@ -22,10 +23,11 @@ use Rattle.pk_tree.proofs.KeptLemmas.{none_asked, passed}
 use Rattle.stream_messages.specs.declared.shape.Body.{Body}
 use Rattle.stream_messages.specs.declared.shape.Body.TheVariants.{None as Bodiless, Plain, Chunked, NotShown}
 use Rattle.stream_messages.specs.declared.shape.Shape.{Shape}
-use Rattle.dis_dns.specs.Dns.{dns_layout}
-use Rattle.dis_dns.proofs.DnsFits.{layout_fits}
+use Rattle.stream_messages.specs.declared.framer.Framer.{Framer}
 use Rattle.dis_http.specs.Http.{http_layout, http_read, body_read, plain_read, with_content, joined}
-use Rattle.stream_messages.specs.declared.told.App.{App as StreamApp}
+use Rattle.pk_fields.specs.declared.apps.App.{App}
+use Rattle.pk_fields.specs.declared.apps.App.TheVariants as apps
+use Rattle.app_layers.specs.declared.streamed.StreamApp.{StreamApp}
 use Rattle.stream_messages.specs.declared.told.Told.{Told}
 use Rattle.stream_messages.specs.declared.told.Told.TheVariants as tellings
 use Rattle.stream_messages.specs.Tellings.{end_of as told_end}
@@ -35,7 +37,9 @@ use Rattle.tcp_messages.specs.declared.met.Source.TheVariants as sources
 use Rattle.tcp_messages.specs.Shown.{frames_told as gathered_from}
 use Rattle.app_layers.specs.DataLayer.{data_over}
 use Rattle.app_layers.specs.Aside.{IsAside, LacksOnly}
-use Rattle.app_layers.specs.MessageLayers.{added_span, carried_over, message_over, messages_over, sourced_over, told_over, with_segments}
+use Rattle.app_layers.specs.MessageLayers.{added_span, carried_over, message_over, messages_over, sized_over, sourced_over, tells_length, told_over, with_segments}
+use Rattle.app_layers.specs.Rows.{framer_of, layout_of, proto_of}
+use Rattle.app_layers.proofs.RowLemmas.{home_of, rows_fit}
 use Rattle.app_layers.specs.Payloads.{with_number}
 use Rattle.app_layers.proofs.HttpUnasked.{http_unasked}
 
@@ -43,8 +47,7 @@ pub record AsksNoMessages (wanted : List ℕ) : Type 0 where
   pub segment : is_in wanted TCP_SEGMENT ≡ false
   pub short : is_in wanted WS_SHORT ≡ false
   pub malformed : is_in wanted WS_MALFORMED ≡ false
-  pub http : (f : ℕ) → (row_of f).proto ≡ HTTP → is_in wanted f ≡ false
-  pub dns : (f : ℕ) → (row_of f).proto ≡ DNS → is_in wanted f ≡ false
+  pub fields : (app : App) → IsSome (framer_of app) → (f : ℕ) → (row_of f).proto ≡ proto_of app → is_in wanted f ≡ false
 
 -- nothing of a protocol is asked, nor the fault layers behind its messages
 pub record AsksNoneOf (proto : ℕ) (wanted : List ℕ) : Type 0 where
@@ -52,21 +55,41 @@ pub record AsksNoneOf (proto : ℕ) (wanted : List ℕ) : Type 0 where
   pub malformed : is_in wanted WS_MALFORMED ≡ false
   pub fields : (f : ℕ) → (row_of f).proto ≡ proto → is_in wanted f ≡ false
 
--- nothing of what a message is told as
-abbrev pub AsksNotTold : List ℕ → Told → Type 0
-AsksNotTold wanted (tellings.Dns end) = AsksNoneOf DNS wanted
-AsksNotTold wanted (tellings.Http shape) = AsksNoneOf HTTP wanted
+-- nothing of an application's messages whose head tells their length
+abbrev pub AsksNotSized : App → List ℕ → Type 0
+AsksNotSized app wanted = tells_length (framer_of app) ≡ true → AsksNoneOf (proto_of app) wanted
 
-abbrev pub AsksNotShown : List ℕ → List ShownMessage → Type 0
-AsksNotShown wanted ms = Each (λ m. AsksNotTold wanted m.message.told) ms
+-- nothing of what a message of an application is told as
+abbrev pub AsksNotTold : App → List ℕ → Told → Type 0
+AsksNotTold app wanted (tellings.Sized end) = AsksNotSized app wanted
+AsksNotTold app wanted (tellings.Http shape) = AsksNoneOf HTTP wanted
 
-none_told : (wanted : List ℕ) (told : Told) → AsksNoMessages wanted → AsksNotTold wanted told
-none_told wanted (tellings.Dns end) none = record { short = none.short; malformed = none.malformed; fields = none.dns }
-none_told wanted (tellings.Http shape) none = record { short = none.short; malformed = none.malformed; fields = none.http }
+abbrev pub AsksNotShown : App → List ℕ → List ShownMessage → Type 0
+AsksNotShown app wanted ms = Each (λ m. AsksNotTold app wanted m.message.told) ms
 
-pub none_shown : (wanted : List ℕ) (ms : List ShownMessage) → AsksNoMessages wanted → AsksNotShown wanted ms
-none_shown wanted [] none = tt
-none_shown wanted (m ∷ ms) none = (none_told wanted m.message.told none, none_shown wanted ms none)
+-- nothing of what a stream shows, if its application is known
+abbrev pub AsksNotCarried : Option StreamApp → List ℕ → List ShownMessage → Type 0
+AsksNotCarried None wanted ms = Unit {0}
+AsksNotCarried (Some app) wanted ms = AsksNotShown app.app wanted ms
+
+pub sized_some : (framer : Option Framer) → tells_length framer ≡ true → IsSome framer
+sized_some None sized = absurd (true≢false (sym sized))
+sized_some (Some framer) sized = refl
+
+none_sized : (app : App) (wanted : List ℕ) → AsksNoMessages wanted → AsksNotSized app wanted
+none_sized app wanted none sized = record { short = none.short; malformed = none.malformed; fields = none.fields app (sized_some (framer_of app) sized) }
+
+none_told : (app : App) (wanted : List ℕ) (told : Told) → AsksNoMessages wanted → AsksNotTold app wanted told
+none_told app wanted (tellings.Sized end) none = none_sized app wanted none
+none_told app wanted (tellings.Http shape) none = record { short = none.short; malformed = none.malformed; fields = none.fields apps.Http refl }
+
+all_none : (app : App) (wanted : List ℕ) (ms : List ShownMessage) → AsksNoMessages wanted → AsksNotShown app wanted ms
+all_none app wanted [] none = tt
+all_none app wanted (m ∷ ms) none = (none_told app wanted m.message.told none, all_none app wanted ms none)
+
+pub none_shown : (app : Option StreamApp) (wanted : List ℕ) (ms : List ShownMessage) → AsksNoMessages wanted → AsksNotCarried app wanted ms
+none_shown None wanted ms none = tt
+none_shown (Some app) wanted ms none = all_none app.app wanted ms none
 
 -- ---- a tree that lacks something, as one fact with its wanted fields
 
@@ -161,10 +184,6 @@ home_http : (row_of HTTP).proto ≡ HTTP
 unfolding row_of rows
 home_http = refl
 
-home_dns : (row_of DNS).proto ≡ DNS
-unfolding row_of rows
-home_dns = refl
-
 file_http : (row_of HTTP_FILE_DATA).proto ≡ HTTP
 unfolding row_of rows
 file_http = refl
@@ -199,38 +218,47 @@ http_lacks : (t : TreeShown) (span : Span) (shape : Shape) → AsksNoneOf HTTP t
 unfolding http_read
 http_lacks t span shape unasked = body_lacks t span shape (bytes_of t.buffers span) shape.body unasked
 
-opened_same : (t : TreeShown) (span : Span) → (with_layer t DNS span []).buffers ≡ t.buffers
+opened_same : (t : TreeShown) (proto : ℕ) (span : Span) → (with_layer t proto span []).buffers ≡ t.buffers
 unfolding with_layer
-opened_same t span = refl
+opened_same t proto span = refl
 
-dns_lacks : (t : TreeShown) (span : Span) (bytes : List ℕ) (cut : Bool) → AsksNoneOf DNS t.wanted → Lacks (layer_read t DNS span (dns_layout true bytes) PlainMode cut) t
-dns_lacks t span bytes cut unasked =
-    let steps = dns_layout true bytes in
-    let u = with_layer t DNS span [] in
+row_lacks : (app : App) (t : TreeShown) (span : Span) (bytes : List ℕ) (cut : Bool) → tells_length (framer_of app) ≡ true → AsksNoneOf (proto_of app) t.wanted
+    → Lacks (layer_read t (proto_of app) span (layout_of app true bytes) PlainMode cut) t
+row_lacks app t span bytes cut sized unasked =
+    let proto = proto_of app in
+    let steps = layout_of app true bytes in
+    let u = with_layer t proto span [] in
     let fault = fault_of PlainMode (cut && reaches_end u.buffers span) (reach span.len steps) in
-    let one = layer_lacks t DNS span [] (unasked.fields DNS home_dns) (no_items t.wanted) in
-    let closed : with_fault u span fault ≡ layer_read t DNS span steps PlainMode cut =
-    passed t u (with_fault u span fault) DNS span steps PlainMode cut (reach span.len steps) unasked.fields refl (opened_same t span) refl (layout_fits true bytes) refl in
+    let one = layer_lacks t proto span [] (unasked.fields proto (home_of app)) (no_items t.wanted) in
+    let closed : with_fault u span fault ≡ layer_read t proto span steps PlainMode cut =
+    passed t u (with_fault u span fault) proto span steps PlainMode cut (reach span.len steps) unasked.fields refl (opened_same t proto span) refl (rows_fit app sized bytes) refl in
     subst (λ (v : TreeShown). Lacks v t) closed
     (both (with_fault u span fault) u t
     (fault_lacks u span fault (subst (IsFault fault) (sym one.wanted) (fault_is PlainMode (cut && reaches_end u.buffers span) (reach span.len steps) t.wanted refl unasked.short unasked.malformed))) one)
 
-told_lacks : (cut : Bool) (t : TreeShown) (span : Span) (told : Told) → AsksNotTold t.wanted told → Lacks (told_over cut t span told) t
-told_lacks cut t span (tellings.Dns end) unasked = dns_lacks t span (bytes_of t.buffers span) cut unasked
-told_lacks cut t span (tellings.Http shape) unasked = http_lacks t span shape unasked
+sized_lacks : (app : App) (cut : Bool) (t : TreeShown) (span : Span) → AsksNotSized app t.wanted → Lacks (sized_over app cut t span) t
+sized_lacks app cut t span unasked = by_test (tells_length (framer_of app)) refl
+  where
+    by_test : (test : Bool) → tells_length (framer_of app) ≡ test → Lacks (if test then layer_read t (proto_of app) span (layout_of app true (bytes_of t.buffers span)) PlainMode cut else t) t
+    by_test true is = row_lacks app t span (bytes_of t.buffers span) cut is (unasked is)
+    by_test false is = same_lacks t t refl
 
-sourced_lacks : (cut : Bool) (span : Span) (t : TreeShown) (told : Told) (source : Source) → AsksNotTold t.wanted told → Lacks (sourced_over cut span t told source) t
-sourced_lacks cut span t told (sources.Segment place) unasked = told_lacks cut t (within span place (told_end told)) told unasked
-sourced_lacks cut span t told (sources.Gathered g) unasked =
+told_lacks : (app : App) (cut : Bool) (t : TreeShown) (span : Span) (told : Told) → AsksNotTold app t.wanted told → Lacks (told_over app cut t span told) t
+told_lacks app cut t span (tellings.Sized end) unasked = sized_lacks app cut t span unasked
+told_lacks app cut t span (tellings.Http shape) unasked = http_lacks t span shape unasked
+
+sourced_lacks : (app : App) (cut : Bool) (span : Span) (t : TreeShown) (told : Told) (source : Source) → AsksNotTold app t.wanted told → Lacks (sourced_over app cut span t told source) t
+sourced_lacks app cut span t told (sources.Segment place) unasked = told_lacks app cut t (within span place (told_end told)) told unasked
+sourced_lacks app cut span t told (sources.Gathered g) unasked =
     let one = buffer_lacks t g.bytes in
-    both _ (with_buffer t g.bytes) t (told_lacks cut (with_buffer t g.bytes) (added_span t g.bytes) told (subst (λ (wanted : List ℕ). AsksNotTold wanted told) (sym one.wanted) unasked)) one
+    both _ (with_buffer t g.bytes) t (told_lacks app cut (with_buffer t g.bytes) (added_span t g.bytes) told (subst (λ (wanted : List ℕ). AsksNotTold app wanted told) (sym one.wanted) unasked)) one
 
-messages_lack : (cut : Bool) (span : Span) (t : TreeShown) (ms : List ShownMessage) → AsksNotShown t.wanted ms → Lacks (messages_over cut span t ms) t
+messages_lack : (app : App) (cut : Bool) (span : Span) (t : TreeShown) (ms : List ShownMessage) → AsksNotShown app t.wanted ms → Lacks (messages_over app cut span t ms) t
 unfolding message_over
-messages_lack cut span t [] unasked = same_lacks t t refl
-messages_lack cut span t (m ∷ ms) unasked =
-    let one = sourced_lacks cut span t m.message.told m.source unasked.0 in
-    both _ (message_over cut span t m) t (messages_lack cut span (message_over cut span t m) ms (subst (λ (wanted : List ℕ). AsksNotShown wanted ms) (sym one.wanted) unasked.1)) one
+messages_lack app cut span t [] unasked = same_lacks t t refl
+messages_lack app cut span t (m ∷ ms) unasked =
+    let one = sourced_lacks app cut span t m.message.told m.source unasked.0 in
+    both _ (message_over app cut span t m) t (messages_lack app cut span (message_over app cut span t m) ms (subst (λ (wanted : List ℕ). AsksNotShown app wanted ms) (sym one.wanted) unasked.1)) one
 
 segments_none : (t : TreeShown) (frames : List ℕ) → is_in t.wanted TCP_SEGMENT ≡ false → with_segments t frames ≡ t
 segments_none t [] unasked = refl
@@ -239,13 +267,13 @@ segments_none t (frame ∷ frames) unasked =
     ap (λ (u : TreeShown). with_segments u frames) one ∙ segments_none t frames unasked
 
 -- of messages of one application, and the frames that brought them
-pub shown_lacks : (app : Option StreamApp) (cut : Bool) (span : Span) (t : TreeShown) (ms : List ShownMessage) → is_in t.wanted TCP_SEGMENT ≡ false → AsksNotShown t.wanted ms
+pub shown_lacks : (app : Option StreamApp) (cut : Bool) (span : Span) (t : TreeShown) (ms : List ShownMessage) → is_in t.wanted TCP_SEGMENT ≡ false → AsksNotCarried app t.wanted ms
     → LacksOnly (carried_over app cut span t ms) (carried_over app cut span t [])
 unfolding carried_over
 shown_lacks None cut span t ms segment unasked = lacks_none (data_over t span)
 shown_lacks (Some app) cut span t ms segment unasked =
     let same : with_segments t (gathered_from ms) ≡ t = segments_none t (gathered_from ms) segment in
-    (subst (λ (u : TreeShown). Lacks (messages_over cut span u ms) t) (sym same) (messages_lack cut span t ms unasked)).only
+    (subst (λ (u : TreeShown). Lacks (messages_over app.app cut span u ms) t) (sym same) (messages_lack app.app cut span t ms unasked)).only
 
 pub carried_lacks : (app : Option StreamApp) (cut : Bool) (span : Span) (t : TreeShown) (ms : List ShownMessage) → AsksNoMessages t.wanted → LacksOnly (carried_over app cut span t ms) (carried_over app cut span t [])
-carried_lacks app cut span t ms unasked = shown_lacks app cut span t ms unasked.segment (none_shown t.wanted ms unasked)
+carried_lacks app cut span t ms unasked = shown_lacks app cut span t ms unasked.segment (none_shown app t.wanted ms unasked)

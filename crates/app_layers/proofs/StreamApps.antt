@@ -1,5 +1,5 @@
 -- Both directions of a conversation have the same application.
-use Rattle.std.proofs.Common.{◌≡◌, ℕ, Bool, true, false, ◌&&◌, List, refl, sym, ap, ◌∙◌, Option, inl, inr, arith}
+use Rattle.std.proofs.Common.{◌≡◌, ℕ, Bool, true, false, ◌&&◌, List, refl, sym, ap, ◌∙◌, Option, Some, None, option_map, inl, inr, arith}
 use Rattle.std.specs.Prelude.{◌==◌}
 use Rattle.std.proofs.lemmas.Bool.{cases_order, le-leb, lt-leb, eqb-true, cond-true, cond-false, cond_both}
 use Rattle.pk_base.specs.declared.heads.Address.{Address}
@@ -8,12 +8,15 @@ use Rattle.tcp_streams.specs.declared.ends.End.{End}
 use Rattle.tcp_streams.specs.declared.ends.Ends.{Ends}
 use Rattle.tcp_streams.specs.declared.segment.Segment.{Segment}
 use Rattle.tcp_streams.specs.Conversations.{comes_first, end_at, end_of_endpoint, ends_between, ends_of, same_bool, same_end, same_ends}
-use Rattle.stream_messages.specs.declared.told.App.{App as StreamApp}
+use Rattle.stream_messages.specs.declared.framer.Framer.{Framer}
+use Rattle.app_layers.specs.declared.streamed.StreamApp.{StreamApp}
 use Rattle.tcp_messages.specs.Readers.{IsOfEnds}
-use Rattle.pk_fields.specs.declared.rules.App.{App}
+use Rattle.pk_fields.specs.declared.apps.App.{App}
 use Rattle.pk_fields.specs.declared.rules.PortRule.{PortRule}
-use Rattle.pk_fields.specs.Applications.{app_between, app_known, tcp_app, usual_tcp}
-use Rattle.app_layers.specs.MessageLayers.{app_of_segment, in_streams, stream_app}
+use Rattle.pk_fields.specs.Applications.{app_between, app_known, tcp_app}
+use Rattle.pk_fields.specs.Apps.{usual_tcp}
+use Rattle.app_layers.specs.MessageLayers.{app_of_segment, framed, framer_of_segment, framing, in_streams, stream_app}
+use Rattle.app_layers.specs.Rows.{framer_of}
 
 both : (a b : Bool) → (a && b) ≡ true → (a ≡ true) × (b ≡ true)
 both true b e = (refl, e)
@@ -66,5 +69,27 @@ same_app rules one other same =
     ap (λ (port : ℕ). stream_app rules port one.greater.port) (same_port one.lesser other.lesser halves.0)
     ∙ ap (stream_app rules other.lesser.port) (same_port one.greater other.greater halves.1)
 
-pub apps_of_ends : (rules : List PortRule) → IsOfEnds (app_of_segment rules)
+pub apps_of_ends : (rules : List PortRule) (s t : Segment) → same_ends (ends_of s) (ends_of t) ≡ true → app_of_segment rules s ≡ app_of_segment rules t
 apps_of_ends rules s t same = sym (of_ends rules s) ∙ same_app rules (ends_of s) (ends_of t) same ∙ of_ends rules t
+
+-- so it has the same framing
+pub framers_of_ends : (rules : List PortRule) → IsOfEnds (framer_of_segment rules)
+framers_of_ends rules s t same = ap framing (apps_of_ends rules s t same)
+
+-- ---- an application of streams is framed as its messages are
+
+abbrev pub IsFramed : Option StreamApp → Type 0
+IsFramed None = Unit {0}
+IsFramed (Some app) = framer_of app.app ≡ Some app.framer
+
+framed_by : (app : App) (o : Option Framer) → framer_of app ≡ o → IsFramed (option_map (framed app) o)
+framed_by app None is = tt
+framed_by app (Some framer) is = is
+
+streams_framed : (o : Option App) → IsFramed (in_streams o)
+streams_framed None = tt
+streams_framed (Some app) = framed_by app (framer_of app) refl
+
+pub is_framed : (rules : List PortRule) (source target : ℕ) → IsFramed (stream_app rules source target)
+unfolding stream_app
+is_framed rules source target = streams_framed (tcp_app rules source target)

@@ -3,7 +3,7 @@ use Rattle.std.specs.Prelude.{◌&&◌, nat_lt}
 use Rattle.std.proofs.Common.{◌≡◌, ◌==◌, [], length, ℕ, Bool, true, false, List, ◌∷◌, Option, Some, None, if◌then◌else◌, refl, ◌∙◌}
 use Rattle.pk_base.specs.declared.span.Span.{Span}
 use Rattle.pk_tree.specs.Buffers.{bytes_of}
-use Rattle.pk_fields.specs.Ids.{DATA, DNS, HTTP, HTTP_FILE_DATA, TCP_SEGMENT}
+use Rattle.pk_fields.specs.Ids.{DATA, HTTP, HTTP_FILE_DATA, TCP_SEGMENT}
 use Rattle.pk_base.specs.declared.heads.Mode.{Mode}
 use Rattle.pk_base.specs.declared.heads.Mode.TheVariants.{Plain}
 use Rattle.pk_tree.specs.declared.layout.Step.{Step}
@@ -12,9 +12,9 @@ use Rattle.pk_tree.specs.Trees.{TreeShown, with_layer, with_item, with_buffer, r
 use Rattle.stream_messages.specs.declared.shape.Body.{Body}
 use Rattle.stream_messages.specs.declared.shape.Body.TheVariants as bodies
 use Rattle.stream_messages.specs.declared.shape.Shape.{Shape}
-use Rattle.dis_dns.specs.Dns.{dns_layout}
 use Rattle.dis_http.specs.Http.{http_layout, http_read, body_read, plain_read, with_content, joined}
-use Rattle.stream_messages.specs.declared.told.App.{App as StreamApp}
+use Rattle.pk_fields.specs.declared.apps.App.{App}
+use Rattle.app_layers.specs.declared.streamed.StreamApp.{StreamApp}
 use Rattle.stream_messages.specs.declared.told.Told.{Told}
 use Rattle.stream_messages.specs.declared.told.Told.TheVariants as tellings
 use Rattle.stream_messages.specs.Tellings.{end_of}
@@ -23,7 +23,8 @@ use Rattle.tcp_messages.specs.declared.met.Source.{Source}
 use Rattle.tcp_messages.specs.declared.met.Source.TheVariants as sources
 use Rattle.tcp_messages.specs.Shown.{frames_told as gathered_from}
 use Rattle.app_layers.specs.DataLayer.{data_layout, data_over}
-use Rattle.app_layers.specs.MessageLayers.{added_span, carried_over, message_over, messages_over, sourced_over, told_over, with_segments}
+use Rattle.app_layers.specs.MessageLayers.{added_span, carried_over, message_over, messages_over, sized_over, sourced_over, tells_length, told_over, with_segments}
+use Rattle.app_layers.specs.Rows.{framer_of, layout_of, proto_of}
 use Rattle.app_layers.specs.Payloads.{with_number}
 use Rattle.app_layers.proofs.ToldHeads.{if_wanted, item_wanted, number_wanted}
 
@@ -63,18 +64,22 @@ http_wanted : (t : TreeShown) (span : Span) (shape : Shape) → (http_read t spa
 unfolding http_read
 http_wanted t span shape = body_wanted t span (http_layout shape (bytes_of t.buffers span)) (bytes_of t.buffers span) shape.body
 
-message_wanted : (cut : Bool) (t : TreeShown) (span : Span) (told : Told) → (told_over cut t span told).wanted ≡ t.wanted
-message_wanted cut t span (tellings.Dns end) = layer_wanted t DNS span (dns_layout true (bytes_of t.buffers span)) Plain cut
-message_wanted cut t span (tellings.Http shape) = http_wanted t span shape
+sized_wanted : (app : App) (cut : Bool) (t : TreeShown) (span : Span) → (sized_over app cut t span).wanted ≡ t.wanted
+sized_wanted app cut t span =
+    if_wanted (tells_length (framer_of app)) t _ t (layer_wanted t (proto_of app) span (layout_of app true (bytes_of t.buffers span)) Plain cut) refl
 
-sourced_wanted : (cut : Bool) (span : Span) (t : TreeShown) (told : Told) (source : Source) → (sourced_over cut span t told source).wanted ≡ t.wanted
-sourced_wanted cut span t told (sources.Segment place) = message_wanted cut t (within span place (end_of told)) told
-sourced_wanted cut span t told (sources.Gathered g) = message_wanted cut (with_buffer t g.bytes) (added_span t g.bytes) told ∙ buffer_wanted t g.bytes
+message_wanted : (app : App) (cut : Bool) (t : TreeShown) (span : Span) (told : Told) → (told_over app cut t span told).wanted ≡ t.wanted
+message_wanted app cut t span (tellings.Sized end) = sized_wanted app cut t span
+message_wanted app cut t span (tellings.Http shape) = http_wanted t span shape
 
-messages_wanted : (cut : Bool) (span : Span) (t : TreeShown) (ms : List ShownMessage) → (messages_over cut span t ms).wanted ≡ t.wanted
+sourced_wanted : (app : App) (cut : Bool) (span : Span) (t : TreeShown) (told : Told) (source : Source) → (sourced_over app cut span t told source).wanted ≡ t.wanted
+sourced_wanted app cut span t told (sources.Segment place) = message_wanted app cut t (within span place (end_of told)) told
+sourced_wanted app cut span t told (sources.Gathered g) = message_wanted app cut (with_buffer t g.bytes) (added_span t g.bytes) told ∙ buffer_wanted t g.bytes
+
+messages_wanted : (app : App) (cut : Bool) (span : Span) (t : TreeShown) (ms : List ShownMessage) → (messages_over app cut span t ms).wanted ≡ t.wanted
 unfolding message_over
-messages_wanted cut span t [] = refl
-messages_wanted cut span t (m ∷ ms) = messages_wanted cut span (message_over cut span t m) ms ∙ sourced_wanted cut span t m.message.told m.source
+messages_wanted app cut span t [] = refl
+messages_wanted app cut span t (m ∷ ms) = messages_wanted app cut span (message_over app cut span t m) ms ∙ sourced_wanted app cut span t m.message.told m.source
 
 segments_wanted : (t : TreeShown) (frames : List ℕ) → (with_segments t frames).wanted ≡ t.wanted
 segments_wanted t [] = refl
@@ -83,4 +88,4 @@ segments_wanted t (frame ∷ frames) = segments_wanted (with_number t TCP_SEGMEN
 pub carried_over_wanted : (app : Option StreamApp) (cut : Bool) (span : Span) (t : TreeShown) (ms : List ShownMessage) → (carried_over app cut span t ms).wanted ≡ t.wanted
 unfolding carried_over
 carried_over_wanted None cut span t ms = data_wanted t span
-carried_over_wanted (Some app) cut span t ms = messages_wanted cut span (with_segments t (gathered_from ms)) ms ∙ segments_wanted t (gathered_from ms)
+carried_over_wanted (Some app) cut span t ms = messages_wanted app.app cut span (with_segments t (gathered_from ms)) ms ∙ segments_wanted t (gathered_from ms)

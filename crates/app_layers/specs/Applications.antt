@@ -7,7 +7,7 @@ use Rattle.pk_base.specs.declared.heads.After.TheVariants as afters
 use Rattle.pk_base.specs.declared.heads.Mode.TheVariants.{Plain as PlainMode}
 use Rattle.pk_tree.specs.Layouts.{layer_read}
 use Rattle.pk_tree.specs.Trees.{TreeShown}
-use Rattle.pk_fields.specs.declared.rules.App.{App}
+use Rattle.pk_fields.specs.declared.apps.App.{App}
 use Rattle.app_layers.specs.DataLayer.{data_over}
 use Rattle.app_layers.specs.Rows.{in_datagrams, layout_of, proto_of, rest_of}
 

@@ -3,6 +3,7 @@ pub mod Aside
 pub mod DataLayer
 pub mod Fragments
 pub mod FrameLayer
+pub mod Framing
 pub mod Heads
 pub mod MessageLayers
 pub mod Payloads

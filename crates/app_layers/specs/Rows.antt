@@ -1,14 +1,14 @@
 -- How messages of applications are read. Written by tools/make_protocols from tools/protocols.txt.
-use Rattle.std.specs.Prelude.{ℕ, Bool, true, false, List, [], Option, Some, None}
+use Rattle.std.specs.Prelude.{ℕ, Bool, true, false, List, [], ◌∷◌, Option, Some, None}
 use Rattle.pk_base.specs.declared.span.Span.{Span}
 use Rattle.pk_base.specs.declared.heads.After.{After}
 use Rattle.pk_base.specs.declared.heads.After.TheVariants.{End}
 use Rattle.pk_fields.specs.Ids.{HTTP, DNS, DHCP, NTP, MDNS, DATA}
-use Rattle.pk_fields.specs.declared.rules.App.{App}
-use Rattle.pk_fields.specs.declared.rules.App.TheVariants.{Http, Dns, Dhcp, Ntp, Mdns, Plain}
+use Rattle.pk_fields.specs.declared.apps.App.{App}
+use Rattle.pk_fields.specs.declared.apps.App.TheVariants.{Http, Dns, Dhcp, Ntp, Mdns, Plain}
 use Rattle.pk_tree.specs.declared.layout.Step.{Step}
-use Rattle.stream_messages.specs.declared.told.App.{App as Framer}
-use Rattle.stream_messages.specs.declared.told.App.TheVariants as framers
+use Rattle.stream_messages.specs.declared.framer.Framer.{Framer}
+use Rattle.stream_messages.specs.declared.framer.Framer.TheVariants as framers
 use Rattle.dis_dns.specs.Dns.{dns_layout, mdns_layout}
 use Rattle.dis_hosts.specs.Dhcp.{dhcp_layout}
 use Rattle.dis_hosts.specs.Ntp.{ntp_layout, ntp_after}
@@ -23,7 +23,7 @@ in_datagrams Mdns = true
 in_datagrams Plain = false
 
 -- the protocol of its layers
-unfoldable pub proto_of : App → ℕ
+abbrev pub proto_of : App → ℕ
 proto_of Http = HTTP
 proto_of Dns = DNS
 proto_of Dhcp = DHCP
@@ -52,8 +52,25 @@ rest_of Plain span bytes = End
 -- how its messages follow one another in a stream, where streams carry them
 abbrev pub framer_of : App → Option Framer
 framer_of Http = Some framers.Http
-framer_of Dns = Some framers.Dns
+framer_of Dns = Some (framers.LengthPrefix 2 0 2)
 framer_of Dhcp = None
 framer_of Ntp = None
 framer_of Mdns = None
 framer_of Plain = None
+
+-- those whose messages streams carry
+abbrev pub framed_apps : List App
+framed_apps = Http ∷ Dns ∷ []
+
+-- whether a datagram's message of which nothing is asked is passed over
+abbrev pub is_passed : App → Bool
+is_passed Http = false
+is_passed Dns = true
+is_passed Dhcp = true
+is_passed Ntp = false
+is_passed Mdns = true
+is_passed Plain = false
+
+-- those of which that is so
+abbrev pub passed_apps : List App
+passed_apps = Dns ∷ Dhcp ∷ Mdns ∷ []

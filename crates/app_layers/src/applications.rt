@@ -6,10 +6,10 @@ ghost use Rattle.app_layers.specs.MessageLayers.{in_streams, stream_app};
 
 use crate::data_layer::add_data;
 use crate::rows::{framer_of, read_datagram};
+use crate::streamed::StreamApp;
 use pk_base::{After, NoMemory, Span};
 use pk_fields::{App, PortRule, tcp_app};
 use pk_tree::TreeBuilder;
-use stream_messages::App as StreamApp;
 
 /// The application of a stream, by the ports of one of its segments.
 #[tactic(auto, unfolding(crate::specs::MessageLayers::stream_app))]
@@ -23,7 +23,9 @@ pub fn stream_app(rules: &[PortRule], source: u16, target: u16) -> Option<Stream
 fn in_streams(app: Option<App>) -> Option<StreamApp>
     ensures { result ≡ in_streams app }
 {
-    framer_of(app?)
+    let app = app?;
+    let framer = framer_of(app)?;
+    Some(StreamApp { app, framer })
 }
 
 /// Reads the payload of a datagram by its application. One of no bytes is no message.

@@ -8,12 +8,13 @@ ghost use Rattle.app_layers.specs.MessageLayers.{added_span, carried_over, messa
 ghost use Rattle.app_layers.specs.Payloads.{LastIs};
 
 use crate::data_layer::add_data;
-use dis_dns::read_dns;
+use crate::rows::read_sized;
+use crate::streamed::StreamApp;
 use dis_http::read_http;
 use pk_base::{NoMemory, Octets, Span, Value};
-use pk_fields::ids;
+use pk_fields::{App, ids};
 use pk_tree::TreeBuilder;
-use stream_messages::{App as StreamApp, Told};
+use stream_messages::Told;
 use tcp_messages::{Met, ShownMessage, Source};
 
 /// Shows what a segment carries: the messages that its frame shows, or its bytes as data where its stream has no application.
@@ -33,11 +34,11 @@ pub fn add_carried(
     requires whole { All (IsWholeIn (bytes_of tree.old.buffers span)) met.now.messages }
     ensures tree { OnOk result (tree.new ≡ carried_over app cut span tree.old met.now.messages) }
 {
-    if app.is_none() {
+    let Some(streamed) = app else {
         return add_data(span, tree);
-    }
+    };
     tell_segments(met.frames.slice(), tree)?;
-    put_messages(met.messages.slice(), cut, span, tree)
+    put_messages(streamed.app, met.messages.slice(), cut, span, tree)
 }
 
 /// Shows what a segment carries of which no message is shown: its bytes as data where its stream has no application.
@@ -84,6 +85,7 @@ fn tell_segment_frame(frame: u32, tree: &mut TreeBuilder) -> Result<(), NoMemory
 /// Shows messages of a stream, one behind the other, in the bytes of the segment that brought them, or else in buffers of their
 /// own.
 pub(crate) fn put_messages(
+    app: App,
     messages: &[ShownMessage],
     cut: bool,
     span: Span,
@@ -94,10 +96,10 @@ pub(crate) fn put_messages(
     requires buffers { length tree.old.buffers < 2 ^ 31 }
     requires few { length messages.now ≤ 2 ^ 25 }
     requires whole { All (IsWholeIn (bytes_of tree.old.buffers span)) messages.now }
-    ensures tree { OnOk result (tree.new ≡ messages_over cut span tree.old messages.now) }
+    ensures tree { OnOk result (tree.new ≡ messages_over app cut span tree.old messages.now) }
 {
     for message in messages {
-        put_message(message, cut, span, tree)?;
+        put_message(app, message, cut, span, tree)?;
     }
     Ok(())
 }
@@ -105,6 +107,7 @@ pub(crate) fn put_messages(
 /// Shows a message.
 #[tactic(auto, unfolding(crate::specs::MessageLayers::message_over))]
 fn put_message(
+    app: App,
     message: &ShownMessage,
     cut: bool,
     span: Span,
@@ -114,36 +117,40 @@ fn put_message(
     requires layers { length tree.old.layers + 2 < 2 ^ 32 }
     requires buffers { length tree.old.buffers + 2 < 2 ^ 32 }
     requires whole { IsWholeIn (bytes_of tree.old.buffers span) message.now }
-    ensures tree { OnOk result (tree.new ≡ message_over cut span tree.old message.now) }
+    ensures tree { OnOk result (tree.new ≡ message_over app cut span tree.old message.now) }
     ensures most { OnOk result (length tree.new.layers ≤ length tree.old.layers + 2) }
 {
     let told = &message.message.told;
     match &message.source {
         Source::Segment(place) => {
             let _bytes = tree.bytes(span);
-            put_told(told, cut, part_of(span, *place, told.end()), tree)
+            put_told(app, told, cut, part_of(span, *place, told.end()), tree)
         }
         Source::Gathered(gathered) => {
             let whole = add_bytes(&gathered.bytes, tree)?;
-            put_told(told, cut, whole, tree)
+            put_told(app, told, cut, whole, tree)
         }
     }
 }
 
 /// Reads a message, whose bytes are those of a span.
-fn put_told(told: &Told, cut: bool, span: Span, tree: &mut TreeBuilder) -> Result<(), NoMemory>
+#[tactic(auto, using(crate::proofs::MessageLemmas::http_shape))]
+fn put_told(
+    app: App,
+    told: &Told,
+    cut: bool,
+    span: Span,
+    tree: &mut TreeBuilder,
+) -> Result<(), NoMemory>
     requires inside { IsInside tree.old.buffers span }
     requires layers { length tree.old.layers + 2 < 2 ^ 32 }
     requires buffers { length tree.old.buffers + 1 < 2 ^ 32 }
     requires whole { IsMessage told.now (bytes_of tree.old.buffers span) }
-    ensures tree { OnOk result (tree.new ≡ told_over cut tree.old span told.now) }
+    ensures tree { OnOk result (tree.new ≡ told_over app cut tree.old span told.now) }
     ensures most { OnOk result (length tree.new.layers ≤ length tree.old.layers + 2) }
 {
     match told {
-        Told::Dns(_) => {
-            let prefixed = true;
-            read_dns(span, prefixed, cut, tree)
-        }
+        Told::Sized(_) => read_sized(app, cut, span, tree),
         Told::Http(shape) => read_http(span, shape, tree),
     }
 }

@@ -2,7 +2,7 @@
 //! application, or `none`. There are rules for TCP's ports 9000 (HTTP) and 80 (plain data), and for UDP's 9000 (DHCP) and 53 (plain
 //! data), or, with `usual udp 9000 53 -> dns`, none.
 
-use pk_fields::{App, PortRule, tcp_app, udp_app};
+use pk_fields::{App, PortRule, app_name, tcp_app, udp_app};
 
 const RULES: [PortRule; 4] = [
     PortRule {
@@ -27,19 +27,15 @@ const RULES: [PortRule; 4] = [
     },
 ];
 
-fn app_text(app: Option<App>) -> &'static str {
+fn app_text(app: Option<App>) -> &'static [u8] {
     match app {
-        Some(App::Http) => "http",
-        Some(App::Dns) => "dns",
-        Some(App::Dhcp) => "dhcp",
-        Some(App::Ntp) => "ntp",
-        Some(App::Mdns) => "mdns",
-        Some(App::Plain) => "plain",
-        None => "none",
+        Some(App::Plain) => b"plain".as_slice(),
+        Some(app) => app_name(app),
+        None => b"none".as_slice(),
     }
 }
 
-fn told_of(transport: &str, source: u16, target: u16) -> Option<&'static str> {
+fn told_of(transport: &str, source: u16, target: u16) -> Option<&'static [u8]> {
     match transport {
         "tcp" => Some(app_text(tcp_app(&RULES, source, target))),
         "udp" => Some(app_text(udp_app(&RULES, source, target))),
@@ -52,5 +48,5 @@ pub(crate) fn is_read_as(row: &str) -> Option<bool> {
     let (left, told) = row.split_once(" -> ")?;
     let (left, target) = left.rsplit_once(' ')?;
     let (transport, source) = left.rsplit_once(' ')?;
-    Some(told_of(transport, source.parse().ok()?, target.parse().ok()?)? == told)
+    Some(told_of(transport, source.parse().ok()?, target.parse().ok()?)? == told.as_bytes())
 }

@@ -104,16 +104,16 @@ all_alike (suc n) (suc q) d = all_alike n q d
 pub in_every : (f : ℕ) → is_in every_field f ≡ true
 unfolding is_in
 in_every f =
-    let word : get_or every_field (f / 64) every_word ≡ every_word = all_alike 6 (f / 64) every_word in
+    let word : get_or every_field (f / 64) every_word ≡ every_word = all_alike 8 (f / 64) every_word in
     rw (word, bit_at_ones 64 (f % 64) (omega arith)) refl
 
 pub every_homes : HasHomes every_field
 unfolding HasHomes
 every_homes f has = in_every (row_of f).proto
 
-no_word : (q : ℕ) → 0 < q → q < 6 → get_or least_fields q every_word ≡ 0
+no_word : (q : ℕ) → 0 < q → q < 8 → get_or least_fields q every_word ≡ 0
 no_word zero some most = absurd (omega arith)
-no_word (suc q) some most = get_or-replicate 5 q 0 every_word (omega arith)
+no_word (suc q) some most = get_or-replicate 7 q 0 every_word (omega arith)
 
 length_rows : length rows ≡ field_count
 unfolding rows

@@ -14,10 +14,10 @@ HasHomes words = (f : ℕ) → is_in words f ≡ true → is_in words (row_of f)
 
 -- `frame` alone: it is the protocol of the row of each number that is no field's
 abbrev pub least_fields : List ℕ
-least_fields = 1 ∷ 0 ∷ 0 ∷ 0 ∷ 0 ∷ 0 ∷ []
+least_fields = 1 ∷ 0 ∷ 0 ∷ 0 ∷ 0 ∷ 0 ∷ 0 ∷ 0 ∷ []
 
 abbrev pub every_word : ℕ
 every_word = 2 ^ 64 - 1
 
 abbrev pub every_field : List ℕ
-every_field = every_word ∷ every_word ∷ every_word ∷ every_word ∷ every_word ∷ every_word ∷ []
+every_field = every_word ∷ every_word ∷ every_word ∷ every_word ∷ every_word ∷ every_word ∷ every_word ∷ every_word ∷ []

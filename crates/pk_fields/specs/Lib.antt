@@ -1,5 +1,6 @@
 pub mod AddedFields
 pub mod Applications
+pub mod Apps
 pub mod FieldSets
 pub mod Fields
 pub mod Halves

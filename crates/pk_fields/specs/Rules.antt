@@ -1,18 +1,8 @@
 -- Rules that name the application of a port.
 use Rattle.std.specs.Prelude.{◌==◌, Bool, true, false, ◌&&◌, not, List, All, IsTrue}
 use Rattle.std.specs.List.{IsDistinct}
-use Rattle.pk_fields.specs.declared.rules.App.{App}
-use Rattle.pk_fields.specs.declared.rules.App.TheVariants.{Http, Dns, Dhcp, Ntp, Mdns, Plain}
 use Rattle.pk_fields.specs.declared.rules.PortRule.{PortRule}
-
--- HTTP is read in streams alone, DHCP, NTP and multicast DNS in datagrams alone
-abbrev pub app_fits : Bool → App → Bool
-app_fits tcp Http = tcp
-app_fits tcp Dns = true
-app_fits tcp Dhcp = not tcp
-app_fits tcp Ntp = not tcp
-app_fits tcp Mdns = not tcp
-app_fits tcp Plain = true
+use Rattle.pk_fields.specs.Apps.{app_fits}
 
 abbrev pub same_transport : Bool → Bool → Bool
 same_transport true tcp = tcp

@@ -1,7 +1,10 @@
 ghost use Rattle.std.specs.Prelude.{◌≡◌, true, false};
-ghost use Rattle.pk_fields.specs.Applications.{app_known, rule_of, tcp_app, udp_app, usual_tcp, usual_udp};
+ghost use Rattle.std.specs.Str.{bytes_eq};
+ghost use Rattle.pk_fields.specs.Applications.{app_known, rule_of, tcp_app, udp_app};
+ghost use Rattle.pk_fields.specs.Apps.{usual_tcp, usual_udp};
 
-use crate::rules::{App, PortRule};
+use crate::apps::{App, usual_tcp, usual_udp};
+use crate::rules::PortRule;
 
 /// The application of a datagram of UDP between two ports: that of the lower port, else that of the higher.
 #[tactic(auto, unfolding(crate::specs::Applications::udp_app))]
@@ -45,24 +48,9 @@ fn rule_of(rules: &[PortRule], tcp: bool, port: u16) -> Option<App>
         .map(|rule| rule.app)
 }
 
-fn usual_udp(port: u16) -> Option<App>
-    ensures { result ≡ usual_udp port }
+/// Whether a text is this one.
+pub(crate) fn is_text(text: &[u8], wanted: &[u8]) -> bool
+    ensures { result ≡ bytes_eq text.now wanted.now }
 {
-    match port {
-        53 => Some(App::Dns),
-        67 | 68 => Some(App::Dhcp),
-        123 => Some(App::Ntp),
-        5353 => Some(App::Mdns),
-        _ => None,
-    }
-}
-
-fn usual_tcp(port: u16) -> Option<App>
-    ensures { result ≡ usual_tcp port }
-{
-    match port {
-        53 => Some(App::Dns),
-        80 | 8080 => Some(App::Http),
-        _ => None,
-    }
+    text == wanted
 }

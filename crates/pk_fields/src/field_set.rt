@@ -11,7 +11,7 @@ use std::marker::Model;
 /// A set of fields and protocols. With a field it holds the field's protocol; `frame` is in each set.
 #[derive(Clone, Copy)]
 pub struct FieldSet {
-    words: [u64; 6],
+    words: [u64; 8],
 }
 
 impl Model for FieldSet {
@@ -33,7 +33,7 @@ impl FieldSet {
         ensures { result ≡ least_fields }
     {
         FieldSet {
-            words: [1, 0, 0, 0, 0, 0],
+            words: [1, 0, 0, 0, 0, 0, 0, 0],
         }
     }
 
@@ -42,7 +42,7 @@ impl FieldSet {
         ensures { result ≡ every_field }
     {
         FieldSet {
-            words: [u64::MAX; 6],
+            words: [u64::MAX; 8],
         }
     }
 
@@ -56,13 +56,15 @@ impl FieldSet {
     pub fn count(&self) -> usize
         ensures { result ≡ sum_by count_ones self.now }
     {
-        let [a, b, c, d, e, f] = self.words;
+        let [a, b, c, d, e, f, g, h] = self.words;
         let count = a.count_ones()
             + b.count_ones()
             + c.count_ones()
             + d.count_ones()
             + e.count_ones()
-            + f.count_ones();
+            + f.count_ones()
+            + g.count_ones()
+            + h.count_ones();
         count as usize
     }
 
@@ -97,14 +99,14 @@ impl FieldSet {
 }
 
 #[tactic(auto, unfolding(crate::specs::FieldSets::is_in))]
-fn has_bit(words: &[u64; 6], field: FieldId) -> bool
+fn has_bit(words: &[u64; 8], field: FieldId) -> bool
     ensures { result ≡ is_in words.now field }
 {
     let number = usize::from(field.0);
     (words[number / 64] >> (number % 64)) & 1 == 1
 }
 
-fn set_bit(words: &mut [u64; 6], field: FieldId)
+fn set_bit(words: &mut [u64; 8], field: FieldId)
     ensures { (f : ℕ) → is_in words.new f ≡ (f == field || is_in words.old f) }
 {
     let number = usize::from(field.0);

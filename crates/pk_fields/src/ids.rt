@@ -1,6 +1,9 @@
 //! The fields by name. Written by tools/make_fields from tools/fields.txt.
 use crate::field_id::FieldId;
 
+/// How many fields there are: their numbers are below this.
+pub const FIELD_COUNT: u16 = 360;
+
 /// `frame`: the whole frame, before any layer is read.
 pub const FRAME: FieldId = FieldId(0);
 /// `frame.number`: place in the file, from 1.

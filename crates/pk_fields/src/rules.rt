@@ -1,18 +1,7 @@
 ghost use Rattle.std.specs.Prelude.{◌≡◌};
 
+use crate::apps::App;
 use std::marker::Model;
-
-/// What a port's payload is read as.
-#[derive(Clone, Copy)]
-pub enum App {
-    Http,
-    Dns,
-    Dhcp,
-    Ntp,
-    Mdns,
-    /// Shown as data, whatever the port.
-    Plain,
-}
 
 /// The application of a port, in place of the usual one.
 #[derive(Clone, Copy)]

@@ -6,9 +6,10 @@ use Rattle.std.proofs.lemmas.Bool.{both_ways}
 use Rattle.std.proofs.lemmas.Option.{none-some, same_Some}
 use Rattle.std.proofs.lemmas.List.Elements.{All-nil, All-cons}
 use Rattle.std.proofs.lemmas.Map.Keys.{IsDistinct-cons}
-use Rattle.pk_fields.specs.declared.rules.App.{App}
+use Rattle.pk_fields.specs.declared.apps.App.{App}
 use Rattle.pk_fields.specs.declared.rules.PortRule.{PortRule}
-use Rattle.pk_fields.specs.Rules.{AreRules, app_fits, same_port}
+use Rattle.pk_fields.specs.Apps.{app_fits, app_named}
+use Rattle.pk_fields.specs.Rules.{AreRules, same_port}
 use Rattle.shark_words.specs.declared.letter.Letter.{Letter}
 use Rattle.shark_words.specs.declared.letter.Letter.TheVariants.{Decode}
 use Rattle.shark_words.specs.declared.port.Port.{Port}
@@ -16,7 +17,7 @@ use Rattle.shark_words.specs.declared.slot.Slot.{Slot}
 use Rattle.shark_words.specs.declared.slot.Slot.TheVariants as slots
 use Rattle.shark_words.specs.Letters.{is_same}
 use Rattle.shark_words.specs.Numbers.{comma_in}
-use Rattle.shark_words.specs.Ports.{app_named, app_of, carried, is_same_port, port, port_in, port_of, rule, rule_at, rule_by, rule_of, rules_in}
+use Rattle.shark_words.specs.Ports.{app_of, carried, is_same_port, port, port_in, port_of, rule, rule_at, rule_by, rule_of, rules_in}
 use Rattle.shark_words.specs.Slots.{is_slot, slot_of}
 use Rattle.shark_words.specs.Spelled.{Written, one_if, text_or_none, times, values_in}
 use Rattle.shark_words.proofs.SlotLemmas.{same_letter, slot_itself}

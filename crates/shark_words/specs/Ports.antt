@@ -2,11 +2,10 @@
 -- is read as.
 use Rattle.std.specs.Prelude.{ℕ, suc, ◌^◌, ◌-◌, ◌==◌, Bool, true, false, ◌&&◌, List, [], ◌∷◌, ◌++◌, take, drop, codes, Option, Some, None, option_and_then, option_map, option_to_list, if◌then◌else◌}
 use Rattle.std.specs.Option.{option_or}
-use Rattle.std.specs.Str.{bytes_eq}
-use Rattle.pk_fields.specs.declared.rules.App.{App}
-use Rattle.pk_fields.specs.declared.rules.App.TheVariants.{Http, Dns, Dhcp, Plain}
+use Rattle.pk_fields.specs.declared.apps.App.{App}
 use Rattle.pk_fields.specs.declared.rules.PortRule.{PortRule}
-use Rattle.pk_fields.specs.Rules.{app_fits, same_transport}
+use Rattle.pk_fields.specs.Apps.{app_fits, app_named}
+use Rattle.pk_fields.specs.Rules.{same_transport}
 use Rattle.shark_words.specs.declared.port.Port.{Port}
 use Rattle.shark_words.specs.Keys.{behind_name}
 use Rattle.shark_words.specs.Numbers.{at_most, comma_in, decimal_of}
@@ -36,15 +35,6 @@ port_before text (Some comma) = port_of (take comma text)
 
 unfoldable pub port_in : List ℕ → Option Port
 port_in text = port_before text (comma_in text)
-
--- the application of a name; `data` is none
-abbrev pub app_named : List ℕ → Option App
-app_named text =
-    if bytes_eq text (codes "http") then Some Http
-    else if bytes_eq text (codes "dns") then Some Dns
-    else if bytes_eq text (codes "dhcp") then Some Dhcp
-    else if bytes_eq text (codes "data") then Some Plain
-    else None
 
 -- an application that a transport carries
 abbrev pub carried : Bool → App → Option App

@@ -1,10 +1,9 @@
 // What `-d` sets.
 ghost use Rattle.std.specs.Prelude.{◌≡◌};
-ghost use Rattle.shark_words.specs.Ports.{app_named, app_of, carried as carried_by, port_in as port_in_text, port_of, port_over, rule_by as rule_by_name, rule_of, transport_name};
+ghost use Rattle.shark_words.specs.Ports.{app_of, carried as carried_by, port_in as port_in_text, port_of, port_over, rule_by as rule_by_name, rule_of, transport_name};
 
-use crate::key::is_text;
 use crate::number::{comma_in, number_behind};
-use pk_fields::{App, PortRule};
+use pk_fields::{App, PortRule, app_fits, app_named};
 
 /// A port of one transport.
 #[derive(Clone, Copy, PartialEq, Eq, Hash)]
@@ -59,39 +58,18 @@ pub(crate) fn port_in(text: &[u8]) -> Option<Port>
     }
 }
 
-fn app_of_name(text: &[u8]) -> Option<App>
-    ensures { result ≡ app_named text.now }
-{
-    if is_text(text, b"http") {
-        Some(App::Http)
-    } else if is_text(text, b"dns") {
-        Some(App::Dns)
-    } else if is_text(text, b"dhcp") {
-        Some(App::Dhcp)
-    } else if is_text(text, b"data") {
-        Some(App::Plain)
-    } else {
-        None
-    }
-}
-
-// HTTP is read in streams alone, DHCP in datagrams alone.
+// An application that a transport carries.
 fn carried(tcp: bool, app: App) -> Option<App>
     ensures { result ≡ carried_by tcp app }
 {
-    let fits = match app {
-        App::Http => tcp,
-        App::Dns | App::Plain => true,
-        App::Dhcp | App::Ntp | App::Mdns => !tcp,
-    };
-    if fits { Some(app) } else { None }
+    if app_fits(tcp, app) { Some(app) } else { None }
 }
 
 // The application of a name that this transport carries.
 fn read_app(tcp: bool, text: &[u8]) -> Option<App>
     ensures { result ≡ app_of tcp text.now }
 {
-    carried(tcp, app_of_name(text)?)
+    carried(tcp, app_named(text)?)
 }
 
 // A port's rule, by the name of its application.

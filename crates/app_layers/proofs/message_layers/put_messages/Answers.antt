@@ -21,8 +21,8 @@ loop-message-preserved c =
     let t = c.loop-message.tree in
     let new = c.put_message.new.tree in
     record {
-      shown = messages_next c.args.cut c.args.span t new _ c.args.messages.now i c.message-item.result c.loop-message-test.true c.message-item.is c.loop-message.invariant.shown c.in_ok-put_message.ensures.tree;
+      shown = messages_next c.args.app c.args.cut c.args.span t new _ c.args.messages.now i c.message-item.result c.loop-message-test.true c.message-item.is c.loop-message.invariant.shown c.in_ok-put_message.ensures.tree;
       grows = grows_next i c.args.tree.now.buffers t.buffers new.buffers c.loop-message.invariant.grows
-          (subst (λ (u : TreeShown). GrowsBy 2 t.buffers u.buffers) (sym c.in_ok-put_message.ensures.tree) (message_grows c.args.cut c.args.span t c.message-item.result));
+          (subst (λ (u : TreeShown). GrowsBy 2 t.buffers u.buffers) (sym c.in_ok-put_message.ensures.tree) (message_grows c.args.app c.args.cut c.args.span t c.message-item.result));
       few = omega (arith, c.loop-message.invariant.few, c.in_ok-put_message.ensures.most);
     }
