@@ -3,6 +3,7 @@ pub mod FoundLemmas
 pub mod GrowthLaws
 pub mod LayerLaws
 pub mod NoteLemmas
+pub mod OnlyLemmas
 pub mod OutlineLaws
 pub mod PickLemmas
 pub mod Placed

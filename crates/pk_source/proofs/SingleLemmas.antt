@@ -1,18 +1,20 @@
 -- A field that has at most one place.
-use Rattle.std.proofs.Common.{◌≡◌, ◌==◌, ◌≤◌, ℕ, Bool as Truth, true, false, List, [], ◌∷◌, ◌++◌, length, ap, sym, refl, ◌∙◌, subst, arith, inl, inr, true≢false, if◌then◌else◌, append-nil}
+use Rattle.std.proofs.Common.{◌≡◌, ◌==◌, ◌+◌, ◌≤◌, ℕ, Bool as Truth, true, false, List, [], ◌∷◌, ◌++◌, length, ap, sym, refl, ◌∙◌, subst, arith, inl, inr, true≢false, if◌then◌else◌, append-nil, ◌<◌, Option, Some, None, IfSome, drop, get_or, slice_get}
 use Rattle.std.proofs.lemmas.Bool.{cases_Bool}
+use Rattle.std.proofs.lemmas.List.{drop_more}
 use Rattle.std.proofs.lemmas.List.Elements.{All-head, All-tail}
 use Rattle.std.specs.List.{All as ForAll}
 use Rattle.pk_base.specs.declared.chosen.Layers.{Layers}
 use Rattle.pk_base.specs.declared.span.Span.{Span}
 use Rattle.pk_fields.specs.Fields.{row_of}
-use Rattle.pk_source.specs.Found.{asked_told, fields_told, header_told, is_alone, is_asked, notes_told, slot_told}
+use Rattle.pk_source.specs.Found.{asked_told, fields_told, header_told, is_alone, is_asked, notes_told, rows_told, slot_told}
 use Rattle.pk_source.specs.Outlines.{sizes_of}
-use Rattle.pk_source.specs.Picks.{IsPickedIn, has_one_slot, picked_told, slot_at}
+use Rattle.pk_source.specs.Picks.{IsPicked, IsPickedIn, IsRowIn, has_one_slot, picked_told, slot_at}
 use Rattle.pk_source.specs.declared.found.Asked.{Asked}
 use Rattle.pk_source.specs.declared.header.Header.{Header}
 use Rattle.pk_source.specs.declared.header.Note.{Note}
 use Rattle.pk_source.specs.declared.header.Told.{Told}
+use Rattle.pk_source.specs.declared.header.Told.TheVariants.{Read}
 use Rattle.pk_source.specs.declared.picks.Picks.{Picks}
 use Rattle.pk_source.specs.declared.picks.Picks.TheVariants as picks
 use Rattle.pk_tree.specs.declared.table.Slot.{Slot}
@@ -52,7 +54,7 @@ header_short asked notes h one untold picked home =
     subst (λ (told : List Told). length told ≤ 1) (sym is) (picked_short h.span (sizes_of h) asked.field h.slots.now asked.picks one)
 
 -- of no header
-none_told : (field home : ℕ) (layers : Layers) (notes : List Note) (headers : List Header) → home ≡ (row_of field).proto → is_alone true home headers ≡ true → fields_told field layers notes headers ≡ []
+pub none_told : (field home : ℕ) (layers : Layers) (notes : List Note) (headers : List Header) → home ≡ (row_of field).proto → is_alone true home headers ≡ true → fields_told field layers notes headers ≡ []
 unfolding fields_told
 none_told field home layers notes [] is alone = refl
 none_told field home layers notes (h ∷ headers) is alone = elim (cases_Bool (h.proto == home)) [
@@ -84,3 +86,38 @@ alone_told asked layers notes (h ∷ headers) is one untold picked alone = elim 
 pub at_most_one : (asked : Asked) (notes : List Note) (headers : List Header) → asked.home ≡ (row_of asked.field).proto → has_one_slot asked.picks ≡ true → notes_told asked.field notes ≡ []
     → ForAll (IsPickedIn asked) headers → is_alone false asked.home headers ≡ true → (layers : Layers) → length (fields_told asked.field layers notes headers) ≤ 1
 at_most_one asked notes headers is one untold picked alone = λ layers. alone_told asked layers notes headers is one untold picked alone
+
+-- the first header of the field's protocol has its first place
+
+pub more_headers : (field : ℕ) (layers : Layers) (notes : List Note) (headers : List Header) (at : ℕ) (h : Header) → at < length headers → h ≡ get_or headers at h
+    → fields_told field layers notes (drop at headers) ≡ asked_told field layers notes h ++ fields_told field layers notes (drop (at + 1) headers)
+unfolding fields_told
+more_headers field layers notes headers at h inside is = ap (fields_told field layers notes) (drop_more headers at h inside ∙ ap (λ (one : Header). one ∷ drop (at + 1) headers) (sym is))
+
+pub passed_header : (field home : ℕ) (headers : List Header) (at : ℕ) (h : Header) → home ≡ (row_of field).proto → (h.proto == home) ≡ false → at < length headers → h ≡ get_or headers at h
+    → ((layers : Layers) (notes : List Note) → fields_told field layers notes (drop at headers) ≡ fields_told field layers notes headers)
+    → (layers : Layers) (notes : List Note) → fields_told field layers notes (drop (at + 1) headers) ≡ fields_told field layers notes headers
+passed_header field home headers at h is other inside item so_far layers notes =
+    let far : (h.proto == (row_of field).proto) ≡ false = ap (λ proto. h.proto == proto) (sym is) ∙ other in
+    let none : asked_told field layers notes h ≡ [] = rw far refl in
+    ap (λ (told : List Told). told ++ fields_told field layers notes (drop (at + 1) headers)) (sym none) ∙ sym (more_headers field layers notes headers at h inside item) ∙ so_far layers notes
+
+first_told_is : (field home number : ℕ) (p : Picks) (layers : Layers) (notes : List Note) (headers : List Header) (at : ℕ) (h : Header) (span : Span) → home ≡ (row_of field).proto → p ≡ picks.Once number
+    → IsPicked field h.slots.now p → (h.proto == home) ≡ true → at < length headers → h ≡ get_or headers at h
+    → fields_told field layers notes (drop at headers) ≡ fields_told field layers notes headers
+    → IsRowIn h number field layers span → slice_get (fields_told field layers notes headers) 0 ≡ Some (Read span)
+first_told_is field home number p layers notes headers at h span is once picked mine inside item so_far row =
+    let near : (h.proto == (row_of field).proto) ≡ true = ap (λ proto. h.proto == proto) (sym is) ∙ mine in
+    let rows : rows_told h.span (sizes_of h) field h.slots.now ≡ Read span ∷ [] =
+    sym (picked h.span (sizes_of h)) ∙ ap (picked_told h.span (sizes_of h) field h.slots.now) once ∙ row.1 in
+    let own : asked_told field layers notes h ≡ Read span ∷ notes_told field notes = rw (near, row.0, rows) refl in
+    ap (λ (told : List Told). slice_get told 0) (sym so_far ∙ more_headers field layers notes headers at h inside item
+    ∙ ap (λ (told : List Told). told ++ fields_told field layers notes (drop (at + 1) headers)) own)
+
+pub first_is : (field home number : ℕ) (p : Picks) (layers : Layers) (headers : List Header) (at : ℕ) (h : Header) (found : Option Span) → home ≡ (row_of field).proto → p ≡ picks.Once number
+    → IsPicked field h.slots.now p → (h.proto == home) ≡ true → at < length headers → h ≡ get_or headers at h
+    → ((layers : Layers) (notes : List Note) → fields_told field layers notes (drop at headers) ≡ fields_told field layers notes headers)
+    → IfSome found (IsRowIn h number field layers) → IfSome found (λ span. (notes : List Note) → slice_get (fields_told field layers notes headers) 0 ≡ Some (Read span))
+first_is field home number p layers headers at h None is once picked mine inside item so_far row = tt
+first_is field home number p layers headers at h (Some span) is once picked mine inside item so_far row =
+    λ notes. first_told_is field home number p layers notes headers at h span is once picked mine inside item (so_far layers notes) row

@@ -1,5 +1,5 @@
 -- The values of a field, found where headers have them.
-use Rattle.std.specs.Prelude.{◌≡◌, ◌==◌, ℕ, zero, suc, ◌&&◌, not, Bool as Truth, true, false, List, [], ◌∷◌, ◌++◌, if◌then◌else◌, Option, Some, None, IsTrue}
+use Rattle.std.specs.Prelude.{◌≡◌, ◌==◌, ◌+◌, ◌<◌, ℕ, zero, suc, drop, length, ◌&&◌, not, Bool as Truth, true, false, List, [], ◌∷◌, ◌++◌, if◌then◌else◌, Option, Some, None, IsTrue}
 use Rattle.std.specs.List.{flat_map, slice_get, slice_index_or}
 use Rattle.pk_base.specs.Chosen.{is_chosen}
 use Rattle.pk_base.specs.declared.chosen.Layers.{Layers}
@@ -76,6 +76,20 @@ is_alone seen proto (h ∷ headers) =
 -- a field's places in the chosen layers, in their order; a protocol has one in each of its layers
 unfoldable pub fields_told : ℕ → Layers → List Note → List Header → List Told
 fields_told field layers notes headers = flat_map (asked_told field layers notes) headers
+
+-- the header at a place, behind which there is none of its protocol
+abbrev pub IsOnlyFrom : ℕ → ℕ → List Header → Header → Type 0
+IsOnlyFrom place home headers h =
+    (place < length headers) × (h ≡ slice_index_or headers place h) × (is_alone true home (drop (place + 1) headers) ≡ true)
+
+-- a header of a protocol, and the fields of the protocol have no places but those in it
+pub record IsOnlyOf (home : ℕ) (headers : List Header) (h : Header) : Type 0 where
+  pub place : ℕ
+  pub inside : place < length headers
+  pub at : h ≡ slice_index_or headers place h
+  pub mine : h.proto ≡ home
+  pub told : (field : ℕ) (notes : List Note) → home ≡ (row_of field).proto
+      → fields_told field AllLayers notes headers ≡ header_told field notes h
 
 unfoldable pub layers_told : ℕ → Layers → List Header → List Told
 layers_told proto layers headers = flat_map (layer_told proto layers) headers

@@ -1,3 +1,4 @@
+pub mod Firsts
 pub mod Found
 pub mod Laws
 pub mod Outlines

@@ -1,12 +1,16 @@
 -- Which slots of its protocol's table read a field, looked up once.
-use Rattle.std.specs.Prelude.{◌≡◌, ◌==◌, ℕ, Bool as Truth, true, false, List, [], ◌++◌, Some}
+use Rattle.std.specs.Prelude.{◌≡◌, ◌==◌, ℕ, Bool as Truth, true, false, List, [], ◌∷◌, ◌++◌, Some}
 use Rattle.std.specs.List.{find, slice_index_or}
+use Rattle.pk_base.specs.Chosen.{is_chosen}
+use Rattle.pk_base.specs.declared.chosen.Layers.{Layers}
 use Rattle.pk_base.specs.declared.span.Span.{Span}
 use Rattle.pk_fields.specs.Fields.{row_of}
 use Rattle.pk_source.specs.Found.{rows_told, slot_told}
 use Rattle.pk_source.specs.declared.found.Asked.{Asked}
 use Rattle.pk_source.specs.declared.header.Header.{Header}
+use Rattle.pk_source.specs.Outlines.{sizes_of}
 use Rattle.pk_source.specs.declared.header.Told.{Told}
+use Rattle.pk_source.specs.declared.header.Told.TheVariants as tolds
 use Rattle.pk_source.specs.declared.picks.Picks.{Picks}
 use Rattle.pk_source.specs.declared.picks.Picks.TheVariants as picks
 use Rattle.pk_source.specs.declared.picks.Table.{Table}
@@ -39,6 +43,11 @@ has_one_slot picks.Unknown = false
 has_one_slot picks.Never = true
 has_one_slot (picks.Once a) = true
 has_one_slot (picks.Twice a b) = false
+
+-- in a chosen header's layer, what a slot reads for a field
+abbrev pub IsRowIn : Header → ℕ → ℕ → Layers → Span → Type 0
+IsRowIn h number field layers span =
+    (is_chosen layers h.nth ≡ true) × (slot_told h.span (sizes_of h) field (slot_at h.slots.now number) ≡ tolds.Read span ∷ [])
 
 -- no place in the table is left out, in whatever span and with whatever sizes it is read
 abbrev pub IsPicked : ℕ → List Slot → Picks → Type 0

@@ -1,11 +1,12 @@
 // Where the values of a field stand, counted from 0.
-ghost use Rattle.std.specs.Prelude.{◌≡◌, ◌+◌, ◌<◌, ◌≤◌, ◌^◌, ◌∷◌, [], true, false, Bool as Truth, List, ℕ, IfSome, option_to_list, slice_get, slice_index_or, length};
+ghost use Rattle.std.specs.Prelude.{◌≡◌, ◌+◌, ◌<◌, ◌≤◌, ◌^◌, ◌∷◌, [], true, false, Bool as Truth, List, ℕ, IfSome, Some, option_to_list, slice_get, slice_index_or, length};
 ghost use Rattle.std.specs.List.{All as ForAll};
 ghost use Rattle.pk_fields.specs.Fields.{row_of};
 ghost use Rattle.pk_base.specs.declared.chosen.Layers.{Layers as LayersShown};
-ghost use Rattle.pk_source.specs.Found.{all_told, asked_told, fields_told, first_told, header_told, is_alone, is_asked, kth, layer_told, layers_told, note_told, notes_told, rows_told, slot_told, some_read, there, told_in};
+ghost use Rattle.pk_source.specs.Found.{IsOnlyFrom, IsOnlyOf, all_told, asked_told, fields_told, first_told, header_told, is_alone, is_asked, kth, layer_told, layers_told, note_told, notes_told, rows_told, slot_told, some_read, there, told_in};
 ghost use Rattle.pk_source.specs.declared.header.Header.{Header as HeaderShown};
-ghost use Rattle.pk_source.specs.Picks.{has_one_slot, IsPicked, IsPickedIn, picked_told, slot_at};
+ghost use Rattle.pk_source.specs.declared.header.Note.{Note as NoteShown};
+ghost use Rattle.pk_source.specs.Picks.{has_one_slot, IsRowIn, IsPicked, IsPickedIn, picked_told, slot_at};
 ghost use Rattle.pk_source.specs.Outlines.{IsReadWhole, SlotsKnown, sizes_of};
 ghost use Rattle.pk_tree.specs.Layouts.{step_reach, within};
 ghost use Rattle.pk_tree.specs.Tables.{step_of};
@@ -54,10 +55,165 @@ pub(crate) fn find(
     if !wanted.contains(asked.field) {
         return None;
     }
-    if k > 0 && is_single(headers, notes, asked) {
-        return None;
+    if k > 0 {
+        if is_single(headers, notes, asked) {
+            return None;
+        }
+    } else if let Some(span) = first_row(headers, asked, layers) {
+        return Some(Told::Read(span));
     }
     there(kth_told(headers, notes, asked, layers, k))
+}
+
+/// The bytes of a field's only place, where the only header of its protocol has it by a row of a fixed place. Of others it knows
+/// nothing.
+#[inline(always)]
+pub(crate) fn only_row(
+    wanted: &FieldSet,
+    headers: &[Header],
+    notes: &[Note],
+    asked: &Asked,
+) -> Option<Span>
+    requires short { ForAll (λ (h : HeaderShown). h.span.start + h.span.len < 2 ^ 32) headers.now }
+    requires whole { (buffers : List (List ℕ)) × ForAll (IsReadWhole buffers) headers.now }
+    requires home { asked.now.home ≡ (row_of asked.now.field).proto }
+    requires picked { ForAll (IsPickedIn asked.now) headers.now }
+    ensures { IfSome result (λ span.
+        all_told wanted.now headers.now notes.now asked.now.field Layers.All
+        ≡ Told.Read span ∷ []) }
+{
+    let Picks::Once(number) = asked.picks else {
+        return None;
+    };
+    if is_protocol(asked.field) || !wanted.contains(asked.field) || !is_untold(notes, asked.field) {
+        return None;
+    }
+    match only_header(headers, asked.home) {
+        Some(header) => row_in(header, number, asked.field, &Layers::All),
+        None => None,
+    }
+}
+
+/// What is told of a field beside the only header of its protocol, whose table doesn't read the field, where that is one note. Of
+/// others it knows nothing.
+#[inline(always)]
+pub(crate) fn only_note(
+    wanted: &FieldSet,
+    headers: &[Header],
+    notes: &[Note],
+    asked: &Asked,
+) -> Option<Told>
+    requires home { asked.now.home ≡ (row_of asked.now.field).proto }
+    requires picked { ForAll (IsPickedIn asked.now) headers.now }
+    ensures { IfSome result (λ told.
+        all_told wanted.now headers.now notes.now asked.now.field Layers.All ≡ told ∷ []) }
+{
+    let Picks::Never = asked.picks else {
+        return None;
+    };
+    if is_protocol(asked.field) || !wanted.contains(asked.field) {
+        return None;
+    }
+    match only_header(headers, asked.home) {
+        Some(_) => only_told(notes, asked.field),
+        None => None,
+    }
+}
+
+/// What is told of a field, where that is one note.
+#[inline(always)]
+fn only_told(notes: &[Note], field: FieldId) -> Option<Told>
+    ensures { IfSome result (λ told. notes_told field notes.now ≡ told ∷ []) }
+{
+    for at in 0..notes.len() {
+        if notes[at].field == field {
+            if is_untold(&notes[at + 1..], field) {
+                return Some(notes[at].told);
+            }
+            return None;
+        }
+    }
+    None
+}
+
+/// The only header of a protocol, where it has one.
+#[inline(always)]
+fn only_header(headers: &[Header], home: FieldId) -> Option<&Header>
+    ensures { IfSome result (λ header. IsOnlyOf home headers.now header.now) }
+{
+    for at in 0..headers.len() {
+        if headers[at].proto == home {
+            return only_at(headers, at, home);
+        }
+    }
+    None
+}
+
+/// The header at a place, where none behind it is of the protocol.
+#[inline(always)]
+fn only_at(headers: &[Header], at: usize, home: FieldId) -> Option<&Header>
+    requires { at < length headers.now }
+    ensures { IfSome result (λ header. IsOnlyFrom at home headers.now header.now) }
+{
+    if has_none(&headers[at + 1..], home) {
+        Some(&headers[at])
+    } else {
+        None
+    }
+}
+
+#[inline(always)]
+fn has_none(headers: &[Header], proto: FieldId) -> bool
+    ensures { result ≡ is_alone true proto headers.now }
+{
+    for header in headers {
+        if header.proto == proto {
+            return false;
+        }
+    }
+    true
+}
+
+/// The bytes of a field's first place, where the first header of its protocol is chosen, and the one slot of the table that is of
+/// it is a row of a fixed place. It answers for most fields; of others it knows nothing.
+#[inline(always)]
+fn first_row(headers: &[Header], asked: &Asked, layers: &Layers) -> Option<Span>
+    requires short { ForAll (λ (h : HeaderShown). h.span.start + h.span.len < 2 ^ 32) headers.now }
+    requires whole { (buffers : List (List ℕ)) × ForAll (IsReadWhole buffers) headers.now }
+    requires home { asked.now.home ≡ (row_of asked.now.field).proto }
+    requires picked { ForAll (IsPickedIn asked.now) headers.now }
+    ensures { IfSome result (λ span. (notes : List NoteShown)
+        → slice_get (fields_told asked.now.field layers.now notes headers.now) 0 ≡ Some (Told.Read span)) }
+{
+    let Picks::Once(number) = asked.picks else {
+        return None;
+    };
+    for header in headers {
+        if header.proto == asked.home {
+            return row_in(header, number, asked.field, layers);
+        }
+    }
+    None
+}
+
+/// The bytes that a slot of a table reads for a field, where the layer is chosen and the slot is a row of a fixed place.
+#[inline(always)]
+#[tactic(auto, unfolding(crate::specs::Found::slot_told, pk_tree::specs::Layouts::step_reach))]
+fn row_in(header: &Header, number: u8, field: FieldId, layers: &Layers) -> Option<Span>
+    requires end { header.now.span.start + header.now.span.len < 2 ^ 32 }
+    requires known { SlotsKnown header.now.span.len (sizes_of header.now) header.now.slots.now }
+    ensures { IfSome result (IsRowIn header.now number field layers.now) }
+{
+    let place = usize::from(number);
+    if place >= header.slots.len() || !layers.contains(header.nth) {
+        return None;
+    }
+    match header.slots[place] {
+        Slot::Row(f, at) if f == field.0 => {
+            Some(part_of(header.span, usize::from(at), size(field)))
+        }
+        _ => None,
+    }
 }
 
 /// Whether a field has at most one place: one header is of its protocol, one slot of the table is of it, and nothing is told beside.
@@ -393,11 +549,20 @@ fn read(span: Span, at: usize, len: usize) -> Told
     requires inside { at + len ≤ span.len }
     ensures { result ≡ Told.Read (within span at len) }
 {
-    Told::Read(Span {
+    Told::Read(part_of(span, at, len))
+}
+
+#[inline(always)]
+fn part_of(span: Span, at: usize, len: usize) -> Span
+    requires end { span.start + span.len < 2 ^ 32 }
+    requires inside { at + len ≤ span.len }
+    ensures { result ≡ within span at len }
+{
+    Span {
         buffer: span.buffer,
         start: span.start + at as u32,
         len: len as u32,
-    })
+    }
 }
 
 /// The size of a number, of which there is one.

@@ -1,6 +1,7 @@
 ghost use Rattle.std.specs.Prelude.{◌≡◌, ◌<◌, ◌∷◌, [], ℕ, List, is_some, length, slice_get, IfOk, OnOk};
 ghost use Rattle.std.specs.List.{All as ForAll, AllByRecursion as Each};
 ghost use Rattle.pk_fields.specs.Fields.{row_of};
+ghost use Rattle.pk_source.specs.Firsts.{IsReadBy, first_value};
 ghost use Rattle.pk_source.specs.Found.{IsReadable, first_in, is_there, value_at};
 ghost use Rattle.pk_source.specs.Outlines.{IsOutline, outlined, protocols, protocols_of};
 ghost use Rattle.pk_source.specs.Picks.{Knows, pick_at};
@@ -9,7 +10,8 @@ ghost use Rattle.pk_tree.specs.FieldValues.{values_of};
 ghost use Rattle.pk_tree.specs.Trees.{IsTree, proto_at};
 ghost use Rattle.pk_tree.specs.Values.{IsOfKind};
 
-use crate::found::{Asked, find, find_in, is_protocol};
+use crate::first::{First, FirstFound, first_of};
+use crate::found::{Asked, find, find_in, is_protocol, only_note, only_row};
 use crate::header::{Header, Note, Told};
 use crate::picks::Places;
 use crate::reading::{part_at, read_value};
@@ -136,6 +138,69 @@ impl<'f> Outline<'f> {
         ) {
             Some(told) => Ok(Some(value_at(self.bytes, field, told)?)),
             None => Ok(None),
+        }
+    }
+
+    /// The first value of a field in all layers, or the bytes that hold it, and whether there is a second one. It takes no memory.
+    #[inline(always)]
+    pub fn first_and_more(&self, field: FieldId) -> FirstFound<'f>
+        ensures first { first_value field result.first
+            ≡ slice_get (values_of self.now field Layers.All) 0 }
+        ensures more { result.more ≡ is_some (slice_get (values_of self.now field Layers.All) 1) }
+        ensures reads { IsReadBy field result.first }
+    {
+        let asked = asked(self.places, field);
+        match only_row(self.wanted, self.headers, self.notes, &asked) {
+            Some(span) => FirstFound {
+                first: first_of(self.bytes, Told::Read(span)),
+                more: false,
+            },
+            None => self.first_beside(field),
+        }
+    }
+
+    /// The same of a field that isn't read by one row.
+    #[inline(never)]
+    fn first_beside(&self, field: FieldId) -> FirstFound<'f>
+        ensures first { first_value field result.first
+            ≡ slice_get (values_of self.now field Layers.All) 0 }
+        ensures more { result.more ≡ is_some (slice_get (values_of self.now field Layers.All) 1) }
+        ensures reads { IsReadBy field result.first }
+    {
+        let asked = asked(self.places, field);
+        match only_note(self.wanted, self.headers, self.notes, &asked) {
+            Some(told) => FirstFound {
+                first: first_of(self.bytes, told),
+                more: false,
+            },
+            None => self.first_sought(field),
+        }
+    }
+
+    /// The same of any field, by a search for each.
+    #[inline(never)]
+    fn first_sought(&self, field: FieldId) -> FirstFound<'f>
+        ensures first { first_value field result.first
+            ≡ slice_get (values_of self.now field Layers.All) 0 }
+        ensures more { result.more ≡ is_some (slice_get (values_of self.now field Layers.All) 1) }
+        ensures reads { IsReadBy field result.first }
+    {
+        match find(
+            self.wanted,
+            self.headers,
+            self.notes,
+            &asked(self.places, field),
+            &Layers::All,
+            0,
+        ) {
+            Some(told) => FirstFound {
+                first: first_of(self.bytes, told),
+                more: self.has_at(field, &Layers::All, 1),
+            },
+            None => FirstFound {
+                first: First::Nothing,
+                more: false,
+            },
         }
     }
 

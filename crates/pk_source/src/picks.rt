@@ -9,13 +9,11 @@ ghost use Rattle.pk_source.specs.declared.picks.Table.{Table as TableShown};
 ghost use Rattle.pk_tree.specs.declared.table.Slot.{Slot as SlotShown};
 
 use pk_base::NoMemory;
+use pk_fields::ids::FIELD_COUNT;
 use pk_fields::{FieldId, field_of, proto};
 use pk_tree::Slot;
 use std::alloc::Global;
 use std::marker::Model;
-
-/// The numbers of fields and protocols are below this.
-const FIELDS: u16 = 360;
 
 /// A table that reads a protocol's headers.
 #[derive(Clone, Copy)]
@@ -84,7 +82,7 @@ fn push_all(all: &mut Vec<Picks>, tables: &[Table]) -> Result<(), NoMemory>
     requires { length all.old.items ≡ 0 }
     ensures { OnOk result (ArePlaces tables.now all.new.items) }
 {
-    for number in 0..FIELDS {
+    for number in 0..FIELD_COUNT {
         all.push(picks_in(tables, field_of(number)))?;
     }
     Ok(())

@@ -86,7 +86,7 @@ fn read_number(kind: ValueKind, place: BitPlace, bytes: &[u8]) -> Value
 
 /// The number that bits spell, taken by their factor.
 #[inline(always)]
-fn scaled_number(place: BitPlace, bytes: &[u8]) -> u64
+pub fn scaled_number(place: BitPlace, bytes: &[u8]) -> u64
     requires some { 1 ≤ place.width }
     requires most { place.width ≤ 64 }
     requires inside { place.first + place.width ≤ 8 * length bytes.now }
@@ -117,7 +117,7 @@ fn placed_number(place: BitPlace, bytes: &[u8]) -> u64
 
 /// The number that sixteen bytes spell.
 #[inline(always)]
-fn wide_number(bytes: &[u8]) -> u128
+pub fn wide_number(bytes: &[u8]) -> u128
     requires { length bytes.now ≡ 16 }
     ensures { result ≡ number_of_bits bytes.now 0 128 }
 {
