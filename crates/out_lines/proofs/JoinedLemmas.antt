@@ -1,17 +1,19 @@
 -- Values that are appended one by one are the chosen values, joined.
-use Rattle.std.proofs.Common.{◌≡◌, ◌<◌, ◌≤◌, ◌+◌, ◌-◌, ℕ, zero, suc, Bool, true, false, cond, List, [], ◌∷◌, ◌++◌, length, take, drop, slice_get, Option, Some, None, refl, sym, ap, ◌∙◌, append-nil, arith}
-use Rattle.std.specs.List.{flat_map, join_by}
+use Rattle.std.proofs.Common.{◌≡◌, ◌<◌, ◌≤◌, ◌+◌, ◌-◌, ℕ, zero, suc, true, false, List, [], ◌∷◌, ◌++◌, length, drop, slice_get, Option, Some, None, refl, sym, ap, ◌∙◌, append-nil, arith}
+use Rattle.std.specs.List.{flat_map}
 use Rattle.std.specs.Option.{is_some, option_map, unwrap_or}
 use Rattle.std.proofs.lemmas.List.{drop_all, drop_more}
 use Rattle.std.proofs.lemmas.Option.{get_or_from_slice_get, slice_get-get_or, slice_get_within}
 use Rattle.pk_base.specs.declared.value.Value.{Value}
+use Rattle.pk_source.specs.Firsts.{first_value}
 use Rattle.pk_source.specs.Found.{is_there}
+use Rattle.pk_source.specs.declared.first.First.{First as FoundFirst}
 use Rattle.out_lines.specs.declared.style.Occurrence.{Occurrence}
 use Rattle.out_lines.specs.declared.style.Occurrence.TheVariants.{First, Last, All}
 use Rattle.out_lines.specs.declared.style.Quote.{Quote}
 use Rattle.out_lines.specs.declared.style.Quote.TheVariants as quotes
 use Rattle.out_lines.specs.declared.style.Style.{Style}
-use Rattle.out_lines.specs.Joined.{behind, further, joined, shown_at}
+use Rattle.out_lines.specs.Joined.{behind, further, joined, shown_at, shown_first}
 use Rattle.out_lines.specs.Lines.{chosen, column_of, in_quotes}
 use Rattle.out_lines.specs.ValueText.{shown_value}
 
@@ -63,14 +65,18 @@ none_put aggregator field values k none =
     by_value (Some value) is = absurd (cc)
 
 -- the first, and those behind it
-pub all_joined : (aggregator field : ℕ) (values : List Value) → true ≡ is_some (option_map (shown_value field) (slice_get values 0)) →
-    shown_at field values 0 ++ further aggregator field values 1 ≡ joined aggregator field values
-all_joined aggregator field [] there = absurd (cc)
-all_joined aggregator field (value ∷ values) there = refl
+pub all_joined : (aggregator field : ℕ) (values : List Value) → shown_at field values 0 ++ further aggregator field values 1 ≡ joined aggregator field values
+all_joined aggregator field [] = refl
+all_joined aggregator field (value ∷ values) = refl
 
-pub none_joined : (aggregator field : ℕ) (values : List Value) → false ≡ is_some (option_map (shown_value field) (slice_get values 0)) → shown_at field values 0 ≡ joined aggregator field values
-none_joined aggregator field [] none = refl
-none_joined aggregator field (value ∷ values) none = absurd (cc)
+-- by what holds the first
+pub first_shown : (field : ℕ) (first : FoundFirst) (values : List Value) → first_value field first ≡ slice_get values 0 → shown_first field first ≡ shown_at field values 0
+first_shown field first values is = ap (λ (value : Option Value). unwrap_or (option_map (shown_value field) value) []) is
+
+pub one_joined : (aggregator field : ℕ) (values : List Value) → false ≡ is_some (slice_get values 1) → shown_at field values 0 ≡ joined aggregator field values
+one_joined aggregator field [] alone = refl
+one_joined aggregator field (value ∷ []) alone = sym (append-nil (shown_value field value))
+one_joined aggregator field (value ∷ (next ∷ values)) alone = absurd (cc)
 
 pub first_joined : (aggregator field : ℕ) (values : List Value) → shown_at field values 0 ≡ joined aggregator field (chosen First values)
 first_joined aggregator field [] = refl

@@ -4,6 +4,8 @@ use Rattle.std.specs.List.{flat_map, join_by}
 use Rattle.std.specs.Option.{option_map}
 use Rattle.pk_base.specs.declared.value.Value.{Value}
 use Rattle.pk_base.specs.declared.chosen.Layers.TheVariants.{All as AllLayers}
+use Rattle.pk_source.specs.Firsts.{first_value}
+use Rattle.pk_source.specs.declared.first.First.{First}
 use Rattle.pk_tree.specs.FieldValues.{values_of}
 use Rattle.pk_tree.specs.Trees.{TreeShown}
 use Rattle.out_lines.specs.ValueText.{shown_value}
@@ -25,6 +27,10 @@ further aggregator field values k = flat_map (behind aggregator field) (drop k v
 -- the value of a number, if there is one
 abbrev pub shown_at : ℕ → List Value → ℕ → List ℕ
 shown_at field values k = unwrap_or (option_map (shown_value field) (slice_get values k)) []
+
+-- the first value by what holds it, if there is one
+abbrev pub shown_first : ℕ → First → List ℕ
+shown_first field first = unwrap_or (option_map (shown_value field) (first_value field first)) []
 
 -- a line got a text, if there is one
 pub record IsTextPut (text : Option (List ℕ)) (there : Bool) (old new : List ℕ) : Type 0 where

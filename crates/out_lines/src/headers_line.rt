@@ -2,17 +2,18 @@
 ghost use Rattle.std.specs.Prelude.{◌≡◌, ◌+◌, ◌-◌, ◌++◌, ◌∷◌, [], length, slice_get, IfOk, OnOk};
 ghost use Rattle.std.specs.Option.{option_map};
 ghost use Rattle.std.specs.List.{flat_map, join_by};
-ghost use Rattle.out_lines.specs.Joined.{IsTextPut, all_values, behind, joined, further, shown_at};
+ghost use Rattle.out_lines.specs.Joined.{IsTextPut, all_values, behind, joined, further, shown_at, shown_first};
 ghost use Rattle.out_lines.specs.Lines.{chosen, column_text, field_line_of};
 ghost use Rattle.out_lines.specs.ValueText.{shown_value};
+ghost use Rattle.pk_source.specs.Firsts.{IsReadBy};
 
 use crate::lines::put_quoted;
 use crate::style::{Occurrence, Quote, Style};
-use crate::value_text::put_shown;
+use crate::value_text::{put_read, put_shown};
 use pk_base::{Layers, NoMemory};
 use pk_fields::FieldId;
-use pk_source::Outline;
-use pk_text::Slab;
+use pk_source::{First, Outline};
+use pk_text::{Slab, put_number, put_time};
 
 /// Appends the line of some fields. What stands in quotes is made in a text of its own, whose memory is used again.
 #[tactic(auto, unfolding(crate::specs::Lines::field_line_of))]
@@ -114,9 +115,24 @@ fn put_chosen(
         (chosen style.now.occurrence (all_values outline.now field))) }
 {
     match style.occurrence {
-        Occurrence::First => put_only(line, outline, field, 0),
+        Occurrence::First => put_first(line, field, outline.first_and_more(field).first),
         Occurrence::Last => put_last(line, outline, field),
         Occurrence::All => put_all(line, outline, field, style.aggregator),
+    }
+}
+
+/// The first value, if there is one.
+#[inline(always)]
+#[tactic(auto, unfolding(crate::specs::ValueText::shown_value))]
+fn put_first(line: &mut Slab, field: FieldId, first: First<'_>) -> Result<(), NoMemory>
+    requires { IsReadBy field first }
+    ensures { OnOk result (line.new ≡ line.old ++ shown_first field first.entry) }
+{
+    match first {
+        First::Nothing => Ok(()),
+        First::Bytes(bytes) => put_read(line, field, bytes),
+        First::Number(number) => put_number(line, number),
+        First::Moment(time) => put_time(line, time),
     }
 }
 
@@ -130,28 +146,9 @@ fn put_only(
     ensures { OnOk result (line.new
         ≡ line.old ++ shown_at field (all_values outline.now field) k) }
 {
-    put_value(line, outline, field, k)?;
-    Ok(())
-}
-
-/// The value of a number, if there is one; whether there is.
-#[inline(always)]
-fn put_value(
-    line: &mut Slab,
-    outline: &Outline<'_>,
-    field: FieldId,
-    k: usize,
-) -> Result<bool, NoMemory>
-    ensures { IfOk result (λ there. IsTextPut
-        (option_map (shown_value field) (slice_get (all_values outline.now field) k))
-        there line.old line.new) }
-{
     match outline.value(field, &Layers::All, k)? {
-        Some(value) => {
-            put_shown(line, field, &value)?;
-            Ok(true)
-        }
-        None => Ok(false),
+        Some(value) => put_shown(line, field, &value),
+        None => Ok(()),
     }
 }
 
@@ -194,7 +191,9 @@ fn put_all(
     ensures { OnOk result (line.new
         ≡ line.old ++ joined aggregator field (all_values outline.now field)) }
 {
-    if put_value(line, outline, field, 0)? {
+    let found = outline.first_and_more(field);
+    put_first(line, field, found.first)?;
+    if found.more {
         put_more(line, outline, field, aggregator)
     } else {
         Ok(())
