@@ -6,7 +6,6 @@ use Rattle.std.proofs.lemmas.List.Sums.{sum_by-cons}
 use Rattle.std.proofs.lemmas.Slice.Eq.{bytes_eq-Decides}
 use Rattle.std.specs.BTreeMap as tree
 use Rattle.std.specs.List.{AllByRecursion as Each, find, slice_get}
-use Rattle.std.specs.Ordering.{nat_cmp}
 use Rattle.std.specs.Prelude.{Result, Ok, Err, OnOk}
 use Rattle.std.specs.Str.{bytes_eq}
 use Rattle.pk_fields.specs.Fields.{row_of}
@@ -32,7 +31,7 @@ use Rattle.cap_stats.specs.declared.streams.Streams.{Streams}
 use Rattle.cap_stats.specs.Counts.{first_of, leaves, lengths_of, of_key, sizes_tally, tally_of, talk_of}
 use Rattle.cap_stats.specs.Few.{AreFew, HasFew, HasRoom, HasTalkRoom, HaveRoom}
 use Rattle.cap_stats.specs.Keys.{same_number, same_pair, pair_cmp}
-use Rattle.cap_stats.specs.Stands.{HasNotes, HasPairs, HasPaths, HasStreams, Stands, is_spent, kind_of, tally_at}
+use Rattle.cap_stats.specs.Stands.{HasNotes, HasPairs, HasPaths, HasStreams, Stands, is_spent, kind_of, talk_at, tally_at}
 use Rattle.cap_stats.specs.Tables.{packets_of, paths_of, segments_of, with_note}
 use Rattle.cap_stats.specs.Told.{◌>>=◌, address_in, first_value, four_in, has_addresses, has_stream, host, is_ip, length_of, number_in, number_of, packet_in, packet_of, pair_of, party_at, path_of, paths_in, paths_to, protocols_in, segment_at, segment_of, stream_in}
 use Rattle.cap_stats.proofs.PathLemmas.{path_more}
@@ -215,7 +214,7 @@ fewer_flights : (few most : ℕ) (flights : List Flight) → few ≤ most → Ar
 fewer_flights few most flights within are = record { count = omega (arith, within, are.count); short = are.short }
 
 pub stream_room : (streams : Streams) (number : ℕ) (past : List TreeShown) → HasStreams (segments_of past) streams → AreFew (2 ^ 32 - 1) past
-    → IfSome (tree.get nat_cmp streams.all number) HasTalkRoom
+    → IfSome (talk_at streams number) HasTalkRoom
 stream_room streams number past has are =
     subst (λ (o : Option Talk). IfSome o HasTalkRoom) (sym (has.talks number))
     (talk_room (of_key same_number number (segments_of past))

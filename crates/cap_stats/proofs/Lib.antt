@@ -2,10 +2,12 @@ pub mod BareLayers
 pub mod CountLemmas
 pub mod Elsewhere
 pub mod FewLemmas
+pub mod GotLemmas
 pub mod KeptNotes
 pub mod KeptTables
 pub mod KeyLemmas
 pub mod MapLemmas
 pub mod PathLemmas
 pub mod PlaceLemmas
+pub mod StreamLemmas
 pub mod TableLemmas

@@ -25,6 +25,7 @@ use Rattle.cap_stats.specs.Steps.{tally_after}
 use Rattle.cap_stats.specs.Told.{length_of, path_of, paths_to, paths_in, protocols_in}
 use Rattle.pk_fields.specs.Fields.{row_of}
 use Rattle.cap_stats.proofs.CountLemmas.{sizes_more}
+use Rattle.cap_stats.proofs.GotLemmas.{got_before, got_last, got_other, got_set}
 use Rattle.cap_stats.proofs.KeyLemmas.{noted, placed}
 use Rattle.cap_stats.proofs.MapLemmas.{keys_noted}
 
@@ -43,29 +44,6 @@ is_there : {Y X : Type 0} (path : List ℕ) (m : tree.BTreeMap (String Y) X) (se
 is_there {X = X} path m seen found =
     ap (λ (o : Option X). is_some o) found
     ∙ is_some-lookup (λ k. is_eq (slice_cmp nat_cmp path (string_bytes k))) m.entries ∙ texts_there path m.entries
-
--- the element of a list behind others
-got_last : {X : Type 0} (xs : List X) (x : X) → slice_get (xs ++ x ∷ []) (length xs) ≡ Some x
-got_last [] x = refl
-got_last (y ∷ xs) x = got_last xs x
-
-got_before : {X : Type 0} (xs : List X) (x : X) (at : ℕ) → at < length xs → slice_get (xs ++ x ∷ []) at ≡ slice_get xs at
-got_before [] x at within = absurd (omega (arith, within))
-got_before (y ∷ xs) x zero within = refl
-got_before (y ∷ xs) x (suc at) within = got_before xs x at (omega (arith, within))
-
--- and of one in which an element was changed
-got_set : {X : Type 0} (xs : List X) (at : ℕ) (x : X) → at < length xs → slice_get (slice_set xs at x) at ≡ Some x
-got_set [] at x within = absurd (omega (arith, within))
-got_set (y ∷ xs) zero x within = refl
-got_set (y ∷ xs) (suc at) x within = got_set xs at x (omega (arith, within))
-
-got_other : {X : Type 0} (xs : List X) (at : ℕ) (x : X) (other : ℕ) → (other ≡ at → ⊥) → slice_get (slice_set xs at x) other ≡ slice_get xs other
-got_other [] at x other apart = refl
-got_other (y ∷ xs) zero x zero apart = absurd (apart refl)
-got_other (y ∷ xs) zero x (suc other) apart = refl
-got_other (y ∷ xs) (suc at) x zero apart = refl
-got_other (y ∷ xs) (suc at) x (suc other) apart = got_other xs at x other (λ e. apart (ap suc e))
 
 pub place_there : (paths : Paths) (path : List ℕ) (place : ℕ) → AreApart paths → tree.get_by_text paths.all path ≡ Some place → place < length paths.tallies.items
 place_there paths path place are is = subst (λ (o : Option ℕ). IfSome o (λ p. p < length paths.tallies.items)) is (are.within path)

@@ -1,5 +1,5 @@
 -- The keys under which something was noted, each once.
-use Rattle.std.specs.Prelude.{ℕ, ◌==◌, ◌&&◌, Bool, if◌then◌else◌, List, [], ◌∷◌, ◌++◌}
+use Rattle.std.specs.Prelude.{ℕ, zero, suc, ◌==◌, ◌&&◌, Bool, if◌then◌else◌, List, [], ◌∷◌, ◌++◌}
 use Rattle.std.specs.declared.cmp.Ordering.{Ordering}
 use Rattle.std.specs.Cmp.Lexicographic.{slice_cmp}
 use Rattle.std.specs.List.{list_any}
@@ -32,6 +32,11 @@ same_number one other = is_eq (nat_cmp one other)
 
 unfoldable pub numbers_in : {F : Type 0} → List (ℕ × F) → List ℕ
 numbers_in notes = rising same_number nat_cmp notes
+
+-- the numbers below one
+abbrev pub below : ℕ → List ℕ
+below zero = []
+below (suc number) = below number ++ number ∷ []
 
 -- texts, by their bytes
 unfoldable pub texts_in : {F : Type 0} → List (List ℕ × F) → List (List ℕ)

@@ -1,11 +1,13 @@
 -- Which trees statistics stand for; these are listed with the newest first.
-use Rattle.std.specs.Prelude.{◌≡◌, ◌<◌, ℕ, suc, Bool, false, List, length, map, take, Option, Some, IfSome, option_and_then}
+use Rattle.std.specs.Prelude.{◌≡◌, ◌<◌, ◌++◌, ℕ, suc, Bool, false, List, length, map, take, Option, Some, IfSome, option_and_then}
 use Rattle.std.specs.List.{slice_get}
 use Rattle.std.specs.BTreeMap as tree
+use Rattle.std.specs.Option.{option_or}
 use Rattle.std.specs.Ordering.{nat_cmp}
 use Rattle.std.specs.Str.{bytes_eq}
 use Rattle.std.specs.String.{string_bytes}
 use Rattle.pk_tree.specs.Trees.{TreeShown}
+use Rattle.cap_stats.specs.declared.counts.Talk.{Talk}
 use Rattle.cap_stats.specs.declared.counts.Tally.{Tally}
 use Rattle.cap_stats.specs.declared.kind.StatKind.{StatKind}
 use Rattle.cap_stats.specs.declared.kind.StatKind.TheVariants.{ConvTcp, ConvIp, Phs}
@@ -16,15 +18,23 @@ use Rattle.cap_stats.specs.declared.paths.Step.{Step}
 use Rattle.cap_stats.specs.declared.stats.Stats.{Stats}
 use Rattle.cap_stats.specs.declared.streams.Streams.{Streams}
 use Rattle.cap_stats.specs.Counts.{of_key, sizes_tally, talk_of}
-use Rattle.cap_stats.specs.Keys.{same_number, numbers_in, texts_in, same_pair, pair_cmp, pairs_in}
+use Rattle.cap_stats.specs.Keys.{below, same_number, numbers_in, texts_in, same_pair, pair_cmp, pairs_in}
 use Rattle.cap_stats.specs.Tables.{segments_of, packets_of, paths_of}
 use Rattle.cap_stats.specs.Told.{path_of}
 
+-- what was sent in the stream of a number, among those that came in turn or among the others
+abbrev pub talk_at : Streams → ℕ → Option Talk
+talk_at streams number =
+    option_or (slice_get streams.first.items number) (tree.get nat_cmp streams.rest number)
+
+-- the numbers of all streams, in their order
+abbrev pub numbers_of : Streams → List ℕ
+numbers_of streams = below (length streams.first.items) ++ tree.keys streams.rest
+
 -- the streams of segments
 pub record HasStreams (notes : List (ℕ × Flight)) (streams : Streams) : Type 0 where
-  pub keys_are : tree.keys streams.all ≡ numbers_in notes
-  pub talks : (number : ℕ) → tree.get nat_cmp streams.all number
-      ≡ talk_of (of_key same_number number notes)
+  pub keys_are : numbers_of streams ≡ numbers_in notes
+  pub talks : (number : ℕ) → talk_at streams number ≡ talk_of (of_key same_number number notes)
 
 -- the pairs of packets
 pub record HasPairs (notes : List ((ℕ × ℕ) × Flight)) (pairs : Pairs) : Type 0 where

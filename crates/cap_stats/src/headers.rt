@@ -190,6 +190,7 @@ fn last_ip(outline: &Outline<'_>, at: usize) -> Option<usize>
     None
 }
 
+#[inline(always)]
 fn is_ip(proto: FieldId) -> bool
     ensures { result ≡ (proto == IP || proto == IPV6) }
 {
@@ -257,6 +258,7 @@ fn address_at(
     }
 }
 
+#[inline(always)]
 fn of_four(address: Option<u32>) -> Option<Address>
     ensures { result ≡ option_map FourValue address }
 {
@@ -266,6 +268,7 @@ fn of_four(address: Option<u32>) -> Option<Address>
     }
 }
 
+#[inline(always)]
 fn of_six(address: Option<u128>) -> Option<Address>
     ensures { result ≡ option_map SixValue address }
 {
@@ -275,6 +278,7 @@ fn of_six(address: Option<u128>) -> Option<Address>
     }
 }
 
+#[inline(always)]
 fn number_at(outline: &Outline<'_>, place: usize, field: FieldId) -> Result<Option<u64>, NoMemory>
     ensures { IfOk result (λ number. number ≡ number_there outline.now.layers place field) }
 {
@@ -282,6 +286,7 @@ fn number_at(outline: &Outline<'_>, place: usize, field: FieldId) -> Result<Opti
     Ok(number_of(&value))
 }
 
+#[inline(always)]
 fn four_at(outline: &Outline<'_>, place: usize, field: FieldId) -> Result<Option<u32>, NoMemory>
     ensures { IfOk result (λ address. address ≡ four_there outline.now.layers place field) }
 {
@@ -289,6 +294,7 @@ fn four_at(outline: &Outline<'_>, place: usize, field: FieldId) -> Result<Option
     Ok(four_of(&value))
 }
 
+#[inline(always)]
 fn six_at(outline: &Outline<'_>, place: usize, field: FieldId) -> Result<Option<u128>, NoMemory>
     ensures { IfOk result (λ address. address ≡ six_there outline.now.layers place field) }
 {
@@ -296,6 +302,7 @@ fn six_at(outline: &Outline<'_>, place: usize, field: FieldId) -> Result<Option<
     Ok(six_of(&value))
 }
 
+#[inline(always)]
 fn number_of(value: &Option<Value>) -> Option<u64>
     ensures { result ≡ option_and_then number_value value.now }
 {
@@ -305,6 +312,7 @@ fn number_of(value: &Option<Value>) -> Option<u64>
     }
 }
 
+#[inline(always)]
 fn four_of(value: &Option<Value>) -> Option<u32>
     ensures { result ≡ option_and_then four_value value.now }
 {
@@ -314,6 +322,7 @@ fn four_of(value: &Option<Value>) -> Option<u32>
     }
 }
 
+#[inline(always)]
 fn six_of(value: &Option<Value>) -> Option<u128>
     ensures { result ≡ option_and_then six_value value.now }
 {

@@ -44,8 +44,8 @@ fn put_ends(alloc: Global, text: &mut Vec<u8>, talk: &Talk) -> Result<(), NoMemo
 fn put_tallies(text: &mut Vec<u8>, talk: &Talk) -> Result<(), NoMemory>
     ensures { OnOk result (text.new.items ≡ text.old.items ++ tallies_text talk.now) }
 {
-    put_tally(text, &talk.there, " ")?;
-    put_tally(text, &talk.back, "\n")
+    put_tally(text, &talk.there, b' ')?;
+    put_tally(text, &talk.back, b'\n')
 }
 
 /// Appends an end, and a space.
@@ -55,7 +55,8 @@ fn put_party(alloc: Global, text: &mut Vec<u8>, party: &Party) -> Result<(), NoM
 {
     put_address(alloc, text, party.address)?;
     put_port(text, party.port)?;
-    text.put_text(" ")
+    text.push(b' ')?;
+    Ok(())
 }
 
 fn put_address(alloc: Global, text: &mut Vec<u8>, address: Address) -> Result<(), NoMemory>
@@ -72,16 +73,21 @@ fn put_port(text: &mut Vec<u8>, port: Option<u64>) -> Result<(), NoMemory>
 {
     match port {
         None => Ok(()),
-        Some(port) => put_count(text, " ", port),
+        Some(port) => {
+            text.push(b' ')?;
+            put_number(text, port)
+        }
     }
 }
 
 /// Appends a tally, and what stands behind it.
-fn put_tally(text: &mut Vec<u8>, tally: &Tally, behind: &str) -> Result<(), NoMemory>
+fn put_tally(text: &mut Vec<u8>, tally: &Tally, behind: u8) -> Result<(), NoMemory>
     ensures { OnOk result (text.new.items
-        ≡ text.old.items ++ (tally_text tally.now ++ behind.now)) }
+        ≡ text.old.items ++ (tally_text tally.now ++ behind ∷ [])) }
 {
     put_number(text, tally.frames)?;
-    put_count(text, " ", tally.bytes)?;
-    text.put_text(behind)
+    text.push(b' ')?;
+    put_number(text, tally.bytes)?;
+    text.push(behind)?;
+    Ok(())
 }

@@ -1,12 +1,15 @@
-use Rattle.std.proofs.Common.{◌++◌, ℕ, List, ap, ◌∙◌}
+use Rattle.std.proofs.Common.{◌+◌, ◌++◌, ℕ, List, ap, ◌∙◌, arith}
 use Rattle.std.specs.List.{flat_map}
-use Rattle.std.specs.BTreeMap.{get, keys}
-use Rattle.std.specs.Ordering.{nat_cmp}
+use Rattle.std.specs.BTreeMap.{keys}
+use Rattle.cap_stats.specs.Stands.{talk_at}
 use Rattle.cap_stats.specs.Tables.{stream_line}
 use Rattle.cap_stats.proofs.TableLemmas.{streams_made}
 use Rattle.cap_stats.proofs.streams.Streams.table.Goals as goal
 
 pub returns : goal.returns
 returns c = λ notes has.
-    streams_made c.args.self.now notes c.len.result c.put_streams.new.text.items c.len.ensures.len
-    (c.in_ok-put_streams.ensures ∙ ap (λ (text : List ℕ). text ++ flat_map (λ n. stream_line n (get nat_cmp c.args.self.now.all n)) (keys c.args.self.now.all)) c.in_ok-text.ensures) has
+    let streams = c.args.self.now in
+    streams_made streams notes (c.len.result + c.len-2.result) c.in_ok-text.text.items c.put_rest.new.text.items
+    (omega (arith, c.len.ensures, streams.first.ok.0, c.len-2.ensures.len)) c.in_ok-text.ensures
+    (c.in_ok-put_rest.ensures
+    ∙ ap (λ (text : List ℕ). text ++ flat_map (λ n. stream_line n (talk_at streams n)) (keys streams.rest)) c.in_ok-put_first.ensures) has

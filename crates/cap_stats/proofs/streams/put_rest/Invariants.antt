@@ -1,0 +1,11 @@
+use Rattle.std.proofs.Common.{◌≡◌, ◌++◌}
+use Rattle.std.specs.BTreeMap.{keys}
+use Rattle.std.specs.List.{flat_map}
+use Rattle.cap_stats.specs.Stands.{talk_at}
+use Rattle.cap_stats.specs.Tables.{stream_line}
+use Rattle.cap_stats.proofs.streams.put_rest.Given as goal
+
+abbrev pub invariant-loop-number : goal.invariant-loop-number
+invariant-loop-number l =
+    l.text.items ++ flat_map (λ n. stream_line n (talk_at l.streams n)) l.number-iterator
+    ≡ l.initial.text.items ++ flat_map (λ n. stream_line n (talk_at l.streams n)) (keys l.streams.rest)
