@@ -7,7 +7,7 @@ use Rattle.tcp_streams.specs.Conversations.{same_bool}
 use Rattle.tcp_streams.specs.Isolation.{AreSameSegments, IsSameButFrame, between}
 use Rattle.tcp_streams.specs.Labels.{taken_after}
 use Rattle.tcp_streams.proofs.Isolating.{is_isolated}
-use Rattle.stream_messages.specs.declared.told.App.{App}
+use Rattle.stream_messages.specs.declared.framer.Framer.{Framer}
 use Rattle.tcp_messages.specs.declared.met.ShownMessage.{ShownMessage}
 use Rattle.tcp_messages.specs.declared.met.Source.{Source}
 use Rattle.tcp_messages.specs.declared.met.Source.TheVariants as sources
@@ -60,9 +60,9 @@ segments_stay : (ss : List Segment) → map (renumbered (λ n. n)) ss ≡ ss
 segments_stay [] = refl
 segments_stay (s ∷ ss) = ap (λ (ts : List Segment). s ∷ ts) (segments_stay ss)
 
-pub shown_same : (app : Option App) (past others : List Segment) (s : Segment) → between s past ≡ between s others → shown_after app past s ≡ shown_after app others s
-shown_same app past others s same =
-    sym ((stands_alone (λ n. n) app past others s (λ low high a b less. less) (sym same ∙ sym (segments_stay (between s past)))).messages ∙ shown_stay (shown_after app past s))
+pub shown_same : (framer : Option Framer) (past others : List Segment) (s : Segment) → between s past ≡ between s others → shown_after framer past s ≡ shown_after framer others s
+shown_same framer past others s same =
+    sym ((stands_alone (λ n. n) framer past others s (λ low high a b less. less) (sym same ∙ sym (segments_stay (between s past)))).messages ∙ shown_stay (shown_after framer past s))
 
 -- ---- links, by the messages of the stream
 

@@ -1,21 +1,34 @@
 -- What is known where nothing of streams' messages is asked.
-use Rattle.std.proofs.Common.{◌≡◌, ◌==◌, ℕ, zero, suc, ◌<◌, ◌≤◌, Bool, true, false, ◌&&◌, ◌||◌, List, [], refl, sym, ◌∙◌, ap, subst, arith, inl, inr, true≢false, eq-eqb}
+use Rattle.std.proofs.Common.{◌≡◌, ◌==◌, ℕ, zero, suc, ◌<◌, ◌≤◌, Bool, true, false, ◌&&◌, ◌||◌, List, [], ◌∷◌, refl, sym, ◌∙◌, ap, subst, arith, inl, inr, true≢false, eq-eqb}
 use Rattle.std.proofs.lemmas.Bool.{cases_eq, eqb-true}
+use Rattle.std.specs.List.{AllByRecursion as Each}
 use Rattle.std.proofs.lemmas.List.{get_or_past}
 use Rattle.std.proofs.lemmas.Bool.{cases_lt}
 use Rattle.pk_fields.specs.declared.value_kind.ValueKind.TheVariants.{Proto}
 use Rattle.pk_fields.specs.Fields.{row_of}
 use Rattle.pk_fields.specs.FieldSets.{is_in}
-use Rattle.pk_fields.specs.Ids.{DNS, DNS_RESPONSE_TO, HTTP, HTTP_REQUEST_IN, TCP_ACK, TCP_LOST, TCP_SEGMENT, TCP_SEQ, TCP_STREAM, WS_MALFORMED, WS_SHORT, field_count}
+use Rattle.pk_fields.specs.Ids.{DNS_RESPONSE_TO, HTTP_REQUEST_IN, TCP_ACK, TCP_LOST, TCP_SEGMENT, TCP_SEQ, TCP_STREAM, WS_MALFORMED, WS_SHORT, field_count}
 use Rattle.pk_fields.specs.Rows.{FieldRow, whole}
 use Rattle.pk_fields.specs.Table.{rows}
 use Rattle.pk_fields.proofs.Names.{rows_len}
+use Rattle.pk_fields.specs.declared.apps.App.{App}
+use Rattle.pk_fields.specs.declared.apps.App.TheVariants as apps
+use Rattle.app_layers.specs.Rows.{framed_apps, is_passed, passed_apps, proto_of}
 use Rattle.app_layers.proofs.MessagesAside.{AsksNoMessages}
-use Rattle.dissect.specs.Followed.{asks_any, asks_messages, asks_streams}
+use Rattle.app_layers.proofs.RowLemmas.{framed_each, passed_each, proto_some}
+use Rattle.dissect.specs.Followed.{asks_any, asks_apps, asks_messages, asks_streams}
+use Rattle.dissect.specs.Tells.{AsksNoDatagrams}
 
 or_none : (a b : Bool) → (a || b) ≡ false → (a ≡ false) × (b ≡ false)
 or_none true b none = absurd (true≢false none)
 or_none false b none = (refl, none)
+
+none_of_four : (a b c d : Bool) → (a || b || c || d) ≡ false → (a ≡ false) × (b ≡ false) × (c ≡ false) × (d ≡ false)
+none_of_four a b c d none =
+    let r = or_none (a || b || c) d none in
+    let q = or_none (a || b) c r.0 in
+    let p = or_none a b q.0 in
+    (p.0, p.1, q.1, r.1)
 
 pub none_of : (a b c d e : Bool) → (a || b || c || d || e) ≡ false → (a ≡ false) × (b ≡ false) × (c ≡ false) × (d ≡ false) × (e ≡ false)
 none_of a b c d e none =
@@ -51,17 +64,39 @@ none_in proto wanted some none f is = elim (cases_lt f field_count) [
   | inr past ↦ let zero_is : 0 ≡ proto = sym (past_rows f past) ∙ is in absurd (omega (arith, zero_is, some))
 ]
 
+-- nothing of an application is asked
+abbrev pub IsUnasked : List ℕ → App → Type 0
+IsUnasked wanted app = asks_any field_count (proto_of app) wanted ≡ false
+
+all_unasked : (apps : List App) (wanted : List ℕ) → asks_apps apps wanted ≡ false → Each (IsUnasked wanted) apps
+all_unasked [] wanted none = tt
+all_unasked (app ∷ apps) wanted none =
+    let parts = or_none (asks_any field_count (proto_of app) wanted) (asks_apps apps wanted) none in
+    (parts.0, all_unasked apps wanted parts.1)
+
+pub none_asked : (apps : List App) (wanted : List ℕ) → Each (IsUnasked wanted) apps → asks_apps apps wanted ≡ false
+none_asked [] wanted each = refl
+none_asked (app ∷ apps) wanted each = rw each.0 (none_asked apps wanted each.1)
+
 pub no_messages : (wanted : List ℕ) → asks_messages wanted ≡ false → AsksNoMessages wanted
 unfolding asks_messages
 no_messages wanted none =
-    let parts = none_of (is_in wanted TCP_SEGMENT) (is_in wanted WS_SHORT) (is_in wanted WS_MALFORMED) (asks_any field_count HTTP wanted) (asks_any field_count DNS wanted) none in
+    let parts = none_of_four (is_in wanted TCP_SEGMENT) (is_in wanted WS_SHORT) (is_in wanted WS_MALFORMED) (asks_apps framed_apps wanted) none in
+    let each = all_unasked framed_apps wanted parts.3 in
     record {
       segment = parts.0;
       short = parts.1;
       malformed = parts.2;
-      http = none_in HTTP wanted (omega arith) parts.3;
-      dns = none_in DNS wanted (omega arith) parts.4;
+      fields = λ app framed. none_in (proto_of app) wanted (proto_some app) (framed_each (IsUnasked wanted) each app framed);
     }
+
+-- nor of datagrams' messages that are passed over
+pub no_datagrams : (wanted : List ℕ) → is_in wanted WS_SHORT ≡ false → is_in wanted WS_MALFORMED ≡ false → asks_apps passed_apps wanted ≡ false → AsksNoDatagrams wanted
+no_datagrams wanted short malformed none = record {
+  short = short;
+  malformed = malformed;
+  fields = λ app over. none_in (proto_of app) wanted (proto_some app) (passed_each (IsUnasked wanted) (all_unasked passed_apps wanted none) app over);
+}
 
 by_test : (n proto : ℕ) (wanted : List ℕ) → ((f : ℕ) → (row_of f).proto ≡ proto → is_in wanted f ≡ false) → asks_any n proto wanted ≡ false
     → (test : Bool) → ((row_of n).proto == proto) ≡ test → (((row_of n).proto == proto && is_in wanted n) || asks_any n proto wanted) ≡ false
@@ -84,4 +119,4 @@ pub unasked_fields : (wanted : List ℕ) → asks_streams wanted ≡ false → (
 unfolding row_of rows
 unasked_fields wanted unasked =
     let none = messages_unasked wanted unasked in
-    (none.dns DNS_RESPONSE_TO refl, none.http HTTP_REQUEST_IN refl)
+    (none.fields apps.Dns refl DNS_RESPONSE_TO refl, none.fields apps.Http refl HTTP_REQUEST_IN refl)

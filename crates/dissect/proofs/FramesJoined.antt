@@ -19,28 +19,36 @@ use Rattle.tcp_streams.proofs.Keyed.{known, label_cases, same_number}
 use Rattle.tcp_streams.proofs.PassedGaps.{with_own}
 use Rattle.tcp_streams.proofs.Places.{put_stays}
 use Rattle.stream_messages.specs.declared.placed.Placed.{Placed}
-use Rattle.stream_messages.specs.declared.told.App.{App}
+use Rattle.pk_fields.specs.declared.apps.App.{App}
+use Rattle.app_layers.specs.declared.streamed.StreamApp.{StreamApp}
+use Rattle.stream_messages.specs.declared.framer.Framer.{Framer}
 use Rattle.stream_messages.specs.Sides.{Brought, Noted, asked_in, front_end, noted, same_side, shown_in}
 use Rattle.stream_messages.specs.Tellings.{end_of}
 use Rattle.tcp_messages.specs.Brought.{brought, brought_by, way_with}
-use Rattle.tcp_messages.specs.Readers.{AllHave, IsOfEnds}
-use Rattle.tcp_messages.specs.Shown.{messages_at, messages_by}
+use Rattle.tcp_messages.specs.Shown.{messages_at}
 use Rattle.tcp_messages.proofs.Growing.{each_once}
 use Rattle.tcp_messages.proofs.InHeld.{AreIn, shown_in_held}
 use Rattle.tcp_messages.proofs.Matching.{label_segment}
 use Rattle.app_layers.specs.MessageLayers.{app_of_segment}
 use Rattle.app_layers.proofs.StreamApps.{apps_of_ends}
-use Rattle.dissect.specs.MessageLaws.{MessageShown, MessagesInTrees, app_told, frame_segment, is_of, label_in, labels_before, segment_messages, segments_before, app_of_stream, trees_show, tree_messages, whole_messages}
+use Rattle.dissect.specs.MessageLaws.{MessageShown, MessagesInTrees, frame_segment, is_of, label_in, labels_before, segment_messages, segments_before, app_of_stream, trees_show, tree_messages, whole_messages}
 use Rattle.dissect.specs.Segments.{segments_of}
 use Rattle.dissect.specs.Trees.{events_of, tree_at}
 use Rattle.dissect.proofs.FramesTold.{frames_bring, frames_show, with_newest}
 use Rattle.dissect.proofs.HeldBytes.{bytes_stay}
-use Rattle.dissect.proofs.MessagesFit.{message_held, shown_held}
+use Rattle.dissect.proofs.MessagesFit.{all_held, message_held, shown_held}
 use Rattle.dissect.proofs.StretchBytes.{stretches_held}
 
 -- ---- the application of a stream
 
-none_have : (app_of : Segment → Option App) (number : ℕ) (app : Option App) (ls : List Label) → AllBelow number ls → AllHave app_of number app ls
+abbrev AllAre : (Segment → Option StreamApp) → ℕ → Option StreamApp → List Label → Type 0
+AllAre app_of number app [] = Unit {0}
+AllAre app_of number app (l ∷ ls) = (l.stream ≡ number → app_of l.segment ≡ app) × AllAre app_of number app ls
+
+abbrev AreOfEnds : (Segment → Option StreamApp) → Type 0
+AreOfEnds app_of = (s t : Segment) → same_ends (ends_of s) (ends_of t) ≡ true → app_of s ≡ app_of t
+
+none_have : (app_of : Segment → Option StreamApp) (number : ℕ) (app : Option StreamApp) (ls : List Label) → AllBelow number ls → AllAre app_of number app ls
 none_have app_of number app [] below = tt
 none_have app_of number app (l ∷ ls) below = (λ same. absurd (omega (arith, below.0, same)), none_have app_of number app ls below.1)
 
@@ -51,8 +59,8 @@ none_brought number (l ∷ ls) below = elim (eqb_tells l.stream number) [
   | inr other ↦ rw other.0 (none_brought number ls below.1)
 ]
 
-latest_has : (app_of : Segment → Option App) (number : ℕ) (app : Option App) (s : Segment) (found : Label) (ls : List Label) → IsOfEnds app_of → found.stream ≡ number
-    → latest s ls ≡ Some found → AllHave app_of number app ls → app_of s ≡ app
+latest_has : (app_of : Segment → Option StreamApp) (number : ℕ) (app : Option StreamApp) (s : Segment) (found : Label) (ls : List Label) → AreOfEnds app_of → found.stream ≡ number
+    → latest s ls ≡ Some found → AllAre app_of number app ls → app_of s ≡ app
 latest_has app_of number app s found [] of_ends at = λ e all. absurd (none-some found e)
 latest_has app_of number app s found (l ∷ ls) of_ends at = elim (cases_Bool (same_ends (ends_of l.segment) (ends_of s))) [
   | inl same ↦ rw same (λ e all.
@@ -66,7 +74,7 @@ pub record IsNext (rules : List PortRule) (s : Segment) (ls : List Label) (l : L
   pub segment : l.segment ≡ s
   pub known : AllBelow l.stream ls ⊎ (app_of_segment rules s ≡ app_of_stream rules l.stream ls)
 
-next_is : (rules : List PortRule) (s : Segment) (past : List Segment) → ((number : ℕ) → AllHave (app_of_segment rules) number (app_of_stream rules number (labels past)) (labels past))
+next_is : (rules : List PortRule) (s : Segment) (past : List Segment) → ((number : ℕ) → AllAre (app_of_segment rules) number (app_of_stream rules number (labels past)) (labels past))
     → IsNext rules s (labels past) (label_of s (labels past))
 next_is rules s past all =
     let ls : List Label = labels past in
@@ -80,44 +88,44 @@ next_is rules s past all =
       ];
     }
 
-have_next : (rules : List PortRule) (s : Segment) (ls : List Label) (l : Label) (number : ℕ) → IsNext rules s ls l → AllHave (app_of_segment rules) number (app_of_stream rules number ls) ls
-    → AllHave (app_of_segment rules) number (app_of_stream rules number (l ∷ ls)) (l ∷ ls)
+have_next : (rules : List PortRule) (s : Segment) (ls : List Label) (l : Label) (number : ℕ) → IsNext rules s ls l → AllAre (app_of_segment rules) number (app_of_stream rules number ls) ls
+    → AllAre (app_of_segment rules) number (app_of_stream rules number (l ∷ ls)) (l ∷ ls)
 have_next rules s ls l number next all = elim (eqb_tells l.stream number) [
   | inl same ↦
-      subst (λ (a : Option App). AllHave (app_of_segment rules) number a (l ∷ ls)) (sym (cond-true _ _ _ same.0))
+      subst (λ (a : Option StreamApp). AllAre (app_of_segment rules) number a (l ∷ ls)) (sym (cond-true _ _ _ same.0))
       (λ _. refl, by same.1 next.known)
   | inr other ↦
-      subst (λ (a : Option App). AllHave (app_of_segment rules) number a (l ∷ ls)) (sym (cond-false _ _ _ other.0))
+      subst (λ (a : Option StreamApp). AllAre (app_of_segment rules) number a (l ∷ ls)) (sym (cond-false _ _ _ other.0))
       (λ here. absurd (other.1 here), all)
 ]
   where
-    by : l.stream ≡ number → AllBelow l.stream ls ⊎ (app_of_segment rules s ≡ app_of_stream rules l.stream ls) → AllHave (app_of_segment rules) number (app_of_segment rules l.segment) ls
+    by : l.stream ≡ number → AllBelow l.stream ls ⊎ (app_of_segment rules s ≡ app_of_stream rules l.stream ls) → AllAre (app_of_segment rules) number (app_of_segment rules l.segment) ls
     by same (inl below) = none_have (app_of_segment rules) number (app_of_segment rules l.segment) ls (subst (λ (n : ℕ). AllBelow n ls) same below)
     by same (inr is) =
-        subst (λ (a : Option App). AllHave (app_of_segment rules) number a ls)
+        subst (λ (a : Option StreamApp). AllAre (app_of_segment rules) number a ls)
         (ap (λ (n : ℕ). app_of_stream rules n ls) (sym same) ∙ sym is ∙ ap (app_of_segment rules) (sym next.segment)) all
 
-pub stream_has : (rules : List PortRule) (past : List Segment) (number : ℕ) → AllHave (app_of_segment rules) number (app_of_stream rules number (labels past)) (labels past)
+pub stream_has : (rules : List PortRule) (past : List Segment) (number : ℕ) → AllAre (app_of_segment rules) number (app_of_stream rules number (labels past)) (labels past)
 stream_has rules [] number = tt
 stream_has rules (s ∷ past) number =
     have_next rules s (labels past) (label_of s (labels past)) number (next_is rules s past (stream_has rules past)) (stream_has rules past number)
 
 -- ---- bytes that are held stay
 
-all_stay : (held : Held) (p : ℕ) (bytes : List ℕ) (frame : ℕ) (ms : List Placed) → AreIn held ms → map (message_held (put_run held p bytes frame)) ms ≡ map (message_held held) ms
-all_stay held p bytes frame [] all = refl
-all_stay held p bytes frame (m ∷ ms) all =
-    ap (λ (xs : List ℕ). record { app = app_told m.told; bytes = xs } ∷ map (message_held (put_run held p bytes frame)) ms) (bytes_stay held p bytes frame m.at (end_of m.told) all.0)
-    ∙ ap (λ (rest : List MessageShown). message_held held m ∷ rest) (all_stay held p bytes frame ms all.1)
+all_stay : (app : App) (held : Held) (p : ℕ) (bytes : List ℕ) (frame : ℕ) (ms : List Placed) → AreIn held ms → map (message_held app (put_run held p bytes frame)) ms ≡ map (message_held app held) ms
+all_stay app held p bytes frame [] all = refl
+all_stay app held p bytes frame (m ∷ ms) all =
+    ap (λ (xs : List ℕ). record { app = app; bytes = xs } ∷ map (message_held app (put_run held p bytes frame)) ms) (bytes_stay held p bytes frame m.at (end_of m.told) all.0)
+    ∙ ap (λ (rest : List MessageShown). message_held app held m ∷ rest) (all_stay app held p bytes frame ms all.1)
 
-own_stays : (w : WayState) (s : Segment) (ms : List Placed) → AreIn w.held ms → map (message_held (own_step w s).held) ms ≡ map (message_held w.held) ms
+own_stays : (app : App) (w : WayState) (s : Segment) (ms : List Placed) → AreIn w.held ms → map (message_held app (own_step w s).held) ms ≡ map (message_held app w.held) ms
 unfolding own_step
-own_stays w s ms all =
+own_stays app w s ms all =
     let u = ahead (origin_for w s) (front_for w) (first_number s) in
-    all_stay w.held (place (start_for w) (front_for w) u) (taken_bytes (start_for w) (front_for w) u s.payload) s.frame ms all
+    all_stay app w.held (place (start_for w) (front_for w) u) (taken_bytes (start_for w) (front_for w) u s.payload) s.frame ms all
 
-abbrev shown_so_far : App → ℕ → Bool → List Label → List Placed
-shown_so_far app stream side ls = shown_in side (noted app (brought stream ls))
+abbrev shown_so_far : Framer → ℕ → Bool → List Label → List Placed
+shown_so_far framer stream side ls = shown_in side (noted framer (brought stream ls))
 
 in_append : (held : Held) (ms ns : List Placed) → AreIn held ms → AreIn held ns → AreIn held (ms ++ ns)
 in_append held [] ns before after = after
@@ -166,9 +174,9 @@ here_brought : (stream : ℕ) (l : Label) (ls : List Label) → IsHere stream l 
 here_brought stream l ls here = cond-true _ _ _ here
 
 -- of the other direction
-other_shown : (app : App) (stream : ℕ) (side : Bool) (l : Label) (ls : List Label) → IsHere stream l → same_side side l.side ≡ false → shown_so_far app stream side (l ∷ ls) ≡ shown_so_far app stream side ls
-other_shown app stream side l ls here other =
-    ap (λ (bs : List Brought). shown_in side (noted app bs)) (here_brought stream l ls here) ∙ cond-false _ _ _ other
+other_shown : (framer : Framer) (stream : ℕ) (side : Bool) (l : Label) (ls : List Label) → IsHere stream l → same_side side l.side ≡ false → shown_so_far framer stream side (l ∷ ls) ≡ shown_so_far framer stream side ls
+other_shown framer stream side l ls here other =
+    ap (λ (bs : List Brought). shown_in side (noted framer bs)) (here_brought stream l ls here) ∙ cond-false _ _ _ other
 
 other_kept : (w : WayState) (s : Segment) → (other_step w s).held ≡ w.held
 unfolding other_step
@@ -182,83 +190,83 @@ other_held stream side l ls here other =
     ∙ other_kept (way_of stream side ls) l.segment
 
 -- of this one
-own_shown : (app : App) (l : Label) (ls : List Label) → shown_so_far app l.stream l.side (l ∷ ls) ≡ shown_so_far app l.stream l.side ls ++ messages_at app l ls
-own_shown app l ls =
-    ap (λ (bs : List Brought). shown_in l.side (noted app bs)) (here_brought l.stream l ls (same_number l.stream)) ∙ cond-true _ _ _ (own_side l.side)
+own_shown : (framer : Framer) (l : Label) (ls : List Label) → shown_so_far framer l.stream l.side (l ∷ ls) ≡ shown_so_far framer l.stream l.side ls ++ messages_at framer l ls
+own_shown framer l ls =
+    ap (λ (bs : List Brought). shown_in l.side (noted framer bs)) (here_brought l.stream l ls (same_number l.stream)) ∙ cond-true _ _ _ (own_side l.side)
 
 -- all that is shown is held
-abbrev AreAllIn : App → ℕ → Bool → List Label → Type 0
-AreAllIn app stream side ls = AreIn (way_of stream side ls).held (shown_so_far app stream side ls)
+abbrev AreAllIn : Framer → ℕ → Bool → List Label → Type 0
+AreAllIn framer stream side ls = AreIn (way_of stream side ls).held (shown_so_far framer stream side ls)
 
 in_as : (held old : Held) (ms ns : List Placed) → held ≡ old → ms ≡ ns → AreIn old ns → AreIn held ms
 in_as held old ms ns same are all = subst (λ (h : Held). AreIn h ms) (sym same) (subst (AreIn old) (sym are) all)
 
-own_all_in : (app : App) (l : Label) (ls : List Label) → AreAllIn app l.stream l.side ls → AreAllIn app l.stream l.side (l ∷ ls)
-own_all_in app l ls all =
+own_all_in : (framer : Framer) (l : Label) (ls : List Label) → AreAllIn framer l.stream l.side ls → AreAllIn framer l.stream l.side (l ∷ ls)
+own_all_in framer l ls all =
     let w : WayState = way_of l.stream l.side ls in
-    let ns : List Noted = noted app (brought l.stream ls) in
-    in_as (way_of l.stream l.side (l ∷ ls)).held (own_step w l.segment).held _ _ (ap (λ (v : WayState). v.held) (with_own l ls)) (own_shown app l ls)
-    (in_append (own_step w l.segment).held (shown_so_far app l.stream l.side ls) (messages_at app l ls) (own_in w l.segment _ all)
-    (shown_in_held app (asked_in l.side ns) l.side (sided_of l.stream ls) l.segment (front_end l.side ns)))
+    let ns : List Noted = noted framer (brought l.stream ls) in
+    in_as (way_of l.stream l.side (l ∷ ls)).held (own_step w l.segment).held _ _ (ap (λ (v : WayState). v.held) (with_own l ls)) (own_shown framer l ls)
+    (in_append (own_step w l.segment).held (shown_so_far framer l.stream l.side ls) (messages_at framer l ls) (own_in w l.segment _ all)
+    (shown_in_held framer (asked_in l.side ns) l.side (sided_of l.stream ls) l.segment (front_end l.side ns)))
 
-all_in_next : (app : App) (stream : ℕ) (side : Bool) (l : Label) (ls : List Label) → AreAllIn app stream side ls → AreAllIn app stream side (l ∷ ls)
-all_in_next app stream side l ls all = elim (eqb_tells l.stream stream) [
+all_in_next : (framer : Framer) (stream : ℕ) (side : Bool) (l : Label) (ls : List Label) → AreAllIn framer stream side ls → AreAllIn framer stream side (l ∷ ls)
+all_in_next framer stream side l ls all = elim (eqb_tells l.stream stream) [
   | inr away ↦
-      in_as _ _ _ _ (ap (λ (v : WayState). v.held) (away_way stream side l ls away.0)) (ap (λ (bs : List Brought). shown_in side (noted app bs)) (away_brought stream l ls away.0)) all
+      in_as _ _ _ _ (ap (λ (v : WayState). v.held) (away_way stream side l ls away.0)) (ap (λ (bs : List Brought). shown_in side (noted framer bs)) (away_brought stream l ls away.0)) all
   | inl here ↦ elim (cases_Bool (same_side side l.side)) [
-    | inr other ↦ in_as _ _ _ _ (other_held stream side l ls here.0 other) (other_shown app stream side l ls here.0 other) all
+    | inr other ↦ in_as _ _ _ _ (other_held stream side l ls here.0 other) (other_shown framer stream side l ls here.0 other) all
     | inl own ↦
-        subst (λ (n : ℕ). AreAllIn app n side (l ∷ ls)) here.1
-        (subst (λ (b : Bool). AreAllIn app l.stream b (l ∷ ls)) (side_is side l.side own)
-        (own_all_in app l ls
-        (subst (λ (n : ℕ). AreAllIn app n l.side ls) (sym here.1) (subst (λ (b : Bool). AreAllIn app stream b ls) (sym (side_is side l.side own)) all))))
+        subst (λ (n : ℕ). AreAllIn framer n side (l ∷ ls)) here.1
+        (subst (λ (b : Bool). AreAllIn framer l.stream b (l ∷ ls)) (side_is side l.side own)
+        (own_all_in framer l ls
+        (subst (λ (n : ℕ). AreAllIn framer n l.side ls) (sym here.1) (subst (λ (b : Bool). AreAllIn framer stream b ls) (sym (side_is side l.side own)) all))))
   ]
 ]
 
-all_in : (app : App) (stream : ℕ) (side : Bool) (ls : List Label) → AreAllIn app stream side ls
-all_in app stream side [] = tt
-all_in app stream side (l ∷ ls) = all_in_next app stream side l ls (all_in app stream side ls)
+all_in : (framer : Framer) (stream : ℕ) (side : Bool) (ls : List Label) → AreAllIn framer stream side ls
+all_in framer stream side [] = tt
+all_in framer stream side (l ∷ ls) = all_in_next framer stream side l ls (all_in framer stream side ls)
 
 -- ---- the messages that were shown
 
-abbrev told_by : Option App → ℕ → Bool → List Label → List MessageShown
+abbrev told_by : Option StreamApp → ℕ → Bool → List Label → List MessageShown
 told_by None stream side ls = []
-told_by (Some app) stream side ls = map (message_held (way_of stream side ls).held) (shown_so_far app stream side ls)
+told_by (Some app) stream side ls = map (message_held app.app (way_of stream side ls).held) (shown_so_far app.framer stream side ls)
 
-whole_told : (app : Option App) (stream : ℕ) (side : Bool) (past : List Segment) → whole_messages app stream side (labels past) ≡ told_by app stream side (labels past)
+whole_told : (app : Option StreamApp) (stream : ℕ) (side : Bool) (past : List Segment) → whole_messages app stream side (labels past) ≡ told_by app stream side (labels past)
 whole_told None stream side past = refl
 whole_told (Some app) stream side past =
     let ls : List Label = labels past in
-    stretches_held app (asked_in side (noted app (brought stream ls))) stream side ls
-    ∙ ap (map (message_held (way_of stream side ls).held)) (sym (each_once app past stream side))
+    stretches_held app.app app.framer (asked_in side (noted app.framer (brought stream ls))) stream side ls
+    ∙ ap (map (message_held app.app (way_of stream side ls).held)) (sym (each_once app.framer past stream side))
 
-away_told : (app : Option App) (stream : ℕ) (side : Bool) (l : Label) (ls : List Label) → IsAway stream l → told_by app stream side (l ∷ ls) ≡ told_by app stream side ls
+away_told : (app : Option StreamApp) (stream : ℕ) (side : Bool) (l : Label) (ls : List Label) → IsAway stream l → told_by app stream side (l ∷ ls) ≡ told_by app stream side ls
 away_told None stream side l ls away = refl
 away_told (Some app) stream side l ls away =
-    ap (λ (w : WayState). map (message_held w.held) (shown_so_far app stream side (l ∷ ls))) (away_way stream side l ls away)
-    ∙ ap (λ (bs : List Brought). map (message_held (way_of stream side ls).held) (shown_in side (noted app bs))) (away_brought stream l ls away)
+    ap (λ (w : WayState). map (message_held app.app w.held) (shown_so_far app.framer stream side (l ∷ ls))) (away_way stream side l ls away)
+    ∙ ap (λ (bs : List Brought). map (message_held app.app (way_of stream side ls).held) (shown_in side (noted app.framer bs))) (away_brought stream l ls away)
 
-other_told : (app : Option App) (stream : ℕ) (side : Bool) (l : Label) (ls : List Label) → IsHere stream l → same_side side l.side ≡ false → told_by app stream side (l ∷ ls) ≡ told_by app stream side ls
+other_told : (app : Option StreamApp) (stream : ℕ) (side : Bool) (l : Label) (ls : List Label) → IsHere stream l → same_side side l.side ≡ false → told_by app stream side (l ∷ ls) ≡ told_by app stream side ls
 other_told None stream side l ls here other = refl
 other_told (Some app) stream side l ls here other =
-    ap (λ (h : Held). map (message_held h) (shown_so_far app stream side (l ∷ ls))) (other_held stream side l ls here other)
-    ∙ ap (map (message_held (way_of stream side ls).held)) (other_shown app stream side l ls here other)
+    ap (λ (h : Held). map (message_held app.app h) (shown_so_far app.framer stream side (l ∷ ls))) (other_held stream side l ls here other)
+    ∙ ap (map (message_held app.app (way_of stream side ls).held)) (other_shown app.framer stream side l ls here other)
 
-own_told : (app : Option App) (l : Label) (ls : List Label) → told_by app l.stream l.side (l ∷ ls) ≡ told_by app l.stream l.side ls ++ map (message_held (way_with l ls).held) (messages_by app l ls)
+own_told : (app : Option StreamApp) (l : Label) (ls : List Label) → told_by app l.stream l.side (l ∷ ls) ≡ told_by app l.stream l.side ls ++ all_held app (way_with l ls).held l ls
 own_told None l ls = refl
 own_told (Some app) l ls =
     let w : WayState = way_of l.stream l.side ls in
-    let old : List Placed = shown_so_far app l.stream l.side ls in
-    ap (λ (v : WayState). map (message_held v.held) (shown_so_far app l.stream l.side (l ∷ ls))) (with_own l ls)
-    ∙ ap (map (message_held (own_step w l.segment).held)) (own_shown app l ls)
-    ∙ map-append (message_held (own_step w l.segment).held) old (messages_at app l ls)
-    ∙ ap (λ (xs : List MessageShown). xs ++ map (message_held (own_step w l.segment).held) (messages_at app l ls)) (own_stays w l.segment old (all_in app l.stream l.side ls))
+    let old : List Placed = shown_so_far app.framer l.stream l.side ls in
+    ap (λ (v : WayState). map (message_held app.app v.held) (shown_so_far app.framer l.stream l.side (l ∷ ls))) (with_own l ls)
+    ∙ ap (map (message_held app.app (own_step w l.segment).held)) (own_shown app.framer l ls)
+    ∙ map-append (message_held app.app (own_step w l.segment).held) old (messages_at app.framer l ls)
+    ∙ ap (λ (xs : List MessageShown). xs ++ map (message_held app.app (own_step w l.segment).held) (messages_at app.framer l ls)) (own_stays app.app w l.segment old (all_in app.framer l.stream l.side ls))
 
 -- ---- a frame more
 
-none_told : (app : Option App) (stream : ℕ) (side : Bool) (ls : List Label) → brought stream ls ≡ [] → told_by app stream side ls ≡ []
+none_told : (app : Option StreamApp) (stream : ℕ) (side : Bool) (ls : List Label) → brought stream ls ≡ [] → told_by app stream side ls ≡ []
 none_told None stream side ls none = refl
-none_told (Some app) stream side ls none = ap (λ (bs : List Brought). map (message_held (way_of stream side ls).held) (shown_in side (noted app bs))) none
+none_told (Some app) stream side ls none = ap (λ (bs : List Brought). map (message_held app.app (way_of stream side ls).held) (shown_in side (noted app.framer bs))) none
 
 -- what was shown of a label's stream, by the application of its segment
 known_told : (rules : List PortRule) (s : Segment) (ls : List Label) (l : Label) (side : Bool) → IsNext rules s ls l
@@ -269,7 +277,7 @@ known_told rules s ls l side next = by next.known
     by (inl below) =
         let none : brought l.stream ls ≡ [] = none_brought l.stream ls below in
         none_told (app_of_stream rules l.stream ls) l.stream side ls none ∙ sym (none_told (app_of_segment rules l.segment) l.stream side ls none)
-    by (inr is) = ap (λ (a : Option App). told_by a l.stream side ls) (sym is ∙ ap (app_of_segment rules) (sym next.segment))
+    by (inr is) = ap (λ (a : Option StreamApp). told_by a l.stream side ls) (sym is ∙ ap (app_of_segment rules) (sym next.segment))
 
 here_app : (rules : List PortRule) (stream : ℕ) (l : Label) (ls : List Label) → IsHere stream l → app_of_stream rules stream (l ∷ ls) ≡ app_of_segment rules l.segment
 here_app rules stream l ls here = cond-true _ _ _ here
@@ -278,21 +286,21 @@ abbrev all_told : List PortRule → ℕ → Bool → List Label → List Message
 all_told rules stream side ls = told_by (app_of_stream rules stream ls) stream side ls
 
 abbrev of_label : List PortRule → Label → List Label → List MessageShown
-of_label rules l ls = map (message_held (way_with l ls).held) (messages_by (app_of_segment rules l.segment) l ls)
+of_label rules l ls = all_held (app_of_segment rules l.segment) (way_with l ls).held l ls
 
 label_away : (rules : List PortRule) (stream : ℕ) (side : Bool) (l : Label) (ls : List Label) → IsAway stream l → all_told rules stream side (l ∷ ls) ≡ all_told rules stream side ls
 label_away rules stream side l ls away =
-    ap (λ (a : Option App). told_by a stream side (l ∷ ls)) (cond-false _ _ _ away) ∙ away_told (app_of_stream rules stream ls) stream side l ls away
+    ap (λ (a : Option StreamApp). told_by a stream side (l ∷ ls)) (cond-false _ _ _ away) ∙ away_told (app_of_stream rules stream ls) stream side l ls away
 
 label_other : (rules : List PortRule) (s : Segment) (side : Bool) (l : Label) (ls : List Label) → IsNext rules s ls l → same_side side l.side ≡ false → all_told rules l.stream side (l ∷ ls) ≡ all_told rules l.stream side ls
 label_other rules s side l ls next other =
-    ap (λ (a : Option App). told_by a l.stream side (l ∷ ls)) (here_app rules l.stream l ls (same_number l.stream))
+    ap (λ (a : Option StreamApp). told_by a l.stream side (l ∷ ls)) (here_app rules l.stream l ls (same_number l.stream))
     ∙ other_told (app_of_segment rules l.segment) l.stream side l ls (same_number l.stream) other
     ∙ sym (known_told rules s ls l side next)
 
 label_own : (rules : List PortRule) (s : Segment) (l : Label) (ls : List Label) → IsNext rules s ls l → all_told rules l.stream l.side (l ∷ ls) ≡ all_told rules l.stream l.side ls ++ of_label rules l ls
 label_own rules s l ls next =
-    ap (λ (a : Option App). told_by a l.stream l.side (l ∷ ls)) (here_app rules l.stream l ls (same_number l.stream))
+    ap (λ (a : Option StreamApp). told_by a l.stream l.side (l ∷ ls)) (here_app rules l.stream l ls (same_number l.stream))
     ∙ own_told (app_of_segment rules l.segment) l ls
     ∙ ap (λ (xs : List MessageShown). xs ++ of_label rules l ls) (sym (known_told rules s ls l l.side next))
 
@@ -328,7 +336,7 @@ label_next rules s stream side l ls next = elim (eqb_tells l.stream stream) [
 segment_label : (rules : List PortRule) (past : List Segment) (s : Segment) → segment_messages rules past (Some s) ≡ of_label rules (label_of s (labels past)) (labels past)
 segment_label rules past s =
     shown_held (app_of_segment rules s) past s
-    ∙ ap (λ (t : Segment). map (message_held (way_with (label_of s (labels past)) (labels past)).held) (messages_by (app_of_segment rules t) (label_of s (labels past)) (labels past))) (sym (label_segment s (labels past)))
+    ∙ ap (λ (t : Segment). all_held (app_of_segment rules t) (way_with (label_of s (labels past)) (labels past)).held (label_of s (labels past)) (labels past)) (sym (label_segment s (labels past)))
 
 segment_next : (rules : List PortRule) (past : List Segment) (stream : ℕ) (side : Bool) (newest : Option Segment)
     → all_told rules stream side (labels past)

@@ -1,5 +1,5 @@
 -- The way through a frame's headers: what its tree shows behind the last layer of TCP are the messages of the segment that it brought.
-use Rattle.std.proofs.Common.{◌≡◌, ◌==◌, ℕ, zero, suc, Bool, true, false, if◌then◌else◌, List, [], ◌∷◌, length, map, Option, Some, None, option_map, refl, sym, ap, ◌∙◌, subst, inl, inr}
+use Rattle.std.proofs.Common.{◌≡◌, ◌==◌, ℕ, zero, suc, Bool, true, false, if◌then◌else◌, List, [], ◌∷◌, length, Option, Some, None, option_map, refl, sym, ap, ◌∙◌, subst, inl, inr}
 use Rattle.std.specs.Prelude.{◌⊎◌}
 use Rattle.pk_base.specs.declared.span.Span.{Span}
 use Rattle.pk_base.specs.declared.heads.After.{After}
@@ -15,7 +15,7 @@ use Rattle.pk_base.specs.declared.value.Value.TheVariants.{Uint}
 use Rattle.pk_fields.specs.Applications.{udp_app}
 use Rattle.pk_fields.specs.FieldSets.{every_field}
 use Rattle.pk_fields.specs.Ids.{TCP_STREAM, ARP, DATA, ETH, FRAME, ICMP, ICMPV6, IGMP, IP, IPV6, ND, NULL, SLL, SLL2, UDP, UDP_PAYLOAD, UDP_STREAM, VLAN}
-use Rattle.pk_fields.specs.declared.rules.App.{App}
+use Rattle.pk_fields.specs.declared.apps.App.{App}
 use Rattle.pk_fields.specs.declared.rules.PortRule.{PortRule}
 use Rattle.pk_tree.specs.Buffers.{bytes_of}
 use Rattle.pk_tree.specs.Layouts.{layer_read}
@@ -30,7 +30,7 @@ use Rattle.ip_join.specs.Stands.{joined_by}
 use Rattle.ip_join.specs.declared.joined.Datagram.{Datagram}
 use Rattle.ip_join.specs.declared.joined.Joined.{Joined}
 use Rattle.ip_join.specs.declared.joined.Joined.TheVariants.{Pending, Whole, Conflict}
-use Rattle.stream_messages.specs.declared.told.App.{App as StreamApp}
+use Rattle.app_layers.specs.declared.streamed.StreamApp.{StreamApp}
 use Rattle.tcp_streams.specs.Labels.{label_of, labels, taken_after, told}
 use Rattle.tcp_streams.specs.declared.segment.Segment.{Segment}
 use Rattle.tcp_messages.specs.Shown.{shown_after}
@@ -38,7 +38,8 @@ use Rattle.app_layers.specs.Applications.{data_behind, message_over, payload_ove
 use Rattle.app_layers.specs.DataLayer.{data_over}
 use Rattle.app_layers.specs.Fragments.{conflict_told, error_field, frame_field, frames_told, joined_told, length_field, number_told}
 use Rattle.app_layers.specs.FrameLayer.{frame_span, frame_tree, is_cut, kept_frame}
-use Rattle.app_layers.specs.MessageLayers.{app_of_segment, carried_over}
+use Rattle.app_layers.specs.MessageLayers.{app_of_segment, carried_over, framing}
+use Rattle.app_layers.proofs.StreamApps.{IsFramed, is_framed}
 use Rattle.app_layers.specs.Payloads.{datagram_told, segment_told, with_number}
 use Rattle.app_layers.specs.Rows.{in_datagrams, proto_of, rest_of}
 use Rattle.app_layers.proofs.RowLemmas.{not_tcp}
@@ -46,7 +47,7 @@ use Rattle.app_layers.specs.declared.times.Times.{Times}
 use Rattle.dissect.specs.Conversations.{udp_stream}
 use Rattle.dissect.specs.Events.{Event, NewFrame, Piece, Udp}
 use Rattle.dissect.specs.Fragments.{fragment_from, fragments_of}
-use Rattle.dissect.specs.MessageLaws.{FramesShow, FramesTell, TellsLabel, TellsStream, frame_segment, message_shown, newest_segment, segment_messages, segments_before, tree_messages}
+use Rattle.dissect.specs.MessageLaws.{FramesShow, FramesTell, TellsLabel, TellsStream, frame_segment, messages_shown, newest_segment, segment_messages, segments_before, tree_messages}
 use Rattle.dissect.specs.Segments.{segment_from, segments_of}
 use Rattle.dissect.specs.Trees.{bare_tree, events_of, times_of, tree_at, walk_of}
 use Rattle.dissect.specs.Walks.{Walk, all_met, chain, datagram_met, followed, fragment_by, fragment_met, going, head_by, head_bytes, joined_met, layers_left, link_met, mode_behind, no_packet, rest_met, rest_on, segment_met, step, step_on, stop}
@@ -57,7 +58,8 @@ use Rattle.dissect.proofs.MessagesTold.{carried_shows, data_carried, data_shows,
 use Rattle.app_layers.proofs.KeptHeads.{frame_kept}
 use Rattle.dissect.proofs.Kept.{link_same, step_same}
 use Rattle.dissect.proofs.StreamsTold.{GrowsOn, TakesStream, data_on, linked_on, segment_tells, tcp_takes}
-use Rattle.dissect.proofs.MessagesFit.{all_fit, none_after}
+use Rattle.dissect.proofs.MessagesFit.{all_fit}
+use Rattle.dissect.proofs.Tellings.{shown_are}
 use Rattle.dissect.proofs.RuleEvents.{rules_change_no_events}
 use Rattle.dissect.proofs.SegmentHeads.{HasNoSegment, IsSegmentOrRest, extension_none, icmp6_none, icmp_none, igmp_none, ip4_none, ip6_none, link_none, tcp_rest, udp_none, vlan_none}
 use Rattle.dissect.proofs.TreeMessages.{HasNone, IsOther, Shows, item_bare, linked_bare, none_buffer, none_read, none_same, none_shown, shows_all, shows_as, tcp_read, tree_same}
@@ -205,12 +207,11 @@ followed_going rules past frame packet mode t es afters.End other none segments 
 
 -- ---- what follows a header of TCP
 
-carried_all : (cut : Bool) (t : TreeShown) (past : List Segment) (s : Segment) (span : Span) (app : Option StreamApp) → bytes_of t.buffers span ≡ s.payload → Shows t []
-    → Shows (carried_over app cut span (segment_told t (taken_after past s) span) (shown_after app past s)) (map (message_shown s.payload) (shown_after app past s))
-carried_all cut t past s span None is shows =
-    shows_as _ [] _ (sym (ap (map (message_shown s.payload)) (none_after past s))) (data_carried cut span t (taken_after past s) (shown_after None past s) shows)
-carried_all cut t past s span (Some app) is shows =
-    carried_shows app cut span t s.payload (taken_after past s) (shown_after (Some app) past s) is (all_fit (Some app) past s) shows
+carried_all : (cut : Bool) (t : TreeShown) (past : List Segment) (s : Segment) (span : Span) (app : Option StreamApp) → IsFramed app → bytes_of t.buffers span ≡ s.payload → Shows t []
+    → Shows (carried_over app cut span (segment_told t (taken_after past s) span) (shown_after (framing app) past s)) (messages_shown app s.payload (shown_after (framing app) past s))
+carried_all cut t past s span None framed is shows = data_carried cut span t (taken_after past s) (shown_after None past s) shows
+carried_all cut t past s span (Some app) framed is shows =
+    carried_shows app cut span t s.payload (taken_after past s) (shown_after (Some app.framer) past s) (shown_are app past s framed) is (all_fit (Some app.framer) past s) shows
 
 taken_stream : (past : List Segment) (s : Segment) → (taken_after past s).stream ≡ (label_of s (labels past)).stream
 unfolding told
@@ -222,15 +223,15 @@ unfolding segment_met segments_of
 segment_told_all rules past frame packet t es head span takes shows segments =
     let s : Segment = segment_from frame.number packet head (bytes_of t.buffers span) in
     let app : Option StreamApp = app_of_segment rules s in
-    let whole : TreeShown = carried_over app (is_cut frame) span (segment_told t (taken_after (segments_of es) s) span) (shown_after app (segments_of es) s) in
+    let whole : TreeShown = carried_over app (is_cut frame) span (segment_told t (taken_after (segments_of es) s) span) (shown_after (framing app) (segments_of es) s) in
     subst (λ (xs : List Segment). IsTold rules xs (segment_met rules frame packet t es head span)) segments
     (record {
       last = tt;
       segments = refl;
-      shows = carried_all (is_cut frame) t (segments_of es) s span app refl shows;
+      shows = carried_all (is_cut frame) t (segments_of es) s span app (is_framed rules s.from.port s.to.port) refl shows;
       stream =
           subst (λ (n : ℕ). TellsStream n whole.layers) (taken_stream (segments_of es) s)
-          (segment_tells app (is_cut frame) span t (taken_after (segments_of es) s) (shown_after app (segments_of es) s) takes);
+          (segment_tells app (is_cut frame) span t (taken_after (segments_of es) s) (shown_after (framing app) (segments_of es) s) takes);
     })
 
 told_as : (rules : List PortRule) (past : List Segment) (t : TreeShown) (es : List Event) (todo : Todo) → IsLast todo → Shows t [] → segments_of es ≡ past → newest_segment es ≡ None

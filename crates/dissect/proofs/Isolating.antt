@@ -1,5 +1,5 @@
 -- A frame's tree rests on its own conversation: the way through its headers, by two pasts that are alike for what it brings.
-use Rattle.std.proofs.Common.{◌≡◌, ◌==◌, ℕ, zero, suc, Bool, true, false, cond, if◌then◌else◌, List, [], ◌∷◌, length, map, refl, sym, ◌∙◌, ap, subst}
+use Rattle.std.proofs.Common.{◌≡◌, ◌==◌, ℕ, zero, suc, Bool, true, false, cond, if◌then◌else◌, List, [], ◌∷◌, length, refl, sym, ◌∙◌, ap, subst}
 use Rattle.pk_base.specs.declared.span.Span.{Span}
 use Rattle.pk_base.specs.declared.heads.After.{After}
 use Rattle.pk_base.specs.declared.heads.After.TheVariants as afters
@@ -30,11 +30,11 @@ use Rattle.tcp_messages.specs.Shown.{shown_after}
 use Rattle.message_links.specs.Conversations.{number_in, udp_ends}
 use Rattle.message_links.specs.Linked.{linked}
 use Rattle.message_links.specs.Links.{links_of}
-use Rattle.message_links.specs.Notes.{datagram_notes, message_note, tcp_direction, udp_direction}
+use Rattle.message_links.specs.Notes.{datagram_notes, shown_notes, tcp_direction, udp_direction}
 use Rattle.app_layers.specs.declared.times.Times.{Times}
 use Rattle.app_layers.specs.Applications.{payload_over}
 use Rattle.app_layers.specs.FrameLayer.{frame_tree, is_cut}
-use Rattle.app_layers.specs.MessageLayers.{app_of_segment, carried_over}
+use Rattle.app_layers.specs.MessageLayers.{app_of_segment, application, carried_over, framer_of_segment}
 use Rattle.app_layers.specs.Payloads.{datagram_told, segment_told}
 use Rattle.dissect.specs.declared.todo.Head.{Head}
 use Rattle.dissect.specs.declared.todo.Todo.{Todo}
@@ -248,10 +248,10 @@ segment_links given before aside es others frame packet head bytes on alike same
     let past : List Segment = segments_of before in
     let ys : List Segment = segments_of aside in
     let taken : taken_after past s ≡ taken_after ys s = taken_same past ys s alike.0 in
-    let shown : shown_after (app_of_segment given s) past s ≡ shown_after (app_of_segment given s) ys s = shown_same (app_of_segment given s) past ys s alike.0.segments in
+    let shown : shown_after (framer_of_segment given s) past s ≡ shown_after (framer_of_segment given s) ys s = shown_same (framer_of_segment given s) past ys s alike.0.segments in
     (λ i. links_of (on.notes i) (tcp_direction (taken_after (on.tcp i) s)) (segment_notes given (on.tcp i) s))
     ∙ links_same (tcp_direction (taken_after past s)) (noted given before) (noted given aside) (segment_notes given past s) same.0
-    ∙ (λ i. links_of (noted given aside) (tcp_direction (taken i)) (map (message_note s.payload) (shown i)))
+    ∙ (λ i. links_of (noted given aside) (tcp_direction (taken i)) (shown_notes (application (app_of_segment given s)) s.payload (shown i)))
     ∙ sym (λ i. links_of (on.other_notes i) (tcp_direction (taken_after (on.other_tcp i) s)) (segment_notes given (on.other_tcp i) s))
 
 segment_same : (rules given : List PortRule) (before aside : List Event) (frame : Frame) (packet : PacketHead) (t : TreeShown) (es others : List Event) (head : TcpHead) (span : Span)
@@ -262,9 +262,9 @@ segment_same rules given before aside frame packet t es others head span on alik
     let s : Segment = segment_from frame.number packet head (bytes_of t.buffers span) in
     let taken : taken_after (segments_of es) s ≡ taken_after (segments_of others) s =
     ap (λ (past : List Segment). taken_after past s) on.tcp ∙ taken_same (segments_of before) (segments_of aside) s alike.0 ∙ sym (ap (λ (past : List Segment). taken_after past s) on.other_tcp) in
-    let shown : shown_after (app_of_segment rules s) (segments_of es) s ≡ shown_after (app_of_segment rules s) (segments_of others) s =
-    ap (λ (past : List Segment). shown_after (app_of_segment rules s) past s) on.tcp ∙ shown_same (app_of_segment rules s) (segments_of before) (segments_of aside) s alike.0.segments
-    ∙ sym (ap (λ (past : List Segment). shown_after (app_of_segment rules s) past s) on.other_tcp) in
+    let shown : shown_after (framer_of_segment rules s) (segments_of es) s ≡ shown_after (framer_of_segment rules s) (segments_of others) s =
+    ap (λ (past : List Segment). shown_after (framer_of_segment rules s) past s) on.tcp ∙ shown_same (framer_of_segment rules s) (segments_of before) (segments_of aside) s alike.0.segments
+    ∙ sym (ap (λ (past : List Segment). shown_after (framer_of_segment rules s) past s) on.other_tcp) in
     record {
       tree = λ i. carried_over (app_of_segment rules s) (is_cut frame) span (segment_told t (taken i) span) (shown i);
       todo = refl;

@@ -12,7 +12,7 @@ use Rattle.dissect.specs.Events.{Event, NewFrame, Piece, Tcp}
 use Rattle.dissect.specs.Fragments.{fragment_from, fragments_of}
 use Rattle.message_links.specs.LinkTables.{LinksStandFor}
 use Rattle.dissect.specs.Links.{newest_links}
-use Rattle.app_layers.specs.MessageLayers.{app_of_segment}
+use Rattle.app_layers.specs.MessageLayers.{framer_of_segment}
 use Rattle.dissect.specs.Notes.{noted}
 use Rattle.dissect.specs.Segments.{segment_from, segments_of}
 use Rattle.dissect.specs.declared.keeping.Keeping.{Keeping}
@@ -23,10 +23,10 @@ use Rattle.dissect.specs.Stands.{StandsAt}
 
 -- the streams stand for the same segments
 pub streams_stay : (rules : List PortRule) (segments : List Segment) (old new : State) → new.keeps ≡ old.keeps → new.streams ≡ old.streams
-    → ReadsFor (app_of_segment rules) (followed_of rules old.keeps.follows segments) old.streams → ReadsFor (app_of_segment rules) (followed_of rules new.keeps.follows segments) new.streams
+    → ReadsFor (framer_of_segment rules) (followed_of rules old.keeps.follows segments) old.streams → ReadsFor (framer_of_segment rules) (followed_of rules new.keeps.follows segments) new.streams
 streams_stay rules segments old new same_keeps same_streams reads =
-    subst (ReadsFor (app_of_segment rules) (followed_of rules new.keeps.follows segments)) (sym same_streams)
-    (subst (λ (keeps : Keeping). ReadsFor (app_of_segment rules) (followed_of rules keeps.follows segments) old.streams) (sym same_keeps) reads)
+    subst (ReadsFor (framer_of_segment rules) (followed_of rules new.keeps.follows segments)) (sym same_streams)
+    (subst (λ (keeps : Keeping). ReadsFor (framer_of_segment rules) (followed_of rules keeps.follows segments) old.streams) (sym same_keeps) reads)
 
 pub places_stay : (segments : List Segment) (old new : State) → new.keeps ≡ old.keeps → new.places ≡ old.places
     → (tells_places old.keeps.follows ≡ true → PlacesStandFor segments old.places) → tells_places new.keeps.follows ≡ true → PlacesStandFor segments new.places
@@ -63,7 +63,7 @@ stands-piece rules es frame head bytes old new stands same_udp same_keeps same_p
 -- what is kept with a segment more
 pub stands-segment : (rules : List PortRule) (es : List Event) (frame : ℕ) (packet : PacketHead) (head : TcpHead) (bytes : List ℕ) (old new : State) → StandsAt rules es old → new.joins ≡ old.joins → new.udp ≡ old.udp → new.keeps ≡ old.keeps
     → (tells_places new.keeps.follows ≡ true → PlacesStandFor (segment_from frame packet head bytes ∷ segments_of es) new.places)
-    → ReadsFor (app_of_segment rules) (followed_of rules new.keeps.follows (segment_from frame packet head bytes ∷ segments_of es)) new.streams
+    → ReadsFor (framer_of_segment rules) (followed_of rules new.keeps.follows (segment_from frame packet head bytes ∷ segments_of es)) new.streams
     → (keeps_all new.keeps ≡ true → LinksStandFor (noted rules (Tcp frame packet head bytes ∷ es)) new.links)
     → (keeps_all new.keeps ≡ true → new.found.items ≡ newest_links rules (Tcp frame packet head bytes ∷ es)) → StandsAt rules (Tcp frame packet head bytes ∷ es) new
 unfolding fragments_of udp_opened segments_of noted newest_links

@@ -1,22 +1,26 @@
 -- What is known of what is kept.
 use Rattle.std.proofs.Common.{◌≡◌, Bool, true, false, ◌&&◌, List, [], ◌∷◌, ℕ, Option, ◌⊎◌, inl, inr, refl, sym, ◌∙◌, ap, subst, true≢false}
+use Rattle.std.specs.List.{AllByRecursion as Each}
 use Rattle.std.proofs.lemmas.Bool.{cases_Bool}
 use Rattle.pk_fields.specs.FieldSets.{is_in}
 use Rattle.pk_fields.specs.Fields.{row_of}
 use Rattle.pk_fields.specs.Table.{rows}
 use Rattle.pk_fields.specs.Ids.{DNS_RESPONSE_TO, HTTP_REQUEST_IN, UDP_STREAM}
+use Rattle.pk_fields.specs.declared.apps.App.TheVariants as apps
 use Rattle.pk_fields.specs.declared.rules.PortRule.{PortRule}
 use Rattle.tcp_streams.specs.declared.segment.Segment.{Segment}
 use Rattle.tcp_streams.specs.Conversations.{ends_of, same_ends}
 use Rattle.tcp_streams.specs.Isolation.{between}
-use Rattle.stream_messages.specs.declared.told.App.{App as StreamApp}
-use Rattle.app_layers.specs.MessageLayers.{app_of_segment}
+use Rattle.app_layers.specs.declared.streamed.StreamApp.{StreamApp}
+use Rattle.app_layers.specs.MessageLayers.{app_of_segment, framer_of_segment}
+use Rattle.app_layers.specs.Rows.{framed_apps}
+use Rattle.app_layers.proofs.RowLemmas.{framed_each}
 use Rattle.app_layers.proofs.StreamApps.{apps_of_ends}
 use Rattle.dissect.specs.declared.keeping.Follows.{Follows}
 use Rattle.dissect.specs.declared.keeping.Follows.TheVariants.{Nothing, Places, One, Applications, Everything}
 use Rattle.dissect.specs.declared.keeping.Keeping.{Keeping}
 use Rattle.dissect.specs.Followed.{asks_messages, asks_streams}
-use Rattle.dissect.specs.Keeping.{AsksNoLinks, FollowsEnough, KeepsFor, KeepsWhole, followed_of, is_everything, is_followed, keeps_all, tells_places}
+use Rattle.dissect.specs.Keeping.{AsksNoLinks, AsksNoOthers, FollowsEnough, IsOwnOrUnasked, KeepsFor, KeepsWhole, followed_of, is_everything, is_followed, keeps_all, tells_places}
 use Rattle.capture_read.specs.declared.frame.Frame.{Frame}
 use Rattle.tcp_messages.specs.Standing.{ReadsFor}
 use Rattle.dissect.specs.Segments.{segments_of}
@@ -130,6 +134,11 @@ placed_enough (One only) wanted places enough = absurd (true≢false (sym places
 placed_enough Applications wanted places enough = absurd (true≢false (sym places))
 placed_enough Everything wanted places enough = absurd (true≢false (sym places))
 
+-- ---- one protocol
+
+pub no_others : (proto : ℕ) (wanted : List ℕ) → Each (IsOwnOrUnasked proto wanted) framed_apps → AsksNoOthers proto wanted
+no_others proto wanted each app framed = framed_each (IsOwnOrUnasked proto wanted) each app framed
+
 -- ---- what is asked
 
 -- links go by the numbers of conversations, and by streams
@@ -146,7 +155,7 @@ pub no_message_links : (wanted : List ℕ) → asks_messages wanted ≡ false �
 unfolding row_of rows
 no_message_links wanted unasked =
     let none = no_messages wanted unasked in
-    record { dns = none.dns DNS_RESPONSE_TO refl; http = none.http HTTP_REQUEST_IN refl }
+    record { dns = none.fields apps.Dns refl DNS_RESPONSE_TO refl; http = none.fields apps.Http refl HTTP_REQUEST_IN refl }
 
 pub keeps_for : (keeps : Keeping) (wanted : List ℕ) → FollowsEnough keeps.follows wanted → (keeps.numbers ≡ false → is_in wanted UDP_STREAM ≡ false)
     → (is_everything keeps.follows ≡ false → AsksNoLinks wanted) → (keeps.numbers ≡ false → AsksNoLinks wanted) → KeepsFor keeps wanted
@@ -177,7 +186,7 @@ all_asked d kept asked unsparing = (kept.whole unsparing).all asked
 
 -- where everything is kept, the streams stand for all segments
 pub streams_of_all : (d : DissectorShown) (past : List Frame) → IsAfter past d → keeps_all d.state.keeps ≡ true
-    → ReadsFor (app_of_segment d.decode.rules) (segments_of (events_of past)) d.state.streams
+    → ReadsFor (framer_of_segment d.decode.rules) (segments_of (events_of past)) d.state.streams
 streams_of_all d past after all =
-    subst (λ (ss : List Segment). ReadsFor (app_of_segment d.decode.rules) ss d.state.streams)
+    subst (λ (ss : List Segment). ReadsFor (framer_of_segment d.decode.rules) ss d.state.streams)
     (everything_of d.decode.rules d.state.keeps.follows (segments_of (events_of past)) (all_everything d.state.keeps all)) after.state.streams

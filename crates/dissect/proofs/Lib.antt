@@ -13,6 +13,7 @@ mod Isolating
 mod Joining
 mod KeepingLemmas
 mod Kept
+pub mod LayerProtocols
 mod LeftOut
 mod MessagesFit
 mod MessagesPassed

@@ -13,7 +13,10 @@ use Rattle.tcp_streams.proofs.Places.{length-bytes_at}
 use Rattle.stream_messages.specs.declared.placed.Placed.{Placed}
 use Rattle.stream_messages.specs.declared.shape.Then.{Then}
 use Rattle.stream_messages.specs.declared.shape.Then.TheVariants.{Follows, Opaque}
-use Rattle.stream_messages.specs.declared.told.App.{App}
+use Rattle.stream_messages.specs.declared.framer.Framer.{Framer}
+use Rattle.pk_fields.specs.declared.apps.App.{App}
+use Rattle.app_layers.specs.declared.streamed.StreamApp.{StreamApp}
+use Rattle.app_layers.specs.MessageLayers.{framing}
 use Rattle.stream_messages.specs.declared.told.Told.{Told}
 use Rattle.stream_messages.specs.Messages.{Asked, above, answered, end_at, follow, messages, of_front, of_stretches, with_first}
 use Rattle.stream_messages.specs.Sides.{asked_in, front_end, noted}
@@ -23,7 +26,7 @@ use Rattle.tcp_messages.specs.Brought.{brought, brought_by, way_with}
 use Rattle.tcp_messages.specs.Shown.{bytes_from, distance, gathered, located, messages_after, messages_by, place_of, shown_after, source_at}
 use Rattle.tcp_messages.specs.declared.met.Gathered.{Gathered}
 use Rattle.tcp_messages.specs.declared.met.Source.TheVariants as sources
-use Rattle.dissect.specs.MessageLaws.{MessageShown, app_told, message_shown}
+use Rattle.dissect.specs.MessageLaws.{MessageShown, message_shown, messages_shown}
 use Rattle.dissect.proofs.MessagesTold.{AreFit}
 
 -- ---- each message has a byte
@@ -44,21 +47,21 @@ first_have : (at : ℕ) (o : Option Told) (more : Told → List Placed) → ((to
 first_have at None more some rest = tt
 first_have at (Some told) more some rest = (some told refl, follow_have (then_of told) (more told) (rest told))
 
-messages_have : (app : App) (asked : Asked) (count at skip : ℕ) (bytes : List ℕ) → HaveBytes (messages app asked count at skip bytes)
+messages_have : (framer : Framer) (asked : Asked) (count at skip : ℕ) (bytes : List ℕ) → HaveBytes (messages framer asked count at skip bytes)
 unfolding messages
-messages_have app asked count at skip [] = tt
-messages_have app asked count at (suc skip) (b ∷ rest) = messages_have app asked count (suc at) skip rest
-messages_have app asked count at zero (b ∷ rest) =
-    first_have at (first_of app (asked at count) (b ∷ rest))
-    (λ (told : Told). messages app asked (count + answers told) (suc at) (end_of told - 1 + passed (then_of told)) rest)
-    (λ told e. first_some app (asked at count) (b ∷ rest) told e)
-    (λ told. messages_have app asked (count + answers told) (suc at) (end_of told - 1 + passed (then_of told)) rest)
+messages_have framer asked count at skip [] = tt
+messages_have framer asked count at (suc skip) (b ∷ rest) = messages_have framer asked count (suc at) skip rest
+messages_have framer asked count at zero (b ∷ rest) =
+    first_have at (first_of framer (asked at count) (b ∷ rest))
+    (λ (told : Told). messages framer asked (count + answers told) (suc at) (end_of told - 1 + passed (then_of told)) rest)
+    (λ told e. first_some framer (asked at count) (b ∷ rest) told e)
+    (λ told. messages_have framer asked (count + answers told) (suc at) (end_of told - 1 + passed (then_of told)) rest)
 
-stretches_have : (app : App) (asked : Asked) (count : ℕ) (ss : List Stretch) → HaveBytes (of_stretches app asked count ss)
-stretches_have app asked count [] = tt
-stretches_have app asked count (s ∷ ss) =
-    have_append (of_front app asked count s.start s.bytes) _ (messages_have app asked count s.start 0 s.bytes)
-    (stretches_have app asked (answered count (of_front app asked count s.start s.bytes)) ss)
+stretches_have : (framer : Framer) (asked : Asked) (count : ℕ) (ss : List Stretch) → HaveBytes (of_stretches framer asked count ss)
+stretches_have framer asked count [] = tt
+stretches_have framer asked count (s ∷ ss) =
+    have_append (of_front framer asked count s.start s.bytes) _ (messages_have framer asked count s.start 0 s.bytes)
+    (stretches_have framer asked (answered count (of_front framer asked count s.start s.bytes)) ss)
 
 above_have : (before : ℕ) (ms : List Placed) → HaveBytes ms → HaveBytes (above before ms)
 above_have before [] all = tt
@@ -67,18 +70,18 @@ above_have before (m ∷ ms) all = elim (cases_Bool (nat_lt before (end_at m))) 
   | inr early ↦ rw early (above_have before ms all.1)
 ]
 
-by_have : (app : Option App) (l : Label) (ls : List Label) → HaveBytes (messages_by app l ls)
+by_have : (framer : Option Framer) (l : Label) (ls : List Label) → HaveBytes (messages_by framer l ls)
 by_have None l ls = tt
-by_have (Some app) l ls =
-    above_have (front_end l.side (noted app (brought l.stream ls)))
-    (of_stretches app (asked_in l.side (noted app (brought l.stream ls))) 0 (brought_by l ls).stretches)
-    (stretches_have app (asked_in l.side (noted app (brought l.stream ls))) 0 (brought_by l ls).stretches)
+by_have (Some framer) l ls =
+    above_have (front_end l.side (noted framer (brought l.stream ls)))
+    (of_stretches framer (asked_in l.side (noted framer (brought l.stream ls))) 0 (brought_by l ls).stretches)
+    (stretches_have framer (asked_in l.side (noted framer (brought l.stream ls))) 0 (brought_by l ls).stretches)
 
 -- ---- those that are held
 
 -- a message, by the bytes that its direction holds
-abbrev pub message_held : Held → Placed → MessageShown
-message_held held m = record { app = app_told m.told; bytes = bytes_at held m.at (end_of m.told) }
+abbrev pub message_held : App → Held → Placed → MessageShown
+message_held app held m = record { app = app; bytes = bytes_at held m.at (end_of m.told) }
 
 place_is : (payload bytes : List ℕ) (o : Option ℕ) (place : ℕ) → place_of payload bytes o ≡ Some place → take (length bytes) (drop place payload) ≡ bytes
 place_is payload bytes None place = λ e. absurd (none-some place e)
@@ -115,24 +118,26 @@ located_fit held s position (m ∷ ms) all = (
   located_fit held s position ms all.1,
 )
 
-pub all_fit : (app : Option App) (past : List Segment) (s : Segment) → AreFit s.payload (shown_after app past s)
+pub all_fit : (framer : Option Framer) (past : List Segment) (s : Segment) → AreFit s.payload (shown_after framer past s)
 unfolding shown_after
-all_fit app past s =
-    located_fit (way_with (label_of s (labels past)) (labels past)).held s (taken_after past s).position (messages_after app past s) (by_have app (label_of s (labels past)) (labels past))
-
-pub none_after : (past : List Segment) (s : Segment) → shown_after None past s ≡ []
-unfolding shown_after
-none_after past s = refl
+all_fit framer past s =
+    located_fit (way_with (label_of s (labels past)) (labels past)).held s (taken_after past s).position (messages_after framer past s) (by_have framer (label_of s (labels past)) (labels past))
 
 -- so what is shown is what is held
-located_held : (held : Held) (s : Segment) (position : ℤ) (ms : List Placed) → map (message_shown s.payload) (map (located held s position) ms) ≡ map (message_held held) ms
-located_held held s position [] = refl
-located_held held s position (m ∷ ms) =
-    ap (λ (bytes : List ℕ). record { app = app_told m.told; bytes = bytes } ∷ map (message_shown s.payload) (map (located held s position) ms)) (located_bytes held s position m)
-    ∙ ap (λ (rest : List MessageShown). message_held held m ∷ rest) (located_held held s position ms)
+located_held : (app : App) (held : Held) (s : Segment) (position : ℤ) (ms : List Placed) → map (message_shown app s.payload) (map (located held s position) ms) ≡ map (message_held app held) ms
+located_held app held s position [] = refl
+located_held app held s position (m ∷ ms) =
+    ap (λ (bytes : List ℕ). record { app = app; bytes = bytes } ∷ map (message_shown app s.payload) (map (located held s position) ms)) (located_bytes held s position m)
+    ∙ ap (λ (rest : List MessageShown). message_held app held m ∷ rest) (located_held app held s position ms)
 
-pub shown_held : (app : Option App) (past : List Segment) (s : Segment)
-    → map (message_shown s.payload) (shown_after app past s) ≡ map (message_held (way_with (label_of s (labels past)) (labels past)).held) (messages_by app (label_of s (labels past)) (labels past))
+-- by the application of the stream
+abbrev pub all_held : Option StreamApp → Held → Label → List Label → List MessageShown
+all_held None held l ls = []
+all_held (Some app) held l ls = map (message_held app.app held) (messages_by (Some app.framer) l ls)
+
+pub shown_held : (app : Option StreamApp) (past : List Segment) (s : Segment)
+    → messages_shown app s.payload (shown_after (framing app) past s) ≡ all_held app (way_with (label_of s (labels past)) (labels past)).held (label_of s (labels past)) (labels past)
 unfolding shown_after
-shown_held app past s =
-    located_held (way_with (label_of s (labels past)) (labels past)).held s (taken_after past s).position (messages_by app (label_of s (labels past)) (labels past))
+shown_held None past s = refl
+shown_held (Some app) past s =
+    located_held app.app (way_with (label_of s (labels past)) (labels past)).held s (taken_after past s).position (messages_by (Some app.framer) (label_of s (labels past)) (labels past))

@@ -3,18 +3,16 @@ use Rattle.std.proofs.Common.{◌≡◌, ◌==◌, ℕ, ◌+◌, Bool, true, fal
 use Rattle.std.specs.Prelude.{unwrap_or}
 use Rattle.std.proofs.lemmas.Bool.{cases_Bool}
 use Rattle.std.proofs.lemmas.Option.{none-some}
+use Rattle.pk_base.specs.declared.heads.After.{After}
 use Rattle.pk_base.specs.declared.heads.PacketHead.{PacketHead}
 use Rattle.pk_base.specs.declared.heads.PortsHead.{PortsHead}
-use Rattle.pk_base.specs.declared.heads.TcpHead.{TcpHead}
 use Rattle.pk_base.specs.declared.heads.Mode.TheVariants.{Plain as PlainMode}
 use Rattle.pk_base.specs.declared.span.Span.{Span}
 use Rattle.pk_fields.specs.Applications.{udp_app}
 use Rattle.pk_fields.specs.Fields.{row_of}
 use Rattle.pk_fields.specs.FieldSets.{is_in}
-use Rattle.pk_fields.specs.Ids.{DHCP, DNS, MDNS, WS_MALFORMED, WS_SHORT}
-use Rattle.pk_fields.specs.Table.{rows}
-use Rattle.pk_fields.specs.declared.rules.App.{App}
-use Rattle.pk_fields.specs.declared.rules.App.TheVariants.{Http, Dns, Dhcp, Ntp, Mdns, Plain}
+use Rattle.pk_fields.specs.Ids.{WS_MALFORMED, WS_SHORT}
+use Rattle.pk_fields.specs.declared.apps.App.{App}
 use Rattle.pk_fields.specs.declared.rules.PortRule.{PortRule}
 use Rattle.pk_tree.specs.Buffers.{bytes_of}
 use Rattle.pk_tree.proofs.KeptLemmas.{passed}
@@ -23,29 +21,31 @@ use Rattle.pk_tree.specs.Trees.{TreeShown, kept, layers_of, with_layer}
 use Rattle.pk_tree.specs.declared.layout.Reach.{Reach}
 use Rattle.pk_tree.specs.declared.layout.Reach.TheVariants as reaches
 use Rattle.pk_tree.specs.declared.layout.Step.{Step}
-use Rattle.stream_messages.specs.declared.told.App.{App as StreamApp}
-use Rattle.dis_dns.proofs.DnsFits.{layout_fits, mdns_layout_fits}
-use Rattle.dis_hosts.proofs.DhcpLemmas.{layout_fits as dhcp_fits}
-use Rattle.dis_dns.specs.Dns.{dns_layout, mdns_layout}
-use Rattle.dis_hosts.specs.Dhcp.{dhcp_layout}
+use Rattle.app_layers.specs.declared.streamed.StreamApp.{StreamApp}
+use Rattle.dis_ports.specs.Tcp.{tcp_head}
+use Rattle.dis_ports.specs.Udp.{udp_ports}
 use Rattle.capture_read.specs.declared.frame.Frame.{Frame}
-use Rattle.app_layers.specs.Applications.{payload_over}
+use Rattle.app_layers.specs.Applications.{data_behind, message_over, payload_over}
 use Rattle.app_layers.specs.DataLayer.{data_over}
 use Rattle.app_layers.specs.FrameLayer.{is_cut}
 use Rattle.app_layers.specs.MessageLayers.{stream_app}
 use Rattle.app_layers.specs.Payloads.{carried_told, datagram_told}
-use Rattle.app_layers.specs.Rows.{in_datagrams, layout_of, proto_of, rest_of}
+use Rattle.app_layers.specs.Rows.{in_datagrams, is_passed, layout_of, proto_of, rest_of}
+use Rattle.app_layers.proofs.RowLemmas.{home_of, passed_end, passed_fit, passed_read}
 use Rattle.app_layers.proofs.MessagesAside.{AsksNoneOf, Lacks, lacks_none, lacks_on}
 use Rattle.message_links.specs.Conversations.{number_in, udp_ends, with_ends}
 use Rattle.dissect.specs.Carried.{is_free, shown_by}
 use Rattle.dissect.specs.Events.{Event, NewFrame}
 use Rattle.dissect.specs.Keeping.{is_followed, keeps_all, tells_places}
+use Rattle.dissect.specs.Plain.{own}
 use Rattle.dissect.specs.Stands.{IsSameButNumbers, IsWalked, StandsAt}
 use Rattle.dissect.specs.Tells.{AsksNoDatagrams, Tells, shown_of}
 use Rattle.dissect.specs.Walks.{Walk, datagram_met}
+use Rattle.dissect.specs.Ways.{packet_at}
 use Rattle.dissect.specs.declared.carried.Carrier.TheVariants as carriers
 use Rattle.dissect.specs.declared.state.State.{State}
 use Rattle.dissect.specs.declared.ways.Carried.TheVariants as carries
+use Rattle.dissect.specs.declared.ways.Last.{Last}
 use Rattle.dissect.specs.declared.todo.Todo.TheVariants as todos
 use Rattle.dissect.proofs.DatagramLemmas.{datagram-met}
 use Rattle.dissect.proofs.Numbering.{told_wanted}
@@ -122,53 +122,46 @@ none_data : (t : TreeShown) (cut : Bool) (span : Span) → payload_over None t c
 unfolding payload_over
 none_data t cut span = data_alike t span
 
-http_data : (t : TreeShown) (cut : Bool) (span : Span) → payload_over (Some Http) t cut span ≡ data_over t span
-unfolding payload_over in_datagrams
-http_data t cut span = data_alike t span
-
-plain_data : (t : TreeShown) (cut : Bool) (span : Span) → payload_over (Some Plain) t cut span ≡ data_over t span
-unfolding payload_over in_datagrams
-plain_data t cut span = data_alike t span
+other_data : (app : App) → in_datagrams app ≡ false → (t : TreeShown) (cut : Bool) (span : Span) → payload_over (Some app) t cut span ≡ data_over t span
+unfolding payload_over
+other_data app other t cut span = rw other (data_alike t span)
 
 -- where it is a message that is passed over
 if_lacks : (test : Bool) (t u : TreeShown) → Lacks u t → Lacks (if test then t else u) t
 if_lacks true t u lacks = same_lacks t t refl
 if_lacks false t u lacks = lacks
 
-passed_over : (passes free : Bool) (whole t : TreeShown) (span : Span) → (if passes then Some false else None) ≡ Some free → (passes ≡ true → Lacks whole t) → Lacks whole (shown_by free t span)
-passed_over true free whole t span shown lacks = subst (λ (f : Bool). Lacks whole (shown_by f t span)) (is_some free false shown) (lacks refl)
-passed_over false free whole t span shown lacks = absurd (none-some free shown)
+message_lacks : (app : App) → is_passed app ≡ true → (t : TreeShown) (cut : Bool) (span : Span) → AsksNoDatagrams t.wanted → Lacks (payload_over (Some app) t cut span) t
+unfolding payload_over
+message_lacks app over t cut span none =
+    let bytes = bytes_of t.buffers span in
+    let asks : AsksNoneOf (proto_of app) t.wanted = record { short = none.short; malformed = none.malformed; fields = none.fields app over } in
+    let layer = layer_read t (proto_of app) span (layout_of app false bytes) PlainMode cut in
+    let read : Lacks layer t = aside_lacks t (proto_of app) span (layout_of app false bytes) cut (home_of app) (passed_fit app over bytes) asks in
+    let ended : Lacks (data_behind layer (rest_of app span bytes)) t = subst (λ (after : After). Lacks (data_behind layer after) t) (sym (passed_end app over span bytes)) read in
+    let whole : Lacks (message_over (Some app) t cut span) t =
+    subst (λ (r : Bool). Lacks (if r then data_behind layer (rest_of app span bytes) else data_over t span) t) (sym (passed_read app over)) ended in
+    if_lacks (span.len == 0) t (message_over (Some app) t cut span) whole
 
-homes : ((row_of DNS).proto ≡ DNS) × ((row_of MDNS).proto ≡ MDNS) × ((row_of DHCP).proto ≡ DHCP)
-unfolding row_of rows
-homes = (refl, refl, refl)
-
-dns_lacks : (t : TreeShown) (cut : Bool) (span : Span) → AsksNoDatagrams t.wanted → Lacks (payload_over (Some Dns) t cut span) t
-unfolding payload_over in_datagrams proto_of layout_of rest_of
-dns_lacks t cut span none =
-    let asks : AsksNoneOf DNS t.wanted = record { short = none.short; malformed = none.malformed; fields = none.dns } in
-    if_lacks (span.len == 0) t _ (aside_lacks t DNS span (dns_layout false (bytes_of t.buffers span)) cut homes.0 (layout_fits false (bytes_of t.buffers span)) asks)
-
-mdns_lacks : (t : TreeShown) (cut : Bool) (span : Span) → AsksNoDatagrams t.wanted → Lacks (payload_over (Some Mdns) t cut span) t
-unfolding payload_over in_datagrams proto_of layout_of rest_of
-mdns_lacks t cut span none =
-    let asks : AsksNoneOf MDNS t.wanted = record { short = none.short; malformed = none.malformed; fields = none.mdns } in
-    if_lacks (span.len == 0) t _ (aside_lacks t MDNS span (mdns_layout (bytes_of t.buffers span)) cut homes.1 (mdns_layout_fits (bytes_of t.buffers span)) asks)
-
-dhcp_lacks : (t : TreeShown) (cut : Bool) (span : Span) → AsksNoDatagrams t.wanted → Lacks (payload_over (Some Dhcp) t cut span) t
-unfolding payload_over in_datagrams proto_of layout_of rest_of
-dhcp_lacks t cut span none =
-    let asks : AsksNoneOf DHCP t.wanted = record { short = none.short; malformed = none.malformed; fields = none.dhcp } in
-    if_lacks (span.len == 0) t _ (aside_lacks t DHCP span (dhcp_layout (bytes_of t.buffers span)) cut homes.2 (dhcp_fits (bytes_of t.buffers span)) asks)
+both_true : (a b : Bool) → (a && b) ≡ true → (a ≡ true) × (b ≡ true)
+both_true true b is = (refl, is)
+both_true false b is = absurd (true≢false (sym is))
 
 shown_lacks : (app : Option App) (passes free : Bool) (t : TreeShown) (cut : Bool) (span : Span) → shown_of app passes ≡ Some free → (passes ≡ true → AsksNoDatagrams t.wanted) → Lacks (payload_over app t cut span) (shown_by free t span)
 shown_lacks None passes free t cut span shown asks = as_data None free t cut span (none_data t cut span) shown
-shown_lacks (Some Http) passes free t cut span shown asks = as_data (Some Http) free t cut span (http_data t cut span) shown
-shown_lacks (Some Plain) passes free t cut span shown asks = as_data (Some Plain) free t cut span (plain_data t cut span) shown
-shown_lacks (Some Dns) passes free t cut span shown asks = passed_over passes free (payload_over (Some Dns) t cut span) t span shown (λ is. dns_lacks t cut span (asks is))
-shown_lacks (Some Mdns) passes free t cut span shown asks = passed_over passes free (payload_over (Some Mdns) t cut span) t span shown (λ is. mdns_lacks t cut span (asks is))
-shown_lacks (Some Dhcp) passes free t cut span shown asks = passed_over passes free (payload_over (Some Dhcp) t cut span) t span shown (λ is. dhcp_lacks t cut span (asks is))
-shown_lacks (Some Ntp) passes free t cut span shown asks = absurd (none-some free shown)
+shown_lacks (Some app) passes free t cut span shown asks = by_kind (in_datagrams app) refl
+  where
+    by_passed : (test : Bool) → (passes && is_passed app) ≡ test → (if test then Some false else None) ≡ Some free → Lacks (payload_over (Some app) t cut span) (shown_by free t span)
+    by_passed true over is =
+        let both = both_true passes (is_passed app) over in
+        subst (λ (f : Bool). Lacks (payload_over (Some app) t cut span) (shown_by f t span)) (is_some free false is) (message_lacks app both.1 t cut span (asks both.0))
+    by_passed false other is = absurd (none-some free is)
+
+    by_kind : (test : Bool) → in_datagrams app ≡ test → Lacks (payload_over (Some app) t cut span) (shown_by free t span)
+    by_kind true read = by_passed (passes && is_passed app) refl (sym (ap (λ (r : Bool). if r then (if passes && is_passed app then Some false else None) else Some true) read) ∙ shown)
+    by_kind false other =
+        as_data (Some app) free t cut span (other_data app other t cut span)
+        (sym (ap (λ (r : Bool). if r then (if passes && is_passed app then Some false else None) else Some true) other) ∙ shown)
 
 -- a tree that lacks only such a message is as far
 lacks_walked : (rules : List PortRule) (w : Walk) (state : State) (whole t : TreeShown) → keeps_all state.keeps ≡ false → Lacks whole t → IsWalked rules w state whole todos.Done → IsWalked rules w state t todos.Done
@@ -210,25 +203,29 @@ datagram-carried rules frame packet head span app passes free stream old new t e
     es stands)
 
 -- the frame that begins with it
-pub datagram-tells : (rules : List PortRule) (frame : Frame) (packet : PacketHead) (head : PortsHead) (span : Span) (app : Option App) (passes free : Bool) (stream : ℕ) (old begun new : State)
-    → app ≡ udp_app rules head.source head.target → shown_of app passes ≡ Some free → keeps_all begun.keeps ≡ false
-    → (begun.keeps.numbers ≡ true → stream ≡ number_in begun.udp (udp_ends packet head)) → (begun.keeps.numbers ≡ true → new.udp ≡ with_ends begun.udp (udp_ends packet head)) → IsSameButNumbers begun new
+pub datagram-tells : (rules : List PortRule) (frame : Frame) (last : Last) (head : PortsHead) (app : Option App) (passes free : Bool) (stream : ℕ) (old begun new : State)
+    → head ≡ udp_ports (own frame last.header) → app ≡ udp_app rules head.source head.target → shown_of app passes ≡ Some free → keeps_all begun.keeps ≡ false
+    → (begun.keeps.numbers ≡ true → stream ≡ number_in begun.udp (udp_ends (packet_at frame last.packet) head)) → (begun.keeps.numbers ≡ true → new.udp ≡ with_ends begun.udp (udp_ends (packet_at frame last.packet) head)) → IsSameButNumbers begun new
     → ((es : List Event) → StandsAt rules es old → StandsAt rules (NewFrame ∷ es) begun)
-    → Tells rules frame passes (carries.Datagram packet head span) old new (record { carrier = carriers.Datagram stream; payload = span; free = free })
-datagram-tells rules frame packet head span app passes free stream old begun new app_is shown some number udp same begins = record {
+    → Tells rules frame passes (carries.Datagram last) old new (record { carrier = carriers.Datagram stream; payload = last.payload; free = free })
+datagram-tells rules frame last head app passes free stream old begun new head_is app_is shown some number udp same begins = record {
   payload = refl;
   carrier = refl;
-  walked = λ t es buffers asks stands. datagram-carried rules frame packet head span app passes free stream begun new t (NewFrame ∷ es) app_is shown some number udp same asks (begins es stands);
+  walked = λ t es buffers asks stands.
+      subst (λ (ports : PortsHead). IsWalked rules (datagram_met rules frame (packet_at frame last.packet) t (NewFrame ∷ es) ports last.payload) new (shown_by free (datagram_told t stream last.payload) last.payload) todos.Done) head_is
+      (datagram-carried rules frame (packet_at frame last.packet) head last.payload app passes free stream begun new t (NewFrame ∷ es) app_is shown some number udp same asks (begins es stands));
 }
 
 -- a segment of a stream that isn't followed
-pub segment-tells : (rules : List PortRule) (frame : Frame) (packet : PacketHead) (head : TcpHead) (span : Span) (app : Option StreamApp) (passes free : Bool) (old begun : State)
-    → app ≡ stream_app rules head.source head.target → is_followed begun.keeps.follows app ≡ false → tells_places begun.keeps.follows ≡ false → free ≡ is_free app
+pub segment-tells : (rules : List PortRule) (frame : Frame) (last : Last) (app : Option StreamApp) (passes free : Bool) (old begun : State)
+    → app ≡ stream_app rules (tcp_head (own frame last.header)).source (tcp_head (own frame last.header)).target → is_followed begun.keeps.follows app ≡ false → tells_places begun.keeps.follows ≡ false → free ≡ is_free app
     → ((es : List Event) → StandsAt rules es old → StandsAt rules (NewFrame ∷ es) begun)
-    → Tells rules frame passes (carries.Segment packet head span) old begun (record { carrier = carriers.Segment None; payload = span; free = free })
-segment-tells rules frame packet head span app passes free old begun app_is passed untold is begins = record {
-  payload = refl;
-  carrier = refl;
-  walked = λ t es buffers asks stands. passed-walked rules frame packet head span app begun t (shown_by free (carried_told t span) span) app_is passed untold
-      (ap (λ (f : Bool). shown_by f (carried_told t span) span) is ∙ shown_free app (is_cut frame) span (carried_told t span)) (NewFrame ∷ es) (begins es stands);
-}
+    → Tells rules frame passes (carries.Segment last) old begun (record { carrier = carriers.Segment None; payload = last.payload; free = free })
+segment-tells rules frame last app passes free old begun app_is passed untold is begins =
+    let span = last.payload in
+    record {
+      payload = refl;
+      carrier = refl;
+      walked = λ t es buffers asks stands. passed-walked rules frame (packet_at frame last.packet) (tcp_head (own frame last.header)) span app begun t (shown_by free (carried_told t span) span) app_is passed untold
+          (ap (λ (f : Bool). shown_by f (carried_told t span) span) is ∙ shown_free app (is_cut frame) span (carried_told t span)) (NewFrame ∷ es) (begins es stands);
+    }

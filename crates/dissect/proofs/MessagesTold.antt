@@ -1,25 +1,27 @@
 -- Each message of a segment stands behind the layer of TCP, with its bytes.
 use Rattle.std.proofs.Common.{◌≡◌, ◌==◌, ℕ, zero, suc, ◌+◌, ◌-◌, ◌<◌, ◌≤◌, Bool, true, false, ◌&&◌, if◌then◌else◌, List, [], ◌∷◌, ◌++◌, length, map, take, drop, Option, Some, None, refl, sym, ap, ◌∙◌, subst, arith, append_assoc, append-nil, length-drop}
-use Rattle.std.specs.Prelude.{nat_lt}
+use Rattle.std.specs.Prelude.{IsSome, nat_lt}
 use Rattle.std.specs.List.{slice_range}
+use Rattle.std.proofs.lemmas.Bool.{cond-true}
 use Rattle.std.proofs.lemmas.List.{get_or_push, length-take}
 use Rattle.pk_base.specs.declared.span.Span.{Span}
 use Rattle.pk_tree.specs.Buffers.{buffer_of, bytes_of}
 use Rattle.pk_tree.proofs.Spans.{bytes_of-part}
-use Rattle.pk_fields.specs.Ids.{DATA, DNS, HTTP, HTTP_FILE_DATA, TCP_ACK, TCP_LEN, TCP_LOST, TCP_PAYLOAD, TCP_SEGMENT, TCP_SEQ, TCP_STREAM}
+use Rattle.pk_fields.specs.Ids.{DATA, HTTP, HTTP_FILE_DATA, TCP_ACK, TCP_LEN, TCP_LOST, TCP_PAYLOAD, TCP_SEGMENT, TCP_SEQ, TCP_STREAM}
 use Rattle.pk_base.specs.declared.heads.Mode.TheVariants.{Plain as PlainMode}
 use Rattle.pk_base.specs.declared.value.Value.TheVariants.{Uint}
 use Rattle.pk_tree.specs.declared.layout.Step.{Step}
 use Rattle.pk_tree.specs.Layouts.{is_all, layer_read, reach, within}
 use Rattle.pk_tree.specs.Trees.{TreeShown, made_of, read_of, with_buffer}
-use Rattle.dis_dns.specs.Dns.{dns_layout}
 use Rattle.dis_http.specs.Http.{body_read, chunked_read, http_layout, http_read, joined, plain_read, with_content}
 use Rattle.tcp_streams.specs.declared.segment.Taken.{Taken}
 use Rattle.tcp_streams.specs.Gaps.{lost_bytes}
 use Rattle.stream_messages.specs.declared.shape.Body.{Body}
+use Rattle.stream_messages.specs.declared.shape.Shape.{Shape}
 use Rattle.stream_messages.specs.declared.shape.Body.TheVariants.{None as Bodiless, Plain, Chunked, NotShown}
-use Rattle.stream_messages.specs.declared.told.App.{App as StreamApp}
-use Rattle.stream_messages.specs.declared.told.App.TheVariants as apps
+use Rattle.app_layers.specs.declared.streamed.StreamApp.{StreamApp}
+use Rattle.pk_fields.specs.declared.apps.App.{App}
+use Rattle.pk_fields.specs.declared.apps.App.TheVariants as apps
 use Rattle.stream_messages.specs.declared.told.Told.{Told}
 use Rattle.stream_messages.specs.declared.told.Told.TheVariants as tellings
 use Rattle.stream_messages.specs.Tellings.{end_of}
@@ -28,10 +30,14 @@ use Rattle.tcp_messages.specs.declared.met.Source.{Source}
 use Rattle.tcp_messages.specs.declared.met.Source.TheVariants as sources
 use Rattle.tcp_messages.specs.Shown.{bytes_from, frames_told as gathered_from}
 use Rattle.app_layers.specs.DataLayer.{data_layout, data_over}
-use Rattle.app_layers.specs.MessageLayers.{added_span, carried_over, message_over, messages_over, sourced_over, told_over, with_segments}
+use Rattle.app_layers.specs.MessageLayers.{added_span, carried_over, message_over, messages_over, sized_over, sourced_over, tells_length, told_over, with_segments}
+use Rattle.app_layers.specs.Rows.{framer_of, layout_of, proto_of}
+use Rattle.app_layers.proofs.RowLemmas.{framed_found, http_row, not_tcp}
 use Rattle.app_layers.specs.Payloads.{carried_told, place_told, segment_told, with_ack, with_lost, with_number, with_payload}
-use Rattle.app_layers.proofs.MessageBuffers.{GrowsBy, grows_none, grows_on, grows_one, http_grows, layer_same}
-use Rattle.dissect.specs.MessageLaws.{MessageShown, app_told, message_shown}
+use Rattle.app_layers.proofs.MessagesAside.{sized_some}
+use Rattle.app_layers.proofs.MessageBuffers.{GrowsBy, grows_none, grows_on, grows_one, http_grows, if_same, layer_same}
+use Rattle.dissect.specs.MessageLaws.{MessageShown, message_of, message_shown}
+use Rattle.dissect.proofs.Tellings.{AreShownOf, IsOf}
 use Rattle.dissect.proofs.TreeMessages.{AreSome, IsSameBare, Shows, bytes_stay, item_bare, same_if, same_on, same_self, shows_as, shows_buffer, shows_read, shows_same, some_append}
 
 -- ---- what is told in the header's layer changes items alone
@@ -76,20 +82,24 @@ segments_bare t (frame ∷ frames) =
 
 -- ---- buffers
 
-told_grows : (cut : Bool) (t : TreeShown) (span : Span) (told : Told) → GrowsBy 1 t.buffers (told_over cut t span told).buffers
-told_grows cut t span (tellings.Dns end) = grows_none 1 _ _ (layer_same t DNS span (dns_layout true (bytes_of t.buffers span)) PlainMode cut)
-told_grows cut t span (tellings.Http shape) = http_grows t span shape
+sized_grows : (app : App) (cut : Bool) (t : TreeShown) (span : Span) → GrowsBy 1 t.buffers (sized_over app cut t span).buffers
+sized_grows app cut t span =
+    grows_none 1 _ _ (if_same (tells_length (framer_of app)) t _ (layer_same t (proto_of app) span (layout_of app true (bytes_of t.buffers span)) PlainMode cut))
+
+told_grows : (app : App) (cut : Bool) (t : TreeShown) (span : Span) (told : Told) → GrowsBy 1 t.buffers (told_over app cut t span told).buffers
+told_grows app cut t span (tellings.Sized end) = sized_grows app cut t span
+told_grows app cut t span (tellings.Http shape) = http_grows t span shape
 
 added_one : (t : TreeShown) (bytes : List ℕ) → GrowsBy 1 t.buffers (with_buffer t bytes).buffers
 unfolding with_buffer
 added_one t bytes = grows_one _ _ bytes refl
 
-sourced_grows : (cut : Bool) (span : Span) (t : TreeShown) (told : Told) (source : Source) → GrowsBy 2 t.buffers (sourced_over cut span t told source).buffers
-sourced_grows cut span t told (sources.Segment place) =
-    let one = told_grows cut t (within span place (end_of told)) told in
+sourced_grows : (app : App) (cut : Bool) (span : Span) (t : TreeShown) (told : Told) (source : Source) → GrowsBy 2 t.buffers (sourced_over app cut span t told source).buffers
+sourced_grows app cut span t told (sources.Segment place) =
+    let one = told_grows app cut t (within span place (end_of told)) told in
     record { more = one.more; all = one.all; few = omega (arith, one.few) }
-sourced_grows cut span t told (sources.Gathered g) =
-    grows_on 1 1 t.buffers (with_buffer t g.bytes).buffers _ (added_one t g.bytes) (told_grows cut (with_buffer t g.bytes) (added_span t g.bytes) told)
+sourced_grows app cut span t told (sources.Gathered g) =
+    grows_on 1 1 t.buffers (with_buffer t g.bytes).buffers _ (added_one t g.bytes) (told_grows app cut (with_buffer t g.bytes) (added_span t g.bytes) told)
 
 take_all : (xs : List ℕ) → take (length xs) xs ≡ xs
 take_all [] = refl
@@ -113,11 +123,12 @@ unfolding data_over
 data_shows t ms span shows =
     shows_if (span.len == 0) t _ ms shows (shows_as _ _ _ (append-nil ms) (shows_read t ms [] DATA span (data_layout span.len) PlainMode false refl (λ nth. refl) shows))
 
-pub dns_shows : (t : TreeShown) (ms : List MessageShown) (span : Span) (bytes : List ℕ) (cut : Bool) → bytes_of t.buffers span ≡ bytes → Shows t ms
-    → Shows (layer_read t DNS span (dns_layout true (bytes_of t.buffers span)) PlainMode cut) (ms ++ record { app = apps.Dns; bytes = bytes } ∷ [])
-dns_shows t ms span bytes cut is shows =
-    shows_read t ms (record { app = apps.Dns; bytes = bytes } ∷ []) DNS span _ PlainMode cut refl
-    (λ nth. ap (λ (xs : List ℕ). record { app = apps.Dns; bytes = xs } ∷ []) is) shows
+-- a layer of an application's messages is one
+read_shows : (app : App) (t : TreeShown) (ms : List MessageShown) (span : Span) (bytes : List ℕ) (steps : List Step) (cut : Bool) → IsSome (framer_of app) → bytes_of t.buffers span ≡ bytes → Shows t ms
+    → Shows (layer_read t (proto_of app) span steps PlainMode cut) (ms ++ record { app = app; bytes = bytes } ∷ [])
+read_shows app t ms span bytes steps cut framed is shows =
+    shows_read t ms (record { app = app; bytes = bytes } ∷ []) (proto_of app) span steps PlainMode cut (not_tcp app)
+    (λ nth. ap (λ (one : Option App). message_of one (bytes_of t.buffers span)) (framed_found app framed) ∙ ap (message_of (Some app)) is) shows
 
 plain_shows : (t : TreeShown) (ms : List MessageShown) (span : Span) (bytes : List ℕ) (steps : List Step) → bytes_of t.buffers span ≡ bytes → Shows t ms
     → Shows (plain_read t span steps) (ms ++ record { app = apps.Http; bytes = bytes } ∷ [])
@@ -146,12 +157,25 @@ body_shows t ms span bytes steps given (Plain len) is some all shows = plain_sho
 body_shows t ms span bytes steps given (Chunked pieces) is some all shows = chunked_shows t ms span bytes steps (joined given pieces) is some all shows
 body_shows t ms span bytes steps given NotShown is some all shows = plain_shows t ms span bytes steps is shows
 
-told_shows : (cut : Bool) (t : TreeShown) (ms : List MessageShown) (span : Span) (bytes : List ℕ) (told : Told) → bytes_of t.buffers span ≡ bytes → 0 < length bytes → AreSome ms → Shows t ms
-    → Shows (told_over cut t span told) (ms ++ record { app = app_told told; bytes = bytes } ∷ [])
+sized_shows : (app : App) (cut : Bool) (t : TreeShown) (ms : List MessageShown) (span : Span) (bytes : List ℕ) (end : ℕ) → IsOf app (tellings.Sized end) → bytes_of t.buffers span ≡ bytes → Shows t ms
+    → Shows (sized_over app cut t span) (ms ++ record { app = app; bytes = bytes } ∷ [])
+sized_shows app cut t ms span bytes end of is shows =
+    let here : layer_read t (proto_of app) span (layout_of app true (bytes_of t.buffers span)) PlainMode cut ≡ sized_over app cut t span =
+    sym (cond-true (tells_length (framer_of app)) (layer_read t (proto_of app) span (layout_of app true (bytes_of t.buffers span)) PlainMode cut) t of) in
+    subst (λ (u : TreeShown). Shows u (ms ++ record { app = app; bytes = bytes } ∷ [])) here
+    (read_shows app t ms span bytes (layout_of app true (bytes_of t.buffers span)) cut (sized_some (framer_of app) of) is shows)
+
+http_shows : (app : App) (t : TreeShown) (ms : List MessageShown) (span : Span) (bytes : List ℕ) (shape : Shape) → IsOf app (tellings.Http shape) → bytes_of t.buffers span ≡ bytes → 0 < length bytes → AreSome ms → Shows t ms
+    → Shows (http_read t span shape) (ms ++ record { app = app; bytes = bytes } ∷ [])
 unfolding http_read
-told_shows cut t ms span bytes (tellings.Dns end) is some all shows = dns_shows t ms span bytes cut is shows
-told_shows cut t ms span bytes (tellings.Http shape) is some all shows =
-    body_shows t ms span bytes (http_layout shape (bytes_of t.buffers span)) (bytes_of t.buffers span) shape.body is some all shows
+http_shows app t ms span bytes shape of is some all shows =
+    http_row (λ (one : App). Shows (http_read t span shape) (ms ++ record { app = one; bytes = bytes } ∷ []))
+    (body_shows t ms span bytes (http_layout shape (bytes_of t.buffers span)) (bytes_of t.buffers span) shape.body is some all shows) app of
+
+told_shows : (app : App) (cut : Bool) (t : TreeShown) (ms : List MessageShown) (span : Span) (bytes : List ℕ) (told : Told) → IsOf app told → bytes_of t.buffers span ≡ bytes → 0 < length bytes → AreSome ms → Shows t ms
+    → Shows (told_over app cut t span told) (ms ++ record { app = app; bytes = bytes } ∷ [])
+told_shows app cut t ms span bytes (tellings.Sized end) of is some all shows = sized_shows app cut t ms span bytes end of is shows
+told_shows app cut t ms span bytes (tellings.Http shape) of is some all shows = http_shows app t ms span bytes shape of is some all shows
 
 -- ---- where its bytes are
 
@@ -190,44 +214,44 @@ part_bytes base more span payload place len is size some =
     ∙ ap (λ (xs : List ℕ). take len (drop place xs)) (bytes_stay base more span there ∙ is)
     ∙ ap (λ (n : ℕ). take n (drop place payload)) same
 
-sourced_shows : (cut : Bool) (span : Span) (t : TreeShown) (ms : List MessageShown) (base more : List (List ℕ)) (payload : List ℕ) (told : Told) (source : Source)
-    → t.buffers ≡ base ++ more → bytes_of base span ≡ payload → length (bytes_from payload (end_of told) source) ≡ end_of told → 0 < end_of told → AreSome ms → Shows t ms
-    → Shows (sourced_over cut span t told source) (ms ++ record { app = app_told told; bytes = bytes_from payload (end_of told) source } ∷ [])
-sourced_shows cut span t ms base more payload told (sources.Segment place) grown is size some all shows =
+sourced_shows : (app : App) (cut : Bool) (span : Span) (t : TreeShown) (ms : List MessageShown) (base more : List (List ℕ)) (payload : List ℕ) (told : Told) (source : Source)
+    → IsOf app told → t.buffers ≡ base ++ more → bytes_of base span ≡ payload → length (bytes_from payload (end_of told) source) ≡ end_of told → 0 < end_of told → AreSome ms → Shows t ms
+    → Shows (sourced_over app cut span t told source) (ms ++ record { app = app; bytes = bytes_from payload (end_of told) source } ∷ [])
+sourced_shows app cut span t ms base more payload told (sources.Segment place) of grown is size some all shows =
     let len : ℕ = end_of told in
-    told_shows cut t ms (within span place len) (slice_range payload place (place + len)) told
+    told_shows app cut t ms (within span place len) (slice_range payload place (place + len)) told of
     (ap (λ (buffers : List (List ℕ)). bytes_of buffers (within span place len)) grown ∙ part_bytes base more span payload place len is size some)
     (omega (arith, size, some)) all shows
-sourced_shows cut span t ms base more payload told (sources.Gathered g) grown is size some all shows =
-    told_shows cut (with_buffer t g.bytes) ms (added_span t g.bytes) g.bytes told (added_bytes t g.bytes) (omega (arith, size, some)) all (shows_buffer t ms g.bytes all shows)
+sourced_shows app cut span t ms base more payload told (sources.Gathered g) of grown is size some all shows =
+    told_shows app cut (with_buffer t g.bytes) ms (added_span t g.bytes) g.bytes told of (added_bytes t g.bytes) (omega (arith, size, some)) all (shows_buffer t ms g.bytes all shows)
 
 -- one message behind the other
-abbrev pub shown_with : List ℕ → List ShownMessage → List MessageShown
-shown_with payload ms = map (message_shown payload) ms
+abbrev pub shown_with : App → List ℕ → List ShownMessage → List MessageShown
+shown_with app payload ms = map (message_shown app payload) ms
 
-messages_show : (cut : Bool) (span : Span) (t : TreeShown) (before : List MessageShown) (base more : List (List ℕ)) (payload : List ℕ) (ms : List ShownMessage)
-    → t.buffers ≡ base ++ more → bytes_of base span ≡ payload → AreFit payload ms → AreSome before → Shows t before → Shows (messages_over cut span t ms) (before ++ shown_with payload ms)
+messages_show : (app : App) (cut : Bool) (span : Span) (t : TreeShown) (before : List MessageShown) (base more : List (List ℕ)) (payload : List ℕ) (ms : List ShownMessage)
+    → AreShownOf app ms → t.buffers ≡ base ++ more → bytes_of base span ≡ payload → AreFit payload ms → AreSome before → Shows t before → Shows (messages_over app cut span t ms) (before ++ shown_with app payload ms)
 unfolding message_over
-messages_show cut span t before base more payload [] grown is fit all shows = shows_as _ _ _ (sym (append-nil before)) shows
-messages_show cut span t before base more payload (m ∷ ms) grown is fit all shows =
-    let one : MessageShown = message_shown payload m in
-    let u : TreeShown = message_over cut span t m in
-    let next : Shows u (before ++ one ∷ []) = sourced_shows cut span t before base more payload m.message.told m.source grown is fit.0.size fit.0.some all shows in
-    let grows : GrowsBy 2 t.buffers u.buffers = sourced_grows cut span t m.message.told m.source in
+messages_show app cut span t before base more payload [] are grown is fit all shows = shows_as _ _ _ (sym (append-nil before)) shows
+messages_show app cut span t before base more payload (m ∷ ms) are grown is fit all shows =
+    let one : MessageShown = message_shown app payload m in
+    let u : TreeShown = message_over app cut span t m in
+    let next : Shows u (before ++ one ∷ []) = sourced_shows app cut span t before base more payload m.message.told m.source are.0 grown is fit.0.size fit.0.some all shows in
+    let grows : GrowsBy 2 t.buffers u.buffers = sourced_grows app cut span t m.message.told m.source in
     let buffers : u.buffers ≡ base ++ (more ++ grows.more) = grows.all ∙ ap (λ (bs : List (List ℕ)). bs ++ grows.more) grown ∙ append_assoc base more grows.more in
     let some : AreSome (before ++ one ∷ []) = some_append before (one ∷ []) all (omega (arith, fit.0.size, fit.0.some), tt) in
-    shows_as _ _ _ (append_assoc before (one ∷ []) (shown_with payload ms))
-    (messages_show cut span u (before ++ one ∷ []) base (more ++ grows.more) payload ms buffers is fit.1 some next)
+    shows_as _ _ _ (append_assoc before (one ∷ []) (shown_with app payload ms))
+    (messages_show app cut span u (before ++ one ∷ []) base (more ++ grows.more) payload ms are.1 buffers is fit.1 some next)
 
 -- all that a segment carries, behind the layer of its header
-pub carried_shows : (app : StreamApp) (cut : Bool) (span : Span) (t : TreeShown) (payload : List ℕ) (taken : Taken) (ms : List ShownMessage) → bytes_of t.buffers span ≡ payload → AreFit payload ms → Shows t []
-    → Shows (carried_over (Some app) cut span (segment_told t taken span) ms) (shown_with payload ms)
+pub carried_shows : (app : StreamApp) (cut : Bool) (span : Span) (t : TreeShown) (payload : List ℕ) (taken : Taken) (ms : List ShownMessage) → AreShownOf app.app ms → bytes_of t.buffers span ≡ payload → AreFit payload ms → Shows t []
+    → Shows (carried_over (Some app) cut span (segment_told t taken span) ms) (shown_with app.app payload ms)
 unfolding carried_over
-carried_shows app cut span t payload taken ms is fit shows =
+carried_shows app cut span t payload taken ms are is fit shows =
     let u : TreeShown = segment_told t taken span in
     let v : TreeShown = with_segments u (gathered_from ms) in
     let same : IsSameBare t v = same_on t u v (segment_bare t taken span) (segments_bare u (gathered_from ms)) in
-    messages_show cut span v [] t.buffers [] payload ms (same.buffers ∙ sym (append-nil t.buffers)) is fit tt (shows_same t v [] same shows)
+    messages_show app.app cut span v [] t.buffers [] payload ms are (same.buffers ∙ sym (append-nil t.buffers)) is fit tt (shows_same t v [] same shows)
 
 pub data_carried : (cut : Bool) (span : Span) (t : TreeShown) (taken : Taken) (ms : List ShownMessage) → Shows t [] → Shows (carried_over None cut span (segment_told t taken span) ms) []
 unfolding carried_over

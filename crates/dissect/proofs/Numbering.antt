@@ -8,7 +8,7 @@ use Rattle.pk_base.specs.declared.heads.Mode.TheVariants.{Plain as PlainMode}
 use Rattle.pk_base.specs.declared.value.Value.TheVariants.{Uint}
 use Rattle.pk_fields.specs.FieldSets.{is_in}
 use Rattle.pk_fields.specs.Ids.{DATA, UDP_PAYLOAD, UDP_STREAM}
-use Rattle.pk_fields.specs.declared.rules.App.{App}
+use Rattle.pk_fields.specs.declared.apps.App.{App}
 use Rattle.pk_tree.specs.Buffers.{bytes_of}
 use Rattle.pk_tree.specs.declared.layout.Step.{Step}
 use Rattle.pk_tree.specs.Layouts.{layer_read, with_fault}

@@ -27,14 +27,14 @@ use Rattle.tcp_streams.specs.declared.segment.Segment.{Segment}
 use Rattle.tcp_streams.specs.Isolation.{AreSameSegments, IsSameButFrame, IsSameTaken, between}
 use Rattle.tcp_streams.specs.Labels.{taken_after}
 use Rattle.tcp_streams.proofs.Isolating.{is_isolated}
-use Rattle.stream_messages.specs.declared.told.App.{App as StreamApp}
+use Rattle.stream_messages.specs.declared.framer.Framer.{Framer}
 use Rattle.tcp_messages.specs.Renumbered.{renumbered, shown_renumbered}
 use Rattle.tcp_messages.specs.Shown.{shown_after}
 use Rattle.tcp_messages.proofs.Alone.{stands_alone}
 use Rattle.app_layers.specs.declared.times.Times.{Times}
 use Rattle.app_layers.specs.Applications.{payload_over}
 use Rattle.app_layers.specs.FrameLayer.{frame_span, frame_tree, is_cut, kept_frame}
-use Rattle.app_layers.specs.MessageLayers.{app_of_segment, carried_over}
+use Rattle.app_layers.specs.MessageLayers.{app_of_segment, carried_over, framer_of_segment}
 use Rattle.app_layers.specs.Payloads.{segment_told}
 use Rattle.app_layers.proofs.KeptHeads.{frame_kept}
 use Rattle.dissect.specs.declared.todo.Head.{Head}
@@ -241,17 +241,17 @@ taken_same : (r : ℕ → ℕ) (past others : List Segment) (s : Segment) → Ha
 taken_same r past others s same =
     (is_isolated s past others (subst (AreSameSegments (between s past)) (sym same.segments) (all_same_but r (between s past)))).told (renumbered r s) (one_same r s)
 
-shown_same : (r : ℕ → ℕ) (app : Option StreamApp) (past others : List Segment) (s : Segment) → HaveSameConversation r s past others
-    → shown_after app others (renumbered r s) ≡ map (shown_renumbered r) (shown_after app past s)
-shown_same r app past others s same = (stands_alone r app past others s same.order same.segments).messages
+shown_same : (r : ℕ → ℕ) (framer : Option Framer) (past others : List Segment) (s : Segment) → HaveSameConversation r s past others
+    → shown_after framer others (renumbered r s) ≡ map (shown_renumbered r) (shown_after framer past s)
+shown_same r framer past others s same = (stands_alone r framer past others s same.order same.segments).messages
 
 segment_tree : (r : ℕ → ℕ) (wanted : List ℕ) (rules : List PortRule) (cut : Bool) (t : TreeShown) (past others : List Segment) (s : Segment) (span : Span) → HasNoNumbering wanted → t.wanted ≡ wanted
     → HaveSameConversation r s past others
-    → carried_over (app_of_segment rules s) cut span (segment_told t (taken_after past s) span) (shown_after (app_of_segment rules s) past s)
-    ≡ carried_over (app_of_segment rules s) cut span (segment_told t (taken_after others (renumbered r s)) span) (shown_after (app_of_segment rules s) others (renumbered r s))
+    → carried_over (app_of_segment rules s) cut span (segment_told t (taken_after past s) span) (shown_after (framer_of_segment rules s) past s)
+    ≡ carried_over (app_of_segment rules s) cut span (segment_told t (taken_after others (renumbered r s)) span) (shown_after (framer_of_segment rules s) others (renumbered r s))
 segment_tree r wanted rules cut t past others s span none is same =
-    segment_told_same wanted r (app_of_segment rules s) cut span t (taken_after past s) (taken_after others (renumbered r s)) (shown_after (app_of_segment rules s) past s) none is (taken_same r past others s same)
-    ∙ ap (carried_over (app_of_segment rules s) cut span (segment_told t (taken_after others (renumbered r s)) span)) (sym (shown_same r (app_of_segment rules s) past others s same))
+    segment_told_same wanted r (app_of_segment rules s) cut span t (taken_after past s) (taken_after others (renumbered r s)) (shown_after (framer_of_segment rules s) past s) none is (taken_same r past others s same)
+    ∙ ap (carried_over (app_of_segment rules s) cut span (segment_told t (taken_after others (renumbered r s)) span)) (sym (shown_same r (framer_of_segment rules s) past others s same))
 
 segment_same : (r : ℕ → ℕ) (wanted : List ℕ) (rules : List PortRule) (before aside : List Event) (frame : Frame) (packet : PacketHead) (t : TreeShown) (es others : List Event) (head : TcpHead) (span : Span) → HasNoNumbering wanted → t.wanted ≡ wanted
     → AreOn r before aside es others

@@ -14,8 +14,6 @@ use Rattle.pk_base.specs.declared.heads.Mode.TheVariants.{Plain}
 use Rattle.pk_base.specs.declared.heads.Next.{Next}
 use Rattle.pk_base.specs.declared.heads.Next.TheVariants as nexts
 use Rattle.pk_base.specs.declared.heads.PacketHead.{PacketHead}
-use Rattle.pk_base.specs.declared.heads.PortsHead.{PortsHead}
-use Rattle.pk_base.specs.declared.heads.TcpHead.{TcpHead}
 use Rattle.pk_fields.specs.Fields.{row_of}
 use Rattle.pk_fields.specs.Ids.{ETH, VLAN, IP, IPV6, TCP, UDP}
 use Rattle.pk_fields.specs.declared.rules.PortRule.{PortRule}
@@ -44,13 +42,15 @@ use Rattle.app_layers.specs.FrameLayer.{frame_span, is_cut}
 use Rattle.app_layers.specs.Heads.{head_after, head_read, is_rest}
 use Rattle.dissect.specs.declared.todo.Head.{Head}
 use Rattle.dissect.specs.declared.ways.Carried.TheVariants as carries
+use Rattle.dissect.specs.declared.ways.Last.{Last}
+use Rattle.dissect.specs.declared.ways.Spot.{Spot}
 use Rattle.dissect.specs.Events.{Event}
 use Rattle.dissect.specs.Heads.{HeadsShown}
 use Rattle.dissect.specs.Plain.{own}
-use Rattle.dissect.specs.Walks.{Walk, all_met, chain, datagram_met, followed, go_on, link_met, mode_after, no_packet}
+use Rattle.dissect.specs.Walks.{Walk, all_met, chain, datagram_met, followed, go_on, link_met, mode_after, no_packet, segment_met}
 use Rattle.dissect.specs.Tables.{IsTabled}
 use Rattle.dissect.specs.declared.tables.Tables.{Tables}
-use Rattle.dissect.specs.Ways.{AreOfFrame, AreRead, AsksNoOptions, IsAt, IsBegun, IsCarried, IsHeaderOf, IsLast, LeadsTo, Reaches, headers_of, shown}
+use Rattle.dissect.specs.Ways.{AreOfFrame, AreRead, AsksNoOptions, IsAt, IsBegun, IsCarried, IsHeaderOf, IsLast, LeadsTo, Reaches, head_of, headers_of, packet_at, shown}
 use Rattle.dissect.proofs.Chains.{chain-stop}
 use Rattle.dissect.proofs.PlainWay.{ethernet_after, ethernet_read, first_met, next_met, segment_last}
 
@@ -203,8 +203,8 @@ module _ (frame : Frame) (most count : ℕ) (heads : HeadsShown) (head : Head) (
         (go_on (shown frame wanted (more_heads heads h)) es (record { which = which; span = span; packet = packet; mode = mode })))) at.plain (way_read (afters.Packet which span packet) reads);
   }
 
-  last : (proto : ℕ) → most < proto → h.proto ≡ proto → IsLast proto (heads.headers ++ h ∷ [])
-  last proto higher own = record {
+  only : (proto : ℕ) → most < proto → h.proto ≡ proto → IsLast proto (heads.headers ++ h ∷ [])
+  only proto higher own = record {
     front = heads.headers;
     last = h;
     parts = refl;
@@ -215,31 +215,33 @@ module _ (frame : Frame) (most count : ℕ) (heads : HeadsShown) (head : Head) (
   all_read : h.proto ≤ TCP → AreRead frame TCP (heads.headers ++ h ∷ [])
   all_read below = record { whole = read.whole; numbered = read.numbered; lower = lower_more h.proto TCP (heads.headers ++ h ∷ []) below read.lower }
 
-  pub carries_segment : (tcp : TcpHead) (span : Span) → Reads frame head h (afters.Segment tcp span) → count ≤ 5 → most < TCP → h.proto ≡ TCP → IsInside (frame.bytes ∷ []) span
-      → IsCarried frame (more_heads heads h) (carries.Segment head.packet tcp span)
+  pub carries_segment : (last : Last) → Reads frame head h (afters.Segment (tcp_head (own frame last.header)) last.payload) → head.packet ≡ packet_at frame last.packet → count ≤ 5 → most < TCP → h.proto ≡ TCP → IsInside (frame.bytes ∷ []) last.payload
+      → IsCarried frame (more_heads heads h) (carries.Segment last)
   unfolding followed
-  carries_segment tcp span reads few higher own inside = record {
-    read = all_read (omega (arith, own));
+  carries_segment last reads packet few higher own_proto inside = record {
+    read = all_read (omega (arith, own_proto));
     told = at.told;
     few = omega (arith, length_push heads.headers h, at.few, few);
-    last = last TCP higher own;
+    last = only TCP higher own_proto;
     inside = inside;
     way = λ wanted none rules es.
-        way_read (afters.Segment tcp span) reads wanted none rules es
-        ∙ segment_last rules (32 - length (heads.headers ++ h ∷ [])) frame head.packet (shown frame wanted (more_heads heads h)) es tcp span;
+        way_read (afters.Segment (tcp_head (own frame last.header)) last.payload) reads wanted none rules es
+        ∙ segment_last rules (32 - length (heads.headers ++ h ∷ [])) frame head.packet (shown frame wanted (more_heads heads h)) es (tcp_head (own frame last.header)) last.payload
+        ∙ ap (λ (p : PacketHead). segment_met rules frame p (shown frame wanted (more_heads heads h)) es (tcp_head (own frame last.header)) last.payload) packet;
   }
 
-  pub carries_datagram : (ports : PortsHead) (span : Span) → Reads frame head h (afters.Datagram ports span) → count ≤ 5 → most < UDP → h.proto ≡ UDP → IsInside (frame.bytes ∷ []) span
-      → IsCarried frame (more_heads heads h) (carries.Datagram head.packet ports span)
+  pub carries_datagram : (last : Last) → Reads frame head h (afters.Datagram (udp_ports (own frame last.header)) last.payload) → head.packet ≡ packet_at frame last.packet → count ≤ 5 → most < UDP → h.proto ≡ UDP → IsInside (frame.bytes ∷ []) last.payload
+      → IsCarried frame (more_heads heads h) (carries.Datagram last)
   unfolding followed datagram_met
-  carries_datagram ports span reads few higher own inside = record {
-    read = all_read (omega (arith, own));
+  carries_datagram last reads packet few higher own_proto inside = record {
+    read = all_read (omega (arith, own_proto));
     told = at.told;
     few = omega (arith, length_push heads.headers h, at.few, few);
-    last = last UDP higher own;
+    last = only UDP higher own_proto;
     inside = inside;
     way = λ wanted none rules es.
-        way_read (afters.Datagram ports span) reads wanted none rules es ∙ chain-stop rules (32 - length (heads.headers ++ h ∷ [])) frame _ _;
+        way_read (afters.Datagram (udp_ports (own frame last.header)) last.payload) reads wanted none rules es ∙ chain-stop rules (32 - length (heads.headers ++ h ∷ [])) frame _ _
+        ∙ ap (λ (p : PacketHead). datagram_met rules frame p (shown frame wanted (more_heads heads h)) es (udp_ports (own frame last.header)) last.payload) packet;
   }
 
 -- a header whose bytes its protocol's words read
@@ -371,8 +373,8 @@ ethernet_at frame heads h which span begun told link some nth reads is typed aft
 pub no_notes : AreOfFrame []
 no_notes proto up = All-from_recursion (λ (note : Note). ((row_of note.field).proto == proto) ≡ false) [] tt
 
-pub reached_inside : (frame : Frame) (most count : ℕ) (headers : List Header) (head : Head) → Reaches frame most count headers head → IsInside (frame.bytes ∷ []) head.span
-reached_inside frame most count headers head at = (at [] no_notes).inside
+pub reached_inside : (frame : Frame) (most count : ℕ) (headers : List Header) (spot : Spot) → Reaches frame most count headers spot → IsInside (frame.bytes ∷ []) spot.span
+reached_inside frame most count headers spot reaches = (reaches.at [] no_notes).inside
 
 pub ends_inside : (frame : Frame) (span : Span) → IsInside (frame.bytes ∷ []) span → length frame.bytes < 2 ^ 32 → span.start + span.len < 2 ^ 32
 ends_inside frame span inside short =
@@ -380,16 +382,19 @@ ends_inside frame span inside short =
     let fits : span.start + span.len ≤ length frame.bytes = subst (λ (n : ℕ). span.start + span.len ≤ length (buffer_of (frame.bytes ∷ []) n)) first inside.1 in
     omega (arith, fits, short)
 
-pub first_kept : (frame : Frame) (most count : ℕ) (headers new : List Header) (head : Head) (h : Header) → Reaches frame most count headers head → new ≡ headers ++ h ∷ [] → take 1 new ≡ take 1 headers
-first_kept frame most count headers new head h at is = ap (λ (hs : List Header). take 1 hs) is ∙ take_first headers h (at [] no_notes).some
+pub first_kept : (frame : Frame) (most count : ℕ) (headers new : List Header) (spot : Spot) (h : Header) → Reaches frame most count headers spot → new ≡ headers ++ h ∷ [] → take 1 new ≡ take 1 headers
+first_kept frame most count headers new spot h reaches is = ap (λ (hs : List Header). take 1 hs) is ∙ take_first headers h (reaches.at [] no_notes).some
 
 pub untagged : (headers new : List Header) (h : Header) → Each (λ (x : Header). x.proto ≤ 0) headers → h.proto ≡ ETH → new ≡ headers ++ h ∷ [] → headers_of VLAN new ≡ 0
 untagged headers new h each own is =
     ap (headers_of VLAN) is
     ∙ none_higher ETH VLAN (headers ++ h ∷ []) (omega arith) (each_push (λ (x : Header). x.proto ≤ ETH) headers h (lower_more 0 ETH headers (omega arith) each) (omega (arith, own)))
 
-pub reaches_more : (frame : Frame) (most more count counted : ℕ) (headers : List Header) (head : Head) → most ≤ more → count ≤ counted → Reaches frame most count headers head → Reaches frame more counted headers head
-reaches_more frame most more count counted headers head up counts at = λ notes told. at_more frame most more count counted (record { headers = headers; notes = notes }) head up counts (at notes told)
+pub reaches_more : (frame : Frame) (most more count counted : ℕ) (headers : List Header) (spot : Spot) → most ≤ more → count ≤ counted → Reaches frame most count headers spot → Reaches frame more counted headers spot
+reaches_more frame most more count counted headers spot up counts reaches = record {
+  at = λ notes told. at_more frame most more count counted (record { headers = headers; notes = notes }) (head_of frame spot) up counts (reaches.at notes told);
+  packet = reaches.packet;
+}
 
 -- ---- the headers as they are pushed, by the bytes that were looked at
 
@@ -460,33 +465,35 @@ ip6_pushed frame heads new head bytes h which layer inner packet at is bytes_is 
     subst (λ (hs : HeadsShown). IsAt frame IPV6 5 hs (head_at which packet inner)) (is_more heads new h headers notes)
     (at_more frame h.proto IPV6 5 5 (more_heads heads h) (head_at which packet inner) (omega (arith, of.own)) (omega arith) next)
 
-pub tcp_pushed : (frame : Frame) (heads new : HeadsShown) (head : Head) (bytes : List ℕ) (h : Header) (tcp : TcpHead) (span : Span) → IsAt frame IPV6 5 heads head → head.which ≡ nexts.Tcp → bytes ≡ own frame head.span
-    → h.nth ≡ 1 → IsReadWhole (frame.bytes ∷ []) h → IsHeaderOf TCP head.span (true ∷ []) (tcp_rows bytes) h
-    → tcp_after Plain head.span bytes ≡ afters.Segment (tcp_head bytes) span → tcp ≡ tcp_head bytes → IsInside (frame.bytes ∷ []) span
-    → new.headers ≡ heads.headers ++ h ∷ [] → new.notes ≡ heads.notes → IsCarried frame new (carries.Segment head.packet tcp span)
-tcp_pushed frame heads new head bytes h tcp span at is bytes_is nth whole of after tcp_is inside headers notes =
-    let all : List ℕ = own frame head.span in
+pub tcp_pushed : (frame : Frame) (heads new : HeadsShown) (spot : Spot) (bytes : List ℕ) (h : Header) (span : Span) → IsAt frame IPV6 5 heads (head_of frame spot) → spot.which ≡ nexts.Tcp → bytes ≡ own frame spot.span
+    → h.nth ≡ 1 → IsReadWhole (frame.bytes ∷ []) h → IsHeaderOf TCP spot.span (true ∷ []) (tcp_rows bytes) h
+    → tcp_after Plain spot.span bytes ≡ afters.Segment (tcp_head bytes) span → IsInside (frame.bytes ∷ []) span
+    → new.headers ≡ heads.headers ++ h ∷ [] → new.notes ≡ heads.notes → IsCarried frame new (carries.Segment (record { packet = spot.packet; header = spot.span; payload = span }))
+tcp_pushed frame heads new spot bytes h span at is bytes_is nth whole of after inside headers notes =
+    let head : Head = head_of frame spot in
+    let last : Last = record { packet = spot.packet; header = spot.span; payload = span } in
+    let all : List ℕ = own frame spot.span in
     let read : Reads frame (head_at nexts.Tcp head.packet head.span) h (afters.Segment (tcp_head all) span) =
     tcp_reads frame head.packet head.span h span at.inside (subst (λ (b : List ℕ). IsHeaderOf TCP head.span (true ∷ []) (tcp_rows b) h) bytes_is of)
     (subst (λ (b : List ℕ). tcp_after Plain head.span b ≡ afters.Segment (tcp_head b) span) bytes_is after) in
-    let own_head : tcp_head all ≡ tcp = ap (λ (b : List ℕ). tcp_head b) (sym bytes_is) ∙ sym tcp_is in
     let none : headers_of h.proto heads.headers ≡ 0 = none_higher IPV6 h.proto heads.headers (omega (arith, of.own)) at.read.lower in
-    subst (λ (hs : HeadsShown). IsCarried frame hs (carries.Segment head.packet tcp span)) (is_more heads new h headers notes)
-    (carries_segment frame IPV6 5 heads head h at (omega arith) (omega (arith, of.own)) (omega (arith, of.own)) (rw none nth) whole tcp span
-    (subst (λ (x : TcpHead). Reads frame head h (afters.Segment x span)) own_head (of_head frame head nexts.Tcp h (afters.Segment (tcp_head all) span) is at.plain read)) (omega arith) (omega arith) of.own inside)
+    subst (λ (hs : HeadsShown). IsCarried frame hs (carries.Segment last)) (is_more heads new h headers notes)
+    (carries_segment frame IPV6 5 heads head h at (omega arith) (omega (arith, of.own)) (omega (arith, of.own)) (rw none nth) whole last
+    (of_head frame head nexts.Tcp h (afters.Segment (tcp_head all) span) is at.plain read) refl (omega arith) (omega arith) of.own inside)
 
-pub udp_pushed : (frame : Frame) (heads new : HeadsShown) (head : Head) (bytes : List ℕ) (h : Header) (ports : PortsHead) (layer span : Span) → IsAt frame IPV6 5 heads head → head.which ≡ nexts.Udp → bytes ≡ own frame head.span
-    → h.nth ≡ 1 → IsReadWhole (frame.bytes ∷ []) h → IsHeaderOf UDP layer (true ∷ []) (udp_layout bytes) h → layer ≡ udp_span head.span bytes
-    → udp_after Plain head.span bytes ≡ afters.Datagram (udp_ports bytes) span → ports ≡ udp_ports bytes → IsInside (frame.bytes ∷ []) span
-    → new.headers ≡ heads.headers ++ h ∷ [] → new.notes ≡ heads.notes → IsCarried frame new (carries.Datagram head.packet ports span)
-udp_pushed frame heads new head bytes h ports layer span at is bytes_is nth whole of layer_is after ports_is inside headers notes =
-    let all : List ℕ = own frame head.span in
+pub udp_pushed : (frame : Frame) (heads new : HeadsShown) (spot : Spot) (bytes : List ℕ) (h : Header) (layer span : Span) → IsAt frame IPV6 5 heads (head_of frame spot) → spot.which ≡ nexts.Udp → bytes ≡ own frame spot.span
+    → h.nth ≡ 1 → IsReadWhole (frame.bytes ∷ []) h → IsHeaderOf UDP layer (true ∷ []) (udp_layout bytes) h → layer ≡ udp_span spot.span bytes
+    → udp_after Plain spot.span bytes ≡ afters.Datagram (udp_ports bytes) span → IsInside (frame.bytes ∷ []) span
+    → new.headers ≡ heads.headers ++ h ∷ [] → new.notes ≡ heads.notes → IsCarried frame new (carries.Datagram (record { packet = spot.packet; header = spot.span; payload = span }))
+udp_pushed frame heads new spot bytes h layer span at is bytes_is nth whole of layer_is after inside headers notes =
+    let head : Head = head_of frame spot in
+    let last : Last = record { packet = spot.packet; header = spot.span; payload = span } in
+    let all : List ℕ = own frame spot.span in
     let read : Reads frame (head_at nexts.Udp head.packet head.span) h (afters.Datagram (udp_ports all) span) =
     udp_reads frame head.packet head.span h span
     (subst (λ (b : List ℕ). IsHeaderOf UDP (udp_span head.span b) (true ∷ []) (udp_layout b) h) bytes_is (subst (λ (s : Span). IsHeaderOf UDP s (true ∷ []) (udp_layout bytes) h) layer_is of))
     (subst (λ (b : List ℕ). udp_after Plain head.span b ≡ afters.Datagram (udp_ports b) span) bytes_is after) in
-    let own_head : udp_ports all ≡ ports = ap (λ (b : List ℕ). udp_ports b) (sym bytes_is) ∙ sym ports_is in
     let none : headers_of h.proto heads.headers ≡ 0 = none_higher IPV6 h.proto heads.headers (omega (arith, of.own)) at.read.lower in
-    subst (λ (hs : HeadsShown). IsCarried frame hs (carries.Datagram head.packet ports span)) (is_more heads new h headers notes)
-    (carries_datagram frame IPV6 5 heads head h at (omega arith) (omega (arith, of.own)) (omega (arith, of.own)) (rw none nth) whole ports span
-    (subst (λ (x : PortsHead). Reads frame head h (afters.Datagram x span)) own_head (of_head frame head nexts.Udp h (afters.Datagram (udp_ports all) span) is at.plain read)) (omega arith) (omega arith) of.own inside)
+    subst (λ (hs : HeadsShown). IsCarried frame hs (carries.Datagram last)) (is_more heads new h headers notes)
+    (carries_datagram frame IPV6 5 heads head h at (omega arith) (omega (arith, of.own)) (omega (arith, of.own)) (rw none nth) whole last
+    (of_head frame head nexts.Udp h (afters.Datagram (udp_ports all) span) is at.plain read) refl (omega arith) (omega arith) of.own inside)

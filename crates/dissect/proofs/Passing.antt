@@ -1,16 +1,17 @@
 -- A segment that is passed over: what is told of it where nothing of its stream is asked.
-use Rattle.std.proofs.Common.{◌≡◌, [], ◌∷◌, subst, ℕ, Bool, true, false, List, Option, Some, None, arith, refl, sym, ◌∙◌, ap, true≢false}
+use Rattle.std.specs.Prelude.{IsSome}
+use Rattle.std.proofs.Common.{◌≡◌, [], ◌∷◌, subst, ℕ, Bool, true, false, List, Option, Some, None, refl, sym, ◌∙◌, ap, true≢false}
 use Rattle.pk_base.specs.declared.span.Span.{Span}
 use Rattle.pk_tree.specs.Buffers.{bytes_of}
 use Rattle.pk_fields.specs.FieldSets.{is_in}
-use Rattle.pk_fields.specs.Ids.{DNS, HTTP, TCP_STREAM, TCP_SEGMENT, TCP_SEQ, TCP_ACK, TCP_LOST}
+use Rattle.pk_fields.specs.Ids.{TCP_STREAM, TCP_SEGMENT, TCP_SEQ, TCP_ACK, TCP_LOST}
 use Rattle.pk_base.specs.declared.heads.PacketHead.{PacketHead}
 use Rattle.pk_base.specs.declared.heads.TcpHead.{TcpHead}
 use Rattle.pk_tree.specs.Trees.{TreeShown}
 use Rattle.tcp_streams.specs.declared.segment.Taken.{Taken}
 use Rattle.tcp_streams.specs.Gaps.{lost_bytes}
 use Rattle.tcp_streams.specs.Labels.{taken_after}
-use Rattle.stream_messages.specs.declared.told.App.{App as StreamApp}
+use Rattle.app_layers.specs.declared.streamed.StreamApp.{StreamApp}
 use Rattle.tcp_messages.specs.Shown.{shown_after}
 use Rattle.pk_fields.specs.declared.rules.PortRule.{PortRule}
 use Rattle.capture_read.specs.declared.frame.Frame.{Frame}
@@ -24,7 +25,9 @@ use Rattle.dissect.specs.Followed.{asks_messages, asks_streams}
 use Rattle.dissect.specs.Keeping.{AsksNoPlaces, AsksOnly, FollowsEnough, followed_of, keeps_all, tells_places, is_followed, is_of}
 use Rattle.app_layers.specs.Aside.{LacksOnly}
 use Rattle.app_layers.specs.FrameLayer.{is_cut}
-use Rattle.app_layers.specs.MessageLayers.{app_of_segment, carried_over, stream_app}
+use Rattle.app_layers.specs.MessageLayers.{carried_over, framer_of_segment, framing, stream_app}
+use Rattle.app_layers.specs.Rows.{framer_of, proto_of}
+use Rattle.app_layers.proofs.RowLemmas.{proto_some}
 use Rattle.tcp_streams.specs.declared.segment.Segment.{Segment}
 use Rattle.tcp_messages.specs.Standing.{ReadsFor}
 use Rattle.app_layers.specs.Payloads.{with_lost, carried_told, segment_told}
@@ -34,9 +37,10 @@ use Rattle.dissect.specs.Walks.{segment_met}
 use Rattle.app_layers.proofs.ToldHeads.{carried_wanted, lost_unasked, place_unasked, told_wanted}
 use Rattle.app_layers.proofs.WantedMessages.{carried_over_wanted}
 use Rattle.dissect.proofs.Joining.{stands-segment}
-use Rattle.app_layers.proofs.MessagesAside.{AsksNotShown, carried_lacks, none_shown, shown_lacks}
-use Rattle.stream_messages.specs.declared.told.App.TheVariants.{Dns, Http}
-use Rattle.dissect.proofs.Tellings.{none_shown_of, not_shown}
+use Rattle.app_layers.proofs.MessagesAside.{AsksNotCarried, carried_lacks, none_shown, shown_lacks}
+use Rattle.stream_messages.specs.declared.framer.Framer.{Framer}
+use Rattle.app_layers.proofs.StreamApps.{IsFramed, is_framed}
+use Rattle.dissect.proofs.Tellings.{not_shown}
 use Rattle.tcp_streams.specs.PlacesStanding.{PlacesStandFor}
 use Rattle.tcp_streams.specs.declared.stream_places.StreamPlaces.{StreamPlaces}
 use Rattle.dissect.specs.declared.keeping.Keeping.{Keeping}
@@ -82,29 +86,31 @@ told_enough rules Everything segments segment app t span taken enough =
 record AsksNothingOf (app : Option StreamApp) (past : List Segment) (s : Segment) (wanted : List ℕ) : Type 0 where
   pub places : AsksNoPlaces wanted
   pub segment : is_in wanted TCP_SEGMENT ≡ false
-  pub messages : AsksNotShown wanted (shown_after app past s)
+  pub messages : AsksNotCarried app wanted (shown_after (framing app) past s)
 
-no_others : (only : StreamApp) (app : Option StreamApp) (past : List Segment) (s : Segment) (wanted : List ℕ) → AsksOnly only wanted → is_of only app ≡ false → AsksNotShown wanted (shown_after app past s)
-no_others only None past s wanted asks other = none_shown_of wanted past s
-no_others Dns (Some Dns) past s wanted asks other = absurd (true≢false other)
-no_others Dns (Some Http) past s wanted asks other =
-    not_shown Http wanted past s (record { short = asks.short; malformed = asks.malformed; fields = none_in HTTP wanted (omega arith) asks.others })
-no_others Http (Some Dns) past s wanted asks other =
-    not_shown Dns wanted past s (record { short = asks.short; malformed = asks.malformed; fields = none_in DNS wanted (omega arith) asks.others })
-no_others Http (Some Http) past s wanted asks other = absurd (true≢false other)
+is_some : (o : Option Framer) (framer : Framer) → o ≡ Some framer → IsSome o
+is_some o framer is = subst IsSome (sym is) refl
 
-nothing_asked : (follows : Follows) (app : Option StreamApp) (past : List Segment) (s : Segment) (wanted : List ℕ) → FollowsEnough follows wanted → tells_places follows ≡ false → is_followed follows app ≡ false
+no_others : (only : ℕ) (app : Option StreamApp) (past : List Segment) (s : Segment) (wanted : List ℕ) → IsFramed app → AsksOnly only wanted → is_of only app ≡ false → AsksNotCarried app wanted (shown_after (framing app) past s)
+no_others only None past s wanted framed asks other = tt
+no_others only (Some app) past s wanted framed asks other =
+    not_shown app wanted past s framed (record {
+      short = asks.short;
+      malformed = asks.malformed;
+      fields = none_in (proto_of app.app) wanted (proto_some app.app) (asks.others app.app (is_some (framer_of app.app) app.framer framed) other);
+    })
+
+nothing_asked : (follows : Follows) (app : Option StreamApp) (past : List Segment) (s : Segment) (wanted : List ℕ) → IsFramed app → FollowsEnough follows wanted → tells_places follows ≡ false → is_followed follows app ≡ false
     → AsksNothingOf app past s wanted
-nothing_asked Nothing app past s wanted enough untold passed =
+nothing_asked Nothing app past s wanted framed enough untold passed =
     let none = messages_unasked wanted enough in
-    record { places = no_places wanted enough; segment = none.segment; messages = none_shown wanted (shown_after app past s) none }
-nothing_asked Places app past s wanted enough untold passed = absurd (true≢false untold)
-nothing_asked (One only) app past s wanted enough untold passed =
-    record { places = enough.places; segment = enough.segment; messages = no_others only app past s wanted enough passed }
-nothing_asked Applications None past s wanted enough untold passed =
-    record { places = enough.places; segment = enough.segment; messages = none_shown_of wanted past s }
-nothing_asked Applications (Some app) past s wanted enough untold passed = absurd (true≢false passed)
-nothing_asked Everything app past s wanted enough untold passed = absurd (true≢false passed)
+    record { places = no_places wanted enough; segment = none.segment; messages = none_shown app wanted (shown_after (framing app) past s) none }
+nothing_asked Places app past s wanted framed enough untold passed = absurd (true≢false untold)
+nothing_asked (One only) app past s wanted framed enough untold passed =
+    record { places = enough.places; segment = enough.segment; messages = no_others only app past s wanted framed enough passed }
+nothing_asked Applications None past s wanted framed enough untold passed = record { places = enough.places; segment = enough.segment; messages = tt }
+nothing_asked Applications (Some app) past s wanted framed enough untold passed = absurd (true≢false passed)
+nothing_asked Everything app past s wanted framed enough untold passed = absurd (true≢false passed)
 
 pub passed-walked : (rules : List PortRule) (frame : Frame) (packet : PacketHead) (head : TcpHead) (span : Span) (app : Option StreamApp) (state : State) (t v : TreeShown)
     → app ≡ stream_app rules head.source head.target → is_followed state.keeps.follows app ≡ false → tells_places state.keeps.follows ≡ false → v ≡ carried_over app (is_cut frame) span (carried_told t span) []
@@ -116,7 +122,7 @@ passed-walked rules frame packet head span app state t v app_is unfollowed untol
     let own = stream_app rules head.source head.target in
     let segment = segment_from frame.number packet head bytes in
     let past = segments_of es in
-    let messages = shown_after own past segment in
+    let messages = shown_after (framing own) past segment in
     let told = segment_told t (taken_after past segment) span in
     let whole = carried_over own cut span told messages in
     let follows = state.keeps.follows in
@@ -127,18 +133,18 @@ passed-walked rules frame packet head span app state t v app_is unfollowed untol
     record {
       stands = stands-segment rules es frame.number packet head bytes state state stands refl refl refl
           (λ places. absurd (true≢false (sym places ∙ untold)))
-          (subst (λ (ss : List Segment). ReadsFor (app_of_segment rules) ss state.streams) (sym (passed_over rules follows segment past none)) stands.streams)
+          (subst (λ (ss : List Segment). ReadsFor (framer_of_segment rules) ss state.streams) (sym (passed_over rules follows segment past none)) stands.streams)
           (λ all. absurd (not_all all)) (λ all. absurd (not_all all));
       tree = record {
         wanted = ap (λ (u : TreeShown). u.wanted) passed ∙ carried_over_wanted own cut span (carried_told t span) [] ∙ carried_wanted t span ∙ sym wanted;
         same = λ all. absurd (not_all (all refl));
         lacks = λ enough.
-            let nothing : AsksNothingOf own past segment t.wanted = nothing_asked follows own past segment t.wanted (subst (FollowsEnough follows) wanted enough.streams) untold none in
+            let nothing : AsksNothingOf own past segment t.wanted = nothing_asked follows own past segment t.wanted (is_framed rules head.source head.target) (subst (FollowsEnough follows) wanted enough.streams) untold none in
             let alike : told ≡ carried_told t span = places_alike t (taken_after past segment) span nothing.places in
             let asked : told.wanted ≡ t.wanted = told_wanted t (taken_after past segment) span in
             subst (λ (u : TreeShown). LacksOnly whole u) (sym (passed ∙ ap (λ (u : TreeShown). carried_over own cut span u []) (sym alike)))
             (shown_lacks own cut span told messages (ap (λ (fields : List ℕ). is_in fields TCP_SEGMENT) asked ∙ nothing.segment)
-            (subst (λ (fields : List ℕ). AsksNotShown fields messages) (sym asked) nothing.messages));
+            (subst (λ (fields : List ℕ). AsksNotCarried own fields messages) (sym asked) nothing.messages));
       };
       todo = refl;
     }
@@ -158,7 +164,7 @@ placed-walked rules frame packet head span app taken places old new t v app_is t
     let own = stream_app rules head.source head.target in
     let segment = segment_from frame.number packet head bytes in
     let past = segments_of es in
-    let messages = shown_after own past segment in
+    let messages = shown_after (framing own) past segment in
     let told = segment_told t (taken_after past segment) span in
     let whole = carried_over own cut span told messages in
     let follows = old.keeps.follows in
@@ -172,9 +178,9 @@ placed-walked rules frame packet head span app taken places old new t v app_is t
     record {
       stands = stands-segment rules es frame.number packet head bytes old new stands (ap (λ (s : State). s.joins) new_is) (ap (λ (s : State). s.udp) new_is) keeps
           (λ _. subst (PlacesStandFor (segment ∷ past)) (sym (ap (λ (s : State). s.places) new_is)) (placed past (stands.places tells)))
-          (subst (λ (ss : List Segment). ReadsFor (app_of_segment rules) ss new.streams)
+          (subst (λ (ss : List Segment). ReadsFor (framer_of_segment rules) ss new.streams)
           (sym (ap (λ (k : Keeping). followed_of rules k.follows (segment ∷ past)) keeps ∙ passed_over rules follows segment past none))
-          (subst (ReadsFor (app_of_segment rules) (followed_of rules follows past)) (sym (ap (λ (s : State). s.streams) new_is)) stands.streams))
+          (subst (ReadsFor (framer_of_segment rules) (followed_of rules follows past)) (sym (ap (λ (s : State). s.streams) new_is)) stands.streams))
           (λ all. absurd (not_all all)) (λ all. absurd (not_all all));
       tree = record {
         wanted = ap (λ (u : TreeShown). u.wanted) is ∙ carried_over_wanted own cut span told [] ∙ told_wanted t (taken_after past segment) span ∙ sym wanted;

@@ -262,7 +262,7 @@ of_frame : (before : Times) (frame : Frame) → AreOfFrame (frame_notes before f
 of_frame before frame = λ proto some. frame_untold before frame proto (grind (arith, nat_tests, some))
 
 pub carried_inside : (frame : Frame) (headers : List Header) (carried : WayCarried) → Carries frame headers carried → IsInside (frame.bytes ∷ []) (span_of carried)
-carried_inside frame headers carried carries_it = (carries_it [] (λ proto some. All-from_recursion (λ (note : Note). ((row_of note.field).proto == proto) ≡ false) [] tt)).inside
+carried_inside frame headers carried carries_it = (carries_it.is [] (λ proto some. All-from_recursion (λ (note : Note). ((row_of note.field).proto == proto) ≡ false) [] tt)).inside
 
 -- with what is wanted of the notes they stand for the tree
 pub heads_stand : (tables : Tables) (wanted : List ℕ) (before : Times) (frame : Frame) (way : WayCarried) (c : Carried) (headers : List Header) (heads : HeadsShown) → length frame.bytes < 2 ^ 32 → AreTables tables
@@ -272,7 +272,7 @@ pub heads_stand : (tables : Tables) (wanted : List ℕ) (before : Times) (frame 
 heads_stand tables wanted before frame way c headers heads short are carried payload carrier fits headers_are notes_are =
     let all = headers ++ data_headers tables c.free c.payload in
     let notes = notes_of before frame c in
-    let is = carried (frame_notes before frame) (of_frame before frame) in
+    let is = carried.is (frame_notes before frame) (of_frame before frame) in
     let inside = subst (IsInside (frame.bytes ∷ [])) (sym payload) is.inside in
     let last = subst (λ (proto : ℕ). IsLast proto headers) (sym carrier) is.last in
     record {
@@ -290,7 +290,7 @@ pub carried_way : (rules : List PortRule) (wanted : List ℕ) (before : Times) (
 unfolding kept_walk
 carried_way rules wanted before es frame headers way none carried opens =
     ap (λ (t : TreeShown). all_met rules frame (link_met rules frame t (NewFrame ∷ es))) (sym (opens wanted before))
-    ∙ (carried (frame_notes before frame) (of_frame before frame)).way wanted none rules (NewFrame ∷ es)
+    ∙ (carried.is (frame_notes before frame) (of_frame before frame)).way wanted none rules (NewFrame ∷ es)
 
 -- ---- the places in their tables
 

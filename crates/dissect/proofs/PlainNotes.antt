@@ -1,9 +1,9 @@
 -- What is told of a plain frame: the notes of its parts, and the items that they are.
-use Rattle.std.proofs.Common.{◌≡◌, ◌==◌, ℕ, Bool as Truth, true, false, if◌then◌else◌, inl, inr, Option, None, Some, List, [], ◌∷◌, ◌++◌, refl, ap, sym, ◌∙◌, append_assoc, append-nil, drop, length, ◌+◌, ◌<◌, ◌≤◌}
+use Rattle.std.proofs.Common.{◌≡◌, ◌==◌, ℕ, Bool as Truth, true, false, if◌then◌else◌, inl, inr, Option, None, Some, List, [], ◌∷◌, ◌++◌, refl, ap, sym, ◌∙◌, append_assoc, append-nil, length, ◌<◌, ◌^◌, rules}
 use Rattle.std.specs.List.{AllByRecursion as Each}
 use Rattle.std.specs.Prelude.{ℤ}
 use Rattle.std.proofs.lemmas.Bool.{cases_Bool}
-use Rattle.std.proofs.lemmas.List.{drop_all, map-append}
+use Rattle.std.proofs.lemmas.List.{map-append}
 use Rattle.std.proofs.lemmas.List.Elements.{All-from_recursion, filter-append}
 use Rattle.pk_base.specs.declared.span.Span.{Span}
 use Rattle.pk_base.specs.declared.value.Value.TheVariants.{Uint}
@@ -12,10 +12,11 @@ use Rattle.pk_fields.specs.FieldSets.{is_in}
 use Rattle.pk_fields.specs.Ids.{DATA, FRAME, FRAME_CAP_LEN, FRAME_LEN, FRAME_NUMBER, TCP, TCP_ACK, TCP_LEN, TCP_LOST, TCP_PAYLOAD, TCP_SEQ, TCP_STREAM, UDP, UDP_PAYLOAD, UDP_STREAM}
 use Rattle.pk_fields.specs.Table.{rows}
 use Rattle.pk_source.specs.Laws.{IsUntold}
-use Rattle.pk_source.specs.Outlines.{told_item, wanted_notes}
+use Rattle.pk_source.specs.Outlines.{NoteFits, told_item, wanted_notes}
 use Rattle.pk_source.specs.declared.header.Note.{Note}
 use Rattle.pk_source.proofs.NoteLemmas.{items_told}
 use Rattle.pk_tree.proofs.LayoutLemmas.{with_items-append}
+use Rattle.pk_tree.specs.Buffers.{IsInside}
 use Rattle.pk_tree.specs.Layouts.{items_read, reach, step_items, step_reach, with_items}
 use Rattle.pk_tree.specs.Trees.{TreeShown, made_of, read_of, with_item, with_item_at, with_last}
 use Rattle.pk_tree.specs.declared.item.Item.{Item}
@@ -26,7 +27,7 @@ use Rattle.capture_read.specs.declared.frame.Frame.{Frame}
 use Rattle.app_layers.specs.FrameLayer.{frame_layout, time_steps}
 use Rattle.app_layers.specs.Payloads.{carried_told, datagram_told, with_ack, with_lost, with_number}
 use Rattle.app_layers.specs.declared.times.Times.{Times}
-use Rattle.dissect.specs.Carried.{ack_notes, bytes_notes, carrier_notes, carrier_proto, conversation_notes, frame_notes, frame_notes_at, lost_notes, number_note, place_notes, segment_by, segment_notes, told_by}
+use Rattle.dissect.specs.Carried.{ack_notes, bytes_notes, carrier_notes, carrier_proto, conversation_notes, frame_notes, frame_notes_at, lost_notes, number_note, place_notes, read_note, segment_by, segment_notes, time_notes, told_by}
 use Rattle.dissect.specs.declared.carried.Carrier.{Carrier}
 use Rattle.dissect.specs.declared.carried.Carrier.TheVariants as carriers
 use Rattle.dissect.specs.declared.carried.Place.{Place}
@@ -34,6 +35,30 @@ use Rattle.dissect.specs.declared.carried.Place.{Place}
 pub wanted-append : (wanted : List ℕ) (xs ys : List Note) → wanted_notes wanted (xs ++ ys) ≡ wanted_notes wanted xs ++ wanted_notes wanted ys
 unfolding wanted_notes
 wanted-append wanted xs ys = filter-append (λ (note : Note). is_in wanted note.field) xs ys
+
+-- two parts that were told one behind the other
+pub two_told : (wanted : List ℕ) (old one new first second : List Note) → one ≡ old ++ wanted_notes wanted first → new ≡ one ++ wanted_notes wanted second → new ≡ old ++ wanted_notes wanted (first ++ second)
+two_told wanted old one new first second a b =
+    b ∙ ap (λ (front : List Note). front ++ wanted_notes wanted second) a
+    ∙ append_assoc old (wanted_notes wanted first) (wanted_notes wanted second)
+    ∙ ap (λ (back : List Note). old ++ back) (sym (wanted-append wanted first second))
+
+-- nothing was told
+pub none_told : (wanted : List ℕ) (old notes : List Note) → notes ≡ [] → old ≡ old ++ wanted_notes wanted notes
+unfolding wanted_notes
+none_told wanted old notes none = sym (append-nil old) ∙ ap (λ (ns : List Note). old ++ wanted_notes wanted ns) (sym none)
+
+pub none_placed : place_notes None ≡ []
+unfolding place_notes
+none_placed = refl
+
+pub none_lost : lost_notes None ≡ []
+unfolding lost_notes
+none_lost = refl
+
+pub nothing_lost : (place : Place) → place.lost ≡ 0 → lost_notes (Some place) ≡ []
+unfolding lost_notes
+nothing_lost place zero = rw zero refl
 
 -- three parts that were told one behind the other
 pub three_told : (wanted : List ℕ) (old one two new first second third : List Note) → one ≡ old ++ wanted_notes wanted first → two ≡ one ++ wanted_notes wanted second → new ≡ two ++ wanted_notes wanted third
@@ -45,24 +70,44 @@ three_told wanted old one two new first second third a b c =
     ∙ ap (λ (back : List Note). old ++ (wanted_notes wanted first ++ back)) (sym (wanted-append wanted second third))
     ∙ ap (λ (back : List Note). old ++ back) (sym (wanted-append wanted first (second ++ third)))
 
--- one note more
-pub tell_on : (wanted : List ℕ) (told first held next : List Note) (at : ℕ) (note : Note) → at < length told → drop at told ≡ note ∷ drop (at + 1) told → next ≡ held ++ wanted_notes wanted (note ∷ [])
-    → held ++ wanted_notes wanted (drop at told) ≡ first → next ++ wanted_notes wanted (drop (at + 1) told) ≡ first
-tell_on wanted told first held next at note inside front more so_far =
-    ap (λ (x : List Note). x ++ wanted_notes wanted (drop (at + 1) told)) more
-    ∙ append_assoc held (wanted_notes wanted (note ∷ [])) (wanted_notes wanted (drop (at + 1) told))
-    ∙ ap (λ (back : List Note). held ++ back) (sym (wanted-append wanted (note ∷ []) (drop (at + 1) told)) ∙ ap (wanted_notes wanted) (sym front))
-    ∙ so_far
-
-pub told_all : (wanted : List ℕ) (told first held : List Note) (at : ℕ) → length told ≤ at → held ++ wanted_notes wanted (drop at told) ≡ first → held ≡ first
-unfolding wanted_notes
-told_all wanted told first held at past so_far =
-    let rest : drop at told ≡ [] = drop_all at told past in
-    sym (append-nil held) ∙ ap (λ (back : List Note). held ++ wanted_notes wanted back) (sym rest) ∙ so_far
-
 pub each-append : (P : Note → Type 0) (xs ys : List Note) → Each P xs → Each P ys → Each P (xs ++ ys)
 each-append P [] ys one other = other
 each-append P (x ∷ xs) ys one other = (one.0, each-append P xs ys one.1 other)
+
+-- ---- each is of its field's kind
+
+number_fits : (buffers : List (List ℕ)) (frame : Frame) (n wire len : ℕ) → n < 2 ^ 32 → wire < 2 ^ 32 → len < 2 ^ 32
+    → Each (NoteFits buffers) (number_note FRAME_NUMBER n ∷ []) × Each (NoteFits buffers) (number_note FRAME_LEN wire ∷ number_note FRAME_CAP_LEN len ∷ [])
+unfolding row_of rows
+number_fits buffers frame n wire len one two three = ((one, tt), (two, (three, tt)))
+
+times_fit : (buffers : List (List ℕ)) (before : Times) (time : Option ℤ) → Each (NoteFits buffers) (time_notes before time)
+unfolding row_of rows
+times_fit buffers before None = tt
+times_fit buffers before (Some time) = (tt, (tt, (tt, tt)))
+
+pub frame_fits : (buffers : List (List ℕ)) (before : Times) (frame : Frame) → frame.number < 2 ^ 32 → frame.original < 2 ^ 32 → length frame.bytes < 2 ^ 32 → Each (NoteFits buffers) (frame_notes before frame)
+unfolding frame_notes
+frame_fits buffers before frame number wire len =
+    let numbers = number_fits buffers frame frame.number frame.original (length frame.bytes) number wire len in
+    each-append (NoteFits buffers) (number_note FRAME_NUMBER frame.number ∷ []) (time_notes before frame.time ++ number_note FRAME_LEN frame.original ∷ number_note FRAME_CAP_LEN (length frame.bytes) ∷ []) numbers.0
+    (each-append (NoteFits buffers) (time_notes before frame.time) (number_note FRAME_LEN frame.original ∷ number_note FRAME_CAP_LEN (length frame.bytes) ∷ []) (times_fit buffers before frame.time) numbers.1)
+
+each_if : (P : Note → Type 0) (test : Truth) (xs : List Note) → Each P xs → Each P (if test then [] else xs)
+each_if P true xs each = tt
+each_if P false xs each = each
+
+payload_reads : (buffers : List (List ℕ)) (span : Span) → IsInside buffers span → NoteFits buffers (read_note TCP_PAYLOAD span) × NoteFits buffers (read_note UDP_PAYLOAD span)
+unfolding row_of rows
+payload_reads buffers span inside = search (rules, inside)
+
+pub bytes_fit : (buffers : List (List ℕ)) (span : Span) → span.len < 2 ^ 32 → IsInside buffers span → Each (NoteFits buffers) (bytes_notes span)
+unfolding bytes_notes row_of rows
+bytes_fit buffers span small inside = (small, each_if (NoteFits buffers) (span.len == 0) (read_note TCP_PAYLOAD span ∷ []) ((payload_reads buffers span inside).0, tt))
+
+pub conversation_fits : (buffers : List (List ℕ)) (stream : ℕ) (span : Span) → stream < 2 ^ 32 → IsInside buffers span → Each (NoteFits buffers) (conversation_notes stream span)
+unfolding conversation_notes row_of rows
+conversation_fits buffers stream span small inside = (small, each_if (NoteFits buffers) (span.len == 0) (read_note UDP_PAYLOAD span ∷ []) ((payload_reads buffers span inside).1, tt))
 
 -- ---- whose notes they are
 

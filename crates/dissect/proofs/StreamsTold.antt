@@ -11,7 +11,7 @@ use Rattle.pk_base.specs.declared.heads.TcpHead.{TcpHead}
 use Rattle.pk_base.specs.declared.span.Span.{Span}
 use Rattle.pk_base.specs.declared.value.Value.TheVariants.{Uint}
 use Rattle.pk_fields.specs.FieldSets.{every_field, is_in}
-use Rattle.pk_fields.specs.Ids.{DATA, DNS, HTTP, HTTP_FILE_DATA, TCP, TCP_ACK, TCP_LEN, TCP_LOST, TCP_PAYLOAD, TCP_SEGMENT, TCP_SEQ, TCP_STREAM, WS_MALFORMED, WS_SHORT}
+use Rattle.pk_fields.specs.Ids.{DATA, HTTP, HTTP_FILE_DATA, TCP, TCP_ACK, TCP_LEN, TCP_LOST, TCP_PAYLOAD, TCP_SEGMENT, TCP_SEQ, TCP_STREAM, WS_MALFORMED, WS_SHORT}
 use Rattle.pk_fields.proofs.FieldSetLemmas.{in_every}
 use Rattle.pk_tree.specs.Buffers.{bytes_of}
 use Rattle.pk_tree.specs.Following.{behind}
@@ -22,7 +22,6 @@ use Rattle.pk_tree.specs.declared.layer.Layer.{Layer}
 use Rattle.pk_tree.specs.declared.layout.Reach.{Reach}
 use Rattle.pk_tree.specs.declared.layout.Reach.TheVariants.{All, Short, Failed}
 use Rattle.pk_tree.specs.declared.layout.Step.{Step}
-use Rattle.dis_dns.specs.Dns.{dns_layout}
 use Rattle.dis_http.specs.Http.{body_read, http_layout, http_read, joined, plain_read, with_content}
 use Rattle.dis_ports.specs.Tcp.{header_len, tcp_after, tcp_carries, tcp_head, tcp_layout}
 use Rattle.message_links.specs.Linked.{layer_link, layer_linked, linked, with_link}
@@ -30,7 +29,8 @@ use Rattle.tcp_streams.specs.declared.segment.Taken.{Taken}
 use Rattle.tcp_streams.specs.Gaps.{lost_bytes}
 use Rattle.stream_messages.specs.declared.shape.Body.{Body}
 use Rattle.stream_messages.specs.declared.shape.Body.TheVariants.{None as Bodiless, Plain, Chunked, NotShown}
-use Rattle.stream_messages.specs.declared.told.App.{App as StreamApp}
+use Rattle.pk_fields.specs.declared.apps.App.{App}
+use Rattle.app_layers.specs.declared.streamed.StreamApp.{StreamApp}
 use Rattle.stream_messages.specs.declared.told.Told.{Told}
 use Rattle.stream_messages.specs.declared.told.Told.TheVariants as tellings
 use Rattle.stream_messages.specs.Tellings.{end_of as told_end}
@@ -39,7 +39,9 @@ use Rattle.tcp_messages.specs.declared.met.Source.{Source}
 use Rattle.tcp_messages.specs.declared.met.Source.TheVariants as sources
 use Rattle.tcp_messages.specs.Shown.{frames_told as gathered_from}
 use Rattle.app_layers.specs.DataLayer.{data_layout, data_over}
-use Rattle.app_layers.specs.MessageLayers.{added_span, carried_over, message_over, messages_over, sourced_over, told_over, with_segments}
+use Rattle.app_layers.specs.MessageLayers.{added_span, carried_over, message_over, messages_over, sized_over, sourced_over, tells_length, told_over, with_segments}
+use Rattle.app_layers.specs.Rows.{framer_of, layout_of, proto_of}
+use Rattle.app_layers.proofs.RowLemmas.{not_tcp}
 use Rattle.app_layers.specs.Payloads.{place_told, segment_told, with_ack, with_number, with_payload}
 use Rattle.dissect.specs.MessageLaws.{HasStream, TellsStream, has_tcp}
 use Rattle.dissect.proofs.TreeMessages.{IsOther, each_fault, gets_bares, has_bares, none_append}
@@ -179,25 +181,29 @@ body_on t span steps bytes (Chunked pieces) = λ n tells.
     (read_on u HTTP span steps PlainMode false refl n (buffer_on t content n tells))
 body_on t span steps bytes NotShown = read_on t HTTP span steps PlainMode false refl
 
-told_on : (cut : Bool) (t : TreeShown) (span : Span) (told : Told) → GrowsOn t (told_over cut t span told)
+sized_on : (app : App) (cut : Bool) (t : TreeShown) (span : Span) → GrowsOn t (sized_over app cut t span)
+sized_on app cut t span =
+    on_if (tells_length (framer_of app)) t _ t (read_on t (proto_of app) span (layout_of app true (bytes_of t.buffers span)) PlainMode cut (not_tcp app)) (self_on t)
+
+told_on : (app : App) (cut : Bool) (t : TreeShown) (span : Span) (told : Told) → GrowsOn t (told_over app cut t span told)
 unfolding http_read
-told_on cut t span (tellings.Dns end) = read_on t DNS span (dns_layout true (bytes_of t.buffers span)) PlainMode cut refl
-told_on cut t span (tellings.Http shape) = body_on t span (http_layout shape (bytes_of t.buffers span)) (bytes_of t.buffers span) shape.body
+told_on app cut t span (tellings.Sized end) = sized_on app cut t span
+told_on app cut t span (tellings.Http shape) = body_on t span (http_layout shape (bytes_of t.buffers span)) (bytes_of t.buffers span) shape.body
 
-sourced_on : (cut : Bool) (span : Span) (t : TreeShown) (told : Told) (source : Source) → GrowsOn t (sourced_over cut span t told source)
-sourced_on cut span t told (sources.Segment place) = told_on cut t (within span place (told_end told)) told
-sourced_on cut span t told (sources.Gathered g) = λ n tells. told_on cut (with_buffer t g.bytes) (added_span t g.bytes) told n (buffer_on t g.bytes n tells)
+sourced_on : (app : App) (cut : Bool) (span : Span) (t : TreeShown) (told : Told) (source : Source) → GrowsOn t (sourced_over app cut span t told source)
+sourced_on app cut span t told (sources.Segment place) = told_on app cut t (within span place (told_end told)) told
+sourced_on app cut span t told (sources.Gathered g) = λ n tells. told_on app cut (with_buffer t g.bytes) (added_span t g.bytes) told n (buffer_on t g.bytes n tells)
 
-messages_on : (cut : Bool) (span : Span) (t : TreeShown) (ms : List ShownMessage) → GrowsOn t (messages_over cut span t ms)
+messages_on : (app : App) (cut : Bool) (span : Span) (t : TreeShown) (ms : List ShownMessage) → GrowsOn t (messages_over app cut span t ms)
 unfolding message_over
-messages_on cut span t [] = self_on t
-messages_on cut span t (m ∷ ms) = λ n tells. messages_on cut span (message_over cut span t m) ms n (sourced_on cut span t m.message.told m.source n tells)
+messages_on app cut span t [] = self_on t
+messages_on app cut span t (m ∷ ms) = λ n tells. messages_on app cut span (message_over app cut span t m) ms n (sourced_on app cut span t m.message.told m.source n tells)
 
 carried_on : (app : Option StreamApp) (cut : Bool) (span : Span) (t : TreeShown) (ms : List ShownMessage) → GrowsOn t (carried_over app cut span t ms)
 unfolding carried_over
 carried_on None cut span t ms = data_on t span
 carried_on (Some app) cut span t ms = λ n tells.
-    messages_on cut span (with_segments t (gathered_from ms)) ms n (segments_on t (gathered_from ms) n tells)
+    messages_on app.app cut span (with_segments t (gathered_from ms)) ms n (segments_on t (gathered_from ms) n tells)
 
 -- ---- the layer of TCP
 

@@ -15,12 +15,13 @@ use Rattle.tcp_streams.proofs.WayLemmas.{after_is}
 use Rattle.stream_messages.specs.declared.placed.Placed.{Placed}
 use Rattle.stream_messages.specs.declared.shape.Then.{Then}
 use Rattle.stream_messages.specs.declared.shape.Then.TheVariants.{Follows, Opaque}
-use Rattle.stream_messages.specs.declared.told.App.{App}
+use Rattle.stream_messages.specs.declared.framer.Framer.{Framer}
+use Rattle.pk_fields.specs.declared.apps.App.{App}
 use Rattle.stream_messages.specs.declared.told.Told.{Told}
 use Rattle.stream_messages.specs.Messages.{Asked, answered, end_at, follow, messages, of_front, of_stretches, with_first}
 use Rattle.stream_messages.specs.Tellings.{answers, end_of, first_of, passed, then_of}
 use Rattle.stream_messages.proofs.FirstLemmas.{first_some, first_within}
-use Rattle.dissect.specs.MessageLaws.{MessageShown, app_told, bytes_in, message_in}
+use Rattle.dissect.specs.MessageLaws.{MessageShown, bytes_in, message_in}
 use Rattle.dissect.proofs.MessagesFit.{message_held}
 use Rattle.dissect.proofs.HeldBytes.{bytes_stay}
 
@@ -126,17 +127,17 @@ first_in low high (Some told) more one rest =
     let here = one told refl in
     (omega arith, omega (arith, here.0, here.1), here.1, follow_within low high (then_of told) (more told) (rest told))
 
-messages_within : (app : App) (asked : Asked) (count at skip high : ℕ) (bytes : List ℕ) → high ≡ at + length bytes → AreWithin at high (messages app asked count at skip bytes)
+messages_within : (framer : Framer) (asked : Asked) (count at skip high : ℕ) (bytes : List ℕ) → high ≡ at + length bytes → AreWithin at high (messages framer asked count at skip bytes)
 unfolding messages
-messages_within app asked count at skip high [] is = tt
-messages_within app asked count at (suc skip) high (b ∷ rest) is =
-    within_wider (suc at) at high (messages app asked count (suc at) skip rest) (omega arith) (messages_within app asked count (suc at) skip high rest (omega (arith, is)))
-messages_within app asked count at zero high (b ∷ rest) is =
-    first_in at high (first_of app (asked at count) (b ∷ rest))
-    (λ (told : Told). messages app asked (count + answers told) (suc at) (end_of told - 1 + passed (then_of told)) rest)
-    (λ told e. (first_some app (asked at count) (b ∷ rest) told e, omega (arith, is, first_within app (asked at count) (b ∷ rest) told e)))
-    (λ told. within_wider (suc at) at high (messages app asked (count + answers told) (suc at) (end_of told - 1 + passed (then_of told)) rest) (omega arith)
-    (messages_within app asked (count + answers told) (suc at) (end_of told - 1 + passed (then_of told)) high rest (omega (arith, is))))
+messages_within framer asked count at skip high [] is = tt
+messages_within framer asked count at (suc skip) high (b ∷ rest) is =
+    within_wider (suc at) at high (messages framer asked count (suc at) skip rest) (omega arith) (messages_within framer asked count (suc at) skip high rest (omega (arith, is)))
+messages_within framer asked count at zero high (b ∷ rest) is =
+    first_in at high (first_of framer (asked at count) (b ∷ rest))
+    (λ (told : Told). messages framer asked (count + answers told) (suc at) (end_of told - 1 + passed (then_of told)) rest)
+    (λ told e. (first_some framer (asked at count) (b ∷ rest) told e, omega (arith, is, first_within framer (asked at count) (b ∷ rest) told e)))
+    (λ told. within_wider (suc at) at high (messages framer asked (count + answers told) (suc at) (end_of told - 1 + passed (then_of told)) rest) (omega arith)
+    (messages_within framer asked (count + answers told) (suc at) (end_of told - 1 + passed (then_of told)) high rest (omega (arith, is))))
 
 -- so many bytes of what is held
 first_part : (held : Held) (from n len : ℕ) → n ≤ len → take n (bytes_at held from len) ≡ bytes_at held from n
@@ -161,12 +162,12 @@ own_bytes held s ss m is low inside high =
     ∙ part_held held s.start (m.at - s.start) n (length s.bytes) (omega (arith, low, high))
     ∙ ap (λ (p : ℕ). bytes_at held p n) at
 
-own_messages : (held : Held) (s : Stretch) (ss : List Stretch) (ms : List Placed) → s.bytes ≡ bytes_at held s.start (length s.bytes) → AreWithin s.start (s.start + length s.bytes) ms
-    → map (message_in (s ∷ ss)) ms ≡ map (message_held held) ms
-own_messages held s ss [] is all = refl
-own_messages held s ss (m ∷ ms) is all =
-    ap (λ (bytes : List ℕ). record { app = app_told m.told; bytes = bytes } ∷ map (message_in (s ∷ ss)) ms) (own_bytes held s ss m is all.0 all.1 all.2)
-    ∙ ap (λ (rest : List MessageShown). message_held held m ∷ rest) (own_messages held s ss ms is all.3)
+own_messages : (app : App) (held : Held) (s : Stretch) (ss : List Stretch) (ms : List Placed) → s.bytes ≡ bytes_at held s.start (length s.bytes) → AreWithin s.start (s.start + length s.bytes) ms
+    → map (message_in app (s ∷ ss)) ms ≡ map (message_held app held) ms
+own_messages app held s ss [] is all = refl
+own_messages app held s ss (m ∷ ms) is all =
+    ap (λ (bytes : List ℕ). record { app = app; bytes = bytes } ∷ map (message_in app (s ∷ ss)) ms) (own_bytes held s ss m is all.0 all.1 all.2)
+    ∙ ap (λ (rest : List MessageShown). message_held app held m ∷ rest) (own_messages app held s ss ms is all.3)
 
 -- and those of the others
 abbrev AreFrom : ℕ → List Placed → Type 0
@@ -185,36 +186,36 @@ within_from : (low high : ℕ) (ms : List Placed) → AreWithin low high ms → 
 within_from low high [] all = tt
 within_from low high (m ∷ ms) all = (all.0, within_from low high ms all.3)
 
-front_within : (app : App) (asked : Asked) (count : ℕ) (s : Stretch) → AreWithin s.start (s.start + length s.bytes) (of_front app asked count s.start s.bytes)
-front_within app asked count s = messages_within app asked count s.start 0 (s.start + length s.bytes) s.bytes refl
+front_within : (framer : Framer) (asked : Asked) (count : ℕ) (s : Stretch) → AreWithin s.start (s.start + length s.bytes) (of_front framer asked count s.start s.bytes)
+front_within framer asked count s = messages_within framer asked count s.start 0 (s.start + length s.bytes) s.bytes refl
 
-stretches_from : (app : App) (asked : Asked) (held : Held) (count low : ℕ) (ss : List Stretch) → AreRuns held low ss → AreFrom low (of_stretches app asked count ss)
-stretches_from app asked held count low [] runs = tt
-stretches_from app asked held count low (s ∷ ss) runs =
-    let front : List Placed = of_front app asked count s.start s.bytes in
-    from_append low front _ (from_lower s.start low front runs.0 (within_from s.start (s.start + length s.bytes) front (front_within app asked count s)))
-    (from_lower (s.start + length s.bytes) low _ (omega (arith, runs.0)) (stretches_from app asked held (answered count front) (s.start + length s.bytes) ss runs.2))
+stretches_from : (framer : Framer) (asked : Asked) (held : Held) (count low : ℕ) (ss : List Stretch) → AreRuns held low ss → AreFrom low (of_stretches framer asked count ss)
+stretches_from framer asked held count low [] runs = tt
+stretches_from framer asked held count low (s ∷ ss) runs =
+    let front : List Placed = of_front framer asked count s.start s.bytes in
+    from_append low front _ (from_lower s.start low front runs.0 (within_from s.start (s.start + length s.bytes) front (front_within framer asked count s)))
+    (from_lower (s.start + length s.bytes) low _ (omega (arith, runs.0)) (stretches_from framer asked held (answered count front) (s.start + length s.bytes) ss runs.2))
 
-other_messages : (s : Stretch) (ss : List Stretch) (ms : List Placed) → AreFrom (s.start + length s.bytes) ms → map (message_in (s ∷ ss)) ms ≡ map (message_in ss) ms
-other_messages s ss [] all = refl
-other_messages s ss (m ∷ ms) all =
-    ap (λ (bytes : List ℕ). record { app = app_told m.told; bytes = bytes } ∷ map (message_in (s ∷ ss)) ms) (cond-false _ _ _ (le-ltb m.at (s.start + length s.bytes) all.0))
-    ∙ ap (λ (rest : List MessageShown). message_in ss m ∷ rest) (other_messages s ss ms all.1)
+other_messages : (app : App) (s : Stretch) (ss : List Stretch) (ms : List Placed) → AreFrom (s.start + length s.bytes) ms → map (message_in app (s ∷ ss)) ms ≡ map (message_in app ss) ms
+other_messages app s ss [] all = refl
+other_messages app s ss (m ∷ ms) all =
+    ap (λ (bytes : List ℕ). record { app = app; bytes = bytes } ∷ map (message_in app (s ∷ ss)) ms) (cond-false _ _ _ (le-ltb m.at (s.start + length s.bytes) all.0))
+    ∙ ap (λ (rest : List MessageShown). message_in app ss m ∷ rest) (other_messages app s ss ms all.1)
 
-all_held : (app : App) (asked : Asked) (held : Held) (count low : ℕ) (ss : List Stretch) → AreRuns held low ss
-    → map (message_in ss) (of_stretches app asked count ss) ≡ map (message_held held) (of_stretches app asked count ss)
-all_held app asked held count low [] runs = refl
-all_held app asked held count low (s ∷ ss) runs =
-    let front : List Placed = of_front app asked count s.start s.bytes in
-    let rest : List Placed = of_stretches app asked (answered count front) ss in
-    map-append (message_in (s ∷ ss)) front rest
-    ∙ ap (λ (ms : List MessageShown). ms ++ map (message_in (s ∷ ss)) rest) (own_messages held s ss front runs.1 (front_within app asked count s))
-    ∙ ap (λ (ms : List MessageShown). map (message_held held) front ++ ms)
-    (other_messages s ss rest (stretches_from app asked held (answered count front) (s.start + length s.bytes) ss runs.2) ∙ all_held app asked held (answered count front) (s.start + length s.bytes) ss runs.2)
-    ∙ sym (map-append (message_held held) front rest)
+all_held : (app : App) (framer : Framer) (asked : Asked) (held : Held) (count low : ℕ) (ss : List Stretch) → AreRuns held low ss
+    → map (message_in app ss) (of_stretches framer asked count ss) ≡ map (message_held app held) (of_stretches framer asked count ss)
+all_held app framer asked held count low [] runs = refl
+all_held app framer asked held count low (s ∷ ss) runs =
+    let front : List Placed = of_front framer asked count s.start s.bytes in
+    let rest : List Placed = of_stretches framer asked (answered count front) ss in
+    map-append (message_in app (s ∷ ss)) front rest
+    ∙ ap (λ (ms : List MessageShown). ms ++ map (message_in app (s ∷ ss)) rest) (own_messages app held s ss front runs.1 (front_within framer asked count s))
+    ∙ ap (λ (ms : List MessageShown). map (message_held app held) front ++ ms)
+    (other_messages app s ss rest (stretches_from framer asked held (answered count front) (s.start + length s.bytes) ss runs.2) ∙ all_held app framer asked held (answered count front) (s.start + length s.bytes) ss runs.2)
+    ∙ sym (map-append (message_held app held) front rest)
 
-pub stretches_held : (app : App) (asked : Asked) (stream : ℕ) (side : Bool) (ls : List Label)
-    → map (message_in (stretches (way_of stream side ls))) (of_stretches app asked 0 (stretches (way_of stream side ls)))
-    ≡ map (message_held (way_of stream side ls).held) (of_stretches app asked 0 (stretches (way_of stream side ls)))
-stretches_held app asked stream side ls =
-    all_held app asked (way_of stream side ls).held 0 0 (stretches (way_of stream side ls)) (way_runs side (sided_of stream ls))
+pub stretches_held : (app : App) (framer : Framer) (asked : Asked) (stream : ℕ) (side : Bool) (ls : List Label)
+    → map (message_in app (stretches (way_of stream side ls))) (of_stretches framer asked 0 (stretches (way_of stream side ls)))
+    ≡ map (message_held app (way_of stream side ls).held) (of_stretches framer asked 0 (stretches (way_of stream side ls)))
+stretches_held app framer asked stream side ls =
+    all_held app framer asked (way_of stream side ls).held 0 0 (stretches (way_of stream side ls)) (way_runs side (sided_of stream ls))

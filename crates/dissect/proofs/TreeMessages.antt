@@ -4,7 +4,7 @@ use Rattle.std.proofs.lemmas.Bool.{true≢false, cond-true, cond-false}
 use Rattle.pk_base.specs.declared.span.Span.{Span}
 use Rattle.pk_tree.specs.Buffers.{buffer_of, bytes_of}
 use Rattle.pk_fields.specs.FieldSets.{is_in}
-use Rattle.pk_fields.specs.Ids.{DNS, HTTP, TCP, WS_MALFORMED, WS_SHORT}
+use Rattle.pk_fields.specs.Ids.{TCP, WS_MALFORMED, WS_SHORT}
 use Rattle.pk_base.specs.declared.heads.Mode.{Mode}
 use Rattle.pk_base.specs.declared.heads.Mode.TheVariants.{Plain as PlainMode, Embedded}
 use Rattle.pk_tree.specs.declared.item.Item.{Item}
@@ -15,9 +15,10 @@ use Rattle.pk_tree.specs.declared.layout.Step.{Step}
 use Rattle.pk_tree.specs.Layouts.{end_of, fault_of, items_read, layer_read, reach, reaches_end, with_fault}
 use Rattle.pk_tree.specs.Trees.{TreeShown, layer_gets, layers_of, kept, with_buffer, with_item, with_item_at, with_last, with_layer}
 use Rattle.message_links.specs.Linked.{layer_link, layer_linked, linked, with_link}
-use Rattle.stream_messages.specs.declared.told.App.{App}
-use Rattle.stream_messages.specs.declared.told.App.TheVariants as apps
-use Rattle.dissect.specs.MessageLaws.{MessageShown, behind_tcp, has_tcp, layer_message, layer_messages, tree_messages}
+use Rattle.pk_fields.specs.declared.apps.App.{App}
+use Rattle.app_layers.specs.MessageLayers.{app_among}
+use Rattle.app_layers.specs.Rows.{framed_apps}
+use Rattle.dissect.specs.MessageLaws.{MessageShown, behind_tcp, has_tcp, layer_message, layer_messages, message_of, tree_messages}
 
 -- ---- layers without their items
 
@@ -306,13 +307,9 @@ pub some_append : (ms ns : List MessageShown) → AreSome ms → AreSome ns → 
 some_append [] ns before after = after
 some_append (m ∷ ms) ns before after = (before.0, some_append ms ns before.1 after)
 
--- a layer by its two tests
+-- a layer by its application
 abbrev message_at : App → List (List ℕ) → Span → MessageShown
 message_at app buffers span = record { app = app; bytes = bytes_of buffers span }
-
-abbrev message_by : Bool → Bool → List (List ℕ) → Span → List MessageShown
-message_by dns http buffers span =
-    if dns then message_at apps.Dns buffers span ∷ [] else (if http then message_at apps.Http buffers span ∷ [] else [])
 
 first_stays : (app : App) (buffers more : List (List ℕ)) (span : Span) (ms ns : List MessageShown) → 0 < length (bytes_of buffers span) → ns ≡ ms
     → message_at app (buffers ++ more) span ∷ ns ≡ message_at app buffers span ∷ ms
@@ -320,16 +317,15 @@ first_stays app buffers more span ms ns some same =
     ap (λ (bytes : List ℕ). record { app = app; bytes = bytes } ∷ ns) (bytes_stay buffers more span some)
     ∙ ap (λ (rest : List MessageShown). message_at app buffers span ∷ rest) same
 
-one_stays : (dns http : Bool) (buffers more : List (List ℕ)) (span : Span) (ms ns : List MessageShown) → AreSome (message_by dns http buffers span ++ ms) → (AreSome ms → ns ≡ ms)
-    → message_by dns http (buffers ++ more) span ++ ns ≡ message_by dns http buffers span ++ ms
-one_stays true http buffers more span ms ns some same = first_stays apps.Dns buffers more span ms ns some.0 (same some.1)
-one_stays false true buffers more span ms ns some same = first_stays apps.Http buffers more span ms ns some.0 (same some.1)
-one_stays false false buffers more span ms ns some same = same some
+one_stays : (app : Option App) (buffers more : List (List ℕ)) (span : Span) (ms ns : List MessageShown) → AreSome (message_of app (bytes_of buffers span) ++ ms) → (AreSome ms → ns ≡ ms)
+    → message_of app (bytes_of (buffers ++ more) span) ++ ns ≡ message_of app (bytes_of buffers span) ++ ms
+one_stays (Some app) buffers more span ms ns some same = first_stays app buffers more span ms ns some.0 (same some.1)
+one_stays None buffers more span ms ns some same = same some
 
 layers_stay : (buffers more : List (List ℕ)) (layers : List Layer) → AreSome (layer_messages buffers layers) → layer_messages (buffers ++ more) layers ≡ layer_messages buffers layers
 layers_stay buffers more [] some = refl
 layers_stay buffers more (layer ∷ layers) some =
-    one_stays (layer.proto == DNS) (layer.proto == HTTP) buffers more layer.span (layer_messages buffers layers) (layer_messages (buffers ++ more) layers) some (layers_stay buffers more layers)
+    one_stays (app_among framed_apps layer.proto) buffers more layer.span (layer_messages buffers layers) (layer_messages (buffers ++ more) layers) some (layers_stay buffers more layers)
 
 pub shows_buffer : (t : TreeShown) (ms : List MessageShown) (bytes : List ℕ) → AreSome ms → Shows t ms → Shows (with_buffer t bytes) ms
 unfolding with_buffer

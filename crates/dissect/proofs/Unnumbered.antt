@@ -17,7 +17,8 @@ use Rattle.ip_join.specs.declared.joined.Datagram.{Datagram}
 use Rattle.tcp_streams.specs.declared.segment.Taken.{Taken}
 use Rattle.tcp_streams.specs.Gaps.{lost_bytes}
 use Rattle.tcp_streams.specs.Isolation.{IsSameTaken}
-use Rattle.stream_messages.specs.declared.told.App.{App as StreamApp}
+use Rattle.pk_fields.specs.declared.apps.App.{App}
+use Rattle.app_layers.specs.declared.streamed.StreamApp.{StreamApp}
 use Rattle.tcp_messages.specs.declared.met.ShownMessage.{ShownMessage}
 use Rattle.tcp_messages.specs.declared.met.Source.{Source}
 use Rattle.tcp_messages.specs.declared.met.Source.TheVariants as sources
@@ -153,25 +154,25 @@ segments_skipped t [] out = refl
 segments_skipped t (frame ∷ frames) out =
     ap (λ (u : TreeShown). with_segments u frames) (number_skipped t TCP_SEGMENT frame out) ∙ segments_skipped t frames out
 
-sourced_same : (renumber : ℕ → ℕ) (cut : Bool) (span : Span) (t : TreeShown) (told : Told) (source : Source) → sourced_over cut span t told (source_renumbered renumber source) ≡ sourced_over cut span t told source
-sourced_same renumber cut span t told (sources.Segment place) = refl
-sourced_same renumber cut span t told (sources.Gathered g) = refl
+sourced_same : (renumber : ℕ → ℕ) (app : App) (cut : Bool) (span : Span) (t : TreeShown) (told : Told) (source : Source) → sourced_over app cut span t told (source_renumbered renumber source) ≡ sourced_over app cut span t told source
+sourced_same renumber app cut span t told (sources.Segment place) = refl
+sourced_same renumber app cut span t told (sources.Gathered g) = refl
 
-messages_same : (renumber : ℕ → ℕ) (cut : Bool) (span : Span) (t : TreeShown) (messages : List ShownMessage) → messages_over cut span t (map (shown_renumbered renumber) messages) ≡ messages_over cut span t messages
+messages_same : (renumber : ℕ → ℕ) (app : App) (cut : Bool) (span : Span) (t : TreeShown) (messages : List ShownMessage) → messages_over app cut span t (map (shown_renumbered renumber) messages) ≡ messages_over app cut span t messages
 unfolding message_over
-messages_same renumber cut span t [] = refl
-messages_same renumber cut span t (m ∷ ms) =
-    ap (λ (u : TreeShown). messages_over cut span u (map (shown_renumbered renumber) ms)) (sourced_same renumber cut span t m.message.told m.source)
-    ∙ messages_same renumber cut span (message_over cut span t m) ms
+messages_same renumber app cut span t [] = refl
+messages_same renumber app cut span t (m ∷ ms) =
+    ap (λ (u : TreeShown). messages_over app cut span u (map (shown_renumbered renumber) ms)) (sourced_same renumber app cut span t m.message.told m.source)
+    ∙ messages_same renumber app cut span (message_over app cut span t m) ms
 
 carried_same : (renumber : ℕ → ℕ) (app : Option StreamApp) (cut : Bool) (span : Span) (t : TreeShown) (messages : List ShownMessage) → is_in t.wanted TCP_SEGMENT ≡ false
     → carried_over app cut span t (map (shown_renumbered renumber) messages) ≡ carried_over app cut span t messages
 unfolding carried_over
 carried_same renumber None cut span t messages out = refl
 carried_same renumber (Some app) cut span t messages out =
-    ap (λ (u : TreeShown). messages_over cut span u (map (shown_renumbered renumber) messages)) (segments_skipped t (gathered_from (map (shown_renumbered renumber) messages)) out)
-    ∙ messages_same renumber cut span t messages
-    ∙ sym (ap (λ (u : TreeShown). messages_over cut span u messages) (segments_skipped t (gathered_from messages) out))
+    ap (λ (u : TreeShown). messages_over app.app cut span u (map (shown_renumbered renumber) messages)) (segments_skipped t (gathered_from (map (shown_renumbered renumber) messages)) out)
+    ∙ messages_same renumber app.app cut span t messages
+    ∙ sym (ap (λ (u : TreeShown). messages_over app.app cut span u messages) (segments_skipped t (gathered_from messages) out))
 
 -- a segment with its messages
 pub segment_told_same : (wanted : List ℕ) (renumber : ℕ → ℕ) (app : Option StreamApp) (cut : Bool) (span : Span) (t : TreeShown) (one other : Taken) (messages : List ShownMessage)

@@ -8,7 +8,7 @@ use Rattle.pk_source.specs.declared.header.Told.TheVariants.{Moment, Number, Rea
 use Rattle.pk_tree.specs.Trees.{TreeShown}
 use Rattle.tcp_streams.specs.declared.segment.Taken.{Taken}
 use Rattle.tcp_streams.specs.Gaps.{lost_bytes}
-use Rattle.stream_messages.specs.declared.told.App.{App as StreamApp}
+use Rattle.app_layers.specs.declared.streamed.StreamApp.{StreamApp}
 use Rattle.capture_read.specs.declared.frame.Frame.{Frame}
 use Rattle.app_layers.specs.DataLayer.{data_over}
 use Rattle.app_layers.specs.FrameLayer.{frame_span}

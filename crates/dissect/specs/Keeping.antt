@@ -1,14 +1,15 @@
 -- What is kept of conversations, and for the values of which fields that is enough.
-use Rattle.std.specs.Prelude.{◌≡◌, ℕ, Bool, true, false, ◌&&◌, List, filter, Option, Some, None}
+use Rattle.std.specs.Prelude.{◌≡◌, ◌==◌, ℕ, Bool, true, false, ◌&&◌, List, filter, Option, Some, None, IsSome}
 use Rattle.std.specs.List.{AllByRecursion as Each}
 use Rattle.dis_ports.specs.TcpOptions.{option_fields}
 use Rattle.pk_fields.specs.FieldSets.{is_in}
-use Rattle.pk_fields.specs.Ids.{DNS, DNS_RESPONSE_TO, HTTP, HTTP_REQUEST_IN, TCP_ACK, TCP_LOST, TCP_SEGMENT, TCP_SEQ, TCP_STREAM, UDP_STREAM, WS_MALFORMED, WS_SHORT, field_count}
+use Rattle.pk_fields.specs.Ids.{DNS_RESPONSE_TO, HTTP_REQUEST_IN, TCP_ACK, TCP_LOST, TCP_SEGMENT, TCP_SEQ, TCP_STREAM, UDP_STREAM, WS_MALFORMED, WS_SHORT, field_count}
 use Rattle.pk_fields.specs.declared.rules.PortRule.{PortRule}
 use Rattle.tcp_streams.specs.declared.segment.Segment.{Segment}
-use Rattle.stream_messages.specs.declared.told.App.{App as StreamApp}
-use Rattle.stream_messages.specs.declared.told.App.TheVariants.{Dns, Http}
+use Rattle.pk_fields.specs.declared.apps.App.{App}
+use Rattle.app_layers.specs.declared.streamed.StreamApp.{StreamApp}
 use Rattle.app_layers.specs.MessageLayers.{app_of_segment}
+use Rattle.app_layers.specs.Rows.{framer_of, proto_of}
 use Rattle.dissect.specs.declared.keeping.Follows.{Follows}
 use Rattle.dissect.specs.declared.keeping.Follows.TheVariants.{Nothing, Places, One, Applications, Everything}
 use Rattle.dissect.specs.declared.keeping.Keeping.{Keeping}
@@ -16,21 +17,16 @@ use Rattle.dissect.specs.Followed.{asks_any, asks_messages, asks_streams}
 
 -- ---- which segments are taken into their streams
 
-abbrev pub same_app : StreamApp → StreamApp → Bool
-same_app Dns Dns = true
-same_app Dns Http = false
-same_app Http Dns = false
-same_app Http Http = true
-
-abbrev pub is_of : StreamApp → Option StreamApp → Bool
-is_of app None = false
-is_of app (Some other) = same_app app other
+-- whether the messages of a stream are of a protocol
+abbrev pub is_of : ℕ → Option StreamApp → Bool
+is_of proto None = false
+is_of proto (Some app) = proto_of app.app == proto
 
 abbrev pub has_app : Option StreamApp → Bool
 has_app None = false
 has_app (Some app) = true
 
--- those of streams of an application, or of any
+-- those of streams of a protocol's messages, or of any application
 abbrev pub is_followed : Follows → Option StreamApp → Bool
 is_followed Nothing app = false
 is_followed Places app = false
@@ -75,18 +71,21 @@ pub record AsksNoLinks (wanted : List ℕ) : Type 0 where
   pub dns : is_in wanted DNS_RESPONSE_TO ≡ false
   pub http : is_in wanted HTTP_REQUEST_IN ≡ false
 
--- the protocol of the messages of all other streams
-abbrev pub other_proto : StreamApp → ℕ
-other_proto Dns = HTTP
-other_proto Http = DNS
+-- nothing of an application is asked, unless it is of a protocol
+abbrev pub IsOwnOrUnasked : ℕ → List ℕ → App → Type 0
+IsOwnOrUnasked proto wanted app = (proto_of app == proto) ≡ false → asks_any field_count (proto_of app) wanted ≡ false
 
--- nothing of streams is asked but the messages of one application
-pub record AsksOnly (app : StreamApp) (wanted : List ℕ) : Type 0 where
+-- nothing of any other protocol is asked whose messages are in streams
+abbrev pub AsksNoOthers : ℕ → List ℕ → Type 0
+AsksNoOthers proto wanted = (app : App) → IsSome (framer_of app) → IsOwnOrUnasked proto wanted app
+
+-- nothing of streams is asked but the messages of one protocol
+pub record AsksOnly (proto : ℕ) (wanted : List ℕ) : Type 0 where
   pub places : AsksNoPlaces wanted
   pub segment : is_in wanted TCP_SEGMENT ≡ false
   pub short : is_in wanted WS_SHORT ≡ false
   pub malformed : is_in wanted WS_MALFORMED ≡ false
-  pub others : asks_any field_count (other_proto app) wanted ≡ false
+  pub others : AsksNoOthers proto wanted
 
 -- nothing of streams is asked but messages: no place in a stream, nor what brought a message
 pub record AsksMessagesAlone (wanted : List ℕ) : Type 0 where

@@ -11,6 +11,7 @@ pub mod MessageLaws
 pub mod Notes
 pub mod Numbering
 pub mod Plain
+pub mod Protocols
 pub mod Segments
 pub mod Stands
 pub mod Tables

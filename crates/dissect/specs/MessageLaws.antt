@@ -2,7 +2,7 @@
 use Rattle.std.specs.Prelude.{◌≡◌, ◌⊎◌, ◌==◌, ℕ, ◌+◌, ◌-◌, Bool, false, ◌&&◌, ◌||◌, if◌then◌else◌, List, [], ◌∷◌, ◌++◌, length, map, take, drop, nat_lt, Option, None, Some, option_map}
 use Rattle.pk_base.specs.declared.stretch.Stretch.{Stretch}
 use Rattle.pk_tree.specs.Buffers.{bytes_of}
-use Rattle.pk_fields.specs.Ids.{DNS, HTTP, TCP, TCP_STREAM}
+use Rattle.pk_fields.specs.Ids.{TCP, TCP_STREAM}
 use Rattle.pk_fields.specs.declared.rules.PortRule.{PortRule}
 use Rattle.pk_tree.specs.declared.item.Item.{Item}
 use Rattle.pk_tree.specs.declared.layer.Layer.{Layer}
@@ -13,17 +13,16 @@ use Rattle.tcp_streams.specs.declared.segment.Segment.{Segment}
 use Rattle.tcp_streams.specs.Labels.{Label, label_of, labels, way_of}
 use Rattle.tcp_streams.specs.Ways.{stretches}
 use Rattle.stream_messages.specs.declared.placed.Placed.{Placed}
-use Rattle.stream_messages.specs.declared.told.App.{App as StreamApp}
-use Rattle.stream_messages.specs.declared.told.App.TheVariants as apps
-use Rattle.stream_messages.specs.declared.told.Told.{Told}
-use Rattle.stream_messages.specs.declared.told.Told.TheVariants as tellings
+use Rattle.pk_fields.specs.declared.apps.App.{App}
+use Rattle.app_layers.specs.declared.streamed.StreamApp.{StreamApp}
 use Rattle.stream_messages.specs.Messages.{of_stretches}
 use Rattle.stream_messages.specs.Sides.{asked_in, noted, same_side}
 use Rattle.stream_messages.specs.Tellings.{end_of}
 use Rattle.tcp_messages.specs.declared.met.ShownMessage.{ShownMessage}
 use Rattle.tcp_messages.specs.Brought.{brought}
 use Rattle.tcp_messages.specs.Shown.{bytes_from, shown_after}
-use Rattle.app_layers.specs.MessageLayers.{app_of_segment}
+use Rattle.app_layers.specs.MessageLayers.{app_among, app_of_segment, framer_of_segment}
+use Rattle.app_layers.specs.Rows.{framed_apps}
 use Rattle.dissect.specs.Events.{Event, NewFrame, Piece, Udp, Tcp}
 use Rattle.dissect.specs.Segments.{segment_from, segments_of}
 use Rattle.dissect.specs.Trees.{events_of, tree_at}
@@ -32,14 +31,16 @@ use Rattle.dissect.specs.Trees.{events_of, tree_at}
 
 -- a message: its application, and its bytes
 pub record MessageShown : Type 0 where
-  pub app : StreamApp
+  pub app : App
   pub bytes : List ℕ
 
--- a layer of DNS or HTTP is a message, which has the bytes of the layer's span
+abbrev pub message_of : Option App → List ℕ → List MessageShown
+message_of None bytes = []
+message_of (Some app) bytes = record { app = app; bytes = bytes } ∷ []
+
+-- a layer of an application whose messages streams carry is a message, which has the bytes of the layer's span
 abbrev pub layer_message : List (List ℕ) → Layer → List MessageShown
-layer_message buffers layer =
-    if layer.proto == DNS then record { app = apps.Dns; bytes = bytes_of buffers layer.span } ∷ []
-    else (if layer.proto == HTTP then record { app = apps.Http; bytes = bytes_of buffers layer.span } ∷ [] else [])
+layer_message buffers layer = message_of (app_among framed_apps layer.proto) (bytes_of buffers layer.span)
 
 abbrev pub layer_messages : List (List ℕ) → List Layer → List MessageShown
 layer_messages buffers [] = []
@@ -59,18 +60,19 @@ tree_messages t = layer_messages t.buffers (behind_tcp t.layers)
 
 -- ---- what a frame's segment shows
 
-abbrev pub app_told : Told → StreamApp
-app_told (tellings.Dns end) = apps.Dns
-app_told (tellings.Http shape) = apps.Http
+-- a message of a segment's frame, by the application of the segment's stream and the segment's payload
+abbrev pub message_shown : App → List ℕ → ShownMessage → MessageShown
+message_shown app payload m = record { app = app; bytes = bytes_from payload (end_of m.message.told) m.source }
 
--- a message of a segment's frame, by the segment's payload
-abbrev pub message_shown : List ℕ → ShownMessage → MessageShown
-message_shown payload m = record { app = app_told m.message.told; bytes = bytes_from payload (end_of m.message.told) m.source }
+-- all of them; where the stream has no application, there are none
+abbrev pub messages_shown : Option StreamApp → List ℕ → List ShownMessage → List MessageShown
+messages_shown None payload ms = []
+messages_shown (Some app) payload ms = map (message_shown app.app payload) ms
 
 -- those of a segment, given the segments before it
 abbrev pub segment_messages : List PortRule → List Segment → Option Segment → List MessageShown
 segment_messages rules past None = []
-segment_messages rules past (Some s) = map (message_shown s.payload) (shown_after (app_of_segment rules s) past s)
+segment_messages rules past (Some s) = messages_shown (app_of_segment rules s) s.payload (shown_after (framer_of_segment rules s) past s)
 
 -- the segment that the newest frame brought, if it brought one: nothing of a frame is read behind it
 abbrev pub newest_segment : List Event → Option Segment
@@ -127,8 +129,8 @@ bytes_in [] at len = []
 bytes_in (s ∷ ss) at len = if nat_lt at (s.start + length s.bytes) then take len (drop (at - s.start) s.bytes) else bytes_in ss at len
 
 -- a whole message of stretches
-abbrev pub message_in : List Stretch → Placed → MessageShown
-message_in ss m = record { app = app_told m.told; bytes = bytes_in ss m.at (end_of m.told) }
+abbrev pub message_in : App → List Stretch → Placed → MessageShown
+message_in app ss m = record { app = app; bytes = bytes_in ss m.at (end_of m.told) }
 
 -- the application of a stream, by the ports of its segments
 abbrev pub app_of_stream : List PortRule → ℕ → List Label → Option StreamApp
@@ -139,8 +141,8 @@ app_of_stream rules stream (l ∷ ls) = if l.stream == stream then app_of_segmen
 abbrev pub whole_messages : Option StreamApp → ℕ → Bool → List Label → List MessageShown
 whole_messages None stream side ls = []
 whole_messages (Some app) stream side ls =
-    map (message_in (stretches (way_of stream side ls)))
-    (of_stretches app (asked_in side (noted app (brought stream ls))) 0 (stretches (way_of stream side ls)))
+    map (message_in app.app (stretches (way_of stream side ls)))
+    (of_stretches app.framer (asked_in side (noted app.framer (brought stream ls))) 0 (stretches (way_of stream side ls)))
 
 -- ---- the laws
 

@@ -27,7 +27,7 @@ use Rattle.message_links.specs.LinkTables.{LinksStandFor}
 use Rattle.message_links.specs.Linked.{linked}
 use Rattle.message_links.specs.Links.{links_of}
 use Rattle.dissect.specs.Links.{newest_links}
-use Rattle.app_layers.specs.MessageLayers.{app_of_segment}
+use Rattle.app_layers.specs.MessageLayers.{framer_of_segment}
 use Rattle.message_links.specs.Notes.{Noted, noted_on}
 use Rattle.dissect.specs.Notes.{noted}
 use Rattle.dissect.specs.Segments.{segments_of}
@@ -54,7 +54,7 @@ pub record StandsAt (rules : List PortRule) (es : List Event) (state : State) : 
   pub joins : JoinsStandFor (fragments_of es) state.joins
   pub udp : state.keeps.numbers ≡ true → state.udp ≡ udp_opened es
   pub places : tells_places state.keeps.follows ≡ true → PlacesStandFor (segments_of es) state.places
-  pub streams : ReadsFor (app_of_segment rules) (followed_of rules state.keeps.follows (segments_of es)) state.streams
+  pub streams : ReadsFor (framer_of_segment rules) (followed_of rules state.keeps.follows (segments_of es)) state.streams
   pub links : keeps_all state.keeps ≡ true → LinksStandFor (noted rules es) state.links
   pub found : keeps_all state.keeps ≡ true → state.found.items ≡ newest_links rules es
 

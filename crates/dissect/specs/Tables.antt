@@ -1,5 +1,5 @@
 -- The tables that read the headers of plain frames.
-use Rattle.std.specs.Prelude.{◌≡◌, ◌==◌, ℕ, ◌+◌, ◌-◌, ◌≤◌, Bool, true, false, List, [], ◌∷◌, nat_le, Option, IfSome}
+use Rattle.std.specs.Prelude.{◌≡◌, ◌==◌, ℕ, ◌+◌, ◌-◌, ◌≤◌, Bool, true, false, List, [], ◌∷◌, nat_le}
 use Rattle.pk_fields.specs.Ids.{DATA, DATA_DATA, ETH, FRAME, IP, IPV6, TCP, UDP, VLAN}
 use Rattle.pk_source.specs.Picks.{ArePlaces, Knows}
 use Rattle.pk_source.specs.declared.header.Header.{Header}
@@ -54,9 +54,10 @@ tables_listed t =
     (record { proto = DATA; slots = t.payload }) ∷
     []
 
--- places that are known are those of tables that are
-abbrev pub KnownBy : Option Tables → List Picks → Type 0
-KnownBy tables places = IfSome tables (λ t. AreTables t × ArePlaces (tables_listed t) places)
+-- the tables are those, and once their places are known they are theirs
+pub record KnownBy (known : Bool) (tables : Tables) (places : List Picks) : Type 0 where
+  pub are : AreTables tables
+  pub placed : known ≡ true → ArePlaces (tables_listed tables) places
 
 -- whatever places are those of the tables, they are those of this header
 abbrev pub IsTabled : Tables → Header → Type 0

@@ -35,7 +35,7 @@ use Rattle.ip_join.specs.Stands.{joined_by}
 use Rattle.tcp_streams.specs.declared.segment.Segment.{Segment}
 use Rattle.tcp_streams.specs.declared.segment.Taken.{Taken}
 use Rattle.tcp_streams.specs.Labels.{taken_after}
-use Rattle.stream_messages.specs.declared.told.App.{App as StreamApp}
+use Rattle.app_layers.specs.declared.streamed.StreamApp.{StreamApp}
 use Rattle.tcp_messages.specs.declared.met.ShownMessage.{ShownMessage}
 use Rattle.tcp_messages.specs.Shown.{shown_after}
 use Rattle.pk_fields.specs.declared.rules.PortRule.{PortRule}
@@ -51,7 +51,7 @@ use Rattle.dissect.specs.Events.{Event, Piece, Udp, Tcp}
 use Rattle.dissect.specs.Fragments.{fragment_from, fragments_of, joined_todo}
 use Rattle.app_layers.specs.Fragments.{conflict_told, joined_told}
 use Rattle.app_layers.specs.FrameLayer.{frame_span, is_cut}
-use Rattle.app_layers.specs.MessageLayers.{app_of_segment, carried_over}
+use Rattle.app_layers.specs.MessageLayers.{app_of_segment, carried_over, framer_of_segment}
 use Rattle.app_layers.specs.Payloads.{datagram_told, segment_told}
 use Rattle.dissect.specs.Segments.{segment_from, segments_of}
 
@@ -115,7 +115,7 @@ told_met cut t es taken app messages span = stop (carried_over app cut span (seg
 -- a segment, by the segments before it
 abbrev pub taken_met : List PortRule → Bool → TreeShown → List Event → List Segment → Segment → Span → Walk
 taken_met rules cut t es past segment span =
-    told_met cut t es (taken_after past segment) (app_of_segment rules segment) (shown_after (app_of_segment rules segment) past segment) span
+    told_met cut t es (taken_after past segment) (app_of_segment rules segment) (shown_after (framer_of_segment rules segment) past segment) span
 
 -- what a TCP header carries
 unfoldable pub segment_met : List PortRule → Frame → PacketHead → TreeShown → List Event → TcpHead → Span → Walk

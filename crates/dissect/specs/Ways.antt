@@ -3,6 +3,7 @@ use Rattle.std.specs.Prelude.{◌≡◌, ◌==◌, ℕ, ◌-◌, ◌<◌, ◌≤
 use Rattle.std.specs.List.{AllByRecursion as Each}
 use Rattle.pk_base.specs.declared.span.Span.{Span}
 use Rattle.pk_base.specs.declared.heads.Mode.TheVariants.{Plain}
+use Rattle.pk_base.specs.declared.heads.PacketHead.{PacketHead}
 use Rattle.pk_fields.specs.FieldSets.{is_in}
 use Rattle.pk_fields.specs.Ids.{TCP, UDP}
 use Rattle.pk_fields.specs.declared.rules.PortRule.{PortRule}
@@ -16,17 +17,26 @@ use Rattle.pk_tree.specs.Tables.{steps_of}
 use Rattle.pk_tree.specs.Trees.{TreeShown}
 use Rattle.pk_tree.specs.declared.layout.Reach.TheVariants.{All}
 use Rattle.pk_tree.specs.declared.layout.Step.{Step}
+use Rattle.dis_ip.specs.Ip4.{ip4_packet}
+use Rattle.dis_ip.specs.Ip6.{ip6_packet}
+use Rattle.dis_ports.specs.Tcp.{tcp_head}
 use Rattle.dis_ports.specs.TcpOptions.{option_fields}
+use Rattle.dis_ports.specs.Udp.{udp_ports}
 use Rattle.capture_read.specs.declared.frame.Frame.{Frame}
-use Rattle.app_layers.specs.FrameLayer.{kept_frame}
+use Rattle.app_layers.specs.FrameLayer.{is_cut, kept_frame}
 use Rattle.app_layers.specs.declared.times.Times.{Times}
 use Rattle.dissect.specs.Carried.{frame_notes}
 use Rattle.dissect.specs.declared.todo.Head.{Head}
 use Rattle.dissect.specs.declared.ways.Carried.{Carried}
 use Rattle.dissect.specs.declared.ways.Carried.TheVariants as carries
+use Rattle.dissect.specs.declared.ways.Last.{Last}
+use Rattle.dissect.specs.declared.ways.PacketAt.{PacketAt}
+use Rattle.dissect.specs.declared.ways.PacketAt.TheVariants.{Nowhere, Four, Six}
+use Rattle.dissect.specs.declared.ways.Spot.{Spot}
 use Rattle.dissect.specs.Events.{Event}
 use Rattle.dissect.specs.Heads.{HeadsShown}
-use Rattle.dissect.specs.Walks.{Walk, all_met, chain, datagram_met, go_on, link_met, segment_met}
+use Rattle.dissect.specs.Plain.{own}
+use Rattle.dissect.specs.Walks.{Walk, all_met, chain, datagram_met, go_on, link_met, no_packet, segment_met}
 
 -- no field of the options of TCP is wanted
 abbrev pub AsksNoOptions : List ℕ → Type 0
@@ -39,6 +49,21 @@ headers_of proto headers = count_by (λ (h : Header). h.proto == proto) headers
 -- of all protocols but the frame's own nothing is told
 abbrev pub AreOfFrame : List Note → Type 0
 AreOfFrame notes = (proto : ℕ) → 0 < proto → IsUntold proto notes
+
+-- what the header says of the packet that stands there
+abbrev pub packet_at : Frame → PacketAt → PacketHead
+packet_at frame Nowhere = no_packet
+packet_at frame (Four span) = ip4_packet (is_cut frame) span (own frame span)
+packet_at frame (Six span) = ip6_packet (is_cut frame) span (own frame span)
+
+-- its header stands in the frame
+abbrev pub IsPacketIn : Frame → PacketAt → Type 0
+IsPacketIn frame Nowhere = Unit {0}
+IsPacketIn frame (Four span) = IsInside (frame.bytes ∷ []) span
+IsPacketIn frame (Six span) = IsInside (frame.bytes ∷ []) span × (40 ≤ length (own frame span))
+
+abbrev pub head_of : Frame → Spot → Head
+head_of frame spot = record { which = spot.which; span = spot.span; packet = packet_at frame spot.packet; mode = Plain }
 
 -- where a header stands, and by which steps its table reads it
 pub record IsHeaderOf (proto : ℕ) (span : Span) (holds : List Truth) (steps : List Step) (h : Header) : Type 0 where
@@ -83,18 +108,26 @@ pub record IsBegun (frame : Frame) (headers : List Header) : Type 0 where
 
 -- what is met where a header carries this
 abbrev pub carried_met : List PortRule → Frame → TreeShown → List Event → Carried → Walk
-carried_met rules frame t es (carries.Segment packet head span) =
-    segment_met rules frame packet t es head span
-carried_met rules frame t es (carries.Datagram packet head span) =
-    datagram_met rules frame packet t es head span
+carried_met rules frame t es (carries.Segment last) =
+    segment_met rules frame (packet_at frame last.packet) t es (tcp_head (own frame last.header)) last.payload
+carried_met rules frame t es (carries.Datagram last) =
+    datagram_met rules frame (packet_at frame last.packet) t es (udp_ports (own frame last.header)) last.payload
 
 abbrev pub carrier_of : Carried → ℕ
-carrier_of (carries.Segment packet head span) = TCP
-carrier_of (carries.Datagram packet head span) = UDP
+carrier_of (carries.Segment last) = TCP
+carrier_of (carries.Datagram last) = UDP
+
+abbrev pub last_of : Carried → Last
+last_of (carries.Segment last) = last
+last_of (carries.Datagram last) = last
 
 abbrev pub span_of : Carried → Span
-span_of (carries.Segment packet head span) = span
-span_of (carries.Datagram packet head span) = span
+span_of carried = (last_of carried).payload
+
+-- both headers that are looked at again stand in the frame
+pub record IsLastIn (frame : Frame) (last : Last) : Type 0 where
+  pub packet : IsPacketIn frame last.packet
+  pub header : IsInside (frame.bytes ∷ []) last.header
 
 -- the last header is the only one of its protocol
 pub record IsLast (proto : ℕ) (headers : List Header) : Type 0 where
@@ -115,15 +148,15 @@ pub record IsCarried (frame : Frame) (heads : HeadsShown) (carried : Carried) : 
       carried_met rules frame (shown frame wanted heads) es carried)
 
 -- whatever is told of the frame itself, behind the headers so far comes this one
-abbrev pub Reaches : Frame → ℕ → ℕ → List Header → Head → Type 0
-Reaches frame most count headers head =
-    (notes : List Note) → AreOfFrame notes
-    → IsAt frame most count (record { headers = headers; notes = notes }) head
+pub record Reaches (frame : Frame) (most count : ℕ) (headers : List Header) (spot : Spot) : Type 0 where
+  pub at : (notes : List Note) → AreOfFrame notes
+      → IsAt frame most count (record { headers = headers; notes = notes }) (head_of frame spot)
+  pub packet : IsPacketIn frame spot.packet
 
-abbrev pub Carries : Frame → List Header → Carried → Type 0
-Carries frame headers carried =
-    (notes : List Note) → AreOfFrame notes
-    → IsCarried frame (record { headers = headers; notes = notes }) carried
+pub record Carries (frame : Frame) (headers : List Header) (carried : Carried) : Type 0 where
+  pub is : (notes : List Note) → AreOfFrame notes
+      → IsCarried frame (record { headers = headers; notes = notes }) carried
+  pub last : IsLastIn frame (last_of carried)
 
 -- the headers begin with that of the frame itself, which with its notes stands for the tree that the walk begins with
 abbrev pub Opens : Frame → List Header → Type 0

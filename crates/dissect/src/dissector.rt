@@ -185,7 +185,7 @@ impl Dissector {
                 links: Links::new(alloc),
                 found: Vec::new(alloc),
             },
-            plain: goes_plain(&wanted, keeps),
+            plain: goes_plain(&wanted, &keeps),
             passes: !asks_datagrams(&wanted),
             spare: Spare::new(alloc),
         }
@@ -370,7 +370,7 @@ impl Dissector {
             alloc: self.alloc,
             rules: self.decode.rules.slice(),
             wanted: &self.wanted,
-            before: self.times,
+            before: &self.times,
             passes: self.passes,
         };
         match heads.take(&asked, &mut self.state, frame) {

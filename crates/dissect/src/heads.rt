@@ -34,7 +34,7 @@ pub(crate) struct Asked<'a> {
     pub alloc: Global,
     pub rules: &'a [PortRule],
     pub wanted: &'a FieldSet,
-    pub before: Times,
+    pub before: &'a Times,
     /// Whether nothing is asked of the messages of datagrams that are passed over then.
     pub passes: bool,
 }
@@ -44,9 +44,11 @@ pub(crate) struct Asked<'a> {
 pub struct Heads {
     headers: Vec<Header>,
     notes: Vec<Note>,
-    /// The tables that read the headers, once there was a plain frame, and where fields stand in them.
-    tables: Option<Tables>,
+    /// The tables that read the headers.
+    tables: Tables,
+    /// Where fields stand in them, once there was a plain frame.
     places: Places,
+    knows_places: bool,
 }
 
 impl Model for Heads {
@@ -67,7 +69,7 @@ impl Model for Heads {
 
     ghost view = { λ h. record { headers = h.headers.items; notes = h.notes.items } };
 
-    ghost invariant = { λ h. KnownBy h.tables h.places × ForAll (Knows h.places) h.headers.items };
+    ghost invariant = { λ h. KnownBy h.knows_places h.tables h.places × ForAll (Knows h.places) h.headers.items };
 }
 
 impl Drop for Heads {
@@ -77,6 +79,7 @@ impl Drop for Heads {
             notes: _notes,
             tables: _,
             places: _places,
+            knows_places: _,
         } = self;
     }
 }
@@ -90,8 +93,9 @@ impl Heads {
         Heads {
             headers: Vec::new(alloc),
             notes: Vec::new(alloc),
-            tables: None,
+            tables: Tables::all(),
             places: Places::none(alloc),
+            knows_places: false,
         }
     }
 
@@ -112,14 +116,14 @@ impl Heads {
         frame: &Frame,
     ) -> Result<bool, NoMemory>
         requires bytes { length frame.now.bytes < 2 ^ 32 }
-        requires before { AreTimes asked.now.before }
+        requires before { AreTimes asked.now.before.now }
         requires time { IfSome frame.now.time IsTime }
         requires goes { GoesPlain asked.now.wanted.now state.old.keeps }
         requires few { HasRoomForOne (length frame.now.bytes) state.old }
         requires links { AsksNoLinks asked.now.wanted.now }
         requires messages { asked.now.passes ≡ true → AsksNoDatagrams asked.now.wanted.now }
         ensures read { IfOk result (λ taken. taken ≡ true → (es : List Event) → StandsAt asked.now.rules.now es state.old
-            → IsRead asked.now.rules.now asked.now.wanted.now (kept_walk asked.now.rules.now asked.now.wanted.now asked.now.before es frame.now)
+            → IsRead asked.now.rules.now asked.now.wanted.now (kept_walk asked.now.rules.now asked.now.wanted.now asked.now.before.now es frame.now)
             state.new (outlined frame.now.bytes asked.now.wanted.now self.new.headers self.new.notes)) }
         ensures outline { IfOk result (λ taken. taken ≡ true
             → IsOutline frame.now.bytes asked.now.wanted.now self.new.headers self.new.notes) }
@@ -129,11 +133,16 @@ impl Heads {
     {
         self.headers.clear();
         self.notes.clear();
-        let tables = known_tables(asked.alloc, &mut self.tables, &mut self.places)?;
+        know_places(
+            asked.alloc,
+            &self.tables,
+            &mut self.places,
+            &mut self.knows_places,
+        )?;
         match take_headers(
             &mut self.headers,
             &mut self.notes,
-            &tables,
+            &self.tables,
             asked,
             state,
             frame,
@@ -147,23 +156,23 @@ impl Heads {
     }
 }
 
-/// The tables that read headers, of which the places are known from then on.
-fn known_tables(
+/// Finds where fields stand in the tables, where that isn't known yet.
+fn know_places(
     alloc: Global,
-    tables: &mut Option<Tables>,
+    tables: &Tables,
     places: &mut Places,
-) -> Result<Tables, NoMemory>
-    requires known { KnownBy tables.old places.old }
-    ensures known { KnownBy tables.new places.new }
-    ensures tables { IfOk result (λ tables. AreTables tables × ArePlaces (tables_listed tables) places.new) }
+    known: &mut bool,
+) -> Result<(), NoMemory>
+    requires known { KnownBy known.old tables.now places.old }
+    ensures known { KnownBy known.new tables.now places.new }
+    ensures places { OnOk result (ArePlaces (tables_listed tables.now) places.new) }
 {
-    if let Some(known) = *tables {
-        return Ok(known);
+    if *known {
+        return Ok(());
     }
-    let all = Tables::all();
-    *places = Places::new(alloc, &all.listed())?;
-    *tables = Some(all);
-    Ok(all)
+    *places = Places::new(alloc, &tables.listed())?;
+    *known = true;
+    Ok(())
 }
 
 /// Takes a frame that is plain: true, and its headers, and what is told of it, are put.
@@ -179,7 +188,7 @@ fn take_headers(
     requires untold { notes.old.items ≡ [] }
     requires tables { AreTables tables.now }
     requires bytes { length frame.now.bytes < 2 ^ 32 }
-    requires before { AreTimes asked.now.before }
+    requires before { AreTimes asked.now.before.now }
     requires time { IfSome frame.now.time IsTime }
     requires goes { GoesPlain asked.now.wanted.now state.old.keeps }
     requires few { HasRoomForOne (length frame.now.bytes) state.old }
@@ -187,7 +196,7 @@ fn take_headers(
     requires messages { asked.now.passes ≡ true → AsksNoDatagrams asked.now.wanted.now }
     ensures tabled { OnOk result (Each (IsTabled tables.now) headers.new.items) }
     ensures read { IfOk result (λ taken. taken ≡ true → (es : List Event) → StandsAt asked.now.rules.now es state.old
-        → IsRead asked.now.rules.now asked.now.wanted.now (kept_walk asked.now.rules.now asked.now.wanted.now asked.now.before es frame.now)
+        → IsRead asked.now.rules.now asked.now.wanted.now (kept_walk asked.now.rules.now asked.now.wanted.now asked.now.before.now es frame.now)
         state.new (outlined frame.now.bytes asked.now.wanted.now headers.new.items notes.new.items)) }
     ensures outline { IfOk result (λ taken. taken ≡ true
         → IsOutline frame.now.bytes asked.now.wanted.now headers.new.items notes.new.items) }
@@ -219,11 +228,11 @@ fn put_carried(
     requires untold { notes.old.items ≡ [] }
     requires tabled { Each (IsTabled tables.now) headers.old.items }
     requires bytes { length frame.now.bytes < 2 ^ 32 }
-    requires before { AreTimes asked.now.before }
+    requires before { AreTimes asked.now.before.now }
     requires time { IfSome frame.now.time IsTime }
     ensures headers { OnOk result (headers.new.items ≡ headers.old.items ++ data_headers tables.now carried.now.free carried.now.payload) }
-    ensures notes { OnOk result (notes.new.items ≡ wanted_notes asked.now.wanted.now (notes_of asked.now.before frame.now carried.now)) }
-    ensures fits { OnOk result ((buffers : List (List ℕ)) → IsInside buffers carried.now.payload → Each (NoteFits buffers) (notes_of asked.now.before frame.now carried.now)) }
+    ensures notes { OnOk result (notes.new.items ≡ wanted_notes asked.now.wanted.now (notes_of asked.now.before.now frame.now carried.now)) }
+    ensures fits { OnOk result ((buffers : List (List ℕ)) → IsInside buffers carried.now.payload → Each (NoteFits buffers) (notes_of asked.now.before.now frame.now carried.now)) }
     ensures tabled { OnOk result (Each (IsTabled tables.now) headers.new.items) }
 {
     push_data(headers, tables, carried)?;

@@ -1,13 +1,13 @@
-ghost use Rattle.std.specs.Prelude.{◌≡◌, false, true};
+ghost use Rattle.std.specs.Prelude.{◌≡◌, false, true, IfSome};
 ghost use Rattle.std.specs.List.{AllByRecursion as Each};
 ghost use Rattle.dis_ports.specs.TcpOptions.{option_fields};
 ghost use Rattle.pk_fields.specs.FieldSets.{is_in};
 ghost use Rattle.pk_fields.specs.Ids.{TCP_SEGMENT, UDP_STREAM, WS_MALFORMED, WS_SHORT, field_count};
-ghost use Rattle.dissect.specs.Followed.{asks_any, asks_messages, asks_streams};
-ghost use Rattle.dissect.specs.Keeping.{AsksNoLinks, AsksNoPlaces, FollowsEnough, GoesPlain, KeepsFor, KeepsWhole, is_everything, is_followed, keeps_all, tells_places};
+ghost use Rattle.dissect.specs.Followed.{asks_any, asks_apps, asks_messages, asks_streams};
+ghost use Rattle.dissect.specs.Keeping.{AsksNoLinks, AsksNoOthers, AsksNoPlaces, FollowsEnough, GoesPlain, IsOwnOrUnasked, KeepsFor, KeepsWhole, has_app, is_everything, is_followed, is_of, keeps_all, tells_places};
 
-use pk_fields::{FieldId, FieldSet, ids};
-use stream_messages::App as StreamApp;
+use app_layers::{StreamApp, framed_apps, proto_of};
+use pk_fields::{App, FieldId, FieldSet, ids};
 
 /// Which segments of TCP are taken into their streams; all others are passed over.
 #[derive(Clone, Copy)]
@@ -15,8 +15,8 @@ pub(crate) enum Follows {
     Nothing,
     /// None, but of each its place in its stream is told, for which no byte is kept.
     Places,
-    /// Those of streams of one application.
-    One(StreamApp),
+    /// Those of streams whose messages are of one protocol.
+    One(FieldId),
     /// Those of streams that have an application.
     Applications,
     Everything,
@@ -48,15 +48,32 @@ impl Follows {
     pub fn takes(self, app: Option<StreamApp>) -> bool
         ensures { result ≡ is_followed self app }
     {
-        match (self, app) {
-            (Follows::Nothing | Follows::Places, _)
-            | (Follows::One(_) | Follows::Applications, None) => false,
-            (Follows::One(StreamApp::Dns), Some(StreamApp::Dns)) => true,
-            (Follows::One(StreamApp::Dns), Some(StreamApp::Http)) => false,
-            (Follows::One(StreamApp::Http), Some(StreamApp::Dns)) => false,
-            (Follows::One(StreamApp::Http), Some(StreamApp::Http)) => true,
-            (Follows::Applications, Some(_)) | (Follows::Everything, _) => true,
+        match self {
+            Follows::Nothing | Follows::Places => false,
+            Follows::One(protocol) => is_of(protocol, app),
+            Follows::Applications => has_app(app),
+            Follows::Everything => true,
         }
+    }
+}
+
+/// Whether the messages of a stream are of a protocol.
+fn is_of(protocol: FieldId, app: Option<StreamApp>) -> bool
+    ensures { result ≡ is_of protocol app }
+{
+    match app {
+        None => false,
+        Some(streamed) => proto_of(streamed.app) == protocol,
+    }
+}
+
+/// Whether a stream has an application.
+fn has_app(app: Option<StreamApp>) -> bool
+    ensures { result ≡ has_app app }
+{
+    match app {
+        None => false,
+        Some(_) => true,
     }
 }
 
@@ -102,8 +119,8 @@ impl Keeping {
     }
 
     /// Whether messages are noted for links, which go by the numbers of conversations.
-    pub fn is_all(self) -> bool
-        ensures { result ≡ keeps_all self }
+    pub fn is_all(&self) -> bool
+        ensures { result ≡ keeps_all self.now }
     {
         self.follows.is_everything() && self.numbers
     }
@@ -111,8 +128,8 @@ impl Keeping {
 
 /// Whether the headers of plain frames may answer for the wanted fields: none of them is of the options of TCP, and not all
 /// streams are followed.
-pub(crate) fn goes_plain(wanted: &FieldSet, keeps: Keeping) -> bool
-    ensures { result ≡ true → GoesPlain wanted.now keeps }
+pub(crate) fn goes_plain(wanted: &FieldSet, keeps: &Keeping) -> bool
+    ensures { result ≡ true → GoesPlain wanted.now keeps.now }
 {
     !keeps.follows.is_everything() && !asks_options(wanted)
 }
@@ -181,13 +198,43 @@ fn taken_for_messages(wanted: &FieldSet) -> Follows
     if asks_faults(wanted) {
         return Follows::Applications;
     }
-    if !asks_any(wanted, ids::HTTP) {
-        return Follows::One(StreamApp::Dns);
+    match only_protocol(wanted) {
+        Some(protocol) => Follows::One(protocol),
+        None => Follows::Applications,
     }
-    if !asks_any(wanted, ids::DNS) {
-        return Follows::One(StreamApp::Http);
+}
+
+/// A protocol, where of all others whose messages streams carry nothing may be asked.
+fn only_protocol(wanted: &FieldSet) -> Option<FieldId>
+    ensures { IfSome result (λ protocol. AsksNoOthers protocol wanted.now) }
+{
+    for app in framed_apps() {
+        let protocol = proto_of(*app);
+        if asks_it_alone(wanted, protocol) {
+            return Some(protocol);
+        }
     }
-    Follows::Applications
+    None
+}
+
+/// Whether nothing may be asked of the other protocols whose messages streams carry.
+fn asks_it_alone(wanted: &FieldSet, protocol: FieldId) -> bool
+    ensures { result ≡ true → AsksNoOthers protocol wanted.now }
+{
+    asks_no_others(wanted, protocol, framed_apps())
+}
+
+/// Whether nothing may be asked of those of applications that are of another protocol.
+fn asks_no_others(wanted: &FieldSet, protocol: FieldId, apps: &[App]) -> bool
+    ensures { result ≡ true → Each (IsOwnOrUnasked protocol wanted.now) apps.now }
+{
+    for app in apps {
+        let other = proto_of(*app);
+        if other != protocol && asks_any(wanted, other) {
+            return false;
+        }
+    }
+    true
 }
 
 /// Whether links of messages may be asked.
@@ -235,8 +282,19 @@ fn asks_messages(wanted: &FieldSet) -> bool
     wanted.contains(ids::TCP_SEGMENT)
         || wanted.contains(ids::WS_SHORT)
         || wanted.contains(ids::WS_MALFORMED)
-        || asks_any(wanted, ids::HTTP)
-        || asks_any(wanted, ids::DNS)
+        || asks_apps(wanted, framed_apps())
+}
+
+/// Whether something may be asked of one of these applications.
+pub(crate) fn asks_apps(wanted: &FieldSet, apps: &[App]) -> bool
+    ensures { result ≡ false → asks_apps apps.now wanted.now ≡ false }
+{
+    for app in apps {
+        if asks_any(wanted, proto_of(*app)) {
+            return true;
+        }
+    }
+    false
 }
 
 /// Whether a protocol or a field of it may be asked.

@@ -2,6 +2,12 @@
 ghost use Rattle.dissect.specs.Isolation.{OtherFrameLeftOut, OthersLeftOut, OthersPutIn, TreesStandAlone};
 ghost use Rattle.dissect.specs.MessageLaws.{FramesShow, FramesTell, MessagesInTrees};
 ghost use Rattle.dissect.specs.Numbering.{BringsTheSame, OthersTakenOut, TreesButNumbers};
+ghost use Rattle.dissect.specs.Protocols.{LayersAreOnes};
+
+/// Each layer of a frame's tree is of one of the protocols that layers are of.
+pub fn layers_have_protocols()
+    ensures { LayersAreOnes }
+{}
 
 /// Behind its last layer of TCP, a frame's tree shows the messages that the frame's segment brings, each with its bytes.
 /// That layer tells the number of the segment's stream.

@@ -1,8 +1,8 @@
-ghost use Rattle.std.specs.Prelude.{◌≡◌, ◌∷◌, All, List, map, true, OnOk};
+ghost use Rattle.std.specs.Prelude.{◌≡◌, ◌∷◌, All, List, true, OnOk};
 ghost use Rattle.pk_fields.specs.declared.rules.PortRule.{PortRule as PortRuleValue};
 ghost use Rattle.tcp_messages.specs.Shown.{IsWholeIn};
 ghost use Rattle.dissect.specs.Events.{Event, NewFrame};
-ghost use Rattle.message_links.specs.Notes.{datagram_notes, message_note, tcp_direction, udp_direction};
+ghost use Rattle.message_links.specs.Notes.{datagram_notes, shown_notes, tcp_direction, udp_direction};
 ghost use Rattle.dissect.specs.Keeping.{keeps_all};
 ghost use Rattle.dissect.specs.Stands.{StandsAt, AddsAtMost, IsLinked, IsSameButLinks, bytes_kept};
 
@@ -52,18 +52,19 @@ impl State {
         &mut self,
         frame: u32,
         met: &Met,
+        app: Option<App>,
         payload: &[u8],
     ) -> Result<(), NoMemory>
         requires whole { All (IsWholeIn payload.now) met.now.messages }
         ensures links { OnOk result (keeps_all self.old.keeps ≡ true
-            → IsLinked frame (tcp_direction met.now.taken) (map
-            (message_note payload.now) met.now.messages) self.old self.new) }
+            → IsLinked frame (tcp_direction met.now.taken)
+            (shown_notes app payload.now met.now.messages) self.old self.new) }
         ensures same { IsSameButLinks self.old self.new }
     {
         if !self.keeps.is_all() {
             return Ok(());
         }
-        let notes = self.links.notes(payload, met.messages.slice())?;
+        let notes = self.links.notes(app, payload, met.messages.slice())?;
         self.link_all(frame, tcp_direction(&met.taken), &notes)
     }
 

@@ -1,4 +1,4 @@
-ghost use Rattle.std.specs.Prelude.{◌≡◌, ◌+◌, ◌<◌, ◌^◌, All, Bool, true, List, [], length, map, IfOk, OnOk};
+ghost use Rattle.std.specs.Prelude.{◌≡◌, ◌+◌, ◌<◌, ◌^◌, All, Bool, true, List, [], length, IfOk, OnOk};
 ghost use Rattle.pk_base.specs.declared.heads.PacketHead.{PacketHead as PacketValue};
 ghost use Rattle.pk_base.specs.declared.heads.TcpHead.{TcpHead as TcpValue};
 ghost use Rattle.pk_fields.specs.declared.rules.PortRule.{PortRule as PortRuleValue};
@@ -8,8 +8,8 @@ ghost use Rattle.tcp_streams.specs.Labels.{PassesNear};
 ghost use Rattle.tcp_messages.specs.Shown.{IsWholeIn, frames_told as gathered_from};
 ghost use Rattle.dissect.specs.Events.{Event};
 ghost use Rattle.app_layers.specs.FrameLayer.{is_cut};
-ghost use Rattle.message_links.specs.Notes.{message_note, tcp_direction};
-ghost use Rattle.app_layers.specs.MessageLayers.{app_of_segment, carried_over, stream_app};
+ghost use Rattle.message_links.specs.Notes.{shown_notes, tcp_direction};
+ghost use Rattle.app_layers.specs.MessageLayers.{app_of_segment, application, carried_over, stream_app};
 ghost use Rattle.app_layers.specs.Payloads.{LastIs, carried_told, segment_told};
 ghost use Rattle.dissect.specs.Keeping.{is_followed, keeps_all, tells_places};
 ghost use Rattle.dissect.specs.Segments.{segment_from};
@@ -18,12 +18,14 @@ ghost use Rattle.dissect.specs.Walks.{IsTodoInside, segment_met};
 
 use crate::state::{State, let_go};
 use crate::todo::Todo;
-use app_layers::{add_carried, add_passed, is_cut, stream_app, tell_carried, tell_segment};
+use app_layers::{
+    StreamApp, add_carried, add_passed, application, framing, is_cut, stream_app, tell_carried,
+    tell_segment,
+};
 use capture_read::Frame;
 use pk_base::{Endpoint, NoMemory, Octets, PacketHead, Span, TcpHead};
 use pk_fields::PortRule;
 use pk_tree::TreeBuilder;
-use stream_messages::App as StreamApp;
 use tcp_messages::Met;
 use tcp_streams::{Segment, Taken};
 
@@ -159,7 +161,7 @@ impl State {
         ensures added { AddsAtMost 1 self.old self.new }
     {
         let _streams = self.streams.streams();
-        let met = self.streams.take(segment, app)?;
+        let met = self.streams.take(segment, framing(app))?;
         match self.show_met(frame, &met, app, segment.payload.bytes(), span, tree) {
             Ok(()) => {
                 let_go(met);
@@ -192,13 +194,13 @@ impl State {
         requires payload { payload.now ≡ bytes_of tree.old.buffers span }
         requires whole { All (IsWholeIn payload.now) met.now.messages }
         ensures links { OnOk result (keeps_all self.old.keeps ≡ true
-            → IsLinked frame.now.number (tcp_direction met.now.taken) (map
-            (message_note payload.now) met.now.messages) self.old self.new) }
+            → IsLinked frame.now.number (tcp_direction met.now.taken)
+            (shown_notes (application app) payload.now met.now.messages) self.old self.new) }
         ensures same { IsSameButLinks self.old self.new }
         ensures tree { OnOk result (tree.new ≡ carried_over app (is_cut frame.now) span
             (segment_told tree.old met.now.taken span) met.now.messages) }
     {
-        self.link_segment(frame.number, met, payload)?;
+        self.link_segment(frame.number, met, application(app), payload)?;
         tell_segment(&met.taken, span, tree)?;
         add_carried(app, met, is_cut(frame), span, tree)
     }

@@ -1,18 +1,17 @@
 // What is told of a plain frame beside the rows of its headers.
-ghost use Rattle.std.specs.Prelude.{◌≡◌, ◌<◌, ◌^◌, ◌∷◌, [], ◌++◌, List, ℕ, length, None, Some, IfSome, OnOk};
+ghost use Rattle.std.specs.Prelude.{◌≡◌, ◌==◌, ◌<◌, ◌^◌, ◌∷◌, [], ◌++◌, List, ℕ, if◌then◌else◌, length, IfSome, OnOk};
 ghost use Rattle.std.specs.List.{AllByRecursion as Each};
 ghost use Rattle.capture_read.specs.FrameList.{IsTime};
-ghost use Rattle.pk_fields.specs.Fields.{row_of};
+ghost use Rattle.pk_fields.specs.Ids.{FRAME_CAP_LEN, FRAME_LEN};
 ghost use Rattle.pk_source.specs.Outlines.{NoteFits, wanted_notes};
 ghost use Rattle.pk_tree.specs.Buffers.{IsInside};
-ghost use Rattle.pk_tree.specs.Values.{IsOfKind};
 ghost use Rattle.app_layers.specs.Times.{AreTimes};
-ghost use Rattle.dissect.specs.Carried.{bytes_notes, carrier_notes, conversation_notes, data_notes, frame_notes, lost_notes, moment_note, notes_of, number_note, place_notes, read_note, segment_notes};
+ghost use Rattle.dissect.specs.Carried.{ack_notes, bytes_notes, carrier_notes, conversation_notes, data_notes, frame_notes, lost_notes, moment_note, notes_of, number_note, place_notes, read_note, segment_notes, time_notes};
 
 use crate::carried::{Carried, Carrier, Place, has_data};
 use app_layers::{Times, captured, since};
 use capture_read::Frame;
-use pk_base::{NoMemory, Span, Value};
+use pk_base::{NoMemory, Span};
 use pk_fields::{FieldId, FieldSet, ids};
 use pk_source::{Note, Told};
 
@@ -20,16 +19,16 @@ use pk_source::{Note, Told};
 pub(crate) fn push_notes(
     notes: &mut Vec<Note>,
     wanted: &FieldSet,
-    before: Times,
+    before: &Times,
     frame: &Frame,
     carried: &Carried,
 ) -> Result<(), NoMemory>
     requires bytes { length frame.now.bytes < 2 ^ 32 }
-    requires before { AreTimes before }
+    requires before { AreTimes before.now }
     requires time { IfSome frame.now.time IsTime }
     requires none { notes.old.items ≡ [] }
-    ensures notes { OnOk result (notes.new.items ≡ wanted_notes wanted.now (notes_of before frame.now carried.now)) }
-    ensures fits { OnOk result ((buffers : List (List ℕ)) → IsInside buffers carried.now.payload → Each (NoteFits buffers) (notes_of before frame.now carried.now)) }
+    ensures notes { OnOk result (notes.new.items ≡ wanted_notes wanted.now (notes_of before.now frame.now carried.now)) }
+    ensures fits { OnOk result ((buffers : List (List ℕ)) → IsInside buffers carried.now.payload → Each (NoteFits buffers) (notes_of before.now frame.now carried.now)) }
 {
     let payload = carried.payload;
     tell_frame(notes, wanted, before, frame)?;
@@ -38,35 +37,69 @@ pub(crate) fn push_notes(
 }
 
 /// Tells of the frame itself: its number, its time, its lengths.
+#[inline(always)]
 #[tactic(auto, unfolding(crate::specs::Carried::frame_notes, pk_fields::specs::Fields::row_of, pk_fields::specs::Table::rows))]
 fn tell_frame(
     notes: &mut Vec<Note>,
     wanted: &FieldSet,
-    before: Times,
+    before: &Times,
     frame: &Frame,
 ) -> Result<(), NoMemory>
     requires bytes { length frame.now.bytes < 2 ^ 32 }
-    requires before { AreTimes before }
+    requires before { AreTimes before.now }
     requires time { IfSome frame.now.time IsTime }
-    ensures notes { OnOk result (notes.new.items ≡ notes.old.items ++ wanted_notes wanted.now (frame_notes before frame.now)) }
-    ensures fits { OnOk result ((buffers : List (List ℕ)) → Each (NoteFits buffers) (frame_notes before frame.now)) }
+    ensures notes { OnOk result (notes.new.items ≡ notes.old.items ++ wanted_notes wanted.now (frame_notes before.now frame.now)) }
+    ensures fits { OnOk result ((buffers : List (List ℕ)) → Each (NoteFits buffers) (frame_notes before.now frame.now)) }
 {
-    let first = number_note(ids::FRAME_NUMBER, frame.number);
-    let wire = number_note(ids::FRAME_LEN, frame.original);
-    let captured = number_note(ids::FRAME_CAP_LEN, captured(frame));
-    match frame.time {
-        Some(time) => {
-            let epoch = moment_note(ids::FRAME_TIME_EPOCH, time);
-            let relative = moment_note(ids::FRAME_TIME_RELATIVE, since(before.first, time));
-            let delta = moment_note(ids::FRAME_TIME_DELTA, since(before.latest, time));
-            tell_all(
-                notes,
-                wanted,
-                &[first, epoch, relative, delta, wire, captured],
-            )
-        }
-        None => tell_all(notes, wanted, &[first, wire, captured]),
-    }
+    tell_number(notes, wanted, ids::FRAME_NUMBER, frame.number)?;
+    tell_times(notes, wanted, before, frame.time)?;
+    tell_lengths(notes, wanted, frame.original, captured(frame))
+}
+
+#[inline(always)]
+#[tactic(auto, unfolding(pk_fields::specs::Fields::row_of, pk_fields::specs::Table::rows))]
+fn tell_times(
+    notes: &mut Vec<Note>,
+    wanted: &FieldSet,
+    before: &Times,
+    time: Option<i128>,
+) -> Result<(), NoMemory>
+    requires before { AreTimes before.now }
+    requires time { IfSome time IsTime }
+    ensures notes { OnOk result (notes.new.items ≡ notes.old.items ++ wanted_notes wanted.now (time_notes before.now time)) }
+{
+    let Some(time) = time else {
+        return Ok(());
+    };
+    tell_moment(notes, wanted, ids::FRAME_TIME_EPOCH, time)?;
+    tell_moment(
+        notes,
+        wanted,
+        ids::FRAME_TIME_RELATIVE,
+        since(before.first, time),
+    )?;
+    tell_moment(
+        notes,
+        wanted,
+        ids::FRAME_TIME_DELTA,
+        since(before.latest, time),
+    )
+}
+
+#[inline(always)]
+#[tactic(auto, unfolding(pk_fields::specs::Fields::row_of, pk_fields::specs::Table::rows))]
+fn tell_lengths(
+    notes: &mut Vec<Note>,
+    wanted: &FieldSet,
+    wire: u32,
+    captured: u32,
+) -> Result<(), NoMemory>
+    ensures notes { OnOk result (notes.new.items ≡ notes.old.items
+        ++ wanted_notes wanted.now (number_note FRAME_LEN wire ∷ number_note FRAME_CAP_LEN captured ∷ [])) }
+    ensures small { (wire < 2 ^ 32) × (captured < 2 ^ 32) }
+{
+    tell_number(notes, wanted, ids::FRAME_LEN, wire)?;
+    tell_number(notes, wanted, ids::FRAME_CAP_LEN, captured)
 }
 
 /// Tells what stands in the last header's layer.
@@ -100,6 +133,7 @@ fn tell_segment(
     tell_lost(notes, wanted, place)
 }
 
+#[inline(always)]
 #[tactic(auto, unfolding(crate::specs::Carried::place_notes, pk_fields::specs::Fields::row_of, pk_fields::specs::Table::rows))]
 fn tell_place(
     notes: &mut Vec<Note>,
@@ -110,33 +144,35 @@ fn tell_place(
     ensures fits { OnOk result ((buffers : List (List ℕ)) → Each (NoteFits buffers) (place_notes place.now)) }
 {
     let Some(place) = place else {
-        return tell_all(notes, wanted, &[]);
+        return Ok(());
     };
-    let stream = number_note(ids::TCP_STREAM, place.stream);
-    let seq = number_note(ids::TCP_SEQ, place.seq);
-    match place.ack {
-        Some(ack) => tell_all(
-            notes,
-            wanted,
-            &[stream, seq, number_note(ids::TCP_ACK, ack)],
-        ),
-        None => tell_all(notes, wanted, &[stream, seq]),
+    tell_number(notes, wanted, ids::TCP_STREAM, place.stream)?;
+    tell_number(notes, wanted, ids::TCP_SEQ, place.seq)?;
+    tell_ack(notes, wanted, place.ack)
+}
+
+#[tactic(auto, unfolding(pk_fields::specs::Fields::row_of, pk_fields::specs::Table::rows))]
+fn tell_ack(notes: &mut Vec<Note>, wanted: &FieldSet, ack: Option<u32>) -> Result<(), NoMemory>
+    ensures notes { OnOk result (notes.new.items ≡ notes.old.items ++ wanted_notes wanted.now (ack_notes ack)) }
+    ensures fits { (buffers : List (List ℕ)) → Each (NoteFits buffers) (ack_notes ack) }
+{
+    match ack {
+        Some(ack) => tell_number(notes, wanted, ids::TCP_ACK, ack),
+        None => Ok(()),
     }
 }
 
+#[inline(always)]
 #[tactic(auto, unfolding(crate::specs::Carried::bytes_notes, pk_fields::specs::Fields::row_of, pk_fields::specs::Table::rows))]
 fn tell_bytes(notes: &mut Vec<Note>, wanted: &FieldSet, span: Span) -> Result<(), NoMemory>
     ensures notes { OnOk result (notes.new.items ≡ notes.old.items ++ wanted_notes wanted.now (bytes_notes span)) }
     ensures fits { OnOk result ((buffers : List (List ℕ)) → IsInside buffers span → Each (NoteFits buffers) (bytes_notes span)) }
 {
-    let len = number_note(ids::TCP_LEN, span.len);
-    if span.len == 0 {
-        tell_all(notes, wanted, &[len])
-    } else {
-        tell_all(notes, wanted, &[len, read_note(ids::TCP_PAYLOAD, span)])
-    }
+    tell_number(notes, wanted, ids::TCP_LEN, span.len)?;
+    tell_payload(notes, wanted, ids::TCP_PAYLOAD, span)
 }
 
+#[inline(always)]
 #[tactic(auto, unfolding(crate::specs::Carried::lost_notes, pk_fields::specs::Fields::row_of, pk_fields::specs::Table::rows))]
 fn tell_lost(
     notes: &mut Vec<Note>,
@@ -147,10 +183,8 @@ fn tell_lost(
     ensures fits { OnOk result ((buffers : List (List ℕ)) → Each (NoteFits buffers) (lost_notes place.now)) }
 {
     match place {
-        Some(place) if place.lost != 0 => {
-            tell_all(notes, wanted, &[number_note(ids::TCP_LOST, place.lost)])
-        }
-        _ => tell_all(notes, wanted, &[]),
+        Some(place) if place.lost != 0 => { tell_number(notes, wanted, ids::TCP_LOST, place.lost) }
+        _ => Ok(()),
     }
 }
 
@@ -165,14 +199,11 @@ fn tell_conversation(
     ensures notes { OnOk result (notes.new.items ≡ notes.old.items ++ wanted_notes wanted.now (conversation_notes stream span)) }
     ensures fits { OnOk result ((buffers : List (List ℕ)) → IsInside buffers span → Each (NoteFits buffers) (conversation_notes stream span)) }
 {
-    let number = number_note(ids::UDP_STREAM, stream);
-    if span.len == 0 {
-        tell_all(notes, wanted, &[number])
-    } else {
-        tell_all(notes, wanted, &[number, read_note(ids::UDP_PAYLOAD, span)])
-    }
+    tell_number(notes, wanted, ids::UDP_STREAM, stream)?;
+    tell_payload(notes, wanted, ids::UDP_PAYLOAD, span)
 }
 
+#[inline(always)]
 #[tactic(auto, unfolding(crate::specs::Carried::data_notes, pk_fields::specs::Fields::row_of, pk_fields::specs::Table::rows))]
 fn tell_data(
     notes: &mut Vec<Note>,
@@ -184,57 +215,64 @@ fn tell_data(
     ensures fits { OnOk result ((buffers : List (List ℕ)) → Each (NoteFits buffers) (data_notes free span)) }
 {
     if has_data(free, span) {
-        tell_all(notes, wanted, &[number_note(ids::DATA_LEN, span.len)])
+        tell_number(notes, wanted, ids::DATA_LEN, span.len)
     } else {
-        tell_all(notes, wanted, &[])
+        Ok(())
     }
 }
 
-/// Tells those of the wanted fields.
+/// Tells a number, where its field is wanted.
+#[inline(always)]
 #[tactic(auto, unfolding(pk_source::specs::Outlines::wanted_notes))]
-fn tell_all(notes: &mut Vec<Note>, wanted: &FieldSet, told: &[Note]) -> Result<(), NoMemory>
-    ensures notes { OnOk result (notes.new.items ≡ notes.old.items ++ wanted_notes wanted.now told.now) }
-{
-    for note in told {
-        tell(notes, wanted, note)?;
-    }
-    Ok(())
-}
-
-#[tactic(auto, unfolding(pk_source::specs::Outlines::wanted_notes))]
-fn tell(notes: &mut Vec<Note>, wanted: &FieldSet, note: &Note) -> Result<(), NoMemory>
-    ensures { OnOk result (notes.new.items ≡ notes.old.items ++ wanted_notes wanted.now (note.now ∷ [])) }
-{
-    if wanted.contains(note.field) {
-        notes.push(*note)?;
-    }
-    Ok(())
-}
-
-fn number_note(field: FieldId, number: u32) -> Note
-    ensures note { result ≡ number_note field number }
+fn tell_number(
+    notes: &mut Vec<Note>,
+    wanted: &FieldSet,
+    field: FieldId,
+    number: u32,
+) -> Result<(), NoMemory>
+    ensures notes { OnOk result (notes.new.items ≡ notes.old.items ++ wanted_notes wanted.now (number_note field number ∷ [])) }
     ensures small { number < 2 ^ 32 }
 {
-    Note {
-        field,
-        told: Told::Number(u64::from(number)),
+    if wanted.contains(field) {
+        let told = Told::Number(u64::from(number));
+        notes.push(Note { field, told })?;
     }
+    Ok(())
 }
 
-fn moment_note(field: FieldId, time: i128) -> Note
-    ensures { result ≡ moment_note field time }
+/// Tells a time, where its field is wanted.
+#[inline(always)]
+#[tactic(auto, unfolding(pk_source::specs::Outlines::wanted_notes))]
+fn tell_moment(
+    notes: &mut Vec<Note>,
+    wanted: &FieldSet,
+    field: FieldId,
+    time: i128,
+) -> Result<(), NoMemory>
+    ensures { OnOk result (notes.new.items ≡ notes.old.items ++ wanted_notes wanted.now (moment_note field time ∷ [])) }
 {
-    Note {
-        field,
-        told: Told::Moment(time),
+    if wanted.contains(field) {
+        let told = Told::Moment(time);
+        notes.push(Note { field, told })?;
     }
+    Ok(())
 }
 
-fn read_note(field: FieldId, span: Span) -> Note
-    ensures { result ≡ read_note field span }
+/// Tells where the bytes that are carried stand, where there are some and their field is wanted.
+#[inline(always)]
+#[tactic(auto, unfolding(pk_source::specs::Outlines::wanted_notes))]
+fn tell_payload(
+    notes: &mut Vec<Note>,
+    wanted: &FieldSet,
+    field: FieldId,
+    span: Span,
+) -> Result<(), NoMemory>
+    ensures { OnOk result (notes.new.items ≡ notes.old.items
+        ++ wanted_notes wanted.now (if span.len == 0 then [] else read_note field span ∷ [])) }
 {
-    Note {
-        field,
-        told: Told::Read(span),
+    if span.len != 0 && wanted.contains(field) {
+        let told = Told::Read(span);
+        notes.push(Note { field, told })?;
     }
+    Ok(())
 }

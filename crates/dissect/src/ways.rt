@@ -11,29 +11,65 @@ ghost use Rattle.dis_ip.specs.Ip6.{ip6_layout, ip6_version};
 ghost use Rattle.dis_ports.specs.Tcp.{header_len, tcp_rows};
 ghost use Rattle.dis_ports.specs.Udp.{is_udp_length, udp_layout, udp_length};
 ghost use Rattle.dissect.specs.Tables.{AreTables, IsTabled};
-ghost use Rattle.dissect.specs.Ways.{Carries, IsBegun, IsHeaderOf, Reaches, headers_of};
+ghost use Rattle.dissect.specs.Ways.{Carries, IsBegun, IsHeaderOf, IsPacketIn, Reaches, headers_of, packet_at};
 
 use crate::plain::own;
 use crate::tables::Tables;
-use crate::todo::Head;
 use crate::walk::no_packet;
 use app_layers::{frame_span, is_cut};
 use capture_read::Frame;
 use dis_ip::{behind_ip4, behind_ip6, head_of_ip4, head_of_ip6};
 use dis_link::{behind_ethernet, behind_vlan};
-use dis_ports::{behind_tcp, behind_udp, tcp_head, udp_ports};
-use pk_base::{Mode, Next, NoMemory, PacketHead, PortsHead, Span, TcpHead};
+use dis_ports::{behind_tcp, behind_udp};
+use pk_base::{Next, NoMemory, PacketHead, Span};
 use pk_fields::ids;
 use pk_source::Header;
 
 /// LINKTYPE_ETHERNET of tcpdump.org's registry.
 const ETHERNET: u16 = 1;
 
-/// What the last header of a plain frame carries, with what the IP header says of its packet.
+/// Where the packet stands that the later headers are in, so that its header is read again only where it is needed.
+#[derive(Clone, Copy)]
+pub(crate) enum PacketAt {
+    Nowhere,
+    Four(Span),
+    Six(Span),
+}
+
+/// A header of a plain frame that is to be read.
+#[derive(Clone, Copy)]
+pub(crate) struct Spot {
+    pub which: Next,
+    pub span: Span,
+    pub packet: PacketAt,
+}
+
+/// Where the last header of a plain frame stands, and what it carries.
+#[derive(Clone, Copy)]
+pub(crate) struct Last {
+    pub packet: PacketAt,
+    pub header: Span,
+    pub payload: Span,
+}
+
+/// What the last header of a plain frame carries.
 #[derive(Clone, Copy)]
 pub(crate) enum Carried {
-    Segment(PacketHead, TcpHead, Span),
-    Datagram(PacketHead, PortsHead, Span),
+    Segment(Last),
+    Datagram(Last),
+}
+
+/// What the header says of a packet.
+pub(crate) fn packet_at(frame: &Frame, packet: PacketAt) -> PacketHead
+    requires bytes { length frame.now.bytes < 2 ^ 32 }
+    requires packet { IsPacketIn frame.now packet }
+    ensures { result ≡ packet_at frame.now packet }
+{
+    match packet {
+        PacketAt::Nowhere => no_packet(),
+        PacketAt::Four(span) => head_of_ip4(span, is_cut(frame), own(frame, span)),
+        PacketAt::Six(span) => head_of_ip6(span, is_cut(frame), own(frame, span)),
+    }
 }
 
 /// Reads the headers of a frame of Ethernet, at most two tags, IPv4 in one piece or IPv6, and TCP or UDP, where each is whole:
@@ -52,7 +88,7 @@ pub(crate) fn read_way(
     ensures tabled { OnOk result (Each (IsTabled tables.now) headers.new.items) }
 {
     match push_ethernet(tables, frame, headers)? {
-        Some(head) => read_tags(tables, frame, head, headers),
+        Some(spot) => read_tags(tables, frame, spot, headers),
         None => Ok(None),
     }
 }
@@ -62,7 +98,7 @@ fn push_ethernet(
     tables: &Tables,
     frame: &Frame,
     headers: &mut Vec<Header>,
-) -> Result<Option<Head>, NoMemory>
+) -> Result<Option<Spot>, NoMemory>
     requires bytes { length frame.now.bytes < 2 ^ 32 }
     requires tables { AreTables tables.now }
     requires tabled { Each (IsTabled tables.now) headers.old.items }
@@ -80,11 +116,10 @@ fn push_ethernet(
     match behind_ethernet(span, own(frame, span)) {
         Some((which, inner)) => {
             push_all(headers, &[ethernet_header(tables, span)])?;
-            Ok(Some(Head {
+            Ok(Some(Spot {
                 which,
                 span: inner,
-                packet: no_packet(),
-                mode: Mode::Plain,
+                packet: PacketAt::Nowhere,
             }))
         }
         None => Ok(None),
@@ -95,20 +130,20 @@ fn push_ethernet(
 fn read_tags(
     tables: &Tables,
     frame: &Frame,
-    head: Head,
+    spot: Spot,
     headers: &mut Vec<Header>,
 ) -> Result<Option<Carried>, NoMemory>
     requires bytes { length frame.now.bytes < 2 ^ 32 }
     requires tables { AreTables tables.now }
     requires tabled { Each (IsTabled tables.now) headers.old.items }
-    requires at { Reaches frame.now VLAN 2 headers.old.items head }
+    requires at { Reaches frame.now VLAN 2 headers.old.items spot }
     requires tags { headers_of VLAN headers.old.items ≡ 0 }
     ensures carried { IfOk result (λ found. IfSome found (Carries frame.now headers.new.items)) }
     ensures start { OnOk result (take 1 headers.new.items ≡ take 1 headers.old.items) }
     ensures tabled { OnOk result (Each (IsTabled tables.now) headers.new.items) }
 {
-    match push_tag(tables, frame, head, 1, headers)? {
-        Some(head) => read_second_tag(tables, frame, head, headers),
+    match push_tag(tables, frame, spot, 1, headers)? {
+        Some(spot) => read_second_tag(tables, frame, spot, headers),
         None => Ok(None),
     }
 }
@@ -116,20 +151,20 @@ fn read_tags(
 fn read_second_tag(
     tables: &Tables,
     frame: &Frame,
-    head: Head,
+    spot: Spot,
     headers: &mut Vec<Header>,
 ) -> Result<Option<Carried>, NoMemory>
     requires bytes { length frame.now.bytes < 2 ^ 32 }
     requires tables { AreTables tables.now }
     requires tabled { Each (IsTabled tables.now) headers.old.items }
-    requires at { Reaches frame.now VLAN 3 headers.old.items head }
-    requires nth { head.which ≡ Next.Vlan → headers_of VLAN headers.old.items ≡ 1 }
+    requires at { Reaches frame.now VLAN 3 headers.old.items spot }
+    requires nth { spot.which ≡ Next.Vlan → headers_of VLAN headers.old.items ≡ 1 }
     ensures carried { IfOk result (λ found. IfSome found (Carries frame.now headers.new.items)) }
     ensures start { OnOk result (take 1 headers.new.items ≡ take 1 headers.old.items) }
     ensures tabled { OnOk result (Each (IsTabled tables.now) headers.new.items) }
 {
-    match push_tag(tables, frame, head, 2, headers)? {
-        Some(head) => read_packet(tables, frame, head, headers),
+    match push_tag(tables, frame, spot, 2, headers)? {
+        Some(spot) => read_packet(tables, frame, spot, headers),
         None => Ok(None),
     }
 }
@@ -138,41 +173,41 @@ fn read_second_tag(
 fn push_tag(
     tables: &Tables,
     frame: &Frame,
-    head: Head,
+    spot: Spot,
     nth: u32,
     headers: &mut Vec<Header>,
-) -> Result<Option<Head>, NoMemory>
+) -> Result<Option<Spot>, NoMemory>
     requires bytes { length frame.now.bytes < 2 ^ 32 }
     requires tables { AreTables tables.now }
     requires tabled { Each (IsTabled tables.now) headers.old.items }
     requires few { nth ≤ 2 }
-    requires at { Reaches frame.now VLAN (nth + 1) headers.old.items head }
-    requires nth { head.which ≡ Next.Vlan → headers_of VLAN headers.old.items + 1 ≡ nth }
+    requires at { Reaches frame.now VLAN (nth + 1) headers.old.items spot }
+    requires nth { spot.which ≡ Next.Vlan → headers_of VLAN headers.old.items + 1 ≡ nth }
     ensures at { IfOk result (λ found. IfSome found (Reaches frame.now VLAN (nth + 2) headers.new.items)) }
     ensures nth { IfOk result (λ found. IfSome found (λ next.
         next.which ≡ Next.Vlan → headers_of VLAN headers.new.items ≡ nth)) }
     ensures start { OnOk result (take 1 headers.new.items ≡ take 1 headers.old.items) }
     ensures tabled { OnOk result (Each (IsTabled tables.now) headers.new.items) }
 {
-    match head.which {
-        Next::Vlan => push_vlan(tables, frame, head, nth, headers),
-        _ => Ok(Some(head)),
+    match spot.which {
+        Next::Vlan => push_vlan(tables, frame, spot, nth, headers),
+        _ => Ok(Some(spot)),
     }
 }
 
 fn push_vlan(
     tables: &Tables,
     frame: &Frame,
-    head: Head,
+    spot: Spot,
     nth: u32,
     headers: &mut Vec<Header>,
-) -> Result<Option<Head>, NoMemory>
+) -> Result<Option<Spot>, NoMemory>
     requires bytes { length frame.now.bytes < 2 ^ 32 }
     requires tables { AreTables tables.now }
     requires tabled { Each (IsTabled tables.now) headers.old.items }
     requires few { nth ≤ 2 }
-    requires which { head.which ≡ Next.Vlan }
-    requires at { Reaches frame.now VLAN (nth + 1) headers.old.items head }
+    requires which { spot.which ≡ Next.Vlan }
+    requires at { Reaches frame.now VLAN (nth + 1) headers.old.items spot }
     requires nth { headers_of VLAN headers.old.items + 1 ≡ nth }
     ensures at { IfOk result (λ found. IfSome found (Reaches frame.now VLAN (nth + 2) headers.new.items)) }
     ensures nth { IfOk result (λ found. IfSome found (λ _.
@@ -180,14 +215,13 @@ fn push_vlan(
     ensures start { OnOk result (take 1 headers.new.items ≡ take 1 headers.old.items) }
     ensures tabled { OnOk result (Each (IsTabled tables.now) headers.new.items) }
 {
-    match behind_vlan(head.span, own(frame, head.span)) {
+    match behind_vlan(spot.span, own(frame, spot.span)) {
         Some((which, inner)) => {
-            push_all(headers, &[vlan_header(tables, nth, head.span)])?;
-            Ok(Some(Head {
+            push_all(headers, &[vlan_header(tables, nth, spot.span)])?;
+            Ok(Some(Spot {
                 which,
                 span: inner,
-                packet: head.packet,
-                mode: Mode::Plain,
+                packet: spot.packet,
             }))
         }
         None => Ok(None),
@@ -198,19 +232,19 @@ fn push_vlan(
 fn read_packet(
     tables: &Tables,
     frame: &Frame,
-    head: Head,
+    spot: Spot,
     headers: &mut Vec<Header>,
 ) -> Result<Option<Carried>, NoMemory>
     requires bytes { length frame.now.bytes < 2 ^ 32 }
     requires tables { AreTables tables.now }
     requires tabled { Each (IsTabled tables.now) headers.old.items }
-    requires at { Reaches frame.now VLAN 4 headers.old.items head }
+    requires at { Reaches frame.now VLAN 4 headers.old.items spot }
     ensures carried { IfOk result (λ found. IfSome found (Carries frame.now headers.new.items)) }
     ensures start { OnOk result (take 1 headers.new.items ≡ take 1 headers.old.items) }
     ensures tabled { OnOk result (Each (IsTabled tables.now) headers.new.items) }
 {
-    match push_packet(tables, frame, head, headers)? {
-        Some(head) => read_ports(tables, frame, head, headers),
+    match push_packet(tables, frame, spot, headers)? {
+        Some(spot) => read_ports(tables, frame, spot, headers),
         None => Ok(None),
     }
 }
@@ -219,20 +253,20 @@ fn read_packet(
 fn push_packet(
     tables: &Tables,
     frame: &Frame,
-    head: Head,
+    spot: Spot,
     headers: &mut Vec<Header>,
-) -> Result<Option<Head>, NoMemory>
+) -> Result<Option<Spot>, NoMemory>
     requires bytes { length frame.now.bytes < 2 ^ 32 }
     requires tables { AreTables tables.now }
     requires tabled { Each (IsTabled tables.now) headers.old.items }
-    requires at { Reaches frame.now VLAN 4 headers.old.items head }
+    requires at { Reaches frame.now VLAN 4 headers.old.items spot }
     ensures at { IfOk result (λ found. IfSome found (Reaches frame.now IPV6 5 headers.new.items)) }
     ensures start { OnOk result (take 1 headers.new.items ≡ take 1 headers.old.items) }
     ensures tabled { OnOk result (Each (IsTabled tables.now) headers.new.items) }
 {
-    match head.which {
-        Next::Ip4 => push_ip4(tables, frame, head, headers),
-        Next::Ip6 => push_ip6(tables, frame, head, headers),
+    match spot.which {
+        Next::Ip4 => push_ip4(tables, frame, spot, headers),
+        Next::Ip6 => push_ip6(tables, frame, spot, headers),
         _ => Ok(None),
     }
 }
@@ -240,27 +274,25 @@ fn push_packet(
 fn push_ip4(
     tables: &Tables,
     frame: &Frame,
-    head: Head,
+    spot: Spot,
     headers: &mut Vec<Header>,
-) -> Result<Option<Head>, NoMemory>
+) -> Result<Option<Spot>, NoMemory>
     requires bytes { length frame.now.bytes < 2 ^ 32 }
     requires tables { AreTables tables.now }
     requires tabled { Each (IsTabled tables.now) headers.old.items }
-    requires which { head.which ≡ Next.Ip4 }
-    requires at { Reaches frame.now VLAN 4 headers.old.items head }
+    requires which { spot.which ≡ Next.Ip4 }
+    requires at { Reaches frame.now VLAN 4 headers.old.items spot }
     ensures at { IfOk result (λ found. IfSome found (Reaches frame.now IPV6 5 headers.new.items)) }
     ensures start { OnOk result (take 1 headers.new.items ≡ take 1 headers.old.items) }
     ensures tabled { OnOk result (Each (IsTabled tables.now) headers.new.items) }
 {
-    let bytes = own(frame, head.span);
-    match behind_ip4(head.span, bytes) {
+    match behind_ip4(spot.span, own(frame, spot.span)) {
         Some(ip) => {
             push_all(headers, &[ip4_header(tables, ip.layer, ip.header)])?;
-            Ok(Some(Head {
+            Ok(Some(Spot {
                 which: ip.next,
                 span: ip.inner,
-                packet: head_of_ip4(head.span, is_cut(frame), bytes),
-                mode: Mode::Plain,
+                packet: PacketAt::Four(spot.span),
             }))
         }
         None => Ok(None),
@@ -270,27 +302,25 @@ fn push_ip4(
 fn push_ip6(
     tables: &Tables,
     frame: &Frame,
-    head: Head,
+    spot: Spot,
     headers: &mut Vec<Header>,
-) -> Result<Option<Head>, NoMemory>
+) -> Result<Option<Spot>, NoMemory>
     requires bytes { length frame.now.bytes < 2 ^ 32 }
     requires tables { AreTables tables.now }
     requires tabled { Each (IsTabled tables.now) headers.old.items }
-    requires which { head.which ≡ Next.Ip6 }
-    requires at { Reaches frame.now VLAN 4 headers.old.items head }
+    requires which { spot.which ≡ Next.Ip6 }
+    requires at { Reaches frame.now VLAN 4 headers.old.items spot }
     ensures at { IfOk result (λ found. IfSome found (Reaches frame.now IPV6 5 headers.new.items)) }
     ensures start { OnOk result (take 1 headers.new.items ≡ take 1 headers.old.items) }
     ensures tabled { OnOk result (Each (IsTabled tables.now) headers.new.items) }
 {
-    let bytes = own(frame, head.span);
-    match behind_ip6(head.span, bytes) {
+    match behind_ip6(spot.span, own(frame, spot.span)) {
         Some(ip) => {
             push_all(headers, &[ip6_header(tables, ip.layer)])?;
-            Ok(Some(Head {
+            Ok(Some(Spot {
                 which: ip.next,
                 span: ip.inner,
-                packet: head_of_ip6(head.span, is_cut(frame), bytes),
-                mode: Mode::Plain,
+                packet: PacketAt::Six(spot.span),
             }))
         }
         None => Ok(None),
@@ -301,20 +331,20 @@ fn push_ip6(
 fn read_ports(
     tables: &Tables,
     frame: &Frame,
-    head: Head,
+    spot: Spot,
     headers: &mut Vec<Header>,
 ) -> Result<Option<Carried>, NoMemory>
     requires bytes { length frame.now.bytes < 2 ^ 32 }
     requires tables { AreTables tables.now }
     requires tabled { Each (IsTabled tables.now) headers.old.items }
-    requires at { Reaches frame.now IPV6 5 headers.old.items head }
+    requires at { Reaches frame.now IPV6 5 headers.old.items spot }
     ensures carried { IfOk result (λ found. IfSome found (Carries frame.now headers.new.items)) }
     ensures start { OnOk result (take 1 headers.new.items ≡ take 1 headers.old.items) }
     ensures tabled { OnOk result (Each (IsTabled tables.now) headers.new.items) }
 {
-    match head.which {
-        Next::Tcp => push_tcp(tables, frame, head, headers),
-        Next::Udp => push_udp(tables, frame, head, headers),
+    match spot.which {
+        Next::Tcp => push_tcp(tables, frame, spot, headers),
+        Next::Udp => push_udp(tables, frame, spot, headers),
         _ => Ok(None),
     }
 }
@@ -322,23 +352,26 @@ fn read_ports(
 fn push_tcp(
     tables: &Tables,
     frame: &Frame,
-    head: Head,
+    spot: Spot,
     headers: &mut Vec<Header>,
 ) -> Result<Option<Carried>, NoMemory>
     requires bytes { length frame.now.bytes < 2 ^ 32 }
     requires tables { AreTables tables.now }
     requires tabled { Each (IsTabled tables.now) headers.old.items }
-    requires which { head.which ≡ Next.Tcp }
-    requires at { Reaches frame.now IPV6 5 headers.old.items head }
+    requires which { spot.which ≡ Next.Tcp }
+    requires at { Reaches frame.now IPV6 5 headers.old.items spot }
     ensures carried { IfOk result (λ found. IfSome found (Carries frame.now headers.new.items)) }
     ensures start { OnOk result (take 1 headers.new.items ≡ take 1 headers.old.items) }
     ensures tabled { OnOk result (Each (IsTabled tables.now) headers.new.items) }
 {
-    let bytes = own(frame, head.span);
-    match behind_tcp(head.span, bytes) {
+    match behind_tcp(spot.span, own(frame, spot.span)) {
         Some(tcp) => {
-            push_all(headers, &[tcp_header(tables, head.span, tcp.header)])?;
-            Ok(Some(Carried::Segment(head.packet, tcp_head(bytes), tcp.payload)))
+            push_all(headers, &[tcp_header(tables, spot.span, tcp.header)])?;
+            Ok(Some(Carried::Segment(Last {
+                packet: spot.packet,
+                header: spot.span,
+                payload: tcp.payload,
+            })))
         }
         None => Ok(None),
     }
@@ -347,29 +380,33 @@ fn push_tcp(
 fn push_udp(
     tables: &Tables,
     frame: &Frame,
-    head: Head,
+    spot: Spot,
     headers: &mut Vec<Header>,
 ) -> Result<Option<Carried>, NoMemory>
     requires bytes { length frame.now.bytes < 2 ^ 32 }
     requires tables { AreTables tables.now }
     requires tabled { Each (IsTabled tables.now) headers.old.items }
-    requires which { head.which ≡ Next.Udp }
-    requires at { Reaches frame.now IPV6 5 headers.old.items head }
+    requires which { spot.which ≡ Next.Udp }
+    requires at { Reaches frame.now IPV6 5 headers.old.items spot }
     ensures carried { IfOk result (λ found. IfSome found (Carries frame.now headers.new.items)) }
     ensures start { OnOk result (take 1 headers.new.items ≡ take 1 headers.old.items) }
     ensures tabled { OnOk result (Each (IsTabled tables.now) headers.new.items) }
 {
-    let bytes = own(frame, head.span);
-    match behind_udp(head.span, bytes) {
+    match behind_udp(spot.span, own(frame, spot.span)) {
         Some(udp) => {
             push_all(headers, &[udp_header(tables, udp.layer)])?;
-            Ok(Some(Carried::Datagram(head.packet, udp_ports(bytes), udp.payload)))
+            Ok(Some(Carried::Datagram(Last {
+                packet: spot.packet,
+                header: spot.span,
+                payload: udp.payload,
+            })))
         }
         None => Ok(None),
     }
 }
 
 /// Puts headers behind those that stand.
+#[inline(always)]
 pub(crate) fn push_all(headers: &mut Vec<Header>, more: &[Header]) -> Result<(), NoMemory>
     ensures { OnOk result (headers.new.items ≡ headers.old.items ++ more.now) }
 {

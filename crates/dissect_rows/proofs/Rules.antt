@@ -2,7 +2,8 @@
 use Rattle.std.proofs.Common.{◌≡◌, [], ◌∷◌, true, rules}
 use Rattle.std.specs.List.{IsDistinct}
 use Rattle.pk_fields.specs.declared.rules.PortRule.{PortRule}
-use Rattle.pk_fields.specs.Rules.{AreRules, app_fits}
+use Rattle.pk_fields.specs.Apps.{app_fits}
+use Rattle.pk_fields.specs.Rules.{AreRules}
 
 pub no_rules : AreRules []
 unfolding IsDistinct

@@ -5,7 +5,8 @@
 //! what is told of it (module `told`). Frames are of no more than 1,000 bytes, and at most 90 in a row. A row of the table `places` is
 //! read twice: by a dissector that follows streams, and by one for values alone, which keeps no byte of them.
 ghost use Rattle.std.specs.Prelude.{◌≡◌, ◌+◌, ◌*◌, ◌≤◌, ◌<◌, true, IfSome, OnSome};
-ghost use Rattle.pk_fields.specs.Rules.{AreRules, app_fits};
+ghost use Rattle.pk_fields.specs.Apps.{app_fits};
+ghost use Rattle.pk_fields.specs.Rules.{AreRules};
 ghost use Rattle.capture_read.specs.FrameList.{IsTime};
 
 use crate::given::{fields_named, frame_of, option};

@@ -13,9 +13,9 @@ returns-clause-notes c =
     let payload = carried.payload in
     on_ok_weaker c.tell_data.result
     (λ last. three_told c.args.wanted.now c.args.notes.now.items c.tell_frame.new.notes.items c.tell_carrier.new.notes.items c.tell_data.new.notes.items
-    (frame_notes c.args.before c.args.frame.now) (carrier_notes carried.carrier payload) (data_notes carried.free payload)
+    (frame_notes c.args.before.now c.args.frame.now) (carrier_notes carried.carrier payload) (data_notes carried.free payload)
     c.in_ok-tell_frame.ensures.notes c.in_ok-tell_carrier.ensures.notes last
-    ∙ ap (λ (old : List Note). old ++ wanted_notes c.args.wanted.now (frame_notes c.args.before c.args.frame.now ++ (carrier_notes carried.carrier payload ++ data_notes carried.free payload))) c.requires.none)
+    ∙ ap (λ (old : List Note). old ++ wanted_notes c.args.wanted.now (frame_notes c.args.before.now c.args.frame.now ++ (carrier_notes carried.carrier payload ++ data_notes carried.free payload))) c.requires.none)
     c.tell_data.ensures.notes
 
 pub returns-clause-fits : goal.returns-clause-fits
@@ -24,6 +24,6 @@ returns-clause-fits c =
     let carried = c.args.carried.now in
     let payload = carried.payload in
     on_ok_weaker c.tell_data.result
-    (λ last buffers inside. each-append (NoteFits buffers) (frame_notes c.args.before c.args.frame.now) (carrier_notes carried.carrier payload ++ data_notes carried.free payload) (c.in_ok-tell_frame.ensures.fits buffers)
+    (λ last buffers inside. each-append (NoteFits buffers) (frame_notes c.args.before.now c.args.frame.now) (carrier_notes carried.carrier payload ++ data_notes carried.free payload) (c.in_ok-tell_frame.ensures.fits buffers)
     (each-append (NoteFits buffers) (carrier_notes carried.carrier payload) (data_notes carried.free payload) (c.in_ok-tell_carrier.ensures.fits buffers inside) (last buffers)))
     c.tell_data.ensures.fits

@@ -2,25 +2,25 @@ use Rattle.std.proofs.Common.{ℕ, List, [], ◌∷◌, refl, sym, ap, subst, �
 use Rattle.std.specs.Prelude.{IfSome, Option}
 use Rattle.pk_base.specs.declared.span.Span.{Span}
 use Rattle.pk_base.specs.declared.heads.Next.{Next}
-use Rattle.pk_base.specs.declared.heads.PacketHead.{PacketHead}
 use Rattle.pk_tree.specs.Buffers.{IsInside}
-use Rattle.pk_fields.specs.Ids.{VLAN}
-use Rattle.dissect.specs.Ways.{IsAt}
-use Rattle.dissect.proofs.OnWay.{all_tabled, ethernet_pushed, head_at, take_first, take_one, untagged}
+use Rattle.dissect.proofs.OnWay.{all_tabled, ethernet_pushed, take_first, take_one, untagged}
 use Rattle.std.proofs.Common.{take}
 use Rattle.pk_source.specs.declared.header.Header.{Header}
 use Rattle.dissect.proofs.ways.push_ethernet.Goals as goal
 
 pub returns-in_ok-push_all-in-Some-clause-at : goal.returns-in_ok-push_all-in-Some-clause-at
-returns-in_ok-push_all-in-Some-clause-at c = λ notes told.
+returns-in_ok-push_all-in-Some-clause-at c =
     let frame = c.args.frame.now in
     let whole = c.frame_span-span.result in
     let bs : List (List ℕ) = frame.bytes ∷ [] in
     let all : IsInside bs whole = subst (IsInside bs) (sym c.frame_span-span.ensures) (omega arith, omega arith) in
     let inner : IsInside bs c.in-Some.inner = subst (λ (r : Option (Next × Span)). IfSome r (λ way. IsInside bs way.1)) c.in-Some.is (c.behind_ethernet.ensures.inside bs all) in
-    subst (λ (p : PacketHead). IsAt frame VLAN 2 (record { headers = c.push_all.new.headers.items; notes = notes }) (head_at c.in-Some.which p c.in-Some.inner)) (sym c.no_packet.ensures)
-    (ethernet_pushed frame (record { headers = c.args.headers.now.items; notes = notes }) (record { headers = c.push_all.new.headers.items; notes = notes }) c.own.result.now whole c.ethernet_header.result c.in-Some.which c.in-Some.inner c.requires.begun told c.if-frame-ne-ETHERNET.false c.frame_span-span.ensures
-    c.own.ensures.bytes c.in-Some.ensures.whole c.ethernet_header.ensures.nth c.ethernet_header.ensures.whole c.ethernet_header.ensures.stands c.in-Some.ensures.typed c.in-Some.ensures.after inner c.in_ok-push_all-in-Some.ensures refl)
+    record {
+      at = λ notes told.
+          ethernet_pushed frame (record { headers = c.args.headers.now.items; notes = notes }) (record { headers = c.push_all.new.headers.items; notes = notes }) c.own.result.now whole c.ethernet_header.result c.in-Some.which c.in-Some.inner c.requires.begun told c.if-frame-ne-ETHERNET.false c.frame_span-span.ensures
+          c.own.ensures.bytes c.in-Some.ensures.whole c.ethernet_header.ensures.nth c.ethernet_header.ensures.whole c.ethernet_header.ensures.stands c.in-Some.ensures.typed c.in-Some.ensures.after inner c.in_ok-push_all-in-Some.ensures refl;
+      packet = tt;
+    }
 
 pub returns-in_ok-push_all-in-Some-clause-tags : goal.returns-in_ok-push_all-in-Some-clause-tags
 returns-in_ok-push_all-in-Some-clause-tags c =

@@ -6,26 +6,29 @@ use Rattle.dis_ports.specs.declared.udp.WholeUdp.{WholeUdp}
 use Rattle.dissect.proofs.OnWay.{all_tabled, ends_inside, first_kept, reached_inside, udp_pushed}
 use Rattle.dissect.proofs.ways.push_udp.Goals as goal
 
-pub own-bytes-requires : goal.own-bytes-requires
-own-bytes-requires c = record { inside = reached_inside c.args.frame.now IPV6 5 c.args.headers.now.items c.args.head c.requires.at }
+pub own-requires : goal.own-requires
+own-requires c = record { inside = reached_inside c.args.frame.now IPV6 5 c.args.headers.now.items c.args.spot c.requires.at }
 
 pub behind_udp-requires : goal.behind_udp-requires
 behind_udp-requires c =
-    record { end = ends_inside c.args.frame.now c.args.head.span (reached_inside c.args.frame.now IPV6 5 c.args.headers.now.items c.args.head c.requires.at) c.requires.bytes }
+    record { end = ends_inside c.args.frame.now c.args.spot.span (reached_inside c.args.frame.now IPV6 5 c.args.headers.now.items c.args.spot c.requires.at) c.requires.bytes }
 
 pub returns-in_ok-push_all-in-Some-clause-carried : goal.returns-in_ok-push_all-in-Some-clause-carried
-returns-in_ok-push_all-in-Some-clause-carried c = λ notes told.
+returns-in_ok-push_all-in-Some-clause-carried c =
     let frame = c.args.frame.now in
     let bs : List (List ℕ) = frame.bytes ∷ [] in
-    let bytes = c.own-bytes.result.now in
-    let outer : IsInside bs c.args.head.span = reached_inside frame IPV6 5 c.args.headers.now.items c.args.head c.requires.at in
+    let bytes = c.own.result.now in
+    let outer : IsInside bs c.args.spot.span = reached_inside frame IPV6 5 c.args.headers.now.items c.args.spot c.requires.at in
     let inside = subst (λ (r : Option WholeUdp). IfSome r (λ w. IsInside bs w.layer × IsInside bs w.payload)) c.in-Some.is (c.behind_udp.ensures.inside bs outer) in
-    udp_pushed frame (record { headers = c.args.headers.now.items; notes = notes }) (record { headers = c.push_all.new.headers.items; notes = notes }) c.args.head bytes c.udp_header.result c.udp_ports.result c.in-Some.udp.layer c.in-Some.udp.payload (c.requires.at notes told) c.requires.which
-    c.own-bytes.ensures.bytes c.udp_header.ensures.nth (c.udp_header.ensures.whole bs inside.0) (c.udp_header.ensures.stands bytes c.in-Some.ensures.sound) c.in-Some.ensures.layer c.in-Some.ensures.after c.udp_ports.ensures inside.1
-    c.in_ok-push_all-in-Some.ensures refl
+    record {
+      is = λ notes told.
+          udp_pushed frame (record { headers = c.args.headers.now.items; notes = notes }) (record { headers = c.push_all.new.headers.items; notes = notes }) c.args.spot bytes c.udp_header.result c.in-Some.udp.layer c.in-Some.udp.payload (c.requires.at.at notes told) c.requires.which
+          c.own.ensures.bytes c.udp_header.ensures.nth (c.udp_header.ensures.whole bs inside.0) (c.udp_header.ensures.stands bytes c.in-Some.ensures.sound) c.in-Some.ensures.layer c.in-Some.ensures.after inside.1 c.in_ok-push_all-in-Some.ensures refl;
+      last = record { packet = c.requires.at.packet; header = outer };
+    }
 
 pub returns-in_ok-push_all-in-Some-clause-start : goal.returns-in_ok-push_all-in-Some-clause-start
-returns-in_ok-push_all-in-Some-clause-start c = first_kept c.args.frame.now IPV6 5 c.args.headers.now.items c.push_all.new.headers.items c.args.head c.udp_header.result c.requires.at c.in_ok-push_all-in-Some.ensures
+returns-in_ok-push_all-in-Some-clause-start c = first_kept c.args.frame.now IPV6 5 c.args.headers.now.items c.push_all.new.headers.items c.args.spot c.udp_header.result c.requires.at c.in_ok-push_all-in-Some.ensures
 
 pub returns-in_ok-push_all-in-Some-clause-tabled : goal.returns-in_ok-push_all-in-Some-clause-tabled
 returns-in_ok-push_all-in-Some-clause-tabled c =

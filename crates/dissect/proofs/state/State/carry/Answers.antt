@@ -13,5 +13,4 @@ returns-in-Segment-clause-tells c = rw c.in-Segment.is
     (if_found _ _ c.carry_segment.result (λ carried tells. tells c.args.passes) c.carry_segment.ensures.tells)
 
 pub returns-in-Datagram-clause-tells : goal.returns-in-Datagram-clause-tells
-returns-in-Datagram-clause-tells c = rw c.in-Datagram.is
-    (if_found _ _ c.carry_datagram.result (λ carried tells. tells c.args.frame.now) c.carry_datagram.ensures.tells)
+returns-in-Datagram-clause-tells c = rw c.in-Datagram.is c.carry_datagram.ensures.tells

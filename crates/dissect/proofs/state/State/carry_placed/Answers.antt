@@ -1,4 +1,6 @@
 use Rattle.std.proofs.Common.{◌≡◌, ◌∙◌, Bool, ◌∷◌, ℕ, List, ap, refl, subst, sym}
+use Rattle.pk_base.specs.declared.heads.PacketHead.{PacketHead}
+use Rattle.pk_base.specs.declared.heads.TcpHead.{TcpHead}
 use Rattle.pk_base.specs.declared.span.Span.{Span}
 use Rattle.pk_tree.specs.Buffers.{bytes_of}
 use Rattle.pk_tree.specs.Trees.{TreeShown}
@@ -10,6 +12,8 @@ use Rattle.app_layers.specs.FrameLayer.{is_cut}
 use Rattle.app_layers.specs.Payloads.{place_told, segment_told}
 use Rattle.dissect.specs.Carried.{place_of, segment_by, shown_by}
 use Rattle.dissect.specs.Plain.{own}
+use Rattle.dissect.specs.Ways.{packet_at}
+use Rattle.dis_ports.specs.Tcp.{tcp_head}
 use Rattle.dissect.specs.Segments.{segment_from}
 use Rattle.dissect.specs.declared.carried.Place.{Place}
 use Rattle.dissect.proofs.Passing.{placed-walked, shown_free}
@@ -23,14 +27,16 @@ told_placed t taken span = refl
 pub returns-in-Ok-clause-walked : goal.returns-in-Ok-clause-walked
 returns-in-Ok-clause-walked c = λ rules t es app_is buffers stands.
     let frame = c.args.frame.now in
-    let met = c.args.met.now in
-    let packet = met.packet in
-    let head = met.head in
-    let payload = met.payload in
+    let last = c.args.last.now in
+    let packet = packet_at frame last.packet in
+    let head = tcp_head (own frame last.header) in
+    let payload = last.payload in
     let app = c.args.app in
     let bytes_are : own frame payload ≡ bytes_of t.buffers payload = ap (λ (bs : List (List ℕ)). bytes_of bs payload) (sym buffers) in
     let segment_is : c.segment_from-segment.result ≡ segment_from frame.number packet head (bytes_of t.buffers payload) =
-    c.segment_from-segment.ensures ∙ ap (segment_from frame.number packet head) (c.in_ok-payload.ensures ∙ bytes_are) in
+    c.segment_from-segment.ensures ∙ ap (λ (p : PacketHead). segment_from frame.number p c.tcp_head-head.result c.in_ok-payload.payload) c.packet_at-packet.ensures
+    ∙ ap (λ (h : TcpHead). segment_from frame.number packet h c.in_ok-payload.payload) (c.tcp_head-head.ensures ∙ ap (λ (b : List ℕ). tcp_head b) c.own.ensures.bytes)
+    ∙ ap (segment_from frame.number packet head) (c.in_ok-payload.ensures ∙ bytes_are) in
     placed-walked rules frame packet head payload app c.in-Ok.taken c.take-placed.new.self c.args.self.now _ t _
     app_is c.requires.places refl
     (λ past stood. subst (λ (s : Segment). c.in-Ok.taken ≡ taken_after past s) segment_is (c.in-Ok.ensures.taken past stood))
