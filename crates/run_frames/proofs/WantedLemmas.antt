@@ -20,7 +20,7 @@ use Rattle.run_frames.specs.Trees.{tree_of}
 use Rattle.dissect.specs.Heads.{HeadsShown}
 use Rattle.dissect.specs.Stands.{DissectorShown, StandsWithin}
 use Rattle.run_frames.specs.Taken.{IsTakenPlain, heads_tree}
-use Rattle.run_frames.specs.Wanted.{AreToldByValues, asks_trees, sums_up, HasFields, IsMadeFor, IsEnough, IsSpared, IsToldAs, ServesPlan}
+use Rattle.run_frames.specs.Wanted.{AreToldByValues, asks_trees, HasFields, IsMadeFor, IsEnough, IsSpared, IsToldAs, IsWhole, ServesPlan}
 use Rattle.second_pass.specs.Forward.{forwarded, forwarded_to}
 use Rattle.second_pass.specs.Laws.{kept_noted, link_fields}
 use Rattle.second_pass.proofs.KeptLinks.{links_same}
@@ -70,8 +70,9 @@ kept_forwarded wanted noted frame whole tree after links kept same = record {
   all = still_wanted noted frame whole ∙ kept.all;
 }
 
-made_kept : (wanted : List ℕ) (whole tree : TreeShown) → IsKept wanted whole tree → IsMadeFor wanted whole tree
-made_kept wanted whole tree kept = record {
+made_kept : (wanted : List ℕ) (whole tree : TreeShown) → IsWhole whole → IsKept wanted whole tree → IsMadeFor wanted whole tree
+made_kept wanted whole tree is kept = record {
+  of_frame = is;
   spared = record {
     values = λ field layers is. ap (λ (t : TreeShown). values_of t field layers) kept.same ∙ values_same wanted whole field layers is;
     lacks = subst (LacksOnly (kept_tree wanted whole)) (sym kept.same) (lacks_none (kept_tree wanted whole));
@@ -85,7 +86,7 @@ told_again : (plan : Plan) (rules : List PortRule) (past : List Frame) (frame : 
 told_again plan rules past frame noted wanted tree after is enough links kept same =
     let whole : TreeShown = forwarded noted frame.number (tree_at rules past frame) in
     subst (λ (r : List PortRule). IsToldAs plan (forwarded noted frame.number (tree_at r past frame)) after) is
-    (enough.told whole after (made_kept wanted whole after (kept_forwarded wanted noted frame.number (tree_at rules past frame) tree after links kept same)))
+    (enough.told whole after (made_kept wanted whole after (rules, past, frame, Two noted, refl) (kept_forwarded wanted noted frame.number (tree_at rules past frame) tree after links kept same)))
 
 told_by : (two : Bool) (passes : Passes) (later : Later) (wanted : List ℕ) (plan : Plan) (rules : List PortRule) (past : List Frame) (frame : Frame) (tree after : TreeShown)
     → two_of plan ≡ two → ServesKept wanted two passes later → IsEnough wanted plan → rules ≡ rules_of plan → IsMadeFor wanted (tree_at rules past frame) tree
@@ -105,7 +106,7 @@ told_values : (passes : Passes) (later : Later) (wanted : List ℕ) (plan : Plan
     → ServesKept wanted false passes later → AreToldByValues wanted plan → rules ≡ rules_of plan → IsSpared wanted (tree_at rules past frame) tree
     → after ≡ with_links (kept_passes wanted passes) frame.number tree → IsToldAs plan (tree_of (job_in plan passes) past frame) after
 told_values One later wanted plan rules past frame tree after serves told is spared same =
-    told_once plan rules past frame tree after is (told (tree_at rules past frame) tree spared) same
+    told_once plan rules past frame tree after is (told (tree_at rules past frame) tree (rules, past, frame, One, refl) spared) same
 told_values (Two noted) Unread wanted plan rules past frame tree after serves told is spared same = absurd serves
 told_values (Two noted) (Known links) wanted plan rules past frame tree after serves told is spared same = absurd serves
 
@@ -121,7 +122,8 @@ frame_told passes later d plan rules past frame tree after serves for_plan is sp
   where
     by_kind : (sparing : Bool) → d.sparing ≡ sparing → IsToldAs plan (tree_of (job_in plan passes) past frame) after
     by_kind false whole =
-        told_by (two_of plan) passes later d.wanted plan rules past frame tree after refl serves for_plan.enough is (record { spared = spared; kept = λ asks. kept asks whole })
+        told_by (two_of plan) passes later d.wanted plan rules past frame tree after refl serves for_plan.enough is
+        (record { of_frame = (rules, past, frame, One, refl); spared = spared; kept = λ asks. kept asks whole })
         (linked (two_of plan) (kept_passes d.wanted passes) serves)
     by_kind true is_sparing =
         let none : (needs_streams plan || two_of plan) ≡ false = not_both (needs_streams plan || two_of plan) d.sparing for_plan.whole is_sparing in
@@ -168,10 +170,10 @@ pub serves_values : (d : DissectorShown) (wanted : List ℕ) (plan : Plan) → I
 serves_values d wanted plan enough told none_so is = record {
   enough = subst (λ (fields : List ℕ). IsEnough fields plan) (sym is) enough;
   values = λ sparing. subst (λ (fields : List ℕ). AreToldByValues fields plan) (sym is) told;
-  whole = λ needs. absurd (true≢false (sym needs ∙ swapped (two_of plan) (needs_streams plan) (sums_up plan) none_so));
+  whole = λ needs. absurd (true≢false (sym needs ∙ swapped (two_of plan) (needs_streams plan) none_so));
 }
   where
-    swapped : (two needs sums : Bool) → (two || needs || sums) ≡ false → (needs || two) ≡ false
-    swapped false false sums none = refl
-    swapped true needs sums none = absurd (true≢false none)
-    swapped false true sums none = absurd (true≢false none)
+    swapped : (two needs : Bool) → (two || needs) ≡ false → (needs || two) ≡ false
+    swapped false false none = refl
+    swapped true needs none = absurd (true≢false none)
+    swapped false true none = absurd (true≢false none)

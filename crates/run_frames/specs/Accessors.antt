@@ -69,14 +69,14 @@ two_of plan = plan.two
 abbrev pub most_of : Plan → Option ℕ
 most_of plan = plan.most
 
--- whether a report may be told by streams of TCP: by what one has, or by the layers of its messages; headers tell of conversations
+-- whether a report is told by a stream of TCP; tables are told by the frames' trees
 abbrev pub is_of_streams : Report → Bool
 is_of_streams (reports.Follow stream) = true
 is_of_streams (reports.Table ConvTcp) = false
 is_of_streams (reports.Table ConvIp) = false
-is_of_streams (reports.Table Phs) = true
+is_of_streams (reports.Table Phs) = false
 
--- whether something behind the lines may be
+-- whether something behind the lines is
 abbrev pub needs_streams : Plan → Bool
 needs_streams plan = is_generated plan || list_any is_of_streams (reports_of plan)
 

@@ -1,7 +1,7 @@
 -- Which fields are enough.
-use Rattle.std.proofs.Common.{◌≡◌, ◌==◌, ◌||◌, not, ◌<◌, ◌+◌, ℕ, suc, Bool, true, false, List, [], ◌∷◌, length, map, get_or, Option, Some, None, refl, sym, ap, ◌∙◌, subst, arith, if◌then◌else◌}
+use Rattle.std.proofs.Common.{◌≡◌, ◌==◌, ◌||◌, not, ◌<◌, ◌+◌, ℕ, suc, Bool, true, false, List, [], ◌∷◌, ◌++◌, length, map, get_or, Option, Some, None, refl, sym, ap, ◌∙◌, subst, append-nil, arith, if◌then◌else◌, true≢false}
 use Rattle.std.specs.List.{AllByRecursion as Each, fold, list_any}
-use Rattle.std.proofs.lemmas.Bool.{eq-eqb, ne_eqb}
+use Rattle.std.proofs.lemmas.Bool.{eq-eqb, eqb-true, ne_eqb}
 use Rattle.std.specs.Prelude.{cond, IsSome}
 use Rattle.pk_fields.specs.Fields.{row_of}
 use Rattle.pk_fields.specs.FieldSets.{is_in, every_field}
@@ -13,7 +13,8 @@ use Rattle.app_layers.specs.Aside.{IsAside}
 use Rattle.cap_stats.specs.Laws.{AreNotedAlike, LacksBare, fields_of as table_fields}
 use Rattle.cap_stats.proofs.BareLayers.{bare_unread}
 use Rattle.cap_stats.proofs.KeptNotes.{kept_alike}
-use Rattle.cap_stats.proofs.KeptTables.{packet_same, stream_same}
+use Rattle.cap_stats.proofs.KeptTables.{packet_same, paths_same, stream_same}
+use Rattle.cap_stats.specs.Told.{paths_in}
 use Rattle.cap_stats.specs.declared.kind.StatKind.{StatKind}
 use Rattle.cap_stats.specs.declared.kind.StatKind.TheVariants.{ConvTcp, ConvIp, Phs}
 use Rattle.dissect.specs.Followed.{asks_messages, asks_streams, HasSameValues}
@@ -21,9 +22,7 @@ use Rattle.capture_write.specs.declared.format.Format.{Format}
 use Rattle.shark_words.specs.declared.options.LineKind.{LineKind}
 use Rattle.shark_words.specs.declared.options.LineKind.TheVariants.{Text, Fields, Json}
 use Rattle.shark_words.specs.declared.options.Report.{Report}
-use Rattle.shark_words.specs.declared.options.Report.TheVariants as reports
 use Rattle.out_lines.proofs.KeptLines.{line_alike}
-use Rattle.out_lines.specs.Summary.{summary_of}
 use Rattle.flt_mean.proofs.KeptMeaning.{meaning_alike}
 use Rattle.flt_mean.specs.Meaning.{meaning}
 use Rattle.flt_vm.proofs.VerdictLemmas.{verdicts_alike}
@@ -42,10 +41,13 @@ use Rattle.run_frames.specs.Compiled.{CompiledShown}
 use Rattle.run_frames.specs.Satisfied.{decided, judged, satisfies}
 use Rattle.run_frames.specs.Tables.{asks_table, is_table_of}
 use Rattle.run_frames.specs.Trees.{lets}
-use Rattle.run_output.proofs.SummaryLemmas.{summary_same}
+use Rattle.dissect.specs.Protocols.{AreOnes}
+use Rattle.run_output.specs.Wanted.{HasProtocols}
+use Rattle.run_output.proofs.ProtocolLemmas.{kept_ones, whole_ones}
+use Rattle.run_output.proofs.SummaryLemmas.{summary_alike}
 use Rattle.run_frames.proofs.WantedLemmas.{first_false, second_false}
 use Rattle.dissect.specs.Stands.{DissectorShown}
-use Rattle.run_frames.specs.Wanted.{AreToldByValues, ServesPlan, asks_trees, HasAsked, HasFields, HasPlan, HasTables, IsMadeFor, IsEnough, IsNotedAs, IsSpared, shows_whole, shows_whole_by, summary_fields, sums_up, sums_up_by}
+use Rattle.run_frames.specs.Wanted.{AreToldByValues, ServesPlan, asks_protocols, asks_trees, HasAsked, HasFields, HasPlan, HasTables, IsMadeFor, IsEnough, IsNotedAs, IsSpared, IsWhole, shows_whole, shows_whole_by, summary_fields, sums_up, sums_up_by}
 use Rattle.second_pass.specs.Laws.{link_fields}
 
 -- a set that grows still has what an instruction and what a program asks for
@@ -184,27 +186,21 @@ summed_up plan lines loud text =
     ap (λ (w : Option Format). sums_up_by w (is_quiet plan) plan.kind) lines
     ∙ ap (λ (quiet : Bool). sums_up_by None quiet plan.kind) loud ∙ ap (λ (kind : LineKind). sums_up_by None false kind) text
 
-summary_shown : (wanted : List ℕ) (plan : Plan) (t u : TreeShown) → HasSameValues wanted t u → IsKept wanted t u → HasPlan wanted plan → plan.kind ≡ Text
-    → HasFields wanted summary_fields → shown plan u ≡ shown plan t
-summary_shown wanted plan t u same kept has text summed =
+summary_shown : (wanted : List ℕ) (plan : Plan) (t u : TreeShown) → HasSameValues wanted t u → u.layers ≡ map (kept_layer wanted) t.layers → HasPlan wanted plan
+    → plan.kind ≡ Text → HasFields wanted summary_fields → shown plan u ≡ shown plan t
+summary_shown wanted plan t u same layers has text summed =
     ap (λ (truth : Bool). if is_quiet plan then [] else if truth then line_of plan u else []) (satisfies_same wanted plan.chosen t u same has.filter)
     ∙ ap (λ (kind : LineKind). if is_quiet plan then [] else if lets plan t then line_by kind plan u else []) text
-    ∙ ap (λ (line : List ℕ). if is_quiet plan then [] else if lets plan t then line else []) (ap summary_of kept.same ∙ summary_same wanted t summed)
+    ∙ ap (λ (line : List ℕ). if is_quiet plan then [] else if lets plan t then line else []) (summary_alike wanted t u same layers summed)
     ∙ sym (ap (λ (kind : LineKind). if is_quiet plan then [] else if lets plan t then line_by kind plan t else []) text)
 
-shown_kept : (wanted : List ℕ) (plan : Plan) (t u : TreeShown) → HasSameValues wanted t u → IsKept wanted t u → HasPlan wanted plan → written_of plan ≡ None
-    → WhichLines plan → shown plan u ≡ shown plan t
-shown_kept wanted plan t u same kept has lines (NoLines quiet) = shown_quiet plan u t quiet
-shown_kept wanted plan t u same kept has lines (Columns fields) = shown_same wanted plan t u same fields has
-shown_kept wanted plan t u same kept has lines (Summaries loud text) =
-    summary_shown wanted plan t u same kept has text (has.summary (summed_up plan lines loud text))
-
-shown_asked : (wanted : List ℕ) (plan : Plan) (t u : TreeShown) → HasSameValues wanted t u → HasPlan wanted plan → written_of plan ≡ None
-    → sums_up plan ≡ false → WhichLines plan → shown plan u ≡ shown plan t
-shown_asked wanted plan t u same has lines not_so (NoLines quiet) = shown_quiet plan u t quiet
-shown_asked wanted plan t u same has lines not_so (Columns fields) = shown_same wanted plan t u same fields has
-shown_asked wanted plan t u same has lines not_so (Summaries loud text) =
-    let bad : false ≡ true = sym not_so ∙ summed_up plan lines loud text in absurd (cc bad)
+shown_alike : (wanted : List ℕ) (plan : Plan) (t u : TreeShown) → HasSameValues wanted t u → (sums_up plan ≡ true → u.layers ≡ map (kept_layer wanted) t.layers)
+    → HasPlan wanted plan → written_of plan ≡ None → WhichLines plan → shown plan u ≡ shown plan t
+shown_alike wanted plan t u same layers has lines (NoLines quiet) = shown_quiet plan u t quiet
+shown_alike wanted plan t u same layers has lines (Columns fields) = shown_same wanted plan t u same fields has
+shown_alike wanted plan t u same layers has lines (Summaries loud text) =
+    let summed : sums_up plan ≡ true = summed_up plan lines loud text in
+    summary_shown wanted plan t u same (layers summed) has text (has.summary summed)
 
 -- a tree that has only the wanted items is counted as the whole tree
 same_proto : (wanted : List ℕ) (proto count : ℕ) (layers : List Layer)
@@ -275,27 +271,6 @@ not_empty (report ∷ reports) test none is =
 no_report : {A : Type 0} (plan : Plan) (kind : StatKind) → not (length (reports_of plan) == 0) ≡ false → asks_table plan kind ≡ true → A
 no_report plan kind none asked = not_empty (reports_of plan) (is_table_of kind) none asked
 
--- where nothing is told by streams, protocols aren't counted
-either_true_of : (a b c d : Bool) → (a ≡ true → b ≡ true) → (c ≡ true → d ≡ true) → (a || c) ≡ true → (b || d) ≡ true
-either_true_of true b c d first second is = ap (λ (x : Bool). x || d) (first refl)
-either_true_of false true c d first second is = refl
-either_true_of false false c d first second is = second is
-
-phs_of_streams : (report : Report) → is_table_of Phs report ≡ true → is_of_streams report ≡ true
-phs_of_streams (reports.Follow stream) is = refl
-phs_of_streams (reports.Table ConvTcp) is = is
-phs_of_streams (reports.Table ConvIp) is = is
-phs_of_streams (reports.Table Phs) is = refl
-
-any_of_streams : (all : List Report) → list_any (is_table_of Phs) all ≡ true → list_any is_of_streams all ≡ true
-any_of_streams [] is = is
-any_of_streams (report ∷ all) is =
-    either_true_of (is_table_of Phs report) (is_of_streams report) (list_any (is_table_of Phs) all) (list_any is_of_streams all) (phs_of_streams report) (any_of_streams all) is
-
-no_phs : {A : Type 0} (plan : Plan) → needs_streams plan ≡ false → asks_table plan Phs ≡ true → A
-no_phs plan none asked =
-    let bad : false ≡ true = sym (second_false (is_generated plan) (list_any is_of_streams plan.reports) none) ∙ any_of_streams (reports_of plan) asked in absurd (cc bad)
-
 -- all fields are those of every table
 tables_all : (kind : StatKind) → HasFields every_field (table_fields kind)
 unfolding is_in
@@ -315,13 +290,28 @@ lacks_bare wanted whole tree spared = record {
   bare = all_bare wanted spared.lacks.layers spared.lacks.aside;
 }
 
-conversations_alike : (wanted : List ℕ) (plan : Plan) (whole tree : TreeShown) (kind : StatKind) → needs_streams plan ≡ false → HasTables wanted plan → IsSpared wanted whole tree
-    → asks_table plan kind ≡ true → AreNotedAlike kind whole tree
-conversations_alike wanted plan whole tree ConvTcp not_so tables spared asked =
+-- where all protocols are wanted, it lacks no layer
+lacks_none : (wanted : List ℕ) (own more : List Layer) → HasProtocols wanted → AreOnes (own ++ more) → Each (IsAside wanted) more → more ≡ []
+lacks_none wanted [] [] has ones aside = refl
+lacks_none wanted [] (layer ∷ more) has ones aside = absurd (true≢false (sym (has layer.proto ones.0) ∙ aside.0.0))
+lacks_none wanted (layer ∷ own) more has ones aside = lacks_none wanted own more has ones.1 aside
+
+all_layers : (wanted : List ℕ) (whole tree : TreeShown) → HasProtocols wanted → IsWhole whole → IsSpared wanted whole tree
+    → tree.layers ≡ map (kept_layer wanted) whole.layers
+all_layers wanted whole tree has is spared =
+    let ones : AreOnes (tree.layers ++ spared.lacks.layers) =
+    subst (λ (layers : List Layer). AreOnes layers) spared.lacks.whole_layers (kept_ones wanted whole.layers (whole_ones whole is)) in
+    let none : spared.lacks.layers ≡ [] = lacks_none wanted tree.layers spared.lacks.layers has ones spared.lacks.aside in
+    sym (spared.lacks.whole_layers ∙ ap (λ (more : List Layer). tree.layers ++ more) none ∙ append-nil tree.layers)
+
+tables_alike : (wanted : List ℕ) (plan : Plan) (whole tree : TreeShown) (kind : StatKind) → HasTables wanted plan
+    → (asks_table plan Phs ≡ true → tree.layers ≡ map (kept_layer wanted) whole.layers) → IsSpared wanted whole tree → asks_table plan kind ≡ true
+    → AreNotedAlike kind whole tree
+tables_alike wanted plan whole tree ConvTcp tables layers spared asked =
     (bare_unread (kept_tree wanted whole) tree (lacks_bare wanted whole tree spared)).0 ∙ stream_same wanted (tables ConvTcp asked) whole.layers
-conversations_alike wanted plan whole tree ConvIp not_so tables spared asked =
+tables_alike wanted plan whole tree ConvIp tables layers spared asked =
     (bare_unread (kept_tree wanted whole) tree (lacks_bare wanted whole tree spared)).1 ∙ packet_same wanted (tables ConvIp asked) whole.layers
-conversations_alike wanted plan whole tree Phs not_so tables spared asked = no_phs plan not_so asked
+tables_alike wanted plan whole tree Phs tables layers spared asked = ap paths_in (layers asked) ∙ paths_same wanted (tables Phs asked) whole.layers
 
 noted_all : (wanted : List ℕ) (plan : Plan) (kind : StatKind) (whole tree : TreeShown) → wanted ≡ every_field → IsMadeFor wanted whole tree → IsNotedAs plan kind whole tree
 noted_all wanted plan kind whole tree all made = record {
@@ -359,7 +349,8 @@ pub enough_followed : (wanted : List ℕ) (plan : Plan) → shows_whole plan ≡
     → (two_of plan ≡ true → HasFields wanted link_fields) → IsEnough wanted plan
 enough_followed wanted plan is has tables asks links = record {
   told = λ whole tree made. record {
-    shown = λ lines. shown_kept wanted plan whole tree made.spared.values (made.kept asks) has lines (which_lines plan lines is);
+    shown = λ lines. shown_alike wanted plan whole tree made.spared.values (λ summed. ap (λ (t : TreeShown). t.layers) (made.kept asks).same) has lines
+        (which_lines plan lines is);
     counted = λ totals. counted_kept wanted plan whole tree has made.spared.values (made.kept asks) totals;
     truth = λ written. satisfies_same wanted plan.chosen whole tree made.spared.values has.filter;
     noted = λ kind asked. record {
@@ -372,12 +363,15 @@ enough_followed wanted plan is has tables asks links = record {
 }
 
 -- where values of fields tell the trees
+any_true : (a b : Bool) → b ≡ true → (a || b) ≡ true
+any_true true b is = refl
+any_true false b is = is
+
 pub values_none : (wanted : List ℕ) (plan : Plan) → asks_trees plan ≡ false → plan.quiet ≡ true → stats_of plan ≡ false → written_of plan ≡ None
     → not (length (reports_of plan) == 0) ≡ false → AreToldByValues wanted plan
 values_none wanted plan none_so is untold lines unreported =
-    let neither : (two_of plan || needs_streams plan) ≡ false = first_false (two_of plan || needs_streams plan) (sums_up plan) none_so in
-    let not_so : needs_streams plan ≡ false = second_false (two_of plan) (needs_streams plan) neither in
-    λ whole tree spared. record {
+    let not_so : needs_streams plan ≡ false = second_false (two_of plan) (needs_streams plan) none_so in
+    λ whole tree of_frame spared. record {
       shown = λ none. shown_quiet plan tree whole (quiet_asked plan is);
       counted = λ totals. counted_file plan tree whole (not_generated plan not_so) (no_steps plan (judged plan.chosen tree) (judged plan.chosen whole) untold) totals;
       truth = λ written. not_written plan lines written;
@@ -385,37 +379,32 @@ values_none wanted plan none_so is untold lines unreported =
     }
 
 pub values_plain : (wanted : List ℕ) (plan : Plan) → shows_whole plan ≡ false → asks_trees plan ≡ false → HasPlan wanted plan → HasTables wanted plan
-    → AreToldByValues wanted plan
-values_plain wanted plan is none_so has tables =
-    let neither : (two_of plan || needs_streams plan) ≡ false = first_false (two_of plan || needs_streams plan) (sums_up plan) none_so in
-    let not_so : needs_streams plan ≡ false = second_false (two_of plan) (needs_streams plan) neither in
-    let unsummed : sums_up plan ≡ false = second_false (two_of plan || needs_streams plan) (sums_up plan) none_so in
-    λ whole tree spared. record {
-      shown = λ lines. shown_asked wanted plan whole tree spared.values has lines unsummed (which_lines plan lines is);
+    → (asks_protocols plan ≡ true → HasProtocols wanted) → AreToldByValues wanted plan
+values_plain wanted plan is none_so has tables protos =
+    let not_so : needs_streams plan ≡ false = second_false (two_of plan) (needs_streams plan) none_so in
+    λ whole tree of_frame spared.
+    let layers : asks_protocols plan ≡ true → tree.layers ≡ map (kept_layer wanted) whole.layers = λ asks. all_layers wanted whole tree (protos asks) of_frame spared in
+    record {
+      shown = λ lines. shown_alike wanted plan whole tree spared.values (λ summed. layers (ap (λ (b : Bool). b || asks_table plan Phs) summed)) has lines
+          (which_lines plan lines is);
       counted = λ totals. counted_file plan tree whole (not_generated plan not_so)
           (ap (steps_told plan) (judged_same wanted plan.chosen whole tree spared.values has.filter)) totals;
       truth = λ written. satisfies_same wanted plan.chosen whole tree spared.values has.filter;
       noted = λ kind asked. record {
         truth = satisfies_same wanted plan.chosen whole tree spared.values has.filter;
-        alike = conversations_alike wanted plan whole tree kind not_so tables spared asked;
+        alike = tables_alike wanted plan whole tree kind tables (λ phs. layers (any_true (sums_up plan) (asks_table plan Phs) phs)) spared asked;
       };
     }
 
 -- these are enough
 pub values_enough : (wanted : List ℕ) (plan : Plan) → asks_trees plan ≡ false → AreToldByValues wanted plan → IsEnough wanted plan
-values_enough wanted plan none_so told =
-    let neither : (two_of plan || needs_streams plan) ≡ false = first_false (two_of plan || needs_streams plan) (sums_up plan) none_so in
-    record {
-      told = λ whole tree made. told whole tree made.spared;
-      streams = not_needed plan (second_false (two_of plan) (needs_streams plan) neither);
-      twice = not_twice plan (first_false (two_of plan) (needs_streams plan) neither);
-    }
+values_enough wanted plan none_so told = record {
+  told = λ whole tree made. told whole tree made.of_frame made.spared;
+  streams = not_needed plan (second_false (two_of plan) (needs_streams plan) none_so);
+  twice = not_twice plan (first_false (two_of plan) (needs_streams plan) none_so);
+}
 
 -- what they are enough for
-any_true : (a b : Bool) → b ≡ true → (a || b) ≡ true
-any_true true b is = refl
-any_true false b is = is
-
 pub reports_need : (wanted : List ℕ) (plan : Plan) → IsEnough wanted plan → list_any is_of_streams plan.reports ≡ true → asks_streams wanted ≡ true
 reports_need wanted plan enough some = enough.streams (any_true (is_generated plan) (list_any is_of_streams plan.reports) some)
 

@@ -70,6 +70,6 @@ line_trees job stream side past =
 pub told_once : MessagesOnce → MessagesInTrees → MessagesToldOnce
 told_once messages_once in_trees job past shows = record {
   lines = json_pieces job past shows;
-  once = λ app stream side. messages_once app (tcp_segments past) stream side;
+  once = λ framer stream side. messages_once framer (tcp_segments past) stream side;
   trees = λ stream side. line_trees job stream side past ∙ in_trees (rules_of job.plan) past stream side;
 }

@@ -4,7 +4,7 @@ use Rattle.capture_read.specs.declared.frame.Frame.{Frame}
 use Rattle.out_json.specs.Lines.{json_line_of}
 use Rattle.dissect.specs.MessageLaws.{app_of_stream, trees_show, whole_messages}
 use Rattle.shark_words.specs.declared.options.LineKind.TheVariants.{Json}
-use Rattle.stream_messages.specs.declared.told.App.{App}
+use Rattle.stream_messages.specs.declared.framer.Framer.{Framer}
 use Rattle.stream_messages.specs.Messages.{of_stretches}
 use Rattle.stream_messages.specs.Sides.{asked_in, noted, shown_in}
 use Rattle.tcp_messages.specs.Brought.{brought}
@@ -38,9 +38,9 @@ labels_in past = labels (tcp_segments past)
 -- these lines, behind the last layer of TCP, each with its application and its bytes
 pub record IsToldOnce (job : Job) (past : List Frame) : Type 0 where
   pub lines : pieces_of job past ≡ json_lines job past
-  pub once : (app : App) (stream : ℕ) (side : Bool)
-      → shown_in side (noted app (brought stream (labels_in past)))
-      ≡ of_stretches app (asked_in side (noted app (brought stream (labels_in past)))) 0 (stretches (way_of stream side (labels_in past)))
+  pub once : (framer : Framer) (stream : ℕ) (side : Bool)
+      → shown_in side (noted framer (brought stream (labels_in past)))
+      ≡ of_stretches framer (asked_in side (noted framer (brought stream (labels_in past)))) 0 (stretches (way_of stream side (labels_in past)))
   pub trees : (stream : ℕ) (side : Bool)
       → trees_show (tree_of job) stream side past
       ≡ whole_messages (app_of_stream (rules_of job.plan) stream (labels_in past)) stream side (labels_in past)

@@ -5,3 +5,4 @@ pub mod Lines
 pub mod ReportLaws
 pub mod Reports
 pub mod SelfRun
+pub mod Wanted

@@ -2,26 +2,30 @@
 ghost use Rattle.std.specs.Prelude.{◌≡◌, ◌==◌, ℕ, not, length, true, false, IfOk, []};
 ghost use Rattle.std.specs.List.{list_any};
 ghost use Rattle.cap_stats.specs.Laws.{fields_of as table_fields};
+ghost use Rattle.pk_fields.specs.Fields.{row_of};
 ghost use Rattle.pk_fields.specs.FieldSets.{is_in};
+ghost use Rattle.pk_tree.specs.Values.{is_proto};
 ghost use Rattle.second_pass.specs.Laws.{link_fields};
 ghost use Rattle.dissect.specs.Stands.{StandsWithin};
 ghost use Rattle.run_frames.specs.Accessors.{is_of_streams, needs_streams as are_streams_needed, reports_of, rules_of, two_of};
 ghost use Rattle.run_frames.specs.Tables.{asks_table};
-ghost use Rattle.run_frames.specs.Wanted.{AreToldByValues, HasAsked, HasFields, HasPlan, HasTables, IsEnough, ServesPlan, asks_trees, shows_whole, summary_fields, sums_up as are_summed_up};
+ghost use Rattle.run_frames.specs.Wanted.{AreToldByValues, HasAsked, HasFields, HasPlan, HasTables, IsEnough, ServesPlan, asks_protocols, asks_trees, shows_whole, summary_fields, sums_up as are_summed_up};
 ghost use Rattle.dissect.specs.Followed.{asks_streams};
+ghost use Rattle.run_output.specs.Wanted.{HasProtocols};
 
 use cap_stats::StatKind;
 use dissect::Dissector;
 use flt_typing::add_fields;
 use pk_base::NoMemory;
-use pk_fields::{FieldId, FieldSet, ids};
+use pk_fields::ids::FIELD_COUNT;
+use pk_fields::{FieldId, FieldSet, ValueKind, field_of, ids, kind};
 use run_frames::{Compiled, Plan, asks_table, new_dissector, new_value_dissector};
 use shark_words::{LineKind, Report};
 use std::alloc::Global;
 
-/// The fields that the output is made from: all for lines of JSON, else those of the filter, of the lines and of the tables, what
-/// tells of streams where the names of all protocols are shown or something behind the lines is told by streams, and the fields of
-/// links where the frames are read twice.
+/// The fields that the output is made from: all for lines of JSON, else those of the filter, of the lines and of the tables, the
+/// protocols of all layers where lines or tables name these, what tells of streams where something behind the lines is told by
+/// them, and the fields of links where the frames are read twice.
 #[tactic(auto, using(crate::proofs::EnoughLemmas::enough_all, crate::proofs::EnoughLemmas::enough_followed, crate::proofs::EnoughLemmas::values_enough))]
 pub fn needed_fields(plan: &Plan) -> FieldSet
     ensures { IsEnough result plan.now }
@@ -60,7 +64,7 @@ fn valued_fields(plan: &Plan) -> FieldSet
     if plan.quiet && !plan.stats && plan.written.is_none() && !has_reports(plan) {
         return FieldSet::none();
     }
-    tabled_fields(plan)
+    named_fields(plan)
 }
 
 // Whether anything is reported behind the lines.
@@ -80,11 +84,58 @@ fn tabled_fields(plan: &Plan) -> FieldSet
     wanted
 }
 
+// The same, and all protocols where the names of layers' protocols are told.
+fn named_fields(plan: &Plan) -> FieldSet
+    ensures plan { HasPlan result plan.now }
+    ensures tables { HasTables result plan.now }
+    ensures named { asks_protocols plan.now ≡ true → HasProtocols result }
+{
+    let mut wanted = tabled_fields(plan);
+    add_protocols(plan, &mut wanted);
+    wanted
+}
+
+// All protocols, where lines or a table name those of layers.
+fn add_protocols(plan: &Plan, wanted: &mut FieldSet)
+    ensures named { asks_protocols plan.now ≡ true → HasProtocols wanted.new }
+    ensures kept { (f : ℕ) → is_in wanted.old f ≡ true → is_in wanted.new f ≡ true }
+{
+    if names_protocols(plan) {
+        add_every_protocol(wanted);
+    }
+}
+
+// Each row of the table of fields that is a protocol.
+fn add_every_protocol(wanted: &mut FieldSet)
+    ensures all { HasProtocols wanted.new }
+    ensures kept { (f : ℕ) → is_in wanted.old f ≡ true → is_in wanted.new f ≡ true }
+{
+    for number in 0..FIELD_COUNT {
+        add_protocol(field_of(number), wanted);
+    }
+}
+
+// A field, where it is a protocol.
+fn add_protocol(field: FieldId, wanted: &mut FieldSet)
+    ensures protocol { is_proto (row_of field).kind ≡ true → is_in wanted.new field ≡ true }
+    ensures kept { (f : ℕ) → is_in wanted.old f ≡ true → is_in wanted.new f ≡ true }
+{
+    if matches!(kind(field), ValueKind::Proto) {
+        wanted.add(field);
+    }
+}
+
+fn names_protocols(plan: &Plan) -> bool
+    ensures { result ≡ asks_protocols plan.now }
+{
+    sums_up(plan) || asks_table(plan, StatKind::Phs)
+}
+
 // Whether something is told by more than trees that are made for the values of the wanted fields.
 fn needs_trees(plan: &Plan) -> bool
     ensures { result ≡ asks_trees plan.now }
 {
-    plan.two || needs_streams(plan) || sums_up(plan)
+    plan.two || needs_streams(plan)
 }
 
 // Whether whole trees are shown.
@@ -113,14 +164,14 @@ fn sums_up(plan: &Plan) -> bool
     }
 }
 
-// Whether something behind the lines may be told by streams of TCP.
+// Whether something behind the lines is told by streams of TCP.
 fn needs_streams(plan: &Plan) -> bool
     ensures { result ≡ are_streams_needed plan.now }
 {
     plan.source.is_generated() || reports_streams(plan)
 }
 
-// Whether one of the reports may be.
+// Whether one of the reports is.
 fn reports_streams(plan: &Plan) -> bool
     ensures { result ≡ list_any is_of_streams (reports_of plan.now) }
 {
@@ -134,8 +185,8 @@ fn is_of_streams(report: Report) -> bool
     ensures { result ≡ is_of_streams report }
 {
     match report {
-        Report::Follow(_) | Report::Table(StatKind::Phs) => true,
-        Report::Table(StatKind::ConvTcp | StatKind::ConvIp) => false,
+        Report::Follow(_) => true,
+        Report::Table(StatKind::ConvTcp | StatKind::ConvIp | StatKind::Phs) => false,
     }
 }
 
