@@ -7,23 +7,24 @@ use Rattle.pk_base.specs.declared.found.Found.{Found}
 use Rattle.pk_base.specs.declared.found.Reason.{Reason}
 use Rattle.pk_base.proofs.Choices.{is_less, isn't_less, less, not_less}
 use Rattle.pk_base.proofs.SameFront.{IsSameFront, part_same}
-use Rattle.capture_formats.specs.Sections.{Scope, IsStepWithin, WhenUntaken, scope_of}
+use Rattle.capture_formats.specs.Sections.{Scope, IsStepWithin, WhenTaken, WhenUntaken, scope_of}
 use Rattle.capture_formats.specs.declared.step.BlockStep.{BlockStep}
 use Rattle.capture_formats.specs.declared.step.BlockStep.TheVariants as step
-use Rattle.capture_read.specs.Answers.{IsFrontOf, IsNear, HoldsExactly, Finds, GoesOn, FailsAt, Sees, TakesFew}
+use Rattle.capture_read.specs.Answers.{IsAtHand, IsFrontOf, IsNear, HoldsExactly, Ends, Finds, GoesOn, FailsAt, Sees, TakesFew}
 use Rattle.capture_read.specs.Capture.{capture_of, ended, frame_of, is_large, reading_of, with_frame}
 use Rattle.capture_read.specs.Ending.{damage_at}
 use Rattle.capture_read.specs.Fill.{IsFilled, IsFilledTo, IsUnfilled}
-use Rattle.capture_read.specs.Reader.{Reader, IsKept, IsOver, IsReading, IsSeenBehind, HasFew, Stands, cut_here, kind_then, reading_here, scope_then, step_here, with_past}
+use Rattle.capture_read.specs.Offsets.{IsStepTimely}
+use Rattle.capture_read.specs.Reader.{Reader, IsKept, IsOver, IsPlaced, IsReading, IsSeenBehind, HasFew, Stands, cut_here, kind_then, reading_here, scope_then, step_here, with_past}
 use Rattle.capture_read.specs.Taken.{TookAtMost, TookFew}
 use Rattle.capture_read.specs.declared.ending.Ending.{Ending}
 use Rattle.capture_read.specs.declared.frame.Frame.{Frame}
 use Rattle.capture_read.specs.declared.kind.Kind.{Kind}
 use Rattle.capture_read.specs.declared.kind.Seen.{Seen}
 use Rattle.capture_read.specs.declared.kind.Seen.TheVariants as seen
-use Rattle.capture_read.specs.declared.next_frame.NextFrame.TheVariants as next
 use Rattle.capture_read.specs.declared.position.Sight.{Sight}
 use Rattle.capture_read.proofs.HereSteps.{after_step, follows_here}
+use Rattle.capture_read.proofs.ReaderBounds.{counted_by}
 use Rattle.capture_read.proofs.ReaderSteps.{IsSoon, few_front, front-append, over_step}
 use Rattle.capture_read.proofs.TakenLemmas.{took_more}
 use Rattle.capture_read.proofs.SameSteps.{IsStepDecided, step_same, scope_same, kind_same}
@@ -357,7 +358,7 @@ turn_skipped r (Some left) size kept is within = λ file past so. reading_skippe
 
 pub turn_found : (r : Reader) (left : Option (List ℕ)) (found : Found) → IsKept r → step_here r.kind r.scope r.held ≡ step.Item found
     → found.end ≤ length r.held → found.start + found.len ≤ found.end
-    → Finds (next.Frame (frame_of r.number found r.held)) r (behind_step r (step.Item found) (suc r.number) found.end) left left
+    → Finds (frame_of r.number found r.held) r (behind_step r (step.Item found) (suc r.number) found.end) left left
 unfolding Stands
 turn_found r None found kept is within room = λ file past so. absurd so
 turn_found r (Some left) found kept is within room = λ file past so.
@@ -365,19 +366,19 @@ turn_found r (Some left) found kept is within room = λ file past so.
     (reads, reading_front (behind_step r (step.Item found) (suc r.number) found.end) left file (frame_of r.number found r.held ∷ past) reads, reading_near r left file past so)
 
 pub turn_bad : (r : Reader) (left : Option (List ℕ)) (reason : Reason) → IsKept r → step_here r.kind r.scope r.held ≡ step.Bad reason
-    → Finds (next.End (damage_at r.at reason)) r r left left
+    → Ends (damage_at r.at reason) r r left left
 unfolding Stands
 turn_bad r None reason kept is = λ file past so. absurd so
 turn_bad r (Some left) reason kept is = λ file past so. (so, reading_bad r left file past reason kept so is)
 
 pub turn_ended : (r : Reader) (left : Option (List ℕ)) (need : ℕ) → IsKept r → r.seen ≡ seen.Ended → step_here r.kind r.scope r.held ≡ step.Need need
-    → Finds (next.End (cut_here r.kind false r.at r.held)) r r left left
+    → Ends (cut_here r.kind false r.at r.held) r r left left
 unfolding Stands
 turn_ended r None need kept is needs = λ file past so. absurd so
 turn_ended r (Some left) need kept is needs = λ file past so. (so, reading_ended r left file past need kept so is needs)
 
 pub turn_beyond : (r : Reader) (left : Option (List ℕ)) (need : ℕ) → IsKept r → r.seen ≡ seen.Beyond → step_here r.kind r.scope r.held ≡ step.Need need
-    → Finds (next.End (cut_here r.kind true r.at r.held)) r r left left
+    → Ends (cut_here r.kind true r.at r.held) r r left left
 unfolding Stands
 turn_beyond r None need kept is needs = λ file past so. absurd so
 turn_beyond r (Some left) need kept is needs = λ file past so. (so, reading_beyond r left file past need kept so is needs)
@@ -435,31 +436,36 @@ looked_step inside bytes s t kind scope looked is = (
 )
 
 -- more bytes are needed, and nothing is known then that wasn't before
-pub need_by : (sight : Sight) (r inside : Reader) (s : BlockStep) (kind : Option Kind) (scope : Scope) (need : ℕ) → inside ≡ r → s ≡ step.Need need
+pub need_by : (sight : Sight) (found : Found) (r inside : Reader) (s : BlockStep) (kind : Option Kind) (scope : Scope) (need : ℕ) → inside ≡ r → s ≡ step.Need need
     → WhenUntaken s ((kind ≡ inside.kind) × (scope ≡ inside.scope))
-    → Sees sight (record { kind = kind; scope = scope; number = inside.number; at = inside.at; held = inside.held; seen = inside.seen }) (record { kind = kind; scope = scope; number = inside.number; at = inside.at; held = inside.held; seen = inside.seen })
-    → Sees sight r (record { kind = kind; scope = scope; number = inside.number; at = inside.at; held = inside.held; seen = inside.seen })
-need_by sight r inside s kind scope need view is untaken sees =
+    → Sees sight found (record { kind = kind; scope = scope; number = inside.number; at = inside.at; held = inside.held; seen = inside.seen }) (record { kind = kind; scope = scope; number = inside.number; at = inside.at; held = inside.held; seen = inside.seen })
+    → Sees sight found r (record { kind = kind; scope = scope; number = inside.number; at = inside.at; held = inside.held; seen = inside.seen })
+need_by sight found r inside s kind scope need view is untaken sees =
     let same : (kind ≡ inside.kind) × (scope ≡ inside.scope) = subst (λ (t : BlockStep). WhenUntaken t ((kind ≡ inside.kind) × (scope ≡ inside.scope))) is untaken in
     rw (← view, same.0, same.1) (rw (same.0, same.1) at sees)
 
 pub bad_by : (r inside : Reader) (bytes : List ℕ) (s : BlockStep) (kind : Option Kind) (scope : Scope) (ending : Ending) (left : Option (List ℕ)) (reason : Reason)
     → inside ≡ r → IsKept inside → IsLooked inside bytes s kind scope → s ≡ step.Bad reason → WhenUntaken s ((kind ≡ inside.kind) × (scope ≡ inside.scope))
     → ending ≡ damage_at inside.at reason
-    → Finds (next.End ending) r (record { kind = kind; scope = scope; number = inside.number; at = inside.at; held = inside.held; seen = inside.seen }) left left
+    → Ends ending r (record { kind = kind; scope = scope; number = inside.number; at = inside.at; held = inside.held; seen = inside.seen }) left left
 bad_by r inside bytes s kind scope ending left reason view kept looked is untaken told =
     let same : (kind ≡ inside.kind) × (scope ≡ inside.scope) = subst (λ (t : BlockStep). WhenUntaken t ((kind ≡ inside.kind) × (scope ≡ inside.scope))) is untaken in
     rw (← view, told, same.0, same.1) (turn_bad inside left reason kept (looked_step inside bytes s (step.Bad reason) kind scope looked is).0)
 
-pub found_by : (r inside : Reader) (bytes held : List ℕ) (s : BlockStep) (kind : Option Kind) (scope : Scope) (number : ℕ) (frame : Frame) (left : Option (List ℕ)) (found : Found)
+pub found_by : (r inside : Reader) (bytes : List ℕ) (s : BlockStep) (kind : Option Kind) (scope : Scope) (left : Option (List ℕ)) (found : Found)
     → inside ≡ r → IsKept inside → IsLooked inside bytes s kind scope → s ≡ step.Item found → IsStepWithin s (length bytes)
-    → held ≡ drop found.end inside.held → number ≡ inside.number + 1 → frame ≡ frame_of inside.number found inside.held
-    → Finds (next.Frame frame) r (record { kind = kind; scope = scope; number = number; at = inside.at + found.end; held = held; seen = inside.seen }) left left
-found_by r inside bytes held s kind scope number frame left found view kept looked is within passed counted told =
+    → WhenTaken s ((number : ℕ) → (at : ℕ) → IsPlaced kind scope number at) → IsStepTimely s
+    → IsAtHand found r (record { kind = kind; scope = scope; number = inside.number; at = inside.at; held = inside.held; seen = inside.seen }) left left
+found_by r inside bytes s kind scope left found view kept looked is within taken timely =
     let facts = looked_step inside bytes s (step.Item found) kind scope looked is in
     let bounds : IsStepWithin (step.Item found) (length inside.held) = subst (λ (t : BlockStep). IsStepWithin t (length inside.held)) is (subst (λ (b : List ℕ). IsStepWithin s (length b)) looked.held within) in
-    let next_number : number ≡ suc inside.number = omega (arith, counted) in
-    rw (← view, told, facts.1, facts.2, passed, next_number) (turn_found inside left found kept facts.0 bounds.1 bounds.2)
+    let next_number : inside.number + 1 ≡ suc inside.number = omega arith in
+    record {
+      within = bounds;
+      placed = subst (λ (t : BlockStep). WhenTaken t ((number : ℕ) → (at : ℕ) → IsPlaced kind scope number at)) is taken;
+      finds = rw (← view, facts.1, facts.2, next_number) (turn_found inside left found kept facts.0 bounds.1 bounds.2);
+      counts = counted_by r inside bytes (drop found.end inside.held) s kind scope (inside.number + 1) (frame_of inside.number found inside.held) found view looked.held is within timely refl refl;
+    }
 
 pub skipped_by : (r inside : Reader) (bytes held : List ℕ) (s : BlockStep) (kind : Option Kind) (scope : Scope) (left : Option (List ℕ)) (size : ℕ)
     → inside ≡ r → IsKept inside → IsLooked inside bytes s kind scope → s ≡ step.Skipped size → IsStepWithin s (length bytes)

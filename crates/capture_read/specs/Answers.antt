@@ -1,10 +1,12 @@
 -- What a reader answers.
-use Rattle.std.specs.Prelude.{◌≡◌, ◌<◌, ◌≤◌, ℕ, ◌+◌, ◌-◌, ◌^◌, List, ◌∷◌, ◌++◌, length, Option, Some, None, IfSome}
+use Rattle.std.specs.Prelude.{◌≡◌, ◌<◌, ◌≤◌, ℕ, ◌+◌, ◌-◌, ◌^◌, List, ◌∷◌, ◌++◌, length, drop, Option, Some, None, IfSome}
 use Rattle.pk_base.specs.Limits.{file_limit}
+use Rattle.pk_base.specs.declared.found.Found.{Found}
+use Rattle.capture_formats.specs.Sections.{IsStepWithin}
 use Rattle.capture_formats.specs.declared.step.BlockStep.TheVariants as step
-use Rattle.capture_read.specs.Capture.{Reading, capture_of, ended}
+use Rattle.capture_read.specs.Capture.{Reading, capture_of, ended, frame_of}
 use Rattle.capture_read.specs.FrameList.{IsTime}
-use Rattle.capture_read.specs.Reader.{Reader, ReaderShown, Stands, StandsFor, HasFew, step_here, with_past}
+use Rattle.capture_read.specs.Reader.{Reader, ReaderShown, IsPlaced, Stands, StandsFor, HasFew, step_here, with_past}
 use Rattle.capture_read.specs.Taken.{TookFew}
 use Rattle.capture_read.specs.declared.ending.Ending.{Ending}
 use Rattle.capture_read.specs.declared.frame.Frame.{Frame}
@@ -14,6 +16,8 @@ use Rattle.capture_read.specs.declared.kind.Seen.{Seen}
 use Rattle.capture_read.specs.declared.kind.Seen.TheVariants as seen
 use Rattle.capture_read.specs.declared.next_frame.NextFrame.{NextFrame}
 use Rattle.capture_read.specs.declared.next_frame.NextFrame.TheVariants as next
+use Rattle.capture_read.specs.declared.position.Met.{Met}
+use Rattle.capture_read.specs.declared.position.Met.TheVariants as met
 use Rattle.capture_read.specs.declared.position.Sight.{Sight}
 use Rattle.capture_read.specs.declared.position.Sight.TheVariants as sight
 use Rattle.capture_read.specs.declared.position.Turn.{Turn}
@@ -78,14 +82,46 @@ KeepsEnd (next.End ending) kept = kept ≡ phase.Ended ending
 
 -- one step to the next answer
 
-abbrev pub Finds : NextFrame → Reader → Reader → Option (List ℕ) → Option (List ℕ) → Type 0
-Finds (next.Frame frame) old new left_old left_new = (file : List ℕ) → (past : List Frame)
+-- the next frame, which the place is behind
+abbrev pub Finds : Frame → Reader → Reader → Option (List ℕ) → Option (List ℕ) → Type 0
+Finds frame old new left_old left_new = (file : List ℕ) → (past : List Frame)
     → Stands old left_old file past
     → Stands new left_new file (frame ∷ past) × IsFrontOf (frame ∷ past) file
     × IsNear file past left_new
-Finds (next.End ending) old new left_old left_new = (file : List ℕ) → (past : List Frame)
+
+-- how the file ends
+abbrev pub Ends : Ending → Reader → Reader → Option (List ℕ) → Option (List ℕ) → Type 0
+Ends ending old new left_old left_new = (file : List ℕ) → (past : List Frame)
     → Stands old left_old file past
     → Stands new left_new file past × (capture_of file ≡ with_past past (ended ending))
+
+-- the reader behind the record or block of a frame
+abbrev pub behind_found : Found → Reader → Reader
+behind_found found r = record {
+  kind = r.kind;
+  scope = r.scope;
+  number = r.number + 1;
+  at = r.at + found.end;
+  held = drop found.end r.held;
+  seen = r.seen;
+}
+
+-- a frame's record or block is at hand, and once it is taken the frame is the next one
+pub record IsAtHand (found : Found) (old new : Reader) (left_old left_new : Option (List ℕ))
+    : Type 0 where
+  pub within : IsStepWithin (step.Item found) (length new.held)
+  pub placed : (number : ℕ) → (at : ℕ) → IsPlaced new.kind new.scope number at
+  pub finds : Finds (frame_of new.number found new.held) old (behind_found found new) left_old left_new
+  pub counts : IsCounted (frame_of new.number found new.held) old (behind_found found new)
+
+-- what is met is a frame, of which it is told where it is, or the file's end
+abbrev pub Meets : Met → Found → Reader → Reader → Option (List ℕ) → Option (List ℕ) → Type 0
+Meets met.Item found old new left_old left_new = IsAtHand found old new left_old left_new
+Meets (met.End ending) found old new left_old left_new = Ends ending old new left_old left_new
+
+abbrev pub CountsMet : Met → Reader → Reader → Type 0
+CountsMet met.Item old new = Unit {0}
+CountsMet (met.End ending) old new = (new.number ≡ old.number) × (old.at ≤ new.at)
 
 -- the reader stands for the same as before
 abbrev pub GoesOn : Reader → Reader → Option (List ℕ) → Option (List ℕ) → Type 0
@@ -110,20 +146,20 @@ abbrev pub work_left : Reader → ℕ
 work_left r = (file_limit - r.at) + (file_limit - (r.at + length r.held)) + open_count r.seen
 
 -- a step answers, or goes on with less to do
-abbrev pub Turns : Turn → Reader → Reader → Option (List ℕ) → Option (List ℕ) → Type 0
-Turns (turn.Next answer) old new left_old left_new = Finds answer old new left_old left_new
-Turns turn.Again old new left_old left_new = GoesOn old new left_old left_new
+abbrev pub Turns : Turn → Found → Reader → Reader → Option (List ℕ) → Option (List ℕ) → Type 0
+Turns (turn.Next answer) found old new left_old left_new = Meets answer found old new left_old left_new
+Turns turn.Again found old new left_old left_new = GoesOn old new left_old left_new
 
 abbrev pub CountsTurn : Turn → Reader → Reader → Type 0
-CountsTurn (turn.Next answer) old new = CountsNext answer old new
+CountsTurn (turn.Next answer) old new = CountsMet answer old new
 CountsTurn turn.Again old new =
     (new.number ≡ old.number) × (old.at ≤ new.at) × (work_left new < work_left old)
 
 -- a look at the bytes held: what a step comes to without a read, or that more bytes are needed, which may be there
-abbrev pub Sees : Sight → Reader → Reader → Type 0
-Sees (sight.Told answer) old new =
-    (left : Option (List ℕ)) → Turns answer old new left left
-Sees (sight.Need need) old new =
+abbrev pub Sees : Sight → Found → Reader → Reader → Type 0
+Sees (sight.Told answer) found old new =
+    (left : Option (List ℕ)) → Turns answer found old new left left
+Sees (sight.Need need) found old new =
     (new ≡ old) × (old.seen ≡ seen.Open) × (length old.held < need)
     × (step_here old.kind old.scope old.held ≡ step.Need need)
 

@@ -10,8 +10,9 @@ ghost use Rattle.capture_read.specs.declared.next_frame.NextFrame.TheVariants.{E
 
 use crate::kind::Phase;
 use crate::next_frame::NextFrame;
-use crate::position::Position;
+use crate::position::{Met, NOWHERE, Position};
 use crate::read_error::ReadError;
+use pk_base::NoMemory;
 use pk_outside::Capture;
 use std::alloc::Global;
 use std::marker::Model;
@@ -104,9 +105,16 @@ impl FrameReader {
             Phase::Ended(ending) => return Ok(NextFrame::End(ending)),
             Phase::Spent => return Err(ReadError::Spent),
         }
-        match self.position.take_next(capture) {
-            Ok(NextFrame::Frame(frame)) => Ok(NextFrame::Frame(frame)),
-            Ok(NextFrame::End(ending)) => {
+        let mut found = NOWHERE;
+        match self.position.find_next(capture, &mut found) {
+            Ok(Met::Item) => match self.position.part(&found) {
+                Ok(bytes) => Ok(NextFrame::Frame(self.position.pass(&found, bytes))),
+                Err(NoMemory) => {
+                    self.phase = Phase::Spent;
+                    Err(ReadError::NoMemory)
+                }
+            },
+            Ok(Met::End(ending)) => {
                 self.phase = Phase::Ended(ending);
                 Ok(NextFrame::End(ending))
             }

@@ -47,6 +47,7 @@ fn look_first(
 }
 
 /// Looks at the header, record or block that begins with the first of the bytes held, and keeps what is known behind it.
+#[inline(always)]
 pub fn look(
     kind: &mut Option<Kind>,
     sections: &mut Sections,
@@ -68,12 +69,13 @@ pub fn look(
         → AreInterfaces sections.new.interfaces }
 {
     match *kind {
-        None => look_first(kind, sections, bytes),
+        None => Ok(look_first(kind, sections, bytes)?),
         Some(Kind::Pcap(head)) => Ok(step_of_item(next_item(&head, bytes))),
-        Some(Kind::Pcapng) => sections.next_block(bytes),
+        Some(Kind::Pcapng) => Ok(sections.next_block(bytes)?),
     }
 }
 
+#[inline(always)]
 fn step_of_item(item: ItemStep) -> BlockStep
     ensures { result ≡ step_of_item item }
 {

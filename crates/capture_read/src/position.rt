@@ -1,10 +1,12 @@
 // How far a capture file is read.
-ghost use Rattle.std.specs.Prelude.{◌≡◌, ◌+◌, ◌≤◌, ◌<◌, ◌^◌, ℕ, List, [], Some, false, true, length, IfErr, IfOk, IsErrOf, OnOk};
+ghost use Rattle.std.specs.Prelude.{◌≡◌, ◌+◌, ◌≤◌, ◌<◌, ◌^◌, ℕ, List, [], Some, false, true, length, take, drop, IfErr, IfOk, IsErrOf, OnOk};
+ghost use Rattle.capture_formats.specs.Sections.{IsStepWithin};
 ghost use Rattle.capture_formats.specs.declared.step.BlockStep.TheVariants as step;
 ghost use Rattle.pk_base.specs.Limits.{file_limit as limit_of_file};
-ghost use Rattle.capture_read.specs.Answers.{CountsNext, CountsSight, CountsTurn, FailsAt, Finds, Sees, TakesFew, Turns};
+ghost use Rattle.pk_base.specs.declared.found.Found.{Found};
+ghost use Rattle.capture_read.specs.Answers.{CountsMet, CountsSight, CountsTurn, FailsAt, Meets, Sees, TakesFew, Turns, behind_found};
 ghost use Rattle.capture_read.specs.Capture.{frame_of};
-ghost use Rattle.capture_read.specs.Reader.{Stands, cut_here, step_here};
+ghost use Rattle.capture_read.specs.Reader.{IsPlaced, Stands, cut_here, step_here};
 ghost use Rattle.capture_read.specs.Reads.{CountsFault, StaysBegun};
 ghost use Rattle.capture_read.specs.declared.kind.Seen.TheVariants as seen;
 
@@ -14,27 +16,46 @@ use crate::frame::Frame;
 use crate::held::Held;
 use crate::kind::{Kind, Seen};
 use crate::look::look;
-use crate::next_frame::NextFrame;
 use crate::read_error::ReadError;
 use crate::room::{block_of, move_to_room};
 use crate::state::begins_pcapng;
 use bytes::BytesMut;
 use capture_formats::{BlockStep, Sections};
-use pk_base::{Found, NoMemory, Reason, file_limit};
+use pk_base::{Found, NoMemory, Octets, Reason, file_limit};
 use pk_outside::Capture;
 use std::alloc::Global;
 use std::marker::Model;
 
+/// Where there is no frame yet.
+pub const NOWHERE: Found = Found {
+    time: None,
+    link: 0,
+    little: false,
+    original: 0,
+    start: 0,
+    len: 0,
+    end: 0,
+};
+
+/// What comes next in a file.
+#[derive(Clone, Copy)]
+pub enum Met {
+    /// A frame in the record or block at hand. Where it is there stands in a place of its own, since it would be moved at
+    /// each step.
+    Item,
+    End(Ending),
+}
+
 /// What one step through a file comes to.
-#[derive(Drop)]
+#[derive(Clone, Copy)]
 pub enum Turn {
-    Next(NextFrame),
+    Next(Met),
     /// No answer yet.
     Again,
 }
 
 /// What stands at a reader's place.
-#[derive(Drop)]
+#[derive(Clone, Copy)]
 pub enum Sight {
     /// What the step comes to, without a read.
     Told(Turn),
@@ -119,12 +140,12 @@ impl Position {
     fn want(&self, need: usize) -> Sight
         requires needs { step_here self.now.kind self.now.scope self.now.held ≡ step.Need need }
         requires few { length self.now.held < need }
-        ensures sees { Sees result self.now self.now }
+        ensures sees { (found : Found) → Sees result found self.now self.now }
         ensures counts { CountsSight result self.now self.now }
     {
         match self.seen {
-            Seen::Ended => Sight::Told(Turn::Next(NextFrame::End(self.cut(false)))),
-            Seen::Beyond => Sight::Told(Turn::Next(NextFrame::End(self.cut(true)))),
+            Seen::Ended => Sight::Told(Turn::Next(Met::End(self.cut(false)))),
+            Seen::Beyond => Sight::Told(Turn::Next(Met::End(self.cut(true)))),
             Seen::Open => Sight::Need(need),
         }
     }
@@ -134,7 +155,7 @@ impl Position {
         requires needs { step_here self.old.kind self.old.scope self.old.held ≡ step.Need need }
         requires few { length self.old.held < need }
         requires open { self.old.seen ≡ seen.Open }
-        ensures turns { IfOk result (λ turn. Turns turn self.old self.new
+        ensures turns { (found : Found) → IfOk result (λ turn. Turns turn found self.old self.new
             (C.left capture.old) (C.left capture.new)) }
         ensures counts { IfOk result (λ turn. CountsTurn turn self.old self.new) }
         ensures limit { self.new.at ≤ limit_of_file }
@@ -161,24 +182,45 @@ impl Position {
         Ok(Turn::Again)
     }
 
-    /// The frame found in the record or block at hand.
-    fn frame(&self, number: u32, found: &Found) -> Result<Frame, NoMemory>
+    /// The captured bytes of the frame found in the record or block at hand.
+    #[inline(always)]
+    pub fn part(&self, found: &Found) -> Result<Octets, NoMemory>
         requires { found.now.start + found.now.len ≤ length self.now.held }
-        ensures { IfOk result (λ frame. frame ≡ frame_of number found.now self.now.held) }
+        ensures { IfOk result (λ octets.
+            octets ≡ take found.now.len (drop found.now.start self.now.held)) }
     {
-        Ok(Frame {
+        self.held.part(found.start, found.len)
+    }
+
+    /// The frame found in the record or block at hand, of these bytes. The place is behind it then.
+    #[inline(always)]
+    pub fn pass(&mut self, found: &Found, bytes: Octets) -> Frame
+        requires within { IsStepWithin (step.Item found.now) (length self.old.held) }
+        requires placed { (number : ℕ) → (at : ℕ)
+            → IsPlaced self.old.kind self.old.scope number at }
+        requires part { bytes ≡ take found.now.len (drop found.now.start self.old.held) }
+        ensures frame { result ≡ frame_of self.old.number found.now self.old.held }
+        ensures behind { self.new ≡ behind_found found.now self.old }
+        ensures limit { self.new.at ≤ limit_of_file }
+    {
+        let number = self.number;
+        self.number += 1;
+        self.at += found.end;
+        self.held.pass(found.end);
+        Frame {
             number,
             time: found.time,
             link: found.link,
             little: found.little,
-            bytes: self.held.part(found.start, found.len)?,
+            bytes,
             original: found.original,
-        })
+        }
     }
 
-    /// Looks at the header, record or block at hand, and goes behind it where it is held.
-    fn look_on(&mut self) -> Result<Sight, NoMemory>
-        ensures sees { IfOk result (λ sight. Sees sight self.old self.new) }
+    /// Looks at the header, record or block at hand, and goes behind it where it is held and has no frame.
+    #[inline(always)]
+    fn look_on(&mut self, found: &mut Found) -> Result<Sight, NoMemory>
+        ensures sees { IfOk result (λ sight. Sees sight found.new self.old self.new) }
         ensures counts { IfOk result (λ sight. CountsSight sight self.old self.new) }
         ensures limit { self.new.at ≤ limit_of_file }
     {
@@ -186,14 +228,11 @@ impl Position {
             BlockStep::Need(need) => Ok(self.want(need)),
             BlockStep::Bad(reason) => {
                 let ending = damage_at(self.at, reason);
-                Ok(Sight::Told(Turn::Next(NextFrame::End(ending))))
+                Ok(Sight::Told(Turn::Next(Met::End(ending))))
             }
-            BlockStep::Item(found) => {
-                let frame = self.frame(self.number, &found)?;
-                self.number += 1;
-                self.at += found.end;
-                self.held.pass(found.end);
-                Ok(Sight::Told(Turn::Next(NextFrame::Frame(frame))))
+            BlockStep::Item(item) => {
+                *found = item;
+                Ok(Sight::Told(Turn::Next(Met::Item)))
             }
             BlockStep::Skipped(size) => {
                 self.at += size;
@@ -203,9 +242,10 @@ impl Position {
         }
     }
 
-    /// Looks at the header, record or block at hand, and goes behind it or reads on.
-    fn turn<C: Capture>(&mut self, capture: &mut C) -> Result<Turn, ReadError>
-        ensures turns { IfOk result (λ turn. Turns turn self.old self.new
+    /// Looks at the header, record or block at hand, and goes behind it where it has no frame, or reads on.
+    #[inline(always)]
+    fn turn<C: Capture>(&mut self, capture: &mut C, found: &mut Found) -> Result<Turn, ReadError>
+        ensures turns { IfOk result (λ turn. Turns turn found.new self.old self.new
             (C.left capture.old) (C.left capture.new)) }
         ensures counts { IfOk result (λ turn. CountsTurn turn self.old self.new) }
         ensures limit { self.new.at ≤ limit_of_file }
@@ -219,17 +259,22 @@ impl Position {
         ensures faulted { IfErr result (λ error.
             CountsFault error (C.faults capture.old) (C.faults capture.new)) }
     {
-        match self.look_on()? {
+        match self.look_on(found)? {
             Sight::Told(told) => Ok(told),
             Sight::Need(need) => self.need_more(capture, need),
         }
     }
 
-    /// The next frame, or how the file ends.
-    pub fn take_next<C: Capture>(&mut self, capture: &mut C) -> Result<NextFrame, ReadError>
-        ensures finds { IfOk result (λ next. Finds next self.old self.new
+    /// Goes on to the next frame, and tells where it is, or to where the file ends.
+    #[inline(always)]
+    pub fn find_next<C: Capture>(
+        &mut self,
+        capture: &mut C,
+        found: &mut Found,
+    ) -> Result<Met, ReadError>
+        ensures meets { IfOk result (λ met. Meets met found.new self.old self.new
             (C.left capture.old) (C.left capture.new)) }
-        ensures counts { IfOk result (λ next. CountsNext next self.old self.new) }
+        ensures counts { IfOk result (λ met. CountsMet met self.old self.new) }
         ensures limit { self.new.at ≤ limit_of_file }
         ensures fails { IsErrOf result ReadError.ReadFault
             → FailsAt self.old (C.left capture.old) (C.left capture.new) }
@@ -242,7 +287,7 @@ impl Position {
             CountsFault error (C.faults capture.old) (C.faults capture.new)) }
     {
         loop {
-            match self.turn(capture) {
+            match self.turn(capture, found) {
                 Ok(Turn::Next(next)) => return Ok(next),
                 Ok(Turn::Again) => {}
                 Err(error) => return Err(error),

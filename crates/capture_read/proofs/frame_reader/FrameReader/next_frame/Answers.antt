@@ -21,22 +21,13 @@ returns-in-Err-clause-fails g c = λ is file past so.
 
 pub returns-in-Err-clause-took : goal.returns-in-Err-clause-took
 returns-in-Err-clause-took g c = λ file past so.
-    c.take_next.ensures.took file past (stands_of _ c.args.self.now (g.C.Capture.left c.args.capture.now) file past c.self.view_is so)
-
-pub returns-in-Ok-Frame-clause-took : goal.returns-in-Ok-Frame-clause-took
-returns-in-Ok-Frame-clause-took g c = λ file past so.
-    c.take_next.ensures.took file past (stands_of _ c.args.self.now (g.C.Capture.left c.args.capture.now) file past c.self.view_is so)
+    c.find_next.ensures.took file past (stands_of _ c.args.self.now (g.C.Capture.left c.args.capture.now) file past c.self.view_is so)
 
 pub returns-in-Ok-End-clause-took : goal.returns-in-Ok-End-clause-took
 returns-in-Ok-End-clause-took g c = λ file past so.
-    c.take_next.ensures.took file past (stands_of _ c.args.self.now (g.C.Capture.left c.args.capture.now) file past c.self.view_is so)
-
-pub returns-in-Ok-Frame-clause-answers : goal.returns-in-Ok-Frame-clause-answers
-returns-in-Ok-Frame-clause-answers g c = λ file past so.
-    let found = (rw c.in-Ok-Frame.field-0-is at c.in-Ok-Frame.ensures.finds) file past (stands_of _ c.args.self.now (g.C.Capture.left c.args.capture.now) file past c.self.view_is so) in
-    ((found.0, subst (λ (phase : Phase). EndsAs phase file (c.in-Ok-Frame.frame ∷ past)) (sym c.in-Open.is) tt), found.1, found.2)
+    c.find_next.ensures.took file past (stands_of _ c.args.self.now (g.C.Capture.left c.args.capture.now) file past c.self.view_is so)
 
 pub returns-in-Ok-End-clause-answers : goal.returns-in-Ok-End-clause-answers
 returns-in-Ok-End-clause-answers g c = λ file past so.
-    let found = (rw c.in-Ok-End.field-0-is at c.in-Ok-End.ensures.finds) file past (stands_of _ c.args.self.now (g.C.Capture.left c.args.capture.now) file past c.self.view_is so) in
+    let found = (rw c.in-Ok-End.field-0-is at c.in-Ok-End.ensures.meets) file past (stands_of _ c.args.self.now (g.C.Capture.left c.args.capture.now) file past c.self.view_is so) in
     ((found.0, found.1), found.1)

@@ -12,7 +12,7 @@ returns-in-Err-clause-fails g c = λ is.
     c.self.view_is c.self.invariant (ap (λ (r : Reader). r.seen) c.self.view_is ∙ c.requires.open) c.requires.needs held c.file_limit.ensures.value (c.in-Err.ensures.unfilled (error_moves c.in-Err.error _ is))
 
 pub returns-clause-turns : goal.returns-clause-turns
-returns-clause-turns g c =
+returns-clause-turns g c = λ found.
     let bytes = take c.len-len.result c.move_to_room.new.room.items in
     let held : bytes ≡ c.self.inside.held = ap (λ (n : ℕ). take n c.move_to_room.new.room.items) c.len-len.ensures ∙ c.in_ok-alone.ensures.front in
     filled_by c.args.self.now _ bytes c.hold.new.self c.file_limit.result _ c.in-Ok.filled.seen c.args.need (g.C.Capture.left c.args.capture.now) (g.C.Capture.left c.fill.new.capture)

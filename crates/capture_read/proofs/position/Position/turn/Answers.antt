@@ -30,7 +30,7 @@ need_more-requires-clause-open g c =
 
 pub returns-in-Need-clause-turns : goal.returns-in-Need-clause-turns
 returns-in-Need-clause-turns g c =
-    rw (← (rw c.in-Need.is at c.in_ok-told.ensures.sees).0) c.need_more.ensures.turns
+    rw (← (rw c.in-Need.is at c.in_ok-told.ensures.sees).0) (c.need_more.ensures.turns c.look_on.new.found)
 
 pub returns-in-Need-clause-counts : goal.returns-in-Need-clause-counts
 returns-in-Need-clause-counts g c =

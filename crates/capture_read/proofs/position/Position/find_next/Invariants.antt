@@ -1,6 +1,6 @@
 use Rattle.std.proofs.Common.{◌≡◌, ◌≤◌, ℕ, List}
 use Rattle.capture_read.specs.Answers.{GoesOn, work_left}
-use Rattle.capture_read.proofs.position.Position.take_next.Given as goal
+use Rattle.capture_read.proofs.position.Position.find_next.Given as goal
 
 -- nothing was answered yet
 abbrev pub invariant-loop-next : goal.invariant-loop-next
