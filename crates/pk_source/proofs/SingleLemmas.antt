@@ -102,17 +102,30 @@ passed_header field home headers at h is other inside item so_far layers notes =
     let none : asked_told field layers notes h ≡ [] = rw far refl in
     ap (λ (told : List Told). told ++ fields_told field layers notes (drop (at + 1) headers)) (sym none) ∙ sym (more_headers field layers notes headers at h inside item) ∙ so_far layers notes
 
+-- where the picked slot is a row, the first place is what it reads
+own_told : (field home number : ℕ) (p : Picks) (layers : Layers) (notes : List Note) (h : Header) (span : Span) → home ≡ (row_of field).proto → p ≡ picks.Once number
+    → IsPicked field h.slots.now p → (h.proto == home) ≡ true → IsRowIn h number field layers span
+    → asked_told field layers notes h ≡ Read span ∷ notes_told field notes
+own_told field home number p layers notes h span is once picked mine row =
+    let near : (h.proto == (row_of field).proto) ≡ true = ap (λ proto. h.proto == proto) (sym is) ∙ mine in
+    let rows : rows_told h.span (sizes_of h) field h.slots.now ≡ Read span ∷ [] =
+    sym (picked h.span (sizes_of h)) ∙ ap (picked_told h.span (sizes_of h) field h.slots.now) once ∙ row.1 in
+    rw (near, row.0, rows) refl
+
+pub own_is : (field home number : ℕ) (p : Picks) (layers : Layers) (h : Header) (found : Option Span) → home ≡ (row_of field).proto → p ≡ picks.Once number
+    → IsPicked field h.slots.now p → (h.proto == home) ≡ true
+    → IfSome found (IsRowIn h number field layers) → IfSome found (λ span. (notes : List Note) → slice_get (asked_told field layers notes h) 0 ≡ Some (Read span))
+own_is field home number p layers h None is once picked mine row = tt
+own_is field home number p layers h (Some span) is once picked mine row =
+    λ notes. ap (λ (told : List Told). slice_get told 0) (own_told field home number p layers notes h span is once picked mine row)
+
 first_told_is : (field home number : ℕ) (p : Picks) (layers : Layers) (notes : List Note) (headers : List Header) (at : ℕ) (h : Header) (span : Span) → home ≡ (row_of field).proto → p ≡ picks.Once number
     → IsPicked field h.slots.now p → (h.proto == home) ≡ true → at < length headers → h ≡ get_or headers at h
     → fields_told field layers notes (drop at headers) ≡ fields_told field layers notes headers
     → IsRowIn h number field layers span → slice_get (fields_told field layers notes headers) 0 ≡ Some (Read span)
 first_told_is field home number p layers notes headers at h span is once picked mine inside item so_far row =
-    let near : (h.proto == (row_of field).proto) ≡ true = ap (λ proto. h.proto == proto) (sym is) ∙ mine in
-    let rows : rows_told h.span (sizes_of h) field h.slots.now ≡ Read span ∷ [] =
-    sym (picked h.span (sizes_of h)) ∙ ap (picked_told h.span (sizes_of h) field h.slots.now) once ∙ row.1 in
-    let own : asked_told field layers notes h ≡ Read span ∷ notes_told field notes = rw (near, row.0, rows) refl in
     ap (λ (told : List Told). slice_get told 0) (sym so_far ∙ more_headers field layers notes headers at h inside item
-    ∙ ap (λ (told : List Told). told ++ fields_told field layers notes (drop (at + 1) headers)) own)
+    ∙ ap (λ (told : List Told). told ++ fields_told field layers notes (drop (at + 1) headers)) (own_told field home number p layers notes h span is once picked mine row))
 
 pub first_is : (field home number : ℕ) (p : Picks) (layers : Layers) (headers : List Header) (at : ℕ) (h : Header) (found : Option Span) → home ≡ (row_of field).proto → p ≡ picks.Once number
     → IsPicked field h.slots.now p → (h.proto == home) ≡ true → at < length headers → h ≡ get_or headers at h

@@ -227,6 +227,7 @@ impl<'f> Outline<'f> {
     }
 
     /// The first value of a field in the layer at a place, if there is one.
+    #[inline(always)]
     pub fn value_in(&self, place: usize, field: FieldId) -> Result<Option<Value>, NoMemory>
         ensures { IfOk result (λ value.
             value ≡ first_in field (slice_get self.now.layers place)) }
@@ -269,6 +270,7 @@ fn push_all(
     Ok(())
 }
 
+#[inline(always)]
 fn asked(places: &Places, field: FieldId) -> Asked
     ensures field { result.field ≡ field }
     ensures home { result.home ≡ (row_of field).proto }
@@ -288,6 +290,7 @@ fn is_found(told: Option<Told>) -> bool
 }
 
 /// The value that stands at a place.
+#[inline(always)]
 #[tactic(auto, using(crate::proofs::OutlineLaws::proto_value))]
 fn value_at(bytes: &Octets, field: FieldId, told: Told) -> Result<Value, NoMemory>
     requires { IsReadable (bytes.now ∷ []) field told }
