@@ -123,10 +123,6 @@ taken_unplaced (One only) app taken = refl
 taken_unplaced Applications app taken = refl
 taken_unplaced Everything app taken = refl
 
--- where not all is followed, not all is kept
-pub some_kept : (keeps : Keeping) → is_everything keeps.follows ≡ false → keeps_all keeps ≡ false
-some_kept keeps some = ap (λ (all : Bool). all && keeps.numbers) some
-
 pub placed_enough : (follows : Follows) (wanted : List ℕ) → tells_places follows ≡ true → FollowsEnough follows wanted → asks_messages wanted ≡ false
 placed_enough Nothing wanted places enough = absurd (true≢false (sym places))
 placed_enough Places wanted places enough = enough

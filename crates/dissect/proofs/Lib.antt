@@ -3,11 +3,13 @@ mod Asked
 mod ButNumbers
 mod Chains
 mod DatagramLemmas
+mod FedLemmas
 mod FirstHead
 mod FramesAside
 pub mod FramesJoined
 mod FramesTold
 mod HeadWords
+mod HeaderLayers
 mod HeldBytes
 mod Isolating
 mod Joining
@@ -40,4 +42,5 @@ mod TakenOut
 mod Tellings
 mod Told
 pub mod TreeMessages
+mod Unlinked
 mod Unnumbered

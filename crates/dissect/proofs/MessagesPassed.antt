@@ -1,5 +1,5 @@
 -- What a plain frame carries: it is told without its message, where nothing of this is asked.
-use Rattle.std.proofs.Common.{◌≡◌, ◌==◌, ℕ, ◌+◌, Bool, true, false, ◌&&◌, true≢false, if◌then◌else◌, inl, inr, List, [], ◌∷◌, append-nil, Option, Some, None, refl, sym, ◌∙◌, ap, subst}
+use Rattle.std.proofs.Common.{◌≡◌, ◌==◌, ℕ, ◌+◌, Bool, true, false, not, ◌&&◌, true≢false, if◌then◌else◌, inl, inr, List, [], ◌∷◌, append-nil, Option, Some, None, refl, sym, ◌∙◌, ap, subst}
 use Rattle.std.specs.Prelude.{unwrap_or}
 use Rattle.std.proofs.lemmas.Bool.{cases_Bool}
 use Rattle.std.proofs.lemmas.Option.{none-some}
@@ -34,6 +34,7 @@ use Rattle.app_layers.specs.Rows.{in_datagrams, is_passed, layout_of, proto_of, 
 use Rattle.app_layers.proofs.RowLemmas.{home_of, passed_end, passed_fit, passed_read}
 use Rattle.app_layers.proofs.MessagesAside.{AsksNoneOf, Lacks, lacks_none, lacks_on}
 use Rattle.message_links.specs.Conversations.{number_in, udp_ends, with_ends}
+use Rattle.message_links.specs.Notes.{datagram_notes, udp_direction}
 use Rattle.dissect.specs.Carried.{is_free, shown_by}
 use Rattle.dissect.specs.Events.{Event, NewFrame}
 use Rattle.dissect.specs.Keeping.{is_followed, keeps_all, tells_places}
@@ -50,6 +51,7 @@ use Rattle.dissect.specs.declared.todo.Todo.TheVariants as todos
 use Rattle.dissect.proofs.DatagramLemmas.{datagram-met}
 use Rattle.dissect.proofs.Numbering.{told_wanted}
 use Rattle.dissect.proofs.Passing.{passed-walked, shown_free}
+use Rattle.dissect.proofs.Unlinked.{none_linked, unnoted}
 
 is_some : (free shown : Bool) → Some shown ≡ Some free → shown ≡ free
 is_some free shown is = ap (λ (o : Option Bool). unwrap_or o free) is
@@ -163,28 +165,42 @@ shown_lacks (Some app) passes free t cut span shown asks = by_kind (in_datagrams
         as_data (Some app) free t cut span (other_data app other t cut span)
         (sym (ap (λ (r : Bool). if r then (if passes && is_passed app then Some false else None) else Some true) other) ∙ shown)
 
--- a tree that lacks only such a message is as far
-lacks_walked : (rules : List PortRule) (w : Walk) (state : State) (whole t : TreeShown) → keeps_all state.keeps ≡ false → Lacks whole t → IsWalked rules w state whole todos.Done → IsWalked rules w state t todos.Done
-lacks_walked rules w state whole t some lacks walked = record {
+-- where none is passed over, the tree is the very one
+shown_exact : (app : Option App) (free : Bool) (t : TreeShown) (cut : Bool) (span : Span) → shown_of app false ≡ Some free → shown_by free t span ≡ payload_over app t cut span
+shown_exact None free t cut span shown = ap (λ (f : Bool). shown_by f t span) (sym (is_some free true shown)) ∙ sym (none_data t cut span)
+shown_exact (Some app) free t cut span shown = by_kind (in_datagrams app) refl
+  where
+    by_kind : (test : Bool) → in_datagrams app ≡ test → shown_by free t span ≡ payload_over (Some app) t cut span
+    by_kind true read = absurd (none-some free (sym (ap (λ (r : Bool). if r then (if false && is_passed app then Some false else None) else Some true) read) ∙ shown))
+    by_kind false other =
+        ap (λ (f : Bool). shown_by f t span)
+        (sym (is_some free true (sym (ap (λ (r : Bool). if r then (if false && is_passed app then Some false else None) else Some true) other) ∙ shown)))
+        ∙ sym (other_data app other t cut span)
+
+-- a tree that lacks only such a message is as far, where this is the very tree if everything is kept
+lacks_walked : (rules : List PortRule) (w : Walk) (state : State) (whole t : TreeShown) → (keeps_all state.keeps ≡ true → t ≡ whole) → Lacks whole t → IsWalked rules w state whole todos.Done → IsWalked rules w state t todos.Done
+lacks_walked rules w state whole t exact lacks walked = record {
   stands = walked.stands;
   tree = record {
     wanted = sym lacks.wanted ∙ walked.tree.wanted;
-    same = λ all. absurd (true≢false (sym (all refl) ∙ some));
+    same = λ all. exact (all refl) ∙ walked.tree.same all;
     lacks = λ enough. lacks_on w.tree whole t walked.tree.wanted (walked.tree.lacks enough) lacks.only;
   };
   todo = walked.todo;
 }
 
 pub datagram-carried : (rules : List PortRule) (frame : Frame) (packet : PacketHead) (head : PortsHead) (span : Span) (app : Option App) (passes free : Bool) (stream : ℕ) (old new : State) (t : TreeShown) (es : List Event)
-    → app ≡ udp_app rules head.source head.target → shown_of app passes ≡ Some free → keeps_all old.keeps ≡ false
+    → app ≡ udp_app rules head.source head.target → shown_of app passes ≡ Some free → (keeps_all old.keeps ≡ true → passes ≡ false) → old.found.items ≡ []
     → (old.keeps.numbers ≡ true → stream ≡ number_in old.udp (udp_ends packet head)) → (old.keeps.numbers ≡ true → new.udp ≡ with_ends old.udp (udp_ends packet head)) → IsSameButNumbers old new
     → (passes ≡ true → AsksNoDatagrams t.wanted) → StandsAt rules es old
     → IsWalked rules (datagram_met rules frame packet t es head span) new (shown_by free (datagram_told t stream span) span) todos.Done
-datagram-carried rules frame packet head span app passes free stream old new t es app_is shown some number udp same asks stands =
+datagram-carried rules frame packet head span app passes free stream old new t es app_is shown unpassed unfound number udp same asks stands =
     let cut = is_cut frame in
     let u : TreeShown = datagram_told t stream span in
     let whole : TreeShown = payload_over app u cut span in
-    lacks_walked rules (datagram_met rules frame packet t es head span) new whole (shown_by free u span) (ap keeps_all same.keeps ∙ some)
+    let shown_all = λ (all : keeps_all old.keeps ≡ true). sym (ap (shown_of app) (unpassed all)) ∙ shown in
+    lacks_walked rules (datagram_met rules frame packet t es head span) new whole (shown_by free u span)
+    (λ all. shown_exact app free u cut span (shown_all (ap keeps_all (sym same.keeps) ∙ all)))
     (shown_lacks app passes free u cut span shown (λ is. subst AsksNoDatagrams (sym (told_wanted t stream span)) (asks is)))
     (datagram-met rules frame packet head span app stream (bytes_of t.buffers span) old new t u whole
     (record {
@@ -196,36 +212,45 @@ datagram-carried rules frame packet head span app passes free stream old new t e
       keeps = same.keeps;
       places = same.places;
       streams = same.streams;
-      links = λ all. absurd (true≢false (sym all ∙ some));
+      links = λ all. none_linked frame.number (udp_direction stream) (datagram_notes app (bytes_of t.buffers span)) old new
+          (unnoted app free (bytes_of t.buffers span) (shown_all all)) (same.found ∙ unfound) same.links;
       told = refl;
       shown = refl;
     })
     es stands)
 
+none_over : (passes all : Bool) → all ≡ true → passes && not all ≡ false
+none_over true all is = ap not is
+none_over false all is = refl
+
 -- the frame that begins with it
-pub datagram-tells : (rules : List PortRule) (frame : Frame) (last : Last) (head : PortsHead) (app : Option App) (passes free : Bool) (stream : ℕ) (old begun new : State)
-    → head ≡ udp_ports (own frame last.header) → app ≡ udp_app rules head.source head.target → shown_of app passes ≡ Some free → keeps_all begun.keeps ≡ false
+pub datagram-tells : (rules : List PortRule) (frame : Frame) (last : Last) (head : PortsHead) (app : Option App) (passes passing free : Bool) (stream : ℕ) (old begun new : State)
+    → head ≡ udp_ports (own frame last.header) → app ≡ udp_app rules head.source head.target → shown_of app passing ≡ Some free → passing ≡ passes && not (keeps_all begun.keeps) → begun.found.items ≡ []
     → (begun.keeps.numbers ≡ true → stream ≡ number_in begun.udp (udp_ends (packet_at frame last.packet) head)) → (begun.keeps.numbers ≡ true → new.udp ≡ with_ends begun.udp (udp_ends (packet_at frame last.packet) head)) → IsSameButNumbers begun new
     → ((es : List Event) → StandsAt rules es old → StandsAt rules (NewFrame ∷ es) begun)
     → Tells rules frame passes (carries.Datagram last) old new (record { carrier = carriers.Datagram stream; payload = last.payload; free = free })
-datagram-tells rules frame last head app passes free stream old begun new head_is app_is shown some number udp same begins = record {
+datagram-tells rules frame last head app passes passing free stream old begun new head_is app_is shown passing_is unfound number udp same begins = record {
   payload = refl;
   carrier = refl;
+  unlinked = same.found ∙ unfound;
   walked = λ t es buffers asks stands.
       subst (λ (ports : PortsHead). IsWalked rules (datagram_met rules frame (packet_at frame last.packet) t (NewFrame ∷ es) ports last.payload) new (shown_by free (datagram_told t stream last.payload) last.payload) todos.Done) head_is
-      (datagram-carried rules frame (packet_at frame last.packet) head last.payload app passes free stream begun new t (NewFrame ∷ es) app_is shown some number udp same asks (begins es stands));
+      (datagram-carried rules frame (packet_at frame last.packet) head last.payload app passing free stream begun new t (NewFrame ∷ es) app_is shown
+      (λ all. passing_is ∙ none_over passes (keeps_all begun.keeps) all) unfound number udp same
+      (λ is. asks (both_true passes (not (keeps_all begun.keeps)) (sym passing_is ∙ is)).0) (begins es stands));
 }
 
 -- a segment of a stream that isn't followed
 pub segment-tells : (rules : List PortRule) (frame : Frame) (last : Last) (app : Option StreamApp) (passes free : Bool) (old begun : State)
     → app ≡ stream_app rules (tcp_head (own frame last.header)).source (tcp_head (own frame last.header)).target → is_followed begun.keeps.follows app ≡ false → tells_places begun.keeps.follows ≡ false → free ≡ is_free app
-    → ((es : List Event) → StandsAt rules es old → StandsAt rules (NewFrame ∷ es) begun)
+    → begun.found.items ≡ [] → ((es : List Event) → StandsAt rules es old → StandsAt rules (NewFrame ∷ es) begun)
     → Tells rules frame passes (carries.Segment last) old begun (record { carrier = carriers.Segment None; payload = last.payload; free = free })
-segment-tells rules frame last app passes free old begun app_is passed untold is begins =
+segment-tells rules frame last app passes free old begun app_is passed untold is unfound begins =
     let span = last.payload in
     record {
       payload = refl;
       carrier = refl;
+      unlinked = unfound;
       walked = λ t es buffers asks stands. passed-walked rules frame (packet_at frame last.packet) (tcp_head (own frame last.header)) span app begun t (shown_by free (carried_told t span) span) app_is passed untold
           (ap (λ (f : Bool). shown_by f (carried_told t span) span) is ∙ shown_free app (is_cut frame) span (carried_told t span)) (NewFrame ∷ es) (begins es stands);
     }

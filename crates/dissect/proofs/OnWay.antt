@@ -1,5 +1,5 @@
 -- Headers that are read whole, one behind the other, and the way that they lead.
-use Rattle.std.proofs.Common.{◌≡◌, ◌==◌, ℕ, ◌+◌, ◌-◌, ◌<◌, ◌≤◌, ◌^◌, Bool as Truth, true, false, cond, List, [], ◌∷◌, ◌++◌, length, map, take, refl, ap, sym, subst, ◌∙◌, append-nil, append_assoc, arith}
+use Rattle.std.proofs.Common.{◌≡◌, ◌==◌, ℕ, ◌+◌, ◌-◌, ◌<◌, ◌≤◌, ◌^◌, Bool as Truth, true, false, cond, List, [], ◌∷◌, ◌++◌, length, map, drop, take, refl, ap, sym, subst, ◌∙◌, append-nil, append_assoc, arith}
 use Rattle.std.proofs.lemmas.Bool.Decides.{nat_tests}
 use Rattle.std.proofs.lemmas.List.{length-map, length_push, map-append, take_all}
 use Rattle.std.proofs.lemmas.List.Folds.{fold-map}
@@ -18,7 +18,7 @@ use Rattle.pk_fields.specs.Fields.{row_of}
 use Rattle.pk_fields.specs.Ids.{ETH, VLAN, IP, IPV6, TCP, UDP}
 use Rattle.pk_fields.specs.declared.rules.PortRule.{PortRule}
 use Rattle.pk_source.proofs.GrowthLaws.{header_adds}
-use Rattle.pk_source.specs.Outlines.{AreNumbered, IsReadWhole, header_layer, outlined, sizes_of}
+use Rattle.pk_source.specs.Outlines.{AreNumbered, header_layer, outlined, sizes_of}
 use Rattle.pk_source.specs.declared.header.Header.{Header}
 use Rattle.pk_source.specs.declared.header.Note.{Note}
 use Rattle.pk_tree.specs.Buffers.{IsInside, buffer_of, bytes_of}
@@ -50,7 +50,7 @@ use Rattle.dissect.specs.Plain.{own}
 use Rattle.dissect.specs.Walks.{Walk, all_met, chain, datagram_met, followed, go_on, link_met, mode_after, no_packet, segment_met}
 use Rattle.dissect.specs.Tables.{IsTabled}
 use Rattle.dissect.specs.declared.tables.Tables.{Tables}
-use Rattle.dissect.specs.Ways.{AreOfFrame, AreRead, AsksNoOptions, IsAt, IsBegun, IsCarried, IsHeaderOf, IsLast, LeadsTo, Reaches, head_of, headers_of, packet_at, shown}
+use Rattle.dissect.specs.Ways.{AreOfFrame, AreRead, AsksNoOptions, IsAt, IsBegun, IsCarried, IsHeaderOf, IsLast, IsReadBy, LeadsTo, Reaches, head_of, headers_of, packet_at, shown}
 use Rattle.dissect.proofs.Chains.{chain-stop}
 use Rattle.dissect.proofs.PlainWay.{ethernet_after, ethernet_read, first_met, next_met, segment_last}
 
@@ -92,15 +92,20 @@ others_higher most proto (h ∷ headers) less each =
     let lower : h.proto ≤ most = each.0 in
     (grind (arith, nat_tests, lower, less), others_higher most proto headers less each.1)
 
-pub read_more : (frame : Frame) (most : ℕ) (headers : List Header) (h : Header) → AreRead frame most headers → IsReadWhole (frame.bytes ∷ []) h → h.nth ≡ headers_of h.proto headers + 1 → most ≤ h.proto → AreRead frame h.proto (headers ++ h ∷ [])
+higher_more : (headers : List Header) (h : Header) → Each (λ (x : Header). 0 < x.proto) (drop 1 headers) → 0 < h.proto → Each (λ (x : Header). 0 < x.proto) (drop 1 (headers ++ h ∷ []))
+higher_more [] h each one = tt
+higher_more (x ∷ headers) h each one = each_push (λ (y : Header). 0 < y.proto) headers h each one
+
+pub read_more : (frame : Frame) (most : ℕ) (headers : List Header) (h : Header) → AreRead frame most headers → IsReadBy (frame.bytes ∷ []) h → h.nth ≡ headers_of h.proto headers + 1 → most ≤ h.proto → 0 < h.proto → AreRead frame h.proto (headers ++ h ∷ [])
 unfolding outlined
-read_more frame most headers h are whole nth up = record {
-  whole = each_push (IsReadWhole (frame.bytes ∷ [])) headers h are.whole whole;
+read_more frame most headers h are whole nth up higher = record {
+  whole = each_push (IsReadBy (frame.bytes ∷ [])) headers h are.whole whole;
   numbered = λ wanted notes.
       let layer : Header → Layer = header_layer (frame.bytes ∷ []) wanted notes in
       subst (AreNumbered []) (sym (map-append layer headers (h ∷ [])))
       (numbered_push [] (map layer headers) (layer h) (are.numbered wanted notes) (nth ∙ ap (λ n. n + 1) (sym (same_count (frame.bytes ∷ []) wanted notes h.proto headers))));
   lower = each_push (λ (x : Header). x.proto ≤ h.proto) headers h (lower_more most h.proto headers up are.lower) (omega arith);
+  higher = higher_more headers h are.higher higher;
 }
 
 -- a header that its table reads as the walk does, and what follows it
@@ -148,7 +153,7 @@ of_head frame head which h after is plain reads =
 
 pub at_more : (frame : Frame) (most more count counted : ℕ) (heads : HeadsShown) (head : Head) → most ≤ more → count ≤ counted → IsAt frame most count heads head → IsAt frame more counted heads head
 at_more frame most more count counted heads head up counts at = record {
-  read = record { whole = at.read.whole; numbered = at.read.numbered; lower = lower_more most more heads.headers up at.read.lower };
+  read = record { whole = at.read.whole; numbered = at.read.numbered; lower = lower_more most more heads.headers up at.read.lower; higher = at.read.higher };
   told = at.told;
   some = at.some;
   few = omega (arith, counts, at.few);
@@ -159,7 +164,7 @@ at_more frame most more count counted heads head up counts at = record {
 
 -- one header more on the way
 module _ (frame : Frame) (most count : ℕ) (heads : HeadsShown) (head : Head) (h : Header) (at : IsAt frame most count heads head) (counts : count < 32) (up : most ≤ h.proto) (other : 0 < h.proto) (nth : h.nth ≡ headers_of h.proto heads.headers + 1)
-    (whole : IsReadWhole (frame.bytes ∷ []) h) where
+    (whole : IsReadBy (frame.bytes ∷ []) h) where
   abbrev met : After → List PortRule → List ℕ → List Event → Walk
   met after rules wanted es = followed rules frame head.packet head.mode (shown frame wanted (more_heads heads h)) es after
 
@@ -173,7 +178,7 @@ module _ (frame : Frame) (most count : ℕ) (heads : HeadsShown) (head : Head) (
       ∙ ap (λ n. chain rules n frame (met after rules wanted es)) (omega (arith, length_push heads.headers h))
 
   read : AreRead frame h.proto (heads.headers ++ h ∷ [])
-  read = read_more frame most heads.headers h at.read whole nth up
+  read = read_more frame most heads.headers h at.read whole nth up other
 
   pub at_next : (which : Next) (span : Span) → Reads frame head h (afters.Next which span) → IsInside (frame.bytes ∷ []) span
       → IsAt frame h.proto (count + 1) (more_heads heads h) (record { which = which; span = span; packet = head.packet; mode = Plain })
@@ -213,7 +218,7 @@ module _ (frame : Frame) (most count : ℕ) (heads : HeadsShown) (head : Head) (
   }
 
   all_read : h.proto ≤ TCP → AreRead frame TCP (heads.headers ++ h ∷ [])
-  all_read below = record { whole = read.whole; numbered = read.numbered; lower = lower_more h.proto TCP (heads.headers ++ h ∷ []) below read.lower }
+  all_read below = record { whole = read.whole; numbered = read.numbered; lower = lower_more h.proto TCP (heads.headers ++ h ∷ []) below read.lower; higher = read.higher }
 
   pub carries_segment : (last : Last) → Reads frame head h (afters.Segment (tcp_head (own frame last.header)) last.payload) → head.packet ≡ packet_at frame last.packet → count ≤ 5 → most < TCP → h.proto ≡ TCP → IsInside (frame.bytes ∷ []) last.payload
       → IsCarried frame (more_heads heads h) (carries.Segment last)
@@ -337,7 +342,7 @@ tcp_reads frame packet outer h span inside is after = record {
 }
 
 -- the first header, behind the frame's own layer
-pub ethernet_at : (frame : Frame) (heads : HeadsShown) (h : Header) (which : Next) (span : Span) → IsBegun frame heads.headers → AreOfFrame heads.notes → frame.link ≡ 1 → 0 < length frame.bytes → h.nth ≡ 1 → IsReadWhole (frame.bytes ∷ []) h
+pub ethernet_at : (frame : Frame) (heads : HeadsShown) (h : Header) (which : Next) (span : Span) → IsBegun frame heads.headers → AreOfFrame heads.notes → frame.link ≡ 1 → 0 < length frame.bytes → h.nth ≡ 1 → IsReadBy (frame.bytes ∷ []) h
     → IsHeaderOf ETH (frame_span frame) [] (eth_layout (own frame (frame_span frame))) h → is_length (eth_type (own frame (frame_span frame))) ≡ false
     → eth_after (frame_span frame) (own frame (frame_span frame)) ≡ afters.Next which span → IsInside (frame.bytes ∷ []) span
     → IsAt frame ETH 2 (more_heads heads h) (head_at which no_packet span)
@@ -347,7 +352,7 @@ ethernet_at frame heads h which span begun told link some nth reads is typed aft
     let steps : List Step = eth_layout (own frame whole) in
     let none : headers_of ETH heads.headers ≡ 0 = none_higher 0 ETH heads.headers (omega arith) begun.read.lower in
     let number : h.nth ≡ headers_of h.proto heads.headers + 1 = rw (is.own, none) nth in
-    let read : AreRead frame h.proto (heads.headers ++ h ∷ []) = read_more frame 0 heads.headers h begun.read reads number (omega arith) in
+    let read : AreRead frame h.proto (heads.headers ++ h ∷ []) = read_more frame 0 heads.headers h begun.read reads number (omega arith) (omega (arith, is.own)) in
     record {
       read = subst (λ (p : ℕ). AreRead frame p (heads.headers ++ h ∷ [])) is.own read;
       told = told;
@@ -399,7 +404,7 @@ reaches_more frame most more count counted headers spot up counts reaches = reco
 -- ---- the headers as they are pushed, by the bytes that were looked at
 
 pub ethernet_pushed : (frame : Frame) (heads new : HeadsShown) (bytes : List ℕ) (whole : Span) (h : Header) (which : Next) (span : Span) → IsBegun frame heads.headers → AreOfFrame heads.notes → frame.link ≡ 1 → whole ≡ frame_span frame → bytes ≡ own frame whole → 14 ≤ whole.len
-    → h.nth ≡ 1 → ((buffers : List (List ℕ)) → IsInside buffers whole → IsReadWhole buffers h) → ((b : List ℕ) → is_length (eth_type b) ≡ false → IsHeaderOf ETH whole [] (eth_layout b) h)
+    → h.nth ≡ 1 → ((buffers : List (List ℕ)) → IsInside buffers whole → IsReadBy buffers h) → ((b : List ℕ) → is_length (eth_type b) ≡ false → IsHeaderOf ETH whole [] (eth_layout b) h)
     → is_length (eth_type bytes) ≡ false → eth_after whole bytes ≡ afters.Next which span → IsInside (frame.bytes ∷ []) span
     → new.headers ≡ heads.headers ++ h ∷ [] → new.notes ≡ heads.notes → IsAt frame VLAN 2 new (head_at which no_packet span)
 ethernet_pushed frame heads new bytes whole h which span begun told link is own_bytes long nth reads stands typed after inside headers notes =
@@ -415,7 +420,7 @@ ethernet_pushed frame heads new bytes whole h which span begun told link is own_
     (ap (λ (s : Span). eth_after s (own frame all)) (sym is) ∙ ap (eth_after whole) (sym bytes_is) ∙ after) inside))
 
 pub vlan_pushed : (frame : Frame) (count : ℕ) (heads new : HeadsShown) (head : Head) (bytes : List ℕ) (h : Header) (which : Next) (span : Span) → IsAt frame VLAN count heads head → count < 32 → head.which ≡ nexts.Vlan → bytes ≡ own frame head.span
-    → h.nth ≡ headers_of VLAN heads.headers + 1 → ((buffers : List (List ℕ)) → IsInside buffers head.span → IsReadWhole buffers h) → ((b : List ℕ) → is_length (vlan_type b) ≡ false → IsHeaderOf VLAN head.span [] (vlan_layout b) h)
+    → h.nth ≡ headers_of VLAN heads.headers + 1 → ((buffers : List (List ℕ)) → IsInside buffers head.span → IsReadBy buffers h) → ((b : List ℕ) → is_length (vlan_type b) ≡ false → IsHeaderOf VLAN head.span [] (vlan_layout b) h)
     → is_length (vlan_type bytes) ≡ false → vlan_after head.span bytes ≡ afters.Next which span → IsInside (frame.bytes ∷ []) span
     → new.headers ≡ heads.headers ++ h ∷ [] → new.notes ≡ heads.notes → IsAt frame VLAN (count + 1) new (head_at which head.packet span)
 vlan_pushed frame count heads new head bytes h which span at few is bytes_is nth reads stands typed after inside headers notes =
@@ -430,7 +435,7 @@ vlan_pushed frame count heads new head bytes h which span at few is bytes_is nth
     (subst (λ (p : ℕ). IsAt frame p (count + 1) (more_heads heads h) (head_at which head.packet span)) of.own next)
 
 pub ip4_pushed : (frame : Frame) (heads new : HeadsShown) (head : Head) (bytes : List ℕ) (h : Header) (which : Next) (layer inner : Span) (packet : PacketHead) → IsAt frame VLAN 4 heads head → head.which ≡ nexts.Ip4 → bytes ≡ own frame head.span
-    → h.nth ≡ 1 → IsReadWhole (frame.bytes ∷ []) h → IsHeaderOf IP layer (true ∷ true ∷ true ∷ []) (ip4_layout bytes) h → layer ≡ ip4_span head.span bytes
+    → h.nth ≡ 1 → IsReadBy (frame.bytes ∷ []) h → IsHeaderOf IP layer (true ∷ true ∷ true ∷ []) (ip4_layout bytes) h → layer ≡ ip4_span head.span bytes
     → ip4_after Plain (is_cut frame) head.span bytes ≡ afters.Packet which inner (ip4_packet (is_cut frame) head.span bytes) → packet ≡ ip4_packet (is_cut frame) head.span bytes → IsInside (frame.bytes ∷ []) inner
     → new.headers ≡ heads.headers ++ h ∷ [] → new.notes ≡ heads.notes → IsAt frame IPV6 5 new (head_at which packet inner)
 ip4_pushed frame heads new head bytes h which layer inner packet at is bytes_is nth whole of layer_is after packet_is inside headers notes =
@@ -448,7 +453,7 @@ ip4_pushed frame heads new head bytes h which layer inner packet at is bytes_is 
     (at_more frame h.proto IPV6 5 5 (more_heads heads h) (head_at which packet inner) (omega (arith, of.own)) (omega arith) next)
 
 pub ip6_pushed : (frame : Frame) (heads new : HeadsShown) (head : Head) (bytes : List ℕ) (h : Header) (which : Next) (layer inner : Span) (packet : PacketHead) → IsAt frame VLAN 4 heads head → head.which ≡ nexts.Ip6 → bytes ≡ own frame head.span
-    → h.nth ≡ 1 → IsReadWhole (frame.bytes ∷ []) h → IsHeaderOf IPV6 layer (true ∷ []) (ip6_layout bytes) h → layer ≡ ip6_span head.span bytes
+    → h.nth ≡ 1 → IsReadBy (frame.bytes ∷ []) h → IsHeaderOf IPV6 layer (true ∷ []) (ip6_layout bytes) h → layer ≡ ip6_span head.span bytes
     → ip6_after (is_cut frame) head.span bytes ≡ afters.Packet which inner (ip6_packet (is_cut frame) head.span bytes) → packet ≡ ip6_packet (is_cut frame) head.span bytes → IsInside (frame.bytes ∷ []) inner
     → new.headers ≡ heads.headers ++ h ∷ [] → new.notes ≡ heads.notes → IsAt frame IPV6 5 new (head_at which packet inner)
 ip6_pushed frame heads new head bytes h which layer inner packet at is bytes_is nth whole of layer_is after packet_is inside headers notes =
@@ -466,7 +471,7 @@ ip6_pushed frame heads new head bytes h which layer inner packet at is bytes_is 
     (at_more frame h.proto IPV6 5 5 (more_heads heads h) (head_at which packet inner) (omega (arith, of.own)) (omega arith) next)
 
 pub tcp_pushed : (frame : Frame) (heads new : HeadsShown) (spot : Spot) (bytes : List ℕ) (h : Header) (span : Span) → IsAt frame IPV6 5 heads (head_of frame spot) → spot.which ≡ nexts.Tcp → bytes ≡ own frame spot.span
-    → h.nth ≡ 1 → IsReadWhole (frame.bytes ∷ []) h → IsHeaderOf TCP spot.span (true ∷ []) (tcp_rows bytes) h
+    → h.nth ≡ 1 → IsReadBy (frame.bytes ∷ []) h → IsHeaderOf TCP spot.span (true ∷ []) (tcp_rows bytes) h
     → tcp_after Plain spot.span bytes ≡ afters.Segment (tcp_head bytes) span → IsInside (frame.bytes ∷ []) span
     → new.headers ≡ heads.headers ++ h ∷ [] → new.notes ≡ heads.notes → IsCarried frame new (carries.Segment (record { packet = spot.packet; header = spot.span; payload = span }))
 tcp_pushed frame heads new spot bytes h span at is bytes_is nth whole of after inside headers notes =
@@ -482,7 +487,7 @@ tcp_pushed frame heads new spot bytes h span at is bytes_is nth whole of after i
     (of_head frame head nexts.Tcp h (afters.Segment (tcp_head all) span) is at.plain read) refl (omega arith) (omega arith) of.own inside)
 
 pub udp_pushed : (frame : Frame) (heads new : HeadsShown) (spot : Spot) (bytes : List ℕ) (h : Header) (layer span : Span) → IsAt frame IPV6 5 heads (head_of frame spot) → spot.which ≡ nexts.Udp → bytes ≡ own frame spot.span
-    → h.nth ≡ 1 → IsReadWhole (frame.bytes ∷ []) h → IsHeaderOf UDP layer (true ∷ []) (udp_layout bytes) h → layer ≡ udp_span spot.span bytes
+    → h.nth ≡ 1 → IsReadBy (frame.bytes ∷ []) h → IsHeaderOf UDP layer (true ∷ []) (udp_layout bytes) h → layer ≡ udp_span spot.span bytes
     → udp_after Plain spot.span bytes ≡ afters.Datagram (udp_ports bytes) span → IsInside (frame.bytes ∷ []) span
     → new.headers ≡ heads.headers ++ h ∷ [] → new.notes ≡ heads.notes → IsCarried frame new (carries.Datagram (record { packet = spot.packet; header = spot.span; payload = span }))
 udp_pushed frame heads new spot bytes h layer span at is bytes_is nth whole of layer_is after inside headers notes =

@@ -20,7 +20,7 @@ use Rattle.dissect.specs.declared.todo.Todo.TheVariants as todos
 use Rattle.dissect.specs.Events.{Event}
 use Rattle.dissect.specs.declared.keeping.Follows.{Follows}
 use Rattle.dissect.specs.declared.keeping.Follows.TheVariants.{Nothing, Places, One, Applications, Everything}
-use Rattle.dissect.specs.Carried.{is_free, shown_by}
+use Rattle.dissect.specs.Carried.{is_free, place_of, segment_by, shown_by}
 use Rattle.dissect.specs.Followed.{asks_messages, asks_streams}
 use Rattle.dissect.specs.Keeping.{AsksNoPlaces, AsksOnly, FollowsEnough, followed_of, keeps_all, tells_places, is_followed, is_of}
 use Rattle.app_layers.specs.Aside.{LacksOnly}
@@ -30,7 +30,7 @@ use Rattle.app_layers.specs.Rows.{framer_of, proto_of}
 use Rattle.app_layers.proofs.RowLemmas.{proto_some}
 use Rattle.tcp_streams.specs.declared.segment.Segment.{Segment}
 use Rattle.tcp_messages.specs.Standing.{ReadsFor}
-use Rattle.app_layers.specs.Payloads.{with_lost, carried_told, segment_told}
+use Rattle.app_layers.specs.Payloads.{with_lost, carried_told, place_told, segment_told}
 use Rattle.dissect.specs.Segments.{segment_from, segments_of}
 use Rattle.dissect.specs.Stands.{StandsAt, IsWalked}
 use Rattle.dissect.specs.Walks.{segment_met}
@@ -52,6 +52,11 @@ pub shown_free : (app : Option StreamApp) (cut : Bool) (span : Span) (t : TreeSh
 unfolding carried_over
 shown_free None cut span t = refl
 shown_free (Some app) cut span t = refl
+
+-- what is told of a segment whose place is told
+pub told_placed : (t : TreeShown) (taken : Taken) (span : Span) → segment_by t (Some (place_of taken)) span ≡ segment_told t taken span
+unfolding segment_told place_told
+told_placed t taken span = refl
 
 -- where no place in a stream is asked, a segment is told alike whatever it is to its stream
 pub places_alike : (t : TreeShown) (taken : Taken) (span : Span) → AsksNoPlaces t.wanted → segment_told t taken span ≡ carried_told t span

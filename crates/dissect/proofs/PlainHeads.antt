@@ -37,12 +37,12 @@ use Rattle.app_layers.specs.DataLayer.{data_layout, data_over}
 use Rattle.app_layers.specs.FrameLayer.{frame_layout, frame_span, is_cut, kept_frame}
 use Rattle.app_layers.specs.declared.times.Times.{Times}
 use Rattle.dissect.specs.Carried.{carried_by, carrier_notes, carrier_proto, data_header, data_headers, data_notes, frame_header, frame_notes, notes_of, number_note, shown_by}
-use Rattle.dissect.specs.Heads.{HeadsShown, StandFor}
+use Rattle.dissect.specs.Heads.{HeadsShown, StandFor, are_quiet}
 use Rattle.dissect.specs.Events.{Event, NewFrame}
 use Rattle.dissect.specs.Tables.{AreTables, IsTabled, tables_listed}
 use Rattle.dissect.specs.Trees.{kept_walk}
 use Rattle.dissect.specs.Walks.{all_met, link_met}
-use Rattle.dissect.specs.Ways.{AreOfFrame, AreRead, AsksNoOptions, Carries, IsBegun, IsLast, Opens, carried_met, carrier_of, span_of}
+use Rattle.dissect.specs.Ways.{AreOfFrame, AreRead, AsksNoOptions, Carries, IsBegun, IsLast, IsReadBy, Opens, carried_met, carrier_of, held_of, span_of}
 use Rattle.dissect.specs.declared.ways.Carried.{Carried as WayCarried}
 use Rattle.dissect.specs.declared.carried.Carried.{Carried}
 use Rattle.dissect.specs.declared.tables.Tables.{Tables}
@@ -105,9 +105,9 @@ data_whole len =
     let inside : nat_le (0 + len) len ≡ true = grind (arith, nat_tests) in
     rw inside refl
 
-data_steps : (tables : Tables) (len : ℕ) → AreTables tables → steps_of [] (len ∷ []) tables.payload.now ≡ Whole DATA_DATA 0 len ∷ []
+data_steps : (holds : List Truth) (tables : Tables) (len : ℕ) → AreTables tables → steps_of holds (len ∷ []) tables.payload.now ≡ Whole DATA_DATA 0 len ∷ []
 unfolding steps_of
-data_steps tables len are = rw are.payload refl
+data_steps holds tables len are = rw are.payload refl
 
 len_read : (end number : ℕ) → reach end (Made DATA_LEN (Uint number) ∷ []) ≡ All
 unfolding reach step_reach
@@ -127,7 +127,7 @@ some_data : (tables : Tables) (bytes wanted : List ℕ) (headers : List Header) 
 some_data tables bytes wanted headers notes span are untold nth others =
     let h : Header = data_header tables span in
     let t : TreeShown = outlined bytes wanted headers notes in
-    let steps = data_steps tables span.len are in
+    let steps = data_steps [] tables span.len are in
     let length_told : List Step = Made DATA_LEN (Uint span.len) ∷ [] in
     notes_add bytes wanted headers notes (number_note DATA_LEN span.len ∷ []) h (len_own span.len) others
     ∙ ap (λ (x : TreeShown). with_items x (items_told (bytes ∷ []) (number_note DATA_LEN span.len ∷ [])))
@@ -185,28 +185,28 @@ heads_tree tables wanted before frame c headers are read last =
 whole_inside : (frame : Frame) → IsInside (frame.bytes ∷ []) (frame_span frame)
 whole_inside frame = (omega arith, omega arith)
 
-frame_whole : (tables : Tables) (frame : Frame) → AreTables tables → IsReadWhole (frame.bytes ∷ []) (frame_header tables frame)
+frame_whole : (tables : Tables) (frame : Frame) → AreTables tables → IsReadBy (frame.bytes ∷ []) (frame_header tables frame)
 unfolding row_of rows StepsFit
 frame_whole tables frame are = record {
   proto = refl;
   inside = whole_inside frame;
-  holds = [];
-  fits = subst (λ (steps : List Step). StepsFit FRAME steps) (sym (no_steps [] (0 ∷ []) tables.frame.now are.frame)) tt;
-  whole = ap (reach (length frame.bytes)) (no_steps [] (0 ∷ []) tables.frame.now are.frame) ∙ no_reach (length frame.bytes);
+  fits = subst (λ (steps : List Step). StepsFit FRAME steps) (sym (no_steps (true ∷ []) (0 ∷ []) tables.frame.now are.frame)) tt;
+  whole = ap (reach (length frame.bytes)) (no_steps (true ∷ []) (0 ∷ []) tables.frame.now are.frame) ∙ no_reach (length frame.bytes);
+  quiet = ap are_quiet are.frame;
 }
 
 data_fits : (len : ℕ) → StepsFit DATA (Whole DATA_DATA 0 len ∷ [])
 unfolding row_of rows StepsFit
 data_fits len = search rules
 
-data_whole_of : (tables : Tables) (buffers : List (List ℕ)) (span : Span) → AreTables tables → IsInside buffers span → IsReadWhole buffers (data_header tables span)
+data_whole_of : (tables : Tables) (buffers : List (List ℕ)) (span : Span) → AreTables tables → IsInside buffers span → IsReadBy buffers (data_header tables span)
 unfolding row_of rows
 data_whole_of tables buffers span are inside = record {
   proto = refl;
   inside = inside;
-  holds = [];
-  fits = subst (λ (steps : List Step). StepsFit DATA steps) (sym (data_steps tables span.len are)) (data_fits span.len);
-  whole = ap (reach span.len) (data_steps tables span.len are) ∙ data_whole span.len;
+  fits = subst (λ (steps : List Step). StepsFit DATA steps) (sym (data_steps (true ∷ []) tables span.len are)) (data_fits span.len);
+  whole = ap (reach span.len) (data_steps (true ∷ []) tables span.len are) ∙ data_whole span.len;
+  quiet = ap are_quiet are.payload;
 }
 
 -- ---- the frame's own header, with which the way begins
@@ -218,6 +218,7 @@ frame_begun tables frame are = record {
     whole = (frame_whole tables frame are, tt);
     numbered = λ wanted notes. (refl, tt);
     lower = (omega arith, tt);
+    higher = tt;
   };
   one = refl;
 }
@@ -228,12 +229,16 @@ frame_opens tables frame headers are first = λ wanted before.
 
 -- ---- they are an outline
 
+read_whole : (buffers : List (List ℕ)) (headers : List Header) → Each (IsReadBy buffers) headers → Each (IsReadWhole buffers) headers
+read_whole buffers [] each = tt
+read_whole buffers (h ∷ headers) each = (record { proto = each.0.proto; inside = each.0.inside; holds = held_of h.proto; fits = each.0.fits; whole = each.0.whole }, read_whole buffers headers each.1)
+
 read_outline : (wanted : List ℕ) (frame : Frame) (most : ℕ) (headers : List Header) (notes : List Note) → length frame.bytes < 2 ^ 32 → AreRead frame most headers → length headers ≤ 7 → Each (NoteFits (frame.bytes ∷ [])) notes
     → IsOutline frame.bytes wanted headers notes
 read_outline wanted frame most headers notes short read few fit = record {
   short = short;
   few = omega (arith, few);
-  whole = All-from_recursion (IsReadWhole (frame.bytes ∷ [])) headers read.whole;
+  whole = All-from_recursion (IsReadWhole (frame.bytes ∷ [])) headers (read_whole (frame.bytes ∷ []) headers read.whole);
   told = All-from_recursion (NoteFits (frame.bytes ∷ [])) notes fit;
   numbered = read.numbered wanted notes;
 }
@@ -254,11 +259,11 @@ heads_outline tables wanted frame free span headers notes short are read few ins
       | inl none ↦ subst is_outline (sym (ap (λ (more : List Header). headers ++ more) none ∙ append-nil headers)) (read_outline wanted frame TCP headers notes short read (omega (arith, few)) fit)
       | inr some ↦ subst is_outline (sym (ap (λ (more : List Header). headers ++ more) some))
           (read_outline wanted frame DATA (headers ++ h ∷ []) notes short
-          (read_more frame TCP headers h read (data_whole_of tables (frame.bytes ∷ []) span are inside) (ap (λ (n : ℕ). n + 1) (sym (none_higher TCP DATA headers (omega arith) read.lower))) (omega arith))
+          (read_more frame TCP headers h read (data_whole_of tables (frame.bytes ∷ []) span are inside) (ap (λ (n : ℕ). n + 1) (sym (none_higher TCP DATA headers (omega arith) read.lower))) (omega arith) (omega arith))
           (omega (arith, few, length_push headers h)) fit)
     ]
 
-of_frame : (before : Times) (frame : Frame) → AreOfFrame (frame_notes before frame)
+pub of_frame : (before : Times) (frame : Frame) → AreOfFrame (frame_notes before frame)
 of_frame before frame = λ proto some. frame_untold before frame proto (grind (arith, nat_tests, some))
 
 pub carried_inside : (frame : Frame) (headers : List Header) (carried : WayCarried) → Carries frame headers carried → IsInside (frame.bytes ∷ []) (span_of carried)

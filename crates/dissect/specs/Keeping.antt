@@ -1,7 +1,5 @@
 -- What is kept of conversations, and for the values of which fields that is enough.
 use Rattle.std.specs.Prelude.{◌≡◌, ◌==◌, ℕ, Bool, true, false, ◌&&◌, List, filter, Option, Some, None, IsSome}
-use Rattle.std.specs.List.{AllByRecursion as Each}
-use Rattle.dis_ports.specs.TcpOptions.{option_fields}
 use Rattle.pk_fields.specs.FieldSets.{is_in}
 use Rattle.pk_fields.specs.Ids.{DNS_RESPONSE_TO, HTTP_REQUEST_IN, TCP_ACK, TCP_LOST, TCP_SEGMENT, TCP_SEQ, TCP_STREAM, UDP_STREAM, WS_MALFORMED, WS_SHORT, field_count}
 use Rattle.pk_fields.specs.declared.rules.PortRule.{PortRule}
@@ -48,6 +46,14 @@ tells_places Places = true
 tells_places (One only) = false
 tells_places Applications = false
 tells_places Everything = false
+
+-- whether of any streams segments are taken
+abbrev pub takes_any : Follows → Bool
+takes_any Nothing = false
+takes_any Places = false
+takes_any (One only) = true
+takes_any Applications = true
+takes_any Everything = true
 
 -- the segments that streams stand for, among all
 unfoldable pub followed_of : List PortRule → Follows → List Segment → List Segment
@@ -109,8 +115,3 @@ pub record KeepsFor (keeps : Keeping) (wanted : List ℕ) : Type 0 where
 pub record KeepsWhole (keeps : Keeping) (wanted : List ℕ) : Type 0 where
   pub numbers : keeps.numbers ≡ true
   pub all : asks_streams wanted ≡ true → keeps_all keeps ≡ true
-
--- the headers of plain frames may answer for these fields: none of them is of the options of TCP, and not all streams are followed
-pub record GoesPlain (wanted : List ℕ) (keeps : Keeping) : Type 0 where
-  pub options : Each (λ field. is_in wanted field ≡ false) option_fields
-  pub some : is_everything keeps.follows ≡ false

@@ -1,6 +1,7 @@
 pub mod Carried
 pub mod Conversations
 pub mod Events
+pub mod Feeding
 pub mod Followed
 pub mod Fragments
 pub mod Heads

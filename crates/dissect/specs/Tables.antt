@@ -16,9 +16,11 @@ use Rattle.dis_ip.specs.Ip4.{ip4_conditions, ip4_header, ip4_layout}
 use Rattle.dis_ip.specs.Ip6.{ip6_layout, ip6_version}
 use Rattle.dis_ports.specs.Tcp.{header_len, tcp_rows}
 use Rattle.dis_ports.specs.Udp.{is_udp_length, udp_layout, udp_length}
+use Rattle.dissect.specs.Heads.{are_quiet}
 use Rattle.dissect.specs.declared.tables.Tables.{Tables}
 
--- each has its protocol's layout, and is read to its end where the header is whole; of the options of TCP it has the bytes alone
+-- each has its protocol's layout, and is read to its end where the header is whole; of the options of TCP it has the bytes alone, and
+-- no row names another frame
 pub record AreTables (t : Tables) : Type 0 where
   pub frame : t.frame.now ≡ []
   pub eth_fits : (holds : List Bool) (sizes : List ℕ) → StepsFit ETH (steps_of holds sizes t.eth.now)
@@ -40,6 +42,12 @@ pub record AreTables (t : Tables) : Type 0 where
   pub udp_layout_is : (sizes bytes : List ℕ) → steps_of (is_udp_length (udp_length bytes) ∷ []) sizes t.udp.now ≡ udp_layout bytes
   pub udp_whole : (sizes : List ℕ) (end : ℕ) → 8 ≤ end → reach end (steps_of (true ∷ []) sizes t.udp.now) ≡ All
   pub payload : t.payload.now ≡ Whole DATA_DATA 0 0 ∷ []
+  pub eth_quiet : are_quiet t.eth.now ≡ true
+  pub vlan_quiet : are_quiet t.vlan.now ≡ true
+  pub ip_quiet : are_quiet t.ip.now ≡ true
+  pub ip6_quiet : are_quiet t.ip6.now ≡ true
+  pub tcp_quiet : are_quiet t.tcp.now ≡ true
+  pub udp_quiet : are_quiet t.udp.now ≡ true
 
 -- each with its protocol
 abbrev pub tables_listed : Tables → List Table

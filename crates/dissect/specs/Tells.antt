@@ -31,9 +31,10 @@ pub record AsksNoDatagrams (wanted : List ℕ) : Type 0 where
   pub malformed : is_in wanted WS_MALFORMED ≡ false
   pub fields : (app : App) → is_passed app ≡ true → (f : ℕ) → (row_of f).proto ≡ proto_of app → is_in wanted f ≡ false
 
--- with what a last header carries its frame is read, whatever tree its headers made
+-- with what a last header carries its frame is read, whatever tree its headers made; it shows no message that has a link
 pub record Tells (rules : List PortRule) (frame : Frame) (passes : Bool) (way : WayCarried) (old new : State) (c : Carried) : Type 0 where
   pub payload : c.payload ≡ span_of way
   pub carrier : carrier_proto c.carrier ≡ carrier_of way
+  pub unlinked : new.found.items ≡ []
   pub walked : (t : TreeShown) (es : List Event) → t.buffers ≡ frame.bytes ∷ [] → (passes ≡ true → AsksNoDatagrams t.wanted) → StandsAt rules es old
       → IsWalked rules (carried_met rules frame t (NewFrame ∷ es) way) new (carried_by c t) todos.Done

@@ -1,20 +1,21 @@
 -- The way through a plain frame's headers, and the headers that stand for the layers they make.
-use Rattle.std.specs.Prelude.{◌≡◌, ◌==◌, ℕ, ◌-◌, ◌<◌, ◌≤◌, Bool as Truth, false, List, [], ◌∷◌, ◌++◌, length, take, count_by}
+use Rattle.std.specs.Prelude.{◌≡◌, ◌==◌, ℕ, ◌-◌, ◌<◌, ◌≤◌, Bool as Truth, false, true, if◌then◌else◌, List, [], ◌∷◌, ◌++◌, drop, length, take, count_by}
 use Rattle.std.specs.List.{AllByRecursion as Each}
 use Rattle.pk_base.specs.declared.span.Span.{Span}
 use Rattle.pk_base.specs.declared.heads.Mode.TheVariants.{Plain}
 use Rattle.pk_base.specs.declared.heads.PacketHead.{PacketHead}
 use Rattle.pk_fields.specs.FieldSets.{is_in}
-use Rattle.pk_fields.specs.Ids.{TCP, UDP}
+use Rattle.pk_fields.specs.Ids.{IP, TCP, UDP}
 use Rattle.pk_fields.specs.declared.rules.PortRule.{PortRule}
 use Rattle.pk_source.specs.Laws.{IsUntold}
-use Rattle.pk_source.specs.Outlines.{AreNumbered, IsReadWhole, outlined, sizes_of}
+use Rattle.pk_source.specs.Outlines.{AreNumbered, outlined, sizes_of}
 use Rattle.pk_source.specs.declared.header.Header.{Header}
 use Rattle.pk_source.specs.declared.header.Note.{Note}
 use Rattle.pk_tree.specs.Buffers.{IsInside}
-use Rattle.pk_tree.specs.Layouts.{reach}
+use Rattle.pk_tree.specs.Layouts.{StepsFit, reach}
 use Rattle.pk_tree.specs.Tables.{steps_of}
 use Rattle.pk_tree.specs.Trees.{TreeShown}
+use Rattle.pk_tree.specs.Values.{IsProtocol}
 use Rattle.pk_tree.specs.declared.layout.Reach.TheVariants.{All}
 use Rattle.pk_tree.specs.declared.layout.Step.{Step}
 use Rattle.dis_ip.specs.Ip4.{ip4_packet}
@@ -34,7 +35,7 @@ use Rattle.dissect.specs.declared.ways.PacketAt.{PacketAt}
 use Rattle.dissect.specs.declared.ways.PacketAt.TheVariants.{Nowhere, Four, Six}
 use Rattle.dissect.specs.declared.ways.Spot.{Spot}
 use Rattle.dissect.specs.Events.{Event}
-use Rattle.dissect.specs.Heads.{HeadsShown}
+use Rattle.dissect.specs.Heads.{HeadsShown, are_quiet}
 use Rattle.dissect.specs.Plain.{own}
 use Rattle.dissect.specs.Walks.{Walk, all_met, chain, datagram_met, go_on, link_met, no_packet, segment_met}
 
@@ -72,12 +73,25 @@ pub record IsHeaderOf (proto : ℕ) (span : Span) (holds : List Truth) (steps : 
   pub table : steps_of holds (sizes_of h) h.slots.now ≡ steps
   pub ends : reach h.span.len steps ≡ All
 
--- the headers so far, of protocols up to a number, each read whole
+-- the conditions that a table names hold in a header that is read whole
+abbrev pub held_of : ℕ → List Truth
+held_of proto = if proto == IP then true ∷ true ∷ true ∷ [] else true ∷ []
+
+-- a header whose table is read to its end, and names no other frame
+pub record IsReadBy (buffers : List (List ℕ)) (h : Header) : Type 0 where
+  pub proto : IsProtocol h.proto
+  pub inside : IsInside buffers h.span
+  pub fits : StepsFit h.proto (steps_of (held_of h.proto) (sizes_of h) h.slots.now)
+  pub whole : reach h.span.len (steps_of (held_of h.proto) (sizes_of h) h.slots.now) ≡ All
+  pub quiet : are_quiet h.slots.now ≡ true
+
+-- the headers so far, of protocols up to a number, each read whole; the frame's own is the first alone
 pub record AreRead (frame : Frame) (most : ℕ) (headers : List Header) : Type 0 where
-  pub whole : Each (IsReadWhole (frame.bytes ∷ [])) headers
+  pub whole : Each (IsReadBy (frame.bytes ∷ [])) headers
   pub numbered : (wanted : List ℕ) (notes : List Note)
       → AreNumbered [] (outlined frame.bytes wanted headers notes).layers
   pub lower : Each (λ (h : Header). h.proto ≤ most) headers
+  pub higher : Each (λ (h : Header). 0 < h.proto) (drop 1 headers)
 
 -- what is met behind the first header
 abbrev pub LeadsTo : Frame → HeadsShown → (List PortRule → List ℕ → List Event → Walk) → Type 0

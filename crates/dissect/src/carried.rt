@@ -1,5 +1,5 @@
 // What a plain frame's last header carries, and what is told of it.
-ghost use Rattle.std.specs.Prelude.{◌≡◌, ◌+◌, ◌<◌, ◌≤◌, ◌^◌, ◌∷◌, [], Bool, List, None, true, false, length, IfOk, IfSome, OnOk};
+ghost use Rattle.std.specs.Prelude.{◌≡◌, ◌&&◌, ◌+◌, ◌<◌, ◌≤◌, ◌^◌, ◌∷◌, [], Bool, List, None, true, false, not, length, IfOk, IfSome, OnOk};
 ghost use Rattle.pk_fields.specs.Ids.{TCP};
 ghost use Rattle.pk_fields.specs.declared.rules.PortRule.{PortRule as PortRuleValue};
 ghost use Rattle.tcp_streams.specs.Labels.{PassesNear};
@@ -9,7 +9,7 @@ ghost use Rattle.app_layers.specs.MessageLayers.{stream_app};
 ghost use Rattle.dis_ports.specs.Tcp.{tcp_head};
 ghost use Rattle.dissect.specs.Carried.{carried_by, carrier_proto, has_data, is_free, place_of};
 ghost use Rattle.dissect.specs.Events.{Event};
-ghost use Rattle.dissect.specs.Keeping.{is_everything, tells_places};
+ghost use Rattle.dissect.specs.Keeping.{keeps_all, tells_places};
 ghost use Rattle.dissect.specs.Plain.{own};
 ghost use Rattle.dissect.specs.Stands.{StandsAt, IsSameButNumbers, IsWalked, HasRoomForOne, AddsAtMost, bytes_kept};
 ghost use Rattle.dissect.specs.Tells.{AsksNoDatagrams, Tells, shown_app, shown_of};
@@ -17,7 +17,7 @@ ghost use Rattle.dissect.specs.Ways.{IsLastIn, IsPacketIn, carried_met, last_of,
 ghost use Rattle.message_links.specs.Conversations.{number_in, udp_ends, with_ends};
 ghost use Rattle.dissect.specs.declared.ways.Carried.TheVariants as ways_carried;
 
-use crate::keeping::asks_apps;
+use crate::keeping::{Keeping, asks_apps};
 use crate::plain::{own, own_part};
 use crate::segments::segment_from;
 use crate::state::{State, let_go};
@@ -67,7 +67,7 @@ pub(crate) fn has_data(free: bool, span: Span) -> bool
 }
 
 /// Whether a segment's bytes are data: its stream has no application.
-fn is_free(app: Option<StreamApp>) -> bool
+pub(crate) fn is_free(app: Option<StreamApp>) -> bool
     ensures { result ≡ is_free app }
 {
     app.is_none()
@@ -96,6 +96,13 @@ fn shown_app(app: App, passes: bool) -> Option<bool>
     }
 }
 
+/// Whether messages are passed over of which nothing is asked: where everything is kept, links ask for them.
+fn passes_over(passes: bool, keeps: &Keeping) -> bool
+    ensures { result ≡ passes && not (keeps_all keeps.now) }
+{
+    passes && !keeps.is_all()
+}
+
 /// Whether something may be asked of messages of datagrams that are passed over else, or of the faults behind them.
 #[tactic(auto, using(crate::proofs::Asked::no_datagrams))]
 pub(crate) fn asks_datagrams(wanted: &FieldSet) -> bool
@@ -107,7 +114,7 @@ pub(crate) fn asks_datagrams(wanted: &FieldSet) -> bool
 }
 
 /// What is told of a segment's place.
-fn place_of(taken: &Taken) -> Place
+pub(crate) fn place_of(taken: &Taken) -> Place
     requires { PassesNear taken.now }
     ensures { result ≡ place_of taken.now }
 {
@@ -140,7 +147,6 @@ impl State {
         way: ways::Carried,
         passes: bool,
     ) -> Result<Option<Carried>, NoMemory>
-        requires some { is_everything self.old.keeps.follows ≡ false }
         requires last { IsLastIn frame.now (last_of way) }
         requires inside { IsInside (frame.now.bytes ∷ []) (span_of way) }
         requires bytes { length frame.now.bytes < 2 ^ 32 }
@@ -157,7 +163,7 @@ impl State {
     }
 
     /// Takes the segment of a plain frame, where no byte of its stream is kept.
-    fn carry_segment(
+    pub(crate) fn carry_segment(
         &mut self,
         rules: &[PortRule],
         frame: &Frame,
@@ -209,6 +215,7 @@ impl State {
             → t.buffers ≡ frame.now.bytes ∷ []
             → StandsAt rules es self.old → IsWalked rules (carried_met rules frame.now t es
             (ways_carried.Segment last.now)) self.new (carried_by carried t) Todo.Done) }
+        ensures found { self.new.found.items ≡ self.old.found.items }
         ensures added { AddsAtMost 1 self.old self.new }
         ensures kept { bytes_kept self.new ≡ bytes_kept self.old }
     {
@@ -228,7 +235,8 @@ impl State {
         }
     }
 
-    /// Takes the datagram of a plain frame, where it carries no message, or one that is passed over.
+    /// Takes the datagram of a plain frame, where it carries no message, or one that is passed over. Where everything is kept, none is
+    /// passed over.
     fn carry_datagram(
         &mut self,
         rules: &[PortRule],
@@ -236,7 +244,6 @@ impl State {
         passes: bool,
         last: &Last,
     ) -> Result<Option<Carried>, NoMemory>
-        requires some { is_everything self.old.keeps.follows ≡ false }
         requires last { IsLastIn frame.now last.now }
         requires bytes { length frame.now.bytes < 2 ^ 32 }
         requires room { length self.old.udp + 1 < 2 ^ 32 }
@@ -248,7 +255,7 @@ impl State {
     {
         let ports = udp_ports(own(frame, last.header));
         let app = udp_app(rules, ports.source, ports.target);
-        let Some(free) = shown_of(app, passes) else {
+        let Some(free) = shown_of(app, passes_over(passes, &self.keeps)) else {
             return Ok(None);
         };
         self.begin_frame();

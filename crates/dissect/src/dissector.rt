@@ -1,4 +1,4 @@
-ghost use Rattle.std.specs.Prelude.{◌≡◌, ◌≢◌, ◌↔◌, ◌+◌, ◌≤◌, ◌<◌, ◌^◌, ◌||◌, List, [], ◌∷◌, true, false, length, Err, is_err, IfOk, IfSome, OnOk, OnErr};
+ghost use Rattle.std.specs.Prelude.{◌≡◌, ◌≢◌, ◌↔◌, ◌+◌, ◌≤◌, ◌<◌, ◌^◌, ◌||◌, List, [], ◌∷◌, true, false, length, None, Err, is_err, IfOk, IfSome, OnOk, OnErr};
 ghost use Rattle.capture_read.specs.declared.frame.Frame.{Frame as FrameValue};
 ghost use Rattle.pk_source.specs.Outlines.{IsOutline, outlined};
 ghost use Rattle.pk_tree.specs.Trees.{IsKept as IsKeptTree, IsTree, kept_tree};
@@ -7,23 +7,26 @@ ghost use Rattle.pk_fields.specs.Rules.{AreRules};
 ghost use Rattle.dissect.specs.Conversations.{udp_opened};
 ghost use Rattle.dissect.specs.Events.{Event};
 ghost use Rattle.tcp_streams.specs.Standing.{StandsFor, taken_so_far};
+ghost use Rattle.dissect.specs.Feeding.{HasOutline, ShowsHeaders, taken_tree};
 ghost use Rattle.dissect.specs.Followed.{asks_streams, HasSameValues};
-ghost use Rattle.dissect.specs.Keeping.{GoesPlain, KeepsFor, KeepsWhole, keeps_all};
+ghost use Rattle.dissect.specs.Keeping.{KeepsFor, KeepsWhole, keeps_all, takes_any};
 ghost use Rattle.dissect.specs.Segments.{segments_of};
 ghost use Rattle.dissect.specs.Stands.{Stands, StandsWithin, StandsAt, IsAfter, IsRead, HasRoomForOne, AddsAtMost, bytes_kept};
 ghost use Rattle.capture_read.specs.FrameList.{IsTime};
-ghost use Rattle.message_links.specs.Linked.{linked};
 ghost use Rattle.app_layers.specs.Times.{AreTimes};
 ghost use Rattle.dissect.specs.Trees.{tree_at, events_of, kept_walk};
+ghost use Rattle.dissect.specs.Ways.{AsksNoOptions};
 
 use crate::carried::asks_datagrams;
 use crate::heads::{Asked, Heads};
-use crate::keeping::{Keeping, goes_plain};
+use crate::keeping::{Keeping, asks_options};
+use crate::noting::with_links;
+use crate::plain_trees::TakenBy;
 use crate::state::{State, let_go};
 use app_layers::{Times, begin_tree, captured};
 use capture_read::Frame;
 use ip_join::Joins;
-use message_links::{Conversations, Links, link_messages};
+use message_links::{Conversations, Links};
 use pk_base::NoMemory;
 use pk_fields::{DecodeAs, FieldSet, PortRule};
 use pk_source::Outline;
@@ -72,9 +75,9 @@ impl Model for Dissector {
     ghost use Rattle.pk_fields.specs.declared.rules.DecodeAs.{DecodeAs as DecodeAsValue};
     ghost use Rattle.dissect.specs.declared.state.State.{State as StateValue};
     ghost use Rattle.app_layers.specs.declared.times.Times.{Times as TimesValue};
-    ghost use Rattle.dissect.specs.Keeping.{GoesPlain};
     ghost use Rattle.dissect.specs.Stands.{DissectorShown, IsKept};
     ghost use Rattle.dissect.specs.Tells.{AsksNoDatagrams};
+    ghost use Rattle.dissect.specs.Ways.{AsksNoOptions};
 
     ghost Value = { DissectorShown };
 
@@ -82,7 +85,7 @@ impl Model for Dissector {
 
     ghost view = { λ d. record { decode = d.decode; wanted = d.wanted; sparing = d.sparing; spent = d.spent; taken = d.taken; captured = d.captured; times = d.times; state = d.state } };
 
-    ghost invariant = { λ d. IsKept (record { decode = d.decode; wanted = d.wanted; sparing = d.sparing; spent = d.spent; taken = d.taken; captured = d.captured; times = d.times; state = d.state }) × (d.plain ≡ true → GoesPlain d.wanted d.state.keeps) × (d.passes ≡ true → AsksNoDatagrams d.wanted) };
+    ghost invariant = { λ d. IsKept (record { decode = d.decode; wanted = d.wanted; sparing = d.sparing; spent = d.spent; taken = d.taken; captured = d.captured; times = d.times; state = d.state }) × (d.plain ≡ true → AsksNoOptions d.wanted) × (d.passes ≡ true → AsksNoDatagrams d.wanted) };
 }
 
 // The destructor is written out here, and not wherever a dissector is dropped.
@@ -185,7 +188,7 @@ impl Dissector {
                 links: Links::new(alloc),
                 found: Vec::new(alloc),
             },
-            plain: goes_plain(&wanted, &keeps),
+            plain: !asks_options(&wanted),
             passes: !asks_datagrams(&wanted),
             spare: Spare::new(alloc),
         }
@@ -337,7 +340,7 @@ impl Dissector {
     /// Takes a frame that is plain by its headers.
     fn take_headers(&mut self, frame: &Frame, heads: &mut Heads) -> Result<bool, TakeFault>
         requires not_spent { self.old.spent ≡ false }
-        requires goes { GoesPlain self.old.wanted self.old.state.keeps }
+        requires goes { AsksNoOptions self.old.wanted }
         requires number { frame.now.number ≡ self.old.taken + 1 }
         requires time { IfSome frame.now.time IsTime }
         requires captured { self.old.captured + length frame.now.bytes ≤ 2 ^ 28 }
@@ -381,6 +384,113 @@ impl Dissector {
                 Ok(true)
             }
             Ok(false) => Ok(false),
+            Err(NoMemory) => {
+                self.spent = true;
+                Err(TakeFault::NoMemory)
+            }
+        }
+    }
+
+    /// Whether of the segments of streams, of some or of all, their bytes are kept. Then `take_fed` takes most frames by their
+    /// headers, and `take_plain` else.
+    pub fn feeds(&self) -> bool
+        ensures { result ≡ takes_any self.now.state.keeps.follows }
+    {
+        self.state.keeps.follows.takes_any()
+    }
+
+    /// As `take_plain`, but a frame whose segment is taken into its stream is taken too: by its headers, or where it shows messages
+    /// into a tree. Of any other frame nothing is taken.
+    pub fn take_fed(
+        &mut self,
+        frame: &Frame,
+        heads: &mut Heads,
+    ) -> Result<Option<TakenBy>, TakeFault>
+        requires number { frame.now.number ≡ self.old.taken + 1 }
+        requires time { IfSome frame.now.time IsTime }
+        requires captured { self.old.captured + length frame.now.bytes ≤ 2 ^ 28 }
+        ensures spent { result ≡ Err TakeFault.Spent ↔ self.old.spent ≡ true }
+        ensures spent_after { self.new.spent ≡ self.old.spent || is_err result }
+        ensures passed { IfOk result (λ taken. taken ≡ None → self.new ≡ self.old) }
+        ensures counted { IfOk result (λ taken. IfSome taken (λ by. (self.new.taken ≡ self.old.taken + 1)
+            × (self.new.captured ≡ self.old.captured + length frame.now.bytes))) }
+        ensures uncounted { OnErr result ((self.new.taken ≡ self.old.taken)
+            × (self.new.captured ≡ self.old.captured)) }
+        ensures rules { self.new.decode ≡ self.old.decode }
+        ensures wanted { self.new.wanted ≡ self.old.wanted }
+        ensures sparing { self.new.sparing ≡ self.old.sparing }
+        ensures values { IfOk result (λ taken. IfSome taken (λ by. (past : List FrameValue) → StandsWithin past self.old
+            → HasSameValues self.old.wanted (tree_at self.old.decode.rules past frame.now)
+            (taken_tree frame.now.bytes self.old.wanted heads.new by))) }
+        ensures tree { IfOk result (λ taken. IfSome taken (λ by. asks_streams self.old.wanted ≡ true → self.old.sparing ≡ false
+            → (past : List FrameValue) → StandsWithin past self.old
+            → IsKeptTree self.old.wanted (tree_at self.old.decode.rules past frame.now)
+            (taken_tree frame.now.bytes self.old.wanted heads.new by))) }
+        ensures lacks { IfOk result (λ taken. IfSome taken (λ by. (past : List FrameValue) → StandsWithin past self.old
+            → LacksOnly (kept_tree self.old.wanted (tree_at self.old.decode.rules past frame.now))
+            (taken_tree frame.now.bytes self.old.wanted heads.new by))) }
+        ensures stands { IfOk result (λ taken. IfSome taken (λ by. (past : List FrameValue) → StandsWithin past self.old
+            → StandsWithin (frame.now ∷ past) self.new)) }
+        ensures outline { IfOk result (λ taken. IfSome taken (HasOutline frame.now.bytes self.new.wanted heads.new)) }
+        ensures alone { IfOk result (λ taken. IfSome taken (ShowsHeaders frame.now.bytes self.old.wanted heads.new)) }
+    {
+        if self.spent {
+            return Err(TakeFault::Spent);
+        }
+        if !self.plain {
+            return Ok(None);
+        }
+        self.feed_frame(frame, heads)
+    }
+
+    /// Takes a frame that is plain, also where its stream is followed.
+    fn feed_frame(&mut self, frame: &Frame, heads: &mut Heads) -> Result<Option<TakenBy>, TakeFault>
+        requires not_spent { self.old.spent ≡ false }
+        requires goes { AsksNoOptions self.old.wanted }
+        requires number { frame.now.number ≡ self.old.taken + 1 }
+        requires time { IfSome frame.now.time IsTime }
+        requires captured { self.old.captured + length frame.now.bytes ≤ 2 ^ 28 }
+        ensures spent { result ≢ Err TakeFault.Spent }
+        ensures spent_after { self.new.spent ≡ is_err result }
+        ensures passed { IfOk result (λ taken. taken ≡ None → self.new ≡ self.old) }
+        ensures counted { IfOk result (λ taken. IfSome taken (λ by. (self.new.taken ≡ self.old.taken + 1)
+            × (self.new.captured ≡ self.old.captured + length frame.now.bytes))) }
+        ensures uncounted { OnErr result ((self.new.taken ≡ self.old.taken)
+            × (self.new.captured ≡ self.old.captured)) }
+        ensures rules { self.new.decode ≡ self.old.decode }
+        ensures wanted { self.new.wanted ≡ self.old.wanted }
+        ensures sparing { self.new.sparing ≡ self.old.sparing }
+        ensures tree { IfOk result (λ taken. IfSome taken (λ by. (past : List FrameValue) → IsAfter past self.old
+            → keeps_all self.old.state.keeps ≡ true
+            → IsKeptTree self.old.wanted (tree_at self.old.decode.rules past frame.now)
+            (taken_tree frame.now.bytes self.old.wanted heads.new by))) }
+        ensures values { IfOk result (λ taken. IfSome taken (λ by. (past : List FrameValue) → IsAfter past self.old
+            → HasSameValues self.old.wanted (tree_at self.old.decode.rules past frame.now)
+            (taken_tree frame.now.bytes self.old.wanted heads.new by))) }
+        ensures lacks { IfOk result (λ taken. IfSome taken (λ by. (past : List FrameValue) → IsAfter past self.old
+            → LacksOnly (kept_tree self.old.wanted (tree_at self.old.decode.rules past frame.now))
+            (taken_tree frame.now.bytes self.old.wanted heads.new by))) }
+        ensures after { IfOk result (λ taken. IfSome taken (λ by. (past : List FrameValue) → IsAfter past self.old
+            → IsAfter (frame.now ∷ past) self.new)) }
+        ensures outline { IfOk result (λ taken. IfSome taken (HasOutline frame.now.bytes self.old.wanted heads.new)) }
+        ensures alone { IfOk result (λ taken. IfSome taken (ShowsHeaders frame.now.bytes self.old.wanted heads.new)) }
+    {
+        let number = number_of(frame);
+        let asked = Asked {
+            alloc: self.alloc,
+            rules: self.decode.rules.slice(),
+            wanted: &self.wanted,
+            before: &self.times,
+            passes: self.passes,
+        };
+        match heads.take_fed(&asked, &mut self.spare, &mut self.state, frame) {
+            Ok(Some(by)) => {
+                self.taken = number;
+                self.captured += captured(frame);
+                self.times = self.times.with(frame.time);
+                Ok(Some(by))
+            }
+            Ok(None) => Ok(None),
             Err(NoMemory) => {
                 self.spent = true;
                 Err(TakeFault::NoMemory)
@@ -479,20 +589,6 @@ fn make_tree(
     let mut tree = begin_tree(spare, before, frame, wanted)?;
     match state.read_frame(rules, frame, &mut tree) {
         Ok(()) => with_links(&state.found, &wanted, tree.finish()),
-        Err(NoMemory) => {
-            let_go(tree);
-            Err(NoMemory)
-        }
-    }
-}
-
-/// A frame's tree with the links of its messages.
-fn with_links(found: &[Option<u32>], wanted: &FieldSet, bare: Tree) -> Result<Tree, NoMemory>
-    ensures { IfOk result (λ tree. tree ≡ linked wanted.now found.now bare) }
-{
-    let mut tree = bare;
-    match link_messages(found, wanted, &mut tree) {
-        Ok(()) => Ok(tree),
         Err(NoMemory) => {
             let_go(tree);
             Err(NoMemory)

@@ -8,12 +8,11 @@ ghost use Rattle.pk_tree.specs.Trees.{IsTree};
 ghost use Rattle.app_layers.specs.Times.{AreTimes};
 ghost use Rattle.dissect.specs.Carried.{data_header, data_headers, frame_header, notes_of};
 ghost use Rattle.dissect.specs.Events.{Event};
-ghost use Rattle.dissect.specs.Keeping.{AsksNoLinks, GoesPlain};
 ghost use Rattle.dissect.specs.Stands.{StandsAt, IsRead, HasRoomForOne, AddsAtMost, bytes_kept};
 ghost use Rattle.dissect.specs.Tables.{AreTables, IsTabled, KnownBy, tables_listed};
 ghost use Rattle.dissect.specs.Tells.{AsksNoDatagrams};
 ghost use Rattle.dissect.specs.Trees.{kept_walk};
-ghost use Rattle.dissect.specs.Ways.{Carries, Opens};
+ghost use Rattle.dissect.specs.Ways.{AsksNoOptions, Carries, Opens};
 
 use crate::carried::{Carried, has_data};
 use crate::state::State;
@@ -42,13 +41,13 @@ pub(crate) struct Asked<'a> {
 /// What stands in a plain frame: its headers, and what is told beside their rows. It is made once, and filled again for each
 /// frame.
 pub struct Heads {
-    headers: Vec<Header>,
-    notes: Vec<Note>,
+    pub(crate) headers: Vec<Header>,
+    pub(crate) notes: Vec<Note>,
     /// The tables that read the headers.
-    tables: Tables,
+    pub(crate) tables: Tables,
     /// Where fields stand in them, once there was a plain frame.
-    places: Places,
-    knows_places: bool,
+    pub(crate) places: Places,
+    pub(crate) knows_places: bool,
 }
 
 impl Model for Heads {
@@ -118,9 +117,8 @@ impl Heads {
         requires bytes { length frame.now.bytes < 2 ^ 32 }
         requires before { AreTimes asked.now.before.now }
         requires time { IfSome frame.now.time IsTime }
-        requires goes { GoesPlain asked.now.wanted.now state.old.keeps }
+        requires goes { AsksNoOptions asked.now.wanted.now }
         requires few { HasRoomForOne (length frame.now.bytes) state.old }
-        requires links { AsksNoLinks asked.now.wanted.now }
         requires messages { asked.now.passes ≡ true → AsksNoDatagrams asked.now.wanted.now }
         ensures read { IfOk result (λ taken. taken ≡ true → (es : List Event) → StandsAt asked.now.rules.now es state.old
             → IsRead asked.now.rules.now asked.now.wanted.now (kept_walk asked.now.rules.now asked.now.wanted.now asked.now.before.now es frame.now)
@@ -157,7 +155,7 @@ impl Heads {
 }
 
 /// Finds where fields stand in the tables, where that isn't known yet.
-fn know_places(
+pub(crate) fn know_places(
     alloc: Global,
     tables: &Tables,
     places: &mut Places,
@@ -190,9 +188,8 @@ fn take_headers(
     requires bytes { length frame.now.bytes < 2 ^ 32 }
     requires before { AreTimes asked.now.before.now }
     requires time { IfSome frame.now.time IsTime }
-    requires goes { GoesPlain asked.now.wanted.now state.old.keeps }
+    requires goes { AsksNoOptions asked.now.wanted.now }
     requires few { HasRoomForOne (length frame.now.bytes) state.old }
-    requires links { AsksNoLinks asked.now.wanted.now }
     requires messages { asked.now.passes ≡ true → AsksNoDatagrams asked.now.wanted.now }
     ensures tabled { OnOk result (Each (IsTabled tables.now) headers.new.items) }
     ensures read { IfOk result (λ taken. taken ≡ true → (es : List Event) → StandsAt asked.now.rules.now es state.old
@@ -217,7 +214,7 @@ fn take_headers(
 }
 
 /// Puts the header of what is shown as data, and what is told of the frame.
-fn put_carried(
+pub(crate) fn put_carried(
     headers: &mut Vec<Header>,
     notes: &mut Vec<Note>,
     tables: &Tables,
@@ -240,7 +237,7 @@ fn put_carried(
 }
 
 /// Puts the headers of a plain frame, its own first, and finds what they carry.
-fn open_headers(
+pub(crate) fn open_headers(
     headers: &mut Vec<Header>,
     tables: &Tables,
     frame: &Frame,

@@ -1,10 +1,10 @@
 ghost use Rattle.std.specs.Prelude.{◌≡◌, false, true, IfSome};
 ghost use Rattle.std.specs.List.{AllByRecursion as Each};
-ghost use Rattle.dis_ports.specs.TcpOptions.{option_fields};
 ghost use Rattle.pk_fields.specs.FieldSets.{is_in};
 ghost use Rattle.pk_fields.specs.Ids.{TCP_SEGMENT, UDP_STREAM, WS_MALFORMED, WS_SHORT, field_count};
 ghost use Rattle.dissect.specs.Followed.{asks_any, asks_apps, asks_messages, asks_streams};
-ghost use Rattle.dissect.specs.Keeping.{AsksNoLinks, AsksNoOthers, AsksNoPlaces, FollowsEnough, GoesPlain, IsOwnOrUnasked, KeepsFor, KeepsWhole, has_app, is_everything, is_followed, is_of, keeps_all, tells_places};
+ghost use Rattle.dissect.specs.Keeping.{AsksNoLinks, AsksNoOthers, AsksNoPlaces, FollowsEnough, IsOwnOrUnasked, KeepsFor, KeepsWhole, has_app, is_everything, is_followed, is_of, keeps_all, takes_any, tells_places};
+ghost use Rattle.dissect.specs.Ways.{AsksNoOptions};
 
 use app_layers::{StreamApp, framed_apps, proto_of};
 use pk_fields::{App, FieldId, FieldSet, ids};
@@ -41,6 +41,16 @@ impl Follows {
             Follows::Nothing | Follows::One(_) | Follows::Applications | Follows::Everything => {
                 false
             }
+        }
+    }
+
+    /// Whether segments of any streams are taken.
+    pub fn takes_any(self) -> bool
+        ensures { result ≡ takes_any self }
+    {
+        match self {
+            Follows::One(_) | Follows::Applications | Follows::Everything => true,
+            Follows::Nothing | Follows::Places => false,
         }
     }
 
@@ -126,17 +136,9 @@ impl Keeping {
     }
 }
 
-/// Whether the headers of plain frames may answer for the wanted fields: none of them is of the options of TCP, and not all
-/// streams are followed.
-pub(crate) fn goes_plain(wanted: &FieldSet, keeps: &Keeping) -> bool
-    ensures { result ≡ true → GoesPlain wanted.now keeps.now }
-{
-    !keeps.follows.is_everything() && !asks_options(wanted)
-}
-
-/// Whether a field of the options of TCP may be asked.
-fn asks_options(wanted: &FieldSet) -> bool
-    ensures { result ≡ false → Each (λ field. is_in wanted.now field ≡ false) option_fields }
+/// Whether a field of the options of TCP may be asked, of which the headers of plain frames don't tell.
+pub(crate) fn asks_options(wanted: &FieldSet) -> bool
+    ensures { result ≡ false → AsksNoOptions wanted.now }
 {
     wanted.contains(ids::TCP_OPTION_KIND)
         || wanted.contains(ids::TCP_OPTION_LEN)

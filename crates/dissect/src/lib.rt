@@ -4,6 +4,7 @@
 mod carried;
 mod datagrams;
 mod dissector;
+mod feeding;
 mod fragments;
 mod headers;
 mod heads;
@@ -12,6 +13,7 @@ mod laws;
 mod noting;
 mod pieces;
 mod plain;
+mod plain_trees;
 mod segments;
 mod state;
 mod tables;
@@ -27,4 +29,5 @@ pub use laws::{
     others_number_alone, trees_stand_alone,
 };
 pub use pk_fields::{App, DecodeAs, PortRule, PortRules};
+pub use plain_trees::TakenBy;
 pub use tcp_messages::messages_once;

@@ -1,15 +1,17 @@
-ghost use Rattle.std.specs.Prelude.{◌≡◌, ◌∷◌, All, List, true, OnOk};
+ghost use Rattle.std.specs.Prelude.{◌≡◌, ◌∷◌, [], All, List, true, IfOk, OnOk};
 ghost use Rattle.pk_fields.specs.declared.rules.PortRule.{PortRule as PortRuleValue};
 ghost use Rattle.tcp_messages.specs.Shown.{IsWholeIn};
 ghost use Rattle.dissect.specs.Events.{Event, NewFrame};
+ghost use Rattle.message_links.specs.Linked.{linked};
 ghost use Rattle.message_links.specs.Notes.{datagram_notes, shown_notes, tcp_direction, udp_direction};
 ghost use Rattle.dissect.specs.Keeping.{keeps_all};
 ghost use Rattle.dissect.specs.Stands.{StandsAt, AddsAtMost, IsLinked, IsSameButLinks, bytes_kept};
 
-use crate::state::State;
-use message_links::{Direction, Note, dns_note, tcp_direction, udp_direction};
+use crate::state::{State, let_go};
+use message_links::{Direction, Note, dns_note, link_messages, tcp_direction, udp_direction};
 use pk_base::NoMemory;
-use pk_fields::App;
+use pk_fields::{App, FieldSet};
+use pk_tree::Tree;
 use tcp_messages::Met;
 
 impl State {
@@ -17,6 +19,7 @@ impl State {
     pub(crate) fn begin_frame(&mut self)
         ensures stands { (rules : List PortRuleValue) (es : List Event)
             → StandsAt rules es self.old → StandsAt rules (NewFrame ∷ es) self.new }
+        ensures none { self.new.found.items ≡ [] }
         ensures adds { AddsAtMost 0 self.old self.new }
         ensures kept { bytes_kept self.new ≡ bytes_kept self.old }
     {
@@ -74,5 +77,23 @@ impl State {
     {
         self.found = self.links.take(frame, at, notes)?;
         Ok(())
+    }
+}
+
+/// A frame's tree with the links of its messages.
+pub(crate) fn with_links(
+    found: &[Option<u32>],
+    wanted: &FieldSet,
+    bare: Tree,
+) -> Result<Tree, NoMemory>
+    ensures { IfOk result (λ tree. tree ≡ linked wanted.now found.now bare) }
+{
+    let mut tree = bare;
+    match link_messages(found, wanted, &mut tree) {
+        Ok(()) => Ok(tree),
+        Err(NoMemory) => {
+            let_go(tree);
+            Err(NoMemory)
+        }
     }
 }

@@ -1,7 +1,6 @@
 ghost use Rattle.std.specs.Prelude.{◌≡◌, ◌==◌, ◌+◌, ◌-◌, ◌<◌, ◌≤◌, ◌^◌, ◌∷◌, ◌++◌, [], ℕ, List, false, true, length, take, IfOk, IfSome, OnOk};
 ghost use Rattle.std.specs.List.{AllByRecursion as Each};
 ghost use Rattle.pk_fields.specs.Ids.{ETH, VLAN, IP, IPV6, TCP, UDP};
-ghost use Rattle.pk_source.specs.Outlines.{IsReadWhole};
 ghost use Rattle.pk_tree.specs.Buffers.{IsInside};
 ghost use Rattle.dis_link.specs.EtherTypes.{is_length};
 ghost use Rattle.dis_link.specs.Ethernet.{eth_layout, eth_type};
@@ -11,7 +10,7 @@ ghost use Rattle.dis_ip.specs.Ip6.{ip6_layout, ip6_version};
 ghost use Rattle.dis_ports.specs.Tcp.{header_len, tcp_rows};
 ghost use Rattle.dis_ports.specs.Udp.{is_udp_length, udp_layout, udp_length};
 ghost use Rattle.dissect.specs.Tables.{AreTables, IsTabled};
-ghost use Rattle.dissect.specs.Ways.{Carries, IsBegun, IsHeaderOf, IsPacketIn, Reaches, headers_of, packet_at};
+ghost use Rattle.dissect.specs.Ways.{Carries, IsBegun, IsHeaderOf, IsPacketIn, IsReadBy, Reaches, headers_of, packet_at};
 
 use crate::plain::own;
 use crate::tables::Tables;
@@ -422,7 +421,7 @@ fn ethernet_header(tables: &Tables, span: Span) -> Header
     ensures stands { (bytes : List ℕ) → is_length (eth_type bytes) ≡ false
         → IsHeaderOf ETH span [] (eth_layout bytes) result }
     ensures whole { (buffers : List (List ℕ)) → IsInside buffers span
-        → IsReadWhole buffers result }
+        → IsReadBy buffers result }
 {
     Header {
         proto: ids::ETH,
@@ -441,7 +440,7 @@ fn vlan_header(tables: &Tables, nth: u32, span: Span) -> Header
     ensures stands { (bytes : List ℕ) → is_length (vlan_type bytes) ≡ false
         → IsHeaderOf VLAN span [] (vlan_layout bytes) result }
     ensures whole { (buffers : List (List ℕ)) → IsInside buffers span
-        → IsReadWhole buffers result }
+        → IsReadBy buffers result }
 {
     Header {
         proto: ids::VLAN,
@@ -462,7 +461,7 @@ fn ip4_header(tables: &Tables, layer: Span, header: u32) -> Header
         → ip4_conditions bytes ≡ true ∷ true ∷ true ∷ []
         → IsHeaderOf IP layer (true ∷ true ∷ true ∷ []) (ip4_layout bytes) result }
     ensures whole { (buffers : List (List ℕ)) → IsInside buffers layer
-        → IsReadWhole buffers result }
+        → IsReadBy buffers result }
 {
     Header {
         proto: ids::IP,
@@ -481,7 +480,7 @@ fn ip6_header(tables: &Tables, layer: Span) -> Header
     ensures stands { (bytes : List ℕ) → (ip6_version bytes == 6) ≡ true
         → IsHeaderOf IPV6 layer (true ∷ []) (ip6_layout bytes) result }
     ensures whole { (buffers : List (List ℕ)) → IsInside buffers layer
-        → IsReadWhole buffers result }
+        → IsReadBy buffers result }
 {
     Header {
         proto: ids::IPV6,
@@ -501,7 +500,7 @@ fn tcp_header(tables: &Tables, span: Span, header: u32) -> Header
     ensures stands { (bytes : List ℕ) → header ≡ header_len bytes
         → IsHeaderOf TCP span (true ∷ []) (tcp_rows bytes) result }
     ensures whole { (buffers : List (List ℕ)) → IsInside buffers span
-        → IsReadWhole buffers result }
+        → IsReadBy buffers result }
 {
     Header {
         proto: ids::TCP,
@@ -520,7 +519,7 @@ fn udp_header(tables: &Tables, layer: Span) -> Header
     ensures stands { (bytes : List ℕ) → is_udp_length (udp_length bytes) ≡ true
         → IsHeaderOf UDP layer (true ∷ []) (udp_layout bytes) result }
     ensures whole { (buffers : List (List ℕ)) → IsInside buffers layer
-        → IsReadWhole buffers result }
+        → IsReadBy buffers result }
 {
     Header {
         proto: ids::UDP,

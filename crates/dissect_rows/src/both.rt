@@ -3,6 +3,7 @@
 //! - `heads`: the first line tells what the row shows. It is read for the values of all fields of headers but `UNTOLD`, for these without
 //!   segments' places in streams, and for trees of the latter.
 //! - `named`: the first line names the fields for whose values the row is read.
+//! - `fed`: the same, by a dissector that takes segments into their streams before it knows whether headers answer.
 //!
 //! Frames are given as in the other tables. Behind `->` stands by what a dissector takes the frame that asks headers first: `headers`,
 //! `tree` where they don't answer, or `either` where they don't yet. Another one takes each frame into a tree. A row holds where each
@@ -18,7 +19,7 @@ use crate::captures::{give_up_tree, no_rules};
 use crate::given::{add_named, fields_named, frame_of};
 use crate::told::PLACES;
 use capture_read::Frame;
-use dissect::{Dissector, Heads};
+use dissect::{Dissector, Heads, TakenBy};
 use pk_fields::FieldSet;
 use pk_source::Source;
 use pk_tree::Tree;
@@ -56,6 +57,7 @@ fn is_taken(way: Way, by_headers: bool) -> bool {
 
 /// A dissector that takes plain frames by their headers, and one that makes a tree of each frame.
 struct Pair {
+    purpose: Purpose,
     plain: Dissector,
     heads: Heads,
     trees: Dissector,
@@ -64,6 +66,7 @@ struct Pair {
 impl Drop for Pair {
     fn drop(self) {
         let Pair {
+            purpose: _,
             plain: _plain,
             heads: _heads,
             trees: _trees,
@@ -76,13 +79,15 @@ impl Drop for Pair {
 enum Purpose {
     Values,
     Trees,
+    /// Values, where segments may be taken into their streams.
+    Fed,
 }
 
 fn dissector_for(alloc: Global, purpose: Purpose, wanted: FieldSet) -> Dissector
     ensures { HasTaken 0 result }
 {
     match purpose {
-        Purpose::Values => Dissector::for_values(alloc, no_rules(alloc), wanted),
+        Purpose::Values | Purpose::Fed => Dissector::for_values(alloc, no_rules(alloc), wanted),
         Purpose::Trees => Dissector::for_fields(alloc, no_rules(alloc), wanted),
     }
 }
@@ -92,6 +97,7 @@ fn pair_for(alloc: Global, purpose: Purpose, wanted: FieldSet) -> Pair
     ensures trees { HasTaken 0 result.trees }
 {
     Pair {
+        purpose,
         plain: dissector_for(alloc, purpose, wanted),
         heads: Heads::none(alloc),
         trees: dissector_for(alloc, purpose, wanted),
@@ -113,7 +119,12 @@ impl Pair {
             return None;
         }
         let tree = self.trees.take_wanted(frame).ok()?;
-        let told = take_beside(alloc, &mut self.plain, &mut self.heads, frame, way, &tree);
+        let told = match self.purpose {
+            Purpose::Values | Purpose::Trees => {
+                take_beside(alloc, &mut self.plain, &mut self.heads, frame, way, &tree)
+            }
+            Purpose::Fed => feed_beside(alloc, &mut self.plain, &mut self.heads, frame, way, &tree),
+        };
         give_up_tree(tree);
         told
     }
@@ -143,6 +154,40 @@ fn take_beside(
         are_headers_alike(alloc, dissector, heads, frame, tree)
     } else {
         are_trees_alike(alloc, dissector, frame, tree)
+    }
+}
+
+/// As `take_beside`, where a frame's segment may be taken into its stream.
+fn feed_beside(
+    alloc: Global,
+    dissector: &mut Dissector,
+    heads: &mut Heads,
+    frame: &Frame,
+    way: Way,
+    tree: &Tree,
+) -> Option<bool>
+    requires number { frame.now.number ≡ dissector.old.taken + 1 }
+    requires time { IfSome frame.now.time IsTime }
+    requires captured { dissector.old.captured + length frame.now.bytes ≤ 1000 * frame.now.number }
+    requires few { frame.now.number < 100 }
+    ensures { OnSome result (HasTaken frame.now.number dissector.new) }
+{
+    match dissector.take_fed(frame, heads).ok()? {
+        Some(TakenBy::Headers) if is_taken(way, true) => {
+            are_headers_alike(alloc, dissector, heads, frame, tree)
+        }
+        Some(TakenBy::Headers) => None,
+        Some(TakenBy::Tree(own)) => {
+            let alike = are_alike(alloc, &Source::of_tree(&own), &Source::of_tree(tree));
+            give_up_tree(own);
+            if is_taken(way, false) {
+                alike.ok()
+            } else {
+                None
+            }
+        }
+        None if is_taken(way, false) => are_trees_alike(alloc, dissector, frame, tree),
+        None => None,
     }
 }
 
@@ -241,6 +286,7 @@ pub(crate) fn is_told_alike(alloc: Global, check: &str, row: &str) -> Option<boo
     let (title, frames) = row.split_once("\n> ")?;
     match check {
         "named" => holds_for(alloc, Purpose::Values, fields_named(title)?, frames),
+        "fed" => holds_for(alloc, Purpose::Fed, fields_named(title)?, frames),
         _ => holds_for_heads(alloc, frames),
     }
 }

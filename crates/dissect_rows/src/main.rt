@@ -16,7 +16,7 @@ use std::io::{self, Read};
 /// Whether a row of the table of this name holds.
 fn holds(alloc: Global, check: &str, row: &str) -> bool {
     let told = match check {
-        "heads" | "named" => is_told_alike(alloc, check, row),
+        "heads" | "named" | "fed" => is_told_alike(alloc, check, row),
         _ => is_told(alloc, check, row),
     };
     matches!(told, Some(true))

@@ -34,7 +34,7 @@ returns-in_ok-put_carried-in-Some-2-clause-read c = λ taken es stands.
     let carried_by_it : Carries frame headers way = subst (λ (r : Option WayCarried). IfSome r (Carries frame headers)) c.in-Some.is c.in_ok-way.ensures.carried in
     let tells : Tells asked.rules.now frame asked.passes way c.args.state.now c.carry.new.self carried =
     subst (λ (r : Option Carried). IfSome r (Tells asked.rules.now frame asked.passes way c.args.state.now c.carry.new.self)) c.in-Some-2.is c.in_ok-carried.ensures.tells in
-    heads_read asked.rules.now wanted asked.before.now es frame asked.passes way carried headers heads c.args.state.now c.carry.new.self c.requires.links c.requires.goes.options c.requires.messages carried_by_it c.in_ok-way.ensures.opens
+    heads_read asked.rules.now wanted asked.before.now es frame asked.passes way carried headers heads c.args.state.now c.carry.new.self c.requires.goes c.requires.messages carried_by_it c.in_ok-way.ensures.opens
     (heads_stand c.args.tables.now wanted asked.before.now frame way carried headers heads c.requires.bytes c.requires.tables carried_by_it tells.payload tells.carrier put.fits put.headers put.notes)
     tells stands
 

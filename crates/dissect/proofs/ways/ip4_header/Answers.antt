@@ -26,9 +26,9 @@ unfolding row_of rows
 returns-clause-whole c = λ buffers inside. record {
   proto = refl;
   inside = inside;
-  holds = true ∷ true ∷ true ∷ [];
   fits = c.requires.tables.ip_fits (true ∷ true ∷ true ∷ []) ((c.args.header - 20) ∷ []);
   whole = c.requires.tables.ip_whole c.args.layer.len (c.args.header - 20) (omega (arith, c.requires.least, c.requires.whole)) (omega (arith, c.requires.least, c.requires.whole));
+  quiet = c.requires.tables.ip_quiet;
 }
 
 pub returns-clause-tabled : goal.returns-clause-tabled

@@ -21,9 +21,9 @@ unfolding row_of rows
 returns-clause-whole c = λ buffers inside. record {
   proto = refl;
   inside = inside;
-  holds = true ∷ [];
   fits = c.requires.tables.ip6_fits (true ∷ []) (0 ∷ []);
   whole = c.requires.tables.ip6_whole (0 ∷ []) c.args.layer.len c.requires.long;
+  quiet = c.requires.tables.ip6_quiet;
 }
 
 pub returns-clause-tabled : goal.returns-clause-tabled

@@ -21,9 +21,9 @@ unfolding row_of rows
 returns-clause-whole c = λ buffers inside. record {
   proto = refl;
   inside = inside;
-  holds = true ∷ [];
   fits = c.requires.tables.tcp_fits (true ∷ []) ((c.args.header - 20) ∷ []);
   whole = c.requires.tables.tcp_whole c.args.span.len (c.args.header - 20) (omega (arith, c.requires.least, c.requires.whole));
+  quiet = c.requires.tables.tcp_quiet;
 }
 
 pub returns-clause-tabled : goal.returns-clause-tabled

@@ -1,4 +1,4 @@
-use Rattle.std.proofs.Common.{◌∷◌, [], refl, ap, sym, ◌∙◌}
+use Rattle.std.proofs.Common.{true, ◌∷◌, [], refl, ap, sym, ◌∙◌}
 use Rattle.pk_fields.specs.Fields.{row_of}
 use Rattle.pk_fields.specs.Ids.{VLAN}
 use Rattle.pk_fields.specs.Table.{rows}
@@ -20,9 +20,9 @@ unfolding row_of rows
 returns-clause-whole c = λ buffers inside. record {
   proto = refl;
   inside = inside;
-  holds = [];
-  fits = c.requires.tables.vlan_fits [] (0 ∷ []);
-  whole = c.requires.tables.vlan_whole [] (0 ∷ []) c.args.span.len c.requires.long;
+  fits = c.requires.tables.vlan_fits (true ∷ []) (0 ∷ []);
+  whole = c.requires.tables.vlan_whole (true ∷ []) (0 ∷ []) c.args.span.len c.requires.long;
+  quiet = c.requires.tables.vlan_quiet;
 }
 
 pub returns-clause-tabled : goal.returns-clause-tabled

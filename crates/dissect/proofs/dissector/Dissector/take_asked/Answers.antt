@@ -2,7 +2,7 @@ use Rattle.std.proofs.Common.{◌+◌, List, length, subst, sym, ap, ◌∙◌, 
 use Rattle.pk_fields.specs.declared.rules.PortRule.{PortRule}
 use Rattle.dissect.specs.Stands.{DissectorShown}
 use Rattle.dissect.specs.declared.keeping.Keeping.{Keeping}
-use Rattle.dissect.specs.Keeping.{GoesPlain, KeepsFor, KeepsWhole, keeps_all}
+use Rattle.dissect.specs.Keeping.{KeepsFor, KeepsWhole, keeps_all}
 use Rattle.app_layers.specs.Times.{with_time}
 use Rattle.dissect.specs.Trees.{tree_at}
 use Rattle.dissect.proofs.Taken.{Reads, ReadsBy, tree-taken, lacks-read, lacks-taken, values-taken, values-read, after-taken}
@@ -74,6 +74,6 @@ invariant_of-self-in-Err c =
         asked = subst (λ (keeps : Keeping). KeepsFor keeps c.self.inside.wanted) (sym c.make_tree.ensures.added.keeps) c.self.invariant.0.asked;
         whole = λ unsparing. subst (λ (keeps : Keeping). KeepsWhole keeps c.self.inside.wanted) (sym c.make_tree.ensures.added.keeps) (c.self.invariant.0.whole unsparing);
       },
-      λ goes. subst (GoesPlain c.self.inside.wanted) (sym c.make_tree.ensures.added.keeps) (c.self.invariant.1 goes),
+      c.self.invariant.1,
       c.self.invariant.2,
     )

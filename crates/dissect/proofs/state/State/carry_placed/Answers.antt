@@ -1,28 +1,22 @@
 use Rattle.std.proofs.Common.{◌≡◌, ◌∙◌, Bool, ◌∷◌, ℕ, List, ap, refl, subst, sym}
 use Rattle.pk_base.specs.declared.heads.PacketHead.{PacketHead}
 use Rattle.pk_base.specs.declared.heads.TcpHead.{TcpHead}
-use Rattle.pk_base.specs.declared.span.Span.{Span}
 use Rattle.pk_tree.specs.Buffers.{bytes_of}
 use Rattle.pk_tree.specs.Trees.{TreeShown}
 use Rattle.tcp_streams.specs.declared.segment.Segment.{Segment}
-use Rattle.tcp_streams.specs.declared.segment.Taken.{Taken}
 use Rattle.tcp_streams.specs.Labels.{taken_after}
 use Rattle.tcp_streams.specs.PlacesStanding.{PlacesStandFor}
 use Rattle.app_layers.specs.FrameLayer.{is_cut}
-use Rattle.app_layers.specs.Payloads.{place_told, segment_told}
-use Rattle.dissect.specs.Carried.{place_of, segment_by, shown_by}
+use Rattle.app_layers.specs.Payloads.{segment_told}
+use Rattle.dissect.specs.Carried.{segment_by, shown_by}
 use Rattle.dissect.specs.Plain.{own}
 use Rattle.dissect.specs.Ways.{packet_at}
 use Rattle.dis_ports.specs.Tcp.{tcp_head}
 use Rattle.dissect.specs.Segments.{segment_from}
 use Rattle.dissect.specs.declared.carried.Place.{Place}
-use Rattle.dissect.proofs.Passing.{placed-walked, shown_free}
+use Rattle.dissect.proofs.Passing.{placed-walked, shown_free, told_placed}
 use Rattle.dissect.proofs.state.State.carry_placed.Goals as goal
 use Rattle.std.specs.Prelude.{Some}
-
-told_placed : (t : TreeShown) (taken : Taken) (span : Span) → segment_by t (Some (place_of taken)) span ≡ segment_told t taken span
-unfolding segment_told place_told
-told_placed t taken span = refl
 
 pub returns-in-Ok-clause-walked : goal.returns-in-Ok-clause-walked
 returns-in-Ok-clause-walked c = λ rules t es app_is buffers stands.

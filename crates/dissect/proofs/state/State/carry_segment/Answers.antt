@@ -21,4 +21,4 @@ returns-clause-tells c = λ passes.
     c.stream_app-app.ensures ∙ ap (λ n. stream_app rules n c.tcp_ports-ports.result.target) source ∙ ap (λ n. stream_app rules head.source n) target in
     let passed : is_followed c.begin_frame.new.self.keeps.follows app ≡ false = ap (λ (k : Keeping). is_followed k.follows app) keeps ∙ sym c.takes.ensures ∙ c.if-takes.false in
     segment-tells rules frame last app passes c.is_free.result c.args.self.now c.begin_frame.new.self
-    app_is passed (sym c.tells_places.ensures ∙ c.if-tells_places.false) c.is_free.ensures (c.begin_frame.ensures.stands rules)
+    app_is passed (sym c.tells_places.ensures ∙ c.if-tells_places.false) c.is_free.ensures c.begin_frame.ensures.none (c.begin_frame.ensures.stands rules)
