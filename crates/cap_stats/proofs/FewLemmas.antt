@@ -30,8 +30,8 @@ use Rattle.cap_stats.specs.declared.stats.Stats.{Stats}
 use Rattle.cap_stats.specs.declared.streams.Streams.{Streams}
 use Rattle.cap_stats.specs.Counts.{first_of, leaves, lengths_of, of_key, sizes_tally, tally_of, talk_of}
 use Rattle.cap_stats.specs.Few.{AreFew, HasFew, HasRoom, HasTalkRoom, HaveRoom}
-use Rattle.cap_stats.specs.Keys.{same_number, same_pair, pair_cmp}
-use Rattle.cap_stats.specs.Stands.{HasNotes, HasPairs, HasPaths, HasStreams, Stands, is_spent, kind_of, talk_at, tally_at}
+use Rattle.cap_stats.specs.Keys.{same_number, same_pair}
+use Rattle.cap_stats.specs.Stands.{HasNotes, HasPairs, HasPaths, HasStreams, Stands, is_spent, kind_of, pair_talk, talk_at, tally_at}
 use Rattle.cap_stats.specs.Tables.{packets_of, paths_of, segments_of, with_note}
 use Rattle.cap_stats.specs.Told.{◌>>=◌, address_in, first_value, four_in, has_addresses, has_stream, host, is_ip, length_of, number_in, number_of, packet_in, packet_of, pair_of, party_at, path_of, paths_in, paths_to, protocols_in, segment_at, segment_of, stream_in}
 use Rattle.cap_stats.proofs.PathLemmas.{path_more}
@@ -221,7 +221,7 @@ stream_room streams number past has are =
     (fewer_flights (length past) (2 ^ 32 - 1) (of_key same_number number (segments_of past)) are.count (segments_short past number are.lengths)))
 
 pub pair_room : (pairs : Pairs) (pair : ℕ × ℕ) (past : List TreeShown) → HasPairs (packets_of past) pairs → AreFew (2 ^ 32 - 1) past
-    → IfSome (tree.get pair_cmp pairs.all pair) HasTalkRoom
+    → IfSome (pair_talk pairs pair) HasTalkRoom
 pair_room pairs pair past has are =
     subst (λ (o : Option Talk). IfSome o HasTalkRoom) (sym (has.talks pair))
     (talk_room (of_key same_pair pair (packets_of past))

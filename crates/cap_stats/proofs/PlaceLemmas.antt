@@ -1,8 +1,8 @@
 -- What stands in the layer of a place, and the places where something stands first or last.
-use Rattle.std.proofs.Common.{◌≡◌, ◌==◌, ◌||◌, ◌&&◌, ◌+◌, ◌<◌, ◌≤◌, ℕ, zero, suc, Bool, true, false, not, cond, List, [], ◌∷◌, length, take, reverse, get_or, slice_get, position, Option, Some, None, is_some, option_and_then, refl, sym, ap, ◌∙◌, arith}
+use Rattle.std.proofs.Common.{◌≡◌, ◌==◌, ◌||◌, ◌&&◌, ◌+◌, ◌<◌, ◌≤◌, ℕ, zero, suc, Bool, true, false, not, cond, List, [], ◌∷◌, length, take, reverse, get_or, slice_get, position, Option, Some, None, is_some, option_and_then, IfSome, refl, sym, ap, ◌∙◌, true≢false, arith}
 use Rattle.std.specs.Option.{option_map, option_map_or}
 use Rattle.std.specs.List.{find, position_or_len}
-use Rattle.std.specs.Prelude.{nat_lt}
+use Rattle.std.specs.Prelude.{Err, IfOk, Ok, Result, nat_lt}
 use Rattle.std.proofs.lemmas.Bool.{le-ltb, lt-ltb}
 use Rattle.std.proofs.lemmas.List.{reverse-append, take_more}
 use Rattle.std.proofs.lemmas.List.Folds.{find_at}
@@ -14,8 +14,10 @@ use Rattle.pk_source.proofs.LayerLaws.{proto_there}
 use Rattle.pk_source.specs.Found.{first_in}
 use Rattle.pk_tree.specs.Trees.{proto_at}
 use Rattle.pk_tree.specs.declared.layer.Layer.{Layer}
-use Rattle.cap_stats.specs.Places.{address_there, four_there, has_there, number_there, packet_there, packet_told, segment_there, segment_told, six_there}
-use Rattle.cap_stats.specs.Told.{address_in, four_in, four_of, has_addresses, has_stream, is_ip, length_of, number_in, number_of, packet_of, segment_of, six_in, six_of}
+use Rattle.cap_stats.specs.declared.party.Flight.{Flight}
+use Rattle.cap_stats.specs.Places.{address_there, both_in, both_told, four_there, has_there, number_there, segment_there, segment_told, six_there}
+use Rattle.cap_stats.specs.Steps.{packet_note}
+use Rattle.cap_stats.specs.Told.{address_in, four_in, four_of, has_addresses, has_stream, is_ip, host, length_of, number_in, number_of, packet_in, packet_of, pair_of, segment_of, six_in, six_of}
 
 -- a field's first value as a number or an address
 pub number_is : (layers : List Layer) (place field : ℕ) (value : Option Value) → value ≡ first_in field (slice_get layers place) → option_and_then number_of value ≡ number_there layers place field
@@ -135,9 +137,57 @@ segment_is layers header at = by (slice_get layers at) (slice_get layers header)
     by (Some layer) None = unaddressed (number_in TCP_STREAM layer) (number_in TCP_SRCPORT layer) (number_in TCP_DSTPORT layer)
     by (Some layer) (Some ip) = refl
 
-pub packet_is : (layers : List Layer) (at : ℕ) → packet_told (four_there layers at IP_SRC) (four_there layers at IP_DST) (length_of layers) ≡ packet_there layers at
-packet_is layers at = by (slice_get layers at)
+-- two addresses
+pub both_has : (a b : Option ℕ) → is_some (both_told a b) ≡ (is_some a && is_some b)
+both_has None b = refl
+both_has (Some source) None = refl
+both_has (Some source) (Some target) = refl
+
+pub both_is : (layers : List Layer) (place : ℕ) → both_told (four_there layers place IP_SRC) (four_there layers place IP_DST) ≡ option_and_then both_in (slice_get layers place)
+both_is layers place = by (slice_get layers place)
   where
-    by : (o : Option Layer) → packet_told (option_and_then (four_in IP_SRC) o) (option_and_then (four_in IP_DST) o) (length_of layers) ≡ option_and_then (packet_of layers) o
+    by : (o : Option Layer) → both_told (option_and_then (four_in IP_SRC) o) (option_and_then (four_in IP_DST) o) ≡ option_and_then both_in o
     by None = refl
     by (Some layer) = refl
+
+pub ok_has : {E : Type 0} (r : Result (Option (ℕ × ℕ)) E) (is : Option (ℕ × ℕ)) (has : Bool) → is_some is ≡ has → IfOk r (λ pair. pair ≡ is) → IfOk r (λ pair. is_some pair ≡ has)
+ok_has (Ok pair) is has e ok = ap is_some ok ∙ e
+ok_has (Err error) is has e ok = tt
+
+pub some_both : (pair is : Option (ℕ × ℕ)) → pair ≡ is → IfSome pair (λ both. Some both ≡ is)
+some_both None is e = tt
+some_both (Some both) is e = e
+
+abbrev packet_by : ℕ → ℕ × ℕ → (ℕ × ℕ) × Flight
+packet_by bytes pair = packet_note (record { source = pair.0; target = pair.1; bytes = bytes })
+
+abbrev way_between : Option ℕ → Option ℕ → ℕ → Option ((ℕ × ℕ) × Flight)
+way_between source target bytes =
+    option_and_then (λ s. option_and_then (λ t. Some (pair_of s t, record { from = host s; to = host t; bytes = bytes })) target) source
+
+pub packet_is : (layers : List Layer) (pair : ℕ × ℕ) (bytes : ℕ) → Some pair ≡ option_and_then both_in (find has_addresses layers) → bytes ≡ length_of layers
+    → Some (packet_by bytes pair) ≡ packet_in layers
+unfolding packet_in
+packet_is layers pair bytes e is = ap (λ (o : Option (ℕ × ℕ)). option_map (packet_by bytes) o) e ∙ by (find has_addresses layers)
+  where
+    told : (a b : Option ℕ) → option_map (packet_by bytes) (both_told a b) ≡ way_between a b (length_of layers)
+    told None b = refl
+    told (Some s) None = refl
+    told (Some s) (Some t) = ap (λ (n : ℕ). Some (packet_by n (s, t))) is
+
+    by : (o : Option Layer) → option_map (packet_by bytes) (option_and_then both_in o) ≡ option_and_then (packet_of layers) o
+    by None = refl
+    by (Some layer) = told (four_in IP_SRC layer) (four_in IP_DST layer)
+
+pub no_packet : (layers : List Layer) → None ≡ option_and_then both_in (find has_addresses layers) → None ≡ packet_in layers
+unfolding packet_in
+no_packet layers e = by (find has_addresses layers) e
+  where
+    none : (a b : Option ℕ) → None ≡ both_told a b → None ≡ way_between a b (length_of layers)
+    none None b e = refl
+    none (Some s) None e = refl
+    none (Some s) (Some t) e = absurd (true≢false (sym (ap (λ (o : Option (ℕ × ℕ)). is_some o) e)))
+
+    by : (o : Option Layer) → None ≡ option_and_then both_in o → None ≡ option_and_then (packet_of layers) o
+    by None e = refl
+    by (Some layer) e = none (four_in IP_SRC layer) (four_in IP_DST layer) e

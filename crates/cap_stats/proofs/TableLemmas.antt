@@ -12,8 +12,8 @@ use Rattle.cap_stats.specs.declared.party.Flight.{Flight}
 use Rattle.cap_stats.specs.declared.paths.Paths.{Paths}
 use Rattle.cap_stats.specs.declared.streams.Streams.{Streams}
 use Rattle.cap_stats.specs.Counts.{of_key, sizes_tally, talk_of}
-use Rattle.cap_stats.specs.Keys.{below, same_number, numbers_in, same_pair, pair_cmp, pairs_in, texts_in}
-use Rattle.cap_stats.specs.Stands.{HasStreams, HasPairs, HasPaths, numbers_of, talk_at, tally_at}
+use Rattle.cap_stats.specs.Keys.{below, same_number, numbers_in, same_pair, pairs_in, texts_in}
+use Rattle.cap_stats.specs.Stands.{HasStreams, HasPairs, HasPaths, numbers_of, pair_talk, talk_at, tally_at}
 use Rattle.cap_stats.specs.Tables.{table_with, stream_line, pair_line, path_line, streams_table, pairs_table, paths_table}
 use Rattle.cap_stats.proofs.StreamLemmas.{length_below}
 
@@ -74,11 +74,11 @@ line_written line keys at key before after whole inside written goes =
 
 pub pairs_made : (pairs : Pairs) (notes : List ((ℕ × ℕ) × Flight)) (count : ℕ) (text : List ℕ)
     → count ≡ length pairs.order.items
-    → text ≡ (codes "conv ip " ++ (decimal count ++ 10 ∷ [])) ++ flat_map (λ p. pair_line (tree.get pair_cmp pairs.all p)) pairs.order.items
+    → text ≡ (codes "conv ip " ++ (decimal count ++ 10 ∷ [])) ++ flat_map (λ p. pair_line (pair_talk pairs p)) pairs.order.items
     → HasPairs notes pairs → text ≡ pairs_table notes
 unfolding pairs_table
 pairs_made pairs notes count text counted written has =
-    made (codes "conv ip ") count pairs.order.items (pairs_in notes) (tree.get pair_cmp pairs.all) (λ p. talk_of (of_key same_pair p notes)) (λ p. pair_line) text
+    made (codes "conv ip ") count pairs.order.items (pairs_in notes) (pair_talk pairs) (λ p. talk_of (of_key same_pair p notes)) (λ p. pair_line) text
     has.keys_are counted has.talks written
 
 pub paths_made : (paths : Paths) (notes : List (List ℕ × ℕ)) (count : ℕ) (text : List ℕ)

@@ -36,11 +36,24 @@ pub record HasStreams (notes : List (ℕ × Flight)) (streams : Streams) : Type 
   pub keys_are : numbers_of streams ≡ numbers_in notes
   pub talks : (number : ℕ) → talk_at streams number ≡ talk_of (of_key same_number number notes)
 
+-- what was sent between two addresses
+abbrev pub pair_talk : Pairs → ℕ × ℕ → Option Talk
+pair_talk pairs pair =
+    option_and_then (slice_get pairs.talks.items) (tree.get pair_cmp pairs.all pair)
+
+-- each pair has its place in the order
+pub record AreInOrder (pairs : Pairs) : Type 0 where
+  pub found : (pair : ℕ × ℕ) (place : ℕ) → tree.get pair_cmp pairs.all pair ≡ Some place
+      → slice_get pairs.order.items place ≡ Some pair
+  pub known : (pair : ℕ × ℕ) (place : ℕ) → slice_get pairs.order.items place ≡ Some pair
+      → tree.get pair_cmp pairs.all pair ≡ Some place
+  pub count : length pairs.talks.items ≡ length pairs.order.items
+
 -- the pairs of packets
 pub record HasPairs (notes : List ((ℕ × ℕ) × Flight)) (pairs : Pairs) : Type 0 where
   pub keys_are : pairs.order.items ≡ pairs_in notes
-  pub talks : (pair : ℕ × ℕ) → tree.get pair_cmp pairs.all pair
-      ≡ talk_of (of_key same_pair pair notes)
+  pub talks : (pair : ℕ × ℕ) → pair_talk pairs pair ≡ talk_of (of_key same_pair pair notes)
+  pub places : AreInOrder pairs
 
 -- what is counted of a path
 abbrev pub tally_at : Paths → List ℕ → Option Tally

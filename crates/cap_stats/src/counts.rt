@@ -1,7 +1,7 @@
 // Frames and bytes, and how one more frame changes them.
 ghost use Rattle.std.specs.Prelude.{◌≡◌, ◌<◌, ◌^◌, IfSome};
 ghost use Rattle.cap_stats.specs.Few.{HasRoom, HasTalkRoom};
-ghost use Rattle.cap_stats.specs.Steps.{tally_with, tally_after, talk_with, first_talk};
+ghost use Rattle.cap_stats.specs.Steps.{tally_with, tally_after, talk_by, first_talk};
 
 use crate::party::{Flight, Party, is_same};
 
@@ -24,6 +24,7 @@ pub(crate) struct Talk {
 }
 
 /// A tally with one more frame.
+#[inline(always)]
 fn tally_with(tally: Tally, bytes: u64) -> Tally
     requires room { HasRoom tally }
     requires short { bytes < 2 ^ 32 }
@@ -47,16 +48,17 @@ pub(crate) fn tally_after(tally: Option<Tally>, bytes: u64) -> Tally
     }
 }
 
-/// A conversation gets one more flight.
-pub(crate) fn raise_talk(talk: &mut Talk, flight: &Flight)
+/// A conversation gets one more frame, which an end sent.
+#[inline(always)]
+pub(crate) fn raise_talk(talk: &mut Talk, from: &Party, bytes: u64)
     requires room { HasTalkRoom talk.old }
-    requires short { flight.now.bytes < 2 ^ 32 }
-    ensures { talk.new ≡ talk_with talk.old flight.now }
+    requires short { bytes < 2 ^ 32 }
+    ensures { talk.new ≡ talk_by talk.old from.now bytes }
 {
-    if is_same(&flight.from, &talk.from) {
-        talk.there = tally_with(talk.there, flight.bytes);
+    if is_same(from, &talk.from) {
+        talk.there = tally_with(talk.there, bytes);
     } else {
-        talk.back = tally_with(talk.back, flight.bytes);
+        talk.back = tally_with(talk.back, bytes);
     }
 }
 

@@ -1,22 +1,30 @@
 // What the tables read in the headers of a frame that has no tree.
-ghost use Rattle.std.specs.Prelude.{◌≡◌, ◌<◌, ◌==◌, ◌||◌, ◌&&◌, IfOk, IfSome, is_some, length, option_and_then, position, reverse, take};
+ghost use Rattle.std.specs.Prelude.{◌≡◌, ◌<◌, ◌==◌, ◌||◌, Some, IfOk, IfSome, is_some, length, option_and_then, position, reverse, take};
 ghost use Rattle.std.specs.List.{find, slice_get};
 ghost use Rattle.std.specs.Option.{option_map};
 ghost use Rattle.pk_base.specs.declared.heads.Address.TheVariants.{Four as FourValue, Six as SixValue};
 ghost use Rattle.pk_fields.specs.Ids.{IP, IPV6, IP_DST, IP_SRC, IPV6_DST, IPV6_SRC, TCP_DSTPORT, TCP_SRCPORT, TCP_STREAM};
-ghost use Rattle.cap_stats.specs.Places.{address_there, four_there, has_there, number_there, packet_there, packet_told, segment_there, segment_told, six_there};
+ghost use Rattle.cap_stats.specs.Places.{IsNumbered, address_there, both_in, both_told, four_there, has_there, number_there, segment_there, segment_told, six_there};
+ghost use Rattle.cap_stats.specs.Steps.{packet_note};
 ghost use Rattle.cap_stats.specs.Told.{four_of as four_value, has_addresses as shows_addresses, has_stream as shows_stream, is_ip as is_ip_layer, length_of as bytes_of, number_of as number_value, packet_in, segment_at as segment_value, six_of as six_value, stream_in};
+ghost use Rattle.cap_stats.specs.declared.headers.Numbered.{Numbered as NumberedValue};
 
-use crate::party::Flight;
-use crate::told::{host, pair_of, party_at};
+use crate::party::{Flight, Packet};
+use crate::told::party_at;
 use pk_base::{Address, NoMemory, Value};
 use pk_fields::{FieldId, ids};
 use pk_source::Outline;
 
-/// The stream of a segment, and its ports.
+/// The first layer with a stream's number.
+#[derive(Clone, Copy)]
+pub(crate) struct Numbered {
+    pub place: usize,
+    pub stream: u64,
+}
+
+/// The ports of a segment.
 #[derive(Clone, Copy)]
 struct Ports {
-    stream: Option<u64>,
     from: Option<u64>,
     to: Option<u64>,
 }
@@ -33,54 +41,74 @@ struct Ends {
 pub(crate) fn stream_in(outline: &Outline<'_>) -> Result<Option<(u64, Flight)>, NoMemory>
     ensures { IfOk result (λ note. note ≡ stream_in outline.now.layers) }
 {
-    match stream_place(outline)? {
-        Some(at) => segment_at(outline, at),
+    match first_stream(outline)? {
+        Some(found) => segment_at(outline, found),
         None => Ok(None),
     }
 }
 
-/// The place of the first layer with a stream's number.
-fn stream_place(outline: &Outline<'_>) -> Result<Option<usize>, NoMemory>
-    ensures place { IfOk result (λ at. at ≡ position shows_stream outline.now.layers) }
-    ensures within { IfOk result (λ at. IfSome at (λ place. place < length outline.now.layers)) }
+/// The first layer with a stream's number, and the number.
+fn first_stream(outline: &Outline<'_>) -> Result<Option<Numbered>, NoMemory>
+    ensures place { IfOk result (λ found. option_map (λ (numbered : NumberedValue). numbered.place) found
+        ≡ position shows_stream outline.now.layers) }
+    ensures found { IfOk result (λ found. IfSome found (IsNumbered outline.now.layers)) }
 {
     for place in 0..outline.layer_count() {
-        if has_stream(outline, place)? {
-            return Ok(Some(place));
+        if let Some(stream) = stream_at(outline, place)? {
+            return Ok(Some(Numbered { place, stream }));
         }
     }
     Ok(None)
 }
 
-fn segment_at(outline: &Outline<'_>, at: usize) -> Result<Option<(u64, Flight)>, NoMemory>
-    requires { at < length outline.now.layers }
-    ensures { IfOk result (λ note. note ≡ segment_value outline.now.layers at) }
+/// The stream's number in the layer at a place.
+#[inline(always)]
+fn stream_at(outline: &Outline<'_>, place: usize) -> Result<Option<u64>, NoMemory>
+    requires { place < length outline.now.layers }
+    ensures { IfOk result (λ stream.
+        stream ≡ number_there outline.now.layers place TCP_STREAM) }
 {
-    match last_ip(outline, at) {
-        Some(header) => segment_of(outline, header, at),
+    if outline.protocol(place) == ids::TCP {
+        number_at(outline, place, ids::TCP_STREAM)
+    } else {
+        outline.fits();
+        Ok(None)
+    }
+}
+
+#[inline(always)]
+fn segment_at(outline: &Outline<'_>, found: Numbered) -> Result<Option<(u64, Flight)>, NoMemory>
+    requires { IsNumbered outline.now.layers found }
+    ensures { IfOk result (λ note. note ≡ segment_value outline.now.layers found.place) }
+{
+    match last_ip(outline, found.place) {
+        Some(header) => segment_of(outline, header, found),
         None => Ok(None),
     }
 }
 
 /// The segment at a place, behind the IP header at another.
+#[inline(always)]
 fn segment_of(
     outline: &Outline<'_>,
     header: usize,
-    at: usize,
+    found: Numbered,
 ) -> Result<Option<(u64, Flight)>, NoMemory>
-    requires { header < length outline.now.layers }
-    ensures { IfOk result (λ note. note ≡ segment_there outline.now.layers header at) }
+    requires header { header < length outline.now.layers }
+    requires found { IsNumbered outline.now.layers found }
+    ensures { IfOk result (λ note. note ≡ segment_there outline.now.layers header found.place) }
 {
-    let ports = ports_at(outline, at)?;
+    let ports = ports_at(outline, found.place)?;
     let ends = ends_at(outline, header)?;
     let bytes = length_of(outline)?;
-    Ok(segment_told(ports, ends, bytes))
+    Ok(segment_told(found.stream, ports, ends, bytes))
 }
 
-fn segment_told(ports: Ports, ends: Ends, bytes: u64) -> Option<(u64, Flight)>
-    ensures { result ≡ segment_told ports.stream ends.source ends.target ports.from ports.to bytes }
+#[inline(always)]
+fn segment_told(stream: u64, ports: Ports, ends: Ends, bytes: u64) -> Option<(u64, Flight)>
+    ensures { result
+        ≡ segment_told (Some stream) ends.source ends.target ports.from ports.to bytes }
 {
-    let stream = ports.stream?;
     let source = ends.source?;
     let target = ends.target?;
     let from = ports.from?;
@@ -93,20 +121,19 @@ fn segment_told(ports: Ports, ends: Ends, bytes: u64) -> Option<(u64, Flight)>
     Some((stream, flight))
 }
 
+#[inline(always)]
 fn ports_at(outline: &Outline<'_>, place: usize) -> Result<Ports, NoMemory>
-    ensures stream { IfOk result (λ ports.
-        ports.stream ≡ number_there outline.now.layers place TCP_STREAM) }
     ensures from { IfOk result (λ ports.
         ports.from ≡ number_there outline.now.layers place TCP_SRCPORT) }
     ensures to { IfOk result (λ ports.
         ports.to ≡ number_there outline.now.layers place TCP_DSTPORT) }
 {
-    let stream = number_at(outline, place, ids::TCP_STREAM)?;
     let from = number_at(outline, place, ids::TCP_SRCPORT)?;
     let to = number_at(outline, place, ids::TCP_DSTPORT)?;
-    Ok(Ports { stream, from, to })
+    Ok(Ports { from, to })
 }
 
+#[inline(always)]
 fn ends_at(outline: &Outline<'_>, place: usize) -> Result<Ends, NoMemory>
     requires { place < length outline.now.layers }
     ensures source { IfOk result (λ ends.
@@ -120,52 +147,70 @@ fn ends_at(outline: &Outline<'_>, place: usize) -> Result<Ends, NoMemory>
 }
 
 /// The packet that headers show.
-#[tactic(auto, unfolding(crate::specs::Told::packet_in))]
-pub(crate) fn packet_in(outline: &Outline<'_>) -> Result<Option<((u32, u32), Flight)>, NoMemory>
-    ensures { IfOk result (λ note. note ≡ packet_in outline.now.layers) }
+pub(crate) fn packet_in(outline: &Outline<'_>) -> Result<Option<Packet>, NoMemory>
+    ensures { IfOk result (λ packet.
+        option_map packet_note packet ≡ packet_in outline.now.layers) }
 {
-    match pair_place(outline)? {
-        Some(at) => packet_of(outline, at),
-        None => Ok(None),
-    }
+    let Some((source, target)) = first_pair(outline)? else {
+        return Ok(None);
+    };
+    let bytes = length_of(outline)?;
+    Ok(Some(Packet {
+        source,
+        target,
+        bytes,
+    }))
 }
 
-/// The place of the first IPv4 header that has both addresses.
-fn pair_place(outline: &Outline<'_>) -> Result<Option<usize>, NoMemory>
-    ensures { IfOk result (λ at. option_and_then (slice_get outline.now.layers) at
-        ≡ find shows_addresses outline.now.layers) }
+/// The addresses of the first IPv4 header that has both.
+fn first_pair(outline: &Outline<'_>) -> Result<Option<(u32, u32)>, NoMemory>
+    ensures { IfOk result (λ pair.
+        pair ≡ option_and_then both_in (find shows_addresses outline.now.layers)) }
 {
     for place in 0..outline.layer_count() {
-        if has_addresses(outline, place)? {
-            return Ok(Some(place));
+        if let Some(pair) = pair_at(outline, place)? {
+            return Ok(Some(pair));
         }
     }
     Ok(None)
 }
 
-fn packet_of(outline: &Outline<'_>, at: usize) -> Result<Option<((u32, u32), Flight)>, NoMemory>
-    ensures { IfOk result (λ note. note ≡ packet_there outline.now.layers at) }
+/// Both addresses of the layer at a place, if it is an IPv4 header that has them.
+#[inline(always)]
+fn pair_at(outline: &Outline<'_>, place: usize) -> Result<Option<(u32, u32)>, NoMemory>
+    requires { place < length outline.now.layers }
+    ensures has { IfOk result (λ pair.
+        is_some pair ≡ has_there shows_addresses outline.now.layers place) }
+    ensures pair { IfOk result (λ pair. IfSome pair (λ both.
+        Some both ≡ option_and_then both_in (slice_get outline.now.layers place))) }
 {
-    let source = four_at(outline, at, ids::IP_SRC)?;
-    let target = four_at(outline, at, ids::IP_DST)?;
-    let bytes = length_of(outline)?;
-    Ok(packet_told(source, target, bytes))
+    if outline.protocol(place) == ids::IP {
+        both_at(outline, place)
+    } else {
+        Ok(None)
+    }
 }
 
-fn packet_told(source: Option<u32>, target: Option<u32>, bytes: u64) -> Option<((u32, u32), Flight)>
-    ensures { result ≡ packet_told source target bytes }
+/// Both addresses of the layer at a place.
+#[inline(always)]
+fn both_at(outline: &Outline<'_>, place: usize) -> Result<Option<(u32, u32)>, NoMemory>
+    ensures { IfOk result (λ pair. pair
+        ≡ both_told (four_there outline.now.layers place IP_SRC) (four_there outline.now.layers place IP_DST)) }
 {
-    let source = source?;
-    let target = target?;
-    let flight = Flight {
-        from: host(source),
-        to: host(target),
-        bytes,
-    };
-    Some((pair_of(source, target), flight))
+    let source = four_at(outline, place, ids::IP_SRC)?;
+    let target = four_at(outline, place, ids::IP_DST)?;
+    Ok(both_of(source, target))
+}
+
+#[inline(always)]
+fn both_of(source: Option<u32>, target: Option<u32>) -> Option<(u32, u32)>
+    ensures { result ≡ both_told source target }
+{
+    Some((source?, target?))
 }
 
 /// A frame's length on the wire, which its first layer has.
+#[inline(always)]
 #[tactic(auto, unfolding(crate::specs::Told::length_of))]
 pub(crate) fn length_of(outline: &Outline<'_>) -> Result<u64, NoMemory>
     ensures { IfOk result (λ bytes. bytes ≡ bytes_of outline.now.layers) }
@@ -197,48 +242,8 @@ fn is_ip(proto: FieldId) -> bool
     proto == ids::IP || proto == ids::IPV6
 }
 
-fn has_stream(outline: &Outline<'_>, place: usize) -> Result<bool, NoMemory>
-    requires { place < length outline.now.layers }
-    ensures { IfOk result (λ has. has ≡ has_there shows_stream outline.now.layers place) }
-{
-    if outline.protocol(place) == ids::TCP {
-        has_number(outline, place)
-    } else {
-        outline.fits();
-        Ok(false)
-    }
-}
-
-/// Whether the layer at a place has a stream's number.
-fn has_number(outline: &Outline<'_>, place: usize) -> Result<bool, NoMemory>
-    ensures { IfOk result (λ has. has ≡ has_there shows_stream outline.now.layers place) }
-{
-    let stream = number_at(outline, place, ids::TCP_STREAM)?;
-    Ok(stream.is_some())
-}
-
-fn has_addresses(outline: &Outline<'_>, place: usize) -> Result<bool, NoMemory>
-    requires { place < length outline.now.layers }
-    ensures { IfOk result (λ has. has ≡ has_there shows_addresses outline.now.layers place) }
-{
-    if outline.protocol(place) == ids::IP {
-        has_both(outline, place)
-    } else {
-        Ok(false)
-    }
-}
-
-/// Whether the layer at a place has both addresses.
-fn has_both(outline: &Outline<'_>, place: usize) -> Result<bool, NoMemory>
-    ensures { IfOk result (λ has. has ≡ (is_some (four_there outline.now.layers place IP_SRC)
-        && is_some (four_there outline.now.layers place IP_DST))) }
-{
-    let source = four_at(outline, place, ids::IP_SRC)?;
-    let target = four_at(outline, place, ids::IP_DST)?;
-    Ok(source.is_some() && target.is_some())
-}
-
 /// An address of an IP header, in the field of its version.
+#[inline(always)]
 fn address_at(
     outline: &Outline<'_>,
     place: usize,

@@ -5,7 +5,7 @@ ghost use Rattle.cap_stats.specs.Tables.{address_text, port_text, party_text, ta
 use crate::counts::{Talk, Tally};
 use crate::party::Party;
 use pk_base::{Address, NoMemory};
-use pk_text::{TextSink, ip6_text, put_ip4, put_number};
+use pk_text::{Decimal, Slab, TextSink, ip6_text, put_ip4, put_number};
 use std::alloc::Global;
 
 /// A table's first line: its name, and how many lines follow.
@@ -27,67 +27,65 @@ pub(crate) fn put_count(text: &mut Vec<u8>, counted: &str, count: u64) -> Result
 }
 
 /// Appends both ends of a conversation, and what they sent.
-pub(crate) fn put_talk(alloc: Global, text: &mut Vec<u8>, talk: &Talk) -> Result<(), NoMemory>
-    ensures { OnOk result (text.new.items ≡ text.old.items ++ talk_text talk.now) }
+pub(crate) fn put_talk(alloc: Global, line: &mut Slab, talk: &Talk) -> Result<(), NoMemory>
+    ensures { OnOk result (line.new ≡ line.old ++ talk_text talk.now) }
 {
-    put_ends(alloc, text, talk)?;
-    put_tallies(text, talk)
+    put_ends(alloc, line, talk)?;
+    put_tallies(line, talk)
 }
 
-fn put_ends(alloc: Global, text: &mut Vec<u8>, talk: &Talk) -> Result<(), NoMemory>
-    ensures { OnOk result (text.new.items ≡ text.old.items ++ ends_text talk.now) }
+fn put_ends(alloc: Global, line: &mut Slab, talk: &Talk) -> Result<(), NoMemory>
+    ensures { OnOk result (line.new ≡ line.old ++ ends_text talk.now) }
 {
-    put_party(alloc, text, &talk.from)?;
-    put_party(alloc, text, &talk.to)
+    put_party(alloc, line, &talk.from)?;
+    put_party(alloc, line, &talk.to)
 }
 
-fn put_tallies(text: &mut Vec<u8>, talk: &Talk) -> Result<(), NoMemory>
-    ensures { OnOk result (text.new.items ≡ text.old.items ++ tallies_text talk.now) }
+fn put_tallies(line: &mut Slab, talk: &Talk) -> Result<(), NoMemory>
+    ensures { OnOk result (line.new ≡ line.old ++ tallies_text talk.now) }
 {
-    put_tally(text, &talk.there, b' ')?;
-    put_tally(text, &talk.back, b'\n')
+    put_tally(line, &talk.there, b' ')?;
+    put_tally(line, &talk.back, b'\n')
 }
 
 /// Appends an end, and a space.
-fn put_party(alloc: Global, text: &mut Vec<u8>, party: &Party) -> Result<(), NoMemory>
-    ensures { OnOk result (text.new.items
-        ≡ text.old.items ++ (party_text party.now ++ codes " ")) }
+fn put_party(alloc: Global, line: &mut Slab, party: &Party) -> Result<(), NoMemory>
+    ensures { OnOk result (line.new
+        ≡ line.old ++ (party_text party.now ++ codes " ")) }
 {
-    put_address(alloc, text, party.address)?;
-    put_port(text, party.port)?;
-    text.push(b' ')?;
-    Ok(())
+    put_address(alloc, line, party.address)?;
+    put_port(line, party.port)?;
+    line.put_byte(b' ')
 }
 
-fn put_address(alloc: Global, text: &mut Vec<u8>, address: Address) -> Result<(), NoMemory>
-    ensures { OnOk result (text.new.items ≡ text.old.items ++ address_text address) }
+fn put_address(alloc: Global, line: &mut Slab, address: Address) -> Result<(), NoMemory>
+    ensures { OnOk result (line.new ≡ line.old ++ address_text address) }
 {
     match address {
-        Address::Four(address) => put_ip4(text, address),
-        Address::Six(address) => text.put_text(ip6_text(alloc, address)?.as_str()),
+        Address::Four(address) => put_ip4(line, address),
+        Address::Six(address) => line.put_text(ip6_text(alloc, address)?.as_str()),
     }
 }
 
-fn put_port(text: &mut Vec<u8>, port: Option<u64>) -> Result<(), NoMemory>
-    ensures { OnOk result (text.new.items ≡ text.old.items ++ port_text port) }
+fn put_port(line: &mut Slab, port: Option<u64>) -> Result<(), NoMemory>
+    ensures { OnOk result (line.new ≡ line.old ++ port_text port) }
 {
     match port {
         None => Ok(()),
         Some(port) => {
-            text.push(b' ')?;
-            put_number(text, port)
+            line.put_byte(b' ')?;
+            line.put_short(&Decimal(port))
         }
     }
 }
 
 /// Appends a tally, and what stands behind it.
-fn put_tally(text: &mut Vec<u8>, tally: &Tally, behind: u8) -> Result<(), NoMemory>
-    ensures { OnOk result (text.new.items
-        ≡ text.old.items ++ (tally_text tally.now ++ behind ∷ [])) }
+fn put_tally(line: &mut Slab, tally: &Tally, behind: u8) -> Result<(), NoMemory>
+    ensures { OnOk result (line.new
+        ≡ line.old ++ (tally_text tally.now ++ behind ∷ [])) }
 {
-    put_number(text, tally.frames)?;
-    text.push(b' ')?;
-    put_number(text, tally.bytes)?;
-    text.push(behind)?;
-    Ok(())
+    line.put_short(&Decimal(tally.frames))?;
+    line.put_byte(b' ')?;
+    line.put_short(&Decimal(tally.bytes))?;
+    line.put_byte(behind)
 }

@@ -19,13 +19,24 @@ pub(crate) struct Flight {
     pub bytes: u64,
 }
 
+/// A packet from one IPv4 address to another.
+#[derive(Clone, Copy)]
+pub(crate) struct Packet {
+    pub source: u32,
+    pub target: u32,
+    /// The frame's length on the wire.
+    pub bytes: u64,
+}
+
 /// Whether two ends are one.
+#[inline(always)]
 pub(crate) fn is_same(one: &Party, other: &Party) -> bool
     ensures { result ≡ is_same one.now other.now }
 {
     is_same_address(one.address, other.address) && is_same_port(one.port, other.port)
 }
 
+#[inline(always)]
 fn is_same_address(one: Address, other: Address) -> bool
     ensures { result ≡ is_same_address one other }
 {
@@ -36,6 +47,7 @@ fn is_same_address(one: Address, other: Address) -> bool
     }
 }
 
+#[inline(always)]
 fn is_same_port(one: Option<u64>, other: Option<u64>) -> bool
     ensures { result ≡ is_same_port one other }
 {

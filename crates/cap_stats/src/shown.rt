@@ -1,8 +1,10 @@
 // What the tables read of a frame, by whatever answers for it.
 ghost use Rattle.std.specs.Prelude.{◌≡◌, IfOk};
+ghost use Rattle.std.specs.Option.{option_map};
+ghost use Rattle.cap_stats.specs.Steps.{packet_note};
 ghost use Rattle.cap_stats.specs.Told.{length_of as bytes_of, packet_in as packet_value, stream_in as stream_value};
 
-use crate::party::Flight;
+use crate::party::{Flight, Packet};
 use crate::{headers, told};
 use pk_base::NoMemory;
 use pk_source::{Lender, Source};
@@ -18,8 +20,9 @@ pub(crate) fn stream_in(source: &Source<'_>) -> Result<Option<(u64, Flight)>, No
 }
 
 /// The packet that a frame shows.
-pub(crate) fn packet_in(source: &Source<'_>) -> Result<Option<((u32, u32), Flight)>, NoMemory>
-    ensures { IfOk result (λ note. note ≡ packet_value source.now.layers) }
+pub(crate) fn packet_in(source: &Source<'_>) -> Result<Option<Packet>, NoMemory>
+    ensures { IfOk result (λ packet.
+        option_map packet_note packet ≡ packet_value source.now.layers) }
 {
     match source.lender() {
         Lender::Tree(tree) => Ok(told::packet_in(tree.layers())),

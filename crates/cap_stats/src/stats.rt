@@ -152,7 +152,7 @@ fn add_pair(pairs: &mut Pairs, source: &Source<'_>) -> Result<(), NoMemory>
         → HasPairs (with_note (packet_of source.now.layers) notes) pairs.new) }
 {
     match packet_in(source)? {
-        Some((pair, flight)) => pairs.add(pair, &flight),
+        Some(packet) => pairs.add(packet),
         None => Ok(()),
     }
 }

@@ -13,7 +13,7 @@ use crate::counts::{Talk, first_talk, raise_talk};
 use crate::lines::{begin_table, put_talk};
 use crate::party::Flight;
 use pk_base::NoMemory;
-use pk_text::put_number;
+use pk_text::{Decimal, Slab};
 use std::alloc::Global;
 use std::collections::BTreeMap;
 
@@ -72,7 +72,7 @@ impl Streams {
     {
         let place = number as usize;
         if place < self.first.len() {
-            raise_talk(&mut self.first[place], flight);
+            raise_talk(&mut self.first[place], &flight.from, flight.bytes);
             true
         } else {
             self.raise_rest(number, flight)
@@ -92,7 +92,7 @@ impl Streams {
     {
         match self.rest.get_mut(&number) {
             Some(talk) => {
-                raise_talk(talk, flight);
+                raise_talk(talk, &flight.from, flight.bytes);
                 true
             }
             None => false,
@@ -150,8 +150,9 @@ fn put_first(alloc: Global, text: &mut Vec<u8>, streams: &Streams) -> Result<(),
         ≡ text.old.items ++ flat_map (λ n. stream_line n (talk_at streams.now n))
         (below (length streams.now.first.items))) }
 {
+    let mut line = Slab::new(alloc);
     for number in 0..streams.first.len() as u64 {
-        put_stream(alloc, text, number, streams.talk(number))?;
+        put_stream(alloc, text, &mut line, number, streams.talk(number))?;
     }
     Ok(())
 }
@@ -162,15 +163,18 @@ fn put_rest(alloc: Global, text: &mut Vec<u8>, streams: &Streams) -> Result<(), 
         ≡ text.old.items ++ flat_map (λ n. stream_line n (talk_at streams.now n))
         (keys streams.now.rest)) }
 {
+    let mut line = Slab::new(alloc);
     for number in streams.rest.keys() {
-        put_stream(alloc, text, *number, streams.talk(*number))?;
+        put_stream(alloc, text, &mut line, *number, streams.talk(*number))?;
     }
     Ok(())
 }
 
+/// Appends the line of a stream, which is put together beside the text.
 fn put_stream(
     alloc: Global,
     text: &mut Vec<u8>,
+    line: &mut Slab,
     number: u64,
     talk: Option<&Talk>,
 ) -> Result<(), NoMemory>
@@ -180,9 +184,12 @@ fn put_stream(
     match talk {
         None => Ok(()),
         Some(talk) => {
-            put_number(text, number)?;
-            text.push(b' ')?;
-            put_talk(alloc, text, talk)
+            line.clear();
+            line.put_short(&Decimal(number))?;
+            line.put_byte(b' ')?;
+            put_talk(alloc, line, talk)?;
+            text.extend_from_slice(line.text())?;
+            Ok(())
         }
     }
 }

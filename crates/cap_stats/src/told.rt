@@ -1,11 +1,12 @@
 // What the tables read in the tree of a frame.
 ghost use Rattle.std.specs.Prelude.{◌≡◌, ◌<◌, reverse, length, position, IfSome};
-ghost use Rattle.std.specs.Option.{option_copied};
+ghost use Rattle.std.specs.Option.{option_copied, option_map};
 ghost use Rattle.std.specs.List.{find};
 ghost use Rattle.pk_tree.specs.FieldValues.{item_values};
+ghost use Rattle.cap_stats.specs.Steps.{packet_note};
 ghost use Rattle.cap_stats.specs.Told.{first_value, number_in, four_in, six_in, address_in, length_of, is_ip as is_ip_layer, has_stream as shows_stream, party_at as party_value, segment_of, segment_at, stream_in, has_addresses as shows_addresses, pair_of as pair_value, host as host_value, packet_of, packet_in};
 
-use crate::party::{Flight, Party};
+use crate::party::{Flight, Packet, Party};
 use pk_base::{Address, Value};
 use pk_fields::{FieldId, ids};
 use pk_tree::{Item, Layer};
@@ -52,26 +53,25 @@ fn segment_of(layers: &[Layer], header: &Layer, layer: &Layer) -> Option<(u64, F
     Some((stream, flight))
 }
 
-/// The packet that a tree shows: the addresses of its first IPv4 header that has both, and its way between them.
+/// The packet that a tree shows: from and to the addresses of its first IPv4 header that has both.
 #[tactic(auto, unfolding(crate::specs::Told::packet_in))]
-pub(crate) fn packet_in(layers: &[Layer]) -> Option<((u32, u32), Flight)>
-    ensures { result ≡ packet_in layers.now }
+pub(crate) fn packet_in(layers: &[Layer]) -> Option<Packet>
+    ensures { option_map packet_note result ≡ packet_in layers.now }
 {
     let layer = first_pair(layers)?;
     packet_of(layers, layer)
 }
 
-fn packet_of(layers: &[Layer], layer: &Layer) -> Option<((u32, u32), Flight)>
-    ensures { result ≡ packet_of layers.now layer.now }
+fn packet_of(layers: &[Layer], layer: &Layer) -> Option<Packet>
+    ensures { option_map packet_note result ≡ packet_of layers.now layer.now }
 {
     let source = four_in(layer, ids::IP_SRC)?;
     let target = four_in(layer, ids::IP_DST)?;
-    let flight = Flight {
-        from: host(source),
-        to: host(target),
+    Some(Packet {
+        source,
+        target,
         bytes: length_of(layers),
-    };
-    Some((pair_of(source, target), flight))
+    })
 }
 
 /// A frame's length on the wire, which its first layer has.
@@ -122,6 +122,7 @@ fn has_addresses(layer: &Layer) -> bool
         && four_in(layer, ids::IP_DST).is_some()
 }
 
+#[inline(always)]
 pub(crate) fn party_at(address: Address, port: u64) -> Party
     ensures { result ≡ party_value address port }
 {
@@ -131,6 +132,7 @@ pub(crate) fn party_at(address: Address, port: u64) -> Party
     }
 }
 
+#[inline(always)]
 pub(crate) fn host(address: u32) -> Party
     ensures { result ≡ host_value address }
 {
@@ -141,6 +143,7 @@ pub(crate) fn host(address: u32) -> Party
 }
 
 /// Two addresses, whichever of them sends.
+#[inline(always)]
 pub(crate) fn pair_of(source: u32, target: u32) -> (u32, u32)
     ensures { result ≡ pair_value source target }
 {

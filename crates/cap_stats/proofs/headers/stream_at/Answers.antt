@@ -2,7 +2,7 @@ use Rattle.std.proofs.Common.{◌≡◌, ◌==◌, ℕ, false, sym, ap, ◌∙�
 use Rattle.pk_fields.specs.Ids.{TCP}
 use Rattle.pk_tree.specs.Trees.{proto_at}
 use Rattle.cap_stats.proofs.Elsewhere.{no_stream_there}
-use Rattle.cap_stats.proofs.headers.has_stream.Goals as goal
+use Rattle.cap_stats.proofs.headers.stream_at.Goals as goal
 
 pub returns-else-eq : goal.returns-else-eq
 returns-else-eq c =
