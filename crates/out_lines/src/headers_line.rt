@@ -1,5 +1,5 @@
 // The line of what a frame's headers have: each value is appended where it is read, without a column of its own.
-ghost use Rattle.std.specs.Prelude.{◌≡◌, ◌+◌, ◌-◌, ◌++◌, ◌∷◌, [], length, slice_get, IfOk, OnOk};
+ghost use Rattle.std.specs.Prelude.{◌≡◌, ◌+◌, ◌-◌, ◌++◌, ◌∷◌, [], true, length, slice_get, IfOk, OnOk};
 ghost use Rattle.std.specs.Option.{option_map};
 ghost use Rattle.std.specs.List.{flat_map, join_by};
 ghost use Rattle.out_lines.specs.Joined.{IsTextPut, all_values, behind, joined, further, shown_at, shown_first};
@@ -13,7 +13,7 @@ use crate::value_text::{put_read, put_shown};
 use pk_base::{Layers, NoMemory};
 use pk_fields::FieldId;
 use pk_source::{First, Outline};
-use pk_text::{Slab, put_number, put_time};
+use pk_text::{Decimal, Slab, put_time};
 
 /// Appends the line of some fields. What stands in quotes is made in a text of its own, whose memory is used again.
 #[tactic(auto, unfolding(crate::specs::Lines::field_line_of))]
@@ -60,11 +60,60 @@ fn put_further(
     ensures { OnOk result (line.new ≡ line.old ++ flat_map (λ field.
         style.now.separator ∷ column_text outline.now style.now field) fields.now) }
 {
+    if is_plain(style) {
+        return put_further_plain(line, outline, fields, style);
+    }
     for field in fields {
         line.put_byte(style.separator)?;
         put_column(line, spare, outline, *field, style)?;
     }
     Ok(())
+}
+
+/// Whether columns have all values, and stand in no quotes, as most do.
+fn is_plain(style: &Style) -> bool
+    ensures quote { result ≡ true → style.now.quote ≡ Quote.None }
+    ensures all { result ≡ true → style.now.occurrence ≡ Occurrence.All }
+{
+    match (style.quote, style.occurrence) {
+        (Quote::None, Occurrence::All) => true,
+        _ => false,
+    }
+}
+
+/// The same of plain columns: what puts a column stands in the loop.
+fn put_further_plain(
+    line: &mut Slab,
+    outline: &Outline<'_>,
+    fields: &[FieldId],
+    style: &Style,
+) -> Result<(), NoMemory>
+    requires quote { style.now.quote ≡ Quote.None }
+    requires all { style.now.occurrence ≡ Occurrence.All }
+    ensures { OnOk result (line.new ≡ line.old ++ flat_map (λ field.
+        style.now.separator ∷ column_text outline.now style.now field) fields.now) }
+{
+    for field in fields {
+        line.put_byte(style.separator)?;
+        put_plain(line, outline, *field, style)?;
+    }
+    Ok(())
+}
+
+#[inline(always)]
+#[tactic(auto, unfolding(crate::specs::Lines::column_text))]
+fn put_plain(
+    line: &mut Slab,
+    outline: &Outline<'_>,
+    field: FieldId,
+    style: &Style,
+) -> Result<(), NoMemory>
+    requires quote { style.now.quote ≡ Quote.None }
+    requires all { style.now.occurrence ≡ Occurrence.All }
+    ensures { OnOk result (line.new
+        ≡ line.old ++ column_text outline.now style.now field) }
+{
+    put_all_here(line, outline, field, style.aggregator)
 }
 
 #[tactic(auto, unfolding(crate::specs::Lines::column_text))]
@@ -85,6 +134,7 @@ fn put_column(
 }
 
 /// A column in quotes, where the field has a value.
+#[inline(never)]
 #[tactic(auto, unfolding(crate::specs::Lines::column_text))]
 fn put_in_quotes(
     line: &mut Slab,
@@ -131,7 +181,7 @@ fn put_first(line: &mut Slab, field: FieldId, first: First<'_>) -> Result<(), No
     match first {
         First::Nothing => Ok(()),
         First::Bytes(bytes) => put_read(line, field, bytes),
-        First::Number(number) => put_number(line, number),
+        First::Number(number) => line.put_short(&Decimal(number)),
         First::Moment(time) => put_time(line, time),
     }
 }
@@ -182,7 +232,21 @@ fn number_behind(number: usize) -> Result<usize, NoMemory>
 }
 
 /// All values of a field, joined by the aggregator.
+#[inline(never)]
 fn put_all(
+    line: &mut Slab,
+    outline: &Outline<'_>,
+    field: FieldId,
+    aggregator: u8,
+) -> Result<(), NoMemory>
+    ensures { OnOk result (line.new
+        ≡ line.old ++ joined aggregator field (all_values outline.now field)) }
+{
+    put_all_here(line, outline, field, aggregator)
+}
+
+#[inline(always)]
+fn put_all_here(
     line: &mut Slab,
     outline: &Outline<'_>,
     field: FieldId,
@@ -201,6 +265,7 @@ fn put_all(
 }
 
 /// The values behind the first, each behind the aggregator.
+#[inline(never)]
 fn put_more(
     line: &mut Slab,
     outline: &Outline<'_>,

@@ -2,6 +2,7 @@
 ghost use Rattle.std.specs.Prelude.{◌≡◌, ◌++◌, IfOk, OnOk, reverse, slice_get};
 ghost use Rattle.std.specs.List.{find, position_or_len};
 ghost use Rattle.std.specs.Option.{option_copied, option_map};
+ghost use Rattle.pk_source.specs.Firsts.{IsReadBy, first_value};
 ghost use Rattle.pk_source.specs.Found.{first_in};
 ghost use Rattle.pk_source.specs.Outlines.{protocols_of};
 ghost use Rattle.pk_source.specs.declared.header.Header.{Header as HeaderShown};
@@ -10,11 +11,11 @@ ghost use Rattle.out_lines.specs.Summary.{address_in, first_in_tree, first_ip, i
 ghost use Rattle.out_lines.specs.ValueText.{shown_value};
 
 use crate::summary::{NONE, is_ip, is_told};
-use crate::value_text::put_shown;
-use pk_base::{Layers, NoMemory};
+use crate::value_text::{put_read, put_shown};
+use pk_base::NoMemory;
 use pk_fields::{FieldId, ids, name};
-use pk_source::{Header, Outline};
-use pk_text::{Slab, TextSink};
+use pk_source::{First, Header, Outline};
+use pk_text::{Decimal, Slab, TextSink, put_time};
 
 /// The first value of a field.
 #[tactic(auto, unfolding(crate::specs::Summary::first_in_tree))]
@@ -26,9 +27,21 @@ pub(crate) fn put_headers_first(
     ensures { OnOk result (line.new
         ≡ line.old ++ or_dash (first_in_tree outline.now field)) }
 {
-    match outline.value(field, &Layers::All, 0)? {
-        Some(value) => put_shown(line, field, &value),
-        None => line.put_text(NONE),
+    put_first_or_dash(line, field, outline.first_and_more(field).first)
+}
+
+#[inline(always)]
+#[tactic(auto, unfolding(crate::specs::ValueText::shown_value))]
+fn put_first_or_dash(line: &mut Slab, field: FieldId, first: First<'_>) -> Result<(), NoMemory>
+    requires { IsReadBy field first }
+    ensures { OnOk result (line.new
+        ≡ line.old ++ or_dash (option_map (shown_value field) (first_value field first.entry))) }
+{
+    match first {
+        First::Nothing => line.put_text(NONE),
+        First::Bytes(bytes) => put_read(line, field, bytes),
+        First::Number(number) => line.put_short(&Decimal(number)),
+        First::Moment(time) => put_time(line, time),
     }
 }
 

@@ -1,6 +1,7 @@
 //! The lines that frames are printed as: the values of chosen fields, or a summary.
 #![tactic(auto)]
 
+mod addresses;
 mod column;
 mod columns;
 mod follow;

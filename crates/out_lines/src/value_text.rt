@@ -5,10 +5,14 @@ ghost use Rattle.pk_fields.specs.Fields.{row_of};
 ghost use Rattle.pk_fields.specs.Rows.{IsSound, size_of_place};
 ghost use Rattle.pk_tree.specs.Values.{HasSize, is_proto, is_read, is_whole, scaled, value_of, value_with};
 
+use crate::addresses::{Ip4Text, ether_text};
 use pk_base::{NoMemory, Value};
 use pk_fields::{BitPlace, FieldId, ValueKind, bits, kind, name};
 use pk_source::{scaled_number, wide_number};
-use pk_text::{TextSink, put_escaped, put_ether, put_hex, put_ip4, put_ip6, put_number, put_time};
+use pk_text::{
+    Decimal, Slab, TextSink, put_escaped, put_ether, put_hex, put_ip4, put_ip6, put_number,
+    put_time,
+};
 use std::alloc::Global;
 
 /// Appends the text of a field's value, which takes no memory of its own.
@@ -55,27 +59,22 @@ fn put_truth<S: TextSink>(sink: &mut S, truth: bool) -> Result<(), NoMemory>
 /// Appends the text of what a field's row reads in bytes, without a value being made; of a protocol, its name.
 #[inline(always)]
 #[tactic(auto, unfolding(pk_tree::specs::Values::value_of))]
-pub(crate) fn put_read<S: TextSink>(
-    sink: &mut S,
-    field: FieldId,
-    bytes: &[u8],
-) -> Result<(), NoMemory>
+pub(crate) fn put_read(line: &mut Slab, field: FieldId, bytes: &[u8]) -> Result<(), NoMemory>
     requires { is_proto (row_of field).kind ≡ false
         → HasSize (row_of field).bits (length bytes.now) × IsTrue (is_read (row_of field)) }
-    ensures { OnOk result (S.taken sink.new
-        ≡ S.taken sink.old ++ shown_value field (value_of field bytes.now)) }
+    ensures { OnOk result (line.new ≡ line.old ++ shown_value field (value_of field bytes.now)) }
 {
     match bits(field) {
-        Some(place) => put_placed(sink, field, kind(field), place, bytes),
-        None => put_whole(sink, field, kind(field), bytes),
+        Some(place) => put_placed(line, field, kind(field), place, bytes),
+        None => put_whole(line, field, kind(field), bytes),
     }
 }
 
 /// Appends the text of a value that bits spell.
 #[inline(always)]
 #[tactic(auto, unfolding(crate::specs::ValueText::shown_value))]
-fn put_placed<S: TextSink>(
-    sink: &mut S,
+fn put_placed(
+    line: &mut Slab,
     field: FieldId,
     kind: ValueKind,
     place: BitPlace,
@@ -83,15 +82,15 @@ fn put_placed<S: TextSink>(
 ) -> Result<(), NoMemory>
     requires sound { IsSound kind place }
     requires size { length bytes.now ≡ size_of_place place }
-    ensures { OnOk result (S.taken sink.new ≡ S.taken sink.old
-        ++ shown_value field (value_with kind bytes.now (scaled bytes.now place))) }
+    ensures { OnOk result (line.new
+        ≡ line.old ++ shown_value field (value_with kind bytes.now (scaled bytes.now place))) }
 {
     match kind {
-        ValueKind::Uint(_) => put_number(sink, scaled_number(place, bytes)),
-        ValueKind::Bool => put_truth(sink, scaled_number(place, bytes) == 1),
-        ValueKind::Ether => put_ether(sink, bytes),
-        ValueKind::Ip4 => put_ip4(sink, scaled_number(place, bytes) as u32),
-        ValueKind::Ip6 => put_ip6(sink, wide_number(bytes)),
+        ValueKind::Uint(_) => line.put_short(&Decimal(scaled_number(place, bytes))),
+        ValueKind::Bool => put_truth(line, scaled_number(place, bytes) == 1),
+        ValueKind::Ether => line.put(&ether_text(bytes)),
+        ValueKind::Ip4 => line.put_short(&Ip4Text(scaled_number(place, bytes) as u32)),
+        ValueKind::Ip6 => put_ip6(line, wide_number(bytes)),
         ValueKind::Bytes | ValueKind::Text | ValueKind::Time | ValueKind::Proto => unreachable!(),
     }
 }
@@ -99,20 +98,15 @@ fn put_placed<S: TextSink>(
 /// Appends the text of a value that all bytes make.
 #[inline(never)]
 #[tactic(auto, unfolding(crate::specs::ValueText::shown_value))]
-fn put_whole<S: TextSink>(
-    sink: &mut S,
-    field: FieldId,
-    kind: ValueKind,
-    bytes: &[u8],
-) -> Result<(), NoMemory>
+fn put_whole(line: &mut Slab, field: FieldId, kind: ValueKind, bytes: &[u8]) -> Result<(), NoMemory>
     requires { is_proto kind ≡ false → IsTrue (is_whole kind) }
-    ensures { OnOk result (S.taken sink.new
-        ≡ S.taken sink.old ++ shown_value field (value_with kind bytes.now 0)) }
+    ensures { OnOk result (line.new
+        ≡ line.old ++ shown_value field (value_with kind bytes.now 0)) }
 {
     match kind {
-        ValueKind::Bytes => put_hex(sink, bytes),
-        ValueKind::Text => put_escaped(sink, bytes),
-        ValueKind::Proto => sink.put_text(name(field)),
+        ValueKind::Bytes => put_hex(line, bytes),
+        ValueKind::Text => put_escaped(line, bytes),
+        ValueKind::Proto => line.put_text(name(field)),
         ValueKind::Uint(_)
         | ValueKind::Bool
         | ValueKind::Ether
