@@ -19,7 +19,9 @@ use Rattle.run_frames.specs.Tables.{asks_table, asks_tables}
 use Rattle.run_frames.specs.Trees.{tree_of}
 use Rattle.dissect.specs.Heads.{HeadsShown}
 use Rattle.dissect.specs.Stands.{DissectorShown, StandsWithin}
-use Rattle.run_frames.specs.Taken.{IsTakenPlain, heads_tree}
+use Rattle.run_frames.specs.Taken.{IsTakenBy, IsTakenPlain, heads_tree, taken_tree}
+use Rattle.run_frames.specs.declared.taken.Taken.{Taken}
+use Rattle.run_frames.specs.declared.taken.Taken.TheVariants as takens
 use Rattle.run_frames.specs.Wanted.{AreToldByValues, asks_trees, HasFields, IsMadeFor, IsEnough, IsSpared, IsToldAs, IsWhole, ServesPlan}
 use Rattle.second_pass.specs.Forward.{forwarded, forwarded_to}
 use Rattle.second_pass.specs.Laws.{kept_noted, link_fields}
@@ -138,15 +140,32 @@ unread_links tree frame false (Two noted) serves = absurd serves
 unread_links tree frame true One serves = absurd serves
 unread_links tree frame true (Two noted) serves = absurd serves
 
+-- where frames are read once, the tree that was taken of a frame tells it
+pub taken_told : (passes : Passes) (later : Later) (old : DissectorShown) (plan : Plan) (past : List Frame) (frame : Frame) (tree : TreeShown) → later ≡ Unread
+    → ServesKept old.wanted (two_of plan) passes later → ServesPlan old plan → old.decode.rules ≡ rules_of plan
+    → IsSpared old.wanted (tree_at old.decode.rules past frame) tree → (asks_streams old.wanted ≡ true → old.sparing ≡ false → IsKept old.wanted (tree_at old.decode.rules past frame) tree)
+    → IsToldAs plan (tree_of (job_in plan passes) past frame) tree
+taken_told passes later old plan past frame tree unread serves for_plan is spared kept =
+    frame_told passes Unread old plan old.decode.rules past frame tree tree (subst (λ (l : Later). ServesKept old.wanted (two_of plan) passes l) unread serves) for_plan is
+    spared kept (unread_links tree frame.number)
+
 -- a frame whose headers answer for it
 pub plain_told : (passes : Passes) (later : Later) (old new : DissectorShown) (plan : Plan) (past : List Frame) (frame : Frame) (heads : HeadsShown) → later ≡ Unread
     → ServesKept old.wanted (two_of plan) passes later → ServesPlan old plan → old.decode.rules ≡ rules_of plan → new.wanted ≡ old.wanted → IsTakenPlain old new frame heads
     → StandsWithin past old → IsToldAs plan (tree_of (job_in plan passes) past frame) (heads_tree frame.bytes new.wanted heads)
 plain_told passes later old new plan past frame heads unread serves for_plan is kept taken stands =
-    let tree : TreeShown = heads_tree frame.bytes old.wanted heads in
     subst (λ (wanted : List ℕ). IsToldAs plan (tree_of (job_in plan passes) past frame) (heads_tree frame.bytes wanted heads)) (sym kept)
-    (frame_told passes Unread old plan old.decode.rules past frame tree tree (subst (λ (l : Later). ServesKept old.wanted (two_of plan) passes l) unread serves) for_plan is
-    (taken.spared past stands) (λ asks whole. taken.kept asks whole past stands) (unread_links tree frame.number))
+    (taken_told passes later old plan past frame (heads_tree frame.bytes old.wanted heads) unread serves for_plan is (taken.spared past stands) (λ asks whole. taken.kept asks whole past stands))
+
+-- whether its headers answer for it, or it was taken into a tree
+pub fed_told : (passes : Passes) (later : Later) (old new : DissectorShown) (plan : Plan) (past : List Frame) (frame : Frame) (by : Taken) → later ≡ Unread
+    → ServesKept old.wanted (two_of plan) passes later → ServesPlan old plan → old.decode.rules ≡ rules_of plan → new.wanted ≡ old.wanted → IsTakenBy old new frame by
+    → StandsWithin past old → IsToldAs plan (tree_of (job_in plan passes) past frame) (taken_tree frame new by)
+fed_told passes later old new plan past frame (takens.Heads heads) unread serves for_plan is kept taken stands =
+    subst (λ (wanted : List ℕ). IsToldAs plan (tree_of (job_in plan passes) past frame) (heads_tree frame.bytes wanted heads.value)) (sym kept)
+    (taken_told passes later old plan past frame (heads_tree frame.bytes old.wanted heads.value) unread serves for_plan is (taken.spared past stands) (λ asks whole. taken.kept asks whole past stands))
+fed_told passes later old new plan past frame (takens.Tree tree) unread serves for_plan is kept taken stands =
+    taken_told passes later old plan past frame tree unread serves for_plan is (taken.spared past stands) (λ asks whole. taken.kept asks whole past stands)
 
 -- a dissector that takes frames goes on to serve
 pub serves_on : (old new : DissectorShown) (plan : Plan) → new.wanted ≡ old.wanted → new.sparing ≡ old.sparing → ServesPlan old plan → ServesPlan new plan

@@ -10,6 +10,8 @@ use Rattle.pk_source.specs.declared.source.Lender.{Lender}
 use Rattle.pk_source.specs.declared.source.Lender.TheVariants as lenders
 use Rattle.pk_tree.specs.Trees.{IsKept, TreeShown}
 use Rattle.run_frames.specs.Wanted.{IsSpared}
+use Rattle.run_frames.specs.declared.taken.Taken.{Taken}
+use Rattle.run_frames.specs.declared.taken.Taken.TheVariants as takens
 
 -- there is a tree
 abbrev pub IsTreeLent : Lender → Type 0
@@ -29,4 +31,25 @@ pub record IsTakenPlain (old new : DissectorShown) (frame : Frame) (heads : Head
       → IsKept old.wanted (tree_at old.decode.rules past frame) (heads_tree frame.bytes old.wanted heads)
   pub stands : (past : List Frame) → StandsWithin past old → StandsWithin (frame ∷ past) new
   pub taken : new.taken ≡ old.taken + 1
+  pub captured : new.captured ≡ old.captured + length frame.bytes
+
+-- what a dissector took of a frame, as a tree
+abbrev pub taken_tree : Frame → DissectorShown → Taken → TreeShown
+taken_tree frame d (takens.Heads heads) = heads_tree frame.bytes d.wanted heads.value
+taken_tree frame d (takens.Tree tree) = tree
+
+-- headers are an outline
+abbrev pub HasOutline : Frame → DissectorShown → Taken → Type 0
+HasOutline frame d (takens.Heads heads) = IsOutline frame.bytes d.wanted heads.value.headers heads.value.notes
+HasOutline frame d (takens.Tree tree) = Unit {0}
+
+-- a dissector took a frame for its headers, or for a tree, that tell what any tree of it would
+pub record IsTakenBy (old new : DissectorShown) (frame : Frame) (taken : Taken) : Type 0 where
+  pub outline : HasOutline frame new taken
+  pub spared : (past : List Frame) → StandsWithin past old
+      → IsSpared old.wanted (tree_at old.decode.rules past frame) (taken_tree frame old taken)
+  pub kept : asks_streams old.wanted ≡ true → old.sparing ≡ false → (past : List Frame) → StandsWithin past old
+      → IsKept old.wanted (tree_at old.decode.rules past frame) (taken_tree frame old taken)
+  pub stands : (past : List Frame) → StandsWithin past old → StandsWithin (frame ∷ past) new
+  pub counted : new.taken ≡ old.taken + 1
   pub captured : new.captured ≡ old.captured + length frame.bytes

@@ -27,7 +27,7 @@ use crate::owned::give_up_writer;
 use crate::packet::write_packet;
 use crate::plan::Plan;
 use crate::tables::has_tables;
-use crate::taken::{goes_plain, take_heads, take_tree};
+use crate::taken::{Taken, goes_plain, take_fed, take_heads, take_tree};
 use capture_read::Frame;
 use capture_write::{Format, Writer};
 use dissect::{Dissector, Heads};
@@ -37,6 +37,7 @@ use pk_base::NoMemory;
 use pk_fields::{DecodeAs, FieldSet};
 use pk_outside::{Sink, SinkFault, write_whole};
 use pk_source::{Lender, Source};
+use pk_tree::Tree;
 use shark_words::LineKind;
 use std::alloc::Global;
 
@@ -366,7 +367,52 @@ fn write_plain<O: Sink>(
     }
 }
 
-// The same by the frame's tree, in whose memory the next one is made. No tree is moved through the way of plain frames.
+// Writes what is asked for of a frame of which this tree was taken, in whose memory the next one is made. Where headers tell a frame,
+// nothing is kept free for this.
+#[inline(never)]
+fn write_taken<O: Sink>(
+    plan: &Plan,
+    frame: &Frame,
+    tree: Tree,
+    dissector: &mut Dissector,
+    lines: &mut LineMaker<'_>,
+    out: &mut O,
+) -> Result<bool, RunFault>
+    requires judge { lines.old.judge ≡ compiled_of plan.now }
+    requires writer { lines.old.writer ≡ plan.now.fields }
+    requires few { AreFewNotes (2 ^ 28) lines.old.notes }
+    ensures after { IfOk result (λ fit. (passes : Passes) (past : List FrameValue)
+        → IsToldAs plan.now (tree_of (job_in plan.now passes) past frame.now) tree
+        → KeepsUp (written_of plan.now) (job_in plan.now passes) past lines.old.notes lines.old.capture
+        → IsAfterFrame fit (job_in plan.now passes) past frame.now lines.new.notes lines.new.capture
+        (O.written out.old) (O.written out.new)) }
+    ensures part { (passes : Passes) (past : List FrameValue)
+        → IsToldAs plan.now (tree_of (job_in plan.now passes) past frame.now) tree
+        → KeepsUp (written_of plan.now) (job_in plan.now passes) past lines.old.notes lines.old.capture
+        → AppendsPart (O.written out.old) (O.written out.new)
+        (fit_piece (job_in plan.now passes) past frame.now) }
+    ensures few { AreOneMore lines.old.notes lines.new.notes }
+    ensures judge { lines.new.judge ≡ lines.old.judge }
+    ensures writer { lines.new.writer ≡ lines.old.writer }
+    ensures read { IsErrOf result RunFault.ReadFault → ⊥ }
+    ensures fault { IsErrOf result RunFault.WriteFault
+        → Rose (O.faults out.old) (O.faults out.new) }
+    ensures calm { ¬ IsErrOf result RunFault.WriteFault → O.faults out.new ≡ O.faults out.old }
+    ensures faults_stay { O.faults out.old ≤ O.faults out.new }
+    ensures dissector { dissector.new ≡ dissector.old }
+{
+    let written = {
+        let source = Source::of_tree(&tree);
+        write_told(plan, frame, &source, &Lender::Tree(&tree), lines, out)
+    };
+    dissector.give_back(tree);
+    match written {
+        Ok(fit) => Ok(fit),
+        Err(fault) => Err(run_fault(fault)),
+    }
+}
+
+// The same by the frame's tree. No tree is moved through the way of plain frames.
 #[inline(never)]
 fn write_by_tree<O: Sink>(
     plan: &Plan,
@@ -413,17 +459,66 @@ fn write_by_tree<O: Sink>(
     ensures calm { ¬ IsErrOf result RunFault.WriteFault → O.faults out.new ≡ O.faults out.old }
     ensures faults_stay { O.faults out.old ≤ O.faults out.new }
 {
-    let Ok(tree) = take_tree(plan, frame, later, dissector) else {
-        return Err(RunFault::NoMemory);
-    };
-    let written = {
-        let source = Source::of_tree(&tree);
-        write_told(plan, frame, &source, &Lender::Tree(&tree), lines, out)
-    };
-    dissector.give_back(tree);
-    match written {
-        Ok(fit) => Ok(fit),
-        Err(fault) => Err(run_fault(fault)),
+    match take_tree(plan, frame, later, dissector) {
+        Ok(tree) => write_taken(plan, frame, tree, dissector, lines, out),
+        Err(NoMemory) => Err(RunFault::NoMemory),
+    }
+}
+
+// The same where segments of some streams are taken into them: by the frame's headers, or by its tree where these don't tell all.
+#[inline(never)]
+fn write_fed<O: Sink>(
+    plan: &Plan,
+    frame: &Frame,
+    later: &Later,
+    dissector: &mut Dissector,
+    lines: &mut LineMaker<'_>,
+    out: &mut O,
+) -> Result<bool, RunFault>
+    requires unread { later.now ≡ Later.Unread }
+    requires kind { kind_of plan.now ≡ LineKind.Json → ⊥ }
+    requires serves { ServesPlan dissector.old plan.now }
+    requires rules { dissector.old.decode.rules ≡ rules_of plan.now }
+    requires judge { lines.old.judge ≡ compiled_of plan.now }
+    requires lines { lines.old.writer ≡ plan.now.fields }
+    requires few { AreFewNotes (2 ^ 28) lines.old.notes }
+    requires number { frame.now.number ≡ dissector.old.taken + 1 }
+    requires time { IfSome frame.now.time IsTime }
+    requires captured { dissector.old.captured + length frame.now.bytes ≤ 2 ^ 28 }
+    ensures stands { OnOk result ((past : List FrameValue) → StandsWithin past dissector.old
+        → StandsWithin (frame.now ∷ past) dissector.new) }
+    ensures kept { dissector.new.wanted ≡ dissector.old.wanted }
+    ensures sparing { dissector.new.sparing ≡ dissector.old.sparing }
+    ensures rules { dissector.new.decode ≡ dissector.old.decode }
+    ensures taken { OnOk result (dissector.new.taken ≡ dissector.old.taken + 1) }
+    ensures captured { OnOk result (dissector.new.captured
+        ≡ dissector.old.captured + length frame.now.bytes) }
+    ensures after { IfOk result (λ fit. (passes : Passes) (past : List FrameValue)
+        → ServesKept dissector.old.wanted (two_of plan.now) passes later.now
+        → StandsWithin past dissector.old
+        → KeepsUp (written_of plan.now) (job_in plan.now passes) past lines.old.notes lines.old.capture
+        → IsAfterFrame fit (job_in plan.now passes) past frame.now lines.new.notes lines.new.capture
+        (O.written out.old) (O.written out.new)) }
+    ensures part { (passes : Passes) (past : List FrameValue)
+        → ServesKept dissector.old.wanted (two_of plan.now) passes later.now
+        → StandsWithin past dissector.old
+        → KeepsUp (written_of plan.now) (job_in plan.now passes) past lines.old.notes lines.old.capture
+        → AppendsPart (O.written out.old) (O.written out.new)
+        (fit_piece (job_in plan.now passes) past frame.now) }
+    ensures few { (most : ℕ) → AreFewNotes most lines.old.notes → AreFewNotes (suc most) lines.new.notes }
+    ensures judge { lines.new.judge ≡ lines.old.judge }
+    ensures writer { lines.new.writer ≡ lines.old.writer }
+    ensures read { IsErrOf result RunFault.ReadFault → ⊥ }
+    ensures fault { IsErrOf result RunFault.WriteFault
+        → Rose (O.faults out.old) (O.faults out.new) }
+    ensures calm { ¬ IsErrOf result RunFault.WriteFault → O.faults out.new ≡ O.faults out.old }
+    ensures faults_stay { O.faults out.old ≤ O.faults out.new }
+{
+    match take_fed(lines.alloc, frame, dissector, &mut lines.heads) {
+        Ok(Some(Taken::Heads(heads))) => write_plain(plan, frame, heads, dissector, lines, out),
+        Ok(Some(Taken::Tree(tree))) => write_taken(plan, frame, tree, dissector, lines, out),
+        Ok(None) => write_by_tree(plan, frame, later, dissector, lines, out),
+        Err(NoMemory) => Err(RunFault::NoMemory),
     }
 }
 
@@ -475,6 +570,9 @@ pub fn write_frame<O: Sink>(
 {
     if !goes_plain(plan, later) {
         return write_by_tree(plan, frame, later, dissector, lines, out);
+    }
+    if dissector.feeds() {
+        return write_fed(plan, frame, later, dissector, lines, out);
     }
     match take_heads(lines.alloc, frame, dissector, &mut lines.heads) {
         Ok(Some(heads)) => write_plain(plan, frame, heads, dissector, lines, out),

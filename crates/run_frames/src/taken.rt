@@ -6,7 +6,7 @@ ghost use Rattle.dissect.specs.Stands.{StandsWithin};
 ghost use Rattle.run_frames.specs.Accessors.{kind_of, rules_of, two_of};
 ghost use Rattle.run_frames.specs.Job.{Passes, job_in};
 ghost use Rattle.run_frames.specs.Later.{ServesKept};
-ghost use Rattle.run_frames.specs.Taken.{IsTakenPlain};
+ghost use Rattle.run_frames.specs.Taken.{IsTakenBy, IsTakenPlain};
 ghost use Rattle.run_frames.specs.Trees.{tree_of};
 ghost use Rattle.run_frames.specs.Wanted.{IsToldAs, ServesPlan};
 
@@ -14,7 +14,7 @@ use crate::later::{Later, add_links};
 use crate::owned::give_up_tree;
 use crate::plan::Plan;
 use capture_read::Frame;
-use dissect::{Dissector, Heads, TakeFault};
+use dissect::{Dissector, Heads, TakeFault, TakenBy};
 use pk_base::NoMemory;
 use pk_tree::Tree;
 use shark_words::LineKind;
@@ -63,6 +63,49 @@ pub(crate) fn take_heads(
     match dissector.take_plain(frame, &mut *heads) {
         Ok(true) => Ok(Some(heads)),
         Ok(false) => {
+            *spare = Some(heads);
+            Ok(None)
+        }
+        Err(TakeFault::NoMemory | TakeFault::Spent) => {
+            *spare = Some(heads);
+            Err(NoMemory)
+        }
+    }
+}
+
+/// What is taken of a frame.
+#[derive(Drop)]
+pub(crate) enum Taken {
+    /// Its headers, which the spare ones then lack.
+    Heads(Box<Heads>),
+    Tree(Tree),
+}
+
+/// Takes a frame that is plain, also where its segment is taken into its stream: for its headers, or for its tree where it shows
+/// messages. Of any other frame nothing is taken.
+pub(crate) fn take_fed(
+    alloc: Global,
+    frame: &Frame,
+    dissector: &mut Dissector,
+    spare: &mut Option<Box<Heads>>,
+) -> Result<Option<Taken>, NoMemory>
+    requires number { frame.now.number ≡ dissector.old.taken + 1 }
+    requires time { IfSome frame.now.time IsTime }
+    requires captured { dissector.old.captured + length frame.now.bytes ≤ 2 ^ 28 }
+    ensures passed { IfOk result (λ taken. taken ≡ None → dissector.new ≡ dissector.old) }
+    ensures taken { IfOk result (λ taken. IfSome taken (IsTakenBy dissector.old dissector.new frame.now)) }
+    ensures kept { dissector.new.wanted ≡ dissector.old.wanted }
+    ensures sparing { dissector.new.sparing ≡ dissector.old.sparing }
+    ensures rules { dissector.new.decode ≡ dissector.old.decode }
+{
+    let mut heads = spare_heads(alloc, spare)?;
+    match dissector.take_fed(frame, &mut *heads) {
+        Ok(Some(TakenBy::Headers)) => Ok(Some(Taken::Heads(heads))),
+        Ok(Some(TakenBy::Tree(tree))) => {
+            *spare = Some(heads);
+            Ok(Some(Taken::Tree(tree)))
+        }
+        Ok(None) => {
             *spare = Some(heads);
             Ok(None)
         }
