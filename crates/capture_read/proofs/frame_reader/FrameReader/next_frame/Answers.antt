@@ -1,7 +1,6 @@
-use Rattle.std.proofs.Common.{◌≡◌, ◌∷◌, ℕ, List, Option, subst, sym}
-use Rattle.capture_read.specs.Reader.{EndsAs, ReaderShown, Stands, StandsFor}
+use Rattle.std.proofs.Common.{◌≡◌, ℕ, List, Option, subst, sym}
+use Rattle.capture_read.specs.Reader.{ReaderShown, Stands, StandsFor}
 use Rattle.capture_read.specs.declared.frame.Frame.{Frame}
-use Rattle.capture_read.specs.declared.kind.Phase.{Phase}
 use Rattle.capture_read.proofs.ReaderBounds.{error_moves}
 use Rattle.capture_read.proofs.ReaderTurns.{stands_few}
 use Rattle.capture_read.proofs.frame_reader.FrameReader.next_frame.Goals as goal
