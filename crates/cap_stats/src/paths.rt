@@ -75,6 +75,9 @@ impl Paths {
         let bytes = length_of(source)?;
         let count = LAYERS.min(source.layer_count());
         let known = self.add_known(source, count, bytes);
+        if known == count {
+            return Ok(());
+        }
         self.add_rest(source, known, count, bytes)
     }
 
