@@ -165,7 +165,7 @@ joining_put rest start end bytes marks from more frame joining behind =
     }
 
 -- a piece taken out from elsewhere
-out_of : (old new : Held) (at : ℕ) (more : List ℕ) (frame q : ℕ) → old ≡ put_run new at more frame → get old q ≡ None → get new q ≡ None
+pub out_of : (old new : Held) (at : ℕ) (more : List ℕ) (frame q : ℕ) → old ≡ put_run new at more frame → get old q ≡ None → get new q ≡ None
 out_of old new at more frame q is none =
     first_none (get new q) (run_cell at more frame q) (sym (get-put_run new at more frame q) ∙ sym (ap (λ (h : Held). get h q) is) ∙ none)
 
@@ -273,7 +273,7 @@ marked_low start bytes (first ∷ marks) zero mark marked is = subst (λ (m : Ma
 marked_low start bytes (first ∷ marks) (suc i) mark marked is =
     omega (arith, marked.0, marked_low first.end (drop (first.end - start) bytes) marks i mark marked.2 is)
 
-abbrev IsPastLast : List Mark → ℕ → ℕ → Type 0
+abbrev pub IsPastLast : List Mark → ℕ → ℕ → Type 0
 IsPastLast marks place at = (last : ℕ) (mark : Mark) → last + 1 ≡ place → slice_get marks last ≡ Some mark → mark.end ≤ at
 
 there_is : (marks : List Mark) (i : ℕ) → i < length marks → (mark : Mark) × (slice_get marks i ≡ Some mark)
@@ -282,7 +282,7 @@ there_is (mark ∷ marks) zero less = (mark, refl)
 there_is (mark ∷ marks) (suc i) less = there_is marks i (omega (arith, less))
 
 -- a mark that isn't the last before a place ends before the last does
-first_past : (start : ℕ) (bytes : List ℕ) (first : Mark) (marks : List Mark) (i at : ℕ) → IsMarked start bytes (first ∷ marks) → i < length marks + 1 → IsPastLast (first ∷ marks) (suc i) at → first.end ≤ at
+pub first_past : (start : ℕ) (bytes : List ℕ) (first : Mark) (marks : List Mark) (i at : ℕ) → IsMarked start bytes (first ∷ marks) → i < length marks + 1 → IsPastLast (first ∷ marks) (suc i) at → first.end ≤ at
 first_past start bytes first marks zero at marked less past = past 0 first refl refl
 first_past start bytes first marks (suc i) at marked less past =
     let there = there_is marks i (omega (arith, less)) in

@@ -10,3 +10,4 @@ pub mod Gaps
 pub mod Fronts
 pub mod TakenOut
 pub mod Joining
+pub mod LettingGo

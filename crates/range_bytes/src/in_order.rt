@@ -1,7 +1,8 @@
-ghost use Rattle.std.specs.Prelude.{◌≡◌, ℕ, ◌+◌, ◌<◌, ◌≤◌, length, slice_get, Some, [], ◌∷◌, ◌++◌, IfSome, IfNone, OnOk, OnErr};
+ghost use Rattle.std.specs.Prelude.{◌≡◌, ℕ, ◌+◌, ◌-◌, ◌<◌, ◌≤◌, drop, length, slice_get, Some, [], ◌∷◌, ◌++◌, IfOk, IfSome, IfNone, OnOk, OnErr};
 ghost use Rattle.std.specs.FinMap.{get};
 ghost use Rattle.range_bytes.specs.declared.in_order.Mark.{Mark as MarkValue};
 ghost use Rattle.range_bytes.specs.Joined.{IsMarked, IsRunAt, cut};
+ghost use Rattle.range_bytes.specs.LetGo.{AreMarksPast, IsShorter};
 ghost use Rattle.range_bytes.specs.Pieces.{held_of};
 
 use pk_base::NoMemory;
@@ -59,6 +60,37 @@ impl InOrder {
         Ok(())
     }
 
+    /// Lets go of the bytes before a position, once they are more than those behind it: so each byte that is let go has at most one
+    /// other moved.
+    pub(crate) fn let_go(&mut self, alloc: Global, to: u64) -> Result<(), NoMemory>
+        requires end { self.old.start + length self.old.bytes.items ≡ self.old.end }
+        requires marked { IsMarked self.old.start self.old.bytes.items self.old.marks.items }
+        requires high { to ≤ self.old.end }
+        ensures ok { OnOk result (IsShorter self.old self.new to) }
+        ensures err { OnErr result (self.new ≡ self.old) }
+    {
+        if to.saturating_sub(self.start) <= self.end - to {
+            return Ok(());
+        }
+        self.shorten(alloc, to)
+    }
+
+    /// Lets go of the bytes before a position.
+    fn shorten(&mut self, alloc: Global, to: u64) -> Result<(), NoMemory>
+        requires end { self.old.start + length self.old.bytes.items ≡ self.old.end }
+        requires marked { IsMarked self.old.start self.old.bytes.items self.old.marks.items }
+        requires low { self.old.start ≤ to }
+        requires high { to ≤ self.old.end }
+        ensures ok { OnOk result (IsShorter self.old self.new to) }
+        ensures err { OnErr result (self.new ≡ self.old) }
+    {
+        let marks = marks_past(alloc, &self.marks, to)?;
+        self.bytes = bytes_from(alloc, &self.bytes, (to - self.start) as usize)?;
+        self.marks = marks;
+        self.start = to;
+        Ok(())
+    }
+
     /// How far the bytes of one frame go that hold a position.
     pub(crate) fn run_at(&self, at: u64) -> Option<Mark>
         requires end { self.now.start + length self.now.bytes.items ≡ self.now.end }
@@ -78,6 +110,22 @@ impl InOrder {
         let mark = self.marks[place];
         Some(mark)
     }
+}
+
+/// The bytes from a place on, in no more memory than they need.
+fn bytes_from(alloc: Global, bytes: &[u8], from: usize) -> Result<Vec<u8>, NoMemory>
+    requires { from ≤ length bytes.now }
+    ensures { IfOk result (λ rest. rest.items ≡ drop from bytes.now) }
+{
+    Ok(bytes[from..].to_vec(alloc)?)
+}
+
+/// The marks past a position.
+fn marks_past(alloc: Global, marks: &[Mark], to: u64) -> Result<Vec<Mark>, NoMemory>
+    ensures { IfOk result (λ rest. AreMarksPast marks.now to rest.items) }
+{
+    let place = place_of(marks, to);
+    Ok(marks[place..].to_vec(alloc)?)
 }
 
 /// The place of the first mark past a position.

@@ -2,6 +2,7 @@ ghost use Rattle.std.specs.Prelude.{◌≡◌, ℕ, ◌+◌, ◌-◌, ◌^◌, �
 ghost use Rattle.std.specs.FinMap.{get};
 ghost use Rattle.range_bytes.specs.Held.{put_run, put_numbers, IsNextHeld, IsFreeFrom, HoldsAll, frames_at};
 ghost use Rattle.range_bytes.specs.Joined.{none_joined, front_end, IsInOrder, IsJoined, IsMarked, IsRunAt, cut};
+ghost use Rattle.range_bytes.specs.LetGo.{IsLetGo};
 ghost use Rattle.range_bytes.specs.Pieces.{put_pieces};
 
 use crate::in_order::{InOrder, Mark};
@@ -183,6 +184,16 @@ impl JoinedRanges {
         keep(self.alloc, &mut self.rest, at, &bytes, &marks)?;
         self.join()?;
         Ok(bytes)
+    }
+
+    /// Lets go of what is held before the bytes in order, and of these before a position, once they are more than those behind it.
+    pub fn let_go(&mut self, to: u64) -> Result<(), NoMemory>
+        requires { to ≤ front_end self.old }
+        ensures { OnOk result (IsLetGo self.old self.new to) }
+    {
+        self.row.let_go(self.alloc, to)?;
+        self.rest.let_go(self.row.start);
+        Ok(())
     }
 
     /// The least held position from `from` on. Takes no memory.

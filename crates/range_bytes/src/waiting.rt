@@ -2,6 +2,7 @@ ghost use Rattle.std.specs.Prelude.{◌≡◌, ◌⊎◌, ℕ, ◌+◌, ◌-◌,
 ghost use Rattle.std.specs.FinMap.{get, empty};
 ghost use Rattle.range_bytes.specs.Held.{put_run, IsFreeFrom, IsNextHeld};
 ghost use Rattle.range_bytes.specs.Joined.{IsTakenOut};
+ghost use Rattle.range_bytes.specs.LetGo.{IsTakenBelow};
 ghost use Rattle.range_bytes.specs.Pieces.{IsSized, IsCover, AreGaps};
 
 use crate::late;
@@ -134,6 +135,34 @@ impl Waiting {
         late::put_all(&mut self.pieces, &gaps)?;
         self.end = self.end.max(new.end);
         Ok(())
+    }
+
+    /// Takes out what is held before a position; no piece goes over it.
+    pub(crate) fn let_go(&mut self, below: u64)
+        requires { (below ≡ 0) ⊎ (get self.old (below - 1) ≡ None) }
+        ensures gone { (position : ℕ) → position < below → get self.new position ≡ None }
+        ensures same { (position : ℕ) → below ≤ position → get self.new position ≡ get self.old position }
+    {
+        let mut from = 0;
+        while from < below {
+            match self.take_from(from, below) {
+                Some(piece) => from = piece.end,
+                None => return,
+            }
+        }
+    }
+
+    /// Takes out the first piece from a position on, where nothing is held before that, if it begins before another.
+    fn take_from(&mut self, from: u64, below: u64) -> Option<Piece>
+        requires free { (position : ℕ) → position < from → get self.old position ≡ None }
+        ensures some { IfSome result (λ piece. IsTakenBelow self.old self.new from below piece) }
+        ensures same { IfNone result (self.new ≡ self.old) }
+        ensures none { IfNone result ((position : ℕ) → position < below → get self.old position ≡ None) }
+    {
+        match self.next_held(from) {
+            Some(at) if at < below => self.take_at(at),
+            _ => None,
+        }
     }
 
     /// Takes out the piece that begins at a position, where nothing is held before that.
