@@ -6,5 +6,6 @@ pub mod KeptMessages
 pub mod LeadBack
 pub mod LinkLemmas
 pub mod MessageLemmas
+pub mod OtherLemmas
 pub mod ReadLemmas
 pub mod SentLemmas

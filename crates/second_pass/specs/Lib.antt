@@ -3,5 +3,6 @@ pub mod Forward
 pub mod Laws
 pub mod Messages
 pub mod Named
+pub mod Others
 pub mod Replies
 pub mod Stands

@@ -1,6 +1,7 @@
 // What holds of the links of all trees, stated on a function that does nothing.
 ghost use Rattle.second_pass.specs.Back.{DirectionsRead, LayersNoted, NoOtherLinks, Part6Links, PartLinks, QueryLinks, RequestLinks, SegmentLinks, ValuesRead};
 ghost use Rattle.second_pass.specs.Laws.{KeptLinks};
+ghost use Rattle.second_pass.specs.Others.{OthersPass, OthersStay};
 
 /// Trees that keep the items of some fields alone get the links that the whole trees get, if the fields of links are among
 /// these.
@@ -26,4 +27,11 @@ pub fn links_are_read_from_trees()
     ensures layers { LayersNoted }
     ensures values { ValuesRead }
     ensures directions { DirectionsRead }
+{}
+
+/// A frame that shows no message of DNS or HTTP, and names no other among those that brought its bytes, needn't be noted; and
+/// where no later one names it, it gets no link.
+pub fn other_frames_have_no_links()
+    ensures pass { OthersPass }
+    ensures stay { OthersStay }
 {}

@@ -14,5 +14,8 @@ mod reading;
 mod requests;
 
 pub use fields::add_fields;
-pub use laws::{kept_trees_get_the_same_links, links_are_read_from_trees, links_lead_back};
+pub use laws::{
+    kept_trees_get_the_same_links, links_are_read_from_trees, links_lead_back,
+    other_frames_have_no_links,
+};
 pub use links::Links;

@@ -6,6 +6,7 @@ ghost use Rattle.pk_tree.specs.declared.layer.Layer.{Layer as LayerValue};
 ghost use Rattle.pk_tree.specs.Trees.{proto_at};
 ghost use Rattle.second_pass.specs.Forward.{forwarded, forwarded_to, answer_to, link_in, link_of, request_link, segment_link, with_link_at, is_part as is_part_layer};
 ghost use Rattle.second_pass.specs.Named.{Noted, noted_as, number_in, truth_in};
+ghost use Rattle.second_pass.specs.Others.{is_named};
 ghost use Rattle.second_pass.specs.Stands.{Stands, HasLinks, is_spent};
 
 use crate::answers::Answers;
@@ -86,6 +87,16 @@ impl Links {
         self.segments.note(frame, ids::TCP_SEGMENT, layers)?;
         self.answers.note(frame, layers)?;
         self.exchanges.note(frame, layers)
+    }
+
+    /// Whether a later frame names this one among those that brought its bytes.
+    #[tactic(auto, unfolding(crate::specs::Stands::Stands))]
+    pub fn is_named(&self, frame: u32) -> bool
+        ensures { (past : List Noted) → Stands past self.now → result ≡ is_named past frame }
+    {
+        self.fragments.find(frame).is_some()
+            || self.fragments6.find(frame).is_some()
+            || self.segments.find(frame).is_some()
     }
 
     /// Adds the links of a frame to later ones to its tree. Where there is no memory for all, the first of them are added.
