@@ -56,6 +56,15 @@ impl JsonWriter {
         Ok(())
     }
 
+    /// Appends the line of a tree to a text that others are made in.
+    pub fn write_to(&mut self, line: &mut Slab, tree: &Tree) -> Result<(), NoMemory>
+        ensures { OnOk result (line.new ≡ line.old ++ json_line_of tree.now) }
+    {
+        self.line.clear();
+        self.put_tree(tree)?;
+        line.put(self.line.text())
+    }
+
     fn put_tree(&mut self, tree: &Tree) -> Result<(), NoMemory>
         ensures { OnOk result (self.new.line ≡ self.old.line ++ json_line_of tree.now) }
     {

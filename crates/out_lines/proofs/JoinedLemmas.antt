@@ -1,6 +1,6 @@
 -- Values that are appended one by one are the chosen values, joined.
 use Rattle.std.proofs.Common.{◌≡◌, ◌<◌, ◌≤◌, ◌+◌, ◌-◌, ℕ, zero, suc, true, false, List, [], ◌∷◌, ◌++◌, length, drop, slice_get, Option, Some, None, refl, sym, ap, ◌∙◌, append-nil, arith}
-use Rattle.std.specs.List.{flat_map}
+use Rattle.std.specs.List.{flat_map, join_by}
 use Rattle.std.specs.Option.{is_some, option_map, unwrap_or}
 use Rattle.std.proofs.lemmas.List.{drop_all, drop_more}
 use Rattle.std.proofs.lemmas.Option.{get_or_from_slice_get, slice_get-get_or, slice_get_within}
@@ -121,3 +121,11 @@ full_column style field (value ∷ values) there = some_column style field (chos
 pub plain_column : (style : Style) (field : ℕ) (values : List Value) → style.quote ≡ quotes.None → column_of style field values ≡ joined style.aggregator field values
 plain_column style field [] plain = refl
 plain_column style field (value ∷ values) plain = ap (λ (quote : Quote). in_quotes quote (joined style.aggregator field (value ∷ values))) plain
+
+-- a plain column of one value
+pub plain_one : (style : Style) (field : ℕ) (values : List Value) (value : Value) → style.quote ≡ quotes.None → style.occurrence ≡ All → values ≡ value ∷ [] →
+    shown_value field value ≡ column_of style field (chosen style.occurrence values)
+plain_one style field values value plain all one =
+    let joins : in_quotes style.quote (join_by (shown_value field) (style.aggregator ∷ []) (value ∷ [])) ≡ shown_value field value =
+    ap (λ (quote : Quote). in_quotes quote (shown_value field value ++ [])) plain ∙ append-nil (shown_value field value) in
+    sym (ap (λ (vs : List Value). column_of style field (chosen style.occurrence vs)) one ∙ ap (λ (occurrence : Occurrence). column_of style field (chosen occurrence (value ∷ []))) all ∙ joins)

@@ -1,18 +1,20 @@
 // The line of what a frame's headers have: each value is appended where it is read, without a column of its own.
-ghost use Rattle.std.specs.Prelude.{◌≡◌, ◌+◌, ◌-◌, ◌++◌, ◌∷◌, [], true, length, slice_get, IfOk, OnOk};
+ghost use Rattle.std.specs.Prelude.{◌≡◌, ◌+◌, ◌-◌, ◌++◌, ◌∷◌, [], true, length, slice_get, IfOk, IfSome, IsTrue, OnOk};
 ghost use Rattle.std.specs.Option.{option_map};
 ghost use Rattle.std.specs.List.{flat_map, join_by};
 ghost use Rattle.out_lines.specs.Joined.{IsTextPut, all_values, behind, joined, further, shown_at, shown_first};
 ghost use Rattle.out_lines.specs.Lines.{chosen, column_text, field_line_of};
 ghost use Rattle.out_lines.specs.ValueText.{shown_value};
+ghost use Rattle.pk_fields.specs.Fields.{row_of};
 ghost use Rattle.pk_source.specs.Firsts.{IsReadBy};
+ghost use Rattle.pk_tree.specs.Values.{HasSize, is_read, value_of};
 
 use crate::lines::put_quoted;
 use crate::style::{Occurrence, Quote, Style};
 use crate::value_text::{put_read, put_shown};
 use pk_base::{Layers, NoMemory};
-use pk_fields::FieldId;
-use pk_source::{First, Outline};
+use pk_fields::{FieldId, ValueKind, kind, proto};
+use pk_source::{First, Outline, Reader};
 use pk_text::{Decimal, Slab, put_time};
 
 /// Appends the line of some fields. What stands in quotes is made in a text of its own, whose memory is used again.
@@ -81,7 +83,7 @@ fn is_plain(style: &Style) -> bool
     }
 }
 
-/// The same of plain columns: what puts a column stands in the loop.
+/// The same of plain columns: what puts most of them stands in the loop.
 fn put_further_plain(
     line: &mut Slab,
     outline: &Outline<'_>,
@@ -93,27 +95,50 @@ fn put_further_plain(
     ensures { OnOk result (line.new ≡ line.old ++ flat_map (λ field.
         style.now.separator ∷ column_text outline.now style.now field) fields.now) }
 {
+    let mut reader = outline.reader();
     for field in fields {
         line.put_byte(style.separator)?;
-        put_plain(line, outline, *field, style)?;
+        put_plain(line, outline, &mut reader, *field, style)?;
     }
     Ok(())
 }
 
+/// A plain column: most have one value, in bytes that are known by the field alone.
 #[inline(always)]
-#[tactic(auto, unfolding(crate::specs::Lines::column_text))]
+#[tactic(auto, using(crate::proofs::JoinedLemmas::plain_one), unfolding(crate::specs::Lines::column_text))]
 fn put_plain(
     line: &mut Slab,
     outline: &Outline<'_>,
+    reader: &mut Reader<'_>,
     field: FieldId,
     style: &Style,
 ) -> Result<(), NoMemory>
     requires quote { style.now.quote ≡ Quote.None }
     requires all { style.now.occurrence ≡ Occurrence.All }
-    ensures { OnOk result (line.new
+    requires reader { reader.old ≡ outline.now }
+    ensures line { OnOk result (line.new
         ≡ line.old ++ column_text outline.now style.now field) }
+    ensures reader { reader.new ≡ reader.old }
 {
-    put_all_here(line, outline, field, style.aggregator)
+    match only_bytes(reader, field) {
+        Some(bytes) => put_read(line, field, bytes),
+        None => put_all(line, outline, field, style.aggregator),
+    }
+}
+
+/// The bytes of a field's only value, where its protocol's only header has it at a fixed place. Of other fields it knows nothing.
+#[inline(always)]
+fn only_bytes<'f>(reader: &mut Reader<'f>, field: FieldId) -> Option<&'f [u8]>
+    ensures value { IfSome result (λ bytes.
+        all_values reader.old field ≡ value_of field bytes.now ∷ []) }
+    ensures reads { IfSome result (λ bytes.
+        HasSize (row_of field).bits (length bytes.now) × IsTrue (is_read (row_of field))) }
+    ensures same { reader.new ≡ reader.old }
+{
+    match kind(field) {
+        ValueKind::Proto => None,
+        _ => reader.only_bytes(field, proto(field)),
+    }
 }
 
 #[tactic(auto, unfolding(crate::specs::Lines::column_text))]
@@ -234,19 +259,6 @@ fn number_behind(number: usize) -> Result<usize, NoMemory>
 /// All values of a field, joined by the aggregator.
 #[inline(never)]
 fn put_all(
-    line: &mut Slab,
-    outline: &Outline<'_>,
-    field: FieldId,
-    aggregator: u8,
-) -> Result<(), NoMemory>
-    ensures { OnOk result (line.new
-        ≡ line.old ++ joined aggregator field (all_values outline.now field)) }
-{
-    put_all_here(line, outline, field, aggregator)
-}
-
-#[inline(always)]
-fn put_all_here(
     line: &mut Slab,
     outline: &Outline<'_>,
     field: FieldId,

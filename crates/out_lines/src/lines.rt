@@ -97,40 +97,29 @@ impl LineWriter {
     /// Appends the line of a frame, as `write` does for its tree. What needs no tree is written where it is read.
     pub fn write_source(
         &mut self,
-        line: &mut Vec<u8>,
+        line: &mut Slab,
         source: &Source<'_>,
         style: &Style,
     ) -> Result<(), NoMemory>
-        ensures line { OnOk result (line.new.items ≡ line.old.items
+        ensures line { OnOk result (line.new ≡ line.old
             ++ field_line_of self.old source.now style.now) }
         ensures fields { self.new ≡ self.old }
     {
         match source.lender() {
-            Lender::Tree(tree) => self.write(line, tree, style),
-            Lender::Outline(outline) => self.write_outline(line, outline, style),
+            Lender::Tree(tree) => self.write_tree(line, tree, style),
+            Lender::Outline(outline) => {
+                put_outline(line, &mut self.spare, outline, &self.fields, style)
+            }
         }
     }
 
-    fn write_outline(
-        &mut self,
-        line: &mut Vec<u8>,
-        outline: &Outline<'_>,
-        style: &Style,
-    ) -> Result<(), NoMemory>
-        ensures line { OnOk result (line.new.items ≡ line.old.items
-            ++ field_line_of self.old outline.now style.now) }
+    fn write_tree(&mut self, line: &mut Slab, tree: &Tree, style: &Style) -> Result<(), NoMemory>
+        ensures line { OnOk result (line.new ≡ line.old
+            ++ field_line_of self.old tree.now style.now) }
         ensures fields { self.new ≡ self.old }
     {
-        self.line.clear();
-        put_outline(
-            &mut self.line,
-            &mut self.spare,
-            outline,
-            &self.fields,
-            style,
-        )?;
-        line.extend_from_slice(self.line.text())?;
-        Ok(())
+        fill(&mut self.columns, &self.places, style, tree)?;
+        put_line(line, &self.columns, &self.places, &self.fields, style)
     }
 
     /// Appends the line that sums up a tree, as `summary_line` makes it.
@@ -138,22 +127,22 @@ impl LineWriter {
         ensures line { OnOk result (line.new.items ≡ line.old.items ++ summary_of tree.now) }
         ensures fields { self.new ≡ self.old }
     {
-        self.write_summary_source(line, &Source::of_tree(tree))
+        self.line.clear();
+        put_summary(&mut self.line, &Source::of_tree(tree))?;
+        line.extend_from_slice(self.line.text())?;
+        Ok(())
     }
 
     /// Appends the line that sums up a frame, as `write_summary` does for its tree.
     pub fn write_summary_source(
         &mut self,
-        line: &mut Vec<u8>,
+        line: &mut Slab,
         source: &Source<'_>,
     ) -> Result<(), NoMemory>
-        ensures line { OnOk result (line.new.items ≡ line.old.items ++ summary_of source.now) }
+        ensures line { OnOk result (line.new ≡ line.old ++ summary_of source.now) }
         ensures fields { self.new ≡ self.old }
     {
-        self.line.clear();
-        put_summary(&mut self.line, source)?;
-        line.extend_from_slice(self.line.text())?;
-        Ok(())
+        put_summary(line, source)
     }
 }
 

@@ -15,12 +15,13 @@ use Rattle.pk_source.proofs.OutlineLaws.{outline_values}
 use Rattle.pk_source.proofs.SingleLemmas.{more_headers, none_told, passed_header}
 use Rattle.pk_source.specs.Found.{IsOnlyFrom, IsOnlyOf, IsReadable, all_told, asked_told, fields_told, header_told, note_told, notes_told, rows_told, value_at}
 use Rattle.pk_source.specs.Outlines.{IsOutline, outlined, sizes_of}
-use Rattle.pk_source.specs.Picks.{IsPickedIn, IsRowIn, picked_told}
+use Rattle.pk_source.specs.Picks.{IsPicked, IsPickedIn, IsRowIn, Knows, pick_at, picked_told}
 use Rattle.pk_source.specs.declared.found.Asked.{Asked}
 use Rattle.pk_source.specs.declared.header.Header.{Header}
 use Rattle.pk_source.specs.declared.header.Note.{Note}
 use Rattle.pk_source.specs.declared.header.Told.{Told}
 use Rattle.pk_source.specs.declared.header.Told.TheVariants.{Read}
+use Rattle.pk_source.specs.declared.picks.Picks.{Picks}
 use Rattle.pk_source.specs.declared.picks.Picks.TheVariants as picks
 use Rattle.pk_tree.specs.FieldValues.{values_of}
 use Rattle.pk_tree.specs.Values.{is_proto}
@@ -127,3 +128,13 @@ kth_value bytes wanted headers notes field k found is at =
 pub no_second : (values : List Value) → slice_get values 0 ≡ None → false ≡ is_some (slice_get values 1)
 no_second [] none = refl
 no_second (value ∷ values) none = absurd (cc)
+
+-- a row of the only header, by what is known of the places of all fields
+pub lone_told : (wanted : List ℕ) (headers : List Header) (notes : List Note) (places : List Picks) (field number : ℕ) (h : Header) (span : Span) → pick_at places field ≡ picks.Once number
+    → is_proto (row_of field).kind ≡ false → is_in wanted field ≡ true → notes_told field notes ≡ [] → ForAll (Knows places) headers → IsOnlyOf (row_of field).proto headers h
+    → IsRowIn h number field AllLayers span → all_told wanted headers notes field AllLayers ≡ Read span ∷ []
+lone_told wanted headers notes places field number h span once kind wants untold known only row =
+    let asked : Asked = record { field = field; home = (row_of field).proto; picks = picks.Once number } in
+    let picked : ForAll (IsPickedIn asked) headers =
+    λ k d below own. subst (IsPicked field (get_or headers k d).slots.now) once (known k d below field (sym own)) in
+    only_row_told wanted headers notes asked h number (Some span) refl refl kind wants untold picked only row

@@ -3,4 +3,5 @@ pub mod Found
 pub mod Laws
 pub mod Outlines
 pub mod Picks
+pub mod Readers
 pub mod Sources

@@ -1,6 +1,7 @@
 // Where the values of a field stand, counted from 0.
 ghost use Rattle.std.specs.Prelude.{◌≡◌, ◌+◌, ◌<◌, ◌≤◌, ◌^◌, ◌∷◌, [], true, false, Bool as Truth, List, ℕ, IfSome, Some, option_to_list, slice_get, slice_index_or, length};
 ghost use Rattle.std.specs.List.{All as ForAll};
+ghost use Rattle.pk_fields.specs.FieldSets.{is_in};
 ghost use Rattle.pk_fields.specs.Fields.{row_of};
 ghost use Rattle.pk_base.specs.declared.chosen.Layers.{Layers as LayersShown};
 ghost use Rattle.pk_source.specs.Found.{IsOnlyFrom, IsOnlyOf, all_told, asked_told, fields_told, first_told, header_told, is_alone, is_asked, kth, layer_told, layers_told, note_told, notes_told, rows_told, slot_told, some_read, there, told_in};
@@ -92,6 +93,35 @@ pub(crate) fn only_row(
         Some(header) => row_in(header, number, asked.field, &Layers::All),
         None => None,
     }
+}
+
+/// The only header of a protocol, sought once for several of its fields.
+#[inline(never)]
+pub(crate) fn lone_header(headers: &[Header], home: FieldId) -> Option<&Header>
+    ensures { IfSome result (λ header. IsOnlyOf home headers.now header.now) }
+{
+    only_header(headers, home)
+}
+
+/// The bytes of a wanted field that a row of a fixed place reads in a header, where nothing is told of it beside.
+#[inline(always)]
+pub(crate) fn lone_row(
+    wanted: &FieldSet,
+    notes: &[Note],
+    header: &Header,
+    number: u8,
+    field: FieldId,
+) -> Option<Span>
+    requires end { header.now.span.start + header.now.span.len < 2 ^ 32 }
+    requires known { SlotsKnown header.now.span.len (sizes_of header.now) header.now.slots.now }
+    ensures wants { IfSome result (λ _. is_in wanted.now field ≡ true) }
+    ensures untold { IfSome result (λ _. notes_told field notes.now ≡ []) }
+    ensures row { IfSome result (IsRowIn header.now number field Layers.All) }
+{
+    if !wanted.contains(field) || !is_untold(notes, field) {
+        return None;
+    }
+    row_in(header, number, field, &Layers::All)
 }
 
 /// What is told of a field beside the only header of its protocol, whose table doesn't read the field, where that is one note. Of

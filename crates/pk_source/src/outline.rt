@@ -14,6 +14,7 @@ use crate::first::{First, FirstFound, first_of};
 use crate::found::{Asked, find, find_in, is_protocol, only_note, only_row};
 use crate::header::{Header, Note, Told};
 use crate::picks::Places;
+use crate::reader::{Parts, Reader};
 use crate::reading::{part_at, read_value};
 use pk_base::{Layers, NoMemory, Octets, Value};
 use pk_fields::{FieldId, FieldSet, proto};
@@ -202,6 +203,20 @@ impl<'f> Outline<'f> {
                 more: false,
             },
         }
+    }
+
+    /// What reads its fields one after the other.
+    #[inline(always)]
+    pub fn reader(&self) -> Reader<'f>
+        ensures { result ≡ self.now }
+    {
+        Reader::new(Parts {
+            bytes: self.bytes,
+            wanted: self.wanted,
+            headers: self.headers,
+            notes: self.notes,
+            places: self.places,
+        })
     }
 
     /// How many layers the headers make.

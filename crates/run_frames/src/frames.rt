@@ -22,11 +22,10 @@ ghost use Rattle.run_frames.specs.Taken.{IsTreeLent, heads_tree};
 
 use crate::judge::{Judge, judge_for, verdict_of};
 use crate::later::Later;
-use crate::notes::Notes;
+use crate::notes::{Notes, asks_notes, note_tree};
 use crate::owned::give_up_writer;
 use crate::packet::write_packet;
 use crate::plan::Plan;
-use crate::tables::has_tables;
 use crate::taken::{Taken, goes_plain, take_fed, take_heads, take_tree};
 use capture_read::Frame;
 use capture_write::{Format, Writer};
@@ -37,6 +36,7 @@ use pk_base::NoMemory;
 use pk_fields::{DecodeAs, FieldSet};
 use pk_outside::{Sink, SinkFault, write_whole};
 use pk_source::{Lender, Source};
+use pk_text::Slab;
 use pk_tree::Tree;
 use shark_words::LineKind;
 use std::alloc::Global;
@@ -84,7 +84,7 @@ pub struct LineMaker<'p> {
     pub judge: Option<Judge<'p>>,
     pub writer: LineWriter,
     pub(crate) json: JsonWriter,
-    pub(crate) line: Vec<u8>,
+    pub(crate) line: Slab,
     pub notes: Notes,
     pub capture: Writer,
     /// Where the headers of a plain frame will stand, once there was one.
@@ -126,7 +126,7 @@ pub fn new_line_maker(alloc: Global, plan: &Plan) -> Result<LineMaker<'_>, NoMem
                 judge,
                 writer,
                 json: JsonWriter::new(alloc),
-                line: Vec::new(alloc),
+                line: Slab::new(alloc),
                 notes,
                 capture,
                 heads: None,
@@ -150,8 +150,8 @@ fn put_line(
     requires lent { shown_by lender.now ≡ source.now }
     requires tree { kind_of plan.now ≡ LineKind.Json → IsTreeLent lender.now }
     requires writer { lines.old.writer ≡ plan.now.fields }
-    requires empty { lines.old.line.items ≡ [] }
-    ensures line { OnOk result (lines.new.line.items ≡ line_of plan.now source.now) }
+    requires empty { lines.old.line ≡ [] }
+    ensures line { OnOk result (lines.new.line ≡ line_of plan.now source.now) }
     ensures judge { lines.new.judge ≡ lines.old.judge }
     ensures writer { lines.new.writer ≡ lines.old.writer }
     ensures notes { lines.new.notes ≡ lines.old.notes }
@@ -166,13 +166,13 @@ fn put_line(
 }
 
 // Puts the line of a tree, as JSON.
-fn put_json(json: &mut JsonWriter, line: &mut Vec<u8>, lender: &Lender<'_>) -> Result<(), NoMemory>
+fn put_json(json: &mut JsonWriter, line: &mut Slab, lender: &Lender<'_>) -> Result<(), NoMemory>
     requires tree { IsTreeLent lender.now }
-    requires empty { line.old.items ≡ [] }
-    ensures { OnOk result (line.new.items ≡ json_line_of (shown_by lender.now)) }
+    requires empty { line.old ≡ [] }
+    ensures { OnOk result (line.new ≡ json_line_of (shown_by lender.now)) }
 {
     match *lender {
-        Lender::Tree(tree) => json.write(line, tree),
+        Lender::Tree(tree) => json.write_to(line, tree),
         Lender::Outline(_) => unreachable!(),
     }
 }
@@ -184,13 +184,7 @@ fn asks_filter(plan: &Plan) -> bool
     ensures stats { result ≡ false → stats_of plan.now ≡ false }
     ensures tables { result ≡ false → asks_tables plan.now ≡ false }
 {
-    if plan.source.is_generated() || plan.stats {
-        return true;
-    }
-    if !plan.quiet {
-        return true;
-    }
-    has_tables(plan)
+    !plan.quiet || asks_notes(plan)
 }
 
 // Whether no line of a tree is made.
@@ -214,7 +208,7 @@ fn make_line(
     requires judge { lines.old.judge ≡ compiled_of plan.now }
     requires writer { lines.old.writer ≡ plan.now.fields }
     requires few { AreFewNotes (2 ^ 28) lines.old.notes }
-    ensures line { OnOk result (lines.new.line.items ≡ shown plan.now source.now) }
+    ensures line { OnOk result (lines.new.line ≡ shown plan.now source.now) }
     ensures noted { OnOk result (HasNoted plan.now source.now lines.old.notes lines.new.notes) }
     ensures judge { lines.new.judge ≡ lines.old.judge }
     ensures writer { lines.new.writer ≡ lines.old.writer }
@@ -225,7 +219,7 @@ fn make_line(
         return Ok(());
     }
     let verdict = verdict_of(&mut lines.judge, source)?;
-    lines.notes.note(plan, source, verdict)?;
+    note_tree(plan, source, verdict, &mut lines.notes)?;
     if is_quiet(plan) {
         return Ok(());
     }
@@ -260,7 +254,7 @@ fn write_tree<O: Sink>(
     ensures few { AreOneMore lines.old.notes lines.new.notes }
 {
     match make_line(plan, source, lender, lines) {
-        Ok(()) => write_whole(out, lines.line.as_slice()),
+        Ok(()) => write_whole(out, lines.line.text()),
         Err(NoMemory) => Err(SinkFault::NoMemory),
     }
 }

@@ -1,13 +1,14 @@
 // What is noted of frames beside their lines.
-ghost use Rattle.std.specs.Prelude.{◌≡◌, ◌≤◌, ◌+◌, ◌*◌, ◌^◌, ℕ, suc, [], OnOk};
-ghost use Rattle.run_frames.specs.Accessors.{compiled_of};
+ghost use Rattle.std.specs.Prelude.{◌≡◌, ◌≤◌, ◌+◌, ◌*◌, ◌^◌, ℕ, suc, false, [], OnOk};
+ghost use Rattle.run_frames.specs.Accessors.{compiled_of, is_generated, stats_of};
 ghost use Rattle.run_frames.specs.Totals.{steps_told, AreFew, counts_by, nothing_counted};
 ghost use Rattle.run_frames.specs.Job.{Passes, job_in};
 ghost use Rattle.run_frames.specs.Notes.{AreFewNotes, AreNotes, AreOneMore, HasNoted};
 ghost use Rattle.run_frames.specs.Satisfied.{judged};
+ghost use Rattle.run_frames.specs.Tables.{asks_tables};
 
 use crate::plan::Plan;
-use crate::tables::Tables;
+use crate::tables::{Tables, has_tables};
 use crate::totals::Totals;
 use flt_vm::Verdict;
 use pk_base::NoMemory;
@@ -60,6 +61,35 @@ impl Notes {
         } else {
             Ok(())
         }
+    }
+}
+
+/// Whether what stands behind the lines asks for notes of trees.
+pub(crate) fn asks_notes(plan: &Plan) -> bool
+    ensures file { result ≡ false → is_generated plan.now ≡ false }
+    ensures stats { result ≡ false → stats_of plan.now ≡ false }
+    ensures tables { result ≡ false → asks_tables plan.now ≡ false }
+{
+    plan.source.is_generated() || plan.stats || has_tables(plan)
+}
+
+/// Notes one tree more, where that is asked for.
+#[tactic(auto, using(crate::proofs::NoteLemmas::noted_nothing, crate::proofs::NoteLemmas::one_more_same))]
+pub(crate) fn note_tree(
+    plan: &Plan,
+    source: &Source<'_>,
+    verdict: Verdict,
+    notes: &mut Notes,
+) -> Result<(), NoMemory>
+    requires few { AreFewNotes (2 ^ 28) notes.old }
+    requires verdict { verdict ≡ judged (compiled_of plan.now) source.now }
+    ensures noted { OnOk result (HasNoted plan.now source.now notes.old notes.new) }
+    ensures few { AreOneMore notes.old notes.new }
+{
+    if asks_notes(plan) {
+        notes.note(plan, source, verdict)
+    } else {
+        Ok(())
     }
 }
 

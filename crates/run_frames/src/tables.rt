@@ -81,6 +81,9 @@ pub fn asks_table(plan: &Plan, kind: StatKind) -> bool
 pub(crate) fn has_tables(plan: &Plan) -> bool
     ensures { result ≡ asks_tables plan.now }
 {
+    if plan.reports.slice().is_empty() {
+        return false;
+    }
     asks_table(plan, StatKind::ConvTcp)
         || asks_table(plan, StatKind::ConvIp)
         || asks_table(plan, StatKind::Phs)

@@ -3,6 +3,7 @@ use out_lines::{LineWriter, Occurrence, Quote, Style};
 use pk_base::NoMemory;
 use pk_fields::{FieldId, by_name};
 use pk_source::Source;
+use pk_text::Slab;
 use std::alloc::Global;
 
 /// Whether a source has this line of columns. Asked for are names of fields and two letters: the occurrence `f`, `l` or `a`
@@ -68,7 +69,7 @@ fn writes(
 ) -> Result<bool, NoMemory> {
     let mut writer = LineWriter::new(alloc, fields)?;
     let line = line_of(alloc, &mut writer, source, style)?;
-    Ok(is_line(&line, expected))
+    Ok(is_line(line.text(), expected))
 }
 
 fn line_of(
@@ -76,8 +77,8 @@ fn line_of(
     writer: &mut LineWriter,
     source: &Source<'_>,
     style: &Style,
-) -> Result<Vec<u8>, NoMemory> {
-    let mut line = Vec::new(alloc);
+) -> Result<Slab, NoMemory> {
+    let mut line = Slab::new(alloc);
     writer.write_source(&mut line, source, style)?;
     Ok(line)
 }
@@ -90,15 +91,15 @@ pub(crate) fn has_summary(
 ) -> Result<bool, NoMemory> {
     let mut writer = LineWriter::new(alloc, &[])?;
     let line = summary_of(alloc, &mut writer, source)?;
-    Ok(is_line(&line, expected))
+    Ok(is_line(line.text(), expected))
 }
 
 fn summary_of(
     alloc: Global,
     writer: &mut LineWriter,
     source: &Source<'_>,
-) -> Result<Vec<u8>, NoMemory> {
-    let mut line = Vec::new(alloc);
+) -> Result<Slab, NoMemory> {
+    let mut line = Slab::new(alloc);
     writer.write_summary_source(&mut line, source)?;
     Ok(line)
 }

@@ -2,7 +2,7 @@ use Rattle.std.proofs.Common.{◌++◌, List, ℕ, ap, sym, ◌∙◌, append_as
 use Rattle.std.proofs.lemmas.Result.{on_ok_weaker}
 use Rattle.out_lines.specs.Joined.{all_values, further, shown_at}
 use Rattle.out_lines.proofs.JoinedLemmas.{all_joined, first_shown, one_joined}
-use Rattle.out_lines.proofs.headers_line.put_all_here.Goals as goal
+use Rattle.out_lines.proofs.headers_line.put_all.Goals as goal
 
 pub returns-then-found : goal.returns-then-found
 returns-then-found c =
