@@ -6,12 +6,10 @@ use Rattle.std.specs.Prelude.{OnOk, Result, Ok, Err}
 use Rattle.std.specs.Global.{Box}
 use Rattle.flt_code.specs.Code.{Adds, CodeRight, IsAmong, IsCode, IsMatch, IsPatternAt, Joins, LoadsTerm, Then, turned}
 use Rattle.flt_code.specs.Owners.{Grows, IsOwned, Owner, OfPart}
-use Rattle.flt_code.specs.Spines.{Stands, left_of, patterns_right, sources_of}
+use Rattle.flt_chains.specs.Parts.{left_of_filter}
 use Rattle.flt_code.proofs.Growth.{code_grows}
 use Rattle.flt_code.proofs.LoadLemmas.{adds_on, loads_on, owned_on, some_same}
-use Rattle.flt_code.proofs.SpineLemmas.{part_size}
 use Rattle.flt_code.proofs.OwnerLemmas.{get_last}
-use Rattle.flt_mean.specs.Chains.{parts}
 use Rattle.flt_typed.specs.declared.pattern.Pattern.{Pattern}
 use Rattle.flt_syntax.specs.declared.ast.Choice.{Choice}
 use Rattle.flt_typed.specs.declared.typed.Member.{Member}
@@ -20,6 +18,7 @@ use Rattle.flt_typed.specs.declared.typed.Typed.{Typed}
 use Rattle.flt_typed.specs.declared.typed.Typed.TheVariants.{Either', Differ', Both', Not', Exists, AnyBit, Compare, Among, Matches}
 use Rattle.flt_typed.specs.declared.arithmetic.Extreme.TheVariants.{Least}
 use Rattle.flt_program.specs.Programs.{patterns_of}
+use Rattle.flt_program.specs.Sources.{patterns_right, sources_of}
 use Rattle.flt_program.specs.declared.instr.Instr.{Instr}
 use Rattle.flt_program.specs.declared.instr.Instr.TheVariants as instr
 
@@ -27,38 +26,8 @@ pub code_on : (os new : List Owner) (ps qs more : List (List ℕ)) (filter : Typ
 code_on os new ps qs more filter code g is c =
     subst (λ xs. IsCode xs qs filter code) (sym g.1) (subst (λ ys. IsCode (os ++ g.0) ys filter code) (sym is) (code_grows os g.0 ps more filter code c))
 
-pub smaller_part : (a b : Typed) → left_of a ≡ Some b → parts b < parts a
-smaller_part (Either' p left q right) b is = let same : left ≡ b = some_same left b is in let e = ap parts same in omega (arith, e)
-smaller_part (Differ' p left q right) b is = let same : left ≡ b = some_same left b is in let e = ap parts same in omega (arith, e)
-smaller_part (Both' p left q right) b is = let same : left ≡ b = some_same left b is in let e = ap parts same in omega (arith, e)
-smaller_part (Not' p filter) b is = cc
-smaller_part (Exists term) b is = cc
-smaller_part (AnyBit term) b is = cc
-smaller_part (Compare relation choice left right) b is = cc
-smaller_part (Among negated choice term members) b is = cc
-smaller_part (Matches choice term pattern) b is = cc
-
-pub part_within : (whole : Typed) (ns : List (Bor Typed)) (part : Typed) → Stands left_of whole ns part → parts part ≤ parts whole
-part_within whole ns part s = part_size left_of parts smaller_part whole ns part s
-
--- the patterns of a filter are those of its left side, and then those of its right one
-patterns_parted : (filter part : Typed) → left_of filter ≡ Some part → patterns_of filter ≡ patterns_of part ++ patterns_right filter
-patterns_parted (Either' p left q right) part is = ap (λ x. patterns_of x ++ patterns_of right) (some_same left part is)
-patterns_parted (Differ' p left q right) part is = ap (λ x. patterns_of x ++ patterns_of right) (some_same left part is)
-patterns_parted (Both' p left q right) part is = ap (λ x. patterns_of x ++ patterns_of right) (some_same left part is)
-patterns_parted (Not' p filter) part is = cc
-patterns_parted (Exists term) part is = cc
-patterns_parted (AnyBit term) part is = cc
-patterns_parted (Compare relation choice left right) part is = cc
-patterns_parted (Among negated choice term members) part is = cc
-patterns_parted (Matches choice term pattern) part is = cc
-
-pub patterns_next : (old ps qs : List (List ℕ)) (filter part : Typed) → left_of filter ≡ Some part → ps ≡ old ++ patterns_of part → qs ≡ ps ++ patterns_right filter → qs ≡ old ++ patterns_of filter
-patterns_next old ps qs filter part is first second =
-    second ∙ ap (λ xs. xs ++ patterns_right filter) first ∙ append_assoc old (patterns_of part) (patterns_right filter) ∙ ap (λ xs. old ++ xs) (sym (patterns_parted filter part is))
-
 -- the code of a whole filter: that of its left side, and what stands behind it
-right_code : (os new : List Owner) (ps qs : List (List ℕ)) (filter part : Typed) (front back : List Instr) → left_of filter ≡ Some part → Grows os new → qs ≡ ps ++ patterns_right filter → IsCode os ps part front →
+right_code : (os new : List Owner) (ps qs : List (List ℕ)) (filter part : Typed) (front back : List Instr) → left_of_filter filter ≡ Some part → Grows os new → qs ≡ ps ++ patterns_right filter → IsCode os ps part front →
     CodeRight new qs filter back → IsCode new qs filter (front ++ back)
 right_code os new ps qs (Either' p left q right) part front back is g more first second =
     let one = code_on os new ps qs (patterns_of right) left front g more (subst (λ t. IsCode os ps t front) (sym (some_same left part is)) first) in
@@ -69,14 +38,9 @@ right_code os new ps qs (Both' p left q right) part front back is g more first s
 right_code os new ps qs (Differ' p left q right) part front back is g more first second =
     let one = code_on os new ps qs (patterns_of right) left front g more (subst (λ t. IsCode os ps t front) (sym (some_same left part is)) first) in
     (second.0, front, second.1, second.2, one, second.3, ap (λ xs. front ++ xs) second.4)
-right_code os new ps qs (Not' p filter) part front back is g more first second = cc
-right_code os new ps qs (Exists term) part front back is g more first second = cc
-right_code os new ps qs (AnyBit term) part front back is g more first second = cc
-right_code os new ps qs (Compare relation choice left right) part front back is g more first second = cc
-right_code os new ps qs (Among negated choice term members) part front back is g more first second = cc
-right_code os new ps qs (Matches choice term pattern) part front back is g more first second = cc
+right_code os new ps qs filter part front back is g more first second = cc
 
-pub code_right : (os new : List Owner) (ps qs : List (List ℕ)) (filter part : Typed) (before middle after : List Instr) → left_of filter ≡ Some part → Grows os new → qs ≡ ps ++ patterns_right filter →
+pub code_right : (os new : List Owner) (ps qs : List (List ℕ)) (filter part : Typed) (before middle after : List Instr) → left_of_filter filter ≡ Some part → Grows os new → qs ≡ ps ++ patterns_right filter →
     Adds (IsCode os ps part) before middle → Adds (CodeRight new qs filter) middle after → Adds (IsCode new qs filter) before after
 code_right os new ps qs filter part before middle after is g more first second =
     (first.0 ++ second.0, right_code os new ps qs filter part first.0 second.0 is g more first.1 second.1, adds_on before middle after first.0 second.0 first.2 second.2)

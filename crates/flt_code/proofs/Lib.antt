@@ -9,6 +9,5 @@ pub mod OwnerLemmas
 pub mod ReadKinds
 pub mod Registers
 pub mod Runs
-pub mod SpineLemmas
 pub mod TypesAllow
 pub mod ValueKinds

@@ -4,10 +4,8 @@ use Rattle.std.specs.Global.{Box, Vec}
 use Rattle.std.specs.Prelude.{IfOk, Result, Ok, Err}
 use Rattle.flt_code.specs.Code.{Adds, Chooses, Joins, Loads, LoadsCall, LoadsExtreme, LoadsRight, Makes, Sets, Then, is_several}
 use Rattle.flt_code.specs.Owners.{Grows, IsOwned, Owner, OfTerm, OfExtreme}
-use Rattle.flt_code.specs.Spines.{Stands, left_of_term}
+use Rattle.flt_chains.specs.Parts.{left_of_term}
 use Rattle.flt_code.proofs.Growth.{get_more, loads_grow}
-use Rattle.flt_code.proofs.SpineLemmas.{part_size}
-use Rattle.flt_mean.specs.Terms.{terms_in}
 use Rattle.flt_syntax.specs.declared.ast.Arithmetic.{Arithmetic}
 use Rattle.flt_syntax.specs.declared.ast.Function.{Function}
 use Rattle.flt_syntax.specs.declared.ast.RangePart.{RangePart}
@@ -27,19 +25,6 @@ owned_on os new r o g own = subst (λ xs. IsOwned xs r o) (sym g.1) (get_more os
 
 pub loads_on : (os new : List Owner) (e : Extreme) (term : Term) (r : ℕ) (code : List Instr) → Grows os new → Loads os e term r code → Loads new e term r code
 loads_on os new e term r code g l = subst (λ xs. Loads xs e term r code) (sym g.1) (loads_grow os g.0 e term r code l)
-
--- a left part is smaller
-pub smaller_term : (a b : Term) → left_of_term a ≡ Some b → terms_in b < terms_in a
-smaller_term (terms.Computed' x p left q right) b is = let same : left ≡ b = some_same left b is in let e = ap terms_in same in omega (arith, e)
-smaller_term (terms.Arguments' p left q right) b is = let same : left ≡ b = some_same left b is in let e = ap terms_in same in omega (arith, e)
-smaller_term (terms.Constant c) b is = cc
-smaller_term (terms.Field field layers) b is = cc
-smaller_term (terms.Slice' p term ranges) b is = cc
-smaller_term (terms.Mask' p term mask) b is = cc
-smaller_term (terms.Called' f p term) b is = cc
-
-pub term_within : (whole : Term) (ns : List (Bor Term)) (part : Term) → Stands left_of_term whole ns part → terms_in part ≤ terms_in whole
-term_within whole ns part s = part_size left_of_term terms_in smaller_term whole ns part s
 
 -- one register made of another
 pub makes : (os new : List Owner) (e : Extreme) (o : Owner) (inner term : Term) (next : ℕ → Instr) (r q : ℕ) (front code : List Instr) → inner ≡ term → Loads os e inner q front → Grows os new →
@@ -86,11 +71,7 @@ right_loads os new e (terms.Computed' a p left q right) part l r front back is g
 right_loads os new e (terms.Arguments' p left q right) part l r front back is g first second =
     let one = loads_on os new e left l front g (subst (λ t. Loads os e t l front) (sym (some_same left part is)) first) in
     right_joins new (OfExtreme e (terms.Arguments' p left q right)) (Loads new e left) (Loads new e right) (λ x y. instr.Choose r e x y) l r front back one second
-right_loads os new e (terms.Constant c) part l r front back is g first second = cc
-right_loads os new e (terms.Field field layers) part l r front back is g first second = cc
-right_loads os new e (terms.Slice' p term ranges) part l r front back is g first second = cc
-right_loads os new e (terms.Mask' p term mask) part l r front back is g first second = cc
-right_loads os new e (terms.Called' f p term) part l r front back is g first second = cc
+right_loads os new e term part l r front back is g first second = cc
 
 pub adds_right : (os new : List Owner) (e : Extreme) (term part : Term) (l r : ℕ) (before middle after : List Instr) → left_of_term term ≡ Some part → Grows os new → Adds (Loads os e part l) before middle →
     Adds (LoadsRight new e term l r) middle after → Adds (Loads new e term r) before after

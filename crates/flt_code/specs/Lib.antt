@@ -2,4 +2,3 @@ pub mod Code
 pub mod Decides
 pub mod Laws
 pub mod Owners
-pub mod Spines

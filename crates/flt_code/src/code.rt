@@ -1,17 +1,17 @@
 // The code that sets the flag to the truth of a filter.
-ghost use Rattle.std.specs.Prelude.{◌≡◌, ◌++◌, [], ◌∷◌, IsTrue, OnOk, Some};
+ghost use Rattle.std.specs.Prelude.{◌≡◌, ◌++◌, [], ◌∷◌, None, OnOk, Some};
 ghost use Rattle.flt_code.specs.Code.{Adds, CodeRight, IsAmong, IsCode, IsMatch, Joins, LoadsTerm};
 ghost use Rattle.flt_code.specs.Owners.{Grows, owners_of};
-ghost use Rattle.flt_code.specs.Spines.{left_of, patterns_right, sources_of};
-ghost use Rattle.flt_mean.specs.Chains.{is_single};
+ghost use Rattle.flt_chains.specs.Parts.{left_of_filter};
 ghost use Rattle.flt_typed.specs.declared.typed.Typed.{Typed as TypedValue};
 ghost use Rattle.flt_program.specs.Programs.{patterns_of};
+ghost use Rattle.flt_program.specs.Sources.{patterns_right, sources_of};
 ghost use Rattle.flt_program.specs.declared.instr.Instr.TheVariants as instr;
 
 use crate::emits::{emit, emit_at};
 use crate::load::load;
 use crate::owners::{Owner, own};
-use crate::spines::filter_below;
+use flt_chains::{Chain, chain_of};
 use flt_program::{Instr, copied_members};
 use flt_syntax::Choice;
 use flt_typed::{Extreme, Member, Pattern, Relation, Term, Typed};
@@ -35,8 +35,7 @@ pub(crate) fn code_for<'f>(
     ensures patterns { OnOk result (sources_of patterns.new.items
         ≡ sources_of patterns.old.items ++ patterns_of filter.now) }
 {
-    let mut above = Vec::new(alloc);
-    let first = filter_below(filter, &mut above)?;
+    let Chain { first, mut above } = chain_of(alloc, filter)?;
     code_alone(alloc, first, owners, patterns, code)?;
     'above: while let Some(next) = above.pop() {
         code_joined(alloc, next, owners, patterns, code)?;
@@ -53,7 +52,7 @@ fn code_joined<'f>(
     patterns: &mut Vec<&'f Pattern>,
     code: &mut Vec<Instr>,
 ) -> Result<(), NoMemory>
-    requires { (part : TypedValue) × (left_of filter.now ≡ Some part) }
+    requires { (part : TypedValue) × (left_of_filter filter.now ≡ Some part) }
     ensures code { OnOk result
         (Adds (CodeRight (owners_of owners.new.items) (sources_of patterns.new.items) filter.now)
         code.old.items code.new.items) }
@@ -101,7 +100,7 @@ fn code_alone<'f>(
     patterns: &mut Vec<&'f Pattern>,
     code: &mut Vec<Instr>,
 ) -> Result<(), NoMemory>
-    requires { IsTrue (is_single filter.now) }
+    requires { left_of_filter filter.now ≡ None }
     ensures code { OnOk result
         (Adds (IsCode (owners_of owners.new.items) (sources_of patterns.new.items) filter.now)
         code.old.items code.new.items) }

@@ -7,7 +7,6 @@ mod emits;
 mod laws;
 mod load;
 mod owners;
-mod spines;
 
 pub use compiler::compile;
 pub use laws::filters_have_programs;

@@ -1,9 +1,8 @@
 // The code that sets a register to the values of a term.
-ghost use Rattle.std.specs.Prelude.{◌≡◌, IfOk, IsTrue, OnOk, Some};
+ghost use Rattle.std.specs.Prelude.{◌≡◌, None, IfOk, OnOk, Some};
 ghost use Rattle.flt_code.specs.Code.{Adds, Loads, LoadsCall, LoadsExtreme, LoadsRight, Makes, Sets, is_several as is_several_term};
 ghost use Rattle.flt_code.specs.Owners.{Grows, IsOwned, OfTerm, owners_of};
-ghost use Rattle.flt_code.specs.Spines.{left_of_term};
-ghost use Rattle.flt_mean.specs.Terms.{is_part};
+ghost use Rattle.flt_chains.specs.Parts.{left_of_term};
 ghost use Rattle.flt_syntax.specs.declared.ast.Function.TheVariants.{Count};
 ghost use Rattle.flt_typed.specs.declared.typed.Term.{Term as TermValue};
 ghost use Rattle.flt_typed.specs.declared.typed.Term.TheVariants.{Field};
@@ -12,7 +11,7 @@ ghost use Rattle.flt_program.specs.declared.instr.Instr.TheVariants as instr;
 
 use crate::emits::emit_to;
 use crate::owners::{Owner, own, register_for};
-use crate::spines::term_below;
+use flt_chains::{Chain, chain_of};
 use flt_program::{Instr, copied_layers, copied_ranges};
 use flt_syntax::{Function, RangePart};
 use flt_typed::{Constant, Extreme, Term};
@@ -34,8 +33,7 @@ pub(crate) fn load<'f>(
         code.old.items code.new.items) }
     ensures grows { OnOk result (Grows (owners_of owners.old.items) (owners_of owners.new.items)) }
 {
-    let mut above = Vec::new(alloc);
-    let first = term_below(term, &mut above)?;
+    let Chain { first, mut above } = chain_of(alloc, term)?;
     let mut register = load_part(alloc, extreme, first, owners, code)?;
     'above: while let Some(next) = above.pop() {
         register = load_joined(alloc, extreme, register, next, owners, code)?;
@@ -90,7 +88,7 @@ fn load_part<'f>(
     owners: &mut Vec<Owner<'f>>,
     code: &mut Vec<Instr>,
 ) -> Result<usize, NoMemory>
-    requires { IsTrue (is_part term.now) }
+    requires { left_of_term term.now ≡ None }
     ensures code { IfOk result (λ r. Adds (Loads (owners_of owners.new.items) extreme term.now r)
         code.old.items code.new.items) }
     ensures grows { OnOk result (Grows (owners_of owners.old.items) (owners_of owners.new.items)) }

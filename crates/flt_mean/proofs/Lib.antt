@@ -1,3 +1,2 @@
-pub mod ChainLemmas
+pub mod JoinedLemmas
 pub mod KeptMeaning
-pub mod TermLemmas

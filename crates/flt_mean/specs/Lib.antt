@@ -1,5 +1,4 @@
-pub mod Chains
+pub mod Joined
 pub mod Laws
 pub mod Meaning
-pub mod Terms
 pub mod Values

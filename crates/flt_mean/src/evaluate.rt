@@ -1,15 +1,16 @@
 // The truth of a filter in a tree.
-ghost use Rattle.std.specs.Prelude.{◌≡◌, IfOk, IsTrue};
-ghost use Rattle.flt_mean.specs.Chains.{is_single};
+ghost use Rattle.std.specs.Prelude.{◌≡◌, None, IfOk};
 ghost use Rattle.flt_lists.specs.Passes.{compares, is_some_value, passes};
 ghost use Rattle.flt_lists.specs.Questions.{is_among, is_matched, is_so};
+ghost use Rattle.flt_mean.specs.Joined.{truth_with};
 ghost use Rattle.flt_mean.specs.Meaning.{exactly_one, meaning, opposite};
 ghost use Rattle.flt_mean.specs.Values.{prefix_of_term, values_of_term};
+ghost use Rattle.flt_chains.specs.Parts.{left_of_filter};
 
-use crate::chain::{Chain, chain_of};
 use crate::values::values_of_term;
+use flt_chains::{Chain, chain_of};
 use flt_lists::{Question, asks_field, compares, is_some_value, is_there, matched, passes};
-use flt_syntax::{Choice, Join};
+use flt_syntax::Choice;
 use flt_typed::{Member, Pattern, Relation, Term, Typed};
 use flt_typing::Filter;
 use pk_base::NoMemory;
@@ -23,24 +24,31 @@ pub fn holds(alloc: Global, filter: &Filter, tree: &Tree) -> Result<bool, NoMemo
     is_true(alloc, filter.root(), tree)
 }
 
-/// The same of a part of a filter. What stands to the right of a sign is asked only where it decides.
+/// The same of a part of a filter. The filters that signs join are asked one after the other, so that no call nests as deep
+/// as they do.
 #[cycle(truth)]
 fn is_true(alloc: Global, filter: &Typed, tree: &Tree) -> Result<bool, NoMemory>
     ensures { IfOk result (λ truth. truth ≡ meaning filter.now tree.now) }
 {
-    let Chain { first, mut rights } = chain_of(alloc, filter)?;
+    let Chain { first, mut above } = chain_of(alloc, filter)?;
     let mut truth = is_single_true(alloc, first, tree)?;
-    'rights: while let Some(right) = rights.pop() {
-        truth = match right.join {
-            Join::Or => truth || is_true(alloc, right.filter, tree)?,
-            Join::Xor => {
-                let other = is_true(alloc, right.filter, tree)?;
-                differ(truth, other)
-            }
-            Join::And => truth && is_true(alloc, right.filter, tree)?,
-        };
+    'above: while let Some(next) = above.pop() {
+        truth = is_joined_true(alloc, truth, next, tree)?;
     }
     Ok(truth)
+}
+
+/// The truth of what a sign joins, by that of its left side. What stands to the right is asked only where it decides.
+#[cycle(truth)]
+fn is_joined_true(alloc: Global, left: bool, filter: &Typed, tree: &Tree) -> Result<bool, NoMemory>
+    ensures { IfOk result (λ truth. truth ≡ truth_with filter.now left tree.now) }
+{
+    match filter {
+        Typed::Either(_, right) => Ok(left || is_true(alloc, right, tree)?),
+        Typed::Differ(_, right) => Ok(differ(left, is_true(alloc, right, tree)?)),
+        Typed::Both(_, right) => Ok(left && is_true(alloc, right, tree)?),
+        _ => Ok(left),
+    }
 }
 
 /// Whether exactly one of two is true.
@@ -53,7 +61,7 @@ fn differ(left: bool, right: bool) -> bool
 /// The same of a part that is no chain of signs.
 #[cycle(truth)]
 fn is_single_true(alloc: Global, filter: &Typed, tree: &Tree) -> Result<bool, NoMemory>
-    requires { IsTrue (is_single filter.now) }
+    requires { left_of_filter filter.now ≡ None }
     ensures { IfOk result (λ truth. truth ≡ meaning filter.now tree.now) }
 {
     match filter {

@@ -1,9 +1,10 @@
 // The values of a term in a tree.
-ghost use Rattle.std.specs.Prelude.{◌≡◌, ◌++◌, IfOk, IsTrue};
-ghost use Rattle.flt_mean.specs.Terms.{is_part, values_with};
+ghost use Rattle.std.specs.Prelude.{◌≡◌, ◌++◌, None, IfOk};
+ghost use Rattle.flt_mean.specs.Joined.{values_with};
 ghost use Rattle.flt_mean.specs.Values.{values_of_term};
+ghost use Rattle.flt_chains.specs.Parts.{left_of_term};
 
-use crate::terms::{Behind, Terms, terms_of};
+use flt_chains::{Chain, chain_of};
 use flt_lists::{calculated_values, called_values, masked_values, only, slices};
 use flt_typed::Term;
 use pk_base::{NoMemory, Value};
@@ -20,10 +21,10 @@ pub(crate) fn values_of_term(
 ) -> Result<Vec<Value>, NoMemory>
     ensures { IfOk result (λ values. values.items ≡ values_of_term term.now tree.now) }
 {
-    let Terms { first, mut behind } = terms_of(alloc, term)?;
+    let Chain { first, mut above } = chain_of(alloc, term)?;
     let mut values = values_of_part(alloc, first, tree)?;
-    'behind: while let Some(next) = behind.pop() {
-        values = with(alloc, values, &next, tree)?;
+    'above: while let Some(next) = above.pop() {
+        values = values_joined(alloc, values, next, tree)?;
     }
     Ok(values)
 }
@@ -31,7 +32,7 @@ pub(crate) fn values_of_term(
 /// The values of a term whose parts no sign or comma joins.
 #[cycle(values)]
 fn values_of_part(alloc: Global, term: &Term, tree: &Tree) -> Result<Vec<Value>, NoMemory>
-    requires { IsTrue (is_part term.now) }
+    requires { left_of_term term.now ≡ None }
     ensures { IfOk result (λ values. values.items ≡ values_of_term term.now tree.now) }
 {
     match term {
@@ -53,25 +54,26 @@ fn values_of_part(alloc: Global, term: &Term, tree: &Tree) -> Result<Vec<Value>,
     }
 }
 
-/// Values with those of what stands to the right of their sign or comma.
+/// The values of what a sign or comma joins, by those of its left part.
 #[cycle(values)]
-fn with(
+fn values_joined(
     alloc: Global,
-    values: Vec<Value>,
-    behind: &Behind<'_>,
+    left: Vec<Value>,
+    term: &Term,
     tree: &Tree,
 ) -> Result<Vec<Value>, NoMemory>
-    ensures { IfOk result (λ all. all.items ≡ values_with tree.now behind.now values.items) }
+    ensures { IfOk result (λ values. values.items ≡ values_with term.now left.items tree.now) }
 {
-    match behind {
-        Behind::Computes(operation, term) => {
-            let right = values_of_term(alloc, term, tree)?;
-            calculated_values(alloc, *operation, &values, &right)
+    match term {
+        Term::Computed(operation, _, right) => {
+            let right = values_of_term(alloc, right, tree)?;
+            calculated_values(alloc, *operation, &left, &right)
         }
-        Behind::Argument(term) => {
-            let right = values_of_term(alloc, term, tree)?;
-            beside(values, right)
+        Term::Arguments(_, right) => {
+            let right = values_of_term(alloc, right, tree)?;
+            beside(left, right)
         }
+        _ => Ok(left),
     }
 }
 

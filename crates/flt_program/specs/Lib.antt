@@ -4,5 +4,4 @@ pub mod Literals
 pub mod Parts
 pub mod Programs
 pub mod Sources
-pub mod Stacks
 pub mod Told

@@ -1,15 +1,15 @@
 // The patterns of a filter.
-ghost use Rattle.std.specs.Prelude.{◌≡◌, ◌<◌, ◌+◌, ◌++◌, [], ◌∷◌, IfOk, OnOk};
+ghost use Rattle.std.specs.Prelude.{◌≡◌, ◌++◌, [], ◌∷◌, None, IfOk, OnOk};
 ghost use Rattle.flt_program.specs.Programs.{patterns_of};
-ghost use Rattle.flt_program.specs.Sources.{sources_of};
-ghost use Rattle.flt_program.specs.Stacks.{patterns_left, size_left, size_of};
+ghost use Rattle.flt_program.specs.Sources.{patterns_right, sources_of};
+ghost use Rattle.flt_chains.specs.Parts.{left_of_filter};
 
+use flt_chains::{Chain, chain_of};
 use flt_typed::{Pattern, Typed};
 use pk_base::NoMemory;
 use std::alloc::Global;
 
-/// A filter's patterns, in its order, by which instructions number them. What is still to be looked at is kept in a list,
-/// so that no call nests as deep as the filter.
+/// A filter's patterns, in its order, by which instructions number them.
 pub fn patterns_in<'f>(alloc: Global, filter: &'f Typed) -> Result<Vec<&'f Pattern>, NoMemory>
     ensures { IfOk result (λ patterns. sources_of patterns.items ≡ patterns_of filter.now) }
 {
@@ -18,6 +18,9 @@ pub fn patterns_in<'f>(alloc: Global, filter: &'f Typed) -> Result<Vec<&'f Patte
     Ok(patterns)
 }
 
+/// Adds a filter's patterns. The filters that signs join are looked at one after the other, so that no call nests as deep as
+/// they do.
+#[cycle(patterns)]
 fn add_patterns<'f>(
     alloc: Global,
     patterns: &mut Vec<&'f Pattern>,
@@ -26,33 +29,47 @@ fn add_patterns<'f>(
     ensures { OnOk result (sources_of patterns.new.items
         ≡ sources_of patterns.old.items ++ patterns_of filter.now) }
 {
-    let mut left = Vec::new(alloc);
-    push_part(&mut left, filter)?;
-    'parts: while let Some(part) = left.pop() {
-        take_part(patterns, &mut left, part)?;
+    let Chain { first, mut above } = chain_of(alloc, filter)?;
+    add_single(alloc, patterns, first)?;
+    'above: while let Some(next) = above.pop() {
+        add_right(alloc, patterns, next)?;
     }
     Ok(())
 }
 
-/// The pattern of a part, or the parts that it is made of.
-fn take_part<'f>(
+/// Adds the patterns to the right of a filter's outermost sign.
+#[cycle(patterns)]
+fn add_right<'f>(
+    alloc: Global,
     patterns: &mut Vec<&'f Pattern>,
-    left: &mut Vec<&'f Typed>,
-    part: &'f Typed,
+    filter: &'f Typed,
 ) -> Result<(), NoMemory>
-    ensures patterns { OnOk result (sources_of patterns.new.items ++ patterns_left left.new.items
-        ≡ sources_of patterns.old.items ++ (patterns_of part.now ++ patterns_left left.old.items)) }
-    ensures smaller { OnOk result
-        (size_left left.new.items < size_left left.old.items + size_of part.now) }
+    ensures { OnOk result (sources_of patterns.new.items
+        ≡ sources_of patterns.old.items ++ patterns_right filter.now) }
 {
-    match part {
-        Typed::Either(first, second) => push_both(left, first, second),
-        Typed::Differ(first, second) => push_both(left, first, second),
-        Typed::Both(first, second) => push_both(left, first, second),
-        Typed::Not(inner) => push_part(left, inner),
+    match filter {
+        Typed::Either(_, right) | Typed::Differ(_, right) | Typed::Both(_, right) => {
+            add_patterns(alloc, patterns, right)
+        }
+        _ => Ok(()),
+    }
+}
+
+/// Adds the patterns of a filter that is no chain of signs.
+#[cycle(patterns)]
+fn add_single<'f>(
+    alloc: Global,
+    patterns: &mut Vec<&'f Pattern>,
+    filter: &'f Typed,
+) -> Result<(), NoMemory>
+    requires { left_of_filter filter.now ≡ None }
+    ensures { OnOk result (sources_of patterns.new.items
+        ≡ sources_of patterns.old.items ++ patterns_of filter.now) }
+{
+    match filter {
+        Typed::Not(inner) => add_patterns(alloc, patterns, inner),
         Typed::Matches(_, _, pattern) => push_pattern(patterns, pattern),
-        Typed::Exists(_) | Typed::AnyBit(_) => Ok(()),
-        Typed::Compare(_, _, _, _) | Typed::Among(_, _, _, _) => Ok(()),
+        _ => Ok(()),
     }
 }
 
@@ -61,31 +78,5 @@ fn push_pattern<'f>(patterns: &mut Vec<&'f Pattern>, pattern: &'f Pattern) -> Re
         ≡ sources_of patterns.old.items ++ pattern.now ∷ []) }
 {
     patterns.push(pattern)?;
-    Ok(())
-}
-
-/// Two parts, of which the first one is looked at first.
-fn push_both<'f>(
-    left: &mut Vec<&'f Typed>,
-    first: &'f Typed,
-    second: &'f Typed,
-) -> Result<(), NoMemory>
-    ensures patterns { OnOk result (patterns_left left.new.items
-        ≡ patterns_of first.now ++ (patterns_of second.now ++ patterns_left left.old.items)) }
-    ensures size { OnOk result (size_left left.new.items
-        ≡ size_left left.old.items + size_of second.now + size_of first.now) }
-{
-    push_part(left, second)?;
-    push_part(left, first)
-}
-
-#[tactic(auto, using(crate::proofs::StackLemmas::patterns_push, crate::proofs::StackLemmas::size_push))]
-fn push_part<'f>(left: &mut Vec<&'f Typed>, part: &'f Typed) -> Result<(), NoMemory>
-    ensures patterns { OnOk result (patterns_left left.new.items
-        ≡ patterns_of part.now ++ patterns_left left.old.items) }
-    ensures size { OnOk result (size_left left.new.items
-        ≡ size_left left.old.items + size_of part.now) }
-{
-    left.push(part)?;
     Ok(())
 }

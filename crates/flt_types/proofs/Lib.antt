@@ -4,7 +4,6 @@ pub mod Few
 pub mod HaveTypes
 pub mod Lists
 pub mod OneMeaning
-pub mod OpenParts
 pub mod PartLemmas
 pub mod Sure
 pub mod Unique

@@ -1,23 +1,29 @@
--- The parts of an operand, one after the other.
-use Rattle.std.proofs.Common.{◌≡◌, ◌<◌, ℕ, true, List, [], ◌∷◌, ◌++◌, Some, None, ap, sym, refl, subst, ◌∙◌, Bor}
-use Rattle.std.proofs.lemmas.List.Elements.{All-pop, All-push}
-use Rattle.std.specs.List.{All}
-use Rattle.flt_syntax.specs.Written.{WrittenOperand, ComputedOf, ArgumentsOf, operand_of}
+-- The parts of operands and of trees, one after the other.
+use Rattle.std.proofs.Common.{◌≡◌, ℕ, true, List, ◌++◌, Some, None, ap, sym, subst, Bor}
+use Rattle.std.proofs.lemmas.Option.{same_Some}
+use Rattle.flt_chains.specs.Chains.{Stands}
+use Rattle.flt_chains.specs.Parts.{left_of_operand, left_of_tree}
+use Rattle.flt_syntax.specs.Written.{WrittenOperand, ComputedOf, ArgumentsOf, JoinedOf, operand_of, written}
 use Rattle.flt_syntax.specs.declared.ast.Arithmetic.{Arithmetic}
+use Rattle.flt_syntax.specs.declared.ast.Ast.{Ast}
+use Rattle.flt_syntax.specs.declared.ast.Ast.TheVariants.{Or', Xor', And'}
 use Rattle.flt_syntax.specs.declared.ast.Operand.{Operand}
+use Rattle.flt_syntax.specs.declared.ast.Operand.TheVariants.{Computed', Arguments'}
 use Rattle.flt_syntax.specs.declared.fault.FilterError.{FilterError}
 use Rattle.flt_syntax.specs.declared.fault.FilterReason.TheVariants.{TypeMismatch}
 use Rattle.flt_typing.specs.Terms.{IsTerm, kind_of}
 use Rattle.flt_typing.specs.declared.standing.Standing.{Standing}
 use Rattle.flt_typing.specs.declared.standing.Standing.TheVariants.{Free}
 use Rattle.flt_typed.specs.declared.typed.Term.{Term}
-use Rattle.flt_types.specs.Faults.{IsAnswer, given, kind_written, number_faults, operand_faults}
-use Rattle.flt_types.specs.Operands.{joined, parts_right, with_left}
+use Rattle.flt_syntax.specs.declared.token.Join.TheVariants as joins
+use Rattle.flt_types.specs.Faults.{IsAnswer, faults, given, kind_written, number_faults, operand_faults}
+use Rattle.flt_types.specs.Operands.{tree_with, with_left}
 use Rattle.flt_types.specs.Blame.{by_itself, sign_for}
 use Rattle.flt_types.specs.declared.position.Side.{Side}
 use Rattle.flt_types.proofs.Answers.{answer_left, answer_right, clear_unless}
 use Rattle.flt_types.proofs.Clear.{behind, behind_clear, term_clear}
 use Rattle.flt_typed.specs.Kinds.{is_number}
+use Rattle.flt_chains.proofs.ChainLemmas.{rises}
 
 -- arithmetic: the left side's own faults, then its sign's; the right side's own, then its sign's
 pub left_part : (side : Side) (s : Standing) (a : Arithmetic) (at : ℕ) (o r : WrittenOperand) (e : FilterError) → IsAnswer (operand_faults side s o) e
@@ -57,38 +63,39 @@ pub next_argument : (side : Side) (s : Standing) (o r : WrittenOperand) (left : 
     → IsAnswer (operand_faults side s (ArgumentsOf o r)) e
 next_argument side s o r left e is h = answer_right (operand_faults side s o) (operand_faults (by_itself side) (Free None) r) e (term_clear side s o left is) h
 
--- the fault of the first parts is that of all
-fault_with : (side : Side) (s : Standing) (join o : WrittenOperand) (e : FilterError) → IsAnswer (operand_faults side s o) e → IsAnswer (operand_faults side s (with_left join o)) e
-fault_with side s (ComputedOf a at l r) o e h = left_part side s a at o r e h
-fault_with side s (ArgumentsOf l r) o e h = answer_left (operand_faults side s o) (operand_faults (by_itself side) (Free None) r) e h
-fault_with side s join o e h = h
+-- the fault of a left part is that of the whole
+left_fault : (side : Side) (s : Standing) (e : FilterError) (o part : Operand) → left_of_operand o ≡ Some part → IsAnswer (operand_faults side s (operand_of part)) e
+    → IsAnswer (operand_faults side s (operand_of o)) e
+left_fault side s e (Computed' a at p l q r) part is h =
+    left_part side s a at (operand_of l) (operand_of r) e (subst (λ x. IsAnswer (operand_faults side s (operand_of x)) e) (sym (same_Some l part is)) h)
+left_fault side s e (Arguments' p l q r) part is h =
+    answer_left (operand_faults side s (operand_of l)) (operand_faults (by_itself side) (Free None) (operand_of r)) e
+    (subst (λ x. IsAnswer (operand_faults side s (operand_of x)) e) (sym (same_Some l part is)) h)
+left_fault side s e o part is h = cc
 
-fault_of_first : (side : Side) (s : Standing) (js : List (Bor Operand)) (o : WrittenOperand) (e : FilterError) → IsAnswer (operand_faults side s o) e
-    → IsAnswer (operand_faults side s (joined js o)) e
-fault_of_first side s [] o e h = h
-fault_of_first side s (j ∷ js) o e h = fault_with side s (operand_of j.now) (joined js o) e (fault_of_first side s js o e h)
+pub fault_of_whole : (side : Side) (s : Standing) (e : FilterError) (ns : List (Bor Operand)) (whole part : Operand) → Stands left_of_operand whole ns part
+    → IsAnswer (operand_faults side s (operand_of part)) e → IsAnswer (operand_faults side s (operand_of whole)) e
+fault_of_whole side s e ns whole part stands h =
+    rises left_of_operand (λ o. IsAnswer (operand_faults side s (operand_of o)) e) (left_fault side s e) whole ns part stands h
 
-pub fault_of_parts : (side : Side) (s : Standing) (js : List (Bor Operand)) (o whole : WrittenOperand) (e : FilterError) → joined js o ≡ whole → IsAnswer (operand_faults side s o) e
-    → IsAnswer (operand_faults side s whole) e
-fault_of_parts side s js o whole e is h = subst (λ x. IsAnswer (operand_faults side s x) e) is (fault_of_first side s js o e h)
+tree_fault : (e : FilterError) (t part : Ast) → left_of_tree t ≡ Some part → IsAnswer (faults (written part)) e → IsAnswer (faults (written t)) e
+tree_fault e (Or' p l q r) part is h = answer_left (faults (written l)) (faults (written r)) e (subst (λ x. IsAnswer (faults (written x)) e) (sym (same_Some l part is)) h)
+tree_fault e (Xor' p l q r) part is h = answer_left (faults (written l)) (faults (written r)) e (subst (λ x. IsAnswer (faults (written x)) e) (sym (same_Some l part is)) h)
+tree_fault e (And' p l q r) part is h = answer_left (faults (written l)) (faults (written r)) e (subst (λ x. IsAnswer (faults (written x)) e) (sym (same_Some l part is)) h)
+tree_fault e t part is h = cc
 
--- an operand more or less
-joined_push : (js : List (Bor Operand)) (j : Bor Operand) (o : WrittenOperand) → joined (js ++ j ∷ []) o ≡ joined js (with_left (operand_of j.now) o)
-joined_push [] j o = refl
-joined_push (x ∷ js) j o = ap (with_left (operand_of x.now)) (joined_push js j o)
+pub tree_fault_of_whole : (e : FilterError) (ns : List (Bor Ast)) (whole part : Ast) → Stands left_of_tree whole ns part → IsAnswer (faults (written part)) e
+    → IsAnswer (faults (written whole)) e
+tree_fault_of_whole e ns whole part stands h = rises left_of_tree (λ t. IsAnswer (faults (written t)) e) (tree_fault e) whole ns part stands h
 
-pub joined_more : (js new : List (Bor Operand)) (j : Bor Operand) (part whole : WrittenOperand) → joined js (operand_of j.now) ≡ whole →
-    with_left (operand_of j.now) part ≡ operand_of j.now → new ≡ js ++ j ∷ [] → joined new part ≡ whole
-joined_more js new j part whole is with more = rw more (joined_push js j part ∙ ap (joined js) with ∙ is)
+-- what stands above a part, with the part to its left, is what it was
+pub own_left : (o part : Operand) → left_of_operand o ≡ Some part → with_left (operand_of o) (operand_of part) ≡ operand_of o
+own_left (Computed' a at p l q r) part is = ap (λ x. ComputedOf a at (operand_of x) (operand_of r)) (sym (same_Some l part is))
+own_left (Arguments' p l q r) part is = ap (λ x. ArgumentsOf (operand_of x) (operand_of r)) (sym (same_Some l part is))
+own_left o part is = cc
 
-pub joined_less : (js old : List (Bor Operand)) (j : Bor Operand) (o whole : WrittenOperand) → joined old o ≡ whole → old ≡ js ++ j ∷ [] → joined js (with_left (operand_of j.now) o) ≡ whole
-joined_less js old j o whole is last = sym (joined_push js j o) ∙ ap (λ x. joined x o) (sym last) ∙ is
-
-abbrev AreWithin : ℕ → List (Bor Operand) → Type 0
-AreWithin most js = All (λ (j : Bor Operand). parts_right (operand_of j.now) < most) js
-
-pub within_push : (most : ℕ) (js new : List (Bor Operand)) (j : Bor Operand) → AreWithin most js → parts_right (operand_of j.now) < most → new ≡ js ++ j ∷ [] → AreWithin most new
-within_push most js new j all one more = subst (AreWithin most) (sym more) (All-push (λ (x : Bor Operand). parts_right (operand_of x.now) < most) js j all one)
-
-pub within_pop : (most : ℕ) (js old : List (Bor Operand)) (j : Bor Operand) → AreWithin most old → old ≡ js ++ j ∷ [] → AreWithin most js
-within_pop most js old j all last = (All-pop (λ (x : Bor Operand). parts_right (operand_of x.now) < most) old js (Some j) last all).0
+pub own_left_tree : (t part : Ast) → left_of_tree t ≡ Some part → tree_with (written t) (written part) ≡ written t
+own_left_tree (Or' p l q r) part is = ap (λ x. JoinedOf joins.Or (written x) (written r)) (sym (same_Some l part is))
+own_left_tree (Xor' p l q r) part is = ap (λ x. JoinedOf joins.Xor (written x) (written r)) (sym (same_Some l part is))
+own_left_tree (And' p l q r) part is = ap (λ x. JoinedOf joins.And (written x) (written r)) (sym (same_Some l part is))
+own_left_tree t part is = cc

@@ -2,6 +2,5 @@ pub mod Blame
 pub mod Faults
 pub mod Laws
 pub mod Operands
-pub mod Parts
 pub mod TextFaults
 pub mod TextLaws

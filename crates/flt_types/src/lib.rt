@@ -10,7 +10,6 @@ mod literals;
 mod operand;
 mod operands;
 mod owned;
-mod parts;
 mod position;
 mod ranges;
 mod reading;

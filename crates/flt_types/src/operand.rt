@@ -1,5 +1,6 @@
 // Operands: the names, numbers, layers, slices, masks, functions and arithmetic of a filter.
 ghost use Rattle.std.specs.Prelude.{◌≡◌, ◌++◌, Some, None, IfOk, IfErr, OnOk, IsTrue};
+ghost use Rattle.flt_chains.specs.Parts.{left_of_operand};
 ghost use Rattle.flt_syntax.specs.declared.ast.Arithmetic.{Arithmetic as Operation};
 ghost use Rattle.flt_syntax.specs.declared.fault.FilterReason.TheVariants.{OutOfRange};
 ghost use Rattle.flt_syntax.specs.Written.{WrittenOperand, operand_of, NamedOf, OnLayerOf, OnLayersOf, SlicedOf, MaskedOf, CalledOf, ComputedOf, ArgumentsOf};
@@ -9,7 +10,7 @@ ghost use Rattle.flt_typing.specs.Terms.{IsTerm, IsMask, are_numbers as are_numb
 ghost use Rattle.flt_typing.specs.declared.standing.Standing.{Standing as Place};
 ghost use Rattle.flt_typing.specs.declared.standing.Standing.TheVariants.{Free, Sliced};
 ghost use Rattle.flt_types.specs.Faults.{IsAnswer, operand_faults, call_faults, layers_faults, mask_faults, number_faults, slice_faults, given, kind_written, unless, nameless, word_faults, misplaced as misplaced_at};
-ghost use Rattle.flt_types.specs.Operands.{is_around, is_part, with_left};
+ghost use Rattle.flt_types.specs.Operands.{is_around, with_left};
 ghost use Rattle.flt_types.specs.declared.position.Side.{Side as TestSide};
 ghost use Rattle.flt_typed.specs.Kinds.{is_masked as is_masked_kind, is_number as is_number_kind};
 ghost use Rattle.pk_fields.specs.Fields.{field_named};
@@ -17,10 +18,10 @@ ghost use Rattle.pk_fields.specs.Fields.{field_named};
 use crate::faults::{fault, require};
 use crate::layers::{layers_in, single_layer};
 use crate::literals::constant;
-use crate::operands::{Parts, parts_of};
 use crate::owned::{both_boxed, boxed, let_go, refused};
 use crate::position::{Position, Side};
 use crate::ranges::parts_for;
+use flt_chains::{Chain, chain_of};
 use flt_syntax::{
     Arithmetic, FilterError, FilterReason, Function, Layer, LayerRange, Operand, SliceRange, Word,
 };
@@ -34,7 +35,7 @@ use std::alloc::Global;
 /// The term that an operand is, by where it stands. Its parts are typed one after the other, so that no call nests as deep
 /// as signs and commas do.
 #[cycle(terms)]
-#[tactic(auto, using(crate::proofs::PartLemmas::fault_of_parts))]
+#[tactic(auto, using(crate::proofs::PartLemmas::fault_of_whole))]
 pub(crate) fn term(
     alloc: Global,
     position: Position,
@@ -44,18 +45,18 @@ pub(crate) fn term(
     ensures err { IfErr result
         (IsAnswer (operand_faults position.side position.standing (operand_of operand.now))) }
 {
-    let Parts { first, mut joins } = parts_of(alloc, operand)?;
+    let Chain { first, mut above } = chain_of(alloc, operand)?;
     let mut term = match part(alloc, position, first) {
         Ok(term) => term,
-        Err(error) => return refused(error, joins),
+        Err(error) => return refused(error, above),
     };
-    'joins: while let Some(join) = joins.pop() {
-        term = match with(alloc, position, term, join) {
+    'above: while let Some(next) = above.pop() {
+        term = match with(alloc, position, term, next) {
             Ok(term) => term,
-            Err(error) => return refused(error, joins),
+            Err(error) => return refused(error, above),
         };
     }
-    let_go(joins);
+    let_go(above);
     Ok(term)
 }
 
@@ -63,7 +64,7 @@ pub(crate) fn term(
 #[cycle(terms)]
 #[tactic(auto, using(crate::proofs::Answers::answer_left))]
 fn part(alloc: Global, position: Position, operand: &Operand) -> Result<Term, FilterError>
-    requires { IsTrue (is_part (operand_of operand.now)) }
+    requires { left_of_operand operand.now ≡ None }
     ensures ok { IfOk result (IsTerm position.standing (operand_of operand.now)) }
     ensures err { IfErr result
         (IsAnswer (operand_faults position.side position.standing (operand_of operand.now))) }

@@ -1,36 +1,44 @@
-use Rattle.std.proofs.Common.{arith}
+use Rattle.std.proofs.Common.{Bor, ap, arith}
 use Rattle.flt_code.specs.Owners.{owners_of}
-use Rattle.flt_code.specs.Spines.{left_of, sources_of}
-use Rattle.flt_code.proofs.CodeLemmas.{bits_put, both_put, code_put, code_right, differ_put, either_put, exists_code, not_put, part_within, patterns_next}
+use Rattle.flt_code.proofs.CodeLemmas.{bits_put, both_put, code_put, code_right, differ_put, either_put, exists_code, not_put}
 use Rattle.flt_code.proofs.OwnerLemmas.{grows_on}
-use Rattle.flt_code.proofs.SpineLemmas.{stands_pop}
+use Rattle.flt_chains.proofs.ChainLemmas.{stands_pop}
+use Rattle.flt_program.specs.Sources.{sources_of}
+use Rattle.flt_program.proofs.PatternLemmas.{patterns_next}
+use Rattle.flt_chains.specs.Parts.{filters_in, left_of_filter}
+use Rattle.flt_chains.proofs.SizeLemmas.{filter_within}
 use Rattle.flt_code.proofs.code.+code.Goals as goal
+use Rattle.flt_typed.specs.declared.typed.Typed.{Typed}
 use Rattle.flt_typed.specs.declared.typed.Typed.TheVariants.{Compare, Matches}
 
 pub code_for-code_alone-requires : goal.code_for-code_alone-requires
 code_for-code_alone-requires t c =
-    let within = part_within c.args.filter.now c.filter_below.new.above.items c.in_ok-first.first.now c.in_ok-first.ensures.stands in
-    (omega (arith, within), c.in_ok-first.ensures.single)
+    let chain = c.in_ok-first in
+    let within = filter_within c.args.filter.now chain.field-0.above.items chain.field-0.first.now chain.ensures.stands in
+    let same = ap (λ (x : Bor Typed). filters_in x.now) chain.first-is in
+    (omega (arith, within, same), chain.ensures.first)
 
 pub code_for-code_joined-requires : goal.code_for-code_joined-requires
 code_for-code_joined-requires t c =
     let chain = c.above.invariant.chain in
-    let popped = stands_pop left_of c.args.filter.now c.pop.new.self.items c.above.above.items c.in-Some.next chain.0 chain.1 c.in-Some.ensures.items in
-    let within = part_within c.args.filter.now c.pop.new.self.items c.in-Some.next.now popped.stands in
+    let popped = stands_pop left_of_filter c.args.filter.now c.pop.new.self.items c.above.above.items c.in-Some.next chain.0 chain.1 c.in-Some.ensures.items in
+    let within = filter_within c.args.filter.now c.pop.new.self.items c.in-Some.next.now popped.stands in
     (omega (arith, within), (chain.0, popped.left_is))
 
 pub code_for-above-preserved : goal.code_for-above-preserved
 code_for-above-preserved t c =
     let chain = c.above.invariant.chain in
-    let popped = stands_pop left_of c.args.filter.now c.pop.new.self.items c.above.above.items c.in-Some.next chain.0 chain.1 c.in-Some.ensures.items in
+    let popped = stands_pop left_of_filter c.args.filter.now c.pop.new.self.items c.above.above.items c.in-Some.next chain.0 chain.1 c.in-Some.ensures.items in
     let joined = c.in_ok-code_joined.ensures in
     record {
       chain = (
         c.in-Some.next.now,
         popped.stands,
-        code_right (owners_of c.above.owners.items) (owners_of c.code_joined.new.owners.items) (sources_of c.above.patterns.items) (sources_of c.code_joined.new.patterns.items) c.in-Some.next.now chain.0
-            c.args.code.now.items c.above.code.items c.code_joined.new.code.items popped.left_is joined.owners joined.patterns chain.2 joined.code,
-        patterns_next (sources_of c.args.patterns.now.items) (sources_of c.above.patterns.items) (sources_of c.code_joined.new.patterns.items) c.in-Some.next.now chain.0 popped.left_is chain.3 joined.patterns,
+        (
+          code_right (owners_of c.above.owners.items) (owners_of c.code_joined.new.owners.items) (sources_of c.above.patterns.items) (sources_of c.code_joined.new.patterns.items) c.in-Some.next.now chain.0
+              c.args.code.now.items c.above.code.items c.code_joined.new.code.items popped.left_is joined.owners joined.patterns chain.2.0 joined.code,
+          patterns_next (sources_of c.args.patterns.now.items) (sources_of c.above.patterns.items) (sources_of c.code_joined.new.patterns.items) c.in-Some.next.now chain.0 popped.left_is chain.2.1 joined.patterns,
+        ),
       );
       grows = grows_on (owners_of c.args.owners.now.items) (owners_of c.above.owners.items) (owners_of c.code_joined.new.owners.items) c.above.invariant.grows joined.owners;
     }

@@ -1,6 +1,6 @@
 use Rattle.std.proofs.Common.{arith}
 use Rattle.flt_code.specs.Owners.{owners_of}
-use Rattle.flt_code.specs.Spines.{sources_of}
+use Rattle.flt_program.specs.Sources.{sources_of}
 use Rattle.flt_code.proofs.CodeLemmas.{matches_put, pattern_last}
 use Rattle.flt_code.proofs.code.search.Goals as goal
 

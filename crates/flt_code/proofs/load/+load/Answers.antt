@@ -1,18 +1,22 @@
-use Rattle.std.proofs.Common.{arith, refl, sym, ◌∙◌}
+use Rattle.std.proofs.Common.{Bor, ap, arith, refl, sym, ◌∙◌}
 use Rattle.flt_code.specs.Code.{Adds, Loads, LoadsCall, LoadsExtreme, LoadsRight, Makes, Sets}
 use Rattle.flt_code.specs.Owners.{OfTerm, owners_of}
-use Rattle.flt_code.specs.Spines.{left_of_term}
-use Rattle.flt_code.proofs.LoadLemmas.{adds_grown, adds_right, arguments_right, called_part, computed_right, constant_part, emitted, extreme_made, extreme_several, if_ok, makes_on, slice_part, term_within}
+use Rattle.flt_code.proofs.LoadLemmas.{adds_grown, adds_right, arguments_right, called_part, computed_right, constant_part, emitted, extreme_made, extreme_several, if_ok, makes_on, slice_part}
 use Rattle.flt_code.proofs.OwnerLemmas.{grows_on}
-use Rattle.flt_code.proofs.SpineLemmas.{stands_pop}
+use Rattle.flt_chains.proofs.ChainLemmas.{stands_pop}
+use Rattle.flt_chains.specs.Parts.{left_of_term, terms_in}
+use Rattle.flt_chains.proofs.SizeLemmas.{term_within}
 use Rattle.flt_code.proofs.load.+load.Goals as goal
+use Rattle.flt_typed.specs.declared.typed.Term.{Term}
 use Rattle.flt_typed.specs.declared.arithmetic.Extreme.TheVariants.{Least}
 use Rattle.flt_program.specs.declared.instr.Instr.TheVariants as instr
 
 pub load-load_part-requires : goal.load-load_part-requires
 load-load_part-requires t c =
-    let within = term_within c.args.term.now c.term_below.new.above.items c.in_ok-first.first.now c.in_ok-first.ensures.stands in
-    (omega (arith, within), c.in_ok-first.ensures.part)
+    let chain = c.in_ok-first in
+    let within = term_within c.args.term.now chain.field-0.above.items chain.field-0.first.now chain.ensures.stands in
+    let same = ap (λ (x : Bor Term). terms_in x.now) chain.first-is in
+    (omega (arith, within, same), chain.ensures.first)
 
 pub load-load_joined-requires : goal.load-load_joined-requires
 load-load_joined-requires t c =

@@ -1,9 +1,8 @@
 use Rattle.std.proofs.Common.{◌+◌, ◌*◌, vec_len}
 use Rattle.flt_code.specs.Code.{Adds, Loads}
 use Rattle.flt_code.specs.Owners.{Grows, owners_of}
-use Rattle.flt_code.specs.Spines.{Stands, left_of_term}
-use Rattle.flt_mean.specs.Terms.{terms_in}
-use Rattle.flt_typed.specs.declared.typed.Term.{Term}
+use Rattle.flt_chains.specs.Chains.{Reaches}
+use Rattle.flt_chains.specs.Parts.{left_of_term, terms_in}
 use Rattle.flt_code.proofs.load.+load.Given as goal
 
 abbrev pub decreases-load : goal.decreases-load
@@ -38,7 +37,7 @@ decreases-load_inner l = 6 * terms_in l.inner.now + 6
 
 abbrev pub invariant-load-above : goal.invariant-load-above
 invariant-load-above l = record {
-  chain : (part : Term) × Stands left_of_term l.fn.term l.above.items part × Adds (Loads (owners_of l.owners.items) l.fn.extreme part l.register) l.fn.code.items l.code.items;
+  chain : Reaches left_of_term (λ part. Adds (Loads (owners_of l.owners.items) l.fn.extreme part l.register) l.fn.code.items l.code.items) l.fn.term l.above.items;
   grows : Grows (owners_of l.fn.owners.items) (owners_of l.owners.items);
 }
 

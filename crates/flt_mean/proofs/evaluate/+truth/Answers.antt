@@ -1,51 +1,28 @@
-use Rattle.std.proofs.Common.{ap, ◌∙◌}
-use Rattle.flt_mean.specs.Chains.{parts}
-use Rattle.flt_mean.specs.Meaning.{exactly_one, meaning}
-use Rattle.flt_mean.proofs.ChainLemmas.{either_xor, false_and, false_or, true_and, true_or, truth_next, within_pop}
+use Rattle.std.proofs.Common.{◌≡◌, Bor, ap, arith}
+use Rattle.flt_chains.specs.Parts.{filters_in, left_of_filter}
+use Rattle.flt_typed.specs.declared.typed.Typed.{Typed}
+use Rattle.flt_mean.specs.Meaning.{meaning}
+use Rattle.flt_chains.proofs.ChainLemmas.{reaches_up, stands_pop}
+use Rattle.flt_chains.proofs.SizeLemmas.{filter_within}
+use Rattle.flt_mean.proofs.JoinedLemmas.{truth_up}
 use Rattle.flt_mean.proofs.evaluate.+truth.Goals as goal
 
-pub is_true-rights-preserved-then-truth : goal.is_true-rights-preserved-then-truth
-is_true-rights-preserved-then-truth t c =
-    let r = c.in-Some.right in
-    record {
-      whole = truth_next c.args.tree.now c.pop.new.self.items c.rights.rights.items r _ c.rights.truth c.rights.truth c.rights.invariant.whole c.in-Some.ensures.items
-          (true_or r.join c.rights.truth (meaning r.filter.now c.args.tree.now) c.in-Or.is c.if-truth.true);
-      within = within_pop (parts c.args.filter.now) c.pop.new.self.items c.rights.rights.items r c.rights.invariant.within c.in-Some.ensures.items;
-    }
+pub is_true-is_single_true-requires : goal.is_true-is_single_true-requires
+is_true-is_single_true-requires t c =
+    let chain = c.in_ok-first in
+    let within = filter_within c.args.filter.now chain.field-0.above.items chain.field-0.first.now chain.ensures.stands in
+    let same = ap (λ (x : Bor Typed). filters_in x.now) chain.first-is in
+    (omega (arith, within, same), chain.ensures.first)
 
-pub is_true-rights-preserved-in_ok-truth-in-Or : goal.is_true-rights-preserved-in_ok-truth-in-Or
-is_true-rights-preserved-in_ok-truth-in-Or t c =
-    let r = c.in-Some.right in
-    record {
-      whole = truth_next c.args.tree.now c.pop.new.self.items c.rights.rights.items r _ c.rights.truth c.in_ok-truth-in-Or.truth c.rights.invariant.whole c.in-Some.ensures.items
-          (false_or r.join c.rights.truth (meaning r.filter.now c.args.tree.now) c.in_ok-truth-in-Or.truth c.in-Or.is c.if-truth.false c.in_ok-truth-in-Or.ensures);
-      within = within_pop (parts c.args.filter.now) c.pop.new.self.items c.rights.rights.items r c.rights.invariant.within c.in-Some.ensures.items;
-    }
+pub is_true-is_joined_true-requires : goal.is_true-is_joined_true-requires
+is_true-is_joined_true-requires t c =
+    let at = c.above.invariant in
+    let up = stands_pop left_of_filter c.args.filter.now c.pop.new.self.items c.above.above.items c.in-Some.next at.0 at.1 c.in-Some.ensures.items in
+    let within = filter_within c.args.filter.now c.pop.new.self.items c.in-Some.next.now up.stands in
+    omega (arith, within)
 
-pub is_true-rights-preserved-in_ok-other-in-Xor : goal.is_true-rights-preserved-in_ok-other-in-Xor
-is_true-rights-preserved-in_ok-other-in-Xor t c =
-    let r = c.in-Some.right in
-    record {
-      whole = truth_next c.args.tree.now c.pop.new.self.items c.rights.rights.items r _ c.rights.truth c.differ-truth.result c.rights.invariant.whole c.in-Some.ensures.items
-          (either_xor r.join c.rights.truth (meaning r.filter.now c.args.tree.now) c.differ-truth.result c.in-Xor.is
-          (c.differ-truth.ensures ∙ ap (exactly_one c.rights.truth) c.in_ok-other-in-Xor.ensures));
-      within = within_pop (parts c.args.filter.now) c.pop.new.self.items c.rights.rights.items r c.rights.invariant.within c.in-Some.ensures.items;
-    }
-
-pub is_true-rights-preserved-in_ok-truth-in-And : goal.is_true-rights-preserved-in_ok-truth-in-And
-is_true-rights-preserved-in_ok-truth-in-And t c =
-    let r = c.in-Some.right in
-    record {
-      whole = truth_next c.args.tree.now c.pop.new.self.items c.rights.rights.items r _ c.rights.truth c.in_ok-truth-in-And.truth c.rights.invariant.whole c.in-Some.ensures.items
-          (true_and r.join c.rights.truth (meaning r.filter.now c.args.tree.now) c.in_ok-truth-in-And.truth c.in-And.is c.if-truth-2.true c.in_ok-truth-in-And.ensures);
-      within = within_pop (parts c.args.filter.now) c.pop.new.self.items c.rights.rights.items r c.rights.invariant.within c.in-Some.ensures.items;
-    }
-
-pub is_true-rights-preserved : goal.is_true-rights-preserved
-is_true-rights-preserved t c =
-    let r = c.in-Some.right in
-    record {
-      whole = truth_next c.args.tree.now c.pop.new.self.items c.rights.rights.items r _ c.rights.truth c.rights.truth c.rights.invariant.whole c.in-Some.ensures.items
-          (false_and r.join c.rights.truth (meaning r.filter.now c.args.tree.now) c.in-And.is c.if-truth-2.false);
-      within = within_pop (parts c.args.filter.now) c.pop.new.self.items c.rights.rights.items r c.rights.invariant.within c.in-Some.ensures.items;
-    }
+pub is_true-above-preserved : goal.is_true-above-preserved
+is_true-above-preserved t c =
+    let tree = c.args.tree.now in
+    reaches_up left_of_filter (λ part. c.above.truth ≡ meaning part tree) (λ part. c.in_ok-truth-2.truth ≡ meaning part tree) c.args.filter.now c.pop.new.self.items c.above.above.items
+    c.in-Some.next c.above.invariant c.in-Some.ensures.items (truth_up tree c.in-Some.next.now c.above.truth c.in_ok-truth-2.truth c.in_ok-truth-2.ensures)

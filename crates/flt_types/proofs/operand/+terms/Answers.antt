@@ -1,13 +1,16 @@
-use Rattle.std.proofs.Common.{Some, ap, subst}
+use Rattle.std.proofs.Common.{Bor, Some, ap, arith, subst}
 use Rattle.std.proofs.lemmas.Result.{err_from_is_err_and}
 use Rattle.flt_syntax.specs.Written.{WrittenOperand, operand_of}
+use Rattle.flt_syntax.specs.declared.ast.Operand.{Operand}
 use Rattle.flt_typing.specs.Standing.{argument}
 use Rattle.flt_typing.specs.Terms.{IsTerm, kind_of}
 use Rattle.flt_typing.specs.declared.standing.Standing.TheVariants.{Free}
 use Rattle.flt_types.specs.Faults.{IsAnswer, number_faults, operand_faults}
-use Rattle.flt_types.specs.Operands.{parts, with_left}
 use Rattle.flt_types.specs.Blame.{taken, taken_by}
-use Rattle.flt_types.proofs.PartLemmas.{fault_of_parts, joined_less, left_number, right_number, right_part, within_pop}
+use Rattle.flt_types.proofs.PartLemmas.{fault_of_whole, left_number, own_left, right_number, right_part}
+use Rattle.flt_chains.specs.Parts.{left_of_operand, operands_in}
+use Rattle.flt_chains.proofs.ChainLemmas.{reaches_up, stands_pop}
+use Rattle.flt_chains.proofs.SizeLemmas.{operand_within}
 use Rattle.flt_types.proofs.operand.+terms.Goals as goal
 
 pub second_number-returns-in_err-require_number-clause-err : goal.second_number-returns-in_err-require_number-clause-err
@@ -40,27 +43,39 @@ part-returns-in-OnLayer-clause-ok t c = rw c.in-OnLayer.is (c.on_layer.ensures.o
 pub part-returns-in-OnLayers-clause-ok : goal.part-returns-in-OnLayers-clause-ok
 part-returns-in-OnLayers-clause-ok t c = rw (c.in-OnLayers.is, ← c.deref.ensures.value) (c.on_layers.ensures.ok c.args.position.standing)
 
+pub term-part-requires : goal.term-part-requires
+term-part-requires t c =
+    let chain = c.in_ok-first in
+    let within = operand_within c.args.operand.now chain.field-0.above.items chain.field-0.first.now chain.ensures.stands in
+    let same = ap (λ (x : Bor Operand). operands_in x.now) chain.first-is in
+    (omega (arith, within, same), chain.ensures.first)
+
+pub term-with-requires : goal.term-with-requires
+term-with-requires t c =
+    let at = c.above.invariant in
+    let up = stands_pop left_of_operand c.args.operand.now c.pop.new.self.items c.above.above.items c.in-Some.next at.0 at.1 c.in-Some.ensures.items in
+    let within = operand_within c.args.operand.now c.pop.new.self.items c.in-Some.next.now up.stands in
+    omega (arith, within)
+
 pub term-returns-in-Err-with-clause-err : goal.term-returns-in-Err-with-clause-err
 term-returns-in-Err-with-clause-err t c =
-    let part = c.joins.invariant.part in
-    let join = c.in-Some.join in
+    let at = c.above.invariant in
+    let next = c.in-Some.next.now in
+    let side = c.args.position.side in
+    let st = c.args.position.standing in
+    let e = c.in-Err-with.error in
+    let up = stands_pop left_of_operand c.args.operand.now c.pop.new.self.items c.above.above.items c.in-Some.next at.0 at.1 c.in-Some.ensures.items in
     rw c.refused-in-Err-with.ensures
-    (fault_of_parts c.args.position.side c.args.position.standing c.pop.new.self.items (with_left (operand_of join.now) part.0) (operand_of c.args.operand.now) c.in-Err-with.error
-    (joined_less c.pop.new.self.items c.joins.joins.items join part.0 (operand_of c.args.operand.now) part.2 c.in-Some.ensures.items)
-    (c.in-Err-with.ensures.err part.0 part.1))
+    (fault_of_whole side st e c.pop.new.self.items c.args.operand.now next up.stands
+    (subst (λ o. IsAnswer (operand_faults side st o) e) (own_left next at.0 up.left_is) (c.in-Err-with.ensures.err (operand_of at.0) at.2)))
 
-pub term-joins-preserved : goal.term-joins-preserved
-term-joins-preserved t c =
-    let part = c.joins.invariant.part in
-    let join = c.in-Some.join in
-    record {
-      part = (
-        with_left (operand_of join.now) part.0,
-        c.in-Ok-with.ensures.ok part.0 part.1,
-        joined_less c.pop.new.self.items c.joins.joins.items join part.0 (operand_of c.args.operand.now) part.2 c.in-Some.ensures.items,
-      );
-      within = within_pop (parts (operand_of c.args.operand.now)) c.pop.new.self.items c.joins.joins.items join c.joins.invariant.within c.in-Some.ensures.items;
-    }
+pub term-above-preserved : goal.term-above-preserved
+term-above-preserved t c =
+    let next = c.in-Some.next.now in
+    let st = c.args.position.standing in
+    reaches_up left_of_operand (λ part. IsTerm st (operand_of part) c.above.term) (λ part. IsTerm st (operand_of part) c.in-Ok-with.term) c.args.operand.now c.pop.new.self.items c.above.above.items
+    c.in-Some.next c.above.invariant c.in-Some.ensures.items
+    (λ part is left. subst (λ o. IsTerm st o c.in-Ok-with.term) (own_left next part is) (c.in-Ok-with.ensures.ok (operand_of part) left))
 
 pub compute-returns-in-Err-clause-err : goal.compute-returns-in-Err-clause-err
 compute-returns-in-Err-clause-err t c = λ o is. rw c.refused.ensures (c.in-Err.ensures.err c.args.operation o is)
