@@ -1,8 +1,11 @@
 -- A tree that has only the wanted items is shown as the whole tree.
-use Rattle.std.proofs.Common.{◌≡◌, ◌||◌, ℕ, Bool, true, false, List, map, refl, sym, ap, ◌∙◌, subst, true≢false}
+use Rattle.std.proofs.Common.{◌≡◌, ◌||◌, ℕ, Bool, true, false, List, [], ◌∷◌, map, refl, sym, ap, ◌∙◌, subst, true≢false}
+use Rattle.std.specs.List.{AllByRecursion as Each}
 use Rattle.pk_fields.specs.FieldSets.{is_in}
 use Rattle.pk_fields.specs.Ids.{TCP_SEQ, TCP_ACK, TCP_LOST}
 use Rattle.pk_tree.specs.Trees.{TreeShown, IsKept, kept_tree}
+use Rattle.pk_tree.specs.declared.item.Item.{Item}
+use Rattle.pk_tree.specs.declared.layer.Layer.{Layer}
 use Rattle.pk_tree.proofs.KeptValues.{values_same}
 use Rattle.pk_tree.specs.FieldValues.{values_of}
 use Rattle.app_layers.specs.Aside.{LacksOnly}
@@ -17,7 +20,7 @@ use Rattle.run_frames.specs.declared.plan.Plan.{Plan}
 use Rattle.run_frames.specs.Accessors.{needs_streams, rules_of, two_of}
 use Rattle.run_frames.specs.Tables.{asks_table, asks_tables}
 use Rattle.run_frames.specs.Trees.{tree_of}
-use Rattle.dissect.specs.Heads.{HeadsShown}
+use Rattle.dissect.specs.Heads.{HeadsShown, IsHeaderLayer, NamesNoFrame}
 use Rattle.dissect.specs.Stands.{DissectorShown, StandsWithin}
 use Rattle.run_frames.specs.Taken.{IsTakenBy, IsTakenPlain, heads_tree, taken_tree}
 use Rattle.run_frames.specs.declared.taken.Taken.{Taken}
@@ -27,10 +30,12 @@ use Rattle.second_pass.specs.Forward.{forwarded, forwarded_to}
 use Rattle.second_pass.specs.Laws.{kept_noted, link_fields}
 use Rattle.second_pass.proofs.KeptLinks.{links_same}
 use Rattle.second_pass.specs.Named.{Noted}
+use Rattle.second_pass.specs.Others.{IsOther, NamesNone}
+use Rattle.second_pass.proofs.OtherLemmas.{others_stay}
 use Rattle.run_frames.specs.declared.later.Later.{Later}
 use Rattle.run_frames.specs.declared.later.Later.TheVariants.{Unread, Known}
 use Rattle.run_frames.specs.Job.{One, Passes, Two, job_in, once, with_links}
-use Rattle.run_frames.specs.Later.{Serves, ServesKept, kept_passes}
+use Rattle.run_frames.specs.Later.{IsUnnamed, Serves, ServesKept, kept_passes}
 
 pub first_false : (a b : Bool) → (a || b) ≡ false → a ≡ false
 first_false true b is = absurd (cc is)
@@ -157,15 +162,37 @@ plain_told passes later old new plan past frame heads unread serves for_plan is 
     subst (λ (wanted : List ℕ). IsToldAs plan (tree_of (job_in plan passes) past frame) (heads_tree frame.bytes wanted heads)) (sym kept)
     (taken_told passes later old plan past frame (heads_tree frame.bytes old.wanted heads) unread serves for_plan is (taken.spared past stands) (λ asks whole. taken.kept asks whole past stands))
 
+-- headers alone get no links, where no later frame names theirs
+pub header_others : (layers : List Layer) → Each IsHeaderLayer layers → Each IsOther layers
+header_others [] each = tt
+header_others (layer ∷ layers) each = (
+  record { dns = each.0.dns; http = each.0.http; items = name_none layer.items each.0.items },
+  header_others layers each.1,
+)
+  where
+    name_none : (items : List Item) → Each (λ (item : Item). NamesNoFrame item.field) items → Each (λ (item : Item). NamesNone item.field) items
+    name_none [] all = tt
+    name_none (item ∷ items) all = (record { part = all.0.part; part6 = all.0.part6; segment = all.0.segment }, name_none items all.1)
+
+pub headers_stay : (later : Later) (frame : ℕ) (t : TreeShown) → IsUnnamed later frame → Each IsHeaderLayer t.layers → (two : Bool) (passes : Passes) → Serves two passes later → t ≡ with_links passes frame t
+headers_stay Unread frame t unnamed each two passes serves = unread_links t frame two passes serves
+headers_stay (Known links) frame t unnamed each true (Two noted) serves = sym (others_stay noted frame t (header_others t.layers each) (unnamed noted serves))
+headers_stay (Known links) frame t unnamed each true One serves = absurd serves
+headers_stay (Known links) frame t unnamed each false passes serves = absurd (known_once passes serves)
+  where
+    known_once : (passes : Passes) → Serves false passes (Known links) → ⊥
+    known_once One serves = serves
+    known_once (Two noted) serves = serves
+
 -- whether its headers answer for it, or it was taken into a tree
-pub fed_told : (passes : Passes) (later : Later) (old new : DissectorShown) (plan : Plan) (past : List Frame) (frame : Frame) (by : Taken) → later ≡ Unread
-    → ServesKept old.wanted (two_of plan) passes later → ServesPlan old plan → old.decode.rules ≡ rules_of plan → new.wanted ≡ old.wanted → IsTakenBy old new frame by
+pub fed_told : (passes : Passes) (later : Later) (old new : DissectorShown) (plan : Plan) (past : List Frame) (frame : Frame) (by : Taken)
+    → ServesKept old.wanted (two_of plan) passes later → ServesPlan old plan → old.decode.rules ≡ rules_of plan → new.wanted ≡ old.wanted → IsTakenBy old new later frame by
     → StandsWithin past old → IsToldAs plan (tree_of (job_in plan passes) past frame) (taken_tree frame new by)
-fed_told passes later old new plan past frame (takens.Heads heads) unread serves for_plan is kept taken stands =
+fed_told passes later old new plan past frame (takens.Heads heads) serves for_plan is kept taken stands =
     subst (λ (wanted : List ℕ). IsToldAs plan (tree_of (job_in plan passes) past frame) (heads_tree frame.bytes wanted heads.value)) (sym kept)
-    (taken_told passes later old plan past frame (heads_tree frame.bytes old.wanted heads.value) unread serves for_plan is (taken.spared past stands) (λ asks whole. taken.kept asks whole past stands))
-fed_told passes later old new plan past frame (takens.Tree tree) unread serves for_plan is kept taken stands =
-    taken_told passes later old plan past frame tree unread serves for_plan is (taken.spared past stands) (λ asks whole. taken.kept asks whole past stands)
+    (frame_told passes later old plan old.decode.rules past frame taken.bare (heads_tree frame.bytes old.wanted heads.value) serves for_plan is (taken.spared past stands) (λ asks whole. taken.kept asks whole past stands) taken.linked)
+fed_told passes later old new plan past frame (takens.Tree tree) serves for_plan is kept taken stands =
+    frame_told passes later old plan old.decode.rules past frame taken.bare tree serves for_plan is (taken.spared past stands) (λ asks whole. taken.kept asks whole past stands) taken.linked
 
 -- a dissector that takes frames goes on to serve
 pub serves_on : (old new : DissectorShown) (plan : Plan) → new.wanted ≡ old.wanted → new.sparing ≡ old.sparing → ServesPlan old plan → ServesPlan new plan

@@ -1,6 +1,8 @@
 -- What is known of later frames while lines are made.
-use Rattle.std.specs.Prelude.{ℕ, Bool, true, false, List, map}
+use Rattle.std.specs.Prelude.{◌≡◌, ℕ, Bool, true, false, List, map}
 use Rattle.second_pass.specs.Laws.{kept_noted}
+use Rattle.second_pass.specs.Named.{Noted}
+use Rattle.second_pass.specs.Others.{is_named}
 use Rattle.second_pass.specs.Stands.{Stands}
 use Rattle.run_frames.specs.declared.later.Later.{Later}
 use Rattle.run_frames.specs.declared.later.Later.TheVariants.{Unread, Known}
@@ -24,3 +26,8 @@ kept_passes wanted (Two noted) = Two (map (kept_noted wanted) noted)
 -- the same where the trees keep the items of some fields alone
 abbrev pub ServesKept : List ℕ → Bool → Passes → Later → Type 0
 ServesKept wanted two passes later = Serves two (kept_passes wanted passes) later
+
+-- no later frame is known to name this one among those that brought its bytes
+abbrev pub IsUnnamed : Later → ℕ → Type 0
+IsUnnamed Unread frame = Unit {0}
+IsUnnamed (Known links) frame = (past : List Noted) → Stands past links → is_named past frame ≡ false

@@ -10,7 +10,7 @@ ghost use Rattle.dissect.specs.Stands.{StandsWithin};
 ghost use Rattle.capture_read.specs.FrameList.{IsTime};
 ghost use Rattle.run_frames.specs.Accessors.{compiled_of, is_generated, kind_of, is_quiet as is_plan_quiet, rules_of, stats_of, two_of, written_of};
 ghost use Rattle.run_frames.specs.Job.{Passes, job_in};
-ghost use Rattle.run_frames.specs.Later.{ServesKept};
+ghost use Rattle.run_frames.specs.Later.{IsUnnamed, ServesKept};
 ghost use Rattle.run_frames.specs.Steps.{IsAfterFrame, KeepsUp, fit_piece};
 ghost use Rattle.run_frames.specs.Pieces.{line_of, shown};
 ghost use Rattle.run_frames.specs.Notes.{AreFewNotes, AreOneMore, HasNoted};
@@ -459,7 +459,7 @@ fn write_by_tree<O: Sink>(
     }
 }
 
-// The same where segments of some streams are taken into them: by the frame's headers, or by its tree where these don't tell all.
+// The same where segments are taken into their streams: by the frame's headers, or by its tree where these don't tell all.
 #[inline(never)]
 fn write_fed<O: Sink>(
     plan: &Plan,
@@ -469,7 +469,7 @@ fn write_fed<O: Sink>(
     lines: &mut LineMaker<'_>,
     out: &mut O,
 ) -> Result<bool, RunFault>
-    requires unread { later.now ≡ Later.Unread }
+    requires unnamed { IsUnnamed later.now frame.now.number }
     requires kind { kind_of plan.now ≡ LineKind.Json → ⊥ }
     requires serves { ServesPlan dissector.old plan.now }
     requires rules { dissector.old.decode.rules ≡ rules_of plan.now }
@@ -508,7 +508,7 @@ fn write_fed<O: Sink>(
     ensures calm { ¬ IsErrOf result RunFault.WriteFault → O.faults out.new ≡ O.faults out.old }
     ensures faults_stay { O.faults out.old ≤ O.faults out.new }
 {
-    match take_fed(lines.alloc, frame, dissector, &mut lines.heads) {
+    match take_fed(lines.alloc, frame, later, dissector, &mut lines.heads) {
         Ok(Some(Taken::Heads(heads))) => write_plain(plan, frame, heads, dissector, lines, out),
         Ok(Some(Taken::Tree(tree))) => write_taken(plan, frame, tree, dissector, lines, out),
         Ok(None) => write_by_tree(plan, frame, later, dissector, lines, out),
@@ -562,10 +562,10 @@ pub fn write_frame<O: Sink>(
     ensures calm { ¬ IsErrOf result RunFault.WriteFault → O.faults out.new ≡ O.faults out.old }
     ensures faults_stay { O.faults out.old ≤ O.faults out.new }
 {
-    if !goes_plain(plan, later) {
+    if !goes_plain(plan, later, frame.number) {
         return write_by_tree(plan, frame, later, dissector, lines, out);
     }
-    if dissector.feeds() {
+    if later.is_known() || dissector.feeds() {
         return write_fed(plan, frame, later, dissector, lines, out);
     }
     match take_heads(lines.alloc, frame, dissector, &mut lines.heads) {

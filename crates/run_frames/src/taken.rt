@@ -5,13 +5,12 @@ ghost use Rattle.capture_read.specs.declared.frame.Frame.{Frame as FrameValue};
 ghost use Rattle.dissect.specs.Stands.{StandsWithin};
 ghost use Rattle.run_frames.specs.Accessors.{kind_of, rules_of, two_of};
 ghost use Rattle.run_frames.specs.Job.{Passes, job_in};
-ghost use Rattle.run_frames.specs.Later.{ServesKept};
+ghost use Rattle.run_frames.specs.Later.{IsUnnamed, ServesKept};
 ghost use Rattle.run_frames.specs.Taken.{IsTakenBy, IsTakenPlain};
 ghost use Rattle.run_frames.specs.Trees.{tree_of};
 ghost use Rattle.run_frames.specs.Wanted.{IsToldAs, ServesPlan};
 
-use crate::later::{Later, add_links};
-use crate::owned::give_up_tree;
+use crate::later::{Later, with_later};
 use crate::plan::Plan;
 use capture_read::Frame;
 use dissect::{Dissector, Heads, TakeFault, TakenBy};
@@ -20,16 +19,14 @@ use pk_tree::Tree;
 use shark_words::LineKind;
 use std::alloc::Global;
 
-/// Whether the headers of plain frames may answer for them: where the frames are read once, from a file, and no line has all items.
+/// Whether a frame's headers may answer for it, where it is plain: where the frames are read from a file, no line has all items, and
+/// no later frame is known to name this one.
 #[inline(always)]
-pub(crate) fn goes_plain(plan: &Plan, later: &Later) -> bool
-    ensures unread { result ≡ true → later.now ≡ Later.Unread }
+pub(crate) fn goes_plain(plan: &Plan, later: &Later, frame: u32) -> bool
+    ensures unnamed { result ≡ true → IsUnnamed later.now frame }
     ensures lines { result ≡ true → kind_of plan.now ≡ LineKind.Json → ⊥ }
 {
-    match later {
-        Later::Known(_) => false,
-        Later::Unread => !plan.source.is_generated() && !shows_items(plan),
-    }
+    !plan.source.is_generated() && !shows_items(plan) && later.leaves_unnamed(frame)
 }
 
 fn shows_items(plan: &Plan) -> bool
@@ -81,19 +78,21 @@ pub(crate) enum Taken {
     Tree(Tree),
 }
 
-/// Takes a frame that is plain, also where its segment is taken into its stream: for its headers, or for its tree where it shows
-/// messages. Of any other frame nothing is taken.
+/// Takes a frame that is plain, also where its segment is taken into its stream: for its headers, or where it shows messages for its
+/// tree with its links to later frames. Of any other frame nothing is taken.
 pub(crate) fn take_fed(
     alloc: Global,
     frame: &Frame,
+    later: &Later,
     dissector: &mut Dissector,
     spare: &mut Option<Box<Heads>>,
 ) -> Result<Option<Taken>, NoMemory>
+    requires unnamed { IsUnnamed later.now frame.now.number }
     requires number { frame.now.number ≡ dissector.old.taken + 1 }
     requires time { IfSome frame.now.time IsTime }
     requires captured { dissector.old.captured + length frame.now.bytes ≤ 2 ^ 28 }
     ensures passed { IfOk result (λ taken. taken ≡ None → dissector.new ≡ dissector.old) }
-    ensures taken { IfOk result (λ taken. IfSome taken (IsTakenBy dissector.old dissector.new frame.now)) }
+    ensures taken { IfOk result (λ taken. IfSome taken (IsTakenBy dissector.old dissector.new later.now frame.now)) }
     ensures kept { dissector.new.wanted ≡ dissector.old.wanted }
     ensures sparing { dissector.new.sparing ≡ dissector.old.sparing }
     ensures rules { dissector.new.decode ≡ dissector.old.decode }
@@ -101,8 +100,9 @@ pub(crate) fn take_fed(
     let mut heads = spare_heads(alloc, spare)?;
     match dissector.take_fed(frame, &mut *heads) {
         Ok(Some(TakenBy::Headers)) => Ok(Some(Taken::Heads(heads))),
-        Ok(Some(TakenBy::Tree(tree))) => {
+        Ok(Some(TakenBy::Tree(bare))) => {
             *spare = Some(heads);
+            let tree = with_later(later, frame.number, bare)?;
             Ok(Some(Taken::Tree(tree)))
         }
         Ok(None) => {
@@ -155,16 +155,9 @@ pub(crate) fn take_tree(
     ensures captured { OnOk result (dissector.new.captured
         ≡ dissector.old.captured + length frame.now.bytes) }
 {
-    let mut tree = match dissector.take_wanted(frame) {
-        Ok(tree) => tree,
+    match dissector.take_wanted(frame) {
+        Ok(bare) => with_later(later, frame.number, bare),
         // The first error ends the run, so that this one is never `Spent`.
-        Err(TakeFault::NoMemory | TakeFault::Spent) => return Err(NoMemory),
-    };
-    match add_links(later, frame.number, &mut tree) {
-        Ok(()) => Ok(tree),
-        Err(error) => {
-            give_up_tree(tree);
-            Err(error)
-        }
+        Err(TakeFault::NoMemory | TakeFault::Spent) => Err(NoMemory),
     }
 }

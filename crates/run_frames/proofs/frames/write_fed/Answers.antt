@@ -13,7 +13,7 @@ returns-in-Ok-Some-Heads-clause-after g c =
     c.args.lines.now.notes c.write_plain.new.lines.notes c.args.lines.now.capture c.write_plain.new.lines.capture
     (g.O.Sink.written c.args.out.now) (g.O.Sink.written c.write_plain.new.out)
     (λ passes past serves stands. fed_told passes c.args.later.now c.args.dissector.now c.take_fed.new.dissector c.args.plan.now past c.args.frame.now (takens.Heads c.in-Ok-Some-Heads.heads)
-    c.requires.unread serves c.requires.serves c.requires.rules c.take_fed.ensures.kept taken stands)
+    serves c.requires.serves c.requires.rules c.take_fed.ensures.kept taken stands)
     c.write_plain.ensures.after
 
 pub returns-in-Ok-Some-Heads-clause-part : goal.returns-in-Ok-Some-Heads-clause-part
@@ -22,7 +22,7 @@ returns-in-Ok-Some-Heads-clause-part g c =
     let taken = rw c.in-Ok-Some-Heads.field-0-0-is at some in λ passes past serves stands keeps.
     c.write_plain.ensures.part passes past
     (fed_told passes c.args.later.now c.args.dissector.now c.take_fed.new.dissector c.args.plan.now past c.args.frame.now (takens.Heads c.in-Ok-Some-Heads.heads)
-    c.requires.unread serves c.requires.serves c.requires.rules c.take_fed.ensures.kept taken stands) keeps
+    serves c.requires.serves c.requires.rules c.take_fed.ensures.kept taken stands) keeps
 
 pub returns-in-Ok-Some-Tree-clause-after : goal.returns-in-Ok-Some-Tree-clause-after
 returns-in-Ok-Some-Tree-clause-after g c =
@@ -32,7 +32,7 @@ returns-in-Ok-Some-Tree-clause-after g c =
     c.args.lines.now.notes c.write_taken.new.lines.notes c.args.lines.now.capture c.write_taken.new.lines.capture
     (g.O.Sink.written c.args.out.now) (g.O.Sink.written c.write_taken.new.out)
     (λ passes past serves stands. fed_told passes c.args.later.now c.args.dissector.now c.take_fed.new.dissector c.args.plan.now past c.args.frame.now (takens.Tree c.in-Ok-Some-Tree.tree)
-    c.requires.unread serves c.requires.serves c.requires.rules c.take_fed.ensures.kept taken stands)
+    serves c.requires.serves c.requires.rules c.take_fed.ensures.kept taken stands)
     c.write_taken.ensures.after
 
 pub returns-in-Ok-Some-Tree-clause-part : goal.returns-in-Ok-Some-Tree-clause-part
@@ -41,4 +41,4 @@ returns-in-Ok-Some-Tree-clause-part g c =
     let taken = rw c.in-Ok-Some-Tree.field-0-0-is at some in λ passes past serves stands keeps.
     c.write_taken.ensures.part passes past
     (fed_told passes c.args.later.now c.args.dissector.now c.take_fed.new.dissector c.args.plan.now past c.args.frame.now (takens.Tree c.in-Ok-Some-Tree.tree)
-    c.requires.unread serves c.requires.serves c.requires.rules c.take_fed.ensures.kept taken stands) keeps
+    serves c.requires.serves c.requires.rules c.take_fed.ensures.kept taken stands) keeps
