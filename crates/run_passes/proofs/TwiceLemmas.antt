@@ -12,11 +12,14 @@ use Rattle.capture_read.specs.declared.ending.Ending.{Ending}
 use Rattle.capture_read.specs.declared.frame.Frame.{Frame}
 use Rattle.capture_write.specs.Kept.{Kept}
 use Rattle.capture_write.specs.declared.format.Format.{Format}
+use Rattle.std.specs.List.{AllByRecursion as Each}
 use Rattle.dissect.specs.Followed.{asks_streams}
+use Rattle.dissect.specs.Heads.{IsHeaderLayer}
 use Rattle.dissect.specs.Stands.{DissectorShown, StandsWithin}
 use Rattle.dissect.specs.Trees.{tree_at}
 use Rattle.second_pass.specs.Laws.{kept_noted}
-use Rattle.second_pass.specs.Named.{noted_as}
+use Rattle.second_pass.proofs.OtherLemmas.{others_pass}
+use Rattle.second_pass.specs.Named.{Noted, noted_as}
 use Rattle.second_pass.specs.Stands.{Stands}
 use Rattle.second_pass.specs.declared.links.Links.{Links}
 use Rattle.run_frames.specs.declared.later.Later.{Later}
@@ -34,12 +37,13 @@ use Rattle.run_frames.specs.Pieces.{pieces, pieces_of, piece}
 use Rattle.run_passes.specs.Reading.{fitting_of}
 use Rattle.run_frames.specs.Notes.{AreFewNotes}
 use Rattle.run_frames.specs.Steps.{IsAfterFrame, KeepsUp, fit_piece}
+use Rattle.run_passes.specs.Noting.{HasNotedOne}
 use Rattle.run_passes.specs.Takeable.{AreTakeable}
 use Rattle.run_passes.proofs.KeepLemmas.{frames_past}
 use Rattle.run_frames.proofs.PacketLemmas.{reverse_more}
 use Rattle.run_frames.proofs.NoteLemmas.{notes_few}
 use Rattle.run_frames.specs.Wanted.{IsEnough}
-use Rattle.run_frames.proofs.WantedLemmas.{links_streams}
+use Rattle.run_frames.proofs.WantedLemmas.{header_others, links_streams}
 use Rattle.run_passes.proofs.WayLemmas.{AreFit, can_close, can_end, ending_read, fit_pieces, fitting_past, pieces_read, reverse_past, with_read}
 
 -- frames of which the first ones were gone over, the newest first, and the rest is left
@@ -75,6 +79,36 @@ pub noted_more : (rules : List PortRule) (past : List Frame) (frame : Frame) (tr
     → Stands (map (kept_noted wanted) (noted_of rules (frame ∷ past))) links
 noted_more rules past frame tree wanted links kept stands =
     subst (λ (t : TreeShown). Stands (noted_as frame.number t ∷ map (kept_noted wanted) (noted_of rules past)) links) kept.same stands
+
+-- a frame whose tree was noted
+pub noted_by_tree : (frame : Frame) (old took new : DissectorShown) (tree : TreeShown) (before after : Links) → new ≡ took
+    → ((past : List Frame) → StandsWithin past old → IsKept old.wanted (tree_at old.decode.rules past frame) tree)
+    → ((past : List Frame) → StandsWithin past old → StandsWithin (frame ∷ past) took)
+    → ((past : List Noted) → Stands past before → Stands (noted_as frame.number tree ∷ past) after)
+    → took.taken ≡ old.taken + 1 → took.captured ≡ old.captured + length frame.bytes → took.decode ≡ old.decode → took.wanted ≡ old.wanted → took.sparing ≡ old.sparing
+    → HasNotedOne frame old new before after
+noted_by_tree frame old took new tree before after still kept stands noted taken captured rules wanted sparing =
+    subst (λ (d : DissectorShown). HasNotedOne frame old d before after) (sym still)
+    (record {
+      stands = stands;
+      noted = λ past stood notes. noted_more old.decode.rules past frame tree old.wanted after (kept past stood) (noted (map (kept_noted old.wanted) (noted_of old.decode.rules past)) notes);
+      taken = taken;
+      captured = captured;
+      rules = rules;
+      wanted = wanted;
+      sparing = sparing;
+    })
+
+-- and one that its headers tell
+pub noted_by_heads : (frame : Frame) (old new : DissectorShown) (tree : TreeShown) (links : Links)
+    → ((past : List Frame) → StandsWithin past old → IsKept old.wanted (tree_at old.decode.rules past frame) tree)
+    → ((past : List Frame) → StandsWithin past old → StandsWithin (frame ∷ past) new) → Each IsHeaderLayer tree.layers
+    → new.taken ≡ old.taken + 1 → new.captured ≡ old.captured + length frame.bytes → new.decode ≡ old.decode → new.wanted ≡ old.wanted → new.sparing ≡ old.sparing
+    → HasNotedOne frame old new links links
+noted_by_heads frame old new tree links kept stands alone taken captured rules wanted sparing =
+    noted_by_tree frame old new new tree links links refl kept stands
+    (λ past notes. others_pass past (noted_as frame.number tree) links (header_others tree.layers alone) notes)
+    taken captured rules wanted sparing
 
 -- where the frames are read twice, streams are asked
 pub twice_streams : (wanted : List ℕ) (plan : Plan) → two_of plan ≡ true → IsEnough wanted plan → asks_streams wanted ≡ true

@@ -1,4 +1,5 @@
 pub mod Ended
+pub mod Noting
 pub mod Passed
 pub mod Reading
 pub mod SoFar

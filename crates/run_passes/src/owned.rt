@@ -2,6 +2,7 @@
 // each crate anew: so those of large types are dropped here alone, by all crates that own them.
 use crate::twice::KeptFrames;
 use capture_read::{Frame, FrameReader};
+use dissect::Heads;
 use run_frames::Later;
 use second_pass::Links;
 
@@ -18,6 +19,9 @@ pub fn give_up_later(later: Later) {
 
 /// Gives links up.
 pub(crate) fn give_up_links(_links: Links) {}
+
+/// Gives headers up.
+pub(crate) fn give_up_heads(_heads: Heads) {}
 
 /// Gives a reader up.
 pub(crate) fn give_up_reader(_reader: FrameReader) {}

@@ -1,13 +1,15 @@
 // Keeping the frames of a file, and going over them twice: the first time for what later frames bring, the second time for what is
 // written.
-ghost use Rattle.std.specs.Prelude.{◌≡◌, false, true, ◌≤◌, ◌<◌, ℕ, suc, List, [], Some, IfErr, IfOk, OnOk, map, reverse};
+ghost use Rattle.std.specs.Prelude.{◌≡◌, false, true, ◌+◌, ◌^◌, ◌≤◌, ◌<◌, ℕ, suc, List, [], ◌∷◌, length, Some, IfErr, IfOk, IfSome, OnOk, map, reverse};
 ghost use Rattle.pk_base.specs.Limits.{file_limit as limit_of_file};
+ghost use Rattle.capture_read.specs.FrameList.{IsTime};
 ghost use Rattle.capture_read.specs.Reader.{StandsFor};
 ghost use Rattle.capture_read.specs.Taken.{TookAtMost};
 ghost use Rattle.capture_read.specs.declared.kind.Phase.TheVariants as phase;
 ghost use Rattle.dissect.specs.Followed.{asks_streams};
 ghost use Rattle.dissect.specs.Stands.{StandsWithin};
 ghost use Rattle.second_pass.specs.Laws.{kept_noted};
+ghost use Rattle.second_pass.specs.Named.{Noted as NotedFrame, noted_as};
 ghost use Rattle.second_pass.specs.Stands.{Stands as Noted};
 ghost use Rattle.run_frames.specs.Accessors.{compiled_of, rules_of, two_of, written_of};
 ghost use Rattle.run_frames.specs.Ended.{CanClose, HasTaken};
@@ -15,17 +17,19 @@ ghost use Rattle.run_frames.specs.Job.{Passes, job_in, noted_of, passes_by};
 ghost use Rattle.run_frames.specs.Later.{ServesKept};
 ghost use Rattle.run_passes.specs.Passed.{AreFewer, AreFullNear, AreKept, HaveBegunKept, HavePassedKept, IsReadCaused, IsReadOn, IsWriteCaused, kept_read};
 ghost use Rattle.run_frames.specs.Steps.{KeepsUp};
+ghost use Rattle.run_passes.specs.Noting.{HasNotedOne};
 ghost use Rattle.run_passes.specs.Takeable.{AreTakeable};
 ghost use Rattle.run_frames.specs.Notes.{AreFewNotes};
 ghost use Rattle.run_frames.specs.Wanted.{IsEnough, ServesPlan};
 
 use crate::once::{is_full, one_less};
-use crate::owned::{give_up_links, give_up_reader};
+use crate::owned::{give_up_heads, give_up_links, give_up_reader};
 use capture_read::{Ending, Frame, FrameList, FrameReader, NextFrame, ReadError};
-use dissect::{Dissector, TakeFault};
+use dissect::{Dissector, Heads, TakeFault, TakenBy};
 use pk_base::NoMemory;
 use pk_fields::FieldSet;
 use pk_outside::{Capture, Sink};
+use pk_tree::Tree;
 use run_frames::{
     Later, LineMaker, Plan, RunEnding, RunFault, give_up_dissector, new_dissector, write_frame,
 };
@@ -113,8 +117,67 @@ pub fn keep_frames<C: Capture>(
     }
 }
 
-// Notes the trees of frames, of which only the wanted fields are read, for their links to later ones.
-fn note_all(frames: &[Frame], dissector: &mut Dissector, links: &mut Links) -> Result<(), NoMemory>
+// Notes a tree, in whose memory the next one is made.
+fn note_tree(
+    frame: u32,
+    tree: Tree,
+    dissector: &mut Dissector,
+    links: &mut Links,
+) -> Result<(), NoMemory>
+    ensures noted { OnOk result ((past : List NotedFrame) → Noted past links.old → Noted (noted_as frame tree ∷ past) links.new) }
+    ensures dissector { dissector.new ≡ dissector.old }
+{
+    let noted = links.note(frame, &tree);
+    dissector.give_back(tree);
+    noted
+}
+
+// Notes a frame by its tree.
+fn note_by_tree(frame: &Frame, dissector: &mut Dissector, links: &mut Links) -> Result<(), NoMemory>
+    requires streams { asks_streams dissector.old.wanted ≡ true }
+    requires whole { dissector.old.sparing ≡ false }
+    requires number { frame.now.number ≡ dissector.old.taken + 1 }
+    requires time { IfSome frame.now.time IsTime }
+    requires captured { dissector.old.captured + length frame.now.bytes ≤ 2 ^ 28 }
+    ensures { OnOk result (HasNotedOne frame.now dissector.old dissector.new links.old links.new) }
+{
+    match dissector.take_wanted(frame) {
+        Ok(tree) => note_tree(frame.number, tree, dissector, links),
+        // The first error ends the run, so that this one is never `Spent`.
+        Err(TakeFault::NoMemory | TakeFault::Spent) => Err(NoMemory),
+    }
+}
+
+// Notes a frame for the links of others. Where its headers answer for it, it is no message that has links and names no other frame,
+// and nothing is noted.
+fn note_frame(
+    frame: &Frame,
+    dissector: &mut Dissector,
+    heads: &mut Heads,
+    links: &mut Links,
+) -> Result<(), NoMemory>
+    requires streams { asks_streams dissector.old.wanted ≡ true }
+    requires whole { dissector.old.sparing ≡ false }
+    requires number { frame.now.number ≡ dissector.old.taken + 1 }
+    requires time { IfSome frame.now.time IsTime }
+    requires captured { dissector.old.captured + length frame.now.bytes ≤ 2 ^ 28 }
+    ensures { OnOk result (HasNotedOne frame.now dissector.old dissector.new links.old links.new) }
+{
+    match dissector.take_fed(frame, heads) {
+        Ok(Some(TakenBy::Headers)) => Ok(()),
+        Ok(Some(TakenBy::Tree(tree))) => note_tree(frame.number, tree, dissector, links),
+        Ok(None) => note_by_tree(frame, dissector, links),
+        Err(TakeFault::NoMemory | TakeFault::Spent) => Err(NoMemory),
+    }
+}
+
+// Notes frames, of which only the wanted fields are read, for their links to later ones.
+fn note_all(
+    frames: &[Frame],
+    dissector: &mut Dissector,
+    heads: &mut Heads,
+    links: &mut Links,
+) -> Result<(), NoMemory>
     requires streams { asks_streams dissector.old.wanted ≡ true }
     requires whole { dissector.old.sparing ≡ false }
     requires stands { StandsWithin [] dissector.old }
@@ -128,17 +191,7 @@ fn note_all(frames: &[Frame], dissector: &mut Dissector, links: &mut Links) -> R
 {
     let mut left = frames;
     while let [frame, more @ ..] = left {
-        let tree = match dissector.take_wanted(frame) {
-            Ok(tree) => tree,
-            // The first error ends the run, so that this one is never `Spent`.
-            Err(TakeFault::NoMemory | TakeFault::Spent) => return Err(NoMemory),
-        };
-        let noted = links.note(frame.number, &tree);
-        dissector.give_back(tree);
-        match noted {
-            Ok(()) => {}
-            Err(error) => return Err(error),
-        }
+        note_frame(frame, dissector, heads, links)?;
         left = more;
     }
     Ok(())
@@ -159,8 +212,10 @@ fn links_of(
 {
     let mut dissector = new_dissector(alloc, plan, wanted)?;
     let mut links = Links::new(alloc);
-    let noted = note_all(frames, &mut dissector, &mut links);
+    let mut heads = Heads::none(alloc);
+    let noted = note_all(frames, &mut dissector, &mut heads, &mut links);
     give_up_dissector(dissector);
+    give_up_heads(heads);
     match noted {
         Ok(()) => Ok(links),
         Err(error) => {
