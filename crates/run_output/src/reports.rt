@@ -32,7 +32,7 @@ fn line_len(text: &[u8]) -> usize
     ensures some { 0 < result }
     ensures within { result ≤ length text.now }
 {
-    match text.iter().position(|byte| *byte == b'\n') {
+    match memchr::memchr(b'\n', text) {
         Some(place) => place + 1,
         None => text.len(),
     }
