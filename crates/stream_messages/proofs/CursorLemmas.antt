@@ -58,7 +58,7 @@ begins framer asked number count start counts =
     }
 
 -- what is known of a message below an end stays so where the same is asked below it
-known_same : (framer : Framer) (asked later : Asked) (start answers at : ℕ) (front : List ℕ) (next : Next) → AgreeBelow (start + length front) asked later
+pub known_same : (framer : Framer) (asked later : Asked) (start answers at : ℕ) (front : List ℕ) (next : Next) → AgreeBelow (start + length front) asked later
     → KnowsNext framer (asked (start + at) answers) at front next → KnowsNext framer (later (start + at) answers) at front next
 known_same framer asked later start answers at front Never agree known = tt
 known_same framer asked later start answers at front Awaited agree known = known

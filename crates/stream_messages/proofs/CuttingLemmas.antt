@@ -21,9 +21,10 @@ use Rattle.stream_messages.specs.Tellings.{first_of, end_of, then_of, passed, an
 use Rattle.stream_messages.specs.Messages.{Asked, follow, messages, of_front, end_at, above, AgreeBelow, answered}
 use Rattle.stream_messages.specs.Cursors.{answers_before, counted, CountsFor, next_at, next_behind, mark_behind, cursor_behind, goes, from_cursor, KnowsNext, IsBehind, IsSoundNext, IsSound, IsQuietNext, IsQuiet, AddsFew, AsksBetween, IsCut, IsWhole, IsAskedOf, IsNext, IsRest, IsCutFrom, IsLook}
 use Rattle.stream_messages.proofs.FirstLemmas.{first_some, first_within, first_stays, first_shrinks}
-use Rattle.stream_messages.proofs.MessageLemmas.{all_below, steps, none_left, no_messages}
+use Rattle.stream_messages.proofs.MessageLemmas.{all_below, steps, none_left, no_messages, same_front}
 use Rattle.stream_messages.proofs.StretchLemmas.{above-append, answered-append}
-use Rattle.stream_messages.proofs.CursorLemmas.{behind_same, sound_now}
+use Rattle.stream_messages.specs.Moved.{bytes_from, IsBehindFrom, IsCutOn}
+use Rattle.stream_messages.proofs.CursorLemmas.{behind_same, known_same, sound_now}
 
 -- what a cursor says by its mark and whether a message may come
 abbrev from_mark : Framer → Asked → ℕ → ℕ → Bool → Mark → List ℕ → List Placed
@@ -48,16 +49,22 @@ place_none at len e = elim (cases_lt at len) [
 
 -- ---- the messages so far
 
-pub record IsCutting (framer : Framer) (asked : Asked) (count start : ℕ) (old front : List ℕ) (c : Cursor) (ms : List Placed) : Type 0 where
+-- from a place on where some messages are known, and all are what some bytes make of more behind them
+pub record IsCuttingOf (framer : Framer) (asked : Asked) (base : List Placed) (all : Asked → List ℕ → List Placed) (count start : ℕ) (old front : List ℕ) (c : Cursor) (ms : List Placed) : Type 0 where
   -- the answers up to the cursor
   pub number : ℕ
-  pub number_is : number ≡ answered count (of_front framer asked count start old ++ ms)
+  pub number_is : number ≡ answered count (base ++ ms)
   pub rest_is : (later : Asked) (more : List ℕ) → AgreeBelow (start + length front) asked later
-      → of_front framer later count start (front ++ more) ≡ (of_front framer asked count start old ++ ms) ++ from_cursor framer later start number c (front ++ more)
+      → all later more ≡ (base ++ ms) ++ from_cursor framer later start number c (front ++ more)
   pub counts : CountsFor (answers_before c) number
   pub known : KnowsNext framer (asked (start + next_at c.mark) number) (next_at c.mark) old c.next
   pub new : above (start + length old) ms ≡ ms
   pub quiet : from_cursor framer asked start number c old ≡ []
+
+-- of a whole stretch
+abbrev pub IsCutting : Framer → Asked → ℕ → ℕ → List ℕ → List ℕ → Cursor → List Placed → Type 0
+IsCutting framer asked count start old front c ms =
+    IsCuttingOf framer asked (of_front framer asked count start old) (λ later more. of_front framer later count start (front ++ more)) count start old front c ms
 
 nothing_more : (xs ys : List Placed) → xs ≡ xs ++ ys → ys ≡ []
 nothing_more xs ys e = append_cancel_left xs ys [] (sym e ∙ sym (append-nil xs))
@@ -94,10 +101,10 @@ cutting_first framer asked later count start old new front c is agree behind =
     base = of_front framer later count start old
 
 -- what is found is asked of the right request
-pub asks_right : (framer : Framer) (asked : Asked) (count start : ℕ) (old new front : List ℕ) (c : Cursor) (ms : List Placed) (heads : List Bool) → front ≡ old ++ new
-    → AsksBetween (start + length old) (start + length front) heads asked → (cutting : IsCutting framer asked count start old front c ms)
+pub asks_right : (framer : Framer) (asked : Asked) (base : List Placed) (all : Asked → List ℕ → List Placed) (count start : ℕ) (old new front : List ℕ) (c : Cursor) (ms : List Placed) (heads : List Bool) → front ≡ old ++ new
+    → AsksBetween (start + length old) (start + length front) heads asked → (cutting : IsCuttingOf framer asked base all count start old front c ms)
     → IsAskedOf framer (asked (start + next_at c.mark) cutting.number) heads cutting.number c.next (drop (next_at c.mark) front)
-asks_right framer asked count start old new front c ms heads is asks cutting = by c.next cutting.known
+asks_right framer asked base all count start old new front c ms heads is asks cutting = by c.next cutting.known
   where
     by : (next : Next) → KnowsNext framer (asked (start + next_at c.mark) cutting.number) (next_at c.mark) old next
         → IsAskedOf framer (asked (start + next_at c.mark) cutting.number) heads cutting.number next (drop (next_at c.mark) front)
@@ -172,11 +179,11 @@ found_longer framer asked later start answers at front more told agree e =
     ∙ ap (first_of framer (asked (start + at) answers)) (drop-append-le at front more (omega (arith, there)))
     ∙ first_stays framer (asked (start + at) answers) (drop at front) more told e
 
-cutting_step : (framer : Framer) (asked : Asked) (count start : ℕ) (old new front : List ℕ) (c : Cursor) (ms : List Placed) (told : Told) → front ≡ old ++ new
-    → (cutting : IsCutting framer asked count start old front c ms) → goes c.next ≡ true
+cutting_step : (framer : Framer) (asked : Asked) (base : List Placed) (all : Asked → List ℕ → List Placed) (count start : ℕ) (old new front : List ℕ) (c : Cursor) (ms : List Placed) (told : Told) → front ≡ old ++ new
+    → (cutting : IsCuttingOf framer asked base all count start old front c ms) → goes c.next ≡ true
     → first_of framer (asked (start + next_at c.mark) cutting.number) (drop (next_at c.mark) front) ≡ Some told
-    → IsCutting framer asked count start old front (cursor_behind c.mark told) (ms ++ record { at = start + next_at c.mark; told = told } ∷ [])
-cutting_step framer asked count start old new front c ms told is cutting may e = record {
+    → IsCuttingOf framer asked base all count start old front (cursor_behind c.mark told) (ms ++ record { at = start + next_at c.mark; told = told } ∷ [])
+cutting_step framer asked base all count start old new front c ms told is cutting may e = record {
   number = number + answers told;
   number_is =
       ap (λ (n : ℕ). n + answers told) cutting.number_is
@@ -198,9 +205,6 @@ cutting_step framer asked count start old new front c ms told is cutting may e =
     number : ℕ
     number = cutting.number
 
-    base : List Placed
-    base = of_front framer asked count start old
-
     m : Placed
     m = record { at = start + next_at c.mark; told = told }
 
@@ -209,18 +213,18 @@ cutting_step framer asked count start old new front c ms told is cutting may e =
 
     late : length old < next_at c.mark + end_of told
     late = ends_late framer asked number start (next_at c.mark) old new told was
-        (subst (λ (all : List ℕ). first_of framer (asked (start + next_at c.mark) number) (drop (next_at c.mark) all) ≡ Some told) is e)
+        (subst (λ (bytes : List ℕ). first_of framer (asked (start + next_at c.mark) number) (drop (next_at c.mark) bytes) ≡ Some told) is e)
 
-pub cutting_more : (framer : Framer) (asked : Asked) (count start : ℕ) (old new front : List ℕ) (c : Cursor) (ms : List Placed) (m : Placed) (behind : Cursor) → front ≡ old ++ new
-    → (cutting : IsCutting framer asked count start old front c ms) → goes c.next ≡ true → IsNext framer (asked (start + next_at c.mark) cutting.number) start front c.mark m behind
-    → IsCutting framer asked count start old front behind (ms ++ m ∷ [])
-cutting_more framer asked count start old new front c ms m behind is cutting may next =
+pub cutting_more : (framer : Framer) (asked : Asked) (base : List Placed) (all : Asked → List ℕ → List Placed) (count start : ℕ) (old new front : List ℕ) (c : Cursor) (ms : List Placed) (m : Placed) (behind : Cursor) → front ≡ old ++ new
+    → (cutting : IsCuttingOf framer asked base all count start old front c ms) → goes c.next ≡ true → IsNext framer (asked (start + next_at c.mark) cutting.number) start front c.mark m behind
+    → IsCuttingOf framer asked base all count start old front behind (ms ++ m ∷ [])
+cutting_more framer asked base all count start old new front c ms m behind is cutting may next =
     let placed : record { at = start + next_at c.mark; told = m.told } ≡ m = λ i. record { at = sym next.at i; told = m.told } in
-    let here : IsCutting framer asked count start old front (cursor_behind c.mark m.told) (ms ++ record { at = start + next_at c.mark; told = m.told } ∷ []) =
-    cutting_step framer asked count start old new front c ms m.told is cutting may next.first in
-    let moved : IsCutting framer asked count start old front behind (ms ++ record { at = start + next_at c.mark; told = m.told } ∷ []) =
-    subst (λ (d : Cursor). IsCutting framer asked count start old front d (ms ++ record { at = start + next_at c.mark; told = m.told } ∷ [])) (sym next.cursor) here in
-    subst (λ (x : Placed). IsCutting framer asked count start old front behind (ms ++ x ∷ [])) placed moved
+    let here : IsCuttingOf framer asked base all count start old front (cursor_behind c.mark m.told) (ms ++ record { at = start + next_at c.mark; told = m.told } ∷ []) =
+    cutting_step framer asked base all count start old new front c ms m.told is cutting may next.first in
+    let moved : IsCuttingOf framer asked base all count start old front behind (ms ++ record { at = start + next_at c.mark; told = m.told } ∷ []) =
+    subst (λ (d : Cursor). IsCuttingOf framer asked base all count start old front d (ms ++ record { at = start + next_at c.mark; told = m.told } ∷ [])) (sym next.cursor) here in
+    subst (λ (x : Placed). IsCuttingOf framer asked base all count start old front behind (ms ++ x ∷ [])) placed moved
 
 -- ---- nothing more
 
@@ -232,42 +236,172 @@ rest_quiet framer asked start number front c new rest = by (goes c.next) refl
     by true may = none_left framer asked number (start + next_at c.mark) (drop (next_at c.mark) front) (rest.none may)
     by false may = refl
 
-pub cutting_last : (framer : Framer) (asked : Asked) (count start : ℕ) (old front : List ℕ) (c : Cursor) (ms : List Placed) (shown : Shown)
-    → (cutting : IsCutting framer asked count start old front c ms) → IsRest framer (asked (start + next_at c.mark) cutting.number) front c shown.cursor → shown.messages ≡ ms
-    → IsCut framer asked count start old front shown
-cutting_last framer asked count start old front c ms shown cutting rest is = record {
-  messages = is ∙ sym (
-      ap (above (start + length old)) all
-      ∙ above-append (start + length old) base ms
-      ∙ ap (λ (xs : List Placed). xs ++ above (start + length old) ms) (all_below framer asked (start + length old) count start 0 old (omega arith))
-      ∙ cutting.new
+-- all messages are cut
+pub record AreCut (framer : Framer) (asked : Asked) (base : List Placed) (all : Asked → List ℕ → List Placed) (count start : ℕ) (old front : List ℕ) (shown : Shown) : Type 0 where
+  pub now : all asked [] ≡ base ++ shown.messages
+  pub rest_is : (later : Asked) (more : List ℕ) → AgreeBelow (start + length front) asked later
+      → all later more ≡ all asked [] ++ from_cursor framer later start (answered count (all asked [])) shown.cursor (front ++ more)
+  pub counts : CountsFor (answers_before shown.cursor) (answered count (all asked []))
+  pub known : KnowsNext framer (asked (start + next_at shown.cursor.mark) (answered count (all asked []))) (next_at shown.cursor.mark) front shown.cursor.next
+  pub new : above (start + length old) shown.messages ≡ shown.messages
+
+pub cutting_last : (framer : Framer) (asked : Asked) (base : List Placed) (all : Asked → List ℕ → List Placed) (count start : ℕ) (old front : List ℕ) (c : Cursor) (ms : List Placed) (shown : Shown)
+    → (cutting : IsCuttingOf framer asked base all count start old front c ms) → IsRest framer (asked (start + next_at c.mark) cutting.number) front c shown.cursor → shown.messages ≡ ms
+    → AreCut framer asked base all count start old front shown
+cutting_last framer asked base all count start old front c ms shown cutting rest is = record {
+  now = now ∙ ap (λ (xs : List Placed). base ++ xs) (sym is);
+  rest_is = λ later more agree.
+      cutting.rest_is later more agree
+      ∙ ap (λ (xs : List Placed). xs ++ from_cursor framer later start cutting.number c (front ++ more)) (sym now)
+      ∙ ap (λ (xs : List Placed). all asked [] ++ xs) (
+      sym (ap (λ (k : Mark). from_mark framer later start cutting.number (goes shown.cursor.next) k (front ++ more)) rest.mark ∙ ap (λ (t : Bool). from_mark framer later start cutting.number t c.mark (front ++ more)) rest.goes_is)
+      ∙ ap (λ (n : ℕ). from_cursor framer later start n shown.cursor (front ++ more)) number_is
       );
-  cursor = record {
-    behind = λ later more agree.
-        cutting.rest_is later more agree
-        ∙ ap (λ (xs : List Placed). xs ++ from_cursor framer later start cutting.number c (front ++ more)) (sym all)
-        ∙ ap (λ (xs : List Placed). of_front framer asked count start front ++ xs) (
-        sym (ap (λ (k : Mark). from_mark framer later start cutting.number (goes shown.cursor.next) k (front ++ more)) rest.mark ∙ ap (λ (t : Bool). from_mark framer later start cutting.number t c.mark (front ++ more)) rest.goes_is)
-        ∙ ap (λ (n : ℕ). from_cursor framer later start n shown.cursor (front ++ more)) number_is
-        );
-    counts = subst (CountsFor (answers_before shown.cursor)) number_is (ap (λ (k : Mark). counted k.answers) rest.mark ∙ cutting.counts);
-    known = subst (λ (n : ℕ). KnowsNext framer (asked (start + next_at shown.cursor.mark) n) (next_at shown.cursor.mark) front shown.cursor.next) number_is
-        (subst (λ (k : Mark). KnowsNext framer (asked (start + next_at k) cutting.number) (next_at k) front shown.cursor.next) (sym rest.mark) rest.known);
-  };
+  counts = subst (CountsFor (answers_before shown.cursor)) number_is (ap (λ (k : Mark). counted k.answers) rest.mark ∙ cutting.counts);
+  known = subst (λ (n : ℕ). KnowsNext framer (asked (start + next_at shown.cursor.mark) n) (next_at shown.cursor.mark) front shown.cursor.next) number_is
+      (subst (λ (k : Mark). KnowsNext framer (asked (start + next_at k) cutting.number) (next_at k) front shown.cursor.next) (sym rest.mark) rest.known);
+  new = ap (above (start + length old)) is ∙ cutting.new ∙ sym is;
 }
   where
-    base : List Placed
-    base = of_front framer asked count start old
-
-    all : of_front framer asked count start front ≡ base ++ ms
-    all =
-        ap (of_front framer asked count start) (sym (append-nil front))
-        ∙ cutting.rest_is asked [] (λ at n low. refl)
+    now : all asked [] ≡ base ++ ms
+    now =
+        cutting.rest_is asked [] (λ at n low. refl)
         ∙ ap (λ (xs : List Placed). (base ++ ms) ++ xs) (ap (from_cursor framer asked start cutting.number c) (append-nil front) ∙ rest_quiet framer asked start cutting.number front c shown.cursor rest)
         ∙ append-nil (base ++ ms)
 
-    number_is : cutting.number ≡ answered count (of_front framer asked count start front)
-    number_is = cutting.number_is ∙ ap (answered count) (sym all)
+    number_is : cutting.number ≡ answered count (all asked [])
+    number_is = cutting.number_is ∙ ap (answered count) (sym now)
+
+-- of a whole stretch
+whole_cut : (framer : Framer) (asked : Asked) (count start : ℕ) (old front : List ℕ) (shown : Shown)
+    → AreCut framer asked (of_front framer asked count start old) (λ later more. of_front framer later count start (front ++ more)) count start old front shown
+    → IsCut framer asked count start old front shown
+whole_cut framer asked count start old front shown cut =
+    let base : List Placed = of_front framer asked count start old in
+    let all : of_front framer asked count start (front ++ []) ≡ of_front framer asked count start front = ap (of_front framer asked count start) (append-nil front) in
+    record {
+      messages = sym (
+          ap (above (start + length old)) (sym all ∙ cut.now)
+          ∙ above-append (start + length old) base shown.messages
+          ∙ ap (λ (xs : List Placed). xs ++ above (start + length old) shown.messages) (all_below framer asked (start + length old) count start 0 old (omega arith))
+          ∙ cut.new
+          );
+      cursor = record {
+        behind = λ later more agree.
+            cut.rest_is later more agree
+            ∙ ap (λ (xs : List Placed). xs ++ from_cursor framer later start (answered count xs) shown.cursor (front ++ more)) all;
+        counts = subst (CountsFor (answers_before shown.cursor)) (ap (answered count) all) cut.counts;
+        known = subst (λ (n : ℕ). KnowsNext framer (asked (start + next_at shown.cursor.mark) n) (next_at shown.cursor.mark) front shown.cursor.next) (ap (answered count) all) cut.known;
+      };
+    }
+
+-- ---- from a later position of the stretch on
+
+-- a place of it, and how many bytes are left from there on
+from_place : (first start : ℕ) (bytes : List ℕ) → first ≤ start → start ≤ first + length bytes → start + length (bytes_from first start bytes) ≡ first + length bytes
+from_place first start bytes low high = omega (arith, low, high, length-drop (start - first) bytes)
+
+from_append : (first start : ℕ) (bytes more : List ℕ) → first ≤ start → start ≤ first + length bytes → bytes_from first start (bytes ++ more) ≡ bytes_from first start bytes ++ more
+from_append first start bytes more low high = drop-append-le (start - first) bytes more (omega (arith, low, high))
+
+pub behind_from_same : (framer : Framer) (asked later : Asked) (count first start : ℕ) (c : Cursor) (front : List ℕ) → AgreeBelow (first + length front) asked later
+    → IsBehindFrom framer asked count first start c front → IsBehindFrom framer later count first start c front
+behind_from_same framer asked later count first start c front agree is =
+    let same : of_front framer later count first front ≡ of_front framer asked count first front = same_front framer asked later count first front agree in
+    let size : start + length (bytes_from first start front) ≡ first + length front = from_place first start front is.low is.high in
+    record {
+      low = is.low;
+      high = is.high;
+      behind = λ newer more also.
+          is.behind newer more (λ at n low. also at n low ∙ agree at n low)
+          ∙ ap (λ (ms : List Placed). ms ++ from_cursor framer newer start (answered count ms) c (bytes_from first start (front ++ more))) (sym same);
+      counts = subst (CountsFor (answers_before c)) (ap (answered count) (sym same)) is.counts;
+      known = subst (λ (n : ℕ). KnowsNext framer (later (start + next_at c.mark) n) (next_at c.mark) (bytes_from first start front) c.next) (ap (answered count) (sym same))
+          (known_same framer asked later start (answered count (of_front framer asked count first front)) (next_at c.mark) (bytes_from first start front) c.next
+          (subst (λ (n : ℕ). AgreeBelow n asked later) (sym size) agree) is.known);
+    }
+
+from_quiet : (framer : Framer) (asked : Asked) (count first start : ℕ) (c : Cursor) (front : List ℕ) → IsBehindFrom framer asked count first start c front
+    → from_cursor framer asked start (answered count (of_front framer asked count first front)) c (bytes_from first start front) ≡ []
+from_quiet framer asked count first start c front is =
+    let number : ℕ = answered count (of_front framer asked count first front) in
+    let same : of_front framer asked count first (front ++ []) ≡ of_front framer asked count first front ++ from_cursor framer asked start number c (bytes_from first start (front ++ [])) =
+    is.behind asked [] (λ at n low. refl) in
+    nothing_more (of_front framer asked count first front) (from_cursor framer asked start number c (bytes_from first start front))
+    (subst (λ (bytes : List ℕ). of_front framer asked count first bytes ≡ of_front framer asked count first front ++ from_cursor framer asked start number c (bytes_from first start bytes)) (append-nil front) same)
+
+-- all messages of the stretch
+abbrev all_of : Framer → ℕ → ℕ → List ℕ → Asked → List ℕ → List Placed
+all_of framer count first whole later more = of_front framer later count first (whole ++ more)
+
+from_first : (framer : Framer) (asked later : Asked) (count first start : ℕ) (old new front : List ℕ) (c : Cursor) → front ≡ bytes_from first start (old ++ new) → AgreeBelow (first + length old) asked later
+    → IsBehindFrom framer asked count first start c old
+    → IsCuttingOf framer later (of_front framer later count first old) (all_of framer count first (old ++ new)) count start (bytes_from first start old) front c []
+from_first framer asked later count first start old new front c is agree behind = record {
+  number = answered count base;
+  number_is = ap (answered count) (sym (append-nil base));
+  rest_is = λ newer more also.
+      ap (of_front framer newer count first) (append_assoc old new more)
+      ∙ here.behind newer (new ++ more) (λ at n low. also at n (omega (arith, low, size, split_size)))
+      ∙ ap (λ (ms : List Placed). ms ++ from_cursor framer newer start (answered count base) c (bytes_from first start (old ++ (new ++ more)))) (sym (append-nil base))
+      ∙ ap (λ (bytes : List ℕ). (base ++ []) ++ from_cursor framer newer start (answered count base) c bytes) (left more);
+  counts = here.counts;
+  known = here.known;
+  new = refl;
+  quiet = from_quiet framer later count first start c old here;
+}
+  where
+    here : IsBehindFrom framer later count first start c old
+    here = behind_from_same framer asked later count first start c old agree behind
+
+    base : List Placed
+    base = of_front framer later count first old
+
+    split : front ≡ bytes_from first start old ++ new
+    split = is ∙ from_append first start old new behind.low behind.high
+
+    split_size : length front ≡ length (bytes_from first start old) + length new
+    split_size = ap length split ∙ length-append (bytes_from first start old) new
+
+    size : start + length (bytes_from first start old) ≡ first + length old
+    size = from_place first start old behind.low behind.high
+
+    left : (more : List ℕ) → bytes_from first start (old ++ (new ++ more)) ≡ front ++ more
+    left more =
+        from_append first start old (new ++ more) behind.low behind.high ∙ sym (append_assoc (bytes_from first start old) new more) ∙ ap (λ (bytes : List ℕ). bytes ++ more) (sym split)
+
+from_cut : (framer : Framer) (asked : Asked) (count first start : ℕ) (old new front : List ℕ) (shown : Shown) → first ≤ start → start ≤ first + length old → front ≡ bytes_from first start (old ++ new)
+    → AreCut framer asked (of_front framer asked count first old) (all_of framer count first (old ++ new)) count start (bytes_from first start old) front shown
+    → IsCutOn framer asked count first start old (old ++ new) shown
+from_cut framer asked count first start old new front shown low high is cut =
+    let whole : List ℕ = old ++ new in
+    let base : List Placed = of_front framer asked count first old in
+    let longer : length whole ≡ length old + length new = length-append old new in
+    let high_all : start ≤ first + length whole = omega (arith, high, longer) in
+    let size : start + length (bytes_from first start old) ≡ first + length old = from_place first start old low high in
+    let size_all : start + length front ≡ first + length whole = ap (λ (bytes : List ℕ). start + length bytes) is ∙ from_place first start whole low high_all in
+    let all : of_front framer asked count first (whole ++ []) ≡ of_front framer asked count first whole = ap (of_front framer asked count first) (append-nil whole) in
+    let later_is : (more : List ℕ) → front ++ more ≡ bytes_from first start (whole ++ more) = λ more. ap (λ (bytes : List ℕ). bytes ++ more) is ∙ sym (from_append first start whole more low high_all) in
+    record {
+      messages = sym (
+          ap (above (first + length old)) (sym all ∙ cut.now)
+          ∙ above-append (first + length old) base shown.messages
+          ∙ ap (λ (xs : List Placed). xs ++ above (first + length old) shown.messages) (all_below framer asked (first + length old) count first 0 old (omega arith))
+          ∙ ap (λ (n : ℕ). above n shown.messages) (sym size)
+          ∙ cut.new
+          );
+      cursor = record {
+        low = low;
+        high = high_all;
+        behind = λ later more agree.
+            cut.rest_is later more (subst (λ (n : ℕ). AgreeBelow n asked later) (sym size_all) agree)
+            ∙ ap (λ (xs : List Placed). xs ++ from_cursor framer later start (answered count xs) shown.cursor (front ++ more)) all
+            ∙ ap (λ (bytes : List ℕ). of_front framer asked count first whole ++ from_cursor framer later start (answered count (of_front framer asked count first whole)) shown.cursor bytes) (later_is more);
+        counts = subst (CountsFor (answers_before shown.cursor)) (ap (answered count) all) cut.counts;
+        known = subst (λ (bytes : List ℕ). KnowsNext framer (asked (start + next_at shown.cursor.mark) (answered count (of_front framer asked count first whole))) (next_at shown.cursor.mark) bytes shown.cursor.next) is
+            (subst (λ (n : ℕ). KnowsNext framer (asked (start + next_at shown.cursor.mark) n) (next_at shown.cursor.mark) front shown.cursor.next) (ap (answered count) all) cut.known);
+      };
+    }
 
 -- ---- whatever the cursor
 
@@ -362,15 +496,15 @@ rest_left framer asked front old new rest = subst (λ (k : Mark). IsQuietNext fr
 -- ---- all messages
 
 pub record IsLoop (framer : Framer) (start : ℕ) (front : List ℕ) (heads : List Bool) (first c : Cursor) (ms : List Placed) : Type 0 where
-  pub cutting : (asked later : Asked) (count : ℕ) (old new : List ℕ) → front ≡ old ++ new → AgreeBelow (start + length old) asked later
-      → AsksBetween (start + length old) (start + length front) heads later → IsBehind framer asked count start first old → IsCutting framer later count start old front c ms
+  pub cutting : (asked : Asked) (base : List Placed) (all : Asked → List ℕ → List Placed) (count : ℕ) (old new : List ℕ) → front ≡ old ++ new
+      → AsksBetween (start + length old) (start + length front) heads asked → IsCuttingOf framer asked base all count start old front first [] → IsCuttingOf framer asked base all count start old front c ms
   pub whole : All (IsWhole framer start front) ms
   pub few : (old new : List ℕ) → front ≡ old ++ new → IsQuiet framer first old → IsFew old front first c ms
   pub sound : IsSound framer c front
 
 pub loop_first : (framer : Framer) (start : ℕ) (front : List ℕ) (heads : List Bool) (c : Cursor) → IsSound framer c front → IsLoop framer start front heads c c []
 loop_first framer start front heads c sound = record {
-  cutting = λ asked later count old new is agree asks behind. cutting_first framer asked later count start old new front c is agree behind;
+  cutting = λ asked base all count old new is asks cutting. cutting;
   whole = λ k m inside. absurd (omega (arith, inside));
   few = λ old new is quiet. inl (refl, refl);
   sound = sound;
@@ -390,10 +524,10 @@ pub loop_more : (framer : Framer) (start : ℕ) (front : List ℕ) (heads : List
 loop_more framer start front heads first c ms m behind loop each =
     let some = loop_asked framer start front heads c (Whole m behind) loop.sound each in
     record {
-      cutting = λ asked later count old new is agree asks from.
-          let cutting : IsCutting framer later count start old front c ms = loop.cutting asked later count old new is agree asks from in
-          let here = each (later (start + next_at c.mark) cutting.number) cutting.number cutting.counts (asks_right framer later count start old new front c ms heads is asks cutting) in
-          cutting_more framer later count start old new front c ms m behind is cutting here.0 here.1;
+      cutting = λ asked base all count old new is asks from.
+          let cutting : IsCuttingOf framer asked base all count start old front c ms = loop.cutting asked base all count old new is asks from in
+          let here = each (asked (start + next_at c.mark) cutting.number) cutting.number cutting.counts (asks_right framer asked base all count start old new front c ms heads is asks cutting) in
+          cutting_more framer asked base all count start old new front c ms m behind is cutting here.0 here.1;
       whole = All-push (IsWhole framer start front) ms m loop.whole (next_whole framer some.0 start front c.mark m behind some.2.1);
       few = λ old new is quiet. few_more framer some.0 heads start old new front first c ms m behind is quiet some.1 some.2.0 some.2.1 (loop.few old new is quiet);
       sound = next_sound framer some.0 start front c.mark m behind some.2.1;
@@ -431,12 +565,37 @@ loop_few framer start front heads first c ms shown loop same old new is quiet = 
     by (inl (begins, none)) = let nothing : length ms ≡ 0 = ap length none in omega (arith, nothing, count)
     by (inr (far, within)) = omega (arith, far, within, size, count)
 
+loop_last : (framer : Framer) (start : ℕ) (front : List ℕ) (heads : List Bool) (first c : Cursor) (ms : List Placed) (shown : Shown)
+    → IsLoop framer start front heads first c ms → IsLook framer start front heads c (Rest shown.cursor) → shown.messages ≡ ms
+    → (asked : Asked) (base : List Placed) (all : Asked → List ℕ → List Placed) (count : ℕ) (old new : List ℕ) → front ≡ old ++ new
+    → AsksBetween (start + length old) (start + length front) heads asked → IsCuttingOf framer asked base all count start old front first [] → AreCut framer asked base all count start old front shown
+loop_last framer start front heads first c ms shown loop each same asked base all count old new is asks from =
+    let cutting : IsCuttingOf framer asked base all count start old front c ms = loop.cutting asked base all count old new is asks from in
+    cutting_last framer asked base all count start old front c ms shown cutting
+    (each (asked (start + next_at c.mark) cutting.number) cutting.number cutting.counts (asks_right framer asked base all count start old new front c ms heads is asks cutting)) same
+
 pub loop_cut : (framer : Framer) (start : ℕ) (front : List ℕ) (heads : List Bool) (first c : Cursor) (ms : List Placed) (shown : Shown)
     → IsLoop framer start front heads first c ms
     → IsLook framer start front heads c (Rest shown.cursor)
     → shown.messages ≡ ms → (asked later : Asked) (count : ℕ) (old new : List ℕ) → front ≡ old ++ new → AgreeBelow (start + length old) asked later
     → AsksBetween (start + length old) (start + length front) heads later → IsBehind framer asked count start first old → IsCut framer later count start old front shown
 loop_cut framer start front heads first c ms shown loop each same asked later count old new is agree asks from =
-    let cutting : IsCutting framer later count start old front c ms = loop.cutting asked later count old new is agree asks from in
-    cutting_last framer later count start old front c ms shown cutting
-    (each (later (start + next_at c.mark) cutting.number) cutting.number cutting.counts (asks_right framer later count start old new front c ms heads is asks cutting)) same
+    whole_cut framer later count start old front shown
+    (loop_last framer start front heads first c ms shown loop each same later (of_front framer later count start old) (λ newer more. of_front framer newer count start (front ++ more)) count old new is asks
+    (cutting_first framer asked later count start old new front first is agree from))
+
+pub loop_from : (framer : Framer) (start : ℕ) (front : List ℕ) (heads : List Bool) (mark c : Cursor) (ms : List Placed) (shown : Shown)
+    → IsLoop framer start front heads mark c ms
+    → IsLook framer start front heads c (Rest shown.cursor)
+    → shown.messages ≡ ms → (asked later : Asked) (count first : ℕ) (old new : List ℕ) → front ≡ bytes_from first start (old ++ new) → AgreeBelow (first + length old) asked later
+    → AsksBetween (first + length old) (first + length (old ++ new)) heads later → IsBehindFrom framer asked count first start mark old → IsCutOn framer later count first start old (old ++ new) shown
+loop_from framer start front heads mark c ms shown loop each same asked later count first old new is agree asks from =
+    let size : start + length (bytes_from first start old) ≡ first + length old = from_place first start old from.low from.high in
+    let longer : length (old ++ new) ≡ length old + length new = length-append old new in
+    let split : front ≡ bytes_from first start old ++ new = is ∙ from_append first start old new from.low from.high in
+    let size_all : start + length front ≡ first + length (old ++ new) =
+    omega (arith, ap length split, length-append (bytes_from first start old) new, size, longer) in
+    from_cut framer later count first start old new front shown from.low from.high is
+    (loop_last framer start front heads mark c ms shown loop each same later (of_front framer later count first old) (all_of framer count first (old ++ new)) count (bytes_from first start old) new split
+    (subst (λ (n : ℕ). AsksBetween (start + length (bytes_from first start old)) n heads later) (sym size_all) (subst (λ (n : ℕ). AsksBetween n (first + length (old ++ new)) heads later) (sym size) asks))
+    (from_first framer asked later count first start old new front mark is agree from))

@@ -1,5 +1,5 @@
 -- The number that bytes are, byte by byte.
-use Rattle.std.proofs.Common.{◌≡◌, ℕ, zero, suc, ◌+◌, ◌*◌, ◌<◌, List, [], ◌∷◌, length, take, get_or, refl, sym, ap, ◌∙◌, arith}
+use Rattle.std.proofs.Common.{◌≡◌, ℕ, zero, suc, ◌+◌, ◌*◌, ◌<◌, List, [], ◌∷◌, length, take, get_or, refl, ap, ◌∙◌, arith}
 use Rattle.stream_messages.specs.Framers.{number_of, number_on}
 
 number_next_on : (n : ℕ) (bytes : List ℕ) (i d : ℕ) → i < length bytes → number_on n (take (suc i) bytes) ≡ number_on n (take i bytes) * 256 + get_or bytes i d

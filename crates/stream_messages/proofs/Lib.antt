@@ -16,6 +16,7 @@ pub mod HttpMessageLemmas
 pub mod LengthLemmas
 pub mod ListingLemmas
 pub mod MessageLemmas
+pub mod MovedLemmas
 pub mod PassingLemmas
 pub mod PlaceLemmas
 pub mod RunLemmas

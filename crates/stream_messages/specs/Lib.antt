@@ -11,6 +11,7 @@ pub mod Limits
 pub mod LineFacts
 pub mod Lines
 pub mod Messages
+pub mod Moved
 pub mod Places
 pub mod PlanFacts
 pub mod Plans

@@ -1,5 +1,5 @@
 -- The first message in bytes of a stream: how many bytes it takes, and what follows it.
-use Rattle.std.specs.Prelude.{◌≡◌, ◌<◌, ◌≤◌, ℕ, if◌then◌else◌, Bool, ◌||◌, List, [], ◌∷◌, ◌++◌, length, Option, Some, None}
+use Rattle.std.specs.Prelude.{◌≡◌, ◌<◌, ◌≤◌, ℕ, if◌then◌else◌, Bool, ◌||◌, List, ◌++◌, length, Option, Some}
 use Rattle.std.specs.Option.{option_map}
 use Rattle.stream_messages.specs.declared.shape.Then.{Then}
 use Rattle.stream_messages.specs.declared.shape.Then.TheVariants.{Follows, Opaque}

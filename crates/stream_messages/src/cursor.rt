@@ -1,7 +1,9 @@
-ghost use Rattle.std.specs.Prelude.{◌≡◌, ◌+◌, ◌^◌, ◌<◌, if◌then◌else◌, nat_lt, Some, None};
+ghost use Rattle.std.specs.Prelude.{◌≡◌, ◌+◌, ◌^◌, ◌<◌, ◌≤◌, if◌then◌else◌, nat_lt, true, Some, None};
 ghost use Rattle.stream_messages.specs.Tellings.{end_of, passed};
-ghost use Rattle.stream_messages.specs.Cursors.{answers_before, begun, mark_behind, next_at, next_behind};
+ghost use Rattle.stream_messages.specs.Cursors.{answers_before, begun, goes, mark_behind, next_at, next_behind};
+ghost use Rattle.stream_messages.specs.Moved.{IsMovedBy, StandsAlike, settled_next, spare_of};
 ghost use Rattle.stream_messages.specs.declared.cursor.Mark.{Mark as MarkValue};
+ghost use Rattle.stream_messages.specs.declared.cursor.Next.TheVariants.{Begun};
 
 use crate::part::Part;
 use crate::shape::Then;
@@ -59,6 +61,39 @@ impl Cursor {
         Cursor::begun(self.mark.answers)
     }
 
+    /// The same cursor, which tells that no message comes where its bytes can't become one.
+    pub fn settled(self) -> Cursor
+        ensures { StandsAlike self result }
+    {
+        let mark = self.mark;
+        Cursor {
+            mark,
+            next: settled(self.next),
+        }
+    }
+
+    /// How many of a stretch's bytes, of which so many are there, no later message needs.
+    pub fn spare(&self, len: usize) -> usize
+        ensures { result ≡ spare_of self.now len }
+    {
+        match self.next {
+            Next::Never => len,
+            Next::Awaited | Next::Begun(_) => self.mark.place_within(len).unwrap_or(len),
+        }
+    }
+
+    /// The same cursor where so many more of the stretch's bytes are let go.
+    pub fn moved(self, gone: usize) -> Cursor
+        requires { goes self.next ≡ true → gone ≤ next_at self.mark }
+        ensures { IsMovedBy gone self result }
+    {
+        let mark = self.mark.moved(gone);
+        Cursor {
+            mark,
+            next: self.next,
+        }
+    }
+
     fn begun(answers: usize) -> Cursor
         ensures { result ≡ begun answers }
     {
@@ -73,7 +108,42 @@ impl Cursor {
     }
 }
 
+/// What is known of the next message: none comes where its bytes can't become one.
+fn settled(next: Next) -> Next
+    ensures { result ≡ settled_next next }
+{
+    match next {
+        Next::Never => Next::Never,
+        Next::Awaited => Next::Awaited,
+        Next::Begun(started) => settled_part(started),
+    }
+}
+
+fn settled_part(started: Started) -> Next
+    ensures { result ≡ settled_next (Begun started) }
+{
+    if started.part.is_never() {
+        Next::Never
+    } else {
+        Next::Begun(started)
+    }
+}
+
 impl Mark {
+    /// The same place where so many bytes before it are let go.
+    fn moved(self, gone: usize) -> Mark
+        ensures at { gone ≤ next_at self → next_at result + gone ≡ next_at self }
+        ensures answers { result.answers ≡ self.answers }
+    {
+        Mark {
+            end: self.end.saturating_sub(gone),
+            skip: self
+                .skip
+                .saturating_sub(gone.saturating_sub(self.end) as u64),
+            answers: self.answers,
+        }
+    }
+
     /// Where the next message begins, if a byte of it is among so many.
     pub fn place_within(self, len: usize) -> Option<usize>
         ensures { result ≡ (if nat_lt (next_at self) len then Some (next_at self) else None) }

@@ -1,6 +1,7 @@
 ghost use Rattle.std.specs.Prelude.{◌≡◌, ◌+◌, ◌++◌, ◌^◌, ◌<◌, ◌≤◌, ℕ, Bool, false, true, List, All, length, drop, get_or, IfOk, IfSome, IfNone};
 ghost use Rattle.stream_messages.specs.Messages.{Asked, AgreeBelow};
 ghost use Rattle.stream_messages.specs.Cursors.{AddsFew, AsksBetween, CountsFor, IsAskedOf, IsBehind, IsCut, IsKnown, IsLook, IsPartCut, IsQuiet, IsSound, IsSoundNext, IsWhole, goes, next_at};
+ghost use Rattle.stream_messages.specs.Moved.{IsBehindFrom, IsCutOn, bytes_from};
 ghost use Rattle.stream_messages.specs.declared.framer.Framer.{Framer as FramerValue};
 
 use crate::cursor::{Cursor, Mark, Next, Started, mark_behind, next_behind};
@@ -29,7 +30,8 @@ pub(crate) enum Cut {
 /// Cuts the new messages out of a stretch of a stream's bytes that begins at position `start`: those that end past the bytes
 /// which the cursor was behind. `front` is the stretch so far. `heads` are the requests that the other side has shown, in order:
 /// whether the method of each is HEAD. A response that begins in the new bytes is to HEAD where the request that it answers is; later
-/// requests change nothing. After `NoMemory` the cursor is gone.
+/// requests change nothing. `start` may also be a later position of the stretch, where the bytes before it are let go, and the cursor
+/// stands in those from there on. After `NoMemory` the cursor is gone.
 pub fn cut_messages(
     alloc: Global,
     framer: Framer,
@@ -46,6 +48,12 @@ pub fn cut_messages(
         → AsksBetween (start + length old) (start + length front.now) heads.now later
         → IsBehind framer asked count start cursor old
         → IsCut framer later count start old front.now shown) }
+    ensures from { IfOk result (λ shown. (asked later : Asked) (count first : ℕ) (old new : List ℕ)
+        → front.now ≡ bytes_from first start (old ++ new)
+        → AgreeBelow (first + length old) asked later
+        → AsksBetween (first + length old) (first + length (old ++ new)) heads.now later
+        → IsBehindFrom framer asked count first start cursor old
+        → IsCutOn framer later count first start old (old ++ new) shown) }
     ensures whole { IfOk result (λ shown. All (IsWhole framer start front.now) shown.messages) }
     ensures few { IfOk result (λ shown. AddsFew framer cursor front.now shown.messages) }
     ensures sound { IfOk result (λ shown. IsSound framer shown.cursor front.now) }

@@ -3,6 +3,7 @@ ghost use Rattle.std.specs.Option.{option_map};
 ghost use Rattle.stream_messages.specs.HttpMessages.{found as found_in, went_on as framing_on};
 ghost use Rattle.stream_messages.specs.declared.told.Told.TheVariants.{Http};
 ghost use Rattle.stream_messages.specs.declared.part.Part.TheVariants as parts;
+ghost use Rattle.stream_messages.specs.Moved.{is_never};
 ghost use Rattle.stream_messages.specs.Cursors.{GoesOn, found, part_begun, went_on};
 
 use crate::framer::{Framer, first_sized};
@@ -35,6 +36,16 @@ impl Part {
         match framer {
             Framer::LengthPrefix { head, at, width } => Part::Sized { head, at, width },
             Framer::Http => Part::Http(Progress::begun(asked)),
+        }
+    }
+
+    /// Whether its bytes can't become a message.
+    pub fn is_never(&self) -> bool
+        ensures { result ≡ is_never self.now }
+    {
+        match self {
+            Part::Http(progress) => progress.is_never(),
+            Part::Sized { .. } => false,
         }
     }
 

@@ -1,5 +1,7 @@
 ghost use Rattle.std.specs.Prelude.{◌≡◌};
 ghost use Rattle.stream_messages.specs.HttpMessages.{begun};
+ghost use Rattle.stream_messages.specs.Moved.{is_never};
+ghost use Rattle.stream_messages.specs.declared.part.Part.TheVariants as parts;
 
 use crate::chunks::Place;
 use crate::ends::Seek;
@@ -47,6 +49,16 @@ pub enum Framing {
 }
 
 impl Progress {
+    /// Whether its bytes can't become a message.
+    pub(crate) fn is_never(&self) -> bool
+        ensures { result ≡ is_never (parts.Http self.now) }
+    {
+        match self {
+            Progress::Never => true,
+            Progress::InHead(_) | Progress::InBody(_) | Progress::InChunks(_) => false,
+        }
+    }
+
     /// What is known of a message before its first byte. A response is to HEAD where it is `asked`.
     pub fn begun(asked: bool) -> Progress
         ensures { result ≡ begun asked }

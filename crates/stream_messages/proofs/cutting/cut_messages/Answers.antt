@@ -2,7 +2,7 @@ use Rattle.std.proofs.Common.{subst, sym, List}
 use Rattle.std.specs.Prelude.{All}
 use Rattle.stream_messages.specs.declared.placed.Placed.{Placed}
 use Rattle.stream_messages.specs.Cursors.{IsLook, IsWhole}
-use Rattle.stream_messages.proofs.CuttingLemmas.{IsLoop, loop_first, loop_more, loop_nearer, loop_sound, loop_quiet, loop_few, loop_cut}
+use Rattle.stream_messages.proofs.CuttingLemmas.{IsLoop, loop_first, loop_more, loop_nearer, loop_sound, loop_quiet, loop_few, loop_cut, loop_from}
 use Rattle.stream_messages.proofs.cutting.cut_messages.Goals as goal
 
 pub loop-messages-init : goal.loop-messages-init
@@ -24,6 +24,12 @@ loop-messages-preserved c =
 pub returns-in-Rest-clause-cut : goal.returns-in-Rest-clause-cut
 returns-in-Rest-clause-cut c =
     loop_cut c.args.framer c.args.start c.args.front.now c.args.heads.now c.args.cursor c.loop-messages.cursor c.loop-messages.messages.items
+    (record { messages = c.from_vec-messages.result; cursor = c.in-Rest.cursor }) c.loop-messages.invariant
+    (subst (IsLook c.args.framer c.args.start c.args.front.now c.args.heads.now c.loop-messages.cursor) c.in-Rest.is c.in_ok-message.ensures) c.from_vec-messages.ensures
+
+pub returns-in-Rest-clause-from : goal.returns-in-Rest-clause-from
+returns-in-Rest-clause-from c =
+    loop_from c.args.framer c.args.start c.args.front.now c.args.heads.now c.args.cursor c.loop-messages.cursor c.loop-messages.messages.items
     (record { messages = c.from_vec-messages.result; cursor = c.in-Rest.cursor }) c.loop-messages.invariant
     (subst (IsLook c.args.framer c.args.start c.args.front.now c.args.heads.now c.loop-messages.cursor) c.in-Rest.is c.in_ok-message.ensures) c.from_vec-messages.ensures
 
