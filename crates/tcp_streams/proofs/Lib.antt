@@ -20,3 +20,6 @@ pub mod KeyLemmas
 pub mod PlacesLemmas
 pub mod Keyed
 pub mod Isolating
+pub mod KeptLemmas
+pub mod KeptStands
+pub mod LetGoLemmas

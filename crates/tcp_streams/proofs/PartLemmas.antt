@@ -15,6 +15,7 @@ use Rattle.tcp_streams.specs.Standing.{StandsFor, stream_count, way_in, way_for}
 use Rattle.tcp_streams.proofs.Places.{next_is, place_jump, length-bytes_at, put_stays}
 use Rattle.tcp_streams.proofs.WayLemmas.{bytes_stay, after_is}
 use Rattle.tcp_streams.proofs.ReadLemmas.{stands_way}
+use Rattle.tcp_streams.specs.LetGo.{AreHeldIn, IsHeldIn}
 use Rattle.tcp_streams.specs.Parts.{LiesIn, LiesInOne, bytes_in, IsPart}
 
 -- stretches that are apart end before what is behind them
@@ -149,14 +150,7 @@ finds now xs from to i x bytes r there low same only some lies = record {
   );
 }
 
--- the bytes of stretches are what is held at their positions
-record IsHeldIn (held : Held) (x : Stretch) : Type 0 where
-  run : HoldsAll held x.start (x.start + length x.bytes)
-  is : x.bytes ≡ bytes_at held x.start (length x.bytes)
-
-abbrev AreHeldIn : Held → List Stretch → Type 0
-AreHeldIn held [] = Unit {0}
-AreHeldIn held (x ∷ xs) = IsHeldIn held x × AreHeldIn held xs
+-- ---- stretches whose bytes are held
 
 held_stay : (held : Held) (p : ℕ) (bytes : List ℕ) (frame : ℕ) (xs : List Stretch) → AreHeldIn held xs → AreHeldIn (put_run held p bytes frame) xs
 held_stay held p bytes frame [] all = tt
@@ -168,7 +162,7 @@ held_stay held p bytes frame (x ∷ xs) all = (
   held_stay held p bytes frame xs all.1,
 )
 
-held_append : (held : Held) (xs ys : List Stretch) → AreHeldIn held xs → AreHeldIn held ys → AreHeldIn held (xs ++ ys)
+pub held_append : (held : Held) (xs ys : List Stretch) → AreHeldIn held xs → AreHeldIn held ys → AreHeldIn held (xs ++ ys)
 held_append held [] ys before after = after
 held_append held (x ∷ xs) ys before after = (before.0, held_append held xs ys before.1 after)
 
@@ -188,7 +182,7 @@ held_past (suc n) held acked start front place =
           )
     ] refl
 
-step_held : (own : Bool) (w : WayState) (s : Segment) → IsWay w → AreHeldIn w.held w.earlier → AreHeldIn (way_step own w s).held (way_step own w s).earlier
+pub step_held : (own : Bool) (w : WayState) (s : Segment) → IsWay w → AreHeldIn w.held w.earlier → AreHeldIn (way_step own w s).held (way_step own w s).earlier
 unfolding own_step other_step
 step_held true w s way all =
     let u = ahead (origin_for w s) (front_for w) (first_number s) in
@@ -196,7 +190,7 @@ step_held true w s way all =
     (held_append w.held w.earlier (left_behind w.held w.start (lost_in w)) all (held_past (w.acked - end_of w) w.held w.acked w.start (end_of w) way.place))
 step_held false w s way all = all
 
-after_held : (side : Bool) (ls : List Sided) → AreHeldIn (way_after side ls).held (way_after side ls).earlier
+pub after_held : (side : Bool) (ls : List Sided) → AreHeldIn (way_after side ls).held (way_after side ls).earlier
 after_held side [] = tt
 after_held side (l ∷ ls) = step_held (same_side side l.side) (way_after side ls) l.segment (after_is side ls) (after_held side ls)
 
@@ -205,7 +199,7 @@ stretches_held side ls =
     let way = after_is side ls in
     held_append (way_after side ls).held (way_after side ls).earlier _ (after_held side ls) (record { run = way.place.run; is = way.bytes }, tt)
 
-held_at : (held : Held) (xs : List Stretch) (i : ℕ) (x : Stretch) → AreHeldIn held xs → slice_get xs i ≡ Some x → IsHeldIn held x
+pub held_at : (held : Held) (xs : List Stretch) (i : ℕ) (x : Stretch) → AreHeldIn held xs → slice_get xs i ≡ Some x → IsHeldIn held x
 held_at held [] i x all = λ e. absurd (false≢true (ap is_some e))
 held_at held (y ∷ xs) zero x all = λ e. subst (IsHeldIn held) (same_here y x e) all.0
 held_at held (y ∷ xs) (suc i) x all = λ e. held_at held xs i x all.1 e
@@ -225,7 +219,7 @@ some_bytes held from (suc n) (suc a) m few =
     let same : from + suc a ≡ (from + 1) + a = omega arith in
     some_bytes held (from + 1) n a m (omega (arith, few)) ∙ ap (λ (p : ℕ). bytes_at held p m) (sym same)
 
-bytes_in_are : (held : Held) (x : Stretch) (from to : ℕ) → IsHeldIn held x → LiesIn x from to → bytes_in x from to ≡ bytes_at held from (to - from)
+pub bytes_in_are : (held : Held) (x : Stretch) (from to : ℕ) → IsHeldIn held x → LiesIn x from to → bytes_in x from to ≡ bytes_at held from (to - from)
 bytes_in_are held x from to is lies =
     let low = lies.low in
     let order = lies.order in

@@ -17,12 +17,12 @@ use Rattle.tcp_streams.proofs.WayLemmas.{nothing_is}
 use Rattle.tcp_streams.proofs.Filling.{stretches_short, ways_filled}
 use Rattle.tcp_streams.proofs.TakeLemmas.{Followed, Started, at_stream}
 
-set_here : {X : Type 0} (xs : List X) (i : ℕ) (x : X) → i < length xs → slice_get (slice_set xs i x) i ≡ Some x
+pub set_here : {X : Type 0} (xs : List X) (i : ℕ) (x : X) → i < length xs → slice_get (slice_set xs i x) i ≡ Some x
 set_here [] i x low = absurd (omega (arith, low))
 set_here (z ∷ zs) zero x low = refl
 set_here (z ∷ zs) (suc i) x low = set_here zs i x (omega (arith, low))
 
-set_else : {X : Type 0} (xs : List X) (i j : ℕ) (x : X) → (i ≡ j → ⊥) → slice_get (slice_set xs i x) j ≡ slice_get xs j
+pub set_else : {X : Type 0} (xs : List X) (i j : ℕ) (x : X) → (i ≡ j → ⊥) → slice_get (slice_set xs i x) j ≡ slice_get xs j
 set_else [] i j x apart = refl
 set_else (z ∷ zs) zero zero x apart = absurd (apart refl)
 set_else (z ∷ zs) zero (suc j) x apart = refl

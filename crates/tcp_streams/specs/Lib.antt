@@ -16,3 +16,4 @@ pub mod PlacesStanding
 pub mod Order
 pub mod Parts
 pub mod Isolation
+pub mod LetGo

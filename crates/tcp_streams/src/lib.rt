@@ -6,6 +6,7 @@ mod followed;
 mod kept;
 mod kept_places;
 mod laws;
+mod letting_go;
 mod newest;
 mod numbers;
 mod passing;
@@ -21,7 +22,7 @@ mod way;
 mod ways;
 
 pub use ends::{End, Ends, ends_between};
-pub use laws::{gaps_passed, places_acknowledged};
+pub use laws::{gaps_passed, kept_goes_on, places_acknowledged};
 pub use newest::Newest;
 pub use segment::{Segment, Taken};
 pub use stream_places::StreamPlaces;

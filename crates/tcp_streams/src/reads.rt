@@ -2,7 +2,8 @@ ghost use Rattle.std.specs.Prelude.{◌≡◌, ◌↔◌, true, ◌-◌, ◌+◌
 ghost use Rattle.pk_base.specs.declared.stretch.Stretch.{Stretch as StretchValue};
 ghost use Rattle.range_bytes.specs.Held.{HoldsAll, IsFreeFrom, bytes_at, frames_at};
 ghost use Rattle.tcp_streams.specs.declared.segment.Segment.{Segment as SegmentValue};
-ghost use Rattle.tcp_streams.specs.Ways.{stretches, AreApart};
+ghost use Rattle.tcp_streams.specs.Ways.{stretches, AreApart, IsWay};
+ghost use Rattle.tcp_streams.specs.LetGo.{StandsFrom};
 ghost use Rattle.tcp_streams.specs.Parts.{LiesIn, LiesInOne, IsPart};
 ghost use Rattle.tcp_streams.specs.States.{state_of};
 ghost use Rattle.tcp_streams.specs.Standing.{StandsFor, stream_count, way_in, way_for};
@@ -69,6 +70,7 @@ impl Streams {
         requires stream { stream < stream_count self.now }
         requires side { side < 2 }
         requires lies { LiesInOne (stretches (way_in self.now stream side)) from to }
+        ensures from { IsWay (way_in self.now stream side) → (past : List SegmentValue) → StandsFrom past self.now → result.now ≡ bytes_at (way_for past stream side).held from (to - from) }
         ensures bytes { (past : List SegmentValue) → StandsFor past self.now → IsPart (stretches (way_for past stream side)) from to result.now }
         ensures held { (past : List SegmentValue) → StandsFor past self.now → result.now ≡ bytes_at (way_for past stream side).held from (to - from) }
         ensures kept { IsPart (stretches (way_in self.now stream side)) from to result.now }
@@ -109,7 +111,9 @@ impl Streams {
         requires stream { stream < stream_count self.now }
         requires side { side < 2 }
         requires held { HoldsAll (way_in self.now stream side).held from to }
-        ensures { IfOk result (λ numbers. (past : List SegmentValue) → StandsFor past self.now
+        ensures numbers { IfOk result (λ numbers. (past : List SegmentValue) → StandsFor past self.now
+            → numbers ≡ frames_at (way_for past stream side).held from (to - from)) }
+        ensures from { IfOk result (λ numbers. (past : List SegmentValue) → StandsFrom past self.now
             → numbers ≡ frames_at (way_for past stream side).held from (to - from)) }
     {
         self.way(stream, side).held.origins(from, to)

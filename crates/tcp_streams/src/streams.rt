@@ -6,6 +6,7 @@ ghost use Rattle.tcp_streams.specs.Conversations.{ends_of as ends_value, same_en
 ghost use Rattle.tcp_streams.specs.Labels.{labels, sided_of, opened, side_from, taken_after, PassesNear};
 ghost use Rattle.tcp_streams.specs.Isolation.{HaveSameBetween, IsIsolated};
 ghost use Rattle.tcp_streams.specs.Order.{IsOrderFree};
+ghost use Rattle.tcp_streams.specs.LetGo.{AgreesKept, StandsFrom};
 ghost use Rattle.tcp_streams.specs.Stands.{Agrees, IsSound, IsSoundStream, IsStepped, IsOpened, current_in};
 ghost use Rattle.tcp_streams.specs.Standing.{AreReady, AreStepped, StandsFor, bytes_so_far, streams_of, taken_so_far, stream_count};
 
@@ -37,6 +38,7 @@ impl Streams {
     #[tactic(auto, unfolding(crate::specs::Standing::StandsFor))]
     pub fn new(alloc: Global) -> Streams
         ensures stands { StandsFor [] result }
+        ensures from { StandsFrom [] result }
         ensures taken { taken_so_far result ≡ 0 }
         ensures bytes { bytes_so_far result ≡ 0 }
     {
@@ -62,12 +64,14 @@ impl Streams {
     }
 
     /// Takes a segment, and tells what it is to those before it. After `NoMemory` nothing more is known of the streams.
-    #[tactic(auto, using(crate::proofs::FewLemmas::is_order_free), unfolding(crate::specs::Standing::StandsFor))]
+    #[tactic(auto, using(crate::proofs::FewLemmas::is_order_free), unfolding(crate::specs::Standing::StandsFor, crate::specs::LetGo::StandsFrom))]
     pub fn take(&mut self, s: &Segment) -> Result<Taken, NoMemory>
         requires taken { taken_so_far self.old < 2 ^ 32 - 1 }
         requires bytes { bytes_so_far self.old + length s.now.payload < 2 ^ 32 }
         ensures taken { IfOk result (λ taken. (past : List SegmentValue) → StandsFor past self.old → taken ≡ taken_after past s.now) }
         ensures stands { OnOk result ((past : List SegmentValue) → StandsFor past self.old → StandsFor (s.now ∷ past) self.new) }
+        ensures taken_from { IfOk result (λ taken. (past : List SegmentValue) → StandsFrom past self.old → taken ≡ taken_after past s.now) }
+        ensures stands_from { OnOk result ((past : List SegmentValue) → StandsFrom past self.old → StandsFrom (s.now ∷ past) self.new) }
         ensures near { IfOk result (λ taken. PassesNear taken) }
         ensures stepped { IfOk result (λ taken. AreStepped s.now taken (streams_of self.old) (streams_of self.new)) }
         ensures ready { OnOk result (AreReady self.new) }
@@ -100,8 +104,10 @@ fn take_next(
     ensures count { length streams.new.items ≤ length streams.old.items + 1 }
     ensures sound { OnOk result ((taken : ℕ) → IsSound newest.old streams.old.items taken → IsSound newest.new streams.new.items (taken + 1)) }
     ensures taken { IfOk result (λ taken. (past : List SegmentValue) → Agrees (labels past) newest.old streams.old.items → taken ≡ taken_after past s.now) }
+    ensures taken_from { IfOk result (λ taken. (past : List SegmentValue) → AgreesKept (labels past) newest.old streams.old.items → taken ≡ taken_after past s.now) }
     ensures near { IfOk result (λ taken. PassesNear taken) }
     ensures stepped { IfOk result (λ taken. AreStepped s.now taken streams.old.items streams.new.items) }
+    ensures agrees_from { OnOk result ((past : List SegmentValue) → AgreesKept (labels past) newest.old streams.old.items → AgreesKept (labels (s.now ∷ past)) newest.new streams.new.items) }
     ensures agrees { OnOk result ((past : List SegmentValue) → Agrees (labels past) newest.old streams.old.items → Agrees (labels (s.now ∷ past)) newest.new streams.new.items) }
 {
     match current(newest, streams, s) {
