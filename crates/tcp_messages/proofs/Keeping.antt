@@ -44,7 +44,7 @@ pub own_way : (b : Bool) (w : WayState) (s : Segment) → way_step (same_side b 
 own_way true w s = refl
 own_way false w s = refl
 
-other_way : (b : Bool) (w : WayState) (s : Segment) → way_step (same_side (not b) b) w s ≡ other_step w s
+pub other_way : (b : Bool) (w : WayState) (s : Segment) → way_step (same_side (not b) b) w s ≡ other_step w s
 other_way true w s = refl
 other_way false w s = refl
 
@@ -93,7 +93,7 @@ other_front w s = refl
 abbrev pub IsSoundWith : List Stream → ℕ → Readers → Type 0
 IsSoundWith streams number r = (one : Bool) → IsRight r.framer (reader_of r one).cursor (way_kept (slice_get streams number) one).front
 
-get_past : (xs : List Stream) → slice_get xs (length xs) ≡ None
+pub get_past : (xs : List Stream) → slice_get xs (length xs) ≡ None
 get_past [] = refl
 get_past (x ∷ xs) = get_past xs
 
@@ -153,7 +153,7 @@ kept_sound : (s : Segment) (taken : Taken) (side : Bool) (old new : List Stream)
     → IsRight r.framer (reader_of r one).cursor (way_kept (slice_get new number) one).front
 kept_sound s taken side old new mid number r one are there same = subst (IsRight r.framer (reader_of r one).cursor) (sym same) (are.each number r there one)
 
-same_or : (b one : Bool) → (one ≡ b) ⊎ (one ≡ not b)
+pub same_or : (b one : Bool) → (one ≡ b) ⊎ (one ≡ not b)
 same_or true true = inl refl
 same_or true false = inr refl
 same_or false false = inl refl

@@ -1,4 +1,5 @@
 pub mod MessageBytes
+pub mod Bridging
 pub mod Growing
 pub mod Passing
 pub mod Sides

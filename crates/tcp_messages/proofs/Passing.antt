@@ -6,20 +6,26 @@ use Rattle.pk_base.specs.declared.lost.Lost.{Lost}
 use Rattle.pk_base.specs.declared.stretch.Stretch.{Stretch}
 use Rattle.range_bytes.specs.Held.{Held, bytes_at}
 use Rattle.tcp_streams.specs.declared.segment.Segment.{Segment}
-use Rattle.tcp_streams.specs.Gaps.{first_free, start_past, left_behind}
+use Rattle.tcp_streams.specs.Gaps.{first_free, start_past, left_behind, AreBetween}
+use Rattle.tcp_streams.specs.LetGo.{IsKeptOf}
+use Rattle.tcp_streams.specs.Numbers.{window}
 use Rattle.tcp_streams.specs.Ways.{WayState, stretches, end_of, lost_in, start_for, front_for, held_after, own_step, IsWay, AreApart}
 use Rattle.tcp_streams.proofs.Places.{length-bytes_at, apart_past}
-use Rattle.tcp_streams.proofs.WayLemmas.{step_room}
+use Rattle.tcp_streams.proofs.KeptLemmas.{AreSameFrom, held_later, left_same_from, lost_same, own_kept}
+use Rattle.tcp_streams.proofs.WayLemmas.{lost_between, step_room}
 use Rattle.stream_messages.specs.declared.framer.Framer.{Framer}
 use Rattle.stream_messages.specs.declared.placed.Placed.{Placed}
 use Rattle.stream_messages.specs.declared.cursor.Cursor.{Cursor}
 use Rattle.stream_messages.specs.declared.cutting.Shown.{Shown}
-use Rattle.stream_messages.specs.Messages.{Asked, AllBefore, AllFrom, above, answered, of_front, of_stretches}
-use Rattle.stream_messages.specs.Cursors.{AddsFew, AsksFrom, CountsFor, IsBehind, IsCut, IsQuiet, IsSound, IsWhole, IsWholeInOne, answers_before, bytes_in, with_last}
-use Rattle.stream_messages.proofs.PassingLemmas.{CutsAll, whole_in}
+use Rattle.stream_messages.specs.Moved.{bytes_from, IsBehindFrom, IsCutOn}
+use Rattle.stream_messages.specs.Messages.{AgreeBelow, Asked, AllBefore, AllFrom, above, answered, of_front, of_stretches}
+use Rattle.stream_messages.specs.Cursors.{AddsFew, AsksBetween, AsksFrom, CountsFor, IsBehind, IsQuiet, IsSound, IsWhole, IsWholeInOne, answers_before, bytes_in, with_last}
+use Rattle.stream_messages.proofs.PassingLemmas.{whole_in}
 use Rattle.tcp_streams.proofs.PartLemmas.{last_there}
 use Rattle.stream_messages.proofs.StretchLemmas.{laws_of_new, of_stretches-append, answered-append}
-use Rattle.tcp_messages.specs.Readers.{CutsWay, IsBehindWay, IsRight}
+use Rattle.tcp_messages.specs.Readers.{CutsWay, CutsWayFrom, IsBehindWayFrom, IsRight}
+use Rattle.tcp_messages.specs.Reading.{CutsFrom}
+use Rattle.tcp_messages.proofs.Bridging.{behind_from}
 use Rattle.tcp_messages.proofs.Growing.{BeginAt, all_from, apart_order, begins_at, grows_on}
 
 pub ok_both : {T E : Type 0} (r : Result T E) (P Q : T → Type 0) → IfOk r P → IfOk r Q → IfOk r (λ x. P x × Q x)
@@ -69,23 +75,40 @@ own_grown w s way none =
       front = grown.1;
     }
 
-pub cut_grown : (framer : Framer) (heads : List Bool) (asked : Asked) (w v : WayState) (cursor : Cursor) (shown : Shown) → IsWay w → IsGrown w v
-    → CutsAll framer heads v.start cursor v.front shown → AsksFrom (end_of w) heads asked → IsBehindWay framer asked w cursor → CutsWay framer asked (end_of w) v shown
-cut_grown framer heads asked w v cursor shown way grown cuts asks behind =
+-- what is cut of the bytes that are left of a stretch
+abbrev pub FromAll : Framer → List Bool → ℕ → Cursor → List ℕ → Shown → Type 0
+FromAll framer heads start cursor front shown = (asked later : Asked) (count first : ℕ) (old new : List ℕ) → front ≡ bytes_from first start (old ++ new) → AgreeBelow (first + length old) asked later
+    → AsksBetween (first + length old) (first + length (old ++ new)) heads later → IsBehindFrom framer asked count first start cursor old → IsCutOn framer later count first start old (old ++ new) shown
+
+pub cut_grown : (framer : Framer) (heads : List Bool) (asked : Asked) (w u : WayState) (s : Segment) (cursor : Cursor) (shown : Shown) → IsWay w → IsWay u → IsKeptOf w u → lost_in u ≡ []
+    → FromAll framer heads (own_step u s).start cursor (own_step u s).front shown → AsksFrom (end_of w) heads asked → IsBehindWayFrom framer asked w u.start cursor
+    → CutsWayFrom framer asked (end_of w) (own_step w s) (own_step u s).start shown
+cut_grown framer heads asked w u s cursor shown way way_u kept none cuts asks behind =
+    let v : WayState = own_step w s in
+    let next : WayState = own_step u s in
     let count : ℕ = answered 0 (of_stretches framer asked 0 w.earlier) in
-    let end : v.start + length w.front ≡ end_of w = ap (λ (n : ℕ). n + length w.front) grown.start in
-    let low : end_of w ≤ v.start + length w.front = omega (arith, end) in
-    let cut : IsCut framer asked count v.start w.front v.front shown =
-    cuts asked asked count w.front grown.more grown.front (λ at n below. refl) (λ at n above below. asks at n (omega (arith, low, above)))
-    (subst (λ (n : ℕ). IsBehind framer asked count n cursor w.front) (sym grown.start) behind) in
-    let last : Stretch = record { start = v.start; bytes = v.front } in
+    let grown : IsGrown w v = own_grown w s way (sym (lost_same w u way_u kept) ∙ none) in
+    let grown_u : IsGrown u next = own_grown u s way_u none in
+    let after : IsKeptOf v next = own_kept w u s way way_u kept in
+    let whole : List ℕ = w.front ++ grown.more in
+    let last : Stretch = record { start = w.start; bytes = whole } in
+    let front_is : next.front ≡ bytes_from w.start u.start whole =
+    after.front ∙ ap (λ (n : ℕ). drop (n - v.start) v.front) grown_u.start ∙ ap (λ (n : ℕ). drop (u.start - n) v.front) grown.start ∙ ap (drop (u.start - w.start)) grown.front in
+    let cut : IsCutOn framer asked count w.start u.start w.front whole shown =
+    subst (λ (n : ℕ). FromAll framer heads n cursor next.front shown) grown_u.start cuts asked asked count w.start w.front grown.more front_is (λ at n below. refl) (λ at n above below. asks at n above) behind in
+    let same : w.earlier ++ last ∷ [] ≡ stretches v =
+    ap (λ (xs : List Stretch). xs ++ last ∷ []) (sym grown.earlier)
+    ∙ ap (λ (n : ℕ). v.earlier ++ record { start = n; bytes = whole } ∷ []) (sym grown.start)
+    ∙ ap (λ (bytes : List ℕ). v.earlier ++ record { start = v.start; bytes = bytes } ∷ []) (sym grown.front) in
     record {
       messages =
           cut.messages
-          ∙ ap (λ (n : ℕ). above n (of_front framer asked count v.start v.front)) end
           ∙ sym (laws_of_new.grown framer asked 0 (end_of w) w.earlier last (all_before (end_of w) 0 w.earlier w.start (omega arith) way.apart))
-          ∙ ap (λ (xs : List Stretch). above (end_of w) (of_stretches framer asked 0 (xs ++ last ∷ []))) (sym grown.earlier);
-      cursor = subst (λ (xs : List Stretch). IsBehind framer asked (answered 0 (of_stretches framer asked 0 xs)) v.start shown.cursor v.front) (sym grown.earlier) cut.cursor;
+          ∙ ap (λ (xs : List Stretch). above (end_of w) (of_stretches framer asked 0 xs)) same;
+      cursor = subst (λ (xs : List Stretch). IsBehindFrom framer asked (answered 0 (of_stretches framer asked 0 xs)) v.start next.start shown.cursor v.front) (sym grown.earlier)
+          (subst (λ (n : ℕ). IsBehindFrom framer asked count n next.start shown.cursor v.front) (sym grown.start)
+          (subst (λ (n : ℕ). IsBehindFrom framer asked count w.start n shown.cursor v.front) (sym grown_u.start)
+          (subst (λ (bytes : List ℕ). IsBehindFrom framer asked count w.start u.start shown.cursor bytes) (sym grown.front) cut.cursor)));
     }
 
 -- ---- others begin behind lost bytes
@@ -142,26 +165,29 @@ own_newest w s gap gaps way is =
           (subst (AreApart (w.start + length (bytes_at w.held w.start (gap.from - w.start)) + 1) (left_behind w.held gap.to gaps)) (sym start) apart.1);
     }
 
-pub own_passed : (w : WayState) (s : Segment) (gap : Lost) (gaps : List Lost) → IsWay w → lost_in w ≡ gap ∷ gaps → HasPassed w (own_step w s) (length (gap ∷ gaps))
-own_passed w s gap gaps way is =
+own_last : (w : WayState) (s : Segment) (gap : Lost) (gaps : List Lost) → IsWay w → lost_in w ≡ gap ∷ gaps
+    → drop (length (own_step w s).earlier - (length (gap ∷ gaps) - 1)) (own_step w s).earlier ≡ left_behind w.held gap.to gaps
+own_last w s gap gaps way is =
     let passed : List Stretch = left_behind w.held gap.to gaps in
     let old : Stretch = record { start = w.start; bytes = w.front } in
     let newest : IsNewest w (own_step w s) passed = own_newest w s gap gaps way is in
     let split : (own_step w s).earlier ≡ (w.earlier ++ old ∷ []) ++ passed = newest.earlier ∙ sym (append_assoc w.earlier (old ∷ []) passed) in
     let one : length (gap ∷ gaps) - 1 ≡ length gaps = omega arith in
     let many : length gaps ≡ length passed = sym (left_length w.held gap.to gaps) in
-    record {
-      passed = passed;
-      is = newest;
-      last =
-          ap (λ (k : ℕ). drop (length (own_step w s).earlier - k) (own_step w s).earlier) one
-          ∙ ap (λ (xs : List Stretch). drop (length xs - length gaps) xs) split
-          ∙ drop_before (w.earlier ++ old ∷ []) passed (length gaps) many;
-    }
+    ap (λ (k : ℕ). drop (length (own_step w s).earlier - k) (own_step w s).earlier) one
+    ∙ ap (λ (xs : List Stretch). drop (length xs - length gaps) xs) split
+    ∙ drop_before (w.earlier ++ old ∷ []) passed (length gaps) many
+
+pub own_passed : (w : WayState) (s : Segment) (gap : Lost) (gaps : List Lost) → IsWay w → lost_in w ≡ gap ∷ gaps → HasPassed w (own_step w s) (length (gap ∷ gaps))
+own_passed w s gap gaps way is = record {
+  passed = left_behind w.held gap.to gaps;
+  is = own_newest w s gap gaps way is;
+  last = own_last w s gap gaps way is;
+}
 
 -- the answers before the last stretch, and in it
-counts_all : (framer : Framer) (asked : Asked) (w : WayState) (cursor : Cursor) → IsBehindWay framer asked w cursor → CountsFor (answers_before cursor) (answered 0 (of_stretches framer asked 0 (stretches w)))
-counts_all framer asked w cursor behind =
+counts_all : (framer : Framer) (asked : Asked) (w : WayState) (start : ℕ) (cursor : Cursor) → IsBehindWayFrom framer asked w start cursor → CountsFor (answers_before cursor) (answered 0 (of_stretches framer asked 0 (stretches w)))
+counts_all framer asked w start cursor behind =
     let old : Stretch = record { start = w.start; bytes = w.front } in
     let count : ℕ = answered 0 (of_stretches framer asked 0 w.earlier) in
     let is : answered 0 (of_stretches framer asked 0 (stretches w)) ≡ answered count (of_front framer asked count w.start w.front) =
@@ -182,12 +208,11 @@ BehindNewest framer heads passed start front cursor shown =
 
 pub cut_behind : (framer : Framer) (heads : List Bool) (asked : Asked) (w v : WayState) (passed : List Stretch) (cursor : Cursor) (shown : Shown) → IsWay w → IsNewest w v passed
     → CutsNewest framer heads passed v.start v.front cursor shown → BehindNewest framer heads passed v.start v.front cursor shown
-    → AsksFrom (end_of w) heads asked → IsBehindWay framer asked w cursor → CutsWay framer asked (end_of w) v shown
-cut_behind framer heads asked w v passed cursor shown way newest messages_are cursor_is asks behind =
+    → AsksFrom (end_of w) heads asked → CountsFor (answers_before cursor) (answered 0 (of_stretches framer asked 0 (stretches w))) → CutsWay framer asked (end_of w) v shown
+cut_behind framer heads asked w v passed cursor shown way newest messages_are cursor_is asks counts =
     let old : Stretch = record { start = w.start; bytes = w.front } in
     let last : Stretch = record { start = v.start; bytes = v.front } in
     let count : ℕ = answered 0 (of_stretches framer asked 0 (stretches w)) in
-    let counts : CountsFor (answers_before cursor) count = counts_all framer asked w cursor behind in
     let split : v.earlier ≡ stretches w ++ passed = newest.earlier ∙ sym (append_assoc w.earlier (old ∷ []) passed) in
     let before : AllBefore (end_of w) (stretches w) =
     before_push (end_of w) w.earlier old (all_before (end_of w) 0 w.earlier w.start (omega arith) way.apart) (omega arith) in
@@ -237,33 +262,62 @@ whole_behind framer v passed n start front ms passed_is starts is whole =
     ))
     ms here
 
-pub grown_case : (framer : Framer) (heads : List Bool) (asked : Asked) (w v : WayState) (s : Segment) (start : ℕ) (front : List ℕ) (lost : List Lost) (cursor : Cursor) (shown : Shown) → start ≡ v.start → front ≡ v.front
-    → length lost ≡ 0 → CutsAll framer heads start cursor front shown → IsWay w → v ≡ own_step w s → lost ≡ lost_in w → AsksFrom (end_of w) heads asked → IsBehindWay framer asked w cursor
-    → CutsWay framer asked (end_of w) (own_step w s) shown
-grown_case framer heads asked w v s start front lost cursor shown starts is none cuts way step lost_is asks behind =
-    let here : CutsAll framer heads v.start cursor v.front shown =
-    subst (λ (b : List ℕ). CutsAll framer heads v.start cursor b shown) is (subst (λ (n : ℕ). CutsAll framer heads n cursor front shown) starts cuts) in
-    let own : CutsAll framer heads (own_step w s).start cursor (own_step w s).front shown = subst (λ (u : WayState). CutsAll framer heads u.start cursor u.front shown) step here in
-    cut_grown framer heads asked w (own_step w s) cursor shown way (own_grown w s way (sym lost_is ∙ nil_by lost none)) own asks behind
+pub grown_case : (framer : Framer) (heads : List Bool) (v : WayState) (start : ℕ) (front : List ℕ) (lost : List Lost) (cursor : Cursor) (shown : Shown) → start ≡ v.start → front ≡ v.front
+    → length lost ≡ 0 → FromAll framer heads start cursor front shown → CutsFrom framer heads v lost cursor shown
+grown_case framer heads v start front lost cursor shown starts is none cuts asked w u s way way_u kept step lost_is asks behind =
+    let here : FromAll framer heads v.start cursor v.front shown =
+    subst (λ (b : List ℕ). FromAll framer heads v.start cursor b shown) is (subst (λ (n : ℕ). FromAll framer heads n cursor front shown) starts cuts) in
+    let own : FromAll framer heads (own_step u s).start cursor (own_step u s).front shown = subst (λ (x : WayState). FromAll framer heads x.start cursor x.front shown) step here in
+    subst (λ (x : WayState). CutsWayFrom framer asked (end_of w) (own_step w s) x.start shown) (sym step)
+    (cut_grown framer heads asked w u s cursor shown way way_u kept (sym lost_is ∙ nil_by lost none) own asks behind)
 
 record BothNewest (framer : Framer) (heads : List Bool) (passed : List Stretch) (start : ℕ) (front : List ℕ) (cursor : Cursor) (shown : Shown) : Type 0 where
   cuts : CutsNewest framer heads passed start front cursor shown
   behind : BehindNewest framer heads passed start front cursor shown
 
-pub newest_case : (framer : Framer) (heads : List Bool) (asked : Asked) (w v : WayState) (s : Segment) (passed : List Stretch) (start : ℕ) (front : List ℕ) (lost : List Lost) (cursor : Cursor) (shown : Shown)
+-- where gaps are passed, the stretches behind them are the same in what is kept
+past_start : (w : WayState) (s : Segment) (gap : Lost) (gaps : List Lost) → lost_in w ≡ gap ∷ gaps → (own_step w s).start ≡ start_past gap.to gaps
+unfolding own_step
+past_start w s gap gaps is = ap (start_past w.start) is
+
+record IsSameBehind (w u : WayState) (s : Segment) (gap : Lost) (gaps : List Lost) : Type 0 where
+  passed : left_behind u.held gap.to gaps ≡ left_behind w.held gap.to gaps
+  start : (own_step u s).start ≡ (own_step w s).start
+  front : (own_step u s).front ≡ (own_step w s).front
+
+same_behind : (w u : WayState) (s : Segment) (gap : Lost) (gaps : List Lost) → IsWay w → IsWay u → IsKeptOf w u → lost_in u ≡ gap ∷ gaps → lost_in w ≡ gap ∷ gaps → IsSameBehind w u s gap gaps
+same_behind w u s gap gaps way way_u kept is is_w =
+    let between : AreBetween (end_of w) (gap ∷ gaps) (end_of w + window) = subst (λ (gs : List Lost). AreBetween (end_of w) gs (end_of w + window)) is_w (lost_between w way) in
+    let later : AreSameFrom gap.to u.held w.held = λ q low. held_later w u way_u kept q (omega (arith, low, between.0, between.1.0)) in
+    let start : (own_step u s).start ≡ (own_step w s).start = past_start u s gap gaps is ∙ sym (past_start w s gap gaps is_w) in
+    let after : IsKeptOf (own_step w s) (own_step u s) = own_kept w u s way way_u kept in
+    let none : (own_step w s).start - (own_step w s).start ≡ 0 = omega arith in
+    record {
+      passed = left_same_from u.held w.held gap.to gap.to gaps (end_of w + window) between.1.1 later later;
+      start = start;
+      front = after.front ∙ ap (λ (n : ℕ). drop (n - (own_step w s).start) (own_step w s).front) start ∙ ap (λ (n : ℕ). drop n (own_step w s).front) none;
+    }
+
+pub newest_case : (framer : Framer) (heads : List Bool) (v : WayState) (passed : List Stretch) (start : ℕ) (front : List ℕ) (lost : List Lost) (cursor : Cursor) (shown : Shown)
     → passed ≡ drop (length v.earlier - (length lost - 1)) v.earlier → start ≡ v.start → front ≡ v.front → (length lost ≡ 0 → ⊥)
-    → CutsNewest framer heads passed start front cursor shown → BehindNewest framer heads passed start front cursor shown
-    → IsWay w → v ≡ own_step w s → lost ≡ lost_in w → AsksFrom (end_of w) heads asked → IsBehindWay framer asked w cursor → CutsWay framer asked (end_of w) (own_step w s) shown
-newest_case framer heads asked w v s passed start front [] cursor shown passed_is starts is some cuts behind_is way step lost_is asks behind = absurd (some refl)
-newest_case framer heads asked w v s passed start front (gap ∷ gaps) cursor shown passed_is starts is some cuts behind_is way step lost_is asks behind =
-    let has = own_passed w s gap gaps way (sym lost_is) in
-    let here : passed ≡ has.passed = passed_is ∙ ap (λ (u : WayState). drop (length u.earlier - (length (gap ∷ gaps) - 1)) u.earlier) step ∙ has.last in
-    let both : BothNewest framer heads has.passed (own_step w s).start (own_step w s).front cursor shown =
-    subst (λ (u : WayState). BothNewest framer heads has.passed u.start u.front cursor shown) step
-    (subst (λ (b : List ℕ). BothNewest framer heads has.passed v.start b cursor shown) is
-    (subst (λ (n : ℕ). BothNewest framer heads has.passed n front cursor shown) starts
-    (subst (λ (xs : List Stretch). BothNewest framer heads xs start front cursor shown) here (record { cuts = cuts; behind = behind_is })))) in
-    cut_behind framer heads asked w (own_step w s) has.passed cursor shown way has.is both.cuts both.behind asks behind
+    → CutsNewest framer heads passed start front cursor shown → BehindNewest framer heads passed start front cursor shown → CutsFrom framer heads v lost cursor shown
+newest_case framer heads v passed start front [] cursor shown passed_is starts is some cuts behind_is asked w u s way way_u kept step lost_is asks behind = absurd (some refl)
+newest_case framer heads v passed start front (gap ∷ gaps) cursor shown passed_is starts is some cuts behind_is asked w u s way way_u kept step lost_is asks behind =
+    let next : WayState = own_step w s in
+    let lost_w : lost_in w ≡ gap ∷ gaps = sym (lost_same w u way_u kept) ∙ sym lost_is in
+    let same = same_behind w u s gap gaps way way_u kept (sym lost_is) lost_w in
+    let here : passed ≡ left_behind w.held gap.to gaps =
+    passed_is ∙ ap (λ (x : WayState). drop (length x.earlier - (length (gap ∷ gaps) - 1)) x.earlier) step ∙ own_last u s gap gaps way_u (sym lost_is) ∙ same.passed in
+    let both : BothNewest framer heads (left_behind w.held gap.to gaps) next.start next.front cursor shown =
+    subst (λ (b : List ℕ). BothNewest framer heads (left_behind w.held gap.to gaps) next.start b cursor shown) (is ∙ ap (λ (x : WayState). x.front) step ∙ same.front)
+    (subst (λ (n : ℕ). BothNewest framer heads (left_behind w.held gap.to gaps) n front cursor shown) (starts ∙ ap (λ (x : WayState). x.start) step ∙ same.start)
+    (subst (λ (xs : List Stretch). BothNewest framer heads xs start front cursor shown) here (record { cuts = cuts; behind = behind_is }))) in
+    let cut = cut_behind framer heads asked w next (left_behind w.held gap.to gaps) cursor shown way (own_newest w s gap gaps way lost_w) both.cuts both.behind asks (counts_all framer asked w u.start cursor behind) in
+    record {
+      messages = cut.messages;
+      cursor = subst (λ (n : ℕ). IsBehindWayFrom framer asked next n shown.cursor) (sym (ap (λ (x : WayState). x.start) step ∙ same.start))
+          (behind_from framer asked (answered 0 (of_stretches framer asked 0 next.earlier)) next.start shown.cursor next.front cut.cursor);
+    }
 
 -- ---- each message has a byte of its own
 

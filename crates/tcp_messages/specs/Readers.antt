@@ -2,6 +2,7 @@
 use Rattle.std.specs.Prelude.{◌≡◌, ℕ, Bool, true, false, if◌then◌else◌, List, [], ◌∷◌, length, Option, None, Some, option_map, slice_get}
 use Rattle.std.specs.Coded.{Coded, Coded-set, coded_option, le_prop, ×_prop, Π_prop, Unit-prop}
 use Rattle.tcp_streams.specs.declared.segment.Segment.{Segment}
+use Rattle.tcp_streams.specs.declared.stream.Stream.{Stream}
 use Rattle.tcp_streams.specs.declared.streams.Streams.{Streams}
 use Rattle.tcp_streams.specs.Conversations.{ends_of, same_ends}
 use Rattle.tcp_streams.specs.Labels.{Label, way_of}
@@ -15,6 +16,7 @@ use Rattle.stream_messages.specs.declared.framer.Framer.{Framer}
 use Rattle.stream_messages.specs.declared.told.Told.{Told}
 use Rattle.stream_messages.specs.Messages.{Asked, above, answered, of_stretches}
 use Rattle.stream_messages.specs.Cursors.{IsBehind, IsQuiet, IsQuietNext, IsSound, IsSoundNext, begun, next_at}
+use Rattle.stream_messages.specs.Moved.{IsBehindFrom}
 use Rattle.stream_messages.specs.Sides.{Noted, asked_in, heads_in, noted, shown_in}
 use Rattle.tcp_messages.specs.declared.readers.Reader.{Reader}
 use Rattle.tcp_messages.specs.declared.readers.Readers.{Readers}
@@ -40,6 +42,18 @@ pub record ReadsWay (framer : Framer) (ns : List Noted) (side : Bool) (w : WaySt
   pub cursor : IsBehindWay framer (asked_in side ns) w reader.cursor
   pub heads : reader.heads.items ≡ heads_in (shown_in side ns)
 
+-- the same where of the newest stretch only the bytes from some position on are there
+abbrev pub IsBehindWayFrom : Framer → Asked → WayState → ℕ → Cursor → Type 0
+IsBehindWayFrom framer asked w start c = IsBehindFrom framer asked (answered 0 (of_stretches framer asked 0 w.earlier)) w.start start c w.front
+
+pub record CutsWayFrom (framer : Framer) (asked : Asked) (end : ℕ) (w : WayState) (start : ℕ) (shown : Shown) : Type 0 where
+  pub messages : shown.messages ≡ above end (of_stretches framer asked 0 (stretches w))
+  pub cursor : IsBehindWayFrom framer asked w start shown.cursor
+
+pub record ReadsWayFrom (framer : Framer) (ns : List Noted) (side : Bool) (w : WayState) (start : ℕ) (reader : Reader) : Type 0 where
+  pub cursor : IsBehindWayFrom framer (asked_in side ns) w start reader.cursor
+  pub heads : reader.heads.items ≡ heads_in (shown_in side ns)
+
 -- before the first byte
 pub record IsBegun (reader : Reader) : Type 0 where
   pub cursor : reader.cursor ≡ begun 0
@@ -63,6 +77,19 @@ ReadsStream ls number (Some r) = (side : Bool) → ReadsWay r.framer (noted r.fr
 pub record ReadsStreams (framer_of : Segment → Option Framer) (ls : List Label) (readers : List (Option Readers)) : Type 0 where
   pub framers : (number : ℕ) (r : Option Readers) → slice_get readers number ≡ Some r → AllHave framer_of number (option_map (λ x. x.framer) r) ls
   pub each : (number : ℕ) (r : Option Readers) → slice_get readers number ≡ Some r → ReadsStream ls number r
+
+-- by where the bytes begin that are there, for each direction
+abbrev pub ReadsStreamFrom : (Bool → ℕ) → List Label → ℕ → Option Readers → Type 0
+ReadsStreamFrom starts ls number None = Unit {0}
+ReadsStreamFrom starts ls number (Some r) = (side : Bool) → ReadsWayFrom r.framer (noted r.framer (brought number ls)) side (way_of number side ls) (starts side) (reader_of r side)
+
+pub record ReadsStreamsFrom (framer_of : Segment → Option Framer) (starts : ℕ → Bool → ℕ) (ls : List Label) (readers : List (Option Readers)) : Type 0 where
+  pub framers : (number : ℕ) (r : Option Readers) → slice_get readers number ≡ Some r → AllHave framer_of number (option_map (λ x. x.framer) r) ls
+  pub each : (number : ℕ) (r : Option Readers) → slice_get readers number ≡ Some r → ReadsStreamFrom (starts number) ls number r
+
+-- where the newest stretch of each direction begins, as it is kept
+abbrev pub starts_of : List Stream → ℕ → Bool → ℕ
+starts_of streams number one = (way_kept (slice_get streams number) one).start
 
 -- ---- whatever was taken
 

@@ -4,18 +4,22 @@ use Rattle.pk_base.specs.declared.lost.Lost.{Lost}
 use Rattle.pk_base.specs.declared.stretch.Stretch.{Stretch}
 use Rattle.tcp_streams.specs.declared.segment.Segment.{Segment}
 use Rattle.tcp_streams.specs.declared.segment.Taken.{Taken}
-use Rattle.tcp_streams.specs.Labels.{Label, opened}
+use Rattle.tcp_streams.specs.Labels.{Label, labels, opened, taken_after}
+use Rattle.tcp_streams.specs.declared.streams.Streams.{Streams}
+use Rattle.tcp_streams.specs.LetGo.{IsKeptOf, StandsFrom}
+use Rattle.tcp_streams.specs.Standing.{AreReady, AreStepped, stream_count, streams_of}
 use Rattle.tcp_streams.specs.Stands.{AllBelow}
 use Rattle.tcp_streams.specs.Ways.{WayState, end_of, lost_in, own_step, stretches, IsWay}
 use Rattle.stream_messages.specs.declared.placed.Placed.{Placed}
 use Rattle.stream_messages.specs.declared.cursor.Cursor.{Cursor}
+use Rattle.stream_messages.specs.declared.cutting.Shown.{Shown}
 use Rattle.stream_messages.specs.declared.framer.Framer.{Framer}
 use Rattle.stream_messages.specs.Messages.{Asked}
 use Rattle.stream_messages.specs.Cursors.{AsksFrom, IsQuiet, IsWholeInOne}
 use Rattle.stream_messages.specs.Sides.{heads_in}
 use Rattle.tcp_messages.specs.declared.readers.Reader.{Reader}
 use Rattle.tcp_messages.specs.declared.readers.Readers.{Readers}
-use Rattle.tcp_messages.specs.Readers.{CutsWay, IsBegun, IsBehindWay, IsRight, reader_of}
+use Rattle.tcp_messages.specs.Readers.{CutsWayFrom, IsBegun, IsBehindWayFrom, IsOfEnds, IsRight, ReadsStreamsFrom, reader_of, starts_of}
 
 -- a message that lies in one of stretches, however it is framed
 abbrev pub IsSomeWhole : List Stretch → Placed → Type 0
@@ -31,14 +35,18 @@ abbrev pub AreFew : Framer → WayState → List Lost → Cursor → List Placed
 AreFew framer v lost c messages = (w : WayState) (s : Segment) → IsWay w → v ≡ own_step w s → lost ≡ lost_in w
     → IsQuiet framer c w.front → length messages ≤ 2 ^ 25
 
+-- what is cut of what is kept of a direction, are the messages that a segment of it brings to the direction
+abbrev pub CutsFrom : Framer → List Bool → WayState → List Lost → Cursor → Shown → Type 0
+CutsFrom framer heads v lost cursor shown = (asked : Asked) (w u : WayState) (s : Segment) → IsWay w → IsWay u → IsKeptOf w u → v ≡ own_step u s → lost ≡ lost_in u → AsksFrom (end_of w) heads asked
+    → IsBehindWayFrom framer asked w u.start cursor → CutsWayFrom framer asked (end_of w) (own_step w s) v.start shown
+
 -- a direction's reader with a segment that was read: the direction has these stretches with it
 pub record IsRead (framer : Framer) (heads : List Bool) (v : WayState) (lost : List Lost) (old new : Reader) (messages : List Placed) : Type 0 where
   pub right : IsRight framer new.cursor v.front
   pub whole : All (IsWholeInOne framer (stretches v)) messages
   pub few : AreFew framer v lost old.cursor messages
   pub heads_are : new.heads.items ≡ old.heads.items ++ heads_in messages
-  pub cut : (asked : Asked) (w : WayState) (s : Segment) → IsWay w → v ≡ own_step w s → lost ≡ lost_in w → AsksFrom (end_of w) heads asked → IsBehindWay framer asked w old.cursor
-      → CutsWay framer asked (end_of w) (own_step w s) (record { messages = messages; cursor = new.cursor })
+  pub cut : CutsFrom framer heads v lost old.cursor (record { messages = messages; cursor = new.cursor })
 
 abbrev pub side_of : Taken → Bool
 side_of taken = taken.side == 1
@@ -71,3 +79,15 @@ IsNew (Some framer) (Some r) = (r.framer ≡ framer) × ((side : Bool) → IsBeg
 abbrev pub IsOpenedAt : Option Framer → ℕ → List (Option Readers) → List (Option Readers) → Type 0
 IsOpenedAt framer number old new =
     (number ≡ length old → (r : Option Readers) × IsNew framer r × (new ≡ old ++ r ∷ [])) × ((number ≡ length old → ⊥) → new ≡ old)
+
+-- a segment of streams of which bytes may have been let go, and what was kept before it
+pub record IsBefore (framer_of : Segment → Option Framer) (framer : Option Framer) (past : List Segment) (s : Segment) (taken : Taken) (old new : Streams) (readers : List (Option Readers)) : Type 0 where
+  pub ends : IsOfEnds framer_of
+  pub framer_is : framer ≡ framer_of s
+  pub stands : StandsFrom past old
+  pub ready : AreReady old
+  pub stepped : AreStepped s taken (streams_of old) (streams_of new)
+  pub taken_is : taken ≡ taken_after past s
+  pub listed : AreListed (labels past) readers
+  pub count : length readers ≡ stream_count old
+  pub reads : ReadsStreamsFrom framer_of (starts_of (streams_of old)) (labels past) readers

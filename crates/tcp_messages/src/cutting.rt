@@ -1,11 +1,9 @@
 ghost use Rattle.std.specs.Prelude.{◌≡◌, ◌-◌, ◌<◌, [], All, length, drop, IfOk};
-ghost use Rattle.tcp_streams.specs.declared.segment.Segment.{Segment as SegmentValue};
-ghost use Rattle.tcp_streams.specs.Ways.{WayState, end_of, lost_in, own_step, stretches, IsWay};
+ghost use Rattle.tcp_streams.specs.Ways.{stretches};
 ghost use Rattle.tcp_streams.specs.Standing.{AreReady, stream_count, way_in};
-ghost use Rattle.stream_messages.specs.Messages.{Asked};
-ghost use Rattle.stream_messages.specs.Cursors.{AsksFrom, IsSound, IsWholeInOne};
-ghost use Rattle.tcp_messages.specs.Readers.{CutsWay, IsBehindWay, IsRight};
-ghost use Rattle.tcp_messages.specs.Reading.{AreFew};
+ghost use Rattle.stream_messages.specs.Cursors.{IsSound, IsWholeInOne};
+ghost use Rattle.tcp_messages.specs.Readers.{IsRight};
+ghost use Rattle.tcp_messages.specs.Reading.{AreFew, CutsFrom};
 
 use pk_base::{NoMemory, Stretch};
 use std::alloc::Global;
@@ -30,8 +28,7 @@ pub(crate) fn cut_brought(
     ensures right { IfOk result (λ shown. IsRight framer shown.cursor (way_in streams.now taken.now.stream taken.now.side).front) }
     ensures few { IfOk result (λ shown. AreFew framer (way_in streams.now taken.now.stream taken.now.side) taken.now.lost cursor shown.messages) }
     ensures whole { IfOk result (λ shown. All (IsWholeInOne framer (stretches (way_in streams.now taken.now.stream taken.now.side))) shown.messages) }
-    ensures cut { IfOk result (λ shown. (asked : Asked) (w : WayState) (s : SegmentValue) → IsWay w → way_in streams.now taken.now.stream taken.now.side ≡ own_step w s
-        → taken.now.lost ≡ lost_in w → AsksFrom (end_of w) heads.now asked → IsBehindWay framer asked w cursor → CutsWay framer asked (end_of w) (own_step w s) shown) }
+    ensures cut { IfOk result (λ shown. CutsFrom framer heads.now (way_in streams.now taken.now.stream taken.now.side) taken.now.lost cursor shown) }
 {
     let start = streams.front_start(taken.stream, taken.side);
     let front = streams.front(taken.stream, taken.side);

@@ -2,7 +2,8 @@ ghost use Rattle.std.specs.Prelude.{◌≡◌, ◌-◌, ◌^◌, ◌<◌, List, 
 ghost use Rattle.range_bytes.specs.Held.{IsFreeFrom, frames_at};
 ghost use Rattle.tcp_streams.specs.declared.segment.Segment.{Segment as SegmentValue};
 ghost use Rattle.tcp_streams.specs.Parts.{LiesInOne};
-ghost use Rattle.tcp_streams.specs.Standing.{AreReady, StandsFor, stream_count, way_for, way_in};
+ghost use Rattle.tcp_streams.specs.LetGo.{StandsFrom};
+ghost use Rattle.tcp_streams.specs.Standing.{AreReady, stream_count, way_for, way_in};
 ghost use Rattle.tcp_streams.specs.Ways.{stretches};
 ghost use Rattle.stream_messages.specs.Tellings.{end_of};
 ghost use Rattle.stream_messages.specs.declared.framer.Framer.{Framer as FramerValue};
@@ -40,7 +41,7 @@ pub(crate) fn locate_all(
     ensures framed { IfOk result (λ shown. (framer : Option FramerValue)
         → AreWholeIn framer (stretches (way_in streams.now taken.now.stream taken.now.side)) messages → AreFramedIn framer s.now.payload shown) }
     ensures count { IfOk result (λ shown. length shown ≤ length messages) }
-    ensures located { IfOk result (λ shown. (past : List SegmentValue) → StandsFor past streams.now
+    ensures located { IfOk result (λ shown. (past : List SegmentValue) → StandsFrom past streams.now
         → shown ≡ map (located (way_for past taken.now.stream taken.now.side).held s.now taken.now.position) messages) }
 {
     let mut shown = Vec::new(alloc);
@@ -73,7 +74,7 @@ fn locate(
     ensures whole { IfOk result (λ source. IsWholeIn s.now.payload (record { message = message.now; source = source })) }
     ensures framed { IfOk result (λ source. (framer : FramerValue)
         → IsWholeInOne framer (stretches (way_in streams.now taken.now.stream taken.now.side)) message.now → IsFramedIn framer s.now.payload (record { message = message.now; source = source })) }
-    ensures located { IfOk result (λ source. (past : List SegmentValue) → StandsFor past streams.now
+    ensures located { IfOk result (λ source. (past : List SegmentValue) → StandsFrom past streams.now
         → source ≡ (located (way_for past taken.now.stream taken.now.side).held s.now taken.now.position message.now).source) }
 {
     let len = len_of(&message.told);
@@ -123,12 +124,13 @@ fn frames_of(
     from: u64,
     to: u64,
 ) -> Result<Numbers, NoMemory>
+    requires ready { AreReady streams.now }
     requires stream { taken.now.stream < stream_count streams.now }
     requires side { taken.now.side < 2 }
     requires run { IsFreeFrom (way_in streams.now taken.now.stream taken.now.side).held run.from run.to }
     requires from { (run.from ≤ from) × (from ≤ run.to) }
     requires lies { LiesInOne (stretches (way_in streams.now taken.now.stream taken.now.side)) from to }
-    ensures { IfOk result (λ numbers. (past : List SegmentValue) → StandsFor past streams.now
+    ensures { IfOk result (λ numbers. (past : List SegmentValue) → StandsFrom past streams.now
         → numbers ≡ frames_at (way_for past taken.now.stream taken.now.side).held from (to - from)) }
 {
     if to <= run.to {

@@ -1,11 +1,12 @@
 ghost use Rattle.std.specs.Prelude.{◌≡◌, ◌+◌, ◌-◌, ◌^◌, ◌<◌, ◌≤◌, List, [], ◌∷◌, length, All, Option, IfOk, OnOk};
 ghost use Rattle.tcp_streams.specs.declared.segment.Segment.{Segment as SegmentValue};
 ghost use Rattle.tcp_streams.specs.Labels.{taken_after, PassesNear};
+ghost use Rattle.tcp_streams.specs.LetGo.{StandsFrom};
 ghost use Rattle.tcp_streams.specs.Standing.{StandsFor, bytes_so_far, taken_so_far};
 ghost use Rattle.stream_messages.specs.declared.framer.Framer.{Framer as FramerValue};
 ghost use Rattle.tcp_messages.specs.Shown.{AreFramedIn, IsWholeIn, frames_told as frames_value, shown_after};
 ghost use Rattle.tcp_messages.specs.Readers.{IsOfEnds};
-ghost use Rattle.tcp_messages.specs.Standing.{ReadsFor, streams_in};
+ghost use Rattle.tcp_messages.specs.Standing.{ReadsFor, ReadsFrom, streams_in};
 
 use crate::kept::Kept;
 use crate::locating::{frames_told, locate_all};
@@ -35,6 +36,7 @@ impl MessageStreams {
     /// No segment was taken. Takes no memory.
     pub fn new(alloc: Global) -> MessageStreams
         ensures stands { (framer_of : SegmentValue → Option FramerValue) → ReadsFor framer_of [] result }
+        ensures from { (framer_of : SegmentValue → Option FramerValue) → ReadsFrom framer_of [] result }
         ensures taken { taken_so_far (streams_in result) ≡ 0 }
         ensures bytes { bytes_so_far (streams_in result) ≡ 0 }
     {
@@ -64,12 +66,19 @@ impl MessageStreams {
         ensures taken { IfOk result (λ met. (past : List SegmentValue) → StandsFor past (streams_in self.old) → met.taken ≡ taken_after past s.now) }
         ensures shown { IfOk result (λ met. (framer_of : SegmentValue → Option FramerValue) (past : List SegmentValue)
             → IsOfEnds framer_of → framer ≡ framer_of s.now → ReadsFor framer_of past self.old → met.messages ≡ shown_after framer past s.now) }
+        ensures taken_from { IfOk result (λ met. (past : List SegmentValue) → StandsFrom past (streams_in self.old) → met.taken ≡ taken_after past s.now) }
+        ensures shown_from { IfOk result (λ met. (framer_of : SegmentValue → Option FramerValue) (past : List SegmentValue)
+            → IsOfEnds framer_of → framer ≡ framer_of s.now → ReadsFrom framer_of past self.old → met.messages ≡ shown_after framer past s.now) }
         ensures frames { IfOk result (λ met. met.frames ≡ frames_value met.messages) }
         ensures whole { IfOk result (λ met. All (IsWholeIn s.now.payload) met.messages) }
         ensures framed { IfOk result (λ met. (framer_of : SegmentValue → Option FramerValue) (past : List SegmentValue)
             → IsOfEnds framer_of → framer ≡ framer_of s.now → ReadsFor framer_of past self.old → AreFramedIn framer s.now.payload met.messages) }
         ensures stands { OnOk result ((framer_of : SegmentValue → Option FramerValue) (past : List SegmentValue)
             → IsOfEnds framer_of → framer ≡ framer_of s.now → ReadsFor framer_of past self.old → ReadsFor framer_of (s.now ∷ past) self.new) }
+        ensures stands_from { OnOk result ((framer_of : SegmentValue → Option FramerValue) (past : List SegmentValue)
+            → IsOfEnds framer_of → framer ≡ framer_of s.now → ReadsFrom framer_of past self.old → ReadsFrom framer_of (s.now ∷ past) self.new) }
+        ensures framed_from { IfOk result (λ met. (framer_of : SegmentValue → Option FramerValue) (past : List SegmentValue)
+            → IsOfEnds framer_of → framer ≡ framer_of s.now → ReadsFrom framer_of past self.old → AreFramedIn framer s.now.payload met.messages) }
         ensures near { IfOk result (λ met. PassesNear met.taken) }
         ensures counted { taken_so_far (streams_in self.new) ≤ taken_so_far (streams_in self.old) + 1 }
         ensures bytes { bytes_so_far (streams_in self.new) ≤ bytes_so_far (streams_in self.old) + length s.now.payload }

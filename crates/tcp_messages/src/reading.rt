@@ -2,13 +2,13 @@ ghost use Rattle.std.specs.Prelude.{◌≡◌, ◌==◌, ◌<◌, ◌≤◌, ◌
 ghost use Rattle.stream_messages.specs.Cursors.{IsSound};
 ghost use Rattle.tcp_streams.specs.declared.segment.Segment.{Segment as SegmentValue};
 ghost use Rattle.tcp_streams.specs.declared.streams.Streams.{Streams as StreamsValue};
-ghost use Rattle.tcp_streams.specs.Labels.{labels, taken_after};
-ghost use Rattle.tcp_streams.specs.Standing.{AreReady, AreStepped, StandsFor, stream_count, streams_of, way_in};
+ghost use Rattle.tcp_streams.specs.Labels.{labels};
+ghost use Rattle.tcp_streams.specs.Standing.{AreReady, AreStepped, stream_count, streams_of, way_in};
 ghost use Rattle.tcp_streams.specs.Ways.{stretches};
 ghost use Rattle.stream_messages.specs.declared.framer.Framer.{Framer as FramerValue};
 ghost use Rattle.tcp_messages.specs.declared.readers.Readers.{Readers as ReadersValue};
-ghost use Rattle.tcp_messages.specs.Readers.{AreSound, IsOfEnds, ReadsStreams, reader_of};
-ghost use Rattle.tcp_messages.specs.Reading.{AreListed, AreWholeIn, IsOpenedAt, IsNew, IsRead, IsReadAt, IsReadOn, IsSomeWhole};
+ghost use Rattle.tcp_messages.specs.Readers.{AreSound, ReadsStreamsFrom, reader_of, starts_of};
+ghost use Rattle.tcp_messages.specs.Reading.{AreWholeIn, IsBefore, IsOpenedAt, IsNew, IsRead, IsReadAt, IsReadOn, IsSomeWhole};
 ghost use Rattle.tcp_messages.specs.Shown.{messages_after};
 
 use crate::cutting::cut_brought;
@@ -31,14 +31,13 @@ pub(crate) fn read_next(
     requires sound { (old : StreamsValue) × (s : SegmentValue) × AreReady old × AreSound old readers.old.items × AreStepped s taken.now (streams_of old) (streams_of streams.now) }
     ensures sound { OnOk result (AreSound streams.now readers.new.items) }
     ensures whole { IfOk result (λ messages. All (IsSomeWhole (stretches (way_in streams.now taken.now.stream taken.now.side))) messages) }
-    ensures framed { IfOk result (λ messages. (framer_of : SegmentValue → Option FramerValue) (past : List SegmentValue) (s : SegmentValue) → IsOfEnds framer_of → framer ≡ framer_of s
-        → StandsFor (s ∷ past) streams.now → taken.now ≡ taken_after past s → AreListed (labels past) readers.old.items → ReadsStreams framer_of (labels past) readers.old.items
-        → AreWholeIn framer (stretches (way_in streams.now taken.now.stream taken.now.side)) messages) }
+    ensures framed { IfOk result (λ messages. (framer_of : SegmentValue → Option FramerValue) (past : List SegmentValue) (s : SegmentValue) (old : StreamsValue)
+        → IsBefore framer_of framer past s taken.now old streams.now readers.old.items → AreWholeIn framer (stretches (way_in streams.now taken.now.stream taken.now.side)) messages) }
     ensures few { IfOk result (λ messages. length messages ≤ 2 ^ 25) }
-    ensures read { IfOk result (λ messages. (framer_of : SegmentValue → Option FramerValue) (past : List SegmentValue) (s : SegmentValue) → IsOfEnds framer_of → framer ≡ framer_of s
-        → StandsFor (s ∷ past) streams.now → taken.now ≡ taken_after past s → AreListed (labels past) readers.old.items → ReadsStreams framer_of (labels past) readers.old.items → messages ≡ messages_after framer past s) }
-    ensures stands { OnOk result ((framer_of : SegmentValue → Option FramerValue) (past : List SegmentValue) (s : SegmentValue) → IsOfEnds framer_of → framer ≡ framer_of s
-        → StandsFor (s ∷ past) streams.now → taken.now ≡ taken_after past s → AreListed (labels past) readers.old.items → ReadsStreams framer_of (labels past) readers.old.items → ReadsStreams framer_of (labels (s ∷ past)) readers.new.items) }
+    ensures read { IfOk result (λ messages. (framer_of : SegmentValue → Option FramerValue) (past : List SegmentValue) (s : SegmentValue) (old : StreamsValue)
+        → IsBefore framer_of framer past s taken.now old streams.now readers.old.items → messages ≡ messages_after framer past s) }
+    ensures stands { OnOk result ((framer_of : SegmentValue → Option FramerValue) (past : List SegmentValue) (s : SegmentValue) (old : StreamsValue)
+        → IsBefore framer_of framer past s taken.now old streams.now readers.old.items → ReadsStreamsFrom framer_of (starts_of (streams_of streams.now)) (labels (s ∷ past)) readers.new.items) }
 {
     open(alloc, readers, taken.stream, framer)?;
     read_stream(alloc, streams, readers, taken)

@@ -17,9 +17,9 @@ returns-then-gaps-eq0-clause-whole c =
 pub returns-then-gaps-eq0-clause-cut : goal.returns-then-gaps-eq0-clause-cut
 returns-then-gaps-eq0-clause-cut c =
     IfOk-weaker c.cut_messages.result _ _
-    (λ shown cuts asked w s way is lost asks behind.
-    grown_case c.args.framer c.args.heads.now asked w (way_in c.args.streams.now c.args.taken.now.stream c.args.taken.now.side) s c.front_start-start.result c.front-front.result.now c.args.taken.now.lost c.args.cursor shown
-    c.front_start-start.ensures.kept c.front-front.ensures.kept (ap length (sym c.slice-gaps.ensures) ∙ c.if-gaps-eq0.true) cuts way is lost asks behind) c.cut_messages.ensures.cut
+    (λ shown cuts.
+    grown_case c.args.framer c.args.heads.now (way_in c.args.streams.now c.args.taken.now.stream c.args.taken.now.side) c.front_start-start.result c.front-front.result.now c.args.taken.now.lost c.args.cursor shown
+    c.front_start-start.ensures.kept c.front-front.ensures.kept (ap length (sym c.slice-gaps.ensures) ∙ c.if-gaps-eq0.true) cuts) c.cut_messages.ensures.from
 
 pub cut_newest-requires-clause-passed : goal.cut_newest-requires-clause-passed
 cut_newest-requires-clause-passed c =
@@ -45,9 +45,9 @@ returns-clause-cut c =
     c.last_of-passed.ensures ∙ ap (λ (xs : List Stretch). drop (length xs - (length c.slice-gaps.result.now - 1)) xs) c.earlier.ensures.kept
     ∙ ap (λ (xs : List Lost). drop (length v.earlier - (length xs - 1)) v.earlier) c.slice-gaps.ensures in
     IfOk-weaker c.cut_newest.result _ _
-    (λ shown both asked w s way is lost asks behind.
-    newest_case c.args.framer c.args.heads.now asked w v s c.last_of-passed.result.now c.front_start-start.result c.front-front.result.now c.args.taken.now.lost c.args.cursor shown passed
-    c.front_start-start.ensures.kept c.front-front.ensures.kept (λ none. c.if-gaps-eq0.false (ap length c.slice-gaps.ensures ∙ none)) both.0 both.1 way is lost asks behind)
+    (λ shown both.
+    newest_case c.args.framer c.args.heads.now v c.last_of-passed.result.now c.front_start-start.result c.front-front.result.now c.args.taken.now.lost c.args.cursor shown passed
+    c.front_start-start.ensures.kept c.front-front.ensures.kept (λ none. c.if-gaps-eq0.false (ap length c.slice-gaps.ensures ∙ none)) both.0 both.1)
     (ok_both c.cut_newest.result _ _ c.cut_newest.ensures.messages c.cut_newest.ensures.cursor)
 
 pub returns-then-gaps-eq0-clause-right : goal.returns-then-gaps-eq0-clause-right

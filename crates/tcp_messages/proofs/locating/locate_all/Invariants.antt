@@ -2,7 +2,8 @@ use Rattle.std.proofs.Common.{◌≡◌, ◌+◌, ◌++◌, List, length, map}
 use Rattle.std.specs.Prelude.{All, IfSome}
 use Rattle.range_bytes.specs.Held.{IsFreeFrom}
 use Rattle.tcp_streams.specs.declared.segment.Segment.{Segment}
-use Rattle.tcp_streams.specs.Standing.{StandsFor, way_for, way_in}
+use Rattle.tcp_streams.specs.LetGo.{StandsFrom}
+use Rattle.tcp_streams.specs.Standing.{way_for, way_in}
 use Rattle.tcp_streams.specs.Ways.{stretches}
 use Rattle.stream_messages.specs.declared.framer.Framer.{Framer}
 use Rattle.stream_messages.specs.Cursors.{IsWholeInOne}
@@ -13,7 +14,7 @@ use Rattle.tcp_messages.proofs.locating.locate_all.Given as goal
 abbrev pub invariant-loop-message : goal.invariant-loop-message
 invariant-loop-message l =
     record {
-      located_so : (past : List Segment) → StandsFor past l.streams
+      located_so : (past : List Segment) → StandsFrom past l.streams
           → l.shown.items ++ map (located (way_for past l.taken.stream l.taken.side).held l.s l.taken.position) l.rest.items
           ≡ map (located (way_for past l.taken.stream l.taken.side).held l.s l.taken.position) l.fn.messages;
       whole : All (IsWholeIn l.s.payload) l.shown.items;

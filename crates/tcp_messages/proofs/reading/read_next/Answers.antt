@@ -43,8 +43,8 @@ returns-clause-read c =
     let step = step_by c.requires.sound.1 c.args.taken.now (streams_of c.requires.sound.0) (streams_of c.args.streams.now) c.requires.sound.4 in
     let are = are_opened c.args.framer c.requires.sound.1 c.args.taken.now (side_of c.args.taken.now) c.requires.sound.0 (streams_of c.args.streams.now) c.args.readers.now.items c.open.new.readers.items c.requires.sound.3 step c.in_ok-open.ensures in
     IfOk-weaker c.read_stream.result _ _
-    (λ messages read framer_of past s of_ends same stands is listed reads.
-    (next_reads framer_of c.args.framer past s c.args.taken.now c.args.streams.now c.args.readers.now.items c.open.new.readers.items c.read_stream.new.readers.items messages of_ends same stands is listed reads step.within
+    (λ messages read framer_of past s old before.
+    (next_reads framer_of c.args.framer past s c.args.taken.now old c.args.streams.now c.args.readers.now.items c.open.new.readers.items c.read_stream.new.readers.items messages before
     (omega (arith, step.within, are.count)) c.in_ok-open.ensures read).0) c.read_stream.ensures
 
 pub returns-clause-stands : goal.returns-clause-stands
@@ -52,8 +52,8 @@ returns-clause-stands c =
     let step = step_by c.requires.sound.1 c.args.taken.now (streams_of c.requires.sound.0) (streams_of c.args.streams.now) c.requires.sound.4 in
     let are = are_opened c.args.framer c.requires.sound.1 c.args.taken.now (side_of c.args.taken.now) c.requires.sound.0 (streams_of c.args.streams.now) c.args.readers.now.items c.open.new.readers.items c.requires.sound.3 step c.in_ok-open.ensures in
     IfOk-weaker c.read_stream.result _ _
-    (λ messages read framer_of past s of_ends same stands is listed reads.
-    (next_reads framer_of c.args.framer past s c.args.taken.now c.args.streams.now c.args.readers.now.items c.open.new.readers.items c.read_stream.new.readers.items messages of_ends same stands is listed reads step.within
+    (λ messages read framer_of past s old before.
+    (next_reads framer_of c.args.framer past s c.args.taken.now old c.args.streams.now c.args.readers.now.items c.open.new.readers.items c.read_stream.new.readers.items messages before
     (omega (arith, step.within, are.count)) c.in_ok-open.ensures read).1) c.read_stream.ensures
 
 pub returns-clause-framed : goal.returns-clause-framed
@@ -61,8 +61,8 @@ returns-clause-framed c =
     let step = step_by c.requires.sound.1 c.args.taken.now (streams_of c.requires.sound.0) (streams_of c.args.streams.now) c.requires.sound.4 in
     let are = are_opened c.args.framer c.requires.sound.1 c.args.taken.now (side_of c.args.taken.now) c.requires.sound.0 (streams_of c.args.streams.now) c.args.readers.now.items c.open.new.readers.items c.requires.sound.3 step c.in_ok-open.ensures in
     IfOk-weaker c.read_stream.result _ _
-    (λ messages read framer_of past s of_ends same stands is listed reads.
-    (next_reads framer_of c.args.framer past s c.args.taken.now c.args.streams.now c.args.readers.now.items c.open.new.readers.items c.read_stream.new.readers.items messages of_ends same stands is listed reads step.within
+    (λ messages read framer_of past s old before.
+    (next_reads framer_of c.args.framer past s c.args.taken.now old c.args.streams.now c.args.readers.now.items c.open.new.readers.items c.read_stream.new.readers.items messages before
     (omega (arith, step.within, are.count)) c.in_ok-open.ensures read).2) c.read_stream.ensures
 
 pub returns-clause-few : goal.returns-clause-few
