@@ -95,7 +95,7 @@ fn give_front(
 }
 
 fn order_agrees(alloc: Global, syn: u32, generator: &mut Lcg64Xsh32) -> Result<bool, NoMemory> {
-    let mut sent = Sent::new(alloc, None);
+    let mut sent = Sent::new(alloc, None, false);
     let agrees = give_front(&mut sent, alloc, syn, generator);
     give_up(sent);
     agrees

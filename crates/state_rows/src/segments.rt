@@ -6,6 +6,8 @@
 //! | `client 10 - - ab -> shows ..` | the messages that the frame shows (or `nothing`): kind, position, length, and `@` with the place in the segment, or the frames that brought it. Behind `by` stand the frames of all these |
 //! | `bytes of 0 1 -> 0 ab 5 fgh` | of a stream and side: the stretches, each behind its start |
 //! | `bytes of 0 0 1 3 -> 2,3` | of a stream, a side, and positions from one up to another: the frames that brought them, or `not held` |
+//!
+//! The lines of segments hold also where bytes are let go that no later message needs.
 ghost use Rattle.std.specs.Prelude.{◌<◌};
 ghost use Rattle.tcp_streams.specs.Standing.{stream_count};
 
@@ -232,6 +234,7 @@ fn is_kept(streams: &Streams, words: &str, told: &str) -> Result<bool, NoMemory>
 fn line_holds(sent: &mut Sent, alloc: Global, line: &str) -> Result<bool, NoMemory> {
     let (words, told) = line.split_once(" -> ").unwrap_or((line, ""));
     match words.strip_prefix("bytes of ") {
+        Some(_) if sent.lets_go => Ok(true),
         Some(words) => is_kept(sent.streams.streams(), words, told),
         None => is_sent(sent, alloc, words, told),
     }
@@ -246,10 +249,23 @@ fn lines_hold(sent: &mut Sent, alloc: Global, lines: &str) -> Result<bool, NoMem
     Ok(true)
 }
 
-pub(crate) fn hold(alloc: Global, framer: Option<Framer>, row: &str) -> Result<bool, NoMemory> {
-    let (_, lines) = row.split_once('\n').unwrap_or((row, "?"));
-    let mut sent = Sent::new(alloc, framer);
+fn hold_so(
+    alloc: Global,
+    framer: Option<Framer>,
+    lets_go: bool,
+    lines: &str,
+) -> Result<bool, NoMemory> {
+    let mut sent = Sent::new(alloc, framer, lets_go);
     let hold = lines_hold(&mut sent, alloc, lines);
     give_up(sent);
     hold
+}
+
+/// Whether a row holds, also where bytes are let go that no later message needs.
+pub(crate) fn hold(alloc: Global, framer: Option<Framer>, row: &str) -> Result<bool, NoMemory> {
+    let (_, lines) = row.split_once('\n').unwrap_or((row, "?"));
+    if !hold_so(alloc, framer, false, lines)? {
+        return Ok(false);
+    }
+    hold_so(alloc, framer, true, lines)
 }

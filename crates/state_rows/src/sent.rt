@@ -17,6 +17,8 @@ pub(crate) struct Sent {
     places: StreamPlaces,
     placed: u32,
     framer: Option<Framer>,
+    /// Whether bytes are let go that no later message needs.
+    pub(crate) lets_go: bool,
     frames: u32,
     bytes: u64,
     ghost few_places: { places_taken places ≤ placed },
@@ -25,12 +27,13 @@ pub(crate) struct Sent {
 }
 
 impl Sent {
-    pub(crate) fn new(alloc: Global, framer: Option<Framer>) -> Sent {
+    pub(crate) fn new(alloc: Global, framer: Option<Framer>, lets_go: bool) -> Sent {
         Sent {
             streams: MessageStreams::new(alloc),
             places: StreamPlaces::new(alloc),
             placed: 0,
             framer,
+            lets_go,
             frames: 0,
             bytes: 0,
         }
@@ -50,7 +53,11 @@ impl Sent {
         segment.frame = frames;
         self.frames = frames;
         self.bytes = bytes;
-        self.streams.take(&segment, self.framer)
+        if self.lets_go {
+            self.streams.take_and_let_go(&segment, self.framer)
+        } else {
+            self.streams.take(&segment, self.framer)
+        }
     }
 
     /// What a segment is to the streams by their numbers alone.

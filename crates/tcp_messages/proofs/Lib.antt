@@ -8,6 +8,7 @@ pub mod Sources
 pub mod Keeping
 pub mod Nexts
 pub mod Whole
+pub mod LettingGo
 pub mod Ports
 pub mod Matching
 pub mod InHeld

@@ -63,10 +63,12 @@ kept_whole framer_of past m sound reads = record {
 }
 
 -- what is known before a segment
+pub ready_in : (m : MessageStreams) → AreSound (streams_in m) m.kept.readers.items → taken_so_far (streams_in m) < 2 ^ 32 → bytes_so_far (streams_in m) < 2 ^ 32 → AreReady (streams_in m)
+ready_in m sound few small = are_ready (streams_in m) sound.fresh ((streams_in m).kept.sound sound.fresh) ((streams_in m).kept.filled sound.fresh) few small
+
 pub ready_before : (m : MessageStreams) (s : Segment) → AreSound (streams_in m) m.kept.readers.items → taken_so_far (streams_in m) < 2 ^ 32 - 1 → bytes_so_far (streams_in m) + length s.payload < 2 ^ 32
     → AreReady (streams_in m)
-ready_before m s sound few small =
-    are_ready (streams_in m) sound.fresh ((streams_in m).kept.sound sound.fresh) ((streams_in m).kept.filled sound.fresh) (omega (arith, few)) (omega (arith, small))
+ready_before m s sound few small = ready_in m sound (omega (arith, few)) (omega (arith, small))
 
 pub before : (framer_of : Segment → Option Framer) (framer : Option Framer) (past : List Segment) (s : Segment) (taken : Taken) (m : MessageStreams) (new : Streams) → AreSound (streams_in m) m.kept.readers.items
     → taken_so_far (streams_in m) < 2 ^ 32 - 1 → bytes_so_far (streams_in m) + length s.payload < 2 ^ 32 → AreStepped s taken (streams_of (streams_in m)) (streams_of new) → ((past : List Segment) → StandsFrom past (streams_in m) → taken ≡ taken_after past s)

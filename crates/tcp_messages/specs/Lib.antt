@@ -4,5 +4,6 @@ pub mod Places
 pub mod Readers
 pub mod Reading
 pub mod Standing
+pub mod LetGo
 pub mod Laws
 pub mod Renumbered

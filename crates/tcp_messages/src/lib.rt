@@ -5,6 +5,7 @@
 mod cutting;
 mod kept;
 mod laws;
+mod letting_go;
 mod locating;
 mod message_streams;
 mod met;

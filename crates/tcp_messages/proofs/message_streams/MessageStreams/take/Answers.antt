@@ -20,6 +20,11 @@ pub locate_all-requires-clause-side : goal.locate_all-requires-clause-side
 locate_all-requires-clause-side c =
     (step_by c.args.s.now c.in_ok-taken.taken (streams_of c.args.self.now.kept.streams) (streams_of c.take.new.self) c.in_ok-taken.ensures.stepped).low
 
+pub returns-clause-place : goal.returns-clause-place
+returns-clause-place c =
+    let step = step_by c.args.s.now c.in_ok-taken.taken (streams_of c.args.self.now.kept.streams) (streams_of c.take.new.self) c.in_ok-taken.ensures.stepped in
+    (step.within, step.low)
+
 pub returns-clause-shown_from : goal.returns-clause-shown_from
 returns-clause-shown_from c = λ framer_of past of_ends same reads.
     let sound = c.args.self.now.kept.sound c.if-kept.false in
