@@ -17,11 +17,8 @@ use Rattle.pk_tree.specs.Buffers.{IsInside, bytes_of}
 use Rattle.pk_tree.specs.Trees.{IsTree, TreeShown, proto_at}
 use Rattle.pk_tree.specs.declared.layer.Layer.{Layer}
 use Rattle.tcp_streams.specs.Labels.{taken_after}
-use Rattle.tcp_streams.specs.Standing.{StandsFor}
 use Rattle.tcp_streams.specs.declared.segment.Segment.{Segment}
-use Rattle.stream_messages.specs.declared.framer.Framer.{Framer}
 use Rattle.tcp_messages.specs.Shown.{shown_after}
-use Rattle.tcp_messages.specs.Standing.{ReadsFor, streams_in}
 use Rattle.tcp_messages.specs.declared.message_streams.MessageStreams.{MessageStreams}
 use Rattle.tcp_messages.specs.declared.met.ShownMessage.{ShownMessage}
 use Rattle.capture_read.specs.declared.frame.Frame.{Frame}
@@ -40,7 +37,7 @@ use Rattle.dissect.specs.Heads.{HeadsShown}
 use Rattle.dissect.specs.Keeping.{is_followed, keeps_all}
 use Rattle.dissect.specs.Plain.{own}
 use Rattle.dissect.specs.Segments.{segment_from}
-use Rattle.dissect.specs.Stands.{IsLinked, IsRead, IsSameButLinks, IsWalked, StandsAt}
+use Rattle.dissect.specs.Stands.{IsLinked, IsRead, IsSameButLinks, IsWalked, StandsAt, StreamsStand}
 use Rattle.dissect.specs.Tables.{AreTables}
 use Rattle.dissect.specs.Tells.{AsksNoDatagrams, Tells}
 use Rattle.dissect.specs.Trees.{kept_walk}
@@ -68,10 +65,6 @@ use Rattle.dissect.proofs.Unlinked.{none_linked, notes_none, nothing_shown}
 
 -- ---- a segment that was taken
 
-stands_in : (framer_of : Segment → Option Framer) (past : List Segment) (m : MessageStreams) → ReadsFor framer_of past m → StandsFor past (streams_in m)
-unfolding ReadsFor
-stands_in framer_of past m reads = reads.streams
-
 pub met_none : (frame : Frame) (b : Brought) (state : State) → (length b.met.messages == 0) ≡ true → state.found.items ≡ [] → IsMet frame b state state
 met_none frame b state empty unfound = record {
   links = λ all. none_linked frame.number (tcp_direction b.met.taken) (shown_notes (application b.app) (own frame b.payload) b.met.messages) state state
@@ -94,9 +87,9 @@ pub record IsTakenIn (rules : List PortRule) (frame : Frame) (last : Last) (segm
   pub followed : is_followed old.keeps.follows b.app ≡ true
   pub begins : (es : List Event) → StandsAt rules es old → StandsAt rules (NewFrame ∷ es) begun
   pub keeps : begun.keeps ≡ old.keeps
-  pub taken_is : (past : List Segment) → StandsFor past (streams_in begun.streams) → b.met.taken ≡ taken_after past segment
-  pub messages_is : (past : List Segment) → ReadsFor (framer_of_segment rules) past begun.streams → b.met.messages ≡ shown_after (framer_of_segment rules segment) past segment
-  pub kept : (past : List Segment) → ReadsFor (framer_of_segment rules) past begun.streams → ReadsFor (framer_of_segment rules) (segment ∷ past) streams
+  pub taken_is : (past : List Segment) → StreamsStand begun.keeps.lets_go (framer_of_segment rules) past begun.streams → b.met.taken ≡ taken_after past segment
+  pub messages_is : (past : List Segment) → StreamsStand begun.keeps.lets_go (framer_of_segment rules) past begun.streams → b.met.messages ≡ shown_after (framer_of_segment rules segment) past segment
+  pub kept : (past : List Segment) → StreamsStand begun.keeps.lets_go (framer_of_segment rules) past begun.streams → StreamsStand begun.keeps.lets_go (framer_of_segment rules) (segment ∷ past) streams
   pub same : IsSameButLinks (record begun { streams = streams }) new
   pub met : IsMet frame b (record begun { streams = streams }) new
 
@@ -126,10 +119,9 @@ module _ (rules : List PortRule) (frame : Frame) (last : Last) (segment : Segmen
         keeps = is.same.keeps;
         joins = is.same.joins;
         udp = is.same.udp;
-        stands = λ past reads. stands_in (framer_of_segment rules) past begun.streams reads;
         taken_is = is.taken_is;
         messages_is = is.messages_is;
-        kept = λ past reads. subst (ReadsFor (framer_of_segment rules) (segment ∷ past)) (sym is.same.streams) (is.kept past reads);
+        kept = λ past reads. subst (StreamsStand begun.keeps.lets_go (framer_of_segment rules) (segment ∷ past)) (sym is.same.streams) (is.kept past reads);
         links = λ all. subst (λ (notes : List LinkNote). IsLinked frame.number (tcp_direction b.met.taken) notes begun new)
             (ap (λ (app : Option StreamApp). shown_notes (application app) (own frame b.payload) b.met.messages) app_is
             ∙ ap (λ (bytes : List ℕ). shown_notes (application own_app) bytes b.met.messages) payload_is)

@@ -4,7 +4,6 @@ use Rattle.pk_base.specs.declared.heads.FragmentHead.{FragmentHead}
 use Rattle.pk_base.specs.declared.heads.PacketHead.{PacketHead}
 use Rattle.pk_base.specs.declared.heads.TcpHead.{TcpHead}
 use Rattle.ip_join.specs.Stands.{Stands}
-use Rattle.tcp_messages.specs.Standing.{ReadsFor}
 use Rattle.pk_fields.specs.declared.rules.PortRule.{PortRule}
 use Rattle.dissect.specs.declared.state.State.{State}
 use Rattle.dissect.specs.Conversations.{udp_opened}
@@ -19,14 +18,15 @@ use Rattle.dissect.specs.declared.keeping.Keeping.{Keeping}
 use Rattle.tcp_streams.specs.declared.segment.Segment.{Segment}
 use Rattle.dissect.specs.Keeping.{followed_of, keeps_all, tells_places}
 use Rattle.tcp_streams.specs.PlacesStanding.{PlacesStandFor}
-use Rattle.dissect.specs.Stands.{StandsAt}
+use Rattle.dissect.specs.Stands.{StandsAt, StreamsStand}
 
 -- the streams stand for the same segments
 pub streams_stay : (rules : List PortRule) (segments : List Segment) (old new : State) → new.keeps ≡ old.keeps → new.streams ≡ old.streams
-    → ReadsFor (framer_of_segment rules) (followed_of rules old.keeps.follows segments) old.streams → ReadsFor (framer_of_segment rules) (followed_of rules new.keeps.follows segments) new.streams
+    → StreamsStand old.keeps.lets_go (framer_of_segment rules) (followed_of rules old.keeps.follows segments) old.streams
+    → StreamsStand new.keeps.lets_go (framer_of_segment rules) (followed_of rules new.keeps.follows segments) new.streams
 streams_stay rules segments old new same_keeps same_streams reads =
-    subst (ReadsFor (framer_of_segment rules) (followed_of rules new.keeps.follows segments)) (sym same_streams)
-    (subst (λ (keeps : Keeping). ReadsFor (framer_of_segment rules) (followed_of rules keeps.follows segments) old.streams) (sym same_keeps) reads)
+    subst (StreamsStand new.keeps.lets_go (framer_of_segment rules) (followed_of rules new.keeps.follows segments)) (sym same_streams)
+    (subst (λ (keeps : Keeping). StreamsStand keeps.lets_go (framer_of_segment rules) (followed_of rules keeps.follows segments) old.streams) (sym same_keeps) reads)
 
 pub places_stay : (segments : List Segment) (old new : State) → new.keeps ≡ old.keeps → new.places ≡ old.places
     → (tells_places old.keeps.follows ≡ true → PlacesStandFor segments old.places) → tells_places new.keeps.follows ≡ true → PlacesStandFor segments new.places
@@ -63,7 +63,7 @@ stands-piece rules es frame head bytes old new stands same_udp same_keeps same_p
 -- what is kept with a segment more
 pub stands-segment : (rules : List PortRule) (es : List Event) (frame : ℕ) (packet : PacketHead) (head : TcpHead) (bytes : List ℕ) (old new : State) → StandsAt rules es old → new.joins ≡ old.joins → new.udp ≡ old.udp → new.keeps ≡ old.keeps
     → (tells_places new.keeps.follows ≡ true → PlacesStandFor (segment_from frame packet head bytes ∷ segments_of es) new.places)
-    → ReadsFor (framer_of_segment rules) (followed_of rules new.keeps.follows (segment_from frame packet head bytes ∷ segments_of es)) new.streams
+    → StreamsStand new.keeps.lets_go (framer_of_segment rules) (followed_of rules new.keeps.follows (segment_from frame packet head bytes ∷ segments_of es)) new.streams
     → (keeps_all new.keeps ≡ true → LinksStandFor (noted rules (Tcp frame packet head bytes ∷ es)) new.links)
     → (keeps_all new.keeps ≡ true → new.found.items ≡ newest_links rules (Tcp frame packet head bytes ∷ es)) → StandsAt rules (Tcp frame packet head bytes ∷ es) new
 unfolding fragments_of udp_opened segments_of noted newest_links

@@ -78,8 +78,8 @@ all_for keeps wanted all = record {
   links = λ none. absurd (true≢false (sym all ∙ none));
 }
 
-pub all_whole : (keeps : Keeping) (wanted : List ℕ) → keeps_all keeps ≡ true → KeepsWhole keeps wanted
-all_whole keeps wanted all = record { numbers = all_numbers keeps all; all = λ _. all }
+pub all_whole : (keeps : Keeping) (wanted : List ℕ) → keeps_all keeps ≡ true → keeps.lets_go ≡ false → KeepsWhole keeps wanted
+all_whole keeps wanted all bytes = record { numbers = all_numbers keeps all; all = λ _. all; bytes = bytes }
 
 -- ---- one segment more
 
@@ -164,12 +164,12 @@ keeps_for keeps wanted streams numbers unfollowed unnumbered = record {
   ];
 }
 
--- where all conversations over UDP are numbered, and everything is kept where something of streams is asked
+-- where all conversations over UDP are numbered, everything is kept where something of streams is asked, and no byte is let go
 pub for_trees : (keeps : Keeping) (wanted : List ℕ) → FollowsEnough keeps.follows wanted → (asks_streams wanted ≡ true → is_everything keeps.follows ≡ true)
-    → (is_everything keeps.follows ≡ false → AsksNoLinks wanted) → keeps.numbers ≡ true → KeepsFor keeps wanted × KeepsWhole keeps wanted
-for_trees keeps wanted streams all links numbers = (
+    → (is_everything keeps.follows ≡ false → AsksNoLinks wanted) → keeps.numbers ≡ true → keeps.lets_go ≡ false → KeepsFor keeps wanted × KeepsWhole keeps wanted
+for_trees keeps wanted streams all links numbers bytes = (
   keeps_for keeps wanted streams (λ none. absurd (true≢false (sym numbers ∙ none))) links (λ none. absurd (true≢false (sym numbers ∙ none))),
-  record { numbers = numbers; all = λ asked. both_are (is_everything keeps.follows) keeps.numbers (all asked) numbers },
+  record { numbers = numbers; all = λ asked. both_are (is_everything keeps.follows) keeps.numbers (all asked) numbers; bytes = bytes },
 )
   where
     both_are : (a b : Bool) → a ≡ true → b ≡ true → a && b ≡ true
@@ -180,9 +180,9 @@ for_trees keeps wanted streams all links numbers = (
 pub all_asked : (d : DissectorShown) → IsKept d → asks_streams d.wanted ≡ true → d.sparing ≡ false → keeps_all d.state.keeps ≡ true
 all_asked d kept asked unsparing = (kept.whole unsparing).all asked
 
--- where everything is kept, the streams stand for all segments
-pub streams_of_all : (d : DissectorShown) (past : List Frame) → IsAfter past d → keeps_all d.state.keeps ≡ true
+-- where everything is kept and no byte is let go, the streams stand for all segments
+pub streams_of_all : (d : DissectorShown) (past : List Frame) → IsAfter past d → keeps_all d.state.keeps ≡ true → d.state.keeps.lets_go ≡ false
     → ReadsFor (framer_of_segment d.decode.rules) (segments_of (events_of past)) d.state.streams
-streams_of_all d past after all =
+streams_of_all d past after all bytes =
     subst (λ (ss : List Segment). ReadsFor (framer_of_segment d.decode.rules) ss d.state.streams)
-    (everything_of d.decode.rules d.state.keeps.follows (segments_of (events_of past)) (all_everything d.state.keeps all)) after.state.streams
+    (everything_of d.decode.rules d.state.keeps.follows (segments_of (events_of past)) (all_everything d.state.keeps all)) (after.state.streams.whole bytes)

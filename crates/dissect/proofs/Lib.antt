@@ -35,6 +35,7 @@ mod SegmentHeads
 mod Segmenting
 mod Shrinking
 mod Spaces
+mod StreamsKept
 mod StreamsTold
 mod StretchBytes
 mod Taken

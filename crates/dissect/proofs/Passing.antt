@@ -29,14 +29,13 @@ use Rattle.app_layers.specs.MessageLayers.{carried_over, framer_of_segment, fram
 use Rattle.app_layers.specs.Rows.{framer_of, proto_of}
 use Rattle.app_layers.proofs.RowLemmas.{proto_some}
 use Rattle.tcp_streams.specs.declared.segment.Segment.{Segment}
-use Rattle.tcp_messages.specs.Standing.{ReadsFor}
 use Rattle.app_layers.specs.Payloads.{with_lost, carried_told, place_told, segment_told}
 use Rattle.dissect.specs.Segments.{segment_from, segments_of}
-use Rattle.dissect.specs.Stands.{StandsAt, IsWalked}
+use Rattle.dissect.specs.Stands.{StandsAt, StreamsStand, IsWalked}
 use Rattle.dissect.specs.Walks.{segment_met}
 use Rattle.app_layers.proofs.ToldHeads.{carried_wanted, lost_unasked, place_unasked, told_wanted}
 use Rattle.app_layers.proofs.WantedMessages.{carried_over_wanted}
-use Rattle.dissect.proofs.Joining.{stands-segment}
+use Rattle.dissect.proofs.Joining.{stands-segment, streams_stay}
 use Rattle.app_layers.proofs.MessagesAside.{AsksNotCarried, carried_lacks, none_shown, shown_lacks}
 use Rattle.stream_messages.specs.declared.framer.Framer.{Framer}
 use Rattle.app_layers.proofs.StreamApps.{IsFramed, is_framed}
@@ -138,7 +137,7 @@ passed-walked rules frame packet head span app state t v app_is unfollowed untol
     record {
       stands = stands-segment rules es frame.number packet head bytes state state stands refl refl refl
           (λ places. absurd (true≢false (sym places ∙ untold)))
-          (subst (λ (ss : List Segment). ReadsFor (framer_of_segment rules) ss state.streams) (sym (passed_over rules follows segment past none)) stands.streams)
+          (subst (λ (ss : List Segment). StreamsStand state.keeps.lets_go (framer_of_segment rules) ss state.streams) (sym (passed_over rules follows segment past none)) stands.streams)
           (λ all. absurd (not_all all)) (λ all. absurd (not_all all));
       tree = record {
         wanted = ap (λ (u : TreeShown). u.wanted) passed ∙ carried_over_wanted own cut span (carried_told t span) [] ∙ carried_wanted t span ∙ sym wanted;
@@ -183,9 +182,8 @@ placed-walked rules frame packet head span app taken places old new t v app_is t
     record {
       stands = stands-segment rules es frame.number packet head bytes old new stands (ap (λ (s : State). s.joins) new_is) (ap (λ (s : State). s.udp) new_is) keeps
           (λ _. subst (PlacesStandFor (segment ∷ past)) (sym (ap (λ (s : State). s.places) new_is)) (placed past (stands.places tells)))
-          (subst (λ (ss : List Segment). ReadsFor (framer_of_segment rules) ss new.streams)
-          (sym (ap (λ (k : Keeping). followed_of rules k.follows (segment ∷ past)) keeps ∙ passed_over rules follows segment past none))
-          (subst (ReadsFor (framer_of_segment rules) (followed_of rules follows past)) (sym (ap (λ (s : State). s.streams) new_is)) stands.streams))
+          (streams_stay rules (segment ∷ past) old new keeps (ap (λ (s : State). s.streams) new_is)
+          (subst (λ (ss : List Segment). StreamsStand old.keeps.lets_go (framer_of_segment rules) ss old.streams) (sym (passed_over rules follows segment past none)) stands.streams))
           (λ all. absurd (not_all all)) (λ all. absurd (not_all all));
       tree = record {
         wanted = ap (λ (u : TreeShown). u.wanted) is ∙ carried_over_wanted own cut span told [] ∙ told_wanted t (taken_after past segment) span ∙ sym wanted;

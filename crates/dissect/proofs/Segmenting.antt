@@ -8,9 +8,7 @@ use Rattle.pk_tree.specs.Trees.{TreeShown}
 use Rattle.tcp_streams.specs.declared.segment.Segment.{Segment}
 use Rattle.tcp_streams.specs.declared.segment.Taken.{Taken}
 use Rattle.tcp_streams.specs.Labels.{taken_after}
-use Rattle.tcp_streams.specs.Standing.{StandsFor}
 use Rattle.tcp_messages.specs.declared.met.ShownMessage.{ShownMessage}
-use Rattle.tcp_messages.specs.Standing.{ReadsFor, streams_in}
 use Rattle.tcp_messages.specs.Shown.{shown_after}
 use Rattle.pk_fields.specs.declared.rules.PortRule.{PortRule}
 use Rattle.capture_read.specs.declared.frame.Frame.{Frame}
@@ -35,7 +33,7 @@ use Rattle.dissect.specs.Keeping.{FollowsEnough, followed_of, is_followed, keeps
 use Rattle.dissect.proofs.AloneLemmas.{shown_same}
 use Rattle.dissect.proofs.KeepingLemmas.{all_everything, between_followed, everything_enough, everything_of, more_followed, taken_unplaced}
 use Rattle.dissect.proofs.Passing.{told_enough}
-use Rattle.dissect.specs.Stands.{StandsAt, IsLinked, IsWalked}
+use Rattle.dissect.specs.Stands.{StandsAt, StreamsStand, IsLinked, IsWalked}
 use Rattle.dissect.specs.Walks.{segment_met}
 use Rattle.dissect.proofs.Joining.{stands-segment}
 
@@ -46,10 +44,9 @@ pub record IsShown (rules : List PortRule) (frame : Frame) (packet : PacketHead)
   pub keeps : new.keeps ≡ old.keeps
   pub joins : new.joins ≡ old.joins
   pub udp : new.udp ≡ old.udp
-  pub stands : (past : List Segment) → ReadsFor (framer_of_segment rules) past old.streams → StandsFor past (streams_in old.streams)
-  pub taken_is : (past : List Segment) → StandsFor past (streams_in old.streams) → taken ≡ taken_after past segment
-  pub messages_is : (past : List Segment) → ReadsFor (framer_of_segment rules) past old.streams → messages ≡ shown_after (framer_of_segment rules segment) past segment
-  pub kept : (past : List Segment) → ReadsFor (framer_of_segment rules) past old.streams → ReadsFor (framer_of_segment rules) (segment ∷ past) new.streams
+  pub taken_is : (past : List Segment) → StreamsStand old.keeps.lets_go (framer_of_segment rules) past old.streams → taken ≡ taken_after past segment
+  pub messages_is : (past : List Segment) → StreamsStand old.keeps.lets_go (framer_of_segment rules) past old.streams → messages ≡ shown_after (framer_of_segment rules segment) past segment
+  pub kept : (past : List Segment) → StreamsStand old.keeps.lets_go (framer_of_segment rules) past old.streams → StreamsStand old.keeps.lets_go (framer_of_segment rules) (segment ∷ past) new.streams
   pub links : keeps_all old.keeps ≡ true → IsLinked frame.number (tcp_direction taken) (shown_notes (application (app_of_segment rules segment)) segment.payload messages) old new
   pub told : u ≡ segment_told t taken span
   pub shown : v ≡ carried_over (app_of_segment rules segment) (is_cut frame) span u messages
@@ -67,7 +64,7 @@ shown-walked rules frame packet head span segment taken messages old new t u v i
     let reads = stands.streams in
     let messages_are : messages ≡ shown_after (framing own) segments segment =
     is.messages_is past reads ∙ shown_same (framing own) past segments segment (between_followed rules follows segment segments is.taken_in) in
-    let taken_is : taken ≡ taken_after past segment = is.taken_is past (is.stands past reads) in
+    let taken_is : taken ≡ taken_after past segment = is.taken_is past reads in
     let told = segment_told t (taken_after segments segment) span in
     let whole = carried_over own cut span told (shown_after (framing own) segments segment) in
     let shown : v ≡ carried_over own cut span (segment_told t (taken_after past segment) span) (shown_after (framing own) segments segment) =
@@ -85,15 +82,15 @@ shown-walked rules frame packet head span segment taken messages old new t u v i
     let linked_is = λ (all : keeps_all old.keeps ≡ true).
     ap (λ (k : Taken). links_of ns (tcp_direction k) (shown_notes (application own) segment.payload messages)) (taken_all all)
     ∙ ap (λ (ms : List ShownMessage). links_of ns (tcp_direction (taken_after segments segment)) (shown_notes (application own) segment.payload ms)) messages_are in
-    let kept : ReadsFor (framer_of_segment rules) (followed_of rules follows (segment ∷ segments)) new.streams =
-    subst (λ (ss : List Segment). ReadsFor (framer_of_segment rules) ss new.streams) (sym (more_followed rules follows segment segments is.taken_in)) (is.kept past reads) in
+    let kept : StreamsStand old.keeps.lets_go (framer_of_segment rules) (followed_of rules follows (segment ∷ segments)) new.streams =
+    subst (λ (ss : List Segment). StreamsStand old.keeps.lets_go (framer_of_segment rules) ss new.streams) (sym (more_followed rules follows segment segments is.taken_in)) (is.kept past reads) in
     let whole_is : whole ≡ (segment_met rules frame packet t es head span).tree =
     ap (λ (s : Segment). carried_over (app_of_segment rules s) cut span (segment_told t (taken_after segments s) span) (shown_after (framer_of_segment rules s) segments s)) is.segment_is in
     record {
       stands = stands-segment rules es frame.number packet head bytes old new stands is.joins is.udp is.keeps
           (λ places. absurd (true≢false (sym (ap (λ (keeps : Keeping). tells_places keeps.follows) (sym is.keeps) ∙ places) ∙ taken_unplaced follows own is.taken_in)))
-          (subst (λ (keeps : Keeping). ReadsFor (framer_of_segment rules) (followed_of rules keeps.follows (segment_from frame.number packet head bytes ∷ segments)) new.streams) (sym is.keeps)
-          (subst (λ (s : Segment). ReadsFor (framer_of_segment rules) (followed_of rules follows (s ∷ segments)) new.streams) is.segment_is kept))
+          (subst (λ (keeps : Keeping). StreamsStand keeps.lets_go (framer_of_segment rules) (followed_of rules keeps.follows (segment_from frame.number packet head bytes ∷ segments)) new.streams) (sym is.keeps)
+          (subst (λ (s : Segment). StreamsStand old.keeps.lets_go (framer_of_segment rules) (followed_of rules follows (s ∷ segments)) new.streams) is.segment_is kept))
           (λ all. subst (λ (noted_all : List Noted). LinksStandFor noted_all new.links)
           (noted_is (was_all all) ∙ ap (λ (s : Segment). noted_on frame.number (tcp_direction (taken_after segments s)) (segment_notes rules segments s) ns) is.segment_is)
           ((is.links (was_all all)).links ns (stands.links (was_all all))))

@@ -111,7 +111,8 @@ pub record KeepsFor (keeps : Keeping) (wanted : List ℕ) : Type 0 where
   pub numbers : keeps.numbers ≡ false → is_in wanted UDP_STREAM ≡ false
   pub links : keeps_all keeps ≡ false → AsksNoLinks wanted
 
--- all conversations over UDP are numbered, and everything is kept where these fields ask something of streams
+-- all conversations over UDP are numbered, everything is kept where these fields ask something of streams, and no byte is let go
 pub record KeepsWhole (keeps : Keeping) (wanted : List ℕ) : Type 0 where
   pub numbers : keeps.numbers ≡ true
   pub all : asks_streams wanted ≡ true → keeps_all keeps ≡ true
+  pub bytes : keeps.lets_go ≡ false

@@ -1,5 +1,5 @@
 -- What a dissector keeps, and what it stands for.
-use Rattle.std.specs.Prelude.{◌≡◌, ℕ, ◌+◌, ◌-◌, ◌*◌, ◌<◌, ◌≤◌, ◌^◌, Bool, true, false, List, length}
+use Rattle.std.specs.Prelude.{◌≡◌, ℕ, ◌+◌, ◌-◌, ◌*◌, ◌<◌, ◌≤◌, ◌^◌, Bool, true, false, List, length, Option}
 use Rattle.pk_fields.specs.declared.rules.DecodeAs.{DecodeAs}
 use Rattle.pk_fields.specs.declared.rules.PortRule.{PortRule}
 use Rattle.capture_read.specs.declared.frame.Frame.{Frame}
@@ -11,7 +11,10 @@ use Rattle.ip_join.specs.Stands.{Stands as JoinsStandFor}
 use Rattle.ip_join.specs.Waiting.{bytes_waiting}
 use Rattle.tcp_streams.specs.PlacesStanding.{PlacesStandFor, places_taken}
 use Rattle.tcp_streams.specs.Standing.{bytes_so_far, taken_so_far}
-use Rattle.tcp_messages.specs.Standing.{ReadsFor, streams_in}
+use Rattle.tcp_messages.specs.Standing.{ReadsFor, ReadsFrom, streams_in}
+use Rattle.tcp_messages.specs.declared.message_streams.MessageStreams.{MessageStreams}
+use Rattle.tcp_streams.specs.declared.segment.Segment.{Segment}
+use Rattle.stream_messages.specs.declared.framer.Framer.{Framer}
 use Rattle.message_links.specs.declared.notes.Direction.{Direction}
 use Rattle.message_links.specs.declared.notes.Note.{Note}
 use Rattle.dissect.specs.declared.state.State.{State}
@@ -47,6 +50,11 @@ pub record DissectorShown : Type 0 where
   pub times : Times
   pub state : State
 
+-- the streams of segments, and their messages: every byte, unless those are let go that no later message needs
+pub record StreamsStand (lets_go : Bool) (framer_of : Segment → Option Framer) (past : List Segment) (m : MessageStreams) : Type 0 where
+  pub from : ReadsFrom framer_of past m
+  pub whole : lets_go ≡ false → ReadsFor framer_of past m
+
 -- what is kept of events: the fragments of datagrams that aren't whole yet, where they are numbered the conversations over UDP, where no
 -- byte is kept the places in streams of TCP, else of the segments that are taken their streams, with the messages that they have by the
 -- rules for ports, and where all is kept what links ask of messages, and the links of the newest frame
@@ -54,7 +62,7 @@ pub record StandsAt (rules : List PortRule) (es : List Event) (state : State) : 
   pub joins : JoinsStandFor (fragments_of es) state.joins
   pub udp : state.keeps.numbers ≡ true → state.udp ≡ udp_opened es
   pub places : tells_places state.keeps.follows ≡ true → PlacesStandFor (segments_of es) state.places
-  pub streams : ReadsFor (framer_of_segment rules) (followed_of rules state.keeps.follows (segments_of es)) state.streams
+  pub streams : StreamsStand state.keeps.lets_go (framer_of_segment rules) (followed_of rules state.keeps.follows (segments_of es)) state.streams
   pub links : keeps_all state.keeps ≡ true → LinksStandFor (noted rules es) state.links
   pub found : keeps_all state.keeps ≡ true → state.found.items ≡ newest_links rules es
 
@@ -167,7 +175,7 @@ pub record IsAfter (past : List Frame) (d : DissectorShown) : Type 0 where
 
 -- a dissector that keeps everything stands for the frames that it took
 unfoldable pub Stands : List Frame → DissectorShown → Type 0
-Stands past d = IsAfter past d × (keeps_all d.state.keeps ≡ true)
+Stands past d = IsAfter past d × (keeps_all d.state.keeps ≡ true) × (d.state.keeps.lets_go ≡ false)
 
 -- any dissector does so as far as the fields go that it was made for
 unfoldable pub StandsWithin : List Frame → DissectorShown → Type 0

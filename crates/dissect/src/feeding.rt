@@ -14,7 +14,7 @@ ghost use Rattle.dissect.specs.declared.ways.Carried.TheVariants as ways_carried
 
 use crate::carried::{Carried, Carrier, is_free, place_of};
 use crate::plain::{own, own_part};
-use crate::segments::segment_from;
+use crate::segments::{segment_from, take_into};
 use crate::state::{State, let_go};
 use crate::ways::{self, Last, packet_at};
 use app_layers::{StreamApp, application, framing, stream_app};
@@ -123,7 +123,12 @@ impl State {
         let packet = packet_at(frame, last.packet);
         let payload = own_part(frame, last.payload)?;
         let segment = segment_from(frame.number, &packet, head, payload);
-        let taken = self.streams.take(&segment, framing(app));
+        let taken = take_into(
+            &mut self.streams,
+            self.keeps.lets_go,
+            &segment,
+            framing(app),
+        );
         let_go(segment);
         match taken {
             Ok(met) => self.link_brought(

@@ -93,15 +93,19 @@ pub(crate) struct Keeping {
     pub follows: Follows,
     /// Whether conversations over UDP are numbered.
     pub numbers: bool,
+    /// Whether the bytes of streams are let go that no later message needs.
+    pub lets_go: bool,
 }
 
 impl Keeping {
     pub fn everything() -> Keeping
-        ensures { keeps_all result ≡ true }
+        ensures all { keeps_all result ≡ true }
+        ensures bytes { result.lets_go ≡ false }
     {
         Keeping {
             follows: Follows::Everything,
             numbers: true,
+            lets_go: false,
         }
     }
 
@@ -114,6 +118,7 @@ impl Keeping {
         Keeping {
             follows: followed_for_trees(wanted),
             numbers: true,
+            lets_go: false,
         }
     }
 
@@ -125,6 +130,7 @@ impl Keeping {
         Keeping {
             follows: followed_for_values(wanted),
             numbers: wanted.contains(ids::UDP_STREAM) || asks_links(wanted),
+            lets_go: true,
         }
     }
 

@@ -1,11 +1,16 @@
-ghost use Rattle.std.specs.Prelude.{◌≡◌, ◌+◌, ◌<◌, ◌^◌, All, Bool, true, List, [], length, IfOk, OnOk};
+ghost use Rattle.std.specs.Prelude.{◌≡◌, ◌+◌, ◌-◌, ◌<◌, ◌≤◌, ◌^◌, ◌∷◌, All, Bool, true, List, [], length, Option, IfOk, OnOk};
 ghost use Rattle.pk_base.specs.declared.heads.PacketHead.{PacketHead as PacketValue};
 ghost use Rattle.pk_base.specs.declared.heads.TcpHead.{TcpHead as TcpValue};
 ghost use Rattle.pk_fields.specs.declared.rules.PortRule.{PortRule as PortRuleValue};
 ghost use Rattle.pk_tree.specs.Buffers.{IsInside, bytes_of};
 ghost use Rattle.pk_fields.specs.Ids.{TCP};
-ghost use Rattle.tcp_streams.specs.Labels.{PassesNear};
-ghost use Rattle.tcp_messages.specs.Shown.{IsWholeIn, frames_told as gathered_from};
+ghost use Rattle.stream_messages.specs.declared.framer.Framer.{Framer as FramerValue};
+ghost use Rattle.tcp_streams.specs.declared.segment.Segment.{Segment as SegmentValue};
+ghost use Rattle.tcp_streams.specs.Labels.{PassesNear, taken_after};
+ghost use Rattle.tcp_streams.specs.Standing.{bytes_so_far, taken_so_far};
+ghost use Rattle.tcp_messages.specs.Readers.{IsOfEnds};
+ghost use Rattle.tcp_messages.specs.Shown.{IsWholeIn, frames_told as gathered_from, shown_after};
+ghost use Rattle.tcp_messages.specs.Standing.{streams_in};
 ghost use Rattle.dissect.specs.Events.{Event};
 ghost use Rattle.app_layers.specs.FrameLayer.{is_cut};
 ghost use Rattle.message_links.specs.Notes.{shown_notes, tcp_direction};
@@ -13,7 +18,7 @@ ghost use Rattle.app_layers.specs.MessageLayers.{app_of_segment, application, ca
 ghost use Rattle.app_layers.specs.Payloads.{LastIs, carried_told, segment_told};
 ghost use Rattle.dissect.specs.Keeping.{is_followed, keeps_all, tells_places};
 ghost use Rattle.dissect.specs.Segments.{segment_from};
-ghost use Rattle.dissect.specs.Stands.{StandsAt, IsWalked, IsReady, IsLinked, IsSameButLinks, AddsAtMost, AddsFew, AddsOneThenEnds};
+ghost use Rattle.dissect.specs.Stands.{StandsAt, StreamsStand, IsWalked, IsReady, IsLinked, IsSameButLinks, AddsAtMost, AddsFew, AddsOneThenEnds};
 ghost use Rattle.dissect.specs.Walks.{IsTodoInside, segment_met};
 
 use crate::state::{State, let_go};
@@ -26,7 +31,8 @@ use capture_read::Frame;
 use pk_base::{Endpoint, NoMemory, Octets, PacketHead, Span, TcpHead};
 use pk_fields::PortRule;
 use pk_tree::TreeBuilder;
-use tcp_messages::Met;
+use stream_messages::Framer;
+use tcp_messages::{MessageStreams, Met};
 use tcp_streams::{Segment, Taken};
 
 impl State {
@@ -160,8 +166,7 @@ impl State {
         ensures adds { OnOk result (AddsOneThenEnds span.len self.old self.new Todo.Done) }
         ensures added { AddsAtMost 1 self.old self.new }
     {
-        let _streams = self.streams.streams();
-        let met = self.streams.take(segment, framing(app))?;
+        let met = take_into(&mut self.streams, self.keeps.lets_go, segment, framing(app))?;
         match self.show_met(frame, &met, app, segment.payload.bytes(), span, tree) {
             Ok(()) => {
                 let_go(met);
@@ -203,6 +208,40 @@ impl State {
         self.link_segment(frame.number, met, application(app), payload)?;
         tell_segment(&met.taken, span, tree)?;
         add_carried(app, met, is_cut(frame), span, tree)
+    }
+}
+
+/// Takes a segment into its stream, of which those bytes may be let go that no later message needs.
+pub(crate) fn take_into(
+    streams: &mut MessageStreams,
+    lets_go: bool,
+    segment: &Segment,
+    framer: Option<Framer>,
+) -> Result<Met, NoMemory>
+    requires taken { taken_so_far (streams_in streams.old) < 2 ^ 32 - 1 }
+    requires bytes { bytes_so_far (streams_in streams.old) + length segment.now.payload < 2 ^ 32 }
+    ensures taken { IfOk result (λ met. (framer_of : SegmentValue → Option FramerValue)
+        (past : List SegmentValue) → StreamsStand lets_go framer_of past streams.old
+        → met.taken ≡ taken_after past segment.now) }
+    ensures shown { IfOk result (λ met. (framer_of : SegmentValue → Option FramerValue)
+        (past : List SegmentValue) → IsOfEnds framer_of → framer ≡ framer_of segment.now
+        → StreamsStand lets_go framer_of past streams.old
+        → met.messages ≡ shown_after framer past segment.now) }
+    ensures stands { OnOk result ((framer_of : SegmentValue → Option FramerValue)
+        (past : List SegmentValue) → IsOfEnds framer_of → framer ≡ framer_of segment.now
+        → StreamsStand lets_go framer_of past streams.old
+        → StreamsStand lets_go framer_of (segment.now ∷ past) streams.new) }
+    ensures frames { IfOk result (λ met. met.frames ≡ gathered_from met.messages) }
+    ensures whole { IfOk result (λ met. All (IsWholeIn segment.now.payload) met.messages) }
+    ensures near { IfOk result (λ met. PassesNear met.taken) }
+    ensures counted { taken_so_far (streams_in streams.new) ≤ taken_so_far (streams_in streams.old) + 1 }
+    ensures bytes { bytes_so_far (streams_in streams.new)
+        ≤ bytes_so_far (streams_in streams.old) + length segment.now.payload }
+{
+    if lets_go {
+        streams.take_and_let_go(segment, framer)
+    } else {
+        streams.take(segment, framer)
     }
 }
 

@@ -13,7 +13,7 @@ pub(crate) struct State {
     pub udp: Conversations,
     /// The streams of TCP by their numbers, where places alone are asked.
     pub places: StreamPlaces,
-    /// The streams of TCP, and their messages: of the segments that are taken.
+    /// The streams of TCP, and their messages: of the segments that are taken. Bytes of theirs may be let go.
     pub streams: MessageStreams,
     /// What links ask of the messages that frames showed, where everything is kept.
     pub links: Links,

@@ -12,12 +12,13 @@ unfolding Stands
 returns-clause-streams c = λ past stands.
     let d = c.args.self.now in
     c.streams.ensures.stands (framer_of_segment d.decode.rules) (segments_of (events_of past))
-    (subst (λ (x : DissectorShown). ReadsFor (framer_of_segment d.decode.rules) (segments_of (events_of past)) x.state.streams) (sym c.self.view_is) (streams_of_all d past stands.0 stands.1))
+    (subst (λ (x : DissectorShown). ReadsFor (framer_of_segment d.decode.rules) (segments_of (events_of past)) x.state.streams) (sym c.self.view_is) (streams_of_all d past stands.0 stands.1 stands.2))
 
 pub returns-clause-within : goal.returns-clause-within
 unfolding StandsWithin
 returns-clause-within c = λ asked unsparing past stands.
     let d = c.args.self.now in
+    let kept : IsKept d = subst IsKept c.self.view_is c.self.invariant.0 in
     c.streams.ensures.stands (framer_of_segment d.decode.rules) (segments_of (events_of past))
     (subst (λ (x : DissectorShown). ReadsFor (framer_of_segment d.decode.rules) (segments_of (events_of past)) x.state.streams) (sym c.self.view_is)
-    (streams_of_all d past stands (all_asked d (subst IsKept c.self.view_is c.self.invariant.0) asked unsparing)))
+    (streams_of_all d past stands (all_asked d kept asked unsparing) (kept.whole unsparing).bytes))

@@ -18,8 +18,8 @@ use Rattle.dissect.proofs.PlainWay.{short_inside}
 use Rattle.dissect.proofs.Shrinking.{bytes_short}
 use Rattle.dissect.proofs.state.State.feed_segment.Goals as goal
 
-pub take-taken-requires-clause-bytes : goal.take-taken-requires-clause-bytes
-take-taken-requires-clause-bytes c =
+pub take_into-taken-requires-clause-bytes : goal.take_into-taken-requires-clause-bytes
+take_into-taken-requires-clause-bytes c =
     let bytes = c.args.frame.now.bytes in
     let span = c.args.last.now.payload in
     omega (
@@ -53,7 +53,7 @@ returns-in-Ok-clause-fed c =
     let brought : Brought = record { met = c.in-Ok.met; app = c.args.app; payload = last.payload } in
     let begun : State = c.begin_frame.new.self in
     let new : State = c.link_brought.new.self in
-    let streams = c.take-taken.new.self in
+    let streams = c.take_into-taken.new.streams in
     met_ok frame brought (record begun { streams = streams }) new _ c.link_brought.result c.link_brought.ensures.fed c.link_brought.ensures.met
     (λ met rules passes app_is.
     let framer_is = c.framing.ensures ∙ ap framing (app_is ∙ ap (app_of_segment rules) (sym segment_is)) in
@@ -65,7 +65,7 @@ returns-in-Ok-clause-fed c =
       followed = c.requires.follows;
       begins = c.begin_frame.ensures.stands rules;
       keeps = c.begin_frame.ensures.adds.keeps;
-      taken_is = c.in-Ok.ensures.taken;
+      taken_is = λ past reads. c.in-Ok.ensures.taken (framer_of_segment rules) past reads;
       messages_is = λ past reads. c.in-Ok.ensures.shown (framer_of_segment rules) past (framers_of_ends rules) framer_is reads ∙ ap (λ (framer : Option Framer). shown_after framer past segment) framer_is;
       kept = λ past reads. c.in-Ok.ensures.stands (framer_of_segment rules) past (framers_of_ends rules) framer_is reads;
       same = c.link_brought.ensures.same;
@@ -85,7 +85,7 @@ returns-in-Ok-clause-kept c =
     (λ met. omega (
       arith,
       c.begin_frame.ensures.kept,
-      c.take-taken.ensures.bytes,
+      c.take_into-taken.ensures.bytes,
       c.link_brought.ensures.kept,
       bytes_short (bytes ∷ []) span c.segment_from-segment.result.payload (ap (λ (s : Segment). s.payload) c.segment_from-segment.ensures ∙ c.in_ok-payload.ensures),
       short_inside bytes span c.requires.inside,
