@@ -1,12 +1,12 @@
-ghost use Rattle.std.specs.Prelude.{◌≡◌, ◌≤◌, ◌<◌, ◌+◌, ◌^◌, [], ◌∷◌, ◌++◌, List, length, map, take, drop, All, IfOk, OnOk};
+ghost use Rattle.std.specs.Prelude.{◌≡◌, ◌≤◌, ◌<◌, ◌+◌, ◌^◌, [], ◌∷◌, ◌++◌, List, length, map, take, drop, All, Some, IfOk, OnOk};
 ghost use Rattle.std.specs.Str.{str_eq_ignore_ascii_case};
 ghost use Rattle.httparse.specs.Grammar.{Field, print_version};
 ghost use Rattle.httparse.specs.Spans.{IsHeaderWithin};
 ghost use Rattle.pk_base.specs.declared.value.Value.TheVariants.{Text};
 ghost use Rattle.pk_tree.specs.declared.layout.Step.TheVariants.{Made, Part as Row};
-ghost use Rattle.stream_messages.specs.Heads.{head_of};
+ghost use Rattle.stream_messages.specs.Heads.{Head, head_of};
 ghost use Rattle.stream_messages.specs.Limits.{head_limit};
-ghost use Rattle.stream_messages.specs.Places.{AreLinesAt};
+ghost use Rattle.stream_messages.specs.Places.{AreLinesAt, IsHeadAt};
 ghost use Rattle.dis_http.specs.Heads.{fields_told, further_field, head_rows, told_step, value_field};
 ghost use Rattle.dis_http.specs.Steps.{field_steps, line_steps};
 
@@ -15,7 +15,10 @@ use pk_base::{HTTP_FIELD_LIMIT, NoMemory, Octets, Value};
 use pk_fields::{FieldId, ids};
 use pk_tree::Step;
 use std::alloc::Global;
-use stream_messages::{FieldPlaces, HeadPlaces, Part, StartLine, field_places, head_places};
+use stream_messages::{
+    FEW_FIELDS, FieldPlaces, HeadPlaces, Part, StartLine, field_places, head_places,
+    head_places_within,
+};
 
 /// Adds the steps of a head's start line and field lines.
 #[tactic(auto, unfolding(stream_messages::specs::Limits::field_limit))]
@@ -23,14 +26,42 @@ pub(crate) fn push_head(alloc: Global, steps: &mut Vec<Step>, head: &[u8]) -> Re
     requires { length head.now ≤ head_limit }
     ensures { OnOk result (steps.new.items ≡ steps.old.items ++ head_rows (head_of head.now)) }
 {
+    let mut few = [EMPTY_HEADER_SPAN; FEW_FIELDS];
+    match head_places_within(head, &mut few) {
+        Some(places) => push_places(alloc, steps, head, &few, places),
+        None => push_head_of_many(alloc, steps, head),
+    }
+}
+
+/// The same with room for the most fields that a head may have.
+#[tactic(auto, unfolding(stream_messages::specs::Limits::field_limit))]
+fn push_head_of_many(alloc: Global, steps: &mut Vec<Step>, head: &[u8]) -> Result<(), NoMemory>
+    requires { length head.now ≤ head_limit }
+    ensures { OnOk result (steps.new.items ≡ steps.old.items ++ head_rows (head_of head.now)) }
+{
     let mut headers = [EMPTY_HEADER_SPAN; HTTP_FIELD_LIMIT];
     match head_places(head, &mut headers) {
-        Some(places) => {
-            push_line(alloc, steps, places.line, places.minor)?;
-            push_fields(steps, head, &headers[..places.count], places.next)
-        }
+        Some(places) => push_places(alloc, steps, head, &headers, places),
         None => Ok(()),
     }
+}
+
+/// Adds the steps of a head that was read.
+fn push_places(
+    alloc: Global,
+    steps: &mut Vec<Step>,
+    head: &[u8],
+    headers: &[HeaderSpan],
+    places: HeadPlaces,
+) -> Result<(), NoMemory>
+    requires short { length head.now ≤ head_limit }
+    requires is { (h : Head) × (head_of head.now ≡ Some h) × IsHeadAt head.now headers.now h places }
+    requires minor { places.minor ≤ 1 }
+    requires bound { places.next ≤ length head.now }
+    ensures { OnOk result (steps.new.items ≡ steps.old.items ++ head_rows (head_of head.now)) }
+{
+    push_line(alloc, steps, places.line, places.minor)?;
+    push_fields(steps, head, &headers[..places.count], places.next)
 }
 
 /// Adds the steps of a start line.

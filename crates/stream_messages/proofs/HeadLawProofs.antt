@@ -1,15 +1,16 @@
 -- The laws of the head at the front of bytes.
 use Rattle.std.proofs.Common.{◌≡◌, ℕ, ◌+◌, ◌≤◌, ◌<◌, Bool, true, false, List, [], ◌∷◌, ◌++◌, length, take, drop, refl, sym, ap, ◌∙◌, subst, arith, take-append-drop, get_or, ◌≢◌, Option, Some, None}
-use Rattle.std.specs.Prelude.{◌==◌, codes}
+use Rattle.std.specs.Prelude.{◌==◌, codes, IfSome, IfNone}
 use Rattle.std.specs.Option.{option_map}
 use Rattle.std.proofs.lemmas.Bool.{cond-true, cond-false, ne_eqb}
 use Rattle.std.proofs.lemmas.List.{take-append-le, drop_more, drop_all}
 use Rattle.httparse.specs.Grammar.{print_request, print_response}
 use Rattle.httparse.specs.Pieces.{is_newline}
 use Rattle.httparse.proofs.GrammarLemmas.{ReadsRequest-append, ReadsResponse-append}
-use Rattle.stream_messages.specs.Heads.{Head, Request, Response, print_head, behind, start_at, kind_by, is_request_at, request_of, response_of, head_by, head_of, StartsWith, HeadLaws}
+use Rattle.stream_messages.specs.Heads.{Head, Request, Response, print_head, fields_of, behind, start_at, kind_by, is_request_at, request_of, response_of, head_by, head_of, StartsWith, HeadLaws}
+use Rattle.stream_messages.specs.Limits.{field_limit}
 use Rattle.stream_messages.proofs.SplitLemmas.{request_start, response_start}
-use Rattle.stream_messages.proofs.HeadLemmas.{request_of-says, request_of-is, response_of-says, response_of-is, take-front}
+use Rattle.stream_messages.proofs.HeadLemmas.{none_of, request_of-says, request_of-is, response_of-says, response_of-is, take-front}
 
 module _ {A B : Type 0} (f : A → B) where
   pub mapped : (o : Option A) (b : B) → option_map f o ≡ Some b → (a : A) × (o ≡ Some a) × (f a ≡ b)
@@ -99,6 +100,23 @@ head_of-is bytes (Request h) rest s =
     ap (λ (o : Option Bool). head_by o bytes) s.reads.0 ∙ ap (option_map Request) (request_of-is bytes h rest s.reads.1 s.short s.few)
 head_of-is bytes (Response h) rest s =
     ap (λ (o : Option Bool). head_by o bytes) s.reads.0 ∙ ap (option_map Response) (response_of-is bytes h rest s.reads.1 s.short s.few)
+
+-- where there was room for the most that a head may have, there is none
+none_in_room : (bytes : List ℕ) (room : ℕ) → room ≡ field_limit → IfSome (head_of bytes) (λ h. room < length (fields_of h)) → head_of bytes ≡ None
+none_in_room bytes room is more = none_of (head_of bytes) λ h e.
+    let few : length (fields_of h) ≤ field_limit = (head_of-says bytes h e).few in
+    let here : room < length (fields_of h) = subst (λ (o : Option Head). IfSome o (λ h. room < length (fields_of h))) e more in
+    omega (arith, is, few, here)
+
+pub missed_in_room : {A : Type 0} (bytes : List ℕ) (room : ℕ) (found : Option A) → room ≡ field_limit → IfNone found (IfSome (head_of bytes) (λ h. room < length (fields_of h)))
+    → IfNone found (head_of bytes ≡ None)
+missed_in_room bytes room None is more = none_in_room bytes room is more
+missed_in_room bytes room (Some a) is more = tt
+
+pub found_in_room : {A : Type 0} (f : Head → A) (bytes : List ℕ) (room : ℕ) (found : Option A) → room ≡ field_limit → IfSome found (λ a. option_map f (head_of bytes) ≡ Some a)
+    → IfNone found (IfSome (head_of bytes) (λ h. room < length (fields_of h))) → found ≡ option_map f (head_of bytes)
+found_in_room f bytes room None is some none = sym (ap (option_map f) (none_in_room bytes room is none))
+found_in_room f bytes room (Some a) is some none = sym some
 
 starts-append : (bytes more : List ℕ) (h : Head) (rest : List ℕ) → StartsWith bytes h rest → StartsWith (bytes ++ more) h (rest ++ more)
 starts-append bytes more (Request h) rest s = record {

@@ -1,6 +1,6 @@
 -- What is found of a head is exactly the head that there is.
 use Rattle.std.proofs.Common.{◌≡◌, ℕ, ◌≤◌, Bool, true, false, IsTrue, ◌&&◌, List, [], ◌∷◌, ◌++◌, length, take, drop, refl, sym, ap, ◌∙◌, subst, arith, take-append-drop, length-append, length-take, append-nil, Option, Some, None}
-use Rattle.std.specs.Prelude.{nat_le, nat_lt, All, if◌then◌else◌}
+use Rattle.std.specs.Prelude.{◌<◌, nat_le, nat_lt, All, if◌then◌else◌, IfSome}
 use Rattle.std.specs.Bool.{Decides}
 use Rattle.std.specs.List.{list_all}
 use Rattle.std.specs.Char.{is_ascii_digit}
@@ -139,9 +139,14 @@ response_of-is bytes h rest reads short few =
 
 -- ---- what the parser answers
 
-pub none_of : {A : Type 0} (o : Option A) → ((a : A) → o ≡ Some a → ⊥) → o ≡ None
-none_of None never = refl
-none_of (Some a) never = absurd (never a refl)
+module _ {A : Type 0} where
+  pub none_of : (o : Option A) → ((a : A) → o ≡ Some a → ⊥) → o ≡ None
+  none_of None never = refl
+  none_of (Some a) never = absurd (never a refl)
+
+  if_some : (o : Option A) (P : A → Type 0) → ((a : A) → o ≡ Some a → P a) → IfSome o P
+  if_some None P each = tt
+  if_some (Some a) P each = each a refl
 
 fits_whole : (bytes front rest : List ℕ) (n : ℕ) → bytes ≡ front ++ rest → length bytes ≤ n → length front ≤ n
 fits_whole bytes front rest n e short = omega (arith, ap length e, length-append front rest)
@@ -151,31 +156,29 @@ counted bytes headers count fields are =
     omega (arith, ap length are, length-map (take count headers) (header_bytes bytes), length-map fields name_and_value, length-take count headers)
 
 pub request_complete : (bytes : List ℕ) (headers : List HeaderSpan) (r : RequestSpans) (h : RequestHead) → IsRequestAt bytes headers r h
-    → length headers ≡ field_limit → length bytes ≤ head_limit → request_of bytes ≡ Some h
+    → length headers ≤ field_limit → length bytes ≤ head_limit → request_of bytes ≡ Some h
 request_complete bytes headers r h at room short =
     request_of-is bytes h _ at.reads (fits_whole bytes (print_request h) _ head_limit at.reads.1 short)
-    (subst (λ (n : ℕ). length h.fields ≤ n) room (counted bytes headers r.headers h.fields at.fields))
+    (omega (arith, room, counted bytes headers r.headers h.fields at.fields))
 
-pub request_refused : (bytes : List ℕ) → HasNoRequest bytes → request_of bytes ≡ None
-request_refused bytes never = none_of (request_of bytes) (λ h e. never h _ (request_of-says bytes h e).0)
+pub request_refused : (room : ℕ) (bytes : List ℕ) → HasNoRequest bytes → IfSome (request_of bytes) (λ h. room < length h.fields)
+request_refused room bytes never = if_some (request_of bytes) (λ h. room < length h.fields) (λ h e. absurd (never h _ (request_of-says bytes h e).0))
 
-pub request_over : (bytes : List ℕ) (room : ℕ) → room ≡ field_limit → RequestOverflows room bytes → request_of bytes ≡ None
-request_over bytes room is over = none_of (request_of bytes) λ h e.
+pub request_over : (room : ℕ) (bytes : List ℕ) → RequestOverflows room bytes → IfSome (request_of bytes) (λ h. room < length h.fields)
+request_over room bytes over = if_some (request_of bytes) (λ h. room < length h.fields) λ h e.
     let says = request_of-says bytes h e in
-    let more = over [] h (drop (length (print_request h)) bytes) (says.0.0, append-nil bytes ∙ says.0.1) in
-    let few = says.2 in omega arith
+    over [] h (drop (length (print_request h)) bytes) (says.0.0, append-nil bytes ∙ says.0.1)
 
 pub response_complete : (bytes : List ℕ) (headers : List HeaderSpan) (r : ResponseSpans) (h : ResponseHead) → IsResponseAt bytes headers r h
-    → length headers ≡ field_limit → length bytes ≤ head_limit → response_of bytes ≡ Some h
+    → length headers ≤ field_limit → length bytes ≤ head_limit → response_of bytes ≡ Some h
 response_complete bytes headers r h at room short =
     response_of-is bytes h _ at.reads (fits_whole bytes (print_response h) _ head_limit at.reads.1 short)
-    (subst (λ (n : ℕ). length h.fields ≤ n) room (counted bytes headers r.headers h.fields at.fields))
+    (omega (arith, room, counted bytes headers r.headers h.fields at.fields))
 
-pub response_refused : (bytes : List ℕ) → HasNoResponse bytes → response_of bytes ≡ None
-response_refused bytes never = none_of (response_of bytes) (λ h e. never h _ (response_of-says bytes h e).0)
+pub response_refused : (room : ℕ) (bytes : List ℕ) → HasNoResponse bytes → IfSome (response_of bytes) (λ h. room < length h.fields)
+response_refused room bytes never = if_some (response_of bytes) (λ h. room < length h.fields) (λ h e. absurd (never h _ (response_of-says bytes h e).0))
 
-pub response_over : (bytes : List ℕ) (room : ℕ) → room ≡ field_limit → ResponseOverflows room bytes → response_of bytes ≡ None
-response_over bytes room is over = none_of (response_of bytes) λ h e.
+pub response_over : (room : ℕ) (bytes : List ℕ) → ResponseOverflows room bytes → IfSome (response_of bytes) (λ h. room < length h.fields)
+response_over room bytes over = if_some (response_of bytes) (λ h. room < length h.fields) λ h e.
     let says = response_of-says bytes h e in
-    let more = over [] h (drop (length (print_response h)) bytes) (says.0.0, append-nil bytes ∙ says.0.1) in
-    let few = says.2 in omega arith
+    over [] h (drop (length (print_response h)) bytes) (says.0.0, append-nil bytes ∙ says.0.1)

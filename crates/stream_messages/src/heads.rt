@@ -1,4 +1,4 @@
-ghost use Rattle.std.specs.Prelude.{◌≡◌, ◌≤◌, ℕ, List, length, IfSome, IfNone, Some, None, drop};
+ghost use Rattle.std.specs.Prelude.{◌≡◌, ◌<◌, ◌≤◌, ℕ, List, length, IfSome, IfNone, Some, None, drop};
 ghost use Rattle.std.specs.List.{prefix_len};
 ghost use Rattle.httparse.specs.Pieces.{is_newline};
 ghost use Rattle.httparse.specs.Grammar.{RequestHead, ResponseHead};
@@ -66,14 +66,14 @@ pub(crate) fn tail(bytes: &[u8], from: usize) -> &[u8]
     }
 }
 
-/// The request's head at the front of bytes.
+/// The request's head at the front of bytes, where there is room for its fields.
 pub(crate) fn find_request(bytes: &[u8], headers: &mut [HeaderSpan]) -> Option<RequestSpans>
     requires short { length bytes.now ≤ head_limit }
-    requires room { length headers.old ≡ field_limit }
+    requires room { length headers.old ≤ field_limit }
     ensures within { IfSome result (IsRequestWithin bytes.now headers.new) }
     ensures some { IfSome result (λ spans. (h : RequestHead) × (request_of bytes.now ≡ Some h)
         × IsRequestAt bytes.now headers.new spans h) }
-    ensures none { IfNone result (request_of bytes.now ≡ None) }
+    ensures none { IfNone result (IfSome (request_of bytes.now) (λ h. length headers.old < length h.fields)) }
 {
     match parse_request(bytes, headers) {
         Ok(Status::Complete(spans)) => Some(spans),
@@ -82,14 +82,14 @@ pub(crate) fn find_request(bytes: &[u8], headers: &mut [HeaderSpan]) -> Option<R
     }
 }
 
-/// The response's head at the front of bytes.
+/// The response's head at the front of bytes, where there is room for its fields.
 pub(crate) fn find_response(bytes: &[u8], headers: &mut [HeaderSpan]) -> Option<ResponseSpans>
     requires short { length bytes.now ≤ head_limit }
-    requires room { length headers.old ≡ field_limit }
+    requires room { length headers.old ≤ field_limit }
     ensures within { IfSome result (IsResponseWithin bytes.now headers.new) }
     ensures some { IfSome result (λ spans. (h : ResponseHead) × (response_of bytes.now ≡ Some h)
         × IsResponseAt bytes.now headers.new spans h) }
-    ensures none { IfNone result (response_of bytes.now ≡ None) }
+    ensures none { IfNone result (IfSome (response_of bytes.now) (λ h. length headers.old < length h.fields)) }
 {
     match parse_response(bytes, headers) {
         Ok(Status::Complete(spans)) => Some(spans),

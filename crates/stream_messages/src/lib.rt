@@ -27,9 +27,12 @@ pub use cutting::{Shown, cut_messages};
 pub use framer::Framer;
 pub use heads::head_laws;
 pub use laws::{cursor_laws, first_laws, new_laws, prefix_law, side_laws, stretch_law};
+pub use limits::FEW_FIELDS;
 pub use message::{Framed, begin_law, chunk_laws, message_laws, next_message};
 pub use placed::{Placed, PlacedList};
-pub use places::{FieldPlaces, HeadPlaces, Part, StartLine, field_places, head_places};
+pub use places::{
+    FieldPlaces, HeadPlaces, Part, StartLine, field_places, head_places, head_places_within,
+};
 pub use progress::{ChunkProgress, Framing, HeadProgress, Progress};
 pub use resuming::resume;
 pub use shape::{Body, Piece, PieceList, Shape, Then};

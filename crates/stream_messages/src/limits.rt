@@ -6,6 +6,9 @@ use pk_base::{BODY_LIMIT, CHUNK_LINE_LIMIT, HTTP_HEAD_LIMIT, TRAILER_LIMIT};
 /// More lines than a list of chunks within the limits can have.
 const TURN_LIMIT: usize = BODY_LIMIT as usize + TRAILER_LIMIT + 2;
 
+/// The field lines of most heads. Room for the most that a head may have takes long to clear.
+pub const FEW_FIELDS: usize = 32;
+
 /// The bytes of a head.
 #[tactic(auto, unfolding(crate::specs::Limits::head_limit))]
 pub(crate) fn head_limit() -> usize

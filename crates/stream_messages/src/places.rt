@@ -1,9 +1,9 @@
-ghost use Rattle.std.specs.Prelude.{◌≡◌, ◌≤◌, ◌-◌, ◌++◌, ℕ, List, length, drop, IfSome, IfNone, Some, None};
+ghost use Rattle.std.specs.Prelude.{◌≡◌, ◌<◌, ◌≤◌, ◌-◌, ◌++◌, ℕ, List, length, drop, IfSome, IfNone, Some, None};
 ghost use Rattle.std.specs.List.{prefix_len};
 ghost use Rattle.httparse.specs.Grammar.{is_ows, Field, IsField, RequestHead, ResponseHead, print_field};
 ghost use Rattle.httparse.specs.Spans.{IsHeaderWithin, header_bytes, name_and_value};
 ghost use Rattle.stream_messages.specs.Limits.{field_limit, head_limit};
-ghost use Rattle.stream_messages.specs.Heads.{Head, Request, Response, head_of, request_of, response_of};
+ghost use Rattle.stream_messages.specs.Heads.{Head, Request, Response, fields_of, head_of, request_of, response_of};
 ghost use Rattle.stream_messages.specs.Places.{IsHeadAt, behind_feed, field_places, is_in_line};
 
 use crate::heads::{find_request, find_response, is_request_at, newlines, tail};
@@ -49,13 +49,26 @@ pub struct FieldPlaces {
 }
 
 /// Reads the head at the front of bytes. The spans of its field lines' names and values are written to the front of `headers`.
-#[tactic(auto, unfolding(crate::specs::Heads::head_of))]
 pub fn head_places(bytes: &[u8], headers: &mut [HeaderSpan]) -> Option<HeadPlaces>
     requires short { length bytes.now ≤ head_limit }
     requires room { length headers.old ≡ field_limit }
     ensures some { IfSome result (λ places. (h : Head) × (head_of bytes.now ≡ Some h)
         × IsHeadAt bytes.now headers.new h places) }
     ensures none { IfNone result (head_of bytes.now ≡ None) }
+    ensures minor { IfSome result (λ places. places.minor ≤ 1) }
+    ensures bound { IfSome result (λ places. places.next ≤ length bytes.now) }
+{
+    head_places_within(bytes, headers)
+}
+
+/// The same of a head whose fields have room in `headers`: of one with more it finds none.
+#[tactic(auto, unfolding(crate::specs::Heads::head_of))]
+pub fn head_places_within(bytes: &[u8], headers: &mut [HeaderSpan]) -> Option<HeadPlaces>
+    requires short { length bytes.now ≤ head_limit }
+    requires room { length headers.old ≤ field_limit }
+    ensures some { IfSome result (λ places. (h : Head) × (head_of bytes.now ≡ Some h)
+        × IsHeadAt bytes.now headers.new h places) }
+    ensures none { IfNone result (IfSome (head_of bytes.now) (λ h. length headers.old < length (fields_of h))) }
     ensures minor { IfSome result (λ places. places.minor ≤ 1) }
     ensures bound { IfSome result (λ places. places.next ≤ length bytes.now) }
 {
@@ -68,10 +81,10 @@ pub fn head_places(bytes: &[u8], headers: &mut [HeaderSpan]) -> Option<HeadPlace
 
 fn request_places(bytes: &[u8], headers: &mut [HeaderSpan]) -> Option<HeadPlaces>
     requires short { length bytes.now ≤ head_limit }
-    requires room { length headers.old ≡ field_limit }
+    requires room { length headers.old ≤ field_limit }
     ensures some { IfSome result (λ places. (h : RequestHead) × (request_of bytes.now ≡ Some h)
         × IsHeadAt bytes.now headers.new (Request h) places) }
-    ensures none { IfNone result (request_of bytes.now ≡ None) }
+    ensures none { IfNone result (IfSome (request_of bytes.now) (λ h. length headers.old < length h.fields)) }
     ensures minor { IfSome result (λ places. places.minor ≤ 1) }
     ensures bound { IfSome result (λ places. places.next ≤ length bytes.now) }
 {
@@ -95,10 +108,10 @@ fn request_places(bytes: &[u8], headers: &mut [HeaderSpan]) -> Option<HeadPlaces
 
 fn response_places(bytes: &[u8], headers: &mut [HeaderSpan]) -> Option<HeadPlaces>
     requires short { length bytes.now ≤ head_limit }
-    requires room { length headers.old ≡ field_limit }
+    requires room { length headers.old ≤ field_limit }
     ensures some { IfSome result (λ places. (h : ResponseHead) × (response_of bytes.now ≡ Some h)
         × IsHeadAt bytes.now headers.new (Response h) places) }
-    ensures none { IfNone result (response_of bytes.now ≡ None) }
+    ensures none { IfNone result (IfSome (response_of bytes.now) (λ h. length headers.old < length h.fields)) }
     ensures minor { IfSome result (λ places. places.minor ≤ 1) }
     ensures bound { IfSome result (λ places. places.next ≤ length bytes.now) }
 {

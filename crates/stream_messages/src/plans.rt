@@ -1,14 +1,14 @@
-ghost use Rattle.std.specs.Prelude.{◌≡◌, ◌≤◌, ◌<◌, length, map, All, IfSome};
+ghost use Rattle.std.specs.Prelude.{◌≡◌, ◌≤◌, ◌<◌, length, map, All, IfSome, IfNone, Some};
 ghost use Rattle.std.specs.Option.{option_map};
 ghost use Rattle.httparse.specs.Spans.{IsHeaderWithin, header_bytes};
 ghost use Rattle.stream_messages.specs.Limits.{body_limit as body_limit_is, field_limit, head_limit};
-ghost use Rattle.stream_messages.specs.Heads.{head_of, Request, Response, request_of, response_of};
+ghost use Rattle.stream_messages.specs.Heads.{fields_of, head_of, Request, Response, request_of, response_of};
 ghost use Rattle.stream_messages.specs.Plans.{by_code, by_fields, by_lengths, is_bare, is_interim, planned};
 ghost use Rattle.stream_messages.specs.PlanFacts.{IsShort, PlanFits};
 
 use crate::heads::{find_request, find_response, is_request_at};
 use crate::lengths::{Lengths, is_chunked, last_of_name, lengths_of};
-use crate::limits::body_limit;
+use crate::limits::{FEW_FIELDS, body_limit};
 use httparse::spans::{EMPTY_HEADER_SPAN, HeaderSpan};
 use pk_base::HTTP_FIELD_LIMIT;
 
@@ -48,24 +48,51 @@ pub(crate) struct Planned {
 }
 
 /// Reads the head at the front of bytes. A response is to HEAD where it is `asked`.
-#[tactic(auto, unfolding(crate::specs::Heads::head_of, crate::specs::Limits::field_limit))]
+#[tactic(auto, unfolding(crate::specs::Limits::field_limit))]
 pub(crate) fn plan_in(asked: bool, bytes: &[u8]) -> Option<Planned>
     requires { length bytes.now ≤ head_limit }
     ensures value { result ≡ option_map (planned asked) (head_of bytes.now) }
     ensures fits { IfSome result (PlanFits (length bytes.now)) }
 {
+    let mut few = [EMPTY_HEADER_SPAN; FEW_FIELDS];
+    match plan_within(asked, bytes, &mut few) {
+        Some(planned) => Some(planned),
+        None => plan_of_many(asked, bytes),
+    }
+}
+
+/// The same with room for the most fields that a head may have.
+#[tactic(auto, unfolding(crate::specs::Limits::field_limit))]
+fn plan_of_many(asked: bool, bytes: &[u8]) -> Option<Planned>
+    requires { length bytes.now ≤ head_limit }
+    ensures value { result ≡ option_map (planned asked) (head_of bytes.now) }
+    ensures fits { IfSome result (PlanFits (length bytes.now)) }
+{
     let mut headers = [EMPTY_HEADER_SPAN; HTTP_FIELD_LIMIT];
+    plan_within(asked, bytes, &mut headers)
+}
+
+/// The same where there is room for the head's fields.
+#[tactic(auto, unfolding(crate::specs::Heads::head_of))]
+fn plan_within(asked: bool, bytes: &[u8], headers: &mut [HeaderSpan]) -> Option<Planned>
+    requires short { length bytes.now ≤ head_limit }
+    requires room { length headers.old ≤ field_limit }
+    ensures some { IfSome result (λ p. option_map (planned asked) (head_of bytes.now) ≡ Some p) }
+    ensures none { IfNone result (IfSome (head_of bytes.now) (λ h. length headers.old < length (fields_of h))) }
+    ensures fits { IfSome result (PlanFits (length bytes.now)) }
+{
     match is_request_at(bytes) {
         None => None,
-        Some(true) => plan_request(asked, bytes, &mut headers),
-        Some(false) => plan_response(asked, bytes, &mut headers),
+        Some(true) => plan_request(asked, bytes, headers),
+        Some(false) => plan_response(asked, bytes, headers),
     }
 }
 
 fn plan_request(asked: bool, bytes: &[u8], headers: &mut [HeaderSpan]) -> Option<Planned>
     requires short { length bytes.now ≤ head_limit }
-    requires room { length headers.old ≡ field_limit }
-    ensures value { result ≡ option_map (λ h. planned asked (Request h)) (request_of bytes.now) }
+    requires room { length headers.old ≤ field_limit }
+    ensures some { IfSome result (λ p. option_map (λ h. planned asked (Request h)) (request_of bytes.now) ≡ Some p) }
+    ensures none { IfNone result (IfSome (request_of bytes.now) (λ h. length headers.old < length h.fields)) }
     ensures fits { IfSome result (PlanFits (length bytes.now)) }
 {
     let spans = find_request(bytes, headers)?;
@@ -81,8 +108,9 @@ fn plan_request(asked: bool, bytes: &[u8], headers: &mut [HeaderSpan]) -> Option
 
 fn plan_response(asked: bool, bytes: &[u8], headers: &mut [HeaderSpan]) -> Option<Planned>
     requires short { length bytes.now ≤ head_limit }
-    requires room { length headers.old ≡ field_limit }
-    ensures value { result ≡ option_map (λ h. planned asked (Response h)) (response_of bytes.now) }
+    requires room { length headers.old ≤ field_limit }
+    ensures some { IfSome result (λ p. option_map (λ h. planned asked (Response h)) (response_of bytes.now) ≡ Some p) }
+    ensures none { IfNone result (IfSome (response_of bytes.now) (λ h. length headers.old < length h.fields)) }
     ensures fits { IfSome result (PlanFits (length bytes.now)) }
 {
     let spans = find_response(bytes, headers)?;

@@ -10,7 +10,7 @@ returns-in-Ok-Complete-clause-some c =
 pub returns-in-Ok-Partial-clause-none : goal.returns-in-Ok-Partial-clause-none
 returns-in-Ok-Partial-clause-none c =
     let never = rw c.in-Ok-Partial.field-0-is at c.in-Ok-Partial.ensures.partial in
-    response_refused _ never
+    response_refused _ _ never
 
 pub returns-in-Err-clause-none : goal.returns-in-Err-clause-none
-returns-in-Err-clause-none c = response_over _ _ c.requires.room c.in-Err.ensures.no_room
+returns-in-Err-clause-none c = response_over _ _ c.in-Err.ensures.no_room
