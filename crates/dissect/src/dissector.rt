@@ -3,6 +3,7 @@ ghost use Rattle.capture_read.specs.declared.frame.Frame.{Frame as FrameValue};
 ghost use Rattle.pk_source.specs.Outlines.{IsOutline, outlined};
 ghost use Rattle.pk_tree.specs.Trees.{IsKept as IsKeptTree, IsTree, kept_tree};
 ghost use Rattle.app_layers.specs.Aside.{LacksOnly};
+ghost use Rattle.pk_fields.specs.FieldSets.{every_field};
 ghost use Rattle.pk_fields.specs.Rules.{AreRules};
 ghost use Rattle.dissect.specs.Conversations.{udp_opened};
 ghost use Rattle.dissect.specs.Events.{Event};
@@ -109,7 +110,7 @@ impl Drop for Dissector {
 }
 
 impl Dissector {
-    /// A dissector that has taken no frame yet.
+    /// A dissector that has taken no frame yet, for whole trees.
     #[tactic(auto, unfolding(crate::specs::Stands::Stands))]
     pub fn new(alloc: Global, decode: DecodeAs) -> Dissector
         requires rules { AreRules decode.rules }
@@ -118,6 +119,7 @@ impl Dissector {
         ensures spent { result.spent ≡ false }
         ensures rules { result.decode ≡ decode }
         ensures whole { result.sparing ≡ false }
+        ensures wanted { result.wanted ≡ every_field }
     {
         Dissector::keeping(alloc, decode, FieldSet::all(), Keeping::everything(), false)
     }
@@ -221,57 +223,17 @@ impl Dissector {
             → (past : List FrameValue) → StandsWithin past self.now
             → StandsFor (segments_of (events_of past)) result.now }
         ensures few { (past : List FrameValue) → StandsWithin past self.now → taken_so_far result.now ≤ self.now.taken }
+        ensures whole { asks_streams self.now.wanted ≡ true → self.now.sparing ≡ false
+            → (past : List FrameValue) → StandsWithin past self.now → Stands past self.now }
     {
         self.state.streams.streams()
     }
 
-    /// The tree of the next frame, given those that were taken before. Frames are taken in the order of their numbers,
-    /// from 1.
-    pub fn take(&mut self, frame: &Frame) -> Result<Tree, TakeFault>
-        requires number { frame.now.number ≡ self.old.taken + 1 }
-        requires time { IfSome frame.now.time IsTime }
-        requires captured { self.old.captured + length frame.now.bytes ≤ 2 ^ 28 }
-        ensures spent { result ≡ Err TakeFault.Spent ↔ self.old.spent ≡ true }
-        ensures spent_after { self.new.spent ≡ self.old.spent || is_err result }
-        ensures counted { OnOk result ((self.new.taken ≡ self.old.taken + 1)
-            × (self.new.captured ≡ self.old.captured + length frame.now.bytes)) }
-        ensures uncounted { OnErr result ((self.new.taken ≡ self.old.taken)
-            × (self.new.captured ≡ self.old.captured)) }
-        ensures rules { self.new.decode ≡ self.old.decode }
-        ensures tree { IfOk result (λ tree. (past : List FrameValue) → Stands past self.old
-            → tree ≡ tree_at self.old.decode.rules past frame.now) }
-        ensures stands { OnOk result ((past : List FrameValue) → Stands past self.old
-            → Stands (frame.now ∷ past) self.new) }
-    {
-        self.take_kept(frame, FieldSet::all())
-    }
-
-    /// As `take`, for a tree that has only the items of the wanted fields.
-    #[tactic(auto, unfolding(crate::specs::Stands::Stands))]
-    pub fn take_kept(&mut self, frame: &Frame, wanted: FieldSet) -> Result<Tree, TakeFault>
-        requires number { frame.now.number ≡ self.old.taken + 1 }
-        requires time { IfSome frame.now.time IsTime }
-        requires captured { self.old.captured + length frame.now.bytes ≤ 2 ^ 28 }
-        ensures spent { result ≡ Err TakeFault.Spent ↔ self.old.spent ≡ true }
-        ensures spent_after { self.new.spent ≡ self.old.spent || is_err result }
-        ensures counted { OnOk result ((self.new.taken ≡ self.old.taken + 1)
-            × (self.new.captured ≡ self.old.captured + length frame.now.bytes)) }
-        ensures uncounted { OnErr result ((self.new.taken ≡ self.old.taken)
-            × (self.new.captured ≡ self.old.captured)) }
-        ensures rules { self.new.decode ≡ self.old.decode }
-        ensures tree { IfOk result (λ tree. (past : List FrameValue) → Stands past self.old
-            → IsKeptTree wanted (tree_at self.old.decode.rules past frame.now) tree) }
-        ensures stands { OnOk result ((past : List FrameValue) → Stands past self.old
-            → Stands (frame.now ∷ past) self.new) }
-    {
-        self.take_asked(frame, wanted)
-    }
-
-    /// As `take`, for a tree that has only the items of the fields that the dissector was made for, with the same values of these
-    /// as the whole tree. It may lack layers of messages that have nothing to show of them.
+    /// The tree of the next frame with the items of the fields that the dissector was made for, given the frames that were taken
+    /// before. Frames are taken in the order of their numbers, from 1. The tree has the same values of these fields as the whole
+    /// tree; it may lack layers of messages that have nothing to show of them.
     #[inline(always)]
-    #[tactic(auto, using(crate::proofs::KeepingLemmas::all_asked), unfolding(crate::specs::Stands::StandsWithin))]
-    pub fn take_wanted(&mut self, frame: &Frame) -> Result<Tree, TakeFault>
+    pub fn take(&mut self, frame: &Frame) -> Result<Tree, TakeFault>
         requires number { frame.now.number ≡ self.old.taken + 1 }
         requires time { IfSome frame.now.time IsTime }
         requires captured { self.old.captured + length frame.now.bytes ≤ 2 ^ 28 }
@@ -293,8 +255,38 @@ impl Dissector {
             → LacksOnly (kept_tree self.old.wanted (tree_at self.old.decode.rules past frame.now)) tree) }
         ensures stands { OnOk result ((past : List FrameValue) → StandsWithin past self.old
             → StandsWithin (frame.now ∷ past) self.new) }
+        ensures kept { IfOk result (λ tree. (past : List FrameValue) → Stands past self.old
+            → IsKeptTree self.old.wanted (tree_at self.old.decode.rules past frame.now) tree) }
+        ensures whole { IfOk result (λ tree. self.old.wanted ≡ every_field → (past : List FrameValue) → Stands past self.old
+            → tree ≡ tree_at self.old.decode.rules past frame.now) }
+        ensures stands_whole { OnOk result ((past : List FrameValue) → Stands past self.old
+            → Stands (frame.now ∷ past) self.new) }
     {
-        self.take_asked(frame, self.wanted)
+        if self.spent {
+            return Err(TakeFault::Spent);
+        }
+        let number = number_of(frame);
+        let rules = self.decode.rules.slice();
+        let spare = mem::replace(&mut self.spare, Spare::new(self.alloc));
+        match make_tree(
+            spare,
+            rules,
+            &mut self.state,
+            self.times,
+            frame,
+            self.wanted,
+        ) {
+            Ok(tree) => {
+                self.taken = number;
+                self.captured += captured(frame);
+                self.times = self.times.with(frame.time);
+                Ok(tree)
+            }
+            Err(NoMemory) => {
+                self.spent = true;
+                Err(TakeFault::NoMemory)
+            }
+        }
     }
 
     /// Takes a frame that is plain, for which its headers answer: true, and they stand in `heads` then. Of any other frame
@@ -505,54 +497,6 @@ impl Dissector {
         ensures fits { IsTree result }
     {
         heads.outline(&frame.bytes, &self.wanted)
-    }
-
-    /// Takes a frame for a tree of some fields, of which those of streams are told only where streams are followed.
-    #[inline(always)]
-    fn take_asked(&mut self, frame: &Frame, asked: FieldSet) -> Result<Tree, TakeFault>
-        requires number { frame.now.number ≡ self.old.taken + 1 }
-        requires time { IfSome frame.now.time IsTime }
-        requires captured { self.old.captured + length frame.now.bytes ≤ 2 ^ 28 }
-        ensures spent { result ≡ Err TakeFault.Spent ↔ self.old.spent ≡ true }
-        ensures spent_after { self.new.spent ≡ self.old.spent || is_err result }
-        ensures counted { OnOk result ((self.new.taken ≡ self.old.taken + 1)
-            × (self.new.captured ≡ self.old.captured + length frame.now.bytes)) }
-        ensures uncounted { OnErr result ((self.new.taken ≡ self.old.taken)
-            × (self.new.captured ≡ self.old.captured)) }
-        ensures rules { self.new.decode ≡ self.old.decode }
-        ensures wanted { self.new.wanted ≡ self.old.wanted }
-        ensures sparing { self.new.sparing ≡ self.old.sparing }
-        ensures keeps { self.new.state.keeps ≡ self.old.state.keeps }
-        ensures tree { IfOk result (λ tree. (past : List FrameValue) → IsAfter past self.old
-            → keeps_all self.old.state.keeps ≡ true
-            → IsKeptTree asked (tree_at self.old.decode.rules past frame.now) tree) }
-        ensures values { IfOk result (λ tree. (past : List FrameValue) → IsAfter past self.old
-            → KeepsFor self.old.state.keeps asked
-            → HasSameValues asked (tree_at self.old.decode.rules past frame.now) tree) }
-        ensures lacks { IfOk result (λ tree. (past : List FrameValue) → IsAfter past self.old
-            → KeepsFor self.old.state.keeps asked
-            → LacksOnly (kept_tree asked (tree_at self.old.decode.rules past frame.now)) tree) }
-        ensures after { OnOk result ((past : List FrameValue) → IsAfter past self.old
-            → IsAfter (frame.now ∷ past) self.new) }
-    {
-        if self.spent {
-            return Err(TakeFault::Spent);
-        }
-        let number = number_of(frame);
-        let rules = self.decode.rules.slice();
-        let spare = mem::replace(&mut self.spare, Spare::new(self.alloc));
-        match make_tree(spare, rules, &mut self.state, self.times, frame, asked) {
-            Ok(tree) => {
-                self.taken = number;
-                self.captured += captured(frame);
-                self.times = self.times.with(frame.time);
-                Ok(tree)
-            }
-            Err(NoMemory) => {
-                self.spent = true;
-                Err(TakeFault::NoMemory)
-            }
-        }
     }
 }
 

@@ -1,4 +1,7 @@
 // What holds of the trees of every capture, stated on functions that do nothing.
+ghost use Rattle.std.specs.Prelude.{◌≡◌, true};
+ghost use Rattle.pk_fields.specs.FieldSets.{every_field};
+ghost use Rattle.dissect.specs.Followed.{asks_streams};
 ghost use Rattle.dissect.specs.Isolation.{OtherFrameLeftOut, OthersLeftOut, OthersPutIn, TreesStandAlone};
 ghost use Rattle.dissect.specs.MessageLaws.{FramesShow, FramesTell, MessagesInTrees};
 ghost use Rattle.dissect.specs.Numbering.{BringsTheSame, OthersTakenOut, TreesButNumbers};
@@ -43,4 +46,9 @@ pub fn others_number_alone()
     ensures trees { TreesButNumbers }
     ensures brings { BringsTheSame }
     ensures taken_out { OthersTakenOut }
+{}
+
+/// All fields ask something of streams: a dissector of all fields that isn't made for values alone keeps everything.
+pub fn all_fields_ask_streams()
+    ensures { asks_streams every_field ≡ true }
 {}

@@ -25,8 +25,8 @@ mod ways;
 pub use dissector::{Dissector, TakeFault, give_up_dissector};
 pub use heads::Heads;
 pub use laws::{
-    frames_show_messages, layers_have_protocols, messages_stand_in_trees, others_left_out,
-    others_number_alone, trees_stand_alone,
+    all_fields_ask_streams, frames_show_messages, layers_have_protocols, messages_stand_in_trees,
+    others_left_out, others_number_alone, trees_stand_alone,
 };
 pub use pk_fields::{App, DecodeAs, PortRule, PortRules};
 pub use plain_trees::TakenBy;

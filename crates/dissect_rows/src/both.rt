@@ -118,7 +118,7 @@ impl Pair {
         if frame.bytes.bytes().len() > 1_000 {
             return None;
         }
-        let tree = self.trees.take_wanted(frame).ok()?;
+        let tree = self.trees.take(frame).ok()?;
         let told = match self.purpose {
             Purpose::Values | Purpose::Trees => {
                 take_beside(alloc, &mut self.plain, &mut self.heads, frame, way, &tree)
@@ -220,7 +220,7 @@ fn are_trees_alike(
     requires few { frame.now.number < 100 }
     ensures { OnSome result (HasTaken frame.now.number dissector.new) }
 {
-    let own = dissector.take_wanted(frame).ok()?;
+    let own = dissector.take(frame).ok()?;
     let alike = are_alike(alloc, &Source::of_tree(&own), &Source::of_tree(tree));
     give_up_tree(own);
     alike.ok()

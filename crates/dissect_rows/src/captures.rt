@@ -3,7 +3,8 @@
 //! A row's first line says what it shows. In the table `rule` it is a rule instead, as `tcp 8000 http`, and in the table `asked` the
 //! field that the dissector is asked for. Behind it stand the frames, each behind `> `: what is given of it (module `given`), `->`, and
 //! what is told of it (module `told`). Frames are of no more than 1,000 bytes, and at most 90 in a row. A row of the table `places` is
-//! read twice: by a dissector that follows streams, and by one for values alone, which keeps no byte of them.
+//! read twice: by a dissector that follows streams, and by one for values alone, which keeps no byte of them. Where a frame asks for some
+//! fields, a dissector for these takes all frames of its row, and what is told of it is what that one tells.
 ghost use Rattle.std.specs.Prelude.{◌≡◌, ◌+◌, ◌*◌, ◌≤◌, ◌<◌, true, IfSome, OnSome};
 ghost use Rattle.pk_fields.specs.Apps.{app_fits};
 ghost use Rattle.pk_fields.specs.Rules.{AreRules};
@@ -72,10 +73,14 @@ fn fields_wanted(check: &str, title: &str) -> Option<FieldSet> {
     }
 }
 
-fn dissector_of(alloc: Global, check: &str, title: &str) -> Option<Dissector>
+fn dissector_of(alloc: Global, check: &str, title: &str, asks: Option<&str>) -> Option<Dissector>
     ensures taken { IfSome result (λ dissector. dissector.taken ≡ 0) }
     ensures captured { IfSome result (λ dissector. dissector.captured ≡ 0) }
 {
+    if let Some(names) = asks {
+        let wanted = fields_named(names)?;
+        return Some(Dissector::for_fields(alloc, no_rules(alloc), wanted));
+    }
     match check {
         "asked" | "followed" => {
             let wanted = fields_wanted(check, title)?;
@@ -90,13 +95,7 @@ fn dissector_of(alloc: Global, check: &str, title: &str) -> Option<Dissector>
     }
 }
 
-/// Whether the dissector of a table is made for some fields.
-fn is_for_fields(check: &str) -> bool {
-    matches!(check, "asked" | "followed" | "places")
-}
-
-/// Takes a frame as the table asks, or as the frame does.
-fn take(dissector: &mut Dissector, frame: &Frame, check: &str, asks: Option<&str>) -> Option<Tree>
+fn take(dissector: &mut Dissector, frame: &Frame) -> Option<Tree>
     requires number { frame.now.number ≡ dissector.old.taken + 1 }
     requires time { IfSome frame.now.time IsTime }
     requires captured { dissector.old.captured ≤ 1000 * dissector.old.taken }
@@ -106,41 +105,18 @@ fn take(dissector: &mut Dissector, frame: &Frame, check: &str, asks: Option<&str
     if frame.bytes.bytes().len() > 1_000 {
         return None;
     }
-    match asks {
-        Some(names) => dissector.take_kept(frame, fields_named(names)?).ok(),
-        None if is_for_fields(check) => dissector.take_wanted(frame).ok(),
-        None => dissector.take(frame).ok(),
-    }
+    dissector.take(frame).ok()
 }
 
 pub(crate) fn give_up_tree(_tree: Tree) {}
 
-/// Takes a frame, and compares what is told of it.
-fn take_frame(
-    alloc: Global,
-    dissector: &mut Dissector,
-    frame: &Frame,
-    check: &str,
-    asks: Option<&str>,
-    wanted: &str,
-) -> Option<bool>
-    requires number { frame.now.number ≡ dissector.old.taken + 1 }
-    requires time { IfSome frame.now.time IsTime }
-    requires captured { dissector.old.captured ≤ 1000 * dissector.old.taken }
-    requires few { frame.now.number < 100 }
-    ensures counted { OnSome result ((dissector.new.taken ≡ frame.now.number) × (dissector.new.captured ≤ 1000 * frame.now.number)) }
-{
-    let tree = take(dissector, frame, check, asks)?;
-    let told = tells(alloc, check, &tree, dissector, wanted);
-    give_up_tree(tree);
-    told
-}
-
+/// Takes a frame that is given, and compares what is told of it where it asks for the fields that the dissector was made for.
 fn take_given(
     alloc: Global,
     dissector: &mut Dissector,
     number: u32,
     check: &str,
+    asks: Option<&str>,
     block: &str,
 ) -> Option<bool>
     requires number { number ≡ dissector.old.taken + 1 }
@@ -150,12 +126,24 @@ fn take_given(
 {
     let (given, wanted) = block.split_once("->")?;
     let frame = frame_of(alloc, number, given)?;
-    let asks = option(given, "asks=");
-    take_frame(alloc, dissector, &frame, check, asks, wanted.trim_start())
+    let tree = take(dissector, &frame)?;
+    let told = if option(given, "asks=") == asks {
+        tells(alloc, check, &tree, dissector, wanted.trim_start())
+    } else {
+        Some(true)
+    };
+    give_up_tree(tree);
+    told
 }
 
-/// Takes frames one after the other, and compares what is told of each.
-fn take_all(alloc: Global, dissector: &mut Dissector, check: &str, frames: &str) -> Option<bool>
+/// Takes frames one after the other, and compares what is told of those that ask so.
+fn take_all(
+    alloc: Global,
+    dissector: &mut Dissector,
+    check: &str,
+    asks: Option<&str>,
+    frames: &str,
+) -> Option<bool>
     requires taken { dissector.old.taken ≡ 0 }
     requires captured { dissector.old.captured ≡ 0 }
 {
@@ -165,26 +153,47 @@ fn take_all(alloc: Global, dissector: &mut Dissector, check: &str, frames: &str)
             return None;
         }
         number += 1;
-        if !take_given(alloc, dissector, number, check, block)? {
+        if !take_given(alloc, dissector, number, check, asks, block)? {
             return Some(false);
         }
     }
     Some(true)
 }
 
-/// Whether a dissector of a table's kind tells of a capture's frames what is wanted.
-fn is_told_by(alloc: Global, check: &str, title: &str, frames: &str) -> Option<bool> {
-    let mut dissector = dissector_of(alloc, check, title)?;
-    let told = take_all(alloc, &mut dissector, check, frames);
+/// Whether a dissector of a table's kind, or one for the fields that frames ask for, tells of a capture's frames what is wanted.
+fn is_told_by(
+    alloc: Global,
+    check: &str,
+    title: &str,
+    asks: Option<&str>,
+    frames: &str,
+) -> Option<bool> {
+    let mut dissector = dissector_of(alloc, check, title, asks)?;
+    let told = take_all(alloc, &mut dissector, check, asks, frames);
     give_up_dissector(dissector);
     told
+}
+
+/// Whether what is wanted is told of each frame that asks for some fields, by a dissector that is made for these.
+fn is_told_asked(alloc: Global, check: &str, title: &str, frames: &str) -> Option<bool> {
+    for block in frames.split("\n> ") {
+        let (given, _) = block.split_once("->")?;
+        let asks = option(given, "asks=");
+        if asks.is_some() && !is_told_by(alloc, check, title, asks, frames)? {
+            return Some(false);
+        }
+    }
+    Some(true)
 }
 
 /// Whether of a capture's frames is told what is wanted; nothing where it can't be read.
 pub(crate) fn is_told(alloc: Global, check: &str, row: &str) -> Option<bool> {
     let (title, frames) = row.split_once("\n> ")?;
-    if check == "places" && !is_told_by(alloc, "followed", title, frames)? {
+    if check == "places" && !is_told_by(alloc, "followed", title, None, frames)? {
         return Some(false);
     }
-    is_told_by(alloc, check, title, frames)
+    Some(
+        is_told_asked(alloc, check, title, frames)?
+            && is_told_by(alloc, check, title, None, frames)?,
+    )
 }

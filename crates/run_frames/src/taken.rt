@@ -155,7 +155,7 @@ pub(crate) fn take_tree(
     ensures captured { OnOk result (dissector.new.captured
         ≡ dissector.old.captured + length frame.now.bytes) }
 {
-    match dissector.take_wanted(frame) {
+    match dissector.take(frame) {
         Ok(bare) => with_later(later, frame.number, bare),
         // The first error ends the run, so that this one is never `Spent`.
         Err(TakeFault::NoMemory | TakeFault::Spent) => Err(NoMemory),

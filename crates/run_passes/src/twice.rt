@@ -141,7 +141,7 @@ fn note_by_tree(frame: &Frame, dissector: &mut Dissector, links: &mut Links) -> 
     requires captured { dissector.old.captured + length frame.now.bytes ≤ 2 ^ 28 }
     ensures { OnOk result (HasNotedOne frame.now dissector.old dissector.new links.old links.new) }
 {
-    match dissector.take_wanted(frame) {
+    match dissector.take(frame) {
         Ok(tree) => note_tree(frame.number, tree, dissector, links),
         // The first error ends the run, so that this one is never `Spent`.
         Err(TakeFault::NoMemory | TakeFault::Spent) => Err(NoMemory),

@@ -22,3 +22,10 @@ returns-clause-within c = λ asked unsparing past stands.
     c.streams.ensures.stands (framer_of_segment d.decode.rules) (segments_of (events_of past))
     (subst (λ (x : DissectorShown). ReadsFor (framer_of_segment d.decode.rules) (segments_of (events_of past)) x.state.streams) (sym c.self.view_is)
     (streams_of_all d past stands (all_asked d kept asked unsparing) (kept.whole unsparing).bytes))
+
+pub returns-clause-whole : goal.returns-clause-whole
+unfolding Stands StandsWithin
+returns-clause-whole c = λ asked unsparing past stands.
+    let d = c.args.self.now in
+    let kept : IsKept d = subst IsKept c.self.view_is c.self.invariant.0 in
+    (stands, all_asked d kept asked unsparing, (kept.whole unsparing).bytes)
